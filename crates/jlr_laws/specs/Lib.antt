@@ -1,0 +1,4 @@
+pub mod Laws
+pub mod Same
+pub mod Deciding
+pub mod Rows

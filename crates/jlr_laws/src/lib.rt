@@ -1,0 +1,4 @@
+//! Laws of the machine.
+#![tactic(auto)]
+
+pub mod laws;

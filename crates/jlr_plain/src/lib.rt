@@ -1,0 +1,6 @@
+//! The plain program.
+#![tactic(auto)]
+
+pub mod collection;
+pub mod legal;
+pub mod roots;
