@@ -8,11 +8,12 @@ use Rattle.jlr_machine.specs.declared.object.Object.{Object}
 use Rattle.jlr_machine.specs.declared.object.Object.TheVariants.{Plain, Reference, Queue, Cleaner, Cleanable, Guard}
 use Rattle.jlr_machine.specs.declared.object.RefState.TheVariants.{Pending}
 use Rattle.jlr_machine.specs.declared.object.CleanState.TheVariants.{Pending as PendingClean}
-use Rattle.jlr_machine.specs.Objects.{Heap, at, ◌∋◌, ◌∈◌}
+use Rattle.jlr_machine.specs.Objects.{Heap, at, ◌∋◌, ◌∈◌, any_referent}
 use Rattle.jlr_machine.specs.Edges.{Chain, edges, edges_from, is_kind, referent}
+use Rattle.jlr_machine.specs.Reachable.{IsPath, IsReached, HasStrength, chain_by, chain_below}
+use Rattle.jlr_machine.specs.Collection.{Clears, without_referent, IsCollection, is_kept_referent, made_pending, left_of, places_left}
+use Rattle.jlr_machine.specs.ReachSet.{reach_set}
 use Rattle.jlr_machine.specs.Edges.Chain.{UpToSoft, UpToWeak, UpToPhantom, Strong}
-use Rattle.jlr_machine.specs.Reachable.{reach_set, IsPath, IsReached, HasStrength, chain_by, chain_below}
-use Rattle.jlr_machine.specs.Collection.{Clears, without_referent, any_referent, IsCollection, is_kept_referent, made_pending, left_of, places_left}
 use Rattle.jlr_laws.proofs.Sets.{nothing, filter_in, in_filter}
 use Rattle.jlr_laws.proofs.Checks.{at_beyond}
 use Rattle.jlr_laws.proofs.Paths.{AreEdgesWithin, reached_sound, reached_complete, joined}

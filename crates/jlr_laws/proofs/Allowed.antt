@@ -1,7 +1,9 @@
 -- What is known where an ask is not refused.
-use Rattle.std.proofs.Common.{◌≡◌, ℕ, Bool, true, false, not, ◌&&◌, ◌||◌, cond, List, [], ◌∷◌, refl, sym, ◌∙◌, ap, Option, Some, None, is_some, is_none, find, option_map, option_and_then, ◌==◌}
-use Rattle.std.proofs.lemmas.Bool.{both_ways, not-false}
-use Rattle.jlr_types.specs.declared.Refusal.TheVariants.{NoHandle, HandlesFull, WrongKind, NoField, WrongType, Null, NoName, NamesFull, Busy, Closed, NoSession, Exhausted, NotOut, WouldWait, ResourcesFull}
+use Rattle.std.proofs.Common.{◌≡◌, ℕ, Bool, true, false, not, ◌&&◌, ◌||◌, cond, List, [], ◌∷◌, refl, sym, ◌∙◌, ap, inl, inr, nat_eq, Option, Some, None, is_some, is_none, find, option_map, option_and_then, ◌==◌}
+use Rattle.std.specs.List.{list_any}
+use Rattle.std.proofs.lemmas.Bool.{both_ways, not-false, or_cases}
+use Rattle.jlr_types.specs.declared.Refusal.{Refusal}
+use Rattle.jlr_types.specs.Numbers.{number_of}
 use Rattle.jlr_machine.specs.declared.object.Object.{Object}
 use Rattle.jlr_machine.specs.declared.object.Object.TheVariants.{Plain, Reference, Queue, Cleaner, Cleanable, Guard}
 use Rattle.jlr_machine.specs.declared.object.Cleanable.{Cleanable as CleanableOf}
@@ -12,73 +14,41 @@ use Rattle.jlr_machine.specs.declared.machine.Call.{Call}
 use Rattle.jlr_machine.specs.declared.machine.Call.TheVariants.{Free, Opening as CallOpening, Out as CallOut, Job as CallJob}
 use Rattle.jlr_machine.specs.declared.machine.Resource.{Resource}
 use Rattle.jlr_machine.specs.declared.ask.Ask.{Ask}
-use Rattle.jlr_machine.specs.Objects.{at, some_and, as_guard, as_cleanable}
-use Rattle.jlr_machine.specs.Lookups.{slot_named, object_named, cleanable_at, resource_at, is_spent}
-use Rattle.jlr_machine.specs.Refusals.{applies, refusal, is_joined, has_call, is_in_flight, object, names_no_object, is_wrongly_null, is_of_wrong_kind, is_closed, is_out, is_out_state, is_opening, is_out_call, is_guard, is_cleanable}
+use Rattle.jlr_machine.specs.Objects.{at, some_and, as_guard, as_cleanable, is_spent}
+use Rattle.jlr_machine.specs.Lookups.{slot_named, object_named, cleanable_at, resource_at}
+use Rattle.jlr_machine.specs.Refusals.{is_any, applies, listed, refusal, is_joined, has_call, is_in_flight, object, names_no_object, is_wrongly_null, is_of_wrong_kind, is_closed, is_out, is_out_state, is_opening, is_out_call, is_guard, is_cleanable}
 use Rattle.jlr_machine.specs.WellFormed.{IsWellFormed, IsSessionAt, IsCleanableAt}
+use Rattle.jlr_laws.proofs.SameProof.{Decides-refusal}
 use Rattle.jlr_laws.proofs.Frames.{no_some, root_from}
 use Rattle.jlr_laws.proofs.Frames.IsRoot.{held}
 
--- ---- No refusal applies
+-- ---- No listed refusal applies
 
-pub record IsAllowed (m : Machine) (ask : Ask) : Type 0 where
-  pub no_session : applies m ask NoSession ≡ false
-  pub no_handle : applies m ask NoHandle ≡ false
-  pub null : applies m ask Null ≡ false
-  pub wrong_kind : applies m ask WrongKind ≡ false
-  pub no_field : applies m ask NoField ≡ false
-  pub wrong_type : applies m ask WrongType ≡ false
-  pub no_name : applies m ask NoName ≡ false
-  pub closed : applies m ask Closed ≡ false
-  pub busy : applies m ask Busy ≡ false
-  pub not_out : applies m ask NotOut ≡ false
-  pub would_wait : applies m ask WouldWait ≡ false
-  pub handles_full : applies m ask HandlesFull ≡ false
-  pub names_full : applies m ask NamesFull ≡ false
-  pub resources_full : applies m ask ResourcesFull ≡ false
-  pub exhausted : applies m ask Exhausted ≡ false
+same_number : (a b : Refusal) → nat_eq (number_of a) (number_of b) ≡ true → a ≡ b
+same_number a b h = (Decides-refusal a b).0 h
 
-first_fails : {A : Type 0} (p : A → Bool) (x : A) (xs : List A) → find p (x ∷ xs) ≡ None → (p x ≡ false) × (find p xs ≡ None)
+-- the ask lists the refusal
+abbrev pub is_listed : Ask → Refusal → Bool
+is_listed ask by = list_any (λ r. nat_eq (number_of r) (number_of by)) (listed ask)
+
+pub first_fails : {A : Type 0} (p : A → Bool) (x : A) (xs : List A) → find p (x ∷ xs) ≡ None → (p x ≡ false) × (find p xs ≡ None)
 first_fails p x xs h =
     elim (p x) as (λ b. p x ≡ b → cond b (Some x) (find p xs) ≡ None → (p x ≡ false) × (find p xs ≡ None)) [
       | true ↦ λ _ f. no_some x (sym f)
       | false ↦ λ e f. (e, f)
     ] refl h
 
-pub allowed : (m : Machine) (ask : Ask) → refusal m ask ≡ None → IsAllowed m ask
-allowed m ask h =
-    let r0 = first_fails (applies m ask) NoSession (NoHandle ∷ Null ∷ WrongKind ∷ NoField ∷ WrongType ∷ NoName ∷ Closed ∷ Busy ∷ NotOut ∷ WouldWait ∷ HandlesFull ∷ NamesFull ∷ ResourcesFull ∷ Exhausted ∷ []) h in
-    let r1 = first_fails (applies m ask) NoHandle (Null ∷ WrongKind ∷ NoField ∷ WrongType ∷ NoName ∷ Closed ∷ Busy ∷ NotOut ∷ WouldWait ∷ HandlesFull ∷ NamesFull ∷ ResourcesFull ∷ Exhausted ∷ []) r0.1 in
-    let r2 = first_fails (applies m ask) Null (WrongKind ∷ NoField ∷ WrongType ∷ NoName ∷ Closed ∷ Busy ∷ NotOut ∷ WouldWait ∷ HandlesFull ∷ NamesFull ∷ ResourcesFull ∷ Exhausted ∷ []) r1.1 in
-    let r3 = first_fails (applies m ask) WrongKind (NoField ∷ WrongType ∷ NoName ∷ Closed ∷ Busy ∷ NotOut ∷ WouldWait ∷ HandlesFull ∷ NamesFull ∷ ResourcesFull ∷ Exhausted ∷ []) r2.1 in
-    let r4 = first_fails (applies m ask) NoField (WrongType ∷ NoName ∷ Closed ∷ Busy ∷ NotOut ∷ WouldWait ∷ HandlesFull ∷ NamesFull ∷ ResourcesFull ∷ Exhausted ∷ []) r3.1 in
-    let r5 = first_fails (applies m ask) WrongType (NoName ∷ Closed ∷ Busy ∷ NotOut ∷ WouldWait ∷ HandlesFull ∷ NamesFull ∷ ResourcesFull ∷ Exhausted ∷ []) r4.1 in
-    let r6 = first_fails (applies m ask) NoName (Closed ∷ Busy ∷ NotOut ∷ WouldWait ∷ HandlesFull ∷ NamesFull ∷ ResourcesFull ∷ Exhausted ∷ []) r5.1 in
-    let r7 = first_fails (applies m ask) Closed (Busy ∷ NotOut ∷ WouldWait ∷ HandlesFull ∷ NamesFull ∷ ResourcesFull ∷ Exhausted ∷ []) r6.1 in
-    let r8 = first_fails (applies m ask) Busy (NotOut ∷ WouldWait ∷ HandlesFull ∷ NamesFull ∷ ResourcesFull ∷ Exhausted ∷ []) r7.1 in
-    let r9 = first_fails (applies m ask) NotOut (WouldWait ∷ HandlesFull ∷ NamesFull ∷ ResourcesFull ∷ Exhausted ∷ []) r8.1 in
-    let r10 = first_fails (applies m ask) WouldWait (HandlesFull ∷ NamesFull ∷ ResourcesFull ∷ Exhausted ∷ []) r9.1 in
-    let r11 = first_fails (applies m ask) HandlesFull (NamesFull ∷ ResourcesFull ∷ Exhausted ∷ []) r10.1 in
-    let r12 = first_fails (applies m ask) NamesFull (ResourcesFull ∷ Exhausted ∷ []) r11.1 in
-    let r13 = first_fails (applies m ask) ResourcesFull (Exhausted ∷ []) r12.1 in
-    let r14 = first_fails (applies m ask) Exhausted [] r13.1 in
-    record {
-      no_session = r0.0;
-      no_handle = r1.0;
-      null = r2.0;
-      wrong_kind = r3.0;
-      no_field = r4.0;
-      wrong_type = r5.0;
-      no_name = r6.0;
-      closed = r7.0;
-      busy = r8.0;
-      not_out = r9.0;
-      would_wait = r10.0;
-      handles_full = r11.0;
-      names_full = r12.0;
-      resources_full = r13.0;
-      exhausted = r14.0;
-    }
+none_applies : (p : Refusal → Bool) (by : Refusal) (xs : List Refusal) → find p xs ≡ None → list_any (λ r. nat_eq (number_of r) (number_of by)) xs ≡ true → p by ≡ false
+none_applies p by [] h l = absurd (both_ways false refl l)
+none_applies p by (x ∷ xs) h l =
+    let f = first_fails p x xs h in
+    elim (or_cases (nat_eq (number_of x) (number_of by)) (list_any (λ r. nat_eq (number_of r) (number_of by)) xs) l) [
+      | inl e ↦ ap p (sym (same_number x by e)) ∙ f.0
+      | inr r ↦ none_applies p by xs f.1 r
+    ]
+
+pub allowed : (m : Machine) (ask : Ask) → refusal m ask ≡ None → (by : Refusal) → is_listed ask by ≡ true → applies m ask by ≡ false
+allowed m ask h by l = none_applies (applies m ask) by (listed ask) h l
 
 -- ---- Options
 
@@ -169,6 +139,11 @@ only_operand m k h fits w a b c =
     let s = some_if_not_none (slot_named m k h) (not_null (h == 0) (is_none (slot_named m k h)) b a) in
     let r = named_of_slot m k h s.0 w s.1 in
     (s.0, r.0, r.1, r.2, fits_there (fits r.1) (sym (ap (λ o. some_and (λ o. not (fits o)) o || false) r.2.named) ∙ c))
+
+-- where any object fits
+pub any_fits : (o : Option Object) → (some_and (λ o. not (is_any o)) o || false) ≡ false
+any_fits None = refl
+any_fits (Some o) = refl
 
 pub guard_of : (o : Object) → is_guard o ≡ true → (g : GuardOf) × (o ≡ Guard g)
 guard_of (Plain fields) e = absurd (cc e)

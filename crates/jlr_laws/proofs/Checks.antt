@@ -7,9 +7,10 @@ use Rattle.jlr_types.specs.declared.RefKind.TheVariants.{Soft, Weak, Phantom}
 use Rattle.jlr_machine.specs.declared.object.Object.{Object}
 use Rattle.jlr_machine.specs.Objects.{Table, Heap, at, some_and, ◌∋◌, ◌∈◌, is_distinct, is_rising}
 use Rattle.jlr_machine.specs.Edges.{Chain, edges, edges_from, referent}
-use Rattle.jlr_machine.specs.Edges.Chain.{Strong, UpToSoft, UpToWeak, UpToPhantom}
-use Rattle.jlr_machine.specs.Reachable.{up_to, one_round, rounds, Reaches, IsReached, HasStrength, chain_by, chain_below}
+use Rattle.jlr_machine.specs.Reachable.{Reaches, IsReached, HasStrength, chain_by, chain_below}
 use Rattle.jlr_machine.specs.Collection.{PointsInto, Clears, without_referent, is_ready, has_referent, IsMadePending, IsCollection}
+use Rattle.jlr_machine.specs.ReachSet.{up_to, one_round, rounds}
+use Rattle.jlr_machine.specs.Edges.Chain.{Strong, UpToSoft, UpToWeak, UpToPhantom}
 use Rattle.jlr_laws.proofs.Sets.{all_gives, nothing, up_to_in}
 use Rattle.jlr_laws.proofs.Paths.{AreEdgesWithin, IsClosed, sound, kept as stays, along, closed_holds, still_closed}
 

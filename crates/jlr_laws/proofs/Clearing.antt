@@ -7,10 +7,10 @@ use Rattle.jlr_types.specs.declared.RefKind.{RefKind}
 use Rattle.jlr_types.specs.declared.RefKind.TheVariants.{Soft, Weak, Phantom}
 use Rattle.jlr_machine.specs.declared.object.Object.{Object}
 use Rattle.jlr_machine.specs.declared.object.Object.TheVariants.{Plain, Reference, Queue, Cleaner, Cleanable, Guard}
-use Rattle.jlr_machine.specs.Objects.{Heap, at, ◌∋◌, ◌∈◌}
+use Rattle.jlr_machine.specs.Objects.{Heap, at, ◌∋◌, ◌∈◌, any_referent}
 use Rattle.jlr_machine.specs.Edges.{Chain, edges, edges_from, strong_edges, referent, referent_edges, is_kind}
+use Rattle.jlr_machine.specs.Collection.{PointsInto, Clears, without_referent}
 use Rattle.jlr_machine.specs.Edges.Chain.{Strong, UpToSoft, UpToWeak, UpToPhantom}
-use Rattle.jlr_machine.specs.Collection.{PointsInto, Clears, without_referent, any_referent}
 use Rattle.jlr_laws.proofs.Sets.{nothing, in_front, in_cons}
 
 -- ---- Lists joined

@@ -1,5 +1,5 @@
 -- A collection leaves a well-formed machine.
-use Rattle.std.proofs.Common.{◌≡◌, ◌≢◌, ℕ, suc, Bool, true, false, cond, not, ◌&&◌, List, [], ◌∷◌, ◌++◌, length, refl, sym, ◌∙◌, ap, subst, ◌⊎◌, inl, inr, arith, IsTrue, Option, Some, None, option_map, option_and_then, is_some}
+use Rattle.std.proofs.Common.{◌≡◌, ◌≢◌, ℕ, suc, Bool, true, false, cond, not, ◌&&◌, List, [], ◌∷◌, ◌++◌, length, refl, sym, ◌∙◌, ap, subst, ◌⊎◌, inl, inr, arith, IsTrue, Option, Some, None, option_map, option_and_then, is_some, option_to_list}
 use Rattle.std.proofs.lemmas.Bool.{both_ways, cases_Bool, cond-true, cond-false, and_parts, and_from, not-true, not_from_false}
 use Rattle.jlr_types.specs.declared.Work.TheVariants.{Resource as WorkOn}
 use Rattle.jlr_types.specs.declared.FieldValue.{FieldValue}
@@ -19,17 +19,17 @@ use Rattle.jlr_machine.specs.declared.machine.Call.{Call}
 use Rattle.jlr_machine.specs.declared.machine.Call.TheVariants.{Free, Opening as CallOpening, Out as CallOut, Job as CallJob}
 use Rattle.jlr_machine.specs.declared.machine.ResourceState.{ResourceState}
 use Rattle.jlr_machine.specs.declared.machine.ResourceState.TheVariants.{Opening, Idle, Out, Closing}
-use Rattle.jlr_machine.specs.Objects.{Heap, at, ◌∋◌, ◌∈◌, is_distinct, some_and, as_reference, as_cleanable}
+use Rattle.jlr_machine.specs.Objects.{Heap, at, ◌∋◌, ◌∈◌, is_distinct, some_and, as_reference, as_cleanable, is_fresh, is_armed, any_referent, is_spent, is_unqueued, queue_ahead}
 use Rattle.jlr_machine.specs.Edges.{strong_edges, edges_from, is_own_root, is_active, roots}
-use Rattle.jlr_machine.specs.Edges.Chain.{UpToPhantom}
-use Rattle.jlr_machine.specs.Collection.{is_ready, is_fresh, is_armed, any_referent, is_kept_referent, left_of, places_left, after_collection}
-use Rattle.jlr_machine.specs.Lookups.{is_spent, job_of, slot_named}
+use Rattle.jlr_machine.specs.Collection.{is_ready, is_kept_referent, left_of, places_left, after_collection}
+use Rattle.jlr_machine.specs.Lookups.{job_of, slot_named}
 use Rattle.jlr_machine.specs.Refusals.{Operand, is_of_wrong_kind}
 use Rattle.jlr_machine.specs.WellFormed.{IsObjectAt, IsReferenceAt, IsQueueAt, IsGuardAt, IsCleanableAt, IsSessionAt, IsWellFormed, IsUnspent, FitsItsState, FitsItsCall, IsFencing, IsOwnGuard, IsPrivate, HasResource, HasWorker, IsAction, state_at, clean_state_at, is_unspent_place}
+use Rattle.jlr_machine.specs.Edges.Chain.{UpToPhantom}
 use Rattle.jlr_laws.proofs.Sets.{in_front, nothing}
 use Rattle.jlr_laws.proofs.Clearing.{in_append, in_left, in_right, edge_gives, edge_from, referent_is, some_kind, option_in, same_some}
 use Rattle.jlr_laws.proofs.Agree.{at-places_left}
-use Rattle.jlr_laws.proofs.Frames.{no_some, some_same, is_reference_there, is_cleanable_there, IsRoot, held, fencing, named, waiting, lining, active, root_gives, root_from, limits_stay}
+use Rattle.jlr_laws.proofs.Frames.{no_some, some_same, is_reference_there, is_cleanable_there, IsRoot, held, fencing, named, waiting, lining, active, root_gives, root_from, limits_stay, fresh_unqueued, still_ahead}
 use Rattle.jlr_laws.proofs.ObjectsKept.{count_pointwise, state_there, IsPendingKind}
 use Rattle.jlr_laws.proofs.Left.{IsLeft}
 use Rattle.jlr_laws.proofs.Allowed.{and_then_gives}
@@ -99,13 +99,17 @@ module _ (kept : List ℕ) (b : Bool) where
   plain_before (Cleanable x) r e = absurd (cc e)
   plain_before (Guard g) r e = absurd (cc e)
 
-  strong_same : (o : Object) → strong_edges (left_of kept b o) ≡ strong_edges o
-  strong_same (Plain fields) = refl
-  strong_same (Reference x) = refl
-  strong_same (Queue members) = refl
-  strong_same Cleaner = refl
-  strong_same (Cleanable x) = refl
-  strong_same (Guard g) = refl
+  -- one that becomes Pending was Fresh, and so keeps its edge to its queue
+  same_ahead : (queue : Option ℕ) (old : RefState) → (b ≡ true → is_fresh old ≡ true) → is_unqueued (cond b Pending old) ≡ is_unqueued old
+  same_ahead queue old h = elim b as (λ c. (c ≡ true → is_fresh old ≡ true) → is_unqueued (cond c Pending old) ≡ is_unqueued old) [ true ↦ λ h. sym (fresh_unqueued old (h refl)) | false ↦ λ h. refl ] h
+
+  strong_same : (o : Object) → (b ≡ true → is_ready o ≡ true) → strong_edges (left_of kept b o) ≡ strong_edges o
+  strong_same (Plain fields) h = refl
+  strong_same (Reference x) h = ap (λ u. option_to_list (cond u x.queue None)) (same_ahead x.queue x.state (λ e. (and_parts (is_fresh x.state) (is_some x.queue) (h e)).0))
+  strong_same (Queue members) h = refl
+  strong_same Cleaner h = refl
+  strong_same (Cleanable x) h = refl
+  strong_same (Guard g) h = refl
 
   referent_left : (o : Object) → any_referent (left_of kept b o) ≡ is_kept_referent kept (any_referent o)
   referent_left (Plain fields) = refl
@@ -443,11 +447,14 @@ module _ (m : Machine) (B kept pending : List ℕ) (w : IsWellFormed m) (l : IsL
 
   -- ---- Slots
 
+  was_ready : (s : ℕ) (o : Object) → at m.objects s ≡ Some o → s ∈ pending → is_ready o ≡ true
+  was_ready s o e p = let r = l.lost s p in subst (λ z. is_ready z ≡ true) (some_same r.0 o (sym r.3 ∙ e)) r.4
+
   edges_stay : (s x : ℕ) → x ∈ edges_from UpToPhantom heap s → IsObjectAt n x
   edges_stay s x h = elim (edge_gives UpToPhantom heap s x h) [
     | inl e ↦
         let b = back s e.0 e.1 in
-        let old : x ∈ strong_edges b.0 = subst (λ l. x ∈ l) (ap strong_edges b.3 ∙ strong_same kept (pending ∋ s) b.0) e.2 in
+        let old : x ∈ strong_edges b.0 = subst (λ l. x ∈ l) (ap strong_edges b.3 ∙ strong_same kept (pending ∋ s) b.0 (λ p. was_ready s b.0 b.2 p)) e.2 in
         object_forth x (l.strong s x b.0 b.1 b.2 old) (w.slots.edges s x (edge_from UpToPhantom m.objects s x (inl (b.0, b.2, old))))
     | inr e ↦
         let b = back s e.2.0 e.2.1 in
@@ -476,7 +483,7 @@ module _ (m : Machine) (B kept pending : List ℕ) (w : IsWellFormed m) (l : IsL
       let x = reference_back s r e in
       let g : x.0.queue ≡ Some q = sym (ap (λ r. r.queue) x.3) ∙ f in
       let members = w.slots.queues s q x.0 x.2 g in
-      (members.0, forth q (Queue members.0) (l.strong s q (Reference x.0) x.1 x.2 (option_in q x.0.queue g)) members.1)
+      (members.0, forth q (Queue members.0) (l.strong s q (Reference x.0) x.1 x.2 (option_in q (queue_ahead x.0) (still_ahead x.0 x.0.state q (w.references.states s x.0 x.2) g))) members.1)
 
   cleanable_kept : (s : ℕ) (g : GuardOf) → s ∈ kept → IsGuardAt m s g → g.cleanable ∈ kept
   cleanable_kept s g k e = l.strong s g.cleanable (Guard g) k e (in_front g.cleanable g.cleanable [] refl)
@@ -717,9 +724,9 @@ module _ (m : Machine) (B kept pending : List ℕ) (w : IsWellFormed m) (l : IsL
         limits = limits_stay m n w.limits (length_left kept pending 0 m.objects) refl;
         faults = w.faults;
         notes = w.notes;
-        seen = refl;
+        seen_rising = refl;
         seen_within = λ s h. nothing s h;
-        closed = λ _. refl;
+        seen_in_cycle = λ _. refl;
       }
 
   -- ---- What handles name

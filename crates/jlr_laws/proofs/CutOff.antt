@@ -5,10 +5,10 @@ use Rattle.jlr_types.specs.declared.RefKind.{RefKind}
 use Rattle.jlr_types.specs.declared.RefKind.TheVariants.{Soft, Weak, Phantom}
 use Rattle.jlr_machine.specs.declared.object.Object.{Object}
 use Rattle.jlr_machine.specs.declared.object.Object.TheVariants.{Plain, Reference, Queue, Cleaner, Cleanable, Guard}
-use Rattle.jlr_machine.specs.Objects.{Heap, at, some_and, ◌∋◌, ◌∈◌, is_distinct, is_rising}
-use Rattle.jlr_machine.specs.Edges.Chain.{Strong, UpToSoft, UpToWeak, UpToPhantom}
+use Rattle.jlr_machine.specs.Objects.{Heap, at, some_and, ◌∋◌, ◌∈◌, is_distinct, is_rising, any_referent}
 use Rattle.jlr_machine.specs.Reachable.{IsReached, HasStrength}
-use Rattle.jlr_machine.specs.Collection.{Clears, IsCollection, IsMadePending, without_referent, any_referent, has_referent, is_ready}
+use Rattle.jlr_machine.specs.Collection.{Clears, IsCollection, IsMadePending, without_referent, has_referent, is_ready}
+use Rattle.jlr_machine.specs.Edges.Chain.{Strong, UpToSoft, UpToWeak, UpToPhantom}
 use Rattle.jlr_laws.specs.Laws.{LosesReferent, only, IsCutOff}
 use Rattle.jlr_laws.proofs.Paths.{AreEdgesWithin, along}
 use Rattle.jlr_laws.proofs.Checks.{cleared, cleared-Clears}

@@ -1,16 +1,17 @@
 -- Which collections are legal is decided.
-use Rattle.std.proofs.Common.{◌≡◌, ℕ, ◌<◌, Bool, true, false, not, ◌&&◌, ◌||◌, Decides, ◌↔◌, IsTrue, List, [], ◌∷◌, length, refl, sym, ◌∙◌, ap, subst, Option, Some, None}
+use Rattle.std.proofs.Common.{◌≡◌, ℕ, ◌<◌, Bool, true, false, not, ◌&&◌, ◌||◌, Decides, ◌↔◌, IsTrue, List, [], ◌∷◌, length, refl, sym, ◌∙◌, ap, subst, Option, Some, None, is_some}
 use Rattle.std.specs.List.{list_all}
 use Rattle.std.proofs.lemmas.Bool.{both_ways, and_parts, and_from, not-true, not_from_false}
 use Rattle.std.proofs.lemmas.Bool.Decides.{Decides-and}
 use Rattle.jlr_machine.specs.declared.object.Object.{Object}
-use Rattle.jlr_machine.specs.Objects.{Heap, at, ◌∋◌, ◌∈◌, is_distinct, is_rising, some_and}
+use Rattle.jlr_machine.specs.Objects.{Heap, at, ◌∋◌, ◌∈◌, is_distinct, is_rising, some_and, any_referent}
 use Rattle.jlr_machine.specs.Edges.{Chain, edges_from, roots}
+use Rattle.jlr_machine.specs.Reachable.{IsReached}
+use Rattle.jlr_machine.specs.Collection.{is_ready}
+use Rattle.jlr_machine.specs.ReachSet.{reach_set}
 use Rattle.jlr_machine.specs.Edges.Chain.{Strong, UpToSoft}
-use Rattle.jlr_machine.specs.Reachable.{reach_set, IsReached}
-use Rattle.jlr_machine.specs.Collection.{any_referent, is_ready}
 use Rattle.jlr_laws.specs.Laws.{IsWithinHeap, LosesReferent, only}
-use Rattle.jlr_laws.specs.Deciding.{holds_all, is_closed, goes_out, loses_referent, hands_over, CollectionsAreDecided, BackgroundIsDecided, ClearingIsDecided}
+use Rattle.jlr_laws.specs.Deciding.{holds_all, is_closed, goes_out, loses_referent, hands_over, CollectionsAreDecided, BackgroundIsDecided, ClearingIsDecided, are_objects}
 use Rattle.jlr_laws.proofs.Sets.{in_front, in_rest, all_gives}
 use Rattle.jlr_laws.proofs.Paths.{reached_sound, reached_complete}
 use Rattle.jlr_laws.proofs.Clearing.{edge_from}
@@ -126,14 +127,17 @@ collections_are_decided heap B kept pending w =
       (λ c. let k = law.0 c in four.1 (k.holds_base, k.closed, k.inside, record { pended = k.pended; once = k.once; rising = k.rising })),
     )
 
+Decides-objects : (heap : Heap) (slots : List ℕ) → Decides (are_objects heap slots) ((s : ℕ) → s ∈ slots → IsTrue (is_some (at heap s)))
+Decides-objects heap slots = Decides-all (λ s. is_some (at heap s)) (λ s. IsTrue (is_some (at heap s))) slots (λ s. Decides-true (is_some (at heap s)))
+
 pub background_is_decided : BackgroundIsDecided
 background_is_decided m kept pending w i =
     let law = background_comes_down m kept pending w i in
     let four =
-    Decides-four (holds_all m.seen kept) (holds_all kept (roots m)) (is_closed m.objects kept) (hands_over m.objects kept pending)
-    (Decides-holds_all m.seen kept) (Decides-holds_all kept (roots m)) (Decides-closed m.objects kept) (Decides-hands_over m.objects kept pending) in (
-      (λ h. let p = four.0 h in law.1 (record { seen = p.0; holds_roots = p.1; closed = p.2; pended = p.3.pended; once = p.3.once; rising = p.3.rising })),
-      (λ c. let k = law.0 c in four.1 (k.seen, k.holds_roots, k.closed, record { pended = k.pended; once = k.once; rising = k.rising })),
+    Decides-four (holds_all m.seen kept && are_objects m.objects kept) (holds_all kept (roots m)) (is_closed m.objects kept) (hands_over m.objects kept pending)
+    (Decides-and (holds_all m.seen kept) (are_objects m.objects kept) (Decides-holds_all m.seen kept) (Decides-objects m.objects kept)) (Decides-holds_all kept (roots m)) (Decides-closed m.objects kept) (Decides-hands_over m.objects kept pending) in (
+      (λ h. let p = four.0 h in law.1 (record { seen = p.0.0; objects = p.0.1; holds_roots = p.1; closed = p.2; pended = p.3.pended; once = p.3.once; rising = p.3.rising })),
+      (λ c. let k = law.0 c in four.1 ((k.seen, k.objects), k.holds_roots, k.closed, record { pended = k.pended; once = k.once; rising = k.rising })),
     )
 
 -- what is strongly reached is reached inside a closed set

@@ -10,11 +10,11 @@ use Rattle.jlr_machine.specs.declared.machine.Machine.{Machine}
 use Rattle.jlr_machine.specs.declared.machine.Session.{Session}
 use Rattle.jlr_machine.specs.Objects.{Table, at, ◌∈◌, as_reference, as_cleanable}
 use Rattle.jlr_machine.specs.Edges.{active_cleanables, roots, edges, edges_from}
+use Rattle.jlr_machine.specs.Lookups.{same_name}
+use Rattle.jlr_machine.specs.Run.{empty}
+use Rattle.jlr_machine.specs.WellFormed.{IsObjectAt, IsWellFormed, IsImage, AreSlotsNamed, AreReferences, AreLists, AreActions, AreResources, AreCalls, ArePrivate, IsUnspent, state_at, clean_state_at, is_unspent_place}
 use Rattle.jlr_machine.specs.Edges.Chain.{UpToPhantom}
 use Rattle.jlr_laws.specs.Laws.{IsWithinHeap}
-use Rattle.jlr_machine.specs.Run.{empty}
-use Rattle.jlr_machine.specs.Lookups.{same_name}
-use Rattle.jlr_machine.specs.WellFormed.{IsObjectAt, IsWellFormed, IsImage, AreSlotsNamed, AreReferences, AreLists, AreActions, AreResources, AreCalls, ArePrivate, IsUnspent, state_at, clean_state_at, is_unspent_place}
 use Rattle.jlr_laws.proofs.Sets.{nothing}
 use Rattle.jlr_laws.proofs.Checks.{at_beyond}
 
@@ -171,9 +171,9 @@ module _ (cells session_count limit : ℕ) where
         unnamed = unnamed;
         faults = omega arith;
         notes = omega arith;
-        seen = refl;
+        seen_rising = refl;
         seen_within = λ s h. nothing s h;
-        closed = λ _. refl;
+        seen_in_cycle = λ _. refl;
       }
 
   pub empty_is_an_image : cells ≤ 65536 → session_count ≤ 64 → IsImage nobody_here

@@ -13,8 +13,8 @@ use Rattle.jlr_machine.specs.declared.machine.Call.TheVariants.{Free, Opening as
 use Rattle.jlr_machine.specs.declared.machine.ResourceState.{ResourceState}
 use Rattle.jlr_machine.specs.declared.machine.ResourceState.TheVariants.{Opening, Idle, Out, Closing}
 use Rattle.jlr_machine.specs.Objects.{Table, at, is_rising}
-use Rattle.jlr_machine.specs.declared.machine.Failure.{Failure}
 use Rattle.jlr_machine.specs.WellFormed.{IsSessionAt, IsObjectAt, HasResource, IsFencing, FitsItsCall, IsUnspent, HasWorker, IsJob, IsWellFormed, AreSessions, AreActions, AreResources, AreCalls, ArePrivate, IsPrivate, OpeningHasRoom, IsCallOf, IsAction}
+use Rattle.jlr_machine.specs.declared.machine.Failure.{Failure}
 use Rattle.jlr_laws.proofs.Frames.{no_some, some_same, IsRoot, root_gives, root_from, limits_stay}
 use Rattle.jlr_laws.proofs.Frames.IsRoot.{held, fencing, named, waiting, lining, active}
 use Rattle.jlr_laws.proofs.Keyed.{by_key, keyed_without, found_gone, found_left, rising_without, all_without, count_without, length_without}
@@ -226,7 +226,7 @@ module _ (m : Machine) (mutators : Table Session) (resources : List Resource) (f
         limits = limits_stay m n w.limits refl x.as_many;
         faults = x.faults_limit;
         notes = x.notes_limit;
-        seen = w.seen;
+        seen_rising = w.seen_rising;
         seen_within = w.seen_within;
-        closed = w.closed;
+        seen_in_cycle = w.seen_in_cycle;
       }

@@ -1,5 +1,5 @@
 -- Which objects fit in place of none, of a plain object, of a reference and of a queue.
-use Rattle.std.proofs.Common.{◌≡◌, ℕ, zero, suc, ◌<◌, true, false, List, [], ◌∷◌, length, refl, sym, ◌∙◌, ap, subst, ◌⊎◌, inl, inr, arith, Option, Some, None, option_map, option_and_then, is_some, slice_set, filter_map, slice_index}
+use Rattle.std.proofs.Common.{◌≡◌, cond, ℕ, zero, suc, ◌<◌, true, false, List, [], ◌∷◌, length, refl, sym, ◌∙◌, ap, subst, ◌⊎◌, inl, inr, arith, Option, Some, None, option_map, option_and_then, is_some, slice_set, filter_map, slice_get}
 use Rattle.std.specs.List.{list_all, cons_option}
 use Rattle.std.proofs.lemmas.Bool.{both_ways, and_parts}
 use Rattle.jlr_types.specs.declared.FieldValue.{FieldValue}
@@ -11,16 +11,15 @@ use Rattle.jlr_machine.specs.declared.object.CleanState.TheVariants.{Pending as 
 use Rattle.jlr_machine.specs.declared.machine.Machine.{Machine}
 use Rattle.jlr_machine.specs.declared.machine.Session.{Session}
 use Rattle.jlr_machine.specs.declared.machine.Call.TheVariants.{Free}
-use Rattle.jlr_machine.specs.Objects.{Heap, at, ◌∈◌, is_distinct, as_fields, as_reference, as_members, as_cleanable, as_guard}
+use Rattle.jlr_machine.specs.Objects.{Heap, at, ◌∈◌, is_distinct, as_fields, as_reference, as_members, as_cleanable, as_guard, any_referent, queue_ahead, is_unqueued}
 use Rattle.jlr_machine.specs.Edges.{edges, slot_in, strong_edges}
-use Rattle.jlr_machine.specs.Edges.Chain.{UpToPhantom}
-use Rattle.jlr_machine.specs.Collection.{any_referent}
 use Rattle.jlr_machine.specs.Lookups.{with_new, with_object, with_handle}
 use Rattle.jlr_machine.specs.Run.{is_free, IsFresh}
 use Rattle.jlr_machine.specs.WellFormed.{IsObjectAt, IsReferenceAt, IsQueueAt, IsSessionAt, IsWellFormed, FitsItsState, IsPrivate}
+use Rattle.jlr_machine.specs.Edges.Chain.{UpToPhantom}
 use Rattle.jlr_laws.proofs.Sets.{nothing, in_front, in_rest, in_cons}
 use Rattle.jlr_laws.proofs.Clearing.{one_of, edge_from, referent_is, some_kind, option_in, in_option}
-use Rattle.jlr_laws.proofs.Frames.{no_some, some_same, set_same, place_within, waiting, root_from}
+use Rattle.jlr_laws.proofs.Frames.{own_queue, no_some, some_same, set_same, place_within, waiting, root_from}
 use Rattle.jlr_laws.proofs.ObjectsKept.{IsFit, keeps_new, IsPendingKind}
 use Rattle.jlr_laws.proofs.SessionsKept.{keeps_handle}
 
@@ -34,6 +33,9 @@ edge_split o x h = elim (one_of UpToPhantom o x h) [ inl s ↦ inl s | inr r ↦
 
 pub strong_object : (m : Machine) → IsWellFormed m → (s x : ℕ) (o : Object) → at m.objects s ≡ Some o → x ∈ strong_edges o → IsObjectAt m x
 strong_object m w s x o e h = w.slots.edges s x (edge_from UpToPhantom m.objects s x (inl (o, e, h)))
+
+pub queue_object : (m : Machine) → IsWellFormed m → (s q : ℕ) (r : ReferenceOf) → IsReferenceAt m s r → r.queue ≡ Some q → IsObjectAt m q
+queue_object m w s q r e f = ap is_some (w.slots.queues s q r e f).1
 
 pub referent_object : (m : Machine) → IsWellFormed m → (s x : ℕ) (o : Object) → at m.objects s ≡ Some o → any_referent o ≡ Some x → IsObjectAt m x
 referent_object m w s x o e h = let k = some_kind o x h in w.slots.edges s x (edge_from UpToPhantom m.objects s x (inr (k.0, refl, (o, e, k.1))))
@@ -49,7 +51,7 @@ free_is (None ∷ places) zero e = (omega arith, refl)
 free_is (Some o ∷ places) zero e = absurd (both_ways false refl e)
 free_is (o ∷ places) (suc s) e = let r = free_is places s e in (omega (arith, r.0), r.1)
 
-pub fresh_one : (heap : Heap) (fresh : List ℕ) → IsFresh heap 1 fresh → (s : ℕ) × (slice_index fresh 0 ≡ s) × (s < length heap) × (at heap s ≡ None)
+pub fresh_one : (heap : Heap) (fresh : List ℕ) → IsFresh heap 1 fresh → (s : ℕ) × (slice_get fresh 0 ≡ Some s) × (s < length heap) × (at heap s ≡ None)
 fresh_one heap [] f = absurd (omega (arith, f.count))
 fresh_one heap (s ∷ fresh) f = let r = free_is heap s (and_parts (is_free heap s) (list_all (is_free heap) fresh) f.free).0 in (s, refl, r.0, r.1)
 
@@ -185,7 +187,7 @@ keeps_reference m w s r t e c =
       new_cleanable = refl;
       new_guard = refl;
       edges = λ x h. elim (edge_split (Reference t) x h) [
-        | inl h ↦ strong_object m w s x (Reference r) e (option_in x r.queue (c.queue x (in_option x t.queue h)))
+        | inl h ↦ queue_object m w s x r e (c.queue x (own_queue t x (in_option x (queue_ahead t) h)))
         | inr h ↦ no_some x (sym c.no_referent ∙ h)
       ];
       queue_stays = λ xs g. let a : Reference r ≡ Queue xs = some_same (Reference r) (Queue xs) (sym e ∙ g) in absurd (cc a);

@@ -11,9 +11,11 @@ use Rattle.jlr_machine.specs.declared.object.Cleanable.{Cleanable as CleanableOf
 use Rattle.jlr_machine.specs.declared.object.Guard.{Guard as GuardOf}
 use Rattle.jlr_machine.specs.declared.machine.Machine.{Machine}
 use Rattle.jlr_machine.specs.declared.machine.Session.{Session}
-use Rattle.jlr_machine.specs.Objects.{Table, Heap, at, ◌∈◌, as_fields, as_reference, as_members, as_cleanable, as_guard, change_at}
+use Rattle.jlr_machine.specs.Objects.{Table, Heap, at, ◌∈◌, as_fields, as_reference, as_members, as_cleanable, as_guard, change_at, is_fresh, is_unqueued, queue_ahead}
 use Rattle.jlr_machine.specs.Edges.{sessions, roots, is_own_root, active_cleanables}
-use Rattle.jlr_machine.specs.WellFormed.{IsSessionAt, IsWithinLimits}
+use Rattle.jlr_machine.specs.WellFormed.{IsSessionAt, IsWithinLimits, FitsItsState}
+use Rattle.jlr_machine.specs.declared.object.RefState.{RefState}
+use Rattle.jlr_machine.specs.declared.object.RefState.TheVariants.{Fresh, Pending, Queued, Removed}
 use Rattle.jlr_laws.proofs.Sets.{nothing, in_front, in_cons}
 use Rattle.jlr_laws.proofs.Clearing.{in_append, in_left, in_right}
 use Rattle.jlr_laws.proofs.Checks.{at_beyond}
@@ -106,6 +108,25 @@ is_plain_there (Some (Queue x)) r e = no_some r e
 is_plain_there (Some Cleaner) r e = no_some r e
 is_plain_there (Some (Cleanable x)) r e = no_some r e
 is_plain_there (Some (Guard x)) r e = no_some r e
+
+-- ---- The queue that a reference may be added to
+
+pub fresh_unqueued : (s : RefState) → is_fresh s ≡ true → is_unqueued s ≡ true
+fresh_unqueued Fresh e = refl
+fresh_unqueued Pending e = absurd (cc e)
+fresh_unqueued Queued e = absurd (cc e)
+fresh_unqueued Removed e = absurd (cc e)
+
+-- is its own
+pub own_queue : (r : ReferenceOf) (q : ℕ) → queue_ahead r ≡ Some q → r.queue ≡ Some q
+own_queue r q e = elim (is_unqueued r.state) as (λ b. cond b r.queue None ≡ Some q → r.queue ≡ Some q) [ true ↦ λ e. e | false ↦ λ e. no_some q e ] e
+
+-- and a reference of a well-formed machine that has one may still be added to it
+pub still_ahead : (r : ReferenceOf) (s : RefState) (q : ℕ) → FitsItsState r s → r.queue ≡ Some q → cond (is_unqueued s) r.queue None ≡ Some q
+still_ahead r Fresh q h e = e
+still_ahead r Pending q h e = e
+still_ahead r Queued q h e = no_some q (sym h.0 ∙ e)
+still_ahead r Removed q h e = no_some q (sym h.0 ∙ e)
 
 -- ---- What a table of handles names
 

@@ -2,6 +2,7 @@
 use Rattle.std.proofs.Common.{◌≡◌, ℕ, suc, ◌≤◌, Bool, true, false, ◌&&◌, ◌||◌, List, [], ◌∷◌, length, refl, sym, ◌∙◌, ap, subst, ◌⊎◌, inl, inr, arith, Option, Some, None, drop, option_map, option_and_then}
 use Rattle.std.proofs.lemmas.Bool.{or_parts, both_ways}
 use Rattle.std.proofs.lemmas.List.{length-set}
+use Rattle.jlr_types.specs.declared.Refusal.TheVariants.{Busy, Closed, NoHandle, NotOut, Null, WrongKind}
 use Rattle.jlr_machine.specs.declared.object.Object.TheVariants.{Guard}
 use Rattle.jlr_machine.specs.declared.object.Cleanable.{Cleanable as CleanableOf}
 use Rattle.jlr_machine.specs.declared.object.Guard.{Guard as GuardOf}
@@ -16,10 +17,10 @@ use Rattle.jlr_machine.specs.declared.ask.Ask.TheVariants.{CheckOut, CheckIn, Op
 use Rattle.jlr_machine.specs.declared.ask.Answer.{Answer}
 use Rattle.jlr_machine.specs.declared.ask.Outcome.TheVariants.{Ok as OutcomeOk}
 use Rattle.jlr_machine.specs.declared.ask.CallOutcome.{CallOutcome}
-use Rattle.jlr_machine.specs.Objects.{Table, at, set_at, change_at, first_free, as_guard}
-use Rattle.jlr_machine.specs.Lookups.{free_handle, with_handle, with_call, with_state, is_spent, slot_or_0}
+use Rattle.jlr_machine.specs.Objects.{Table, at, set_at, change_at, first_free, as_guard, is_spent}
+use Rattle.jlr_machine.specs.Lookups.{free_handle, with_handle, with_call, with_state, on, slot_named}
 use Rattle.jlr_machine.specs.Refusals.{refusal, has_call, is_out, is_out_state, is_guard}
-use Rattle.jlr_machine.specs.Calls.{after, checked_out, checked_in, opened, fenced, rid_at}
+use Rattle.jlr_machine.specs.Calls.{after, checked_out, checked_in, opened, fence_of, guard_fenced, guard_at, with_given}
 use Rattle.jlr_machine.specs.WellFormed.{IsWellFormed, IsSessionAt, IsGuardAt, IsCleanableAt, HasResource, FitsItsCall, IsOwnGuard, IsCallOf}
 use Rattle.jlr_laws.proofs.Frames.{some_same, set_cases, set_other, change_as_long}
 use Rattle.jlr_laws.proofs.Changes.{change_here, change_beside, resource_same, resource_moved, IsElsewhere}
@@ -86,12 +87,6 @@ open_guard m k h t session g c w i e d =
           )
     ]
 
-abbrev pub rid_in : Machine → ℕ → ℕ
-rid_in m t = rid_at m (Some t)
-
-pub rid_is : (m : Machine) (t : ℕ) (g : GuardOf) → IsGuardAt m t g → rid_in m t ≡ g.rid
-rid_is m t g e = ap (λ o. slot_or_0 (option_map (λ g. g.rid) (option_and_then as_guard o))) e
-
 -- ---- CheckOut
 
 abbrev pub calling : Option ℕ → Call → Session → Session
@@ -131,23 +126,26 @@ not_busy a b e = or_parts a b e
 pub keeps_check_out : (m : Machine) (k h : ℕ) (a : Answer) (fresh : List ℕ) → IsWellFormed m → refusal m (CheckOut k h) ≡ None → IsWellFormed (after m (CheckOut k h) a fresh)
 keeps_check_out m k h a fresh w r =
     let ok = allowed m (CheckOut k h) r in
-    let o = only_operand m k h is_guard w ok.no_handle ok.null ok.wrong_kind in
+    let o = only_operand m k h is_guard w (ok NoHandle refl) (ok Null refl) (ok WrongKind refl) in
     let g = guard_of o.2 o.4 in
     let named : IsNamed m k h o.0 o.1 (Guard g.0) = subst (λ z. IsNamed m k h o.0 o.1 z) g.1 o.3 in
     let c = w.slots.guarded o.0 g.0 named.there in
-    let busy = not_busy (is_out m k h) (has_call m k) ok.busy in
+    let busy = not_busy (is_out m k h) (has_call m k) (ok Busy refl) in
     let closed = closed_is m k h g.0 c.0 named.named c.1 in
-    let x = open_guard m k h o.0 o.1 g.0 c.0 w named c.1 (not_spent c.0 (sym closed ∙ ok.closed)) in
-    let idle = idle_if x.0 x.1.not_closing x.1.not_opening (sym (out_is m k h g.0 (record { rid = g.0.rid; action = c.0.action; state = x.0 }) named.named x.1.resource ok.closed) ∙ busy.0) in
+    let x = open_guard m k h o.0 o.1 g.0 c.0 w named c.1 (not_spent c.0 (sym closed ∙ (ok Closed refl))) in
+    let idle = idle_if x.0 x.1.not_closing x.1.not_opening (sym (out_is m k h g.0 (record { rid = g.0.rid; action = c.0.action; state = x.0 }) named.named x.1.resource (ok Closed refl)) ∙ busy.0) in
     let done = checks_out m k h o.0 o.1 g.0 c.0 w named (free_session m k o.1 named.session_there busy.1) (subst (λ z. IsOpenGuard m o.0 g.0 c.0 z) idle x.1) in
-    subst (λ z. IsWellFormed (checked_out m k z)) (sym named.slot)
-    (subst (λ z. IsWellFormed (with_call (with_state m z Out) k (Some o.0) (CallOut z))) (sym (rid_is m o.0 g.0 named.there)) done)
+    subst (λ z. IsWellFormed (on z (checked_out m k (slot_named m k h)) m)) (sym (ap (option_and_then as_guard) named.named))
+    (subst (λ z. IsWellFormed (checked_out m k z g.0)) (sym named.slot) done)
 
 -- ---- CheckIn and a successful Opened
 
 -- what the fence of a call in flight is on
-pub fence_on : (m : Machine) (k : ℕ) (session : Session) (t : ℕ) → IsSessionAt m k session → session.fence ≡ Some t → fenced m k ≡ Some t
+pub fence_on : (m : Machine) (k : ℕ) (session : Session) (t : ℕ) → IsSessionAt m k session → session.fence ≡ Some t → fence_of m k ≡ Some t
 fence_on m k session t e f = ap (option_and_then (λ s. s.fence)) e ∙ f
+
+pub guard_on : (m : Machine) (k : ℕ) (session : Session) (t : ℕ) (g : GuardOf) → IsSessionAt m k session → session.fence ≡ Some t → IsGuardAt m t g → guard_fenced m k ≡ Some g
+guard_on m k session t g e f h = ap (option_and_then (guard_at m)) (fence_on m k session t e f) ∙ ap (option_and_then as_guard) h
 
 pub record IsEnding (m : Machine) (k : ℕ) (session : Session) (t : ℕ) (g : GuardOf) (c : CleanableOf) (was : ResourceState) : Type 0 where
   pub session_there : IsSessionAt m k session
@@ -241,7 +239,7 @@ opening_ends m k session rid w e f =
 pub keeps_check_in : (m : Machine) (k : ℕ) (outcome : CallOutcome) (a : Answer) (fresh : List ℕ) → IsWellFormed m → refusal m (CheckIn k outcome) ≡ None → IsWellFormed (after m (CheckIn k outcome) a fresh)
 keeps_check_in m k outcome a fresh w r =
     let ok = allowed m (CheckIn k outcome) r in
-    let s = out_session m k ok.not_out in
+    let s = out_session m k (ok NotOut refl) in
     let x = out_ends m k s.0 s.2 w s.1 s.3 in
     let done = ends_well m (change_at m.mutators k (calling None Free)) k s.0 x.0 x.1 x.2 Out s.0.handles w x.3
     (change_here m.mutators k (calling None Free) s.0 s.1)
@@ -249,8 +247,7 @@ keeps_check_in m k outcome a fresh w r =
     (change_as_long m.mutators k (calling None Free))
     (w.sessions.places k s.0 s.1)
     (λ h u e. inl e) in
-    subst (λ z. IsWellFormed (checked_in m k z)) (sym (fence_on m k s.0 x.0 s.1 x.3.fence))
-    (subst (λ z. IsWellFormed (with_call (with_state m z Idle) k None Free)) (sym (rid_is m x.0 x.1 x.3.guard)) done)
+    subst (λ z. IsWellFormed (on z (checked_in m k) m)) (sym (guard_on m k s.0 x.0 x.1 s.1 x.3.fence x.3.guard)) done
 
 -- ---- The lowest free handle is not null
 
@@ -259,11 +256,8 @@ free_from n [] = omega arith
 free_from n (None ∷ places) = omega arith
 free_from n (Some x ∷ places) = omega (arith, free_from (suc n) places)
 
-pub free_is : (m : Machine) (k : ℕ) (s : Session) → IsSessionAt m k s → free_handle m k ≡ first_free 1 (drop 1 s.handles)
-free_is m k s e = ap (λ o. elim o as (λ _. ℕ) [ None ↦ 0 | Some s ↦ first_free 1 (drop 1 s.handles) ]) e
-
-pub not_null : (m : Machine) (k : ℕ) (s : Session) → IsSessionAt m k s → 0 ≡ free_handle m k → ⊥
-not_null m k s e z = absurd (omega (arith, free_from 1 (drop 1 s.handles), free_is m k s e, z))
+pub not_null : (s : Session) → 0 ≡ free_handle s → ⊥
+not_null s z = absurd (omega (arith, free_from 1 (drop 1 s.handles), z))
 
 -- handles with one more
 pub places_with : (handles : Table ℕ) (f t : ℕ) → (0 ≡ f → ⊥) → (length handles ≡ 251) × (at handles 0 ≡ None) → (length (set_at handles f t) ≡ 251) × (at (set_at handles f t) 0 ≡ None)
@@ -277,20 +271,20 @@ opens_well m k session t g c w x =
     let n : Machine = with_call (with_state m g.rid Idle) k None Free in
     let free : Session = record session { fence = None; call = Free } in
     let free_there : IsSessionAt n k free = change_here m.mutators k (calling None Free) session x.session_there in
-    let f : ℕ = free_handle n k in
-    let holding : Session → Session = λ s. record s { handles = set_at s.handles f t } in
+    let f : ℕ = free_handle session in
+    let holding : Session → Session = λ s. record s { handles = set_at s.handles (free_handle s) t } in
     ends_well m (change_at n.mutators k holding) k session t g c Opening (set_at session.handles f t) w x
     (change_here n.mutators k holding free free_there)
     (λ j d. change_beside n.mutators k j holding d ∙ change_beside m.mutators k j (calling None Free) d)
     (change_as_long n.mutators k holding ∙ change_as_long m.mutators k (calling None Free))
-    (places_with session.handles f t (not_null n k free free_there) (w.sessions.places k session x.session_there))
+    (places_with session.handles f t (not_null session) (w.sessions.places k session x.session_there))
     (λ h s e. held_with session.handles f t h s e)
 
 pub keeps_opened : (m : Machine) (k : ℕ) (a : Answer) (fresh : List ℕ) → IsWellFormed m → refusal m (Opened k OutcomeOk) ≡ None → IsWellFormed (after m (Opened k OutcomeOk) a fresh)
 keeps_opened m k a fresh w r =
     let ok = allowed m (Opened k OutcomeOk) r in
-    let s = opening_session m k ok.not_out in
+    let s = opening_session m k (ok NotOut refl) in
     let x = opening_ends m k s.0 s.2 w s.1 s.3 in
     let done = opens_well m k s.0 x.0 x.1 x.2 w x.3 in
-    subst (λ z. IsWellFormed (opened m k z OutcomeOk)) (sym (fence_on m k s.0 x.0 s.1 x.3.fence))
-    (subst (λ z. IsWellFormed (with_handle (with_call (with_state m z Idle) k None Free) k x.0)) (sym (rid_is m x.0 x.1 x.3.guard)) done)
+    subst (λ z. IsWellFormed (on z (λ g. opened m k g OutcomeOk) m)) (sym (guard_on m k s.0 x.0 x.1 s.1 x.3.fence x.3.guard))
+    (subst (λ z. IsWellFormed (with_given (with_call (with_state m x.1.rid Idle) k None Free) k z)) (sym (fence_on m k s.0 x.0 s.1 x.3.fence)) done)

@@ -4,6 +4,7 @@ use Rattle.std.specs.List.{AllByRecursion}
 use Rattle.std.proofs.lemmas.Bool.{cases_eq}
 use Rattle.jlr_types.specs.declared.Work.{Work}
 use Rattle.jlr_types.specs.declared.Work.TheVariants.{Note, Resource as WorkOn}
+use Rattle.jlr_types.specs.declared.Refusal.TheVariants.{NotOut}
 use Rattle.jlr_machine.specs.declared.machine.Machine.{Machine}
 use Rattle.jlr_machine.specs.declared.machine.Session.{Session}
 use Rattle.jlr_machine.specs.declared.machine.Job.{Job as JobOf}
@@ -11,6 +12,10 @@ use Rattle.jlr_machine.specs.declared.machine.Resource.{Resource}
 use Rattle.jlr_machine.specs.declared.machine.Call.TheVariants.{Free, Job as CallJob}
 use Rattle.jlr_machine.specs.declared.machine.ResourceState.{ResourceState}
 use Rattle.jlr_machine.specs.Objects.{Table, at, change_at, is_rising}
+use Rattle.jlr_machine.specs.Lookups.{with_call, rid_of, job_of, without_job, last_256, on}
+use Rattle.jlr_machine.specs.Refusals.{refusal}
+use Rattle.jlr_machine.specs.Calls.{after, without_work_resource, without_work, noted, finished, free_again}
+use Rattle.jlr_machine.specs.WellFormed.{IsWellFormed, IsSessionAt, HasResource, IsJob, IsAction, FitsItsCall}
 use Rattle.std.proofs.lemmas.Bool.{not-false, eqb-true, eqb-false, cond_both}
 use Rattle.std.proofs.Common.{◌-◌, length-drop}
 use Rattle.jlr_machine.specs.declared.machine.Failure.{Failure}
@@ -18,10 +23,6 @@ use Rattle.jlr_machine.specs.declared.ask.Ask.TheVariants.{Finish}
 use Rattle.jlr_machine.specs.declared.ask.Answer.{Answer}
 use Rattle.jlr_machine.specs.declared.ask.Outcome.{Outcome}
 use Rattle.jlr_machine.specs.declared.ask.Outcome.TheVariants.{Ok as OutcomeOk, Failed}
-use Rattle.jlr_machine.specs.Lookups.{with_call, rid_of, job_of, without_job, last_256}
-use Rattle.jlr_machine.specs.Refusals.{refusal}
-use Rattle.jlr_machine.specs.Calls.{after, without_work_resource, without_work, noted, finished, free_again}
-use Rattle.jlr_machine.specs.WellFormed.{IsWellFormed, IsSessionAt, HasResource, IsJob, IsAction, FitsItsCall}
 use Rattle.jlr_laws.proofs.Frames.{no_some, some_same, change_as_long}
 use Rattle.jlr_laws.proofs.Keyed.{by_key, keyed_without, key_found, found_gone, found_left, rising_without, all_without, all_found}
 use Rattle.jlr_laws.proofs.Changes.{change_here, change_beside, session_same}
@@ -185,8 +186,8 @@ finishes_by m by job outcome w running e =
 pub keeps_finish : (m : Machine) (by action : ℕ) (outcome : Outcome) (a : Answer) (fresh : List ℕ) → IsWellFormed m → refusal m (Finish by action outcome) ≡ None → IsWellFormed (after m (Finish by action outcome) a fresh)
 keeps_finish m by action outcome a fresh w r =
     let ok = allowed m (Finish by action outcome) r in
-    let job = some_and_gives (λ job. job.by == by) (job_of m action) (not-false _ ok.not_out) in
+    let job = some_and_gives (λ job. job.by == by) (job_of m action) (not-false _ (ok NotOut refl)) in
     let is : job.0.action ≡ action = key_found {A = JobOf} (λ j. j.action) m.jobs action job.0 job.1 in
     let running : IsJob m job.0 = ap (job_of m) is ∙ job.1 in
-    subst (λ o. IsWellFormed (elim o as (λ _. Machine) [ None ↦ m | Some job ↦ free_again (finished m job outcome) by ])) (sym job.1)
+    subst (λ o. IsWellFormed (on o (λ job. free_again (finished m job outcome) by) m)) (sym job.1)
     (finishes_by m by job.0 outcome w running (eqb-true job.0.by by job.2))

@@ -15,14 +15,14 @@ use Rattle.jlr_machine.specs.declared.machine.Call.{Call}
 use Rattle.jlr_machine.specs.declared.machine.Call.TheVariants.{Free, Opening as CallOpening, Out as CallOut, Job as CallJob}
 use Rattle.jlr_machine.specs.declared.machine.ResourceState.{ResourceState}
 use Rattle.jlr_machine.specs.declared.machine.ResourceState.TheVariants.{Opening, Idle, Out}
-use Rattle.jlr_machine.specs.Objects.{Heap, at, change_at, ◌∈◌, ◌∋◌, is_distinct, as_reference, as_cleanable}
-use Rattle.std.proofs.lemmas.Bool.{and_parts, and_from, not-true, not_from_false, false_from_ne_true}
-use Rattle.jlr_machine.specs.declared.ask.Ask.TheVariants.{HandOver}
-use Rattle.jlr_machine.specs.declared.ask.Answer.{Answer}
-use Rattle.jlr_machine.specs.Lookups.{with_object, with_cleanable, with_reference, with_members, is_spent, job_of}
+use Rattle.jlr_machine.specs.Objects.{Heap, at, change_at, ◌∈◌, ◌∋◌, is_distinct, as_reference, as_cleanable, with_cleanable, with_reference, with_members, is_spent, queue_ahead, is_unqueued}
+use Rattle.jlr_machine.specs.Lookups.{with_object, job_of}
 use Rattle.jlr_machine.specs.Refusals.{refusal}
 use Rattle.jlr_machine.specs.Calls.{after, handed_over, delivered, handed, handed_reference, handed_cleanable, enqueued, to_queue, unreferred}
 use Rattle.jlr_machine.specs.WellFormed.{IsReferenceAt, IsCleanableAt, IsObjectAt, HasResource, IsFencing, FitsItsCall, FitsItsState, IsUnspent, IsWellFormed, AreSlotsNamed, AreReferences, AreLists, AreActions, AreResources, IsPrivate, IsAction, state_at, clean_state_at, is_unspent_place}
+use Rattle.std.proofs.lemmas.Bool.{and_parts, and_from, not-true, not_from_false, false_from_ne_true}
+use Rattle.jlr_machine.specs.declared.ask.Ask.TheVariants.{HandOver}
+use Rattle.jlr_machine.specs.declared.ask.Answer.{Answer}
 use Rattle.jlr_laws.proofs.Sets.{nothing, in_front, in_rest, in_cons}
 use Rattle.jlr_laws.proofs.Clearing.{in_append, in_left, in_right}
 use Rattle.jlr_laws.proofs.Frames.{no_some, some_same, place_within, IsRoot, root_gives, root_from, limits_stay, seen_stays, change_as_long}
@@ -54,7 +54,7 @@ pending_dropped m s rest w e not_reference not_cleanable =
       lined = o.lined;
       seen_rising = o.seen_rising;
       seen_within = o.seen_within;
-      closed = o.closed;
+      seen_in_cycle = o.seen_in_cycle;
     })
 
 abbrev state_of : Option Object → Option RefState
@@ -311,9 +311,9 @@ module _ (m : Machine) (s : ℕ) (rest : List ℕ) (c : CleanableOf) (w : IsWell
         limits = limits_stay m n w.limits (change_as_long m.objects s (with_cleanable lined_up)) refl;
         faults = w.faults;
         notes = w.notes;
-        seen = w.seen;
+        seen_rising = w.seen_rising;
         seen_within = seen_stays m.seen m.objects heap w.seen_within (change_as_long m.objects s (with_cleanable lined_up));
-        closed = w.closed;
+        seen_in_cycle = w.seen_in_cycle;
       }
 
 -- ---- A reference is enqueued
@@ -344,8 +344,8 @@ module _ (m : Machine) (s : ℕ) (rest : List ℕ) (r : ReferenceOf) (w : IsWell
       let same : Reference r ≡ Queue q.0 = some_same (Reference r) (Queue q.0) both in
       absurd (cc same)
 
-  asked : option_and_then (λ r. r.queue) (option_and_then as_reference (at m.objects s)) ≡ Some has_queue.0
-  asked = ap (λ o. option_and_then (λ r. r.queue) (option_and_then as_reference o)) there ∙ has_queue.1
+  asked : option_and_then queue_ahead (option_and_then as_reference (at m.objects s)) ≡ Some has_queue.0
+  asked = ap (λ o. option_and_then queue_ahead (option_and_then as_reference o)) there ∙ ap (λ st. cond (is_unqueued st) r.queue None) waits ∙ has_queue.1
 
   abbrev queued : Machine
   queued = to_queue (with_object m s (with_reference unreferred)) s (Some has_queue.0)

@@ -7,18 +7,19 @@ use Rattle.jlr_types.specs.declared.FieldKind.{FieldKind}
 use Rattle.jlr_types.specs.declared.FieldKind.TheVariants.{Int as IntField, Ref as RefField}
 use Rattle.jlr_types.specs.declared.FieldValue.{FieldValue}
 use Rattle.jlr_types.specs.declared.FieldValue.TheVariants.{Int as IntValue, Ref as RefValue}
+use Rattle.jlr_types.specs.declared.Refusal.TheVariants.{Busy, NoHandle, NoSession, Null, WrongKind}
 use Rattle.jlr_machine.specs.declared.object.Object.{Object}
 use Rattle.jlr_machine.specs.declared.object.Object.TheVariants.{Plain, Reference, Queue, Cleaner, Cleanable, Guard}
 use Rattle.jlr_machine.specs.declared.machine.Machine.{Machine}
 use Rattle.jlr_machine.specs.declared.machine.Session.{Session}
 use Rattle.jlr_machine.specs.declared.ask.Ask.TheVariants.{Join, Leave, New, Put, Get, SetInt, Dup, Drop}
 use Rattle.jlr_machine.specs.declared.ask.Answer.{Answer}
-use Rattle.jlr_machine.specs.Objects.{Table, at, set_at, empty_at, as_fields, ◌∈◌}
+use Rattle.jlr_machine.specs.Objects.{Table, at, set_at, empty_at, as_fields, ◌∈◌, with_field}
 use Rattle.jlr_machine.specs.Edges.{slot_in}
-use Rattle.jlr_machine.specs.Lookups.{slot_named, object_named, slot_or_0, with_new, with_object, with_field, with_handle, blank}
-use Rattle.jlr_machine.specs.Refusals.{refusal, is_joined, has_call, is_plain, given, field_of}
+use Rattle.jlr_machine.specs.Lookups.{slot_named, object_named, with_new, with_object, with_handle, blank, field_named, on}
+use Rattle.jlr_machine.specs.Refusals.{refusal, is_joined, has_call, is_plain, given}
+use Rattle.jlr_machine.specs.Calls.{after, fresh_session, field_set}
 use Rattle.jlr_machine.specs.Run.{IsFresh}
-use Rattle.jlr_machine.specs.Calls.{after, fresh_session}
 use Rattle.jlr_machine.specs.WellFormed.{IsSessionAt, IsWellFormed}
 use Rattle.jlr_laws.proofs.Sets.{nothing, in_front}
 use Rattle.jlr_laws.proofs.Frames.{no_some, some_same, set_same, set_other, set_cases, is_plain_there}
@@ -39,7 +40,7 @@ nobody_there (suc n) (suc h) x e = nobody_there n h x e
 
 pub keeps_Join : (m : Machine) → IsWellFormed m → (k : ℕ) → refusal m (Join k) ≡ None → (a : Answer) (fresh : List ℕ) → IsWellFormed (after m (Join k) a fresh)
 keeps_Join m w k no_refusal a fresh =
-    let out : is_joined m k ≡ false = (or_parts (is_joined m k) _ (allowed m (Join k) no_refusal).no_session).0 in
+    let out : is_joined m k ≡ false = (or_parts (is_joined m k) _ (allowed m (Join k) no_refusal NoSession refl)).0 in
     let absent : (s : Session) → IsSessionAt m k s → ⊥ = λ s e. both_ways (is_joined m k) out (ap is_some e) in
     sessions_kept m (set_at m.mutators k fresh_session) w (record {
       as_many = length-set m.mutators k (Some fresh_session);
@@ -67,7 +68,7 @@ keeps_Join m w k no_refusal a fresh =
 
 pub keeps_Leave : (m : Machine) → IsWellFormed m → (k : ℕ) → refusal m (Leave k) ≡ None → (a : Answer) (fresh : List ℕ) → IsWellFormed (after m (Leave k) a fresh)
 keeps_Leave m w k no_refusal a fresh =
-    let idle : has_call m k ≡ false = (allowed m (Leave k) no_refusal).busy in
+    let idle : has_call m k ≡ false = (allowed m (Leave k) no_refusal Busy refl) in
     let old : (j : ℕ) (t : Session) → at (empty_at m.mutators k) j ≡ Some t → IsSessionAt m j t = λ j t e. elim (set_cases m.mutators k j None t e) [ inl none ↦ no_some t none.1 | inr old ↦ old.1 ] in
     sessions_kept m (empty_at m.mutators k) w (record {
       as_many = length-set m.mutators k None;
@@ -85,7 +86,7 @@ keeps_Leave m w k no_refusal a fresh =
 
 pub keeps_Dup : (m : Machine) → IsWellFormed m → (k h : ℕ) → refusal m (Dup k h) ≡ None → (a : Answer) (fresh : List ℕ) → IsWellFormed (after m (Dup k h) a fresh)
 keeps_Dup m w k h no_refusal a fresh =
-    keeps_given m w k (slot_named m k h) (shown_slot m w k h) (λ s e. free_session m k s e (allowed m (Dup k h) no_refusal).busy)
+    keeps_given m w k (slot_named m k h) (shown_slot m w k h) (λ s e. free_session m k s e (allowed m (Dup k h) no_refusal Busy refl))
 
 still_none : (table : Table ℕ) (h : ℕ) → length table ≡ 251 → at table 0 ≡ None → at (empty_at table h) 0 ≡ None
 still_none table h l e = elim (cases_eq 0 h) [
@@ -101,7 +102,7 @@ keeps_Drop m w k h no_refusal a fresh =
       call = refl;
       held = λ p x f. held_object m w k p x s e (old s p x f);
       places = (length-set s.handles h None ∙ (w.sessions.places k s e).0, still_none s.handles h (w.sessions.places k s e).0 (w.sessions.places k s e).1);
-      opening = free_has_room (record s { handles = empty_at s.handles h }) s.call (free_session m k s e (allowed m (Drop k h) no_refusal).busy);
+      opening = free_has_room (record s { handles = empty_at s.handles h }) s.call (free_session m k s e (allowed m (Drop k h) no_refusal Busy refl));
     })
 
 -- ---- Plain objects
@@ -114,7 +115,7 @@ no_blank (RefField ∷ layout) x h = no_blank layout x h
 pub keeps_New : (m : Machine) → IsWellFormed m → (k : ℕ) (layout : List FieldKind) → refusal m (New k layout) ≡ None → (a : Answer) (fresh : List ℕ) → IsFresh m.objects 1 fresh → IsWellFormed (after m (New k layout) a fresh)
 keeps_New m w k layout no_refusal a fresh f =
     let s = fresh_one m.objects fresh f in
-    subst (λ s. IsWellFormed (with_handle (with_new m s (Plain (map blank layout))) k s)) (sym s.1)
+    subst (λ o. IsWellFormed (on o (λ s. with_handle (with_new m s (Plain (map blank layout))) k s) m)) (sym s.1)
     (keeps_made m s.0 (Plain (map blank layout)) w (record {
       new_cleanable = refl;
       new_guard = refl;
@@ -124,7 +125,7 @@ keeps_New m w k layout no_refusal a fresh f =
       public_referent = λ x r g. no_some r g;
       empty = λ xs g. no_some xs g;
       public_fields = λ x xs g h. no_blank layout x (subst (λ l. x ∈ filter_map slot_in l) (sym (some_same (map blank layout) xs g)) h);
-    }) s.2 s.3 k (λ session e. free_session m k session e (allowed m (New k layout) no_refusal).busy))
+    }) s.2 s.3 k (λ session e. free_session m k session e (allowed m (New k layout) no_refusal Busy refl)))
 
 plain_of : (o : Object) → is_plain o ≡ true → (fields : List FieldValue) × (o ≡ Plain fields)
 plain_of (Plain fields) e = (fields, refl)
@@ -135,23 +136,23 @@ plain_of (Cleanable c) e = absurd (cc e)
 plain_of (Guard g) e = absurd (cc e)
 
 -- a field of the plain object that a handle names
-set_field : (m : Machine) → IsWellFormed m → (k h s : ℕ) (session : Session) (o : Object) → IsNamed m k h s session o → is_plain o ≡ true → (i : ℕ) (v : FieldValue) → ((x : ℕ) → slot_in v ≡ Some x → Shown m x) → IsWellFormed (with_object m (slot_or_0 (slot_named m k h)) (with_field i v))
+set_field : (m : Machine) → IsWellFormed m → (k h s : ℕ) (session : Session) (o : Object) → IsNamed m k h s session o → is_plain o ≡ true → (i : ℕ) (v : FieldValue) → ((x : ℕ) → slot_in v ≡ Some x → Shown m x) → IsWellFormed (field_set m k h i v)
 set_field m w k h s session o n plain i v shown =
     let fields = plain_of o plain in
     let e : at m.objects s ≡ Some (Plain fields.0) = n.there ∙ ap (λ o. Some o) fields.1 in
-    subst (λ t. IsWellFormed (with_object m t (with_field i v))) (ap slot_or_0 (sym n.slot))
+    subst (λ o. IsWellFormed (on o (λ s. with_object m s (with_field i v)) m)) (sym n.slot)
     (subst IsWellFormed (sym (changed_is_new m s (with_field i v) (Plain fields.0) e)) (keeps_field m w s fields.0 e i v shown))
 
 pub keeps_Put : (m : Machine) → IsWellFormed m → (k h f v : ℕ) → refusal m (Put k h f v) ≡ None → (a : Answer) (fresh : List ℕ) → IsWellFormed (after m (Put k h f v) a fresh)
 keeps_Put m w k h f v no_refusal a fresh =
     let ok = allowed m (Put k h f v) no_refusal in
-    let r = only_operand m k h is_plain w (or_from _ false (or_parts _ _ ok.no_handle).0 refl) (or_from _ false (or_parts _ _ ok.null).0 refl) (or_from _ false (or_parts _ _ ok.wrong_kind).0 refl) in
+    let r = only_operand m k h is_plain w (or_from _ false (or_parts _ _ (ok NoHandle refl)).0 refl) (or_from _ false (or_parts _ _ (ok Null refl)).0 refl) (or_from _ false (or_parts _ _ (ok WrongKind refl)).0 refl) in
     set_field m w k h r.0 r.1 r.2 r.3 r.4 f (RefValue (slot_named m k v)) (shown_slot m w k v)
 
 pub keeps_SetInt : (m : Machine) → IsWellFormed m → (k h f : ℕ) (v : ℤ) → refusal m (SetInt k h f v) ≡ None → (a : Answer) (fresh : List ℕ) → IsWellFormed (after m (SetInt k h f v) a fresh)
 keeps_SetInt m w k h f v no_refusal a fresh =
     let ok = allowed m (SetInt k h f v) no_refusal in
-    let r = only_operand m k h is_plain w ok.no_handle ok.null ok.wrong_kind in
+    let r = only_operand m k h is_plain w (ok NoHandle refl) (ok Null refl) (ok WrongKind refl) in
     set_field m w k h r.0 r.1 r.2 r.3 r.4 f (IntValue v) (λ x e. no_some x e)
 
 in_fields : (fields : List FieldValue) (i : ℕ) (v : FieldValue) (x : ℕ) → slice_get fields i ≡ Some v → slot_in v ≡ Some x → x ∈ filter_map slot_in fields
@@ -163,9 +164,9 @@ in_fields (y ∷ fields) (suc i) v x e g = in_more (slot_in y) x (filter_map slo
 pub keeps_Get : (m : Machine) → IsWellFormed m → (k h f : ℕ) → refusal m (Get k h f) ≡ None → (a : Answer) (fresh : List ℕ) → IsWellFormed (after m (Get k h f) a fresh)
 keeps_Get m w k h f no_refusal a fresh =
     keeps_given m w k (given m (Get k h f)) (λ x e.
-    let v = and_then_gives slot_in (field_of m k h f) x e in
+    let v = and_then_gives slot_in (field_named m k h f) x e in
     let fields = and_then_gives (λ fields. slice_get fields f) (option_and_then as_fields (object_named m k h)) v.0 v.1 in
     let o = and_then_gives (at m.objects) (slot_named m k h) (Plain fields.0) (is_plain_there (object_named m k h) fields.0 fields.1) in
     let there : x ∈ filter_map slot_in fields.0 = in_fields fields.0 f v.0 x fields.2 v.2 in
     (strong_object m w o.0 x (Plain fields.0) o.2 there, w.unnamed.fields o.0 x fields.0 o.2 there))
-    (λ s e. free_session m k s e (allowed m (Get k h f) no_refusal).busy)
+    (λ s e. free_session m k s e (allowed m (Get k h f) no_refusal Busy refl))

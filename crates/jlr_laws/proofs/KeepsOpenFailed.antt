@@ -2,6 +2,7 @@
 use Rattle.std.proofs.Common.{◌≡◌, ℕ, List, length, refl, sym, ◌∙◌, ap, subst, ◌⊎◌, inl, inr, arith, Some, None, option_map, option_and_then}
 use Rattle.std.proofs.lemmas.Bool.{cases_eq}
 use Rattle.jlr_types.specs.declared.Work.TheVariants.{Resource as WorkOn}
+use Rattle.jlr_types.specs.declared.Refusal.TheVariants.{NotOut}
 use Rattle.jlr_machine.specs.declared.object.Object.TheVariants.{Plain, Reference, Cleanable, Guard}
 use Rattle.jlr_machine.specs.declared.object.Cleanable.{Cleanable as CleanableOf}
 use Rattle.jlr_machine.specs.declared.object.Guard.{Guard as GuardOf}
@@ -14,22 +15,21 @@ use Rattle.jlr_machine.specs.declared.machine.Call.{Call}
 use Rattle.jlr_machine.specs.declared.machine.Call.TheVariants.{Free, Opening as CallOpening, Out as CallOut, Job as CallJob}
 use Rattle.jlr_machine.specs.declared.machine.ResourceState.{ResourceState}
 use Rattle.jlr_machine.specs.declared.machine.ResourceState.TheVariants.{Opening, Idle, Out, Closing}
-use Rattle.jlr_machine.specs.Objects.{Heap, at, change_at}
+use Rattle.jlr_machine.specs.Objects.{Heap, at, change_at, as_guard, with_cleanable}
+use Rattle.jlr_machine.specs.Lookups.{with_call, with_object, without_resource, on}
+use Rattle.jlr_machine.specs.Refusals.{refusal}
+use Rattle.jlr_machine.specs.Calls.{after, opened, spent}
+use Rattle.jlr_machine.specs.WellFormed.{IsSessionAt, IsGuardAt, IsCleanableAt, IsObjectAt, HasResource, IsFencing, FitsItsCall, IsUnspent, IsWellFormed, AreSlotsNamed, AreReferences, AreLists, AreSessions, AreActions, AreResources, AreCalls, ArePrivate, IsPrivate, IsOwnGuard, OpeningHasRoom, IsCallOf, IsAction, clean_state_at}
 use Rattle.jlr_types.specs.declared.Fault.{Fault}
 use Rattle.jlr_machine.specs.declared.ask.Ask.TheVariants.{Opened}
 use Rattle.jlr_machine.specs.declared.ask.Answer.{Answer}
 use Rattle.jlr_machine.specs.declared.ask.Outcome.TheVariants.{Failed}
-use Rattle.jlr_machine.specs.Objects.{as_guard}
-use Rattle.jlr_machine.specs.Lookups.{with_call, with_object, with_cleanable, without_resource, slot_or_0}
-use Rattle.jlr_machine.specs.Refusals.{refusal}
-use Rattle.jlr_machine.specs.Calls.{after, opened, spent, cleanable_behind}
-use Rattle.jlr_machine.specs.WellFormed.{IsSessionAt, IsGuardAt, IsCleanableAt, IsObjectAt, HasResource, IsFencing, FitsItsCall, IsUnspent, IsWellFormed, AreSlotsNamed, AreReferences, AreLists, AreSessions, AreActions, AreResources, AreCalls, ArePrivate, IsPrivate, IsOwnGuard, OpeningHasRoom, IsCallOf, IsAction, clean_state_at}
 use Rattle.jlr_laws.proofs.Frames.{no_some, some_same, IsRoot, root_gives, root_from, limits_stay, seen_stays, change_as_long}
 use Rattle.jlr_laws.proofs.Frames.IsRoot.{held, fencing, named, waiting, lining, active}
 use Rattle.jlr_laws.proofs.Keyed.{by_key, keyed_without, found_gone, found_left, rising_without, all_without}
 use Rattle.jlr_laws.proofs.Changes.{change_here, change_beside, session_same, cleanable_same, resource_same, HasCleanable, worker_over, IsElsewhere}
 use Rattle.jlr_laws.proofs.Allowed.{allowed, opening_session}
-use Rattle.jlr_laws.proofs.KeepsCalls.{calling, no_one_else, IsEnding, opening_ends, fence_on, rid_is}
+use Rattle.jlr_laws.proofs.KeepsCalls.{calling, no_one_else, IsEnding, opening_ends, fence_on, guard_on}
 use Rattle.jlr_laws.proofs.KeepsTakeUps.{one_less}
 use Rattle.jlr_laws.proofs.Ended.{IsFreed}
 use Rattle.jlr_laws.proofs.Retouched.{IsRetouched, not_armed, back, over, cleanable_cases, alive, edges_back, active_back, state_same, clean_state_here, clean_state_beside, references_kept, queue_over, cleanable_there, private_back}
@@ -321,20 +321,15 @@ module _ (m : Machine) (k : ℕ) (session : Session) (t : ℕ) (g : GuardOf) (c 
         limits = limits_stay m n w.limits (change_as_long m.objects g.cleanable (with_cleanable spent)) (change_as_long m.mutators k (calling None Free));
         faults = w.faults;
         notes = w.notes;
-        seen = w.seen;
+        seen_rising = w.seen_rising;
         seen_within = seen_stays m.seen m.objects heap w.seen_within (change_as_long m.objects g.cleanable (with_cleanable spent));
-        closed = w.closed;
+        seen_in_cycle = w.seen_in_cycle;
       }
-
-behind_is : (m : Machine) (t : ℕ) (g : GuardOf) → IsGuardAt m t g → cleanable_behind m (Some t) ≡ g.cleanable
-behind_is m t g e = ap (λ o. slot_or_0 (option_map (λ g. g.cleanable) (option_and_then as_guard o))) e
 
 pub keeps_open_failed : (m : Machine) (k : ℕ) (fault : Fault) (a : Answer) (fresh : List ℕ) → IsWellFormed m → refusal m (Opened k (Failed fault)) ≡ None → IsWellFormed (after m (Opened k (Failed fault)) a fresh)
 keeps_open_failed m k fault a fresh w r =
     let ok = allowed m (Opened k (Failed fault)) r in
-    let z = opening_session m k ok.not_out in
+    let z = opening_session m k (ok NotOut refl) in
     let x = opening_ends m k z.0 z.2 w z.1 z.3 in
     let done = open_failed_is_well_formed m k z.0 x.0 x.1 x.2 w x.3 in
-    subst (λ g. IsWellFormed (opened m k g (Failed fault))) (sym (fence_on m k z.0 x.0 z.1 x.3.fence))
-    (subst (λ i. IsWellFormed (with_call (with_object (without_resource m i) (cleanable_behind m (Some x.0)) (with_cleanable spent)) k None Free)) (sym (rid_is m x.0 x.1 x.3.guard))
-    (subst (λ i. IsWellFormed (with_call (with_object (without_resource m x.1.rid) i (with_cleanable spent)) k None Free)) (sym (behind_is m x.0 x.1 x.3.guard)) done))
+    subst (λ z. IsWellFormed (on z (λ g. opened m k g (Failed fault)) m)) (sym (guard_on m k z.0 x.0 x.1 z.1 x.3.fence x.3.guard)) done

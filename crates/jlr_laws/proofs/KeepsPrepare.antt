@@ -4,6 +4,7 @@ use Rattle.std.specs.List.{flat_map}
 use Rattle.std.proofs.lemmas.Bool.{cases_eq, both_ways}
 use Rattle.jlr_types.specs.declared.FieldValue.{FieldValue}
 use Rattle.jlr_types.specs.declared.Work.TheVariants.{Resource as WorkOn}
+use Rattle.jlr_types.specs.declared.Refusal.TheVariants.{Busy, HandlesFull, NoSession}
 use Rattle.jlr_machine.specs.declared.object.Object.{Object}
 use Rattle.jlr_machine.specs.declared.object.Object.TheVariants.{Plain, Reference, Queue, Cleanable, Guard}
 use Rattle.jlr_machine.specs.declared.object.Reference.{Reference as ReferenceOf}
@@ -20,8 +21,13 @@ use Rattle.jlr_machine.specs.declared.machine.Call.{Call}
 use Rattle.jlr_machine.specs.declared.machine.Call.TheVariants.{Free, Opening as CallOpening, Out as CallOut, Job as CallJob}
 use Rattle.jlr_machine.specs.declared.machine.ResourceState.{ResourceState}
 use Rattle.jlr_machine.specs.declared.machine.ResourceState.TheVariants.{Opening, Idle, Out, Closing}
-use Rattle.jlr_machine.specs.Objects.{Table, Heap, at, set_at, change_at, ◌∈◌, ◌∋◌, is_distinct, as_reference, as_cleanable}
+use Rattle.jlr_machine.specs.Objects.{Table, Heap, at, set_at, change_at, ◌∈◌, ◌∋◌, is_distinct, as_reference, as_cleanable, occupied, some_and}
 use Rattle.jlr_machine.specs.Edges.{edges, edges_from, is_own_root}
+use Rattle.jlr_machine.specs.Lookups.{with_call, with_resource, resource_at, has_free_handle, job_of}
+use Rattle.jlr_machine.specs.Refusals.{refusal}
+use Rattle.jlr_machine.specs.Calls.{after, prepared}
+use Rattle.jlr_machine.specs.Run.{IsFresh, is_free}
+use Rattle.jlr_machine.specs.WellFormed.{IsSessionAt, IsGuardAt, IsCleanableAt, IsObjectAt, HasResource, IsFencing, FitsItsCall, IsUnspent, IsWellFormed, AreSlotsNamed, AreReferences, AreLists, AreSessions, AreActions, AreResources, AreCalls, ArePrivate, IsPrivate, OpeningHasRoom, IsCallOf, IsAction, state_at, clean_state_at, is_unspent_place}
 use Rattle.jlr_machine.specs.Edges.Chain.{UpToPhantom}
 use Rattle.std.proofs.Common.{slice_index, is_none}
 use Rattle.std.specs.List.{list_all}
@@ -29,12 +35,6 @@ use Rattle.std.proofs.lemmas.Bool.{and_parts, not-true, not-false, ltb-true}
 use Rattle.std.proofs.lemmas.List.{length-set}
 use Rattle.jlr_machine.specs.declared.ask.Ask.TheVariants.{Prepare}
 use Rattle.jlr_machine.specs.declared.ask.Answer.TheVariants.{Prepared}
-use Rattle.jlr_machine.specs.Objects.{occupied, some_and}
-use Rattle.jlr_machine.specs.Lookups.{with_call, with_resource, resource_at, has_free_handle, job_of}
-use Rattle.jlr_machine.specs.Refusals.{refusal}
-use Rattle.jlr_machine.specs.Calls.{after}
-use Rattle.jlr_machine.specs.Run.{IsFresh, is_free}
-use Rattle.jlr_machine.specs.WellFormed.{IsSessionAt, IsGuardAt, IsCleanableAt, IsObjectAt, HasResource, IsFencing, FitsItsCall, IsUnspent, IsWellFormed, AreSlotsNamed, AreReferences, AreLists, AreSessions, AreActions, AreResources, AreCalls, ArePrivate, IsPrivate, OpeningHasRoom, IsCallOf, IsAction, state_at, clean_state_at, is_unspent_place}
 use Rattle.jlr_laws.proofs.Sets.{nothing, in_front, in_cons}
 use Rattle.jlr_laws.proofs.Frames.{no_some, some_same, set_same, set_other, IsRoot, root_gives, root_from, limits_stay, seen_stays, change_as_long}
 use Rattle.jlr_laws.proofs.Frames.IsRoot.{held, fencing, named, waiting, lining, active}
@@ -516,9 +516,9 @@ module _ (m : Machine) (k : ℕ) (session : Session) (a b rid : ℕ) (w : IsWell
         limits = limits_stay m n w.limits (length-set first b (Some (Cleanable cleanable)) ∙ length-set m.objects a (Some (Guard guard))) (change_as_long m.mutators k (calling (Some a) (CallOpening rid)));
         faults = w.faults;
         notes = w.notes;
-        seen = w.seen;
+        seen_rising = w.seen_rising;
         seen_within = seen_stays m.seen m.objects heap w.seen_within (length-set first b (Some (Cleanable cleanable)) ∙ length-set m.objects a (Some (Guard guard)));
-        closed = w.closed;
+        seen_in_cycle = w.seen_in_cycle;
       }
 
 -- two fresh slots
@@ -529,21 +529,19 @@ pub record AreTwo (heap : Heap) (a b : ℕ) : Type 0 where
   pub b_free : at heap b ≡ None
   pub apart : b ≡ a → ⊥
 
-pub fresh_two : (heap : Heap) (fresh : List ℕ) → IsFresh heap 2 fresh → AreTwo heap (slice_index fresh 0) (slice_index fresh 1)
-fresh_two heap [] f = absurd (omega (arith, f.count))
-fresh_two heap (a ∷ []) f = absurd (omega (arith, f.count))
-fresh_two heap (a ∷ b ∷ fresh) f =
-    let p = and_parts (is_free heap a) (list_all (is_free heap) (b ∷ fresh)) f.free in
-    let q = and_parts (is_free heap b) (list_all (is_free heap) fresh) p.1 in
+pub two_fresh : (heap : Heap) (a b : ℕ) → IsFresh heap 2 (a ∷ b ∷ []) → AreTwo heap a b
+two_fresh heap a b f =
+    let p = and_parts (is_free heap a) (list_all (is_free heap) (b ∷ [])) f.free in
+    let q = and_parts (is_free heap b) (list_all (is_free heap) []) p.1 in
     let r = free_is heap a p.0 in
     let s = free_is heap b q.0 in
-    let d = and_parts (not ((b ∷ fresh) ∋ a)) (is_distinct (b ∷ fresh)) f.distinct in
+    let d = and_parts (not ((b ∷ []) ∋ a)) (is_distinct (b ∷ [])) f.distinct in
     record {
       a_inside = r.0;
       b_inside = s.0;
       a_free = r.1;
       b_free = s.1;
-      apart = λ e. absurd (both_ways ((b ∷ fresh) ∋ a) (not-true ((b ∷ fresh) ∋ a) d.0) (in_front a b fresh (sym e)));
+      apart = λ e. absurd (both_ways ((b ∷ []) ∋ a) (not-true ((b ∷ []) ∋ a) d.0) (in_front a b [] (sym e)));
     }
 
 none_if : {A : Type 0} (o : Option A) → is_none o ≡ true → o ≡ None
@@ -555,18 +553,15 @@ room_for_one m k s e h =
     let l = ltb-true (occupied s.handles) 250 (sym (ap (some_and (λ s. nat_lt (occupied s.handles) 250)) e) ∙ not-false (has_free_handle m k) h) in
     omega (arith, l)
 
-pub keeps_prepare : (m : Machine) (k rid : ℕ) (fresh : List ℕ) → IsWellFormed m → refusal m (Prepare k) ≡ None → IsTrue (is_none (resource_at m rid)) → IsFresh m.objects 2 fresh → IsWellFormed (after m (Prepare k) (Prepared rid) fresh)
-keeps_prepare m k rid fresh w r new f =
+prepares_in : (m : Machine) (k rid a b : ℕ) → IsWellFormed m → refusal m (Prepare k) ≡ None → IsTrue (is_none (resource_at m rid)) → AreTwo m.objects a b → IsWellFormed (prepared m k a b rid)
+prepares_in m k rid a b w r new two =
     let ok = allowed m (Prepare k) r in
-    let s = joined_session m k ok.no_session in
-    let two = fresh_two m.objects fresh f in
-    let a = slice_index fresh 0 in
-    let b = slice_index fresh 1 in
+    let s = joined_session m k (ok NoSession refl) in
     let x : IsPrepared m k s.0 a b rid =
     record {
       there = s.1;
-      free = free_session m k s.0 s.1 ok.busy;
-      room = room_for_one m k s.0 s.1 ok.handles_full;
+      free = free_session m k s.0 s.1 (ok Busy refl);
+      room = room_for_one m k s.0 s.1 (ok HandlesFull refl);
       a_inside = two.a_inside;
       b_inside = two.b_inside;
       a_free = two.a_free;
@@ -580,3 +575,9 @@ keeps_prepare m k rid fresh w r new f =
       next_action = m.next_action + 1;
     }) k (Some a) (CallOpening rid))) (sym (with_resource-keyed m.resources (record { rid = rid; action = m.next_action; state = Opening })))
     (prepared_is_well_formed m k s.0 a b rid w x)
+
+pub keeps_prepare : (m : Machine) (k rid : ℕ) (fresh : List ℕ) → IsWellFormed m → refusal m (Prepare k) ≡ None → IsTrue (is_none (resource_at m rid)) → IsFresh m.objects 2 fresh → IsWellFormed (after m (Prepare k) (Prepared rid) fresh)
+keeps_prepare m k rid [] w r new f = absurd (omega (arith, f.count))
+keeps_prepare m k rid (a ∷ []) w r new f = absurd (omega (arith, f.count))
+keeps_prepare m k rid (a ∷ b ∷ []) w r new f = prepares_in m k rid a b w r new (two_fresh m.objects a b f)
+keeps_prepare m k rid (a ∷ b ∷ c ∷ fresh) w r new f = absurd (omega (arith, f.count))

@@ -3,6 +3,7 @@ use Rattle.std.proofs.Common.{◌≡◌, ℕ, true, false, cond, not, List, [], 
 use Rattle.std.proofs.lemmas.Bool.{both_ways, cases_eq, or_parts, not-false, not-true, and_parts}
 use Rattle.jlr_types.specs.declared.RefKind.{RefKind}
 use Rattle.jlr_types.specs.declared.RefKind.TheVariants.{Phantom}
+use Rattle.jlr_types.specs.declared.Refusal.TheVariants.{Busy, NoHandle, Null, WrongKind}
 use Rattle.jlr_machine.specs.declared.object.Object.{Object}
 use Rattle.jlr_machine.specs.declared.object.Object.TheVariants.{Plain, Reference, Queue, Cleaner, Cleanable, Guard}
 use Rattle.jlr_machine.specs.declared.object.Reference.{Reference as ReferenceOf}
@@ -13,16 +14,16 @@ use Rattle.jlr_machine.specs.declared.machine.Session.{Session}
 use Rattle.jlr_machine.specs.declared.machine.Call.TheVariants.{Free}
 use Rattle.jlr_machine.specs.declared.ask.Ask.TheVariants.{MakeRef, Deref, Clear, Enqueue, MakeQueue, Poll, Remove}
 use Rattle.jlr_machine.specs.declared.ask.Answer.{Answer}
-use Rattle.jlr_machine.specs.Objects.{at, ◌∈◌, ◌∋◌, is_distinct, some_and, as_reference, as_members}
+use Rattle.jlr_machine.specs.Objects.{at, ◌∈◌, ◌∋◌, is_distinct, some_and, as_reference, as_members, with_reference, with_members, queue_ahead}
 use Rattle.jlr_machine.specs.Edges.{is_kind}
-use Rattle.jlr_machine.specs.Lookups.{slot_named, object_named, slot_or_0, with_new, with_object, with_reference, with_members, with_handle}
-use Rattle.jlr_machine.specs.Refusals.{refusal, is_reference, is_queue, given, reference_named, members_named, front, gotten}
+use Rattle.jlr_machine.specs.Lookups.{slot_named, object_named, with_new, with_object, with_handle, reference_named, members_named, on}
+use Rattle.jlr_machine.specs.Refusals.{refusal, is_reference, is_queue, given, front, gotten}
+use Rattle.jlr_machine.specs.Calls.{after, unreferred, to_queue, enqueued, polled, with_given, poll_given}
 use Rattle.jlr_machine.specs.Run.{IsFresh}
-use Rattle.jlr_machine.specs.Calls.{after, unreferred, to_queue, enqueued, polled, with_given}
 use Rattle.jlr_machine.specs.WellFormed.{IsSessionAt, IsReferenceAt, IsQueueAt, IsWellFormed, IsPrivate, FitsItsState}
 use Rattle.jlr_laws.proofs.Sets.{nothing, in_front, in_rest, in_cons}
 use Rattle.jlr_laws.proofs.Clearing.{in_append, in_option}
-use Rattle.jlr_laws.proofs.Frames.{no_some, some_same, set_same, set_other, place_within, is_reference_there}
+use Rattle.jlr_laws.proofs.Frames.{own_queue, no_some, some_same, set_same, set_other, place_within, is_reference_there}
 use Rattle.jlr_laws.proofs.CollectionKept.{distinct_append}
 use Rattle.jlr_laws.proofs.SessionsKept.{keeps_handle, keeps_given}
 use Rattle.jlr_laws.proofs.Allowed.{allowed, IsNamed, only_operand, named_of_slot, free_session, and_then_gives}
@@ -50,7 +51,7 @@ queue_of (Guard g) e = absurd (cc e)
 pub keeps_MakeQueue : (m : Machine) → IsWellFormed m → (k : ℕ) → refusal m (MakeQueue k) ≡ None → (a : Answer) (fresh : List ℕ) → IsFresh m.objects 1 fresh → IsWellFormed (after m (MakeQueue k) a fresh)
 keeps_MakeQueue m w k no_refusal a fresh f =
     let s = fresh_one m.objects fresh f in
-    subst (λ s. IsWellFormed (with_handle (with_new m s (Queue [])) k s)) (sym s.1)
+    subst (λ o. IsWellFormed (on o (λ s. with_handle (with_new m s (Queue [])) k s) m)) (sym s.1)
     (keeps_made m s.0 (Queue []) w (record {
       new_cleanable = refl;
       new_guard = refl;
@@ -60,7 +61,7 @@ keeps_MakeQueue m w k no_refusal a fresh f =
       public_referent = λ x r g. no_some r g;
       empty = λ xs g. sym (some_same [] xs g);
       public_fields = λ x xs g h. no_some xs g;
-    }) s.2 s.3 k (λ session e. free_session m k session e (allowed m (MakeQueue k) no_refusal).busy))
+    }) s.2 s.3 k (λ session e. free_session m k session e (allowed m (MakeQueue k) no_refusal Busy refl)))
 
 pub keeps_MakeRef : (m : Machine) → IsWellFormed m → (k : ℕ) (kind : RefKind) (h q : ℕ) → refusal m (MakeRef k kind h q) ≡ None → (a : Answer) (fresh : List ℕ) → IsFresh m.objects 1 fresh → IsWellFormed (after m (MakeRef k kind h q) a fresh)
 keeps_MakeRef m w k kind h q no_refusal a fresh f =
@@ -69,10 +70,10 @@ keeps_MakeRef m w k kind h q no_refusal a fresh f =
     let s = fresh_one m.objects fresh f in
     let is_queue_named : (t : ℕ) → slot_named m k q ≡ Some t → (xs : List ℕ) × IsQueueAt m t xs = λ t e.
     let n = named_of_slot m k q t w e in
-    let right = (or_parts _ false (or_parts _ _ ok.wrong_kind).1).0 in
+    let right = (or_parts _ false (or_parts _ _ (ok WrongKind refl)).1).0 in
     let xs = queue_of n.1 (not-false (is_queue n.1) (sym (ap (some_and (λ o. not (is_queue o))) n.2.named) ∙ right)) in
     (xs.0, n.2.there ∙ ap (λ o. Some o) xs.1) in
-    subst (λ s. IsWellFormed (with_handle (with_new m s (Reference r)) k s)) (sym s.1)
+    subst (λ o. IsWellFormed (on o (λ s. with_handle (with_new m s (Reference r)) k s) m)) (sym s.1)
     (keeps_made m s.0 (Reference r) w (record {
       new_cleanable = refl;
       new_guard = refl;
@@ -82,7 +83,7 @@ keeps_MakeRef m w k kind h q no_refusal a fresh f =
       public_referent = λ x y g e. (shown_slot m w k h x (ap (λ r. r.referent) (some_same r y g) ∙ e)).1;
       empty = λ xs g. no_some xs g;
       public_fields = λ x xs g h. no_some xs g;
-    }) s.2 s.3 k (λ session e. free_session m k session e ok.busy))
+    }) s.2 s.3 k (λ session e. free_session m k session e (ok Busy refl)))
 
 -- ---- Looking
 
@@ -93,7 +94,7 @@ keeps_Deref m w k h no_refusal a fresh =
     let o = and_then_gives (at m.objects) (slot_named m k h) (Reference r.0) (is_reference_there (object_named m k h) r.0 r.1) in
     let f : r.0.referent ≡ Some x = elim (is_kind Phantom r.0.kind) as (λ b. cond b None r.0.referent ≡ Some x → r.0.referent ≡ Some x) [ true ↦ λ e. no_some x e | false ↦ λ e. e ] r.2 in
     (referent_object m w o.0 x (Reference r.0) o.2 f, w.unnamed.references o.0 x r.0 o.2 f))
-    (λ s e. free_session m k s e (allowed m (Deref k h) no_refusal).busy)
+    (λ s e. free_session m k s e (allowed m (Deref k h) no_refusal Busy refl))
 
 -- ---- Clearing and enqueuing
 
@@ -183,10 +184,10 @@ module _ (m : Machine) (w : IsWellFormed m) (s : ℕ) (r : ReferenceOf) (e : IsR
 
   pub enqueue_kept : IsWellFormed (enqueued m s)
   enqueue_kept =
-      subst (λ o. IsWellFormed (to_queue m1 s o)) (sym (ap (λ o. option_and_then (λ r. r.queue) (option_and_then as_reference o)) e))
-      (elim (r.queue) as (λ o. r.queue ≡ o → IsWellFormed (to_queue m1 s o)) [
+      subst (λ o. IsWellFormed (to_queue m1 s o)) (sym (ap (λ o. option_and_then queue_ahead (option_and_then as_reference o)) e))
+      (elim (queue_ahead r) as (λ o. queue_ahead r ≡ o → IsWellFormed (to_queue m1 s o)) [
         | None ↦ λ f. clear_kept
-        | Some q ↦ λ f. enqueued_at q f
+        | Some q ↦ λ f. enqueued_at q (own_queue r q f)
       ] refl)
 
 -- the reference that a handle names
@@ -196,16 +197,16 @@ reference_at m k h s session o n e = let r = reference_of o e in (r.0, n.there �
 pub keeps_Clear : (m : Machine) → IsWellFormed m → (k h : ℕ) → refusal m (Clear k h) ≡ None → (a : Answer) (fresh : List ℕ) → IsWellFormed (after m (Clear k h) a fresh)
 keeps_Clear m w k h no_refusal a fresh =
     let ok = allowed m (Clear k h) no_refusal in
-    let n = only_operand m k h is_reference w ok.no_handle ok.null ok.wrong_kind in
+    let n = only_operand m k h is_reference w (ok NoHandle refl) (ok Null refl) (ok WrongKind refl) in
     let r = reference_at m k h n.0 n.1 n.2 n.3 n.4 in
-    subst (λ s. IsWellFormed (with_object m s (with_reference unreferred))) (ap slot_or_0 (sym n.3.slot)) (clear_kept m w n.0 r.0 r.1)
+    subst (λ o. IsWellFormed (on o (λ s. with_object m s (with_reference unreferred)) m)) (sym n.3.slot) (clear_kept m w n.0 r.0 r.1)
 
 pub keeps_Enqueue : (m : Machine) → IsWellFormed m → (k h : ℕ) → refusal m (Enqueue k h) ≡ None → (a : Answer) (fresh : List ℕ) → IsWellFormed (after m (Enqueue k h) a fresh)
 keeps_Enqueue m w k h no_refusal a fresh =
     let ok = allowed m (Enqueue k h) no_refusal in
-    let n = only_operand m k h is_reference w ok.no_handle ok.null ok.wrong_kind in
+    let n = only_operand m k h is_reference w (ok NoHandle refl) (ok Null refl) (ok WrongKind refl) in
     let r = reference_at m k h n.0 n.1 n.2 n.3 n.4 in
-    subst (λ s. IsWellFormed (enqueued m s)) (ap slot_or_0 (sym n.3.slot)) (enqueue_kept m w n.0 r.0 r.1)
+    subst (λ o. IsWellFormed (on o (enqueued m) m)) (sym n.3.slot) (enqueue_kept m w n.0 r.0 r.1)
 
 -- ---- Polling
 
@@ -288,22 +289,22 @@ poll_kept m w k q xs e idle None f = w
 poll_kept m w k q xs e idle (Some s) f = polled_kept m w q xs e s (front_is xs s (sym f)) k idle
 
 -- the queue that a handle names, and its front
-poll_named : (m : Machine) → IsWellFormed m → (k h s : ℕ) (session : Session) (o : Object) → IsNamed m k h s session o → is_queue o ≡ true → ((session : Session) → IsSessionAt m k session → session.call ≡ Free) → IsWellFormed (with_given (polled m (slot_or_0 (slot_named m k h)) (option_and_then front (members_named m k h))) k (option_and_then front (members_named m k h)))
+poll_named : (m : Machine) → IsWellFormed m → (k h s : ℕ) (session : Session) (o : Object) → IsNamed m k h s session o → is_queue o ≡ true → ((session : Session) → IsSessionAt m k session → session.call ≡ Free) → IsWellFormed (poll_given m k h (option_and_then front (members_named m k h)))
 poll_named m w k h s session o n queue idle =
     let xs = queue_of o queue in
     let e : IsQueueAt m s xs.0 = n.there ∙ ap (λ o. Some o) xs.1 in
     let f : option_and_then front (members_named m k h) ≡ front xs.0 = ap (λ o. option_and_then front (option_and_then as_members o)) (n.named ∙ ap (λ o. Some o) xs.1) in
-    subst (λ t. IsWellFormed (with_given (polled m t (option_and_then front (members_named m k h))) k (option_and_then front (members_named m k h)))) (ap slot_or_0 (sym n.slot))
+    subst (λ o. IsWellFormed (on o (λ q. with_given (polled m q (option_and_then front (members_named m k h))) k (option_and_then front (members_named m k h))) m)) (sym n.slot)
     (poll_kept m w k s xs.0 e idle (option_and_then front (members_named m k h)) f)
 
 pub keeps_Poll : (m : Machine) → IsWellFormed m → (k h : ℕ) → refusal m (Poll k h) ≡ None → (a : Answer) (fresh : List ℕ) → IsWellFormed (after m (Poll k h) a fresh)
 keeps_Poll m w k h no_refusal a fresh =
     let ok = allowed m (Poll k h) no_refusal in
-    let n = only_operand m k h is_queue w ok.no_handle ok.null ok.wrong_kind in
-    poll_named m w k h n.0 n.1 n.2 n.3 n.4 (λ session e. free_session m k session e ok.busy)
+    let n = only_operand m k h is_queue w (ok NoHandle refl) (ok Null refl) (ok WrongKind refl) in
+    poll_named m w k h n.0 n.1 n.2 n.3 n.4 (λ session e. free_session m k session e (ok Busy refl))
 
 pub keeps_Remove : (m : Machine) → IsWellFormed m → (k h : ℕ) → refusal m (Remove k h) ≡ None → (a : Answer) (fresh : List ℕ) → IsWellFormed (after m (Remove k h) a fresh)
 keeps_Remove m w k h no_refusal a fresh =
     let ok = allowed m (Remove k h) no_refusal in
-    let n = only_operand m k h is_queue w ok.no_handle ok.null ok.wrong_kind in
-    poll_named m w k h n.0 n.1 n.2 n.3 n.4 (λ session e. free_session m k session e ok.busy)
+    let n = only_operand m k h is_queue w (ok NoHandle refl) (ok Null refl) (ok WrongKind refl) in
+    poll_named m w k h n.0 n.1 n.2 n.3 n.4 (λ session e. free_session m k session e (ok Busy refl))

@@ -4,6 +4,7 @@ use Rattle.std.specs.List.{flat_map}
 use Rattle.std.proofs.lemmas.Bool.{cases_eq, or_parts}
 use Rattle.jlr_types.specs.declared.FieldValue.{FieldValue}
 use Rattle.jlr_types.specs.declared.Work.TheVariants.{Note, Resource as WorkOn}
+use Rattle.jlr_types.specs.declared.Refusal.TheVariants.{Busy, NoHandle, Null, WrongKind}
 use Rattle.jlr_machine.specs.declared.object.Object.{Object}
 use Rattle.jlr_machine.specs.declared.object.Object.TheVariants.{Plain, Reference, Queue, Cleanable, Guard}
 use Rattle.jlr_machine.specs.declared.object.Reference.{Reference as ReferenceOf}
@@ -19,19 +20,18 @@ use Rattle.jlr_machine.specs.declared.machine.Call.{Call}
 use Rattle.jlr_machine.specs.declared.machine.Call.TheVariants.{Free, Opening as CallOpening, Out as CallOut, Job as CallJob}
 use Rattle.jlr_machine.specs.declared.machine.ResourceState.{ResourceState}
 use Rattle.jlr_machine.specs.declared.machine.ResourceState.TheVariants.{Opening, Out}
-use Rattle.jlr_machine.specs.Objects.{Heap, at, set_at, ◌∈◌, as_reference, as_cleanable}
+use Rattle.jlr_machine.specs.Objects.{Heap, at, set_at, ◌∈◌, as_reference, as_cleanable, is_cleaner}
 use Rattle.jlr_machine.specs.Edges.{edges, edges_from, is_own_root}
+use Rattle.jlr_machine.specs.Lookups.{job_of, slot_named, on, with_handle, with_new}
+use Rattle.jlr_machine.specs.Refusals.{refusal, is_any, object, names_no_object, is_wrongly_null, is_of_wrong_kind}
+use Rattle.jlr_machine.specs.Calls.{after, registered}
+use Rattle.jlr_machine.specs.Run.{IsFresh}
+use Rattle.jlr_machine.specs.WellFormed.{IsGuardAt, IsCleanableAt, IsObjectAt, IsFencing, FitsItsCall, IsUnspent, IsWellFormed, AreSlotsNamed, AreReferences, AreLists, AreActions, AreResources, IsPrivate, IsAction, state_at, clean_state_at, is_unspent_place}
 use Rattle.jlr_machine.specs.Edges.Chain.{UpToPhantom}
 use Rattle.std.proofs.Common.{slice_index}
 use Rattle.std.proofs.lemmas.List.{length-set}
 use Rattle.jlr_machine.specs.declared.ask.Ask.TheVariants.{Register}
 use Rattle.jlr_machine.specs.declared.ask.Answer.{Answer}
-use Rattle.jlr_machine.specs.Objects.{is_cleaner}
-use Rattle.jlr_machine.specs.Lookups.{job_of, slot_named}
-use Rattle.jlr_machine.specs.Refusals.{refusal, is_any, object, names_no_object, is_wrongly_null, is_of_wrong_kind}
-use Rattle.jlr_machine.specs.Calls.{after}
-use Rattle.jlr_machine.specs.Run.{IsFresh}
-use Rattle.jlr_machine.specs.WellFormed.{IsGuardAt, IsCleanableAt, IsObjectAt, IsFencing, FitsItsCall, IsUnspent, IsWellFormed, AreSlotsNamed, AreReferences, AreLists, AreActions, AreResources, IsPrivate, IsAction, state_at, clean_state_at, is_unspent_place}
 use Rattle.jlr_laws.proofs.Sets.{nothing, in_cons}
 use Rattle.jlr_laws.proofs.Frames.{no_some, some_same, set_same, set_other, IsRoot, root_gives, root_from, limits_stay, seen_stays}
 use Rattle.jlr_laws.proofs.Frames.IsRoot.{held, fencing, named, waiting, lining, active}
@@ -316,9 +316,9 @@ module _ (m : Machine) (s note : ℕ) (referent_of : Option ℕ) (w : IsWellForm
         limits = limits_stay m n w.limits (length-set m.objects s (Some (Cleanable cleanable))) refl;
         faults = w.faults;
         notes = w.notes;
-        seen = w.seen;
+        seen_rising = w.seen_rising;
         seen_within = seen_stays m.seen m.objects heap w.seen_within (length-set m.objects s (Some (Cleanable cleanable)));
-        closed = w.closed;
+        seen_in_cycle = w.seen_in_cycle;
       }
 
   pub registered_there : IsObjectAt n s
@@ -340,19 +340,20 @@ pub keeps_register : (m : Machine) (k c h note : ℕ) (a : Answer) (fresh : List
 keeps_register m k c h note a fresh w r f =
     let ok = allowed m (Register k c h note) r in
     let o = only_operand m k h is_any w
-    (second_false (names_no_object m k (object c is_cleaner)) (names_no_object m k (object h is_any)) ok.no_handle)
-    (second_false (is_wrongly_null (object c is_cleaner)) (is_wrongly_null (object h is_any)) ok.null)
-    (second_false (is_of_wrong_kind m k (object c is_cleaner)) (is_of_wrong_kind m k (object h is_any)) ok.wrong_kind) in
+    (second_false (names_no_object m k (object c is_cleaner)) (names_no_object m k (object h is_any)) (ok NoHandle refl))
+    (second_false (is_wrongly_null (object c is_cleaner)) (is_wrongly_null (object h is_any)) (ok Null refl))
+    (second_false (is_of_wrong_kind m k (object c is_cleaner)) (is_of_wrong_kind m k (object h is_any)) (ok WrongKind refl)) in
     let one = fresh_one m.objects fresh f in
-    let s = slice_index fresh 0 in
+    let s = one.0 in
     let x : IsRegistered m s note (slot_named m k h) =
     record {
-      inside = subst (λ i. i < length m.objects) (sym one.1) one.2;
-      free = ap (at m.objects) one.1 ∙ one.3;
+      inside = one.2;
+      free = one.3;
       referent_there = λ u e. let same : o.0 ≡ u = some_same o.0 u (sym o.3.slot ∙ e) in subst (λ i. IsObjectAt m i) same (ap is_some o.3.there);
     } in
     let n : Machine = record m { objects = set_at m.objects s (Cleanable (record { referent = slot_named m k h; action = m.next_action; work = Note note; state = Armed })); next_action = m.next_action + 1 } in
-    keeps_handle n (registered_is_well_formed m s note (slot_named m k h) w x) k s
+    subst (λ o. IsWellFormed (record (on o (λ s. with_handle (with_new m s (registered m k h note)) k s) m) { next_action = m.next_action + 1 })) (sym one.1)
+    (keeps_handle n (registered_is_well_formed m s note (slot_named m k h) w x) k s
     (registered_there m s note (slot_named m k h) w x)
     (registered_shown m s note (slot_named m k h) w x)
-    (λ session e. free_session m k session e ok.busy)
+    (λ session e. free_session m k session e (ok Busy refl)))

@@ -4,6 +4,7 @@ use Rattle.std.specs.List.{AllByRecursion}
 use Rattle.std.proofs.lemmas.Bool.{cases_eq, or_parts, both_ways}
 use Rattle.jlr_types.specs.declared.Work.{Work}
 use Rattle.jlr_types.specs.declared.Work.TheVariants.{Note, Resource as WorkOn}
+use Rattle.jlr_types.specs.declared.Refusal.TheVariants.{Busy, NoHandle, Null, WrongKind}
 use Rattle.jlr_machine.specs.declared.object.Object.{Object}
 use Rattle.jlr_machine.specs.declared.object.Object.TheVariants.{Cleanable, Guard}
 use Rattle.jlr_machine.specs.declared.object.Cleanable.{Cleanable as CleanableOf}
@@ -16,16 +17,15 @@ use Rattle.jlr_machine.specs.declared.machine.Resource.{Resource}
 use Rattle.jlr_machine.specs.declared.machine.Call.TheVariants.{Free, Job as CallJob}
 use Rattle.jlr_machine.specs.declared.machine.ResourceState.{ResourceState}
 use Rattle.jlr_machine.specs.declared.machine.ResourceState.TheVariants.{Idle, Closing}
-use Rattle.jlr_machine.specs.Objects.{Table, Heap, at, change_at, ◌∈◌, ◌∋◌, is_rising, is_distinct, as_cleanable}
+use Rattle.jlr_machine.specs.Objects.{Table, Heap, at, change_at, ◌∈◌, ◌∋◌, is_rising, is_distinct, as_cleanable, with_cleanable, is_spent, is_lined, some_and, as_guard}
+use Rattle.jlr_machine.specs.Lookups.{object_named, with_object, with_call, with_job, cleanable_at, cleanable_of_guard, rid_of, on}
+use Rattle.jlr_machine.specs.Refusals.{refusal, has_call, is_out, is_guard, is_cleanable}
+use Rattle.jlr_machine.specs.Calls.{after, spent, with_work_state, taken_up, cleaned, line_taken, from_lined}
+use Rattle.jlr_machine.specs.WellFormed.{IsWellFormed, IsSessionAt, IsCleanableAt, HasResource, IsAction, clean_state_at, is_unspent_place}
 use Rattle.std.proofs.lemmas.Bool.{and_parts, cond_both, ne_eqb}
 use Rattle.std.proofs.lemmas.List.Sums.{sum_by-set, sum_by-cons}
 use Rattle.jlr_machine.specs.declared.ask.Ask.TheVariants.{Close, Clean, TakeUp}
 use Rattle.jlr_machine.specs.declared.ask.Answer.{Answer}
-use Rattle.jlr_machine.specs.Lookups.{object_named, with_object, with_cleanable, with_call, with_job, is_spent, is_lined, cleanable_at, cleanable_of_guard, rid_of, slot_or_0}
-use Rattle.jlr_machine.specs.Refusals.{refusal, has_call, is_out, is_guard, is_cleanable}
-use Rattle.jlr_machine.specs.Objects.{some_and, as_guard}
-use Rattle.jlr_machine.specs.Calls.{after, spent, with_work_state, taken_up, cleaned, line_taken, from_lined}
-use Rattle.jlr_machine.specs.WellFormed.{IsWellFormed, IsSessionAt, IsCleanableAt, HasResource, IsAction, clean_state_at, is_unspent_place}
 use Rattle.jlr_laws.proofs.Sets.{in_rest, in_cons}
 use Rattle.jlr_laws.proofs.Frames.{no_some, some_same, place_within, is_cleanable_there, change_as_long}
 use Rattle.jlr_laws.proofs.Keyed.{keyed_with, keys_changed, found_changed, found_unchanged, all_changed}
@@ -162,11 +162,11 @@ cleans m k s session c w there free e idle =
 pub keeps_close : (m : Machine) (k h : ℕ) (a : Answer) (fresh : List ℕ) → IsWellFormed m → refusal m (Close k h) ≡ None → IsWellFormed (after m (Close k h) a fresh)
 keeps_close m k h a fresh w r =
     let ok = allowed m (Close k h) r in
-    let o = only_operand m k h is_guard w ok.no_handle ok.null ok.wrong_kind in
+    let o = only_operand m k h is_guard w (ok NoHandle refl) (ok Null refl) (ok WrongKind refl) in
     let g = guard_of o.2 o.4 in
     let named : IsNamed m k h o.0 o.1 (Guard g.0) = subst (λ z. IsNamed m k h o.0 o.1 z) g.1 o.3 in
     let c = w.slots.guarded o.0 g.0 named.there in
-    let busy = not_busy (is_out m k h) (has_call m k) ok.busy in
+    let busy = not_busy (is_out m k h) (has_call m k) (ok Busy refl) in
     let closed = closed_is m k h g.0 c.0 named.named c.1 in
     let idle : is_spent c.0.state ≡ false → (rid : ℕ) → c.0.work ≡ WorkOn rid → HasResource m rid c.0.action Idle = λ p rid e.
     let x = open_guard m k h o.0 o.1 g.0 c.0 w named c.1 (not_spent c.0 p) in
@@ -177,19 +177,19 @@ keeps_close m k h a fresh w r =
     let done = cleans m k g.0.cleanable o.1 c.0 w named.session_there (free_session m k o.1 named.session_there busy.1) c.1 idle in
     let slot : cleanable_of_guard m k h ≡ Some g.0.cleanable = ap (λ o. option_map (λ g. g.cleanable) (option_and_then as_guard o)) named.named in
     let there : cleanable_at m g.0.cleanable ≡ Some c.0 = ap (option_and_then as_cleanable) c.1 in
-    subst (λ z. IsWellFormed (cleaned m k (slot_or_0 z) (option_and_then (cleanable_at m) z))) (sym slot)
+    subst (λ o. IsWellFormed (on o (λ s. cleaned m k s (cleanable_at m s)) m)) (sym slot)
     (subst (λ z. IsWellFormed (cleaned m k g.0.cleanable z)) (sym there) done)
 
 pub keeps_clean : (m : Machine) (k h : ℕ) (a : Answer) (fresh : List ℕ) → IsWellFormed m → refusal m (Clean k h) ≡ None → IsWellFormed (after m (Clean k h) a fresh)
 keeps_clean m k h a fresh w r =
     let ok = allowed m (Clean k h) r in
-    let o = only_operand m k h is_cleanable w ok.no_handle ok.null ok.wrong_kind in
+    let o = only_operand m k h is_cleanable w (ok NoHandle refl) (ok Null refl) (ok WrongKind refl) in
     let c = cleanable_of o.2 o.4 in
     let named : IsNamed m k h o.0 o.1 (Cleanable c.0) = subst (λ z. IsNamed m k h o.0 o.1 z) c.1 o.3 in
-    let done = cleans m k o.0 o.1 c.0 w named.session_there (free_session m k o.1 named.session_there ok.busy) named.there
+    let done = cleans m k o.0 o.1 c.0 w named.session_there (free_session m k o.1 named.session_there (ok Busy refl)) named.there
     (λ _ rid e. absurd (w.unnamed.handles k h o.0 o.1 named.session_there named.handle (inl (c.0, rid, named.there, e)))) in
-    subst (λ z. IsWellFormed (cleaned m k (slot_or_0 z) (option_and_then as_cleanable (object_named m k h)))) (sym named.slot)
-    (subst (λ z. IsWellFormed (cleaned m k o.0 (option_and_then as_cleanable z))) (sym named.named) done)
+    subst (λ o. IsWellFormed (on o (λ s. cleaned m k s (cleanable_at m s)) m)) (sym named.slot)
+    (subst (λ z. IsWellFormed (cleaned m k o.0 (option_and_then as_cleanable z))) (sym named.there) done)
 
 -- ---- By the cleaner
 
@@ -250,7 +250,7 @@ line_cut m line w x =
       lined = λ s e. x.lined s e (o.lined s e);
       seen_rising = o.seen_rising;
       seen_within = o.seen_within;
-      closed = o.closed;
+      seen_in_cycle = o.seen_in_cycle;
     })
 
 none_count : (p : JobOf → Bool) (jobs : List JobOf) → list_any p jobs ≡ false → count_by p jobs ≡ 0
@@ -300,4 +300,4 @@ takes_line m (s ∷ rest) w none cut =
     (cleaner_takes m s rest r.0 w none cut there (lined_if r.0.state r.2))
 
 pub keeps_take_up : (m : Machine) (a : Answer) (fresh : List ℕ) → IsWellFormed m → refusal m TakeUp ≡ None → IsWellFormed (after m TakeUp a fresh)
-keeps_take_up m a fresh w r = takes_line m (from_lined m m.line) w (allowed m TakeUp r).busy (cut_line m m.line w.lists.line_once)
+keeps_take_up m a fresh w r = takes_line m (from_lined m m.line) w (allowed m TakeUp r Busy refl) (cut_line m m.line w.lists.line_once)

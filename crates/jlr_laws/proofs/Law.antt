@@ -6,11 +6,11 @@ use Rattle.jlr_machine.specs.declared.ask.Ask.{Ask}
 use Rattle.jlr_machine.specs.declared.ask.Ask.TheVariants.{Join, Leave, New, Put, Get, SetInt, Int, Dup, Drop, Same, MakeRef, Deref, Refers, Clear, Enqueue, Enqueued, MakeQueue, Poll, Remove, MakeCleaner, Register, Clean, Prepare, Opened, CheckOut, CheckIn, Close, Finish, Bind, Find, Unbind, Names, Full, Stat, Notes, Faults, HandOver, TakeUp, Begin, Collect, Abandon}
 use Rattle.jlr_machine.specs.declared.ask.Answer.{Answer}
 use Rattle.jlr_machine.specs.declared.entry.Entry.{Entry}
-use Rattle.jlr_machine.specs.declared.entry.Choice.{Choice}
+use Rattle.jlr_machine.specs.declared.entry.Chosen.{Chosen}
 use Rattle.jlr_machine.specs.Collection.{after_collection}
 use Rattle.jlr_machine.specs.Run.{MayCollect, Answers, with_collection, IsFresh, IsCarriedOut, IsLegal, Run, carried, done, apply}
-use Rattle.jlr_machine.specs.Run.IsLegal.{carried_out, refused, heap_full, out_of_memory}
 use Rattle.jlr_machine.specs.WellFormed.{IsWellFormed}
+use Rattle.jlr_machine.specs.Run.IsLegal.{carried_out, refused, heap_full, out_of_memory}
 use Rattle.jlr_laws.proofs.SeenKept.{keeps_seen}
 use Rattle.jlr_laws.proofs.LegalKept.{keeps_full, keeps_refused, keeps_out_of_memory, keeps_heap_full, entry, no_need, keeps_plainly, keeps_making, keeps_Full, keeps_Collect, make_ref_refusal, register_refusal}
 use Rattle.jlr_laws.proofs.KeepsHeap.{keeps_Join, keeps_Leave, keeps_Dup, keeps_Drop, keeps_New, keeps_Put, keeps_SetInt, keeps_Get}
@@ -24,9 +24,9 @@ use Rattle.jlr_laws.proofs.KeepsRegister.{keeps_register}
 use Rattle.jlr_laws.proofs.KeepsHandOver.{keeps_HandOver}
 use Rattle.jlr_laws.proofs.NamesKept.{keeps_Bind, keeps_Unbind, keeps_Find, keeps_MakeCleaner, keeps_Begin, keeps_Abandon}
 
-prepare_kept : (m : Machine) → IsWellFormed m → (seat k : ℕ) (answer : Answer) (choice : Choice) → IsCarriedOut m (entry seat (Prepare k) answer choice) → IsWellFormed (done m (entry seat (Prepare k) answer choice))
+prepare_kept : (m : Machine) → IsWellFormed m → (seat k : ℕ) (answer : Answer) (choice : Chosen) → IsCarriedOut m (entry seat (Prepare k) answer choice) → IsWellFormed (done m (entry seat (Prepare k) answer choice))
 prepare_kept m w seat k answer choice c =
-    elim (choice.collected) as (λ o. MayCollect m (Prepare k) o → IsFresh (with_collection m o).objects 2 choice.fresh → Answers (with_collection m o) (Prepare k) (is_some o) answer → IsWellFormed (carried (with_collection m o) (Prepare k) answer choice.fresh)) [
+    elim (choice.collected) as (λ o. MayCollect m (Prepare k) o → IsFresh (with_collection m o).objects 2 choice.fresh → Answers (with_collection m o) (Prepare k) o answer → IsWellFormed (carried (with_collection m o) (Prepare k) answer choice.fresh)) [
       | None ↦ λ h f a. subst (λ x. IsWellFormed (carried m (Prepare k) x choice.fresh)) (sym a.3) (keeps_prepare m k a.0 choice.fresh w c.allowed a.2 f)
       | Some x ↦ λ h f a.
           let n = after_collection m x.kept x.pending in
@@ -34,7 +34,7 @@ prepare_kept m w seat k answer choice c =
     ] c.collection c.fresh c.answers
 
 -- each ask leaves a well-formed machine before what was seen is brought up to date
-keeps_done : (m : Machine) → IsWellFormed m → (seat : ℕ) (ask : Ask) (answer : Answer) (choice : Choice) → IsCarriedOut m (entry seat ask answer choice) → IsWellFormed (done m (entry seat ask answer choice))
+keeps_done : (m : Machine) → IsWellFormed m → (seat : ℕ) (ask : Ask) (answer : Answer) (choice : Chosen) → IsCarriedOut m (entry seat ask answer choice) → IsWellFormed (done m (entry seat ask answer choice))
 keeps_done m w seat (Join k) answer choice c = keeps_plainly m w seat (Join k) answer choice c (λ x h. no_need m h.0) (keeps_Join m w k c.allowed)
 keeps_done m w seat (Leave k) answer choice c = keeps_plainly m w seat (Leave k) answer choice c (λ x h. no_need m h.0) (keeps_Leave m w k c.allowed)
 keeps_done m w seat (New k layout) answer choice c =
@@ -89,7 +89,7 @@ keeps_done m w seat Begin answer choice c =
 keeps_done m w seat Collect answer choice c = keeps_Collect m w seat answer choice c
 keeps_done m w seat Abandon answer choice c = keeps_plainly m w seat Abandon answer choice c (λ x h. no_need m h.0) (keeps_Abandon m w)
 
-carried_out_kept : (m : Machine) → IsWellFormed m → (seat : ℕ) (ask : Ask) (answer : Answer) (choice : Choice) → IsCarriedOut m (entry seat ask answer choice) → IsWellFormed (apply m (entry seat ask answer choice))
+carried_out_kept : (m : Machine) → IsWellFormed m → (seat : ℕ) (ask : Ask) (answer : Answer) (choice : Chosen) → IsCarriedOut m (entry seat ask answer choice) → IsWellFormed (apply m (entry seat ask answer choice))
 carried_out_kept m w seat ask answer choice c = keeps_seen (done m (entry seat ask answer choice)) (keeps_done m w seat ask answer choice c)
 
 pub legal_kept : (m : Machine) (e : Entry) → IsWellFormed m → IsLegal m e → IsWellFormed (apply m e)

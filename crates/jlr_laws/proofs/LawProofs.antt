@@ -1,16 +1,16 @@
 -- The laws, from the lemmas.
-use Rattle.std.proofs.Common.{◌≡◌, ℕ, List, [], sym, ◌∙◌, ap, subst, ◌⊎◌, inl, inr, option_and_then, ◌++◌}
+use Rattle.std.proofs.Common.{◌≡◌, Bool, true, false, not, refl, ℕ, List, [], sym, ◌∙◌, ap, subst, ◌⊎◌, inl, inr, option_and_then, ◌++◌}
 use Rattle.jlr_types.specs.declared.RefKind.{RefKind}
 use Rattle.jlr_types.specs.declared.RefKind.TheVariants.{Soft, Weak, Phantom}
 use Rattle.jlr_machine.specs.declared.machine.Machine.{Machine}
-use Rattle.jlr_machine.specs.declared.entry.Choice.{Choice}
-use Rattle.jlr_machine.specs.Objects.{Heap, at, ◌∈◌}
+use Rattle.jlr_machine.specs.declared.entry.Chosen.{Chosen}
+use Rattle.jlr_machine.specs.Objects.{Heap, at, ◌∈◌, ◌∋◌}
 use Rattle.jlr_machine.specs.Edges.{referent, roots}
-use Rattle.jlr_machine.specs.Edges.Chain.{Strong, UpToPhantom, UpToSoft}
 use Rattle.jlr_machine.specs.Reachable.{HasStrength}
 use Rattle.jlr_machine.specs.Collection.{IsAllowed, Clears}
 use Rattle.jlr_machine.specs.Run.{carried, with_collection, now_seen}
-use Rattle.jlr_laws.specs.Laws.{IsWithinHeap, IsSeenWithin, only, BackgroundComesDownToCuttingOff, PolicyMakesFull, KeepingNoneMakesClearing, RoundsFindWhatPathsReach, ClearsAsSpecified, RefersTo, EachClearingIsAsSpecified, LeavesWhatItsStepsLeave, ComesDownToCuttingOff, RefusalChangesNothing}
+use Rattle.jlr_machine.specs.Edges.Chain.{Strong, UpToPhantom, UpToSoft}
+use Rattle.jlr_laws.specs.Laws.{IsWithinHeap, IsSeenWithin, only, BackgroundComesDownToCuttingOff, PolicyMakesFull, KeepingNoneMakesClearing, RoundsFindWhatPathsReach, ClearsAsSpecified, RefersTo, EachClearingIsAsSpecified, LeavesWhatItsStepsLeave, ComesDownToCuttingOff, SoftReferencesGoBeforeAFullHeap}
 use Rattle.jlr_laws.proofs.Paths.{AreEdgesWithin, reached_sound, reached_complete}
 use Rattle.jlr_laws.proofs.Clearing.{edge_from, cleared_or_kept, same_some, in_append, in_left, in_right}
 use Rattle.jlr_laws.proofs.Agree.{narrow, agrees, at_base, decided_reachable, drop_decided, IsDropped, within_after}
@@ -38,10 +38,11 @@ pub background_comes_down : BackgroundComesDownToCuttingOff
 background_comes_down m kept pending w i = (
   (λ b.
       let c = (comes_down_to_cutting_off m.objects (roots m ++ kept) kept pending (within_background m kept w i b.seen)).0 b.collection in
-      record { seen = b.seen; holds_roots = λ s r. c.holds_base s (in_left s (roots m) kept r); closed = c.closed; pended = c.pended; once = c.once; rising = c.rising }),
+      record { seen = b.seen; objects = b.objects; holds_roots = λ s r. c.holds_base s (in_left s (roots m) kept r); closed = c.closed; pended = c.pended; once = c.once; rising = c.rising }),
   (λ c.
       record {
         seen = c.seen;
+        objects = c.objects;
         collection =
             (comes_down_to_cutting_off m.objects (roots m ++ kept) kept pending (within_background m kept w i c.seen)).1
             (record {
@@ -106,8 +107,11 @@ each_clearing_is_as_specified heap B kept pending w c =
       all_phantom = λ x t r e. c.phantom.cleared t (x, e, r);
     }
 
-pub refusal_changes_nothing : RefusalChangesNothing
-refusal_changes_nothing m e up_to_date r =
-    let same : carried (with_collection m e.choice.collected) e.ask e.answer e.choice.fresh ≡ m =
-    ap (λ (c : Choice). carried (with_collection m c.collected) e.ask e.answer c.fresh) r.nothing ∙ ap (λ a. carried m e.ask a []) r.answers in
-    ap {A = Machine} {B = Machine} (λ n. record n { seen = now_seen n }) same ∙ ap {A = List ℕ} {B = Machine} (λ l. record m { seen = l }) (sym up_to_date)
+not_kept : (b : Bool) → (b ≡ true → ⊥) → not b ≡ true
+not_kept true h = absurd (h refl)
+not_kept false h = refl
+
+pub soft_references_go : SoftReferencesGoBeforeAFullHeap
+soft_references_go m kept pending w c x t r e =
+    let dropped : IsDropped m.objects (roots m) kept x = (r, not_kept (kept ∋ x) (λ k. r.0 ((c.strongly x).0 k))) in
+    c.full.soft.1.cleared t (x, e, dropped)

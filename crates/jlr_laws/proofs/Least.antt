@@ -3,8 +3,8 @@ use Rattle.std.proofs.Common.{◌≡◌, ℕ, Bool, true, false, cond, List, [],
 use Rattle.std.proofs.lemmas.Bool.{both_ways}
 use Rattle.jlr_machine.specs.Objects.{Heap, ◌∈◌}
 use Rattle.jlr_machine.specs.Edges.{edges_from}
-use Rattle.jlr_machine.specs.Edges.Chain.{Strong, UpToSoft}
 use Rattle.jlr_machine.specs.Reachable.{IsReached}
+use Rattle.jlr_machine.specs.Edges.Chain.{Strong, UpToSoft}
 use Rattle.jlr_laws.specs.Laws.{only, followed, IsPathFollowed, IsLeast}
 use Rattle.jlr_laws.proofs.Clearing.{HasEdge, edge_gives, edge_from}
 use Rattle.jlr_laws.proofs.Agree.{one_edge_more, carried, at_base}

@@ -3,10 +3,10 @@ use Rattle.std.proofs.Common.{◌≡◌, ℕ, true, false, not, List, refl, sym,
 use Rattle.std.proofs.lemmas.Bool.{both_ways, cases_Bool, not-true}
 use Rattle.jlr_machine.specs.declared.object.Object.{Object}
 use Rattle.jlr_machine.specs.declared.object.Object.TheVariants.{Plain, Reference, Queue, Cleaner, Cleanable, Guard}
-use Rattle.jlr_machine.specs.Objects.{Heap, at, some_and, ◌∋◌, ◌∈◌, is_distinct}
+use Rattle.jlr_machine.specs.Objects.{Heap, at, some_and, ◌∋◌, ◌∈◌, is_distinct, any_referent}
 use Rattle.jlr_machine.specs.Edges.{strong_edges}
+use Rattle.jlr_machine.specs.Collection.{IsCollection, without_referent, has_referent, is_ready}
 use Rattle.jlr_machine.specs.Edges.Chain.{UpToPhantom}
-use Rattle.jlr_machine.specs.Collection.{IsCollection, without_referent, any_referent, has_referent, is_ready}
 use Rattle.jlr_laws.proofs.Paths.{AreEdgesWithin}
 use Rattle.jlr_laws.proofs.Clearing.{strong_without}
 use Rattle.jlr_laws.proofs.Agree.{one_edge_more, at_base, either, keeps_referent, loses_referent}

@@ -15,12 +15,12 @@ use Rattle.jlr_machine.specs.declared.ask.FullMode.TheVariants.{Policy, ClearAll
 use Rattle.jlr_machine.specs.declared.ask.Answer.{Answer}
 use Rattle.jlr_machine.specs.declared.ask.Answer.TheVariants.{Refused}
 use Rattle.jlr_machine.specs.declared.entry.Entry.{Entry}
-use Rattle.jlr_machine.specs.declared.entry.Choice.{Choice}
+use Rattle.jlr_machine.specs.declared.entry.Chosen.{Chosen}
 use Rattle.jlr_machine.specs.declared.entry.Collected.{Collected}
 use Rattle.jlr_machine.specs.Objects.{occupied, is_cleaner}
 use Rattle.jlr_machine.specs.Edges.{roots}
 use Rattle.jlr_machine.specs.Collection.{IsFull, IsBackground, after_collection, left_of}
-use Rattle.jlr_machine.specs.Refusals.{refusal, applies, in_order, cells_needed, object, object_or_null, is_any, is_queue, is_of_wrong_kind}
+use Rattle.jlr_machine.specs.Refusals.{refusal, applies, listed, cells_needed, object, object_or_null, is_any, is_queue, is_of_wrong_kind}
 use Rattle.jlr_machine.specs.Calls.{after}
 use Rattle.jlr_machine.specs.Run.{has_room, MayCollect, with_collection, IsFresh, IsCarriedOut, IsRefused, IsHeapFull, IsOutOfMemory, carried, done, apply}
 use Rattle.jlr_machine.specs.WellFormed.{IsWellFormed}
@@ -47,7 +47,7 @@ pub keeps_same : (m : Machine) (e : Entry) → IsWellFormed m → done m e ≡ m
 keeps_same m e w same = keeps_seen (done m e) (subst IsWellFormed (sym same) w)
 
 nothing_done : (m : Machine) (e : Entry) (by : Refusal) → e.answer ≡ Refused by → e.choice ≡ record { collected = None; fresh = [] } → done m e ≡ m
-nothing_done m e by a n = ap (λ (c : Choice). carried (with_collection m c.collected) e.ask e.answer c.fresh) n ∙ ap (λ a. carried m e.ask a []) a
+nothing_done m e by a n = ap (λ (c : Chosen). carried (with_collection m c.collected) e.ask e.answer c.fresh) n ∙ ap (λ a. carried m e.ask a []) a
 
 pub keeps_refused : (m : Machine) (e : Entry) → IsWellFormed m → IsRefused m e → IsWellFormed (apply m e)
 keeps_refused m e w r = keeps_same m e w (nothing_done m e r.by r.answers r.nothing)
@@ -59,7 +59,7 @@ pub keeps_heap_full : (m : Machine) (e : Entry) → IsWellFormed m → IsHeapFul
 keeps_heap_full m e w r =
     let c = r.clearing in
     let same : done m e ≡ after_collection m c.kept c.pending =
-    ap (λ (c : Choice). carried (with_collection m c.collected) e.ask e.answer c.fresh) r.collects ∙ ap (λ a. carried (after_collection m c.kept c.pending) e.ask a []) r.answers in
+    ap (λ (c : Chosen). carried (with_collection m c.collected) e.ask e.answer c.fresh) r.collects ∙ ap (λ a. carried (after_collection m c.kept c.pending) e.ask a []) r.answers in
     keeps_seen (done m e) (subst IsWellFormed (sym same) (keeps_full m w c.kept c.pending r.full.full))
 
 -- ---- An ask that is carried out
@@ -69,7 +69,7 @@ carried_kept : (n : Machine) (ask : Ask) (a : Answer) (fresh : List ℕ) → IsW
 carried_kept n ask (Refused by) fresh w v = w
 carried_kept n ask a fresh w v = v
 
-abbrev pub entry : ℕ → Ask → Answer → Choice → Entry
+abbrev pub entry : ℕ → Ask → Answer → Chosen → Entry
 entry seat ask answer choice = record { seat = seat; ask = ask; answer = answer; choice = choice }
 
 -- there is always room for no object
@@ -77,7 +77,7 @@ pub no_need : (m : Machine) → IsTrue (not (has_room m 0)) → ⊥
 no_need m h = both_ways (has_room m 0) (not-true (has_room m 0) h) (le-leb (occupied m.objects + 0) (length m.objects) (omega (arith, count_by-le-length is_some m.objects)))
 
 -- no collection comes with an ask that makes no object
-pub keeps_plainly : (m : Machine) → IsWellFormed m → (seat : ℕ) (ask : Ask) (answer : Answer) (choice : Choice) → IsCarriedOut m (entry seat ask answer choice) → ((c : Collected) → MayCollect m ask (Some c) → ⊥) → ((a : Answer) (fresh : List ℕ) → IsWellFormed (after m ask a fresh)) → IsWellFormed (done m (entry seat ask answer choice))
+pub keeps_plainly : (m : Machine) → IsWellFormed m → (seat : ℕ) (ask : Ask) (answer : Answer) (choice : Chosen) → IsCarriedOut m (entry seat ask answer choice) → ((c : Collected) → MayCollect m ask (Some c) → ⊥) → ((a : Answer) (fresh : List ℕ) → IsWellFormed (after m ask a fresh)) → IsWellFormed (done m (entry seat ask answer choice))
 keeps_plainly m w seat ask answer choice c none kept =
     elim (choice.collected) as (λ o. MayCollect m ask o → IsWellFormed (carried (with_collection m o) ask answer choice.fresh)) [
       | None ↦ λ h. carried_kept m ask answer choice.fresh w (kept answer choice.fresh)
@@ -85,7 +85,7 @@ keeps_plainly m w seat ask answer choice c none kept =
     ] c.collection
 
 -- an ask that makes objects may come after a full collection
-pub keeps_making : (m : Machine) → IsWellFormed m → (seat : ℕ) (ask : Ask) (answer : Answer) (choice : Choice) → IsCarriedOut m (entry seat ask answer choice)
+pub keeps_making : (m : Machine) → IsWellFormed m → (seat : ℕ) (ask : Ask) (answer : Answer) (choice : Chosen) → IsCarriedOut m (entry seat ask answer choice)
     → ((c : Collected) → MayCollect m ask (Some c) → IsFull m c.kept c.pending)
     → ((c : Collected) → IsFull m c.kept c.pending → refusal (after_collection m c.kept c.pending) ask ≡ refusal m ask)
     → ((n : Machine) → IsWellFormed n → refusal n ask ≡ None → IsFresh n.objects (cells_needed ask) choice.fresh → IsWellFormed (after n ask answer choice.fresh))
@@ -105,7 +105,7 @@ full_of : (m : Machine) (k : ℕ) (mode : FullMode) (x : Collected) → MayColle
 full_of m k Policy x h = h
 full_of m k ClearAll x h = h.full
 
-pub keeps_Full : (m : Machine) → IsWellFormed m → (seat k : ℕ) (mode : FullMode) (answer : Answer) (choice : Choice) → IsCarriedOut m (entry seat (Full k mode) answer choice) → IsWellFormed (done m (entry seat (Full k mode) answer choice))
+pub keeps_Full : (m : Machine) → IsWellFormed m → (seat k : ℕ) (mode : FullMode) (answer : Answer) (choice : Chosen) → IsCarriedOut m (entry seat (Full k mode) answer choice) → IsWellFormed (done m (entry seat (Full k mode) answer choice))
 keeps_Full m w seat k mode answer choice c =
     elim (choice.collected) as (λ o. MayCollect m (Full k mode) o → IsWellFormed (carried (with_collection m o) (Full k mode) answer choice.fresh)) [
       | None ↦ λ h. carried_kept m (Full k mode) answer choice.fresh w w
@@ -115,7 +115,7 @@ keeps_Full m w seat k mode answer choice c =
           carried_kept n (Full k mode) answer choice.fresh v v
     ] c.collection
 
-pub keeps_Collect : (m : Machine) → IsWellFormed m → (seat : ℕ) (answer : Answer) (choice : Choice) → IsCarriedOut m (entry seat Collect answer choice) → IsWellFormed (done m (entry seat Collect answer choice))
+pub keeps_Collect : (m : Machine) → IsWellFormed m → (seat : ℕ) (answer : Answer) (choice : Chosen) → IsCarriedOut m (entry seat Collect answer choice) → IsWellFormed (done m (entry seat Collect answer choice))
 keeps_Collect m w seat answer choice c =
     elim (choice.collected) as (λ o. MayCollect m Collect o → IsWellFormed (carried (with_collection m o) Collect answer choice.fresh)) [
       | None ↦ λ h. carried_kept m Collect answer choice.fresh w w
@@ -167,7 +167,7 @@ module _ (m : Machine) (w : IsWellFormed m) (kept pending : List ℕ) (c : IsFul
   make_ref_applies k kind h q r = refl
 
   pub make_ref_refusal : (k : ℕ) (kind : RefKind) (h q : ℕ) → refusal n (MakeRef k kind h q) ≡ refusal m (MakeRef k kind h q)
-  make_ref_refusal k kind h q = find_same (applies n (MakeRef k kind h q)) (applies m (MakeRef k kind h q)) in_order (make_ref_applies k kind h q)
+  make_ref_refusal k kind h q = find_same (applies n (MakeRef k kind h q)) (applies m (MakeRef k kind h q)) (listed (MakeRef k kind h q)) (make_ref_applies k kind h q)
 
   register_applies : (k d h note : ℕ) (r : Refusal) → applies n (Register k d h note) r ≡ applies m (Register k d h note) r
   register_applies k d h note WrongKind =
@@ -176,4 +176,4 @@ module _ (m : Machine) (w : IsWellFormed m) (kept pending : List ℕ) (c : IsFul
   register_applies k d h note r = refl
 
   pub register_refusal : (k d h note : ℕ) → refusal n (Register k d h note) ≡ refusal m (Register k d h note)
-  register_refusal k d h note = find_same (applies n (Register k d h note)) (applies m (Register k d h note)) in_order (register_applies k d h note)
+  register_refusal k d h note = find_same (applies n (Register k d h note)) (applies m (Register k d h note)) (listed (Register k d h note)) (register_applies k d h note)

@@ -6,7 +6,7 @@ use Rattle.std.proofs.lemmas.Bool.Decides.{Decides-and, Decides-eqb, Decides-ltb
 use Rattle.jlr_types.specs.declared.Refusal.TheVariants.{NoMemory, HeapFull}
 use Rattle.jlr_machine.specs.declared.machine.Machine.{Machine}
 use Rattle.jlr_machine.specs.declared.entry.Entry.{Entry}
-use Rattle.jlr_machine.specs.declared.entry.Choice.{Choice}
+use Rattle.jlr_machine.specs.declared.entry.Chosen.{Chosen}
 use Rattle.jlr_machine.specs.declared.entry.Collected.{Collected}
 use Rattle.jlr_machine.specs.declared.ask.Ask.{Ask}
 use Rattle.jlr_machine.specs.declared.ask.Ask.TheVariants.{Join, Leave, New, Put, Get, SetInt, Int, Dup, Drop, Same, MakeRef, Deref, Refers, Clear, Enqueue, Enqueued, MakeQueue, Poll, Remove, MakeCleaner, Register, Clean, Prepare, Opened, CheckOut, CheckIn, Close, Finish, Bind, Find, Unbind, Names, Full, Stat, Notes, Faults, HandOver, TakeUp, Begin, Collect, Abandon}
@@ -19,8 +19,7 @@ use Rattle.jlr_machine.specs.Collection.{IsFull, IsFullClearing}
 use Rattle.jlr_machine.specs.Lookups.{resource_at}
 use Rattle.jlr_machine.specs.Refusals.{is_end, cells_needed, refusal}
 use Rattle.jlr_machine.specs.Calls.{reply}
-use Rattle.jlr_machine.specs.Run.{has_room, MayCollect, with_collection, Answers, is_free, IsFresh, IsCarriedOut, IsRefused, IsHeapFull, IsOutOfMemory, IsLegal}
-use Rattle.jlr_machine.specs.Run.{done}
+use Rattle.jlr_machine.specs.Run.{has_room, MayCollect, with_collection, Answers, is_free, IsFresh, IsCarriedOut, IsRefused, IsHeapFull, IsOutOfMemory, IsLegal, done}
 use Rattle.jlr_laws.proofs.SeenKept.{now_seen_within}
 use Rattle.jlr_machine.specs.Run.IsLegal.{carried_out, refused, heap_full, out_of_memory}
 use Rattle.jlr_laws.specs.Laws.{IsWithinHeap, IsSeenWithin}
@@ -47,16 +46,16 @@ Decides-some_and test P each (Some x) = (
   (λ r. ap (some_and test) r.1 ∙ (each r.0).1 r.2),
 )
 
-choice_is : (c : Choice) (x : Option Collected) (l : List ℕ) → c.collected ≡ x → c.fresh ≡ l → c ≡ record { collected = x; fresh = l }
+choice_is : (c : Chosen) (x : Option Collected) (l : List ℕ) → c.collected ≡ x → c.fresh ≡ l → c ≡ record { collected = x; fresh = l }
 choice_is c x l e f =
-    ap {A = Option Collected} {B = Choice} (λ y. record { collected = y; fresh = c.fresh }) e
-    ∙ ap {A = List ℕ} {B = Choice} (λ y. record { collected = x; fresh = y }) f
+    ap {A = Option Collected} {B = Chosen} (λ y. record { collected = y; fresh = c.fresh }) e
+    ∙ ap {A = List ℕ} {B = Chosen} (λ y. record { collected = x; fresh = y }) f
 
-Decides-nothing : (c : Choice) → Decides (chooses_nothing c) (c ≡ record { collected = None; fresh = [] })
+Decides-nothing : (c : Chosen) → Decides (chooses_nothing c) (c ≡ record { collected = None; fresh = [] })
 Decides-nothing c =
     let both = Decides-and (is_none c.collected) (is_empty c.fresh) (Decides-none c.collected) (Decides-empty c.fresh) in (
       (λ h. let p = both.0 h in choice_is c None [] p.0 p.1),
-      (λ e. both.1 (ap (λ (x : Choice). x.collected) e, ap (λ (x : Choice). x.fresh) e)),
+      (λ e. both.1 (ap (λ (x : Chosen). x.collected) e, ap (λ (x : Chosen). x.fresh) e)),
     )
 
 Decides-fresh : (heap : Heap) (cells : ℕ) (fresh : List ℕ) → Decides (are_fresh heap cells fresh) (IsFresh heap cells fresh)
@@ -109,48 +108,56 @@ Decides-new_rid m (OutAnswer n) = no_rid m (OutAnswer n) refl refl
 Decides-new_rid m (HandedAnswer h) = no_rid m (HandedAnswer h) refl refl
 Decides-new_rid m (Refused r) = no_rid m (Refused r) refl refl
 
-Decides-is_answer : (m : Machine) (ask : Ask) (c : Bool) (a : Answer) → Decides (is_answer m ask c a) (Answers m ask c a)
-Decides-is_answer m (Join a0) c a = Decides-answer a (reply m (Join a0) c)
-Decides-is_answer m (Leave a0) c a = Decides-answer a (reply m (Leave a0) c)
-Decides-is_answer m (New a0 a1) c a = Decides-answer a (reply m (New a0 a1) c)
-Decides-is_answer m (Put a0 a1 a2 a3) c a = Decides-answer a (reply m (Put a0 a1 a2 a3) c)
-Decides-is_answer m (Get a0 a1 a2) c a = Decides-answer a (reply m (Get a0 a1 a2) c)
-Decides-is_answer m (SetInt a0 a1 a2 a3) c a = Decides-answer a (reply m (SetInt a0 a1 a2 a3) c)
-Decides-is_answer m (Int a0 a1 a2) c a = Decides-answer a (reply m (Int a0 a1 a2) c)
-Decides-is_answer m (Dup a0 a1) c a = Decides-answer a (reply m (Dup a0 a1) c)
-Decides-is_answer m (Drop a0 a1) c a = Decides-answer a (reply m (Drop a0 a1) c)
-Decides-is_answer m (Same a0 a1 a2) c a = Decides-answer a (reply m (Same a0 a1 a2) c)
-Decides-is_answer m (MakeRef a0 a1 a2 a3) c a = Decides-answer a (reply m (MakeRef a0 a1 a2 a3) c)
-Decides-is_answer m (Deref a0 a1) c a = Decides-answer a (reply m (Deref a0 a1) c)
-Decides-is_answer m (Refers a0 a1 a2) c a = Decides-answer a (reply m (Refers a0 a1 a2) c)
-Decides-is_answer m (Clear a0 a1) c a = Decides-answer a (reply m (Clear a0 a1) c)
-Decides-is_answer m (Enqueue a0 a1) c a = Decides-answer a (reply m (Enqueue a0 a1) c)
-Decides-is_answer m (Enqueued a0 a1) c a = Decides-answer a (reply m (Enqueued a0 a1) c)
-Decides-is_answer m (MakeQueue a0) c a = Decides-answer a (reply m (MakeQueue a0) c)
-Decides-is_answer m (Poll a0 a1) c a = Decides-answer a (reply m (Poll a0 a1) c)
-Decides-is_answer m (Remove a0 a1) c a = Decides-answer a (reply m (Remove a0 a1) c)
-Decides-is_answer m (MakeCleaner a0) c a = Decides-answer a (reply m (MakeCleaner a0) c)
-Decides-is_answer m (Register a0 a1 a2 a3) c a = Decides-answer a (reply m (Register a0 a1 a2 a3) c)
-Decides-is_answer m (Clean a0 a1) c a = Decides-answer a (reply m (Clean a0 a1) c)
-Decides-is_answer m (Prepare a0) c a = Decides-new_rid m a
-Decides-is_answer m (Opened a0 a1) c a = Decides-answer a (reply m (Opened a0 a1) c)
-Decides-is_answer m (CheckOut a0 a1) c a = Decides-answer a (reply m (CheckOut a0 a1) c)
-Decides-is_answer m (CheckIn a0 a1) c a = Decides-answer a (reply m (CheckIn a0 a1) c)
-Decides-is_answer m (Close a0 a1) c a = Decides-answer a (reply m (Close a0 a1) c)
-Decides-is_answer m (Finish a0 a1 a2) c a = Decides-answer a (reply m (Finish a0 a1 a2) c)
-Decides-is_answer m (Bind a0 a1 a2) c a = Decides-answer a (reply m (Bind a0 a1 a2) c)
-Decides-is_answer m (Find a0 a1) c a = Decides-answer a (reply m (Find a0 a1) c)
-Decides-is_answer m (Unbind a0 a1) c a = Decides-answer a (reply m (Unbind a0 a1) c)
-Decides-is_answer m (Names a0) c a = Decides-answer a (reply m (Names a0) c)
-Decides-is_answer m (Full a0 a1) c a = Decides-answer a (reply m (Full a0 a1) c)
-Decides-is_answer m (Stat a0) c a = Decides-answer a (reply m (Stat a0) c)
-Decides-is_answer m (Notes a0) c a = Decides-answer a (reply m (Notes a0) c)
-Decides-is_answer m (Faults a0) c a = Decides-answer a (reply m (Faults a0) c)
-Decides-is_answer m HandOver c a = Decides-answer a (reply m HandOver c)
-Decides-is_answer m TakeUp c a = Decides-answer a (reply m TakeUp c)
-Decides-is_answer m Begin c a = Decides-answer a (reply m Begin c)
-Decides-is_answer m Collect c a = Decides-answer a (reply m Collect c)
-Decides-is_answer m Abandon c a = Decides-answer a (reply m Abandon c)
+-- the answer that the machine determines
+Decides-reply : (m : Machine) (ask : Ask) (a : Answer) → Decides (some_and (same_answer a) (reply m ask)) (reply m ask ≡ Some a)
+Decides-reply m ask a =
+    let d = Decides-some_and (same_answer a) (λ x. a ≡ x) (λ x. Decides-answer a x) (reply m ask) in (
+      (λ h. let r = d.0 h in r.1 ∙ ap (λ x. Some x) (sym r.2)),
+      (λ e. d.1 (a, e, refl)),
+    )
+
+Decides-is_answer : (m : Machine) (ask : Ask) (c : Option Collected) (a : Answer) → Decides (is_answer m ask c a) (Answers m ask c a)
+Decides-is_answer m (Prepare k) c a = Decides-new_rid m a
+Decides-is_answer m Collect c a = Decides-answer a (Truth (is_some c))
+Decides-is_answer m (Join a0) c a = Decides-reply m (Join a0) a
+Decides-is_answer m (Leave a0) c a = Decides-reply m (Leave a0) a
+Decides-is_answer m (New a0 a1) c a = Decides-reply m (New a0 a1) a
+Decides-is_answer m (Put a0 a1 a2 a3) c a = Decides-reply m (Put a0 a1 a2 a3) a
+Decides-is_answer m (Get a0 a1 a2) c a = Decides-reply m (Get a0 a1 a2) a
+Decides-is_answer m (SetInt a0 a1 a2 a3) c a = Decides-reply m (SetInt a0 a1 a2 a3) a
+Decides-is_answer m (Int a0 a1 a2) c a = Decides-reply m (Int a0 a1 a2) a
+Decides-is_answer m (Dup a0 a1) c a = Decides-reply m (Dup a0 a1) a
+Decides-is_answer m (Drop a0 a1) c a = Decides-reply m (Drop a0 a1) a
+Decides-is_answer m (Same a0 a1 a2) c a = Decides-reply m (Same a0 a1 a2) a
+Decides-is_answer m (MakeRef a0 a1 a2 a3) c a = Decides-reply m (MakeRef a0 a1 a2 a3) a
+Decides-is_answer m (Deref a0 a1) c a = Decides-reply m (Deref a0 a1) a
+Decides-is_answer m (Refers a0 a1 a2) c a = Decides-reply m (Refers a0 a1 a2) a
+Decides-is_answer m (Clear a0 a1) c a = Decides-reply m (Clear a0 a1) a
+Decides-is_answer m (Enqueue a0 a1) c a = Decides-reply m (Enqueue a0 a1) a
+Decides-is_answer m (Enqueued a0 a1) c a = Decides-reply m (Enqueued a0 a1) a
+Decides-is_answer m (MakeQueue a0) c a = Decides-reply m (MakeQueue a0) a
+Decides-is_answer m (Poll a0 a1) c a = Decides-reply m (Poll a0 a1) a
+Decides-is_answer m (Remove a0 a1) c a = Decides-reply m (Remove a0 a1) a
+Decides-is_answer m (MakeCleaner a0) c a = Decides-reply m (MakeCleaner a0) a
+Decides-is_answer m (Register a0 a1 a2 a3) c a = Decides-reply m (Register a0 a1 a2 a3) a
+Decides-is_answer m (Clean a0 a1) c a = Decides-reply m (Clean a0 a1) a
+Decides-is_answer m (Opened a0 a1) c a = Decides-reply m (Opened a0 a1) a
+Decides-is_answer m (CheckOut a0 a1) c a = Decides-reply m (CheckOut a0 a1) a
+Decides-is_answer m (CheckIn a0 a1) c a = Decides-reply m (CheckIn a0 a1) a
+Decides-is_answer m (Close a0 a1) c a = Decides-reply m (Close a0 a1) a
+Decides-is_answer m (Finish a0 a1 a2) c a = Decides-reply m (Finish a0 a1 a2) a
+Decides-is_answer m (Bind a0 a1 a2) c a = Decides-reply m (Bind a0 a1 a2) a
+Decides-is_answer m (Find a0 a1) c a = Decides-reply m (Find a0 a1) a
+Decides-is_answer m (Unbind a0 a1) c a = Decides-reply m (Unbind a0 a1) a
+Decides-is_answer m (Names a0) c a = Decides-reply m (Names a0) a
+Decides-is_answer m (Full a0 a1) c a = Decides-reply m (Full a0 a1) a
+Decides-is_answer m (Stat a0) c a = Decides-reply m (Stat a0) a
+Decides-is_answer m (Notes a0) c a = Decides-reply m (Notes a0) a
+Decides-is_answer m (Faults a0) c a = Decides-reply m (Faults a0) a
+Decides-is_answer m HandOver c a = Decides-reply m HandOver a
+Decides-is_answer m TakeUp c a = Decides-reply m TakeUp a
+Decides-is_answer m Begin c a = Decides-reply m Begin a
+Decides-is_answer m Abandon c a = Decides-reply m Abandon a
 
 -- ---- Collections
 
@@ -257,8 +264,8 @@ module _ (m : Machine) (w : IsWithinHeap m.objects (roots m)) (i : IsSeenWithin 
   Decides-carried_out e =
       let n = with_collection m e.choice.collected in
       let four =
-      Decides-four (is_none (refusal m e.ask)) (may_collect m e.ask e.choice.collected) (are_fresh n.objects (cells_needed e.ask) e.choice.fresh) (is_answer n e.ask (is_some e.choice.collected) e.answer)
-      (Decides-none (refusal m e.ask)) (Decides-may_collect e.ask e.choice.collected) (Decides-fresh n.objects (cells_needed e.ask) e.choice.fresh) (Decides-is_answer n e.ask (is_some e.choice.collected) e.answer) in (
+      Decides-four (is_none (refusal m e.ask)) (may_collect m e.ask e.choice.collected) (are_fresh n.objects (cells_needed e.ask) e.choice.fresh) (is_answer n e.ask e.choice.collected e.answer)
+      (Decides-none (refusal m e.ask)) (Decides-may_collect e.ask e.choice.collected) (Decides-fresh n.objects (cells_needed e.ask) e.choice.fresh) (Decides-is_answer n e.ask e.choice.collected e.answer) in (
         (λ h. let p = four.0 h in record { allowed = p.0; collection = p.1; fresh = p.2; answers = p.3 }),
         (λ r. four.1 (r.allowed, r.collection, r.fresh, r.answers)),
       )
@@ -299,8 +306,8 @@ module _ (m : Machine) (w : IsWithinHeap m.objects (roots m)) (i : IsSeenWithin 
             four.1 (
               r.allowed,
               r.answers,
-              ap (λ (x : Choice). x.fresh) r.collects,
-              (r.clearing, ap (λ (x : Choice). x.collected) r.collects, (r.no_room, r.full, r.too_few)),
+              ap (λ (x : Chosen). x.fresh) r.collects,
+              (r.clearing, ap (λ (x : Chosen). x.collected) r.collects, (r.no_room, r.full, r.too_few)),
             )),
       )
 

@@ -13,7 +13,6 @@ pub mod SameProof
 pub mod Legality
 pub mod Empty
 pub mod UpToDate
-pub mod ColumnProof
 pub mod Frames
 pub mod CleaningKept
 pub mod SessionsKept
@@ -44,3 +43,4 @@ pub mod NamesKept
 pub mod Law
 pub mod RunLaws
 pub mod RowTest
+pub mod Refused

@@ -8,10 +8,10 @@ use Rattle.jlr_machine.specs.declared.machine.Session.{Session}
 use Rattle.jlr_machine.specs.declared.machine.Call.{Call}
 use Rattle.jlr_machine.specs.declared.machine.Call.TheVariants.{Free, Opening as CallOpening, Out as CallOut, Job as CallJob}
 use Rattle.jlr_machine.specs.Objects.{◌∈◌, is_rising, is_distinct}
-use Rattle.std.specs.List.{IsDistinct}
-use Rattle.jlr_machine.specs.declared.machine.Binding.{Binding}
 use Rattle.jlr_machine.specs.Lookups.{same_name}
 use Rattle.jlr_machine.specs.WellFormed.{IsWellFormed, IsObjectAt, IsPrivate, IsUnspent, FitsItsCall, AreResources, state_at, clean_state_at}
+use Rattle.std.specs.List.{IsDistinct}
+use Rattle.jlr_machine.specs.declared.machine.Binding.{Binding}
 use Rattle.jlr_laws.proofs.Frames.{IsRoot, root_gives, root_from, limits_stay}
 use Rattle.jlr_laws.proofs.Frames.IsRoot.{held, fencing, named, waiting, lining, active}
 use Rattle.jlr_laws.proofs.Changes.{HasCleanable, worker_over}
@@ -29,7 +29,7 @@ pub record IsListed (m : Machine) (names : List Binding) (pending line : List �
   pub lined : (s : ℕ) → clean_state_at m s ≡ Some Lined → s ∈ line
   pub seen_rising : IsTrue (is_rising seen)
   pub seen_within : (s : ℕ) → s ∈ seen → s < length m.objects
-  pub closed : cycle_open ≡ false → seen ≡ []
+  pub seen_in_cycle : cycle_open ≡ false → seen ≡ []
 
 module _ (m : Machine) (names : List Binding) (pending line : List ℕ) (cycle_open : Bool) (seen : List ℕ) (w : IsWellFormed m) (x : IsListed m names pending line cycle_open seen) where
   abbrev n : Machine
@@ -117,9 +117,9 @@ module _ (m : Machine) (names : List Binding) (pending line : List ℕ) (cycle_o
         limits = limits_stay m n w.limits refl refl;
         faults = w.faults;
         notes = w.notes;
-        seen = x.seen_rising;
+        seen_rising = x.seen_rising;
         seen_within = x.seen_within;
-        closed = x.closed;
+        seen_in_cycle = x.seen_in_cycle;
       }
 
 -- the lists as they are
@@ -136,7 +136,7 @@ as_listed m w =
       line_once = w.lists.line_once;
       line_less = λ s h. h;
       lined = w.lists.lined;
-      seen_rising = w.seen;
+      seen_rising = w.seen_rising;
       seen_within = w.seen_within;
-      closed = w.closed;
+      seen_in_cycle = w.seen_in_cycle;
     }

@@ -2,6 +2,7 @@
 use Rattle.std.proofs.Common.{◌≡◌, ℕ, suc, ◌+◌, ◌≤◌, Bool, true, false, cond, not, ◌&&◌, List, [], ◌∷◌, length, refl, sym, ◌∙◌, ap, subst, ◌⊎◌, inl, inr, arith, Some, None, option_map, is_none, find, map, nat_eq, nat_le}
 use Rattle.std.specs.List.{IsDistinct, AllByRecursion}
 use Rattle.std.proofs.lemmas.Bool.{both_ways, and_parts, eqb-true, le-leb, cases_lt}
+use Rattle.jlr_types.specs.declared.Refusal.TheVariants.{Busy, NamesFull, NoHandle, Null, WrongKind}
 use Rattle.jlr_machine.specs.declared.object.Cleanable.{Cleanable as CleanableOf}
 use Rattle.jlr_machine.specs.declared.machine.Machine.{Machine}
 use Rattle.jlr_machine.specs.declared.machine.Binding.{Binding}
@@ -11,15 +12,15 @@ use Rattle.jlr_machine.specs.declared.object.Object.TheVariants.{Cleaner}
 use Rattle.jlr_machine.specs.declared.ask.Ask.TheVariants.{MakeCleaner, Bind, Find, Unbind, Begin, Abandon}
 use Rattle.jlr_machine.specs.declared.ask.Answer.{Answer}
 use Rattle.jlr_machine.specs.Objects.{◌∈◌}
-use Rattle.jlr_machine.specs.Lookups.{same_name, slot_bound, bound, unbound, slot_named, slot_or_0, with_new, with_handle}
+use Rattle.jlr_machine.specs.Lookups.{same_name, slot_bound, bound, unbound, slot_named, with_new, with_handle, on, object_named}
 use Rattle.jlr_machine.specs.Refusals.{refusal, is_any}
-use Rattle.jlr_machine.specs.Run.{IsFresh}
 use Rattle.jlr_machine.specs.Calls.{after}
+use Rattle.jlr_machine.specs.Run.{IsFresh}
 use Rattle.jlr_machine.specs.WellFormed.{IsWellFormed, IsObjectAt, IsUnspent, HasWorker}
 use Rattle.jlr_laws.proofs.Sets.{nothing, in_front, in_rest, in_cons}
 use Rattle.jlr_laws.proofs.Frames.{no_some, some_same, IsRoot, held, fencing, named, waiting, lining, active, root_gives, root_from, limits_stay}
 use Rattle.jlr_laws.proofs.SessionsKept.{keeps_given, held_object}
-use Rattle.jlr_laws.proofs.Allowed.{allowed, only_operand, free_session}
+use Rattle.jlr_laws.proofs.Allowed.{allowed, only_operand, free_session, any_fits}
 use Rattle.jlr_laws.proofs.Fits.{Shown, edge_split, fresh_one, keeps_made}
 use Rattle.jlr_laws.proofs.SeenKept.{with_seen}
 
@@ -197,9 +198,9 @@ module _ (m : Machine) (new : List Binding) (w : IsWellFormed m) where
         limits = limits_stay m n w.limits refl refl;
         faults = w.faults;
         notes = w.notes;
-        seen = w.seen;
+        seen_rising = w.seen_rising;
         seen_within = w.seen_within;
-        closed = w.closed;
+        seen_in_cycle = w.seen_in_cycle;
       }
 
 -- what a name stands for may be held
@@ -219,16 +220,16 @@ names_fit false full names name s e f h l = omega (arith, length_rebound names n
 pub keeps_Bind : (m : Machine) → IsWellFormed m → (k : ℕ) (name : List ℕ) (h : ℕ) → refusal m (Bind k name h) ≡ None → (a : Answer) (fresh : List ℕ) → IsWellFormed (after m (Bind k name h) a fresh)
 keeps_Bind m w k name h no_refusal a fresh =
     let ok = allowed m (Bind k name h) no_refusal in
-    let o = only_operand m k h is_any w ok.no_handle ok.null ok.wrong_kind in
-    let s : ℕ = slot_or_0 (slot_named m k h) in
-    let same : o.0 ≡ s = ap slot_or_0 (sym o.3.slot) in
-    with_names m (bound m.names name s) w
+    let o = only_operand m k h is_any w (ok NoHandle refl) (ok Null refl) (any_fits (object_named m k h)) in
+    let s : ℕ = o.0 in
+    subst (λ o. IsWellFormed (on o (λ s. record m { names = bound m.names name s }) m)) (sym o.3.slot)
+    (with_names m (bound m.names name s) w
     (λ x g. elim (slots_bound m.names name s x g) [
-      | inl e ↦ subst (Shown m) (same ∙ sym e) (held_object m w k h o.0 o.1 o.3.session_there o.3.handle)
+      | inl e ↦ subst (Shown m) (sym e) (held_object m w k h o.0 o.1 o.3.session_there o.3.handle)
       | inr g ↦ named_shown m w x g
     ])
     (distinct_bound m.names name s w.sessions.names)
-    (names_fit (is_none (slot_bound m.names name)) (nat_le 256 (length m.names)) m.names name s refl refl ok.names_full w.sessions.names_limit)
+    (names_fit (is_none (slot_bound m.names name)) (nat_le 256 (length m.names)) m.names name s refl refl (ok NamesFull refl) w.sessions.names_limit))
 
 pub keeps_Unbind : (m : Machine) → IsWellFormed m → (k : ℕ) (name : List ℕ) (a : Answer) (fresh : List ℕ) → IsWellFormed (after m (Unbind k name) a fresh)
 keeps_Unbind m w k name a fresh =
@@ -236,12 +237,12 @@ keeps_Unbind m w k name a fresh =
 
 pub keeps_Find : (m : Machine) → IsWellFormed m → (k : ℕ) (name : List ℕ) → refusal m (Find k name) ≡ None → (a : Answer) (fresh : List ℕ) → IsWellFormed (after m (Find k name) a fresh)
 keeps_Find m w k name no_refusal a fresh =
-    keeps_given m w k (slot_bound m.names name) (λ x e. named_shown m w x (slot_in_names m.names name x e)) (λ s e. free_session m k s e (allowed m (Find k name) no_refusal).busy)
+    keeps_given m w k (slot_bound m.names name) (λ x e. named_shown m w x (slot_in_names m.names name x e)) (λ s e. free_session m k s e (allowed m (Find k name) no_refusal Busy refl))
 
 pub keeps_MakeCleaner : (m : Machine) → IsWellFormed m → (k : ℕ) → refusal m (MakeCleaner k) ≡ None → (a : Answer) (fresh : List ℕ) → IsFresh m.objects 1 fresh → IsWellFormed (after m (MakeCleaner k) a fresh)
 keeps_MakeCleaner m w k no_refusal a fresh f =
     let s = fresh_one m.objects fresh f in
-    subst (λ s. IsWellFormed (with_handle (with_new m s Cleaner) k s)) (sym s.1)
+    subst (λ o. IsWellFormed (on o (λ s. with_handle (with_new m s Cleaner) k s) m)) (sym s.1)
     (keeps_made m s.0 Cleaner w (record {
       new_cleanable = refl;
       new_guard = refl;
@@ -251,10 +252,10 @@ keeps_MakeCleaner m w k no_refusal a fresh f =
       public_referent = λ x r g. no_some r g;
       empty = λ xs g. no_some xs g;
       public_fields = λ x xs g h. no_some xs g;
-    }) s.2 s.3 k (λ session e. free_session m k session e (allowed m (MakeCleaner k) no_refusal).busy))
+    }) s.2 s.3 k (λ session e. free_session m k session e (allowed m (MakeCleaner k) no_refusal Busy refl)))
 
 pub keeps_Begin : (m : Machine) → IsWellFormed m → (a : Answer) (fresh : List ℕ) → IsWellFormed (after m Begin a fresh)
-keeps_Begin m w a fresh = with_seen m true m.seen w w.seen w.seen_within (λ e. absurd (both_ways true e refl))
+keeps_Begin m w a fresh = with_seen m true m.seen w w.seen_rising w.seen_within (λ e. absurd (both_ways true e refl))
 
 -- nothing is seen outside a cycle
 pub keeps_Abandon : (m : Machine) → IsWellFormed m → (a : Answer) (fresh : List ℕ) → IsWellFormed (after m Abandon a fresh)

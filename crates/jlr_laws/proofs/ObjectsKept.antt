@@ -17,11 +17,11 @@ use Rattle.jlr_machine.specs.declared.machine.Session.{Session}
 use Rattle.jlr_machine.specs.declared.machine.Call.{Call}
 use Rattle.jlr_machine.specs.declared.machine.Call.TheVariants.{Free, Opening as CallOpening, Out as CallOut, Job as CallJob}
 use Rattle.jlr_machine.specs.declared.machine.ResourceState.TheVariants.{Opening, Out}
-use Rattle.jlr_machine.specs.Objects.{Table, Heap, at, set_at, ◌∈◌, is_distinct, some_and, as_fields, as_reference, as_members, as_cleanable, as_guard}
+use Rattle.jlr_machine.specs.Objects.{Table, Heap, at, set_at, ◌∈◌, is_distinct, some_and, as_fields, as_reference, as_members, as_cleanable, as_guard, is_spent}
 use Rattle.jlr_machine.specs.Edges.{edges, edges_from, slot_in, is_own_root, is_active}
-use Rattle.jlr_machine.specs.Edges.Chain.{UpToPhantom}
-use Rattle.jlr_machine.specs.Lookups.{with_new, is_spent}
+use Rattle.jlr_machine.specs.Lookups.{with_new}
 use Rattle.jlr_machine.specs.WellFormed.{IsObjectAt, IsReferenceAt, IsQueueAt, IsWellFormed, FitsItsState, FitsItsCall, IsPrivate, state_at, clean_state_at, is_unspent_place}
+use Rattle.jlr_machine.specs.Edges.Chain.{UpToPhantom}
 use Rattle.jlr_laws.proofs.Sets.{nothing}
 use Rattle.jlr_laws.proofs.Clearing.{in_append}
 use Rattle.jlr_laws.proofs.Frames.{no_some, some_same, set_same, set_other, set_cases, IsRoot, held, fencing, named, waiting, lining, active, root_gives, root_from, limits_stay, seen_stays}
@@ -272,7 +272,7 @@ module _ (m : Machine) (s : ℕ) (o : Object) (w : IsWellFormed m) (f : IsFit m 
         limits = limits_stay m n w.limits (length-set m.objects s (Some o)) refl;
         faults = w.faults;
         notes = w.notes;
-        seen = w.seen;
+        seen_rising = w.seen_rising;
         seen_within = seen_stays m.seen m.objects heap w.seen_within (length-set m.objects s (Some o));
-        closed = w.closed;
+        seen_in_cycle = w.seen_in_cycle;
       }

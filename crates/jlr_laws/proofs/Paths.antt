@@ -4,7 +4,8 @@ use Rattle.std.specs.List.{list_any}
 use Rattle.std.proofs.lemmas.Bool.{or_cases, or_left, or_right}
 use Rattle.jlr_machine.specs.Objects.{Heap, ◌∋◌, ◌∈◌}
 use Rattle.jlr_machine.specs.Edges.{Chain, edges_from}
-use Rattle.jlr_machine.specs.Reachable.{up_to, one_round, rounds, reach_set, IsPath, IsReached}
+use Rattle.jlr_machine.specs.Reachable.{IsPath, IsReached}
+use Rattle.jlr_machine.specs.ReachSet.{up_to, one_round, rounds, reach_set}
 use Rattle.jlr_laws.proofs.Sets.{any_from, any_gives, filter_in, in_filter, filter_length, same_or_longer, length-up_to, up_to_in, in_up_to}
 
 module _ (chain : Chain) (heap : Heap) where

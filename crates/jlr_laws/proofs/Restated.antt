@@ -317,7 +317,7 @@ module _ (m : Machine) (mutators : Table Session) (k : ℕ) (old new : Session) 
         limits = limits_stay m n w.limits refl x.as_many;
         faults = w.faults;
         notes = w.notes;
-        seen = w.seen;
+        seen_rising = w.seen_rising;
         seen_within = w.seen_within;
-        closed = w.closed;
+        seen_in_cycle = w.seen_in_cycle;
       }

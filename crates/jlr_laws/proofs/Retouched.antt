@@ -10,8 +10,8 @@ use Rattle.jlr_machine.specs.declared.machine.Machine.{Machine}
 use Rattle.jlr_machine.specs.declared.machine.ResourceState.TheVariants.{Opening}
 use Rattle.jlr_machine.specs.Objects.{Heap, at, ◌∈◌, as_reference, as_cleanable}
 use Rattle.jlr_machine.specs.Edges.{edges, edges_from, is_own_root, is_active}
-use Rattle.jlr_machine.specs.Edges.Chain.{UpToPhantom}
 use Rattle.jlr_machine.specs.WellFormed.{IsQueueAt, IsCleanableAt, IsObjectAt, HasResource, AreReferences, IsPrivate, state_at, clean_state_at}
+use Rattle.jlr_machine.specs.Edges.Chain.{UpToPhantom}
 use Rattle.jlr_laws.proofs.Sets.{nothing}
 use Rattle.jlr_laws.proofs.Frames.{no_some, some_same}
 use Rattle.jlr_laws.proofs.Changes.{cleanable_same}

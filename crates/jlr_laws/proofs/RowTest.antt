@@ -4,8 +4,8 @@ use Rattle.std.proofs.lemmas.Bool.{and_parts}
 use Rattle.jlr_machine.specs.declared.machine.Machine.{Machine}
 use Rattle.jlr_machine.specs.declared.entry.Entry.{Entry}
 use Rattle.jlr_machine.specs.Edges.{roots}
-use Rattle.jlr_machine.specs.Edges.Chain.{UpToPhantom}
 use Rattle.jlr_machine.specs.Run.{Run, apply, empty}
+use Rattle.jlr_machine.specs.Edges.Chain.{UpToPhantom}
 use Rattle.jlr_laws.specs.Rows.{start, after_all, weak_row, queue_row, twice_row, cycle_row, full_heap_row, cleaner_row, file_row, weak_dropped, gc_keeping_all}
 use Rattle.jlr_laws.specs.Deciding.{is_legal}
 use Rattle.jlr_laws.proofs.Checks.{edges_within, all_below, within, below}

@@ -8,8 +8,8 @@ use Rattle.jlr_machine.specs.declared.machine.Resource.{Resource}
 use Rattle.jlr_machine.specs.declared.machine.ResourceState.{ResourceState}
 use Rattle.jlr_machine.specs.declared.machine.ResourceState.TheVariants.{Opening, Idle, Out}
 use Rattle.jlr_machine.specs.Run.{empty}
-use Rattle.jlr_laws.specs.Laws.{RunsAreWellFormed, TakenUpIsAccountedFor, HasArmed, ResourcesInCallsAreArmed}
 use Rattle.jlr_machine.specs.WellFormed.{IsWellFormed, IsUnspent, HasResource}
+use Rattle.jlr_laws.specs.Laws.{RunsAreWellFormed, TakenUpIsAccountedFor, HasArmed, ResourcesInCallsAreArmed}
 use Rattle.jlr_laws.proofs.Frames.{some_same}
 use Rattle.jlr_laws.proofs.Empty.{empty_is_well_formed}
 use Rattle.jlr_laws.proofs.Law.{run_kept}

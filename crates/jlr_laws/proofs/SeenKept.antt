@@ -7,10 +7,10 @@ use Rattle.jlr_machine.specs.declared.machine.ResourceState.{ResourceState}
 use Rattle.jlr_machine.specs.declared.machine.ResourceState.TheVariants.{Opening, Idle, Out, Closing}
 use Rattle.jlr_machine.specs.Objects.{◌∋◌, is_above, is_rising, ◌∈◌}
 use Rattle.jlr_machine.specs.Edges.{roots}
-use Rattle.jlr_machine.specs.Edges.Chain.{UpToSoft}
-use Rattle.jlr_machine.specs.Reachable.{reach_set, up_to}
+use Rattle.jlr_machine.specs.ReachSet.{reach_set, up_to}
 use Rattle.jlr_machine.specs.Run.{seen_with, now_seen}
 use Rattle.jlr_machine.specs.WellFormed.{IsWellFormed, IsUnspent, HasWorker}
+use Rattle.jlr_machine.specs.Edges.Chain.{UpToSoft}
 use Rattle.jlr_laws.proofs.Sets.{nothing, in_filter, in_up_to}
 use Rattle.jlr_laws.proofs.Frames.{limits_stay}
 
@@ -96,9 +96,9 @@ module _ (m : Machine) (b : Bool) (slots : List ℕ) (w : IsWellFormed m) where
         limits = limits_stay m n w.limits refl refl;
         faults = w.faults;
         notes = w.notes;
-        seen = rising;
+        seen_rising = rising;
         seen_within = inside;
-        closed = closed;
+        seen_in_cycle = closed;
       }
 
 -- ---- After an entry

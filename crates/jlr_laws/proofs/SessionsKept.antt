@@ -117,9 +117,9 @@ module _ (m : Machine) (new : Table Session) (w : IsWellFormed m) (f : SessionsF
         limits = limits_stay m after_it w.limits refl f.as_many;
         faults = w.faults;
         notes = w.notes;
-        seen = w.seen;
+        seen_rising = w.seen_rising;
         seen_within = w.seen_within;
-        closed = w.closed;
+        seen_in_cycle = w.seen_in_cycle;
       }
 
 -- ---- One session changed
@@ -167,26 +167,23 @@ first_free_from n [] = omega arith
 first_free_from n (None ∷ places) = omega arith
 first_free_from n (Some x ∷ places) = omega (arith, first_free_from (suc n) places)
 
-free_handle_is : (m : Machine) (k : ℕ) (s : Session) → IsSessionAt m k s → free_handle m k ≡ first_free 1 (drop 1 s.handles)
-free_handle_is m k s e = ap (λ o. elim o as (λ _. ℕ) [ None ↦ 0 | Some s ↦ first_free 1 (drop 1 s.handles) ]) e
-
-free_handle_above : (m : Machine) (k : ℕ) (s : Session) → IsSessionAt m k s → 0 ≡ free_handle m k → ⊥
-free_handle_above m k s e z = omega (arith, z, free_handle_is m k s e, first_free_from 1 (drop 1 s.handles))
+free_handle_above : (s : Session) → 0 ≡ free_handle s → ⊥
+free_handle_above s z = omega (arith, z, first_free_from 1 (drop 1 s.handles))
 
 pub free_has_room : (s : Session) (call : Call) → call ≡ Free → OpeningHasRoom s call
 free_has_room s call e = subst (OpeningHasRoom s) (sym e) tt
 
 pub keeps_handle : (m : Machine) → IsWellFormed m → (k s : ℕ) → IsObjectAt m s → ¬ (IsPrivate m s) → ((session : Session) → IsSessionAt m k session → session.call ≡ Free) → IsWellFormed (with_handle m k s)
 keeps_handle m w k s there public free =
-    keeps_session m w k (λ session. record session { handles = set_at session.handles (free_handle m k) s }) (λ session e. record {
+    keeps_session m w k (λ session. record session { handles = set_at session.handles (free_handle session) s }) (λ session e. record {
       fence = refl;
       call = refl;
-      held = λ h x f. elim (set_cases session.handles (free_handle m k) h (Some s) x f) [
+      held = λ h x f. elim (set_cases session.handles (free_handle session) h (Some s) x f) [
         | inl new ↦ subst (λ x. IsObjectAt m x × ¬ (IsPrivate m x)) (some_same s x new.1) (there, public)
         | inr old ↦ held_object m w k h x session e old.1
       ];
-      places = (length-set session.handles (free_handle m k) (Some s) ∙ (w.sessions.places k session e).0, set_other session.handles (free_handle m k) 0 (Some s) (free_handle_above m k session e) ∙ (w.sessions.places k session e).1);
-      opening = free_has_room (record session { handles = set_at session.handles (free_handle m k) s }) session.call (free session e);
+      places = (length-set session.handles (free_handle session) (Some s) ∙ (w.sessions.places k session e).0, set_other session.handles (free_handle session) 0 (Some s) (free_handle_above session) ∙ (w.sessions.places k session e).1);
+      opening = free_has_room (record session { handles = set_at session.handles (free_handle session) s }) session.call (free session e);
     })
 
 pub keeps_given : (m : Machine) → IsWellFormed m → (k : ℕ) (o : Option ℕ) → ((s : ℕ) → o ≡ Some s → IsObjectAt m s × ¬ (IsPrivate m s)) → ((session : Session) → IsSessionAt m k session → session.call ≡ Free) → IsWellFormed (with_given m k o)

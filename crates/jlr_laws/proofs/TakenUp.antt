@@ -372,7 +372,7 @@ module _ (m : Machine) (heap : Heap) (mutators : Table Session) (line : List ℕ
         limits = limits_stay m n w.limits x.as_long x.as_many;
         faults = w.faults;
         notes = w.notes;
-        seen = w.seen;
+        seen_rising = w.seen_rising;
         seen_within = seen_stays m.seen m.objects heap w.seen_within (x.as_long);
-        closed = w.closed;
+        seen_in_cycle = w.seen_in_cycle;
       }

@@ -4,9 +4,9 @@ use Rattle.std.proofs.lemmas.Bool.{or_cases, or_left, or_right}
 use Rattle.jlr_machine.specs.declared.machine.Machine.{Machine}
 use Rattle.jlr_machine.specs.Objects.{◌∋◌, ◌∈◌}
 use Rattle.jlr_machine.specs.Edges.{roots}
-use Rattle.jlr_machine.specs.Edges.Chain.{UpToSoft}
-use Rattle.jlr_machine.specs.Reachable.{reach_set, up_to}
+use Rattle.jlr_machine.specs.ReachSet.{reach_set, up_to}
 use Rattle.jlr_machine.specs.Run.{seen_with, now_seen, done}
+use Rattle.jlr_machine.specs.Edges.Chain.{UpToSoft}
 use Rattle.jlr_laws.specs.Laws.{SeenStaysUpToDate}
 use Rattle.jlr_laws.proofs.Sets.{in_front, in_rest, filter_in, in_filter}
 
@@ -42,4 +42,4 @@ up_to_date : (n : Machine) → now_seen n ≡ now_seen (record n { seen = now_se
 up_to_date n = when_again n.cycle_open n.seen (reach_set UpToSoft n.objects (roots n)) (length n.objects)
 
 pub seen_stays_up_to_date : SeenStaysUpToDate
-seen_stays_up_to_date m e = up_to_date (done m e)
+seen_stays_up_to_date = ((λ cells sessions resources action. refl), (λ m e. up_to_date (done m e)))

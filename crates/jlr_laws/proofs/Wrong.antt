@@ -4,9 +4,9 @@ use Rattle.std.proofs.lemmas.Bool.{both_ways}
 use Rattle.jlr_machine.specs.declared.machine.Machine.{Machine}
 use Rattle.jlr_machine.specs.Objects.{◌∈◌}
 use Rattle.jlr_machine.specs.Edges.{roots}
-use Rattle.jlr_machine.specs.Edges.Chain.{UpToSoft, UpToPhantom}
 use Rattle.jlr_machine.specs.Reachable.{IsReached}
 use Rattle.jlr_machine.specs.Run.{IsLegal}
+use Rattle.jlr_machine.specs.Edges.Chain.{UpToSoft, UpToPhantom}
 use Rattle.jlr_machine.specs.Run.IsLegal.{carried_out, refused, heap_full, out_of_memory}
 use Rattle.jlr_laws.specs.Rows.{start, after_all, weak_dropped, twice_row, gc_keeping_all, second_reference_kept}
 use Rattle.jlr_laws.proofs.Checks.{within}

@@ -4,25 +4,25 @@ use Rattle.std.specs.List.{list_all}
 use Rattle.jlr_machine.specs.declared.object.Object.{Object}
 use Rattle.jlr_machine.specs.declared.machine.Machine.{Machine}
 use Rattle.jlr_machine.specs.declared.entry.Entry.{Entry}
-use Rattle.jlr_machine.specs.declared.entry.Choice.{Choice}
+use Rattle.jlr_machine.specs.declared.entry.Chosen.{Chosen}
 use Rattle.jlr_machine.specs.declared.entry.Collected.{Collected}
 use Rattle.jlr_machine.specs.declared.ask.Ask.{Ask}
 use Rattle.jlr_machine.specs.declared.ask.Ask.TheVariants.{Prepare, Full, Collect}
 use Rattle.jlr_machine.specs.declared.ask.FullMode.TheVariants.{Policy, ClearAll}
 use Rattle.jlr_machine.specs.declared.ask.Answer.{Answer}
-use Rattle.jlr_machine.specs.declared.ask.Answer.TheVariants.{Prepared, Refused}
+use Rattle.jlr_machine.specs.declared.ask.Answer.TheVariants.{Truth, Prepared, Refused}
 use Rattle.jlr_types.specs.declared.Refusal.TheVariants.{NoMemory, HeapFull}
+use Rattle.jlr_machine.specs.Objects.{Heap, at, ◌∋◌, is_distinct, is_rising, some_and, any_referent}
+use Rattle.jlr_machine.specs.Edges.{Chain, edges_from, roots}
+use Rattle.jlr_machine.specs.Collection.{is_ready, IsCollection, IsBackground, IsFullClearing}
 use Rattle.jlr_machine.specs.Lookups.{resource_at}
 use Rattle.jlr_machine.specs.Refusals.{is_end, cells_needed, refusal}
 use Rattle.jlr_machine.specs.Calls.{reply}
+use Rattle.jlr_machine.specs.ReachSet.{reach_set}
 use Rattle.jlr_machine.specs.Run.{has_room, with_collection, is_free, IsLegal, apply}
 use Rattle.jlr_machine.specs.WellFormed.{IsWellFormed}
 use Rattle.jlr_laws.specs.Same.{same_answer}
-use Rattle.jlr_machine.specs.Objects.{Heap, at, ◌∋◌, is_distinct, is_rising, some_and}
-use Rattle.jlr_machine.specs.Edges.{Chain, edges_from, roots}
 use Rattle.jlr_machine.specs.Edges.Chain.{Strong, UpToSoft}
-use Rattle.jlr_machine.specs.Reachable.{reach_set}
-use Rattle.jlr_machine.specs.Collection.{any_referent, is_ready, IsCollection, IsBackground, IsFullClearing}
 use Rattle.jlr_laws.specs.Laws.{IsWithinHeap, IsSeenWithin, only}
 
 -- ---- Collections
@@ -52,8 +52,11 @@ cuts_off chain heap B kept pending = holds_all kept B && is_closed heap kept && 
 abbrev pub is_collection : Heap → List ℕ → List ℕ → List ℕ → Bool
 is_collection heap B kept pending = cuts_off UpToSoft heap B kept pending
 
+abbrev pub are_objects : Heap → List ℕ → Bool
+are_objects heap slots = list_all (λ s. is_some (at heap s)) slots
+
 abbrev pub cuts_off_in_background : Heap → List ℕ → List ℕ → List ℕ → List ℕ → Bool
-cuts_off_in_background heap base seen kept pending = holds_all seen kept && holds_all kept base && is_closed heap kept && hands_over heap kept pending
+cuts_off_in_background heap base seen kept pending = holds_all seen kept && are_objects heap kept && holds_all kept base && is_closed heap kept && hands_over heap kept pending
 
 abbrev pub is_background : Machine → List ℕ → List ℕ → Bool
 is_background m kept pending = cuts_off_in_background m.objects (roots m) m.seen kept pending
@@ -89,9 +92,10 @@ abbrev pub gives_new_rid : Machine → Answer → Bool
 gives_new_rid m (Prepared rid) = nat_lt rid (2 ^ 32) && is_none (resource_at m rid)
 gives_new_rid m _ = false
 
-abbrev pub is_answer : Machine → Ask → Bool → Answer → Bool
+abbrev pub is_answer : Machine → Ask → Option Collected → Answer → Bool
 is_answer m (Prepare k) c a = gives_new_rid m a
-is_answer m ask c a = same_answer a (reply m ask c)
+is_answer m Collect c a = same_answer a (Truth (is_some c))
+is_answer m ask c a = some_and (same_answer a) (reply m ask)
 
 abbrev pub are_fresh : Heap → ℕ → List ℕ → Bool
 are_fresh heap cells fresh = nat_eq (length fresh) cells && list_all (is_free heap) fresh && is_distinct fresh
@@ -100,7 +104,7 @@ abbrev pub is_empty : List ℕ → Bool
 is_empty [] = true
 is_empty (x ∷ xs) = false
 
-abbrev pub chooses_nothing : Choice → Bool
+abbrev pub chooses_nothing : Chosen → Bool
 chooses_nothing c = is_none c.collected && is_empty c.fresh
 
 abbrev pub is_carried_out : Machine → Entry → Bool
@@ -108,7 +112,7 @@ is_carried_out m e =
     is_none (refusal m e.ask)
     && may_collect m e.ask e.choice.collected
     && are_fresh (with_collection m e.choice.collected).objects (cells_needed e.ask) e.choice.fresh
-    && is_answer (with_collection m e.choice.collected) e.ask (is_some e.choice.collected) e.answer
+    && is_answer (with_collection m e.choice.collected) e.ask e.choice.collected e.answer
 
 abbrev pub is_refused : Machine → Entry → Bool
 is_refused m e = some_and (λ by. same_answer e.answer (Refused by)) (refusal m e.ask) && chooses_nothing e.choice

@@ -1,23 +1,35 @@
 -- Statements of the laws of the machine. Each is the contract of a function of its own, with an empty body.
-use Rattle.std.specs.Prelude.{◌≡◌, ℕ, ◌+◌, ◌<◌, ◌≤◌, ◌⊎◌, ◌↔◌, false, cond, IsTrue, List, Some, None, option_and_then, option_map, length, suc, Bool, [], ◌∷◌}
+use Rattle.std.specs.Prelude.{◌≡◌, ◌≢◌, ℕ, ◌+◌, ◌<◌, ◌≤◌, ◌⊎◌, ◌↔◌, false, cond, not, map, is_some, IsTrue, List, Some, None, option_and_then, option_map, length, suc, Bool, [], ◌∷◌}
+use Rattle.std.specs.List.{Contains}
 use Rattle.jlr_types.specs.declared.RefKind.{RefKind}
 use Rattle.jlr_types.specs.declared.RefKind.TheVariants.{Soft, Weak, Phantom}
 use Rattle.jlr_machine.specs.declared.object.Object.{Object}
+use Rattle.jlr_types.specs.declared.Refusal.{Refusal}
+use Rattle.jlr_types.specs.declared.Refusal.TheVariants.{NoMemory, HeapFull, NoHandle, HandlesFull, WrongKind, NoField, WrongType, Null, NoName, NamesFull, Busy, Closed, NoSession, Exhausted, Malformed, TooLong, NotOut, WouldWait, ResourcesFull}
 use Rattle.jlr_types.specs.declared.Work.TheVariants.{Resource as WorkOn}
 use Rattle.jlr_machine.specs.declared.object.Cleanable.{Cleanable as CleanableOf}
 use Rattle.jlr_machine.specs.declared.object.CleanState.TheVariants.{Armed}
 use Rattle.jlr_machine.specs.declared.machine.ResourceState.TheVariants.{Opening, Out}
 use Rattle.jlr_machine.specs.declared.machine.Machine.{Machine}
+use Rattle.jlr_machine.specs.declared.ask.Ask.{Ask}
+use Rattle.jlr_machine.specs.declared.ask.Answer.TheVariants.{Refused}
+use Rattle.jlr_machine.specs.declared.entry.Collected.{Collected}
 use Rattle.jlr_machine.specs.declared.entry.Entry.{Entry}
-use Rattle.jlr_machine.specs.Objects.{Heap, at, ◌∋◌, ◌∈◌, is_distinct, is_rising}
+use Rattle.jlr_machine.specs.Objects.{Heap, at, ◌∋◌, ◌∈◌, is_distinct, is_rising, any_referent}
 use Rattle.jlr_machine.specs.Edges.{Chain, edges_from, referent, roots}
-use Rattle.jlr_machine.specs.Edges.Chain.{Strong, UpToSoft, UpToPhantom}
-use Rattle.jlr_machine.specs.Reachable.{IsReached, HasStrength, Reaches, reach_set, chain_below}
-use Rattle.jlr_machine.specs.Collection.{any_referent, is_ready, without_referent, IsCollection, places_left, made_pending, IsBackground, IsFull, IsFullClearing}
-use Rattle.jlr_machine.specs.Run.{IsRefused, IsLegal, Run, apply, now_seen, empty}
+use Rattle.jlr_machine.specs.Reachable.{IsReached, HasStrength, Reaches, chain_below}
+use Rattle.jlr_machine.specs.Collection.{is_ready, without_referent, IsCollection, places_left, made_pending, IsBackground, IsFull, IsFullClearing, after_collection}
+use Rattle.jlr_machine.specs.ReachSet.{reach_set}
+use Rattle.jlr_machine.specs.Refusals.{listed, is_end}
+use Rattle.jlr_machine.specs.Run.{IsLegal, Run, apply, now_seen, empty, empty_from}
 use Rattle.jlr_machine.specs.WellFormed.{IsWellFormed, IsCleanableAt, HasResource}
+use Rattle.jlr_machine.specs.Edges.Chain.{Strong, UpToSoft, UpToPhantom}
 
--- ---- Premises that each well-formed machine meets
+-- ---- Premises that each well-formed machine meets, and each machine of a run
+
+-- what was seen is what it was, with what the roots now reach; nothing outside a cycle
+abbrev pub IsUpToDate : Machine → Type 0
+IsUpToDate m = m.seen ≡ now_seen m
 
 -- each edge leads to a place of the heap, and the base is of such places
 pub record IsWithinHeap (heap : Heap) (B : List ℕ) : Type 0 where
@@ -104,6 +116,7 @@ ComesDownToCuttingOff = (heap : Heap) (B kept pending : List ℕ) → IsWithinHe
 -- in a background collection all that is kept is counted as reachable
 pub record IsCutOffInBackground (m : Machine) (kept pending : List ℕ) : Type 0 where
   pub seen : (s : ℕ) → s ∈ kept → s ∈ m.seen
+  pub objects : (s : ℕ) → s ∈ kept → IsTrue (is_some (at m.objects s))
   pub holds_roots : (s : ℕ) → s ∈ roots m → s ∈ kept
   pub closed : (x y : ℕ) → x ∈ kept → y ∈ edges_from Strong m.objects x → y ∈ kept
   pub pended : (s : ℕ) → (s ∈ pending) ↔ LosesReferent m.objects kept s
@@ -148,14 +161,56 @@ abbrev pub KeepingNoneMakesClearing : Type 0
 KeepingNoneMakesClearing =
     (m : Machine) (keeps : ℕ → Bool) (kept pending : List ℕ) → IsWithinHeap m.objects (roots m) → ((s : ℕ) → keeps s ≡ false) → IsMarked keeps m.objects (roots m) kept pending → IsFullClearing m kept pending
 
--- ---- A refused ask changes nothing
+-- ---- Before a full heap is answered all soft references to softly reachable objects are cleared
 
+abbrev pub SoftReferencesGoBeforeAFullHeap : Type 0
+SoftReferencesGoBeforeAFullHeap =
+    (m : Machine) (kept pending : List ℕ) → IsWithinHeap m.objects (roots m) → (c : IsFullClearing m kept pending) → ClearsAll Soft (roots m) m.objects c.full.soft_left
+
+-- ---- Refusals
+
+-- where a refusal stands in the one order of checking
+abbrev pub rank : Refusal → ℕ
+rank Malformed = 1
+rank TooLong = 2
+rank NoSession = 3
+rank NoHandle = 4
+rank Null = 5
+rank WrongKind = 6
+rank NoField = 7
+rank WrongType = 8
+rank NoName = 9
+rank Closed = 10
+rank Busy = 11
+rank NotOut = 12
+rank WouldWait = 13
+rank HandlesFull = 14
+rank NamesFull = 15
+rank ResourcesFull = 16
+rank Exhausted = 17
+rank HeapFull = 18
+rank NoMemory = 19
+
+-- each ask lists its refusals in that order
+abbrev pub ListsAreInOrder : Type 0
+ListsAreInOrder = (ask : Ask) → IsTrue (is_rising (map rank (listed ask)))
+
+-- a legal entry is refused with a number that its ask lists, or for want of memory, which no end meets
+abbrev pub RefusalsAreListed : Type 0
+RefusalsAreListed = (m : Machine) (e : Entry) (by : Refusal) → IsLegal m e → e.answer ≡ Refused by → Contains (listed e.ask) by ⊎ ((by ≡ NoMemory) × IsTrue (not (is_end e.ask)))
+
+-- a refused entry changes nothing, whichever the refusal, unless the heap was full
 abbrev pub RefusalChangesNothing : Type 0
-RefusalChangesNothing = (m : Machine) (e : Entry) → m.seen ≡ now_seen m → IsRefused m e → apply m e ≡ m
+RefusalChangesNothing = (m : Machine) (e : Entry) (by : Refusal) → IsUpToDate m → IsLegal m e → e.answer ≡ Refused by → by ≢ HeapFull → apply m e ≡ m
 
--- which it is after every entry, and in the empty machine
+-- then its collection stands
+abbrev pub FullHeapLeavesItsCollection : Type 0
+FullHeapLeavesItsCollection = (m : Machine) (e : Entry) → IsLegal m e → e.answer ≡ Refused HeapFull → (c : Collected) × IsFullClearing m c.kept c.pending × (apply m e ≡ after_collection m c.kept c.pending)
+
+-- ---- What was seen is up to date in the empty machine and after every entry
+
 abbrev pub SeenStaysUpToDate : Type 0
-SeenStaysUpToDate = (m : Machine) (e : Entry) → (apply m e).seen ≡ now_seen (apply m e)
+SeenStaysUpToDate = ((cells sessions resources action : ℕ) → IsUpToDate (empty_from cells sessions resources action)) × ((m : Machine) (e : Entry) → IsUpToDate (apply m e))
 
 -- ---- Legal entries keep what is well formed
 

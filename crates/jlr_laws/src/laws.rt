@@ -1,13 +1,12 @@
 //! Laws of the machine. Each function's contract is the law, and its body is empty.
 
+ghost use Rattle.jlr_machine.specs.Edges.{roots};
 ghost use Rattle.jlr_machine.specs.Run.{Run, IsLegal, empty};
+ghost use Rattle.jlr_machine.specs.WellFormed.{IsWellFormed, IsImage};
 ghost use Rattle.jlr_laws.specs.Rows.{cleaner_row, file_row, start, after_all, weak_row, weak_dropped, queue_row, twice_row, cycle_row, full_heap_row, gc_keeping_all, second_reference_kept};
 ghost use Rattle.std.specs.Prelude.{ℕ, ◌≤◌};
 ghost use Rattle.jlr_machine.specs.declared.machine.Machine.{Machine};
-ghost use Rattle.jlr_machine.specs.WellFormed.{IsWellFormed, IsImage};
-ghost use Rattle.jlr_machine.specs.Edges.{roots};
-ghost use Rattle.jlr_machine.specs.Column.{OnlyListedRefusalsApply};
-ghost use Rattle.jlr_laws.specs.Laws.{IsWithinHeap, RoundsFindWhatPathsReach, EachClearingIsAsSpecified, LeavesWhatItsStepsLeave, ComesDownToCuttingOff, RefusalChangesNothing, SeenStaysUpToDate, LegalKeepsWellFormed, RunKeepsWellFormed, RunsAreWellFormed, TakenUpIsAccountedFor, ResourcesInCallsAreArmed, BackgroundComesDownToCuttingOff, PolicyMakesFull, KeepingNoneMakesClearing};
+ghost use Rattle.jlr_laws.specs.Laws.{IsWithinHeap, RoundsFindWhatPathsReach, EachClearingIsAsSpecified, LeavesWhatItsStepsLeave, ComesDownToCuttingOff, SoftReferencesGoBeforeAFullHeap, ListsAreInOrder, RefusalsAreListed, RefusalChangesNothing, FullHeapLeavesItsCollection, SeenStaysUpToDate, LegalKeepsWellFormed, RunKeepsWellFormed, RunsAreWellFormed, TakenUpIsAccountedFor, ResourcesInCallsAreArmed, BackgroundComesDownToCuttingOff, PolicyMakesFull, KeepingNoneMakesClearing};
 ghost use Rattle.jlr_laws.specs.Deciding.{CollectionsAreDecided, BackgroundIsDecided, ClearingIsDecided, LegalityIsDecided, SeenIsWithin};
 
 /// A weak reference to a dropped object is cleared by a full collection.
@@ -29,8 +28,6 @@ pub fn twice_row_is_a_run()
 pub fn cycle_row_is_a_run()
     ensures { Run start cycle_row (after_all start cycle_row) }
 {}
-
-/// A heap full of held objects refuses one more, and takes it once a cell can be reclaimed.
 
 /// A full collection that clears and removes nothing is not legal.
 pub fn gc_may_not_keep_all()
@@ -102,9 +99,9 @@ pub fn what_was_seen_is_within()
     ensures { SeenIsWithin }
 {}
 
-/// A refused ask leaves the machine as it was.
-pub fn a_refusal_changes_nothing()
-    ensures { RefusalChangesNothing }
+/// Before a full heap is answered all soft references to softly reachable objects are cleared.
+pub fn soft_references_go_before_a_full_heap()
+    ensures { SoftReferencesGoBeforeAFullHeap }
 {}
 
 /// A heap full of held objects refuses one more, and takes it once a cell can be reclaimed.
@@ -137,11 +134,6 @@ pub fn what_was_seen_stays_up_to_date()
     ensures { SeenStaysUpToDate }
 {}
 
-/// A refusal applies only to the asks for which it is listed.
-pub fn only_listed_refusals_apply()
-    ensures { OnlyListedRefusalsApply }
-{}
-
 /// A legal entry leads from a well-formed machine to a well-formed one.
 pub fn a_legal_entry_keeps_the_machine_well_formed()
     ensures { LegalKeepsWellFormed }
@@ -165,4 +157,24 @@ pub fn what_was_taken_up_is_accounted_for()
 /// A resource that is opening or out has an armed cleanable.
 pub fn resources_in_calls_are_armed()
     ensures { ResourcesInCallsAreArmed }
+{}
+
+/// Each ask lists its refusals in the one order of checking.
+pub fn each_list_of_refusals_is_in_order()
+    ensures { ListsAreInOrder }
+{}
+
+/// A legal entry is refused only with a refusal that its ask lists, or for want of memory, which no end meets.
+pub fn each_refusal_is_listed()
+    ensures { RefusalsAreListed }
+{}
+
+/// An entry that is refused leaves the machine as it was, whichever the refusal, unless the heap was full.
+pub fn a_refusal_changes_nothing()
+    ensures { RefusalChangesNothing }
+{}
+
+/// After a refusal for a full heap just the full collection stands.
+pub fn a_full_heap_leaves_its_collection()
+    ensures { FullHeapLeavesItsCollection }
 {}

@@ -6,7 +6,8 @@ use Rattle.std.proofs.lemmas.List.{take_more, get_or-set_same, get_or-set_other,
 use Rattle.std.proofs.lemmas.List.Sums.{sum_by-set, count_by-le-length}
 use Rattle.jlr_machine.specs.Objects.{Heap, at, ◌∋◌, ◌∈◌}
 use Rattle.jlr_machine.specs.Edges.{Chain, edges, edges_from}
-use Rattle.jlr_machine.specs.Reachable.{IsReached, reach_set}
+use Rattle.jlr_machine.specs.Reachable.{IsReached}
+use Rattle.jlr_machine.specs.ReachSet.{reach_set}
 use Rattle.jlr_laws.specs.Laws.{IsWithinHeap, only}
 use Rattle.jlr_plain.specs.Marks.{is_marked, IsMarked, marked, Marks, Passes, LedTo, Marking}
 use Rattle.jlr_laws.proofs.Sets.{nothing, in_front, in_rest, in_cons}

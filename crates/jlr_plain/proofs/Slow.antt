@@ -6,14 +6,12 @@ use Rattle.std.proofs.lemmas.Grind.{flat_map-append}
 use Rattle.std.specs.List.{flat_map}
 use Rattle.jlr_machine.specs.declared.machine.Session.{Session}
 use Rattle.jlr_machine.specs.declared.object.Object.{Object}
-use Rattle.jlr_machine.specs.Objects.{Heap}
-use Rattle.jlr_machine.specs.Edges.{is_own_root, active_cleanables}
+use Rattle.jlr_machine.specs.Objects.{Heap, is_above, is_rising}
+use Rattle.jlr_machine.specs.Edges.{is_own_root, active_cleanables, slot_in}
 use Rattle.std.proofs.Common.{cond}
 use Rattle.std.specs.List.{cons_option}
 use Rattle.std.proofs.lemmas.Bool.{false_from_ne_true, and_parts, and_from, ltb-true, lt-ltb}
 use Rattle.jlr_types.specs.declared.FieldValue.{FieldValue}
-use Rattle.jlr_machine.specs.Objects.{is_above, is_rising}
-use Rattle.jlr_machine.specs.Edges.{slot_in}
 
 above_further : (a b : ℕ) (xs : List ℕ) → nat_lt a b ≡ true → is_above b xs ≡ true → is_above a xs ≡ true
 above_further a b [] h k = refl

@@ -2,8 +2,8 @@
 use Rattle.std.specs.Prelude.{◌≡◌, ℕ, ◌<◌, ◌⊎◌, Bool, true, false, List, cond, length, slice_index_or, count_by}
 use Rattle.jlr_machine.specs.Objects.{Heap, ◌∈◌}
 use Rattle.jlr_machine.specs.Edges.{Chain, edges_from}
-use Rattle.jlr_machine.specs.Edges.Chain.{Strong, UpToSoft}
 use Rattle.jlr_machine.specs.Reachable.{IsReached}
+use Rattle.jlr_machine.specs.Edges.Chain.{Strong, UpToSoft}
 
 abbrev pub is_marked : List Bool → ℕ → Bool
 is_marked marks s = slice_index_or marks s false

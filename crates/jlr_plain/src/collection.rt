@@ -2,13 +2,13 @@
 ghost use Rattle.std.specs.Prelude.{◌≡◌, ℕ, ◌<◌, ◌↔◌, IsTrue, true, false, replicate, length, slice_set, not, ◌||◌, ◌++◌, IfOk, OnOk, option_to_list, filter_map};
 ghost use Rattle.std.specs.List.{list_all};
 ghost use Rattle.jlr_types.specs.declared.RefKind.TheVariants.{Soft};
-ghost use Rattle.jlr_machine.specs.Objects.{◌∋◌, ◌∈◌, at, is_distinct, is_rising, is_above};
+ghost use Rattle.jlr_machine.specs.Objects.{◌∋◌, ◌∈◌, at, is_distinct, is_rising, is_above, any_referent};
 ghost use Rattle.jlr_machine.specs.Edges.{slot_in, strong_edges, referent, edges, edges_from};
+ghost use Rattle.jlr_machine.specs.Collection.{is_ready, IsCollection};
+ghost use Rattle.jlr_machine.specs.ReachSet.{reach_set};
 ghost use Rattle.jlr_machine.specs.Edges.Chain.{Strong, UpToSoft};
-ghost use Rattle.jlr_machine.specs.Collection.{any_referent, is_ready, IsCollection};
 ghost use Rattle.jlr_plain.specs.Marks.{is_marked, Marks, Passes, LedTo, chain_of};
 ghost use Rattle.jlr_laws.specs.Laws.{IsWithinHeap, only};
-ghost use Rattle.jlr_machine.specs.Reachable.{reach_set};
 ghost use Rattle.jlr_laws.specs.Deciding.{cuts_off, cuts_off_in_background, is_collection, holds_all, is_closed, goes_out, loses_referent, hands_over};
 
 use jlr_machine::items::Items;

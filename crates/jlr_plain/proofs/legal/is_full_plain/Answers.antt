@@ -1,7 +1,7 @@
 use Rattle.std.proofs.Common.{◌≡◌, ◌↔◌, IsTrue, Ok, Err, IfOk, subst, sym}
 use Rattle.jlr_machine.specs.Edges.{roots}
-use Rattle.jlr_laws.specs.Deciding.{is_full}
 use Rattle.jlr_machine.specs.Collection.{IsFull}
+use Rattle.jlr_laws.specs.Deciding.{is_full}
 use Rattle.jlr_laws.proofs.Decided.{collections_are_decided}
 use Rattle.jlr_plain.proofs.legal.is_full_plain.Goals as goal
 
