@@ -3,7 +3,6 @@ pub mod Paths
 pub mod Checks
 pub mod Clearing
 pub mod Agree
-pub mod Wrong
 pub mod Only
 pub mod CutOff
 pub mod Least

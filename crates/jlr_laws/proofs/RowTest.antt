@@ -1,15 +1,16 @@
 -- Runs found legal by a test that computes, and the worked rows by it.
-use Rattle.std.proofs.Common.{◌≡◌, Bool, true, false, ◌&&◌, List, [], ◌∷◌, length, refl}
-use Rattle.std.proofs.lemmas.Bool.{and_parts}
+use Rattle.std.proofs.Common.{◌≡◌, ℕ, ◌≤◌, Bool, true, false, ◌&&◌, List, [], ◌∷◌, length, refl}
+use Rattle.std.proofs.lemmas.Bool.{both_ways, and_parts}
 use Rattle.jlr_machine.specs.declared.machine.Machine.{Machine}
 use Rattle.jlr_machine.specs.declared.entry.Entry.{Entry}
 use Rattle.jlr_machine.specs.Edges.{roots}
-use Rattle.jlr_machine.specs.Run.{Run, apply, empty}
+use Rattle.jlr_machine.specs.Run.{IsLegal, Run, apply, empty}
 use Rattle.jlr_machine.specs.Edges.Chain.{UpToPhantom}
-use Rattle.jlr_laws.specs.Rows.{start, after_all, weak_row, queue_row, twice_row, cycle_row, full_heap_row, cleaner_row, file_row, weak_dropped, gc_keeping_all}
+use Rattle.jlr_laws.specs.Rows.{after_all}
 use Rattle.jlr_laws.specs.Deciding.{is_legal}
 use Rattle.jlr_laws.proofs.Checks.{edges_within, all_below, within, below}
-use Rattle.jlr_laws.proofs.Legality.{any_case}
+use Rattle.jlr_laws.proofs.Legality.{any_case, legality_is_decided}
+use Rattle.jlr_laws.proofs.RunLaws.{runs_are_well_formed}
 
 -- edges, roots and what was seen lie within the heap
 abbrev lies_within : Machine → Bool
@@ -30,26 +31,10 @@ run_by_test m (e ∷ entries) h =
       run_by_test (apply m e) entries p.1,
     )
 
-gc_that_keeps_all : is_legal (after_all start weak_dropped) gc_keeping_all ≡ false
-gc_that_keeps_all = refl
-
-pub weak : Run start weak_row (after_all start weak_row)
-weak = run_by_test start weak_row refl
-
-pub full_heap : Run (empty 2 1 1) full_heap_row (after_all (empty 2 1 1) full_heap_row)
-full_heap = run_by_test (empty 2 1 1) full_heap_row refl
-
-pub twice : Run start twice_row (after_all start twice_row)
-twice = run_by_test start twice_row refl
-
-pub queue : Run start queue_row (after_all start queue_row)
-queue = run_by_test start queue_row refl
-
-pub cycle : Run start cycle_row (after_all start cycle_row)
-cycle = run_by_test start cycle_row refl
-
-pub cleaner : Run start cleaner_row (after_all start cleaner_row)
-cleaner = run_by_test start cleaner_row refl
-
-pub file : Run start file_row (after_all start file_row)
-file = run_by_test start file_row refl
+-- an entry that the test refuses is not legal after a run from the empty machine
+pub never_legal : (cells sessions resources : ℕ) (entries : List Entry) (e : Entry) → cells ≤ 65536 → sessions ≤ 64 → is_run (empty cells sessions resources) entries ≡ true
+    → is_legal (after_all (empty cells sessions resources) entries) e ≡ false → ¬ (IsLegal (after_all (empty cells sessions resources) entries) e)
+never_legal cells sessions resources entries e small few h wrong legal =
+    let m = after_all (empty cells sessions resources) entries in
+    let w = runs_are_well_formed cells sessions resources m entries small few (run_by_test (empty cells sessions resources) entries h) in
+    both_ways (is_legal m e) wrong ((legality_is_decided m e w).1 legal)

@@ -2,3 +2,8 @@ pub mod Laws
 pub mod Same
 pub mod Deciding
 pub mod Rows
+pub mod ReferenceRows
+pub mod CleaningRows
+pub mod RefusalRows
+pub mod CycleRows
+pub mod WrongEntries

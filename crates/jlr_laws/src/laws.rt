@@ -3,41 +3,10 @@
 ghost use Rattle.jlr_machine.specs.Edges.{roots};
 ghost use Rattle.jlr_machine.specs.Run.{Run, IsLegal, empty};
 ghost use Rattle.jlr_machine.specs.WellFormed.{IsWellFormed, IsImage};
-ghost use Rattle.jlr_laws.specs.Rows.{cleaner_row, file_row, start, after_all, weak_row, weak_dropped, queue_row, twice_row, cycle_row, full_heap_row, gc_keeping_all, second_reference_kept};
 ghost use Rattle.std.specs.Prelude.{ℕ, ◌≤◌};
 ghost use Rattle.jlr_machine.specs.declared.machine.Machine.{Machine};
 ghost use Rattle.jlr_laws.specs.Laws.{IsWithinHeap, RoundsFindWhatPathsReach, EachClearingIsAsSpecified, LeavesWhatItsStepsLeave, ComesDownToCuttingOff, SoftReferencesGoBeforeAFullHeap, ListsAreInOrder, RefusalsAreListed, RefusalChangesNothing, FullHeapLeavesItsCollection, SeenStaysUpToDate, LegalKeepsWellFormed, RunKeepsWellFormed, RunsAreWellFormed, TakenUpIsAccountedFor, ResourcesInCallsAreArmed, BackgroundComesDownToCuttingOff, PolicyMakesFull, KeepingNoneMakesClearing};
 ghost use Rattle.jlr_laws.specs.Deciding.{CollectionsAreDecided, BackgroundIsDecided, ClearingIsDecided, LegalityIsDecided, SeenIsWithin};
-
-/// A weak reference to a dropped object is cleared by a full collection.
-pub fn weak_row_is_a_run()
-    ensures { Run start weak_row (after_all start weak_row) }
-{}
-
-/// A cleared reference is handed over, enqueued, polled once, and never enqueued again.
-pub fn queue_row_is_a_run()
-    ensures { Run start queue_row (after_all start queue_row) }
-{}
-
-/// Two weak references to one object are cleared together.
-pub fn twice_row_is_a_run()
-    ensures { Run start twice_row (after_all start twice_row) }
-{}
-
-/// A background cycle may keep a softly reachable object.
-pub fn cycle_row_is_a_run()
-    ensures { Run start cycle_row (after_all start cycle_row) }
-{}
-
-/// A full collection that clears and removes nothing is not legal.
-pub fn gc_may_not_keep_all()
-    ensures { ¬ (IsLegal (after_all start weak_dropped) gc_keeping_all) }
-{}
-
-/// Of two weak references to one object, the second does not give it after the first was cleared.
-pub fn no_second_reference_is_kept()
-    ensures { ¬ (IsLegal (after_all start twice_row) second_reference_kept) }
-{}
 
 /// The finite set that rounds find is what paths reach.
 pub fn rounds_find_what_paths_reach()
@@ -104,11 +73,6 @@ pub fn soft_references_go_before_a_full_heap()
     ensures { SoftReferencesGoBeforeAFullHeap }
 {}
 
-/// A heap full of held objects refuses one more, and takes it once a cell can be reclaimed.
-pub fn full_heap_row_is_a_run()
-    ensures { Run (empty 2 1 1) full_heap_row (after_all (empty 2 1 1) full_heap_row) }
-{}
-
 /// The empty machine is well formed, and may stand at the head of a trace.
 pub fn the_empty_machine_is_an_image()
     ensures { (cells sessions resources : ℕ) → cells ≤ 65536 → sessions ≤ 64 → IsImage (empty cells sessions resources) }
@@ -117,16 +81,6 @@ pub fn the_empty_machine_is_an_image()
 /// In a well-formed machine edges and roots stay within the heap, which is the premise of the laws of collections.
 pub fn a_well_formed_heap_is_closed()
     ensures { (m : Machine) → IsWellFormed m → IsWithinHeap m.objects (roots m) }
-{}
-
-/// An action is lined up when its object is gone, taken up once, and noted.
-pub fn cleaner_row_is_a_run()
-    ensures { Run start cleaner_row (after_all start cleaner_row) }
-{}
-
-/// A failed open leaves garbage; an open file is written, closed once, and refused afterwards.
-pub fn file_row_is_a_run()
-    ensures { Run start file_row (after_all start file_row) }
 {}
 
 /// What was seen is up to date after every entry.
