@@ -1,0 +1,3 @@
+mod FieldLists
+mod Slots
+mod Chains

@@ -1,0 +1,35 @@
+-- The free cells are a list through the cells.
+use Rattle.std.specs.Prelude.{◌≡◌, ℕ, zero, suc, ◌+◌, ◌<◌, ◌^◌, nat_lt, if◌then◌else◌, List, Option, Some, None, slice_get, length}
+use Rattle.jlr_machine.specs.Objects.{occupied}
+use Rattle.jlr_cells.specs.declared.cell.Cell.{Cell}
+use Rattle.jlr_cells.specs.declared.cell.Cell.TheVariants.{Free}
+use Rattle.jlr_cells.specs.Contents.{objects_in}
+
+-- the cell is free, and names the next free one
+abbrev pub IsFreeAt : List Cell → ℕ → Option ℕ → Type 0
+IsFreeAt cells s next = slice_get cells s ≡ Some (Free next)
+
+-- the cell is free
+abbrev pub IsFree : List Cell → ℕ → Type 0
+IsFree cells s = (next : Option ℕ) × IsFreeAt cells s next
+
+-- from the first free cell on, following the links, come this many free cells and then none
+unfoldable pub IsChain : List Cell → ℕ → Option ℕ → Type 0
+IsChain cells zero first = first ≡ None
+IsChain cells (suc count) None = ⊥
+IsChain cells (suc count) (Some s) = (next : Option ℕ) × IsFreeAt cells s next × IsChain cells count next
+
+-- The free list is well linked, and holds as many cells as hold no object. No cell stands in it twice, since it ends
+pub record IsFreeList (cells : List Cell) (first : Option ℕ) (count : ℕ) : Type 0 where
+  pub linked : IsChain cells count first
+  pub counted : count + occupied (objects_in cells) ≡ length cells
+  pub small : length cells < 2 ^ 32
+
+-- the slot, if there is such a cell
+abbrev pub link_to : ℕ → ℕ → Option ℕ
+link_to count s = if nat_lt s count then Some s else None
+
+-- so many free cells, each linked to the next
+pub record AreLinkedUp (cells : List Cell) (count : ℕ) : Type 0 where
+  pub cell_count : length cells ≡ count
+  pub links : (s : ℕ) → s < count → IsFreeAt cells s (link_to count (s + 1))

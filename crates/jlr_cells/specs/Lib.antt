@@ -1,0 +1,3 @@
+-- Which object a cell holds, which cells are free, and how the free ones are linked.
+pub mod Contents
+pub mod FreeList

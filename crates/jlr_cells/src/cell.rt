@@ -1,0 +1,108 @@
+//! One cell.
+ghost use Rattle.std.specs.Prelude.{◌≡◌, Some, IsTrue, is_some, length, option_and_then, option_map, option_to_list, filter_map};
+ghost use Rattle.std.specs.List.{flat_map};
+ghost use Rattle.jlr_machine.specs.Objects.{as_fields, some_and};
+ghost use Rattle.jlr_machine.specs.Edges.{slot_in, strong_edges};
+ghost use Rattle.jlr_machine.specs.Lookups.{with_field};
+ghost use Rattle.jlr_machine.specs.Refusals.{is_reference};
+ghost use Rattle.jlr_machine.specs.Collection.{any_referent, without_referent};
+ghost use Rattle.jlr_cells.specs.Contents.{object_in, object_of, kind_of, field_in};
+
+use crate::fields::Fields;
+use crate::shape::{Kind, Shape};
+use jlr_types::{FieldValue, RefKind, Slot};
+
+/// A place for one object.
+#[derive(Drop)]
+pub(crate) enum Cell {
+    Free {
+        next: Option<u32>,
+    },
+    Plain(Fields),
+    Reference {
+        kind: RefKind,
+        referent: Option<Slot>,
+    },
+}
+
+impl Cell {
+    pub(crate) fn new(shape: Shape) -> Self
+        ensures { object_in result ≡ Some (object_of shape) }
+    {
+        match shape {
+            Shape::Plain(layout) => Cell::Plain(Fields::blank(&layout)),
+            Shape::Reference { kind, referent } => Cell::Reference { kind, referent },
+        }
+    }
+
+    pub(crate) fn kind(&self) -> Option<Kind>
+        ensures { result ≡ option_and_then kind_of (object_in self.now) }
+    {
+        match self {
+            Cell::Free { .. } => None,
+            Cell::Plain(_) => Some(Kind::Plain),
+            Cell::Reference { kind, .. } => Some(Kind::Reference(*kind)),
+        }
+    }
+
+    pub(crate) fn field_count(&self) -> Option<usize>
+        ensures { result ≡ option_map length (option_and_then as_fields (object_in self.now)) }
+    {
+        match self {
+            Cell::Plain(fields) => Some(fields.len()),
+            Cell::Free { .. } | Cell::Reference { .. } => None,
+        }
+    }
+
+    /// A field, if this is a plain object and has it.
+    pub(crate) fn field(&self, field: usize) -> Option<FieldValue>
+        ensures { result ≡ field_in (object_in self.now) field }
+    {
+        match self {
+            Cell::Plain(fields) => fields.as_slice().get(field).copied(),
+            Cell::Free { .. } | Cell::Reference { .. } => None,
+        }
+    }
+
+    /// Sets a field, and answers what it held.
+    pub(crate) fn set_field(&mut self, field: usize, value: FieldValue) -> FieldValue
+        requires { IsTrue (is_some (field_in (object_in self.old) field)) }
+        ensures old { field_in (object_in self.old) field ≡ Some result }
+        ensures new { object_in self.new ≡ option_map (with_field field value) (object_in self.old) }
+    {
+        match self {
+            Cell::Plain(fields) => fields.set(field, value),
+            Cell::Free { .. } | Cell::Reference { .. } => unreachable!(),
+        }
+    }
+
+    /// A reference loses its referent.
+    pub(crate) fn clear_referent(&mut self)
+        requires { IsTrue (some_and is_reference (object_in self.old)) }
+        ensures { object_in self.new ≡ option_map without_referent (object_in self.old) }
+    {
+        match self {
+            Cell::Reference { referent, .. } => *referent = None,
+            Cell::Free { .. } | Cell::Plain(_) => unreachable!(),
+        }
+    }
+
+    pub(crate) fn referent(&self) -> Option<Slot>
+        ensures { result ≡ option_and_then any_referent (object_in self.now) }
+    {
+        match self {
+            Cell::Reference { referent, .. } => *referent,
+            Cell::Free { .. } | Cell::Plain(_) => None,
+        }
+    }
+
+    /// The strong edges, where they lie.
+    pub(crate) fn edges(&self) -> &[FieldValue]
+        ensures { filter_map slot_in result.now ≡ flat_map strong_edges (option_to_list (object_in self.now)) }
+    {
+        match self {
+            Cell::Plain(fields) => fields.as_slice(),
+            Cell::Free { .. } | Cell::Reference { .. } => &[],
+        }
+    }
+}

@@ -1,0 +1,281 @@
+//! All cells.
+ghost use Rattle.std.specs.Prelude.{◌≡◌, ◌+◌, ◌^◌, ◌<◌, ◌↔◌, IfOk, IfNone, IfSome, IsNone, IsTrue, None, Some, filter_map, is_some, length, option_and_then, option_map, replicate};
+ghost use Rattle.jlr_machine.specs.Objects.{as_fields, at, change_at, empty_at, occupied, set_at, some_and};
+ghost use Rattle.jlr_machine.specs.Edges.{edges_from, slot_in};
+ghost use Rattle.jlr_machine.specs.Edges.Chain.{Strong};
+ghost use Rattle.jlr_machine.specs.Lookups.{with_field};
+ghost use Rattle.jlr_machine.specs.Collection.{any_referent, without_referent};
+ghost use Rattle.jlr_machine.specs.Refusals.{is_reference};
+ghost use Rattle.jlr_cells.specs.Contents.{field_at, kind_of, object_of, objects_in};
+
+use crate::cell::Cell;
+use crate::free_list::{free_cells, link_to, next_free};
+use crate::shape::{Kind, Shape};
+use jlr_types::{FieldValue, Meter, Slot};
+use std::alloc::{AllocError, Global};
+use std::marker::Model;
+
+/// The objects of the heap, by slot.
+#[derive(Drop)]
+pub struct Cells {
+    cells: Vec<Cell>,
+    first_free: Option<u32>,
+    free_count: u32,
+}
+
+impl Model for Cells {
+    ghost use Rattle.std.specs.Prelude.{List, Option};
+    ghost use Rattle.jlr_machine.specs.declared.object.Object.{Object};
+
+    ghost Value = { List (Option Object) };
+
+    ghost use Rattle.jlr_cells.specs.Contents.{objects_in};
+    ghost use Rattle.jlr_cells.specs.FreeList.{IsFreeList};
+
+    ghost view = { λ a. objects_in a.cells.items };
+
+    ghost invariant = { λ a. IsFreeList a.cells.items a.first_free a.free_count };
+}
+
+impl Cells {
+    /// So many cells, all free.
+    pub fn new(alloc: Global, count: u32) -> Result<Self, AllocError>
+        ensures { IfOk result (λ cells. cells ≡ replicate count None) }
+    {
+        Ok(Cells {
+            cells: free_cells(alloc, count)?,
+            first_free: link_to(0, count),
+            free_count: count,
+        })
+    }
+
+    /// How many cells there are. Their slots are the numbers below.
+    pub fn cell_count(&self) -> u32
+        ensures { result ≡ length self.now }
+    {
+        self.cells.len() as u32
+    }
+
+    /// How many cells are free.
+    pub fn free_count(&self) -> u32
+        ensures { result + occupied self.now ≡ length self.now }
+    {
+        self.free_count
+    }
+
+    /// A new object in a free cell, if there is one.
+    pub fn take(&mut self, shape: Shape) -> Option<Slot>
+        ensures full { IsNone result ↔ (occupied self.old ≡ length self.old) }
+        ensures none { IfNone result (self.new ≡ self.old) }
+        ensures free { IfSome result (λ slot. (slot < length self.old) × (at self.old slot ≡ None)) }
+        ensures taken { IfSome result (λ slot. self.new ≡ set_at self.old slot (object_of shape)) }
+    {
+        match self.first_free {
+            None => None,
+            Some(slot) => {
+                self.first_free = next_free(&self.cells, slot);
+                self.cells[slot as usize] = Cell::new(shape);
+                self.free_count -= 1;
+                Some(Slot::new(slot))
+            }
+        }
+    }
+
+    /// The object at a slot is no more, and its cell is free.
+    pub fn give_back(&mut self, slot: Slot)
+        requires { IsTrue (is_some (at self.old slot)) }
+        ensures { self.new ≡ empty_at self.old slot }
+    {
+        let number = slot.number();
+        self.cells[number as usize] = Cell::Free {
+            next: self.first_free,
+        };
+        self.first_free = Some(number);
+        self.free_count += 1;
+    }
+
+    /// Of which kind the object at a slot is, if there is one.
+    pub fn kind(&self, slot: Slot) -> Option<Kind>
+        ensures kind { result ≡ option_and_then kind_of (at self.now slot) }
+        ensures object { is_some result ≡ is_some (at self.now slot) }
+    {
+        match self.cells.get(slot.number() as usize) {
+            Some(cell) => cell.kind(),
+            None => None,
+        }
+    }
+
+    /// Whether there is a reference at a slot.
+    pub fn is_reference(&self, slot: Slot) -> bool
+        ensures { result ≡ some_and is_reference (at self.now slot) }
+    {
+        matches!(self.kind(slot), Some(Kind::Reference(_)))
+    }
+
+    /// How many fields the object at a slot has, if it is a plain one.
+    pub fn field_count(&self, slot: Slot) -> Option<usize>
+        ensures { result ≡ option_map length (option_and_then as_fields (at self.now slot)) }
+    {
+        match self.cells.get(slot.number() as usize) {
+            Some(cell) => cell.field_count(),
+            None => None,
+        }
+    }
+
+    /// Whether there is a plain object at a slot that has this field.
+    pub fn has_field(&self, slot: Slot, field: usize) -> bool
+        ensures { result ≡ is_some (field_at self.now slot field) }
+    {
+        field_of(&self.cells, slot, field).is_some()
+    }
+
+    /// What a field holds.
+    pub fn field(&self, slot: Slot, field: usize) -> FieldValue
+        requires { IsTrue (is_some (field_at self.now slot field)) }
+        ensures { field_at self.now slot field ≡ Some result }
+    {
+        field_of(&self.cells, slot, field).unwrap()
+    }
+
+    /// Sets a field, and answers what it held.
+    pub fn set_field(&mut self, slot: Slot, field: usize, value: FieldValue) -> FieldValue
+        requires { IsTrue (is_some (field_at self.old slot field)) }
+        ensures old { field_at self.old slot field ≡ Some result }
+        ensures new { self.new ≡ change_at self.old slot (with_field field value) }
+    {
+        let cell = &mut self.cells[slot.number() as usize];
+        cell.set_field(field, value)
+    }
+
+    /// What the reference at a slot refers to.
+    pub fn referent(&self, slot: Slot) -> Option<Slot>
+        requires { IsTrue (some_and is_reference (at self.now slot)) }
+        ensures { result ≡ option_and_then any_referent (at self.now slot) }
+    {
+        match self.cells.get(slot.number() as usize) {
+            Some(cell) => cell.referent(),
+            None => None,
+        }
+    }
+
+    /// The reference at a slot loses its referent.
+    pub fn clear_referent(&mut self, slot: Slot)
+        requires { IsTrue (some_and is_reference (at self.old slot)) }
+        ensures { self.new ≡ change_at self.old slot without_referent }
+    {
+        let cell = &mut self.cells[slot.number() as usize];
+        cell.clear_referent();
+    }
+
+    /// Visits the object at a slot: one tick. Lends the fields that hold its strong edges; a reference has none.
+    pub fn visit(&self, slot: Slot, meter: &mut Meter) -> &[FieldValue]
+        requires object { IsTrue (is_some (at self.now slot)) }
+        requires ticks { meter.old + 1 < 2 ^ 64 }
+        ensures edges { filter_map slot_in result.now ≡ edges_from Strong self.now slot }
+        ensures ticked { meter.new ≡ meter.old + 1 }
+    {
+        meter.tick();
+        let cell = &self.cells[slot.number() as usize];
+        cell.edges()
+    }
+}
+
+fn field_of(cells: &[Cell], slot: Slot, field: usize) -> Option<FieldValue>
+    ensures { result ≡ field_at (objects_in cells.now) slot field }
+{
+    match cells.get(slot.number() as usize) {
+        Some(cell) => cell.field(field),
+        None => None,
+    }
+}
+
+#[cfg(test)]
+mod tests {
+    use super::*;
+    use jlr_types::{FieldKind, Layout, RefKind};
+    use std::test::Fail;
+
+    fn pair() -> Layout {
+        let mut layout = Layout::new();
+        layout.push(FieldKind::Ref);
+        layout.push(FieldKind::Int);
+        layout
+    }
+
+    #[test]
+    fn sixteen_cells_and_the_seventeenth(rt: HostRuntime) -> Result<(), Fail> {
+        let mut cells = Cells::new(rt.alloc(), 16)?;
+        assert_eq!(rt; cells.cell_count(), 16);
+        for number in 0u32..16 {
+            assert_eq!(rt; cells.free_count(), 16 - number);
+            assert_eq!(rt; cells.take(Shape::Plain(pair())), Some(Slot::new(number)));
+        }
+        assert_eq!(rt; cells.take(Shape::Plain(pair())), None);
+        assert_eq!(rt; cells.free_count(), 0);
+
+        let fifth = Slot::new(5);
+        assert!(rt; cells.kind(fifth).is_some());
+        cells.give_back(fifth);
+        assert_eq!(rt; cells.kind(fifth), None);
+        assert_eq!(rt; cells.free_count(), 1);
+        assert_eq!(rt; cells.take(Shape::Plain(Layout::new())), Some(fifth));
+        assert_eq!(rt; cells.take(Shape::Plain(Layout::new())), None);
+        assert_eq!(rt; cells.field_count(fifth), Some(0));
+        Ok(())
+    }
+
+    #[test]
+    fn fields_hold_what_was_set(rt: HostRuntime) -> Result<(), Fail> {
+        let mut cells = Cells::new(rt.alloc(), 16)?;
+        let slot = cells.take(Shape::Plain(pair())).ok_or("no cell")?;
+        assert_eq!(rt; cells.kind(slot), Some(Kind::Plain));
+        assert_eq!(rt; cells.field_count(slot), Some(2));
+        assert!(rt; !cells.has_field(slot, 2));
+        assert!(rt; cells.has_field(slot, 1));
+        assert_eq!(rt; cells.field(slot, 1), FieldValue::Int(0));
+        assert!(rt; cells.has_field(slot, 0));
+        assert_eq!(rt;
+            cells.set_field(slot, 0, FieldValue::Ref(Some(slot))),
+            FieldValue::Ref(None)
+        );
+        assert!(rt; cells.has_field(slot, 0));
+        assert_eq!(rt; cells.field(slot, 0), FieldValue::Ref(Some(slot)));
+        Ok(())
+    }
+
+    #[test]
+    fn a_reference_loses_its_referent(rt: HostRuntime) -> Result<(), Fail> {
+        let mut cells = Cells::new(rt.alloc(), 16)?;
+        let referent = Some(Slot::new(7));
+        let kind = RefKind::Weak;
+        let slot = cells
+            .take(Shape::Reference { kind, referent })
+            .ok_or("no cell")?;
+        assert_eq!(rt; cells.kind(slot), Some(Kind::Reference(RefKind::Weak)));
+        assert_eq!(rt; cells.field_count(slot), None);
+        assert!(rt; cells.is_reference(slot));
+        assert_eq!(rt; cells.referent(slot), referent);
+        assert!(rt; cells.is_reference(slot));
+        cells.clear_referent(slot);
+        assert!(rt; cells.is_reference(slot));
+        assert_eq!(rt; cells.referent(slot), None);
+        Ok(())
+    }
+
+    #[test]
+    fn a_visit_lends_the_fields_and_ticks(rt: HostRuntime) -> Result<(), Fail> {
+        let mut cells = Cells::new(rt.alloc(), 16)?;
+        let mut meter = Meter::new();
+        let plain = cells.take(Shape::Plain(pair())).ok_or("no cell")?;
+        let referent = Some(plain);
+        let kind = RefKind::Weak;
+        let weak = cells
+            .take(Shape::Reference { kind, referent })
+            .ok_or("no cell")?;
+        assert!(rt; cells.kind(plain).is_some() && cells.kind(weak).is_some());
+        assert_eq!(rt; cells.visit(plain, &mut meter).len(), 2);
+        assert_eq!(rt; cells.visit(weak, &mut meter).len(), 0);
+        assert_eq!(rt; meter.ticks(), 2);
+        Ok(())
+    }
+}

@@ -1,0 +1,18 @@
+//! The objects of the heap, by slot.
+//!
+//! One flat vector of cells, one for each slot. A cell holds an object, or the number of the next free cell: the free cells are
+//! a list through the cells themselves, so that `take` and `give_back` take constant time and no memory. A cell is 144 bytes:
+//! eight fields of 16 bytes side by side, how many of them there are, and which kind of cell it is. `visit` lends the fields
+//! where they lie.
+//!
+//! Contracts see the cells as the machine's table of objects. No call but `Cells::new` takes memory.
+#![tactic(auto)]
+
+mod cell;
+mod cells;
+mod fields;
+mod free_list;
+mod shape;
+
+pub use cells::Cells;
+pub use shape::{Kind, Shape};

@@ -1,0 +1,3 @@
+mod Lowest
+mod Members
+mod Walking

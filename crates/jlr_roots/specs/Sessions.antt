@@ -1,0 +1,45 @@
+-- What a member holds as a session of the machine, and changes to one session.
+use Rattle.std.specs.Prelude.{◌≡◌, ◌<◌, ◌^◌, ℕ, Bool, false, if◌then◌else◌, List, Option, Some, None, option_and_then, map, slice_index_or, length, replicate}
+use Rattle.jlr_machine.specs.declared.machine.Session.{Session}
+use Rattle.jlr_machine.specs.declared.machine.Call.TheVariants.{Free}
+use Rattle.jlr_machine.specs.Objects.{Table, at, set_at, empty_at, change_at, some_and}
+use Rattle.jlr_machine.specs.Calls.{no_handles}
+use Rattle.jlr_roots.specs.declared.member.Member.{Member}
+use Rattle.jlr_roots.specs.HandleTable.{IsHandleTable, has_room, lowest_free}
+
+-- a joined member's handles; it has no call in flight
+abbrev pub session_in : Member → Option Session
+session_in m = if m.joined then Some (record { handles = m.handles; fence = None; call = Free }) else None
+
+-- the sessions, by mutator
+abbrev pub sessions_in : List Member → Table Session
+sessions_in members = map session_in members
+
+-- a member that is not joined, with no handle in use
+abbrev pub absent : Member
+absent = record { joined = false; handles = no_handles }
+
+-- each member has a table of handles, joined or not; there are few
+pub record AreMembers (members : List Member) : Type 0 where
+  pub tables : (k : ℕ) → k < length members → IsHandleTable (slice_index_or members k absent).handles
+  pub few : length members < 256
+
+-- ---- One mutator of all
+
+abbrev pub has_free_handle : Table Session → ℕ → Bool
+has_free_handle mutators k = some_and (λ s. has_room s.handles) (at mutators k)
+
+-- the lowest free handle of a session, and of a mutator
+abbrev pub free_handle : Session → ℕ
+free_handle s = lowest_free s.handles
+
+-- the slot that a handle stands for
+abbrev pub slot_held : Table Session → ℕ → ℕ → Option ℕ
+slot_held mutators k handle = option_and_then (λ s. at s.handles handle) (at mutators k)
+
+-- the session holds a slot by its lowest free handle; it no longer uses a handle
+abbrev pub with_slot : ℕ → Session → Session
+with_slot slot s = record s { handles = set_at s.handles (free_handle s) slot }
+
+abbrev pub without_handle : ℕ → Session → Session
+without_handle handle s = record s { handles = empty_at s.handles handle }

@@ -1,0 +1,84 @@
+//! One mutator that may join.
+ghost use Rattle.std.specs.Prelude.{◌≡◌, IfOk, IfNone, IfSome, IsTrue, Some, false, is_some, option_and_then, option_map};
+ghost use Rattle.jlr_machine.specs.Objects.{at, some_and};
+ghost use Rattle.jlr_machine.specs.Calls.{fresh_session};
+ghost use Rattle.jlr_roots.specs.HandleTable.{IsHandleTable, has_room};
+ghost use Rattle.jlr_roots.specs.Sessions.{absent, free_handle, session_in, with_slot, without_handle};
+
+use crate::handles::Handles;
+use jlr_types::{Handle, Slot};
+use std::alloc::{AllocError, Global};
+
+/// A mutator, joined or not, with its handles.
+#[derive(Drop)]
+pub(crate) struct Member {
+    joined: bool,
+    handles: Handles,
+}
+
+impl Member {
+    pub(crate) fn absent(alloc: Global) -> Result<Self, AllocError>
+        ensures { IfOk result (λ member. member ≡ absent) }
+    {
+        Ok(Member {
+            joined: false,
+            handles: Handles::new(alloc)?,
+        })
+    }
+
+    /// It holds nothing yet.
+    pub(crate) fn join(&mut self)
+        ensures session { session_in self.new ≡ Some fresh_session }
+        ensures table { IsHandleTable self.new.handles }
+    {
+        self.handles.clear();
+        self.joined = true;
+    }
+
+    pub(crate) fn leave(&mut self)
+        ensures { self.new ≡ record self.old { joined = false } }
+    {
+        self.joined = false;
+    }
+
+    pub(crate) fn is_joined(&self) -> bool
+        ensures { result ≡ is_some (session_in self.now) }
+    {
+        self.joined
+    }
+
+    pub(crate) fn lookup(&self, handle: Handle) -> Option<Slot>
+        ensures { result ≡ option_and_then (λ s. at s.handles handle) (session_in self.now) }
+    {
+        if self.joined {
+            self.handles.get(handle)
+        } else {
+            None
+        }
+    }
+
+    pub(crate) fn has_free_handle(&self) -> bool
+        ensures { result ≡ some_and (λ s. has_room s.handles) (session_in self.now) }
+    {
+        self.joined && self.handles.has_room()
+    }
+
+    pub(crate) fn put_handle(&mut self, slot: Slot) -> Option<Handle>
+        requires { IsTrue (is_some (session_in self.old)) }
+        ensures room { is_some result ≡ some_and (λ s. has_room s.handles) (session_in self.old) }
+        ensures none { IfNone result (self.new ≡ self.old) }
+        ensures lowest { IfSome result (λ handle. option_map free_handle (session_in self.old) ≡ Some handle) }
+        ensures held { IfSome result (λ handle. session_in self.new ≡ option_map (with_slot slot) (session_in self.old)) }
+        ensures table { IsHandleTable self.new.handles }
+    {
+        self.handles.put(slot)
+    }
+
+    pub(crate) fn drop_handle(&mut self, handle: Handle)
+        requires { IsTrue (is_some (option_and_then (λ s. at s.handles handle) (session_in self.old))) }
+        ensures removed { session_in self.new ≡ option_map (without_handle handle) (session_in self.old) }
+        ensures table { IsHandleTable self.new.handles }
+    {
+        self.handles.remove(handle);
+    }
+}
