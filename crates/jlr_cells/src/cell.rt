@@ -1,11 +1,10 @@
 //! One cell.
 ghost use Rattle.std.specs.Prelude.{◌≡◌, Some, IsTrue, is_some, length, option_and_then, option_map, option_to_list, filter_map};
 ghost use Rattle.std.specs.List.{flat_map};
-ghost use Rattle.jlr_machine.specs.Objects.{as_fields, some_and};
+ghost use Rattle.jlr_machine.specs.Objects.{as_fields, some_and, with_field, any_referent};
 ghost use Rattle.jlr_machine.specs.Edges.{slot_in, strong_edges};
-ghost use Rattle.jlr_machine.specs.Lookups.{with_field};
+ghost use Rattle.jlr_machine.specs.Collection.{without_referent};
 ghost use Rattle.jlr_machine.specs.Refusals.{is_reference};
-ghost use Rattle.jlr_machine.specs.Collection.{any_referent, without_referent};
 ghost use Rattle.jlr_cells.specs.Contents.{object_in, object_of, kind_of, field_in};
 
 use crate::fields::Fields;

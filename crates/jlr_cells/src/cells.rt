@@ -3,8 +3,8 @@ ghost use Rattle.std.specs.Prelude.{◌≡◌, ◌+◌, ◌^◌, ◌<◌, ◌↔
 ghost use Rattle.jlr_machine.specs.Objects.{as_fields, at, change_at, empty_at, occupied, set_at, some_and};
 ghost use Rattle.jlr_machine.specs.Edges.{edges_from, slot_in};
 ghost use Rattle.jlr_machine.specs.Edges.Chain.{Strong};
-ghost use Rattle.jlr_machine.specs.Lookups.{with_field};
-ghost use Rattle.jlr_machine.specs.Collection.{any_referent, without_referent};
+ghost use Rattle.jlr_machine.specs.Objects.{with_field, any_referent};
+ghost use Rattle.jlr_machine.specs.Collection.{without_referent};
 ghost use Rattle.jlr_machine.specs.Refusals.{is_reference};
 ghost use Rattle.jlr_cells.specs.Contents.{field_at, kind_of, object_of, objects_in};
 

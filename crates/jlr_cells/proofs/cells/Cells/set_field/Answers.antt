@@ -1,7 +1,6 @@
 use Rattle.std.proofs.Common.{◌≡◌, ◌<◌, true, length}
 use Rattle.std.specs.Prelude.{is_some}
-use Rattle.jlr_machine.specs.Objects.{at}
-use Rattle.jlr_machine.specs.Lookups.{with_field}
+use Rattle.jlr_machine.specs.Objects.{at, with_field}
 use Rattle.jlr_cells.specs.Contents.{objects_in}
 use Rattle.jlr_cells.proofs.Slots.{object_of_field, change_at-objects_in, within_cells}
 use Rattle.jlr_cells.proofs.Chains.{changed}
