@@ -1,0 +1,68 @@
+-- Following edges from a base: how it begins, a step, and its end.
+use Rattle.std.proofs.Common.{ℕ, ◌≡◌, ◌⊎◌, ◌↔◌, Bool, List, [], ◌∷◌, ◌++◌, refl, sym, ◌∙◌, ap, subst, inl, inr}
+use Rattle.jlr_machine.specs.Objects.{Heap, ◌∈◌}
+use Rattle.jlr_laws.specs.Laws.{followed, IsPathFollowed}
+use Rattle.jlr_core.specs.Marking.{Marking, is_marked, IsMarked, Shaded, IsFollowed, IsMarking}
+use Rattle.jlr_laws.proofs.Sets.{nothing, in_front, in_cons}
+use Rattle.jlr_laws.proofs.Clearing.{in_append, in_left, in_right}
+
+module _ (keeps : ℕ → Bool) (heap : Heap) (B : List ℕ) where
+  -- ---- Paths
+
+  one_more : (x : ℕ) (path : List ℕ) (y z : ℕ) → IsPathFollowed keeps heap x path y → z ∈ followed keeps heap y → IsPathFollowed keeps heap x (path ++ z ∷ []) z
+  one_more x [] y z e h = (subst (λ w. z ∈ followed keeps heap w) (sym e) h, refl)
+  one_more x (w ∷ path) y z p h = (p.0, one_more w path y z p.1 h)
+
+  pub follows_on : (y z : ℕ) → IsFollowed keeps heap B y → z ∈ followed keeps heap y → IsFollowed keeps heap B z
+  follows_on y z f h = (f.0, f.1, f.2 ++ z ∷ [], one_more f.0 f.2 y z f.3 h)
+
+  pub follows_base : (x : ℕ) → x ∈ B → IsFollowed keeps heap B x
+  follows_base x h = (x, h, [], refl)
+
+  -- what holds of the base and goes along each followed edge holds of all that is followed
+  along : (P : ℕ → Type 0) → ((x y : ℕ) → P x → y ∈ followed keeps heap x → P y) → (x : ℕ) (path : List ℕ) (y : ℕ) → P x → IsPathFollowed keeps heap x path y → P y
+  along P step x [] y p e = subst P e p
+  along P step x (z ∷ path) y p h = along P step z path y (step x z p h.0) h.1
+
+  -- ---- Marking
+
+  pub marking_begins : (m n : Marking) → ((x : ℕ) → ¬ (IsMarked m x)) → m.grey ≡ [] → Shaded (λ x. x ∈ B) m n → IsMarking keeps heap B n
+  marking_begins m n none e s =
+      record {
+        sound = λ x h. elim (s.added x h) [ inl o ↦ absurd (none x o) | inr a ↦ follows_base x a.0 ];
+        grey = λ x h. elim (s.grey_marked x h) [ inl o ↦ nothing x (subst (λ l. x ∈ l) e o) | inr k ↦ k ];
+        traced = λ x y h t. elim (s.added x h) [ inl o ↦ absurd (none x o) | inr a ↦ inl a.1 ];
+        base = s.all;
+      }
+
+  -- x was taken off the stack, and what it leads to was shaded
+  pub marking_goes_on : (m k n : Marking) (x : ℕ) → IsMarking keeps heap B m → k.bits ≡ m.bits → m.grey ≡ k.grey ++ x ∷ [] → Shaded (λ y. y ∈ followed keeps heap x) k n → IsMarking keeps heap B n
+  marking_goes_on m k n x v eb eg s =
+      let as_k : (z : ℕ) → IsMarked m z → IsMarked k z = λ z h. rw eb h in
+      let as_m : (z : ℕ) → IsMarked k z → IsMarked m z = λ z h. rw (← eb) h in
+      let top : IsMarked m x = v.grey x (subst (λ l. x ∈ l) (sym eg) (in_right x k.grey (x ∷ []) (in_front x x [] refl))) in
+      record {
+        sound = λ z h. elim (s.added z h) [ inl o ↦ v.sound z (as_m z o) | inr a ↦ follows_on x z (v.sound x top) a.0 ];
+        grey = λ z h. elim (s.grey_marked z h) [
+          | inl o ↦ s.kept z (as_k z (v.grey z (subst (λ l. z ∈ l) (sym eg) (in_left z k.grey (x ∷ []) o))))
+          | inr q ↦ q
+        ];
+        traced = λ a b h t. elim (s.added a h) [
+          | inl o ↦ elim (v.traced a b (as_m a o) t) [
+            | inl g ↦ elim (in_append a k.grey (x ∷ []) (subst (λ l. a ∈ l) eg g)) [
+              | inl i ↦ inl (s.grey_kept a i)
+              | inr i ↦ elim (in_cons a x [] i) [ inl e ↦ inr (s.all b (subst (λ c. b ∈ followed keeps heap c) e t)) | inr n ↦ nothing a n ]
+            ]
+            | inr q ↦ inr (s.kept b (as_k b q))
+          ]
+          | inr n ↦ inl n.1
+        ];
+        base = λ z r. s.kept z (as_k z (v.base z r));
+      }
+
+  -- with no grey slot left, exactly what is followed is marked
+  pub marking_ends : (m : Marking) → IsMarking keeps heap B m → m.grey ≡ [] → (x : ℕ) → IsMarked m x ↔ IsFollowed keeps heap B x
+  marking_ends m v e x = (
+    v.sound x,
+    (λ f. along (IsMarked m) (λ a b h t. elim (v.traced a b h t) [ inl g ↦ nothing a (subst (λ l. a ∈ l) e g) | inr q ↦ q ]) f.0 f.2 x (v.base f.0 f.1) f.3),
+  )

@@ -1,0 +1,5 @@
+pub mod Counting
+pub mod Shading
+pub mod Following
+pub mod Walking
+pub mod Settling

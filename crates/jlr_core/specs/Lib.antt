@@ -1,0 +1,2 @@
+-- What the collector keeps, and what the core's events mean.
+pub mod Marking

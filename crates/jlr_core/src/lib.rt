@@ -1,0 +1,6 @@
+//! The machine in code: one event at a time, whose reply and state are an entry of the machine.
+#![tactic(auto)]
+
+mod mark;
+mod marks;
+mod sweep;

@@ -1,0 +1,51 @@
+//! Marking: what the roots reach by strong edges.
+ghost use Rattle.std.specs.Prelude.{◌≡◌, ℕ, ◌+◌, ◌^◌, ◌<◌, ◌≤◌, ◌↔◌, [], Some, Bool, false, IsTrue, is_some, length, filter_map};
+ghost use Rattle.jlr_machine.specs.Objects.{at, ◌∈◌};
+ghost use Rattle.jlr_machine.specs.Edges.{edges_from, slot_in};
+ghost use Rattle.jlr_machine.specs.Edges.Chain.{Strong};
+ghost use Rattle.jlr_core.specs.Marking.{Shaded, IsMarked};
+
+use crate::marks::Marks;
+use jlr_cells::Cells;
+use jlr_types::{FieldValue, Meter, Slot};
+
+fn shade_target(target: Option<Slot>, marks: &mut Marks)
+    requires { (x : ℕ) → target ≡ Some x → x < length marks.old.bits }
+    ensures { Shaded (λ x. target ≡ Some x) marks.old marks.new }
+{
+    if let Some(slot) = target {
+        marks.shade(slot);
+    }
+}
+
+fn shade_field(field: FieldValue, marks: &mut Marks)
+    requires { (x : ℕ) → slot_in field ≡ Some x → x < length marks.old.bits }
+    ensures { Shaded (λ x. slot_in field ≡ Some x) marks.old marks.new }
+{
+    match field {
+        FieldValue::Int(_) => {}
+        FieldValue::Ref(target) => shade_target(target, marks),
+    }
+}
+
+/// Shades what fields refer to.
+fn shade_fields(fields: &[FieldValue], marks: &mut Marks)
+    requires { (x : ℕ) → x ∈ filter_map slot_in fields.now → x < length marks.old.bits }
+    ensures { Shaded (λ x. x ∈ filter_map slot_in fields.now) marks.old marks.new }
+{
+    for field in fields {
+        shade_field(*field, marks);
+    }
+}
+
+/// Shades what an object's strong edges lead to: one tick.
+fn follow(cells: &Cells, slot: Slot, meter: &mut Meter, marks: &mut Marks)
+    requires object { IsTrue (is_some (at cells.now slot)) }
+    requires ticks { meter.old + 1 < 2 ^ 64 }
+    requires within { (x : ℕ) → x ∈ edges_from Strong cells.now slot → x < length marks.old.bits }
+    ensures shaded { Shaded (λ x. x ∈ edges_from Strong cells.now slot) marks.old marks.new }
+    ensures ticked { meter.new ≡ meter.old + 1 }
+{
+    let fields = cells.visit(slot, meter);
+    shade_fields(fields, marks);
+}
