@@ -1,6 +1,6 @@
 -- Following edges from a base: how it begins, a step, and its end.
-use Rattle.std.proofs.Common.{ℕ, ◌≡◌, ◌⊎◌, ◌↔◌, Bool, List, [], ◌∷◌, ◌++◌, refl, sym, ◌∙◌, ap, subst, inl, inr}
-use Rattle.jlr_machine.specs.Objects.{Heap, ◌∈◌}
+use Rattle.std.proofs.Common.{ℕ, suc, ◌≡◌, ◌⊎◌, ◌↔◌, Bool, true, false, IsTrue, is_some, get_or, count_by, List, [], ◌∷◌, ◌++◌, refl, sym, ◌∙◌, ap, subst, inl, inr}
+use Rattle.jlr_machine.specs.Objects.{Heap, at, ◌∈◌}
 use Rattle.jlr_laws.specs.Laws.{followed, IsPathFollowed}
 use Rattle.jlr_core.specs.Marking.{Marking, is_marked, IsMarked, Shaded, IsFollowed, IsMarking}
 use Rattle.jlr_laws.proofs.Sets.{nothing, in_front, in_cons}
@@ -66,3 +66,13 @@ module _ (keeps : ℕ → Bool) (heap : Heap) (B : List ℕ) where
     v.sound x,
     (λ f. along (IsMarked m) (λ a b h t. elim (v.traced a b h t) [ inl g ↦ nothing a (subst (λ l. a ∈ l) e g) | inr q ↦ q ]) f.0 f.2 x (v.base f.0 f.1) f.3),
   )
+
+  -- where the base is of objects and edges lead to objects, all that is followed is an object
+  pub followed_objects : ((x : ℕ) → x ∈ B → IsTrue (is_some (at heap x))) → ((x y : ℕ) → y ∈ followed keeps heap x → IsTrue (is_some (at heap y))) → (x : ℕ) → IsFollowed keeps heap B x → IsTrue (is_some (at heap x))
+  followed_objects base edges x f = along (λ y. IsTrue (is_some (at heap y))) (λ a b h t. edges a b t) f.0 f.2 x (base f.0 f.1) f.3
+
+-- where none is marked, the count is 0
+pub none_counted : (bits : List Bool) → ((x : ℕ) → get_or bits x false ≡ true → ⊥) → count_by (λ b. b) bits ≡ 0
+none_counted [] none = refl
+none_counted (true ∷ bits) none = absurd (none 0 refl)
+none_counted (false ∷ bits) none = none_counted bits (λ x h. none (suc x) h)

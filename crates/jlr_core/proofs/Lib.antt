@@ -3,3 +3,4 @@ pub mod Shading
 pub mod Following
 pub mod Walking
 pub mod Settling
+pub mod Places

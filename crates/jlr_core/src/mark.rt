@@ -3,10 +3,12 @@ ghost use Rattle.std.specs.Prelude.{◌≡◌, ℕ, ◌+◌, ◌^◌, ◌<◌, �
 ghost use Rattle.jlr_machine.specs.Objects.{at, ◌∈◌};
 ghost use Rattle.jlr_machine.specs.Edges.{edges_from, slot_in};
 ghost use Rattle.jlr_machine.specs.Edges.Chain.{Strong};
-ghost use Rattle.jlr_core.specs.Marking.{Shaded, IsMarked};
+ghost use Rattle.jlr_roots.specs.Walk.{slots_held};
+ghost use Rattle.jlr_core.specs.Marking.{Shaded, IsMarked, IsFollowed};
 
 use crate::marks::Marks;
 use jlr_cells::Cells;
+use jlr_roots::Roots;
 use jlr_types::{FieldValue, Meter, Slot};
 
 fn shade_target(target: Option<Slot>, marks: &mut Marks)
@@ -48,4 +50,33 @@ fn follow(cells: &Cells, slot: Slot, meter: &mut Meter, marks: &mut Marks)
 {
     let fields = cells.visit(slot, meter);
     shade_fields(fields, marks);
+}
+
+fn shade_roots(roots: &Roots, marks: &mut Marks)
+    requires { (x : ℕ) → x ∈ slots_held roots.now → x < length marks.old.bits }
+    ensures { Shaded (λ x. x ∈ slots_held roots.now) marks.old marks.new }
+{
+    for place in 0..roots.places() {
+        shade_target(roots.root(place), marks);
+    }
+}
+
+/// Marks just what the roots reach by strong edges: as many ticks as objects marked.
+pub(crate) fn mark(cells: &Cells, roots: &Roots, marks: &mut Marks)
+    requires unmarked { (x : ℕ) → ¬ (IsMarked marks.old x) }
+    requires no_grey { marks.old.grey ≡ [] }
+    requires long { length marks.old.bits ≡ length cells.now }
+    requires few { length cells.now ≤ 65536 }
+    requires roots { (x : ℕ) → x ∈ slots_held roots.now → IsTrue (is_some (at cells.now x)) }
+    requires edges { (x y : ℕ) → y ∈ edges_from Strong cells.now x → IsTrue (is_some (at cells.now y)) }
+    ensures marked { (x : ℕ) → IsMarked marks.new x ↔ IsFollowed (λ _. false) cells.now (slots_held roots.now) x }
+    ensures objects { (x : ℕ) → IsMarked marks.new x → IsTrue (is_some (at cells.now x)) }
+    ensures no_grey { marks.new.grey ≡ [] }
+    ensures long { length marks.new.bits ≡ length cells.now }
+{
+    shade_roots(roots, marks);
+    let mut meter = Meter::new();
+    while let Some(slot) = marks.next_grey() {
+        follow(cells, slot, &mut meter, marks);
+    }
 }
