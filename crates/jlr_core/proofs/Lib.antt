@@ -4,3 +4,4 @@ pub mod Following
 pub mod Walking
 pub mod Settling
 pub mod Places
+pub mod Sweeping

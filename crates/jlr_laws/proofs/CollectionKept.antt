@@ -237,7 +237,7 @@ holds_somewhere : (o : Option Object) → is_own_root o ≡ true → is_some o �
 holds_somewhere None e = e
 holds_somewhere (Some o) e = refl
 
-length_left : (kept pending : List ℕ) (n : ℕ) (heap : Heap) → length (places_left kept pending n heap) ≡ length heap
+pub length_left : (kept pending : List ℕ) (n : ℕ) (heap : Heap) → length (places_left kept pending n heap) ≡ length heap
 length_left kept pending n [] = refl
 length_left kept pending n (o ∷ places) = ap suc (length_left kept pending (suc n) places)
 
