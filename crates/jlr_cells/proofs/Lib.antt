@@ -1,3 +1,4 @@
 mod FieldLists
 mod Slots
 mod Chains
+mod Early

@@ -1,5 +1,5 @@
 -- Which object a cell holds, and what is asked of objects.
-use Rattle.std.specs.Prelude.{ℕ, List, Option, Some, None, map, is_some, Bool, option_and_then, slice_get}
+use Rattle.std.specs.Prelude.{◌≡◌, ℕ, List, Option, Some, None, map, is_some, Bool, option_and_then, slice_get}
 use Rattle.jlr_types.specs.declared.FieldValue.{FieldValue}
 use Rattle.jlr_machine.specs.declared.object.Object.{Object}
 use Rattle.jlr_machine.specs.declared.object.Object.TheVariants.{Plain as PlainObject, Reference as ReferenceObject}
@@ -40,3 +40,9 @@ field_in o field = option_and_then (λ fields. slice_get fields field) (option_a
 
 abbrev pub field_at : Heap → ℕ → ℕ → Option FieldValue
 field_at heap s field = field_in (at heap s) field
+
+-- an object of the kinds that cells have so far: a plain one, or a Fresh reference without a queue
+abbrev pub IsEarly : Object → Type 0
+IsEarly (PlainObject fields) = Unit {0}
+IsEarly (ReferenceObject r) = (r.queue ≡ None) × (r.state ≡ Fresh)
+IsEarly _ = ⊥

@@ -1,12 +1,13 @@
 //! All cells.
-ghost use Rattle.std.specs.Prelude.{◌≡◌, ◌+◌, ◌^◌, ◌<◌, ◌↔◌, IfOk, IfNone, IfSome, IsNone, IsTrue, None, Some, filter_map, is_some, length, option_and_then, option_map, replicate};
+ghost use Rattle.std.specs.Prelude.{◌≡◌, ℕ, ◌+◌, ◌^◌, ◌<◌, ◌↔◌, IfOk, IfNone, IfSome, IsNone, IsTrue, None, Some, filter_map, is_some, length, option_and_then, option_map, replicate};
 ghost use Rattle.jlr_machine.specs.Objects.{as_fields, at, change_at, empty_at, occupied, set_at, some_and};
 ghost use Rattle.jlr_machine.specs.Edges.{edges_from, slot_in};
 ghost use Rattle.jlr_machine.specs.Edges.Chain.{Strong};
 ghost use Rattle.jlr_machine.specs.Objects.{with_field, any_referent};
 ghost use Rattle.jlr_machine.specs.Collection.{without_referent};
 ghost use Rattle.jlr_machine.specs.Refusals.{is_reference};
-ghost use Rattle.jlr_cells.specs.Contents.{field_at, kind_of, object_of, objects_in};
+ghost use Rattle.jlr_machine.specs.declared.object.Object.{Object};
+ghost use Rattle.jlr_cells.specs.Contents.{IsEarly, field_at, kind_of, object_of, objects_in};
 
 use crate::cell::Cell;
 use crate::free_list::{free_cells, link_to, next_free};
@@ -94,6 +95,13 @@ impl Cells {
         self.free_count += 1;
     }
 
+    /// Each object is a plain one, or a Fresh reference without a queue: of the other kinds no cell is made yet.
+    pub fn objects_are_early(&self)
+        ensures { (s : ℕ) (o : Object) → at self.now s ≡ Some o → IsEarly o }
+    {
+        cells_are_early(&self.cells);
+    }
+
     /// Of which kind the object at a slot is, if there is one.
     pub fn kind(&self, slot: Slot) -> Option<Kind>
         ensures kind { result ≡ option_and_then kind_of (at self.now slot) }
@@ -178,6 +186,13 @@ impl Cells {
         let cell = &self.cells[slot.number() as usize];
         cell.edges()
     }
+}
+
+/// Cells hold objects of these kinds alone.
+fn cells_are_early(cells: &[Cell])
+    ensures { (s : ℕ) (o : Object) → at (objects_in cells.now) s ≡ Some o → IsEarly o }
+{
+    let _ = cells;
 }
 
 fn field_of(cells: &[Cell], slot: Slot, field: usize) -> Option<FieldValue>

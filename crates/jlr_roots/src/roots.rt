@@ -1,5 +1,7 @@
 //! The roots that all mutators hold.
-ghost use Rattle.std.specs.Prelude.{◌≡◌, ◌*◌, ◌<◌, IfOk, IfNone, IfSome, IsTrue, None, Some, is_some, length, option_map, replicate};
+ghost use Rattle.std.specs.Prelude.{◌≡◌, ℕ, ◌*◌, ◌<◌, IfOk, IfNone, IfSome, IsTrue, None, Some, is_some, length, option_map, replicate};
+ghost use Rattle.jlr_machine.specs.declared.machine.Session.{Session};
+ghost use Rattle.jlr_machine.specs.declared.machine.Call.TheVariants.{Free};
 ghost use Rattle.jlr_machine.specs.Objects.{at, change_at, empty_at, set_at};
 ghost use Rattle.jlr_machine.specs.Calls.{fresh_session};
 ghost use Rattle.jlr_roots.specs.Sessions.{free_handle, has_free_handle, sessions_in, slot_held, with_slot, without_handle};
@@ -58,6 +60,13 @@ impl Roots {
             Some(member) => member.is_joined(),
             None => false,
         }
+    }
+
+    /// No mutator has a call in flight, or a fence: calls come later.
+    pub fn no_calls(&self)
+        ensures { (k : ℕ) (s : Session) → at self.now k ≡ Some s → (s.call ≡ Free) × (s.fence ≡ None) }
+    {
+        members_are_idle(&self.members);
     }
 
     /// A mutator joins, with no handle in use.
@@ -135,6 +144,13 @@ impl Roots {
             Handle::new((place % PLACES) as u8),
         )
     }
+}
+
+/// Members have no call in flight.
+fn members_are_idle(members: &[Member])
+    ensures { (k : ℕ) (s : Session) → at (sessions_in members.now) k ≡ Some s → (s.call ≡ Free) × (s.fence ≡ None) }
+{
+    let _ = members;
 }
 
 fn lookup(members: &[Member], mutator: usize, handle: Handle) -> Option<Slot>
