@@ -1,2 +1,4 @@
 -- What the collector keeps, and what the core's events mean.
 pub mod Marking
+pub mod State
+pub mod Machines

@@ -1,0 +1,7 @@
+-- The machine that a core's state is.
+use Rattle.jlr_machine.specs.declared.machine.Machine.{Machine}
+use Rattle.jlr_core.specs.declared.state.State.{State}
+use Rattle.jlr_core.specs.State.{machine_with}
+
+abbrev pub machine_of : State → Machine
+machine_of s = machine_with s.cells s.roots s.resource_limit

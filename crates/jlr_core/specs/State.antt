@@ -1,0 +1,36 @@
+-- The machine that a core's state is, and what an ask did to it.
+use Rattle.std.specs.Prelude.{◌≡◌, ℕ, List, [], ◌∷◌, Option, Some, None, Result, Ok, Err, false}
+use Rattle.jlr_types.specs.declared.Refusal.{Refusal}
+use Rattle.jlr_machine.specs.declared.machine.Machine.{Machine}
+use Rattle.jlr_machine.specs.declared.machine.Session.{Session}
+use Rattle.jlr_machine.specs.declared.ask.Ask.{Ask}
+use Rattle.jlr_machine.specs.declared.ask.Answer.{Answer}
+use Rattle.jlr_machine.specs.declared.ask.Answer.TheVariants.{Refused}
+use Rattle.jlr_machine.specs.declared.entry.Chosen.{Chosen}
+use Rattle.jlr_machine.specs.declared.entry.Entry.{Entry}
+use Rattle.jlr_machine.specs.Objects.{Heap, Table}
+use Rattle.jlr_machine.specs.Refusals.{refusal}
+use Rattle.jlr_machine.specs.Calls.{reply, after}
+use Rattle.jlr_machine.specs.Run.{IsLegal, done, empty}
+
+-- the machine with these objects and mutators, and this limit of resources; all else is as in the empty machine
+abbrev pub machine_with : Heap → Table Session → ℕ → Machine
+machine_with objects mutators resource_limit = record (empty 0 0 resource_limit) { objects = objects; mutators = mutators }
+
+-- an entry of the core's. Its seat is not looked at
+abbrev pub entry_of : Ask → Answer → Chosen → Entry
+entry_of ask answer chosen = record { seat = 0; ask = ask; answer = answer; choice = chosen }
+
+abbrev pub answer_of : Result Answer Refusal → Answer
+answer_of (Ok a) = a
+answer_of (Err r) = Refused r
+
+-- what an ask did is a legal entry of the machine, which leads from m to n
+pub record Meets (m : Machine) (ask : Ask) (answer : Answer) (chosen : Chosen) (n : Machine) : Type 0 where
+  pub legal : IsLegal m (entry_of ask answer chosen)
+  pub applied : n ≡ done m (entry_of ask answer chosen)
+
+-- an ask that chooses nothing: it was carried out, or refused by the first refusal whose condition holds
+abbrev pub Answered : Machine → Ask → Result Answer Refusal → Machine → Type 0
+Answered m ask (Ok a) n = (refusal m ask ≡ None) × (reply m ask ≡ Some a) × (n ≡ after m ask a [])
+Answered m ask (Err r) n = (refusal m ask ≡ Some r) × (n ≡ m)

@@ -1,0 +1,77 @@
+//! What the core keeps: the objects and the roots, as the machine has them.
+ghost use Rattle.std.specs.Prelude.{◌≡◌, None, Some, Ok, Err, MatchResult, IfOk, true, false, not, is_none, is_some, ◌&&◌, ◌==◌, OnOk};
+ghost use Rattle.jlr_machine.specs.Objects.{at};
+ghost use Rattle.jlr_machine.specs.Lookups.{slot_named, object_named, has_free_handle};
+ghost use Rattle.jlr_machine.specs.Refusals.{is_joined, has_call};
+ghost use Rattle.jlr_core.specs.State.{machine_with};
+
+use jlr_cells::Cells;
+use jlr_roots::Roots;
+use jlr_types::{Handle, Mutator, Refusal, Slot};
+
+/// The objects, the roots and the limit of resources.
+#[derive(Drop)]
+pub(crate) struct State {
+    pub(crate) cells: Cells,
+    pub(crate) roots: Roots,
+    pub(crate) resource_limit: u32,
+}
+
+impl State {
+    ghost use Rattle.jlr_core.specs.Machines.{machine_of};
+
+    /// The mutator is joined.
+    pub(crate) fn check_session(&self, by: Mutator) -> Result<(), Refusal>
+        ensures { MatchResult result (λ _. is_joined (machine_of self.now) by ≡ true) (λ r. (r ≡ Refusal.NoSession) × (is_joined (machine_of self.now) by ≡ false)) }
+    {
+        if self.roots.is_joined(by) {
+            Ok(())
+        } else {
+            Err(Refusal::NoSession)
+        }
+    }
+
+    /// A handle is null or in use.
+    pub(crate) fn check_handle(&self, by: Mutator, handle: Handle) -> Result<(), Refusal>
+        ensures { MatchResult result (λ _. (not (handle == 0) && is_none (slot_named (machine_of self.now) by handle)) ≡ false) (λ r. (r ≡ Refusal.NoHandle) × ((not (handle == 0) && is_none (slot_named (machine_of self.now) by handle)) ≡ true)) }
+    {
+        if handle.number() == 0 || self.roots.lookup(by, handle).is_some() {
+            Ok(())
+        } else {
+            Err(Refusal::NoHandle)
+        }
+    }
+
+    /// The slot of a handle that is in use, which is not null.
+    pub(crate) fn check_slot(&self, by: Mutator, handle: Handle) -> Result<Slot, Refusal>
+        requires { (not (handle == 0) && is_none (slot_named (machine_of self.now) by handle)) ≡ false }
+        ensures { MatchResult result (λ slot. (slot_named (machine_of self.now) by handle ≡ Some slot) × ((handle == 0) ≡ false)) (λ r. (r ≡ Refusal.Null) × ((handle == 0) ≡ true)) }
+    {
+        if handle.number() == 0 {
+            return Err(Refusal::Null);
+        }
+        match self.roots.lookup(by, handle) {
+            Some(slot) => Ok(slot),
+            None => Err(Refusal::Null),
+        }
+    }
+
+    /// A handle is free.
+    pub(crate) fn check_free_handle(&self, by: Mutator) -> Result<(), Refusal>
+        ensures { MatchResult result (λ _. has_free_handle (machine_of self.now) by ≡ true) (λ r. (r ≡ Refusal.HandlesFull) × (has_free_handle (machine_of self.now) by ≡ false)) }
+    {
+        if self.roots.has_free_handle(by) {
+            Ok(())
+        } else {
+            Err(Refusal::HandlesFull)
+        }
+    }
+
+    /// No mutator has a call in flight: calls come later.
+    pub(crate) fn no_call(&self, by: Mutator)
+        ensures { has_call (machine_of self.now) by ≡ false }
+    {
+        self.roots.no_calls();
+        let _ = by;
+    }
+}
