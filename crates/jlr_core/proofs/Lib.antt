@@ -5,3 +5,4 @@ pub mod Walking
 pub mod Settling
 pub mod Places
 pub mod Sweeping
+pub mod Named

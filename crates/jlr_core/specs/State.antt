@@ -1,6 +1,9 @@
 -- The machine that a core's state is, and what an ask did to it.
 use Rattle.std.specs.Prelude.{◌≡◌, ℕ, List, [], ◌∷◌, Option, Some, None, Result, Ok, Err, false}
+use Rattle.jlr_types.specs.declared.FieldValue.{FieldValue}
+use Rattle.jlr_types.specs.declared.FieldValue.TheVariants.{Int, Ref}
 use Rattle.jlr_types.specs.declared.Refusal.{Refusal}
+use Rattle.jlr_types.specs.declared.Refusal.TheVariants.{NoField, WrongType}
 use Rattle.jlr_machine.specs.declared.machine.Machine.{Machine}
 use Rattle.jlr_machine.specs.declared.machine.Session.{Session}
 use Rattle.jlr_machine.specs.declared.ask.Ask.{Ask}
@@ -34,3 +37,9 @@ pub record Meets (m : Machine) (ask : Ask) (answer : Answer) (chosen : Chosen) (
 abbrev pub Answered : Machine → Ask → Result Answer Refusal → Machine → Type 0
 Answered m ask (Ok a) n = (refusal m ask ≡ None) × (reply m ask ≡ Some a) × (n ≡ after m ask a [])
 Answered m ask (Err r) n = (refusal m ask ≡ Some r) × (n ≡ m)
+
+-- a field is refused: there is none, or it holds an integer
+abbrev pub FieldRefused : Option FieldValue → Refusal → Type 0
+FieldRefused None r = r ≡ NoField
+FieldRefused (Some (Int n)) r = r ≡ WrongType
+FieldRefused (Some (Ref s)) r = ⊥

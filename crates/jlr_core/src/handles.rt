@@ -1,11 +1,13 @@
 //! The asks on sessions and handles.
-ghost use Rattle.std.specs.Prelude.{◌≡◌, true, false, Some};
-ghost use Rattle.jlr_machine.specs.Refusals.{is_joined};
+ghost use Rattle.std.specs.Prelude.{◌≡◌, ◌&&◌, not, true, false, Some, is_some, MatchResult};
+ghost use Rattle.jlr_machine.specs.Lookups.{has_free_handle, with_handle};
+ghost use Rattle.jlr_machine.specs.Calls.{new_handle, handle_given, with_given};
+ghost use Rattle.jlr_machine.specs.WellFormed.{IsWellFormed};
 ghost use Rattle.jlr_core.specs.State.{Answered};
 
 use crate::state::State;
 use jlr_machine::ask::{Answer, Ask};
-use jlr_types::{Handle, Mutator, Refusal};
+use jlr_types::{Handle, Mutator, Refusal, Slot};
 
 impl State {
     ghost use Rattle.jlr_core.specs.Machines.{machine_of};
@@ -30,6 +32,7 @@ impl State {
     }
 
     pub(crate) fn drop_handle(&mut self, by: Mutator, object: Handle) -> Result<Answer, Refusal>
+        requires { IsWellFormed (machine_of self.old) }
         ensures { Answered (machine_of self.old) (Ask.Drop by object) result (machine_of self.new) }
     {
         self.check_session(by)?;
@@ -49,5 +52,43 @@ impl State {
         self.no_call(by);
         let same = self.roots.lookup(by, left) == self.roots.lookup(by, right);
         Ok(Answer::Truth(same))
+    }
+
+    pub(crate) fn dup(&mut self, by: Mutator, object: Handle) -> Result<Answer, Refusal>
+        requires { IsWellFormed (machine_of self.old) }
+        ensures { Answered (machine_of self.old) (Ask.Dup by object) result (machine_of self.new) }
+    {
+        self.check_session(by)?;
+        self.check_handle(by, object)?;
+        let slot = self.check_slot(by, object)?;
+        self.no_call(by);
+        self.check_free_handle(by)?;
+        Ok(self.give(by, slot))
+    }
+
+    /// The mutator holds a slot by its lowest free handle.
+    pub(crate) fn give(&mut self, by: Mutator, slot: Slot) -> Answer
+        requires { has_free_handle (machine_of self.old) by ≡ true }
+        ensures answer { new_handle (machine_of self.old) by ≡ Some result }
+        ensures held { machine_of self.new ≡ with_handle (machine_of self.old) by slot }
+        ensures cells { self.new.cells ≡ self.old.cells }
+    {
+        match self.roots.put_handle(by, slot) {
+            Some(handle) => Answer::Handle(handle),
+            None => unreachable!(),
+        }
+    }
+
+    /// The handle for what may be null.
+    pub(crate) fn give_or_null(&mut self, by: Mutator, target: Option<Slot>) -> Result<Answer, Refusal>
+        ensures { MatchResult result
+            (λ a. (handle_given (machine_of self.old) by target ≡ Some a) × ((is_some target && not (has_free_handle (machine_of self.old) by)) ≡ false) × (machine_of self.new ≡ with_given (machine_of self.old) by target))
+            (λ r. (r ≡ Refusal.HandlesFull) × ((is_some target && not (has_free_handle (machine_of self.old) by)) ≡ true) × (machine_of self.new ≡ machine_of self.old)) }
+    {
+        let Some(slot) = target else {
+            return Ok(Answer::Handle(Handle::new(0)));
+        };
+        self.check_free_handle(by)?;
+        Ok(self.give(by, slot))
     }
 }

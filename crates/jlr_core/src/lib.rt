@@ -4,5 +4,6 @@
 mod handles;
 mod mark;
 mod marks;
+mod objects;
 mod state;
 mod sweep;

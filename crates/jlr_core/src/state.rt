@@ -1,5 +1,6 @@
 //! What the core keeps: the objects and the roots, as the machine has them.
-ghost use Rattle.std.specs.Prelude.{◌≡◌, None, Some, Ok, Err, MatchResult, IfOk, true, false, not, is_none, is_some, ◌&&◌, ◌==◌, OnOk};
+ghost use Rattle.std.specs.Prelude.{◌≡◌, None, Some, Ok, Err, MatchResult, IfOk, true, false, not, is_none, is_some, ◌&&◌, ◌==◌, OnOk, IsTrue};
+ghost use Rattle.jlr_machine.specs.WellFormed.{IsWellFormed};
 ghost use Rattle.jlr_machine.specs.Objects.{at};
 ghost use Rattle.jlr_machine.specs.Lookups.{slot_named, object_named, has_free_handle};
 ghost use Rattle.jlr_machine.specs.Refusals.{is_joined, has_call};
@@ -42,10 +43,12 @@ impl State {
         }
     }
 
-    /// The slot of a handle that is in use, which is not null.
+    /// The slot of a handle that is in use, which is not null. There is an object.
     pub(crate) fn check_slot(&self, by: Mutator, handle: Handle) -> Result<Slot, Refusal>
-        requires { (not (handle == 0) && is_none (slot_named (machine_of self.now) by handle)) ≡ false }
-        ensures { MatchResult result (λ slot. (slot_named (machine_of self.now) by handle ≡ Some slot) × ((handle == 0) ≡ false)) (λ r. (r ≡ Refusal.Null) × ((handle == 0) ≡ true)) }
+        requires fit { IsWellFormed (machine_of self.now) }
+        requires in_use { (not (handle == 0) && is_none (slot_named (machine_of self.now) by handle)) ≡ false }
+        ensures object { OnOk result (IsTrue (is_some (object_named (machine_of self.now) by handle))) }
+        ensures slot { MatchResult result (λ slot. (slot_named (machine_of self.now) by handle ≡ Some slot) × ((handle == 0) ≡ false)) (λ r. (r ≡ Refusal.Null) × ((handle == 0) ≡ true)) }
     {
         if handle.number() == 0 {
             return Err(Refusal::Null);

@@ -1,0 +1,11 @@
+-- What handles of a well-formed machine name.
+use Rattle.std.proofs.Common.{◌≡◌, ℕ, Some, IsTrue, is_some, ap}
+use Rattle.jlr_machine.specs.declared.machine.Machine.{Machine}
+use Rattle.jlr_machine.specs.Objects.{at}
+use Rattle.jlr_machine.specs.Lookups.{slot_named}
+use Rattle.jlr_machine.specs.WellFormed.{IsWellFormed}
+use Rattle.jlr_laws.proofs.Allowed.{named_of_slot}
+
+-- an object
+pub named_object : (m : Machine) (k h s : ℕ) → IsWellFormed m → slot_named m k h ≡ Some s → IsTrue (is_some (at m.objects s))
+named_object m k h s w e = let n = named_of_slot m k h s w e in ap is_some n.2.there
