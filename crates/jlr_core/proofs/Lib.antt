@@ -6,3 +6,4 @@ pub mod Settling
 pub mod Places
 pub mod Sweeping
 pub mod Named
+pub mod Clearings

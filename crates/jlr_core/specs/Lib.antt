@@ -2,3 +2,4 @@
 pub mod Marking
 pub mod State
 pub mod Machines
+pub mod Collecting

@@ -1,6 +1,7 @@
 //! The machine in code: one event at a time, whose reply and state are an entry of the machine.
 #![tactic(auto)]
 
+mod collect;
 mod handles;
 mod mark;
 mod marks;
