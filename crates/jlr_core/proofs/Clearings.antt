@@ -1,16 +1,17 @@
 -- What the marked objects of an early machine are: a full collection that clears all.
-use Rattle.std.proofs.Common.{◌≡◌, ◌&&◌, ℕ, ◌<◌, ◌≤◌, ◌↔◌, Bool, true, false, not, cond, List, [], ◌∷◌, ◌++◌, length, Option, Some, None, option_map, option_and_then, IsTrue, is_some, refl, sym, ◌∙◌, ap, subst, inl, inr, filter, arith, filter_map}
+use Rattle.std.proofs.Common.{◌≡◌, ◌&&◌, ◌+◌, suc, filter, ℕ, ◌<◌, ◌≤◌, ◌↔◌, Bool, true, false, not, cond, List, [], ◌∷◌, ◌++◌, length, Option, Some, None, option_map, option_and_then, IsTrue, is_some, refl, sym, ◌∙◌, ap, subst, inl, inr, filter, arith, filter_map}
 use Rattle.std.proofs.lemmas.Bool.{both_ways}
+use Rattle.std.proofs.lemmas.List.Sums.{length-filter}
 use Rattle.jlr_machine.specs.declared.object.Object.{Object}
 use Rattle.jlr_machine.specs.declared.object.Object.TheVariants.{Plain, Reference, Queue, Cleaner, Cleanable, Guard}
 use Rattle.jlr_machine.specs.declared.object.RefState.TheVariants.{Fresh}
 use Rattle.jlr_machine.specs.declared.machine.Machine.{Machine}
 use Rattle.jlr_machine.specs.declared.machine.Session.{Session}
 use Rattle.jlr_machine.specs.declared.machine.Call.TheVariants.{Free}
-use Rattle.jlr_machine.specs.Objects.{Table, Heap, at, ◌∈◌, ◌∋◌, any_referent, is_fresh}
+use Rattle.jlr_machine.specs.Objects.{Table, Heap, at, ◌∈◌, ◌∋◌, any_referent, is_fresh, occupied}
 use Rattle.jlr_machine.specs.Edges.{edges_from, roots, is_own_root}
 use Rattle.jlr_machine.specs.Edges.Chain.{Strong, UpToPhantom}
-use Rattle.jlr_machine.specs.Collection.{is_ready, IsFullClearing}
+use Rattle.jlr_machine.specs.Collection.{is_ready, IsFullClearing, places_left, left_of}
 use Rattle.jlr_machine.specs.WellFormed.{IsWellFormed, IsObjectAt}
 use Rattle.jlr_roots.specs.Walk.{slots_held}
 use Rattle.jlr_cells.specs.Contents.{IsEarly}
@@ -27,6 +28,7 @@ use Rattle.jlr_core.specs.State.{machine_with}
 use Rattle.jlr_core.specs.Marking.{Marking, is_marked, IsMarked, IsFollowed, marked_below}
 use Rattle.jlr_core.proofs.Sweeping.{kept_is_marked}
 use Rattle.jlr_core.proofs.Following.{follows_on}
+use Rattle.jlr_machine.specs.ReachSet.{up_to}
 
 module _ (heap : Heap) (mutators : Table Session) (limit : ℕ) (early : (s : ℕ) (o : Object) → at heap s ≡ Some o → IsEarly o) (idle : (k : ℕ) (s : Session) → at mutators k ≡ Some s → (s.call ≡ Free) × (s.fence ≡ None)) (w : IsWellFormed (machine_with heap mutators limit)) where
   abbrev m : Machine
@@ -111,3 +113,29 @@ module _ (heap : Heap) (mutators : Table Session) (limit : ℕ) (early : (s : �
           once = refl;
           rising = rising_filter (is_marked marks) 0 (length heap);
         })
+
+    -- ---- How many are kept
+
+    places_counted : (slots : List ℕ) (n : ℕ) (places : Heap) → ((s : ℕ) → (n + s) ∈ slots → IsTrue (is_some (at places s))) → length (filter is_some (places_left slots [] n places)) ≡ length (filter (λ s. slots ∋ s) (up_to n (length places)))
+    places_counted slots n [] h = refl
+    places_counted slots n (o ∷ places) h =
+        let tail : Heap = places_left slots [] (suc n) places in
+        let later : List ℕ = filter (λ s. slots ∋ s) (up_to (suc n) (length places)) in
+        let rest : length (filter is_some tail) ≡ length later = places_counted slots (suc n) places (λ s m. h (suc s) (subst (λ k. k ∈ slots) (omega arith) m)) in
+        elim (slots ∋ n) as (λ b. (slots ∋ n) ≡ b → length (filter is_some (cond b (option_map (left_of slots ([] ∋ n)) o) None ∷ tail)) ≡ length (cond b (n ∷ later) later)) [
+          | true ↦ λ e. elim o as (λ o. IsTrue (is_some o) → length (filter is_some (option_map (left_of slots ([] ∋ n)) o ∷ tail)) ≡ length (n ∷ later)) [
+            | None ↦ λ i. absurd (both_ways false refl i)
+            | Some p ↦ λ i. ap suc rest
+          ] (h 0 (subst (λ k. k ∈ slots) (omega arith) e))
+          | false ↦ λ e. rest
+        ] refl
+
+    filter_alike : (p q : ℕ → Bool) (xs : List ℕ) → ((x : ℕ) → p x ≡ q x) → filter p xs ≡ filter q xs
+    filter_alike p q [] h = refl
+    filter_alike p q (x ∷ xs) h = ap (λ b. cond b (x ∷ filter p xs) (filter p xs)) (h x) ∙ ap (λ l. cond (q x) (x ∷ l) l) (filter_alike p q xs h)
+
+    pub kept_counted : ((x : ℕ) → IsMarked marks x → IsTrue (is_some (at heap x))) → occupied (places_left kept [] 0 heap) ≡ length kept
+    kept_counted objects =
+        sym (length-filter is_some (places_left kept [] 0 heap))
+        ∙ places_counted kept 0 heap (λ s h. objects s (sym (same s) ∙ subst (λ k. k ∈ kept) (omega arith) h))
+        ∙ ap length (filter_alike (λ s. kept ∋ s) (is_marked marks) (up_to 0 (length heap)) same)

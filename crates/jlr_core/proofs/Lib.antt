@@ -7,3 +7,4 @@ pub mod Places
 pub mod Sweeping
 pub mod Named
 pub mod Clearings
+pub mod Rooms

@@ -1,6 +1,11 @@
 -- What a full collection that clears all soft references does to the machine, and what it tells the choice.
-use Rattle.std.specs.Prelude.{◌≡◌, ℕ, List, []}
+use Rattle.std.specs.Prelude.{◌≡◌, ℕ, ◌+◌, ◌<◌, not, IsTrue, List, [], ◌∷◌, length, Option, Some, None}
 use Rattle.jlr_machine.specs.declared.machine.Machine.{Machine}
+use Rattle.jlr_machine.specs.declared.object.Object.{Object}
+use Rattle.jlr_machine.specs.declared.entry.Collected.{Collected}
+use Rattle.jlr_machine.specs.Objects.{at, occupied}
+use Rattle.jlr_machine.specs.Lookups.{with_new}
+use Rattle.jlr_machine.specs.Run.{has_room, with_collection}
 use Rattle.jlr_machine.specs.Collection.{IsFullClearing, after_collection}
 use Rattle.jlr_machine.specs.Choices.{Choosing, collecting}
 
@@ -10,3 +15,35 @@ pub record Collects (m : Machine) (old new : Choosing) (n : Machine) : Type 0 wh
   pub chosen : new ≡ collecting old kept []
   pub clearing : IsFullClearing m kept []
   pub left : n ≡ after_collection m kept []
+  pub counted : occupied n.objects ≡ length kept
+
+-- ---- Room for one more object
+
+-- no collection where there is room, else a full one that clears all soft references
+abbrev pub MayMakeRoom : Machine → Option Collected → Type 0
+MayMakeRoom m None = IsTrue (has_room m 1)
+MayMakeRoom m (Some c) = IsTrue (not (has_room m 1)) × IsFullClearing m c.kept c.pending
+
+pub record MakesRoom (m : Machine) (old new : Choosing) (n : Machine) : Type 0 where
+  pub asked : MayMakeRoom m new.chosen.collected
+  pub left : n ≡ with_collection m new.chosen.collected
+  pub fresh : new.chosen.fresh ≡ []
+  pub cells : new.cells ≡ old.cells
+  pub counted : (c : Collected) → new.chosen.collected ≡ Some c → occupied n.objects ≡ length c.kept
+
+-- a new object in a free slot, after what made room
+pub record Allocates (m : Machine) (o : Object) (new : Choosing) (slot : ℕ) (n : Machine) : Type 0 where
+  pub asked : MayMakeRoom m new.chosen.collected
+  pub inside : slot < length (with_collection m new.chosen.collected).objects
+  pub free : at (with_collection m new.chosen.collected).objects slot ≡ None
+  pub fresh : new.chosen.fresh ≡ slot ∷ []
+  pub left : n ≡ with_new (with_collection m new.chosen.collected) slot o
+
+-- a full collection leaves no room
+pub record FindsNoRoom (m : Machine) (new : Choosing) (n : Machine) : Type 0 where
+  pub clearing : Collected
+  pub collects : new.chosen ≡ record { collected = Some clearing; fresh = [] }
+  pub no_room : IsTrue (not (has_room m 1))
+  pub full : IsFullClearing m clearing.kept clearing.pending
+  pub too_few : length m.objects < length clearing.kept + 1
+  pub left : n ≡ after_collection m clearing.kept clearing.pending

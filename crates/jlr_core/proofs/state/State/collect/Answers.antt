@@ -2,7 +2,8 @@ use Rattle.std.proofs.Common.{◌≡◌, ◌∙◌, [], ap, length, sym}
 use Rattle.jlr_laws.proofs.CollectionKept.{length_left}
 use Rattle.jlr_core.specs.State.{machine_with}
 use Rattle.jlr_core.specs.Marking.{marked_below}
-use Rattle.jlr_core.proofs.Clearings.{edge_object, referent_within, clears}
+use Rattle.jlr_core.proofs.Clearings.{edge_object, referent_within, clears, kept_counted}
+use Rattle.jlr_machine.specs.Objects.{occupied}
 use Rattle.jlr_core.proofs.state.State.collect.Goals as goal
 
 pub mark-requires-clause-edges : goal.mark-requires-clause-edges
@@ -18,6 +19,9 @@ returns-clause-collects c =
       chosen = c.sweep.ensures.choice;
       clearing = clears c.args.self.now.cells c.args.self.now.roots c.args.self.now.resource_limit c.objects_are_early.ensures c.no_calls.ensures c.requires.fit c.mark.new.marks c.mark.ensures.long c.mark.ensures.marked;
       left = ap (λ heap. machine_with heap c.args.self.now.roots c.args.self.now.resource_limit) c.sweep.ensures.cells;
+      counted =
+          ap occupied c.sweep.ensures.cells
+          ∙ kept_counted c.args.self.now.cells c.args.self.now.roots c.args.self.now.resource_limit c.objects_are_early.ensures c.no_calls.ensures c.requires.fit c.mark.new.marks c.mark.ensures.long c.mark.ensures.marked c.mark.ensures.objects;
     }
 
 pub returns-clause-marks : goal.returns-clause-marks

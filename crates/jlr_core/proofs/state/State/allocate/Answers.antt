@@ -1,0 +1,14 @@
+use Rattle.std.proofs.Common.{◌≡◌, refl, sym, ◌∙◌, ap, subst, length, is_none}
+use Rattle.jlr_machine.specs.Objects.{occupied}
+use Rattle.jlr_core.specs.Machines.{machine_of}
+use Rattle.jlr_core.specs.Collecting.{FindsNoRoom}
+use Rattle.jlr_core.specs.State.{machine_with}
+use Rattle.jlr_core.proofs.Rooms.{finds_no_room}
+use Rattle.jlr_core.proofs.state.State.allocate.Goals as goal
+
+pub returns-in_default-clause-full : goal.returns-in_default-clause-full
+returns-in_default-clause-full c = (
+  refl,
+  subst (λ cells. FindsNoRoom (machine_of c.args.self.now) c.make_room.new.choice (machine_with cells c.make_room.new.self.roots c.make_room.new.self.resource_limit)) (sym c.in_default.ensures.none)
+  (finds_no_room (machine_of c.args.self.now) c.args.choice.now c.make_room.new.choice (machine_of c.make_room.new.self) c.make_room.ensures.room (c.in_default.ensures.full.0 refl)),
+)
