@@ -8,3 +8,4 @@ pub mod Sweeping
 pub mod Named
 pub mod Clearings
 pub mod Rooms
+pub mod Entries

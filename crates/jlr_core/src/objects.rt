@@ -1,14 +1,18 @@
 //! The asks on objects and references.
-ghost use Rattle.std.specs.Prelude.{◌≡◌, true, false, Some, None, MatchResult, IsTrue, is_some, not, slice_get, option_and_then};
+ghost use Rattle.std.specs.Prelude.{◌≡◌, true, false, Some, None, MatchResult, IsTrue, is_none, is_some, not, ◌&&◌, ◌==◌, ◌≤◌, length, slice_get, option_and_then};
 ghost use Rattle.jlr_machine.specs.Objects.{at, some_and, as_fields, as_reference};
-ghost use Rattle.jlr_machine.specs.Refusals.{is_plain, is_reference, gotten};
+ghost use Rattle.jlr_machine.specs.Lookups.{slot_named};
+ghost use Rattle.jlr_machine.specs.Refusals.{is_plain, is_reference, is_queue, gotten, is_of_wrong_kind, object_or_null};
+ghost use Rattle.jlr_machine.specs.Choices.{nothing_chosen};
 ghost use Rattle.jlr_machine.specs.WellFormed.{IsWellFormed};
-ghost use Rattle.jlr_core.specs.State.{Answered, FieldRefused};
+ghost use Rattle.jlr_core.specs.State.{Answered, FieldRefused, Meets, answer_of};
 
+use crate::marks::Marks;
 use crate::state::State;
-use jlr_cells::Kind;
+use jlr_cells::{Kind, Shape};
 use jlr_machine::ask::{Answer, Ask};
-use jlr_types::{FieldValue, Handle, Mutator, RefKind, Refusal, Slot};
+use jlr_machine::choice::Choice;
+use jlr_types::{FieldValue, Handle, Layout, Mutator, RefKind, Refusal, Slot};
 
 impl State {
     ghost use Rattle.jlr_core.specs.Machines.{machine_of};
@@ -109,5 +113,73 @@ impl State {
         self.no_call(by);
         let target = self.gotten(slot);
         self.give_or_null(by, target)
+    }
+
+    pub(crate) fn new_object(
+        &mut self,
+        by: Mutator,
+        layout: Layout,
+        marks: &mut Marks,
+        choice: &mut Choice,
+    ) -> Result<Answer, Refusal>
+        requires fit { IsWellFormed (machine_of self.old) }
+        requires marks { length marks.old.bits ≡ length self.old.cells }
+        requires nothing { choice.old ≡ nothing_chosen choice.old.cells }
+        requires room { length self.old.cells ≤ choice.old.cells }
+        ensures meets { Meets (machine_of self.old) (Ask.New by layout) (answer_of result) choice.new.chosen (machine_of self.new) }
+        ensures marks { length marks.new.bits ≡ length self.new.cells }
+    {
+        self.check_session(by)?;
+        self.no_call(by);
+        self.check_free_handle(by)?;
+        let slot = self.allocate(Shape::Plain(layout), marks, choice)?;
+        Ok(self.give(by, slot))
+    }
+
+    /// A queue, or null. There is no queue yet.
+    fn check_queue(&self, by: Mutator, queue: Handle) -> Result<(), Refusal>
+        requires fit { IsWellFormed (machine_of self.now) }
+        requires in_use { (not (queue == 0) && is_none (slot_named (machine_of self.now) by queue)) ≡ false }
+        ensures { MatchResult result
+            (λ _. ((queue == 0) ≡ true) × (slot_named (machine_of self.now) by queue ≡ None))
+            (λ r. (r ≡ Refusal.WrongKind) × (is_of_wrong_kind (machine_of self.now) by (object_or_null queue is_queue) ≡ true)) }
+    {
+        self.cells.objects_are_early();
+        if queue.number() == 0 {
+            Ok(())
+        } else {
+            Err(Refusal::WrongKind)
+        }
+    }
+
+    pub(crate) fn make_reference(
+        &mut self,
+        by: Mutator,
+        kind: RefKind,
+        referent: Handle,
+        queue: Handle,
+        marks: &mut Marks,
+        choice: &mut Choice,
+    ) -> Result<Answer, Refusal>
+        requires fit { IsWellFormed (machine_of self.old) }
+        requires marks { length marks.old.bits ≡ length self.old.cells }
+        requires nothing { choice.old ≡ nothing_chosen choice.old.cells }
+        requires room { length self.old.cells ≤ choice.old.cells }
+        ensures meets { Meets (machine_of self.old) (Ask.MakeRef by kind referent queue) (answer_of result) choice.new.chosen (machine_of self.new) }
+        ensures marks { length marks.new.bits ≡ length self.new.cells }
+    {
+        self.check_session(by)?;
+        self.check_handle(by, referent)?;
+        self.check_handle(by, queue)?;
+        let target = self.check_slot(by, referent)?;
+        self.check_queue(by, queue)?;
+        self.no_call(by);
+        self.check_free_handle(by)?;
+        let shape = Shape::Reference {
+            kind,
+            referent: Some(target),
+        };
+        let slot = self.allocate(shape, marks, choice)?;
+        Ok(self.give(by, slot))
     }
 }

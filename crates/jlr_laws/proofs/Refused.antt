@@ -78,37 +78,37 @@ lists_are_in_order Abandon = refl
 
 -- ---- No answer of an ask that is carried out is a refusal
 
-abbrev is_refusal : Answer → Bool
+abbrev pub is_refusal : Answer → Bool
 is_refusal (Refused by) = true
 is_refusal _ = false
 
 -- an option that holds no refusal
-abbrev IsNone : Option Answer → Type 0
-IsNone o = (a : Answer) → o ≡ Some a → is_refusal a ≡ false
+abbrev pub HoldsNoRefusal : Option Answer → Type 0
+HoldsNoRefusal o = (a : Answer) → o ≡ Some a → is_refusal a ≡ false
 
-from_some : (x : Answer) → is_refusal x ≡ false → IsNone (Some x)
+from_some : (x : Answer) → is_refusal x ≡ false → HoldsNoRefusal (Some x)
 from_some x h a e = ap is_refusal (sym (some_same x a e)) ∙ h
 
-from_map : {A : Type 0} (f : A → Answer) → ((x : A) → is_refusal (f x) ≡ false) → (o : Option A) → IsNone (option_map f o)
+from_map : {A : Type 0} (f : A → Answer) → ((x : A) → is_refusal (f x) ≡ false) → (o : Option A) → HoldsNoRefusal (option_map f o)
 from_map f h None a e = no_some a e
 from_map f h (Some x) a e = from_some (f x) (h x) a e
 
-from_none : IsNone None
+from_none : HoldsNoRefusal None
 from_none a e = no_some a e
 
-gives_handle : (m : Machine) (k : ℕ) → IsNone (new_handle m k)
+gives_handle : (m : Machine) (k : ℕ) → HoldsNoRefusal (new_handle m k)
 gives_handle m k = from_map _ (λ s. refl) (at m.mutators k)
 
-gives_object : (m : Machine) (k : ℕ) (o : Option ℕ) → IsNone (handle_given m k o)
+gives_object : (m : Machine) (k : ℕ) (o : Option ℕ) → HoldsNoRefusal (handle_given m k o)
 gives_object m k None = from_some (Handle 0) refl
 gives_object m k (Some s) = gives_handle m k
 
-gives_number : (o : Option FieldValue) → IsNone (option_and_then number_in o)
+gives_number : (o : Option FieldValue) → HoldsNoRefusal (option_and_then number_in o)
 gives_number None = from_none
 gives_number (Some (IntValue n)) = from_some _ refl
 gives_number (Some (RefValue s)) = from_none
 
-gives_outcome : (outcome : Outcome) (success : Option Answer) → IsNone success → IsNone (outcome_answer outcome success)
+gives_outcome : (outcome : Outcome) (success : Option Answer) → HoldsNoRefusal success → HoldsNoRefusal (outcome_answer outcome success)
 gives_outcome OutcomeOk success h = h
 gives_outcome (Failed fault) success h = from_some _ refl
 
@@ -120,15 +120,15 @@ gives_call (GotFailed fault) = refl
 gives_job : (c : CleanableOf) → is_refusal (take_up_answer c) ≡ false
 gives_job c = elim (is_spent c.state) as (λ b. is_refusal (cond b AlreadyDone (Job c.action c.work)) ≡ false) [ true ↦ refl | false ↦ refl ]
 
-gives_handed : (m : Machine) (slots : List ℕ) → IsNone (hand_over_answer m slots)
+gives_handed : (m : Machine) (slots : List ℕ) → HoldsNoRefusal (hand_over_answer m slots)
 gives_handed m [] = from_some _ refl
 gives_handed m (s ∷ slots) = from_map _ (λ o. refl) (at m.objects s)
 
-gives_lined : (m : Machine) (slots : List ℕ) → IsNone (line_answer m slots)
+gives_lined : (m : Machine) (slots : List ℕ) → HoldsNoRefusal (line_answer m slots)
 gives_lined m [] = from_some _ refl
 gives_lined m (s ∷ slots) = from_map take_up_answer gives_job (cleanable_at m s)
 
-gives_no_refusal : (m : Machine) (ask : Ask) → IsNone (reply m ask)
+pub gives_no_refusal : (m : Machine) (ask : Ask) → HoldsNoRefusal (reply m ask)
 gives_no_refusal m (Join k) = from_some _ refl
 gives_no_refusal m (Leave k) = from_some _ refl
 gives_no_refusal m (New k layout) = gives_handle m k

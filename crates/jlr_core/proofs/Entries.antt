@@ -1,0 +1,160 @@
+-- Legal entries, from what an ask did.
+use Rattle.std.proofs.Common.{◌≡◌, ◌+◌, ◌&&◌, zero, suc, ℕ, ◌<◌, Bool, true, false, not, List, [], ◌∷◌, length, Option, Some, None, option_map, IsTrue, is_some, is_none, refl, sym, ◌∙◌, ap, subst, slice_get, Result, Ok, Err, arith}
+use Rattle.std.proofs.lemmas.Bool.{both_ways, le-leb}
+use Rattle.std.proofs.lemmas.List.Sums.{count_by-le-length}
+use Rattle.jlr_types.specs.declared.FieldKind.{FieldKind}
+use Rattle.jlr_types.specs.declared.RefKind.{RefKind}
+use Rattle.jlr_types.specs.declared.Refusal.{Refusal}
+use Rattle.jlr_types.specs.declared.Refusal.TheVariants.{HeapFull}
+use Rattle.jlr_machine.specs.declared.object.Object.{Object}
+use Rattle.jlr_machine.specs.declared.machine.Machine.{Machine}
+use Rattle.jlr_machine.specs.declared.ask.Ask.{Ask}
+use Rattle.jlr_machine.specs.declared.ask.Ask.TheVariants.{Join, Leave, New, Put, Get, Dup, Drop, Same, MakeRef, Deref, Full}
+use Rattle.jlr_machine.specs.declared.ask.FullMode.TheVariants.{Policy}
+use Rattle.jlr_machine.specs.declared.ask.Answer.{Answer}
+use Rattle.jlr_machine.specs.declared.ask.Answer.TheVariants.{Done, Handle, Refused}
+use Rattle.jlr_machine.specs.declared.entry.Chosen.{Chosen}
+use Rattle.jlr_machine.specs.declared.entry.Collected.{Collected}
+use Rattle.jlr_machine.specs.Objects.{Heap, at, occupied}
+use Rattle.jlr_machine.specs.Lookups.{free_handle, with_handle, with_new, on}
+use Rattle.jlr_machine.specs.Refusals.{refusal, cells_needed}
+use Rattle.jlr_machine.specs.Calls.{reply, after, new_handle, made}
+use Rattle.jlr_machine.specs.Choices.{Choosing}
+use Rattle.jlr_machine.specs.Collection.{IsFull, after_collection}
+use Rattle.jlr_machine.specs.Run.{has_room, MayCollect, with_collection, Answers, is_free, IsFresh, carried, done, no_choice, IsLegal}
+use Rattle.jlr_machine.specs.Run.IsLegal.{carried_out, refused, heap_full}
+use Rattle.jlr_laws.proofs.Frames.{no_some, some_same}
+use Rattle.jlr_laws.proofs.Refused.{is_refusal, gives_no_refusal}
+use Rattle.jlr_core.specs.State.{entry_of, answer_of, Meets, Answered}
+use Rattle.jlr_core.specs.Collecting.{MayMakeRoom, Allocates, FindsNoRoom}
+
+-- ---- Refused
+
+pub meets_refused : (m : Machine) (ask : Ask) (r : Refusal) → refusal m ask ≡ Some r → Meets m ask (Refused r) no_choice m
+meets_refused m ask r e = record { legal = refused (record { by = r; first = e; answers = refl; nothing = refl }); applied = refl }
+
+pub meets_full : (m : Machine) (ask : Ask) (new : Choosing) (n : Machine) → refusal m ask ≡ None → cells_needed ask ≡ 1 → FindsNoRoom m new n → Meets m ask (Refused HeapFull) new.chosen n
+meets_full m ask new n e one f =
+    record {
+      legal = heap_full (record {
+        allowed = e;
+        answers = refl;
+        clearing = f.clearing;
+        collects = f.collects;
+        no_room = subst (λ k. IsTrue (not (has_room m k))) (sym one) f.no_room;
+        full = f.full;
+        too_few = omega (arith, f.too_few, one);
+      });
+      applied = f.left ∙ ap (λ (c : Chosen). with_collection m c.collected) (sym f.collects);
+    }
+
+-- ---- Carried out, with nothing chosen
+
+-- there is always room for no object
+pub room_for_none : (m : Machine) → IsTrue (has_room m 0)
+room_for_none m = le-leb (occupied m.objects + 0) (length m.objects) (omega (arith, count_by-le-length is_some m.objects))
+
+pub none_fresh : (heap : Heap) → IsFresh heap 0 []
+none_fresh heap = record { count = refl; free = refl; distinct = refl }
+
+no_refusal_carried : (m : Machine) (ask : Ask) (a : Answer) (fresh : List ℕ) → is_refusal a ≡ false → carried m ask a fresh ≡ after m ask a fresh
+no_refusal_carried m ask (Refused by) fresh h = absurd (both_ways true h refl)
+no_refusal_carried m ask a fresh h = refl
+
+-- an answer that is no refusal: what is carried is what comes after
+carried_on : (m : Machine) (ask : Ask) (a : Answer) (fresh : List ℕ) → reply m ask ≡ Some a → carried m ask a fresh ≡ after m ask a fresh
+carried_on m ask a fresh e = no_refusal_carried m ask a fresh (gives_no_refusal m ask a e)
+
+-- an ask that makes no object and collects nothing
+pub meets_plainly : (m : Machine) (ask : Ask) (a : Answer) (n : Machine) → refusal m ask ≡ None → MayCollect m ask None → cells_needed ask ≡ 0 → Answers m ask None a → reply m ask ≡ Some a → n ≡ after m ask a [] → Meets m ask a no_choice n
+meets_plainly m ask a n e collection none answers r l =
+    record {
+      legal = carried_out (record { allowed = e; collection = collection; fresh = subst (λ k. IsFresh m.objects k []) (sym none) (none_fresh m.objects); answers = answers });
+      applied = l ∙ sym (carried_on m ask a [] r);
+    }
+
+-- the asks of this stage that do so
+abbrev pub IsPlain : Ask → Type 0
+IsPlain (Join k) = Unit {0}
+IsPlain (Leave k) = Unit {0}
+IsPlain (Put k h f v) = Unit {0}
+IsPlain (Get k h f) = Unit {0}
+IsPlain (Dup k h) = Unit {0}
+IsPlain (Drop k h) = Unit {0}
+IsPlain (Same k a b) = Unit {0}
+IsPlain (Deref k r) = Unit {0}
+IsPlain _ = ⊥
+
+plainly : (m n : Machine) (ask : Ask) (a : Answer) → IsPlain ask → refusal m ask ≡ None → reply m ask ≡ Some a → n ≡ after m ask a [] → Meets m ask a no_choice n
+plainly m n (Join k) a p e r l = meets_plainly m (Join k) a n e (room_for_none m) refl r r l
+plainly m n (Leave k) a p e r l = meets_plainly m (Leave k) a n e (room_for_none m) refl r r l
+plainly m n (Put k h f v) a p e r l = meets_plainly m (Put k h f v) a n e (room_for_none m) refl r r l
+plainly m n (Get k h f) a p e r l = meets_plainly m (Get k h f) a n e (room_for_none m) refl r r l
+plainly m n (Dup k h) a p e r l = meets_plainly m (Dup k h) a n e (room_for_none m) refl r r l
+plainly m n (Drop k h) a p e r l = meets_plainly m (Drop k h) a n e (room_for_none m) refl r r l
+plainly m n (Same k x y) a p e r l = meets_plainly m (Same k x y) a n e (room_for_none m) refl r r l
+plainly m n (Deref k h) a p e r l = meets_plainly m (Deref k h) a n e (room_for_none m) refl r r l
+plainly m n _ a p e r l = absurd p
+
+pub meets_answered : (m n : Machine) (ask : Ask) (result : Result Answer Refusal) → IsPlain ask → Answered m ask result n → Meets m ask (answer_of result) no_choice n
+meets_answered m n ask (Ok a) p x = plainly m n ask a p x.0 x.1 x.2
+meets_answered m n ask (Err r) p x = subst (λ n. Meets m ask (Refused r) no_choice n) (sym x.1) (meets_refused m ask r x.0)
+
+-- ---- A full collection that is asked for
+
+pub meets_collection : (m : Machine) (k : ℕ) (c : Collected) (new : Choosing) (n : Machine) → refusal m (Full k Policy) ≡ None → new.chosen ≡ record { collected = Some c; fresh = [] } → IsFull m c.kept c.pending → n ≡ after_collection m c.kept c.pending → Meets m (Full k Policy) Done new.chosen n
+meets_collection m k c new n e chosen full l =
+    let chosen_there : Chosen = record { collected = Some c; fresh = [] } in
+    subst (λ x. Meets m (Full k Policy) Done x n) (sym chosen)
+    (record { legal = carried_out (record { allowed = e; collection = full; fresh = none_fresh (after_collection m c.kept c.pending).objects; answers = refl }); applied = l })
+
+-- ---- A new object
+
+may_collect_new : (m : Machine) (k : ℕ) (layout : List FieldKind) (o : Option Collected) → MayMakeRoom m o → MayCollect m (New k layout) o
+may_collect_new m k layout None h = h
+may_collect_new m k layout (Some c) h = h
+
+may_collect_reference : (m : Machine) (k : ℕ) (kind : RefKind) (h q : ℕ) (o : Option Collected) → MayMakeRoom m o → MayCollect m (MakeRef k kind h q) o
+may_collect_reference m k kind h q None r = r
+may_collect_reference m k kind h q (Some c) r = r
+
+free_there : (heap : Heap) (s : ℕ) → s < length heap → at heap s ≡ None → is_free heap s ≡ true
+free_there [] s l e = absurd (omega (arith, l))
+free_there (o ∷ heap) zero l e = ap is_none e
+free_there (o ∷ heap) (suc s) l e = free_there heap s (omega (arith, l)) e
+
+one_fresh : (heap : Heap) (s : ℕ) → s < length heap → at heap s ≡ None → IsFresh heap 1 (s ∷ [])
+one_fresh heap s l e = record { count = refl; free = ap (λ b. b && true) (free_there heap s l e); distinct = refl }
+
+-- the mutators are as they were, whatever the collection
+same_mutators : (m : Machine) (c : Option Collected) → (with_collection m c).mutators ≡ m.mutators
+same_mutators m None = refl
+same_mutators m (Some c) = refl
+
+pub meets_new :
+    (m mid n : Machine) (ask : Ask) (k slot : ℕ) (o : Object) (new : Choosing) (a : Answer)
+    → refusal m ask ≡ None
+    → ((c : Option Collected) → MayMakeRoom m c → MayCollect m ask c)
+    → cells_needed ask ≡ 1
+    → ((x : Machine) → x.mutators ≡ m.mutators → new_handle x k ≡ Some a → Answers x ask new.chosen.collected a × (reply x ask ≡ Some a))
+    → ((x : Machine) → x.mutators ≡ m.mutators → after x ask a (slot ∷ []) ≡ with_handle (with_new x slot o) k slot)
+    → Allocates m o new slot mid → new_handle mid k ≡ Some a → n ≡ with_handle mid k slot → Meets m ask a new.chosen n
+meets_new m mid n ask k slot o new a e collects one answers leaves x handle left =
+    let y : Machine = with_collection m new.chosen.collected in
+    let same : y.mutators ≡ m.mutators = same_mutators m new.chosen.collected in
+    let there : new_handle y k ≡ Some a = sym (ap (λ (z : Machine). new_handle z k) x.left) ∙ handle in
+    let r = answers y same there in
+    record {
+      legal = carried_out (record {
+        allowed = e;
+        collection = collects new.chosen.collected x.asked;
+        fresh = subst (λ c. IsFresh y.objects c new.chosen.fresh) (sym one) (subst (λ l. IsFresh y.objects 1 l) (sym x.fresh) (one_fresh y.objects slot x.inside x.free));
+        answers = r.0;
+      });
+      applied =
+          left
+          ∙ ap (λ (z : Machine). with_handle z k slot) x.left
+          ∙ sym (leaves y same)
+          ∙ sym (carried_on y ask a (slot ∷ []) r.1)
+          ∙ ap (λ l. carried y ask a l) (sym x.fresh);
+    }
