@@ -3,3 +3,5 @@ pub mod Marking
 pub mod State
 pub mod Machines
 pub mod Collecting
+pub mod Events
+pub mod Cores

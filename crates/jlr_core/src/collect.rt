@@ -71,9 +71,11 @@ impl State {
         Ok(slot)
     }
 
+    /// A full collection that is asked for. It clears all soft references in either mode.
     pub(crate) fn full(
         &mut self,
         by: Mutator,
+        mode: FullMode,
         marks: &mut Marks,
         choice: &mut Choice,
     ) -> Result<Answer, Refusal>
@@ -81,12 +83,14 @@ impl State {
         requires marks { length marks.old.bits ≡ length self.old.cells }
         requires nothing { choice.old ≡ nothing_chosen choice.old.cells }
         requires room { length self.old.cells ≤ choice.old.cells }
-        ensures meets { Meets (machine_of self.old) (Ask.Full by FullMode.Policy) (answer_of result) choice.new.chosen (machine_of self.new) }
+        ensures meets { Meets (machine_of self.old) (Ask.Full by mode) (answer_of result) choice.new.chosen (machine_of self.new) }
         ensures marks { length marks.new.bits ≡ length self.new.cells }
     {
         self.check_session(by)?;
         self.no_call(by);
         self.collect(marks, choice);
-        Ok(Answer::Done)
+        match mode {
+            FullMode::Policy | FullMode::ClearAll => Ok(Answer::Done),
+        }
     }
 }

@@ -2,6 +2,8 @@
 ghost use Rattle.std.specs.Prelude.{◌≡◌, ◌&&◌, not, true, false, Some, is_some, MatchResult};
 ghost use Rattle.jlr_machine.specs.Lookups.{has_free_handle, with_handle};
 ghost use Rattle.jlr_machine.specs.Calls.{new_handle, handle_given, with_given};
+ghost use Rattle.jlr_machine.specs.declared.ask.Outcome.{Outcome};
+ghost use Rattle.jlr_machine.specs.Refusals.{refusal};
 ghost use Rattle.jlr_machine.specs.WellFormed.{IsWellFormed};
 ghost use Rattle.jlr_core.specs.State.{Answered};
 
@@ -90,5 +92,16 @@ impl State {
         };
         self.check_free_handle(by)?;
         Ok(self.give(by, slot))
+    }
+
+    /// The end of an open. It is refused: there is no call in flight yet.
+    pub(crate) fn opened(&self, by: Mutator) -> Refusal
+        ensures { (outcome : Outcome) → refusal (machine_of self.now) (Ask.Opened by outcome) ≡ Some result }
+    {
+        self.roots.no_calls();
+        match self.check_session(by) {
+            Ok(()) => Refusal::NotOut,
+            Err(refusal) => refusal,
+        }
     }
 }

@@ -2,6 +2,8 @@
 #![tactic(auto)]
 
 mod collect;
+pub mod core;
+pub mod event;
 mod handles;
 mod mark;
 mod marks;

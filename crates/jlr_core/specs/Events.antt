@@ -1,0 +1,70 @@
+-- Events and replies without their resources, and the resources that they carry.
+use Rattle.std.specs.Prelude.{◌≡◌, List, [], ◌∷◌, ◌++◌, Option, Some, None, Result, Ok, Err}
+use Rattle.jlr_types.specs.declared.Fault.{Fault}
+use Rattle.jlr_machine.specs.declared.machine.Machine.{Machine}
+use Rattle.jlr_machine.specs.declared.ask.Outcome.{Outcome}
+use Rattle.jlr_machine.specs.declared.ask.Outcome.TheVariants as outcome
+use Rattle.jlr_machine.specs.declared.ask.Ask.{Ask}
+use Rattle.jlr_machine.specs.declared.ask.Ask.TheVariants as ask
+use Rattle.jlr_machine.specs.declared.ask.Answer.{Answer}
+use Rattle.jlr_machine.specs.declared.entry.Chosen.{Chosen}
+use Rattle.jlr_machine.specs.declared.entry.Entry.{Entry}
+use Rattle.jlr_machine.specs.Run.{no_choice, IsLegal, apply}
+use Rattle.jlr_core.specs.State.{entry_of}
+use Rattle.jlr_core.specs.declared.event.Event.{Event}
+use Rattle.jlr_core.specs.declared.event.Event.TheVariants.{Join, Leave, New, Put, Get, Dup, Drop, Same, MakeRef, Deref, Opened, Full, Mark}
+use Rattle.jlr_core.specs.declared.event.Reply.{Reply}
+use Rattle.jlr_core.specs.declared.event.Reply.TheVariants.{Answered, Marked}
+
+abbrev pub outcome_of : {R : Type 0} → Result R Fault → Outcome
+outcome_of (Ok r) = outcome.Ok
+outcome_of (Err fault) = outcome.Failed fault
+
+abbrev pub resource_of : {R : Type 0} → Result R Fault → Option R
+resource_of (Ok r) = Some r
+resource_of (Err fault) = None
+
+-- the ask of an event; none for a piece of marking
+abbrev pub ask_of : {R : Type 0} → Event R → Option Ask
+ask_of (Join k) = Some (ask.Join k)
+ask_of (Leave k) = Some (ask.Leave k)
+ask_of (New k layout) = Some (ask.New k layout)
+ask_of (Put k h f v) = Some (ask.Put k h f v)
+ask_of (Get k h f) = Some (ask.Get k h f)
+ask_of (Dup k h) = Some (ask.Dup k h)
+ask_of (Drop k h) = Some (ask.Drop k h)
+ask_of (Same k a b) = Some (ask.Same k a b)
+ask_of (MakeRef k kind h q) = Some (ask.MakeRef k kind h q)
+ask_of (Deref k r) = Some (ask.Deref k r)
+ask_of (Opened k outcome) = Some (ask.Opened k (outcome_of outcome))
+ask_of (Full k mode) = Some (ask.Full k mode)
+ask_of (Mark budget) = None
+
+-- the resource that an event hands in
+abbrev pub given : {R : Type 0} → Event R → Option R
+given (Opened k outcome) = resource_of outcome
+given _ = None
+
+abbrev pub answer_in : {R : Type 0} → Reply R → Option Answer
+answer_in (Answered answer resource) = Some answer
+answer_in (Marked progress) = None
+
+-- the resource that a reply hands out
+abbrev pub handed : {R : Type 0} → Reply R → Option R
+handed (Answered answer resource) = resource
+handed (Marked progress) = None
+
+-- ---- Entries
+
+-- the entry of an ask, its answer and its choice; none where there is no ask or no answer
+abbrev pub entry_with : Option Ask → Option Answer → Chosen → Option Entry
+entry_with (Some ask) (Some answer) chosen = Some (entry_of ask answer chosen)
+entry_with (Some ask) None chosen = None
+entry_with None answer chosen = None
+
+-- an event and its reply are an entry that is legal in m and leads to n; a piece of marking is none, and leaves m
+abbrev pub Enters : Machine → Option Ask → Option Answer → Chosen → Machine → Type 0
+Enters m (Some ask) (Some answer) chosen n = IsLegal m (entry_of ask answer chosen) × (n ≡ apply m (entry_of ask answer chosen))
+Enters m (Some ask) None chosen n = ⊥
+Enters m None (Some answer) chosen n = ⊥
+Enters m None None chosen n = (chosen ≡ no_choice) × (n ≡ m)

@@ -1,0 +1,167 @@
+//! What comes to the core, and what goes back: an ask or an answer with the resource that it carries.
+ghost use Rattle.std.specs.Prelude.{◌≡◌, None};
+ghost use Rattle.jlr_core.specs.Events.{ask_of, answer_in, handed};
+
+use jlr_machine::ask::{Answer, Ask, FullMode, Outcome};
+use jlr_types::{Fault, Handle, Layout, Mutator, Progress, RefKind};
+
+/// An event: an ask, with the resource that is handed in where one is, or a piece of marking.
+#[derive(Drop)]
+pub enum Event<R> {
+    Join {
+        mutator: Mutator,
+    },
+    Leave {
+        mutator: Mutator,
+    },
+    New {
+        mutator: Mutator,
+        layout: Layout,
+    },
+    Put {
+        mutator: Mutator,
+        object: Handle,
+        field: u8,
+        value: Handle,
+    },
+    Get {
+        mutator: Mutator,
+        object: Handle,
+        field: u8,
+    },
+    Dup {
+        mutator: Mutator,
+        object: Handle,
+    },
+    Drop {
+        mutator: Mutator,
+        object: Handle,
+    },
+    Same {
+        mutator: Mutator,
+        left: Handle,
+        right: Handle,
+    },
+    MakeRef {
+        mutator: Mutator,
+        kind: RefKind,
+        referent: Handle,
+        queue: Handle,
+    },
+    Deref {
+        mutator: Mutator,
+        reference: Handle,
+    },
+    /// An open ended: with the resource, or with a fault.
+    Opened {
+        mutator: Mutator,
+        outcome: Result<R, Fault>,
+    },
+    Full {
+        mutator: Mutator,
+        mode: FullMode,
+    },
+    /// A piece of marking of at most so many ticks. The machine does not see it.
+    Mark {
+        budget: u32,
+    },
+}
+
+/// What an event is answered, with the resource that is handed out where one is.
+#[derive(Drop)]
+pub enum Reply<R> {
+    Answered { answer: Answer, resource: Option<R> },
+    Marked(Progress),
+}
+
+impl<R> Event<R> {
+    /// The ask, without the resource that it carries. There is none for `Mark`. Takes no memory.
+    pub fn plain(&self) -> Option<Ask>
+        ensures { result ≡ ask_of self.now }
+    {
+        Some(match self {
+            Event::Join { mutator } => Ask::Join { mutator: *mutator },
+            Event::Leave { mutator } => Ask::Leave { mutator: *mutator },
+            Event::New { mutator, layout } => Ask::New {
+                mutator: *mutator,
+                layout: layout.copy(),
+            },
+            Event::Put {
+                mutator,
+                object,
+                field,
+                value,
+            } => Ask::Put {
+                mutator: *mutator,
+                object: *object,
+                field: *field,
+                value: *value,
+            },
+            Event::Get {
+                mutator,
+                object,
+                field,
+            } => Ask::Get {
+                mutator: *mutator,
+                object: *object,
+                field: *field,
+            },
+            Event::Dup { mutator, object } => Ask::Dup {
+                mutator: *mutator,
+                object: *object,
+            },
+            Event::Drop { mutator, object } => Ask::Drop {
+                mutator: *mutator,
+                object: *object,
+            },
+            Event::Same {
+                mutator,
+                left,
+                right,
+            } => Ask::Same {
+                mutator: *mutator,
+                left: *left,
+                right: *right,
+            },
+            Event::MakeRef {
+                mutator,
+                kind,
+                referent,
+                queue,
+            } => Ask::MakeRef {
+                mutator: *mutator,
+                kind: *kind,
+                referent: *referent,
+                queue: *queue,
+            },
+            Event::Deref { mutator, reference } => Ask::Deref {
+                mutator: *mutator,
+                reference: *reference,
+            },
+            Event::Opened { mutator, outcome } => Ask::Opened {
+                mutator: *mutator,
+                outcome: match outcome {
+                    Ok(_) => Outcome::Ok,
+                    Err(fault) => Outcome::Failed(*fault),
+                },
+            },
+            Event::Full { mutator, mode } => Ask::Full {
+                mutator: *mutator,
+                mode: *mode,
+            },
+            Event::Mark { .. } => return None,
+        })
+    }
+}
+
+impl<R> Reply<R> {
+    /// The answer, and the resource that goes with it. There are none for `Mark`. Takes no memory.
+    pub fn plain(self) -> (Option<Answer>, Option<R>)
+        ensures { result ≡ (answer_in self, handed self) }
+    {
+        match self {
+            Reply::Answered { answer, resource } => (Some(answer), resource),
+            Reply::Marked(_) => (None, None),
+        }
+    }
+}
