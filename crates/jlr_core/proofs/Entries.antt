@@ -1,13 +1,16 @@
 -- Legal entries, from what an ask did.
-use Rattle.std.proofs.Common.{◌≡◌, ◌+◌, ◌&&◌, zero, suc, ℕ, ◌<◌, Bool, true, false, not, List, [], ◌∷◌, length, Option, Some, None, option_map, IsTrue, is_some, is_none, refl, sym, ◌∙◌, ap, subst, slice_get, Result, Ok, Err, arith}
+use Rattle.std.proofs.Common.{◌≡◌, ◌+◌, ◌&&◌, ◌||◌, ◌==◌, zero, suc, ℕ, ◌<◌, Bool, true, false, not, List, [], ◌∷◌, length, Option, Some, None, option_map, IsTrue, is_some, is_none, refl, sym, ◌∙◌, ap, subst, slice_get, Result, Ok, Err, arith, find, cond, option_and_then}
 use Rattle.std.proofs.lemmas.Bool.{both_ways, le-leb}
 use Rattle.std.proofs.lemmas.List.Sums.{count_by-le-length}
 use Rattle.jlr_types.specs.declared.FieldKind.{FieldKind}
 use Rattle.jlr_types.specs.declared.RefKind.{RefKind}
 use Rattle.jlr_types.specs.declared.Refusal.{Refusal}
-use Rattle.jlr_types.specs.declared.Refusal.TheVariants.{HeapFull}
+use Rattle.jlr_types.specs.declared.Refusal.TheVariants.{NoSession, NoHandle, Null, WrongKind, Busy, HandlesFull, HeapFull}
 use Rattle.jlr_machine.specs.declared.object.Object.{Object}
+use Rattle.jlr_machine.specs.declared.object.Object.TheVariants.{Plain, Reference}
+use Rattle.jlr_machine.specs.declared.object.RefState.TheVariants.{Fresh}
 use Rattle.jlr_machine.specs.declared.machine.Machine.{Machine}
+use Rattle.jlr_machine.specs.declared.machine.Session.{Session}
 use Rattle.jlr_machine.specs.declared.ask.Ask.{Ask}
 use Rattle.jlr_machine.specs.declared.ask.Ask.TheVariants.{Join, Leave, New, Put, Get, Dup, Drop, Same, MakeRef, Deref, Full}
 use Rattle.jlr_machine.specs.declared.ask.FullMode.TheVariants.{Policy}
@@ -15,9 +18,9 @@ use Rattle.jlr_machine.specs.declared.ask.Answer.{Answer}
 use Rattle.jlr_machine.specs.declared.ask.Answer.TheVariants.{Done, Handle, Refused}
 use Rattle.jlr_machine.specs.declared.entry.Chosen.{Chosen}
 use Rattle.jlr_machine.specs.declared.entry.Collected.{Collected}
-use Rattle.jlr_machine.specs.Objects.{Heap, at, occupied}
-use Rattle.jlr_machine.specs.Lookups.{free_handle, with_handle, with_new, on}
-use Rattle.jlr_machine.specs.Refusals.{refusal, cells_needed}
+use Rattle.jlr_machine.specs.Objects.{Heap, at, occupied, some_and, Table}
+use Rattle.jlr_machine.specs.Lookups.{free_handle, with_handle, with_new, on, slot_named, has_free_handle, object_named}
+use Rattle.jlr_machine.specs.Refusals.{refusal, cells_needed, is_joined, has_call, is_any, applies, is_of_wrong_kind, object_or_null, is_queue}
 use Rattle.jlr_machine.specs.Calls.{reply, after, new_handle, made}
 use Rattle.jlr_machine.specs.Choices.{Choosing}
 use Rattle.jlr_machine.specs.Collection.{IsFull, after_collection}
@@ -110,10 +113,6 @@ meets_collection m k c new n e chosen full l =
 
 -- ---- A new object
 
-may_collect_new : (m : Machine) (k : ℕ) (layout : List FieldKind) (o : Option Collected) → MayMakeRoom m o → MayCollect m (New k layout) o
-may_collect_new m k layout None h = h
-may_collect_new m k layout (Some c) h = h
-
 may_collect_reference : (m : Machine) (k : ℕ) (kind : RefKind) (h q : ℕ) (o : Option Collected) → MayMakeRoom m o → MayCollect m (MakeRef k kind h q) o
 may_collect_reference m k kind h q None r = r
 may_collect_reference m k kind h q (Some c) r = r
@@ -158,3 +157,44 @@ meets_new m mid n ask k slot o new a e collects one answers leaves x handle left
           ∙ sym (carried_on y ask a (slot ∷ []) r.1)
           ∙ ap (λ l. carried y ask a l) (sym x.fresh);
     }
+
+-- ---- The asks that make an object
+
+and_or_false : (b : Bool) → (b && false || false) ≡ false
+and_or_false true = refl
+and_or_false false = refl
+
+no_kind : (o : Option Object) → some_and (λ o. not (is_any o)) o ≡ false
+no_kind None = refl
+no_kind (Some o) = refl
+
+skip : (p : Refusal → Bool) (x : Refusal) (xs : List Refusal) (r : Option Refusal) → p x ≡ false → find p xs ≡ r → find p (x ∷ xs) ≡ r
+skip p x xs r e h = ap (λ b. cond b (Some x) (find p xs)) e ∙ h
+
+joined : (m : Machine) (k : ℕ) → is_joined m k ≡ true → not (is_joined m k) ≡ false
+joined m k e = ap not e
+
+pub allowed_reference :
+    (m : Machine) (k : ℕ) (kind : RefKind) (h q : ℕ) → is_joined m k ≡ true
+    → (not (h == 0) && is_none (slot_named m k h)) ≡ false → (not (q == 0) && is_none (slot_named m k q)) ≡ false
+    → (h == 0) ≡ false → slot_named m k q ≡ None → has_call m k ≡ false → has_free_handle m k ≡ true → refusal m (MakeRef k kind h q) ≡ None
+allowed_reference m k kind h q j uh uq nh nq b f =
+    let p = applies m (MakeRef k kind h q) in
+    skip p NoSession (NoHandle ∷ Null ∷ WrongKind ∷ Busy ∷ HandlesFull ∷ HeapFull ∷ []) None (ap not j)
+    (skip p NoHandle (Null ∷ WrongKind ∷ Busy ∷ HandlesFull ∷ HeapFull ∷ []) None (ap (λ b. b || (not (q == 0) && is_none (slot_named m k q) || false)) uh ∙ ap (λ b. b || false) uq)
+    (skip p Null (WrongKind ∷ Busy ∷ HandlesFull ∷ HeapFull ∷ []) None (ap (λ b. (b && true) || ((q == 0) && false || false)) nh ∙ and_or_false (q == 0))
+    (skip p WrongKind (Busy ∷ HandlesFull ∷ HeapFull ∷ []) None (ap (λ b. b || (is_of_wrong_kind m k (object_or_null q is_queue) || false)) (no_kind (object_named m k h)) ∙ ap (λ o. some_and (λ o. not (is_queue o)) (option_and_then (at m.objects) o) || false) nq)
+    (skip p Busy (HandlesFull ∷ HeapFull ∷ []) None b
+    (skip p HandlesFull (HeapFull ∷ []) None (ap not f)
+    (skip p HeapFull [] None refl refl))))))
+
+pub meets_new_reference :
+    (m mid n : Machine) (k slot : ℕ) (kind : RefKind) (h q target : ℕ) (new : Choosing) (a : Answer) → refusal m (MakeRef k kind h q) ≡ None
+    → slot_named m k h ≡ Some target → slot_named m k q ≡ None
+    → Allocates m (Reference (record { kind = kind; referent = Some target; queue = None; state = Fresh })) new slot mid → new_handle mid k ≡ Some a → n ≡ with_handle mid k slot → Meets m (MakeRef k kind h q) a new.chosen n
+meets_new_reference m mid n k slot kind h q target new a e named no_queue x handle left =
+    meets_new m mid n (MakeRef k kind h q) k slot (Reference (record { kind = kind; referent = Some target; queue = None; state = Fresh })) new a e (may_collect_reference m k kind h q) refl (λ y s h. (h, h))
+    (λ y s.
+    let lookup : ℕ → Table Session → Option ℕ = λ i t. option_and_then (λ z. at z.handles i) (at t k) in
+    ap {A = Option ℕ} {B = Machine} (λ r. with_handle (with_new y slot (Reference (record { kind = kind; referent = r; queue = slot_named y k q; state = Fresh }))) k slot) (ap (lookup h) s ∙ named)
+    ∙ ap {A = Option ℕ} {B = Machine} (λ r. with_handle (with_new y slot (Reference (record { kind = kind; referent = Some target; queue = r; state = Fresh }))) k slot) (ap (lookup q) s ∙ no_queue)) x handle left

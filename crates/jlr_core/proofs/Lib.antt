@@ -9,3 +9,4 @@ pub mod Named
 pub mod Clearings
 pub mod Rooms
 pub mod Entries
+pub mod Stepping

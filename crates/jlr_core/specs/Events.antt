@@ -10,7 +10,7 @@ use Rattle.jlr_machine.specs.declared.ask.Answer.{Answer}
 use Rattle.jlr_machine.specs.declared.entry.Chosen.{Chosen}
 use Rattle.jlr_machine.specs.declared.entry.Entry.{Entry}
 use Rattle.jlr_machine.specs.Run.{no_choice, IsLegal, apply}
-use Rattle.jlr_core.specs.State.{entry_of}
+use Rattle.jlr_core.specs.State.{Meets, entry_of}
 use Rattle.jlr_core.specs.declared.event.Event.{Event}
 use Rattle.jlr_core.specs.declared.event.Event.TheVariants.{Join, Leave, New, Put, Get, Dup, Drop, Same, MakeRef, Deref, Opened, Full, Mark}
 use Rattle.jlr_core.specs.declared.event.Reply.{Reply}
@@ -53,6 +53,15 @@ answer_in (Marked progress) = None
 abbrev pub handed : {R : Type 0} → Reply R → Option R
 handed (Answered answer resource) = resource
 handed (Marked progress) = None
+
+-- ---- What an event and its reply are to the machine
+
+-- an ask met as its answer says; a piece of marking chooses nothing and leaves m
+abbrev pub StepsBy : Machine → Option Ask → Option Answer → Chosen → Machine → Type 0
+StepsBy m (Some ask) (Some answer) chosen n = Meets m ask answer chosen n
+StepsBy m (Some ask) None chosen n = ⊥
+StepsBy m None (Some answer) chosen n = ⊥
+StepsBy m None None chosen n = (chosen ≡ no_choice) × (n ≡ m)
 
 -- ---- Entries
 

@@ -26,6 +26,8 @@ impl State {
         requires room { length self.old.cells ≤ choice.old.cells }
         ensures collects { Collects (machine_of self.old) choice.old choice.new (machine_of self.new) }
         ensures marks { length marks.new.bits ≡ length self.new.cells }
+        ensures room { choice.new.cells ≡ choice.old.cells }
+        ensures cells { length self.new.cells ≡ length self.old.cells }
     {
         self.cells.objects_are_early();
         self.roots.no_calls();
@@ -40,8 +42,10 @@ impl State {
         requires marks { length marks.old.bits ≡ length self.old.cells }
         requires nothing { choice.old ≡ nothing_chosen choice.old.cells }
         requires room { length self.old.cells ≤ choice.old.cells }
-        ensures room { MakesRoom (machine_of self.old) choice.old choice.new (machine_of self.new) }
+        ensures made { MakesRoom (machine_of self.old) choice.old choice.new (machine_of self.new) }
         ensures marks { length marks.new.bits ≡ length self.new.cells }
+        ensures room { choice.new.cells ≡ choice.old.cells }
+        ensures cells { length self.new.cells ≡ length self.old.cells }
     {
         if self.cells.free_count() == 0 {
             self.collect(marks, choice);
@@ -62,6 +66,8 @@ impl State {
         ensures allocates { IfOk result (λ slot. Allocates (machine_of self.old) (object_of shape) choice.new slot (machine_of self.new)) }
         ensures full { IfErr result (λ r. (r ≡ Refusal.HeapFull) × FindsNoRoom (machine_of self.old) choice.new (machine_of self.new)) }
         ensures marks { length marks.new.bits ≡ length self.new.cells }
+        ensures room { choice.new.cells ≡ choice.old.cells }
+        ensures cells { length self.new.cells ≡ length self.old.cells }
     {
         self.make_room(marks, choice);
         let Some(slot) = self.cells.take(shape) else {
@@ -85,6 +91,8 @@ impl State {
         requires room { length self.old.cells ≤ choice.old.cells }
         ensures meets { Meets (machine_of self.old) (Ask.Full by mode) (answer_of result) choice.new.chosen (machine_of self.new) }
         ensures marks { length marks.new.bits ≡ length self.new.cells }
+        ensures room { choice.new.cells ≡ choice.old.cells }
+        ensures cells { length self.new.cells ≡ length self.old.cells }
     {
         self.check_session(by)?;
         self.no_call(by);

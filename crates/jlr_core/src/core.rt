@@ -1,20 +1,16 @@
 //! The core: one event at a time.
-ghost use Rattle.std.specs.Prelude.{◌≡◌, ◌≤◌, length, IfOk, Some, None};
+ghost use Rattle.std.specs.Prelude.{◌≡◌, ◌≤◌, length, IfOk};
 ghost use Rattle.jlr_machine.specs.declared.machine.Machine.{Machine};
 ghost use Rattle.jlr_machine.specs.Run.{empty};
-ghost use Rattle.jlr_machine.specs.Choices.{nothing_chosen};
-ghost use Rattle.jlr_machine.specs.WellFormed.{IsWellFormed};
-ghost use Rattle.jlr_core.specs.State.{answer_of, machine_with};
-ghost use Rattle.jlr_core.specs.Events.{ask_of, answer_in, given, handed, Enters, outcome_of};
+ghost use Rattle.jlr_core.specs.Events.{ask_of, answer_in, given, handed, Enters};
 
 use crate::event::{Event, Reply};
 use crate::marks::Marks;
 use crate::state::State;
 use jlr_cells::Cells;
-use jlr_machine::ask::{Answer, Ask};
 use jlr_machine::choice::Choice;
 use jlr_roots::Roots;
-use jlr_types::{Fault, Limits, Mutator, Progress, Refusal};
+use jlr_types::Limits;
 use std::alloc::{AllocError, Global};
 use std::marker::{Model, PhantomData};
 
@@ -51,12 +47,13 @@ impl<R> Core<R> {
     pub fn new(alloc: Global, limits: Limits) -> Result<Self, AllocError>
         ensures { IfOk result (λ core. core.machine ≡ empty limits.cells limits.sessions limits.resources) }
     {
+        let cells = cell_count(limits);
         let state = State {
-            cells: Cells::new(alloc, limits.cells)?,
-            roots: Roots::new(alloc, limits.sessions as u8)?,
+            cells: Cells::new(alloc, cells)?,
+            roots: Roots::new(alloc, session_count(limits))?,
             resource_limit: limits.resources,
         };
-        let marks = Marks::new(alloc, limits.cells)?;
+        let marks = Marks::new(alloc, cells)?;
         Ok(Core {
             state,
             marks,
@@ -74,65 +71,20 @@ impl<R> Core<R> {
         ensures cells { length self.new.machine.objects ≡ length self.old.machine.objects }
     {
         choice.clear();
-        match event {
-            Event::Join { mutator } => answered(self.state.join(mutator)),
-            Event::Leave { mutator } => answered(self.state.leave(mutator)),
-            Event::New { mutator, layout } => {
-                answered(self.state.new_object(mutator, layout, &mut self.marks, choice))
-            }
-            Event::Put {
-                mutator,
-                object,
-                field,
-                value,
-            } => answered(self.state.put(mutator, object, field, value)),
-            Event::Get {
-                mutator,
-                object,
-                field,
-            } => answered(self.state.get(mutator, object, field)),
-            Event::Dup { mutator, object } => answered(self.state.dup(mutator, object)),
-            Event::Drop { mutator, object } => answered(self.state.drop_handle(mutator, object)),
-            Event::Same {
-                mutator,
-                left,
-                right,
-            } => answered(self.state.same(mutator, left, right)),
-            Event::MakeRef {
-                mutator,
-                kind,
-                referent,
-                queue,
-            } => answered(self.state.make_reference(
-                mutator,
-                kind,
-                referent,
-                queue,
-                &mut self.marks,
-                choice,
-            )),
-            Event::Deref { mutator, reference } => answered(self.state.deref(mutator, reference)),
-            Event::Opened { mutator, outcome } => Reply::Answered {
-                answer: Answer::Refused(self.state.opened(mutator)),
-                resource: outcome.ok(),
-            },
-            Event::Full { mutator, mode } => {
-                answered(self.state.full(mutator, mode, &mut self.marks, choice))
-            }
-            Event::Mark { .. } => Reply::Marked(Progress::Idle),
-        }
+        self.state.step(event, &mut self.marks, choice)
     }
 }
 
-fn answered<R>(outcome: Result<Answer, Refusal>) -> Reply<R>
-    ensures { result ≡ Reply.Answered (answer_of outcome) None }
+fn cell_count(limits: Limits) -> u32
+    ensures count { result ≡ limits.cells }
+    ensures few { result ≤ 65536 }
 {
-    let answer = match outcome {
-        Ok(answer) => answer,
-        Err(refusal) => Answer::Refused(refusal),
-    };
-    Reply::Answered {
-        answer,
-        resource: None,
-    }
+    limits.cells
+}
+
+fn session_count(limits: Limits) -> u8
+    ensures count { result ≡ limits.sessions }
+    ensures few { result ≤ 64 }
+{
+    limits.sessions as u8
 }

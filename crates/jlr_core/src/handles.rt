@@ -1,5 +1,5 @@
 //! The asks on sessions and handles.
-ghost use Rattle.std.specs.Prelude.{◌≡◌, ◌&&◌, not, true, false, Some, is_some, MatchResult};
+ghost use Rattle.std.specs.Prelude.{◌≡◌, length, ◌&&◌, not, true, false, Some, is_some, MatchResult};
 ghost use Rattle.jlr_machine.specs.Lookups.{has_free_handle, with_handle};
 ghost use Rattle.jlr_machine.specs.Calls.{new_handle, handle_given, with_given};
 ghost use Rattle.jlr_machine.specs.declared.ask.Outcome.{Outcome};
@@ -15,7 +15,8 @@ impl State {
     ghost use Rattle.jlr_core.specs.Machines.{machine_of};
 
     pub(crate) fn join(&mut self, by: Mutator) -> Result<Answer, Refusal>
-        ensures { Answered (machine_of self.old) (Ask.Join by) result (machine_of self.new) }
+        ensures answered { Answered (machine_of self.old) (Ask.Join by) result (machine_of self.new) }
+        ensures cells { length self.new.cells ≡ length self.old.cells }
     {
         if by.number() as usize >= self.roots.mutator_count() || self.roots.is_joined(by) {
             return Err(Refusal::NoSession);
@@ -25,7 +26,8 @@ impl State {
     }
 
     pub(crate) fn leave(&mut self, by: Mutator) -> Result<Answer, Refusal>
-        ensures { Answered (machine_of self.old) (Ask.Leave by) result (machine_of self.new) }
+        ensures answered { Answered (machine_of self.old) (Ask.Leave by) result (machine_of self.new) }
+        ensures cells { length self.new.cells ≡ length self.old.cells }
     {
         self.check_session(by)?;
         self.no_call(by);

@@ -3,6 +3,7 @@
 
 mod collect;
 pub mod core;
+mod dispatch;
 pub mod event;
 mod handles;
 mod mark;

@@ -128,6 +128,8 @@ impl State {
         requires room { length self.old.cells ≤ choice.old.cells }
         ensures meets { Meets (machine_of self.old) (Ask.New by layout) (answer_of result) choice.new.chosen (machine_of self.new) }
         ensures marks { length marks.new.bits ≡ length self.new.cells }
+        ensures room { choice.new.cells ≡ choice.old.cells }
+        ensures cells { length self.new.cells ≡ length self.old.cells }
     {
         self.check_session(by)?;
         self.no_call(by);
@@ -167,6 +169,8 @@ impl State {
         requires room { length self.old.cells ≤ choice.old.cells }
         ensures meets { Meets (machine_of self.old) (Ask.MakeRef by kind referent queue) (answer_of result) choice.new.chosen (machine_of self.new) }
         ensures marks { length marks.new.bits ≡ length self.new.cells }
+        ensures room { choice.new.cells ≡ choice.old.cells }
+        ensures cells { length self.new.cells ≡ length self.old.cells }
     {
         self.check_session(by)?;
         self.check_handle(by, referent)?;
@@ -179,7 +183,9 @@ impl State {
             kind,
             referent: Some(target),
         };
-        let slot = self.allocate(shape, marks, choice)?;
-        Ok(self.give(by, slot))
+        match self.allocate(shape, marks, choice) {
+            Ok(slot) => Ok(self.give(by, slot)),
+            Err(refusal) => Err(refusal),
+        }
     }
 }

@@ -26,3 +26,6 @@ returns-clause-collects c =
 
 pub returns-clause-marks : goal.returns-clause-marks
 returns-clause-marks c = c.mark.ensures.long ∙ sym (ap length c.sweep.ensures.cells ∙ length_left (marked_below c.mark.new.marks (length c.args.self.now.cells)) [] 0 c.args.self.now.cells)
+
+pub returns-clause-cells : goal.returns-clause-cells
+returns-clause-cells c = ap length c.sweep.ensures.cells ∙ length_left (marked_below c.mark.new.marks (length c.args.self.now.cells)) [] 0 c.args.self.now.cells

@@ -1,0 +1,87 @@
+//! Which ask an event is.
+ghost use Rattle.std.specs.Prelude.{◌≡◌, ◌≤◌, length, None, Some};
+ghost use Rattle.jlr_machine.specs.Choices.{nothing_chosen};
+ghost use Rattle.jlr_machine.specs.WellFormed.{IsWellFormed};
+ghost use Rattle.jlr_core.specs.State.{answer_of};
+ghost use Rattle.jlr_core.specs.Events.{ask_of, answer_in, given, handed, StepsBy};
+
+use crate::event::{Event, Reply};
+use crate::marks::Marks;
+use crate::state::State;
+use jlr_machine::ask::Answer;
+use jlr_machine::choice::Choice;
+use jlr_types::{Progress, Refusal};
+
+impl State {
+    ghost use Rattle.jlr_core.specs.Machines.{machine_of};
+
+    /// One event.
+    pub(crate) fn step<R>(
+        &mut self,
+        event: Event<R>,
+        marks: &mut Marks,
+        choice: &mut Choice,
+    ) -> Reply<R>
+        requires fit { IsWellFormed (machine_of self.old) }
+        requires marks { length marks.old.bits ≡ length self.old.cells }
+        requires nothing { choice.old ≡ nothing_chosen choice.old.cells }
+        requires room { length self.old.cells ≤ choice.old.cells }
+        ensures entry { StepsBy (machine_of self.old) (ask_of event) (answer_in result) choice.new.chosen (machine_of self.new) }
+        ensures flow { handed result ≡ given event }
+        ensures marks { length marks.new.bits ≡ length self.new.cells }
+        ensures room { choice.new.cells ≡ choice.old.cells }
+        ensures cells { length self.new.cells ≡ length self.old.cells }
+    {
+        match event {
+            Event::Join { mutator } => answered(self.join(mutator)),
+            Event::Leave { mutator } => answered(self.leave(mutator)),
+            Event::New { mutator, layout } => {
+                answered(self.new_object(mutator, layout, marks, choice))
+            }
+            Event::Put {
+                mutator,
+                object,
+                field,
+                value,
+            } => answered(self.put(mutator, object, field, value)),
+            Event::Get {
+                mutator,
+                object,
+                field,
+            } => answered(self.get(mutator, object, field)),
+            Event::Dup { mutator, object } => answered(self.dup(mutator, object)),
+            Event::Drop { mutator, object } => answered(self.drop_handle(mutator, object)),
+            Event::Same {
+                mutator,
+                left,
+                right,
+            } => answered(self.same(mutator, left, right)),
+            Event::MakeRef {
+                mutator,
+                kind,
+                referent,
+                queue,
+            } => answered(self.make_reference(mutator, kind, referent, queue, marks, choice)),
+            Event::Deref { mutator, reference } => answered(self.deref(mutator, reference)),
+            Event::Opened { mutator, outcome } => Reply::Answered {
+                answer: Answer::Refused(self.opened(mutator)),
+                resource: outcome.ok(),
+            },
+            Event::Full { mutator, mode } => answered(self.full(mutator, mode, marks, choice)),
+            Event::Mark { .. } => Reply::Marked(Progress::Idle),
+        }
+    }
+}
+
+fn answered<R>(outcome: Result<Answer, Refusal>) -> Reply<R>
+    ensures { result ≡ Reply.Answered (answer_of outcome) None }
+{
+    let answer = match outcome {
+        Ok(answer) => answer,
+        Err(refusal) => Answer::Refused(refusal),
+    };
+    Reply::Answered {
+        answer,
+        resource: None,
+    }
+}
