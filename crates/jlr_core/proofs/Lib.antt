@@ -10,3 +10,4 @@ pub mod Clearings
 pub mod Rooms
 pub mod Entries
 pub mod Stepping
+pub mod RunLaws

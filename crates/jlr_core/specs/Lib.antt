@@ -5,3 +5,4 @@ pub mod Machines
 pub mod Collecting
 pub mod Events
 pub mod Cores
+pub mod Runs

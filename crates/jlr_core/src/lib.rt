@@ -9,5 +9,6 @@ mod handles;
 mod mark;
 mod marks;
 mod objects;
+pub mod run;
 mod state;
 mod sweep;

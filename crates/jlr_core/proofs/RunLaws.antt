@@ -1,0 +1,80 @@
+-- A run goes on by one step.
+use Rattle.std.proofs.Common.{◌≡◌, ℕ, List, [], ◌∷◌, ◌++◌, Option, Some, None, is_some, refl, sym, ◌∙◌, ap, subst, append_assoc, append-nil}
+use Rattle.std.specs.Option.{option_to_list}
+use Rattle.jlr_machine.specs.declared.machine.Machine.{Machine}
+use Rattle.jlr_machine.specs.declared.ask.Ask.{Ask}
+use Rattle.jlr_machine.specs.declared.ask.Answer.{Answer}
+use Rattle.jlr_machine.specs.declared.entry.Chosen.{Chosen}
+use Rattle.jlr_machine.specs.declared.entry.Entry.{Entry}
+use Rattle.jlr_machine.specs.Run.{Run, apply}
+use Rattle.jlr_core.specs.declared.event.Event.{Event}
+use Rattle.jlr_core.specs.declared.event.Reply.{Reply}
+use Rattle.jlr_core.specs.Events.{ask_of, answer_in, given, handed, entry_with, Enters}
+use Rattle.jlr_core.specs.Cores.{Kept, StandsIn}
+use Rattle.jlr_core.specs.Runs.{entries_of, AreAnswered, IsRunOf, all_given, all_handed}
+
+-- ---- Lists with one more
+
+run_joins : (m n o : Machine) (xs ys : List Entry) → Run m xs n → Run n ys o → Run m (xs ++ ys) o
+run_joins m n o [] ys r s = subst (λ k. Run k ys o) r s
+run_joins m n o (x ∷ xs) ys r s = (r.0, run_joins (apply m x) n o xs ys r.1 s)
+
+entries_more : {R : Type 0} (events : List (Event R)) (replies : List (Reply R)) (choices : List Chosen) (e : Event R) (r : Reply R) (c : Chosen) → AreAnswered events replies choices
+    → entries_of (events ++ e ∷ []) (replies ++ r ∷ []) (choices ++ c ∷ []) ≡ entries_of events replies choices ++ option_to_list (entry_with (ask_of e) (answer_in r) c)
+entries_more [] [] [] e r c a = append-nil (option_to_list (entry_with (ask_of e) (answer_in r) c))
+entries_more (x ∷ events) (y ∷ replies) (z ∷ choices) e r c a =
+    let one = option_to_list (entry_with (ask_of x) (answer_in y) z) in
+    ap (λ l. one ++ l) (entries_more events replies choices e r c a.1) ∙ sym (append_assoc one (entries_of events replies choices) (option_to_list (entry_with (ask_of e) (answer_in r) c)))
+entries_more [] [] (z ∷ choices) e r c a = absurd a
+entries_more [] (y ∷ replies) [] e r c a = absurd a
+entries_more [] (y ∷ replies) (z ∷ choices) e r c a = absurd a
+entries_more (x ∷ events) [] [] e r c a = absurd a
+entries_more (x ∷ events) [] (z ∷ choices) e r c a = absurd a
+entries_more (x ∷ events) (y ∷ replies) [] e r c a = absurd a
+
+answered_more : {R : Type 0} (events : List (Event R)) (replies : List (Reply R)) (choices : List Chosen) (e : Event R) (r : Reply R) (c : Chosen) → AreAnswered events replies choices → is_some (answer_in r) ≡ is_some (ask_of e) → AreAnswered (events ++ e ∷ []) (replies ++ r ∷ []) (choices ++ c ∷ [])
+answered_more [] [] [] e r c a h = (h, tt)
+answered_more (x ∷ events) (y ∷ replies) (z ∷ choices) e r c a h = (a.0, answered_more events replies choices e r c a.1 h)
+answered_more [] [] (z ∷ choices) e r c a h = absurd a
+answered_more [] (y ∷ replies) [] e r c a h = absurd a
+answered_more [] (y ∷ replies) (z ∷ choices) e r c a h = absurd a
+answered_more (x ∷ events) [] [] e r c a h = absurd a
+answered_more (x ∷ events) [] (z ∷ choices) e r c a h = absurd a
+answered_more (x ∷ events) (y ∷ replies) [] e r c a h = absurd a
+
+-- ---- One step
+
+entered : (m : Machine) (ask : Option Ask) (answer : Option Answer) (chosen : Chosen) (n : Machine) → Enters m ask answer chosen n → Run m (option_to_list (entry_with ask answer chosen)) n × (is_some answer ≡ is_some ask)
+entered m (Some ask) (Some answer) chosen n e = ((e.0, e.1), refl)
+entered m (Some ask) None chosen n e = absurd e
+entered m None (Some answer) chosen n e = absurd e
+entered m None None chosen n e = (e.1, refl)
+
+pub run_more : {R : Type 0} (m : Machine) (events : List (Event R)) (replies : List (Reply R)) (old new : Kept) (e : Event R) (r : Reply R) (chosen : Chosen)
+    → IsRunOf m events replies old → ((k : Machine) → StandsIn old k → (n : Machine) × Enters k (ask_of e) (answer_in r) chosen n × StandsIn new n) → IsRunOf m (events ++ e ∷ []) (replies ++ r ∷ []) new
+run_more m events replies old new e r chosen x step =
+    let s = step x.last x.stands in
+    let d = entered x.last (ask_of e) (answer_in r) chosen s.0 s.1 in
+    record {
+      choices = x.choices ++ chosen ∷ [];
+      last = s.0;
+      run = subst (λ l. Run m l s.0) (sym (entries_more events replies x.choices e r chosen x.answered)) (run_joins m x.last s.0 (entries_of events replies x.choices) (option_to_list (entry_with (ask_of e) (answer_in r) chosen)) x.run d.0);
+      stands = s.2;
+      answered = answered_more events replies x.choices e r chosen x.answered d.1;
+    }
+
+pub run_none : {R : Type 0} (m : Machine) (core : Kept) → StandsIn core m → IsRunOf {R = R} m [] [] core
+run_none m core s = record { choices = []; last = m; run = refl; stands = s; answered = tt }
+
+-- ---- Resources
+
+pub given_more : {R : Type 0} (events : List (Event R)) (e : Event R) → all_given (events ++ e ∷ []) ≡ all_given events ++ option_to_list (given e)
+given_more [] e = append-nil (option_to_list (given e))
+given_more (x ∷ events) e = ap (λ l. option_to_list (given x) ++ l) (given_more events e) ∙ sym (append_assoc (option_to_list (given x)) (all_given events) (option_to_list (given e)))
+
+pub handed_more : {R : Type 0} (replies : List (Reply R)) (r : Reply R) → all_handed (replies ++ r ∷ []) ≡ all_handed replies ++ option_to_list (handed r)
+handed_more [] r = append-nil (option_to_list (handed r))
+handed_more (x ∷ replies) r = ap (λ l. option_to_list (handed x) ++ l) (handed_more replies r) ∙ sym (append_assoc (option_to_list (handed x)) (all_handed replies) (option_to_list (handed r)))
+
+pub flow_more : {R : Type 0} (events : List (Event R)) (replies : List (Reply R)) (e : Event R) (r : Reply R) → all_handed replies ≡ all_given events → handed r ≡ given e → all_handed (replies ++ r ∷ []) ≡ all_given (events ++ e ∷ [])
+flow_more events replies e r h g = handed_more replies r ∙ ap (λ l. l ++ option_to_list (handed r)) h ∙ ap (λ o. all_given events ++ option_to_list o) g ∙ sym (given_more events e)

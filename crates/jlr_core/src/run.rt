@@ -1,0 +1,34 @@
+//! A whole list of events, from an empty machine.
+ghost use Rattle.std.specs.Prelude.{◌≡◌, List, IfOk, length};
+ghost use Rattle.jlr_machine.specs.declared.machine.Machine.{Machine};
+ghost use Rattle.jlr_machine.specs.declared.entry.Chosen.{Chosen};
+ghost use Rattle.jlr_machine.specs.Run.{Run, empty};
+ghost use Rattle.jlr_core.specs.Runs.{IsRunOf, all_given, all_handed};
+
+use crate::core::Core;
+use crate::event::{Event, Reply};
+use jlr_machine::choice::Choice;
+use jlr_types::Limits;
+use std::alloc::{AllocError, Global};
+
+/// Runs the events in order from the empty machine of the limits. There are choices with which the replies and the core that is
+/// left are a run of the machine of java.lang.ref; and no resource is made or lost.
+///
+/// # Errors
+/// `AllocError` where there is no room for the core, for a choice or for the replies.
+pub fn run<R: Drop>(
+    alloc: Global,
+    limits: Limits,
+    events: Vec<Event<R>>,
+) -> Result<(Vec<Reply<R>>, Core<R>), AllocError>
+    ensures run { IfOk result (λ out. IsRunOf (empty limits.cells limits.sessions limits.resources) events.items out.0.items out.1) }
+    ensures flow { IfOk result (λ out. all_handed out.0.items ≡ all_given events.items) }
+{
+    let mut core = Core::new(alloc, limits)?;
+    let mut choice = Choice::new(alloc, limits.cells)?;
+    let mut replies = Vec::with_capacity(alloc, events.len())?;
+    for event in events {
+        replies.push(core.step(event, &mut choice))?;
+    }
+    Ok((replies, core))
+}
