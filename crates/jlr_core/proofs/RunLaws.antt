@@ -1,12 +1,15 @@
 -- A run goes on by one step.
-use Rattle.std.proofs.Common.{◌≡◌, ℕ, List, [], ◌∷◌, ◌++◌, Option, Some, None, is_some, refl, sym, ◌∙◌, ap, subst, append_assoc, append-nil}
+use Rattle.std.proofs.Common.{◌≡◌, ℕ, List, [], ◌∷◌, ◌++◌, Option, Some, None, is_some, refl, sym, ◌∙◌, ap, subst, append_assoc, append-nil, true, length, ◌≤◌, arith}
+use Rattle.std.proofs.lemmas.Bool.{both_ways}
+use Rattle.std.proofs.lemmas.List.{length-replicate}
+use Rattle.jlr_machine.specs.declared.object.Object.{Object}
 use Rattle.std.specs.Option.{option_to_list}
 use Rattle.jlr_machine.specs.declared.machine.Machine.{Machine}
 use Rattle.jlr_machine.specs.declared.ask.Ask.{Ask}
 use Rattle.jlr_machine.specs.declared.ask.Answer.{Answer}
 use Rattle.jlr_machine.specs.declared.entry.Chosen.{Chosen}
 use Rattle.jlr_machine.specs.declared.entry.Entry.{Entry}
-use Rattle.jlr_machine.specs.Run.{Run, apply}
+use Rattle.jlr_machine.specs.Run.{Run, apply, empty}
 use Rattle.jlr_core.specs.declared.event.Event.{Event}
 use Rattle.jlr_core.specs.declared.event.Reply.{Reply}
 use Rattle.jlr_core.specs.Events.{ask_of, answer_in, given, handed, entry_with, Enters}
@@ -78,3 +81,21 @@ handed_more (x ∷ replies) r = ap (λ l. option_to_list (handed x) ++ l) (hande
 
 pub flow_more : {R : Type 0} (events : List (Event R)) (replies : List (Reply R)) (e : Event R) (r : Reply R) → all_handed replies ≡ all_given events → handed r ≡ given e → all_handed (replies ++ r ∷ []) ≡ all_given (events ++ e ∷ [])
 flow_more events replies e r h g = handed_more replies r ∙ ap (λ l. l ++ option_to_list (handed r)) h ∙ ap (λ o. all_given events ++ option_to_list o) g ∙ sym (given_more events e)
+
+-- ---- The start
+
+pub stands_at_start : (core : Kept) (cells sessions resources : ℕ) → core.machine ≡ empty cells sessions resources → StandsIn core (empty cells sessions resources)
+stands_at_start core cells sessions resources e = record { same = e; seen = λ h. absurd (both_ways true (sym h) refl); outside = λ _. refl }
+
+pub start_run : {R : Type 0} (core : Kept) (cells sessions resources : ℕ) (replies : List (Reply R)) → core.machine ≡ empty cells sessions resources → replies ≡ [] → IsRunOf (empty cells sessions resources) [] replies core
+start_run {R} core cells sessions resources replies e n =
+    let none : List (Event R) = [] in
+    subst (λ l. IsRunOf (empty cells sessions resources) none l core) (sym n) (run_none (empty cells sessions resources) core (stands_at_start core cells sessions resources e))
+
+pub start_flow : {R : Type 0} (replies : List (Reply R)) → replies ≡ [] → all_handed replies ≡ []
+start_flow replies n = ap all_handed n
+
+pub start_room : (core : Kept) (cells sessions resources room : ℕ) → core.machine ≡ empty cells sessions resources → room ≡ cells → length core.machine.objects ≤ room
+start_room core cells sessions resources room e r =
+    let none : Option Object = None in
+    omega (arith, ap (λ (x : Machine). length x.objects) e, length-replicate cells none, r)
