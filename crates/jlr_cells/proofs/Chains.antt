@@ -1,7 +1,6 @@
 -- The list of free cells after a change of one cell.
-use Rattle.std.proofs.Common.{◌≡◌, ◌≢◌, ℕ, zero, suc, ◌+◌, ◌-◌, ◌*◌, ◌<◌, ◌≤◌, ◌^◌, ◌⊎◌, inl, inr, Bool, true, false, cond, List, [], ◌∷◌, Option, Some, None, length, map, set, get_or, replicate, refl, sym, ap, ◌∙◌, arith, subst, length-set, add-one, sub-one, lt-ltb, le-ltb}
-use Rattle.std.specs.Prelude.{slice_get, is_some, option_and_then, option_map}
-use Rattle.std.proofs.lemmas.Bool.{cases_eq}
+use Rattle.std.proofs.Common.{◌≡◌, ◌≢◌, ℕ, zero, suc, ◌+◌, ◌-◌, ◌*◌, ◌<◌, ◌≤◌, ◌^◌, true, false, cond, List, [], ◌∷◌, Option, Some, None, length, set, get_or, replicate, refl, ap, ◌∙◌, arith, subst, length-set, add-one, sub-one, lt-ltb, le-ltb}
+use Rattle.std.specs.Prelude.{is_some, option_and_then, option_map}
 use Rattle.std.proofs.lemmas.Option.{slice_get_within, same_Some}
 use Rattle.jlr_machine.specs.declared.object.Object.{Object}
 use Rattle.jlr_machine.specs.Objects.{at, occupied}

@@ -1,10 +1,10 @@
 -- Which object a cell holds, and what is asked of objects.
-use Rattle.std.specs.Prelude.{◌≡◌, ℕ, List, Option, Some, None, map, is_some, Bool, option_and_then, slice_get}
+use Rattle.std.specs.Prelude.{◌≡◌, ℕ, List, Option, Some, None, map, option_and_then, slice_get}
 use Rattle.jlr_types.specs.declared.FieldValue.{FieldValue}
 use Rattle.jlr_machine.specs.declared.object.Object.{Object}
 use Rattle.jlr_machine.specs.declared.object.Object.TheVariants.{Plain as PlainObject, Reference as ReferenceObject}
 use Rattle.jlr_machine.specs.declared.object.RefState.TheVariants.{Fresh}
-use Rattle.jlr_machine.specs.Objects.{Heap, at, as_fields}
+use Rattle.jlr_machine.specs.Objects.{Heap, at, as_fields, as_reference}
 use Rattle.jlr_machine.specs.Lookups.{blank}
 use Rattle.jlr_cells.specs.declared.cell.Cell.{Cell}
 use Rattle.jlr_cells.specs.declared.cell.Cell.TheVariants.{Free, Plain, Reference}
@@ -38,8 +38,13 @@ kind_of _ = None
 abbrev pub field_in : Option Object → ℕ → Option FieldValue
 field_in o field = option_and_then (λ fields. slice_get fields field) (option_and_then as_fields o)
 
+-- a field of the object at a slot
 abbrev pub field_at : Heap → ℕ → ℕ → Option FieldValue
 field_at heap s field = field_in (at heap s) field
+
+-- what an object refers to, if it is a reference and was not cleared
+abbrev pub referent_in : Option Object → Option ℕ
+referent_in o = option_and_then (λ r. r.referent) (option_and_then as_reference o)
 
 -- an object of the kinds that cells have so far: a plain one, or a Fresh reference without a queue
 abbrev pub IsEarly : Object → Type 0

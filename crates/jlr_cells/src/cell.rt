@@ -1,15 +1,16 @@
 //! One cell.
 ghost use Rattle.std.specs.Prelude.{◌≡◌, Some, IsTrue, is_some, length, option_and_then, option_map, option_to_list, filter_map};
 ghost use Rattle.std.specs.List.{flat_map};
-ghost use Rattle.jlr_machine.specs.Objects.{as_fields, some_and, with_field, any_referent};
+ghost use Rattle.jlr_machine.specs.Objects.{as_fields, some_and, with_field, with_reference};
 ghost use Rattle.jlr_machine.specs.Edges.{slot_in, strong_edges};
-ghost use Rattle.jlr_machine.specs.Collection.{without_referent};
 ghost use Rattle.jlr_machine.specs.Refusals.{is_reference};
-ghost use Rattle.jlr_cells.specs.Contents.{object_in, object_of, kind_of, field_in};
+ghost use Rattle.jlr_machine.specs.Calls.{unreferred};
+ghost use Rattle.jlr_cells.specs.Contents.{field_in, kind_of, object_in, object_of, referent_in};
 
 use crate::fields::Fields;
 use crate::shape::{Kind, Shape};
 use jlr_types::{FieldValue, RefKind, Slot};
+use std::mem::size_of;
 
 /// A place for one object.
 #[derive(Drop)]
@@ -23,6 +24,9 @@ pub(crate) enum Cell {
         referent: Option<Slot>,
     },
 }
+
+// What the head of the crate says of the layout.
+const _: () = prove!(size_of::<Cell>() == 144);
 
 impl Cell {
     pub(crate) fn new(shape: Shape) -> Self
@@ -78,7 +82,7 @@ impl Cell {
     /// A reference loses its referent.
     pub(crate) fn clear_referent(&mut self)
         requires { IsTrue (some_and is_reference (object_in self.old)) }
-        ensures { object_in self.new ≡ option_map without_referent (object_in self.old) }
+        ensures { object_in self.new ≡ option_map (with_reference unreferred) (object_in self.old) }
     {
         match self {
             Cell::Reference { referent, .. } => *referent = None,
@@ -87,7 +91,7 @@ impl Cell {
     }
 
     pub(crate) fn referent(&self) -> Option<Slot>
-        ensures { result ≡ option_and_then any_referent (object_in self.now) }
+        ensures { result ≡ referent_in (object_in self.now) }
     {
         match self {
             Cell::Reference { referent, .. } => *referent,

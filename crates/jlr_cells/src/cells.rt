@@ -3,11 +3,11 @@ ghost use Rattle.std.specs.Prelude.{◌≡◌, ℕ, ◌+◌, ◌^◌, ◌<◌, �
 ghost use Rattle.jlr_machine.specs.Objects.{as_fields, at, change_at, empty_at, occupied, set_at, some_and};
 ghost use Rattle.jlr_machine.specs.Edges.{edges_from, slot_in};
 ghost use Rattle.jlr_machine.specs.Edges.Chain.{Strong};
-ghost use Rattle.jlr_machine.specs.Objects.{with_field, any_referent};
-ghost use Rattle.jlr_machine.specs.Collection.{without_referent};
-ghost use Rattle.jlr_machine.specs.Refusals.{is_reference};
+ghost use Rattle.jlr_machine.specs.Objects.{with_field, with_reference};
+ghost use Rattle.jlr_machine.specs.Refusals.{is_plain, is_reference};
+ghost use Rattle.jlr_machine.specs.Calls.{unreferred};
+ghost use Rattle.jlr_cells.specs.Contents.{IsEarly, field_at, kind_of, object_of, objects_in, referent_in};
 ghost use Rattle.jlr_machine.specs.declared.object.Object.{Object};
-ghost use Rattle.jlr_cells.specs.Contents.{IsEarly, field_at, kind_of, object_of, objects_in};
 
 use crate::cell::Cell;
 use crate::free_list::{free_cells, link_to, next_free};
@@ -113,6 +113,13 @@ impl Cells {
         }
     }
 
+    /// Whether there is a plain object at a slot.
+    pub fn is_plain(&self, slot: Slot) -> bool
+        ensures { result ≡ some_and is_plain (at self.now slot) }
+    {
+        self.kind(slot) == Some(Kind::Plain)
+    }
+
     /// Whether there is a reference at a slot.
     pub fn is_reference(&self, slot: Slot) -> bool
         ensures { result ≡ some_and is_reference (at self.now slot) }
@@ -158,7 +165,7 @@ impl Cells {
     /// What the reference at a slot refers to.
     pub fn referent(&self, slot: Slot) -> Option<Slot>
         requires { IsTrue (some_and is_reference (at self.now slot)) }
-        ensures { result ≡ option_and_then any_referent (at self.now slot) }
+        ensures { result ≡ referent_in (at self.now slot) }
     {
         match self.cells.get(slot.number() as usize) {
             Some(cell) => cell.referent(),
@@ -169,7 +176,7 @@ impl Cells {
     /// The reference at a slot loses its referent.
     pub fn clear_referent(&mut self, slot: Slot)
         requires { IsTrue (some_and is_reference (at self.old slot)) }
-        ensures { self.new ≡ change_at self.old slot without_referent }
+        ensures { self.new ≡ change_at self.old slot (with_reference unreferred) }
     {
         let cell = &mut self.cells[slot.number() as usize];
         cell.clear_referent();
@@ -244,6 +251,7 @@ mod tests {
         let mut cells = Cells::new(rt.alloc(), 16)?;
         let slot = cells.take(Shape::Plain(pair())).ok_or("no cell")?;
         assert_eq!(rt; cells.kind(slot), Some(Kind::Plain));
+        assert!(rt; cells.is_plain(slot) && !cells.is_reference(slot));
         assert_eq!(rt; cells.field_count(slot), Some(2));
         assert!(rt; !cells.has_field(slot, 2));
         assert!(rt; cells.has_field(slot, 1));

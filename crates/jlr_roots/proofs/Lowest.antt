@@ -1,11 +1,11 @@
 -- The lowest free handle is found, or there is none.
-use Rattle.std.proofs.Common.{◌≡◌, ℕ, zero, suc, ◌+◌, ◌-◌, ◌<◌, ◌≤◌, Bool, true, false, cond, not, List, [], ◌∷◌, Option, Some, None, length, take, drop, length-drop, refl, sym, ap, ◌∙◌, arith, lt-ltb, le-ltb, inl, inr}
-use Rattle.std.specs.Prelude.{is_some, is_none, nat_lt, position}
+use Rattle.std.proofs.Common.{◌≡◌, ℕ, suc, ◌+◌, ◌-◌, ◌<◌, ◌≤◌, Bool, cond, not, List, [], ◌∷◌, Option, Some, None, length, take, drop, length-drop, sym, arith, lt-ltb, le-ltb, inl, inr}
+use Rattle.std.specs.Prelude.{is_some, is_none, position}
 use Rattle.std.specs.List.{prefix_len}
 use Rattle.std.proofs.lemmas.Bool.{cases_lt}
 use Rattle.std.proofs.lemmas.List.{take_all}
 use Rattle.std.proofs.lemmas.List.Sums.{sum_by-cons}
-use Rattle.jlr_machine.specs.Objects.{at, occupied, first_free}
+use Rattle.jlr_machine.specs.Objects.{occupied, first_free}
 use Rattle.jlr_roots.specs.HandleTable.{IsHandleTable, has_room, lowest_free}
 
 -- a place is taken

@@ -1,14 +1,14 @@
 -- The sessions in members, at one mutator.
-use Rattle.std.proofs.Common.{◌≡◌, ◌≢◌, ℕ, zero, suc, ◌+◌, ◌<◌, ◌≤◌, Bool, true, false, List, [], ◌∷◌, Option, Some, None, length, map, set, get_or, replicate, refl, sym, ap, ◌∙◌, arith, subst, inl, inr, length-set, get_or-set_same, get_or-set_other}
+use Rattle.std.proofs.Common.{◌≡◌, ℕ, zero, suc, ◌<◌, true, List, [], ◌∷◌, Option, Some, None, length, set, get_or, replicate, refl, ap, ◌∙◌, arith, subst, inl, inr, length-set, get_or-set_same, get_or-set_other}
 use Rattle.std.specs.Prelude.{slice_get, is_some, option_and_then, option_map}
 use Rattle.std.proofs.lemmas.Bool.{cases_eq}
-use Rattle.std.proofs.lemmas.List.{map-set, length-map, set-get_or, length-replicate, get_or-replicate}
-use Rattle.std.proofs.lemmas.Option.{slice_get_read, slice_get-get_or, same_Some}
+use Rattle.std.proofs.lemmas.List.{map-set, length-replicate, get_or-replicate}
+use Rattle.std.proofs.lemmas.Option.{slice_get_read, slice_get-get_or}
 use Rattle.jlr_machine.specs.declared.machine.Session.{Session}
 use Rattle.jlr_machine.specs.Objects.{at, change_at}
 use Rattle.jlr_roots.specs.declared.member.Member.{Member}
 use Rattle.jlr_roots.specs.HandleTable.{IsHandleTable}
-use Rattle.jlr_roots.specs.Sessions.{session_in, sessions_in, AreMembers, absent, slot_held}
+use Rattle.jlr_roots.specs.Sessions.{session_in, sessions_in, AreMembers, absent}
 
 -- the session at a mutator is what its member holds
 pub at-sessions_in : (members : List Member) (k : ℕ) → at (sessions_in members) k ≡ option_and_then session_in (slice_get members k)

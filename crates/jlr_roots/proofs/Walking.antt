@@ -1,10 +1,9 @@
 -- The walk over all places comes by each slot that is held, in order.
-use Rattle.std.proofs.Common.{◌≡◌, ℕ, zero, suc, ◌+◌, ◌*◌, ◌/◌, ◌%◌, ◌<◌, ◌≤◌, List, [], ◌∷◌, ◌++◌, Option, Some, None, length, map, take, get_or, refl, sym, ap, ◌∙◌, arith, subst, append_assoc, add-zero}
+use Rattle.std.proofs.Common.{◌≡◌, ℕ, zero, suc, ◌+◌, ◌*◌, ◌/◌, ◌%◌, ◌<◌, ◌≤◌, List, [], ◌∷◌, ◌++◌, Option, Some, None, length, take, get_or, refl, sym, ap, ◌∙◌, arith, append_assoc, add-zero}
 use Rattle.std.specs.Prelude.{is_some, option_and_then, option_to_list, filter_map}
-use Rattle.std.specs.List.{flat_map}
 use Rattle.std.proofs.Math.Nat.{add-suc, mul-suc}
 use Rattle.std.proofs.Math.Seq.{take-suc}
-use Rattle.std.proofs.lemmas.List.{take_all, append-nil, length-map}
+use Rattle.std.proofs.lemmas.List.{take_all, append-nil}
 use Rattle.std.proofs.lemmas.Option.{cond_some, slice_get-get_or}
 use Rattle.std.proofs.lemmas.List.Elements.{filter_map-append}
 use Rattle.std.proofs.lemmas.Grind.{flat_map-append}
@@ -12,7 +11,7 @@ use Rattle.jlr_machine.specs.declared.machine.Session.{Session}
 use Rattle.jlr_machine.specs.Objects.{Table, at}
 use Rattle.jlr_machine.specs.declared.machine.Call.TheVariants.{Free}
 use Rattle.jlr_roots.specs.declared.member.Member.{Member}
-use Rattle.jlr_roots.specs.Sessions.{session_in, sessions_in, AreMembers, absent, slot_held}
+use Rattle.jlr_roots.specs.Sessions.{session_in, sessions_in, AreMembers, absent}
 use Rattle.jlr_roots.specs.Walk.{slots_held, root_at, walked}
 use Rattle.jlr_roots.proofs.Members.{at-sessions_in, within_members}
 

@@ -1,5 +1,5 @@
 -- The handles of one mutator.
-use Rattle.std.specs.Prelude.{◌≡◌, ℕ, Bool, nat_lt, List, Option, None, length, drop}
+use Rattle.std.specs.Prelude.{◌≡◌, ℕ, Bool, nat_lt, None, length, drop}
 use Rattle.jlr_machine.specs.Objects.{Table, at, occupied, first_free}
 
 -- 251 places, of which the first, null, holds nothing

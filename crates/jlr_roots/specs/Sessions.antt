@@ -1,8 +1,8 @@
 -- What a member holds as a session of the machine, and changes to one session.
-use Rattle.std.specs.Prelude.{◌≡◌, ◌<◌, ◌^◌, ℕ, Bool, false, if◌then◌else◌, List, Option, Some, None, option_and_then, map, slice_index_or, length, replicate}
+use Rattle.std.specs.Prelude.{◌<◌, ℕ, Bool, false, if◌then◌else◌, List, Option, Some, None, option_and_then, map, slice_index_or, length}
 use Rattle.jlr_machine.specs.declared.machine.Session.{Session}
 use Rattle.jlr_machine.specs.declared.machine.Call.TheVariants.{Free}
-use Rattle.jlr_machine.specs.Objects.{Table, at, set_at, empty_at, change_at, some_and}
+use Rattle.jlr_machine.specs.Objects.{Table, at, set_at, empty_at, some_and}
 use Rattle.jlr_machine.specs.Calls.{no_handles}
 use Rattle.jlr_roots.specs.declared.member.Member.{Member}
 use Rattle.jlr_roots.specs.HandleTable.{IsHandleTable, has_room, lowest_free}
@@ -29,17 +29,20 @@ pub record AreMembers (members : List Member) : Type 0 where
 abbrev pub has_free_handle : Table Session → ℕ → Bool
 has_free_handle mutators k = some_and (λ s. has_room s.handles) (at mutators k)
 
--- the lowest free handle of a session, and of a mutator
-abbrev pub free_handle : Session → ℕ
-free_handle s = lowest_free s.handles
+-- the lowest free handle, or 0 of one who is not joined
+abbrev pub lowest_in : Option Session → ℕ
+lowest_in s = elim s [ None ↦ 0 | Some x ↦ lowest_free x.handles ]
+
+abbrev pub free_handle : Table Session → ℕ → ℕ
+free_handle mutators k = lowest_in (at mutators k)
 
 -- the slot that a handle stands for
 abbrev pub slot_held : Table Session → ℕ → ℕ → Option ℕ
 slot_held mutators k handle = option_and_then (λ s. at s.handles handle) (at mutators k)
 
--- the session holds a slot by its lowest free handle; it no longer uses a handle
-abbrev pub with_slot : ℕ → Session → Session
-with_slot slot s = record s { handles = set_at s.handles (free_handle s) slot }
+-- the session holds a slot by a handle; it no longer uses the handle
+abbrev pub with_slot : ℕ → ℕ → Session → Session
+with_slot handle slot s = record s { handles = set_at s.handles handle slot }
 
 abbrev pub without_handle : ℕ → Session → Session
 without_handle handle s = record s { handles = empty_at s.handles handle }

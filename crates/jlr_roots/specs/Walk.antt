@@ -1,8 +1,8 @@
 -- The places of all mutators, one after another, 251 each.
-use Rattle.std.specs.Prelude.{ℕ, zero, suc, ◌/◌, ◌%◌, List, [], ◌++◌, Option, option_and_then, option_to_list, filter_map}
+use Rattle.std.specs.Prelude.{ℕ, zero, suc, ◌/◌, ◌%◌, List, [], ◌++◌, Option, option_to_list, filter_map}
 use Rattle.std.specs.List.{flat_map}
 use Rattle.jlr_machine.specs.declared.machine.Session.{Session}
-use Rattle.jlr_machine.specs.Objects.{Table, at}
+use Rattle.jlr_machine.specs.Objects.{Table}
 use Rattle.jlr_roots.specs.Sessions.{slot_held}
 
 -- what the mutators' handles stand for, as the machine's roots list it

@@ -60,7 +60,7 @@ impl Handles {
         ensures room { is_some result ≡ has_room self.old }
         ensures none { IfNone result (self.new ≡ self.old) }
         ensures lowest { IfSome result (λ handle. handle ≡ lowest_free self.old) }
-        ensures held { IfSome result (λ handle. self.new ≡ set_at self.old (lowest_free self.old) slot) }
+        ensures held { IfSome result (λ handle. self.new ≡ set_at self.old handle slot) }
         ensures table { IsHandleTable self.new }
     {
         match first_free(&self.slots) {

@@ -3,7 +3,7 @@ ghost use Rattle.std.specs.Prelude.{◌≡◌, IfOk, IfNone, IfSome, IsTrue, Som
 ghost use Rattle.jlr_machine.specs.Objects.{at, some_and};
 ghost use Rattle.jlr_machine.specs.Calls.{fresh_session};
 ghost use Rattle.jlr_roots.specs.HandleTable.{IsHandleTable, has_room};
-ghost use Rattle.jlr_roots.specs.Sessions.{absent, free_handle, session_in, with_slot, without_handle};
+ghost use Rattle.jlr_roots.specs.Sessions.{absent, lowest_in, session_in, with_slot, without_handle};
 
 use crate::handles::Handles;
 use jlr_types::{Handle, Slot};
@@ -67,8 +67,8 @@ impl Member {
         requires { IsTrue (is_some (session_in self.old)) }
         ensures room { is_some result ≡ some_and (λ s. has_room s.handles) (session_in self.old) }
         ensures none { IfNone result (self.new ≡ self.old) }
-        ensures lowest { IfSome result (λ handle. option_map free_handle (session_in self.old) ≡ Some handle) }
-        ensures held { IfSome result (λ handle. session_in self.new ≡ option_map (with_slot slot) (session_in self.old)) }
+        ensures lowest { IfSome result (λ handle. handle ≡ lowest_in (session_in self.old)) }
+        ensures held { IfSome result (λ handle. session_in self.new ≡ option_map (with_slot handle slot) (session_in self.old)) }
         ensures table { IsHandleTable self.new.handles }
     {
         self.handles.put(slot)

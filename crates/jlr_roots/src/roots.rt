@@ -103,8 +103,8 @@ impl Roots {
         requires { IsTrue (is_some (at self.old mutator)) }
         ensures room { is_some result ≡ has_free_handle self.old mutator }
         ensures none { IfNone result (self.new ≡ self.old) }
-        ensures lowest { IfSome result (λ handle. option_map free_handle (at self.old mutator) ≡ Some handle) }
-        ensures held { IfSome result (λ handle. self.new ≡ change_at self.old mutator (with_slot slot)) }
+        ensures lowest { IfSome result (λ handle. handle ≡ free_handle self.old mutator) }
+        ensures held { IfSome result (λ handle. self.new ≡ change_at self.old mutator (with_slot handle slot)) }
     {
         let member = &mut self.members[mutator.number() as usize];
         member.put_handle(slot)
@@ -131,7 +131,7 @@ impl Roots {
         ensures count { result ≡ 251 * length self.now }
         ensures walk { walked self.now result ≡ slots_held self.now }
     {
-        self.members.len() * PLACES
+        PLACES * self.members.len()
     }
 
     /// The root at a place, if there is one.

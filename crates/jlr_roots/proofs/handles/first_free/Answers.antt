@@ -1,6 +1,6 @@
 use Rattle.std.proofs.Common.{◌≡◌, ◌∙◌, None, Some, drop, sym, arith, ap}
 use Rattle.std.specs.Prelude.{is_none, position, is_some}
-use Rattle.jlr_roots.proofs.Lowest.{Finds, finds, behind_null}
+use Rattle.jlr_roots.proofs.Lowest.{finds, behind_null}
 use Rattle.jlr_roots.proofs.handles.first_free.Goals as goal
 
 pub returns-in-Some-clause-room : goal.returns-in-Some-clause-room

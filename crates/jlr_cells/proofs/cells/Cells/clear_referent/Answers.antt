@@ -1,7 +1,7 @@
 use Rattle.std.proofs.Common.{◌≡◌, ◌<◌, true, length}
 use Rattle.std.specs.Prelude.{is_some}
-use Rattle.jlr_machine.specs.Objects.{at}
-use Rattle.jlr_machine.specs.Collection.{without_referent}
+use Rattle.jlr_machine.specs.Objects.{at, with_reference}
+use Rattle.jlr_machine.specs.Calls.{unreferred}
 use Rattle.jlr_cells.specs.Contents.{objects_in}
 use Rattle.jlr_cells.proofs.Slots.{object_of_reference, change_at-objects_in, within_cells}
 use Rattle.jlr_cells.proofs.Chains.{changed}
@@ -11,9 +11,9 @@ holds : (c : goal.After-self-1) → is_some (at (objects_in c.self.inside.cells.
 holds c = rw (c.number.ensures, c.self.view_is) (object_of_reference _ c.requires)
 
 pub invariant_of-self : goal.invariant_of-self
-invariant_of-self c = changed _ _ _ _ c.index_mut-cell.result.now _ without_referent c.self.invariant (holds c) c.index_mut-cell.ensures.value c.clear_referent.ensures
+invariant_of-self c = changed _ _ _ _ c.index_mut-cell.result.now _ (with_reference unreferred) c.self.invariant (holds c) c.index_mut-cell.ensures.value c.clear_referent.ensures
 
 pub returns : goal.returns
 returns c =
     let within : c.number.result < length c.self.inside.cells.items = within_cells _ _ (holds c) in
-    rw (← c.self.view_is, ← c.number.ensures) (change_at-objects_in _ _ c.index_mut-cell.result.now _ without_referent within c.index_mut-cell.ensures.value c.clear_referent.ensures)
+    rw (← c.self.view_is, ← c.number.ensures) (change_at-objects_in _ _ c.index_mut-cell.result.now _ (with_reference unreferred) within c.index_mut-cell.ensures.value c.clear_referent.ensures)

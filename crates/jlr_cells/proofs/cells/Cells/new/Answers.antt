@@ -1,4 +1,3 @@
-use Rattle.std.proofs.Common.{◌∙◌}
 use Rattle.jlr_cells.proofs.Chains.{new_list, new_objects}
 use Rattle.jlr_cells.proofs.cells.Cells.new.Goals as goal
 

@@ -1,9 +1,8 @@
-use Rattle.std.proofs.Common.{◌≡◌, ◌<◌, ◌∙◌, ap, sym, Some, None, length, map, refl, arith}
+use Rattle.std.proofs.Common.{◌≡◌, ◌<◌, ◌∙◌, ap, Some, None, length, refl, arith}
 use Rattle.std.proofs.lemmas.List.{map-set, length-map}
 use Rattle.std.proofs.lemmas.Option.{slice_get_within}
 use Rattle.std.specs.Prelude.{option_and_then}
-use Rattle.jlr_machine.specs.Objects.{at, occupied}
-use Rattle.jlr_cells.specs.declared.cell.Cell.TheVariants.{Free}
+use Rattle.jlr_machine.specs.Objects.{occupied}
 use Rattle.jlr_cells.specs.FreeList.{IsFreeList, IsFreeAt}
 use Rattle.jlr_cells.specs.Contents.{object_in, objects_in}
 use Rattle.jlr_cells.proofs.Slots.{at-objects_in}
