@@ -37,21 +37,25 @@ begun_ended : (held : Held) → held.ended ≡ true → begun held ≡ []
 begun_ended held e = rw e refl
 
 -- the line goes on
+pub line_goes_on : (done last : List ℕ) (lines : List (List ℕ)) (old : Held) (bytes : List ℕ) (used : ℕ) (new : Held)
+    → AreLines done lines last → begun old ≡ take 513 last → Continues old bytes used new
+    → AreLines (done ++ take used bytes) lines (last ++ bytes) × (begun new ≡ take 513 (last ++ bytes))
+line_goes_on done last lines old bytes used new are holds h =
+    let all : take used bytes ≡ bytes = take_all used bytes (omega (arith, h.whole)) in
+    (
+      record {
+        joined = ap (λ xs. done ++ xs) all ∙ ap (λ xs. xs ++ bytes) are.joined ∙ append_assoc (ended_lines lines) last bytes;
+        each = are.each;
+        open_end = All-append (λ b. b ≡ 10 → ⊥) last bytes are.open_end h.in_line;
+      },
+      begun_open new h.under_way ∙ h.held ∙ ap (λ xs. take 513 (xs ++ bytes)) holds ∙ take_twice 513 last bytes,
+    )
+
 reads_on : (done : List ℕ) (seen : List Shown) (old : Held) (bytes : List ℕ) (used : ℕ) (new : Held)
     → Reads done seen old → Continues old bytes used new → Reads (done ++ take used bytes) (seen ++ []) new
 reads_on done seen old bytes used new r h =
-    let all : take used bytes ≡ bytes = take_all used bytes (omega (arith, h.whole)) in
-    record {
-      lines = r.lines;
-      last = r.last ++ bytes;
-      are = record {
-        joined = ap (λ xs. done ++ xs) all ∙ ap (λ xs. xs ++ bytes) r.are.joined ∙ append_assoc (ended_lines r.lines) r.last bytes;
-        each = r.are.each;
-        open_end = All-append (λ b. b ≡ 10 → ⊥) r.last bytes r.are.open_end h.in_line;
-      };
-      shows = append-nil seen ∙ r.shows;
-      holds = begun_open new h.under_way ∙ h.held ∙ ap (λ xs. take 513 (xs ++ bytes)) r.holds ∙ take_twice 513 r.last bytes;
-    }
+    let on = line_goes_on done r.last r.lines old bytes used new r.are r.holds h in
+    record { lines = r.lines; last = r.last ++ bytes; are = on.0; shows = append-nil seen ∙ r.shows; holds = on.1 }
 
 -- the front and the end of its line are what was used
 used_front : (bytes front rest : List ℕ) (used : ℕ) → bytes ≡ front ++ 10 ∷ rest → used ≡ length front + 1 → take used bytes ≡ front ++ 10 ∷ []
@@ -64,29 +68,48 @@ one_line_more : (lines : List (List ℕ)) (last front done : List ℕ) → done 
     → done ++ (front ++ 10 ∷ []) ≡ ended_lines (lines ++ (last ++ front) ∷ []) ++ []
 one_line_more lines last front done e =
     let more : ended_lines (lines ++ (last ++ front) ∷ []) ≡ ended_lines lines ++ (((last ++ front) ++ 10 ∷ []) ++ [])
-      = flat_map-append (λ line. line ++ 10 ∷ []) lines ((last ++ front) ∷ []) in
-    rw (append-nil (ended_lines (lines ++ (last ++ front) ∷ [])), more, append-nil ((last ++ front) ++ 10 ∷ []), e,
-    append_assoc last front (10 ∷ []), append_assoc (ended_lines lines) last (front ++ 10 ∷ [])) refl
+    = flat_map-append (λ line. line ++ 10 ∷ []) lines ((last ++ front) ∷ []) in
+    rw (
+      append-nil (ended_lines (lines ++ (last ++ front) ∷ [])),
+      more,
+      append-nil ((last ++ front) ++ 10 ∷ []),
+      e,
+      append_assoc last front (10 ∷ []),
+      append_assoc (ended_lines lines) last (front ++ 10 ∷ []),
+    ) refl
 
 -- a line ends
+pub line_ends : (fits : ℕ → Type 0) (done last : List ℕ) (lines : List (List ℕ)) (old : Held) (bytes : List ℕ) (used : ℕ) (new : Held)
+    → AreLines done lines last → begun old ≡ take 513 last → (h : Ends fits old bytes used new)
+    → AreLines (done ++ take used bytes) (lines ++ (last ++ h.front) ∷ []) []
+    × IsInLine (last ++ h.front) × (new.bytes ≡ take 513 (last ++ h.front)) × (begun new ≡ [])
+line_ends fits done last lines old bytes used new are holds h =
+    let in_line : IsInLine (last ++ h.front) = All-append (λ b. b ≡ 10 → ⊥) last h.front are.open_end h.in_line in
+    (
+      record {
+        joined = ap (λ xs. done ++ xs) (used_front bytes h.front h.rest used h.cut h.taken) ∙ one_line_more lines last h.front done are.joined;
+        each = All-push IsInLine lines (last ++ h.front) are.each in_line;
+        open_end = All-nil (λ b. b ≡ 10 → ⊥);
+      },
+      in_line,
+      h.held ∙ ap (λ xs. take 513 (xs ++ h.front)) holds ∙ take_twice 513 last h.front,
+      begun_ended new h.ended,
+    )
+
 reads_line : (too_long : Bool) (fits : ℕ → Type 0) (done : List ℕ) (seen : List Shown) (old : Held) (bytes : List ℕ) (used : ℕ) (new : Held)
     → (r : Reads done seen old) → (h : Ends fits old bytes used new) → nat_lt 512 (length (r.last ++ h.front)) ≡ too_long
     → Reads (done ++ take used bytes) (seen ++ (record { bytes = new.bytes; too_long = too_long }) ∷ []) new
 reads_line too_long fits done seen old bytes used new r h size =
     let line = r.last ++ h.front in
-    let held : new.bytes ≡ take 513 line = h.held ∙ ap (λ xs. take 513 (xs ++ h.front)) r.holds ∙ take_twice 513 r.last h.front in
+    let ends = line_ends fits done r.last r.lines old bytes used new r.are r.holds h in
     let show : Shown = record { bytes = new.bytes; too_long = too_long } in
-    let same : show ≡ shown line = rw (held, size) refl in
+    let same : show ≡ shown line = rw (ends.2, size) refl in
     record {
       lines = r.lines ++ line ∷ [];
       last = [];
-      are = record {
-        joined = ap (λ xs. done ++ xs) (used_front bytes h.front h.rest used h.cut h.taken) ∙ one_line_more r.lines r.last h.front done r.are.joined;
-        each = All-push IsInLine r.lines line r.are.each (All-append (λ b. b ≡ 10 → ⊥) r.last h.front r.are.open_end h.in_line);
-        open_end = All-nil (λ b. b ≡ 10 → ⊥);
-      };
+      are = ends.0;
       shows = ap (λ s. seen ++ s ∷ []) same ∙ ap (λ s. s ++ shown line ∷ []) r.shows ∙ sym (map-append shown r.lines (line ∷ []));
-      holds = begun_ended new h.ended;
+      holds = ends.3;
     }
 
 is_short : (begun_bytes last front : List ℕ) → begun_bytes ≡ take 513 last → length (begun_bytes ++ front) ≤ 512 → nat_lt 512 (length (last ++ front)) ≡ false

@@ -18,7 +18,7 @@ unfolding is_end
 apart [] last each open_end = slice_split_none is_end last (no_end last open_end)
 apart (line ∷ lines) last each open_end =
     let joined : ended_lines (line ∷ lines) ++ last ≡ line ++ 10 ∷ (ended_lines lines ++ last)
-      = append_assoc (line ++ 10 ∷ []) (ended_lines lines) last ∙ append_assoc line (10 ∷ []) (ended_lines lines ++ last) in
+    = append_assoc (line ++ 10 ∷ []) (ended_lines lines) last ∙ append_assoc line (10 ∷ []) (ended_lines lines ++ last) in
     ap (slice_split is_end) joined
     ∙ slice_split_at is_end line 10 (ended_lines lines ++ last) (no_end line (All-head IsInLine line lines each)) refl
     ∙ ap (λ xs. line ∷ xs) (apart lines last (All-tail IsInLine line lines each) open_end)

@@ -18,7 +18,9 @@ use jlr_types::{Handle, Layout, Refusal};
 #[derive(Drop)]
 pub enum Command {
     /// `new L`: makes an object with these fields.
-    New { layout: Layout },
+    New {
+        layout: Layout,
+    },
     /// `put h k v`: writes a reference field.
     Put {
         object: Handle,
@@ -26,17 +28,32 @@ pub enum Command {
         value: Handle,
     },
     /// `get h k`: reads a reference field.
-    Get { object: Handle, field: u8 },
+    Get {
+        object: Handle,
+        field: u8,
+    },
     /// `dup h`: one handle more for the object.
-    Dup { object: Handle },
+    Dup {
+        object: Handle,
+    },
     /// `drop h`: gives the handle up.
-    Drop { object: Handle },
+    Drop {
+        object: Handle,
+    },
     /// `same a b`: whether both name one object.
-    Same { left: Handle, right: Handle },
+    Same {
+        left: Handle,
+        right: Handle,
+    },
     /// `weak h q`: makes a weak reference, with a queue or without one.
-    Weak { referent: Handle, queue: Handle },
+    Weak {
+        referent: Handle,
+        queue: Handle,
+    },
     /// `deref r`: what a reference refers to.
-    Deref { reference: Handle },
+    Deref {
+        reference: Handle,
+    },
     /// `gc`: a full collection.
     Full,
     /// `bye`: ends the session.

@@ -10,3 +10,5 @@ mod number;
 pub mod pieces;
 pub mod reply;
 pub mod stream;
+#[cfg(test)]
+mod tests;
