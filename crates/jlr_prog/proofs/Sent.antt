@@ -1,0 +1,49 @@
+-- Replies that go out, and bytes that come in.
+use Rattle.std.proofs.Common.{true, false, subst, ◌≤◌, ◌≡◌, ◌≢◌, ℕ, ◌<◌, List, [], ◌∷◌, ◌++◌, take, drop, length, Option, Some, None, Result, Ok, Err, refl, sym, ap, ◌∙◌, arith, append_assoc}
+use Rattle.std.specs.Prelude.{MatchResult, IfSome, IfNone, IsErr}
+use Rattle.std.specs.Io.KnownBytes.{Appends, Consumes, Keeps}
+use Rattle.std.proofs.lemmas.List.{append-nil, take_all}
+use Rattle.std.proofs.lemmas.Option.{none-some}
+use Rattle.std.proofs.lemmas.Bool.{false≢true}
+use Rattle.jlr_wire.specs.Replies.{Sends}
+use Rattle.jlr_wire.proofs.Sending.{Appends-keeps}
+use Rattle.jlr_prog.specs.Turns.{with_end}
+
+-- what is kept grows by nothing
+pub keeps_appends : (a b : Option (List ℕ)) → Keeps a b → Appends a b []
+keeps_appends None b h = tt
+keeps_appends (Some xs) None h = absurd h
+keeps_appends (Some xs) (Some ys) h = h ∙ sym (append-nil xs)
+
+pub keeps_consumes : (a b : Option (List ℕ)) → Keeps a b → Consumes a b []
+keeps_consumes None b h = tt
+keeps_consumes (Some xs) None h = absurd h
+keeps_consumes (Some xs) (Some ys) h = sym h
+
+pub Consumes-none : (a : Option (List ℕ)) → Consumes a a []
+Consumes-none None = tt
+Consumes-none (Some xs) = refl
+
+pub Consumes-then : (a b c : Option (List ℕ)) (xs ys : List ℕ) → Consumes a b xs → Consumes b c ys → Consumes a c (xs ++ ys)
+Consumes-then None b c xs ys h k = tt
+Consumes-then (Some o) None c xs ys h k = absurd h
+Consumes-then (Some o) (Some m) None xs ys h k = absurd k
+Consumes-then (Some o) (Some m) (Some n) xs ys h k = h ∙ ap (λ t. xs ++ t) k ∙ sym (append_assoc xs ys n)
+
+-- what a reply line's writing says, by the line alone
+pub sends_line : {E : Type 0} (o : Option (List ℕ)) (old new : Option (List ℕ)) (r : Result (Unit {0}) E)
+    → IfSome o (λ text. Sends old new r (text ++ 10 ∷ [])) → IfNone o (IsErr r × Keeps old new)
+    → MatchResult r (λ _. (o ≢ None) × Appends old new (with_end o)) (λ _. (n : ℕ) × Appends old new (take n (with_end o)))
+sends_line (Some text) old new (Ok u) line none = (λ e. none-some text (sym e), line)
+sends_line (Some text) old new (Err f) line none = line
+sends_line None old new (Ok u) line none = absurd (false≢true none.0)
+sends_line None old new (Err f) line none = (0, keeps_appends old new none.1)
+
+-- a line that went out whole, and then a fault that wrote nothing
+pub sent_then_kept : (o : Option (List ℕ)) (a b c : Option (List ℕ))
+    → IfSome o (λ text. Appends a b (text ++ 10 ∷ [])) → IfNone o ((false ≡ true) × Keeps a b) → Keeps b c
+    → (n : ℕ) × Appends a c (take n (with_end o))
+sent_then_kept (Some text) a b c line none kept =
+    let P : List ℕ → Type 0 = λ t. Appends a c t in
+    (length (text ++ 10 ∷ []), subst P (sym (take_all (length (text ++ 10 ∷ [])) (text ++ 10 ∷ []) (omega arith))) (Appends-keeps a b c (text ++ 10 ∷ []) line kept))
+sent_then_kept None a b c line none kept = absurd (false≢true none.0)

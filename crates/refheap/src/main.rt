@@ -1,0 +1,47 @@
+//! `refheap`, a managed object heap with reference objects: the program.
+#![tactic(auto)]
+
+mod arguments;
+mod fault;
+mod report;
+
+use fault::ProgramFault;
+use jlr_prog::carry::NoHeap;
+use jlr_prog::first::{FirstEnd, first_run};
+use log::{Level, Log, Logged, error};
+use report::Report;
+use std::process::ExitCode;
+
+fn main(rt: HostRuntime) -> ExitCode {
+    match run(&rt) {
+        Ok(()) => ExitCode::from(0),
+        Err(fault) => {
+            tell(rt, &fault);
+            ExitCode::from(fault.status())
+        }
+    }
+}
+
+/// Writes why the program ends to the standard error: the text of `clap`, or a line of its own.
+fn tell(rt: HostRuntime, fault: &ProgramFault) {
+    if let ProgramFault::CommandLine(text) = fault {
+        let _ = rt.eprint(text);
+        return;
+    }
+    let log = Logged::new(rt, Level::Error, Report(rt));
+    error!(log; "{fault}");
+}
+
+/// Runs what the words of the command line ask for.
+fn run(rt: &HostRuntime) -> Result<(), ProgramFault> {
+    let words = arguments::words(rt)?;
+    let _cells = arguments::cells(rt.alloc(), words.as_slice())?;
+    let mut reader = rt.stdin();
+    let mut writer = rt.stdout();
+    match first_run(&mut reader, &mut writer, &mut NoHeap) {
+        FirstEnd::Bye | FirstEnd::End => Ok(()),
+        FirstEnd::Truncated => Err(ProgramFault::Unfinished),
+        FirstEnd::ReadFault => Err(ProgramFault::Read),
+        FirstEnd::WriteFault => Err(ProgramFault::Write),
+    }
+}
