@@ -5,4 +5,6 @@
 
 pub mod carry;
 pub mod first;
+#[cfg(test)]
+mod tests;
 mod turn;

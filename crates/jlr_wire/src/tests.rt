@@ -277,6 +277,7 @@ fn writes_nothing_where_there_is_no_line(rt: HostRuntime) {
 }
 
 /// Takes at most so many bytes in one write, and so many in all.
+#[derive(Drop)]
 struct Narrow {
     taken: ArrayVec<u8, 16>,
     step: usize,
@@ -314,10 +315,5 @@ fn a_short_write_is_gone_on_with(rt: HostRuntime) {
         let result = write_reply(&Answer::Refused(Refusal::Malformed), &mut writer);
         assert_eq!(rt; result.is_ok(), whole, "at {room}");
         assert_eq!(rt; writer.taken.as_slice(), sent.as_bytes(), "at {room}");
-        let Narrow {
-            taken: _,
-            step: _,
-            room: _,
-        } = writer;
     }
 }
