@@ -1,14 +1,14 @@
 -- What is read is what the fields of a command are.
-use Rattle.std.proofs.Common.{◌≡◌, ℕ, ◌<◌, ◌≤◌, Bool, true, false, cond, ◌&&◌, List, [], ◌∷◌, map, length, Option, Some, None, refl, sym, ap, ◌∙◌, arith, rules, ◌⊎◌, inl, inr}
+use Rattle.std.proofs.Common.{◌≡◌, ℕ, ◌<◌, true, List, [], ◌∷◌, Some, refl, ap, inl, inr}
 use Rattle.std.specs.Prelude.{codes, decimal}
 use Rattle.std.specs.Str.{bytes_eq}
 use Rattle.std.proofs.lemmas.Slice.Eq.{bytes_eq-Decides}
 use Rattle.std.proofs.lemmas.Option.{same_Some, none-some}
-use Rattle.jlr_wire.proofs.Options.{bind_some, chosen, cond_some_of, and_parts}
+use Rattle.jlr_wire.proofs.Options.{bind_some, chosen, cond_some_of}
 use Rattle.jlr_wire.proofs.Numbers.{byte_of_decimal, byte_of_spells}
 use Rattle.jlr_wire.proofs.Layouts.{layout_of_layout, layout_of_spells}
 use Rattle.jlr_wire.specs.Fields.{byte_of}
-use Rattle.jlr_wire.specs.Commands.{Fields, layout}
+use Rattle.jlr_wire.specs.Commands.{Fields}
 use Rattle.jlr_wire.specs.Reading.{◌>>=◌, layout_of, reading_1, reading_2, reading_3, reading_4, reading}
 use Rattle.jlr_wire.specs.declared.command.Command.{Command}
 use Rattle.jlr_wire.specs.declared.command.Command.TheVariants.{New, Put, Get, Dup, Drop, Same, Weak, Deref, Full, Bye}

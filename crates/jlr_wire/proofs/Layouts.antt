@@ -1,13 +1,12 @@
 -- A layout and its text.
-use Rattle.std.proofs.Common.{◌≡◌, ◌≢◌, ℕ, suc, zero, ◌+◌, ◌<◌, ◌≤◌, Bool, true, false, cond, eqb, nat_lt, ◌&&◌, List, [], ◌∷◌, map, length, take, get_or, Option, Some, None, IfSome, IfNone, refl, sym, ap, ◌∙◌, arith, rules, ◌⊎◌, inl, inr}
+use Rattle.std.proofs.Common.{◌≡◌, ◌≢◌, ℕ, suc, zero, ◌<◌, ◌≤◌, true, false, eqb, nat_lt, ◌&&◌, List, [], ◌∷◌, map, length, take, get_or, Option, Some, None, IfSome, IfNone, refl, sym, ap, ◌∙◌, arith, inl, inr}
 use Rattle.std.specs.Prelude.{codes}
 use Rattle.std.specs.Str.{bytes_eq}
-use Rattle.std.proofs.lemmas.List.{take_all, length-map, length-take}
+use Rattle.std.proofs.lemmas.List.{take_all, length-map}
 use Rattle.std.proofs.lemmas.Slice.Eq.{bytes_eq-Decides}
-use Rattle.std.proofs.lemmas.Bool.{ltb-true, lt-ltb, false≢true, eqb-true}
-use Rattle.std.proofs.lemmas.Option.{cond_some, none-some, same_Some}
+use Rattle.std.proofs.lemmas.Bool.{ltb-true, lt-ltb, eqb-true}
+use Rattle.std.proofs.lemmas.Option.{cond_some, same_Some}
 use Rattle.jlr_wire.proofs.Options.{bind_some, chosen, cond_some_of, and_parts}
-use Rattle.std.specs.List.{All}
 use Rattle.std.proofs.lemmas.List.Elements.{All-nil, All-head, All-tail, All-cons}
 use Rattle.jlr_types.specs.declared.FieldKind.{FieldKind}
 use Rattle.jlr_types.specs.declared.FieldKind.TheVariants.{Ref, Int}

@@ -1,6 +1,5 @@
 -- What a reader of lines has read, call by call.
-use Rattle.std.proofs.Common.{◌≡◌, ℕ, ◌+◌, ◌<◌, ◌≤◌, Bool, true, false, cond, nat_lt, List, [], ◌∷◌, ◌++◌, length, take, map, refl, sym, ap, subst, ◌∙◌, arith, append_assoc, length-append, ◌⊎◌, inl, inr}
-use Rattle.std.specs.List.{All, flat_map}
+use Rattle.std.proofs.Common.{◌≡◌, ℕ, ◌+◌, ◌<◌, ◌≤◌, Bool, true, false, nat_lt, List, [], ◌∷◌, ◌++◌, length, take, refl, sym, ap, ◌∙◌, arith, append_assoc, length-append, inl, inr}
 use Rattle.std.proofs.lemmas.List.{append-nil, take_all, take_at, take-append-le, length-take, map-append}
 use Rattle.std.proofs.lemmas.List.Elements.{All-nil, All-append, All-push}
 use Rattle.std.proofs.lemmas.Grind.{flat_map-append}
@@ -41,8 +40,7 @@ pub line_goes_on : (done last : List ℕ) (lines : List (List ℕ)) (old : Held)
     → AreLines done lines last → begun old ≡ take 513 last → Continues old bytes used new
     → AreLines (done ++ take used bytes) lines (last ++ bytes) × (begun new ≡ take 513 (last ++ bytes))
 line_goes_on done last lines old bytes used new are holds h =
-    let all : take used bytes ≡ bytes = take_all used bytes (omega (arith, h.whole)) in
-    (
+    let all : take used bytes ≡ bytes = take_all used bytes (omega (arith, h.whole)) in (
       record {
         joined = ap (λ xs. done ++ xs) all ∙ ap (λ xs. xs ++ bytes) are.joined ∙ append_assoc (ended_lines lines) last bytes;
         each = are.each;
@@ -84,8 +82,7 @@ pub line_ends : (fits : ℕ → Type 0) (done last : List ℕ) (lines : List (Li
     → AreLines (done ++ take used bytes) (lines ++ (last ++ h.front) ∷ []) []
     × IsInLine (last ++ h.front) × (new.bytes ≡ take 513 (last ++ h.front)) × (begun new ≡ [])
 line_ends fits done last lines old bytes used new are holds h =
-    let in_line : IsInLine (last ++ h.front) = All-append (λ b. b ≡ 10 → ⊥) last h.front are.open_end h.in_line in
-    (
+    let in_line : IsInLine (last ++ h.front) = All-append (λ b. b ≡ 10 → ⊥) last h.front are.open_end h.in_line in (
       record {
         joined = ap (λ xs. done ++ xs) (used_front bytes h.front h.rest used h.cut h.taken) ∙ one_line_more lines last h.front done are.joined;
         each = All-push IsInLine lines (last ++ h.front) are.each in_line;

@@ -1,5 +1,5 @@
 -- How the fields of a line are read, as functions on lists. No public clause names them.
-use Rattle.std.specs.Prelude.{ℕ, eqb, nat_lt, length, Bool, cond, ◌&&◌, List, [], ◌∷◌, Option, Some, None, codes}
+use Rattle.std.specs.Prelude.{ℕ, eqb, nat_lt, length, cond, ◌&&◌, List, [], ◌∷◌, Option, Some, None, codes}
 use Rattle.std.specs.Str.{bytes_eq}
 use Rattle.jlr_types.specs.declared.FieldKind.{FieldKind}
 use Rattle.jlr_types.specs.declared.FieldKind.TheVariants.{Ref}

@@ -1,5 +1,5 @@
 -- What a reader of lines gives over many calls.
-use Rattle.std.specs.Prelude.{◌≡◌, ℕ, Bool, true, false, nat_lt, List, [], ◌∷◌, ◌++◌, length, take, map}
+use Rattle.std.specs.Prelude.{◌≡◌, ℕ, Bool, true, false, nat_lt, List, [], ◌∷◌, length, take, map}
 use Rattle.std.specs.List.{flat_map}
 use Rattle.jlr_wire.specs.Lines.{Held, begun, nothing_held, AreLines}
 use Rattle.jlr_wire.specs.Feeding.{Feeds}

@@ -1,4 +1,4 @@
-use Rattle.std.proofs.Common.{◌≡◌, ◌≤◌, ◌++◌, length, ℕ}
+use Rattle.std.proofs.Common.{◌≡◌, ◌++◌, length}
 use Rattle.std.specs.List.{slice_split}
 use Rattle.jlr_wire.specs.Fields.{is_space, texts}
 use Rattle.jlr_wire.proofs.command.fields_of.Given as goal

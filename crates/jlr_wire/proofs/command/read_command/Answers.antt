@@ -1,4 +1,4 @@
-use Rattle.std.proofs.Common.{rules, ◌≡◌, ◌≤◌, Some, None, Ok, arith, sym, ◌∙◌, ap, length}
+use Rattle.std.proofs.Common.{◌≡◌, Some, None, Ok, sym, ◌∙◌, ap}
 use Rattle.std.specs.List.{slice_split}
 use Rattle.std.proofs.lemmas.Option.{same_Some, none-some}
 use Rattle.jlr_wire.specs.Fields.{is_space, texts}

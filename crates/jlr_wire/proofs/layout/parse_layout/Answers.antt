@@ -1,9 +1,9 @@
-use Rattle.std.proofs.Common.{rules, arith, ◌≡◌, ◌≢◌, length, ◌<◌, sym, ◌∙◌, ap, true, false}
+use Rattle.std.proofs.Common.{rules, ◌≡◌, ◌≢◌, sym, ◌∙◌, false}
 use Rattle.std.specs.Prelude.{codes}
 use Rattle.std.specs.Str.{bytes_eq}
 use Rattle.std.proofs.lemmas.Slice.Eq.{bytes_eq-Decides}
 use Rattle.std.proofs.lemmas.Bool.{false≢true}
-use Rattle.jlr_wire.proofs.Layouts.{spelled, bad_letter}
+use Rattle.jlr_wire.proofs.Layouts.{bad_letter}
 use Rattle.jlr_wire.proofs.layout.parse_layout.Goals as goal
 
 pub returns-in_default-clause-none : goal.returns-in_default-clause-none

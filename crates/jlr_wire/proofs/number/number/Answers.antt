@@ -1,4 +1,4 @@
-use Rattle.std.proofs.Common.{rules, IfSome}
+use Rattle.std.proofs.Common.{rules}
 use Rattle.jlr_wire.proofs.Numbers.{is_byte_of}
 use Rattle.jlr_wire.proofs.number.number.Goals as goal
 

@@ -1,4 +1,4 @@
-use Rattle.std.proofs.Common.{rules, ◌≡◌, arith, ◌∙◌}
+use Rattle.std.proofs.Common.{rules, arith}
 use Rattle.jlr_wire.proofs.Cuts.{take_room}
 use Rattle.jlr_wire.proofs.pieces.hold.Goals as goal
 

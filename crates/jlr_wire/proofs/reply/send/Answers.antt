@@ -1,4 +1,3 @@
-use Rattle.std.proofs.Common.{rules, arith}
 use Rattle.jlr_wire.proofs.Sending.{Appends-keeps, front_of, sent_more}
 use Rattle.jlr_wire.proofs.reply.send.Goals as goal
 

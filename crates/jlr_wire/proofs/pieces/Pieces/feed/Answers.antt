@@ -1,4 +1,4 @@
-use Rattle.std.proofs.Common.{rules, ◌≡◌, ◌∙◌, ap, sym, ◌++◌, take, arith}
+use Rattle.std.proofs.Common.{rules, ◌≡◌, ◌∙◌, ap, ◌++◌, take, arith}
 use Rattle.jlr_wire.specs.Lines.{begun}
 use Rattle.jlr_wire.proofs.Cuts.{held_short, held_long}
 use Rattle.jlr_wire.proofs.pieces.Pieces.feed.Goals as goal
