@@ -1,18 +1,17 @@
 -- A session that ends.
-use Rattle.std.proofs.Common.{◌≡◌, ◌≢◌, ℕ, ◌<◌, ◌≤◌, ◌+◌, ◌⊎◌, inl, inr, List, [], ◌∷◌, ◌++◌, take, drop, length, Option, Some, None, refl, sym, ap, subst, ◌∙◌, arith, append_assoc}
+use Rattle.std.proofs.Common.{◌≡◌, ◌≢◌, ℕ, inl, inr, List, [], ◌∷◌, ◌++◌, take, length, refl, sym, ap, subst, ◌∙◌, arith, append_assoc}
 use Rattle.std.specs.Prelude.{codes}
 use Rattle.std.specs.List.{join_with_byte}
 use Rattle.jlr_machine.specs.declared.ask.Answer.{Answer}
 use Rattle.jlr_machine.specs.declared.ask.Answer.TheVariants.{Refused, Done}
-use Rattle.jlr_wire.specs.Lines.{Held, begun, AreLines, IsInLine, ended_lines}
+use Rattle.jlr_wire.specs.Lines.{Held, begun, ended_lines}
 use Rattle.jlr_wire.specs.Commands.{IsCommand}
 use Rattle.jlr_wire.proofs.Streams.{line_ends}
 use Rattle.jlr_wire.specs.declared.command.Command.{Command}
 use Rattle.jlr_wire.specs.declared.command.Command.TheVariants.{Bye}
 use Rattle.jlr_prog.specs.Turns.{Answers, reply_line, refusal_of}
-use Rattle.jlr_prog.specs.Sessions.{Speaks, Answered, Ended, IsDue}
+use Rattle.jlr_prog.specs.Sessions.{Answered, Ended}
 use Rattle.jlr_prog.specs.Chunks.{SoFar}
-use Rattle.jlr_prog.specs.declared.first.FirstEnd.{FirstEnd}
 use Rattle.jlr_prog.specs.declared.first.FirstEnd.TheVariants.{Bye as EndsByBye, End, Truncated, ReadFault, WriteFault}
 use Rattle.jlr_prog.proofs.Going.{AnyEnd, answers_line, same_refusal, whole_command}
 

@@ -1,5 +1,5 @@
 -- A chunk that is taken line by line.
-use Rattle.std.proofs.Common.{◌≡◌, ◌≢◌, ℕ, List, [], ◌∷◌, ◌++◌, take, drop, length, Option, Some, None, refl, sym, ap, subst, ◌∙◌, append_assoc}
+use Rattle.std.proofs.Common.{◌≡◌, ◌≢◌, ℕ, List, [], ◌++◌, take, drop, Option, Some, None, refl, sym, ap, subst, ◌∙◌, append_assoc}
 use Rattle.std.specs.Io.KnownBytes.{Appends}
 use Rattle.std.proofs.lemmas.List.{append-nil, take-append-drop}
 use Rattle.jlr_machine.specs.declared.ask.Answer.{Answer}
@@ -11,7 +11,6 @@ use Rattle.jlr_wire.specs.declared.command.Command.{Command}
 use Rattle.jlr_wire.specs.declared.pieces.Got.{Got}
 use Rattle.jlr_wire.specs.declared.pieces.Got.TheVariants.{More}
 use Rattle.jlr_prog.specs.Turns.{TurnEnds, reply_line}
-use Rattle.jlr_prog.specs.Sessions.{Ended}
 use Rattle.jlr_prog.specs.Chunks.{SoFar, TakesChunk}
 use Rattle.jlr_prog.specs.declared.first.FirstEnd.{FirstEnd}
 use Rattle.jlr_prog.specs.declared.first.FirstEnd.TheVariants.{Bye, End, Truncated, ReadFault, WriteFault}

@@ -1,4 +1,4 @@
-use Rattle.std.proofs.Common.{rules, arith, ◌≡◌, take, [], refl, ap, ◌∙◌}
+use Rattle.std.proofs.Common.{arith, ◌≡◌, take, [], ap}
 use Rattle.jlr_prog.proofs.Standing.{stands_first, stands_more, ends_in_chunk, ends_at_end}
 use Rattle.jlr_prog.proofs.first.first_run.Goals as goal
 

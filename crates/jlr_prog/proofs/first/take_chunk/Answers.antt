@@ -1,4 +1,4 @@
-use Rattle.std.proofs.Common.{rules, ◌≡◌, ◌≢◌, sym, ◌∙◌}
+use Rattle.std.proofs.Common.{rules, ◌≡◌, ◌≢◌}
 use Rattle.jlr_wire.specs.declared.pieces.Got.TheVariants.{More}
 use Rattle.jlr_prog.proofs.Taking.{taken_none, taken_on, taken_line, taken_end}
 use Rattle.jlr_prog.proofs.first.take_chunk.Goals as goal

@@ -1,4 +1,4 @@
-use Rattle.std.proofs.Common.{rules, ◌≡◌, inr, refl, ap, Ok, true, false}
+use Rattle.std.proofs.Common.{◌≡◌, inr, refl, ap, Ok}
 use Rattle.jlr_machine.specs.declared.ask.Answer.TheVariants.{Refused}
 use Rattle.jlr_wire.specs.declared.command.Command.TheVariants.{Bye}
 use Rattle.jlr_prog.proofs.turn.turn_of.Goals as goal
