@@ -40,11 +40,6 @@ answered_now carries bytes held old out heap s rest e = record {
   speaks = s.speaks;
 }
 
-pub ended_read_fault : {H : Type 0} (carries : H → Command → Answer → H → Type 0) (bytes : List ℕ) (held : Held) (old : H) (out : List ℕ) (heap : H)
-    → SoFar carries bytes held old out heap → Ended carries ReadFault bytes old out heap
-ended_read_fault carries bytes held old out heap s =
-    (s.lines, s.last, answered_now carries bytes held old out heap s s.last refl, s.are.open_end)
-
 pub ended_end : {H : Type 0} (carries : H → Command → Answer → H → Type 0) (bytes : List ℕ) (held : Held) (old : H) (out : List ℕ) (heap : H)
     → SoFar carries bytes held old out heap → begun held ≡ [] → Ended carries End bytes old out heap
 ended_end carries bytes held old out heap s e =

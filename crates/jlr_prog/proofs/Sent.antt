@@ -9,17 +9,6 @@ use Rattle.jlr_wire.specs.Replies.{Sends}
 use Rattle.jlr_wire.proofs.Sending.{Appends-keeps}
 use Rattle.jlr_prog.specs.Turns.{with_end}
 
--- what is kept grows by nothing
-pub keeps_appends : (a b : Option (List ℕ)) → Keeps a b → Appends a b []
-keeps_appends None b h = tt
-keeps_appends (Some xs) None h = absurd h
-keeps_appends (Some xs) (Some ys) h = h ∙ sym (append-nil xs)
-
-pub keeps_consumes : (a b : Option (List ℕ)) → Keeps a b → Consumes a b []
-keeps_consumes None b h = tt
-keeps_consumes (Some xs) None h = absurd h
-keeps_consumes (Some xs) (Some ys) h = sym h
-
 pub Consumes-none : (a : Option (List ℕ)) → Consumes a a []
 Consumes-none None = tt
 Consumes-none (Some xs) = refl
@@ -29,15 +18,6 @@ Consumes-then None b c xs ys h k = tt
 Consumes-then (Some o) None c xs ys h k = absurd h
 Consumes-then (Some o) (Some m) None xs ys h k = absurd k
 Consumes-then (Some o) (Some m) (Some n) xs ys h k = h ∙ ap (λ t. xs ++ t) k ∙ sym (append_assoc xs ys n)
-
--- what a reply line's writing says, by the line alone
-pub sends_line : {E : Type 0} (o : Option (List ℕ)) (old new : Option (List ℕ)) (r : Result (Unit {0}) E)
-    → IfSome o (λ text. Sends old new r (text ++ 10 ∷ [])) → IfNone o (IsErr r × Keeps old new)
-    → MatchResult r (λ _. (o ≢ None) × Appends old new (with_end o)) (λ _. (n : ℕ) × Appends old new (take n (with_end o)))
-sends_line (Some text) old new (Ok u) line none = (λ e. none-some text (sym e), line)
-sends_line (Some text) old new (Err f) line none = line
-sends_line None old new (Ok u) line none = absurd (false≢true none.0)
-sends_line None old new (Err f) line none = (0, keeps_appends old new none.1)
 
 -- a line that went out whole, and then a fault that wrote nothing
 pub sent_then_kept : (o : Option (List ℕ)) (a b c : Option (List ℕ))

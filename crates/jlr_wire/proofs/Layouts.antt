@@ -17,10 +17,6 @@ pub spelled : (kinds : List FieldKind) (text : List ℕ) (n : ℕ) → length te
 spelled [] text n le some e = let none = ap length (e ∙ take_all n text le) in absurd (omega (arith, some, none))
 spelled (kind ∷ kinds) text n le some e = sym (e ∙ take_all n text le)
 
-pub layout_length : (kinds : List FieldKind) → length kinds ≤ 8 → length (layout kinds) ≤ 8
-layout_length [] le = omega arith
-layout_length (kind ∷ kinds) le = omega (arith, le, length-map (kind ∷ kinds) letter)
-
 -- the letters of references are all r
 pub is_letter : (kinds : List FieldKind) (i : ℕ) → OnlyReferences kinds → i < length kinds → get_or (map letter kinds) i 0 ≡ 114
 is_letter [] i only lt = absurd (omega (arith, lt))
