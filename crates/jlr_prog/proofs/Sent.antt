@@ -1,11 +1,9 @@
 -- Replies that go out, and bytes that come in.
-use Rattle.std.proofs.Common.{true, false, subst, ◌≡◌, ◌≢◌, ℕ, List, [], ◌∷◌, ◌++◌, take, length, Option, Some, None, Result, Ok, Err, refl, sym, ap, ◌∙◌, arith, append_assoc}
-use Rattle.std.specs.Prelude.{MatchResult, IfSome, IfNone, IsErr}
+use Rattle.std.proofs.Common.{true, false, subst, ◌≡◌, ℕ, List, [], ◌∷◌, ◌++◌, take, length, Option, Some, None, refl, sym, ap, ◌∙◌, arith, append_assoc}
+use Rattle.std.specs.Prelude.{IfSome, IfNone}
 use Rattle.std.specs.Io.KnownBytes.{Appends, Consumes, Keeps}
-use Rattle.std.proofs.lemmas.List.{append-nil, take_all}
-use Rattle.std.proofs.lemmas.Option.{none-some}
+use Rattle.std.proofs.lemmas.List.{take_all}
 use Rattle.std.proofs.lemmas.Bool.{false≢true}
-use Rattle.jlr_wire.specs.Replies.{Sends}
 use Rattle.jlr_wire.proofs.Sending.{Appends-keeps}
 use Rattle.jlr_prog.specs.Turns.{with_end}
 
