@@ -1,4 +1,8 @@
 //! The command line.
+ghost use Rattle.std.specs.Prelude.{◌≡◌, ◌≢◌};
+ghost use Rattle.clap.specs.Values.{kind_of};
+ghost use Rattle.refheap.specs.Status.{status_of};
+
 use crate::fault::ProgramFault;
 use clap::error::ErrorKind;
 use clap::{Arg, ArgMatches, Command, value_parser};
@@ -43,7 +47,10 @@ fn parsed<'a>(command: Command<'a>, words: &'a [String]) -> Result<ArgMatches<'a
 }
 
 /// An error of the command line, or the want of memory that it stands for.
-fn told(error: clap::Error) -> ProgramFault {
+fn told(error: clap::Error) -> ProgramFault
+    ensures memory { kind_of error ≡ ErrorKind.OutOfMemory → status_of result ≡ 5 }
+    ensures words { kind_of error ≢ ErrorKind.OutOfMemory → status_of result ≡ 2 }
+{
     if error.kind() == ErrorKind::OutOfMemory {
         return ProgramFault::NoMemory(AllocError);
     }

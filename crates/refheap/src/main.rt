@@ -1,6 +1,9 @@
 //! `refheap`, a managed object heap with reference objects: the program.
 #![tactic(auto)]
 
+ghost use Rattle.std.specs.Prelude.{◌≡◌, None, Some, MatchResult};
+ghost use Rattle.refheap.specs.Status.{fault_after};
+
 mod arguments;
 mod fault;
 mod report;
@@ -38,7 +41,14 @@ fn run(rt: &HostRuntime) -> Result<(), ProgramFault> {
     let _cells = arguments::cells(rt.alloc(), words.as_slice())?;
     let mut reader = rt.stdin();
     let mut writer = rt.stdout();
-    match first_run(&mut reader, &mut writer, &mut NoHeap) {
+    outcome_of(first_run(&mut reader, &mut writer, &mut NoHeap))
+}
+
+/// What the end of the session is to the program.
+fn outcome_of(end: FirstEnd) -> Result<(), ProgramFault>
+    ensures { MatchResult result (λ _. fault_after end ≡ None) (λ fault. fault_after end ≡ Some fault) }
+{
+    match end {
         FirstEnd::Bye | FirstEnd::End => Ok(()),
         FirstEnd::Truncated => Err(ProgramFault::Unfinished),
         FirstEnd::ReadFault => Err(ProgramFault::Read),
