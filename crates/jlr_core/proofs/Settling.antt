@@ -1,11 +1,13 @@
 -- What settling an object leaves.
-use Rattle.std.proofs.Common.{◌≡◌, ℕ, true, false, cond, List, Option, Some, None, option_map, option_and_then, refl, sym, ◌∙◌, ap, subst, slice_set}
+use Rattle.std.proofs.Common.{◌≡◌, ℕ, true, false, cond, List, Option, Some, None, option_map, option_and_then, IsTrue, refl, sym, ◌∙◌, ap, subst, slice_set}
+use Rattle.std.proofs.lemmas.Bool.{both_ways}
 use Rattle.std.proofs.lemmas.List.{set-get_or}
 use Rattle.jlr_machine.specs.declared.object.Object.{Object}
 use Rattle.jlr_machine.specs.declared.object.Object.TheVariants.{Plain, Reference, Queue, Cleaner, Cleanable, Guard}
 use Rattle.jlr_machine.specs.declared.object.Reference.{Reference as ReferenceOf}
 use Rattle.jlr_machine.specs.declared.object.Cleanable.{Cleanable as CleanableOf}
-use Rattle.jlr_machine.specs.Objects.{Table, Heap, at, change_at, any_referent}
+use Rattle.jlr_machine.specs.Objects.{Table, Heap, at, change_at, any_referent, as_reference, some_and}
+use Rattle.jlr_machine.specs.Refusals.{is_reference}
 use Rattle.jlr_core.specs.Marking.{Marking, is_marked, marked_referent, settled_object}
 
 -- a table with what it has somewhere is the same
@@ -28,3 +30,13 @@ settled_same m (Some (Guard g)) h = refl
 -- an object all of whose referents are marked stays as it is
 pub settled_already : (m : Marking) (heap : Heap) (s : ℕ) → ((x : ℕ) → option_and_then any_referent (at heap s) ≡ Some x → is_marked m x ≡ true) → heap ≡ change_at heap s (settled_object m)
 settled_already m heap s h = sym (set_as_it_is heap s (option_map (settled_object m) (at heap s)) (sym (settled_same m (at heap s) h)))
+
+-- of a reference, any referent is its own
+pub its_own_referent : (o : Option Object) → IsTrue (some_and is_reference o) → option_and_then any_referent o ≡ option_and_then (λ r. r.referent) (option_and_then as_reference o)
+its_own_referent None h = refl
+its_own_referent (Some (Plain fields)) h = refl
+its_own_referent (Some (Reference r)) h = refl
+its_own_referent (Some (Queue members)) h = refl
+its_own_referent (Some Cleaner) h = refl
+its_own_referent (Some (Cleanable c)) h = absurd (both_ways false refl h)
+its_own_referent (Some (Guard g)) h = refl

@@ -2,8 +2,8 @@
 #![tactic(auto)]
 
 mod collect;
-pub mod core;
 mod dispatch;
+pub mod engine;
 pub mod event;
 mod handles;
 mod mark;

@@ -5,7 +5,7 @@ ghost use Rattle.jlr_machine.specs.declared.entry.Chosen.{Chosen};
 ghost use Rattle.jlr_machine.specs.Run.{Run, empty};
 ghost use Rattle.jlr_core.specs.Runs.{IsRunOf, all_given, all_handed};
 
-use crate::core::Core;
+use crate::engine::Core;
 use crate::event::{Event, Reply};
 use jlr_machine::choice::Choice;
 use jlr_types::Limits;

@@ -1,0 +1,18 @@
+use Rattle.std.proofs.Common.{◌≡◌, sym, subst}
+use Rattle.jlr_core.specs.Machines.{machine_of}
+use Rattle.jlr_core.specs.Events.{ask_of, answer_in}
+use Rattle.jlr_core.specs.Cores.{StandsIn}
+use Rattle.jlr_core.proofs.Stepping.{well_formed_after, enters}
+use Rattle.jlr_core.proofs.engine.Core.step.Goals as goal
+
+pub invariant_of-self : goal.invariant_of-self
+invariant_of-self g c = (
+  well_formed_after (machine_of c.self.inside.state) c.step.new.self.cells c.step.new.self.roots c.step.new.self.resource_limit (ask_of c.args.event) (answer_in c.step.result) c.step.new.choice.chosen c.self.invariant.0 c.step.ensures.entry,
+  c.step.ensures.marks,
+)
+
+pub returns-clause-entry : goal.returns-clause-entry
+returns-clause-entry g c =
+    λ m stands.
+    enters c.self.inside.state.cells c.self.inside.state.roots c.self.inside.state.resource_limit c.step.new.self.cells c.step.new.self.roots c.step.new.self.resource_limit (ask_of c.args.event) (answer_in c.step.result) c.step.new.choice.chosen c.step.ensures.entry m
+    (subst (λ k. StandsIn k m) (sym c.self.view_is) stands)

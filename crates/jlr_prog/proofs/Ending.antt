@@ -1,0 +1,115 @@
+-- A session that ends.
+use Rattle.std.proofs.Common.{◌≡◌, ◌≢◌, ℕ, inl, inr, List, [], ◌∷◌, ◌++◌, take, length, refl, sym, ap, subst, ◌∙◌, arith, append_assoc}
+use Rattle.std.specs.Prelude.{codes}
+use Rattle.std.specs.List.{join_with_byte}
+use Rattle.jlr_machine.specs.declared.ask.Answer.{Answer}
+use Rattle.jlr_machine.specs.declared.ask.Answer.TheVariants.{Refused, Done}
+use Rattle.jlr_wire.specs.Lines.{Held, begun, ended_lines}
+use Rattle.jlr_wire.specs.Commands.{IsCommand}
+use Rattle.jlr_wire.proofs.Streams.{line_ends}
+use Rattle.jlr_wire.specs.declared.command.Command.{Command}
+use Rattle.jlr_wire.specs.declared.command.Command.TheVariants.{Bye}
+use Rattle.jlr_prog.specs.Turns.{Answers, reply_line, refusal_of}
+use Rattle.jlr_prog.specs.Sessions.{Answered, Ended}
+use Rattle.jlr_prog.specs.Chunks.{SoFar}
+use Rattle.jlr_prog.specs.declared.first.FirstEnd.TheVariants.{Bye as EndsByBye, End, Truncated, WriteFault}
+use Rattle.jlr_prog.proofs.Going.{AnyEnd, answers_line, same_refusal, whole_command}
+
+-- the line that is bye
+bye_line : (line : List ℕ) → IsCommand line Bye → line ≡ codes "bye"
+bye_line line h = h.joined ∙ ap (join_with_byte 32) h.each
+
+nothing_shown : (last : List ℕ) → take 513 last ≡ [] → last ≡ []
+nothing_shown [] e = refl
+nothing_shown (b ∷ last) e = absurd (omega (arith, ap length e))
+
+-- the lines so far were answered, and the rest stands after them
+answered : {H : Type 0} (carries : H → Command → Answer → H → Type 0) (bytes : List ℕ) (held : Held) (old : H) (out : List ℕ) (heap : H)
+    → (s : SoFar carries bytes held old out heap) → (more rest : List ℕ) → s.last ++ more ≡ rest → Answered carries (bytes ++ more) s.lines rest old out heap
+answered carries bytes held old out heap s more rest e = record {
+  joined = ap (λ t. t ++ more) s.are.joined ∙ append_assoc (ended_lines s.lines) s.last more ∙ ap (λ t. ended_lines s.lines ++ t) e;
+  each = s.are.each;
+  speaks = s.speaks;
+}
+
+answered_now : {H : Type 0} (carries : H → Command → Answer → H → Type 0) (bytes : List ℕ) (held : Held) (old : H) (out : List ℕ) (heap : H)
+    → (s : SoFar carries bytes held old out heap) → (rest : List ℕ) → s.last ≡ rest → Answered carries bytes s.lines rest old out heap
+answered_now carries bytes held old out heap s rest e = record {
+  joined = s.are.joined ∙ ap (λ t. ended_lines s.lines ++ t) e;
+  each = s.are.each;
+  speaks = s.speaks;
+}
+
+pub ended_end : {H : Type 0} (carries : H → Command → Answer → H → Type 0) (bytes : List ℕ) (held : Held) (old : H) (out : List ℕ) (heap : H)
+    → SoFar carries bytes held old out heap → begun held ≡ [] → Ended carries End bytes old out heap
+ended_end carries bytes held old out heap s e =
+    (s.lines, answered_now carries bytes held old out heap s [] (nothing_shown s.last (sym s.holds ∙ e)))
+
+-- what is refused of the line under way is what is refused of all of it
+refused_last : (shown last : List ℕ) → shown ≡ take 513 last → refusal_of shown ≡ refusal_of last
+refused_last shown last e = ap refusal_of e ∙ same_refusal last
+
+some_last : (shown last : List ℕ) → shown ≡ take 513 last → shown ≢ [] → last ≢ []
+some_last shown last e n none = n (e ∙ ap (take 513) none)
+
+pub ended_truncated : {H : Type 0} (carries : H → Command → Answer → H → Type 0) (bytes : List ℕ) (held : Held) (old : H) (out : List ℕ) (heap : H)
+    → SoFar carries bytes held old out heap → begun held ≢ [] → Ended carries Truncated bytes old (out ++ reply_line (Refused (refusal_of (begun held)))) heap
+ended_truncated carries bytes held old out heap s n = (
+  s.lines,
+  s.last,
+  out,
+  answered_now carries bytes held old out heap s s.last refl,
+  some_last (begun held) s.last s.holds n,
+  s.are.open_end,
+  ap (λ r. out ++ reply_line (Refused r)) (refused_last (begun held) s.last s.holds),
+)
+
+pub ended_close_fault : {H : Type 0} (carries : H → Command → Answer → H → Type 0) (bytes : List ℕ) (held : Held) (old : H) (out : List ℕ) (heap : H) (n : ℕ)
+    → SoFar carries bytes held old out heap → begun held ≢ [] → Ended carries WriteFault bytes old (out ++ take n (reply_line (Refused (refusal_of (begun held))))) heap
+ended_close_fault carries bytes held old out heap n s some = (
+  s.lines,
+  s.last,
+  out,
+  heap,
+  Refused (refusal_of (begun held)),
+  n,
+  answered_now carries bytes held old out heap s s.last refl,
+  inr (some_last (begun held) s.last s.holds some, s.are.open_end, ap Refused (refused_last (begun held) s.last s.holds), refl),
+  refl,
+)
+
+-- the line that ends in the rest, with its end
+line_in_rest : (last front rest later : List ℕ) → rest ≡ front ++ 10 ∷ later → last ++ rest ≡ (last ++ front) ++ 10 ∷ later
+line_in_rest last front rest later e = ap (λ t. last ++ t) e ∙ sym (append_assoc last front (10 ∷ later))
+
+pub ended_bye : {H : Type 0} (carries : H → Command → Answer → H → Type 0) (bytes : List ℕ) (held : Held) (old : H) (out : List ℕ) (heap : H) (rest : List ℕ) (used : ℕ) (held' : Held) (heap' : H)
+    → SoFar carries bytes held old out heap → AnyEnd held rest used held' → IsCommand held'.bytes Bye → heap' ≡ heap
+    → Ended carries EndsByBye (bytes ++ rest) old (out ++ reply_line Done) heap'
+ended_bye {H} carries bytes held old out heap rest used held' heap' s h b e =
+    let ends = line_ends (λ n. Unit {0}) bytes s.last s.lines held rest used held' s.are s.holds h in
+    let P : List ℕ → Type 0 = λ t. IsCommand t Bye in
+    let is : s.last ++ h.front ≡ codes "bye" = bye_line (s.last ++ h.front) (whole_command (s.last ++ h.front) Bye (subst P ends.2 b)) in
+    let Q : H → Type 0 = λ x. Answered carries (bytes ++ rest) s.lines (codes "bye" ++ 10 ∷ h.rest) old out x in (
+      s.lines,
+      h.rest,
+      out,
+      subst Q (sym e) (answered carries bytes held old out heap s rest _ (line_in_rest s.last h.front rest h.rest h.cut ∙ ap (λ t. t ++ 10 ∷ h.rest) is)),
+      refl,
+    )
+
+pub ended_turn_fault : {H : Type 0} (carries : H → Command → Answer → H → Type 0) (bytes : List ℕ) (held : Held) (old : H) (out : List ℕ) (heap : H) (rest : List ℕ) (used : ℕ) (held' : Held) (answer : Answer) (heap' : H) (n : ℕ)
+    → SoFar carries bytes held old out heap → AnyEnd held rest used held' → Answers carries held'.bytes heap answer heap'
+    → Ended carries WriteFault (bytes ++ rest) old (out ++ take n (reply_line answer)) heap'
+ended_turn_fault carries bytes held old out heap rest used held' answer heap' n s h a =
+    let line = s.last ++ h.front in
+    let ends = line_ends (λ n. Unit {0}) bytes s.last s.lines held rest used held' s.are s.holds h in (
+      s.lines,
+      line ++ 10 ∷ h.rest,
+      out,
+      heap,
+      answer,
+      n,
+      answered carries bytes held old out heap s rest _ (line_in_rest s.last h.front rest h.rest h.cut),
+      inl (line, h.rest, refl, ends.1, answers_line carries held'.bytes line heap answer heap' ends.2 a),
+      refl,
+    )

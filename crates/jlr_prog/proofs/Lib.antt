@@ -1,0 +1,5 @@
+pub mod Sent
+pub mod Going
+pub mod Ending
+pub mod Taking
+pub mod Standing

@@ -1,0 +1,10 @@
+use Rattle.std.proofs.Common.{length}
+use Rattle.jlr_prog.proofs.Taking.{Taken}
+use Rattle.jlr_prog.proofs.first.take_chunk.Given as goal
+
+abbrev pub invariant-loop-rest : goal.invariant-loop-rest
+invariant-loop-rest g l =
+    Taken g.C.CarryOut.carries l.fn.pieces l.fn.heap (g.W.Write.contents l.fn.writer) l.chunk l.rest l.pieces l.heap (g.W.Write.contents l.writer)
+
+abbrev pub decreases-loop-rest : goal.decreases-loop-rest
+decreases-loop-rest g l = length l.rest

@@ -1,0 +1,5 @@
+-- Reading order.
+pub mod Turns
+pub mod Sessions
+-- What the parts of a session do, which no public clause names.
+pub mod Chunks

@@ -1,0 +1,82 @@
+//! One line and its reply.
+ghost use Rattle.std.specs.Prelude.{◌≡◌, ◌↔◌, IsTrue};
+ghost use Rattle.jlr_prog.specs.Turns.{Answers, SendsReply, TurnEnds};
+ghost use Rattle.jlr_wire.specs.Commands.{IsCommand};
+ghost use Rattle.jlr_wire.specs.declared.command.Command.TheVariants.{Bye};
+
+use crate::carry::CarryOut;
+use crate::first::FirstEnd;
+use jlr_machine::ask::Answer;
+use jlr_wire::command::{Command, read_command};
+use jlr_wire::reply::{WriteFault, write_reply};
+use std::io::Write;
+
+/// The answer of a line, and whether the line is the session's last.
+#[derive(Drop)]
+pub struct Turn {
+    pub answer: Answer,
+    pub last: bool,
+}
+
+/// What a line is answered: `bye` by `ok`, a line that is no command by its refusal, and every
+/// other command by what carries it out.
+pub fn turn_of<C: CarryOut>(line: &[u8], heap: &mut C) -> Turn
+    ensures answer { Answers C.carries line.now heap.old result.answer heap.new }
+    ensures last { IsTrue result.last ↔ IsCommand line.now Bye }
+{
+    let command = match read_command(line) {
+        Ok(command) => command,
+        Err(refusal) => {
+            return Turn {
+                answer: Answer::Refused(refusal),
+                last: false,
+            };
+        }
+    };
+    if is_bye(&command) {
+        return Turn {
+            answer: Answer::Done,
+            last: true,
+        };
+    }
+    Turn {
+        answer: heap.carry_out(command),
+        last: false,
+    }
+}
+
+/// Whether the command ends the session.
+fn is_bye(command: &Command) -> bool
+    ensures { IsTrue result ↔ (command.now ≡ Bye) }
+{
+    matches!(command, Command::Bye)
+}
+
+/// Writes a reply line and flushes.
+pub fn reply<W: Write>(answer: &Answer, writer: &mut W) -> Result<(), WriteFault>
+    ensures { SendsReply (W.contents writer.old) (W.contents writer.new) result answer.now }
+{
+    write_reply(answer, writer)?;
+    if writer.flush().is_err() {
+        return Err(WriteFault);
+    }
+    Ok(())
+}
+
+/// Answers a line, and says how the session ended if this was its last.
+pub fn answer_line<W: Write, C: CarryOut>(
+    line: &[u8],
+    writer: &mut W,
+    heap: &mut C,
+) -> Option<FirstEnd>
+    ensures { TurnEnds C.carries line.now heap.old (W.contents writer.old) result heap.new (W.contents writer.new) }
+{
+    let turn = turn_of(line, heap);
+    if reply(&turn.answer, writer).is_err() {
+        return Some(FirstEnd::WriteFault);
+    }
+    if turn.last {
+        return Some(FirstEnd::Bye);
+    }
+    None
+}

@@ -1,0 +1,106 @@
+-- A line is a command exactly where the parts between its spaces are the command's fields.
+use Rattle.std.proofs.Common.{◌≡◌, ◌≢◌, ℕ, zero, suc, ◌<◌, ◌≤◌, Bool, true, ◌&&◌, not, eqb, List, [], ◌∷◌, map, length, get_or, Some, refl, sym, ap, ◌∙◌, arith, inl, inr}
+use Rattle.std.specs.Prelude.{codes, decimal}
+use Rattle.std.specs.List.{slice_split, join_with_byte, AllByRecursion}
+use Rattle.std.specs.Str.Parse.{AllDigits}
+use Rattle.std.proofs.lemmas.List.Splits.{join_with_byte-slice_split}
+use Rattle.std.proofs.lemmas.Str.Parse.{numerals_by_value, tells_digits, not_in_digits}
+use Rattle.std.proofs.lemmas.Fmt.{digits_decimal}
+use Rattle.std.proofs.lemmas.Bool.Decides.{eqb_tells}
+use Rattle.std.proofs.lemmas.List.{get_or_default}
+use Rattle.jlr_wire.proofs.Options.{and_parts}
+use Rattle.jlr_wire.proofs.Splits.{split_first, split_last}
+use Rattle.jlr_wire.proofs.Laws.{complete, sound}
+use Rattle.jlr_wire.specs.Lines.{IsWithout}
+use Rattle.jlr_wire.specs.Fields.{is_space}
+use Rattle.jlr_wire.specs.Commands.{Fields, IsCommand, layout, letter}
+use Rattle.jlr_wire.specs.Reading.{reading}
+use Rattle.jlr_types.specs.declared.FieldKind.{FieldKind}
+use Rattle.jlr_types.specs.declared.FieldKind.TheVariants.{Ref, Int}
+use Rattle.jlr_wire.specs.declared.command.Command.{Command}
+use Rattle.jlr_wire.specs.declared.command.Command.TheVariants.{New, Put, Get, Dup, Drop, Same, Weak, Deref, Full, Bye}
+
+-- a test for texts without a space
+abbrev spaceless : List ℕ → Bool
+spaceless [] = true
+spaceless (x ∷ xs) = not (eqb x 32) && spaceless xs
+
+word : (xs : List ℕ) → spaceless xs ≡ true → IsWithout 32 xs
+word [] h = λ k d lt. absurd (omega (arith, lt))
+word (x ∷ xs) h =
+    let p = and_parts (not (eqb x 32)) (spaceless xs) h in
+    λ k. elim k as (λ i. (d : ℕ) → i < length (x ∷ xs) → get_or (x ∷ xs) i d ≢ 32) [
+      | zero ↦ λ d lt. elim (eqb_tells x 32) [ inl e ↦ (let bad : not true ≡ true = ap not (sym e.0) ∙ p.0 in cc) | inr e ↦ e.1 ]
+      | suc i ↦ λ d lt. word xs p.1 i d (omega (arith, lt))
+    ]
+
+number : (n : ℕ) → n < 256 → IsWithout 32 (decimal n)
+number n lt = λ k d h.
+    let own = numerals_by_value (AllDigits 10) tells_digits in
+    let at = not_in_digits own (decimal n) 32 (digits_decimal own n (omega (arith, lt))) (λ r. omega (arith, r)) k h in
+    λ e. at (get_or_default (decimal n) k 0 d h ∙ e)
+
+letters : (kinds : List FieldKind) → spaceless (map letter kinds) ≡ true
+letters [] = refl
+letters (Ref ∷ kinds) = letters kinds
+letters (Int ∷ kinds) = letters kinds
+
+layout_word : (kinds : List FieldKind) → IsWithout 32 (layout kinds)
+layout_word [] = word (codes "-") refl
+layout_word (kind ∷ kinds) = word (map letter (kind ∷ kinds)) (letters (kind ∷ kinds))
+
+-- some fields with no space in them, at most four
+pub record Apart (fields : List (List ℕ)) : Type 0 where
+  pub first : List ℕ
+  pub rest : List (List ℕ)
+  pub are : fields ≡ first ∷ rest
+  pub words : AllByRecursion (IsWithout 32) (first ∷ rest)
+  pub few : length fields ≤ 4
+
+split_join : (f : List ℕ) (fs : List (List ℕ)) → AllByRecursion (IsWithout 32) (f ∷ fs) → slice_split is_space (join_with_byte 32 (f ∷ fs)) ≡ f ∷ fs
+split_join f [] h = split_last f h.0
+split_join f (g ∷ fs) h = split_first f (join_with_byte 32 (g ∷ fs)) h.0 ∙ ap (λ xs. f ∷ xs) (split_join g fs h.1)
+
+one : (a : List ℕ) → IsWithout 32 a → Apart (a ∷ [])
+one a h = record { first = a; rest = []; are = refl; words = (h, tt); few = omega arith }
+
+two : (a b : List ℕ) → IsWithout 32 a → IsWithout 32 b → Apart (a ∷ b ∷ [])
+two a b h k = record { first = a; rest = b ∷ []; are = refl; words = (h, (k, tt)); few = omega arith }
+
+three : (a b c : List ℕ) → IsWithout 32 a → IsWithout 32 b → IsWithout 32 c → Apart (a ∷ b ∷ c ∷ [])
+three a b c h k l = record { first = a; rest = b ∷ c ∷ []; are = refl; words = (h, (k, (l, tt))); few = omega arith }
+
+four : (a b c d : List ℕ) → IsWithout 32 a → IsWithout 32 b → IsWithout 32 c → IsWithout 32 d → Apart (a ∷ b ∷ c ∷ d ∷ [])
+four a b c d h k l m = record { first = a; rest = b ∷ c ∷ d ∷ []; are = refl; words = (h, (k, (l, (m, tt)))); few = omega arith }
+
+apart : (c : Command) (fields : List (List ℕ)) → Fields c fields → Apart fields
+apart (New l) fields f = rw f.2 (two _ _ (word (codes "new") refl) (layout_word l))
+apart (Put h k v) fields f = rw f.3 (four _ _ _ _ (word (codes "put") refl) (number h f.0) (number k f.1) (number v f.2))
+apart (Get h k) fields f = rw f.2 (three _ _ _ (word (codes "get") refl) (number h f.0) (number k f.1))
+apart (Dup h) fields f = rw f.1 (two _ _ (word (codes "dup") refl) (number h f.0))
+apart (Drop h) fields f = rw f.1 (two _ _ (word (codes "drop") refl) (number h f.0))
+apart (Same h k) fields f = rw f.2 (three _ _ _ (word (codes "same") refl) (number h f.0) (number k f.1))
+apart (Weak h k) fields f = rw f.2 (three _ _ _ (word (codes "weak") refl) (number h f.0) (number k f.1))
+apart (Deref h) fields f = rw f.1 (two _ _ (word (codes "deref") refl) (number h f.0))
+apart Full fields f = rw f (one _ (word (codes "gc") refl))
+apart Bye fields f = rw f (one _ (word (codes "bye") refl))
+
+-- the parts of a command's line are its fields
+pub parts_are : (line : List ℕ) (c : Command) (h : IsCommand line c) → (slice_split is_space line ≡ h.fields) × (length h.fields ≤ 4)
+parts_are line c h =
+    let a = apart c h.fields h.each in
+    (ap (slice_split is_space) (h.joined ∙ ap (join_with_byte 32) a.are) ∙ split_join a.first a.rest a.words ∙ sym a.are, a.few)
+
+pub read_is_command : (line : List ℕ) (c : Command) → length line ≤ 512 → reading (slice_split is_space line) ≡ Some c → IsCommand line c
+read_is_command line c short e = record {
+  short = short;
+  fields = slice_split is_space line;
+  each = sound c (slice_split is_space line) e;
+  joined = sym (join_with_byte-slice_split 32 line);
+}
+
+pub command_is_read : (line : List ℕ) (c : Command) → IsCommand line c → reading (slice_split is_space line) ≡ Some c
+command_is_read line c h = ap reading (parts_are line c h).0 ∙ complete c h.fields h.each
+
+pub many_no_command : (line : List ℕ) (c : Command) → 4 < length (slice_split is_space line) → IsCommand line c → ⊥
+many_no_command line c many h = let p = parts_are line c h in omega (arith, many, p.1, ap length p.0)

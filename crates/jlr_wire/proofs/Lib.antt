@@ -1,0 +1,10 @@
+pub mod Cuts
+pub mod Exact
+pub mod Layouts
+pub mod Numbers
+pub mod Options
+pub mod Laws
+pub mod Splits
+pub mod Sending
+pub mod Streams
+pub mod Unique

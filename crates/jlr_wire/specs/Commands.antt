@@ -1,0 +1,41 @@
+-- What lines are commands: a line is its fields, with exactly one space between each two.
+use Rattle.std.specs.Prelude.{◌≡◌, ℕ, ◌<◌, ◌≤◌, List, [], ◌∷◌, map, length, decimal, codes}
+use Rattle.std.specs.List.{All, join_with_byte}
+use Rattle.jlr_types.specs.declared.FieldKind.{FieldKind}
+use Rattle.jlr_types.specs.declared.FieldKind.TheVariants.{Int, Ref}
+use Rattle.jlr_wire.specs.declared.command.Command.{Command}
+use Rattle.jlr_wire.specs.declared.command.Command.TheVariants.{New, Put, Get, Dup, Drop, Same, Weak, Deref, Full, Bye}
+
+-- the letter of a field
+abbrev pub letter : FieldKind → ℕ
+letter Ref = 114
+letter Int = 105
+
+-- a layout of no fields is a dash, another one letter for each field
+abbrev pub layout : List FieldKind → List ℕ
+layout [] = codes "-"
+layout (kind ∷ kinds) = map letter (kind ∷ kinds)
+
+-- a layout that a line can ask for: integer fields have no line yet
+abbrev pub OnlyReferences : List FieldKind → Type 0
+OnlyReferences kinds = All (λ kind. kind ≡ Ref) kinds
+
+-- these are the fields of the command; a number has no leading zero
+abbrev pub Fields : Command → List (List ℕ) → Type 0
+Fields (New kinds) fields = (length kinds ≤ 8) × OnlyReferences kinds × (fields ≡ codes "new" ∷ layout kinds ∷ [])
+Fields (Put h k v) fields = (h < 256) × (k < 256) × (v < 256) × (fields ≡ codes "put" ∷ decimal h ∷ decimal k ∷ decimal v ∷ [])
+Fields (Get h k) fields = (h < 256) × (k < 256) × (fields ≡ codes "get" ∷ decimal h ∷ decimal k ∷ [])
+Fields (Dup h) fields = (h < 256) × (fields ≡ codes "dup" ∷ decimal h ∷ [])
+Fields (Drop h) fields = (h < 256) × (fields ≡ codes "drop" ∷ decimal h ∷ [])
+Fields (Same a b) fields = (a < 256) × (b < 256) × (fields ≡ codes "same" ∷ decimal a ∷ decimal b ∷ [])
+Fields (Weak h q) fields = (h < 256) × (q < 256) × (fields ≡ codes "weak" ∷ decimal h ∷ decimal q ∷ [])
+Fields (Deref r) fields = (r < 256) × (fields ≡ codes "deref" ∷ decimal r ∷ [])
+Fields Full fields = fields ≡ codes "gc" ∷ []
+Fields Bye fields = fields ≡ codes "bye" ∷ []
+
+-- The line, without its end, is the command.
+pub record IsCommand (line : List ℕ) (command : Command) : Type 0 where
+  pub short : length line ≤ 512
+  pub fields : List (List ℕ)
+  pub each : Fields command fields
+  pub joined : line ≡ join_with_byte 32 fields

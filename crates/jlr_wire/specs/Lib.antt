@@ -1,0 +1,9 @@
+-- Reading order.
+pub mod Lines
+pub mod Feeding
+pub mod Stream
+pub mod Commands
+pub mod Replies
+-- How lines are read, which no public clause names.
+pub mod Fields
+pub mod Reading

@@ -1,0 +1,23 @@
+-- The line of an answer.
+use Rattle.std.specs.Prelude.{ℕ, true, false, List, ◌++◌, take, Option, Some, None, Result, MatchResult, codes, decimal}
+use Rattle.std.specs.Io.KnownBytes.{Appends}
+use Rattle.jlr_types.specs.Numbers.{number_of}
+use Rattle.jlr_machine.specs.declared.ask.Answer.{Answer}
+use Rattle.jlr_machine.specs.declared.ask.Answer.TheVariants.{Done, Handle, Truth, Refused}
+
+-- what an answer says, where it has a line
+abbrev pub words : Answer → Option (List ℕ)
+words Done = Some (codes "ok")
+words (Handle h) = Some (codes "= " ++ decimal h)
+words (Truth true) = Some (codes "yes")
+words (Truth false) = Some (codes "no")
+words (Refused refusal) = Some (codes "! " ++ decimal (number_of refusal))
+words _ = None
+
+-- known bytes grow by a front of these
+abbrev pub AppendsFront : Option (List ℕ) → Option (List ℕ) → List ℕ → Type 0
+AppendsFront old new bytes = (n : ℕ) × Appends old new (take n bytes)
+
+-- the bytes went out, or after a fault a front of them
+abbrev pub Sends : {E : Type 0} → Option (List ℕ) → Option (List ℕ) → Result (Unit {0}) E → List ℕ → Type 0
+Sends old new result bytes = MatchResult result (λ _. Appends old new bytes) (λ _. AppendsFront old new bytes)

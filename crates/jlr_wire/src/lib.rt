@@ -1,0 +1,14 @@
+//! The line protocol: lines out of pieces, commands out of lines, reply lines out of answers.
+//!
+//! Nothing here takes memory, and nothing here knows what a command does.
+#![tactic(auto)]
+
+pub mod command;
+mod cut;
+mod layout;
+mod number;
+pub mod pieces;
+pub mod reply;
+pub mod stream;
+#[cfg(test)]
+mod tests;

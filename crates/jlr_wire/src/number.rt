@@ -1,0 +1,32 @@
+//! The decimal numbers of a line.
+ghost use Rattle.std.specs.Prelude.{ℕ, ◌≡◌, ◌<◌, IfSome, IfNone, decimal};
+ghost use Rattle.jlr_wire.specs.Fields.{byte_of};
+
+use itoa::Buffer;
+
+/// The number from 0 to 255 that the text spells in decimal without a leading zero, or `None`.
+pub fn number(text: &[u8]) -> Option<u8>
+    ensures { result ≡ byte_of text.now }
+{
+    parse_number(text)
+}
+
+/// The number from 0 to 255 whose decimal text this is, or `None`.
+fn parse_number(text: &[u8]) -> Option<u8>
+    ensures found { IfSome result (λ n. text.now ≡ decimal n) }
+    ensures none { IfNone result ((n : ℕ) → n < 256 → text.now ≡ decimal n → ⊥) }
+{
+    let Ok(digits) = str::from_utf8(text) else {
+        return None;
+    };
+    let Ok(n) = digits.parse::<u8>() else {
+        return None;
+    };
+    let mut buffer = Buffer::new();
+    // A leading zero or a sign is gone in the text that is written back.
+    if buffer.format(n).as_bytes() == text {
+        Some(n)
+    } else {
+        None
+    }
+}

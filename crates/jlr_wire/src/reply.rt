@@ -1,0 +1,66 @@
+//! Reply lines out of answers.
+ghost use Rattle.std.specs.Prelude.{◌≡◌, ◌++◌, ◌∷◌, [], IfSome, IfNone, IsErr};
+ghost use Rattle.std.specs.Io.KnownBytes.{Keeps};
+ghost use Rattle.jlr_wire.specs.Replies.{Sends, words};
+
+use itoa::Buffer;
+use jlr_machine::ask::Answer;
+use std::io::Write;
+
+/// A write that failed or took nothing, or an answer that has no line.
+#[derive(Clone, Copy, Debug, PartialEq, Eq)]
+pub struct WriteFault;
+
+/// Writes the bytes, or after a fault a front of them. A failed write is not tried again.
+fn send<W: Write>(bytes: &[u8], writer: &mut W) -> Result<(), WriteFault>
+    ensures { Sends (W.contents writer.old) (W.contents writer.new) result bytes.now }
+{
+    let mut rest = bytes;
+    while !rest.is_empty() {
+        match writer.write(rest) {
+            Ok(n) if n > 0 => rest = rest.split_at(n).1,
+            _ => return Err(WriteFault),
+        }
+    }
+    Ok(())
+}
+
+/// Writes a text and then a number in decimal.
+fn send_after<W: Write, N: itoa::Integer + Drop>(
+    text: &str,
+    n: N,
+    writer: &mut W,
+) -> Result<(), WriteFault>
+    ensures { Sends (W.contents writer.old) (W.contents writer.new) result (text.now ++ N.text n) }
+{
+    send(text.as_bytes(), writer)?;
+    let mut buffer = Buffer::new();
+    send(buffer.format(n).as_bytes(), writer)
+}
+
+/// Writes what an answer says, without the end of the line.
+fn write_words<W: Write>(answer: &Answer, writer: &mut W) -> Result<(), WriteFault>
+    ensures line { IfSome (words answer.now) (Sends (W.contents writer.old) (W.contents writer.new) result) }
+    ensures none { IfNone (words answer.now) (IsErr result × Keeps (W.contents writer.old) (W.contents writer.new)) }
+{
+    match answer {
+        Answer::Done => send(b"ok", writer),
+        Answer::Handle(handle) => send_after("= ", handle.number(), writer),
+        Answer::Truth(true) => send(b"yes", writer),
+        Answer::Truth(false) => send(b"no", writer),
+        Answer::Refused(refusal) => send_after("! ", refusal.number(), writer),
+        _ => Err(WriteFault),
+    }
+}
+
+/// Writes the line of an answer with its end, and does not flush.
+///
+/// At a fault a front of the line went out. For an answer that has no line nothing is written, and
+/// it is a fault.
+pub fn write_reply<W: Write>(answer: &Answer, writer: &mut W) -> Result<(), WriteFault>
+    ensures line { IfSome (words answer.now) (λ text. Sends (W.contents writer.old) (W.contents writer.new) result (text ++ 10 ∷ [])) }
+    ensures none { IfNone (words answer.now) (IsErr result × Keeps (W.contents writer.old) (W.contents writer.new)) }
+{
+    write_words(answer, writer)?;
+    send(b"\n", writer)
+}

@@ -1,0 +1,22 @@
+-- The exit statuses.
+use Rattle.std.specs.Prelude.{ℕ, Option, None, Some}
+use Rattle.jlr_prog.specs.declared.first.FirstEnd.{FirstEnd}
+use Rattle.jlr_prog.specs.declared.first.FirstEnd.TheVariants.{Bye, End, Truncated, ReadFault, WriteFault}
+use Rattle.refheap.specs.declared.fault.ProgramFault.{ProgramFault}
+use Rattle.refheap.specs.declared.fault.ProgramFault.TheVariants.{Read, Write, CommandLine, Unfinished, NoMemory}
+
+-- the status that the program ends with
+abbrev pub status_of : ProgramFault → ℕ
+status_of Read = 1
+status_of Write = 1
+status_of (CommandLine error) = 2
+status_of Unfinished = 4
+status_of (NoMemory error) = 5
+
+-- what the end of a session is to the program: nothing, or why it ends with a status other than 0
+abbrev pub fault_after : FirstEnd → Option ProgramFault
+fault_after Bye = None
+fault_after End = None
+fault_after Truncated = Some Unfinished
+fault_after ReadFault = Some Read
+fault_after WriteFault = Some Write

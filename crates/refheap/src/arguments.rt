@@ -1,0 +1,75 @@
+//! The command line.
+ghost use Rattle.std.specs.Prelude.{◌≡◌, ◌≢◌};
+ghost use Rattle.clap.specs.Values.{kind_of};
+ghost use Rattle.refheap.specs.Status.{status_of};
+
+use crate::fault::ProgramFault;
+use clap::error::ErrorKind;
+use clap::{Arg, ArgMatches, Command, value_parser};
+use std::alloc::{AllocError, Global};
+use std::{env, io};
+
+/// The words that the program was called with, its own name first. A word that is no text is a bad
+/// command line.
+pub fn words(rt: &HostRuntime) -> Result<Vec<String>, ProgramFault> {
+    match env::args(rt) {
+        Ok(args) => Ok(args.collect(rt.alloc())?),
+        Err(error) if error.kind() == io::ErrorKind::OutOfMemory => {
+            Err(ProgramFault::NoMemory(AllocError))
+        }
+        Err(_) => {
+            let message = "a word of the command line is not UTF-8 text";
+            let mut command = command(rt.alloc())?;
+            Err(told(command.error(ErrorKind::InvalidValue, message)?))
+        }
+    }
+}
+
+/// The number of cells that the words of a `run` ask for, 16 to 65,536, or 1,024 where they ask for
+/// none.
+pub fn cells(alloc: Global, words: &[String]) -> Result<u32, ProgramFault> {
+    let matches = parsed(command(alloc)?, words)?;
+    let cells = matches
+        .subcommand_matches("run")
+        .and_then(|run| run.get_one::<u32>("cells"));
+    Ok(cells.unwrap_or(DEFAULT_CELLS))
+}
+
+/// The cells of a heap where the command line gives no number.
+const DEFAULT_CELLS: u32 = 1_024;
+
+/// What the words match.
+fn parsed<'a>(command: Command<'a>, words: &'a [String]) -> Result<ArgMatches<'a>, ProgramFault> {
+    match command.try_get_matches_from(words) {
+        Ok(matches) => Ok(matches),
+        Err(error) => Err(told(error)),
+    }
+}
+
+/// An error of the command line, or the want of memory that it stands for.
+fn told(error: clap::Error) -> ProgramFault
+    ensures memory { kind_of error ≡ ErrorKind.OutOfMemory → status_of result ≡ 5 }
+    ensures words { kind_of error ≢ ErrorKind.OutOfMemory → status_of result ≡ 2 }
+{
+    if error.kind() == ErrorKind::OutOfMemory {
+        return ProgramFault::NoMemory(AllocError);
+    }
+    ProgramFault::CommandLine(error)
+}
+
+/// The program's command line.
+fn command<'a>(alloc: Global) -> Result<Command<'a>, AllocError> {
+    let cells = Arg::new(alloc, "cells")
+        .long("cells")
+        .value_name("N")
+        .help("Number of cells of the heap, from 16 to 65536")
+        .value_parser(value_parser!(u32).range(16..=65_536))
+        .default_value("1024");
+    let run = Command::new(alloc, "run")
+        .about("One session on standard input and output")
+        .arg(cells)?;
+    Command::new(alloc, "refheap")
+        .about("A managed object heap with reference objects")
+        .subcommand_required(true)
+        .subcommand(run)
+}
