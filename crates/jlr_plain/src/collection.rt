@@ -1,18 +1,18 @@
 //! Whether a collection is a legal one, computed slowly.
-ghost use Rattle.std.specs.Prelude.{◌≡◌, ℕ, ◌<◌, ◌↔◌, IsTrue, true, false, replicate, length, slice_set, not, ◌||◌, ◌++◌, IfOk, OnOk, option_to_list, filter_map};
+ghost use Rattle.std.specs.Prelude.{◌≡◌, ℕ, ◌<◌, ◌↔◌, IsTrue, true, false, replicate, length, slice_set, not, ◌||◌, ◌++◌, IfOk, OnOk, is_some, option_to_list, filter_map};
 ghost use Rattle.std.specs.List.{list_all};
 ghost use Rattle.jlr_types.specs.declared.RefKind.TheVariants.{Soft};
-ghost use Rattle.jlr_machine.specs.Objects.{◌∋◌, ◌∈◌, at, is_distinct, is_rising, is_above, any_referent};
+ghost use Rattle.jlr_machine.specs.Objects.{◌∋◌, ◌∈◌, at, is_distinct, is_rising, is_above, any_referent, is_unqueued, queue_ahead};
 ghost use Rattle.jlr_machine.specs.Edges.{slot_in, strong_edges, referent, edges, edges_from};
 ghost use Rattle.jlr_machine.specs.Collection.{is_ready, IsCollection};
 ghost use Rattle.jlr_machine.specs.ReachSet.{reach_set};
 ghost use Rattle.jlr_machine.specs.Edges.Chain.{Strong, UpToSoft};
 ghost use Rattle.jlr_plain.specs.Marks.{is_marked, Marks, Passes, LedTo, chain_of};
 ghost use Rattle.jlr_laws.specs.Laws.{IsWithinHeap, only};
-ghost use Rattle.jlr_laws.specs.Deciding.{cuts_off, cuts_off_in_background, is_collection, holds_all, is_closed, goes_out, loses_referent, hands_over};
+ghost use Rattle.jlr_laws.specs.Deciding.{cuts_off, cuts_off_in_background, is_collection, holds_all, are_objects, is_closed, goes_out, loses_referent, hands_over};
 
 use jlr_machine::items::Items;
-use jlr_machine::object::{CleanState, Object, RefState};
+use jlr_machine::object::{CleanState, Object, RefState, Reference};
 use jlr_machine::table::Table;
 use jlr_types::{FieldValue, RefKind, Slot};
 use std::alloc::{AllocError, Global};
@@ -179,12 +179,34 @@ pub fn push_all(out: &mut Vec<Slot>, slots: &[Slot]) -> Result<(), AllocError>
     Ok(())
 }
 
+/// Whether it is Fresh or Pending.
+fn unqueued(state: RefState) -> bool
+    ensures { result ≡ is_unqueued state }
+{
+    match state {
+        RefState::Fresh => true,
+        RefState::Pending => true,
+        RefState::Queued => false,
+        RefState::Removed => false,
+    }
+}
+
+/// The queue that a reference may still be added to.
+pub fn queue_of(reference: &Reference) -> Option<Slot>
+    ensures { result ≡ queue_ahead reference.now }
+{
+    if unqueued(reference.state) {
+        return reference.queue;
+    }
+    None
+}
+
 fn push_strong(out: &mut Vec<Slot>, object: &Object) -> Result<(), AllocError>
     ensures { OnOk result (out.new.items ≡ out.old.items ++ strong_edges object.now) }
 {
     match object {
         Object::Plain(fields) => push_fields(out, fields.as_slice()),
-        Object::Reference(r) => push_option(out, r.queue),
+        Object::Reference(r) => push_option(out, queue_of(r)),
         Object::Queue(members) => push_all(out, members.as_slice()),
         Object::Cleaner => Ok(()),
         Object::Cleanable(_) => Ok(()),
@@ -448,6 +470,19 @@ pub fn is_clearing_plain(
     tested(alloc, objects, base, kept, pending, false)
 }
 
+fn is_object_at(objects: &Table<Object>, slot: Slot) -> bool
+    ensures { result ≡ is_some (at objects.now slot) }
+{
+    objects.get(slot.number() as usize).is_some()
+}
+
+/// Whether there is an object at each of these slots.
+fn all_objects(objects: &Table<Object>, slots: &[Slot]) -> bool
+    ensures { result ≡ are_objects objects.now slots.now }
+{
+    slots.iter().all(|&slot| is_object_at(objects, slot))
+}
+
 /// Whether a background collection, with these roots and with this seen, may keep these and hand those over.
 pub fn is_background_plain(
     alloc: Global,
@@ -460,6 +495,9 @@ pub fn is_background_plain(
     ensures { IfOk result (λ b. b ≡ cuts_off_in_background objects.now roots.now seen.now kept.now pending.now) }
 {
     if !all_held(seen, kept) {
+        return Ok(false);
+    }
+    if !all_objects(objects, kept) {
         return Ok(false);
     }
     if !all_held(kept, roots) {
