@@ -1,2 +1,3 @@
 pub mod Slow
 pub mod Marking
+pub mod Names

@@ -143,7 +143,7 @@ fn is_handed(objects: &Table<Object>, kept: &[Slot], pending: &[Slot], slot: Slo
     !loses(objects, kept, slot) || holds(pending, slot)
 }
 
-fn referred(field: &FieldValue) -> Option<Slot>
+pub fn referred(field: &FieldValue) -> Option<Slot>
     ensures { result ≡ slot_in field.now }
 {
     match field {

@@ -2,5 +2,10 @@
 #![tactic(auto)]
 
 pub mod collection;
+pub mod given;
 pub mod legal;
+pub mod listing;
+pub mod lookups;
+pub mod operands;
+pub mod refusals;
 pub mod roots;
