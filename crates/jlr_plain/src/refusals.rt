@@ -253,7 +253,7 @@ fn names_are_full(machine: &Machine, ask: &Ask) -> bool
 
 // ---- Resources
 
-fn is_spent_state(state: CleanState) -> bool
+pub fn is_spent_state(state: CleanState) -> bool
     ensures { result ≡ is_spent state }
 {
     match state {
