@@ -1,3 +1,4 @@
 pub mod Slow
 pub mod Marking
 pub mod Names
+pub mod PlacesLeft

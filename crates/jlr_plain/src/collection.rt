@@ -18,13 +18,13 @@ use jlr_types::{FieldValue, RefKind, Slot};
 use std::alloc::{AllocError, Global};
 
 /// Whether a set holds a slot.
-fn holds(slots: &[Slot], slot: Slot) -> bool
+pub fn holds(slots: &[Slot], slot: Slot) -> bool
     ensures { result ≡ (slots.now ∋ slot) }
 {
     slots.iter().any(|x| slot.number() == x.number())
 }
 
-fn has_number(slots: &[Slot], number: usize) -> bool
+pub fn has_number(slots: &[Slot], number: usize) -> bool
     ensures { result ≡ (slots.now ∋ number) }
 {
     slots.iter().any(|x| number == x.number() as usize)
@@ -37,7 +37,7 @@ fn all_held(kept: &[Slot], slots: &[Slot]) -> bool
     slots.iter().all(|&slot| holds(kept, slot))
 }
 
-fn distinct(slots: &[Slot]) -> bool
+pub fn distinct(slots: &[Slot]) -> bool
     ensures { result ≡ is_distinct slots.now }
 {
     let mut i: usize = 0;

@@ -11,7 +11,7 @@ use jlr_machine::machine::Machine;
 use crate::roots::roots_plain;
 use std::alloc::{AllocError, Global};
 
-fn full_tested(alloc: Global, machine: &Machine, c: &Collected) -> Result<bool, AllocError>
+pub fn full_tested(alloc: Global, machine: &Machine, c: &Collected) -> Result<bool, AllocError>
     requires cells { length machine.now.objects ≤ 2 ^ 32 }
     requires within { IsWithinHeap machine.now.objects (roots machine.now) }
     ensures { IfOk result (λ b. b ≡ is_full machine.now c.now.kept c.now.pending) }
@@ -27,7 +27,7 @@ fn full_tested(alloc: Global, machine: &Machine, c: &Collected) -> Result<bool, 
     )
 }
 
-fn clearing_tested(alloc: Global, machine: &Machine, c: &Collected) -> Result<bool, AllocError>
+pub fn clearing_tested(alloc: Global, machine: &Machine, c: &Collected) -> Result<bool, AllocError>
     requires cells { length machine.now.objects ≤ 2 ^ 32 }
     requires within { IsWithinHeap machine.now.objects (roots machine.now) }
     ensures { IfOk result (λ b. b ≡ is_full_clearing machine.now c.now.kept c.now.pending) }
@@ -42,7 +42,7 @@ fn clearing_tested(alloc: Global, machine: &Machine, c: &Collected) -> Result<bo
     )
 }
 
-fn background_tested(alloc: Global, machine: &Machine, c: &Collected) -> Result<bool, AllocError>
+pub fn background_tested(alloc: Global, machine: &Machine, c: &Collected) -> Result<bool, AllocError>
     requires cells { length machine.now.objects ≤ 2 ^ 32 }
     ensures { IfOk result (λ b. b ≡ is_background machine.now c.now.kept c.now.pending) }
 {

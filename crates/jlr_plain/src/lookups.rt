@@ -1,5 +1,5 @@
 //! What a machine holds, looked up in its tables and lists.
-ghost use Rattle.std.specs.Prelude.{◌≡◌, ◌<◌, length, option_and_then, slice_get, option_copied};
+ghost use Rattle.std.specs.Prelude.{◌≡◌, ◌≤◌, length, option_and_then, slice_get, option_copied};
 ghost use Rattle.jlr_machine.specs.Objects.{at, occupied, as_fields, as_reference, as_members, as_cleanable, as_guard};
 ghost use Rattle.jlr_machine.specs.Lookups.{slot_named, object_named, reference_named, members_named, guard_named, field_named, has_free_handle, same_name, slot_bound, job_of, resource_at, cleanable_at, cleanable_of_guard};
 
@@ -167,7 +167,8 @@ pub fn occupied_handles(handles: &[Option<Slot>]) -> usize
 
 /// How many places are taken.
 pub fn occupied_cells(places: &[Option<Object>]) -> usize
-    ensures { result ≡ occupied places.now }
+    ensures count { result ≡ occupied places.now }
+    ensures within { result ≤ length places.now }
 {
     let mut count: usize = 0;
     for place in places {

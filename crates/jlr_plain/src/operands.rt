@@ -1,5 +1,5 @@
 //! What an ask names: its mutator, its handles, its field and its name.
-ghost use Rattle.std.specs.Prelude.{◌≡◌, ◌==◌, cond, option_map, option_copied, None, Some, true, false};
+ghost use Rattle.std.specs.Prelude.{◌≡◌, ◌≤◌, ◌==◌, cond, option_map, option_copied, None, Some, true, false};
 ghost use Rattle.jlr_types.specs.declared.FieldKind.TheVariants.{Int, Ref};
 ghost use Rattle.jlr_machine.specs.Refusals.{asker, is_end, operands, field_asked, name_asked, cells_needed};
 ghost use Rattle.jlr_plain.specs.Fits.{operands_in};
@@ -225,7 +225,8 @@ pub fn name_of(ask: &Ask) -> Option<&Items<u8>>
 
 /// How many cells the ask's new objects take.
 pub fn cells_of(ask: &Ask) -> usize
-    ensures { result ≡ cells_needed ask.now }
+    ensures cells { result ≡ cells_needed ask.now }
+    ensures within { result ≤ 2 }
 {
     match ask {
         Ask::New { .. } => 1,
