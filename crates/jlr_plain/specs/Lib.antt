@@ -1,3 +1,4 @@
 pub mod Marks
 pub mod Fits
 pub mod Names
+pub mod Changes
