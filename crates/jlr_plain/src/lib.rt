@@ -10,6 +10,7 @@ pub mod handing;
 pub mod left;
 pub mod legal;
 pub mod listing;
+pub mod lists;
 pub mod lookups;
 pub mod objects;
 pub mod operands;
