@@ -2,3 +2,4 @@ pub mod Marks
 pub mod Fits
 pub mod Names
 pub mod Changes
+pub mod Counts

@@ -358,7 +358,7 @@ fn pass(
     Ok(changed)
 }
 
-fn unmarked(alloc: Global, cells: usize) -> Result<Vec<bool>, AllocError>
+pub fn unmarked(alloc: Global, cells: usize) -> Result<Vec<bool>, AllocError>
     ensures { IfOk result (λ marks. marks.items ≡ replicate cells false) }
 {
     let mut marks = Vec::new(alloc);
@@ -367,7 +367,7 @@ fn unmarked(alloc: Global, cells: usize) -> Result<Vec<bool>, AllocError>
 }
 
 /// Marks what strong and soft edges reach from the base inside the kept set.
-fn mark_reached(
+pub fn mark_reached(
     alloc: Global,
     objects: &Table<Object>,
     base: &[Slot],
@@ -388,7 +388,7 @@ fn mark_reached(
     Ok(())
 }
 
-fn is_marked_at(marks: &[bool], slot: Slot) -> bool
+pub fn is_marked_at(marks: &[bool], slot: Slot) -> bool
     ensures { result ≡ is_marked marks.now slot }
 {
     let i = slot.number() as usize;
