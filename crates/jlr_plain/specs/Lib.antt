@@ -1,5 +1,0 @@
-pub mod Marks
-pub mod Fits
-pub mod Names
-pub mod Changes
-pub mod Counts

@@ -2,11 +2,11 @@
 ghost use Rattle.std.specs.Prelude.{◌≡◌, false, IfOk, OnOk, OnErr};
 ghost use Rattle.jlr_machine.specs.Run.{IsLegal, carried, apply};
 ghost use Rattle.jlr_machine.specs.WellFormed.{IsWellFormed};
-ghost use Rattle.jlr_plain.specs.Counts.{HaveRoom, HasNextAction, refuses};
+ghost use Rattle.jlr_plain_changes.specs.Counts.{HaveRoom, HasNextAction, refuses};
 
-use crate::after::after_plain;
-use crate::left::collected_plain;
-use crate::seen::seen_plain;
+use jlr_plain_changes::after::after_plain;
+use jlr_plain_collections::left::collected_plain;
+use jlr_plain_collections::seen::seen_plain;
 use jlr_machine::ask::{Answer, Ask};
 use jlr_machine::entry::Entry;
 use jlr_machine::items::Items;

@@ -6,8 +6,8 @@ ghost use Rattle.jlr_machine.specs.Run.{has_room};
 ghost use Rattle.jlr_laws.specs.Laws.{IsWithinHeap};
 ghost use Rattle.jlr_laws.specs.Deciding.{is_full_clearing, may_collect};
 
-use crate::legal::{background_tested, clearing_tested, full_tested};
-use crate::operands::cells_of;
+use jlr_plain_collections::legal::{background_tested, clearing_tested, full_tested};
+use jlr_plain_asks::operands::cells_of;
 use crate::room::room_for;
 use jlr_machine::ask::{Ask, FullMode};
 use jlr_machine::entry::Collected;

@@ -4,8 +4,8 @@ ghost use Rattle.std.specs.List.{list_all};
 ghost use Rattle.jlr_machine.specs.Run.{has_room, is_free};
 ghost use Rattle.jlr_laws.specs.Deciding.{are_fresh};
 
-use crate::collection::distinct;
-use crate::lookups::occupied_cells;
+use jlr_plain_collections::collection::distinct;
+use jlr_plain_asks::lookups::occupied_cells;
 use jlr_machine::machine::Machine;
 use jlr_machine::object::Object;
 use jlr_machine::table::Table;

@@ -1,5 +1,5 @@
 use Rattle.std.proofs.Common.{sym, ◌∙◌, subst, arith}
-use Rattle.jlr_plain.specs.Counts.{HaveRoom, HasNextAction}
+use Rattle.jlr_plain_changes.specs.Counts.{HaveRoom, HasNextAction}
 use Rattle.jlr_plain.proofs.Applying.{well_formed_room, room_kept, next_in_collected, done_of, done_small, done_within, applied_is}
 use Rattle.jlr_machine.specs.declared.machine.Machine.{Machine}
 use Rattle.jlr_plain.proofs.apply.applied.Goals as goal
