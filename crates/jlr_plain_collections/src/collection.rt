@@ -165,8 +165,8 @@ fn push_fields(out: &mut Vec<Slot>, fields: &[FieldValue]) -> Result<(), AllocEr
 pub fn push_all(out: &mut Vec<Slot>, slots: &[Slot]) -> Result<(), AllocError>
     ensures { OnOk result (out.new.items ≡ out.old.items ++ slots.now) }
 {
-    for &slot in slots {
-        out.push(slot)?;
+    for slot in slots {
+        out.push(*slot)?;
     }
     Ok(())
 }
