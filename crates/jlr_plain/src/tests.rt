@@ -121,16 +121,33 @@ fn a_row_needs_its_cells(rt: HostRuntime) -> Result<(), Fail> {
     Ok(())
 }
 
+/// The first entry of these that is legal in the machine, if any is.
+fn first_legal(
+    alloc: Global,
+    machine: &mut Machine,
+    row: Row,
+    most: usize,
+) -> Result<Option<usize>, AllocError>
+    requires { IsWellFormed machine.old }
+    ensures { IsWellFormed machine.new }
+{
+    for number in 0..most {
+        let Some(entry) = entry_again(alloc, row, number)? else {
+            return Ok(Some(number));
+        };
+        if step_again(alloc, machine, &entry)? {
+            return Ok(Some(number));
+        }
+    }
+    Ok(None)
+}
+
 #[test]
 fn wrong_entries_are_refused(rt: HostRuntime) -> Result<(), Fail> {
     let alloc = rt.alloc();
     let mut machine = start_again(alloc, 16)?;
     assert_eq!(rt; played(alloc, &mut machine, Row::Weak, 4)?, 4);
-    for number in 0..8 {
-        let entry = entry_again(alloc, Row::WrongAfterWeak, number)?.ok_or("no entry")?;
-        assert!(rt; !step_again(alloc, &mut machine, &entry)?, "wrong entry {number}");
-    }
-    assert_eq!(rt; played(alloc, &mut machine, Row::WrongAfterWeak, 1)?, 0);
+    assert_eq!(rt; first_legal(alloc, &mut machine, Row::WrongAfterWeak, 8)?, None);
     Ok(())
 }
 
