@@ -28,11 +28,11 @@ impl Model for Choice {
     ghost Value = { Choosing };
 
     ghost view = { λ c. record {
-        chosen = record {
-            collected = cond c.collects (Some (record { kept = c.kept.items; pending = c.pending.items })) None;
-            fresh = c.fresh.items;
-        };
-        cells = c.cells;
+      chosen = record {
+        collected = cond c.collects (Some (record { kept = c.kept.items; pending = c.pending.items })) None;
+        fresh = c.fresh.items;
+      };
+      cells = c.cells;
     } };
 
     ghost invariant = { λ c.

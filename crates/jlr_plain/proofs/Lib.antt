@@ -1,2 +1,1 @@
-pub mod Slow
-pub mod Marking
+pub mod Applying

@@ -1,6 +1,14 @@
-//! The plain program.
+//! The plain program: which entries are legal, and what they leave, computed as slowly as the definitions say it.
 #![tactic(auto)]
 
-pub mod collection;
-pub mod legal;
-pub mod roots;
+pub mod apply;
+pub mod collecting;
+pub mod empty;
+pub mod entry;
+pub mod room;
+pub mod run;
+
+#[cfg(test)]
+mod rows;
+#[cfg(test)]
+mod tests;

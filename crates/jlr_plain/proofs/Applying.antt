@@ -1,0 +1,83 @@
+-- Lemmas on what legal entries count up, and on the machine that they leave.
+use Rattle.std.proofs.Common.{◌≡◌, ℕ, zero, suc, ◌+◌, ◌<◌, ◌≤◌, ◌^◌, Bool, true, false, ◌||◌, List, [], ◌∷◌, ◌++◌, length, filter, refl, sym, ◌∙◌, ap, subst, arith, Option, Some, None, cond}
+use Rattle.std.proofs.lemmas.Bool.{both_ways, leb-false, cond-true}
+use Rattle.jlr_types.specs.declared.Refusal.TheVariants.{Exhausted}
+use Rattle.jlr_machine.specs.declared.object.Object.{Object}
+use Rattle.jlr_machine.specs.declared.machine.Machine.{Machine}
+use Rattle.jlr_machine.specs.declared.entry.Entry.{Entry}
+use Rattle.jlr_machine.specs.declared.entry.Collected.{Collected}
+use Rattle.jlr_machine.specs.declared.ask.Ask.{Ask}
+use Rattle.jlr_machine.specs.declared.ask.Ask.TheVariants.{Register, Prepare}
+use Rattle.jlr_machine.specs.declared.ask.Answer.{Answer}
+use Rattle.jlr_machine.specs.declared.ask.Answer.TheVariants.{Refused}
+use Rattle.jlr_machine.specs.Objects.{Heap, ◌∋◌, ◌∈◌}
+use Rattle.jlr_machine.specs.Edges.Chain.{UpToSoft}
+use Rattle.jlr_machine.specs.ReachSet.{up_to, reach_set}
+use Rattle.std.proofs.lemmas.List.Elements.{filter-append}
+use Rattle.jlr_machine.specs.Refusals.{refusal}
+use Rattle.jlr_machine.specs.Calls.{after}
+use Rattle.jlr_machine.specs.Run.{with_collection, carried, done, apply, now_seen, seen_with, IsLegal}
+use Rattle.jlr_machine.specs.Run.IsLegal.{carried_out, refused, heap_full, out_of_memory}
+use Rattle.jlr_machine.specs.Edges.{roots}
+use Rattle.jlr_machine.specs.WellFormed.{IsWellFormed}
+use Rattle.jlr_laws.specs.Laws.{IsWithinHeap, places_kept, only}
+use Rattle.jlr_laws.proofs.Empty.{well_formed_within}
+use Rattle.jlr_laws.proofs.Law.{legal_kept}
+use Rattle.jlr_laws.proofs.Allowed.{allowed}
+use Rattle.jlr_laws.proofs.Sets.{up_to_in}
+use Rattle.jlr_plain_collections.specs.Marks.{is_marked}
+use Rattle.jlr_plain_changes.specs.Counts.{HaveRoom, HasNextAction, refuses}
+
+-- ---- Counts
+
+pub well_formed_room : (m : Machine) → IsWellFormed m → m.next_action < 2 ^ 64 → HaveRoom m
+well_formed_room m w h =
+    let t = w.actions.taken in
+    let r = w.actions.room in
+    record { taken = omega (arith, r, h); ok = omega (arith, t, r, h); failed = omega (arith, t, r, h) }
+
+pub room_kept : (m : Machine) (c : Option Collected) → HaveRoom m → HaveRoom (with_collection m c)
+room_kept m None h = h
+room_kept m (Some c) h = record { taken = h.taken; ok = h.ok; failed = h.failed }
+
+next_kept : (m : Machine) (c : Option Collected) → m.next_action ≡ (with_collection m c).next_action
+next_kept m None = refl
+next_kept m (Some c) = refl
+
+next_allowed : (m : Machine) (ask : Ask) → refusal m ask ≡ None → HasNextAction m.next_action ask
+next_allowed m (Register k d h note) r = let f = leb-false _ _ (allowed m (Register k d h note) r Exhausted refl) in omega (arith, f)
+next_allowed m (Prepare k) r = let f = leb-false _ _ (allowed m (Prepare k) r Exhausted refl) in omega (arith, f)
+next_allowed m _ r = tt
+
+next_legal : (m : Machine) (e : Entry) → IsLegal m e → refuses e.answer ≡ false → HasNextAction m.next_action e.ask
+next_legal m e (carried_out c) n = next_allowed m e.ask c.allowed
+next_legal m e (refused r) n = absurd (both_ways (refuses e.answer) n (ap refuses r.answers))
+next_legal m e (heap_full r) n = absurd (both_ways (refuses e.answer) n (ap refuses r.answers))
+next_legal m e (out_of_memory r) n = absurd (both_ways (refuses e.answer) n (ap refuses r.answers))
+
+pub next_in_collected : (m : Machine) (e : Entry) → IsLegal m e → refuses e.answer ≡ false → HasNextAction (with_collection m e.choice.collected).next_action e.ask
+next_in_collected m e l n = subst (λ k. HasNextAction k e.ask) (next_kept m e.choice.collected) (next_legal m e l n)
+
+-- an answer that does not refuse is carried out
+pub carried_on : (m : Machine) (ask : Ask) (a : Answer) (fresh : List ℕ) → refuses a ≡ false → carried m ask a fresh ≡ after m ask a fresh
+carried_on m ask (Refused by) fresh h = absurd (both_ways true h refl)
+carried_on m ask a fresh h = refl
+
+pub carried_not : (m : Machine) (ask : Ask) (a : Answer) (fresh : List ℕ) → refuses a ≡ true → carried m ask a fresh ≡ m
+carried_not m ask (Refused by) fresh h = refl
+carried_not m ask a fresh h = absurd (both_ways false refl h)
+
+-- ---- The machine before it is said what was seen
+
+pub done_of : (m collected n : Machine) (e : Entry) (fresh : List ℕ) → n ≡ carried collected e.ask e.answer fresh → collected ≡ with_collection m e.choice.collected → fresh ≡ e.choice.fresh → n ≡ done m e
+done_of m collected n e fresh a c f =
+    a ∙ ap {A = Machine} {B = Machine} (λ x. carried x e.ask e.answer fresh) c ∙ ap {A = List ℕ} {B = Machine} (λ l. carried (with_collection m e.choice.collected) e.ask e.answer l) f
+
+pub done_small : (m n : Machine) (e : Entry) → n ≡ done m e → IsWellFormed m → IsLegal m e → length n.objects ≤ 2 ^ 32
+done_small m n e d w l = let P : Machine → Type 0 = λ x. length x.objects ≤ 2 ^ 32 in subst P (sym d) (let h = (legal_kept m e w l).limits.cells in omega (arith, h))
+
+pub done_within : (m n : Machine) (e : Entry) → n ≡ done m e → IsWellFormed m → IsLegal m e → IsWithinHeap n.objects (roots n)
+done_within m n e d w l = let P : Machine → Type 0 = λ x. IsWithinHeap x.objects (roots x) in subst P (sym d) (well_formed_within (apply m e) (legal_kept m e w l))
+
+pub applied_is : (m n : Machine) (e : Entry) (seen : List ℕ) → n ≡ done m e → seen ≡ now_seen n → record n { seen = seen } ≡ apply m e
+applied_is m n e seen d s = ap {A = List ℕ} {B = Machine} (λ l. record n { seen = l }) s ∙ ap {A = Machine} {B = Machine} (λ x. record x { seen = now_seen x }) d

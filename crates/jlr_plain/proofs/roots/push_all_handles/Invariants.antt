@@ -1,7 +1,0 @@
-use Rattle.std.proofs.Common.{◌≡◌, ◌++◌, take, filter_map}
-use Rattle.std.specs.List.{flat_map}
-use Rattle.jlr_machine.specs.declared.machine.Session.{Session}
-use Rattle.jlr_plain.proofs.roots.push_all_handles.Given as goal
-
-abbrev pub invariant-loop-place : goal.invariant-loop-place
-invariant-loop-place l = l.out.items ≡ l.fn.out.items ++ flat_map (λ (s : Session). filter_map (λ h. h) s.handles) (filter_map (λ s. s) (take l.place-index l.places))

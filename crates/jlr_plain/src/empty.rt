@@ -1,0 +1,61 @@
+//! The empty machine.
+ghost use Rattle.std.specs.Prelude.{◌≡◌, replicate, None, IfOk};
+ghost use Rattle.jlr_machine.specs.Run.{empty};
+
+use jlr_machine::items::Items;
+use jlr_machine::machine::{Machine, Session};
+use jlr_machine::object::Object;
+use jlr_machine::table::Table;
+use std::alloc::{AllocError, Global};
+
+fn no_objects(alloc: Global, cells: usize) -> Result<Vec<Option<Object>>, AllocError>
+    ensures { IfOk result (λ v. v.items ≡ replicate cells None) }
+{
+    let mut out = Vec::new(alloc);
+    for _cell in 0..cells {
+        out.push(None)?;
+    }
+    Ok(out)
+}
+
+fn no_sessions(alloc: Global, sessions: usize) -> Result<Vec<Option<Session>>, AllocError>
+    ensures { IfOk result (λ v. v.items ≡ replicate sessions None) }
+{
+    let mut out = Vec::new(alloc);
+    for _seat in 0..sessions {
+        out.push(None)?;
+    }
+    Ok(out)
+}
+
+/// The empty machine of these limits.
+///
+/// # Errors
+/// `AllocError` where there is no memory.
+pub fn empty_plain(
+    alloc: Global,
+    cells: usize,
+    sessions: usize,
+    resources: u32,
+) -> Result<Machine, AllocError>
+    ensures { IfOk result (λ m. m ≡ empty cells sessions resources) }
+{
+    Ok(Machine {
+        objects: Table::from_vec(no_objects(alloc, cells)?),
+        mutators: Table::from_vec(no_sessions(alloc, sessions)?),
+        names: Items::new(alloc),
+        pending: Items::new(alloc),
+        line: Items::new(alloc),
+        jobs: Items::new(alloc),
+        resources: Items::new(alloc),
+        resource_limit: resources,
+        faults: Items::new(alloc),
+        notes: Items::new(alloc),
+        next_action: 1,
+        taken: 0,
+        ok: 0,
+        failed: 0,
+        cycle_open: false,
+        seen: Items::new(alloc),
+    })
+}

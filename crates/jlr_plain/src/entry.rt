@@ -1,0 +1,193 @@
+//! Whether an entry is legal in a machine.
+ghost use Rattle.std.specs.Prelude.{◌≡◌, ◌≤◌, ◌^◌, ◌↔◌, ◌&&◌, not, nat_lt, is_none, IsTrue, IfOk, length};
+ghost use Rattle.jlr_types.specs.declared.Refusal.TheVariants.{NoMemory};
+ghost use Rattle.jlr_machine.specs.declared.ask.Answer.TheVariants.{Refused};
+ghost use Rattle.jlr_machine.specs.Lookups.{resource_at};
+ghost use Rattle.jlr_machine.specs.Refusals.{is_end};
+ghost use Rattle.jlr_laws.specs.Same.{same_answer};
+ghost use Rattle.jlr_machine.specs.Objects.{some_and};
+ghost use Rattle.jlr_machine.specs.Edges.{roots};
+ghost use Rattle.jlr_machine.specs.Run.{IsLegal};
+ghost use Rattle.jlr_machine.specs.WellFormed.{IsWellFormed};
+ghost use Rattle.jlr_laws.specs.Laws.{IsWithinHeap};
+ghost use Rattle.jlr_laws.specs.Deciding.{gives_new_rid, is_answer, chooses_nothing, is_carried_out, is_refused, leaves_too_few, is_heap_full, is_legal, is_empty};
+
+use jlr_plain_answers::answers::{is_refused_by, is_truth};
+use crate::collecting::{clears_for_room, may_collect_plain};
+use jlr_plain_collections::left::collected_plain;
+use jlr_plain_asks::lookups::resource_with;
+use jlr_plain_asks::operands::{cells_of, ends_call};
+use jlr_plain_asks::refusals::refusal_plain;
+use jlr_plain_answers::replies::is_reply;
+use crate::room::fresh_slots;
+use jlr_machine::ask::{Answer, Ask};
+use jlr_machine::entry::{Chosen, Collected, Entry};
+use jlr_machine::machine::Machine;
+use jlr_types::{Refusal, Rid, Slot};
+use std::alloc::{AllocError, Global};
+
+/// Whether no resource has this Rid.
+fn is_new_rid(machine: &Machine, rid: Rid) -> bool
+    ensures { result ≡ (nat_lt rid (2 ^ 32) && is_none (resource_at machine.now rid)) }
+{
+    let _number = rid.number();
+    resource_with(machine, rid).is_none()
+}
+
+/// Whether it gives a Rid that no resource has.
+fn gives_rid(machine: &Machine, answer: &Answer) -> bool
+    ensures { result ≡ gives_new_rid machine.now answer.now }
+{
+    match answer {
+        Answer::Prepared(rid) => is_new_rid(machine, *rid),
+        _ => false,
+    }
+}
+
+/// Whether the ask, carried out after this collection, may be so answered.
+fn answered(
+    machine: &Machine,
+    ask: &Ask,
+    collection: &Option<Collected>,
+    answer: &Answer,
+) -> bool
+    ensures { result ≡ is_answer machine.now ask.now collection.now answer.now }
+{
+    match ask {
+        Ask::Prepare { .. } => gives_rid(machine, answer),
+        Ask::Collect => is_truth(answer, collection.is_some()),
+        _ => is_reply(machine, ask, answer),
+    }
+}
+
+fn none_of(slots: &[Slot]) -> bool
+    ensures { result ≡ is_empty slots.now }
+{
+    slots.is_empty()
+}
+
+fn chooses_none(choice: &Chosen) -> bool
+    ensures { result ≡ chooses_nothing choice.now }
+{
+    choice.collected.is_none() && none_of(choice.fresh.as_slice())
+}
+
+fn is_refused_plain(machine: &Machine, entry: &Entry) -> bool
+    ensures { result ≡ is_refused machine.now entry.now }
+{
+    match refusal_plain(machine, &entry.ask) {
+        Some(by) => is_refused_by(&entry.answer, by) && chooses_none(&entry.choice),
+        None => false,
+    }
+}
+
+fn is_out_of_memory_plain(entry: &Entry) -> bool
+    ensures { result ≡ (not (is_end entry.now.ask) && same_answer entry.now.answer (Refused NoMemory) && chooses_nothing entry.now.choice) }
+{
+    !ends_call(&entry.ask)
+        && is_refused_by(&entry.answer, Refusal::NoMemory)
+        && chooses_none(&entry.choice)
+}
+
+fn is_carried_out_plain(
+    alloc: Global,
+    machine: &Machine,
+    entry: &Entry,
+) -> Result<bool, AllocError>
+    requires cells { length machine.now.objects ≤ 2 ^ 32 }
+    requires within { IsWithinHeap machine.now.objects (roots machine.now) }
+    ensures { IfOk result (λ b. b ≡ is_carried_out machine.now entry.now) }
+{
+    if refusal_plain(machine, &entry.ask).is_some() {
+        return Ok(false);
+    }
+    let choice = &entry.choice;
+    if !may_collect_plain(alloc, machine, &entry.ask, &choice.collected)? {
+        return Ok(false);
+    }
+    let next = collected_plain(alloc, machine, &choice.collected)?;
+    let cells = cells_of(&entry.ask);
+    if !fresh_slots(&next.objects, cells, choice.fresh.as_slice()) {
+        return Ok(false);
+    }
+    Ok(answered(&next, &entry.ask, &choice.collected, &entry.answer))
+}
+
+/// Whether it is a full collection that clears all soft references and leaves too few cells.
+fn too_few_left(
+    alloc: Global,
+    machine: &Machine,
+    ask: &Ask,
+    c: &Collected,
+) -> Result<bool, AllocError>
+    requires cells { length machine.now.objects ≤ 2 ^ 32 }
+    requires within { IsWithinHeap machine.now.objects (roots machine.now) }
+    ensures { IfOk result (λ b. b ≡ leaves_too_few machine.now ask.now c.now) }
+{
+    let needed = cells_of(ask);
+    if !clears_for_room(alloc, machine, needed, c)? {
+        return Ok(false);
+    }
+    Ok(machine.objects.len() < c.kept.as_slice().len() + needed)
+}
+
+fn collects_in_vain(
+    alloc: Global,
+    machine: &Machine,
+    ask: &Ask,
+    collection: &Option<Collected>,
+) -> Result<bool, AllocError>
+    requires cells { length machine.now.objects ≤ 2 ^ 32 }
+    requires within { IsWithinHeap machine.now.objects (roots machine.now) }
+    ensures { IfOk result (λ b. b ≡ some_and (leaves_too_few machine.now ask.now) collection.now) }
+{
+    match collection {
+        Some(c) => too_few_left(alloc, machine, ask, c),
+        None => Ok(false),
+    }
+}
+
+fn is_heap_full_plain(alloc: Global, machine: &Machine, entry: &Entry) -> Result<bool, AllocError>
+    requires cells { length machine.now.objects ≤ 2 ^ 32 }
+    requires within { IsWithinHeap machine.now.objects (roots machine.now) }
+    ensures { IfOk result (λ b. b ≡ is_heap_full machine.now entry.now) }
+{
+    if refusal_plain(machine, &entry.ask).is_some() {
+        return Ok(false);
+    }
+    if !is_refused_by(&entry.answer, Refusal::HeapFull) {
+        return Ok(false);
+    }
+    if !none_of(entry.choice.fresh.as_slice()) {
+        return Ok(false);
+    }
+    collects_in_vain(alloc, machine, &entry.ask, &entry.choice.collected)
+}
+
+fn legal_tested(alloc: Global, machine: &Machine, entry: &Entry) -> Result<bool, AllocError>
+    requires cells { length machine.now.objects ≤ 2 ^ 32 }
+    requires within { IsWithinHeap machine.now.objects (roots machine.now) }
+    ensures { IfOk result (λ b. b ≡ is_legal machine.now entry.now) }
+{
+    if is_carried_out_plain(alloc, machine, entry)? {
+        return Ok(true);
+    }
+    if is_refused_plain(machine, entry) {
+        return Ok(true);
+    }
+    if is_heap_full_plain(alloc, machine, entry)? {
+        return Ok(true);
+    }
+    Ok(is_out_of_memory_plain(entry))
+}
+
+/// Whether an entry is legal in a well-formed machine.
+///
+/// # Errors
+/// `AllocError` where there is no memory.
+pub fn legal_plain(alloc: Global, machine: &Machine, entry: &Entry) -> Result<bool, AllocError>
+    requires { IsWellFormed machine.now }
+    ensures { IfOk result (λ b. IsTrue b ↔ IsLegal machine.now entry.now) }
+{
+    legal_tested(alloc, machine, entry)
+}

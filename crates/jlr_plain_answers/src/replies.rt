@@ -1,0 +1,296 @@
+//! Whether an answer is the one that an ask which is not refused gets.
+ghost use Rattle.std.specs.Prelude.{◌≡◌, option_and_then, nat_eq, drop};
+ghost use Rattle.std.specs.Option.{option_eq};
+ghost use Rattle.jlr_machine.specs.Objects.{first_free, some_and};
+ghost use Rattle.jlr_machine.specs.Lookups.{free_handle, field_named, slot_named};
+ghost use Rattle.jlr_machine.specs.declared.ask.Ask.TheVariants.{Refers, Enqueue, Enqueued, Clean, Close, CheckOut};
+ghost use Rattle.jlr_machine.specs.Calls.{new_handle, handle_given, number_in, outcome_answer, take_up_answer, hand_over_answer, line_answer, stat_of, reply};
+ghost use Rattle.jlr_machine.specs.declared.ask.Answer.TheVariants.{Done, Truth, Stat as StatAnswer};
+ghost use Rattle.jlr_machine.specs.Objects.{is_queued};
+ghost use Rattle.jlr_laws.specs.Same.{same_answer};
+
+use crate::answers::{
+    is_already_done, is_done, is_faulted, is_faults, is_given_out, is_handed, is_handle, is_int,
+    is_job, is_names, is_notes, is_outcome, is_stat, is_truth,
+};
+use jlr_plain_asks::lookups::queue_of;
+use jlr_plain_asks::given::given_by;
+use crate::handing::{line_from, step_for};
+use jlr_plain_asks::lookups::{
+    cleanable_in, cleanable_of, guarded_cleanable, named_field, named_guard, named_object,
+    named_reference, named_slot, object_at, occupied_cells, session_of,
+};
+use jlr_plain_asks::refusals::is_spent_state;
+use jlr_machine::ask::{Answer, Ask, Handed, Outcome, Stat};
+use jlr_machine::machine::{Machine, Session};
+use jlr_machine::object::{Cleanable, RefState};
+use jlr_types::{FieldValue, Handle, Mutator, Slot};
+
+/// The lowest free number from 1 on.
+pub fn first_free_handle(handles: &[Option<Slot>]) -> usize
+    ensures { result ≡ first_free 1 (drop 1 handles.now) }
+{
+    if handles.is_empty() {
+        return 1;
+    }
+    for number in 1..handles.len() {
+        if handles[number].is_none() {
+            return number;
+        }
+    }
+    handles.len()
+}
+
+/// The lowest free handle of a session.
+pub fn free_handle_of(session: &Session) -> usize
+    ensures { result ≡ free_handle session.now }
+{
+    first_free_handle(session.handles.as_slice())
+}
+
+fn gives_new_handle(machine: &Machine, mutator: Mutator, answer: &Answer) -> bool
+    ensures { result ≡ some_and (same_answer answer.now) (new_handle machine.now mutator) }
+{
+    match session_of(machine, mutator) {
+        Some(session) => is_handle(answer, free_handle_of(session)),
+        None => false,
+    }
+}
+
+fn gives_handle(machine: &Machine, mutator: Mutator, slot: Option<Slot>, answer: &Answer) -> bool
+    ensures { result ≡ some_and (same_answer answer.now) (handle_given machine.now mutator slot) }
+{
+    match slot {
+        Some(_) => gives_new_handle(machine, mutator, answer),
+        None => is_handle(answer, 0),
+    }
+}
+
+fn gives_number(value: FieldValue, answer: &Answer) -> bool
+    ensures { result ≡ some_and (same_answer answer.now) (number_in value) }
+{
+    match value {
+        FieldValue::Int(number) => is_int(answer, number),
+        FieldValue::Ref(_) => false,
+    }
+}
+
+fn gives_field(
+    machine: &Machine,
+    mutator: Mutator,
+    object: Handle,
+    field: u8,
+    answer: &Answer,
+) -> bool
+    ensures { result ≡ some_and (same_answer answer.now) (option_and_then number_in (field_named machine.now mutator object field)) }
+{
+    match named_field(machine, mutator, object, field) {
+        Some(value) => gives_number(value, answer),
+        None => false,
+    }
+}
+
+fn slots_agree(left: Option<Slot>, right: Option<Slot>) -> bool
+    ensures { result ≡ option_eq nat_eq left right }
+{
+    let Some(x) = left else {
+        return right.is_none();
+    };
+    match right {
+        Some(y) => x.number() == y.number(),
+        None => false,
+    }
+}
+
+fn says_same(machine: &Machine, mutator: Mutator, left: Handle, right: Handle, answer: &Answer) -> bool
+    ensures { result ≡ same_answer answer.now (Truth (option_eq nat_eq (slot_named machine.now mutator left) (slot_named machine.now mutator right))) }
+{
+    let x = named_slot(machine, mutator, left);
+    let y = named_slot(machine, mutator, right);
+    is_truth(answer, slots_agree(x, y))
+}
+
+fn says_refers(machine: &Machine, mutator: Mutator, reference: Handle, object: Handle, answer: &Answer) -> bool
+    ensures { result ≡ some_and (same_answer answer.now) (reply machine.now (Refers mutator reference object)) }
+{
+    let Some(reference) = named_reference(machine, mutator, reference) else {
+        return false;
+    };
+    let slot = named_slot(machine, mutator, object);
+    is_truth(answer, slots_agree(reference.referent, slot))
+}
+
+fn says_enqueue(machine: &Machine, mutator: Mutator, reference: Handle, answer: &Answer) -> bool
+    ensures { result ≡ some_and (same_answer answer.now) (reply machine.now (Enqueue mutator reference)) }
+{
+    let Some(reference) = named_reference(machine, mutator, reference) else {
+        return false;
+    };
+    is_truth(answer, queue_of(&reference).is_some())
+}
+
+fn is_queued_state(state: RefState) -> bool
+    ensures { result ≡ is_queued state }
+{
+    match state {
+        RefState::Queued => true,
+        RefState::Fresh => false,
+        RefState::Pending => false,
+        RefState::Removed => false,
+    }
+}
+
+fn says_enqueued(machine: &Machine, mutator: Mutator, reference: Handle, answer: &Answer) -> bool
+    ensures { result ≡ some_and (same_answer answer.now) (reply machine.now (Enqueued mutator reference)) }
+{
+    let Some(reference) = named_reference(machine, mutator, reference) else {
+        return false;
+    };
+    is_truth(answer, is_queued_state(reference.state))
+}
+
+/// Whether it is the answer to a take-up.
+fn gives_job(cleanable: Cleanable, answer: &Answer) -> bool
+    ensures { result ≡ same_answer answer.now (take_up_answer cleanable) }
+{
+    if is_spent_state(cleanable.state) {
+        return is_already_done(answer);
+    }
+    is_job(answer, cleanable.action, cleanable.work)
+}
+
+fn gives_clean(machine: &Machine, mutator: Mutator, cleanable: Handle, answer: &Answer) -> bool
+    ensures { result ≡ some_and (same_answer answer.now) (reply machine.now (Clean mutator cleanable)) }
+{
+    let Some(object) = named_object(machine, mutator, cleanable) else {
+        return false;
+    };
+    match cleanable_of(object) {
+        Some(cleanable) => gives_job(cleanable, answer),
+        None => false,
+    }
+}
+
+fn gives_close(machine: &Machine, mutator: Mutator, guard: Handle, answer: &Answer) -> bool
+    ensures { result ≡ some_and (same_answer answer.now) (reply machine.now (Close mutator guard)) }
+{
+    let Some(slot) = guarded_cleanable(machine, mutator, guard) else {
+        return false;
+    };
+    match cleanable_in(machine, slot) {
+        Some(cleanable) => gives_job(cleanable, answer),
+        None => false,
+    }
+}
+
+fn gives_out(machine: &Machine, mutator: Mutator, guard: Handle, answer: &Answer) -> bool
+    ensures { result ≡ some_and (same_answer answer.now) (reply machine.now (CheckOut mutator guard)) }
+{
+    match named_guard(machine, mutator, guard) {
+        Some(guard) => is_given_out(answer, guard.rid),
+        None => false,
+    }
+}
+
+fn gives_opened(machine: &Machine, mutator: Mutator, outcome: Outcome, answer: &Answer) -> bool
+    ensures { result ≡ some_and (same_answer answer.now) (outcome_answer outcome (new_handle machine.now mutator)) }
+{
+    match outcome {
+        Outcome::Ok => gives_new_handle(machine, mutator, answer),
+        Outcome::Failed(fault) => is_faulted(answer, fault),
+    }
+}
+
+fn gives_finished(outcome: Outcome, answer: &Answer) -> bool
+    ensures { result ≡ some_and (same_answer answer.now) (outcome_answer outcome (Some Done)) }
+{
+    match outcome {
+        Outcome::Ok => is_done(answer),
+        Outcome::Failed(fault) => is_faulted(answer, fault),
+    }
+}
+
+fn gives_handed(machine: &Machine, pending: &[Slot], answer: &Answer) -> bool
+    ensures { result ≡ some_and (same_answer answer.now) (hand_over_answer machine.now pending.now) }
+{
+    let Some(slot) = pending.first() else {
+        return is_handed(answer, Handed::Nothing);
+    };
+    match object_at(machine, *slot) {
+        Some(object) => is_handed(answer, step_for(object)),
+        None => false,
+    }
+}
+
+fn gives_taken(machine: &Machine, line: &[Slot], answer: &Answer) -> bool
+    ensures { result ≡ some_and (same_answer answer.now) (line_answer machine.now line.now) }
+{
+    let Some(slot) = line.first() else {
+        return is_handed(answer, Handed::Nothing);
+    };
+    match cleanable_in(machine, *slot) {
+        Some(cleanable) => gives_job(cleanable, answer),
+        None => false,
+    }
+}
+
+fn counts_of(machine: &Machine) -> Stat
+    ensures { StatAnswer result ≡ stat_of machine.now }
+{
+    Stat {
+        objects: occupied_cells(machine.objects.as_slice()) as u64,
+        resources: machine.resources.len() as u64,
+        taken: machine.taken,
+        ok: machine.ok,
+        failed: machine.failed,
+    }
+}
+
+/// Whether it is the answer that the ask gets.
+pub fn is_reply(machine: &Machine, ask: &Ask, answer: &Answer) -> bool
+    ensures { result ≡ some_and (same_answer answer.now) (reply machine.now ask.now) }
+{
+    match ask {
+        Ask::Join { .. } => is_done(answer),
+        Ask::Leave { .. } => is_done(answer),
+        Ask::New { mutator, .. } => gives_new_handle(machine, *mutator, answer),
+        Ask::Put { .. } => is_done(answer),
+        Ask::Get { mutator, .. } => gives_handle(machine, *mutator, given_by(machine, ask), answer),
+        Ask::SetInt { .. } => is_done(answer),
+        Ask::Int { mutator, object, field } => gives_field(machine, *mutator, *object, *field, answer),
+        Ask::Dup { mutator, .. } => gives_handle(machine, *mutator, given_by(machine, ask), answer),
+        Ask::Drop { .. } => is_done(answer),
+        Ask::Same { mutator, left, right } => says_same(machine, *mutator, *left, *right, answer),
+        Ask::MakeRef { mutator, .. } => gives_new_handle(machine, *mutator, answer),
+        Ask::Deref { mutator, .. } => gives_handle(machine, *mutator, given_by(machine, ask), answer),
+        Ask::Refers { mutator, reference, object } => says_refers(machine, *mutator, *reference, *object, answer),
+        Ask::Clear { .. } => is_done(answer),
+        Ask::Enqueue { mutator, reference } => says_enqueue(machine, *mutator, *reference, answer),
+        Ask::Enqueued { mutator, reference } => says_enqueued(machine, *mutator, *reference, answer),
+        Ask::MakeQueue { mutator } => gives_new_handle(machine, *mutator, answer),
+        Ask::Poll { mutator, .. } => gives_handle(machine, *mutator, given_by(machine, ask), answer),
+        Ask::Remove { mutator, .. } => gives_handle(machine, *mutator, given_by(machine, ask), answer),
+        Ask::MakeCleaner { mutator } => gives_new_handle(machine, *mutator, answer),
+        Ask::Register { mutator, .. } => gives_new_handle(machine, *mutator, answer),
+        Ask::Clean { mutator, cleanable } => gives_clean(machine, *mutator, *cleanable, answer),
+        Ask::Prepare { .. } => false,
+        Ask::Opened { mutator, outcome } => gives_opened(machine, *mutator, *outcome, answer),
+        Ask::CheckOut { mutator, guard } => gives_out(machine, *mutator, *guard, answer),
+        Ask::CheckIn { outcome, .. } => is_outcome(answer, outcome),
+        Ask::Close { mutator, guard } => gives_close(machine, *mutator, *guard, answer),
+        Ask::Finish { outcome, .. } => gives_finished(*outcome, answer),
+        Ask::Bind { .. } => is_done(answer),
+        Ask::Find { mutator, .. } => gives_new_handle(machine, *mutator, answer),
+        Ask::Unbind { .. } => is_done(answer),
+        Ask::Names { .. } => is_names(answer, machine.names.as_slice()),
+        Ask::Full { .. } => is_done(answer),
+        Ask::Stat { .. } => is_stat(answer, counts_of(machine)),
+        Ask::Notes { .. } => is_notes(answer, machine.notes.as_slice()),
+        Ask::Faults { .. } => is_faults(answer, machine.faults.as_slice()),
+        Ask::HandOver => gives_handed(machine, machine.pending.as_slice(), answer),
+        Ask::TakeUp => gives_taken(machine, line_from(machine, machine.line.as_slice()), answer),
+        Ask::Begin => is_truth(answer, !machine.cycle_open),
+        Ask::Collect => false,
+        Ask::Abandon => is_truth(answer, machine.cycle_open),
+    }
+}

@@ -1,0 +1,240 @@
+//! What an ask names: its mutator, its handles, its field and its name.
+ghost use Rattle.std.specs.Prelude.{◌≡◌, ◌≤◌, ◌==◌, cond, option_map, option_copied, None, Some, true, false};
+ghost use Rattle.jlr_types.specs.declared.FieldKind.TheVariants.{Int, Ref};
+ghost use Rattle.jlr_machine.specs.Refusals.{asker, is_end, operands, field_asked, name_asked, cells_needed};
+ghost use Rattle.jlr_plain_asks.specs.Fits.{operands_in};
+
+use jlr_machine::ask::Ask;
+use jlr_machine::items::Items;
+use jlr_types::{FieldKind, Handle, Mutator};
+
+/// Who takes up what the cleaner is to do.
+pub const CLEANER: u8 = 255;
+
+/// Which objects fit an operand.
+#[derive(Clone, Copy)]
+pub enum Fit {
+    Any,
+    Plain,
+    Reference,
+    Queue,
+    Cleaner,
+    Cleanable,
+    Guard,
+}
+
+/// A handle that an ask names.
+#[derive(Clone, Copy)]
+pub struct Named {
+    pub handle: Handle,
+    pub may_be_null: bool,
+    pub fit: Fit,
+}
+
+/// The handles that an ask names, in its order.
+#[derive(Clone, Copy)]
+pub enum Operands {
+    Nothing,
+    One(Named),
+    Two(Named, Named),
+}
+
+/// A field that an ask names.
+#[derive(Clone, Copy)]
+pub struct FieldNamed {
+    pub object: Handle,
+    pub field: u8,
+    pub kind: FieldKind,
+}
+
+/// The mutator whose ask it is.
+pub fn asker_of(ask: &Ask) -> Option<Mutator>
+    ensures { result ≡ asker ask.now }
+{
+    match ask {
+        Ask::Join { mutator } => Some(*mutator),
+        Ask::Leave { mutator } => Some(*mutator),
+        Ask::New { mutator, .. } => Some(*mutator),
+        Ask::Put { mutator, .. } => Some(*mutator),
+        Ask::Get { mutator, .. } => Some(*mutator),
+        Ask::SetInt { mutator, .. } => Some(*mutator),
+        Ask::Int { mutator, .. } => Some(*mutator),
+        Ask::Dup { mutator, .. } => Some(*mutator),
+        Ask::Drop { mutator, .. } => Some(*mutator),
+        Ask::Same { mutator, .. } => Some(*mutator),
+        Ask::MakeRef { mutator, .. } => Some(*mutator),
+        Ask::Deref { mutator, .. } => Some(*mutator),
+        Ask::Refers { mutator, .. } => Some(*mutator),
+        Ask::Clear { mutator, .. } => Some(*mutator),
+        Ask::Enqueue { mutator, .. } => Some(*mutator),
+        Ask::Enqueued { mutator, .. } => Some(*mutator),
+        Ask::MakeQueue { mutator } => Some(*mutator),
+        Ask::Poll { mutator, .. } => Some(*mutator),
+        Ask::Remove { mutator, .. } => Some(*mutator),
+        Ask::MakeCleaner { mutator } => Some(*mutator),
+        Ask::Register { mutator, .. } => Some(*mutator),
+        Ask::Clean { mutator, .. } => Some(*mutator),
+        Ask::Prepare { mutator } => Some(*mutator),
+        Ask::Opened { mutator, .. } => Some(*mutator),
+        Ask::CheckOut { mutator, .. } => Some(*mutator),
+        Ask::CheckIn { mutator, .. } => Some(*mutator),
+        Ask::Close { mutator, .. } => Some(*mutator),
+        Ask::Finish { by, .. } => taker(*by),
+        Ask::Bind { mutator, .. } => Some(*mutator),
+        Ask::Find { mutator, .. } => Some(*mutator),
+        Ask::Unbind { mutator, .. } => Some(*mutator),
+        Ask::Names { mutator } => Some(*mutator),
+        Ask::Full { mutator, .. } => Some(*mutator),
+        Ask::Stat { mutator } => Some(*mutator),
+        Ask::Notes { mutator } => Some(*mutator),
+        Ask::Faults { mutator } => Some(*mutator),
+        Ask::HandOver => None,
+        Ask::TakeUp => None,
+        Ask::Begin => None,
+        Ask::Collect => None,
+        Ask::Abandon => None,
+    }
+}
+
+/// The mutator that took up a job, if it was not the cleaner.
+fn taker(by: u8) -> Option<Mutator>
+    ensures { result ≡ cond (by == 255) None (Some by) }
+{
+    if by == CLEANER {
+        return None;
+    }
+    Some(Mutator::new(by))
+}
+
+/// Whether it ends a call.
+pub fn ends_call(ask: &Ask) -> bool
+    ensures { result ≡ is_end ask.now }
+{
+    match ask {
+        Ask::Leave { .. } => true,
+        Ask::Opened { .. } => true,
+        Ask::CheckIn { .. } => true,
+        Ask::Finish { .. } => true,
+        _ => false,
+    }
+}
+
+fn object(handle: Handle, fit: Fit) -> Named
+    ensures { result ≡ record { handle = handle; may_be_null = false; fit = fit } }
+{
+    Named {
+        handle,
+        may_be_null: false,
+        fit,
+    }
+}
+
+fn object_or_null(handle: Handle, fit: Fit) -> Named
+    ensures { result ≡ record { handle = handle; may_be_null = true; fit = fit } }
+{
+    Named {
+        handle,
+        may_be_null: true,
+        fit,
+    }
+}
+
+/// The handles that an ask names.
+pub fn operands_of(ask: &Ask) -> Operands
+    ensures { operands_in result ≡ operands ask.now }
+{
+    match ask {
+        Ask::Put { object: x, value, .. } => {
+            Operands::Two(object(*x, Fit::Plain), object_or_null(*value, Fit::Any))
+        }
+        Ask::Get { object: x, .. } => Operands::One(object(*x, Fit::Plain)),
+        Ask::SetInt { object: x, .. } => Operands::One(object(*x, Fit::Plain)),
+        Ask::Int { object: x, .. } => Operands::One(object(*x, Fit::Plain)),
+        Ask::Dup { object: x, .. } => Operands::One(object(*x, Fit::Any)),
+        Ask::Drop { object: x, .. } => Operands::One(object(*x, Fit::Any)),
+        Ask::Same { left, right, .. } => {
+            Operands::Two(object_or_null(*left, Fit::Any), object_or_null(*right, Fit::Any))
+        }
+        Ask::MakeRef { referent, queue, .. } => {
+            Operands::Two(object(*referent, Fit::Any), object_or_null(*queue, Fit::Queue))
+        }
+        Ask::Deref { reference, .. } => Operands::One(object(*reference, Fit::Reference)),
+        Ask::Refers { reference, object: x, .. } => {
+            Operands::Two(object(*reference, Fit::Reference), object_or_null(*x, Fit::Any))
+        }
+        Ask::Clear { reference, .. } => Operands::One(object(*reference, Fit::Reference)),
+        Ask::Enqueue { reference, .. } => Operands::One(object(*reference, Fit::Reference)),
+        Ask::Enqueued { reference, .. } => Operands::One(object(*reference, Fit::Reference)),
+        Ask::Poll { queue, .. } => Operands::One(object(*queue, Fit::Queue)),
+        Ask::Remove { queue, .. } => Operands::One(object(*queue, Fit::Queue)),
+        Ask::Register { cleaner, object: x, .. } => {
+            Operands::Two(object(*cleaner, Fit::Cleaner), object(*x, Fit::Any))
+        }
+        Ask::Clean { cleanable, .. } => Operands::One(object(*cleanable, Fit::Cleanable)),
+        Ask::CheckOut { guard, .. } => Operands::One(object(*guard, Fit::Guard)),
+        Ask::Close { guard, .. } => Operands::One(object(*guard, Fit::Guard)),
+        Ask::Bind { object: x, .. } => Operands::One(object(*x, Fit::Any)),
+        _ => Operands::Nothing,
+    }
+}
+
+/// The field that an ask names.
+pub fn field_of_ask(ask: &Ask) -> Option<FieldNamed>
+    ensures { option_map (λ x. (x.object, x.field, x.kind)) result ≡ field_asked ask.now }
+{
+    match ask {
+        Ask::Put { object, field, .. } => Some(ref_field(*object, *field)),
+        Ask::Get { object, field, .. } => Some(ref_field(*object, *field)),
+        Ask::SetInt { object, field, .. } => Some(int_field(*object, *field)),
+        Ask::Int { object, field, .. } => Some(int_field(*object, *field)),
+        _ => None,
+    }
+}
+
+fn ref_field(object: Handle, field: u8) -> FieldNamed
+    ensures { result ≡ record { object = object; field = field; kind = Ref } }
+{
+    FieldNamed {
+        object,
+        field,
+        kind: FieldKind::Ref,
+    }
+}
+
+fn int_field(object: Handle, field: u8) -> FieldNamed
+    ensures { result ≡ record { object = object; field = field; kind = Int } }
+{
+    FieldNamed {
+        object,
+        field,
+        kind: FieldKind::Int,
+    }
+}
+
+/// The name that an ask is about.
+pub fn name_of(ask: &Ask) -> Option<&Items<u8>>
+    ensures { option_copied result ≡ name_asked ask.now }
+{
+    match ask {
+        Ask::Bind { name, .. } => Some(name),
+        Ask::Find { name, .. } => Some(name),
+        Ask::Unbind { name, .. } => Some(name),
+        _ => None,
+    }
+}
+
+/// How many cells the ask's new objects take.
+pub fn cells_of(ask: &Ask) -> usize
+    ensures cells { result ≡ cells_needed ask.now }
+    ensures within { result ≤ 2 }
+{
+    match ask {
+        Ask::New { .. } => 1,
+        Ask::MakeRef { .. } => 1,
+        Ask::MakeQueue { .. } => 1,
+        Ask::MakeCleaner { .. } => 1,
+        Ask::Register { .. } => 1,
+        Ask::Prepare { .. } => 2,
+        _ => 0,
+    }
+}

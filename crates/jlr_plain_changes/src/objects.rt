@@ -1,0 +1,207 @@
+//! Changes of one object.
+ghost use Rattle.std.specs.Prelude.{◌≡◌, ◌++◌, ◌∷◌, [], drop, slice_set, IfOk, option_map};
+ghost use Rattle.jlr_machine.specs.declared.object.Object.TheVariants.{Plain, Queue, Reference as ReferenceObject, Cleanable as CleanableObject};
+ghost use Rattle.jlr_machine.specs.Objects.{at};
+ghost use Rattle.jlr_machine.specs.Lookups.{with_object};
+ghost use Rattle.jlr_plain_changes.specs.Changes.{change_of};
+
+use jlr_plain_asks::lookups::object_at;
+use jlr_machine::copy::{copy_items, copy_slice};
+use jlr_machine::items::Items;
+use jlr_machine::machine::Machine;
+use jlr_machine::object::{CleanState, Cleanable, Object, RefState, Reference};
+use jlr_machine::table::Table;
+use jlr_types::{FieldValue, Slot};
+use std::alloc::{AllocError, Global};
+
+/// A change of an object of the kind that it is for.
+#[derive(Clone, Copy)]
+pub enum Change {
+    /// A field holds this.
+    Set(u8, FieldValue),
+    /// A reference loses its referent.
+    Unrefer,
+    /// A reference is enqueued.
+    Enqueue,
+    /// A reference is removed from its queue.
+    Remove,
+    /// A queue gets a last member.
+    Append(Slot),
+    /// A queue loses its first member.
+    DropFirst,
+    /// A cleanable is taken up.
+    Spend,
+    /// A cleanable is lined up.
+    Line,
+}
+
+fn with_value(
+    alloc: Global,
+    fields: &[FieldValue],
+    field: u8,
+    value: FieldValue,
+) -> Result<Vec<FieldValue>, AllocError>
+    ensures { IfOk result (λ v. v.items ≡ slice_set fields.now field value) }
+{
+    let mut out = copy_slice(alloc, fields)?;
+    if (field as usize) < out.len() {
+        out[field as usize] = value;
+    }
+    Ok(out)
+}
+
+fn changed_plain(
+    alloc: Global,
+    fields: &Items<FieldValue>,
+    change: Change,
+) -> Result<Object, AllocError>
+    ensures { IfOk result (λ o. o ≡ change_of change (Plain fields.now)) }
+{
+    match change {
+        Change::Set(field, value) => Ok(Object::Plain(Items::from_vec(with_value(
+            alloc,
+            fields.as_slice(),
+            field,
+            value,
+        )?))),
+        _ => Ok(Object::Plain(copy_items(alloc, fields)?)),
+    }
+}
+
+fn changed_reference(r: &Reference, change: Change) -> Reference
+    ensures { ReferenceObject result ≡ change_of change (ReferenceObject r.now) }
+{
+    match change {
+        Change::Unrefer => Reference {
+            kind: r.kind,
+            referent: None,
+            queue: r.queue,
+            state: r.state,
+        },
+        Change::Enqueue => Reference {
+            kind: r.kind,
+            referent: r.referent,
+            queue: None,
+            state: RefState::Queued,
+        },
+        Change::Remove => Reference {
+            kind: r.kind,
+            referent: r.referent,
+            queue: r.queue,
+            state: RefState::Removed,
+        },
+        _ => *r,
+    }
+}
+
+fn appended(alloc: Global, members: &[Slot], slot: Slot) -> Result<Vec<Slot>, AllocError>
+    ensures { IfOk result (λ v. v.items ≡ members.now ++ slot ∷ []) }
+{
+    let mut out = copy_slice(alloc, members)?;
+    out.push(slot)?;
+    Ok(out)
+}
+
+fn without_first(alloc: Global, members: &[Slot]) -> Result<Vec<Slot>, AllocError>
+    ensures { IfOk result (λ v. v.items ≡ drop 1 members.now) }
+{
+    if members.is_empty() {
+        return Ok(Vec::new(alloc));
+    }
+    copy_slice(alloc, &members[1..])
+}
+
+fn changed_queue(
+    alloc: Global,
+    members: &Items<Slot>,
+    change: Change,
+) -> Result<Object, AllocError>
+    ensures { IfOk result (λ o. o ≡ change_of change (Queue members.now)) }
+{
+    let list = members.as_slice();
+    match change {
+        Change::Append(slot) => Ok(Object::Queue(Items::from_vec(appended(alloc, list, slot)?))),
+        Change::DropFirst => Ok(Object::Queue(Items::from_vec(without_first(alloc, list)?))),
+        _ => Ok(Object::Queue(copy_items(alloc, members)?)),
+    }
+}
+
+fn changed_cleanable(c: &Cleanable, change: Change) -> Cleanable
+    ensures { CleanableObject result ≡ change_of change (CleanableObject c.now) }
+{
+    match change {
+        Change::Spend => Cleanable {
+            referent: None,
+            action: c.action,
+            work: c.work,
+            state: CleanState::Spent,
+        },
+        Change::Line => Cleanable {
+            referent: c.referent,
+            action: c.action,
+            work: c.work,
+            state: CleanState::Lined,
+        },
+        _ => *c,
+    }
+}
+
+/// The object after the change.
+fn changed(alloc: Global, object: &Object, change: Change) -> Result<Object, AllocError>
+    ensures { IfOk result (λ o. o ≡ change_of change object.now) }
+{
+    match object {
+        Object::Plain(fields) => changed_plain(alloc, fields, change),
+        Object::Reference(r) => Ok(Object::Reference(changed_reference(r, change))),
+        Object::Queue(members) => changed_queue(alloc, members, change),
+        Object::Cleaner => Ok(Object::Cleaner),
+        Object::Cleanable(c) => Ok(Object::Cleanable(changed_cleanable(c, change))),
+        Object::Guard(g) => Ok(Object::Guard(*g)),
+    }
+}
+
+fn put_object(places: &mut Vec<Option<Object>>, number: usize, place: Option<Object>)
+    ensures { places.new.items ≡ slice_set places.old.items number place }
+{
+    if number < places.len() {
+        places[number] = place;
+    }
+}
+
+/// The machine with this at the slot.
+pub fn with_place(machine: Machine, slot: Slot, place: Option<Object>) -> Machine
+    ensures { result ≡ record machine { objects = slice_set machine.objects slot place } }
+{
+    let mut machine = machine;
+    let mut places = machine.objects.into_vec();
+    put_object(&mut places, slot.number() as usize, place);
+    machine.objects = Table::from_vec(places);
+    machine
+}
+
+fn changed_at(
+    alloc: Global,
+    machine: &Machine,
+    slot: Slot,
+    change: Change,
+) -> Result<Option<Object>, AllocError>
+    ensures { IfOk result (λ o. o ≡ option_map (change_of change) (at machine.now.objects slot)) }
+{
+    match object_at(machine, slot) {
+        Some(object) => Ok(Some(changed(alloc, object, change)?)),
+        None => Ok(None),
+    }
+}
+
+/// The machine with the object at the slot changed.
+pub fn with_changed(
+    alloc: Global,
+    machine: Machine,
+    slot: Slot,
+    change: Change,
+) -> Result<Machine, AllocError>
+    ensures { IfOk result (λ n. n ≡ with_object machine slot (change_of change)) }
+{
+    let place = changed_at(alloc, &machine, slot, change)?;
+    Ok(with_place(machine, slot, place))
+}

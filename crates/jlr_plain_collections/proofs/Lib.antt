@@ -1,0 +1,4 @@
+pub mod Marking
+pub mod Slow
+pub mod PlacesLeft
+pub mod Slots

@@ -1,0 +1,81 @@
+-- Lemmas on all slots of a heap, and on what was seen.
+use Rattle.std.proofs.Common.{◌≡◌, ℕ, zero, suc, ◌+◌, ◌<◌, ◌≤◌, ◌^◌, Bool, true, false, ◌||◌, List, [], ◌∷◌, ◌++◌, length, filter, refl, sym, ◌∙◌, ap, subst, arith, Option, Some, None, cond}
+use Rattle.std.proofs.lemmas.Bool.{both_ways, leb-false, cond-true}
+use Rattle.jlr_types.specs.declared.Refusal.TheVariants.{Exhausted}
+use Rattle.jlr_machine.specs.declared.object.Object.{Object}
+use Rattle.jlr_machine.specs.declared.machine.Machine.{Machine}
+use Rattle.jlr_machine.specs.declared.entry.Entry.{Entry}
+use Rattle.jlr_machine.specs.declared.entry.Collected.{Collected}
+use Rattle.jlr_machine.specs.declared.ask.Ask.{Ask}
+use Rattle.jlr_machine.specs.declared.ask.Ask.TheVariants.{Register, Prepare}
+use Rattle.jlr_machine.specs.declared.ask.Answer.{Answer}
+use Rattle.jlr_machine.specs.declared.ask.Answer.TheVariants.{Refused}
+use Rattle.jlr_machine.specs.Objects.{Heap, ◌∋◌, ◌∈◌}
+use Rattle.jlr_machine.specs.Edges.Chain.{UpToSoft}
+use Rattle.jlr_machine.specs.ReachSet.{up_to, reach_set}
+use Rattle.std.proofs.lemmas.List.Elements.{filter-append}
+use Rattle.jlr_machine.specs.Refusals.{refusal}
+use Rattle.jlr_machine.specs.Calls.{after}
+use Rattle.jlr_machine.specs.Run.{with_collection, carried, done, apply, now_seen, seen_with, IsLegal}
+use Rattle.jlr_machine.specs.Run.IsLegal.{carried_out, refused, heap_full, out_of_memory}
+use Rattle.jlr_machine.specs.Edges.{roots}
+use Rattle.jlr_machine.specs.WellFormed.{IsWellFormed}
+use Rattle.jlr_laws.specs.Laws.{IsWithinHeap, places_kept, only}
+use Rattle.jlr_laws.proofs.Empty.{well_formed_within}
+use Rattle.jlr_laws.proofs.Law.{legal_kept}
+use Rattle.jlr_laws.proofs.Allowed.{allowed}
+use Rattle.jlr_laws.proofs.Sets.{up_to_in}
+use Rattle.jlr_plain_collections.specs.Marks.{is_marked}
+
+-- ---- All slots
+
+slots_next : (from n k : ℕ) → k ≡ from + n → up_to from (suc n) ≡ up_to from n ++ k ∷ []
+slots_next from zero k e = let same : from ≡ k = omega (arith, e) in ap {A = ℕ} {B = List ℕ} (λ x. x ∷ []) same
+slots_next from (suc n) k e = ap {A = List ℕ} {B = List ℕ} (λ l. from ∷ l) (slots_next (suc from) n k (omega (arith, e)))
+
+pub slots_more : (n : ℕ) → up_to 0 (n + 1) ≡ up_to 0 n ++ n ∷ []
+slots_more n = let next : suc n ≡ n + 1 = omega arith in subst (λ m. up_to 0 m ≡ up_to 0 n ++ n ∷ []) next (slots_next 0 n n (omega arith))
+
+places_all : (kept : List ℕ) (n : ℕ) (heap : Heap) → ((s : ℕ) → n ≤ s → s < n + length heap → s ∈ kept) → places_kept kept n heap ≡ heap
+places_all kept n [] h = refl
+places_all kept n (o ∷ heap) h =
+    ap {A = Option Object} {B = Heap} (λ p. p ∷ places_kept kept (suc n) heap) (cond-true (kept ∋ n) o None (h n (omega arith) (omega arith)))
+    ∙ ap {A = Heap} {B = Heap} (λ l. o ∷ l) (places_all kept (suc n) heap (λ s a b. h s (omega (arith, a)) (omega (arith, b))))
+
+-- all slots keep the whole heap
+pub only_all : (heap : Heap) → only (up_to 0 (length heap)) heap ≡ heap
+only_all heap = places_all (up_to 0 (length heap)) 0 heap (λ s a b. up_to_in 0 (length heap) s a (omega (arith, b)))
+
+-- ---- Filters
+
+pub filter_same : (p q : ℕ → Bool) (xs : List ℕ) → ((s : ℕ) → p s ≡ q s) → filter p xs ≡ filter q xs
+filter_same p q [] h = refl
+filter_same p q (x ∷ xs) h =
+    ap {A = Bool} {B = List ℕ} (λ b. cond b (x ∷ filter p xs) (filter p xs)) (h x)
+    ∙ ap {A = List ℕ} {B = List ℕ} (λ l. cond (q x) (x ∷ l) l) (filter_same p q xs h)
+
+pub slot_pushed : (i : ℕ) (now new : List ℕ) → now ≡ up_to 0 i → new ≡ now ++ i ∷ [] → new ≡ up_to 0 (i + 1)
+slot_pushed i now new n a = a ∙ ap {A = List ℕ} {B = List ℕ} (λ l. l ++ i ∷ []) n ∙ sym (slots_more i)
+
+pub slot_filtered : (p : ℕ → Bool) (i : ℕ) (now new : List ℕ) → now ≡ filter p (up_to 0 i) → new ≡ now ++ cond (p i) (i ∷ []) [] → new ≡ filter p (up_to 0 (i + 1))
+slot_filtered p i now new n a =
+    a ∙ ap {A = List ℕ} {B = List ℕ} (λ l. l ++ cond (p i) (i ∷ []) []) n
+    ∙ sym (ap {A = List ℕ} {B = List ℕ} (filter p) (slots_more i) ∙ filter-append p (up_to 0 i) (i ∷ []))
+
+-- marks that are what is reached
+pub seen_by_marks : (seen reach : List ℕ) (marks : List Bool) (n : ℕ) → ((s : ℕ) → is_marked marks s ≡ (reach ∋ s)) → filter (λ s. (seen ∋ s) || is_marked marks s) (up_to 0 n) ≡ seen_with seen reach n
+seen_by_marks seen reach marks n h = filter_same (λ s. (seen ∋ s) || is_marked marks s) (λ s. (seen ∋ s) || (reach ∋ s)) (up_to 0 n) (λ s. ap (λ b. (seen ∋ s) || b) (h s))
+
+pub seen_found : (heap : Heap) (B base kept seen found : List ℕ) (marks passed : List Bool) (n : ℕ) (out : List ℕ)
+    → base ≡ B → kept ≡ up_to 0 (length heap) → found ≡ seen → passed ≡ marks → n ≡ length heap
+    → ((s : ℕ) → is_marked marks s ≡ (reach_set UpToSoft (only kept heap) base ∋ s))
+    → out ≡ filter (λ s. (found ∋ s) || is_marked passed s) (up_to 0 n)
+    → out ≡ seen_with seen (reach_set UpToSoft heap B) (length heap)
+seen_found heap B base kept seen found marks passed n out b k f p l h a =
+    a
+    ∙ ap {A = List ℕ} {B = List ℕ} (λ x. filter (λ s. (x ∋ s) || is_marked passed s) (up_to 0 n)) f
+    ∙ ap {A = List Bool} {B = List ℕ} (λ x. filter (λ s. (seen ∋ s) || is_marked x s) (up_to 0 n)) p
+    ∙ ap {A = ℕ} {B = List ℕ} (λ x. filter (λ s. (seen ∋ s) || is_marked marks s) (up_to 0 x)) l
+    ∙ seen_by_marks seen (reach_set UpToSoft heap B) marks (length heap)
+      (λ s. h s ∙ ap {A = List ℕ} {B = Bool} (λ x. reach_set UpToSoft (only x heap) base ∋ s) k ∙ ap {A = Heap} {B = Bool} (λ x. reach_set UpToSoft x base ∋ s) (only_all heap) ∙ ap {A = List ℕ} {B = Bool} (λ x. reach_set UpToSoft heap x ∋ s) b)
+

@@ -1,0 +1,94 @@
+//! Whether the collection of an entry is legal in a machine.
+ghost use Rattle.std.specs.Prelude.{◌≡◌, ◌≤◌, ◌^◌, ◌↔◌, IsTrue, IfOk, length};
+ghost use Rattle.jlr_machine.specs.Edges.{roots};
+ghost use Rattle.jlr_machine.specs.Collection.{IsFull, IsFullClearing, IsBackground};
+ghost use Rattle.jlr_laws.specs.Laws.{IsWithinHeap, IsSeenWithin};
+ghost use Rattle.jlr_laws.specs.Deciding.{is_full, is_full_clearing, is_background};
+
+use crate::collection::{is_background_plain, is_clearing_plain, tested};
+use jlr_machine::entry::Collected;
+use jlr_machine::machine::Machine;
+use crate::roots::roots_plain;
+use std::alloc::{AllocError, Global};
+
+pub fn full_tested(alloc: Global, machine: &Machine, c: &Collected) -> Result<bool, AllocError>
+    requires cells { length machine.now.objects ≤ 2 ^ 32 }
+    requires within { IsWithinHeap machine.now.objects (roots machine.now) }
+    ensures { IfOk result (λ b. b ≡ is_full machine.now c.now.kept c.now.pending) }
+{
+    let base = roots_plain(alloc, machine)?;
+    tested(
+        alloc,
+        &machine.objects,
+        base.as_slice(),
+        c.kept.as_slice(),
+        c.pending.as_slice(),
+        true,
+    )
+}
+
+pub fn clearing_tested(alloc: Global, machine: &Machine, c: &Collected) -> Result<bool, AllocError>
+    requires cells { length machine.now.objects ≤ 2 ^ 32 }
+    requires within { IsWithinHeap machine.now.objects (roots machine.now) }
+    ensures { IfOk result (λ b. b ≡ is_full_clearing machine.now c.now.kept c.now.pending) }
+{
+    let base = roots_plain(alloc, machine)?;
+    is_clearing_plain(
+        alloc,
+        &machine.objects,
+        base.as_slice(),
+        c.kept.as_slice(),
+        c.pending.as_slice(),
+    )
+}
+
+pub fn background_tested(alloc: Global, machine: &Machine, c: &Collected) -> Result<bool, AllocError>
+    requires cells { length machine.now.objects ≤ 2 ^ 32 }
+    ensures { IfOk result (λ b. b ≡ is_background machine.now c.now.kept c.now.pending) }
+{
+    let base = roots_plain(alloc, machine)?;
+    is_background_plain(
+        alloc,
+        &machine.objects,
+        base.as_slice(),
+        machine.seen.as_slice(),
+        c.kept.as_slice(),
+        c.pending.as_slice(),
+    )
+}
+
+/// Whether it is a full collection.
+pub fn is_full_plain(alloc: Global, machine: &Machine, c: &Collected) -> Result<bool, AllocError>
+    requires cells { length machine.now.objects ≤ 2 ^ 32 }
+    requires within { IsWithinHeap machine.now.objects (roots machine.now) }
+    ensures { IfOk result (λ b. IsTrue b ↔ IsFull machine.now c.now.kept c.now.pending) }
+{
+    full_tested(alloc, machine, c)
+}
+
+/// Whether it is a full collection that clears all soft references.
+pub fn is_full_clearing_plain(
+    alloc: Global,
+    machine: &Machine,
+    c: &Collected,
+) -> Result<bool, AllocError>
+    requires cells { length machine.now.objects ≤ 2 ^ 32 }
+    requires within { IsWithinHeap machine.now.objects (roots machine.now) }
+    ensures { IfOk result (λ b. IsTrue b ↔ IsFullClearing machine.now c.now.kept c.now.pending) }
+{
+    clearing_tested(alloc, machine, c)
+}
+
+/// Whether it is a background collection.
+pub fn is_background_collection_plain(
+    alloc: Global,
+    machine: &Machine,
+    c: &Collected,
+) -> Result<bool, AllocError>
+    requires cells { length machine.now.objects ≤ 2 ^ 32 }
+    requires within { IsWithinHeap machine.now.objects (roots machine.now) }
+    requires seen { IsSeenWithin machine.now }
+    ensures { IfOk result (λ b. IsTrue b ↔ IsBackground machine.now c.now.kept c.now.pending) }
+{
+    background_tested(alloc, machine, c)
+}

@@ -1,0 +1,98 @@
+//! What was seen in an open cycle.
+ghost use Rattle.std.specs.Prelude.{◌≡◌, ◌<◌, ◌≤◌, ◌^◌, ◌||◌, ◌++◌, ◌∷◌, [], cond, filter, length, IfOk, OnOk};
+ghost use Rattle.jlr_machine.specs.Objects.{◌∋◌};
+ghost use Rattle.jlr_machine.specs.Edges.{roots};
+ghost use Rattle.jlr_machine.specs.Edges.Chain.{UpToSoft};
+ghost use Rattle.jlr_machine.specs.ReachSet.{up_to, reach_set};
+ghost use Rattle.jlr_machine.specs.Run.{seen_with, now_seen};
+ghost use Rattle.jlr_laws.specs.Laws.{IsWithinHeap};
+ghost use Rattle.jlr_plain_collections.specs.Marks.{is_marked};
+
+use crate::collection::{holds, is_marked_at, mark_reached, unmarked};
+use crate::roots::roots_plain;
+use jlr_machine::machine::Machine;
+use jlr_types::Slot;
+use std::alloc::{AllocError, Global};
+
+fn push_slot(out: &mut Vec<Slot>, number: usize) -> Result<(), AllocError>
+    requires { number < 2 ^ 32 }
+    ensures { OnOk result (out.new.items ≡ out.old.items ++ number ∷ []) }
+{
+    out.push(Slot::new(number as u32))?;
+    Ok(())
+}
+
+fn all_slots(alloc: Global, cells: usize) -> Result<Vec<Slot>, AllocError>
+    requires { cells ≤ 2 ^ 32 }
+    ensures { IfOk result (λ v. v.items ≡ up_to 0 cells) }
+{
+    let mut out = Vec::new(alloc);
+    for i in 0..cells {
+        push_slot(&mut out, i)?;
+    }
+    Ok(out)
+}
+
+fn is_seen(seen: &[Slot], marks: &[bool], slot: Slot) -> bool
+    ensures { result ≡ ((seen.now ∋ slot) || is_marked marks.now slot) }
+{
+    holds(seen, slot) || is_marked_at(marks, slot)
+}
+
+fn push_if_seen(
+    out: &mut Vec<Slot>,
+    seen: &[Slot],
+    marks: &[bool],
+    number: usize,
+) -> Result<(), AllocError>
+    requires { number < 2 ^ 32 }
+    ensures { OnOk result (out.new.items ≡ out.old.items ++ cond ((seen.now ∋ number) || is_marked marks.now number) (number ∷ []) []) }
+{
+    if is_seen(seen, marks, Slot::new(number as u32)) {
+        push_slot(out, number)?;
+    }
+    Ok(())
+}
+
+fn seen_or_marked(
+    alloc: Global,
+    seen: &[Slot],
+    marks: &[bool],
+    cells: usize,
+) -> Result<Vec<Slot>, AllocError>
+    requires { cells ≤ 2 ^ 32 }
+    ensures { IfOk result (λ v. v.items ≡ filter (λ s. (seen.now ∋ s) || is_marked marks.now s) (up_to 0 cells)) }
+{
+    let mut out = Vec::new(alloc);
+    for i in 0..cells {
+        push_if_seen(&mut out, seen, marks, i)?;
+    }
+    Ok(out)
+}
+
+/// What was seen, with what the roots now reach strongly or softly.
+fn seen_in_cycle(alloc: Global, machine: &Machine) -> Result<Vec<Slot>, AllocError>
+    requires cells { length machine.now.objects ≤ 2 ^ 32 }
+    requires within { IsWithinHeap machine.now.objects (roots machine.now) }
+    ensures { IfOk result (λ v. v.items ≡ seen_with machine.now.seen (reach_set UpToSoft machine.now.objects (roots machine.now)) (length machine.now.objects)) }
+{
+    let objects = &machine.objects;
+    let base = roots_plain(alloc, machine)?;
+    let slots = all_slots(alloc, objects.len())?;
+    let mut marks = unmarked(alloc, objects.len())?;
+    mark_reached(alloc, objects, base.as_slice(), slots.as_slice(), &mut marks, true)?;
+    let seen = seen_or_marked(alloc, machine.seen.as_slice(), marks.as_slice(), objects.len())?;
+    Ok(seen)
+}
+
+/// The same in an open cycle; nothing outside a cycle.
+pub fn seen_plain(alloc: Global, machine: &Machine) -> Result<Vec<Slot>, AllocError>
+    requires cells { length machine.now.objects ≤ 2 ^ 32 }
+    requires within { IsWithinHeap machine.now.objects (roots machine.now) }
+    ensures { IfOk result (λ v. v.items ≡ now_seen machine.now) }
+{
+    if !machine.cycle_open {
+        return Ok(Vec::new(alloc));
+    }
+    seen_in_cycle(alloc, machine)
+}
