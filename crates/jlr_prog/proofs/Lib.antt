@@ -1,3 +1,4 @@
+pub mod Carrying
 pub mod Sent
 pub mod Going
 pub mod Ending

@@ -1,5 +1,6 @@
 -- Reading order.
 pub mod Turns
 pub mod Sessions
+pub mod Heaps
 -- What the parts of a session do, which no public clause names.
 pub mod Chunks

@@ -15,7 +15,7 @@ pub trait CarryOut {
         ensures { carries self.old command result self.new };
 }
 
-/// Stands where the heap will: `ok` says that a line is a command, and nothing is done.
+/// Does nothing: `ok` says that a line is a command. It shows the shell without a heap.
 #[derive(Clone, Copy, Debug)]
 pub struct NoHeap;
 

@@ -5,6 +5,7 @@
 
 pub mod carry;
 pub mod first;
+pub mod heap;
 #[cfg(test)]
 mod tests;
 mod turn;

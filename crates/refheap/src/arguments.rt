@@ -6,6 +6,7 @@ ghost use Rattle.refheap.specs.Status.{status_of};
 use crate::fault::ProgramFault;
 use clap::error::ErrorKind;
 use clap::{Arg, ArgMatches, Command, value_parser};
+use jlr_types::Limits;
 use std::alloc::{AllocError, Global};
 use std::{env, io};
 
@@ -27,13 +28,43 @@ pub fn words(rt: &HostRuntime) -> Result<Vec<String>, ProgramFault> {
 
 /// The number of cells that the words of a `run` ask for, 16 to 65,536, or 1,024 where they ask for
 /// none.
-pub fn cells(alloc: Global, words: &[String]) -> Result<u32, ProgramFault> {
+fn cells(alloc: Global, words: &[String]) -> Result<u32, ProgramFault> {
     let matches = parsed(command(alloc)?, words)?;
     let cells = matches
         .subcommand_matches("run")
         .and_then(|run| run.get_one::<u32>("cells"));
     Ok(cells.unwrap_or(DEFAULT_CELLS))
 }
+
+/// The limits of the heap that the words of a `run` ask for: one session, and what they leave open as
+/// it is without them.
+pub fn limits(alloc: Global, words: &[String]) -> Result<Limits, ProgramFault> {
+    let cells = cells(alloc, words)?;
+    match Limits::checked(
+        cells,
+        1,
+        DEFAULT_RESOURCES,
+        DEFAULT_SOFT_AGE,
+        DEFAULT_TRACE,
+        DEFAULT_BUDGET,
+    ) {
+        Ok(limits) => Ok(limits),
+        Err(_) => {
+            let message = "the number of cells is from 16 to 65536";
+            let mut command = command(alloc)?;
+            Err(told(command.error(ErrorKind::InvalidValue, message)?))
+        }
+    }
+}
+
+/// The other limits of a heap where the command line gives none.
+const DEFAULT_RESOURCES: u32 = 16;
+
+const DEFAULT_SOFT_AGE: u32 = 4;
+
+const DEFAULT_TRACE: u32 = 10_000;
+
+const DEFAULT_BUDGET: u32 = 64;
 
 /// The cells of a heap where the command line gives no number.
 const DEFAULT_CELLS: u32 = 1_024;

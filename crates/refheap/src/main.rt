@@ -9,8 +9,8 @@ mod fault;
 mod report;
 
 use fault::ProgramFault;
-use jlr_prog::carry::NoHeap;
 use jlr_prog::first::{FirstEnd, first_run};
+use jlr_prog::heap::Heap;
 use log::{Level, Log, Logged, error};
 use report::Report;
 use std::process::ExitCode;
@@ -38,10 +38,11 @@ fn tell(rt: HostRuntime, fault: &ProgramFault) {
 /// Runs what the words of the command line ask for.
 fn run(rt: &HostRuntime) -> Result<(), ProgramFault> {
     let words = arguments::words(rt)?;
-    let _cells = arguments::cells(rt.alloc(), words.as_slice())?;
+    let limits = arguments::limits(rt.alloc(), words.as_slice())?;
+    let mut heap = Heap::new(rt.alloc(), limits)?;
     let mut reader = rt.stdin();
     let mut writer = rt.stdout();
-    outcome_of(first_run(&mut reader, &mut writer, &mut NoHeap))
+    outcome_of(first_run(&mut reader, &mut writer, &mut heap))
 }
 
 /// What the end of the session is to the program.

@@ -1,0 +1,15 @@
+use Rattle.std.proofs.Common.{◌≡◌, ◌∙◌, subst, Some, ap}
+use Rattle.jlr_machine.specs.Run.{empty}
+use Rattle.jlr_machine.specs.declared.ask.Ask.TheVariants as ask
+use Rattle.jlr_core.specs.Events.{answer_in, Enters}
+use Rattle.jlr_core.proofs.RunLaws.{stands_at_start}
+use Rattle.jlr_prog.proofs.heap.Heap.new.Goals as goal
+
+pub returns-in-Answered-Done-default : goal.returns-in-Answered-Done-default
+returns-in-Answered-Done-default c =
+    let l = c.args.limits in
+    let m = empty l.cells l.sessions l.resources in
+    let x = c.step.ensures.entry m (stands_at_start c.in_ok-core.core l.cells l.sessions l.resources c.in_ok-core.ensures) in
+    let chosen = c.step.new.choice.chosen in
+    let joined = subst (λ k. Enters m (Some (ask.Join k)) (answer_in c.step.result) chosen x.0) c.new-3.ensures x.1 in
+    (chosen, x.0, subst (λ a. Enters m (Some (ask.Join 0)) a chosen x.0) (ap answer_in c.in-Answered-Done-default.is ∙ ap Some c.in-Answered-Done-default.answer-is) joined, x.2)
