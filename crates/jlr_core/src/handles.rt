@@ -84,7 +84,11 @@ impl State {
     }
 
     /// The handle for what may be null.
-    pub(crate) fn give_or_null(&mut self, by: Mutator, target: Option<Slot>) -> Result<Answer, Refusal>
+    pub(crate) fn give_or_null(
+        &mut self,
+        by: Mutator,
+        target: Option<Slot>,
+    ) -> Result<Answer, Refusal>
         ensures { MatchResult result
             (λ a. (handle_given (machine_of self.old) by target ≡ Some a) × ((is_some target && not (has_free_handle (machine_of self.old) by)) ≡ false) × (machine_of self.new ≡ with_given (machine_of self.old) by target))
             (λ r. (r ≡ Refusal.HandlesFull) × ((is_some target && not (has_free_handle (machine_of self.old) by)) ≡ true) × (machine_of self.new ≡ machine_of self.old)) }

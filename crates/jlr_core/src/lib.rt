@@ -12,3 +12,5 @@ mod objects;
 pub mod run;
 mod state;
 mod sweep;
+#[cfg(test)]
+mod tests;

@@ -75,7 +75,8 @@ impl State {
         self.check_reference_field(slot, field)?;
         self.no_call(by);
         let target = self.roots.lookup(by, value);
-        self.cells.set_field(slot, field as usize, FieldValue::Ref(target));
+        self.cells
+            .set_field(slot, field as usize, FieldValue::Ref(target));
         Ok(Answer::Done)
     }
 

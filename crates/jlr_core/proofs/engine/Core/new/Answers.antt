@@ -16,6 +16,6 @@ invariant_of-result g c =
     let image = empty_is_an_image c.cell_count-cells.result c.session_count.result c.args.limits.resources c.cell_count-cells.ensures.few c.session_count.ensures.few in
     let none : Option Object = None in (
       subst (λ h. IsWellFormed (machine_with h c.in_ok-new-2.field-0 c.args.limits.resources)) (sym cells)
-      (subst (λ t. IsWellFormed (machine_with (replicate c.cell_count-cells.result None) t c.args.limits.resources)) (sym mutators) image.well_formed),
+          (subst (λ t. IsWellFormed (machine_with (replicate c.cell_count-cells.result None) t c.args.limits.resources)) (sym mutators) image.well_formed),
       ap length c.in_ok-marks.ensures.bits ∙ length-replicate c.cell_count-cells.result false ∙ sym (ap length cells ∙ length-replicate c.cell_count-cells.result none),
     )

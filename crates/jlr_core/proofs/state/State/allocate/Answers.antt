@@ -10,5 +10,5 @@ pub returns-in_default-clause-full : goal.returns-in_default-clause-full
 returns-in_default-clause-full c = (
   refl,
   subst (λ cells. FindsNoRoom (machine_of c.args.self.now) c.make_room.new.choice (machine_with cells c.make_room.new.self.roots c.make_room.new.self.resource_limit)) (sym c.in_default.ensures.none)
-  (finds_no_room (machine_of c.args.self.now) c.args.choice.now c.make_room.new.choice (machine_of c.make_room.new.self) c.make_room.ensures.made (c.in_default.ensures.full.0 refl)),
+      (finds_no_room (machine_of c.args.self.now) c.args.choice.now c.make_room.new.choice (machine_of c.make_room.new.self) c.make_room.ensures.made (c.in_default.ensures.full.0 refl)),
 )
