@@ -1,8 +1,7 @@
 -- Lemmas on what legal entries count up, and on the machine that they leave.
-use Rattle.std.proofs.Common.{◌≡◌, ℕ, zero, suc, ◌+◌, ◌<◌, ◌≤◌, ◌^◌, Bool, true, false, ◌||◌, List, [], ◌∷◌, ◌++◌, length, filter, refl, sym, ◌∙◌, ap, subst, arith, Option, Some, None, cond}
-use Rattle.std.proofs.lemmas.Bool.{both_ways, leb-false, cond-true}
+use Rattle.std.proofs.Common.{◌≡◌, ℕ, ◌<◌, ◌≤◌, ◌^◌, true, false, List, length, refl, sym, ◌∙◌, ap, subst, arith, Option, Some, None}
+use Rattle.std.proofs.lemmas.Bool.{both_ways, leb-false}
 use Rattle.jlr_types.specs.declared.Refusal.TheVariants.{Exhausted}
-use Rattle.jlr_machine.specs.declared.object.Object.{Object}
 use Rattle.jlr_machine.specs.declared.machine.Machine.{Machine}
 use Rattle.jlr_machine.specs.declared.entry.Entry.{Entry}
 use Rattle.jlr_machine.specs.declared.entry.Collected.{Collected}
@@ -10,22 +9,16 @@ use Rattle.jlr_machine.specs.declared.ask.Ask.{Ask}
 use Rattle.jlr_machine.specs.declared.ask.Ask.TheVariants.{Register, Prepare}
 use Rattle.jlr_machine.specs.declared.ask.Answer.{Answer}
 use Rattle.jlr_machine.specs.declared.ask.Answer.TheVariants.{Refused}
-use Rattle.jlr_machine.specs.Objects.{Heap, ◌∋◌, ◌∈◌}
-use Rattle.jlr_machine.specs.Edges.Chain.{UpToSoft}
-use Rattle.jlr_machine.specs.ReachSet.{up_to, reach_set}
-use Rattle.std.proofs.lemmas.List.Elements.{filter-append}
 use Rattle.jlr_machine.specs.Refusals.{refusal}
 use Rattle.jlr_machine.specs.Calls.{after}
-use Rattle.jlr_machine.specs.Run.{with_collection, carried, done, apply, now_seen, seen_with, IsLegal}
+use Rattle.jlr_machine.specs.Run.{with_collection, carried, done, apply, now_seen, IsLegal}
 use Rattle.jlr_machine.specs.Run.IsLegal.{carried_out, refused, heap_full, out_of_memory}
 use Rattle.jlr_machine.specs.Edges.{roots}
 use Rattle.jlr_machine.specs.WellFormed.{IsWellFormed}
-use Rattle.jlr_laws.specs.Laws.{IsWithinHeap, places_kept, only}
+use Rattle.jlr_laws.specs.Laws.{IsWithinHeap}
 use Rattle.jlr_laws.proofs.Empty.{well_formed_within}
 use Rattle.jlr_laws.proofs.Law.{legal_kept}
 use Rattle.jlr_laws.proofs.Allowed.{allowed}
-use Rattle.jlr_laws.proofs.Sets.{up_to_in}
-use Rattle.jlr_plain_collections.specs.Marks.{is_marked}
 use Rattle.jlr_plain_changes.specs.Counts.{HaveRoom, HasNextAction, refuses}
 
 -- ---- Counts

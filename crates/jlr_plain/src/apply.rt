@@ -4,13 +4,13 @@ ghost use Rattle.jlr_machine.specs.Run.{IsLegal, carried, apply};
 ghost use Rattle.jlr_machine.specs.WellFormed.{IsWellFormed};
 ghost use Rattle.jlr_plain_changes.specs.Counts.{HaveRoom, HasNextAction, refuses};
 
-use jlr_plain_changes::after::after_plain;
-use jlr_plain_collections::left::collected_plain;
-use jlr_plain_collections::seen::seen_plain;
 use jlr_machine::ask::{Answer, Ask};
 use jlr_machine::entry::Entry;
 use jlr_machine::items::Items;
 use jlr_machine::machine::Machine;
+use jlr_plain_changes::after::after_plain;
+use jlr_plain_collections::left::collected_plain;
+use jlr_plain_collections::seen::seen_plain;
 use jlr_types::Slot;
 use std::alloc::{AllocError, Global};
 

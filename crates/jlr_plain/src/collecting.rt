@@ -6,12 +6,12 @@ ghost use Rattle.jlr_machine.specs.Run.{has_room};
 ghost use Rattle.jlr_laws.specs.Laws.{IsWithinHeap};
 ghost use Rattle.jlr_laws.specs.Deciding.{is_full_clearing, may_collect};
 
-use jlr_plain_collections::legal::{background_tested, clearing_tested, full_tested};
-use jlr_plain_asks::operands::cells_of;
 use crate::room::room_for;
 use jlr_machine::ask::{Ask, FullMode};
 use jlr_machine::entry::Collected;
 use jlr_machine::machine::Machine;
+use jlr_plain_asks::operands::cells_of;
+use jlr_plain_collections::legal::{background_tested, clearing_tested, full_tested};
 use jlr_types::Mutator;
 use std::alloc::{AllocError, Global};
 

@@ -12,17 +12,17 @@ ghost use Rattle.jlr_machine.specs.WellFormed.{IsWellFormed};
 ghost use Rattle.jlr_laws.specs.Laws.{IsWithinHeap};
 ghost use Rattle.jlr_laws.specs.Deciding.{gives_new_rid, is_answer, chooses_nothing, is_carried_out, is_refused, leaves_too_few, is_heap_full, is_legal, is_empty};
 
-use jlr_plain_answers::answers::{is_refused_by, is_truth};
 use crate::collecting::{clears_for_room, may_collect_plain};
-use jlr_plain_collections::left::collected_plain;
-use jlr_plain_asks::lookups::resource_with;
-use jlr_plain_asks::operands::{cells_of, ends_call};
-use jlr_plain_asks::refusals::refusal_plain;
-use jlr_plain_answers::replies::is_reply;
 use crate::room::fresh_slots;
 use jlr_machine::ask::{Answer, Ask};
 use jlr_machine::entry::{Chosen, Collected, Entry};
 use jlr_machine::machine::Machine;
+use jlr_plain_answers::answers::{is_refused_by, is_truth};
+use jlr_plain_answers::replies::is_reply;
+use jlr_plain_asks::lookups::resource_with;
+use jlr_plain_asks::operands::{cells_of, ends_call};
+use jlr_plain_asks::refusals::refusal_plain;
+use jlr_plain_collections::left::collected_plain;
 use jlr_types::{Refusal, Rid, Slot};
 use std::alloc::{AllocError, Global};
 
@@ -45,12 +45,7 @@ fn gives_rid(machine: &Machine, answer: &Answer) -> bool
 }
 
 /// Whether the ask, carried out after this collection, may be so answered.
-fn answered(
-    machine: &Machine,
-    ask: &Ask,
-    collection: &Option<Collected>,
-    answer: &Answer,
-) -> bool
+fn answered(machine: &Machine, ask: &Ask, collection: &Option<Collected>, answer: &Answer) -> bool
     ensures { result ≡ is_answer machine.now ask.now collection.now answer.now }
 {
     match ask {
@@ -89,11 +84,7 @@ fn is_out_of_memory_plain(entry: &Entry) -> bool
         && chooses_none(&entry.choice)
 }
 
-fn is_carried_out_plain(
-    alloc: Global,
-    machine: &Machine,
-    entry: &Entry,
-) -> Result<bool, AllocError>
+fn is_carried_out_plain(alloc: Global, machine: &Machine, entry: &Entry) -> Result<bool, AllocError>
     requires cells { length machine.now.objects ≤ 2 ^ 32 }
     requires within { IsWithinHeap machine.now.objects (roots machine.now) }
     ensures { IfOk result (λ b. b ≡ is_carried_out machine.now entry.now) }

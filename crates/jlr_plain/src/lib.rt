@@ -6,9 +6,8 @@ pub mod collecting;
 pub mod empty;
 pub mod entry;
 pub mod room;
-pub mod run;
-
 #[cfg(test)]
 mod rows;
+pub mod run;
 #[cfg(test)]
 mod tests;

@@ -4,11 +4,11 @@ ghost use Rattle.std.specs.List.{list_all};
 ghost use Rattle.jlr_machine.specs.Run.{has_room, is_free};
 ghost use Rattle.jlr_laws.specs.Deciding.{are_fresh};
 
-use jlr_plain_collections::collection::distinct;
-use jlr_plain_asks::lookups::occupied_cells;
 use jlr_machine::machine::Machine;
 use jlr_machine::object::Object;
 use jlr_machine::table::Table;
+use jlr_plain_asks::lookups::occupied_cells;
+use jlr_plain_collections::collection::distinct;
 use jlr_types::Slot;
 
 /// Whether the objects and those to be made are at most the cells.

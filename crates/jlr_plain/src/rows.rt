@@ -2,9 +2,7 @@
 use jlr_machine::ask::{Answer, Ask, CallOutcome, FullMode, Handed, Outcome, Stat};
 use jlr_machine::entry::{Chosen, Collected, Entry};
 use jlr_machine::items::Items;
-use jlr_types::{
-    ActionNo, Fault, Handle, Layout, Mutator, RefKind, Refusal, Rid, Slot, Work,
-};
+use jlr_types::{ActionNo, Fault, Handle, Layout, Mutator, RefKind, Refusal, Rid, Slot, Work};
 use std::alloc::{AllocError, Global};
 
 fn slots(alloc: Global, numbers: &[u32]) -> Result<Items<Slot>, AllocError> {
@@ -193,7 +191,12 @@ fn enqueue(alloc: Global, reference: u8, answer: bool) -> Entry {
 }
 
 fn make_queue(alloc: Global, answer: u8, slot: u32) -> Result<Entry, AllocError> {
-    making(alloc, Ask::MakeQueue { mutator: mutator() }, given(answer), &[slot])
+    making(
+        alloc,
+        Ask::MakeQueue { mutator: mutator() },
+        given(answer),
+        &[slot],
+    )
 }
 
 /// `queue; new -; weak 2 1; drop 2; gc; enqueued 3; poll 1; same 2 3; poll 1; enqueue 3`, with the handler's step
@@ -266,7 +269,12 @@ pub fn full_heap_row(alloc: Global, number: usize) -> Result<Option<Entry>, Allo
 }
 
 fn make_cleaner(alloc: Global) -> Result<Entry, AllocError> {
-    making(alloc, Ask::MakeCleaner { mutator: mutator() }, given(1), &[0])
+    making(
+        alloc,
+        Ask::MakeCleaner { mutator: mutator() },
+        given(1),
+        &[0],
+    )
 }
 
 fn register(alloc: Global) -> Result<Entry, AllocError> {
@@ -299,7 +307,11 @@ fn finish(alloc: Global, by: u8, action: u64) -> Entry {
 fn notes(alloc: Global) -> Result<Entry, AllocError> {
     let mut seven = Items::new(alloc);
     seven.push(7)?;
-    Ok(plain(alloc, Ask::Notes { mutator: mutator() }, Answer::Notes(seven)))
+    Ok(plain(
+        alloc,
+        Ask::Notes { mutator: mutator() },
+        Answer::Notes(seven),
+    ))
 }
 
 fn clean(alloc: Global, cleanable: u8) -> Entry {
@@ -374,7 +386,11 @@ fn stat(alloc: Global) -> Entry {
         ok: 1,
         failed: 0,
     };
-    plain(alloc, Ask::Stat { mutator: mutator() }, Answer::Stat(counts))
+    plain(
+        alloc,
+        Ask::Stat { mutator: mutator() },
+        Answer::Stat(counts),
+    )
 }
 
 /// A failed open; then `open w f; write 1 00ff; close 1; read 1 5; close 1; stat`

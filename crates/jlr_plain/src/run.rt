@@ -13,11 +13,7 @@ use std::alloc::{AllocError, Global};
 ///
 /// # Errors
 /// `AllocError` where there is no memory. The machine is then as it was.
-pub fn step_plain(
-    alloc: Global,
-    machine: &mut Machine,
-    entry: &Entry,
-) -> Result<bool, AllocError>
+pub fn step_plain(alloc: Global, machine: &mut Machine, entry: &Entry) -> Result<bool, AllocError>
     requires { IsWellFormed machine.old }
     ensures formed { IsWellFormed machine.new }
     ensures legal { IfOk result (λ b. b ≡ true → IsLegal machine.old entry.now × (machine.new ≡ apply machine.old entry.now)) }

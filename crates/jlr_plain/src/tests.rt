@@ -75,12 +75,7 @@ fn start_again(alloc: Global, cells: usize) -> Result<Machine, AllocError>
 }
 
 /// How many of the first entries of a row are legal one after another.
-fn played(
-    alloc: Global,
-    machine: &mut Machine,
-    row: Row,
-    most: usize,
-) -> Result<usize, AllocError>
+fn played(alloc: Global, machine: &mut Machine, row: Row, most: usize) -> Result<usize, AllocError>
     requires { IsWellFormed machine.old }
     ensures { IsWellFormed machine.new }
 {
@@ -117,7 +112,11 @@ fn rows_are_runs(rt: HostRuntime) -> Result<(), Fail> {
 #[test]
 fn a_row_needs_its_cells(rt: HostRuntime) -> Result<(), Fail> {
     assert_eq!(rt; plays(rt.alloc(), Row::Weak, 1)?, 2, "no second cell");
-    assert_eq!(rt; plays(rt.alloc(), Row::FullHeap, 16)?, 3, "room without a collection");
+    assert_eq!(rt;
+        plays(rt.alloc(), Row::FullHeap, 16)?,
+        3,
+        "room without a collection"
+    );
     Ok(())
 }
 
@@ -147,7 +146,10 @@ fn wrong_entries_are_refused(rt: HostRuntime) -> Result<(), Fail> {
     let alloc = rt.alloc();
     let mut machine = start_again(alloc, 16)?;
     assert_eq!(rt; played(alloc, &mut machine, Row::Weak, 4)?, 4);
-    assert_eq!(rt; first_legal(alloc, &mut machine, Row::WrongAfterWeak, 8)?, None);
+    assert_eq!(rt;
+        first_legal(alloc, &mut machine, Row::WrongAfterWeak, 8)?,
+        None
+    );
     Ok(())
 }
 
@@ -157,6 +159,9 @@ fn a_second_reference_gives_nothing(rt: HostRuntime) -> Result<(), Fail> {
     let mut machine = start_again(alloc, 16)?;
     assert_eq!(rt; played(alloc, &mut machine, Row::Twice, 6)?, 6);
     let entry = second_reference_kept(alloc);
-    assert!(rt; !step_again(alloc, &mut machine, &entry)?, "given after it was cleared");
+    assert!(rt;
+        !step_again(alloc, &mut machine, &entry)?,
+        "given after it was cleared"
+    );
     Ok(())
 }

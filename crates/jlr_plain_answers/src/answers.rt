@@ -236,7 +236,8 @@ pub fn is_job(answer: &Answer, action: ActionNo, work: Work) -> bool
     ensures { result ≡ same_answer answer.now (Job action work) }
 {
     match answer {
-        Answer::Job { action: x, work: y } => x.number() == action.number() && works_agree(*y, work),
+        Answer::Job { action: x, work: y } => x.number() == action.number()
+            && works_agree(*y, work),
         _ => false,
     }
 }

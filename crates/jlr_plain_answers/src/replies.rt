@@ -13,17 +13,16 @@ use crate::answers::{
     is_already_done, is_done, is_faulted, is_faults, is_given_out, is_handed, is_handle, is_int,
     is_job, is_names, is_notes, is_outcome, is_stat, is_truth,
 };
-use jlr_plain_asks::lookups::queue_of;
-use jlr_plain_asks::given::given_by;
 use crate::handing::{line_from, step_for};
-use jlr_plain_asks::lookups::{
-    cleanable_in, cleanable_of, guarded_cleanable, named_field, named_guard, named_object,
-    named_reference, named_slot, object_at, occupied_cells, session_of,
-};
-use jlr_plain_asks::refusals::is_spent_state;
 use jlr_machine::ask::{Answer, Ask, Handed, Outcome, Stat};
 use jlr_machine::machine::{Machine, Session};
 use jlr_machine::object::{Cleanable, RefState};
+use jlr_plain_asks::given::given_by;
+use jlr_plain_asks::lookups::{
+    cleanable_in, cleanable_of, guarded_cleanable, named_field, named_guard, named_object,
+    named_reference, named_slot, object_at, occupied_cells, queue_of, session_of,
+};
+use jlr_plain_asks::refusals::is_spent_state;
 use jlr_types::{FieldValue, Handle, Mutator, Slot};
 
 /// The lowest free number from 1 on.
@@ -102,7 +101,13 @@ fn slots_agree(left: Option<Slot>, right: Option<Slot>) -> bool
     }
 }
 
-fn says_same(machine: &Machine, mutator: Mutator, left: Handle, right: Handle, answer: &Answer) -> bool
+fn says_same(
+    machine: &Machine,
+    mutator: Mutator,
+    left: Handle,
+    right: Handle,
+    answer: &Answer,
+) -> bool
     ensures { result ≡ same_answer answer.now (Truth (option_eq nat_eq (slot_named machine.now mutator left) (slot_named machine.now mutator right))) }
 {
     let x = named_slot(machine, mutator, left);
@@ -110,7 +115,13 @@ fn says_same(machine: &Machine, mutator: Mutator, left: Handle, right: Handle, a
     is_truth(answer, slots_agree(x, y))
 }
 
-fn says_refers(machine: &Machine, mutator: Mutator, reference: Handle, object: Handle, answer: &Answer) -> bool
+fn says_refers(
+    machine: &Machine,
+    mutator: Mutator,
+    reference: Handle,
+    object: Handle,
+    answer: &Answer,
+) -> bool
     ensures { result ≡ some_and (same_answer answer.now) (reply machine.now (Refers mutator reference object)) }
 {
     let Some(reference) = named_reference(machine, mutator, reference) else {
@@ -257,19 +268,48 @@ pub fn is_reply(machine: &Machine, ask: &Ask, answer: &Answer) -> bool
         Ask::Put { .. } => is_done(answer),
         Ask::Get { mutator, .. } => gives_handle(machine, *mutator, given_by(machine, ask), answer),
         Ask::SetInt { .. } => is_done(answer),
-        Ask::Int { mutator, object, field } => gives_field(machine, *mutator, *object, *field, answer),
+        Ask::Int {
+            mutator,
+            object,
+            field,
+        } => gives_field(machine, *mutator, *object, *field, answer),
         Ask::Dup { mutator, .. } => gives_handle(machine, *mutator, given_by(machine, ask), answer),
         Ask::Drop { .. } => is_done(answer),
-        Ask::Same { mutator, left, right } => says_same(machine, *mutator, *left, *right, answer),
+        Ask::Same {
+            mutator,
+            left,
+            right,
+        } => says_same(machine, *mutator, *left, *right, answer),
         Ask::MakeRef { mutator, .. } => gives_new_handle(machine, *mutator, answer),
-        Ask::Deref { mutator, .. } => gives_handle(machine, *mutator, given_by(machine, ask), answer),
-        Ask::Refers { mutator, reference, object } => says_refers(machine, *mutator, *reference, *object, answer),
+        Ask::Deref { mutator, .. } => gives_handle(
+            machine,
+            *mutator,
+            given_by(machine, ask),
+            answer,
+        ),
+        Ask::Refers {
+            mutator,
+            reference,
+            object,
+        } => says_refers(machine, *mutator, *reference, *object, answer),
         Ask::Clear { .. } => is_done(answer),
         Ask::Enqueue { mutator, reference } => says_enqueue(machine, *mutator, *reference, answer),
-        Ask::Enqueued { mutator, reference } => says_enqueued(machine, *mutator, *reference, answer),
+        Ask::Enqueued { mutator, reference } => says_enqueued(
+            machine, *mutator, *reference, answer,
+        ),
         Ask::MakeQueue { mutator } => gives_new_handle(machine, *mutator, answer),
-        Ask::Poll { mutator, .. } => gives_handle(machine, *mutator, given_by(machine, ask), answer),
-        Ask::Remove { mutator, .. } => gives_handle(machine, *mutator, given_by(machine, ask), answer),
+        Ask::Poll { mutator, .. } => gives_handle(
+            machine,
+            *mutator,
+            given_by(machine, ask),
+            answer,
+        ),
+        Ask::Remove { mutator, .. } => gives_handle(
+            machine,
+            *mutator,
+            given_by(machine, ask),
+            answer,
+        ),
         Ask::MakeCleaner { mutator } => gives_new_handle(machine, *mutator, answer),
         Ask::Register { mutator, .. } => gives_new_handle(machine, *mutator, answer),
         Ask::Clean { mutator, cleanable } => gives_clean(machine, *mutator, *cleanable, answer),

@@ -1,5 +1,5 @@
 -- The operands of an ask, as the plain program lists them.
-use Rattle.std.specs.Prelude.{ℕ, Bool, List, [], ◌∷◌}
+use Rattle.std.specs.Prelude.{Bool, List, [], ◌∷◌}
 use Rattle.jlr_machine.specs.declared.object.Object.{Object}
 use Rattle.jlr_machine.specs.Objects.{is_cleaner}
 use Rattle.jlr_machine.specs.Refusals.{Operand, is_any, is_plain, is_reference, is_queue, is_cleanable, is_guard}

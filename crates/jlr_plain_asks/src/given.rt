@@ -4,8 +4,9 @@ ghost use Rattle.jlr_machine.specs.Edges.{slot_in};
 ghost use Rattle.jlr_machine.specs.Lookups.{field_named, reference_named, members_named};
 ghost use Rattle.jlr_machine.specs.Refusals.{front, gotten, given};
 
-use crate::lookups::referred;
-use crate::lookups::{bound_slot, named_field, named_members, named_reference, named_slot};
+use crate::lookups::{
+    bound_slot, named_field, named_members, named_reference, named_slot, referred,
+};
 use jlr_machine::ask::Ask;
 use jlr_machine::machine::Machine;
 use jlr_machine::object::Reference;
@@ -61,7 +62,11 @@ pub fn given_by(machine: &Machine, ask: &Ask) -> Option<Slot>
     ensures { result ≡ given machine.now ask.now }
 {
     match ask {
-        Ask::Get { mutator, object, field } => field_given(machine, *mutator, *object, *field),
+        Ask::Get {
+            mutator,
+            object,
+            field,
+        } => field_given(machine, *mutator, *object, *field),
         Ask::Dup { mutator, object } => named_slot(machine, *mutator, *object),
         Ask::Deref { mutator, reference } => deref_given(machine, *mutator, *reference),
         Ask::Poll { mutator, queue } => front_given(machine, *mutator, *queue),

@@ -144,32 +144,53 @@ pub fn operands_of(ask: &Ask) -> Operands
     ensures { operands_in result ≡ operands ask.now }
 {
     match ask {
-        Ask::Put { object: x, value, .. } => {
-            Operands::Two(object(*x, Fit::Plain), object_or_null(*value, Fit::Any))
-        }
+        Ask::Put {
+            object: x,
+            value,
+            ..
+        } => { Operands::Two(object(*x, Fit::Plain), object_or_null(*value, Fit::Any)) }
         Ask::Get { object: x, .. } => Operands::One(object(*x, Fit::Plain)),
         Ask::SetInt { object: x, .. } => Operands::One(object(*x, Fit::Plain)),
         Ask::Int { object: x, .. } => Operands::One(object(*x, Fit::Plain)),
         Ask::Dup { object: x, .. } => Operands::One(object(*x, Fit::Any)),
         Ask::Drop { object: x, .. } => Operands::One(object(*x, Fit::Any)),
         Ask::Same { left, right, .. } => {
-            Operands::Two(object_or_null(*left, Fit::Any), object_or_null(*right, Fit::Any))
+            Operands::Two(
+                object_or_null(*left, Fit::Any),
+                object_or_null(*right, Fit::Any),
+            )
         }
-        Ask::MakeRef { referent, queue, .. } => {
-            Operands::Two(object(*referent, Fit::Any), object_or_null(*queue, Fit::Queue))
+        Ask::MakeRef {
+            referent,
+            queue,
+            ..
+        } => {
+            Operands::Two(
+                object(*referent, Fit::Any),
+                object_or_null(*queue, Fit::Queue),
+            )
         }
         Ask::Deref { reference, .. } => Operands::One(object(*reference, Fit::Reference)),
-        Ask::Refers { reference, object: x, .. } => {
-            Operands::Two(object(*reference, Fit::Reference), object_or_null(*x, Fit::Any))
+        Ask::Refers {
+            reference,
+            object: x,
+            ..
+        } => {
+            Operands::Two(
+                object(*reference, Fit::Reference),
+                object_or_null(*x, Fit::Any),
+            )
         }
         Ask::Clear { reference, .. } => Operands::One(object(*reference, Fit::Reference)),
         Ask::Enqueue { reference, .. } => Operands::One(object(*reference, Fit::Reference)),
         Ask::Enqueued { reference, .. } => Operands::One(object(*reference, Fit::Reference)),
         Ask::Poll { queue, .. } => Operands::One(object(*queue, Fit::Queue)),
         Ask::Remove { queue, .. } => Operands::One(object(*queue, Fit::Queue)),
-        Ask::Register { cleaner, object: x, .. } => {
-            Operands::Two(object(*cleaner, Fit::Cleaner), object(*x, Fit::Any))
-        }
+        Ask::Register {
+            cleaner,
+            object: x,
+            ..
+        } => { Operands::Two(object(*cleaner, Fit::Cleaner), object(*x, Fit::Any)) }
         Ask::Clean { cleanable, .. } => Operands::One(object(*cleanable, Fit::Cleanable)),
         Ask::CheckOut { guard, .. } => Operands::One(object(*guard, Fit::Guard)),
         Ask::Close { guard, .. } => Operands::One(object(*guard, Fit::Guard)),

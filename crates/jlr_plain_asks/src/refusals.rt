@@ -15,8 +15,8 @@ use crate::lookups::{
     named_object, named_slot, resource_with, running_job, session_of,
 };
 use crate::operands::{
-    asker_of, cells_of, field_of_ask, name_of, operands_of, FieldNamed, Fit, Named, Operands,
-    CLEANER,
+    CLEANER, FieldNamed, Fit, Named, Operands, asker_of, cells_of, field_of_ask, name_of,
+    operands_of,
 };
 use jlr_machine::ask::Ask;
 use jlr_machine::machine::{Call, Job, Machine, ResourceState};

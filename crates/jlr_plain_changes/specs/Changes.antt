@@ -1,6 +1,5 @@
 -- The changes of one object or one session, as the plain program lists them.
-use Rattle.std.specs.Prelude.{ℕ, drop, ◌++◌, [], ◌∷◌, Option, Some, None}
-use Rattle.jlr_types.specs.declared.FieldValue.{FieldValue}
+use Rattle.std.specs.Prelude.{drop, ◌++◌, [], ◌∷◌, None}
 use Rattle.jlr_machine.specs.declared.object.Object.{Object}
 use Rattle.jlr_machine.specs.declared.object.RefState.TheVariants.{Queued, Removed}
 use Rattle.jlr_machine.specs.declared.object.CleanState.TheVariants.{Lined}

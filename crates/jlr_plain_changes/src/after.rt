@@ -10,22 +10,22 @@ ghost use Rattle.jlr_machine.specs.Calls.{fresh_session, with_given, made, field
 ghost use Rattle.jlr_plain_changes.specs.Counts.{HaveRoom, HasNextAction};
 
 use crate::calls::{check_in, check_out, fenced_guard, finish, open};
-use jlr_plain_asks::given::given_by;
-use jlr_plain_answers::handing::line_from;
 use crate::lists::{name_bound, name_unbound};
-use jlr_plain_asks::lookups::{
-    cleanable_in, guarded_cleanable, named_guard, named_slot, running_job,
-};
 use crate::making::{blank_fields, make, new_cleanable, new_reference, prepare};
-use crate::objects::{with_changed, Change};
+use crate::objects::{Change, with_changed};
 use crate::queues::{enqueue, hand_over, hold, poll_for};
-use crate::sessions::{new_session, with_seat, with_session_changed, SessionChange};
+use crate::sessions::{SessionChange, new_session, with_seat, with_session_changed};
 use crate::takes::{clean_by, take_line};
 use jlr_machine::ask::{Answer, Ask, Outcome};
 use jlr_machine::copy::copy_slice;
 use jlr_machine::items::Items;
 use jlr_machine::machine::Machine;
 use jlr_machine::object::{Object, Reference};
+use jlr_plain_answers::handing::line_from;
+use jlr_plain_asks::given::given_by;
+use jlr_plain_asks::lookups::{
+    cleanable_in, guarded_cleanable, named_guard, named_slot, running_job,
+};
 use jlr_types::{ActionNo, FieldValue, Handle, Layout, Mutator, Slot};
 use std::alloc::{AllocError, Global};
 
@@ -90,7 +90,13 @@ fn make_plain(
     ensures { IfOk result (λ n. n ≡ made machine mutator fresh.now (Plain (map blank layout.now))) }
 {
     let fields = blank_fields(alloc, layout)?;
-    make(alloc, machine, mutator, fresh, Object::Plain(Items::from_vec(fields)))
+    make(
+        alloc,
+        machine,
+        mutator,
+        fresh,
+        Object::Plain(Items::from_vec(fields)),
+    )
 }
 
 fn register(
@@ -184,11 +190,7 @@ fn check_out_named(
     }
 }
 
-fn check_in_fenced(
-    alloc: Global,
-    machine: Machine,
-    mutator: Mutator,
-) -> Result<Machine, AllocError>
+fn check_in_fenced(alloc: Global, machine: Machine, mutator: Mutator) -> Result<Machine, AllocError>
     ensures { IfOk result (λ n. n ≡ on (guard_fenced machine mutator) (checked_in machine mutator) machine) }
 {
     match fenced_guard(&machine, mutator) {
@@ -303,7 +305,14 @@ fn put(
     ensures { IfOk result (λ n. n ≡ field_set machine mutator object field (Ref (slot_named machine mutator value))) }
 {
     let slot = named_slot(&machine, mutator, value);
-    set_field(alloc, machine, mutator, object, field, FieldValue::Ref(slot))
+    set_field(
+        alloc,
+        machine,
+        mutator,
+        object,
+        field,
+        FieldValue::Ref(slot),
+    )
 }
 
 fn make_reference(
@@ -377,14 +386,41 @@ pub fn after_plain(
         Ask::Join { mutator } => join(alloc, machine, *mutator),
         Ask::Leave { mutator } => Ok(with_seat(machine, *mutator, None)),
         Ask::New { mutator, layout } => make_plain(alloc, machine, *mutator, fresh, layout),
-        Ask::Put { mutator, object, field, value } => put(alloc, machine, *mutator, *object, *field, *value),
+        Ask::Put {
+            mutator,
+            object,
+            field,
+            value,
+        } => put(alloc, machine, *mutator, *object, *field, *value),
         Ask::Get { mutator, .. } => hold_given(alloc, machine, *mutator, ask),
-        Ask::SetInt { mutator, object, field, value } => set_field(alloc, machine, *mutator, *object, *field, FieldValue::Int(*value)),
+        Ask::SetInt {
+            mutator,
+            object,
+            field,
+            value,
+        } => set_field(
+            alloc,
+            machine,
+            *mutator,
+            *object,
+            *field,
+            FieldValue::Int(*value),
+        ),
         Ask::Int { .. } => Ok(machine),
         Ask::Dup { mutator, .. } => hold_given(alloc, machine, *mutator, ask),
-        Ask::Drop { mutator, object } => with_session_changed(alloc, machine, *mutator, SessionChange::Release(*object)),
+        Ask::Drop { mutator, object } => with_session_changed(
+            alloc,
+            machine,
+            *mutator,
+            SessionChange::Release(*object),
+        ),
         Ask::Same { .. } => Ok(machine),
-        Ask::MakeRef { mutator, kind, referent, queue } => {
+        Ask::MakeRef {
+            mutator,
+            kind,
+            referent,
+            queue,
+        } => {
             let reference = new_reference(&machine, *mutator, *kind, *referent, *queue);
             make_reference(alloc, machine, *mutator, fresh, reference)
         }
@@ -393,19 +429,38 @@ pub fn after_plain(
         Ask::Clear { mutator, reference } => clear(alloc, machine, *mutator, *reference),
         Ask::Enqueue { mutator, reference } => enqueue_named(alloc, machine, *mutator, *reference),
         Ask::Enqueued { .. } => Ok(machine),
-        Ask::MakeQueue { mutator } => make(alloc, machine, *mutator, fresh, Object::Queue(Items::new(alloc))),
+        Ask::MakeQueue { mutator } => make(
+            alloc,
+            machine,
+            *mutator,
+            fresh,
+            Object::Queue(Items::new(alloc)),
+        ),
         Ask::Poll { mutator, queue } => poll_asked(alloc, machine, *mutator, *queue, ask),
         Ask::Remove { mutator, queue } => poll_asked(alloc, machine, *mutator, *queue, ask),
         Ask::MakeCleaner { mutator } => make(alloc, machine, *mutator, fresh, Object::Cleaner),
-        Ask::Register { mutator, object, note, .. } => register(alloc, machine, *mutator, fresh, *object, *note),
+        Ask::Register {
+            mutator,
+            object,
+            note,
+            ..
+        } => register(alloc, machine, *mutator, fresh, *object, *note),
         Ask::Clean { mutator, cleanable } => clean_named(alloc, machine, *mutator, *cleanable),
         Ask::Prepare { mutator } => prepare_answered(alloc, machine, *mutator, answer, fresh),
         Ask::Opened { mutator, outcome } => open_fenced(alloc, machine, *mutator, *outcome),
         Ask::CheckOut { mutator, guard } => check_out_named(alloc, machine, *mutator, *guard),
         Ask::CheckIn { mutator, .. } => check_in_fenced(alloc, machine, *mutator),
         Ask::Close { mutator, guard } => close(alloc, machine, *mutator, *guard),
-        Ask::Finish { by, action, outcome } => finish_action(alloc, machine, *by, *action, *outcome),
-        Ask::Bind { mutator, name, object } => bind(alloc, machine, *mutator, name, *object),
+        Ask::Finish {
+            by,
+            action,
+            outcome,
+        } => finish_action(alloc, machine, *by, *action, *outcome),
+        Ask::Bind {
+            mutator,
+            name,
+            object,
+        } => bind(alloc, machine, *mutator, name, *object),
         Ask::Find { mutator, .. } => hold_given(alloc, machine, *mutator, ask),
         Ask::Unbind { name, .. } => unbind(alloc, machine, name),
         Ask::Names { .. } => Ok(machine),

@@ -4,9 +4,7 @@ ghost use Rattle.jlr_machine.specs.declared.ask.Outcome.TheVariants.{Ok as Outco
 ghost use Rattle.jlr_machine.specs.Calls.{fence_of, guard_fenced, opened, checked_out, checked_in, without_work, noted, finished, free_again};
 
 use crate::lists::{job_removed, last_with};
-use jlr_plain_asks::lookups::{guard_of, object_at, session_of};
-use crate::objects::{with_changed, Change};
-use jlr_plain_asks::operands::CLEANER;
+use crate::objects::{Change, with_changed};
 use crate::queues::hold;
 use crate::takes::{in_call, in_state, without_rid, without_work_of};
 use jlr_machine::ask::Outcome;
@@ -14,6 +12,8 @@ use jlr_machine::copy::copy_slice;
 use jlr_machine::items::Items;
 use jlr_machine::machine::{Call, Failure, Job, Machine, ResourceState};
 use jlr_machine::object::Guard;
+use jlr_plain_asks::lookups::{guard_of, object_at, session_of};
+use jlr_plain_asks::operands::CLEANER;
 use jlr_types::{Fault, Mutator, Slot, Work};
 use std::alloc::{AllocError, Global};
 

@@ -3,10 +3,10 @@ ghost use Rattle.std.specs.Prelude.{◌≡◌, ◌==◌, ◌++◌, ◌∷◌, []
 ghost use Rattle.jlr_machine.specs.declared.machine.Resource.{Resource as ResourceOf};
 ghost use Rattle.jlr_machine.specs.Lookups.{bound, unbound, with_job, without_job, with_resource, last_256};
 
-use jlr_plain_asks::lookups::names_agree;
 use jlr_machine::copy::{copy_items, copy_slice};
 use jlr_machine::items::Items;
 use jlr_machine::machine::{Binding, Job, Resource, ResourceState};
+use jlr_plain_asks::lookups::names_agree;
 use jlr_types::{ActionNo, Rid, Slot};
 use std::alloc::{AllocError, Global};
 
@@ -120,11 +120,7 @@ pub fn resource_removed(
     Ok(out)
 }
 
-fn push_bindings(
-    alloc: Global,
-    out: &mut Vec<Binding>,
-    names: &[Binding],
-) -> Result<(), AllocError>
+fn push_bindings(alloc: Global, out: &mut Vec<Binding>, names: &[Binding]) -> Result<(), AllocError>
     ensures { OnOk result (out.new.items ≡ out.old.items ++ names.now) }
 {
     for binding in names {

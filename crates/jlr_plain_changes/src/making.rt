@@ -6,14 +6,16 @@ ghost use Rattle.jlr_machine.specs.Lookups.{blank, slot_named};
 ghost use Rattle.jlr_machine.specs.Calls.{made, registered, prepared, prepared_in};
 
 use crate::lists::resource_added;
-use jlr_plain_asks::lookups::named_slot;
 use crate::objects::with_place;
 use crate::queues::hold;
 use crate::takes::in_call;
 use jlr_machine::items::Items;
 use jlr_machine::machine::{Call, Machine, Resource, ResourceState};
 use jlr_machine::object::{CleanState, Cleanable, Guard, Object, RefState, Reference};
-use jlr_types::{ActionNo, FieldKind, FieldValue, Handle, Layout, Mutator, RefKind, Rid, Slot, Work};
+use jlr_plain_asks::lookups::named_slot;
+use jlr_types::{
+    ActionNo, FieldKind, FieldValue, Handle, Layout, Mutator, RefKind, Rid, Slot, Work,
+};
 use std::alloc::{AllocError, Global};
 
 /// The machine with a new object in the first fresh slot, held by the mutator.
@@ -108,7 +110,11 @@ fn prepare_at(
         state: ResourceState::Opening,
     };
     let resources = resource_added(alloc, machine.resources.as_slice(), resource)?;
-    let with_guard = with_place(machine, guard, Some(Object::Guard(Guard { rid, cleanable })));
+    let with_guard = with_place(
+        machine,
+        guard,
+        Some(Object::Guard(Guard { rid, cleanable })),
+    );
     let armed = Cleanable {
         referent: Some(guard),
         action,

@@ -5,12 +5,12 @@ ghost use Rattle.jlr_machine.specs.Objects.{at};
 ghost use Rattle.jlr_machine.specs.Lookups.{with_object};
 ghost use Rattle.jlr_plain_changes.specs.Changes.{change_of};
 
-use jlr_plain_asks::lookups::object_at;
 use jlr_machine::copy::{copy_items, copy_slice};
 use jlr_machine::items::Items;
 use jlr_machine::machine::Machine;
 use jlr_machine::object::{CleanState, Cleanable, Object, RefState, Reference};
 use jlr_machine::table::Table;
+use jlr_plain_asks::lookups::object_at;
 use jlr_types::{FieldValue, Slot};
 use std::alloc::{AllocError, Global};
 
@@ -111,11 +111,7 @@ fn without_first(alloc: Global, members: &[Slot]) -> Result<Vec<Slot>, AllocErro
     copy_slice(alloc, &members[1..])
 }
 
-fn changed_queue(
-    alloc: Global,
-    members: &Items<Slot>,
-    change: Change,
-) -> Result<Object, AllocError>
+fn changed_queue(alloc: Global, members: &Items<Slot>, change: Change) -> Result<Object, AllocError>
     ensures { IfOk result (λ o. o ≡ change_of change (Queue members.now)) }
 {
     let list = members.as_slice();

@@ -4,15 +4,14 @@ ghost use Rattle.jlr_machine.specs.declared.ask.Handed.TheVariants.{Lined};
 ghost use Rattle.jlr_machine.specs.Objects.{at, as_reference, queue_ahead};
 ghost use Rattle.jlr_machine.specs.Calls.{with_given, to_queue, enqueued, polled, poll_given, delivered, handed, handed_over};
 
-use jlr_plain_asks::lookups::queue_of;
-use jlr_plain_answers::handing::step_for;
-use jlr_plain_asks::lookups::{named_slot, object_at, reference_of};
-use crate::objects::{with_changed, Change};
-use crate::sessions::{with_session_changed, SessionChange};
+use crate::objects::{Change, with_changed};
+use crate::sessions::{SessionChange, with_session_changed};
 use jlr_machine::ask::Handed;
 use jlr_machine::copy::copy_slice;
 use jlr_machine::items::Items;
 use jlr_machine::machine::Machine;
+use jlr_plain_answers::handing::step_for;
+use jlr_plain_asks::lookups::{named_slot, object_at, queue_of, reference_of};
 use jlr_types::{Handle, Mutator, Slot};
 use std::alloc::{AllocError, Global};
 
@@ -110,12 +109,7 @@ fn line_up(alloc: Global, machine: Machine, slot: Slot) -> Result<Machine, Alloc
     Ok(next)
 }
 
-fn deliver(
-    alloc: Global,
-    machine: Machine,
-    slot: Slot,
-    step: Handed,
-) -> Result<Machine, AllocError>
+fn deliver(alloc: Global, machine: Machine, slot: Slot, step: Handed) -> Result<Machine, AllocError>
     ensures { IfOk result (λ n. n ≡ delivered machine slot step) }
 {
     match step {
@@ -136,11 +130,7 @@ fn step_at(machine: &Machine, slot: Slot) -> Option<Handed>
 }
 
 /// The handler's step, with the first of the pending list.
-pub fn hand_over(
-    alloc: Global,
-    machine: Machine,
-    pending: &[Slot],
-) -> Result<Machine, AllocError>
+pub fn hand_over(alloc: Global, machine: Machine, pending: &[Slot]) -> Result<Machine, AllocError>
     ensures { IfOk result (λ n. n ≡ handed_over machine pending.now) }
 {
     let mut next = machine;

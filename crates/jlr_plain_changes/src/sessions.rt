@@ -5,11 +5,11 @@ ghost use Rattle.jlr_machine.specs.Lookups.{with_session};
 ghost use Rattle.jlr_machine.specs.Calls.{fresh_session};
 ghost use Rattle.jlr_plain_changes.specs.Changes.{session_change_of};
 
-use jlr_plain_asks::lookups::session_of;
-use jlr_plain_answers::replies::free_handle_of;
 use jlr_machine::copy::copy_slice;
 use jlr_machine::machine::{Call as CallOf, Machine, Session};
 use jlr_machine::table::Table;
+use jlr_plain_answers::replies::free_handle_of;
+use jlr_plain_asks::lookups::session_of;
 use jlr_types::{Handle, Mutator, Slot};
 use std::alloc::{AllocError, Global};
 

@@ -4,15 +4,15 @@ ghost use Rattle.jlr_machine.specs.Lookups.{with_call, with_state, without_resou
 ghost use Rattle.jlr_machine.specs.Calls.{with_work_state, without_work_resource, taken_up, cleaned, line_taken};
 
 use crate::lists::{job_added, resource_moved, resource_removed};
-use jlr_plain_asks::lookups::cleanable_in;
-use crate::objects::{with_changed, Change};
-use jlr_plain_asks::operands::CLEANER;
-use jlr_plain_asks::refusals::is_spent_state;
-use crate::sessions::{with_session_changed, SessionChange};
+use crate::objects::{Change, with_changed};
+use crate::sessions::{SessionChange, with_session_changed};
 use jlr_machine::copy::copy_slice;
 use jlr_machine::items::Items;
 use jlr_machine::machine::{Call, Job, Machine, ResourceState};
 use jlr_machine::object::Cleanable;
+use jlr_plain_asks::lookups::cleanable_in;
+use jlr_plain_asks::operands::CLEANER;
+use jlr_plain_asks::refusals::is_spent_state;
 use jlr_types::{Mutator, Rid, Slot, Work};
 use std::alloc::{AllocError, Global};
 

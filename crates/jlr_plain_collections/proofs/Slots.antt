@@ -1,29 +1,13 @@
 -- Lemmas on all slots of a heap, and on what was seen.
-use Rattle.std.proofs.Common.{◌≡◌, ℕ, zero, suc, ◌+◌, ◌<◌, ◌≤◌, ◌^◌, Bool, true, false, ◌||◌, List, [], ◌∷◌, ◌++◌, length, filter, refl, sym, ◌∙◌, ap, subst, arith, Option, Some, None, cond}
-use Rattle.std.proofs.lemmas.Bool.{both_ways, leb-false, cond-true}
-use Rattle.jlr_types.specs.declared.Refusal.TheVariants.{Exhausted}
+use Rattle.std.proofs.Common.{◌≡◌, ℕ, zero, suc, ◌+◌, ◌<◌, ◌≤◌, Bool, ◌||◌, List, [], ◌∷◌, ◌++◌, length, filter, refl, sym, ◌∙◌, ap, subst, arith, Option, None, cond}
+use Rattle.std.proofs.lemmas.Bool.{cond-true}
 use Rattle.jlr_machine.specs.declared.object.Object.{Object}
-use Rattle.jlr_machine.specs.declared.machine.Machine.{Machine}
-use Rattle.jlr_machine.specs.declared.entry.Entry.{Entry}
-use Rattle.jlr_machine.specs.declared.entry.Collected.{Collected}
-use Rattle.jlr_machine.specs.declared.ask.Ask.{Ask}
-use Rattle.jlr_machine.specs.declared.ask.Ask.TheVariants.{Register, Prepare}
-use Rattle.jlr_machine.specs.declared.ask.Answer.{Answer}
-use Rattle.jlr_machine.specs.declared.ask.Answer.TheVariants.{Refused}
 use Rattle.jlr_machine.specs.Objects.{Heap, ◌∋◌, ◌∈◌}
 use Rattle.jlr_machine.specs.Edges.Chain.{UpToSoft}
 use Rattle.jlr_machine.specs.ReachSet.{up_to, reach_set}
 use Rattle.std.proofs.lemmas.List.Elements.{filter-append}
-use Rattle.jlr_machine.specs.Refusals.{refusal}
-use Rattle.jlr_machine.specs.Calls.{after}
-use Rattle.jlr_machine.specs.Run.{with_collection, carried, done, apply, now_seen, seen_with, IsLegal}
-use Rattle.jlr_machine.specs.Run.IsLegal.{carried_out, refused, heap_full, out_of_memory}
-use Rattle.jlr_machine.specs.Edges.{roots}
-use Rattle.jlr_machine.specs.WellFormed.{IsWellFormed}
-use Rattle.jlr_laws.specs.Laws.{IsWithinHeap, places_kept, only}
-use Rattle.jlr_laws.proofs.Empty.{well_formed_within}
-use Rattle.jlr_laws.proofs.Law.{legal_kept}
-use Rattle.jlr_laws.proofs.Allowed.{allowed}
+use Rattle.jlr_machine.specs.Run.{seen_with}
+use Rattle.jlr_laws.specs.Laws.{places_kept, only}
 use Rattle.jlr_laws.proofs.Sets.{up_to_in}
 use Rattle.jlr_plain_collections.specs.Marks.{is_marked}
 
@@ -77,5 +61,4 @@ seen_found heap B base kept seen found marks passed n out b k f p l h a =
     ∙ ap {A = List Bool} {B = List ℕ} (λ x. filter (λ s. (seen ∋ s) || is_marked x s) (up_to 0 n)) p
     ∙ ap {A = ℕ} {B = List ℕ} (λ x. filter (λ s. (seen ∋ s) || is_marked marks s) (up_to 0 x)) l
     ∙ seen_by_marks seen (reach_set UpToSoft heap B) marks (length heap)
-      (λ s. h s ∙ ap {A = List ℕ} {B = Bool} (λ x. reach_set UpToSoft (only x heap) base ∋ s) k ∙ ap {A = Heap} {B = Bool} (λ x. reach_set UpToSoft x base ∋ s) (only_all heap) ∙ ap {A = List ℕ} {B = Bool} (λ x. reach_set UpToSoft heap x ∋ s) b)
-
+    (λ s. h s ∙ ap {A = List ℕ} {B = Bool} (λ x. reach_set UpToSoft (only x heap) base ∋ s) k ∙ ap {A = Heap} {B = Bool} (λ x. reach_set UpToSoft x base ∋ s) (only_all heap) ∙ ap {A = List ℕ} {B = Bool} (λ x. reach_set UpToSoft heap x ∋ s) b)

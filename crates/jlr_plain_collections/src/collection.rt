@@ -14,8 +14,8 @@ ghost use Rattle.jlr_laws.specs.Deciding.{cuts_off, cuts_off_in_background, is_c
 use jlr_machine::items::Items;
 use jlr_machine::object::{CleanState, Object, RefState};
 use jlr_machine::table::Table;
-use jlr_types::{FieldValue, RefKind, Slot};
 use jlr_plain_asks::lookups::{queue_of, referred};
+use jlr_types::{FieldValue, RefKind, Slot};
 use std::alloc::{AllocError, Global};
 
 /// Whether a set holds a slot.

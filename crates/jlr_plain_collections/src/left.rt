@@ -30,7 +30,11 @@ fn kept_referent(kept: &[Slot], referent: Option<Slot>) -> Option<Slot>
 fn left_reference(kept: &[Slot], listed: bool, reference: &Reference) -> Reference
     ensures { ReferenceObject result ≡ left_of kept.now listed (ReferenceObject reference.now) }
 {
-    let state = if listed { RefState::Pending } else { reference.state };
+    let state = if listed {
+        RefState::Pending
+    } else {
+        reference.state
+    };
     Reference {
         kind: reference.kind,
         referent: kept_referent(kept, reference.referent),
@@ -42,7 +46,11 @@ fn left_reference(kept: &[Slot], listed: bool, reference: &Reference) -> Referen
 fn left_cleanable(kept: &[Slot], listed: bool, cleanable: &Cleanable) -> Cleanable
     ensures { CleanableObject result ≡ left_of kept.now listed (CleanableObject cleanable.now) }
 {
-    let state = if listed { CleanState::Pending } else { cleanable.state };
+    let state = if listed {
+        CleanState::Pending
+    } else {
+        cleanable.state
+    };
     Cleanable {
         referent: kept_referent(kept, cleanable.referent),
         action: cleanable.action,

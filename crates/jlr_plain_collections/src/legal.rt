@@ -6,9 +6,9 @@ ghost use Rattle.jlr_laws.specs.Laws.{IsWithinHeap, IsSeenWithin};
 ghost use Rattle.jlr_laws.specs.Deciding.{is_full, is_full_clearing, is_background};
 
 use crate::collection::{is_background_plain, is_clearing_plain, tested};
+use crate::roots::roots_plain;
 use jlr_machine::entry::Collected;
 use jlr_machine::machine::Machine;
-use crate::roots::roots_plain;
 use std::alloc::{AllocError, Global};
 
 pub fn full_tested(alloc: Global, machine: &Machine, c: &Collected) -> Result<bool, AllocError>
@@ -42,7 +42,11 @@ pub fn clearing_tested(alloc: Global, machine: &Machine, c: &Collected) -> Resul
     )
 }
 
-pub fn background_tested(alloc: Global, machine: &Machine, c: &Collected) -> Result<bool, AllocError>
+pub fn background_tested(
+    alloc: Global,
+    machine: &Machine,
+    c: &Collected,
+) -> Result<bool, AllocError>
     requires cells { length machine.now.objects ≤ 2 ^ 32 }
     ensures { IfOk result (λ b. b ≡ is_background machine.now c.now.kept c.now.pending) }
 {

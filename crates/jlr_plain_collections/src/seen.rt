@@ -80,8 +80,20 @@ fn seen_in_cycle(alloc: Global, machine: &Machine) -> Result<Vec<Slot>, AllocErr
     let base = roots_plain(alloc, machine)?;
     let slots = all_slots(alloc, objects.len())?;
     let mut marks = unmarked(alloc, objects.len())?;
-    mark_reached(alloc, objects, base.as_slice(), slots.as_slice(), &mut marks, true)?;
-    let seen = seen_or_marked(alloc, machine.seen.as_slice(), marks.as_slice(), objects.len())?;
+    mark_reached(
+        alloc,
+        objects,
+        base.as_slice(),
+        slots.as_slice(),
+        &mut marks,
+        true,
+    )?;
+    let seen = seen_or_marked(
+        alloc,
+        machine.seen.as_slice(),
+        marks.as_slice(),
+        objects.len(),
+    )?;
     Ok(seen)
 }
 
