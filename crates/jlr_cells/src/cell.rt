@@ -1,5 +1,5 @@
 //! One cell.
-ghost use Rattle.std.specs.Prelude.{◌≡◌, Some, IsTrue, is_some, length, option_and_then, option_map, option_to_list, filter_map};
+ghost use Rattle.std.specs.Prelude.{◌≡◌, IfOk, Some, IsTrue, is_some, length, option_and_then, option_map, option_to_list, filter_map};
 ghost use Rattle.std.specs.List.{flat_map};
 ghost use Rattle.jlr_machine.specs.Objects.{as_fields, some_and, with_field, with_reference};
 ghost use Rattle.jlr_machine.specs.Edges.{slot_in, strong_edges};
@@ -9,7 +9,11 @@ ghost use Rattle.jlr_cells.specs.Contents.{field_in, kind_of, object_in, object_
 
 use crate::fields::Fields;
 use crate::shape::{Kind, Shape};
+use jlr_machine::copy::copy_slice;
+use jlr_machine::items::Items;
+use jlr_machine::object::{Object, RefState, Reference};
 use jlr_types::{FieldValue, RefKind, Slot};
+use std::alloc::{AllocError, Global};
 use std::mem::size_of;
 
 /// A place for one object.
@@ -96,6 +100,25 @@ impl Cell {
         match self {
             Cell::Reference { referent, .. } => *referent,
             Cell::Free { .. } | Cell::Plain(_) => None,
+        }
+    }
+
+    /// The object as plain data, if the cell is not free.
+    pub(crate) fn image(&self, alloc: Global) -> Result<Option<Object>, AllocError>
+        ensures { IfOk result (λ object. object ≡ object_in self.now) }
+    {
+        match self {
+            Cell::Free { .. } => Ok(None),
+            Cell::Plain(fields) => {
+                let fields = Items::from_vec(copy_slice(alloc, fields.as_slice())?);
+                Ok(Some(Object::Plain(fields)))
+            }
+            Cell::Reference { kind, referent } => Ok(Some(Object::Reference(Reference {
+                kind: *kind,
+                referent: *referent,
+                queue: None,
+                state: RefState::Fresh,
+            }))),
         }
     }
 

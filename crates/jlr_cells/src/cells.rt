@@ -12,6 +12,8 @@ ghost use Rattle.jlr_machine.specs.declared.object.Object.{Object};
 use crate::cell::Cell;
 use crate::free_list::{free_cells, link_to, next_free};
 use crate::shape::{Kind, Shape};
+use jlr_machine::object::Object;
+use jlr_machine::table::Table;
 use jlr_types::{FieldValue, Meter, Slot};
 use std::alloc::{AllocError, Global};
 use std::marker::Model;
@@ -182,6 +184,16 @@ impl Cells {
         cell.clear_referent();
     }
 
+    /// The objects as plain data.
+    ///
+    /// # Errors
+    /// `AllocError` where there is no memory for them.
+    pub fn image(&self, alloc: Global) -> Result<Table<Object>, AllocError>
+        ensures { IfOk result (λ objects. objects ≡ self.now) }
+    {
+        Ok(Table::from_vec(images(alloc, &self.cells)?))
+    }
+
     /// Visits the object at a slot: one tick. Lends the fields that hold its strong edges; a reference has none.
     pub fn visit(&self, slot: Slot, meter: &mut Meter) -> &[FieldValue]
         requires object { IsTrue (is_some (at self.now slot)) }
@@ -200,6 +212,16 @@ fn cells_are_early(cells: &[Cell])
     ensures { (s : ℕ) (o : Object) → at (objects_in cells.now) s ≡ Some o → IsEarly o }
 {
     let _ = cells;
+}
+
+fn images(alloc: Global, cells: &[Cell]) -> Result<Vec<Option<Object>>, AllocError>
+    ensures { IfOk result (λ objects. objects.items ≡ objects_in cells.now) }
+{
+    let mut objects = Vec::with_capacity(alloc, cells.len())?;
+    for cell in cells {
+        objects.push(cell.image(alloc)?)?;
+    }
+    Ok(objects)
 }
 
 fn field_of(cells: &[Cell], slot: Slot, field: usize) -> Option<FieldValue>

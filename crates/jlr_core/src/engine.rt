@@ -1,5 +1,5 @@
 //! The core: one event at a time.
-ghost use Rattle.std.specs.Prelude.{◌≡◌, ◌≤◌, length, IfOk};
+ghost use Rattle.std.specs.Prelude.{◌≡◌, ◌≤◌, [], length, IfOk};
 ghost use Rattle.jlr_machine.specs.declared.machine.Machine.{Machine};
 ghost use Rattle.jlr_machine.specs.Run.{empty};
 ghost use Rattle.jlr_core.specs.Events.{ask_of, answer_in, given, handed, Enters};
@@ -9,6 +9,7 @@ use crate::marks::Marks;
 use crate::state::State;
 use jlr_cells::Cells;
 use jlr_machine::choice::Choice;
+use jlr_machine::machine::Machine;
 use jlr_roots::Roots;
 use jlr_types::Limits;
 use std::alloc::{AllocError, Global};
@@ -72,6 +73,17 @@ impl<R> Core<R> {
     {
         choice.clear();
         self.state.step(event, &mut self.marks, choice)
+    }
+
+    /// The machine that the core stands for, as plain data, with nothing seen.
+    ///
+    /// # Errors
+    /// `AllocError` where there is no memory for it.
+    pub fn image(&self, alloc: Global) -> Result<Machine, AllocError>
+        ensures exact { IfOk result (λ machine. machine ≡ self.now.machine) }
+        ensures image { (m : Machine) → StandsIn self.now m → IfOk result (λ machine. machine ≡ record m { seen = [] }) }
+    {
+        self.state.image(alloc)
     }
 }
 

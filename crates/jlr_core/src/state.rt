@@ -7,8 +7,11 @@ ghost use Rattle.jlr_machine.specs.Refusals.{is_joined, has_call};
 ghost use Rattle.jlr_core.specs.State.{machine_with};
 
 use jlr_cells::Cells;
+use jlr_machine::items::Items;
+use jlr_machine::machine::Machine;
 use jlr_roots::Roots;
 use jlr_types::{Handle, Mutator, Refusal, Slot};
+use std::alloc::{AllocError, Global};
 
 /// The objects, the roots and the limit of resources.
 #[derive(Drop)]
@@ -20,6 +23,30 @@ pub(crate) struct State {
 
 impl State {
     ghost use Rattle.jlr_core.specs.Machines.{machine_of};
+
+    /// The machine as plain data, with nothing seen.
+    pub(crate) fn image(&self, alloc: Global) -> Result<Machine, AllocError>
+        ensures { IfOk result (λ machine. machine ≡ machine_of self.now) }
+    {
+        Ok(Machine {
+            objects: self.cells.image(alloc)?,
+            mutators: self.roots.image(alloc)?,
+            names: Items::new(alloc),
+            pending: Items::new(alloc),
+            line: Items::new(alloc),
+            jobs: Items::new(alloc),
+            resources: Items::new(alloc),
+            resource_limit: self.resource_limit,
+            faults: Items::new(alloc),
+            notes: Items::new(alloc),
+            next_action: 1,
+            taken: 0,
+            ok: 0,
+            failed: 0,
+            cycle_open: false,
+            seen: Items::new(alloc),
+        })
+    }
 
     /// The mutator is joined.
     pub(crate) fn check_session(&self, by: Mutator) -> Result<(), Refusal>

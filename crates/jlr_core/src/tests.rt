@@ -2,7 +2,10 @@
 use crate::event::{Event, Reply};
 use crate::run::run;
 use jlr_machine::ask::{Answer, FullMode};
-use jlr_types::{Fault, FieldKind, Handle, Layout, Limits, Mutator, RefKind, Refusal};
+use jlr_machine::object::{Object, RefState, Reference};
+use jlr_types::{
+    Fault, FieldKind, FieldValue, Handle, Layout, Limits, Mutator, RefKind, Refusal, Slot,
+};
 use std::alloc::Global;
 use std::test::Fail;
 
@@ -50,6 +53,18 @@ fn me() -> Mutator {
 
 fn join() -> Event<u32> {
     Event::Join { mutator: me() }
+}
+
+fn leave() -> Event<u32> {
+    Event::Leave { mutator: me() }
+}
+
+// An object without fields.
+fn bare() -> Event<u32> {
+    Event::New {
+        mutator: me(),
+        layout: Layout::new(),
+    }
 }
 
 // A new object with a reference field and an integer field.
@@ -108,6 +123,15 @@ fn weak(referent: u8) -> Event<u32> {
         kind: RefKind::Weak,
         referent: Handle::new(referent),
         queue: Handle::new(0),
+    }
+}
+
+fn weak_with_queue(referent: u8, queue: u8) -> Event<u32> {
+    Event::MakeRef {
+        mutator: me(),
+        kind: RefKind::Weak,
+        referent: Handle::new(referent),
+        queue: Handle::new(queue),
     }
 }
 
@@ -205,72 +229,212 @@ fn weak_references_to_a_dropped_object_are_cleared(rt: HostRuntime) -> Result<()
 }
 
 #[test]
-fn a_full_heap_has_room_after_a_drop(rt: HostRuntime) -> Result<(), Fail> {
-    let mut events = vec![in rt.alloc(); join()]?;
-    for _ in 0u8..17 {
-        events.push(new())?;
-    }
-    events.push(drop_handle(3))?;
-    events.push(new())?;
-    let answers = answers(rt.alloc(), events)?;
-    assert_eq!(rt; answers.get(16).copied(), Some(Got::Handle(16)));
-    assert_eq!(rt;
-        answers.get(17).copied(),
-        Some(Got::Refused(Refusal::HeapFull))
-    );
-    assert_eq!(rt; answers.get(18).copied(), Some(Got::Done));
-    assert_eq!(rt; answers.get(19).copied(), Some(Got::Handle(3)));
-    Ok(())
-}
-
-#[test]
-fn refusals_name_their_reason(rt: HostRuntime) -> Result<(), Fail> {
-    let events = vec![in rt.alloc();
-        dup(1),
-        join(),
-        join(),
-        dup(1),
-        dup(0),
-        new(),
-        get(1, 2),
-        get(1, 1),
-        put(1, 0, 9),
-        deref(1),
-        weak(1),
-        get(2, 0),
-        drop_handle(3),
-    ]?;
+fn a_weak_reference_is_cleared_by_a_collection(rt: HostRuntime) -> Result<(), Fail> {
+    let events = vec![in rt.alloc(); join(), bare(), weak(1), drop_handle(1), full(), deref(2)]?;
     let wanted = [
-        Got::Refused(Refusal::NoSession),
         Got::Done,
-        Got::Refused(Refusal::NoSession),
-        Got::Refused(Refusal::NoHandle),
-        Got::Refused(Refusal::Null),
         Got::Handle(1),
-        Got::Refused(Refusal::NoField),
-        Got::Refused(Refusal::WrongType),
-        Got::Refused(Refusal::NoHandle),
-        Got::Refused(Refusal::WrongKind),
         Got::Handle(2),
-        Got::Refused(Refusal::WrongKind),
-        Got::Refused(Refusal::NoHandle),
+        Got::Done,
+        Got::Done,
+        Got::Handle(0),
     ];
     assert_eq!(rt; answers(rt.alloc(), events)?.as_slice(), wanted.as_slice());
     Ok(())
 }
 
 #[test]
-fn no_handle_is_left(rt: HostRuntime) -> Result<(), Fail> {
-    let mut events = vec![in rt.alloc(); join(), new()]?;
-    for _ in 0u8..250 {
+fn both_weak_references_are_cleared_together(rt: HostRuntime) -> Result<(), Fail> {
+    let events = vec![in rt.alloc();
+        join(),
+        bare(),
+        weak(1),
+        weak(1),
+        drop_handle(1),
+        full(),
+        deref(2),
+        deref(3),
+    ]?;
+    let wanted = [
+        Got::Done,
+        Got::Handle(1),
+        Got::Handle(2),
+        Got::Handle(3),
+        Got::Done,
+        Got::Done,
+        Got::Handle(0),
+        Got::Handle(0),
+    ];
+    assert_eq!(rt; answers(rt.alloc(), events)?.as_slice(), wanted.as_slice());
+    Ok(())
+}
+
+#[test]
+fn sixteen_objects_fill_the_heap(rt: HostRuntime) -> Result<(), Fail> {
+    let mut events = vec![in rt.alloc(); join()]?;
+    for _ in 0u8..17 {
+        events.push(bare())?;
+    }
+    events.push(drop_handle(1))?;
+    events.push(bare())?;
+    let mut wanted = vec![in rt.alloc(); Got::Done]?;
+    for number in 1u8..=16 {
+        wanted.push(Got::Handle(number))?;
+    }
+    wanted.push(Got::Refused(Refusal::HeapFull))?;
+    wanted.push(Got::Done)?;
+    wanted.push(Got::Handle(1))?;
+    assert_eq!(rt; answers(rt.alloc(), events)?.as_slice(), wanted.as_slice());
+    Ok(())
+}
+
+#[test]
+fn two_hundred_and_fifty_handles_are_all(rt: HostRuntime) -> Result<(), Fail> {
+    let mut events = vec![in rt.alloc(); join(), bare()]?;
+    for _ in 0u8..249 {
         events.push(dup(1))?;
     }
-    let answers = answers(rt.alloc(), events)?;
-    assert_eq!(rt; answers.get(250).copied(), Some(Got::Handle(250)));
-    assert_eq!(rt;
-        answers.get(251).copied(),
-        Some(Got::Refused(Refusal::HandlesFull))
+    for event in [dup(1), bare(), weak(1), same(1, 250)] {
+        events.push(event)?;
+    }
+    let mut wanted = vec![in rt.alloc(); Got::Done]?;
+    for number in 1u8..=250 {
+        wanted.push(Got::Handle(number))?;
+    }
+    for _ in 0u8..3 {
+        wanted.push(Got::Refused(Refusal::HandlesFull))?;
+    }
+    wanted.push(Got::Truth(true))?;
+    assert_eq!(rt; answers(rt.alloc(), events)?.as_slice(), wanted.as_slice());
+    Ok(())
+}
+
+#[test]
+fn an_image_shows_what_the_core_holds(rt: HostRuntime) -> Result<(), Fail> {
+    let limits = Limits::checked(16, 2, 3, 0, 64, 1).ok().ok_or("limits")?;
+    let events = vec![in rt.alloc(); join(), new(), weak(1), put(1, 0, 2)]?;
+    let (_, core) = run(rt.alloc(), limits, events)?;
+    let image = core.image(rt.alloc())?;
+    assert_eq!(rt; image.objects.len(), 16);
+    let pair = [FieldValue::Ref(Some(Slot::new(1))), FieldValue::Int(0)];
+    assert!(rt;
+        matches!(image.objects.get(0), Some(Object::Plain(fields)) if fields.as_slice() == pair.as_slice())
     );
+    let reference = Reference {
+        kind: RefKind::Weak,
+        referent: Some(Slot::new(0)),
+        queue: None,
+        state: RefState::Fresh,
+    };
+    assert!(rt;
+        matches!(image.objects.get(1), Some(Object::Reference(found)) if *found == reference)
+    );
+    assert!(rt; image.objects.get(2).is_none());
+    assert_eq!(rt; image.mutators.len(), 2);
+    let session = image.mutators.get(0).ok_or("no session")?;
+    assert_eq!(rt; session.handles.get(1).copied(), Some(Slot::new(0)));
+    assert_eq!(rt; session.handles.get(2).copied(), Some(Slot::new(1)));
+    assert_eq!(rt; session.handles.get(3).copied(), None);
+    assert!(rt; image.mutators.get(1).is_none());
+    assert_eq!(rt;
+        (image.resource_limit, image.next_action, image.taken),
+        (3, 1, 0)
+    );
+    assert!(rt; image.pending.len() == 0 && image.seen.len() == 0 && !image.cycle_open);
+    Ok(())
+}
+
+#[test]
+fn nobody_asks_before_joining(rt: HostRuntime) -> Result<(), Fail> {
+    let events = vec![in rt.alloc();
+        leave(),
+        bare(),
+        put(1, 0, 1),
+        get(1, 0),
+        dup(1),
+        drop_handle(1),
+        same(1, 1),
+        weak(1),
+        deref(1),
+        full(),
+        opened(Err(Fault::Other)),
+        Event::Join {
+            mutator: Mutator::new(1)
+        },
+    ]?;
+    let answers = answers(rt.alloc(), events)?;
+    assert_eq!(rt; answers.len(), 12);
+    for answer in &answers {
+        assert_eq!(rt; *answer, Got::Refused(Refusal::NoSession));
+    }
+    Ok(())
+}
+
+#[test]
+fn each_ask_is_refused_for_its_reasons(rt: HostRuntime) -> Result<(), Fail> {
+    let cases = [
+        (join(), Got::Done),
+        (join(), Got::Refused(Refusal::NoSession)),
+        (new(), Got::Handle(1)),
+        (weak(1), Got::Handle(2)),
+        (put(3, 0, 1), Got::Refused(Refusal::NoHandle)),
+        (put(1, 0, 3), Got::Refused(Refusal::NoHandle)),
+        (put(0, 0, 1), Got::Refused(Refusal::Null)),
+        (put(2, 0, 1), Got::Refused(Refusal::WrongKind)),
+        (put(1, 2, 1), Got::Refused(Refusal::NoField)),
+        (put(1, 1, 1), Got::Refused(Refusal::WrongType)),
+        (get(3, 0), Got::Refused(Refusal::NoHandle)),
+        (get(0, 0), Got::Refused(Refusal::Null)),
+        (get(2, 0), Got::Refused(Refusal::WrongKind)),
+        (get(1, 2), Got::Refused(Refusal::NoField)),
+        (get(1, 1), Got::Refused(Refusal::WrongType)),
+        (dup(3), Got::Refused(Refusal::NoHandle)),
+        (dup(0), Got::Refused(Refusal::Null)),
+        (drop_handle(3), Got::Refused(Refusal::NoHandle)),
+        (drop_handle(0), Got::Refused(Refusal::Null)),
+        (same(1, 3), Got::Refused(Refusal::NoHandle)),
+        (same(0, 0), Got::Truth(true)),
+        (weak(3), Got::Refused(Refusal::NoHandle)),
+        (weak(0), Got::Refused(Refusal::Null)),
+        (weak_with_queue(1, 3), Got::Refused(Refusal::NoHandle)),
+        (weak_with_queue(0, 1), Got::Refused(Refusal::Null)),
+        (weak_with_queue(1, 1), Got::Refused(Refusal::WrongKind)),
+        (deref(3), Got::Refused(Refusal::NoHandle)),
+        (deref(0), Got::Refused(Refusal::Null)),
+        (deref(1), Got::Refused(Refusal::WrongKind)),
+        (opened(Ok(1)), Got::Refused(Refusal::NotOut)),
+        (get(1, 0), Got::Handle(0)),
+        (same(1, 2), Got::Truth(false)),
+        (leave(), Got::Done),
+        (leave(), Got::Refused(Refusal::NoSession)),
+    ];
+    let mut events = Vec::new(rt.alloc());
+    let mut wanted = Vec::new(rt.alloc());
+    for (event, answer) in cases {
+        events.push(event)?;
+        wanted.push(answer)?;
+    }
+    assert_eq!(rt; answers(rt.alloc(), events)?.as_slice(), wanted.as_slice());
+    Ok(())
+}
+
+#[test]
+fn reading_needs_a_free_handle(rt: HostRuntime) -> Result<(), Fail> {
+    let mut events = vec![in rt.alloc(); join(), new(), weak(1), put(1, 0, 2)]?;
+    for _ in 0u8..248 {
+        events.push(dup(1))?;
+    }
+    for event in [get(1, 0), deref(2), drop_handle(9), deref(2)] {
+        events.push(event)?;
+    }
+    let answers = answers(rt.alloc(), events)?;
+    let wanted = [
+        Got::Refused(Refusal::HandlesFull),
+        Got::Refused(Refusal::HandlesFull),
+        Got::Done,
+        Got::Handle(9),
+    ];
+    assert_eq!(rt; answers.as_slice().split_at(252).1, wanted.as_slice());
     Ok(())
 }
 

@@ -4,6 +4,8 @@ ghost use Rattle.jlr_machine.specs.Objects.{at, empty_at, set_at};
 ghost use Rattle.jlr_machine.specs.Calls.{no_handles};
 ghost use Rattle.jlr_roots.specs.HandleTable.{IsHandleTable, has_room, lowest_free};
 
+use jlr_machine::copy::copy_slice;
+use jlr_machine::table::Table;
 use jlr_types::{Handle, Slot};
 use std::alloc::{AllocError, Global};
 use std::marker::Model;
@@ -47,6 +49,12 @@ impl Handles {
             Some(slot) => *slot,
             None => None,
         }
+    }
+
+    pub(crate) fn image(&self, alloc: Global) -> Result<Table<Slot>, AllocError>
+        ensures { IfOk result (λ handles. handles ≡ self.now) }
+    {
+        Ok(Table::from_vec(copy_slice(alloc, &self.slots)?))
     }
 
     pub(crate) fn has_room(&self) -> bool

@@ -6,6 +6,7 @@ ghost use Rattle.jlr_roots.specs.HandleTable.{IsHandleTable, has_room};
 ghost use Rattle.jlr_roots.specs.Sessions.{absent, lowest_in, session_in, with_slot, without_handle};
 
 use crate::handles::Handles;
+use jlr_machine::machine::{Call, Session};
 use jlr_types::{Handle, Slot};
 use std::alloc::{AllocError, Global};
 
@@ -45,6 +46,20 @@ impl Member {
         ensures { result ≡ is_some (session_in self.now) }
     {
         self.joined
+    }
+
+    /// The session as plain data, if it is joined.
+    pub(crate) fn image(&self, alloc: Global) -> Result<Option<Session>, AllocError>
+        ensures { IfOk result (λ session. session ≡ session_in self.now) }
+    {
+        if !self.joined {
+            return Ok(None);
+        }
+        Ok(Some(Session {
+            handles: self.handles.image(alloc)?,
+            fence: None,
+            call: Call::Free,
+        }))
     }
 
     pub(crate) fn lookup(&self, handle: Handle) -> Option<Slot>

@@ -8,6 +8,8 @@ ghost use Rattle.jlr_roots.specs.Sessions.{free_handle, has_free_handle, session
 ghost use Rattle.jlr_roots.specs.Walk.{root_at, slots_held, walked};
 
 use crate::member::Member;
+use jlr_machine::machine::Session;
+use jlr_machine::table::Table;
 use jlr_types::{Handle, Mutator, Slot};
 use std::alloc::{AllocError, Global};
 use std::marker::Model;
@@ -126,6 +128,16 @@ impl Roots {
         lookup(&self.members, mutator.number() as usize, handle)
     }
 
+    /// The sessions as plain data.
+    ///
+    /// # Errors
+    /// `AllocError` where there is no memory for them.
+    pub fn image(&self, alloc: Global) -> Result<Table<Session>, AllocError>
+        ensures { IfOk result (λ mutators. mutators ≡ self.now) }
+    {
+        Ok(Table::from_vec(images(alloc, &self.members)?))
+    }
+
     /// How many places there are. At those below, in order, are just the roots that mutators hold.
     pub fn places(&self) -> usize
         ensures count { result ≡ 251 * length self.now }
@@ -151,6 +163,16 @@ fn members_are_idle(members: &[Member])
     ensures { (k : ℕ) (s : Session) → at (sessions_in members.now) k ≡ Some s → (s.call ≡ Free) × (s.fence ≡ None) }
 {
     let _ = members;
+}
+
+fn images(alloc: Global, members: &[Member]) -> Result<Vec<Option<Session>>, AllocError>
+    ensures { IfOk result (λ mutators. mutators.items ≡ sessions_in members.now) }
+{
+    let mut mutators = Vec::with_capacity(alloc, members.len())?;
+    for member in members {
+        mutators.push(member.image(alloc)?)?;
+    }
+    Ok(mutators)
 }
 
 fn lookup(members: &[Member], mutator: usize, handle: Handle) -> Option<Slot>
