@@ -12,7 +12,7 @@ use Rattle.jlr_wire.specs.declared.command.Command.TheVariants.{Bye}
 use Rattle.jlr_prog.specs.Turns.{Answers, reply_line, refusal_of}
 use Rattle.jlr_prog.specs.Sessions.{Answered, Ended}
 use Rattle.jlr_prog.specs.Chunks.{SoFar}
-use Rattle.jlr_prog.specs.declared.first.FirstEnd.TheVariants.{Bye as EndsByBye, End, Truncated, WriteFault}
+use Rattle.jlr_prog.specs.declared.shell.FirstEnd.TheVariants.{Bye as EndsByBye, End, Truncated, WriteFault}
 use Rattle.jlr_prog.proofs.Going.{AnyEnd, answers_line, same_refusal, whole_command}
 
 -- the line that is bye

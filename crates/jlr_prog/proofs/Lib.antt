@@ -4,3 +4,5 @@ pub mod Going
 pub mod Ending
 pub mod Taking
 pub mod Standing
+pub mod Following
+pub mod Histories

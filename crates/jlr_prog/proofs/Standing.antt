@@ -10,8 +10,8 @@ use Rattle.jlr_wire.specs.declared.command.Command.{Command}
 use Rattle.jlr_prog.specs.Turns.{reply_line, refusal_of}
 use Rattle.jlr_prog.specs.Sessions.{Ended}
 use Rattle.jlr_prog.specs.Chunks.{SoFar, TakesChunk, Closes}
-use Rattle.jlr_prog.specs.declared.first.FirstEnd.{FirstEnd}
-use Rattle.jlr_prog.specs.declared.first.FirstEnd.TheVariants.{Bye, End, Truncated, ReadFault, WriteFault}
+use Rattle.jlr_prog.specs.declared.shell.FirstEnd.{FirstEnd}
+use Rattle.jlr_prog.specs.declared.shell.FirstEnd.TheVariants.{Bye, End, Truncated, ReadFault, WriteFault}
 use Rattle.jlr_prog.proofs.Sent.{Consumes-none, Consumes-then}
 use Rattle.jlr_prog.proofs.Going.{so_far_none}
 use Rattle.jlr_prog.proofs.Ending.{ended_end, ended_truncated, ended_close_fault}

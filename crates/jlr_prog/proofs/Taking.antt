@@ -12,8 +12,8 @@ use Rattle.jlr_wire.specs.declared.pieces.Got.{Got}
 use Rattle.jlr_wire.specs.declared.pieces.Got.TheVariants.{More}
 use Rattle.jlr_prog.specs.Turns.{TurnEnds, reply_line}
 use Rattle.jlr_prog.specs.Chunks.{SoFar, TakesChunk}
-use Rattle.jlr_prog.specs.declared.first.FirstEnd.{FirstEnd}
-use Rattle.jlr_prog.specs.declared.first.FirstEnd.TheVariants.{Bye, End, Truncated, ReadFault, WriteFault}
+use Rattle.jlr_prog.specs.declared.shell.FirstEnd.{FirstEnd}
+use Rattle.jlr_prog.specs.declared.shell.FirstEnd.TheVariants.{Bye, End, Truncated, ReadFault, WriteFault}
 use Rattle.jlr_prog.proofs.Going.{any_end, so_far_on, so_far_line}
 use Rattle.jlr_prog.proofs.Ending.{ended_bye, ended_turn_fault}
 

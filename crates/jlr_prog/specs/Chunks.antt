@@ -7,8 +7,8 @@ use Rattle.jlr_wire.specs.Lines.{Held, begun, AreLines}
 use Rattle.jlr_wire.specs.declared.command.Command.{Command}
 use Rattle.jlr_prog.specs.Turns.{reply_line, refusal_of}
 use Rattle.jlr_prog.specs.Sessions.{Speaks, Ended}
-use Rattle.jlr_prog.specs.declared.first.FirstEnd.{FirstEnd}
-use Rattle.jlr_prog.specs.declared.first.FirstEnd.TheVariants.{Bye, End, Truncated, ReadFault, WriteFault}
+use Rattle.jlr_prog.specs.declared.shell.FirstEnd.{FirstEnd}
+use Rattle.jlr_prog.specs.declared.shell.FirstEnd.TheVariants.{Bye, End, Truncated, ReadFault, WriteFault}
 
 -- The whole lines of the bytes were answered, and the reader of lines holds what stands after them.
 pub record SoFar {H : Type 0} (carries : H → Command → Answer → H → Type 0) (bytes : List ℕ) (held : Held) (old : H) (out : List ℕ) (new : H) : Type 0 where

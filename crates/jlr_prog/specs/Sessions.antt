@@ -9,8 +9,8 @@ use Rattle.jlr_wire.specs.Replies.{words}
 use Rattle.jlr_wire.specs.declared.command.Command.{Command}
 use Rattle.jlr_wire.specs.declared.command.Command.TheVariants.{Bye}
 use Rattle.jlr_prog.specs.Turns.{Answers, reply_line, refusal_of}
-use Rattle.jlr_prog.specs.declared.first.FirstEnd.{FirstEnd}
-use Rattle.jlr_prog.specs.declared.first.FirstEnd.TheVariants.{Bye as EndsByBye, End, Truncated, ReadFault, WriteFault}
+use Rattle.jlr_prog.specs.declared.shell.FirstEnd.{FirstEnd}
+use Rattle.jlr_prog.specs.declared.shell.FirstEnd.TheVariants.{Bye as EndsByBye, End, Truncated, ReadFault, WriteFault}
 
 -- the lines are answered in turn, each by one reply line, and none of them is bye
 abbrev pub Speaks : {H : Type 0} → (H → Command → Answer → H → Type 0) → List (List ℕ) → H → List ℕ → H → Type 0

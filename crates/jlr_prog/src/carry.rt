@@ -14,18 +14,3 @@ pub trait CarryOut {
     fn carry_out(&mut self, command: Command) -> Answer
         ensures { carries self.old command result self.new };
 }
-
-/// Does nothing: `ok` says that a line is a command. It shows the shell without a heap.
-#[derive(Clone, Copy, Debug)]
-pub struct NoHeap;
-
-impl CarryOut for NoHeap {
-    ghost use Rattle.std.specs.Prelude.{◌≡◌};
-    ghost use Rattle.jlr_machine.specs.declared.ask.Answer.TheVariants.{Done};
-
-    ghost carries = { λ _ _ answer _. answer ≡ Done };
-
-    fn carry_out(&mut self, _command: Command) -> Answer {
-        Answer::Done
-    }
-}

@@ -1,102 +1,39 @@
-//! A session from its first line to its end.
-ghost use Rattle.std.specs.Prelude.{ℕ, List, ◌≡◌, ◌⊎◌};
+//! A whole session over a heap of its own.
+ghost use Rattle.std.specs.Prelude.{ℕ, List, ◌≡◌, ◌⊎◌, IfOk, IfErr};
 ghost use Rattle.std.specs.Io.KnownBytes.{Appends, Consumes, IsAtEnd};
-ghost use Rattle.jlr_prog.specs.Sessions.{Ended};
-ghost use Rattle.jlr_prog.specs.Chunks.{TakesChunk, Closes};
+ghost use Rattle.jlr_machine.specs.Run.{empty};
+ghost use Rattle.jlr_prog.specs.Histories.{IsSession};
+ghost use Rattle.jlr_prog.specs.declared.shell.FirstEnd.TheVariants.{End, Truncated};
 
-use crate::carry::CarryOut;
-use crate::turn::{answer_line, reply};
-use jlr_machine::ask::Answer;
-use jlr_types::Refusal;
-use jlr_wire::pieces::{Got, LINE_LIMIT, Pieces};
+use crate::heap::Heap;
+use crate::shell::{FirstEnd, converse};
+use jlr_types::Limits;
+use std::alloc::{AllocError, Global};
 use std::io::{Read, Write};
 
-/// The bytes that are asked for in one read.
-const CHUNK_SIZE: usize = 4_096;
-
-/// How a session ended.
-#[derive(Clone, Copy, Debug, PartialEq, Eq)]
-pub enum FirstEnd {
-    /// A line said `bye`.
-    Bye,
-    /// The input ended after a whole line, or at once.
-    End,
-    /// The input ended within a line.
-    Truncated,
-    /// A read failed.
-    ReadFault,
-    /// A write or a flush failed, a write took nothing, or an answer has no line.
-    WriteFault,
-}
-
-/// Answers the lines of the reader one after the other, each on one flushed line, until a line says
-/// `bye`, the input ends, or a read or a write fails.
+/// A session of mutator 0 over the heap of an empty machine of these limits: it joins, each command of the reader's lines is
+/// one ask, and it leaves at the end. Each line is answered by one reply line, which is flushed.
 ///
-/// `bye` is answered `ok`. Bytes without the end of their line are answered `! 15`, or `! 16` if
-/// there are more than 512. A failed read or write is not tried again.
-pub fn first_run<R: Read, W: Write, C: CarryOut>(
+/// What went out is that of a run of the machine of java.lang.ref, line by line; after a fault of the writer it is a front of
+/// it.
+///
+/// # Errors
+/// `AllocError` where there is no room for the heap. Then nothing was read or written.
+pub fn first_run<R: Read, W: Write>(
+    alloc: Global,
+    limits: Limits,
     reader: &mut R,
     writer: &mut W,
-    heap: &mut C,
-) -> FirstEnd
-    ensures session { (bytes : List ℕ) × (out : List ℕ)
+) -> Result<FirstEnd, AllocError>
+    ensures session { IfOk result (λ end. (bytes : List ℕ) × (out : List ℕ)
         × Consumes (R.remaining reader.old) (R.remaining reader.new) bytes
         × Appends (W.contents writer.old) (W.contents writer.new) out
-        × Ended C.carries result bytes heap.old out heap.new }
-    ensures whole { (result ≡ FirstEnd.End) ⊎ (result ≡ FirstEnd.Truncated) → IsAtEnd (R.remaining reader.new) }
+        × IsSession (empty limits.cells limits.sessions limits.resources) end bytes out) }
+    ensures whole { IfOk result (λ end. (end ≡ End) ⊎ (end ≡ Truncated) → IsAtEnd (R.remaining reader.new)) }
+    ensures untouched { IfErr result (λ _. (reader.new ≡ reader.old) × (writer.new ≡ writer.old)) }
 {
-    let mut pieces = Pieces::new();
-    let mut chunk = [0u8; CHUNK_SIZE];
-    for _ in 0..u64::MAX {
-        let Ok(count) = reader.read(&mut chunk) else {
-            return FirstEnd::ReadFault;
-        };
-        if count == 0 {
-            return close(&pieces, writer);
-        }
-        if let Some(end) = take_chunk(&mut pieces, &chunk[..count], writer, heap) {
-            return end;
-        }
-    }
-    FirstEnd::ReadFault
-}
-
-/// Answers the lines that end in a chunk, and says how the session ended if it did.
-fn take_chunk<W: Write, C: CarryOut>(
-    pieces: &mut Pieces,
-    chunk: &[u8],
-    writer: &mut W,
-    heap: &mut C,
-) -> Option<FirstEnd>
-    ensures { TakesChunk C.carries pieces.old chunk.now heap.old (W.contents writer.old) result pieces.new heap.new (W.contents writer.new) }
-{
-    let mut rest = chunk;
-    while !rest.is_empty() {
-        let fed = pieces.feed(rest);
-        rest = rest.split_at(fed.used).1;
-        if fed.got != Got::More {
-            if let Some(end) = answer_line(pieces.line(), writer, heap) {
-                return Some(end);
-            }
-        }
-    }
-    None
-}
-
-/// Answers what is left at the end of the input.
-fn close<W: Write>(pieces: &Pieces, writer: &mut W) -> FirstEnd
-    ensures { Closes result pieces.now (W.contents writer.old) (W.contents writer.new) }
-{
-    if !pieces.unfinished() {
-        return FirstEnd::End;
-    }
-    let refusal = if pieces.line().len() > LINE_LIMIT {
-        Refusal::TooLong
-    } else {
-        Refusal::Malformed
-    };
-    match reply(&Answer::Refused(refusal), writer) {
-        Ok(()) => FirstEnd::Truncated,
-        Err(_) => FirstEnd::WriteFault,
-    }
+    let mut heap = Heap::new(alloc, limits)?;
+    let end = converse(reader, writer, &mut heap);
+    let _ = heap.leave();
+    Ok(end)
 }

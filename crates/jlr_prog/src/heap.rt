@@ -1,6 +1,7 @@
 //! The heap of one session.
-ghost use Rattle.std.specs.Prelude.{◌≡◌, IfOk, IfSome, IsTrue, MatchOption, None, is_some};
+ghost use Rattle.std.specs.Prelude.{◌≡◌, IfOk, IfSome, IsTrue, MatchOption, None, Some, is_some};
 ghost use Rattle.jlr_machine.specs.Run.{empty};
+ghost use Rattle.jlr_machine.specs.declared.ask.Ask.TheVariants as ask;
 ghost use Rattle.jlr_core.specs.Events.{ask_of};
 ghost use Rattle.jlr_prog.specs.Heaps.{Answers, IsJoined, ask_for};
 
@@ -52,6 +53,15 @@ impl Heap {
             } => Ok(Heap { core, choice }),
             _ => Err(AllocError),
         }
+    }
+
+    /// Mutator 0 leaves, and its handles hold nothing any more.
+    pub fn leave(&mut self) -> Answer
+        ensures { Answers self.old (Some (ask.Leave 0)) result self.new }
+    {
+        self.answer(Event::Leave {
+            mutator: Mutator::new(0),
+        })
     }
 
     /// The answer of an event that asks something.

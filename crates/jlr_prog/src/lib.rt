@@ -1,11 +1,13 @@
-//! The shell of a session: the lines of a reader are answered one after the other on a writer.
+//! A session of the heap: the lines of a reader are answered one after the other on a writer.
 //!
-//! What a command does is up to a `CarryOut`; the shell knows lines, answers and ends.
+//! `first` has the whole session. Below it, `shell` knows lines, answers and ends, and what a command does is up to a
+//! `CarryOut`; `heap` carries commands out by the core.
 #![tactic(auto)]
 
 pub mod carry;
 pub mod first;
 pub mod heap;
+pub mod shell;
 #[cfg(test)]
 mod tests;
 mod turn;

@@ -1,8 +1,9 @@
 //! Sessions spelled out. The expected texts come from the description of the protocol.
-use crate::carry::{CarryOut, NoHeap};
-use crate::first::{FirstEnd, first_run};
+use crate::carry::CarryOut;
+use crate::first::first_run;
+use crate::shell::{FirstEnd, converse};
 use jlr_machine::ask::{Answer, Handed};
-use jlr_types::Handle;
+use jlr_types::{Handle, Limits};
 use jlr_wire::command::Command;
 use std::alloc::{AllocError, Global};
 use std::io::{self, ErrorKind, Read, Write};
@@ -63,6 +64,18 @@ impl Write for Narrow {
     }
 }
 
+/// Answers each command by `ok`.
+#[derive(Clone, Copy)]
+struct NoHeap;
+
+impl CarryOut for NoHeap {
+    ghost carries = { λ _ _ _ _. Unit {0} };
+
+    fn carry_out(&mut self, _command: Command) -> Answer {
+        Answer::Done
+    }
+}
+
 /// Answers each command by a handle one higher, and the fourth by an answer that has no line.
 struct Counting {
     count: u8,
@@ -90,7 +103,7 @@ fn session(alloc: Global, bytes: &[u8], first: usize, step: usize) -> (FirstEnd,
         step,
         fails: false,
     };
-    let end = first_run(&mut reader, &mut out, &mut NoHeap);
+    let end = converse(&mut reader, &mut out, &mut NoHeap);
     (end, out)
 }
 
@@ -159,7 +172,7 @@ fn a_failed_read_is_a_fault(rt: HostRuntime) {
         fails: true,
     };
     let mut out = Vec::new(rt.alloc());
-    let end = first_run(&mut reader, &mut out, &mut NoHeap);
+    let end = converse(&mut reader, &mut out, &mut NoHeap);
     assert_eq!(rt; end, FirstEnd::ReadFault);
     assert_eq!(rt; out.as_slice(), b"ok\n".as_slice());
 }
@@ -183,7 +196,7 @@ fn a_failed_write_or_flush_is_a_fault(rt: HostRuntime) {
             room,
             flushes,
         };
-        let end = first_run(&mut reader, &mut writer, &mut NoHeap);
+        let end = converse(&mut reader, &mut writer, &mut NoHeap);
         assert_eq!(rt; end, FirstEnd::WriteFault, "at {room}");
         assert_eq!(rt; writer.taken.as_slice(), sent.as_bytes(), "at {room}");
     }
@@ -199,9 +212,105 @@ fn what_carries_out_is_asked_line_by_line(rt: HostRuntime) {
     };
     let mut out = Vec::new(rt.alloc());
     let mut heap = Counting { count: 0 };
-    let end = first_run(&mut reader, &mut out, &mut heap);
+    let end = converse(&mut reader, &mut out, &mut heap);
     let Counting { count } = heap;
     assert_eq!(rt; end, FirstEnd::WriteFault);
     assert_eq!(rt; out.as_slice(), b"= 1\n! 15\n= 2\n= 3\n".as_slice());
     assert_eq!(rt; count, 3);
+}
+
+/// What a session of the heap with 16 cells answers to these commands, which are parted by `; `.
+fn heap_answers(alloc: Global, commands: &str) -> Result<(FirstEnd, Vec<u8>), Fail> {
+    let mut bytes = Vec::new(alloc);
+    for command in commands.split_terminator("; ") {
+        bytes.extend_from_slice(command.as_bytes())?;
+        bytes.extend_from_slice(b"\n")?;
+    }
+    let limits = Limits::checked(16, 1, 16, 4, 10_000, 64)
+        .ok()
+        .ok_or("limits")?;
+    let mut reader = Pieced {
+        bytes: bytes.as_slice(),
+        first: 0,
+        step: 4_096,
+        fails: false,
+    };
+    let mut out = Vec::new(alloc);
+    let end = first_run(alloc, limits, &mut reader, &mut out)?;
+    Ok((end, out))
+}
+
+/// The reply lines that are parted by `; `.
+fn replies(alloc: Global, answers: &str) -> Result<Vec<u8>, AllocError> {
+    let mut bytes = Vec::new(alloc);
+    for answer in answers.split_terminator("; ") {
+        bytes.extend_from_slice(answer.as_bytes())?;
+        bytes.extend_from_slice(b"\n")?;
+    }
+    Ok(bytes)
+}
+
+#[test]
+fn the_heap_answers_short_sessions(rt: HostRuntime) -> Result<(), Fail> {
+    for (commands, answers) in [
+        ("", ""),
+        (
+            "new -; weak 1 0; drop 1; gc; deref 2",
+            "= 1; = 2; ok; ok; = 0",
+        ),
+        (
+            "new -; weak 1 0; weak 1 0; drop 1; gc; deref 2; deref 3",
+            "= 1; = 2; = 3; ok; ok; = 0; = 0",
+        ),
+        (
+            "new r; put 1 0 1; get 1 0; same 1 2; drop 1; get 2 0; same 1 2",
+            "= 1; ok; = 2; yes; ok; = 1; yes",
+        ),
+        (
+            "get 9 0; dup 0; new r; deref 1; get 1 2; weak 0 1; weak 1 1; gc soft",
+            "! 3; ! 8; = 1; ! 5; ! 6; ! 8; ! 5; ! 15",
+        ),
+    ] {
+        let (end, out) = heap_answers(rt.alloc(), commands)?;
+        assert_eq!(rt; end, FirstEnd::End, "at {commands}");
+        let expected = replies(rt.alloc(), answers)?;
+        assert_eq!(rt; out.as_slice(), expected.as_slice(), "at {commands}");
+    }
+    Ok(())
+}
+
+#[test]
+fn a_heap_of_sixteen_cells_is_full_and_has_room_again(rt: HostRuntime) -> Result<(), Fail> {
+    let mut commands = String::new(rt.alloc());
+    let mut answers = String::new(rt.alloc());
+    for number in 1u8..=16 {
+        commands.push_str("new -; ")?;
+        answers.push_str(format!(in rt.alloc(); "= {number}; ")?.as_str())?;
+    }
+    commands.push_str("new -; drop 1; new -; bye")?;
+    answers.push_str("! 2; ok; = 1; ok")?;
+    let (end, out) = heap_answers(rt.alloc(), commands.as_str())?;
+    assert_eq!(rt; end, FirstEnd::Bye);
+    let expected = replies(rt.alloc(), answers.as_str())?;
+    assert_eq!(rt; out.as_slice(), expected.as_slice());
+    Ok(())
+}
+
+#[test]
+fn two_hundred_and_fifty_handles_are_in_use(rt: HostRuntime) -> Result<(), Fail> {
+    let mut commands = String::new(rt.alloc());
+    let mut answers = String::new(rt.alloc());
+    commands.push_str("new -; ")?;
+    answers.push_str("= 1; ")?;
+    for number in 2u8..=250 {
+        commands.push_str("dup 1; ")?;
+        answers.push_str(format!(in rt.alloc(); "= {number}; ")?.as_str())?;
+    }
+    commands.push_str("dup 1; new -; weak 1 0; same 1 250")?;
+    answers.push_str("! 4; ! 4; ! 4; yes")?;
+    let (end, out) = heap_answers(rt.alloc(), commands.as_str())?;
+    assert_eq!(rt; end, FirstEnd::End);
+    let expected = replies(rt.alloc(), answers.as_str())?;
+    assert_eq!(rt; out.as_slice(), expected.as_slice());
+    Ok(())
 }

@@ -5,7 +5,7 @@ ghost use Rattle.jlr_wire.specs.Commands.{IsCommand};
 ghost use Rattle.jlr_wire.specs.declared.command.Command.TheVariants.{Bye};
 
 use crate::carry::CarryOut;
-use crate::first::FirstEnd;
+use crate::shell::FirstEnd;
 use jlr_machine::ask::Answer;
 use jlr_wire::command::{Command, read_command};
 use jlr_wire::reply::{WriteFault, write_reply};

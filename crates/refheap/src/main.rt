@@ -9,8 +9,8 @@ mod fault;
 mod report;
 
 use fault::ProgramFault;
-use jlr_prog::first::{FirstEnd, first_run};
-use jlr_prog::heap::Heap;
+use jlr_prog::first::first_run;
+use jlr_prog::shell::FirstEnd;
 use log::{Level, Log, Logged, error};
 use report::Report;
 use std::process::ExitCode;
@@ -39,10 +39,9 @@ fn tell(rt: HostRuntime, fault: &ProgramFault) {
 fn run(rt: &HostRuntime) -> Result<(), ProgramFault> {
     let words = arguments::words(rt)?;
     let limits = arguments::limits(rt.alloc(), words.as_slice())?;
-    let mut heap = Heap::new(rt.alloc(), limits)?;
     let mut reader = rt.stdin();
     let mut writer = rt.stdout();
-    outcome_of(first_run(&mut reader, &mut writer, &mut heap))
+    outcome_of(first_run(rt.alloc(), limits, &mut reader, &mut writer)?)
 }
 
 /// What the end of the session is to the program.
