@@ -1,7 +1,7 @@
 -- The exit statuses.
 use Rattle.std.specs.Prelude.{ℕ, Option, None, Some}
-use Rattle.jlr_prog.specs.declared.first.FirstEnd.{FirstEnd}
-use Rattle.jlr_prog.specs.declared.first.FirstEnd.TheVariants.{Bye, End, Truncated, ReadFault, WriteFault}
+use Rattle.jlr_prog.specs.declared.shell.FirstEnd.{FirstEnd}
+use Rattle.jlr_prog.specs.declared.shell.FirstEnd.TheVariants.{Bye, End, Truncated, ReadFault, WriteFault}
 use Rattle.refheap.specs.declared.fault.ProgramFault.{ProgramFault}
 use Rattle.refheap.specs.declared.fault.ProgramFault.TheVariants.{Read, Write, CommandLine, Unfinished, NoMemory}
 

@@ -1,5 +1,5 @@
 //! The command line.
-ghost use Rattle.std.specs.Prelude.{◌≡◌, ◌≢◌};
+ghost use Rattle.std.specs.Prelude.{◌≡◌, ◌≢◌, IfOk};
 ghost use Rattle.clap.specs.Values.{kind_of};
 ghost use Rattle.refheap.specs.Status.{status_of};
 
@@ -38,7 +38,9 @@ fn cells(alloc: Global, words: &[String]) -> Result<u32, ProgramFault> {
 
 /// The limits of the heap that the words of a `run` ask for: one session, and what they leave open as
 /// it is without them.
-pub fn limits(alloc: Global, words: &[String]) -> Result<Limits, ProgramFault> {
+pub fn limits(alloc: Global, words: &[String]) -> Result<Limits, ProgramFault>
+    ensures { IfOk result (λ limits. (limits.sessions ≡ 1) × (limits.resources ≡ 16) × (limits.soft_age ≡ 4) × (limits.trace ≡ 10000) × (limits.budget ≡ 64)) }
+{
     let cells = cells(alloc, words)?;
     match Limits::checked(
         cells,
