@@ -1,0 +1,4 @@
+//! Laws of whole runs of the machine.
+#![tactic(auto)]
+
+pub mod laws;
