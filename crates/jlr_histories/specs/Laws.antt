@@ -1,5 +1,5 @@
 -- Statements of the laws of whole runs. Each is the contract of a function of its own, with an empty body.
-use Rattle.std.specs.Prelude.{◌≡◌, ◌≢◌, ℕ, ◌+◌, ◌≤◌, ◌⊎◌, IsTrue, List, [], ◌∷◌, Some, None, is_some}
+use Rattle.std.specs.Prelude.{◌≡◌, ◌≢◌, ℕ, ◌+◌, ◌≤◌, ◌⊎◌, IsTrue, cond, List, [], ◌∷◌, Some, None, is_some}
 use Rattle.jlr_types.specs.declared.Work.TheVariants.{Resource as WorkOn}
 use Rattle.jlr_machine.specs.declared.object.Reference.{Reference as ReferenceOf}
 use Rattle.jlr_machine.specs.declared.object.Cleanable.{Cleanable as CleanableOf}
@@ -8,7 +8,7 @@ use Rattle.jlr_machine.specs.declared.object.CleanState.TheVariants.{Armed, Spen
 use Rattle.jlr_machine.specs.declared.machine.Machine.{Machine}
 use Rattle.jlr_machine.specs.declared.machine.ResourceState.TheVariants.{Idle}
 use Rattle.jlr_machine.specs.declared.entry.Entry.{Entry}
-use Rattle.jlr_machine.specs.Objects.{◌∈◌}
+use Rattle.jlr_machine.specs.Objects.{◌∈◌, is_unqueued}
 use Rattle.jlr_machine.specs.Run.{IsLegal, Run, apply, empty}
 use Rattle.jlr_machine.specs.WellFormed.{IsWellFormed, IsReferenceAt, IsCleanableAt, HasResource}
 use Rattle.jlr_histories.specs.Lives.{LivesOn, IsReferenceOn, IsReferenceLater, IsCleanableOn, IsCleanableLater, enqueueings, slot_cleared, take_ups, all_take_ups}
@@ -38,16 +38,22 @@ CleanableLifeGoesForward =
 abbrev pub EnqueuedAtMostOnce : Type 0
 EnqueuedAtMostOnce = (m n : Machine) (entries : List Entry) (s : ℕ) → IsWellFormed m → Run m entries n → LivesOn m entries s → enqueueings m entries s ≤ 1
 
+-- one that is Fresh or Pending was enqueued once when it is Queued or Removed, and before never
+abbrev pub EnqueuedOnItsWay : Type 0
+EnqueuedOnItsWay =
+    (m n : Machine) (entries : List Entry) (s : ℕ) (r t : ReferenceOf) → IsWellFormed m → Run m entries n → LivesOn m entries s → IsReferenceAt m s r → IsReferenceAt n s t
+    → IsTrue (is_unqueued r.state) → enqueueings m entries s ≡ cond (is_unqueued t.state) 0 1
+
 -- a reference that is enqueued has no referent any more
 abbrev pub EnqueuedIsCleared : Type 0
 EnqueuedIsCleared = (m : Machine) (e : Entry) (s : ℕ) (r : ReferenceOf) → IsWellFormed m → IsLegal m e → IsReferenceAt (apply m e) s r → r.state ≡ Queued → r.referent ≡ None
 
 -- a life begins with a Fresh reference, or an Armed cleanable
 abbrev pub NewIsFresh : Type 0
-NewIsFresh = (m : Machine) (e : Entry) (s : ℕ) (r : ReferenceOf) → IsLegal m e → s ∈ e.choice.fresh → IsReferenceAt (apply m e) s r → r.state ≡ Fresh
+NewIsFresh = (m : Machine) (e : Entry) (s : ℕ) (r : ReferenceOf) → IsWellFormed m → IsLegal m e → s ∈ e.choice.fresh → IsReferenceAt (apply m e) s r → r.state ≡ Fresh
 
 abbrev pub NewIsArmed : Type 0
-NewIsArmed = (m : Machine) (e : Entry) (s : ℕ) (c : CleanableOf) → IsLegal m e → s ∈ e.choice.fresh → IsCleanableAt (apply m e) s c → c.state ≡ Armed
+NewIsArmed = (m : Machine) (e : Entry) (s : ℕ) (c : CleanableOf) → IsWellFormed m → IsLegal m e → s ∈ e.choice.fresh → IsCleanableAt (apply m e) s c → c.state ≡ Armed
 
 -- ---- Clearing
 
