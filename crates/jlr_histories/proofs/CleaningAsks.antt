@@ -46,11 +46,14 @@ spent_over : (P : ℕ → Type 0) (m : Machine) (s : ℕ) → IsOver P m (with_o
 spent_over P m s = changed P m s (with_cleanable spent) (λ x g. with_cleanable_on (P s) spent x (λ c e. spent_on c))
 
 -- one of the line is taken from it
-abbrev with_line : Machine → List ℕ → Machine
+abbrev pub with_line : Machine → List ℕ → Machine
 with_line m line = record m { line = line }
 
 pub taken_up_objects : (m : Machine) (line : List ℕ) (by s : ℕ) (c : CleanableOf) → (taken_up (with_line m line) by s c).objects ≡ change_at m.objects s (with_cleanable spent)
 taken_up_objects m line by s c = (work_state_objects _ (rid_of c.work) Closing).objects
+
+pub taken_up_count : (m : Machine) (line : List ℕ) (by s : ℕ) (c : CleanableOf) → (taken_up (with_line m line) by s c).taken ≡ m.taken + 1
+taken_up_count m line by s c = (work_state_objects _ (rid_of c.work) Closing).taken
 
 pub taken_up_over : (P : ℕ → Type 0) (m : Machine) (line : List ℕ) (by s : ℕ) (c : CleanableOf) → IsOver P m (taken_up (with_line m line) by s c)
 taken_up_over P m line by s c =

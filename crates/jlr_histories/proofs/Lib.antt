@@ -6,3 +6,5 @@ pub mod Making
 pub mod Steps
 pub mod Forward
 pub mod Enqueued
+pub mod Takes
+pub mod TakenOnce

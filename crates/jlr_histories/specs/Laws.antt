@@ -70,7 +70,7 @@ TakenUpAtMostOnce = (m n : Machine) (entries : List Entry) (action : ℕ) → Is
 
 -- the machine counts them all
 abbrev pub TakeUpsAreCounted : Type 0
-TakeUpsAreCounted = (m n : Machine) (entries : List Entry) → IsWellFormed m → Run m entries n → n.taken ≡ m.taken + all_take_ups entries
+TakeUpsAreCounted = (m n : Machine) (entries : List Entry) → Run m entries n → n.taken ≡ m.taken + all_take_ups entries
 
 -- a resource whose cleanable waits for the handler or the cleaner is in no call
 abbrev pub WaitingResourcesAreIdle : Type 0

@@ -1,6 +1,6 @@
 //! Laws of whole runs. Each function's contract is the law, and its body is empty.
 
-ghost use Rattle.jlr_histories.specs.Laws.{ReferenceGoesForward, CleanableGoesForward, ReferenceLifeGoesForward, CleanableLifeGoesForward, EnqueuedAtMostOnce, EnqueuedOnItsWay, EnqueuedIsCleared, NewIsFresh, NewIsArmed, OnlyTheyClear, WaitingResourcesAreIdle};
+ghost use Rattle.jlr_histories.specs.Laws.{ReferenceGoesForward, CleanableGoesForward, ReferenceLifeGoesForward, CleanableLifeGoesForward, EnqueuedAtMostOnce, EnqueuedOnItsWay, EnqueuedIsCleared, NewIsFresh, NewIsArmed, OnlyTheyClear, TakenUpAtMostOnce, TakeUpsAreCounted, WaitingResourcesAreIdle};
 
 /// One entry makes of a reference what it may: its kind stays, its referent and its queue stay or go, and its state is left or goes to
 /// the next.
@@ -43,6 +43,16 @@ pub fn what_is_enqueued_is_cleared()
 /// A reference loses its referent only by a collection, or by the program's `clear` or `enqueue` of that reference.
 pub fn references_are_cleared_only_by_collections_and_the_program()
     ensures { OnlyTheyClear }
+{}
+
+/// An action is taken up at most once in a run, whoever takes it up: a mutator by `clean` or `close`, or the cleaner.
+pub fn an_action_is_taken_up_at_most_once()
+    ensures { TakenUpAtMostOnce }
+{}
+
+/// The machine counts each take-up.
+pub fn take_ups_are_counted()
+    ensures { TakeUpsAreCounted }
 {}
 
 /// A resource whose cleanable waits for the handler or the cleaner is idle: no call is under way on it.
