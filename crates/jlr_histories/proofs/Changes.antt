@@ -1,16 +1,14 @@
 -- What one entry leaves at each slot, from the changes that it is made of.
-use Rattle.std.proofs.Common.{◌≡◌, ℕ, ◌≤◌, Bool, true, false, cond, not, List, [], ◌∷◌, ◌++◌, length, refl, sym, ◌∙◌, ap, subst, ◌⊎◌, inl, inr, arith, Option, Some, None, option_map, option_and_then, slice_set, IsTrue}
-use Rattle.std.proofs.lemmas.Bool.{cases_eq, cases_lt, cases_Bool, both_ways, cond-true, cond-false}
+use Rattle.std.proofs.Common.{◌≡◌, ℕ, ◌≤◌, false, List, [], length, refl, sym, ◌∙◌, ap, subst, inl, inr, arith, Option, Some, None, option_map}
+use Rattle.std.proofs.lemmas.Bool.{cases_eq, cases_lt, both_ways}
 use Rattle.std.proofs.lemmas.List.{length-set}
 use Rattle.jlr_machine.specs.declared.object.Object.{Object}
-use Rattle.jlr_machine.specs.declared.object.Object.TheVariants.{Plain, Reference, Queue, Cleaner, Cleanable, Guard}
-use Rattle.jlr_machine.specs.declared.object.Reference.{Reference as ReferenceOf}
+use Rattle.jlr_machine.specs.declared.object.Object.TheVariants.{Reference, Cleanable}
 use Rattle.jlr_machine.specs.declared.object.RefState.TheVariants.{Fresh}
 use Rattle.jlr_machine.specs.declared.object.CleanState.TheVariants.{Armed}
 use Rattle.jlr_machine.specs.declared.machine.Machine.{Machine}
 use Rattle.jlr_machine.specs.Objects.{Table, at, change_at, ◌∋◌, ◌∈◌, with_members}
 use Rattle.jlr_machine.specs.Lookups.{with_object, on}
-use Rattle.jlr_machine.specs.WellFormed.{IsReferenceAt}
 use Rattle.jlr_laws.proofs.Checks.{at_beyond}
 use Rattle.jlr_laws.proofs.Frames.{set_same, set_other}
 use Rattle.jlr_histories.proofs.Becomes.{Becomes, Follows, same_place, members_too}

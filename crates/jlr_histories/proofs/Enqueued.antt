@@ -1,16 +1,15 @@
 -- A reference is enqueued at most once in its life.
-use Rattle.std.proofs.Common.{◌≡◌, ℕ, ◌+◌, ◌≤◌, Bool, true, false, cond, not, ◌&&◌, List, [], ◌∷◌, refl, sym, ◌∙◌, ap, subst, arith, Option, Some, None, option_and_then, is_some, IsTrue}
+use Rattle.std.proofs.Common.{◌≡◌, ℕ, ◌+◌, ◌≤◌, Bool, true, false, cond, not, ◌&&◌, List, [], ◌∷◌, refl, sym, ◌∙◌, ap, subst, arith, Option, Some, option_and_then}
 use Rattle.std.proofs.lemmas.Bool.{both_ways}
 use Rattle.jlr_machine.specs.declared.object.Object.{Object}
 use Rattle.jlr_machine.specs.declared.object.Object.TheVariants.{Plain, Reference, Queue, Cleaner, Cleanable, Guard}
-use Rattle.jlr_machine.specs.declared.object.Reference.{Reference as ReferenceOf}
 use Rattle.jlr_machine.specs.declared.object.RefState.{RefState}
 use Rattle.jlr_machine.specs.declared.object.RefState.TheVariants.{Fresh, Pending, Queued, Removed}
 use Rattle.jlr_machine.specs.declared.machine.Machine.{Machine}
 use Rattle.jlr_machine.specs.declared.entry.Entry.{Entry}
 use Rattle.jlr_machine.specs.Objects.{at, some_and, as_reference, is_queued, is_unqueued}
 use Rattle.jlr_machine.specs.Run.{IsLegal, Run, apply}
-use Rattle.jlr_machine.specs.WellFormed.{IsWellFormed, IsReferenceAt}
+use Rattle.jlr_machine.specs.WellFormed.{IsWellFormed}
 use Rattle.jlr_laws.proofs.Allowed.{some_there}
 use Rattle.jlr_laws.proofs.Law.{legal_kept}
 use Rattle.jlr_histories.specs.Lives.{LivesOn, may_follow, enqueueings}

@@ -1,5 +1,5 @@
 -- References and cleanables only go forward, in one entry and in a life.
-use Rattle.std.proofs.Common.{◌≡◌, ◌≢◌, ℕ, ◌≤◌, true, false, not, List, [], ◌∷◌, refl, sym, ◌∙◌, ap, subst, ◌⊎◌, inl, inr, arith, Option, Some, None, is_some, IsTrue}
+use Rattle.std.proofs.Common.{◌≡◌, ℕ, ◌≤◌, true, false, not, List, [], ◌∷◌, refl, sym, ◌∙◌, ap, subst, inl, inr, arith, Option, Some, IsTrue}
 use Rattle.std.proofs.lemmas.Bool.{both_ways, not-true}
 use Rattle.jlr_machine.specs.declared.object.Object.{Object}
 use Rattle.jlr_machine.specs.declared.object.Object.TheVariants.{Reference, Cleanable}
@@ -11,10 +11,9 @@ use Rattle.jlr_machine.specs.declared.object.CleanState.{CleanState}
 use Rattle.jlr_machine.specs.declared.object.CleanState.TheVariants.{Armed, Pending as PendingClean, Lined, Spent}
 use Rattle.jlr_machine.specs.declared.machine.Machine.{Machine}
 use Rattle.jlr_machine.specs.declared.entry.Entry.{Entry}
-use Rattle.jlr_machine.specs.Objects.{at, ◌∋◌, ◌∈◌}
-use Rattle.jlr_machine.specs.Run.{IsLegal, Run, apply}
+use Rattle.jlr_machine.specs.Objects.{at, ◌∋◌}
+use Rattle.jlr_machine.specs.Run.{IsLegal, apply}
 use Rattle.jlr_machine.specs.WellFormed.{IsWellFormed, IsObjectAt, IsReferenceAt, IsCleanableAt, FitsItsState}
-use Rattle.jlr_laws.proofs.Frames.{no_some}
 use Rattle.jlr_laws.proofs.Allowed.{some_there}
 use Rattle.jlr_laws.proofs.Law.{legal_kept}
 use Rattle.jlr_histories.specs.Lives.{LivesOn, StaysOrGoes, stage, may_follow, clean_stage, may_come_after, IsReferenceLater, IsCleanableOn, IsCleanableLater}

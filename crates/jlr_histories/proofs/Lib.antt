@@ -8,3 +8,4 @@ pub mod Forward
 pub mod Enqueued
 pub mod Takes
 pub mod TakenOnce
+pub mod Histories

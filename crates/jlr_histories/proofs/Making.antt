@@ -1,39 +1,18 @@
 -- What the asks that make objects leave at each slot.
-use Rattle.std.proofs.Common.{◌≡◌, ℕ, ◌+◌, ◌≤◌, Bool, true, false, cond, not, ◌||◌, List, [], ◌∷◌, ◌++◌, length, drop, refl, sym, ◌∙◌, ap, subst, ◌⊎◌, inl, inr, arith, Option, Some, None, option_map, option_and_then, slice_set, slice_get, IsTrue}
-use Rattle.std.proofs.lemmas.Bool.{cases_eq, cases_lt, cases_Bool, both_ways, cond_both, cond-true, cond-false}
+use Rattle.std.proofs.Common.{◌≡◌, ℕ, ◌+◌, ◌≤◌, false, List, [], ◌∷◌, length, refl, sym, ◌∙◌, subst, inl, inr, arith, Some}
+use Rattle.std.proofs.lemmas.Bool.{cases_eq, cases_lt, cases_Bool, both_ways}
 use Rattle.std.proofs.lemmas.List.{length-set}
-use Rattle.jlr_types.specs.declared.FieldValue.{FieldValue}
-use Rattle.jlr_types.specs.declared.Fault.{Fault}
-use Rattle.jlr_types.specs.declared.Work.{Work}
 use Rattle.jlr_types.specs.declared.Work.TheVariants.{Resource as WorkOn}
 use Rattle.jlr_machine.specs.declared.object.Object.{Object}
-use Rattle.jlr_machine.specs.declared.object.Object.TheVariants.{Plain, Reference, Queue, Cleaner, Cleanable, Guard}
-use Rattle.jlr_machine.specs.declared.object.Reference.{Reference as ReferenceOf}
-use Rattle.jlr_machine.specs.declared.object.Cleanable.{Cleanable as CleanableOf}
-use Rattle.jlr_machine.specs.declared.object.Guard.{Guard as GuardOf}
-use Rattle.jlr_machine.specs.declared.object.RefState.{RefState}
-use Rattle.jlr_machine.specs.declared.object.RefState.TheVariants.{Fresh, Pending, Queued, Removed}
-use Rattle.jlr_machine.specs.declared.object.CleanState.{CleanState}
-use Rattle.jlr_machine.specs.declared.object.CleanState.TheVariants.{Armed, Pending as PendingClean, Lined, Spent}
+use Rattle.jlr_machine.specs.declared.object.Object.TheVariants.{Cleanable, Guard}
+use Rattle.jlr_machine.specs.declared.object.CleanState.TheVariants.{Armed}
 use Rattle.jlr_machine.specs.declared.machine.Machine.{Machine}
-use Rattle.jlr_machine.specs.declared.machine.ResourceState.{ResourceState}
-use Rattle.jlr_machine.specs.declared.machine.ResourceState.TheVariants.{Closing}
-use Rattle.jlr_machine.specs.declared.machine.Call.TheVariants.{Job as CallJob}
-use Rattle.jlr_machine.specs.declared.ask.Outcome.TheVariants.{Failed}
-use Rattle.jlr_machine.specs.declared.ask.Ask.TheVariants.{Poll}
-use Rattle.jlr_machine.specs.Objects.{Heap, Table, at, set_at, change_at, ◌∋◌, ◌∈◌, some_and, as_reference, as_members, as_cleanable, with_field, with_reference, with_members, with_cleanable, is_unqueued, queue_ahead, is_spent}
-use Rattle.jlr_machine.specs.Collection.{IsCollection, is_ready, left_of, after_collection}
-use Rattle.jlr_machine.specs.Lookups.{slot_named, members_named, with_object, with_new, with_handle, with_call, on, rid_of, cleanable_at}
-use Rattle.jlr_machine.specs.Refusals.{front, given}
-use Rattle.jlr_machine.specs.Calls.{with_given, made, field_set, unreferred, to_queue, enqueued, registered, polled, poll_given, spent, with_work_state, without_work_resource, taken_up, cleaned, line_taken, delivered, handed, handed_over, handed_reference, handed_cleanable, prepared_in, opened}
-use Rattle.jlr_machine.specs.WellFormed.{IsReferenceAt, IsCleanableAt, IsQueueAt, IsWellFormed, FitsItsState}
+use Rattle.jlr_machine.specs.Objects.{Heap, at, set_at, ◌∋◌}
+use Rattle.jlr_machine.specs.Calls.{made, registered, prepared_in}
 use Rattle.jlr_laws.proofs.Sets.{in_front, in_rest, in_cons, nothing}
 use Rattle.jlr_laws.proofs.Checks.{at_beyond}
-use Rattle.jlr_laws.proofs.Frames.{no_some, some_same, set_same, set_other, is_queue_there}
-use Rattle.jlr_laws.proofs.Agree.{at-places_left}
-use Rattle.jlr_histories.specs.Lives.{may_follow, may_come_after, IsReferenceOn, IsCleanableOn}
-use Rattle.jlr_histories.proofs.Becomes.{IsKept, Becomes, Follows, same_object, same_reference, same_cleanable, with_field_on, with_reference_on, with_cleanable_on, spent_on, left_on}
-use Rattle.jlr_histories.proofs.Changes.{IsOver, IsNewAt, IsMaking, IsQuiet, quiet, quiet_on, quiet_over, over_quiet, over_on, changed_is, changed_over, changed, members_over, changed_twice}
+use Rattle.jlr_laws.proofs.Frames.{set_same, set_other}
+use Rattle.jlr_histories.proofs.Changes.{IsNewAt, IsMaking}
 
 -- ---- Slots that are fresh
 

@@ -1,5 +1,5 @@
 -- What a legal entry leaves at each slot.
-use Rattle.std.proofs.Common.{◌≡◌, ℕ, Bool, true, false, cond, not, List, [], ◌∷◌, map, ◌++◌, ◌==◌, length, refl, sym, ◌∙◌, ap, subst, ◌⊎◌, inl, inr, arith, Option, Some, None, option_map, is_some, IsTrue}
+use Rattle.std.proofs.Common.{◌≡◌, ℕ, Bool, true, false, cond, List, [], ◌∷◌, map, ◌++◌, ◌==◌, length, refl, sym, ◌∙◌, ap, subst, ◌⊎◌, inl, inr, arith, Option, Some, None, option_map, is_some, IsTrue}
 use Rattle.std.proofs.lemmas.Bool.{both_ways, cond_both}
 use Rattle.jlr_machine.specs.declared.object.Object.{Object}
 use Rattle.jlr_types.specs.declared.FieldValue.TheVariants.{Int as IntValue, Ref as RefValue}
@@ -23,13 +23,13 @@ use Rattle.jlr_machine.specs.declared.ask.Answer.TheVariants.{Refused}
 use Rattle.jlr_machine.specs.declared.entry.Entry.{Entry}
 use Rattle.jlr_machine.specs.declared.entry.Chosen.{Chosen}
 use Rattle.jlr_machine.specs.declared.entry.Collected.{Collected}
-use Rattle.jlr_machine.specs.Objects.{Heap, at, ◌∋◌, ◌∈◌, some_and}
+use Rattle.jlr_machine.specs.Objects.{at, ◌∋◌, some_and}
 use Rattle.jlr_machine.specs.Edges.{roots}
-use Rattle.jlr_machine.specs.Collection.{IsCollection, IsFull, IsBackground, is_ready, left_of, after_collection}
-use Rattle.jlr_machine.specs.Lookups.{slot_named, cleanable_at, cleanable_of_guard, guard_named, on, job_of, with_call, with_state, without_job, rid_of, blank, bound, unbound}
+use Rattle.jlr_machine.specs.Collection.{IsCollection, IsFull, is_ready, left_of, after_collection}
+use Rattle.jlr_machine.specs.Lookups.{slot_named, cleanable_at, cleanable_of_guard, guard_named, job_of, with_call, with_state, without_job, rid_of, blank, bound}
 use Rattle.jlr_machine.specs.Refusals.{given, cells_needed}
-use Rattle.jlr_machine.specs.Calls.{after, reply, from_lined, guard_fenced, opened, checked_out, checked_in, finished, free_again, enqueued, cleaned, prepared_in, without_work_resource, without_work, fence_of}
-use Rattle.jlr_machine.specs.Run.{MayCollect, Answers, with_collection, IsFresh, IsCarriedOut, IsLegal, IsRefused, IsHeapFull, IsOutOfMemory, carried, done}
+use Rattle.jlr_machine.specs.Calls.{after, reply, from_lined, guard_fenced, opened, checked_out, checked_in, finished, free_again, enqueued, cleaned, without_work_resource, without_work, fence_of}
+use Rattle.jlr_machine.specs.Run.{MayCollect, Answers, with_collection, IsFresh, IsCarriedOut, IsLegal, IsHeapFull, carried, done}
 use Rattle.jlr_machine.specs.Run.IsLegal.{carried_out, refused, heap_full, out_of_memory}
 use Rattle.jlr_machine.specs.WellFormed.{IsWellFormed}
 use Rattle.jlr_laws.proofs.Agree.{at-places_left}

@@ -1,9 +1,8 @@
 -- An action is taken up at most once in a run, and the machine counts what was taken up.
-use Rattle.std.proofs.Common.{◌≡◌, ◌≢◌, ℕ, ◌+◌, ◌<◌, ◌≤◌, Bool, true, false, cond, not, List, [], ◌∷◌, refl, sym, ◌∙◌, ap, subst, ◌⊎◌, inl, inr, arith, Option, Some, None, is_some, IsTrue, count_by, nat_eq}
+use Rattle.std.proofs.Common.{◌≡◌, ◌≢◌, ℕ, ◌+◌, ◌<◌, Bool, true, false, cond, List, [], ◌∷◌, refl, sym, ◌∙◌, ap, subst, inl, inr, arith, Some, None}
 use Rattle.std.proofs.lemmas.Bool.{both_ways, cases_Bool, eqb-true}
 use Rattle.std.proofs.lemmas.List.Sums.{sum_by-cons}
-use Rattle.jlr_machine.specs.declared.object.Object.{Object}
-use Rattle.jlr_machine.specs.declared.object.Object.TheVariants.{Reference, Cleanable}
+use Rattle.jlr_machine.specs.declared.object.Object.TheVariants.{Cleanable}
 use Rattle.jlr_machine.specs.declared.object.Cleanable.{Cleanable as CleanableOf}
 use Rattle.jlr_machine.specs.declared.object.CleanState.{CleanState}
 use Rattle.jlr_machine.specs.declared.object.CleanState.TheVariants.{Armed, Pending as PendingClean, Lined, Spent}
@@ -11,18 +10,18 @@ use Rattle.jlr_machine.specs.declared.machine.Machine.{Machine}
 use Rattle.jlr_machine.specs.declared.ask.Answer.{Answer}
 use Rattle.jlr_machine.specs.declared.ask.Answer.TheVariants.{Job}
 use Rattle.jlr_machine.specs.declared.entry.Entry.{Entry}
-use Rattle.jlr_machine.specs.Objects.{at, ◌∋◌, ◌∈◌}
+use Rattle.jlr_machine.specs.Objects.{at, ◌∋◌}
 use Rattle.jlr_machine.specs.Calls.{spent}
 use Rattle.jlr_machine.specs.Run.{IsLegal, Run, apply}
 use Rattle.jlr_machine.specs.WellFormed.{IsWellFormed, IsCleanableAt, IsUnspent}
 use Rattle.jlr_laws.proofs.Changes.{cleanable_same}
 use Rattle.jlr_laws.proofs.Law.{legal_kept}
-use Rattle.jlr_histories.specs.Lives.{may_come_after, is_job, is_job_of, take_ups, all_take_ups}
+use Rattle.jlr_histories.specs.Lives.{may_come_after, is_job, is_job_of, take_ups}
 use Rattle.jlr_histories.specs.Laws.{TakenUpAtMostOnce, TakeUpsAreCounted}
 use Rattle.jlr_histories.proofs.Becomes.{Follows, cleanable_back}
 use Rattle.jlr_histories.proofs.Changes.{IsNewAt}
 use Rattle.jlr_histories.proofs.Steps.{Clears, legal_step}
-use Rattle.jlr_histories.proofs.Takes.{IsTaking, legal_taking}
+use Rattle.jlr_histories.proofs.Takes.{legal_taking}
 use Rattle.jlr_histories.proofs.Takes.IsTaking.{none, one}
 
 -- ---- Unspent cleanables

@@ -1,19 +1,14 @@
 -- Which entries take an action up, and what they then leave.
-use Rattle.std.proofs.Common.{◌≡◌, ℕ, ◌+◌, Bool, true, false, cond, not, List, [], ◌∷◌, ◌++◌, map, refl, sym, ◌∙◌, ap, subst, ◌⊎◌, inl, inr, Option, Some, None, option_map, option_and_then, is_some, slice_get, if◌then◌else◌, ◌==◌}
-use Rattle.std.proofs.lemmas.Bool.{both_ways, cases_Bool, cond-true, cond-false, cond_both}
-use Rattle.std.specs.Option.{option_eq}
+use Rattle.std.proofs.Common.{◌≡◌, ℕ, ◌+◌, true, false, cond, List, [], ◌∷◌, map, refl, sym, ◌∙◌, ap, subst, Option, Some, None, option_map, option_and_then, slice_get}
+use Rattle.std.proofs.lemmas.Bool.{both_ways, cond-false}
 use Rattle.jlr_types.specs.declared.FieldValue.{FieldValue}
 use Rattle.jlr_types.specs.declared.FieldValue.TheVariants.{Int as IntValue, Ref as RefValue}
-use Rattle.jlr_types.specs.declared.Fault.{Fault}
 use Rattle.jlr_types.specs.declared.Refusal.{Refusal}
 use Rattle.jlr_types.specs.declared.Refusal.TheVariants.{NoMemory, HeapFull}
 use Rattle.jlr_machine.specs.declared.object.Object.{Object}
-use Rattle.jlr_machine.specs.declared.object.Object.TheVariants.{Plain, Reference, Queue, Cleaner, Cleanable, Guard}
-use Rattle.jlr_machine.specs.declared.object.Reference.{Reference as ReferenceOf}
+use Rattle.jlr_machine.specs.declared.object.Object.TheVariants.{Plain, Reference, Queue, Cleaner, Cleanable}
 use Rattle.jlr_machine.specs.declared.object.Cleanable.{Cleanable as CleanableOf}
-use Rattle.jlr_machine.specs.declared.object.Guard.{Guard as GuardOf}
-use Rattle.jlr_machine.specs.declared.object.RefState.{RefState}
-use Rattle.jlr_machine.specs.declared.object.RefState.TheVariants.{Fresh, Pending, Queued, Removed}
+use Rattle.jlr_machine.specs.declared.object.RefState.TheVariants.{Fresh}
 use Rattle.jlr_machine.specs.declared.object.CleanState.{CleanState}
 use Rattle.jlr_machine.specs.declared.object.CleanState.TheVariants.{Armed, Pending as PendingClean, Lined, Spent}
 use Rattle.jlr_machine.specs.declared.machine.Machine.{Machine}
@@ -31,18 +26,18 @@ use Rattle.jlr_machine.specs.declared.ask.Answer.TheVariants.{Handle, Job, Alrea
 use Rattle.jlr_machine.specs.declared.entry.Entry.{Entry}
 use Rattle.jlr_machine.specs.declared.entry.Chosen.{Chosen}
 use Rattle.jlr_machine.specs.declared.entry.Collected.{Collected}
-use Rattle.jlr_machine.specs.Objects.{at, some_and, as_reference, as_cleanable, with_cleanable, with_reference, with_members, with_field, queue_ahead, is_lined, is_spent}
+use Rattle.jlr_machine.specs.Objects.{at, some_and, as_reference, as_cleanable, with_cleanable, with_reference, with_field, queue_ahead, is_lined, is_spent}
 use Rattle.jlr_machine.specs.Collection.{after_collection}
-use Rattle.jlr_machine.specs.Lookups.{slot_named, object_named, field_named, members_named, cleanable_at, cleanable_of_guard, guard_named, on, job_of, with_object, with_handle, with_new, with_call, bound, blank}
-use Rattle.jlr_machine.specs.Refusals.{given, front}
-use Rattle.jlr_machine.specs.Calls.{after, reply, new_handle, handle_given, number_in, outcome_answer, call_answer, take_up_answer, handed, hand_over_answer, line_answer, from_lined, made, registered, field_set, with_given, to_queue, unreferred, enqueued, polled, poll_given, spent, taken_up, cleaned, line_taken, delivered, handed_over, guard_fenced, opened, checked_out, checked_in, finished, free_again, prepared_in}
-use Rattle.jlr_machine.specs.Run.{MayCollect, Answers, with_collection, IsCarriedOut, IsLegal, IsRefused, IsHeapFull, IsOutOfMemory, carried, done}
+use Rattle.jlr_machine.specs.Lookups.{slot_named, field_named, cleanable_at, cleanable_of_guard, guard_named, on, job_of, with_object, with_handle, with_new, with_call, bound, blank}
+use Rattle.jlr_machine.specs.Refusals.{given}
+use Rattle.jlr_machine.specs.Calls.{after, new_handle, handle_given, number_in, outcome_answer, call_answer, take_up_answer, handed, hand_over_answer, line_answer, from_lined, made, registered, with_given, to_queue, unreferred, enqueued, polled, poll_given, spent, taken_up, cleaned, line_taken, delivered, handed_over, guard_fenced, opened, checked_out, checked_in, finished, free_again, prepared_in}
+use Rattle.jlr_machine.specs.Run.{MayCollect, Answers, with_collection, IsCarriedOut, IsLegal, carried, done}
 use Rattle.jlr_machine.specs.Run.IsLegal.{carried_out, refused, heap_full, out_of_memory}
 use Rattle.jlr_machine.specs.WellFormed.{IsCleanableAt, IsUnspent}
 use Rattle.jlr_laws.proofs.Frames.{no_some, some_same, is_cleanable_there}
 use Rattle.jlr_laws.proofs.LegalKept.{entry, no_need}
 use Rattle.jlr_histories.specs.Lives.{is_job}
-use Rattle.jlr_histories.proofs.Changes.{IsQuiet, quiet, quiet_on, changed_is}
+use Rattle.jlr_histories.proofs.Changes.{quiet_on, changed_is}
 use Rattle.jlr_histories.proofs.ReferenceAsks.{given_quiet}
 use Rattle.jlr_histories.proofs.CleaningAsks.{with_line, taken_up_objects, taken_up_count}
 use Rattle.jlr_histories.proofs.Steps.{opened_quiet, finish_quiet}

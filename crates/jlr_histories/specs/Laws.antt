@@ -1,5 +1,5 @@
 -- Statements of the laws of whole runs. Each is the contract of a function of its own, with an empty body.
-use Rattle.std.specs.Prelude.{◌≡◌, ◌≢◌, ℕ, ◌+◌, ◌≤◌, ◌⊎◌, IsTrue, cond, List, [], ◌∷◌, Some, None, is_some}
+use Rattle.std.specs.Prelude.{◌≡◌, ◌≢◌, ℕ, ◌+◌, ◌≤◌, ◌⊎◌, IsTrue, cond, List, [], ◌∷◌, Some, None, is_some, length}
 use Rattle.jlr_types.specs.declared.Work.TheVariants.{Resource as WorkOn}
 use Rattle.jlr_machine.specs.declared.object.Reference.{Reference as ReferenceOf}
 use Rattle.jlr_machine.specs.declared.object.Cleanable.{Cleanable as CleanableOf}
@@ -76,8 +76,9 @@ TakeUpsAreCounted = (m n : Machine) (entries : List Entry) → Run m entries n �
 abbrev pub WaitingResourcesAreIdle : Type 0
 WaitingResourcesAreIdle = (m : Machine) (s rid : ℕ) (c : CleanableOf) → IsWellFormed m → IsCleanableAt m s c → c.work ≡ WorkOn rid → c.state ≢ Armed → c.state ≢ Spent → HasResource m rid c.action Idle
 
--- ---- The same, from an empty machine on: a run leads to m, and on to n
+-- ---- The same from an empty machine on
 
+-- a run leads from an empty machine of some limits to m, and another from there to n
 pub record IsHistory (m : Machine) (entries : List Entry) (n : Machine) : Type 0 where
   pub cells : ℕ
   pub sessions : ℕ
@@ -87,3 +88,24 @@ pub record IsHistory (m : Machine) (entries : List Entry) (n : Machine) : Type 0
   pub few_sessions : sessions ≤ 64
   pub past : Run (empty cells sessions resources) before m
   pub run : Run m entries n
+
+abbrev pub ReferencesGoForwardInHistories : Type 0
+ReferencesGoForwardInHistories =
+    (m n : Machine) (entries : List Entry) (s : ℕ) (r : ReferenceOf) → IsHistory m entries n → LivesOn m entries s → IsReferenceAt m s r → (t : ReferenceOf) × IsReferenceAt n s t × IsReferenceLater r t
+
+abbrev pub CleanablesGoForwardInHistories : Type 0
+CleanablesGoForwardInHistories =
+    (m n : Machine) (entries : List Entry) (s : ℕ) (c : CleanableOf) → IsHistory m entries n → LivesOn m entries s → IsCleanableAt m s c → (d : CleanableOf) × IsCleanableAt n s d × IsCleanableLater c d
+
+abbrev pub EnqueuedAtMostOnceInHistories : Type 0
+EnqueuedAtMostOnceInHistories = (m n : Machine) (entries : List Entry) (s : ℕ) → IsHistory m entries n → LivesOn m entries s → enqueueings m entries s ≤ 1
+
+-- in a run from an empty machine each action is taken up at most once
+abbrev pub TakenUpAtMostOnceInRuns : Type 0
+TakenUpAtMostOnceInRuns =
+    (cells sessions resources : ℕ) (n : Machine) (entries : List Entry) (action : ℕ) → cells ≤ 65536 → sessions ≤ 64 → Run (empty cells sessions resources) entries n → take_ups action entries ≤ 1
+
+-- and all that were taken up ended well, failed, or run
+abbrev pub TakeUpsEndOrRun : Type 0
+TakeUpsEndOrRun =
+    (cells sessions resources : ℕ) (n : Machine) (entries : List Entry) → cells ≤ 65536 → sessions ≤ 64 → Run (empty cells sessions resources) entries n → all_take_ups entries ≡ n.ok + n.failed + length n.jobs

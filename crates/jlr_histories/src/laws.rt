@@ -1,6 +1,6 @@
 //! Laws of whole runs. Each function's contract is the law, and its body is empty.
 
-ghost use Rattle.jlr_histories.specs.Laws.{ReferenceGoesForward, CleanableGoesForward, ReferenceLifeGoesForward, CleanableLifeGoesForward, EnqueuedAtMostOnce, EnqueuedOnItsWay, EnqueuedIsCleared, NewIsFresh, NewIsArmed, OnlyTheyClear, TakenUpAtMostOnce, TakeUpsAreCounted, WaitingResourcesAreIdle};
+ghost use Rattle.jlr_histories.specs.Laws.{ReferenceGoesForward, CleanableGoesForward, ReferenceLifeGoesForward, CleanableLifeGoesForward, EnqueuedAtMostOnce, EnqueuedOnItsWay, EnqueuedIsCleared, NewIsFresh, NewIsArmed, OnlyTheyClear, TakenUpAtMostOnce, TakeUpsAreCounted, WaitingResourcesAreIdle, ReferencesGoForwardInHistories, CleanablesGoForwardInHistories, EnqueuedAtMostOnceInHistories, TakenUpAtMostOnceInRuns, TakeUpsEndOrRun};
 
 /// One entry makes of a reference what it may: its kind stays, its referent and its queue stay or go, and its state is left or goes to
 /// the next.
@@ -58,4 +58,17 @@ pub fn take_ups_are_counted()
 /// A resource whose cleanable waits for the handler or the cleaner is idle: no call is under way on it.
 pub fn waiting_resources_are_idle()
     ensures { WaitingResourcesAreIdle }
+{}
+
+/// Each life in a run from an empty machine only goes forward, and has at most one enqueueing.
+pub fn lives_from_an_empty_machine_only_go_forward()
+    ensures references { ReferencesGoForwardInHistories }
+    ensures cleanables { CleanablesGoForwardInHistories }
+    ensures enqueued { EnqueuedAtMostOnceInHistories }
+{}
+
+/// In a run from an empty machine each action is taken up at most once, and all that were taken up ended well, failed, or run.
+pub fn take_ups_from_an_empty_machine_end_or_run()
+    ensures at_most_once { TakenUpAtMostOnceInRuns }
+    ensures accounted { TakeUpsEndOrRun }
 {}
