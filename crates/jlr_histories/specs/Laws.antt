@@ -4,7 +4,7 @@ use Rattle.jlr_types.specs.declared.Work.TheVariants.{Resource as WorkOn}
 use Rattle.jlr_machine.specs.declared.object.Reference.{Reference as ReferenceOf}
 use Rattle.jlr_machine.specs.declared.object.Cleanable.{Cleanable as CleanableOf}
 use Rattle.jlr_machine.specs.declared.object.RefState.TheVariants.{Fresh, Queued}
-use Rattle.jlr_machine.specs.declared.object.CleanState.TheVariants.{Armed, Spent}
+use Rattle.jlr_machine.specs.declared.object.CleanState.TheVariants.{Armed, Pending as PendingClean, Lined}
 use Rattle.jlr_machine.specs.declared.machine.Machine.{Machine}
 use Rattle.jlr_machine.specs.declared.machine.ResourceState.TheVariants.{Idle}
 use Rattle.jlr_machine.specs.declared.entry.Entry.{Entry}
@@ -38,7 +38,7 @@ CleanableLifeGoesForward =
 abbrev pub EnqueuedAtMostOnce : Type 0
 EnqueuedAtMostOnce = (m n : Machine) (entries : List Entry) (s : ℕ) → IsWellFormed m → Run m entries n → LivesOn m entries s → enqueueings m entries s ≤ 1
 
--- one that is Fresh or Pending was enqueued once when it is Queued or Removed, and before never
+-- one that was Fresh or Pending has been enqueued just once where it is Queued or Removed, and else never
 abbrev pub EnqueuedOnItsWay : Type 0
 EnqueuedOnItsWay =
     (m n : Machine) (entries : List Entry) (s : ℕ) (r t : ReferenceOf) → IsWellFormed m → Run m entries n → LivesOn m entries s → IsReferenceAt m s r → IsReferenceAt n s t
@@ -48,7 +48,7 @@ EnqueuedOnItsWay =
 abbrev pub EnqueuedIsCleared : Type 0
 EnqueuedIsCleared = (m : Machine) (e : Entry) (s : ℕ) (r : ReferenceOf) → IsWellFormed m → IsLegal m e → IsReferenceAt (apply m e) s r → r.state ≡ Queued → r.referent ≡ None
 
--- a life begins with a Fresh reference, or an Armed cleanable
+-- the life of a reference begins with a Fresh one, and that of a cleanable with an Armed one
 abbrev pub NewIsFresh : Type 0
 NewIsFresh = (m : Machine) (e : Entry) (s : ℕ) (r : ReferenceOf) → IsWellFormed m → IsLegal m e → s ∈ e.choice.fresh → IsReferenceAt (apply m e) s r → r.state ≡ Fresh
 
@@ -74,7 +74,7 @@ TakeUpsAreCounted = (m n : Machine) (entries : List Entry) → Run m entries n �
 
 -- a resource whose cleanable waits for the handler or the cleaner is in no call
 abbrev pub WaitingResourcesAreIdle : Type 0
-WaitingResourcesAreIdle = (m : Machine) (s rid : ℕ) (c : CleanableOf) → IsWellFormed m → IsCleanableAt m s c → c.work ≡ WorkOn rid → c.state ≢ Armed → c.state ≢ Spent → HasResource m rid c.action Idle
+WaitingResourcesAreIdle = (m : Machine) (s rid : ℕ) (c : CleanableOf) → IsWellFormed m → IsCleanableAt m s c → c.work ≡ WorkOn rid → (c.state ≡ PendingClean) ⊎ (c.state ≡ Lined) → HasResource m rid c.action Idle
 
 -- ---- The same from an empty machine on
 

@@ -37,7 +37,7 @@ stage Pending = 1
 stage Queued = 2
 stage Removed = 3
 
--- An entry leaves a state or leads to the next; the program may enqueue a Fresh reference, which then never is Pending
+-- an entry keeps the state or leads to the next; the program may enqueue a Fresh reference, which then never is Pending
 abbrev pub may_follow : RefState → RefState → Bool
 may_follow Fresh Fresh = true
 may_follow Fresh Pending = true
@@ -72,7 +72,7 @@ clean_stage PendingClean = 1
 clean_stage Lined = 2
 clean_stage Spent = 3
 
--- An entry leaves a state or leads to the next; from each a cleanable may become Spent
+-- an entry keeps the state or leads to the next; from each a cleanable may become Spent
 abbrev pub may_come_after : CleanState → CleanState → Bool
 may_come_after Armed Armed = true
 may_come_after Armed PendingClean = true
@@ -106,6 +106,8 @@ abbrev pub enqueueings : Machine → List Entry → ℕ → ℕ
 enqueueings m [] s = 0
 enqueueings m (e ∷ entries) s = cond (not (is_queued_at m s) && is_queued_at (apply m e) s) 1 0 + enqueueings (apply m e) entries s
 
+-- ---- Clearing
+
 -- the slot of the reference that the program clears by an ask: `clear` and `enqueue` alone do so
 abbrev pub slot_cleared : Machine → Ask → Option ℕ
 slot_cleared m (Clear k r) = slot_named m k r
@@ -114,7 +116,7 @@ slot_cleared m _ = None
 
 -- ---- Take-ups
 
--- an answer that hands out the job of some action, or of this one
+-- an answer that hands out a job; and one that hands out the job of this action
 abbrev pub is_job : Answer → Bool
 is_job (Job action work) = true
 is_job _ = false

@@ -2,8 +2,8 @@
 
 ghost use Rattle.jlr_histories.specs.Laws.{ReferenceGoesForward, CleanableGoesForward, ReferenceLifeGoesForward, CleanableLifeGoesForward, EnqueuedAtMostOnce, EnqueuedOnItsWay, EnqueuedIsCleared, NewIsFresh, NewIsArmed, OnlyTheyClear, TakenUpAtMostOnce, TakeUpsAreCounted, WaitingResourcesAreIdle, ReferencesGoForwardInHistories, CleanablesGoForwardInHistories, EnqueuedAtMostOnceInHistories, TakenUpAtMostOnceInRuns, TakeUpsEndOrRun};
 
-/// One entry makes of a reference what it may: its kind stays, its referent and its queue stay or go, and its state is left or goes to
-/// the next.
+/// One entry makes of a reference what it may: its kind stays, its referent and its queue stay or go, and its state stays or becomes the
+/// next.
 pub fn a_reference_only_goes_forward()
     ensures { ReferenceGoesForward }
 {}
@@ -29,7 +29,7 @@ pub fn a_new_cleanable_is_armed()
     ensures { NewIsArmed }
 {}
 
-/// In its life a reference is enqueued at most once: just once on its way to being Queued or Removed, and before never.
+/// In its life a reference is enqueued at most once: just once on its way to being Queued or Removed, and never before.
 pub fn a_reference_is_enqueued_at_most_once()
     ensures at_most_once { EnqueuedAtMostOnce }
     ensures on_its_way { EnqueuedOnItsWay }
