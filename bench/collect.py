@@ -1,0 +1,144 @@
+#!/usr/bin/env python3
+"""Times full collections through the line protocol, beside a plain mark-sweep over the very same objects.
+
+    bench/collect.py [--program crates/refheap/out/refheap] [--objects 65528] [--rounds 31] [--shapes chain,tree,graph]
+
+Each object has three reference fields. One handle is left, from which all objects are reached. The time of a collection is the
+median time of `gc` less that of `same 0 0`, which does next to nothing.
+"""
+import argparse
+import os
+import random
+import statistics
+import subprocess
+import sys
+import tempfile
+
+from session import Session
+
+HERE = os.path.dirname(os.path.abspath(__file__))
+CELLS = 65536
+FIELDS = 3
+
+
+class Builder:
+    """Makes objects and edges in a session, and keeps the edges for the yardstick.
+
+    An object is named by its number in order of making. A new handle is the lowest free one, as the heap does it."""
+
+    def __init__(self, session):
+        self.session = session
+        self.edges = []
+        self.handles = {}
+        self.free = list(range(250, 0, -1))
+
+    def make(self):
+        number = len(self.edges)
+        self.edges.append([None] * FIELDS)
+        self.handles[number] = self.free.pop()
+        self.session.send("new " + "r" * FIELDS)
+        return number
+
+    def link(self, source, field, target):
+        self.edges[source][field] = target
+        self.session.send(f"put {self.handles[source]} {field} {self.handles[target]}")
+
+    def drop(self, number):
+        handle = self.handles.pop(number)
+        self.session.send(f"drop {handle}")
+        self.free.append(handle)
+        self.free.sort(reverse=True)
+
+
+def chain(builder, count):
+    """Each object refers to the one before it."""
+    last = builder.make()
+    for _ in range(count - 1):
+        new = builder.make()
+        builder.link(new, 0, last)
+        builder.drop(last)
+        last = new
+    return last
+
+
+def tree(builder, count):
+    """Three children each, of nearly the same size, made depth first."""
+
+    def grow(parent, below):
+        for field in range(FIELDS):
+            size = below // FIELDS + (1 if field < below % FIELDS else 0)
+            if size:
+                child = builder.make()
+                builder.link(parent, field, child)
+                grow(child, size - 1)
+                builder.drop(child)
+
+    root = builder.make()
+    grow(root, count - 1)
+    return root
+
+
+def graph(builder, count):
+    """A chain through all objects, and from each object two edges to objects of a sample of all ages."""
+    chance = random.Random(7)
+    last, sample = None, []
+    for number in range(count):
+        new = builder.make()
+        if last is not None:
+            builder.link(new, 0, last)
+        for field in range(1, FIELDS):
+            if sample:
+                builder.link(new, field, chance.choice(sample))
+        if last is not None and last not in sample:
+            builder.drop(last)
+        if len(sample) < 200:
+            sample.append(new)
+        elif chance.random() < 200 / (number + 1):
+            place = chance.randrange(200)
+            old, sample[place] = sample[place], new
+            builder.drop(old)
+        last = new
+    for number in sample:
+        if number != last:
+            builder.drop(number)
+    return last
+
+
+def plain(edges, root, rounds):
+    """Nanoseconds a live object of the plain mark-sweep."""
+    with tempfile.TemporaryDirectory() as folder:
+        program = os.path.join(folder, "plain_mark_sweep")
+        subprocess.run(["rustc", "-O", os.path.join(HERE, "plain_mark_sweep.rs"), "-o", program], check=True)
+        objects = os.path.join(folder, "objects")
+        with open(objects, "w") as out:
+            for fields in edges:
+                out.write(" ".join("-" if field is None else str(field) for field in fields) + "\n")
+        answer = subprocess.run([program, objects, str(root), str(rounds)], check=True, capture_output=True, text=True)
+    live, nanoseconds = answer.stdout.split()
+    if int(live) != len(edges):
+        raise SystemExit(f"the plain mark-sweep reaches {live} of {len(edges)} objects")
+    return float(nanoseconds)
+
+
+def main():
+    arguments = argparse.ArgumentParser(description=__doc__, formatter_class=argparse.RawDescriptionHelpFormatter)
+    arguments.add_argument("--program", default=os.path.join(HERE, "..", "crates", "refheap", "out", "refheap"))
+    arguments.add_argument("--objects", type=int, default=CELLS - 8)
+    arguments.add_argument("--rounds", type=int, default=31)
+    arguments.add_argument("--shapes", default="chain,tree,graph")
+    given = arguments.parse_args()
+    for shape in given.shapes.split(","):
+        session = Session(given.program, CELLS)
+        builder = Builder(session)
+        root = {"chain": chain, "tree": tree, "graph": graph}[shape](builder, given.objects)
+        idle = statistics.median(session.time("same 0 0") for _ in range(200))
+        full = statistics.median(session.time("gc") for _ in range(given.rounds))
+        session.close()
+        heap = (full - idle) / given.objects
+        yardstick = plain(builder.edges, root, given.rounds)
+        print(f"{shape}: {heap:.1f} ns a live object, plain mark-sweep {yardstick:.1f} ns, ratio {heap / yardstick:.2f}")
+
+
+if __name__ == "__main__":
+    sys.setrecursionlimit(10000)
+    main()

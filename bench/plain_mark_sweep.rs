@@ -1,0 +1,84 @@
+// A plain mark-sweep over a table of cells in ordinary Rust: no proof, no barriers, three fields a cell. The yardstick of collect.py.
+//
+//     plain_mark_sweep OBJECTS ROOT ROUNDS
+//
+// OBJECTS is a file with a line for each object: its three fields, each the number of an object or `-`. Prints how many objects are
+// reached from ROOT, and the median time of a collection in nanoseconds a live object.
+use std::time::Instant;
+
+const NONE: u32 = u32::MAX;
+
+#[derive(Clone, Copy)]
+struct Cell {
+    taken: bool,
+    fields: [u32; 3],
+}
+
+struct Heap {
+    cells: Vec<Cell>,
+    marked: Vec<bool>,
+    grey: Vec<u32>,
+    free: Vec<u32>,
+}
+
+impl Heap {
+    fn shade(&mut self, slot: u32) {
+        if slot != NONE && !self.marked[slot as usize] {
+            self.marked[slot as usize] = true;
+            self.grey.push(slot);
+        }
+    }
+
+    fn collect(&mut self, root: u32) -> usize {
+        self.marked.fill(false);
+        self.shade(root);
+        let mut live = 0;
+        while let Some(slot) = self.grey.pop() {
+            live += 1;
+            for field in self.cells[slot as usize].fields {
+                self.shade(field);
+            }
+        }
+        for slot in 0..self.cells.len() {
+            if !self.marked[slot] && self.cells[slot].taken {
+                self.cells[slot].taken = false;
+                self.free.push(slot as u32);
+            }
+        }
+        live
+    }
+}
+
+fn main() {
+    let arguments: Vec<String> = std::env::args().collect();
+    let text = std::fs::read_to_string(&arguments[1]).expect("the objects");
+    let root: u32 = arguments[2].parse().expect("a root");
+    let rounds: usize = arguments[3].parse().expect("a number of rounds");
+    let field = |word: &str| word.parse().unwrap_or(NONE);
+    let cells: Vec<Cell> = text
+        .lines()
+        .map(|line| {
+            let mut fields = [NONE; 3];
+            for (place, word) in fields.iter_mut().zip(line.split(' ')) {
+                *place = field(word);
+            }
+            Cell { taken: true, fields }
+        })
+        .collect();
+    let count = cells.len();
+    let mut heap = Heap {
+        cells,
+        marked: vec![false; count],
+        grey: Vec::with_capacity(count),
+        free: Vec::with_capacity(count),
+    };
+    let mut live = heap.collect(root);
+    let mut times = Vec::new();
+    for _ in 0..rounds {
+        let begin = Instant::now();
+        live = heap.collect(root);
+        times.push(begin.elapsed().as_nanos() as f64 / live as f64);
+    }
+    times.sort_by(f64::total_cmp);
+    println!("{live} {:.2}", times[rounds / 2]);
+}
