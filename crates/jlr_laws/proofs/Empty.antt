@@ -11,7 +11,7 @@ use Rattle.jlr_machine.specs.declared.machine.Session.{Session}
 use Rattle.jlr_machine.specs.Objects.{Table, at, ◌∈◌, as_reference, as_cleanable}
 use Rattle.jlr_machine.specs.Edges.{active_cleanables, roots, edges, edges_from}
 use Rattle.jlr_machine.specs.Lookups.{same_name}
-use Rattle.jlr_machine.specs.Run.{empty}
+use Rattle.jlr_machine.specs.Run.{empty, empty_from}
 use Rattle.jlr_machine.specs.WellFormed.{IsObjectAt, IsWellFormed, IsImage, AreSlotsNamed, AreReferences, AreLists, AreActions, AreResources, AreCalls, ArePrivate, IsUnspent, state_at, clean_state_at, is_unspent_place}
 use Rattle.jlr_machine.specs.Edges.Chain.{UpToPhantom}
 use Rattle.jlr_laws.specs.Laws.{IsWithinHeap}
@@ -54,9 +54,9 @@ none_counted : (p : Option Object → Bool) (n : ℕ) → p None ≡ false → c
 none_counted p zero e = refl
 none_counted p (suc n) e = ap (λ b. fold (λ a x. a + cond (p x) 1 0) (0 + cond b 1 0) (replicate n None)) e ∙ none_counted p n e
 
-module _ (cells session_count limit : ℕ) where
+module _ (cells session_count limit next_action : ℕ) where
   abbrev nobody_here : Machine
-  nobody_here = empty cells session_count limit
+  nobody_here = empty_from cells session_count limit next_action
 
   no_edges : (s x : ℕ) → x ∈ edges_from UpToPhantom nobody_here.objects s → IsObjectAt nobody_here x
   no_edges s x h = nothing x (subst (λ o. x ∈ flat_map (edges UpToPhantom) (option_to_list o)) (empty_at cells s) h)
@@ -105,8 +105,8 @@ module _ (cells session_count limit : ℕ) where
   unspent_nowhere : {P : Type 0} (s : ℕ) (c : CleanableOf) → IsUnspent nobody_here s c → P
   unspent_nowhere s c u = none_there cells s (Cleanable c) u.there
 
-  actions : AreActions nobody_here
-  actions =
+  actions : 1 ≤ next_action → AreActions nobody_here
+  actions started =
       record {
         cleanables = λ s t c d u v e. unspent_nowhere s c u;
         apart = λ s c u. unspent_nowhere s c u;
@@ -118,7 +118,7 @@ module _ (cells session_count limit : ℕ) where
         referents = λ s c e n. none_there cells s (Cleanable c) e;
         cleaners = omega arith;
         taken = refl;
-        room = omega (arith, none_counted is_unspent_place cells refl);
+        room = omega (arith, none_counted is_unspent_place cells refl, started);
       }
 
   resources : AreResources nobody_here
@@ -157,15 +157,15 @@ module _ (cells session_count limit : ℕ) where
   unfolding IsDistinct
   names_distinct = tt
 
-  pub empty_is_well_formed : cells ≤ 65536 → session_count ≤ 64 → IsWellFormed nobody_here
-  empty_is_well_formed small few =
+  pub empty_from_is_well_formed : 1 ≤ next_action → cells ≤ 65536 → session_count ≤ 64 → IsWellFormed nobody_here
+  empty_from_is_well_formed started small few =
       record {
         limits = record { cells = subst (λ k. k ≤ 65536) (sym (length-replicate cells _)) small; sessions = subst (λ k. k ≤ 64) (sym (length-replicate session_count _)) few };
         slots = slots_named;
         references = references;
         lists = lists;
         sessions = record { places = λ k s e. none_there session_count k s e; opening = λ k s e. none_there session_count k s e; names = names_distinct; names_limit = omega arith };
-        actions = actions;
+        actions = actions started;
         resources = resources;
         calls = calls;
         unnamed = unnamed;
@@ -176,5 +176,11 @@ module _ (cells session_count limit : ℕ) where
         seen_in_cycle = λ _. refl;
       }
 
-  pub empty_is_an_image : cells ≤ 65536 → session_count ≤ 64 → IsImage nobody_here
-  empty_is_an_image small few = record { well_formed = empty_is_well_formed small few; no_cycle = refl }
+  pub empty_from_is_an_image : 1 ≤ next_action → cells ≤ 65536 → session_count ≤ 64 → IsImage nobody_here
+  empty_from_is_an_image started small few = record { well_formed = empty_from_is_well_formed started small few; no_cycle = refl }
+
+pub empty_is_well_formed : (cells session_count limit : ℕ) → cells ≤ 65536 → session_count ≤ 64 → IsWellFormed (empty cells session_count limit)
+empty_is_well_formed cells session_count limit = empty_from_is_well_formed cells session_count limit 1 (omega arith)
+
+pub empty_is_an_image : (cells session_count limit : ℕ) → cells ≤ 65536 → session_count ≤ 64 → IsImage (empty cells session_count limit)
+empty_is_an_image cells session_count limit = empty_from_is_an_image cells session_count limit 1 (omega arith)

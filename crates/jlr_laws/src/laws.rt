@@ -1,7 +1,7 @@
 //! Laws of the machine. Each function's contract is the law, and its body is empty.
 
 ghost use Rattle.jlr_machine.specs.Edges.{roots};
-ghost use Rattle.jlr_machine.specs.Run.{Run, IsLegal, empty};
+ghost use Rattle.jlr_machine.specs.Run.{Run, IsLegal, empty_from};
 ghost use Rattle.jlr_machine.specs.WellFormed.{IsWellFormed, IsImage};
 ghost use Rattle.std.specs.Prelude.{ℕ, ◌≤◌};
 ghost use Rattle.jlr_machine.specs.declared.machine.Machine.{Machine};
@@ -73,9 +73,9 @@ pub fn soft_references_go_before_a_full_heap()
     ensures { SoftReferencesGoBeforeAFullHeap }
 {}
 
-/// The empty machine is well formed, and may stand at the head of a trace.
+/// The empty machine is well formed, and may stand at the head of a trace, whatever its next action.
 pub fn the_empty_machine_is_an_image()
-    ensures { (cells sessions resources : ℕ) → cells ≤ 65536 → sessions ≤ 64 → IsImage (empty cells sessions resources) }
+    ensures { (cells sessions resources next_action : ℕ) → 1 ≤ next_action → cells ≤ 65536 → sessions ≤ 64 → IsImage (empty_from cells sessions resources next_action) }
 {}
 
 /// In a well-formed machine edges and roots stay within the heap, which is the premise of the laws of collections.
