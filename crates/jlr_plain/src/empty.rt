@@ -1,6 +1,6 @@
 //! The empty machine.
 ghost use Rattle.std.specs.Prelude.{◌≡◌, replicate, None, IfOk};
-ghost use Rattle.jlr_machine.specs.Run.{empty};
+ghost use Rattle.jlr_machine.specs.Run.{empty, empty_from};
 
 use jlr_machine::items::Items;
 use jlr_machine::machine::{Machine, Session};
@@ -28,7 +28,7 @@ fn no_sessions(alloc: Global, sessions: usize) -> Result<Vec<Option<Session>>, A
     Ok(out)
 }
 
-/// The empty machine of these limits.
+/// The empty machine of these limits, whose next action is 1.
 ///
 /// # Errors
 /// `AllocError` where there is no memory.
@@ -39,6 +39,22 @@ pub fn empty_plain(
     resources: u32,
 ) -> Result<Machine, AllocError>
     ensures { IfOk result (λ m. m ≡ empty cells sessions resources) }
+{
+    empty_plain_from(alloc, cells, sessions, resources, 1)
+}
+
+/// The empty machine of these limits with this next action.
+///
+/// # Errors
+/// `AllocError` where there is no memory.
+pub fn empty_plain_from(
+    alloc: Global,
+    cells: usize,
+    sessions: usize,
+    resources: u32,
+    next_action: u64,
+) -> Result<Machine, AllocError>
+    ensures { IfOk result (λ m. m ≡ empty_from cells sessions resources next_action) }
 {
     Ok(Machine {
         objects: Table::from_vec(no_objects(alloc, cells)?),
@@ -51,7 +67,7 @@ pub fn empty_plain(
         resource_limit: resources,
         faults: Items::new(alloc),
         notes: Items::new(alloc),
-        next_action: 1,
+        next_action,
         taken: 0,
         ok: 0,
         failed: 0,

@@ -6,8 +6,4 @@ pub mod collecting;
 pub mod empty;
 pub mod entry;
 pub mod room;
-#[cfg(test)]
-mod rows;
 pub mod run;
-#[cfg(test)]
-mod tests;

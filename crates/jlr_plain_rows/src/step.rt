@@ -1,0 +1,113 @@
+//! The entries of a row, as they are written down.
+ghost use Rattle.std.specs.Prelude.{IfOk};
+
+use jlr_machine::ask::{Answer, Ask, Stat};
+use jlr_machine::copy::copy_slice;
+use jlr_machine::entry::{Chosen, Collected, Entry};
+use jlr_machine::items::Items;
+use jlr_types::{ActionNo, Handle, Slot, Work};
+use std::alloc::{AllocError, Global};
+
+/// An entry: an ask and its answer, the slots of new objects, and what a collection kept and put behind the pending list.
+#[derive(Drop)]
+pub(crate) struct Step<'a> {
+    ask: Ask,
+    answer: Answer,
+    collected: Option<(&'a [u32], &'a [u32])>,
+    fresh: &'a [u32],
+}
+
+/// With no choice.
+pub(crate) fn plain(ask: Ask, answer: Answer) -> Step<'static> {
+    making(ask, answer, &[])
+}
+
+/// With new objects in these slots.
+pub(crate) fn making<'a>(ask: Ask, answer: Answer, fresh: &'a [u32]) -> Step<'a> {
+    Step {
+        ask,
+        answer,
+        collected: None,
+        fresh,
+    }
+}
+
+/// With a collection that kept these and put those behind the pending list.
+pub(crate) fn collecting<'a>(
+    ask: Ask,
+    answer: Answer,
+    kept: &'a [u32],
+    pending: &'a [u32],
+) -> Step<'a> {
+    collecting_for(ask, answer, kept, pending, &[])
+}
+
+/// With a collection that made room for new objects in these slots.
+pub(crate) fn collecting_for<'a>(
+    ask: Ask,
+    answer: Answer,
+    kept: &'a [u32],
+    pending: &'a [u32],
+    fresh: &'a [u32],
+) -> Step<'a> {
+    Step {
+        ask,
+        answer,
+        collected: Some((kept, pending)),
+        fresh,
+    }
+}
+
+impl Step<'_> {
+    /// The entry as the machine has it.
+    pub(crate) fn entry(&self, alloc: Global) -> Result<Entry, AllocError> {
+        let collected = match &self.collected {
+            Some((kept, pending)) => Some(Collected {
+                kept: slots(alloc, kept)?,
+                pending: slots(alloc, pending)?,
+            }),
+            None => None,
+        };
+        Ok(Entry {
+            seat: 0,
+            ask: self.ask.copy(alloc)?,
+            answer: self.answer.copy(alloc)?,
+            choice: Chosen {
+                collected,
+                fresh: slots(alloc, self.fresh)?,
+            },
+        })
+    }
+}
+
+fn slots(alloc: Global, numbers: &[u32]) -> Result<Items<Slot>, AllocError> {
+    let mut slots = Items::new(alloc);
+    for &number in numbers {
+        slots.push(Slot::new(number))?;
+    }
+    Ok(slots)
+}
+
+/// A name, or data.
+pub(crate) fn bytes(alloc: Global, bytes: &[u8]) -> Result<Items<u8>, AllocError> {
+    Ok(Items::from_vec(copy_slice(alloc, bytes)?))
+}
+
+pub(crate) fn handle(number: u8) -> Answer {
+    Answer::Handle(Handle::new(number))
+}
+
+pub(crate) fn job(action: u64, work: Work) -> Answer {
+    let action = ActionNo::new(action);
+    Answer::Job { action, work }
+}
+
+pub(crate) fn counts(objects: u64, resources: u64, taken: u64, ok: u64, failed: u64) -> Answer {
+    Answer::Stat(Stat {
+        objects,
+        resources,
+        taken,
+        ok,
+        failed,
+    })
+}
