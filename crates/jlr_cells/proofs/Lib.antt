@@ -1,3 +1,4 @@
+mod Writing
 mod FieldLists
 mod Slots
 mod Chains

@@ -1,3 +1,4 @@
--- Which object a cell holds, which cells are free, and how the free ones are linked.
+-- What words stand for, which object a cell holds, which cells are free, and how the free ones are linked.
+pub mod Words
 pub mod Contents
 pub mod FreeList

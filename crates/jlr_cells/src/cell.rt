@@ -1,15 +1,12 @@
 //! One cell.
-ghost use Rattle.std.specs.Prelude.{◌≡◌, IfOk, Some, IsTrue, is_some, length, option_and_then, option_map, option_to_list, filter_map};
-ghost use Rattle.std.specs.List.{flat_map};
+ghost use Rattle.std.specs.Prelude.{◌≡◌, IfOk, Some, IsTrue, is_some, length, option_and_then, option_copied, option_map};
 ghost use Rattle.jlr_machine.specs.Objects.{as_fields, some_and, with_field, with_reference};
-ghost use Rattle.jlr_machine.specs.Edges.{slot_in, strong_edges};
 ghost use Rattle.jlr_machine.specs.Refusals.{is_reference};
 ghost use Rattle.jlr_machine.specs.Calls.{unreferred};
 ghost use Rattle.jlr_cells.specs.Contents.{field_in, kind_of, object_in, object_of, referent_in};
 
 use crate::fields::Fields;
 use crate::shape::{Kind, Shape};
-use jlr_machine::copy::copy_slice;
 use jlr_machine::items::Items;
 use jlr_machine::object::{Object, RefState, Reference};
 use jlr_types::{FieldValue, RefKind, Slot};
@@ -30,7 +27,7 @@ pub(crate) enum Cell {
 }
 
 // What the head of the crate says of the layout.
-const _: () = prove!(size_of::<Cell>() == 144);
+const _: () = prove!(size_of::<Cell>() == 80);
 
 impl Cell {
     pub(crate) fn new(shape: Shape) -> Self
@@ -66,7 +63,7 @@ impl Cell {
         ensures { result ≡ field_in (object_in self.now) field }
     {
         match self {
-            Cell::Plain(fields) => fields.as_slice().get(field).copied(),
+            Cell::Plain(fields) => fields.get(field),
             Cell::Free { .. } | Cell::Reference { .. } => None,
         }
     }
@@ -110,8 +107,14 @@ impl Cell {
         match self {
             Cell::Free { .. } => Ok(None),
             Cell::Plain(fields) => {
-                let fields = Items::from_vec(copy_slice(alloc, fields.as_slice())?);
-                Ok(Some(Object::Plain(fields)))
+                let mut values = Vec::with_capacity(alloc, fields.len())?;
+                for field in 0..fields.len() {
+                    match fields.get(field) {
+                        Some(value) => values.push_reserved(value),
+                        None => unreachable!(),
+                    }
+                }
+                Ok(Some(Object::Plain(Items::from_vec(values))))
             }
             Cell::Reference { kind, referent } => Ok(Some(Object::Reference(Reference {
                 kind: *kind,
@@ -122,13 +125,13 @@ impl Cell {
         }
     }
 
-    /// The strong edges, where they lie.
-    pub(crate) fn edges(&self) -> &[FieldValue]
-        ensures { filter_map slot_in result.now ≡ flat_map strong_edges (option_to_list (object_in self.now)) }
+    /// The fields, where they lie, if this is a plain object.
+    pub(crate) fn fields(&self) -> Option<&Fields>
+        ensures { option_copied result ≡ option_and_then as_fields (object_in self.now) }
     {
         match self {
-            Cell::Plain(fields) => fields.as_slice(),
-            Cell::Free { .. } | Cell::Reference { .. } => &[],
+            Cell::Plain(fields) => Some(fields),
+            Cell::Free { .. } | Cell::Reference { .. } => None,
         }
     }
 }

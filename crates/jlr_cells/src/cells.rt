@@ -1,5 +1,6 @@
 //! All cells.
-ghost use Rattle.std.specs.Prelude.{◌≡◌, ℕ, ◌+◌, ◌^◌, ◌<◌, ◌↔◌, IfOk, IfNone, IfSome, IsNone, IsTrue, None, Some, filter_map, is_some, length, option_and_then, option_map, replicate};
+ghost use Rattle.std.specs.Prelude.{◌≡◌, ℕ, ◌+◌, ◌^◌, ◌<◌, ◌↔◌, IfOk, IfNone, IfSome, IsNone, IsTrue, None, Some, filter_map, is_some, length, option_and_then, option_copied, option_map, option_to_list, replicate};
+ghost use Rattle.std.specs.List.{flat_map};
 ghost use Rattle.jlr_machine.specs.Objects.{as_fields, at, change_at, empty_at, occupied, set_at, some_and};
 ghost use Rattle.jlr_machine.specs.Edges.{edges_from, slot_in};
 ghost use Rattle.jlr_machine.specs.Edges.Chain.{Strong};
@@ -10,6 +11,7 @@ ghost use Rattle.jlr_cells.specs.Contents.{IsEarly, field_at, kind_of, object_of
 ghost use Rattle.jlr_machine.specs.declared.object.Object.{Object};
 
 use crate::cell::Cell;
+use crate::fields::Fields;
 use crate::free_list::{free_cells, link_to, next_free};
 use crate::shape::{Kind, Shape};
 use jlr_machine::object::Object;
@@ -195,15 +197,15 @@ impl Cells {
     }
 
     /// Visits the object at a slot: one tick. Lends the fields that hold its strong edges; a reference has none.
-    pub fn visit(&self, slot: Slot, meter: &mut Meter) -> &[FieldValue]
+    pub fn visit(&self, slot: Slot, meter: &mut Meter) -> Option<&Fields>
         requires object { IsTrue (is_some (at self.now slot)) }
         requires ticks { meter.old + 1 < 2 ^ 64 }
-        ensures edges { filter_map slot_in result.now ≡ edges_from Strong self.now slot }
+        ensures edges { flat_map (filter_map slot_in) (option_to_list (option_copied result)) ≡ edges_from Strong self.now slot }
         ensures ticked { meter.new ≡ meter.old + 1 }
     {
         meter.tick();
         let cell = &self.cells[slot.number() as usize];
-        cell.edges()
+        cell.fields()
     }
 }
 
@@ -318,8 +320,11 @@ mod tests {
             .take(Shape::Reference { kind, referent })
             .ok_or("no cell")?;
         assert!(rt; cells.kind(plain).is_some() && cells.kind(weak).is_some());
-        assert_eq!(rt; cells.visit(plain, &mut meter).len(), 2);
-        assert_eq!(rt; cells.visit(weak, &mut meter).len(), 0);
+        let fields = cells.visit(plain, &mut meter).ok_or("no fields")?;
+        assert_eq!(rt; fields.get(0), Some(FieldValue::Ref(None)));
+        assert_eq!(rt; fields.get(1), Some(FieldValue::Int(0)));
+        assert_eq!(rt; fields.get(2), None);
+        assert!(rt; cells.visit(weak, &mut meter).is_none());
         assert_eq!(rt; meter.ticks(), 2);
         Ok(())
     }

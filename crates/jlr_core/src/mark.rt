@@ -7,7 +7,7 @@ ghost use Rattle.jlr_roots.specs.Walk.{slots_held};
 ghost use Rattle.jlr_core.specs.Marking.{Shaded, IsMarked, IsFollowed};
 
 use crate::marks::Marks;
-use jlr_cells::Cells;
+use jlr_cells::{Cells, Fields};
 use jlr_roots::Roots;
 use jlr_types::{FieldValue, Meter, Slot};
 
@@ -31,12 +31,14 @@ fn shade_field(field: FieldValue, marks: &mut Marks)
 }
 
 /// Shades what fields refer to.
-fn shade_fields(fields: &[FieldValue], marks: &mut Marks)
+fn shade_fields(fields: &Fields, marks: &mut Marks)
     requires { (x : ℕ) → x ∈ filter_map slot_in fields.now → x < length marks.old.bits }
     ensures { Shaded (λ x. x ∈ filter_map slot_in fields.now) marks.old marks.new }
 {
-    for field in fields {
-        shade_field(*field, marks);
+    let mut number = 0;
+    while let Some(field) = fields.get(number) {
+        shade_field(field, marks);
+        number += 1;
     }
 }
 
@@ -48,8 +50,9 @@ fn follow(cells: &Cells, slot: Slot, meter: &mut Meter, marks: &mut Marks)
     ensures shaded { Shaded (λ x. x ∈ edges_from Strong cells.now slot) marks.old marks.new }
     ensures ticked { meter.new ≡ meter.old + 1 }
 {
-    let fields = cells.visit(slot, meter);
-    shade_fields(fields, marks);
+    if let Some(fields) = cells.visit(slot, meter) {
+        shade_fields(fields, marks);
+    }
 }
 
 fn shade_roots(roots: &Roots, marks: &mut Marks)
