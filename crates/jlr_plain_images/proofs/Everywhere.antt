@@ -1,0 +1,167 @@
+-- Lemmas on tests at each place of a table, and at each number below another.
+use Rattle.std.proofs.Common.{◌≡◌, ℕ, zero, suc, ◌+◌, ◌<◌, ◌≤◌, Bool, true, false, not, ◌&&◌, ◌||◌, Decides, List, [], ◌∷◌, length, refl, sym, ◌∙◌, ap, subst, ◌⊎◌, inl, inr, arith, Option, Some, None, nat_eq, nat_le, nat_lt, is_none}
+use Rattle.std.specs.List.{list_all, list_any, range_with_len}
+use Rattle.std.proofs.lemmas.Bool.{both_ways, and_parts, and_from, or_cases, or_left, or_right, eqb-true, eq-eqb, leb-true, le-leb, ltb-true, lt-ltb, cases_eq}
+use Rattle.jlr_types.specs.declared.FieldValue.{FieldValue}
+use Rattle.jlr_machine.specs.declared.object.Object.{Object}
+use Rattle.jlr_machine.specs.declared.object.Object.TheVariants.{Plain, Reference, Queue, Cleaner, Cleanable, Guard}
+use Rattle.jlr_machine.specs.declared.object.Reference.{Reference as ReferenceOf}
+use Rattle.jlr_machine.specs.declared.object.Cleanable.{Cleanable as CleanableOf}
+use Rattle.jlr_machine.specs.declared.object.Guard.{Guard as GuardOf}
+use Rattle.jlr_machine.specs.Objects.{Table, Heap, at, some_and, ◌∈◌}
+use Rattle.jlr_laws.proofs.Sets.{in_front, in_rest, all_gives}
+use Rattle.jlr_laws.proofs.Frames.{no_some, some_same}
+use Rattle.jlr_plain_images.specs.Places.{none_or, each_number, on_plain, on_reference, on_queue, on_cleanable, on_guard}
+
+-- ---- Bools
+
+pub implied : (a c : Bool) → (not a || c) ≡ true → a ≡ true → c ≡ true
+implied true c h p = h
+implied false c h p = absurd (both_ways false refl p)
+
+pub implies : (a c : Bool) → (a ≡ true → c ≡ true) → (not a || c) ≡ true
+implies true c h = h refl
+implies false c h = refl
+
+-- both tests
+pub also : {P Q : Type 0} {x y : Bool} → Decides x P → Decides y Q → Decides (x && y) (P × Q)
+also {P} {Q} {x} {y} p q = (
+  (λ h. let r = and_parts x y h in (p.0 r.0, q.0 r.1)),
+  (λ r. and_from x y (p.1 r.0) (q.1 r.1)),
+)
+
+pub turned : {P Q : Type 0} {x : Bool} → Decides x P → (P → Q) → (Q → P) → Decides x Q
+turned d f g = ((λ h. f (d.0 h)), (λ q. d.1 (g q)))
+
+pub Decides-none : {A : Type 0} (o : Option A) → Decides (is_none o) (o ≡ None)
+Decides-none None = ((λ h. refl), (λ e. refl))
+Decides-none (Some x) = ((λ h. absurd (both_ways false refl h)), (λ e. no_some x (sym e)))
+
+pub Decides-equal : (a b : ℕ) → Decides (nat_eq a b) (a ≡ b)
+Decides-equal a b = (eqb-true a b, eq-eqb a b)
+
+pub Decides-most : (a b : ℕ) → Decides (nat_le a b) (a ≤ b)
+Decides-most a b = (leb-true a b, le-leb a b)
+
+pub Decides-less : (a b : ℕ) → Decides (nat_lt a b) (a < b)
+Decides-less a b = (ltb-true a b, lt-ltb a b)
+
+-- ---- Lists
+
+pub all_from : (q : ℕ → Bool) (xs : List ℕ) → ((s : ℕ) → s ∈ xs → q s ≡ true) → list_all q xs ≡ true
+all_from q [] h = refl
+all_from q (x ∷ xs) h = and_from (q x) (list_all q xs) (h x (in_front x x xs refl)) (all_from q xs (λ s m. h s (in_rest s x xs m)))
+
+pub Decides-all : (q : ℕ → Bool) (P : ℕ → Type 0) (xs : List ℕ) → ((s : ℕ) → Decides (q s) (P s)) → Decides (list_all q xs) ((s : ℕ) → s ∈ xs → P s)
+Decides-all q P xs each = (
+  (λ h s m. (each s).0 (all_gives q xs s h m)),
+  (λ h. all_from q xs (λ s m. (each s).1 (h s m))),
+)
+
+pub Decides-true : (b : Bool) → Decides b (b ≡ true)
+Decides-true b = ((λ h. h), (λ h. h))
+
+-- ---- Numbers
+
+numbers_give : (a n : ℕ) (test : ℕ → Bool) → list_all test (range_with_len a n) ≡ true → (i : ℕ) → a ≤ i → i < a + n → test i ≡ true
+numbers_give a zero test h i l u = absurd (omega (arith, l, u))
+numbers_give a (suc n) test h i l u =
+    let p = and_parts (test a) (list_all test (range_with_len (a + 1) n)) h in
+    elim (cases_eq i a) [
+      | inl same ↦ subst (λ x. test x ≡ true) (sym same) p.0
+      | inr other ↦ numbers_give (a + 1) n test p.1 i (grind (arith, other, l)) (omega (arith, u))
+    ]
+
+numbers_from : (a n : ℕ) (test : ℕ → Bool) → ((i : ℕ) → i < a + n → test i ≡ true) → list_all test (range_with_len a n) ≡ true
+numbers_from a zero test h = refl
+numbers_from a (suc n) test h = and_from (test a) (list_all test (range_with_len (a + 1) n)) (h a (omega arith)) (numbers_from (a + 1) n test (λ i l. h i (omega (arith, l))))
+
+pub Decides-numbers : (n : ℕ) (test : ℕ → Bool) → Decides (each_number n test) ((i : ℕ) → i < n → test i ≡ true)
+Decides-numbers n test = ((λ h i l. numbers_give 0 n test h i (omega arith) (omega (arith, l))), (λ h. numbers_from 0 n test (λ i l. h i (omega (arith, l)))))
+
+-- ---- Places of a table
+
+pub places_give : {A : Type 0} (test : A → Bool) (table : Table A) (k : ℕ) (x : A) → list_all (none_or test) table ≡ true → at table k ≡ Some x → test x ≡ true
+places_give test [] k x h e = no_some x e
+places_give test (o ∷ table) zero x h e = subst (λ p. none_or test p ≡ true) e (and_parts (none_or test o) (list_all (none_or test) table) h).0
+places_give test (o ∷ table) (suc k) x h e = places_give test table k x (and_parts (none_or test o) (list_all (none_or test) table) h).1 e
+
+pub places_from : {A : Type 0} (test : A → Bool) (table : Table A) → ((k : ℕ) (x : A) → at table k ≡ Some x → test x ≡ true) → list_all (none_or test) table ≡ true
+places_from test [] h = refl
+places_from test (None ∷ table) h = places_from test table (λ k x e. h (suc k) x e)
+places_from test (Some x ∷ table) h = and_from (test x) (list_all (none_or test) table) (h 0 x refl) (places_from test table (λ k x e. h (suc k) x e))
+
+pub Decides-places : {A : Type 0} (test : A → Bool) (P : A → Type 0) (table : Table A) → ((x : A) → Decides (test x) (P x)) → Decides (list_all (none_or test) table) ((k : ℕ) (x : A) → at table k ≡ Some x → P x)
+Decides-places test P table each = (
+  (λ h k x e. (each x).0 (places_give test table k x h e)),
+  (λ h. places_from test table (λ k x e. (each x).1 (h k x e))),
+)
+
+-- some place
+pub some_place_gives : {A : Type 0} (test : A → Bool) (table : Table A) → list_any (some_and test) table ≡ true → (k : ℕ) × (x : A) × (at table k ≡ Some x) × (test x ≡ true)
+some_place_gives test [] h = absurd (both_ways false refl h)
+some_place_gives test (None ∷ table) h = let r = some_place_gives test table h in (suc r.0, r.1, r.2, r.3)
+some_place_gives test (Some x ∷ table) h = elim (or_cases (test x) (list_any (some_and test) table) h) [
+  | inl here ↦ (0, x, refl, here)
+  | inr later ↦ let r = some_place_gives test table later in (suc r.0, r.1, r.2, r.3)
+]
+
+pub some_place_from : {A : Type 0} (test : A → Bool) (table : Table A) (k : ℕ) (x : A) → at table k ≡ Some x → test x ≡ true → list_any (some_and test) table ≡ true
+some_place_from test [] k x e h = no_some x e
+some_place_from test (o ∷ table) zero x e h = or_left (some_and test o) (list_any (some_and test) table) (ap (some_and test) e ∙ h)
+some_place_from test (o ∷ table) (suc k) x e h = or_right (some_and test o) (list_any (some_and test) table) (some_place_from test table k x e h)
+
+-- what there is at one place
+pub there_gives : {A : Type 0} (test : A → Bool) (o : Option A) → some_and test o ≡ true → (x : A) × (o ≡ Some x) × (test x ≡ true)
+there_gives test None h = absurd (both_ways false refl h)
+there_gives test (Some x) h = (x, refl, h)
+
+pub there_from : {A : Type 0} (test : A → Bool) (o : Option A) (x : A) → o ≡ Some x → test x ≡ true → some_and test o ≡ true
+there_from test o x e h = ap (some_and test) e ∙ h
+
+-- ---- Objects of one kind
+
+pub Decides-references : (test : ReferenceOf → Bool) (P : ReferenceOf → Type 0) (heap : Heap) → ((r : ReferenceOf) → Decides (test r) (P r)) → Decides (list_all (none_or (on_reference test)) heap) ((s : ℕ) (r : ReferenceOf) → at heap s ≡ Some (Reference r) → P r)
+Decides-references test P heap each = (
+  (λ h s r e. (each r).0 (places_give (on_reference test) heap s (Reference r) h e)),
+  (λ h. places_from (on_reference test) heap (λ s o. elim o as (λ o. at heap s ≡ Some o → on_reference test o ≡ true) [
+    | Reference r ↦ λ e. (each r).1 (h s r e)
+    | _ ↦ λ e. refl
+  ])),
+)
+
+pub Decides-queues : (test : List ℕ → Bool) (P : List ℕ → Type 0) (heap : Heap) → ((r : List ℕ) → Decides (test r) (P r)) → Decides (list_all (none_or (on_queue test)) heap) ((s : ℕ) (r : List ℕ) → at heap s ≡ Some (Queue r) → P r)
+Decides-queues test P heap each = (
+  (λ h s r e. (each r).0 (places_give (on_queue test) heap s (Queue r) h e)),
+  (λ h. places_from (on_queue test) heap (λ s o. elim o as (λ o. at heap s ≡ Some o → on_queue test o ≡ true) [
+    | Queue r ↦ λ e. (each r).1 (h s r e)
+    | _ ↦ λ e. refl
+  ])),
+)
+
+pub Decides-cleanables : (test : CleanableOf → Bool) (P : CleanableOf → Type 0) (heap : Heap) → ((r : CleanableOf) → Decides (test r) (P r)) → Decides (list_all (none_or (on_cleanable test)) heap) ((s : ℕ) (r : CleanableOf) → at heap s ≡ Some (Cleanable r) → P r)
+Decides-cleanables test P heap each = (
+  (λ h s r e. (each r).0 (places_give (on_cleanable test) heap s (Cleanable r) h e)),
+  (λ h. places_from (on_cleanable test) heap (λ s o. elim o as (λ o. at heap s ≡ Some o → on_cleanable test o ≡ true) [
+    | Cleanable r ↦ λ e. (each r).1 (h s r e)
+    | _ ↦ λ e. refl
+  ])),
+)
+
+pub Decides-guards : (test : GuardOf → Bool) (P : GuardOf → Type 0) (heap : Heap) → ((r : GuardOf) → Decides (test r) (P r)) → Decides (list_all (none_or (on_guard test)) heap) ((s : ℕ) (r : GuardOf) → at heap s ≡ Some (Guard r) → P r)
+Decides-guards test P heap each = (
+  (λ h s r e. (each r).0 (places_give (on_guard test) heap s (Guard r) h e)),
+  (λ h. places_from (on_guard test) heap (λ s o. elim o as (λ o. at heap s ≡ Some o → on_guard test o ≡ true) [
+    | Guard r ↦ λ e. (each r).1 (h s r e)
+    | _ ↦ λ e. refl
+  ])),
+)
+
+pub Decides-plain : (test : List FieldValue → Bool) (P : List FieldValue → Type 0) (heap : Heap) → ((r : List FieldValue) → Decides (test r) (P r)) → Decides (list_all (none_or (on_plain test)) heap) ((s : ℕ) (r : List FieldValue) → at heap s ≡ Some (Plain r) → P r)
+Decides-plain test P heap each = (
+  (λ h s r e. (each r).0 (places_give (on_plain test) heap s (Plain r) h e)),
+  (λ h. places_from (on_plain test) heap (λ s o. elim o as (λ o. at heap s ≡ Some o → on_plain test o ≡ true) [
+    | Plain r ↦ λ e. (each r).1 (h s r e)
+    | _ ↦ λ e. refl
+  ])),
+)

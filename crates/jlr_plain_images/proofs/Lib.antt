@@ -1,0 +1,4 @@
+pub mod Everywhere
+pub mod ListsDecided
+pub mod ReferencesDecided
+pub mod SessionsDecided

@@ -1,0 +1,100 @@
+-- What the test of references and queues tells.
+use Rattle.std.proofs.Common.{◌≡◌, ◌↔◌, ℕ, ◌<◌, Bool, true, false, not, ◌&&◌, ◌||◌, Decides, IsTrue, List, length, refl, sym, ◌∙◌, ap, subst, ◌⊎◌, inl, inr, Option, Some, None, nat_eq, is_some, is_none}
+use Rattle.std.specs.List.{list_all}
+use Rattle.std.proofs.lemmas.Bool.{both_ways, and_parts, and_from, or_cases, or_left, or_right, eqb-true, eq-eqb, cases_eq, not-true, not_from_false, false_from_ne_true}
+use Rattle.jlr_machine.specs.declared.object.Object.{Object}
+use Rattle.jlr_machine.specs.declared.object.Object.TheVariants.{Plain, Reference, Queue, Cleaner, Cleanable, Guard}
+use Rattle.jlr_machine.specs.declared.object.Reference.{Reference as ReferenceOf}
+use Rattle.jlr_machine.specs.declared.object.RefState.{RefState}
+use Rattle.jlr_machine.specs.declared.object.RefState.TheVariants.{Fresh, Pending, Queued, Removed}
+use Rattle.jlr_machine.specs.declared.machine.Machine.{Machine}
+use Rattle.jlr_machine.specs.Objects.{Heap, at, some_and, ◌∋◌, ◌∈◌, is_distinct, is_queued}
+use Rattle.jlr_machine.specs.WellFormed.{AreReferences, FitsItsState, IsReferenceAt, IsQueueAt}
+use Rattle.jlr_laws.proofs.Sets.{nothing}
+use Rattle.jlr_laws.proofs.Frames.{no_some, some_same, place_within}
+use Rattle.jlr_plain_images.specs.Places.{each_number}
+use Rattle.jlr_plain_images.specs.References.{fits_state, fits_own_state, states_fit, is_queued_object, members_fit, queues_fit, members_in, is_disjoint, queue_is_apart, queues_are_apart, references_fit}
+use Rattle.jlr_plain_images.proofs.Everywhere.{all_from, Decides-all, Decides-numbers, Decides-references, Decides-queues, there_gives, Decides-true, Decides-none, also, turned}
+
+-- ---- States
+
+Decides-state : (r : ReferenceOf) (s : RefState) → Decides (fits_state r s) (FitsItsState r s)
+Decides-state r Fresh = ((λ h. tt), (λ u. refl))
+Decides-state r Pending = also (Decides-true (is_some r.queue)) (Decides-none r.referent)
+Decides-state r Queued = also (Decides-none r.queue) (Decides-none r.referent)
+Decides-state r Removed = also (Decides-none r.queue) (Decides-none r.referent)
+
+-- ---- Members
+
+queued_is : (s : RefState) → is_queued s ≡ true → s ≡ Queued
+queued_is Queued h = refl
+queued_is Fresh h = absurd (both_ways false refl h)
+queued_is Pending h = absurd (both_ways false refl h)
+queued_is Removed h = absurd (both_ways false refl h)
+
+abbrev IsQueued : Option Object → Type 0
+IsQueued o = (r : ReferenceOf) × (o ≡ Some (Reference r)) × (r.state ≡ Queued)
+
+queued_there : (o : Object) → is_queued_object o ≡ true → IsQueued (Some o)
+queued_there (Reference r) h = (r, refl, queued_is r.state h)
+queued_there (Plain x) h = absurd (both_ways false refl h)
+queued_there (Queue x) h = absurd (both_ways false refl h)
+queued_there Cleaner h = absurd (both_ways false refl h)
+queued_there (Cleanable x) h = absurd (both_ways false refl h)
+queued_there (Guard x) h = absurd (both_ways false refl h)
+
+Decides-queued : (o : Option Object) → Decides (some_and is_queued_object o) (IsQueued o)
+Decides-queued None = ((λ h. absurd (both_ways false refl h)), (λ q. no_some (Reference q.0) q.1))
+Decides-queued (Some o) = (queued_there o, (λ q. ap (some_and is_queued_object) q.1 ∙ ap is_queued q.2))
+
+-- ---- Queues apart
+
+members_there : (o : Option Object) (s : ℕ) → s ∈ members_in o → (members : List ℕ) × (o ≡ Some (Queue members)) × (s ∈ members)
+members_there None s h = nothing s h
+members_there (Some (Queue members)) s h = (members, refl, h)
+members_there (Some _) s h = nothing s h
+
+Decides-disjoint : (xs ys : List ℕ) → Decides (is_disjoint xs ys) ((s : ℕ) → s ∈ xs → s ∈ ys → ⊥)
+Decides-disjoint xs ys = Decides-all (λ s. not (ys ∋ s)) (λ s. s ∈ ys → ⊥) xs (λ s. (
+  (λ h m. both_ways (ys ∋ s) (not-true (ys ∋ s) h) m),
+  (λ h. not_from_false (ys ∋ s) (false_from_ne_true (ys ∋ s) h)),
+))
+
+abbrev AreApart : Heap → Type 0
+AreApart heap = (p q s : ℕ) (xs ys : List ℕ) → at heap p ≡ Some (Queue xs) → at heap q ≡ Some (Queue ys) → s ∈ xs → s ∈ ys → p ≡ q
+
+apart_gives : (heap : Heap) → queues_are_apart heap ≡ true → AreApart heap
+apart_gives heap h p q s xs ys e f a b =
+    let one = (Decides-numbers (length heap) (queue_is_apart heap)).0 h p (place_within heap p (Queue xs) e) in
+    let two = (Decides-numbers (length heap) (λ q. nat_eq p q || is_disjoint (members_in (at heap p)) (members_in (at heap q)))).0 one q (place_within heap q (Queue ys) f) in
+    elim (or_cases (nat_eq p q) (is_disjoint (members_in (at heap p)) (members_in (at heap q))) two) [
+      | inl same ↦ eqb-true p q same
+      | inr disjoint ↦ absurd ((Decides-disjoint (members_in (at heap p)) (members_in (at heap q))).0 disjoint s (subst (λ o. s ∈ members_in o) (sym e) a) (subst (λ o. s ∈ members_in o) (sym f) b))
+    ]
+
+apart_from : (heap : Heap) → AreApart heap → queues_are_apart heap ≡ true
+apart_from heap w =
+    (Decides-numbers (length heap) (queue_is_apart heap)).1 (λ p _.
+    (Decides-numbers (length heap) (λ q. nat_eq p q || is_disjoint (members_in (at heap p)) (members_in (at heap q)))).1 (λ q _.
+    elim (cases_eq p q) [
+      | inl same ↦ or_left (nat_eq p q) (is_disjoint (members_in (at heap p)) (members_in (at heap q))) (eq-eqb p q same)
+      | inr other ↦ or_right (nat_eq p q) (is_disjoint (members_in (at heap p)) (members_in (at heap q)))
+          ((Decides-disjoint (members_in (at heap p)) (members_in (at heap q))).1 (λ s a b.
+          let x = members_there (at heap p) s a in
+          let y = members_there (at heap q) s b in
+          other (w p q s x.0 y.0 x.1 y.1 x.2 y.2)))
+    ]))
+
+pub references_decided : (m : Machine) → IsTrue (references_fit m) ↔ AreReferences m
+references_decided m =
+    let states = Decides-references fits_own_state (λ r. FitsItsState r r.state) m.objects (λ r. Decides-state r r.state) in
+    let queues = Decides-queues (members_fit m.objects) (λ members. ((s : ℕ) → s ∈ members → IsQueued (at m.objects s)) × IsTrue (is_distinct members)) m.objects
+        (λ members. also (Decides-all (λ s. some_and is_queued_object (at m.objects s)) (λ s. IsQueued (at m.objects s)) members (λ s. Decides-queued (at m.objects s))) (Decides-true (is_distinct members))) in
+    turned (also (also states queues) (apart_gives m.objects, apart_from m.objects))
+    (λ p. record {
+      states = p.0.0;
+      members = λ q s members e h. (p.0.1 q members e).0 s h;
+      once = λ q members e. (p.0.1 q members e).1;
+      in_one = p.1;
+    })
+    (λ w. ((w.states, (λ q members e. ((λ s h. w.members q s members e h), w.once q members e))), w.in_one))

@@ -1,0 +1,7 @@
+//! Whether a machine is well formed, and whether it may be the image at the head of a trace.
+#![tactic(auto)]
+
+pub mod limits;
+pub mod lists;
+pub mod references;
+pub mod sessions;
