@@ -1,17 +1,20 @@
 -- Lemmas on tests at each place of a table, and at each number below another.
-use Rattle.std.proofs.Common.{◌≡◌, ℕ, zero, suc, ◌+◌, ◌<◌, ◌≤◌, Bool, true, false, not, ◌&&◌, ◌||◌, Decides, List, [], ◌∷◌, length, refl, sym, ◌∙◌, ap, subst, ◌⊎◌, inl, inr, arith, Option, Some, None, nat_eq, nat_le, nat_lt, is_none}
-use Rattle.std.specs.List.{list_all, list_any, range_with_len}
-use Rattle.std.proofs.lemmas.Bool.{both_ways, and_parts, and_from, or_cases, or_left, or_right, eqb-true, eq-eqb, leb-true, le-leb, ltb-true, lt-ltb, cases_eq}
+use Rattle.std.proofs.Common.{◌≡◌, ℕ, zero, suc, ◌+◌, ◌<◌, ◌≤◌, Bool, true, false, not, ◌&&◌, ◌||◌, Decides, List, [], ◌∷◌, length, refl, sym, ◌∙◌, ap, subst, ◌⊎◌, inl, inr, arith, Option, Some, None, nat_eq, nat_le, nat_lt, is_none, map, filter_map}
+use Rattle.std.specs.List.{list_all, list_any, range_with_len, cons_option, AllByRecursion}
+use Rattle.std.proofs.lemmas.List.Folds.{list_all-map}
+use Rattle.std.proofs.lemmas.Bool.{both_ways, and_parts, and_from, or_cases, or_left, or_right, eqb-true, eq-eqb, leb-true, le-leb, ltb-true, lt-ltb, cases_eq, not-true, not_from_false, false_from_ne_true}
 use Rattle.jlr_types.specs.declared.FieldValue.{FieldValue}
 use Rattle.jlr_machine.specs.declared.object.Object.{Object}
 use Rattle.jlr_machine.specs.declared.object.Object.TheVariants.{Plain, Reference, Queue, Cleaner, Cleanable, Guard}
 use Rattle.jlr_machine.specs.declared.object.Reference.{Reference as ReferenceOf}
 use Rattle.jlr_machine.specs.declared.object.Cleanable.{Cleanable as CleanableOf}
 use Rattle.jlr_machine.specs.declared.object.Guard.{Guard as GuardOf}
-use Rattle.jlr_machine.specs.Objects.{Table, Heap, at, some_and, ◌∈◌}
+use Rattle.jlr_machine.specs.declared.machine.Binding.{Binding}
+use Rattle.jlr_machine.specs.Objects.{Table, Heap, at, some_and, ◌∈◌, is_above, is_rising}
+use Rattle.jlr_machine.specs.Edges.{slot_in}
 use Rattle.jlr_laws.proofs.Sets.{in_front, in_rest, all_gives}
-use Rattle.jlr_laws.proofs.Frames.{no_some, some_same}
-use Rattle.jlr_plain_images.specs.Places.{none_or, each_number, on_plain, on_reference, on_queue, on_cleanable, on_guard}
+use Rattle.jlr_laws.proofs.Frames.{no_some, some_same, place_within}
+use Rattle.jlr_plain_images.specs.Places.{none_or, each_number, rising_by, are_same, key_is_apart, keys_are_apart, on_plain, on_reference, on_queue, on_cleanable, on_guard}
 
 -- ---- Bools
 
@@ -60,6 +63,42 @@ Decides-all q P xs each = (
 
 pub Decides-true : (b : Bool) → Decides b (b ≡ true)
 Decides-true b = ((λ h. h), (λ h. h))
+
+pub Decides-any : {A : Type 0} (test : A → Bool) (P : A → Type 0) (o : Option A) → ((x : A) → Decides (test x) (P x)) → Decides (none_or test o) ((x : A) → o ≡ Some x → P x)
+Decides-any test P None each = ((λ h x e. no_some x e), (λ h. refl))
+Decides-any test P (Some y) each = ((λ h x e. subst P (some_same y x e) ((each y).0 h)), (λ h. (each y).1 (h y refl)))
+
+each_named : (test : ℕ → Bool) (o : Option ℕ) (xs : List ℕ) → list_all test (cons_option o xs) ≡ (none_or test o && list_all test xs)
+each_named test None xs = refl
+each_named test (Some x) xs = refl
+
+fields_named : (test : ℕ → Bool) (fields : List FieldValue) → list_all test (filter_map slot_in fields) ≡ list_all (λ f. none_or test (slot_in f)) fields
+fields_named test [] = refl
+fields_named test (f ∷ fields) = each_named test (slot_in f) (filter_map slot_in fields) ∙ ap (λ b. none_or test (slot_in f) && b) (fields_named test fields)
+
+pub Decides-fields : (test : ℕ → Bool) (P : ℕ → Type 0) (fields : List FieldValue) → ((s : ℕ) → Decides (test s) (P s)) → Decides (list_all (λ f. none_or test (slot_in f)) fields) ((s : ℕ) → s ∈ filter_map slot_in fields → P s)
+Decides-fields test P fields each = subst (λ b. Decides b ((s : ℕ) → s ∈ filter_map slot_in fields → P s)) (fields_named test fields) (Decides-all test P (filter_map slot_in fields) each)
+
+pub Decides-bound : (test : ℕ → Bool) (P : ℕ → Type 0) (names : List Binding) → ((s : ℕ) → Decides (test s) (P s)) → Decides (list_all (λ b. test b.slot) names) ((s : ℕ) → s ∈ map (λ b. b.slot) names → P s)
+Decides-bound test P names each = subst (λ b. Decides b ((s : ℕ) → s ∈ map (λ b. b.slot) names → P s)) (list_all-map test (λ b. b.slot) names) (Decides-all test P (map (λ b. b.slot) names) each)
+
+pub Decides-each : {A : Type 0} (test : A → Bool) (P : A → Type 0) (xs : List A) → ((x : A) → Decides (test x) (P x)) → Decides (list_all test xs) (AllByRecursion P xs)
+Decides-each test P [] each = ((λ h. tt), (λ u. refl))
+Decides-each test P (x ∷ xs) each = also (each x) (Decides-each test P xs each)
+
+-- each key less than the later ones
+above_all : {A : Type 0} (key : A → ℕ) (a : ℕ) (xs : List A) → list_all (λ y. nat_lt a (key y)) xs ≡ is_above a (map key xs)
+above_all key a [] = refl
+above_all key a (x ∷ xs) = ap (λ b. nat_lt a (key x) && b) (above_all key a xs)
+
+pub rises : {A : Type 0} (key : A → ℕ) (xs : List A) → rising_by key xs ≡ is_rising (map key xs)
+rises key [] = refl
+rises key (x ∷ xs) =
+    ap (λ b. b && rising_by key xs) (above_all key (key x) xs)
+    ∙ ap (λ b. is_above (key x) (map key xs) && b) (rises key xs)
+
+pub Decides-rising : {A : Type 0} (key : A → ℕ) (xs : List A) → Decides (rising_by key xs) (is_rising (map key xs) ≡ true)
+Decides-rising key xs = ((λ h. sym (rises key xs) ∙ h), (λ h. rises key xs ∙ h))
 
 -- ---- Numbers
 
@@ -165,3 +204,42 @@ Decides-plain test P heap each = (
     | _ ↦ λ e. refl
   ])),
 )
+
+-- ---- Keys apart
+
+same_given : (x y : Option ℕ) → are_same x y ≡ true → (a : ℕ) × (x ≡ Some a) × (y ≡ Some a)
+same_given None y h = absurd (both_ways false refl h)
+same_given (Some a) None h = absurd (both_ways false refl h)
+same_given (Some a) (Some b) h = (a, refl, ap (λ n. Some n) (sym (eqb-true a b h)))
+
+same_from : (x y : Option ℕ) (a : ℕ) → x ≡ Some a → y ≡ Some a → are_same x y ≡ true
+same_from x y a e f = ap (λ o. are_same o y) e ∙ ap (are_same (Some a)) f ∙ eq-eqb a a refl
+
+abbrev pub AreApart : (Option Object → Option ℕ) → Heap → Type 0
+AreApart key heap = (s t a : ℕ) → key (at heap s) ≡ Some a → key (at heap t) ≡ Some a → s ≡ t
+
+key_within : (key : Option Object → Option ℕ) (heap : Heap) (s a : ℕ) → key None ≡ None → key (at heap s) ≡ Some a → s < length heap
+key_within key heap s a n e =
+    elim (at heap s) as (λ o. at heap s ≡ o → key o ≡ Some a → s < length heap) [
+      | None ↦ λ f e. no_some a (sym n ∙ e)
+      | Some o ↦ λ f e. place_within heap s o f
+    ] refl e
+
+pub Decides-apart : (key : Option Object → Option ℕ) (heap : Heap) → key None ≡ None → Decides (keys_are_apart key heap) (AreApart key heap)
+Decides-apart key heap n =
+    let test : ℕ → ℕ → Bool = λ s t. nat_eq s t || not (are_same (key (at heap s)) (key (at heap t))) in (
+      (λ h s t a e f.
+      let one = (Decides-numbers (length heap) (key_is_apart key heap)).0 h s (key_within key heap s a n e) in
+      let two = (Decides-numbers (length heap) (test s)).0 one t (key_within key heap t a n f) in
+      elim (or_cases (nat_eq s t) (not (are_same (key (at heap s)) (key (at heap t)))) two) [
+        | inl same ↦ eqb-true s t same
+        | inr other ↦ absurd (both_ways (are_same (key (at heap s)) (key (at heap t))) (not-true (are_same (key (at heap s)) (key (at heap t))) other) (same_from (key (at heap s)) (key (at heap t)) a e f))
+      ]),
+      (λ w. (Decides-numbers (length heap) (key_is_apart key heap)).1 (λ s _. (Decides-numbers (length heap) (test s)).1 (λ t _.
+      elim (cases_eq s t) [
+        | inl same ↦ or_left (nat_eq s t) (not (are_same (key (at heap s)) (key (at heap t)))) (eq-eqb s t same)
+        | inr other ↦ or_right (nat_eq s t) (not (are_same (key (at heap s)) (key (at heap t))))
+            (not_from_false (are_same (key (at heap s)) (key (at heap t))) (false_from_ne_true (are_same (key (at heap s)) (key (at heap t)))
+            (λ h. let g = same_given (key (at heap s)) (key (at heap t)) h in other (w s t g.0 g.1 g.2))))
+      ]))),
+    )

@@ -15,39 +15,8 @@ use Rattle.jlr_machine.specs.WellFormed.{AreLists, state_at, clean_state_at}
 use Rattle.jlr_laws.proofs.Frames.{no_some, some_same, place_within}
 use Rattle.jlr_plain_images.specs.Places.{each_number}
 use Rattle.jlr_plain_images.specs.Lists.{is_pending, is_pending_clean, is_waiting, may_wait, is_lining, may_line, all_waiting_pend, all_lining_line_up, pending_may_wait, line_may_line, lists_fit}
+use Rattle.jlr_plain_images.proofs.States.{pending_is, unfresh_is, pending_clean_is, lined_is, spent_is}
 use Rattle.jlr_plain_images.proofs.Everywhere.{implied, implies, all_from, Decides-all, Decides-numbers, there_gives, Decides-true, also, turned}
-
--- ---- States
-
-pending_is : (s : RefState) → is_pending s ≡ true → s ≡ Pending
-pending_is Pending h = refl
-pending_is Fresh h = absurd (both_ways false refl h)
-pending_is Queued h = absurd (both_ways false refl h)
-pending_is Removed h = absurd (both_ways false refl h)
-
-pending_clean_is : (s : CleanState) → is_pending_clean s ≡ true → s ≡ PendingClean
-pending_clean_is PendingClean h = refl
-pending_clean_is Armed h = absurd (both_ways false refl h)
-pending_clean_is Lined h = absurd (both_ways false refl h)
-pending_clean_is Spent h = absurd (both_ways false refl h)
-
-lined_is : (s : CleanState) → is_lined s ≡ true → s ≡ Lined
-lined_is Lined h = refl
-lined_is Armed h = absurd (both_ways false refl h)
-lined_is PendingClean h = absurd (both_ways false refl h)
-lined_is Spent h = absurd (both_ways false refl h)
-
-spent_is : (s : CleanState) → is_spent s ≡ true → s ≡ Spent
-spent_is Spent h = refl
-spent_is Armed h = absurd (both_ways false refl h)
-spent_is PendingClean h = absurd (both_ways false refl h)
-spent_is Lined h = absurd (both_ways false refl h)
-
-unfresh_is : (s : RefState) → not (is_fresh s) ≡ true → (s ≡ Pending) ⊎ (s ≡ Queued) ⊎ (s ≡ Removed)
-unfresh_is Fresh h = absurd (both_ways false refl h)
-unfresh_is Pending h = inl refl
-unfresh_is Queued h = inr (inl refl)
-unfresh_is Removed h = inr (inr refl)
 
 -- ---- What is at a place
 

@@ -14,6 +14,7 @@ use Rattle.jlr_laws.proofs.Sets.{nothing}
 use Rattle.jlr_laws.proofs.Frames.{no_some, some_same, place_within}
 use Rattle.jlr_plain_images.specs.Places.{each_number}
 use Rattle.jlr_plain_images.specs.References.{fits_state, fits_own_state, states_fit, is_queued_object, members_fit, queues_fit, members_in, is_disjoint, queue_is_apart, queues_are_apart, references_fit}
+use Rattle.jlr_plain_images.proofs.States.{queued_is}
 use Rattle.jlr_plain_images.proofs.Everywhere.{all_from, Decides-all, Decides-numbers, Decides-references, Decides-queues, there_gives, Decides-true, Decides-none, also, turned}
 
 -- ---- States
@@ -25,12 +26,6 @@ Decides-state r Queued = also (Decides-none r.queue) (Decides-none r.referent)
 Decides-state r Removed = also (Decides-none r.queue) (Decides-none r.referent)
 
 -- ---- Members
-
-queued_is : (s : RefState) → is_queued s ≡ true → s ≡ Queued
-queued_is Queued h = refl
-queued_is Fresh h = absurd (both_ways false refl h)
-queued_is Pending h = absurd (both_ways false refl h)
-queued_is Removed h = absurd (both_ways false refl h)
 
 abbrev IsQueued : Option Object → Type 0
 IsQueued o = (r : ReferenceOf) × (o ≡ Some (Reference r)) × (r.state ≡ Queued)

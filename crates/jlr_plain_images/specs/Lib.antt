@@ -2,3 +2,5 @@ pub mod Places
 pub mod Lists
 pub mod References
 pub mod Sessions
+pub mod Slots
+pub mod Actions

@@ -1,7 +1,9 @@
 //! Whether a machine is well formed, and whether it may be the image at the head of a trace.
 #![tactic(auto)]
 
+pub mod actions;
 pub mod limits;
 pub mod lists;
 pub mod references;
 pub mod sessions;
+pub mod slots;
