@@ -14,6 +14,7 @@ use Rattle.jlr_machine.specs.Objects.{Table, Heap, at, some_and, ◌∈◌, is_a
 use Rattle.jlr_machine.specs.Edges.{slot_in}
 use Rattle.jlr_laws.proofs.Sets.{in_front, in_rest, all_gives}
 use Rattle.jlr_laws.proofs.Frames.{no_some, some_same, place_within}
+use Rattle.jlr_laws.proofs.Keyed.{by_key, key_found, all_found}
 use Rattle.jlr_plain_images.specs.Places.{none_or, each_number, rising_by, are_same, key_is_apart, keys_are_apart, on_plain, on_reference, on_queue, on_cleanable, on_guard}
 
 -- ---- Bools
@@ -243,3 +244,42 @@ Decides-apart key heap n =
             (λ h. let g = same_given (key (at heap s)) (key (at heap t)) h in other (w s t g.0 g.1 g.2))))
       ]))),
     )
+
+-- ---- What is found by a key
+
+all_of : {A : Type 0} (P : A → Type 0) (xs : List A) → ((x : A) → P x) → AllByRecursion P xs
+all_of P [] h = tt
+all_of P (x ∷ xs) h = (h x, all_of P xs h)
+
+pub Decides-found : {A : Type 0} (key : A → ℕ) (test : A → Bool) (P : A → Type 0) (xs : List A) → ((x : A) → Decides (test x) (P x)) → Decides (list_all (λ x. none_or test (by_key key xs (key x))) xs) ((a : ℕ) (x : A) → by_key key xs a ≡ Some x → P x)
+Decides-found {A} key test P xs each =
+    let found = λ (x : A). Decides-any test P (by_key key xs (key x)) each in
+    let all = Decides-each (λ x. none_or test (by_key key xs (key x))) (λ x. (y : A) → by_key key xs (key x) ≡ Some y → P y) xs found in (
+      (λ h a x e. all_found key (λ x. (y : A) → by_key key xs (key x) ≡ Some y → P y) xs a x (all.0 h) e x (ap (by_key key xs) (key_found key xs a x e) ∙ e)),
+      (λ w. all.1 (all_of (λ x. (y : A) → by_key key xs (key x) ≡ Some y → P y) xs (λ x y e. w (key x) y e))),
+    )
+
+-- ---- Slots and what is there
+
+pub Decides-slots : {A : Type 0} (test : ℕ → A → Bool) (P : ℕ → A → Type 0) (table : Table A) → ((s : ℕ) (x : A) → Decides (test s x) (P s x)) → Decides (each_number (length table) (λ s. none_or (test s) (at table s))) ((s : ℕ) (x : A) → at table s ≡ Some x → P s x)
+Decides-slots test P table each =
+    let all = Decides-numbers (length table) (λ s. none_or (test s) (at table s)) in (
+      (λ h s x e. (Decides-any (test s) (P s) (at table s) (each s)).0 (all.0 h s (place_within table s x e)) x e),
+      (λ w. all.1 (λ s _. (Decides-any (test s) (P s) (at table s) (each s)).1 (λ x e. w s x e))),
+    )
+
+pub Decides-on_cleanable : (test : CleanableOf → Bool) (P : CleanableOf → Type 0) (o : Object) → ((c : CleanableOf) → Decides (test c) (P c)) → Decides (on_cleanable test o) ((c : CleanableOf) → o ≡ Cleanable c → P c)
+Decides-on_cleanable test P (Cleanable d) each = ((λ h c e. let same : d ≡ c = cc e in subst P same ((each d).0 h)), (λ w. (each d).1 (w d refl)))
+Decides-on_cleanable test P (Plain x) each = ((λ h c e. absurd (cc e)), (λ w. refl))
+Decides-on_cleanable test P (Reference x) each = ((λ h c e. absurd (cc e)), (λ w. refl))
+Decides-on_cleanable test P (Queue x) each = ((λ h c e. absurd (cc e)), (λ w. refl))
+Decides-on_cleanable test P Cleaner each = ((λ h c e. absurd (cc e)), (λ w. refl))
+Decides-on_cleanable test P (Guard x) each = ((λ h c e. absurd (cc e)), (λ w. refl))
+
+pub Decides-on_guard : (test : GuardOf → Bool) (P : GuardOf → Type 0) (o : Object) → ((g : GuardOf) → Decides (test g) (P g)) → Decides (on_guard test o) ((g : GuardOf) → o ≡ Guard g → P g)
+Decides-on_guard test P (Guard d) each = ((λ h c e. let same : d ≡ c = cc e in subst P same ((each d).0 h)), (λ w. (each d).1 (w d refl)))
+Decides-on_guard test P (Plain x) each = ((λ h c e. absurd (cc e)), (λ w. refl))
+Decides-on_guard test P (Reference x) each = ((λ h c e. absurd (cc e)), (λ w. refl))
+Decides-on_guard test P (Queue x) each = ((λ h c e. absurd (cc e)), (λ w. refl))
+Decides-on_guard test P Cleaner each = ((λ h c e. absurd (cc e)), (λ w. refl))
+Decides-on_guard test P (Cleanable x) each = ((λ h c e. absurd (cc e)), (λ w. refl))

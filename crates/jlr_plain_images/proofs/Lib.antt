@@ -5,3 +5,5 @@ pub mod ReferencesDecided
 pub mod SessionsDecided
 pub mod SlotsDecided
 pub mod ActionsDecided
+pub mod WorksDecided
+pub mod ResourcesDecided

@@ -4,3 +4,4 @@ pub mod References
 pub mod Sessions
 pub mod Slots
 pub mod Actions
+pub mod Resources

@@ -5,5 +5,7 @@ pub mod actions;
 pub mod limits;
 pub mod lists;
 pub mod references;
+pub mod resources;
 pub mod sessions;
 pub mod slots;
+mod works;
