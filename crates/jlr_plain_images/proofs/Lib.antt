@@ -7,3 +7,5 @@ pub mod SlotsDecided
 pub mod ActionsDecided
 pub mod WorksDecided
 pub mod ResourcesDecided
+pub mod CallsDecided
+pub mod UnnamedDecided

@@ -5,3 +5,5 @@ pub mod Sessions
 pub mod Slots
 pub mod Actions
 pub mod Resources
+pub mod Calls
+pub mod Unnamed

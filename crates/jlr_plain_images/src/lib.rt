@@ -2,10 +2,12 @@
 #![tactic(auto)]
 
 pub mod actions;
+pub mod calls;
 pub mod limits;
 pub mod lists;
 pub mod references;
 pub mod resources;
 pub mod sessions;
 pub mod slots;
+pub mod unnamed;
 mod works;

@@ -7,17 +7,11 @@ ghost use Rattle.jlr_machine.specs.WellFormed.{AreResources};
 ghost use Rattle.jlr_plain_images.specs.Places.{none_or, on_cleanable, on_guard, rising_by, are_same, key_is_apart, keys_are_apart};
 ghost use Rattle.jlr_plain_images.specs.Resources.{is_on_resource, is_work_on, is_worker, has_worker, is_worked, all_are_worked, serves, has_its_resource, closes_its_own, all_jobs_close, guarded_slot, is_own, owns, all_guards_own, is_guard_of, is_guarded, all_are_guarded, guards_fit, rid_in, resources_fit};
 
-use crate::works::{closing, idle, on_resource, resource_is, works_on};
+use crate::works::{armed, closing, idle, on_resource, resource_is, works_on};
 use jlr_machine::machine::{Job, Machine, Resource, ResourceState};
 use jlr_machine::object::{CleanState, Cleanable, Guard, Object};
 use jlr_plain_asks::lookups::{cleanable_in, resource_with, running_job};
 use jlr_types::{ActionNo, Rid, Slot, Work};
-
-fn armed(state: CleanState) -> bool
-    ensures { result ≡ is_armed state }
-{
-    matches!(state, CleanState::Armed)
-}
 
 fn spent(state: CleanState) -> bool
     ensures { result ≡ is_spent state }
