@@ -22,9 +22,9 @@ use Rattle.jlr_laws.proofs.Frames.{no_some, some_same, is_cleanable_there, place
 use Rattle.jlr_laws.proofs.Keyed.{key_found}
 use Rattle.jlr_plain_images.specs.Resources.{has_resource}
 use Rattle.jlr_plain_images.specs.Calls.{same_call, is_free_call, is_in_call, is_guard_in_call, is_fencing, fits_call, fits_own_call, all_fit_calls, is_calling, is_called, needs_call, has_its_call, all_have_calls, is_called_job, all_jobs_called, are_in_one_call, call_is_apart, calls_are_apart, calls_fit}
-use Rattle.jlr_plain_images.proofs.States.{armed_is}
+use Rattle.jlr_plain_parts.proofs.States.{armed_is}
 use Rattle.jlr_plain_images.proofs.WorksDecided.{Decides-resource}
-use Rattle.jlr_plain_images.proofs.Everywhere.{Decides-none, Decides-numbers, Decides-slots, Decides-found, there_gives, there_from, some_place_gives, some_place_from, also, turned}
+use Rattle.jlr_plain_parts.proofs.Everywhere.{Decides-none, Decides-numbers, Decides-slots, Decides-found, there_gives, there_from, some_place_gives, some_place_from, also, turned}
 
 -- ---- Calls
 

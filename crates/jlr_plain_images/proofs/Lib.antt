@@ -1,11 +1,5 @@
-pub mod Everywhere
-pub mod States
-pub mod ListsDecided
-pub mod ReferencesDecided
-pub mod SessionsDecided
-pub mod SlotsDecided
-pub mod ActionsDecided
 pub mod WorksDecided
 pub mod ResourcesDecided
 pub mod CallsDecided
 pub mod UnnamedDecided
+pub mod ImagesDecided

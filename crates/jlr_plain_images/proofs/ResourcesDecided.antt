@@ -19,11 +19,11 @@ use Rattle.jlr_machine.specs.Lookups.{resource_at, job_of, cleanable_at}
 use Rattle.jlr_machine.specs.WellFormed.{AreResources, HasResource, HasWorker, IsUnspent, IsJob, IsOwnGuard, IsGuardAt, IsCleanableAt}
 use Rattle.jlr_laws.proofs.Frames.{no_some, some_same, is_cleanable_there}
 use Rattle.jlr_laws.proofs.Keyed.{key_found}
-use Rattle.jlr_plain_images.specs.Places.{keys_are_apart, on_guard, on_cleanable}
+use Rattle.jlr_plain_parts.specs.Places.{keys_are_apart, on_guard, on_cleanable}
 use Rattle.jlr_plain_images.specs.Resources.{is_on_resource, is_work_on, is_closing, is_idle, has_resource, is_worker, has_worker, is_worked, all_are_worked, serves, is_served, has_its_resource, closes, closes_its_own, all_jobs_close, guarded_slot, is_own, owns, all_guards_own, is_guard_of, is_guarded, all_are_guarded, guards_fit, rid_in, resources_fit}
-use Rattle.jlr_plain_images.proofs.States.{spent_is, armed_is, unless_spent, unless_armed}
+use Rattle.jlr_plain_parts.proofs.States.{spent_is, armed_is, unless_spent, unless_armed}
 use Rattle.jlr_plain_images.proofs.WorksDecided.{same_rid, no_rid, Decides-work, on_gives, closing_is, idle_is, found_resource, Decides-resource}
-use Rattle.jlr_plain_images.proofs.Everywhere.{Decides-any, Decides-cleanables, Decides-rising, Decides-apart, AreApart, Decides-found, Decides-slots, Decides-on_guard, Decides-on_cleanable, there_gives, there_from, some_place_gives, some_place_from, also, turned}
+use Rattle.jlr_plain_parts.proofs.Everywhere.{Decides-any, Decides-cleanables, Decides-rising, Decides-apart, AreApart, Decides-found, Decides-slots, Decides-on_guard, Decides-on_cleanable, there_gives, there_from, some_place_gives, some_place_from, also, turned}
 
 -- ---- Each resource is the work of a cleanable or a job
 

@@ -1,9 +1,4 @@
-pub mod Places
-pub mod Lists
-pub mod References
-pub mod Sessions
-pub mod Slots
-pub mod Actions
 pub mod Resources
 pub mod Calls
 pub mod Unnamed
+pub mod Images

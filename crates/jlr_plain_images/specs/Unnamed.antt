@@ -11,7 +11,7 @@ use Rattle.jlr_machine.specs.declared.machine.ResourceState.TheVariants.{Opening
 use Rattle.jlr_machine.specs.Objects.{at, some_and}
 use Rattle.jlr_machine.specs.Edges.{slot_in}
 use Rattle.jlr_machine.specs.Lookups.{cleanable_at}
-use Rattle.jlr_plain_images.specs.Places.{none_or, on_plain, on_reference}
+use Rattle.jlr_plain_parts.specs.Places.{none_or, on_plain, on_reference}
 use Rattle.jlr_plain_images.specs.Resources.{is_on_resource}
 use Rattle.jlr_plain_images.specs.Calls.{is_in_call}
 

@@ -12,10 +12,10 @@ use Rattle.jlr_machine.specs.Objects.{Heap, at, some_and, ◌∋◌, ◌∈◌, 
 use Rattle.jlr_machine.specs.WellFormed.{AreReferences, FitsItsState, IsReferenceAt, IsQueueAt}
 use Rattle.jlr_laws.proofs.Sets.{nothing}
 use Rattle.jlr_laws.proofs.Frames.{no_some, some_same, place_within}
-use Rattle.jlr_plain_images.specs.Places.{each_number}
-use Rattle.jlr_plain_images.specs.References.{fits_state, fits_own_state, states_fit, is_queued_object, members_fit, queues_fit, members_in, is_disjoint, queue_is_apart, queues_are_apart, references_fit}
-use Rattle.jlr_plain_images.proofs.States.{queued_is}
-use Rattle.jlr_plain_images.proofs.Everywhere.{all_from, Decides-all, Decides-numbers, Decides-references, Decides-queues, there_gives, Decides-true, Decides-none, also, turned}
+use Rattle.jlr_plain_parts.specs.Places.{each_number}
+use Rattle.jlr_plain_parts.specs.References.{fits_state, fits_own_state, states_fit, is_queued_object, members_fit, queues_fit, members_in, is_disjoint, queue_is_apart, queues_are_apart, references_fit}
+use Rattle.jlr_plain_parts.proofs.States.{queued_is}
+use Rattle.jlr_plain_parts.proofs.Everywhere.{all_from, Decides-all, Decides-numbers, Decides-references, Decides-queues, there_gives, Decides-true, Decides-none, also, turned}
 
 -- ---- States
 

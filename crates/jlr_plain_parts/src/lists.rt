@@ -2,7 +2,7 @@
 ghost use Rattle.std.specs.Prelude.{◌≡◌, ◌↔◌, IsTrue};
 ghost use Rattle.jlr_machine.specs.Objects.{at, some_and};
 ghost use Rattle.jlr_machine.specs.WellFormed.{AreLists};
-ghost use Rattle.jlr_plain_images.specs.Lists.{is_waiting, may_wait, is_lining, may_line, all_waiting_pend, all_lining_line_up, pending_may_wait, line_may_line, lists_fit};
+ghost use Rattle.jlr_plain_parts.specs.Lists.{is_waiting, may_wait, is_lining, may_line, all_waiting_pend, all_lining_line_up, pending_may_wait, line_may_line, lists_fit};
 
 use jlr_machine::machine::Machine;
 use jlr_machine::object::{CleanState, Object, RefState};

@@ -13,10 +13,10 @@ use Rattle.jlr_machine.specs.declared.machine.Machine.{Machine}
 use Rattle.jlr_machine.specs.Objects.{Heap, at, some_and, ◌∋◌, ◌∈◌, is_distinct, is_fresh, is_lined, is_spent, as_reference, as_cleanable}
 use Rattle.jlr_machine.specs.WellFormed.{AreLists, state_at, clean_state_at}
 use Rattle.jlr_laws.proofs.Frames.{no_some, some_same, place_within}
-use Rattle.jlr_plain_images.specs.Places.{each_number}
-use Rattle.jlr_plain_images.specs.Lists.{is_pending, is_pending_clean, is_waiting, may_wait, is_lining, may_line, all_waiting_pend, all_lining_line_up, pending_may_wait, line_may_line, lists_fit}
-use Rattle.jlr_plain_images.proofs.States.{pending_is, unfresh_is, pending_clean_is, lined_is, spent_is}
-use Rattle.jlr_plain_images.proofs.Everywhere.{implied, implies, all_from, Decides-all, Decides-numbers, there_gives, Decides-true, also, turned}
+use Rattle.jlr_plain_parts.specs.Places.{each_number}
+use Rattle.jlr_plain_parts.specs.Lists.{is_pending, is_pending_clean, is_waiting, may_wait, is_lining, may_line, all_waiting_pend, all_lining_line_up, pending_may_wait, line_may_line, lists_fit}
+use Rattle.jlr_plain_parts.proofs.States.{pending_is, unfresh_is, pending_clean_is, lined_is, spent_is}
+use Rattle.jlr_plain_parts.proofs.Everywhere.{implied, implies, all_from, Decides-all, Decides-numbers, there_gives, Decides-true, also, turned}
 
 -- ---- What is at a place
 

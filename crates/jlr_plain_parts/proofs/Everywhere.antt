@@ -15,7 +15,7 @@ use Rattle.jlr_machine.specs.Edges.{slot_in}
 use Rattle.jlr_laws.proofs.Sets.{in_front, in_rest, all_gives}
 use Rattle.jlr_laws.proofs.Frames.{no_some, some_same, place_within}
 use Rattle.jlr_laws.proofs.Keyed.{by_key, key_found, all_found}
-use Rattle.jlr_plain_images.specs.Places.{none_or, each_number, rising_by, are_same, key_is_apart, keys_are_apart, on_plain, on_reference, on_queue, on_cleanable, on_guard}
+use Rattle.jlr_plain_parts.specs.Places.{none_or, each_number, rising_by, are_same, key_is_apart, keys_are_apart, on_plain, on_reference, on_queue, on_cleanable, on_guard}
 
 -- ---- Bools
 

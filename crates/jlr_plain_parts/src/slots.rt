@@ -5,8 +5,8 @@ ghost use Rattle.jlr_machine.specs.Objects.{at, some_and};
 ghost use Rattle.jlr_machine.specs.declared.object.Object.TheVariants.{Reference as ReferenceObject};
 ghost use Rattle.jlr_machine.specs.Refusals.{is_queue, is_cleanable};
 ghost use Rattle.jlr_machine.specs.WellFormed.{AreSlotsNamed};
-ghost use Rattle.jlr_plain_images.specs.Places.{none_or, on_reference, on_guard};
-ghost use Rattle.jlr_plain_images.specs.Slots.{is_there, fields_there, edges_there, session_there, roots_there, queue_there, cleanable_there, slots_fit};
+ghost use Rattle.jlr_plain_parts.specs.Places.{none_or, on_reference, on_guard};
+ghost use Rattle.jlr_plain_parts.specs.Slots.{is_there, fields_there, edges_there, session_there, roots_there, queue_there, cleanable_there, slots_fit};
 
 use jlr_machine::machine::{Binding, Machine, Session};
 use jlr_machine::object::{Guard, Object, Reference};

@@ -11,7 +11,7 @@ use Rattle.jlr_machine.specs.declared.machine.Session.{Session}
 use Rattle.jlr_machine.specs.Objects.{Heap, at, some_and, queue_ahead}
 use Rattle.jlr_machine.specs.Edges.{slot_in}
 use Rattle.jlr_machine.specs.Refusals.{is_queue, is_cleanable}
-use Rattle.jlr_plain_images.specs.Places.{none_or, on_reference, on_guard}
+use Rattle.jlr_plain_parts.specs.Places.{none_or, on_reference, on_guard}
 
 abbrev pub is_there : Heap → ℕ → Bool
 is_there heap s = is_some (at heap s)

@@ -8,7 +8,7 @@ use Rattle.jlr_machine.specs.declared.machine.Call.{Call}
 use Rattle.jlr_machine.specs.declared.machine.Call.TheVariants.{Free, Opening, Out, Job}
 use Rattle.jlr_machine.specs.Objects.{at, occupied}
 use Rattle.jlr_machine.specs.Lookups.{same_name}
-use Rattle.jlr_plain_images.specs.Places.{none_or}
+use Rattle.jlr_plain_parts.specs.Places.{none_or}
 
 abbrev pub opening_has_room : Session → Call → Bool
 opening_has_room s (Opening rid) = nat_le (occupied s.handles) 249

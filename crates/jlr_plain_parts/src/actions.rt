@@ -4,8 +4,8 @@ ghost use Rattle.std.specs.List.{list_all};
 ghost use Rattle.jlr_machine.specs.Objects.{at, is_armed, is_spent};
 ghost use Rattle.jlr_machine.specs.Lookups.{job_of};
 ghost use Rattle.jlr_machine.specs.WellFormed.{AreActions, is_unspent_place};
-ghost use Rattle.jlr_plain_images.specs.Places.{none_or, on_cleanable, rising_by, are_same, key_is_apart, keys_are_apart};
-ghost use Rattle.jlr_plain_images.specs.Actions.{unspent_action, is_action, acts, all_are_actions, action_of, counts_fit, actions_fit};
+ghost use Rattle.jlr_plain_parts.specs.Places.{none_or, on_cleanable, rising_by, are_same, key_is_apart, keys_are_apart};
+ghost use Rattle.jlr_plain_parts.specs.Actions.{unspent_action, is_action, acts, all_are_actions, action_of, counts_fit, actions_fit};
 
 use jlr_machine::machine::{Job, Machine};
 use jlr_machine::object::{CleanState, Cleanable, Object};

@@ -3,7 +3,7 @@ ghost use Rattle.std.specs.Prelude.{◌≡◌, ◌↔◌, ◌||◌, IsTrue, nat_
 ghost use Rattle.std.specs.List.{list_all};
 ghost use Rattle.jlr_machine.specs.Objects.{at, some_and};
 ghost use Rattle.jlr_machine.specs.WellFormed.{AreReferences};
-ghost use Rattle.jlr_plain_images.specs.References.{fits_own_state, states_fit, is_queued_object, members_fit, queues_fit, members_in, is_disjoint, queue_is_apart, queues_are_apart, references_fit};
+ghost use Rattle.jlr_plain_parts.specs.References.{fits_own_state, states_fit, is_queued_object, members_fit, queues_fit, members_in, is_disjoint, queue_is_apart, queues_are_apart, references_fit};
 
 use jlr_machine::machine::Machine;
 use jlr_machine::object::{Object, RefState, Reference};
