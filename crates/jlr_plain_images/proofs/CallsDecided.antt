@@ -61,9 +61,9 @@ IsInCall m rid state s = (c : CleanableOf) × IsCleanableAt m s c × (c.state �
 pub Decides-in_call : (m : Machine) (rid : ℕ) (state : ResourceState) (s : ℕ) → Decides (some_and (is_in_call m rid state) (cleanable_at m s)) (IsInCall m rid state s)
 Decides-in_call m rid state s = (
   (λ h.
-  let x = there_gives (is_in_call m rid state) (cleanable_at m s) h in
-  let p = and_parts (is_armed x.0.state) (has_resource m rid x.0.action state) x.2 in
-  (x.0, is_cleanable_there (at m.objects s) x.0 x.1, armed_is x.0.state p.0, (Decides-resource m rid x.0.action state).0 p.1)),
+      let x = there_gives (is_in_call m rid state) (cleanable_at m s) h in
+      let p = and_parts (is_armed x.0.state) (has_resource m rid x.0.action state) x.2 in
+      (x.0, is_cleanable_there (at m.objects s) x.0 x.1, armed_is x.0.state p.0, (Decides-resource m rid x.0.action state).0 p.1)),
   (λ w. there_from (is_in_call m rid state) (cleanable_at m s) w.0 (ap (option_and_then as_cleanable) w.1)
       (and_from (is_armed w.0.state) (has_resource m rid w.0.action state) (ap is_armed w.2) ((Decides-resource m rid w.0.action state).1 w.3))),
 )
@@ -82,16 +82,16 @@ Decides-fencing : (m : Machine) (s : Session) (rid : ℕ) (state : ResourceState
 Decides-fencing m s rid state =
     let guards : ℕ → Bool = λ t. some_and (is_guard_in_call m rid state) (at m.objects t) in (
       (λ h.
-      let t = there_gives guards s.fence h in
-      let o = there_gives (is_guard_in_call m rid state) (at m.objects t.0) t.2 in
-      let g = guard_in_call_gives m rid state o.0 o.2 in
-      let c = g.3 in
-      (t.0, g.0, c.0, t.1, o.1 ∙ ap (λ x. Some x) g.1, g.2, c.1, c.2, c.3)),
+          let t = there_gives guards s.fence h in
+          let o = there_gives (is_guard_in_call m rid state) (at m.objects t.0) t.2 in
+          let g = guard_in_call_gives m rid state o.0 o.2 in
+          let c = g.3 in
+          (t.0, g.0, c.0, t.1, o.1 ∙ ap (λ x. Some x) g.1, g.2, c.1, c.2, c.3)),
       (λ (t, g, c, fence, guard, same, there, armed, resource).
-      there_from guards s.fence t fence
-      (there_from (is_guard_in_call m rid state) (at m.objects t) (Guard g) guard
-      (and_from (nat_eq g.rid rid) (some_and (is_in_call m rid state) (cleanable_at m g.cleanable)) (eq-eqb g.rid rid same)
-      ((Decides-in_call m rid state g.cleanable).1 (c, there, armed, resource))))),
+          there_from guards s.fence t fence
+          (there_from (is_guard_in_call m rid state) (at m.objects t) (Guard g) guard
+          (and_from (nat_eq g.rid rid) (some_and (is_in_call m rid state) (cleanable_at m g.cleanable)) (eq-eqb g.rid rid same)
+          ((Decides-in_call m rid state g.cleanable).1 (c, there, armed, resource))))),
     )
 
 abbrev IsJobOf : Machine → ℕ → ℕ → Type 0
@@ -202,13 +202,13 @@ in_one_gives (Some s) (Some t) h =
 Decides-in_one : (m : Machine) (j k : ℕ) → Decides (are_in_one_call (at m.mutators j) (at m.mutators k)) (AreInOneCall m j k)
 Decides-in_one m j k = (
   (λ h.
-  let x = in_one_gives (at m.mutators j) (at m.mutators k) h in
-  (x.0.call, (x.0, x.2, refl), (x.1, x.3, x.4), x.5)),
+      let x = in_one_gives (at m.mutators j) (at m.mutators k) h in
+      (x.0.call, (x.0, x.2, refl), (x.1, x.3, x.4), x.5)),
   (λ (call, (s, at_s, same_s), (t, at_t, same_t), busy).
-  ap (λ o. are_in_one_call o (at m.mutators k)) at_s ∙ ap (are_in_one_call (Some s)) at_t
-  ∙ and_from (not (is_free_call s.call)) (same_call s.call t.call)
-  (not_from_false (is_free_call s.call) (false_from_ne_true (is_free_call s.call) (λ h. busy (sym same_s ∙ free_is s.call h))))
-  ((Decides-same s.call t.call).1 (same_s ∙ sym same_t))),
+      ap (λ o. are_in_one_call o (at m.mutators k)) at_s ∙ ap (are_in_one_call (Some s)) at_t
+      ∙ and_from (not (is_free_call s.call)) (same_call s.call t.call)
+      (not_from_false (is_free_call s.call) (false_from_ne_true (is_free_call s.call) (λ h. busy (sym same_s ∙ free_is s.call h))))
+      ((Decides-same s.call t.call).1 (same_s ∙ sym same_t))),
 )
 
 abbrev OneCall : Machine → Type 0

@@ -50,9 +50,9 @@ HasCleanable m rid action = (s : ℕ) × (c : CleanableOf) × IsUnspent m s c ×
 Decides-worker : (m : Machine) (rid action : ℕ) → Decides (list_any (some_and (is_worker rid action)) m.objects) (HasCleanable m rid action)
 Decides-worker m rid action = (
   (λ h.
-  let x = some_place_gives (is_worker rid action) m.objects h in
-  let w = worker_gives rid action x.1 x.3 in
-  (x.0, w.0, record { there = x.2 ∙ ap (λ o. Some o) w.1; unspent = w.2 }, w.3, w.4)),
+      let x = some_place_gives (is_worker rid action) m.objects h in
+      let w = worker_gives rid action x.1 x.3 in
+      (x.0, w.0, record { there = x.2 ∙ ap (λ o. Some o) w.1; unspent = w.2 }, w.3, w.4)),
   (λ w. some_place_from (is_worker rid action) m.objects w.0 (Cleanable w.1) w.2.there (worker_from rid action w.1 w.2.unspent w.3 w.4)),
 )
 
@@ -65,8 +65,8 @@ own_job m action job e = ap (job_of m) (key_found (λ job. job.action) m.jobs ac
 Decides-closing_job : (m : Machine) (rid action : ℕ) → Decides (some_and (λ job. is_work_on rid job.work) (job_of m action)) (HasClosingJob m rid action)
 Decides-closing_job m rid action = (
   (λ h.
-  let x = there_gives (λ job. is_work_on rid job.work) (job_of m action) h in
-  (x.0, own_job m action x.0 x.1, key_found (λ job. job.action) m.jobs action x.0 x.1, (Decides-work rid x.0.work).0 x.2)),
+      let x = there_gives (λ job. is_work_on rid job.work) (job_of m action) h in
+      (x.0, own_job m action x.0 x.1, key_found (λ job. job.action) m.jobs action x.0 x.1, (Decides-work rid x.0.work).0 x.2)),
   (λ w. there_from (λ job. is_work_on rid job.work) (job_of m action) w.0 (ap (job_of m) (sym w.2) ∙ w.1) ((Decides-work rid w.0.work).1 w.3)),
 )
 
@@ -180,7 +180,7 @@ Owns m s g c = (c.state ≡ Spent) ⊎ IsOwnGuard m s g c
 Decides-own : (m : Machine) (s : ℕ) (g : GuardOf) (c : CleanableOf) → Decides (is_own s g c) (Owns m s g c)
 Decides-own m s g c =
     let own : Decides (is_armed c.state && some_and (nat_eq s) c.referent && is_work_on g.rid c.work) (((c.state ≡ Armed) × (c.referent ≡ Some s)) × (c.work ≡ WorkOn g.rid)) =
-        also (also (armed_is c.state, λ e. ap is_armed e) (Decides-referent s c.referent)) (Decides-work g.rid c.work) in (
+    also (also (armed_is c.state, λ e. ap is_armed e) (Decides-referent s c.referent)) (Decides-work g.rid c.work) in (
       (λ h. elim (or_cases (is_spent c.state) (is_armed c.state && some_and (nat_eq s) c.referent && is_work_on g.rid c.work) h) [
         | inl e ↦ inl (spent_is c.state e)
         | inr o ↦ let p = own.0 o in inr (record { armed = p.0.0; referent = p.0.1; work = p.1 })
@@ -198,7 +198,7 @@ Decides-guards_own : (m : Machine) → Decides (all_guards_own m) (AllOwn m)
 Decides-guards_own m =
     let owning = λ (s : ℕ) (g : GuardOf). Decides-any (is_own s g) (Owns m s g) (cleanable_at m g.cleanable) (Decides-own m s g) in
     let all = Decides-slots (λ s. on_guard (owns m s)) (λ s o. (g : GuardOf) → o ≡ Guard g → (c : CleanableOf) → cleanable_at m g.cleanable ≡ Some c → Owns m s g c) m.objects
-        (λ s o. Decides-on_guard (owns m s) (λ g. (c : CleanableOf) → cleanable_at m g.cleanable ≡ Some c → Owns m s g c) o (owning s)) in
+    (λ s o. Decides-on_guard (owns m s) (λ g. (c : CleanableOf) → cleanable_at m g.cleanable ≡ Some c → Owns m s g c) o (owning s)) in
     turned all
     (λ w s g c e f. w s (Guard g) e g refl c (ap (option_and_then as_cleanable) f))
     (λ w s o e g k c f. w s g c (e ∙ ap (λ x. Some x) k) (is_cleanable_there (at m.objects g.cleanable) c f))
@@ -217,9 +217,9 @@ HasGuard m s = (t : ℕ) × (g : GuardOf) × IsGuardAt m t g × (g.cleanable ≡
 Decides-guard_of : (m : Machine) (s : ℕ) → Decides (list_any (some_and (is_guard_of s)) m.objects) (HasGuard m s)
 Decides-guard_of m s = (
   (λ h.
-  let x = some_place_gives (is_guard_of s) m.objects h in
-  let g = guard_of_gives s x.1 x.3 in
-  (x.0, g.0, x.2 ∙ ap (λ o. Some o) g.1, g.2)),
+      let x = some_place_gives (is_guard_of s) m.objects h in
+      let g = guard_of_gives s x.1 x.3 in
+      (x.0, g.0, x.2 ∙ ap (λ o. Some o) g.1, g.2)),
   (λ w. some_place_from (is_guard_of s) m.objects w.0 (Guard w.1) w.2 (eq-eqb w.1.cleanable s w.3)),
 )
 

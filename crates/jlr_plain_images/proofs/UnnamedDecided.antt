@@ -49,12 +49,12 @@ Decides-public m s =
 pub private_decided : (m : Machine) → IsTrue (private_fit m) ↔ ArePrivate m
 private_decided m =
     let handles = Decides-places (handles_public m) (λ (session : Session). (h s : ℕ) → at session.handles h ≡ Some s → IsPublic m s) m.mutators
-        (λ session. Decides-places (is_public m) (IsPublic m) session.handles (Decides-public m)) in
+    (λ session. Decides-places (is_public m) (IsPublic m) session.handles (Decides-public m)) in
     let names = Decides-bound (is_public m) (IsPublic m) m.names (Decides-public m) in
     let fields = Decides-plain (fields_public m) (λ fields. (s : ℕ) → s ∈ filter_map slot_in fields → IsPublic m s) m.objects
-        (λ fields. Decides-fields (is_public m) (IsPublic m) fields (Decides-public m)) in
+    (λ fields. Decides-fields (is_public m) (IsPublic m) fields (Decides-public m)) in
     let references = Decides-references (referent_public m) (λ r. (s : ℕ) → r.referent ≡ Some s → IsPublic m s) m.objects
-        (λ r. Decides-any (is_public m) (IsPublic m) r.referent (Decides-public m)) in
+    (λ r. Decides-any (is_public m) (IsPublic m) r.referent (Decides-public m)) in
     turned (also (also (also handles names) fields) references)
     (λ p. record {
       handles = λ k h s session e f. p.0.0.0 k session e h s f;

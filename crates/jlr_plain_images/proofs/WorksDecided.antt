@@ -86,8 +86,8 @@ found_resource m rid r action state e f g =
 pub Decides-resource : (m : Machine) (rid action : ℕ) (state : ResourceState) → Decides (has_resource m rid action state) (HasResource m rid action state)
 Decides-resource m rid action state = (
   (λ h.
-  let x = there_gives (fits_resource action state) (resource_at m rid) h in
-  let p = and_parts (nat_eq x.0.action action) (is_state state x.0.state) x.2 in
-  found_resource m rid x.0 action state x.1 (eqb-true x.0.action action p.0) (state_is state x.0.state p.1)),
+      let x = there_gives (fits_resource action state) (resource_at m rid) h in
+      let p = and_parts (nat_eq x.0.action action) (is_state state x.0.state) x.2 in
+      found_resource m rid x.0 action state x.1 (eqb-true x.0.action action p.0) (state_is state x.0.state p.1)),
   (λ e. ap (some_and (fits_resource action state)) e ∙ and_from (nat_eq action action) (is_state state state) (eq-eqb action action refl) (own_state state)),
 )

@@ -104,9 +104,7 @@ fn fits_its_call(machine: &Machine, mutator: usize, session: &Session) -> bool
         Call::Free => session.fence.is_none(),
         Call::Opening(rid) => fences(machine, session, rid, ResourceState::Opening),
         Call::Out(rid) => fences(machine, session, rid, ResourceState::Out),
-        Call::Job(action) => {
-            session.fence.is_none() && job_of_mutator(machine, action, mutator)
-        }
+        Call::Job(action) => { session.fence.is_none() && job_of_mutator(machine, action, mutator) }
     }
 }
 
@@ -193,7 +191,8 @@ fn in_one_call_at(machine: &Machine, left: usize, right: usize) -> bool
 fn calls_alone(machine: &Machine, mutator: usize) -> bool
     ensures { result ≡ call_is_apart machine.now mutator }
 {
-    (0..machine.mutators.len()).all(|other| mutator == other || !in_one_call_at(machine, mutator, other))
+    (0..machine.mutators.len()).all(|other| mutator == other
+        || !in_one_call_at(machine, mutator, other))
 }
 
 fn all_call_alone(machine: &Machine) -> bool

@@ -4,5 +4,7 @@
 pub mod calls;
 pub mod image;
 pub mod resources;
+#[cfg(test)]
+mod tests;
 pub mod unnamed;
 mod works;

@@ -170,7 +170,8 @@ fn guards_alone(machine: &Machine, slot: usize) -> bool
     ensures { result ≡ key_is_apart guarded_slot machine.now.objects slot }
 {
     let cleanable = guarded_at(machine, slot);
-    (0..machine.objects.len()).all(|other| slot == other || !same_slot(cleanable, guarded_at(machine, other)))
+    (0..machine.objects.len()).all(|other| slot == other
+        || !same_slot(cleanable, guarded_at(machine, other)))
 }
 
 fn all_guard_alone(machine: &Machine) -> bool

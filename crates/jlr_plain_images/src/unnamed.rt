@@ -62,7 +62,9 @@ fn sessions_name_public(machine: &Machine) -> bool
 fn names_are_public(machine: &Machine, names: &[Binding]) -> bool
     ensures { result ≡ list_all (λ b. is_public machine.now b.slot) names.now }
 {
-    names.iter().all(|binding| may_be_named(machine, binding.slot))
+    names
+        .iter()
+        .all(|binding| may_be_named(machine, binding.slot))
 }
 
 fn fields_are_public(machine: &Machine, fields: &[FieldValue]) -> bool

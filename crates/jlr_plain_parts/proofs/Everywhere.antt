@@ -230,19 +230,19 @@ pub Decides-apart : (key : Option Object → Option ℕ) (heap : Heap) → key N
 Decides-apart key heap n =
     let test : ℕ → ℕ → Bool = λ s t. nat_eq s t || not (are_same (key (at heap s)) (key (at heap t))) in (
       (λ h s t a e f.
-      let one = (Decides-numbers (length heap) (key_is_apart key heap)).0 h s (key_within key heap s a n e) in
-      let two = (Decides-numbers (length heap) (test s)).0 one t (key_within key heap t a n f) in
-      elim (or_cases (nat_eq s t) (not (are_same (key (at heap s)) (key (at heap t)))) two) [
-        | inl same ↦ eqb-true s t same
-        | inr other ↦ absurd (both_ways (are_same (key (at heap s)) (key (at heap t))) (not-true (are_same (key (at heap s)) (key (at heap t))) other) (same_from (key (at heap s)) (key (at heap t)) a e f))
-      ]),
+          let one = (Decides-numbers (length heap) (key_is_apart key heap)).0 h s (key_within key heap s a n e) in
+          let two = (Decides-numbers (length heap) (test s)).0 one t (key_within key heap t a n f) in
+          elim (or_cases (nat_eq s t) (not (are_same (key (at heap s)) (key (at heap t)))) two) [
+            | inl same ↦ eqb-true s t same
+            | inr other ↦ absurd (both_ways (are_same (key (at heap s)) (key (at heap t))) (not-true (are_same (key (at heap s)) (key (at heap t))) other) (same_from (key (at heap s)) (key (at heap t)) a e f))
+          ]),
       (λ w. (Decides-numbers (length heap) (key_is_apart key heap)).1 (λ s _. (Decides-numbers (length heap) (test s)).1 (λ t _.
-      elim (cases_eq s t) [
-        | inl same ↦ or_left (nat_eq s t) (not (are_same (key (at heap s)) (key (at heap t)))) (eq-eqb s t same)
-        | inr other ↦ or_right (nat_eq s t) (not (are_same (key (at heap s)) (key (at heap t))))
-            (not_from_false (are_same (key (at heap s)) (key (at heap t))) (false_from_ne_true (are_same (key (at heap s)) (key (at heap t)))
-            (λ h. let g = same_given (key (at heap s)) (key (at heap t)) h in other (w s t g.0 g.1 g.2))))
-      ]))),
+          elim (cases_eq s t) [
+            | inl same ↦ or_left (nat_eq s t) (not (are_same (key (at heap s)) (key (at heap t)))) (eq-eqb s t same)
+            | inr other ↦ or_right (nat_eq s t) (not (are_same (key (at heap s)) (key (at heap t))))
+                (not_from_false (are_same (key (at heap s)) (key (at heap t))) (false_from_ne_true (are_same (key (at heap s)) (key (at heap t)))
+                (λ h. let g = same_given (key (at heap s)) (key (at heap t)) h in other (w s t g.0 g.1 g.2))))
+          ]))),
     )
 
 -- ---- What is found by a key

@@ -14,7 +14,7 @@ use Rattle.jlr_machine.specs.Objects.{Heap, at, some_and, ◌∋◌, ◌∈◌, 
 use Rattle.jlr_machine.specs.WellFormed.{AreLists, state_at, clean_state_at}
 use Rattle.jlr_laws.proofs.Frames.{no_some, some_same, place_within}
 use Rattle.jlr_plain_parts.specs.Places.{each_number}
-use Rattle.jlr_plain_parts.specs.Lists.{is_pending, is_pending_clean, is_waiting, may_wait, is_lining, may_line, all_waiting_pend, all_lining_line_up, pending_may_wait, line_may_line, lists_fit}
+use Rattle.jlr_plain_parts.specs.Lists.{is_pending, is_pending_clean, must_pend, may_pend, must_line_up, may_line_up, all_pend, all_line_up, pending_may_pend, line_may_line_up, lists_fit}
 use Rattle.jlr_plain_parts.proofs.States.{pending_is, unfresh_is, pending_clean_is, lined_is, spent_is}
 use Rattle.jlr_plain_parts.proofs.Everywhere.{implied, implies, all_from, Decides-all, Decides-numbers, there_gives, Decides-true, also, turned}
 
@@ -26,14 +26,14 @@ state_of o = option_and_then (λ r. Some r.state) (option_and_then as_reference 
 abbrev clean_state_of : Option Object → Option CleanState
 clean_state_of o = option_and_then (λ c. Some c.state) (option_and_then as_cleanable o)
 
-abbrev IsWaiting : Option Object → Type 0
-IsWaiting o = (state_of o ≡ Some Pending) ⊎ (clean_state_of o ≡ Some PendingClean)
+abbrev MustPend : Option Object → Type 0
+MustPend o = (state_of o ≡ Some Pending) ⊎ (clean_state_of o ≡ Some PendingClean)
 
-abbrev MayWait : Option Object → Type 0
-MayWait o = (state_of o ≡ Some Pending) ⊎ (state_of o ≡ Some Queued) ⊎ (state_of o ≡ Some Removed) ⊎ (clean_state_of o ≡ Some PendingClean) ⊎ (clean_state_of o ≡ Some Spent)
+abbrev MayPend : Option Object → Type 0
+MayPend o = (state_of o ≡ Some Pending) ⊎ (state_of o ≡ Some Queued) ⊎ (state_of o ≡ Some Removed) ⊎ (clean_state_of o ≡ Some PendingClean) ⊎ (clean_state_of o ≡ Some Spent)
 
-abbrev MayLine : Option Object → Type 0
-MayLine o = (clean_state_of o ≡ Some Lined) ⊎ (clean_state_of o ≡ Some Spent)
+abbrev MayLineUp : Option Object → Type 0
+MayLineUp o = (clean_state_of o ≡ Some Lined) ⊎ (clean_state_of o ≡ Some Spent)
 
 none_state : {P : Type 0} (s : RefState) → ◌≡◌ {A = Option RefState} None (Some s) → P
 none_state s e = no_some s e
@@ -41,11 +41,11 @@ none_state s e = no_some s e
 none_clean : {P : Type 0} (s : CleanState) → ◌≡◌ {A = Option CleanState} None (Some s) → P
 none_clean s e = no_some s e
 
-neither : {P : Type 0} → IsWaiting None → P
+neither : {P : Type 0} → MustPend None → P
 neither (inl e) = no_some Pending e
 neither (inr e) = no_some PendingClean e
 
-Decides-waiting : (o : Option Object) → Decides (some_and is_waiting o) (IsWaiting o)
+Decides-waiting : (o : Option Object) → Decides (some_and must_pend o) (MustPend o)
 Decides-waiting None = ((λ h. absurd (both_ways false refl h)), (λ p. neither p))
 Decides-waiting (Some (Reference r)) = (
   (λ h. inl (ap (λ s. Some s) (pending_is r.state h))),
@@ -57,16 +57,16 @@ Decides-waiting (Some (Cleanable c)) = (
 )
 Decides-waiting (Some _) = ((λ h. absurd (both_ways false refl h)), (λ p. neither p))
 
-no_wait : {P : Type 0} → MayWait None → P
+no_wait : {P : Type 0} → MayPend None → P
 no_wait (inl e) = no_some Pending e
 no_wait (inr (inl e)) = no_some Queued e
 no_wait (inr (inr (inl e))) = no_some Removed e
 no_wait (inr (inr (inr (inl e)))) = no_some PendingClean e
 no_wait (inr (inr (inr (inr e)))) = no_some Spent e
 
-Decides-may_wait : (o : Option Object) → Decides (some_and may_wait o) (MayWait o)
-Decides-may_wait None = ((λ h. absurd (both_ways false refl h)), (λ p. no_wait p))
-Decides-may_wait (Some (Reference r)) = (
+Decides-may_pend : (o : Option Object) → Decides (some_and may_pend o) (MayPend o)
+Decides-may_pend None = ((λ h. absurd (both_ways false refl h)), (λ p. no_wait p))
+Decides-may_pend (Some (Reference r)) = (
   (λ h. elim (unfresh_is r.state h) [
     | inl e ↦ inl (ap (λ s. Some s) e)
     | inr (inl e) ↦ inr (inl (ap (λ s. Some s) e))
@@ -80,7 +80,7 @@ Decides-may_wait (Some (Reference r)) = (
     | inr (inr (inr (inr e))) ↦ no_some Spent e
   ]),
 )
-Decides-may_wait (Some (Cleanable c)) = (
+Decides-may_pend (Some (Cleanable c)) = (
   (λ h. elim (or_cases (is_pending_clean c.state) (is_spent c.state) h) [
     | inl e ↦ inr (inr (inr (inl (ap (λ s. Some s) (pending_clean_is c.state e)))))
     | inr e ↦ inr (inr (inr (inr (ap (λ s. Some s) (spent_is c.state e)))))
@@ -93,9 +93,9 @@ Decides-may_wait (Some (Cleanable c)) = (
     | inr (inr (inr (inr e))) ↦ ap (λ s. is_pending_clean s || is_spent s) (some_same c.state Spent e)
   ]),
 )
-Decides-may_wait (Some _) = ((λ h. absurd (both_ways false refl h)), (λ p. no_wait p))
+Decides-may_pend (Some _) = ((λ h. absurd (both_ways false refl h)), (λ p. no_wait p))
 
-Decides-lining : (o : Option Object) → Decides (some_and is_lining o) (clean_state_of o ≡ Some Lined)
+Decides-lining : (o : Option Object) → Decides (some_and must_line_up o) (clean_state_of o ≡ Some Lined)
 Decides-lining None = ((λ h. absurd (both_ways false refl h)), (λ e. no_some Lined e))
 Decides-lining (Some (Cleanable c)) = (
   (λ h. ap (λ s. Some s) (lined_is c.state h)),
@@ -103,13 +103,13 @@ Decides-lining (Some (Cleanable c)) = (
 )
 Decides-lining (Some _) = ((λ h. absurd (both_ways false refl h)), (λ e. no_some Lined e))
 
-no_line : {P : Type 0} → MayLine None → P
+no_line : {P : Type 0} → MayLineUp None → P
 no_line (inl e) = no_some Lined e
 no_line (inr e) = no_some Spent e
 
-Decides-may_line : (o : Option Object) → Decides (some_and may_line o) (MayLine o)
-Decides-may_line None = ((λ h. absurd (both_ways false refl h)), (λ p. no_line p))
-Decides-may_line (Some (Cleanable c)) = (
+Decides-may_line_up : (o : Option Object) → Decides (some_and may_line_up o) (MayLineUp o)
+Decides-may_line_up None = ((λ h. absurd (both_ways false refl h)), (λ p. no_line p))
+Decides-may_line_up (Some (Cleanable c)) = (
   (λ h. elim (or_cases (is_lined c.state) (is_spent c.state) h) [
     | inl e ↦ inl (ap (λ s. Some s) (lined_is c.state e))
     | inr e ↦ inr (ap (λ s. Some s) (spent_is c.state e))
@@ -119,7 +119,7 @@ Decides-may_line (Some (Cleanable c)) = (
     | inr e ↦ ap (λ s. is_lined s || is_spent s) (some_same c.state Spent e)
   ]),
 )
-Decides-may_line (Some _) = ((λ h. absurd (both_ways false refl h)), (λ p. no_line p))
+Decides-may_line_up (Some _) = ((λ h. absurd (both_ways false refl h)), (λ p. no_line p))
 
 -- ---- All that has to wait does
 
@@ -133,10 +133,10 @@ all_listed test P heap slots d = turned (Decides-numbers (length heap) (λ s. no
 
 pub lists_decided : (m : Machine) → IsTrue (lists_fit m) ↔ AreLists m
 lists_decided m =
-    let waiting = all_listed is_waiting IsWaiting m.objects m.pending Decides-waiting in
-    let lining = all_listed is_lining (λ o. clean_state_of o ≡ Some Lined) m.objects m.line Decides-lining in
-    let pending = Decides-all (λ s. some_and may_wait (at m.objects s)) (λ s. MayWait (at m.objects s)) m.pending (λ s. Decides-may_wait (at m.objects s)) in
-    let line = Decides-all (λ s. some_and may_line (at m.objects s)) (λ s. MayLine (at m.objects s)) m.line (λ s. Decides-may_line (at m.objects s)) in
+    let waiting = all_listed must_pend MustPend m.objects m.pending Decides-waiting in
+    let lining = all_listed must_line_up (λ o. clean_state_of o ≡ Some Lined) m.objects m.line Decides-lining in
+    let pending = Decides-all (λ s. some_and may_pend (at m.objects s)) (λ s. MayPend (at m.objects s)) m.pending (λ s. Decides-may_pend (at m.objects s)) in
+    let line = Decides-all (λ s. some_and may_line_up (at m.objects s)) (λ s. MayLineUp (at m.objects s)) m.line (λ s. Decides-may_line_up (at m.objects s)) in
     turned (also (also (also (also (also (Decides-true (is_distinct m.pending)) (Decides-true (is_distinct m.line))) waiting) pending) lining) line)
     (λ p. record {
       pending_once = p.0.0.0.0.0;

@@ -84,7 +84,7 @@ pub references_decided : (m : Machine) → IsTrue (references_fit m) ↔ AreRefe
 references_decided m =
     let states = Decides-references fits_own_state (λ r. FitsItsState r r.state) m.objects (λ r. Decides-state r r.state) in
     let queues = Decides-queues (members_fit m.objects) (λ members. ((s : ℕ) → s ∈ members → IsQueued (at m.objects s)) × IsTrue (is_distinct members)) m.objects
-        (λ members. also (Decides-all (λ s. some_and is_queued_object (at m.objects s)) (λ s. IsQueued (at m.objects s)) members (λ s. Decides-queued (at m.objects s))) (Decides-true (is_distinct members))) in
+    (λ members. also (Decides-all (λ s. some_and is_queued_object (at m.objects s)) (λ s. IsQueued (at m.objects s)) members (λ s. Decides-queued (at m.objects s))) (Decides-true (is_distinct members))) in
     turned (also (also states queues) (apart_gives m.objects, apart_from m.objects))
     (λ p. record {
       states = p.0.0;

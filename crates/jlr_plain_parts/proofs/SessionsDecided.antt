@@ -34,7 +34,7 @@ Decides-names (b ∷ names) = also (new_name b.name names) (Decides-names names)
 pub sessions_decided : (m : Machine) → IsTrue (sessions_fit m) ↔ AreSessions m
 sessions_decided m =
     let places = Decides-places session_fits (λ s. (((length s.handles ≡ 251) × (at s.handles 0 ≡ None)) × OpeningHasRoom s s.call)) m.mutators
-        (λ s. also (also (Decides-equal (length s.handles) 251) (Decides-none (at s.handles 0))) (Decides-opening s s.call)) in
+    (λ s. also (also (Decides-equal (length s.handles) 251) (Decides-none (at s.handles 0))) (Decides-opening s s.call)) in
     turned (also (also places (Decides-names m.names)) (Decides-most (length m.names) 256))
     (λ p. record {
       places = λ k s e. (p.0.0 k s e).0;

@@ -133,7 +133,7 @@ pub slots_decided : (m : Machine) → IsTrue (slots_fit m) ↔ AreSlotsNamed m
 slots_decided m =
     let leads = Decides-places (edges_there m.objects) (Leads m.objects) m.objects (Decides-leads m.objects) in
     let queues = Decides-references (queue_there m.objects) (λ r. (q : ℕ) → r.queue ≡ Some q → (members : List ℕ) × IsQueueAt m q members) m.objects
-        (λ r. Decides-any (λ q. some_and is_queue (at m.objects q)) (λ q. (members : List ℕ) × IsQueueAt m q members) r.queue (λ q. Decides-queue (at m.objects q))) in
+    (λ r. Decides-any (λ q. some_and is_queue (at m.objects q)) (λ q. (members : List ℕ) × IsQueueAt m q members) r.queue (λ q. Decides-queue (at m.objects q))) in
     let guards = Decides-guards (cleanable_there m.objects) (λ g. (c : CleanableOf) × IsCleanableAt m g.cleanable c) m.objects (λ g. Decides-cleanable (at m.objects g.cleanable)) in
     turned (also (also (also leads (Decides-roots m)) queues) guards)
     (λ p. record {

@@ -24,36 +24,36 @@ is_pending_clean Lined = false
 is_pending_clean Spent = false
 
 -- an object that has to be in the pending list, and one that may be
-abbrev pub is_waiting : Object → Bool
-is_waiting (Reference r) = is_pending r.state
-is_waiting (Cleanable c) = is_pending_clean c.state
-is_waiting _ = false
+abbrev pub must_pend : Object → Bool
+must_pend (Reference r) = is_pending r.state
+must_pend (Cleanable c) = is_pending_clean c.state
+must_pend _ = false
 
-abbrev pub may_wait : Object → Bool
-may_wait (Reference r) = not (is_fresh r.state)
-may_wait (Cleanable c) = is_pending_clean c.state || is_spent c.state
-may_wait _ = false
+abbrev pub may_pend : Object → Bool
+may_pend (Reference r) = not (is_fresh r.state)
+may_pend (Cleanable c) = is_pending_clean c.state || is_spent c.state
+may_pend _ = false
 
 -- an object that has to be in the line, and one that may be
-abbrev pub is_lining : Object → Bool
-is_lining (Cleanable c) = is_lined c.state
-is_lining _ = false
+abbrev pub must_line_up : Object → Bool
+must_line_up (Cleanable c) = is_lined c.state
+must_line_up _ = false
 
-abbrev pub may_line : Object → Bool
-may_line (Cleanable c) = is_lined c.state || is_spent c.state
-may_line _ = false
+abbrev pub may_line_up : Object → Bool
+may_line_up (Cleanable c) = is_lined c.state || is_spent c.state
+may_line_up _ = false
 
-abbrev pub all_waiting_pend : Machine → Bool
-all_waiting_pend m = each_number (length m.objects) (λ s. not (some_and is_waiting (at m.objects s)) || (m.pending ∋ s))
+abbrev pub all_pend : Machine → Bool
+all_pend m = each_number (length m.objects) (λ s. not (some_and must_pend (at m.objects s)) || (m.pending ∋ s))
 
-abbrev pub all_lining_line_up : Machine → Bool
-all_lining_line_up m = each_number (length m.objects) (λ s. not (some_and is_lining (at m.objects s)) || (m.line ∋ s))
+abbrev pub all_line_up : Machine → Bool
+all_line_up m = each_number (length m.objects) (λ s. not (some_and must_line_up (at m.objects s)) || (m.line ∋ s))
 
-abbrev pub pending_may_wait : Machine → Bool
-pending_may_wait m = list_all (λ s. some_and may_wait (at m.objects s)) m.pending
+abbrev pub pending_may_pend : Machine → Bool
+pending_may_pend m = list_all (λ s. some_and may_pend (at m.objects s)) m.pending
 
-abbrev pub line_may_line : Machine → Bool
-line_may_line m = list_all (λ s. some_and may_line (at m.objects s)) m.line
+abbrev pub line_may_line_up : Machine → Bool
+line_may_line_up m = list_all (λ s. some_and may_line_up (at m.objects s)) m.line
 
 abbrev pub lists_fit : Machine → Bool
-lists_fit m = is_distinct m.pending && is_distinct m.line && all_waiting_pend m && pending_may_wait m && all_lining_line_up m && line_may_line m
+lists_fit m = is_distinct m.pending && is_distinct m.line && all_pend m && pending_may_pend m && all_line_up m && line_may_line_up m

@@ -17,9 +17,6 @@ none_or test (Some x) = test x
 abbrev pub each_number : ℕ → (ℕ → Bool) → Bool
 each_number n test = list_all test (range_with_len 0 n)
 
-abbrev pub some_number : ℕ → (ℕ → Bool) → Bool
-some_number n test = list_any test (range_with_len 0 n)
-
 -- the test passes if the object is of this kind
 abbrev pub on_plain : (List FieldValue → Bool) → Object → Bool
 on_plain test (Plain fields) = test fields

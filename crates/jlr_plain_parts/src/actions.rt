@@ -44,7 +44,8 @@ fn acts_alone(machine: &Machine, slot: usize) -> bool
     ensures { result ≡ key_is_apart unspent_action machine.now.objects slot }
 {
     let action = unspent_at(machine, slot);
-    (0..machine.objects.len()).all(|other| slot == other || !same_action(action, unspent_at(machine, other)))
+    (0..machine.objects.len()).all(|other| slot == other
+        || !same_action(action, unspent_at(machine, other)))
 }
 
 fn cleanables_act_alone(machine: &Machine) -> bool

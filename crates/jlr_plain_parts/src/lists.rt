@@ -2,7 +2,7 @@
 ghost use Rattle.std.specs.Prelude.{◌≡◌, ◌↔◌, IsTrue};
 ghost use Rattle.jlr_machine.specs.Objects.{at, some_and};
 ghost use Rattle.jlr_machine.specs.WellFormed.{AreLists};
-ghost use Rattle.jlr_plain_parts.specs.Lists.{is_waiting, may_wait, is_lining, may_line, all_waiting_pend, all_lining_line_up, pending_may_wait, line_may_line, lists_fit};
+ghost use Rattle.jlr_plain_parts.specs.Lists.{must_pend, may_pend, must_line_up, may_line_up, all_pend, all_line_up, pending_may_pend, line_may_line_up, lists_fit};
 
 use jlr_machine::machine::Machine;
 use jlr_machine::object::{CleanState, Object, RefState};
@@ -11,8 +11,8 @@ use jlr_plain_collections::collection::{distinct, has_number};
 use jlr_types::Slot;
 
 /// Whether it has to be in the pending list.
-fn waits(object: &Object) -> bool
-    ensures { result ≡ is_waiting object.now }
+fn has_to_pend(object: &Object) -> bool
+    ensures { result ≡ must_pend object.now }
 {
     match object {
         Object::Reference(r) => matches!(r.state, RefState::Pending),
@@ -22,8 +22,8 @@ fn waits(object: &Object) -> bool
 }
 
 /// Whether it may be in the pending list.
-fn may_be_pending(object: &Object) -> bool
-    ensures { result ≡ may_wait object.now }
+fn can_pend(object: &Object) -> bool
+    ensures { result ≡ may_pend object.now }
 {
     match object {
         Object::Reference(r) => !matches!(r.state, RefState::Fresh),
@@ -33,8 +33,8 @@ fn may_be_pending(object: &Object) -> bool
 }
 
 /// Whether it has to be in the line.
-fn lines_up(object: &Object) -> bool
-    ensures { result ≡ is_lining object.now }
+fn has_to_line_up(object: &Object) -> bool
+    ensures { result ≡ must_line_up object.now }
 {
     match object {
         Object::Cleanable(c) => matches!(c.state, CleanState::Lined),
@@ -43,8 +43,8 @@ fn lines_up(object: &Object) -> bool
 }
 
 /// Whether it may be in the line.
-fn may_be_lined(object: &Object) -> bool
-    ensures { result ≡ may_line object.now }
+fn can_line_up(object: &Object) -> bool
+    ensures { result ≡ may_line_up object.now }
 {
     match object {
         Object::Cleanable(c) => matches!(c.state, CleanState::Lined | CleanState::Spent),
@@ -52,56 +52,62 @@ fn may_be_lined(object: &Object) -> bool
     }
 }
 
-fn waiting_at(machine: &Machine, slot: usize) -> bool
-    ensures { result ≡ some_and is_waiting (at machine.now.objects slot) }
+fn must_pend_at(machine: &Machine, slot: usize) -> bool
+    ensures { result ≡ some_and must_pend (at machine.now.objects slot) }
 {
-    machine.objects.get(slot).is_some_and(|object| waits(object))
+    machine
+        .objects
+        .get(slot)
+        .is_some_and(|object| has_to_pend(object))
 }
 
-fn lining_at(machine: &Machine, slot: usize) -> bool
-    ensures { result ≡ some_and is_lining (at machine.now.objects slot) }
+fn must_line_up_at(machine: &Machine, slot: usize) -> bool
+    ensures { result ≡ some_and must_line_up (at machine.now.objects slot) }
 {
-    machine.objects.get(slot).is_some_and(|object| lines_up(object))
+    machine
+        .objects
+        .get(slot)
+        .is_some_and(|object| has_to_line_up(object))
 }
 
-fn may_wait_at(machine: &Machine, slot: Slot) -> bool
-    ensures { result ≡ some_and may_wait (at machine.now.objects slot) }
+fn may_pend_at(machine: &Machine, slot: Slot) -> bool
+    ensures { result ≡ some_and may_pend (at machine.now.objects slot) }
 {
-    object_at(machine, slot).is_some_and(|object| may_be_pending(object))
+    object_at(machine, slot).is_some_and(|object| can_pend(object))
 }
 
-fn may_line_at(machine: &Machine, slot: Slot) -> bool
-    ensures { result ≡ some_and may_line (at machine.now.objects slot) }
+fn may_line_up_at(machine: &Machine, slot: Slot) -> bool
+    ensures { result ≡ some_and may_line_up (at machine.now.objects slot) }
 {
-    object_at(machine, slot).is_some_and(|object| may_be_lined(object))
+    object_at(machine, slot).is_some_and(|object| can_line_up(object))
 }
 
-fn waiting_are_pending(machine: &Machine) -> bool
-    ensures { result ≡ all_waiting_pend machine.now }
+fn all_are_pending(machine: &Machine) -> bool
+    ensures { result ≡ all_pend machine.now }
 {
     let pending = machine.pending.as_slice();
-    (0..machine.objects.len()).all(|slot| !waiting_at(machine, slot) || has_number(pending, slot))
+    (0..machine.objects.len()).all(|slot| !must_pend_at(machine, slot) || has_number(pending, slot))
 }
 
-fn lining_are_lined(machine: &Machine) -> bool
-    ensures { result ≡ all_lining_line_up machine.now }
+fn all_are_lined(machine: &Machine) -> bool
+    ensures { result ≡ all_line_up machine.now }
 {
     let line = machine.line.as_slice();
-    (0..machine.objects.len()).all(|slot| !lining_at(machine, slot) || has_number(line, slot))
+    (0..machine.objects.len()).all(|slot| !must_line_up_at(machine, slot) || has_number(line, slot))
 }
 
-fn pending_are_waiting(machine: &Machine) -> bool
-    ensures { result ≡ pending_may_wait machine.now }
+fn pending_belong(machine: &Machine) -> bool
+    ensures { result ≡ pending_may_pend machine.now }
 {
     let mut pending = machine.pending.as_slice().iter();
-    pending.all(|&slot| may_wait_at(machine, slot))
+    pending.all(|&slot| may_pend_at(machine, slot))
 }
 
-fn line_is_lining(machine: &Machine) -> bool
-    ensures { result ≡ line_may_line machine.now }
+fn line_belongs(machine: &Machine) -> bool
+    ensures { result ≡ line_may_line_up machine.now }
 {
     let mut line = machine.line.as_slice().iter();
-    line.all(|&slot| may_line_at(machine, slot))
+    line.all(|&slot| may_line_up_at(machine, slot))
 }
 
 fn lists_tested(machine: &Machine) -> bool
@@ -109,10 +115,10 @@ fn lists_tested(machine: &Machine) -> bool
 {
     distinct(machine.pending.as_slice())
         && distinct(machine.line.as_slice())
-        && waiting_are_pending(machine)
-        && pending_are_waiting(machine)
-        && lining_are_lined(machine)
-        && line_is_lining(machine)
+        && all_are_pending(machine)
+        && pending_belong(machine)
+        && all_are_lined(machine)
+        && line_belongs(machine)
 }
 
 /// Whether the pending list and the line hold, once each, what has to wait there, and beside that only what no longer

@@ -90,7 +90,8 @@ fn apart_from_others(machine: &Machine, queue: usize) -> bool
     ensures { result ≡ queue_is_apart machine.now.objects queue }
 {
     let members = members_at(machine, queue);
-    (0..machine.objects.len()).all(|other| queue == other || disjoint(members, members_at(machine, other)))
+    (0..machine.objects.len()).all(|other| queue == other
+        || disjoint(members, members_at(machine, other)))
 }
 
 fn queues_share_nothing(machine: &Machine) -> bool

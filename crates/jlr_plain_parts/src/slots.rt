@@ -38,7 +38,9 @@ fn all_there(machine: &Machine, slots: &[Slot]) -> bool
 fn all_fields_there(machine: &Machine, fields: &[FieldValue]) -> bool
     ensures { result ≡ fields_there machine.now.objects fields.now }
 {
-    fields.iter().all(|field| any_there(machine, referred(field)))
+    fields
+        .iter()
+        .all(|field| any_there(machine, referred(field)))
 }
 
 fn reference_leads(machine: &Machine, reference: &Reference) -> bool
@@ -96,7 +98,9 @@ fn sessions_name_objects(machine: &Machine) -> bool
 fn names_there(machine: &Machine, names: &[Binding]) -> bool
     ensures { result ≡ list_all (λ b. is_there machine.now.objects b.slot) names.now }
 {
-    names.iter().all(|binding| object_there(machine, binding.slot))
+    names
+        .iter()
+        .all(|binding| object_there(machine, binding.slot))
 }
 
 fn roots_are_objects(machine: &Machine) -> bool
