@@ -24,7 +24,7 @@ use Rattle.jlr_plain_images.specs.Resources.{has_resource}
 use Rattle.jlr_plain_images.specs.Calls.{same_call, is_free_call, is_in_call, is_guard_in_call, is_fencing, fits_call, fits_own_call, all_fit_calls, is_calling, is_called, needs_call, has_its_call, all_have_calls, is_called_job, all_jobs_called, are_in_one_call, call_is_apart, calls_are_apart, calls_fit}
 use Rattle.jlr_plain_parts.proofs.States.{armed_is}
 use Rattle.jlr_plain_images.proofs.WorksDecided.{Decides-resource}
-use Rattle.jlr_plain_parts.proofs.Everywhere.{Decides-none, Decides-numbers, Decides-slots, Decides-found, there_gives, there_from, some_place_gives, some_place_from, also, turned}
+use Rattle.jlr_plain_parts.proofs.Everywhere.{Decides-none, Decides-numbers, Decides-others, Decides-slots, Decides-found, there_gives, there_from, some_place_gives, some_place_from, also, turned}
 
 -- ---- Calls
 
@@ -214,31 +214,19 @@ Decides-in_one m j k = (
 abbrev OneCall : Machine → Type 0
 OneCall m = (j k : ℕ) (call : Call) → IsCallOf m j call → IsCallOf m k call → call ≢ Free → j ≡ k
 
-one_gives : (m : Machine) → calls_are_apart m ≡ true → OneCall m
-one_gives m h j k call a b n =
-    let one = (Decides-numbers (length m.mutators) (call_is_apart m)).0 h j (place_within m.mutators j a.0 a.1) in
-    let two = (Decides-numbers (length m.mutators) (λ k. nat_eq j k || not (are_in_one_call (at m.mutators j) (at m.mutators k)))).0 one k (place_within m.mutators k b.0 b.1) in
-    elim (or_cases (nat_eq j k) (not (are_in_one_call (at m.mutators j) (at m.mutators k))) two) [
-      | inl same ↦ eqb-true j k same
-      | inr other ↦ absurd (both_ways (are_in_one_call (at m.mutators j) (at m.mutators k)) (not-true (are_in_one_call (at m.mutators j) (at m.mutators k)) other) ((Decides-in_one m j k).1 (call, a, b, n)))
-    ]
-
-one_from : (m : Machine) → OneCall m → calls_are_apart m ≡ true
-one_from m w =
-    (Decides-numbers (length m.mutators) (call_is_apart m)).1 (λ j _.
-    (Decides-numbers (length m.mutators) (λ k. nat_eq j k || not (are_in_one_call (at m.mutators j) (at m.mutators k)))).1 (λ k _.
-    elim (cases_eq j k) [
-      | inl same ↦ or_left (nat_eq j k) (not (are_in_one_call (at m.mutators j) (at m.mutators k))) (eq-eqb j k same)
-      | inr other ↦ or_right (nat_eq j k) (not (are_in_one_call (at m.mutators j) (at m.mutators k)))
-          (not_from_false (are_in_one_call (at m.mutators j) (at m.mutators k)) (false_from_ne_true (are_in_one_call (at m.mutators j) (at m.mutators k))
-          (λ h. let x = (Decides-in_one m j k).0 h in other (w j k x.0 x.1 x.2 x.3))))
-    ]))
+Decides-one_call : (m : Machine) → Decides (calls_are_apart m) (OneCall m)
+Decides-one_call m =
+    let all = Decides-numbers (length m.mutators) (call_is_apart m) in
+    let others = λ (j : ℕ). Decides-others (length m.mutators) j (λ k. are_in_one_call (at m.mutators j) (at m.mutators k)) in (
+      (λ h j k call a b n. (others j).0 (all.0 h j (place_within m.mutators j a.0 a.1)) k (place_within m.mutators k b.0 b.1) ((Decides-in_one m j k).1 (call, a, b, n))),
+      (λ w. all.1 (λ j _. (others j).1 (λ k _ h. let x = (Decides-in_one m j k).0 h in w j k x.0 x.1 x.2 x.3))),
+    )
 
 -- ---- All
 
 pub calls_decided : (m : Machine) → IsTrue (calls_fit m) ↔ AreCalls m
 calls_decided m =
-    turned (also (also (also (Decides-all_fit m) (Decides-used m)) (one_gives m, one_from m)) (Decides-jobs m))
+    turned (also (also (also (Decides-all_fit m) (Decides-used m)) (Decides-one_call m)) (Decides-jobs m))
     (λ p. record {
       calls = p.0.0.0;
       opening = p.0.0.1.0;

@@ -23,7 +23,7 @@ use Rattle.jlr_plain_parts.specs.Places.{keys_are_apart, on_guard, on_cleanable}
 use Rattle.jlr_plain_images.specs.Resources.{is_on_resource, is_work_on, is_closing, is_idle, has_resource, is_worker, has_worker, is_worked, all_are_worked, serves, is_served, has_its_resource, closes, closes_its_own, all_jobs_close, guarded_slot, is_own, owns, all_guards_own, is_guard_of, is_guarded, all_are_guarded, guards_fit, rid_in, resources_fit}
 use Rattle.jlr_plain_parts.proofs.States.{spent_is, armed_is, unless_spent, unless_armed}
 use Rattle.jlr_plain_images.proofs.WorksDecided.{same_rid, no_rid, Decides-work, on_gives, closing_is, idle_is, found_resource, Decides-resource}
-use Rattle.jlr_plain_parts.proofs.Everywhere.{Decides-any, Decides-cleanables, Decides-rising, Decides-apart, AreApart, Decides-found, Decides-slots, Decides-on_guard, Decides-on_cleanable, there_gives, there_from, some_place_gives, some_place_from, also, turned}
+use Rattle.jlr_plain_parts.proofs.Everywhere.{Decides-any, Decides-cleanables, Decides-rising, Decides-apart, Decides-number, Decides-found, Decides-slots, Decides-on_guard, Decides-on_cleanable, there_gives, there_from, some_place_gives, some_place_from, also, turned}
 
 -- ---- Each resource is the work of a cleanable or a job
 
@@ -170,17 +170,13 @@ Decides-one_guard m = turned (Decides-apart guarded_slot m.objects refl)
     let y = guarded_gives (at m.objects t) a f in
     w s t x.0 y.0 x.1 y.1 (x.2 ∙ sym y.2))
 
-Decides-referent : (s : ℕ) (o : Option ℕ) → Decides (some_and (nat_eq s) o) (o ≡ Some s)
-Decides-referent s None = ((λ h. absurd (both_ways false refl h)), (λ e. no_some s e))
-Decides-referent s (Some x) = ((λ h. ap (λ n. Some n) (sym (eqb-true s x h))), (λ e. eq-eqb s x (sym (some_same x s e))))
-
 abbrev Owns : Machine → ℕ → GuardOf → CleanableOf → Type 0
 Owns m s g c = (c.state ≡ Spent) ⊎ IsOwnGuard m s g c
 
 Decides-own : (m : Machine) (s : ℕ) (g : GuardOf) (c : CleanableOf) → Decides (is_own s g c) (Owns m s g c)
 Decides-own m s g c =
     let own : Decides (is_armed c.state && some_and (nat_eq s) c.referent && is_work_on g.rid c.work) (((c.state ≡ Armed) × (c.referent ≡ Some s)) × (c.work ≡ WorkOn g.rid)) =
-    also (also (armed_is c.state, λ e. ap is_armed e) (Decides-referent s c.referent)) (Decides-work g.rid c.work) in (
+    also (also (armed_is c.state, λ e. ap is_armed e) (Decides-number s c.referent)) (Decides-work g.rid c.work) in (
       (λ h. elim (or_cases (is_spent c.state) (is_armed c.state && some_and (nat_eq s) c.referent && is_work_on g.rid c.work) h) [
         | inl e ↦ inl (spent_is c.state e)
         | inr o ↦ let p = own.0 o in inr (record { armed = p.0.0; referent = p.0.1; work = p.1 })

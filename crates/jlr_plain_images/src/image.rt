@@ -40,9 +40,8 @@ fn slots_rise(slots: &[Slot]) -> bool
 fn all_cells(machine: &Machine, slots: &[Slot]) -> bool
     ensures { result ≡ list_all (λ s. nat_lt s (length machine.now.objects)) slots.now }
 {
-    slots
-        .iter()
-        .all(|slot| (slot.number() as usize) < machine.objects.len())
+    let cells = machine.objects.len();
+    slots.iter().all(|slot| (slot.number() as usize) < cells)
 }
 
 fn nothing_seen_outside(machine: &Machine) -> bool

@@ -4,7 +4,7 @@ ghost use Rattle.std.specs.List.{list_all, list_any};
 ghost use Rattle.jlr_machine.specs.Objects.{at, some_and, is_armed, is_spent};
 ghost use Rattle.jlr_machine.specs.Lookups.{job_of, resource_at};
 ghost use Rattle.jlr_machine.specs.WellFormed.{AreResources};
-ghost use Rattle.jlr_plain_parts.specs.Places.{none_or, on_cleanable, on_guard, rising_by, are_same, key_is_apart, keys_are_apart};
+ghost use Rattle.jlr_plain_parts.specs.Places.{none_or, on_cleanable, on_guard, rising_by, is_only_key, keys_are_apart};
 ghost use Rattle.jlr_plain_images.specs.Resources.{is_on_resource, is_work_on, is_worker, has_worker, is_worked, all_are_worked, serves, has_its_resource, closes_its_own, all_jobs_close, guarded_slot, is_own, owns, all_guards_own, is_guard_of, is_guarded, all_are_guarded, guards_fit, rid_in, resources_fit};
 
 use crate::works::{armed, closing, idle, on_resource, resource_is, works_on};
@@ -157,36 +157,30 @@ fn guarded_at(machine: &Machine, slot: usize) -> Option<Slot>
     }
 }
 
-fn same_slot(left: Option<Slot>, right: Option<Slot>) -> bool
-    ensures { result ≡ are_same left right }
+fn is_at(slot: usize, other: Option<Slot>) -> bool
+    ensures { result ≡ some_and (nat_eq slot) other }
 {
-    match (left, right) {
-        (Some(a), Some(b)) => a.number() == b.number(),
-        _ => false,
+    match other {
+        Some(other) => slot == other.number() as usize,
+        None => false,
     }
 }
 
-fn guards_alone(machine: &Machine, slot: usize) -> bool
-    ensures { result ≡ key_is_apart guarded_slot machine.now.objects slot }
+/// Whether no other guard has this cleanable.
+fn guards_alone(machine: &Machine, slot: usize, cleanable: Slot) -> bool
+    ensures { result ≡ is_only_key guarded_slot machine.now.objects slot cleanable }
 {
-    let cleanable = guarded_at(machine, slot);
-    (0..machine.objects.len()).all(|other| slot == other
-        || !same_slot(cleanable, guarded_at(machine, other)))
+    let number = cleanable.number() as usize;
+    (0..machine.objects.len()).all(|other| slot == other || !is_at(number, guarded_at(machine, other)))
 }
 
 fn all_guard_alone(machine: &Machine) -> bool
     ensures { result ≡ keys_are_apart guarded_slot machine.now.objects }
 {
-    (0..machine.objects.len()).all(|slot| guards_alone(machine, slot))
-}
-
-fn is_at(slot: usize, referent: Option<Slot>) -> bool
-    ensures { result ≡ some_and (nat_eq slot) referent }
-{
-    match referent {
-        Some(other) => slot == other.number() as usize,
-        None => false,
-    }
+    (0..machine.objects.len()).all(|slot| match guarded_at(machine, slot) {
+        Some(cleanable) => guards_alone(machine, slot, cleanable),
+        None => true,
+    })
 }
 
 fn armed_for(slot: usize, guard: &Guard, cleanable: &Cleanable) -> bool

@@ -15,7 +15,7 @@ use Rattle.jlr_machine.specs.Edges.{slot_in}
 use Rattle.jlr_laws.proofs.Sets.{in_front, in_rest, all_gives}
 use Rattle.jlr_laws.proofs.Frames.{no_some, some_same, place_within}
 use Rattle.jlr_laws.proofs.Keyed.{by_key, key_found, all_found}
-use Rattle.jlr_plain_parts.specs.Places.{none_or, each_number, rising_by, are_same, key_is_apart, keys_are_apart, on_plain, on_reference, on_queue, on_cleanable, on_guard}
+use Rattle.jlr_plain_parts.specs.Places.{none_or, each_number, rising_by, is_only_key, keys_are_apart, on_plain, on_reference, on_queue, on_cleanable, on_guard}
 
 -- ---- Bools
 
@@ -208,13 +208,23 @@ Decides-plain test P heap each = (
 
 -- ---- Keys apart
 
-same_given : (x y : Option ℕ) → are_same x y ≡ true → (a : ℕ) × (x ≡ Some a) × (y ≡ Some a)
-same_given None y h = absurd (both_ways false refl h)
-same_given (Some a) None h = absurd (both_ways false refl h)
-same_given (Some a) (Some b) h = (a, refl, ap (λ n. Some n) (sym (eqb-true a b h)))
+pub Decides-number : (a : ℕ) (o : Option ℕ) → Decides (some_and (nat_eq a) o) (o ≡ Some a)
+Decides-number a None = ((λ h. absurd (both_ways false refl h)), (λ e. no_some a e))
+Decides-number a (Some x) = ((λ h. ap (λ n. Some n) (sym (eqb-true a x h))), (λ e. eq-eqb a x (sym (some_same x a e))))
 
-same_from : (x y : Option ℕ) (a : ℕ) → x ≡ Some a → y ≡ Some a → are_same x y ≡ true
-same_from x y a e f = ap (λ o. are_same o y) e ∙ ap (are_same (Some a)) f ∙ eq-eqb a a refl
+-- other numbers than s fail the test
+pub Decides-others : (n s : ℕ) (test : ℕ → Bool) → Decides (each_number n (λ t. nat_eq s t || not (test t))) ((t : ℕ) → t < n → test t ≡ true → s ≡ t)
+Decides-others n s test =
+    let all = Decides-numbers n (λ t. nat_eq s t || not (test t)) in (
+      (λ h t l e. elim (or_cases (nat_eq s t) (not (test t)) (all.0 h t l)) [
+        | inl same ↦ eqb-true s t same
+        | inr other ↦ absurd (both_ways (test t) (not-true (test t) other) e)
+      ]),
+      (λ w. all.1 (λ t l. elim (cases_eq s t) [
+        | inl same ↦ or_left (nat_eq s t) (not (test t)) (eq-eqb s t same)
+        | inr other ↦ or_right (nat_eq s t) (not (test t)) (not_from_false (test t) (false_from_ne_true (test t) (λ e. other (w t l e))))
+      ])),
+    )
 
 abbrev pub AreApart : (Option Object → Option ℕ) → Heap → Type 0
 AreApart key heap = (s t a : ℕ) → key (at heap s) ≡ Some a → key (at heap t) ≡ Some a → s ≡ t
@@ -226,23 +236,18 @@ key_within key heap s a n e =
       | Some o ↦ λ f e. place_within heap s o f
     ] refl e
 
+Decides-only : (key : Option Object → Option ℕ) (heap : Heap) → key None ≡ None → (s a : ℕ) → Decides (is_only_key key heap s a) ((t : ℕ) → key (at heap t) ≡ Some a → s ≡ t)
+Decides-only key heap n s a =
+    turned (Decides-others (length heap) s (λ t. some_and (nat_eq a) (key (at heap t))))
+    (λ w t e. w t (key_within key heap t a n e) ((Decides-number a (key (at heap t))).1 e))
+    (λ w t l h. w t ((Decides-number a (key (at heap t))).0 h))
+
 pub Decides-apart : (key : Option Object → Option ℕ) (heap : Heap) → key None ≡ None → Decides (keys_are_apart key heap) (AreApart key heap)
 Decides-apart key heap n =
-    let test : ℕ → ℕ → Bool = λ s t. nat_eq s t || not (are_same (key (at heap s)) (key (at heap t))) in (
-      (λ h s t a e f.
-          let one = (Decides-numbers (length heap) (key_is_apart key heap)).0 h s (key_within key heap s a n e) in
-          let two = (Decides-numbers (length heap) (test s)).0 one t (key_within key heap t a n f) in
-          elim (or_cases (nat_eq s t) (not (are_same (key (at heap s)) (key (at heap t)))) two) [
-            | inl same ↦ eqb-true s t same
-            | inr other ↦ absurd (both_ways (are_same (key (at heap s)) (key (at heap t))) (not-true (are_same (key (at heap s)) (key (at heap t))) other) (same_from (key (at heap s)) (key (at heap t)) a e f))
-          ]),
-      (λ w. (Decides-numbers (length heap) (key_is_apart key heap)).1 (λ s _. (Decides-numbers (length heap) (test s)).1 (λ t _.
-          elim (cases_eq s t) [
-            | inl same ↦ or_left (nat_eq s t) (not (are_same (key (at heap s)) (key (at heap t)))) (eq-eqb s t same)
-            | inr other ↦ or_right (nat_eq s t) (not (are_same (key (at heap s)) (key (at heap t))))
-                (not_from_false (are_same (key (at heap s)) (key (at heap t))) (false_from_ne_true (are_same (key (at heap s)) (key (at heap t)))
-                (λ h. let g = same_given (key (at heap s)) (key (at heap t)) h in other (w s t g.0 g.1 g.2))))
-          ]))),
+    let all = Decides-numbers (length heap) (λ s. none_or (is_only_key key heap s) (key (at heap s))) in
+    let one = λ (s : ℕ). Decides-any (is_only_key key heap s) (λ a. (t : ℕ) → key (at heap t) ≡ Some a → s ≡ t) (key (at heap s)) (Decides-only key heap n s) in (
+      (λ h s t a e f. (one s).0 (all.0 h s (key_within key heap s a n e)) a e t f),
+      (λ w. all.1 (λ s _. (one s).1 (λ a e t f. w s t a e f))),
     )
 
 -- ---- What is found by a key
@@ -283,3 +288,11 @@ Decides-on_guard test P (Reference x) each = ((λ h c e. absurd (cc e)), (λ w. 
 Decides-on_guard test P (Queue x) each = ((λ h c e. absurd (cc e)), (λ w. refl))
 Decides-on_guard test P Cleaner each = ((λ h c e. absurd (cc e)), (λ w. refl))
 Decides-on_guard test P (Cleanable x) each = ((λ h c e. absurd (cc e)), (λ w. refl))
+
+pub Decides-on_queue : (test : List ℕ → Bool) (P : List ℕ → Type 0) (o : Object) → ((members : List ℕ) → Decides (test members) (P members)) → Decides (on_queue test o) ((members : List ℕ) → o ≡ Queue members → P members)
+Decides-on_queue test P (Queue d) each = ((λ h c e. let same : d ≡ c = cc e in subst P same ((each d).0 h)), (λ w. (each d).1 (w d refl)))
+Decides-on_queue test P (Plain x) each = ((λ h c e. absurd (cc e)), (λ w. refl))
+Decides-on_queue test P (Reference x) each = ((λ h c e. absurd (cc e)), (λ w. refl))
+Decides-on_queue test P Cleaner each = ((λ h c e. absurd (cc e)), (λ w. refl))
+Decides-on_queue test P (Cleanable x) each = ((λ h c e. absurd (cc e)), (λ w. refl))
+Decides-on_queue test P (Guard x) each = ((λ h c e. absurd (cc e)), (λ w. refl))

@@ -12,10 +12,10 @@ use Rattle.jlr_machine.specs.Objects.{Heap, at, some_and, ◌∋◌, ◌∈◌, 
 use Rattle.jlr_machine.specs.WellFormed.{AreReferences, FitsItsState, IsReferenceAt, IsQueueAt}
 use Rattle.jlr_laws.proofs.Sets.{nothing}
 use Rattle.jlr_laws.proofs.Frames.{no_some, some_same, place_within}
-use Rattle.jlr_plain_parts.specs.Places.{each_number}
-use Rattle.jlr_plain_parts.specs.References.{fits_state, fits_own_state, states_fit, is_queued_object, members_fit, queues_fit, members_in, is_disjoint, queue_is_apart, queues_are_apart, references_fit}
+use Rattle.jlr_plain_parts.specs.Places.{each_number, on_queue}
+use Rattle.jlr_plain_parts.specs.References.{fits_state, fits_own_state, states_fit, is_queued_object, members_fit, queues_fit, members_in, is_disjoint, shares_nothing, queues_are_apart, references_fit}
 use Rattle.jlr_plain_parts.proofs.States.{queued_is}
-use Rattle.jlr_plain_parts.proofs.Everywhere.{all_from, Decides-all, Decides-numbers, Decides-references, Decides-queues, there_gives, Decides-true, Decides-none, also, turned}
+use Rattle.jlr_plain_parts.proofs.Everywhere.{all_from, Decides-all, Decides-numbers, Decides-references, Decides-queues, Decides-slots, Decides-on_queue, there_gives, Decides-true, Decides-none, also, turned}
 
 -- ---- States
 
@@ -55,37 +55,44 @@ Decides-disjoint xs ys = Decides-all (λ s. not (ys ∋ s)) (λ s. s ∈ ys → 
   (λ h. not_from_false (ys ∋ s) (false_from_ne_true (ys ∋ s) h)),
 ))
 
+-- the queue at p shares no member with another
+abbrev SharesNothing : Heap → ℕ → List ℕ → Type 0
+SharesNothing heap p xs = (q s : ℕ) (ys : List ℕ) → at heap q ≡ Some (Queue ys) → s ∈ xs → s ∈ ys → p ≡ q
+
+shares_gives : (heap : Heap) (p : ℕ) (xs : List ℕ) → shares_nothing heap p xs ≡ true → SharesNothing heap p xs
+shares_gives heap p xs h q s ys e a b =
+    elim (or_cases (nat_eq p q) (is_disjoint (members_in (at heap q)) xs) ((Decides-numbers (length heap) (λ q. nat_eq p q || is_disjoint (members_in (at heap q)) xs)).0 h q (place_within heap q (Queue ys) e))) [
+      | inl same ↦ eqb-true p q same
+      | inr apart ↦ absurd ((Decides-disjoint (members_in (at heap q)) xs).0 apart s (subst (λ o. s ∈ members_in o) (sym e) b) a)
+    ]
+
+shares_from : (heap : Heap) (p : ℕ) (xs : List ℕ) → SharesNothing heap p xs → shares_nothing heap p xs ≡ true
+shares_from heap p xs w =
+    (Decides-numbers (length heap) (λ q. nat_eq p q || is_disjoint (members_in (at heap q)) xs)).1 (λ q _.
+    elim (cases_eq p q) [
+      | inl same ↦ or_left (nat_eq p q) (is_disjoint (members_in (at heap q)) xs) (eq-eqb p q same)
+      | inr other ↦ or_right (nat_eq p q) (is_disjoint (members_in (at heap q)) xs)
+          ((Decides-disjoint (members_in (at heap q)) xs).1 (λ s b a.
+          let m = members_there (at heap q) s b in
+          other (w q s m.0 m.1 a m.2)))
+    ])
+
 abbrev AreApart : Heap → Type 0
 AreApart heap = (p q s : ℕ) (xs ys : List ℕ) → at heap p ≡ Some (Queue xs) → at heap q ≡ Some (Queue ys) → s ∈ xs → s ∈ ys → p ≡ q
 
-apart_gives : (heap : Heap) → queues_are_apart heap ≡ true → AreApart heap
-apart_gives heap h p q s xs ys e f a b =
-    let one = (Decides-numbers (length heap) (queue_is_apart heap)).0 h p (place_within heap p (Queue xs) e) in
-    let two = (Decides-numbers (length heap) (λ q. nat_eq p q || is_disjoint (members_in (at heap p)) (members_in (at heap q)))).0 one q (place_within heap q (Queue ys) f) in
-    elim (or_cases (nat_eq p q) (is_disjoint (members_in (at heap p)) (members_in (at heap q))) two) [
-      | inl same ↦ eqb-true p q same
-      | inr disjoint ↦ absurd ((Decides-disjoint (members_in (at heap p)) (members_in (at heap q))).0 disjoint s (subst (λ o. s ∈ members_in o) (sym e) a) (subst (λ o. s ∈ members_in o) (sym f) b))
-    ]
-
-apart_from : (heap : Heap) → AreApart heap → queues_are_apart heap ≡ true
-apart_from heap w =
-    (Decides-numbers (length heap) (queue_is_apart heap)).1 (λ p _.
-    (Decides-numbers (length heap) (λ q. nat_eq p q || is_disjoint (members_in (at heap p)) (members_in (at heap q)))).1 (λ q _.
-    elim (cases_eq p q) [
-      | inl same ↦ or_left (nat_eq p q) (is_disjoint (members_in (at heap p)) (members_in (at heap q))) (eq-eqb p q same)
-      | inr other ↦ or_right (nat_eq p q) (is_disjoint (members_in (at heap p)) (members_in (at heap q)))
-          ((Decides-disjoint (members_in (at heap p)) (members_in (at heap q))).1 (λ s a b.
-          let x = members_there (at heap p) s a in
-          let y = members_there (at heap q) s b in
-          other (w p q s x.0 y.0 x.1 y.1 x.2 y.2)))
-    ]))
+Decides-queues_apart : (heap : Heap) → Decides (queues_are_apart heap) (AreApart heap)
+Decides-queues_apart heap =
+    turned (Decides-slots (λ p. on_queue (shares_nothing heap p)) (λ p o. (xs : List ℕ) → o ≡ Queue xs → SharesNothing heap p xs) heap
+    (λ p o. Decides-on_queue (shares_nothing heap p) (SharesNothing heap p) o (λ xs. (shares_gives heap p xs, shares_from heap p xs))))
+    (λ w p q s xs ys e f a b. w p (Queue xs) e xs refl q s ys f a b)
+    (λ w p o e xs k q s ys f a b. w p q s xs ys (e ∙ ap (λ x. Some x) k) f a b)
 
 pub references_decided : (m : Machine) → IsTrue (references_fit m) ↔ AreReferences m
 references_decided m =
     let states = Decides-references fits_own_state (λ r. FitsItsState r r.state) m.objects (λ r. Decides-state r r.state) in
     let queues = Decides-queues (members_fit m.objects) (λ members. ((s : ℕ) → s ∈ members → IsQueued (at m.objects s)) × IsTrue (is_distinct members)) m.objects
     (λ members. also (Decides-all (λ s. some_and is_queued_object (at m.objects s)) (λ s. IsQueued (at m.objects s)) members (λ s. Decides-queued (at m.objects s))) (Decides-true (is_distinct members))) in
-    turned (also (also states queues) (apart_gives m.objects, apart_from m.objects))
+    turned (also (also states queues) (Decides-queues_apart m.objects))
     (λ p. record {
       states = p.0.0;
       members = λ q s members e h. (p.0.1 q members e).0 s h;

@@ -1,7 +1,7 @@
 -- Tests at each place of a table, and at each number below another.
 use Rattle.std.specs.Prelude.{ℕ, Bool, true, false, not, ◌&&◌, ◌||◌, Option, Some, None, List, [], ◌∷◌, length, nat_eq, nat_lt}
 use Rattle.std.specs.List.{list_all, list_any, range_with_len}
-use Rattle.jlr_machine.specs.Objects.{Heap, at}
+use Rattle.jlr_machine.specs.Objects.{Heap, at, some_and}
 use Rattle.jlr_types.specs.declared.FieldValue.{FieldValue}
 use Rattle.jlr_machine.specs.declared.object.Object.{Object}
 use Rattle.jlr_machine.specs.declared.object.Object.TheVariants.{Plain, Reference, Queue, Cleaner, Cleanable, Guard}
@@ -43,14 +43,9 @@ abbrev pub rising_by : {A : Type 0} → (A → ℕ) → List A → Bool
 rising_by key [] = true
 rising_by key (x ∷ xs) = list_all (λ y. nat_lt (key x) (key y)) xs && rising_by key xs
 
--- both are the same number
-abbrev pub are_same : Option ℕ → Option ℕ → Bool
-are_same (Some a) (Some b) = nat_eq a b
-are_same _ _ = false
-
--- no other place has the key of the one at s; and so for each s
-abbrev pub key_is_apart : (Option Object → Option ℕ) → Heap → ℕ → Bool
-key_is_apart key heap s = each_number (length heap) (λ t. nat_eq s t || not (are_same (key (at heap s)) (key (at heap t))))
+-- no other place than s has the key a; and so for the key of each place
+abbrev pub is_only_key : (Option Object → Option ℕ) → Heap → ℕ → ℕ → Bool
+is_only_key key heap s a = each_number (length heap) (λ t. nat_eq s t || not (some_and (nat_eq a) (key (at heap t))))
 
 abbrev pub keys_are_apart : (Option Object → Option ℕ) → Heap → Bool
-keys_are_apart key heap = each_number (length heap) (key_is_apart key heap)
+keys_are_apart key heap = each_number (length heap) (λ s. none_or (is_only_key key heap s) (key (at heap s)))

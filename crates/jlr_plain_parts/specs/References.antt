@@ -41,11 +41,12 @@ members_in _ = []
 abbrev pub is_disjoint : List ℕ → List ℕ → Bool
 is_disjoint xs ys = list_all (λ s. not (ys ∋ s)) xs
 
-abbrev pub queue_is_apart : Heap → ℕ → Bool
-queue_is_apart heap p = each_number (length heap) (λ q. nat_eq p q || is_disjoint (members_in (at heap p)) (members_in (at heap q)))
+-- the queue at p, with these members, has none that another queue has
+abbrev pub shares_nothing : Heap → ℕ → List ℕ → Bool
+shares_nothing heap p members = each_number (length heap) (λ q. nat_eq p q || is_disjoint (members_in (at heap q)) members)
 
 abbrev pub queues_are_apart : Heap → Bool
-queues_are_apart heap = each_number (length heap) (queue_is_apart heap)
+queues_are_apart heap = each_number (length heap) (λ p. none_or (on_queue (shares_nothing heap p)) (at heap p))
 
 abbrev pub references_fit : Machine → Bool
 references_fit m = states_fit m.objects && queues_fit m.objects && queues_are_apart m.objects

@@ -1,10 +1,10 @@
 //! The actions of cleanables, jobs, resources and faults.
 ghost use Rattle.std.specs.Prelude.{◌≡◌, ◌+◌, ◌↔◌, ◌&&◌, ◌||◌, not, IsTrue, nat_eq, nat_lt, length, count_by, cond, Some, None, is_none};
 ghost use Rattle.std.specs.List.{list_all};
-ghost use Rattle.jlr_machine.specs.Objects.{at, is_armed, is_spent};
+ghost use Rattle.jlr_machine.specs.Objects.{at, some_and, is_armed, is_spent};
 ghost use Rattle.jlr_machine.specs.Lookups.{job_of};
 ghost use Rattle.jlr_machine.specs.WellFormed.{AreActions, is_unspent_place};
-ghost use Rattle.jlr_plain_parts.specs.Places.{none_or, on_cleanable, rising_by, are_same, key_is_apart, keys_are_apart};
+ghost use Rattle.jlr_plain_parts.specs.Places.{none_or, on_cleanable, rising_by, is_only_key, keys_are_apart};
 ghost use Rattle.jlr_plain_parts.specs.Actions.{unspent_action, is_action, acts, all_are_actions, action_of, counts_fit, actions_fit};
 
 use jlr_machine::machine::{Job, Machine};
@@ -31,27 +31,30 @@ fn unspent_at(machine: &Machine, slot: usize) -> Option<ActionNo>
     }
 }
 
-fn same_action(left: Option<ActionNo>, right: Option<ActionNo>) -> bool
-    ensures { result ≡ are_same left right }
+fn is_action_of(action: ActionNo, other: Option<ActionNo>) -> bool
+    ensures { result ≡ some_and (nat_eq action) other }
 {
-    match (left, right) {
-        (Some(a), Some(b)) => a.number() == b.number(),
-        _ => false,
+    match other {
+        Some(other) => action.number() == other.number(),
+        None => false,
     }
 }
 
-fn acts_alone(machine: &Machine, slot: usize) -> bool
-    ensures { result ≡ key_is_apart unspent_action machine.now.objects slot }
+/// Whether no other unspent cleanable has this action.
+fn acts_alone(machine: &Machine, slot: usize, action: ActionNo) -> bool
+    ensures { result ≡ is_only_key unspent_action machine.now.objects slot action }
 {
-    let action = unspent_at(machine, slot);
-    (0..machine.objects.len()).all(|other| slot == other
-        || !same_action(action, unspent_at(machine, other)))
+    (0..machine.objects.len())
+        .all(|other| slot == other || !is_action_of(action, unspent_at(machine, other)))
 }
 
 fn cleanables_act_alone(machine: &Machine) -> bool
     ensures { result ≡ keys_are_apart unspent_action machine.now.objects }
 {
-    (0..machine.objects.len()).all(|slot| acts_alone(machine, slot))
+    (0..machine.objects.len()).all(|slot| match unspent_at(machine, slot) {
+        Some(action) => acts_alone(machine, slot, action),
+        None => true,
+    })
 }
 
 /// Whether it is an action that was given out.

@@ -3,7 +3,7 @@ ghost use Rattle.std.specs.Prelude.{◌≡◌, ◌↔◌, ◌||◌, IsTrue, nat_
 ghost use Rattle.std.specs.List.{list_all};
 ghost use Rattle.jlr_machine.specs.Objects.{at, some_and};
 ghost use Rattle.jlr_machine.specs.WellFormed.{AreReferences};
-ghost use Rattle.jlr_plain_parts.specs.References.{fits_own_state, states_fit, is_queued_object, members_fit, queues_fit, members_in, is_disjoint, queue_is_apart, queues_are_apart, references_fit};
+ghost use Rattle.jlr_plain_parts.specs.References.{fits_own_state, states_fit, is_queued_object, members_fit, queues_fit, members_in, is_disjoint, shares_nothing, queues_are_apart, references_fit};
 
 use jlr_machine::machine::Machine;
 use jlr_machine::object::{Object, RefState, Reference};
@@ -86,18 +86,20 @@ fn disjoint(left: &[Slot], right: &[Slot]) -> bool
     left.iter().all(|&slot| !holds(right, slot))
 }
 
-fn apart_from_others(machine: &Machine, queue: usize) -> bool
-    ensures { result ≡ queue_is_apart machine.now.objects queue }
+fn apart_from_others(machine: &Machine, queue: usize, members: &[Slot]) -> bool
+    ensures { result ≡ shares_nothing machine.now.objects queue members.now }
 {
-    let members = members_at(machine, queue);
-    (0..machine.objects.len()).all(|other| queue == other
-        || disjoint(members, members_at(machine, other)))
+    (0..machine.objects.len())
+        .all(|other| queue == other || disjoint(members_at(machine, other), members))
 }
 
 fn queues_share_nothing(machine: &Machine) -> bool
     ensures { result ≡ queues_are_apart machine.now.objects }
 {
-    (0..machine.objects.len()).all(|queue| apart_from_others(machine, queue))
+    (0..machine.objects.len()).all(|queue| match machine.objects.get(queue) {
+        Some(Object::Queue(members)) => apart_from_others(machine, queue, members.as_slice()),
+        _ => true,
+    })
 }
 
 fn references_tested(machine: &Machine) -> bool
