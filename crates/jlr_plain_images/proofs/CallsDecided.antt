@@ -1,7 +1,6 @@
 -- What the test of calls tells.
-use Rattle.std.proofs.Common.{◌≡◌, ◌≢◌, ◌↔◌, ℕ, ◌<◌, Bool, true, false, not, ◌&&◌, ◌||◌, Decides, IsTrue, length, refl, sym, ◌∙◌, ap, subst, ◌⊎◌, inl, inr, Option, Some, None, option_and_then, is_none, nat_eq}
-use Rattle.std.specs.List.{list_all, list_any}
-use Rattle.std.proofs.lemmas.Bool.{both_ways, and_parts, and_from, or_cases, or_left, or_right, eqb-true, eqb-false, eq-eqb, cases_eq, not-true, not_from_false, false_from_ne_true}
+use Rattle.std.proofs.Common.{◌≡◌, ◌≢◌, ◌↔◌, ℕ, Bool, true, false, not, Decides, IsTrue, length, refl, sym, ◌∙◌, ap, inl, inr, Option, Some, None, option_and_then, nat_eq}
+use Rattle.std.proofs.lemmas.Bool.{both_ways, and_parts, and_from, or_cases, or_left, or_right, eqb-true, eq-eqb, cases_eq, not-true, not_from_false, false_from_ne_true}
 use Rattle.jlr_machine.specs.declared.object.Object.{Object}
 use Rattle.jlr_machine.specs.declared.object.Object.TheVariants.{Plain, Reference, Queue, Cleaner, Cleanable, Guard}
 use Rattle.jlr_machine.specs.declared.object.Cleanable.{Cleanable as CleanableOf}
@@ -17,8 +16,8 @@ use Rattle.jlr_machine.specs.declared.machine.ResourceState.{ResourceState}
 use Rattle.jlr_machine.specs.declared.machine.ResourceState.TheVariants.{Opening, Idle, Out, Closing}
 use Rattle.jlr_machine.specs.Objects.{at, some_and, as_cleanable, is_armed}
 use Rattle.jlr_machine.specs.Lookups.{resource_at, job_of, cleanable_at}
-use Rattle.jlr_machine.specs.WellFormed.{AreCalls, HasResource, IsFencing, FitsItsCall, IsCallOf, IsSessionAt, IsGuardAt, IsCleanableAt, IsJob}
-use Rattle.jlr_laws.proofs.Frames.{no_some, some_same, is_cleanable_there, place_within}
+use Rattle.jlr_machine.specs.WellFormed.{AreCalls, HasResource, IsFencing, FitsItsCall, IsCallOf, IsSessionAt, IsCleanableAt, IsJob}
+use Rattle.jlr_laws.proofs.Frames.{is_cleanable_there, place_within}
 use Rattle.jlr_laws.proofs.Keyed.{key_found}
 use Rattle.jlr_plain_images.specs.Resources.{has_resource}
 use Rattle.jlr_plain_images.specs.Calls.{same_call, is_free_call, is_in_call, is_guard_in_call, is_fencing, fits_call, fits_own_call, all_fit_calls, is_calling, is_called, needs_call, has_its_call, all_have_calls, is_called_job, all_jobs_called, are_in_one_call, call_is_apart, calls_are_apart, calls_fit}

@@ -1,10 +1,10 @@
 -- What the test of faults, of notes and of what was seen tells.
-use Rattle.std.proofs.Common.{◌≡◌, ◌↔◌, ℕ, ◌<◌, ◌≤◌, Bool, true, false, ◌&&◌, ◌||◌, Decides, IsTrue, List, [], ◌∷◌, length, refl, sym, ◌∙◌, ap, subst, map, ◌⊎◌, inl, inr, nat_lt}
-use Rattle.std.proofs.lemmas.Bool.{both_ways, or_cases}
+use Rattle.std.proofs.Common.{◌≡◌, ◌↔◌, ℕ, ◌<◌, Bool, true, false, ◌||◌, Decides, IsTrue, List, [], ◌∷◌, length, refl, ap, subst, map, nat_lt}
+use Rattle.std.proofs.lemmas.Bool.{both_ways}
 use Rattle.jlr_machine.specs.declared.machine.Machine.{Machine}
-use Rattle.jlr_machine.specs.Objects.{◌∈◌, is_rising}
+use Rattle.jlr_machine.specs.Objects.{is_rising}
 use Rattle.jlr_laws.specs.Deciding.{is_empty}
-use Rattle.jlr_plain_images.specs.Images.{IsRestFit, itself, seen_fits, rest_fits}
+use Rattle.jlr_plain_images.specs.Images.{IsRestFit, itself, rest_fits}
 use Rattle.jlr_plain_parts.specs.Places.{rising_by}
 use Rattle.jlr_plain_parts.proofs.Everywhere.{Decides-rising, Decides-most, Decides-less, Decides-all, also, turned}
 

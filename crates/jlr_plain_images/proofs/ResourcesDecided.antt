@@ -1,6 +1,6 @@
 -- What the test of resources and guards tells.
-use Rattle.std.proofs.Common.{◌≡◌, ◌≢◌, ◌↔◌, ℕ, Bool, true, false, not, ◌&&◌, ◌||◌, Decides, IsTrue, List, refl, sym, ◌∙◌, ap, subst, ◌⊎◌, inl, inr, Option, Some, None, option_and_then, nat_eq}
-use Rattle.std.specs.List.{list_all, list_any}
+use Rattle.std.proofs.Common.{◌≡◌, ◌≢◌, ◌↔◌, ℕ, Bool, true, false, not, ◌&&◌, ◌||◌, Decides, IsTrue, refl, sym, ◌∙◌, ap, subst, ◌⊎◌, inl, inr, Option, Some, None, option_and_then, nat_eq}
+use Rattle.std.specs.List.{list_any}
 use Rattle.std.proofs.lemmas.Bool.{both_ways, and_parts, and_from, or_cases, or_left, or_right, eqb-true, eq-eqb, not-true, not_from_false, false_from_ne_true}
 use Rattle.jlr_types.specs.declared.Work.{Work}
 use Rattle.jlr_types.specs.declared.Work.TheVariants.{Note, Resource as WorkOn}
@@ -14,14 +14,14 @@ use Rattle.jlr_machine.specs.declared.machine.Job.{Job as JobOf}
 use Rattle.jlr_machine.specs.declared.machine.Resource.{Resource}
 use Rattle.jlr_machine.specs.declared.machine.ResourceState.{ResourceState}
 use Rattle.jlr_machine.specs.declared.machine.ResourceState.TheVariants.{Opening, Idle, Out, Closing}
-use Rattle.jlr_machine.specs.Objects.{Heap, at, some_and, as_cleanable, is_armed, is_spent}
+use Rattle.jlr_machine.specs.Objects.{at, some_and, as_cleanable, is_armed, is_spent}
 use Rattle.jlr_machine.specs.Lookups.{resource_at, job_of, cleanable_at}
 use Rattle.jlr_machine.specs.WellFormed.{AreResources, HasResource, HasWorker, IsUnspent, IsJob, IsOwnGuard, IsGuardAt, IsCleanableAt}
 use Rattle.jlr_laws.proofs.Frames.{no_some, some_same, is_cleanable_there}
 use Rattle.jlr_laws.proofs.Keyed.{key_found}
 use Rattle.jlr_plain_parts.specs.Places.{keys_are_apart, on_guard, on_cleanable}
-use Rattle.jlr_plain_images.specs.Resources.{is_on_resource, is_work_on, is_closing, is_idle, has_resource, is_worker, has_worker, is_worked, all_are_worked, serves, is_served, has_its_resource, closes, closes_its_own, all_jobs_close, guarded_slot, is_own, owns, all_guards_own, is_guard_of, is_guarded, all_are_guarded, guards_fit, rid_in, resources_fit}
-use Rattle.jlr_plain_parts.proofs.States.{spent_is, armed_is, unless_spent, unless_armed}
+use Rattle.jlr_plain_images.specs.Resources.{is_on_resource, is_work_on, is_closing, is_idle, is_worker, has_worker, is_worked, all_are_worked, serves, is_served, has_its_resource, closes, closes_its_own, all_jobs_close, guarded_slot, is_own, owns, all_guards_own, is_guard_of, is_guarded, all_are_guarded, rid_in, resources_fit}
+use Rattle.jlr_plain_parts.proofs.States.{spent_is, armed_is, unless_spent}
 use Rattle.jlr_plain_images.proofs.WorksDecided.{same_rid, no_rid, Decides-work, on_gives, closing_is, idle_is, found_resource, Decides-resource}
 use Rattle.jlr_plain_parts.proofs.Everywhere.{Decides-any, Decides-cleanables, Decides-rising, Decides-apart, Decides-number, Decides-found, Decides-slots, Decides-on_guard, Decides-on_cleanable, there_gives, there_from, some_place_gives, some_place_from, also, turned}
 

@@ -1,23 +1,15 @@
 -- What the test of what nobody names tells.
-use Rattle.std.proofs.Common.{◌≡◌, ◌↔◌, ℕ, Bool, true, false, not, ◌&&◌, Decides, IsTrue, List, refl, sym, ◌∙◌, ap, subst, map, filter_map, ◌⊎◌, inl, inr, Option, Some, None}
+use Rattle.std.proofs.Common.{◌≡◌, ◌↔◌, ℕ, Bool, true, false, Decides, IsTrue, refl, ap, filter_map, inl, inr, Some}
 use Rattle.std.proofs.lemmas.Bool.{both_ways, not-true, not_from_false, false_from_ne_true}
-use Rattle.jlr_types.specs.declared.FieldValue.{FieldValue}
-use Rattle.jlr_types.specs.declared.Work.TheVariants.{Resource as WorkOn}
 use Rattle.jlr_machine.specs.declared.object.Object.{Object}
 use Rattle.jlr_machine.specs.declared.object.Object.TheVariants.{Plain, Reference, Queue, Cleaner, Cleanable, Guard}
-use Rattle.jlr_machine.specs.declared.object.Reference.{Reference as ReferenceOf}
-use Rattle.jlr_machine.specs.declared.object.Cleanable.{Cleanable as CleanableOf}
-use Rattle.jlr_machine.specs.declared.object.Guard.{Guard as GuardOf}
 use Rattle.jlr_machine.specs.declared.machine.Machine.{Machine}
 use Rattle.jlr_machine.specs.declared.machine.Session.{Session}
 use Rattle.jlr_machine.specs.declared.machine.ResourceState.TheVariants.{Opening}
 use Rattle.jlr_machine.specs.Objects.{at, some_and, ◌∈◌}
 use Rattle.jlr_machine.specs.Edges.{slot_in}
-use Rattle.jlr_machine.specs.Lookups.{cleanable_at}
 use Rattle.jlr_machine.specs.WellFormed.{ArePrivate, IsPrivate}
-use Rattle.jlr_laws.proofs.Frames.{no_some, some_same}
 use Rattle.jlr_plain_images.specs.Resources.{is_on_resource}
-use Rattle.jlr_plain_images.specs.Calls.{is_in_call}
 use Rattle.jlr_plain_images.specs.Unnamed.{is_private_object, is_public, handles_public, fields_public, referent_public, private_fit}
 use Rattle.jlr_plain_images.proofs.WorksDecided.{on_gives}
 use Rattle.jlr_plain_images.proofs.CallsDecided.{Decides-in_call}

@@ -1,5 +1,5 @@
 -- What the tests of works and of resources tell.
-use Rattle.std.proofs.Common.{◌≡◌, ℕ, Bool, true, false, not, ◌&&◌, Decides, refl, sym, ◌∙◌, ap, subst, ◌⊎◌, inl, inr, Option, Some, None, nat_eq}
+use Rattle.std.proofs.Common.{◌≡◌, ℕ, true, false, Decides, refl, sym, ◌∙◌, ap, Some, nat_eq}
 use Rattle.std.proofs.lemmas.Bool.{both_ways, and_parts, and_from, eqb-true, eq-eqb}
 use Rattle.jlr_types.specs.declared.Work.{Work}
 use Rattle.jlr_types.specs.declared.Work.TheVariants.{Note, Resource as WorkOn}

@@ -1,10 +1,10 @@
 -- The test of resources and guards.
-use Rattle.std.specs.Prelude.{ℕ, Bool, true, false, not, ◌&&◌, ◌||◌, List, Option, Some, None, length, nat_eq}
+use Rattle.std.specs.Prelude.{ℕ, Bool, true, false, not, ◌&&◌, ◌||◌, Option, Some, None, length, nat_eq}
 use Rattle.std.specs.List.{list_all, list_any}
 use Rattle.jlr_types.specs.declared.Work.{Work}
 use Rattle.jlr_types.specs.declared.Work.TheVariants.{Note, Resource as WorkOn}
 use Rattle.jlr_machine.specs.declared.object.Object.{Object}
-use Rattle.jlr_machine.specs.declared.object.Object.TheVariants.{Plain, Reference, Queue, Cleaner, Cleanable, Guard}
+use Rattle.jlr_machine.specs.declared.object.Object.TheVariants.{Cleanable, Guard}
 use Rattle.jlr_machine.specs.declared.object.Cleanable.{Cleanable as CleanableOf}
 use Rattle.jlr_machine.specs.declared.object.Guard.{Guard as GuardOf}
 use Rattle.jlr_machine.specs.declared.machine.Machine.{Machine}

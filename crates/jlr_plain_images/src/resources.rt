@@ -171,7 +171,8 @@ fn guards_alone(machine: &Machine, slot: usize, cleanable: Slot) -> bool
     ensures { result ≡ is_only_key guarded_slot machine.now.objects slot cleanable }
 {
     let number = cleanable.number() as usize;
-    (0..machine.objects.len()).all(|other| slot == other || !is_at(number, guarded_at(machine, other)))
+    (0..machine.objects.len()).all(|other| slot == other
+        || !is_at(number, guarded_at(machine, other)))
 }
 
 fn all_guard_alone(machine: &Machine) -> bool

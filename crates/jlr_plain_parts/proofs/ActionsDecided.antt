@@ -1,22 +1,20 @@
 -- What the test of actions tells.
-use Rattle.std.proofs.Common.{◌≡◌, ◌≢◌, ◌↔◌, ℕ, ◌+◌, ◌<◌, ◌≤◌, Bool, true, false, not, ◌&&◌, ◌||◌, Decides, IsTrue, List, length, refl, sym, ◌∙◌, ap, subst, map, count_by, cond, ◌⊎◌, inl, inr, Option, Some, None, is_none, nat_eq, nat_le, nat_lt}
-use Rattle.std.specs.List.{list_all, AllByRecursion}
-use Rattle.std.proofs.lemmas.Bool.{both_ways, and_parts, and_from, or_cases, or_left, or_right, cond-false}
+use Rattle.std.proofs.Common.{◌≡◌, ◌≢◌, ◌↔◌, ℕ, ◌+◌, ◌<◌, ◌≤◌, true, false, Decides, IsTrue, length, refl, sym, ◌∙◌, ap, count_by, cond, Option, Some, None, is_none, nat_eq}
+use Rattle.std.specs.List.{AllByRecursion}
+use Rattle.std.proofs.lemmas.Bool.{both_ways}
 use Rattle.jlr_machine.specs.declared.object.Object.{Object}
-use Rattle.jlr_machine.specs.declared.object.Object.TheVariants.{Plain, Reference, Queue, Cleaner, Cleanable, Guard}
+use Rattle.jlr_machine.specs.declared.object.Object.TheVariants.{Cleanable}
 use Rattle.jlr_machine.specs.declared.object.Cleanable.{Cleanable as CleanableOf}
-use Rattle.jlr_machine.specs.declared.object.CleanState.{CleanState}
-use Rattle.jlr_machine.specs.declared.object.CleanState.TheVariants.{Armed, Pending, Lined, Spent}
+use Rattle.jlr_machine.specs.declared.object.CleanState.TheVariants.{Armed, Spent}
 use Rattle.jlr_machine.specs.declared.machine.Machine.{Machine}
-use Rattle.jlr_machine.specs.declared.machine.Job.{Job as JobOf}
-use Rattle.jlr_machine.specs.Objects.{Heap, at, is_armed, is_spent}
+use Rattle.jlr_machine.specs.Objects.{at, is_spent}
 use Rattle.jlr_machine.specs.Lookups.{job_of}
-use Rattle.jlr_machine.specs.WellFormed.{AreActions, IsAction, IsUnspent, IsCleanableAt, is_unspent_place}
+use Rattle.jlr_machine.specs.WellFormed.{AreActions, IsAction, IsUnspent, is_unspent_place}
 use Rattle.jlr_laws.proofs.Frames.{no_some, some_same}
 use Rattle.jlr_plain_parts.specs.Places.{keys_are_apart}
 use Rattle.jlr_plain_parts.specs.Actions.{unspent_action, is_action, acts, all_are_actions, action_of, counts_fit, actions_fit}
 use Rattle.jlr_plain_parts.proofs.States.{spent_is, unless_spent, unless_armed}
-use Rattle.jlr_plain_parts.proofs.Everywhere.{Decides-most, Decides-less, Decides-equal, Decides-none, Decides-each, Decides-cleanables, Decides-rising, Decides-apart, AreApart, also, turned}
+use Rattle.jlr_plain_parts.proofs.Everywhere.{Decides-most, Decides-less, Decides-equal, Decides-none, Decides-each, Decides-cleanables, Decides-rising, Decides-apart, also, turned}
 
 Decides-action : (m : Machine) (action : ℕ) → Decides (is_action m action) (IsAction m action)
 Decides-action m action = also (Decides-most 1 action) (Decides-less action m.next_action)

@@ -1,22 +1,20 @@
 -- What the test of the pending list and the line tells.
-use Rattle.std.proofs.Common.{◌≡◌, ◌↔◌, ℕ, ◌<◌, Bool, true, false, not, ◌&&◌, ◌||◌, Decides, IsTrue, List, length, refl, sym, ◌∙◌, ap, subst, ◌⊎◌, inl, inr, Option, Some, None, option_and_then}
-use Rattle.std.specs.List.{list_all}
-use Rattle.std.proofs.lemmas.Bool.{both_ways, and_parts, and_from, or_cases}
-use Rattle.std.proofs.lemmas.Bool.Decides.{Decides-and}
+use Rattle.std.proofs.Common.{◌≡◌, ◌↔◌, ℕ, Bool, false, not, ◌||◌, Decides, IsTrue, List, length, refl, ap, ◌⊎◌, inl, inr, Option, Some, None, option_and_then}
+use Rattle.std.proofs.lemmas.Bool.{both_ways, or_cases}
 use Rattle.jlr_machine.specs.declared.object.Object.{Object}
-use Rattle.jlr_machine.specs.declared.object.Object.TheVariants.{Plain, Reference, Queue, Cleaner, Cleanable, Guard}
+use Rattle.jlr_machine.specs.declared.object.Object.TheVariants.{Reference, Cleanable}
 use Rattle.jlr_machine.specs.declared.object.RefState.{RefState}
-use Rattle.jlr_machine.specs.declared.object.RefState.TheVariants.{Fresh, Pending, Queued, Removed}
+use Rattle.jlr_machine.specs.declared.object.RefState.TheVariants.{Pending, Queued, Removed}
 use Rattle.jlr_machine.specs.declared.object.CleanState.{CleanState}
-use Rattle.jlr_machine.specs.declared.object.CleanState.TheVariants.{Armed, Pending as PendingClean, Lined, Spent}
+use Rattle.jlr_machine.specs.declared.object.CleanState.TheVariants.{Pending as PendingClean, Lined, Spent}
 use Rattle.jlr_machine.specs.declared.machine.Machine.{Machine}
 use Rattle.jlr_machine.specs.Objects.{Heap, at, some_and, ◌∋◌, ◌∈◌, is_distinct, is_fresh, is_lined, is_spent, as_reference, as_cleanable}
-use Rattle.jlr_machine.specs.WellFormed.{AreLists, state_at, clean_state_at}
+use Rattle.jlr_machine.specs.WellFormed.{AreLists}
 use Rattle.jlr_laws.proofs.Frames.{no_some, some_same, place_within}
 use Rattle.jlr_plain_parts.specs.Places.{each_number}
-use Rattle.jlr_plain_parts.specs.Lists.{is_pending, is_pending_clean, must_pend, may_pend, must_line_up, may_line_up, all_pend, all_line_up, pending_may_pend, line_may_line_up, lists_fit}
+use Rattle.jlr_plain_parts.specs.Lists.{is_pending, is_pending_clean, must_pend, may_pend, must_line_up, may_line_up, lists_fit}
 use Rattle.jlr_plain_parts.proofs.States.{pending_is, unfresh_is, pending_clean_is, lined_is, spent_is}
-use Rattle.jlr_plain_parts.proofs.Everywhere.{implied, implies, all_from, Decides-all, Decides-numbers, there_gives, Decides-true, also, turned}
+use Rattle.jlr_plain_parts.proofs.Everywhere.{implied, implies, Decides-all, Decides-numbers, there_gives, Decides-true, also, turned}
 
 -- ---- What is at a place
 

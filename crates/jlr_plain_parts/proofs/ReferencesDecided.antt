@@ -1,7 +1,6 @@
 -- What the test of references and queues tells.
-use Rattle.std.proofs.Common.{◌≡◌, ◌↔◌, ℕ, ◌<◌, Bool, true, false, not, ◌&&◌, ◌||◌, Decides, IsTrue, List, length, refl, sym, ◌∙◌, ap, subst, ◌⊎◌, inl, inr, Option, Some, None, nat_eq, is_some, is_none}
-use Rattle.std.specs.List.{list_all}
-use Rattle.std.proofs.lemmas.Bool.{both_ways, and_parts, and_from, or_cases, or_left, or_right, eqb-true, eq-eqb, cases_eq, not-true, not_from_false, false_from_ne_true}
+use Rattle.std.proofs.Common.{◌≡◌, ◌↔◌, ℕ, true, false, not, ◌||◌, Decides, IsTrue, List, length, refl, sym, ◌∙◌, ap, subst, inl, inr, Option, Some, None, nat_eq, is_some}
+use Rattle.std.proofs.lemmas.Bool.{both_ways, or_cases, or_left, or_right, eqb-true, eq-eqb, cases_eq, not-true, not_from_false, false_from_ne_true}
 use Rattle.jlr_machine.specs.declared.object.Object.{Object}
 use Rattle.jlr_machine.specs.declared.object.Object.TheVariants.{Plain, Reference, Queue, Cleaner, Cleanable, Guard}
 use Rattle.jlr_machine.specs.declared.object.Reference.{Reference as ReferenceOf}
@@ -9,13 +8,13 @@ use Rattle.jlr_machine.specs.declared.object.RefState.{RefState}
 use Rattle.jlr_machine.specs.declared.object.RefState.TheVariants.{Fresh, Pending, Queued, Removed}
 use Rattle.jlr_machine.specs.declared.machine.Machine.{Machine}
 use Rattle.jlr_machine.specs.Objects.{Heap, at, some_and, ◌∋◌, ◌∈◌, is_distinct, is_queued}
-use Rattle.jlr_machine.specs.WellFormed.{AreReferences, FitsItsState, IsReferenceAt, IsQueueAt}
+use Rattle.jlr_machine.specs.WellFormed.{AreReferences, FitsItsState}
 use Rattle.jlr_laws.proofs.Sets.{nothing}
-use Rattle.jlr_laws.proofs.Frames.{no_some, some_same, place_within}
-use Rattle.jlr_plain_parts.specs.Places.{each_number, on_queue}
-use Rattle.jlr_plain_parts.specs.References.{fits_state, fits_own_state, states_fit, is_queued_object, members_fit, queues_fit, members_in, is_disjoint, shares_nothing, queues_are_apart, references_fit}
+use Rattle.jlr_laws.proofs.Frames.{no_some, place_within}
+use Rattle.jlr_plain_parts.specs.Places.{on_queue}
+use Rattle.jlr_plain_parts.specs.References.{fits_state, fits_own_state, is_queued_object, members_fit, members_in, is_disjoint, shares_nothing, queues_are_apart, references_fit}
 use Rattle.jlr_plain_parts.proofs.States.{queued_is}
-use Rattle.jlr_plain_parts.proofs.Everywhere.{all_from, Decides-all, Decides-numbers, Decides-references, Decides-queues, Decides-slots, Decides-on_queue, there_gives, Decides-true, Decides-none, also, turned}
+use Rattle.jlr_plain_parts.proofs.Everywhere.{Decides-all, Decides-numbers, Decides-references, Decides-queues, Decides-slots, Decides-on_queue, Decides-true, Decides-none, also, turned}
 
 -- ---- States
 

@@ -1,7 +1,7 @@
 -- What the test of mutators and names tells.
-use Rattle.std.proofs.Common.{◌≡◌, ◌↔◌, ℕ, ◌<◌, ◌≤◌, Bool, true, false, not, ◌&&◌, Decides, IsTrue, List, [], ◌∷◌, length, refl, sym, ◌∙◌, ap, subst, map, Option, Some, None, nat_eq, nat_le, is_none}
-use Rattle.std.specs.List.{list_all, AllByRecursion, IsDistinct}
-use Rattle.std.proofs.lemmas.Bool.{and_parts, and_from, not-true, not_from_false}
+use Rattle.std.proofs.Common.{◌≡◌, ◌↔◌, ℕ, false, Decides, IsTrue, List, [], ◌∷◌, length, refl, map, None}
+use Rattle.std.specs.List.{AllByRecursion, IsDistinct}
+use Rattle.std.proofs.lemmas.Bool.{not-true, not_from_false}
 use Rattle.jlr_machine.specs.declared.machine.Machine.{Machine}
 use Rattle.jlr_machine.specs.declared.machine.Session.{Session}
 use Rattle.jlr_machine.specs.declared.machine.Binding.{Binding}

@@ -1,29 +1,24 @@
 -- What the test of named slots tells.
-use Rattle.std.proofs.Common.{◌≡◌, ◌↔◌, ℕ, ◌<◌, Bool, true, false, not, ◌&&◌, ◌||◌, Decides, IsTrue, List, [], ◌∷◌, length, refl, sym, ◌∙◌, ap, subst, map, filter_map, option_to_list, cond, ◌⊎◌, inl, inr, Option, Some, None, is_some, nat_eq}
-use Rattle.std.specs.List.{list_all, cons_option}
-use Rattle.std.proofs.lemmas.Bool.{both_ways, and_parts, and_from}
-use Rattle.std.proofs.lemmas.List.Folds.{list_all-map}
-use Rattle.jlr_types.specs.declared.FieldValue.{FieldValue}
+use Rattle.std.proofs.Common.{◌≡◌, ◌↔◌, ℕ, true, false, Decides, IsTrue, List, [], refl, sym, ap, subst, option_to_list, inl, inr, Option, Some, None, is_some}
+use Rattle.std.specs.List.{list_all}
+use Rattle.std.proofs.lemmas.Bool.{both_ways}
 use Rattle.jlr_machine.specs.declared.object.Object.{Object}
 use Rattle.jlr_machine.specs.declared.object.Object.TheVariants.{Plain, Reference, Queue, Cleaner, Cleanable, Guard}
-use Rattle.jlr_machine.specs.declared.object.Reference.{Reference as ReferenceOf}
 use Rattle.jlr_machine.specs.declared.object.Cleanable.{Cleanable as CleanableOf}
-use Rattle.jlr_machine.specs.declared.object.Guard.{Guard as GuardOf}
 use Rattle.jlr_machine.specs.declared.machine.Machine.{Machine}
 use Rattle.jlr_machine.specs.declared.machine.Session.{Session}
-use Rattle.jlr_machine.specs.declared.machine.Binding.{Binding}
-use Rattle.jlr_machine.specs.Objects.{Heap, at, some_and, ◌∋◌, ◌∈◌, any_referent, queue_ahead}
-use Rattle.jlr_machine.specs.Edges.{edges_from, roots, slot_in, strong_edges, is_own_root}
+use Rattle.jlr_machine.specs.Objects.{Heap, at, some_and, ◌∈◌, any_referent, queue_ahead}
+use Rattle.jlr_machine.specs.Edges.{edges_from, roots, strong_edges, is_own_root}
 use Rattle.jlr_machine.specs.Edges.Chain.{UpToPhantom}
 use Rattle.jlr_machine.specs.Refusals.{is_queue, is_cleanable}
 use Rattle.jlr_machine.specs.WellFormed.{AreSlotsNamed, IsQueueAt, IsCleanableAt}
 use Rattle.jlr_laws.proofs.Sets.{nothing, in_front, in_cons}
 use Rattle.jlr_laws.proofs.Clearing.{in_option, edge_gives, edge_from, referent_is, some_kind}
-use Rattle.jlr_laws.proofs.Frames.{no_some, some_same, IsRoot, root_gives, root_from}
+use Rattle.jlr_laws.proofs.Frames.{no_some, root_gives, root_from}
 use Rattle.jlr_laws.proofs.Frames.IsRoot.{held, fencing, named, waiting, lining, active}
 use Rattle.jlr_plain_parts.specs.Places.{none_or}
-use Rattle.jlr_plain_parts.specs.Slots.{is_there, fields_there, edges_there, session_there, roots_there, queue_there, cleanable_there, slots_fit}
-use Rattle.jlr_plain_parts.proofs.Everywhere.{all_from, Decides-all, Decides-places, Decides-references, Decides-guards, Decides-true, Decides-any, Decides-fields, Decides-bound, there_gives, there_from, also, turned}
+use Rattle.jlr_plain_parts.specs.Slots.{is_there, edges_there, session_there, roots_there, queue_there, cleanable_there, slots_fit}
+use Rattle.jlr_plain_parts.proofs.Everywhere.{Decides-all, Decides-places, Decides-references, Decides-guards, Decides-true, Decides-any, Decides-fields, Decides-bound, also, turned}
 
 -- ---- Edges
 

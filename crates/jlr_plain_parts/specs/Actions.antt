@@ -1,12 +1,12 @@
 -- The test of actions.
-use Rattle.std.specs.Prelude.{ℕ, ◌+◌, Bool, true, false, not, ◌&&◌, ◌||◌, cond, List, [], ◌∷◌, Option, Some, None, length, count_by, nat_eq, nat_le, nat_lt, is_none}
+use Rattle.std.specs.Prelude.{ℕ, ◌+◌, Bool, ◌&&◌, ◌||◌, cond, Option, Some, None, length, count_by, nat_eq, nat_le, nat_lt, is_none}
 use Rattle.std.specs.List.{list_all}
 use Rattle.jlr_machine.specs.declared.object.Object.{Object}
-use Rattle.jlr_machine.specs.declared.object.Object.TheVariants.{Plain, Reference, Queue, Cleaner, Cleanable, Guard}
+use Rattle.jlr_machine.specs.declared.object.Object.TheVariants.{Cleanable}
 use Rattle.jlr_machine.specs.declared.object.Cleanable.{Cleanable as CleanableOf}
 use Rattle.jlr_machine.specs.declared.machine.Machine.{Machine}
 use Rattle.jlr_machine.specs.declared.machine.Job.{Job}
-use Rattle.jlr_machine.specs.Objects.{Heap, at, is_armed, is_spent}
+use Rattle.jlr_machine.specs.Objects.{is_armed, is_spent}
 use Rattle.jlr_machine.specs.Lookups.{job_of}
 use Rattle.jlr_machine.specs.WellFormed.{is_unspent_place}
 use Rattle.jlr_plain_parts.specs.Places.{none_or, on_cleanable, rising_by, keys_are_apart}

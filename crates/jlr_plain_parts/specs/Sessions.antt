@@ -5,7 +5,7 @@ use Rattle.jlr_machine.specs.declared.machine.Machine.{Machine}
 use Rattle.jlr_machine.specs.declared.machine.Session.{Session}
 use Rattle.jlr_machine.specs.declared.machine.Binding.{Binding}
 use Rattle.jlr_machine.specs.declared.machine.Call.{Call}
-use Rattle.jlr_machine.specs.declared.machine.Call.TheVariants.{Free, Opening, Out, Job}
+use Rattle.jlr_machine.specs.declared.machine.Call.TheVariants.{Opening}
 use Rattle.jlr_machine.specs.Objects.{at, occupied}
 use Rattle.jlr_machine.specs.Lookups.{same_name}
 use Rattle.jlr_plain_parts.specs.Places.{none_or}

@@ -1,5 +1,5 @@
 -- The test that each slot named is an object of the fitting kind.
-use Rattle.std.specs.Prelude.{ℕ, Bool, true, ◌&&◌, List, Option, is_some}
+use Rattle.std.specs.Prelude.{ℕ, Bool, true, ◌&&◌, List, is_some}
 use Rattle.std.specs.List.{list_all}
 use Rattle.jlr_types.specs.declared.FieldValue.{FieldValue}
 use Rattle.jlr_machine.specs.declared.object.Object.{Object}

@@ -44,8 +44,8 @@ fn is_action_of(action: ActionNo, other: Option<ActionNo>) -> bool
 fn acts_alone(machine: &Machine, slot: usize, action: ActionNo) -> bool
     ensures { result ≡ is_only_key unspent_action machine.now.objects slot action }
 {
-    (0..machine.objects.len())
-        .all(|other| slot == other || !is_action_of(action, unspent_at(machine, other)))
+    (0..machine.objects.len()).all(|other| slot == other
+        || !is_action_of(action, unspent_at(machine, other)))
 }
 
 fn cleanables_act_alone(machine: &Machine) -> bool

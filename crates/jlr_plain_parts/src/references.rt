@@ -89,8 +89,8 @@ fn disjoint(left: &[Slot], right: &[Slot]) -> bool
 fn apart_from_others(machine: &Machine, queue: usize, members: &[Slot]) -> bool
     ensures { result ≡ shares_nothing machine.now.objects queue members.now }
 {
-    (0..machine.objects.len())
-        .all(|other| queue == other || disjoint(members_at(machine, other), members))
+    (0..machine.objects.len()).all(|other| queue == other
+        || disjoint(members_at(machine, other), members))
 }
 
 fn queues_share_nothing(machine: &Machine) -> bool
