@@ -1,0 +1,5 @@
+pub mod WorksDecided
+pub mod ResourcesDecided
+pub mod CallsDecided
+pub mod UnnamedDecided
+pub mod ImagesDecided

@@ -1,0 +1,4 @@
+pub mod Resources
+pub mod Calls
+pub mod Unnamed
+pub mod Images

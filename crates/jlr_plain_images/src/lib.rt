@@ -1,0 +1,10 @@
+//! Whether a machine is well formed, and whether it may be the image at the head of a trace.
+#![tactic(auto)]
+
+pub mod calls;
+pub mod image;
+pub mod resources;
+#[cfg(test)]
+mod tests;
+pub mod unnamed;
+mod works;
