@@ -7,11 +7,7 @@ use crate::items::Items;
 use crate::machine::{Binding, Machine, Session};
 use crate::object::Object;
 use crate::table::Table;
-use jlr_types::Layout;
 use std::alloc::{AllocError, Global};
-
-/// The most fields of a plain object.
-const FIELDS: usize = 8;
 
 /// The same elements.
 pub fn copy_slice<T: Copy>(alloc: Global, items: &[T]) -> Result<Vec<T>, AllocError>
@@ -184,22 +180,6 @@ impl CallOutcome {
     }
 }
 
-/// The same layout. No layout is longer than what a copy takes, so the last test only says what every layout meets.
-fn copy_layout(layout: &Layout) -> Result<Layout, AllocError>
-    ensures { IfOk result (λ c. c ≡ layout.now) }
-{
-    let mut out = Layout::new();
-    for field in 0..FIELDS {
-        if let Some(kind) = layout.get(field) {
-            out.push(kind);
-        }
-    }
-    if layout.len() > FIELDS {
-        return Err(AllocError);
-    }
-    Ok(out)
-}
-
 impl Ask {
     /// The same ask.
     ///
@@ -213,7 +193,7 @@ impl Ask {
             Ask::Leave { mutator } => Ask::Leave { mutator: *mutator },
             Ask::New { mutator, layout } => Ask::New {
                 mutator: *mutator,
-                layout: copy_layout(layout)?,
+                layout: layout.copy(),
             },
             Ask::Put {
                 mutator,
