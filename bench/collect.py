@@ -1,10 +1,11 @@
 #!/usr/bin/env python3
 """Times full collections through the line protocol, beside a plain mark-sweep over the very same objects.
 
-    bench/collect.py [--program crates/refheap/out/refheap] [--objects 65528] [--rounds 31] [--shapes chain,tree,graph]
+    bench/collect.py [--program crates/refheap/out/refheap] [--objects 65528] [--rounds 101] [--shapes chain,tree,graph]
 
-Each object has three reference fields. One handle is left, from which all objects are reached. The time of a collection is the
-median time of `gc` less that of `same 0 0`, which does next to nothing.
+Each object has three reference fields. One handle is left, from which all objects are reached. The time of a collection is that
+of `gc` less that of `same 0 0`, which does next to nothing; the median of the rounds, and the least, which a busy machine
+disturbs less.
 """
 import argparse
 import os
@@ -105,7 +106,7 @@ def graph(builder, count):
 
 
 def plain(edges, root, rounds):
-    """Nanoseconds a live object of the plain mark-sweep."""
+    """Nanoseconds a live object of the plain mark-sweep: the median, and the least."""
     with tempfile.TemporaryDirectory() as folder:
         program = os.path.join(folder, "plain_mark_sweep")
         subprocess.run(["rustc", "-O", os.path.join(HERE, "plain_mark_sweep.rs"), "-o", program], check=True)
@@ -114,29 +115,33 @@ def plain(edges, root, rounds):
             for fields in edges:
                 out.write(" ".join("-" if field is None else str(field) for field in fields) + "\n")
         answer = subprocess.run([program, objects, str(root), str(rounds)], check=True, capture_output=True, text=True)
-    live, nanoseconds = answer.stdout.split()
+    live, median, least = answer.stdout.split()
     if int(live) != len(edges):
         raise SystemExit(f"the plain mark-sweep reaches {live} of {len(edges)} objects")
-    return float(nanoseconds)
+    return float(median), float(least)
 
 
 def main():
     arguments = argparse.ArgumentParser(description=__doc__, formatter_class=argparse.RawDescriptionHelpFormatter)
     arguments.add_argument("--program", default=os.path.join(HERE, "..", "crates", "refheap", "out", "refheap"))
     arguments.add_argument("--objects", type=int, default=CELLS - 8)
-    arguments.add_argument("--rounds", type=int, default=31)
+    arguments.add_argument("--rounds", type=int, default=101)
     arguments.add_argument("--shapes", default="chain,tree,graph")
     given = arguments.parse_args()
     for shape in given.shapes.split(","):
         session = Session(given.program, CELLS)
         builder = Builder(session)
         root = {"chain": chain, "tree": tree, "graph": graph}[shape](builder, given.objects)
-        idle = statistics.median(session.time("same 0 0") for _ in range(200))
-        full = statistics.median(session.time("gc") for _ in range(given.rounds))
+        idle = [session.time("same 0 0") for _ in range(200)]
+        full = [session.time("gc") for _ in range(given.rounds)]
         session.close()
-        heap = (full - idle) / given.objects
-        yardstick = plain(builder.edges, root, given.rounds)
-        print(f"{shape}: {heap:.1f} ns a live object, plain mark-sweep {yardstick:.1f} ns, ratio {heap / yardstick:.2f}")
+        median = (statistics.median(full) - statistics.median(idle)) / given.objects
+        least = (min(full) - min(idle)) / given.objects
+        plain_median, plain_least = plain(builder.edges, root, given.rounds)
+        print(
+            f"{shape}: {median:.1f} ns a live object, plain mark-sweep {plain_median:.1f} ns, ratio {median / plain_median:.2f}; "
+            f"at best {least:.1f} and {plain_least:.1f} ns, ratio {least / plain_least:.2f}"
+        )
 
 
 if __name__ == "__main__":
