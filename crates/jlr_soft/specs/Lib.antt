@@ -1,0 +1,2 @@
+-- Which soft references are kept.
+pub mod Keeping
