@@ -1,5 +1,5 @@
 -- A step of the core carries a command out.
-use Rattle.std.proofs.Common.{◌≡◌, false, Option, Some, None, IsTrue, is_some, refl, sym, subst}
+use Rattle.std.proofs.Common.{◌≡◌, false, Option, Some, None, IsTrue, is_some, refl, subst}
 use Rattle.std.proofs.lemmas.Bool.{both_ways}
 use Rattle.jlr_machine.specs.declared.machine.Machine.{Machine}
 use Rattle.jlr_machine.specs.declared.ask.Ask.{Ask}

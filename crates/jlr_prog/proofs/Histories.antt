@@ -1,5 +1,5 @@
 -- The core carries a session out as a history of the machine.
-use Rattle.std.proofs.Common.{◌≡◌, ◌≢◌, ℕ, List, [], ◌∷◌, ◌++◌, Option, Some, None, refl, sym, subst}
+use Rattle.std.proofs.Common.{◌≡◌, ℕ, List, [], ◌∷◌, ◌++◌, Some, refl, sym, subst}
 use Rattle.jlr_machine.specs.declared.machine.Machine.{Machine}
 use Rattle.jlr_machine.specs.declared.ask.Ask.{Ask}
 use Rattle.jlr_machine.specs.declared.ask.Ask.TheVariants.{Join, Leave}
@@ -16,28 +16,23 @@ use Rattle.jlr_prog.specs.Sessions.{Ended}
 use Rattle.jlr_prog.specs.Histories.{Tells, IsSession}
 use Rattle.jlr_prog.specs.declared.shell.FirstEnd.{FirstEnd}
 use Rattle.jlr_prog.proofs.Following.{IsFollowed, ended_along}
+use Rattle.jlr_prog.proofs.Staying.{IsHere, stays, joins, leaves}
 
--- the core stands for the machine to which this history leads
+-- the core stands for the machine to which this history leads, and mutator 0 is there
 abbrev pub IsAfter : Machine → Kept → List Entry → Type 0
-IsAfter m core history = (n : Machine) × Run m history n × StandsIn core n
+IsAfter m core history = (n : Machine) × Run m history n × StandsIn core n × IsHere n
 
 run_snoc : (m n : Machine) (entries : List Entry) (e : Entry) → Run m entries n → IsLegal n e → Run m (entries ++ e ∷ []) (apply n e)
 run_snoc m n [] e r l = subst (λ k. IsLegal k e × (apply n e ≡ apply k e)) r (l, refl)
 run_snoc m n (x ∷ entries) e r l = (r.0, run_snoc (apply m x) n entries e r.1 l)
 
--- an ask and its answer are one entry more
-asked : (m : Machine) (old new : Kept) (ask : Ask) (answer : Answer) (history : List Entry) → Answers old (Some ask) answer new → IsAfter m old history
-    → (e : Entry) × (e.ask ≡ ask) × (e.answer ≡ answer) × IsAfter m new (history ++ e ∷ [])
-asked m old new ask answer history a r =
-    let d = a r.0 r.2 in
-    let e = entry_of ask answer d.0 in
-    (e, refl, refl, (apply r.0 e, run_snoc m r.0 history e r.1 d.2.0, subst (StandsIn new) d.2.1 d.3))
-
+-- an ask of a command and its answer are one entry more
 told : (m : Machine) (old new : Kept) (c : Command) (ask : Ask) (answer : Answer) (history : List Entry) → ask_for c ≡ Some ask → Answers old (Some ask) answer new → IsAfter m old history
     → (y : List Entry) × Tells history c answer y × IsAfter m new y
 told m old new c ask answer history f a r =
-    let d = asked m old new ask answer history a r in
-    (history ++ d.0 ∷ [], (d.0, subst (λ k. ask_for c ≡ Some k) (sym d.1) f, d.2, refl), d.3)
+    let d = a r.0 r.2 in
+    let e = entry_of ask answer d.0 in
+    (history ++ e ∷ [], (e, f, refl, refl), (apply r.0 e, run_snoc m r.0 history e r.1 d.2.0, subst (StandsIn new) d.2.1 d.3, stays r.0 c ask answer d.0 f r.3))
 
 carried : (m : Machine) → IsFollowed CarriesOut Tells (IsAfter m)
 carried m old new history (New layout) answer n a r = told m old new (New layout) _ answer history refl a r
@@ -55,7 +50,21 @@ pub is_session : (m : Machine) (joined left over : Kept) (end : FirstEnd) (bytes
     → IsJoined m joined → Ended CarriesOut end bytes joined out left → Answers left (Some (Leave 0)) answer over → IsSession m end bytes out
 is_session m joined left over end bytes out answer j e l =
     let first = entry_of (Join 0) Done j.0 in
-    let start : IsAfter m joined (first ∷ []) = (j.1, (j.2.0, j.2.1), j.3) in
+    let here : IsHere j.1 = subst IsHere (sym j.2.1) (joins m j.0 j.2.0) in
+    let start : IsAfter m joined (first ∷ []) = (j.1, (j.2.0, j.2.1), j.3, here) in
     let d = ended_along CarriesOut Tells (IsAfter m) (carried m) end bytes joined left out (first ∷ []) e start in
-    let last = asked m left over (Leave 0) answer d.0 l d.2 in
-    record { join = first; entries = d.0; leave = last.0; last = last.3.0; joins = refl; joined = refl; tells = d.1; leaves = last.1; run = last.3.1 }
+    let n = d.2.0 in
+    let x = l n d.2.2 in
+    let last = entry_of (Leave 0) answer x.0 in
+    record {
+      join = first;
+      entries = d.0;
+      leave = last;
+      last = apply n last;
+      joins = refl;
+      joined = refl;
+      tells = d.1;
+      leaves = refl;
+      left = leaves n answer x.0 d.2.3 x.2.0;
+      run = run_snoc m n d.0 last d.2.1 x.2.0;
+    }

@@ -5,4 +5,5 @@ pub mod Ending
 pub mod Taking
 pub mod Standing
 pub mod Following
+pub mod Staying
 pub mod Histories

@@ -26,4 +26,5 @@ pub record IsSession (m : Machine) (end : FirstEnd) (bytes out : List ℕ) : Typ
   pub joined : join.answer ≡ Done
   pub tells : Ended Tells end bytes (join ∷ []) out entries
   pub leaves : leave.ask ≡ Leave 0
+  pub left : leave.answer ≡ Done
   pub run : Run m (entries ++ leave ∷ []) last

@@ -1,4 +1,4 @@
-use Rattle.std.proofs.Common.{◌≡◌, ◌∙◌, refl, sym, subst, ap}
+use Rattle.std.proofs.Common.{sym, subst, ap}
 use Rattle.jlr_core.specs.Events.{ask_of, answer_in}
 use Rattle.jlr_prog.specs.Heaps.{Answers}
 use Rattle.jlr_prog.proofs.Carrying.{answered, never_marked}

@@ -1,4 +1,4 @@
-use Rattle.std.proofs.Common.{◌≡◌, Some, subst}
+use Rattle.std.proofs.Common.{Some, subst}
 use Rattle.jlr_machine.specs.declared.ask.Ask.TheVariants as ask
 use Rattle.jlr_prog.specs.Heaps.{Answers}
 use Rattle.jlr_prog.proofs.heap.Heap.leave.Goals as goal

@@ -1,4 +1,4 @@
-use Rattle.std.proofs.Common.{◌≡◌, ◌∙◌, subst, Some, ap}
+use Rattle.std.proofs.Common.{◌∙◌, subst, Some, ap}
 use Rattle.jlr_machine.specs.Run.{empty}
 use Rattle.jlr_machine.specs.declared.ask.Ask.TheVariants as ask
 use Rattle.jlr_core.specs.Events.{answer_in, Enters}
