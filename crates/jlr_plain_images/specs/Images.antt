@@ -14,11 +14,13 @@ pub record IsRestFit (m : Machine) : Type 0 where
   pub seen_within : (s : ℕ) → s ∈ m.seen → s < length m.objects
   pub seen_in_cycle : m.cycle_open ≡ false → m.seen ≡ []
 
+-- slots are in the order of their numbers
 abbrev pub itself : ℕ → ℕ
 itself s = s
 
 abbrev pub seen_fits : Machine → Bool
 seen_fits m = rising_by itself m.seen && list_all (λ s. nat_lt s (length m.objects)) m.seen && (m.cycle_open || is_empty m.seen)
 
+-- what a well-formed machine keeps beside its nine parts, as a test
 abbrev pub rest_fits : Machine → Bool
 rest_fits m = nat_le (length m.faults) 256 && nat_le (length m.notes) 256 && seen_fits m

@@ -21,18 +21,23 @@ is_private_object m (Cleanable c) = is_on_resource c.work
 is_private_object m (Guard g) = some_and (is_in_call m g.rid Opening) (cleanable_at m g.cleanable)
 is_private_object m _ = false
 
+-- what is at s is not private
 abbrev pub is_public : Machine → ℕ → Bool
 is_public m s = not (some_and (is_private_object m) (at m.objects s))
 
+-- no handle of the mutator names what is private
 abbrev pub handles_public : Machine → Session → Bool
 handles_public m s = list_all (none_or (is_public m)) s.handles
 
+-- no field of the object refers to it
 abbrev pub fields_public : Machine → List FieldValue → Bool
 fields_public m fields = list_all (λ f. none_or (is_public m) (slot_in f)) fields
 
+-- the reference does not refer to it
 abbrev pub referent_public : Machine → ReferenceOf → Bool
 referent_public m r = none_or (is_public m) r.referent
 
+-- nobody names what is private
 abbrev pub private_fit : Machine → Bool
 private_fit m =
     list_all (none_or (handles_public m)) m.mutators

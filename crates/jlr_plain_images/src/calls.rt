@@ -4,7 +4,7 @@ ghost use Rattle.jlr_machine.specs.Objects.{at, some_and};
 ghost use Rattle.jlr_machine.specs.Lookups.{job_of};
 ghost use Rattle.jlr_machine.specs.declared.machine.Call.TheVariants.{Opening as CallOpening, Out as CallOut, Job as CallJob};
 ghost use Rattle.jlr_machine.specs.WellFormed.{AreCalls};
-ghost use Rattle.jlr_plain_images.specs.Calls.{same_call, is_free_call, is_in_call, is_guard_in_call, is_fencing, fits_own_call, all_fit_calls, is_calling, is_called, has_its_call, all_have_calls, is_called_job, all_jobs_called, are_in_one_call, call_is_apart, calls_are_apart, calls_fit};
+ghost use Rattle.jlr_plain_images.specs.Calls.{same_call, is_free_call, is_guard_in_call, is_fencing, fits_own_call, all_fit_calls, is_calling, is_called, has_its_call, all_have_calls, is_called_job, all_jobs_called, are_in_one_call, call_is_apart, calls_are_apart, calls_fit};
 
 use crate::works::in_call_at;
 use jlr_machine::machine::{Call, Job, Machine, Resource, ResourceState, Session};

@@ -37,11 +37,16 @@ fn slots_rise(slots: &[Slot]) -> bool
     true
 }
 
+fn is_cell(machine: &Machine, slot: Slot) -> bool
+    ensures { result ≡ nat_lt slot (length machine.now.objects) }
+{
+    (slot.number() as usize) < machine.objects.len()
+}
+
 fn all_cells(machine: &Machine, slots: &[Slot]) -> bool
     ensures { result ≡ list_all (λ s. nat_lt s (length machine.now.objects)) slots.now }
 {
-    let cells = machine.objects.len();
-    slots.iter().all(|slot| (slot.number() as usize) < cells)
+    slots.iter().all(|&slot| is_cell(machine, slot))
 }
 
 fn nothing_seen_outside(machine: &Machine) -> bool

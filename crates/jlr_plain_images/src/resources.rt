@@ -1,11 +1,11 @@
 //! Resources, and the guards, cleanables and jobs that they belong to.
-ghost use Rattle.std.specs.Prelude.{◌≡◌, ◌↔◌, ◌||◌, ◌&&◌, not, IsTrue, nat_eq, nat_lt, length};
+ghost use Rattle.std.specs.Prelude.{◌≡◌, ◌↔◌, ◌||◌, ◌&&◌, IsTrue, nat_eq, nat_lt};
 ghost use Rattle.std.specs.List.{list_all, list_any};
 ghost use Rattle.jlr_machine.specs.Objects.{at, some_and, is_armed, is_spent};
 ghost use Rattle.jlr_machine.specs.Lookups.{job_of, resource_at};
 ghost use Rattle.jlr_machine.specs.WellFormed.{AreResources};
-ghost use Rattle.jlr_plain_parts.specs.Places.{none_or, on_cleanable, on_guard, rising_by, is_only_key, keys_are_apart};
-ghost use Rattle.jlr_plain_images.specs.Resources.{is_on_resource, is_work_on, is_worker, has_worker, is_worked, all_are_worked, serves, has_its_resource, closes_its_own, all_jobs_close, guarded_slot, is_own, owns, all_guards_own, is_guard_of, is_guarded, all_are_guarded, guards_fit, rid_in, resources_fit};
+ghost use Rattle.jlr_plain_parts.specs.Places.{none_or, on_cleanable, rising_by, is_only_key, keys_are_apart};
+ghost use Rattle.jlr_plain_images.specs.Resources.{is_on_resource, is_work_on, is_worker, is_worked, all_are_worked, serves, has_its_resource, closes_its_own, all_jobs_close, guarded_slot, is_own, owns, all_guards_own, is_guard_of, is_guarded, all_are_guarded, guards_fit, rid_in, resources_fit};
 
 use crate::works::{armed, closing, idle, on_resource, resource_is, works_on};
 use jlr_machine::machine::{Job, Machine, Resource, ResourceState};

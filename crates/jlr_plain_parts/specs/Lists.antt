@@ -11,6 +11,7 @@ use Rattle.jlr_machine.specs.declared.machine.Machine.{Machine}
 use Rattle.jlr_machine.specs.Objects.{at, some_and, ◌∋◌, is_distinct, is_fresh, is_lined, is_spent}
 use Rattle.jlr_plain_parts.specs.Places.{each_number}
 
+-- the states in which an object waits for the handler
 abbrev pub is_pending : RefState → Bool
 is_pending Pending = true
 is_pending Fresh = false
@@ -43,17 +44,22 @@ abbrev pub may_line_up : Object → Bool
 may_line_up (Cleanable c) = is_lined c.state || is_spent c.state
 may_line_up _ = false
 
+-- each object that has to be in the pending list is there
 abbrev pub all_pend : Machine → Bool
 all_pend m = each_number (length m.objects) (λ s. not (some_and must_pend (at m.objects s)) || (m.pending ∋ s))
 
+-- each object that has to be in the line is there
 abbrev pub all_line_up : Machine → Bool
 all_line_up m = each_number (length m.objects) (λ s. not (some_and must_line_up (at m.objects s)) || (m.line ∋ s))
 
+-- nothing else is pending
 abbrev pub pending_may_pend : Machine → Bool
 pending_may_pend m = list_all (λ s. some_and may_pend (at m.objects s)) m.pending
 
+-- nothing else is in the line
 abbrev pub line_may_line_up : Machine → Bool
 line_may_line_up m = list_all (λ s. some_and may_line_up (at m.objects s)) m.line
 
+-- both lists hold what they have to, once each, and only what they may
 abbrev pub lists_fit : Machine → Bool
 lists_fit m = is_distinct m.pending && is_distinct m.line && all_pend m && pending_may_pend m && all_line_up m && line_may_line_up m

@@ -14,6 +14,7 @@ abbrev pub none_or : {A : Type 0} → (A → Bool) → Option A → Bool
 none_or test None = true
 none_or test (Some x) = test x
 
+-- the test passes at each number below n
 abbrev pub each_number : ℕ → (ℕ → Bool) → Bool
 each_number n test = list_all test (range_with_len 0 n)
 

@@ -13,9 +13,11 @@ use Rattle.jlr_machine.specs.Edges.{slot_in}
 use Rattle.jlr_machine.specs.Refusals.{is_queue, is_cleanable}
 use Rattle.jlr_plain_parts.specs.Places.{none_or, on_reference, on_guard}
 
+-- there is an object at s
 abbrev pub is_there : Heap → ℕ → Bool
 is_there heap s = is_some (at heap s)
 
+-- what the fields refer to is there
 abbrev pub fields_there : Heap → List FieldValue → Bool
 fields_there heap fields = list_all (λ f. none_or (is_there heap) (slot_in f)) fields
 
@@ -32,6 +34,7 @@ edges_there heap (Guard g) = is_there heap g.cleanable
 abbrev pub session_there : Heap → Session → Bool
 session_there heap s = list_all (none_or (is_there heap)) s.handles && none_or (is_there heap) s.fence
 
+-- what handles, fences, names, the pending list and the line name is there; Armed and Pending cleanables are
 abbrev pub roots_there : Machine → Bool
 roots_there m =
     list_all (none_or (session_there m.objects)) m.mutators
@@ -39,12 +42,15 @@ roots_there m =
     && list_all (is_there m.objects) m.pending
     && list_all (is_there m.objects) m.line
 
+-- the reference's queue is a queue
 abbrev pub queue_there : Heap → ReferenceOf → Bool
 queue_there heap r = none_or (λ q. some_and is_queue (at heap q)) r.queue
 
+-- the guard's cleanable is a cleanable
 abbrev pub cleanable_there : Heap → GuardOf → Bool
 cleanable_there heap g = some_and is_cleanable (at heap g.cleanable)
 
+-- each slot named is an object of the fitting kind
 abbrev pub slots_fit : Machine → Bool
 slots_fit m =
     list_all (none_or (edges_there m.objects)) m.objects

@@ -1,5 +1,5 @@
 //! The actions of cleanables, jobs, resources and faults.
-ghost use Rattle.std.specs.Prelude.{◌≡◌, ◌+◌, ◌↔◌, ◌&&◌, ◌||◌, not, IsTrue, nat_eq, nat_lt, length, count_by, cond, Some, None, is_none};
+ghost use Rattle.std.specs.Prelude.{◌≡◌, ◌+◌, ◌↔◌, ◌||◌, IsTrue, nat_eq, nat_lt, length, count_by, cond, Some, None, is_none};
 ghost use Rattle.std.specs.List.{list_all};
 ghost use Rattle.jlr_machine.specs.Objects.{at, some_and, is_armed, is_spent};
 ghost use Rattle.jlr_machine.specs.Lookups.{job_of};

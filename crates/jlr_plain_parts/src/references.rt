@@ -1,5 +1,5 @@
 //! References and queues.
-ghost use Rattle.std.specs.Prelude.{◌≡◌, ◌↔◌, ◌||◌, IsTrue, nat_eq};
+ghost use Rattle.std.specs.Prelude.{◌≡◌, ◌↔◌, IsTrue};
 ghost use Rattle.std.specs.List.{list_all};
 ghost use Rattle.jlr_machine.specs.Objects.{at, some_and};
 ghost use Rattle.jlr_machine.specs.WellFormed.{AreReferences};

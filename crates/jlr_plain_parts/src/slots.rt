@@ -3,7 +3,7 @@ ghost use Rattle.std.specs.Prelude.{◌≡◌, ◌↔◌, IsTrue};
 ghost use Rattle.std.specs.List.{list_all};
 ghost use Rattle.jlr_machine.specs.Objects.{at, some_and};
 ghost use Rattle.jlr_machine.specs.declared.object.Object.TheVariants.{Reference as ReferenceObject};
-ghost use Rattle.jlr_machine.specs.Refusals.{is_queue, is_cleanable};
+ghost use Rattle.jlr_machine.specs.Refusals.{is_queue};
 ghost use Rattle.jlr_machine.specs.WellFormed.{AreSlotsNamed};
 ghost use Rattle.jlr_plain_parts.specs.Places.{none_or, on_reference, on_guard};
 ghost use Rattle.jlr_plain_parts.specs.Slots.{is_there, fields_there, edges_there, session_there, roots_there, queue_there, cleanable_there, slots_fit};
