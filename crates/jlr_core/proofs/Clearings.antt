@@ -1,10 +1,9 @@
 -- What the marked objects of an early machine are: a full collection that clears all.
-use Rattle.std.proofs.Common.{◌≡◌, ◌&&◌, ◌+◌, suc, filter, ℕ, ◌<◌, ◌≤◌, ◌↔◌, Bool, true, false, not, cond, List, [], ◌∷◌, ◌++◌, length, Option, Some, None, option_map, option_and_then, IsTrue, is_some, refl, sym, ◌∙◌, ap, subst, inl, inr, filter, arith, filter_map}
+use Rattle.std.proofs.Common.{◌≡◌, ◌&&◌, ◌+◌, suc, filter, ℕ, ◌<◌, ◌↔◌, Bool, true, false, cond, List, [], ◌∷◌, length, Option, Some, None, option_map, option_and_then, IsTrue, is_some, refl, sym, ◌∙◌, ap, subst, inl, inr, filter, arith, filter_map}
 use Rattle.std.proofs.lemmas.Bool.{both_ways}
 use Rattle.std.proofs.lemmas.List.Sums.{length-filter}
 use Rattle.jlr_machine.specs.declared.object.Object.{Object}
 use Rattle.jlr_machine.specs.declared.object.Object.TheVariants.{Plain, Reference, Queue, Cleaner, Cleanable, Guard}
-use Rattle.jlr_machine.specs.declared.object.RefState.TheVariants.{Fresh}
 use Rattle.jlr_machine.specs.declared.machine.Machine.{Machine}
 use Rattle.jlr_machine.specs.declared.machine.Session.{Session}
 use Rattle.jlr_machine.specs.declared.machine.Call.TheVariants.{Free}
@@ -12,13 +11,13 @@ use Rattle.jlr_machine.specs.Objects.{Table, Heap, at, ◌∈◌, ◌∋◌, any
 use Rattle.jlr_machine.specs.Edges.{edges_from, roots, is_own_root}
 use Rattle.jlr_machine.specs.Edges.Chain.{Strong, UpToPhantom}
 use Rattle.jlr_machine.specs.Collection.{is_ready, IsFullClearing, places_left, left_of}
-use Rattle.jlr_machine.specs.WellFormed.{IsWellFormed, IsObjectAt}
+use Rattle.jlr_machine.specs.WellFormed.{IsWellFormed}
 use Rattle.jlr_roots.specs.Walk.{slots_held}
 use Rattle.jlr_cells.specs.Contents.{IsEarly}
 use Rattle.jlr_laws.specs.Laws.{LosesReferent, IsLeast}
 use Rattle.jlr_laws.proofs.Sets.{nothing}
-use Rattle.jlr_laws.proofs.Clearing.{edge_gives, edge_from, in_left}
-use Rattle.jlr_laws.proofs.Frames.{no_some, some_same, place_within, root_gives, in_sessions, from_sessions, from_places, IsRoot, in_places, root_from}
+use Rattle.jlr_laws.proofs.Clearing.{edge_gives, edge_from}
+use Rattle.jlr_laws.proofs.Frames.{no_some, place_within, root_gives, in_sessions, from_sessions, from_places, IsRoot, in_places, root_from}
 use Rattle.jlr_laws.proofs.Frames.IsRoot.{held, fencing, named, waiting, lining, active}
 use Rattle.jlr_laws.proofs.Fits.{referent_object}
 use Rattle.jlr_laws.proofs.Empty.{well_formed_within}

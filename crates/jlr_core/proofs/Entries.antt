@@ -1,34 +1,32 @@
 -- Legal entries, from what an ask did.
-use Rattle.std.proofs.Common.{◌≡◌, ◌+◌, ◌&&◌, ◌||◌, ◌==◌, zero, suc, ℕ, ◌<◌, Bool, true, false, not, List, [], ◌∷◌, length, Option, Some, None, option_map, IsTrue, is_some, is_none, refl, sym, ◌∙◌, ap, subst, slice_get, Result, Ok, Err, arith, find, cond, option_and_then}
+use Rattle.std.proofs.Common.{◌≡◌, ◌+◌, ◌&&◌, ◌||◌, ◌==◌, zero, suc, ℕ, ◌<◌, Bool, true, false, not, List, [], ◌∷◌, length, Option, Some, None, IsTrue, is_some, is_none, refl, sym, ◌∙◌, ap, subst, Result, Ok, Err, arith, find, cond, option_and_then}
 use Rattle.std.proofs.lemmas.Bool.{both_ways, le-leb}
 use Rattle.std.proofs.lemmas.List.Sums.{count_by-le-length}
-use Rattle.jlr_types.specs.declared.FieldKind.{FieldKind}
 use Rattle.jlr_types.specs.declared.RefKind.{RefKind}
 use Rattle.jlr_types.specs.declared.Refusal.{Refusal}
 use Rattle.jlr_types.specs.declared.Refusal.TheVariants.{NoSession, NoHandle, Null, WrongKind, Busy, HandlesFull, HeapFull}
 use Rattle.jlr_machine.specs.declared.object.Object.{Object}
-use Rattle.jlr_machine.specs.declared.object.Object.TheVariants.{Plain, Reference}
+use Rattle.jlr_machine.specs.declared.object.Object.TheVariants.{Reference}
 use Rattle.jlr_machine.specs.declared.object.RefState.TheVariants.{Fresh}
 use Rattle.jlr_machine.specs.declared.machine.Machine.{Machine}
 use Rattle.jlr_machine.specs.declared.machine.Session.{Session}
 use Rattle.jlr_machine.specs.declared.ask.Ask.{Ask}
-use Rattle.jlr_machine.specs.declared.ask.Ask.TheVariants.{Join, Leave, New, Put, Get, Dup, Drop, Same, MakeRef, Deref, Full}
+use Rattle.jlr_machine.specs.declared.ask.Ask.TheVariants.{Join, Leave, Put, Get, Dup, Drop, Same, MakeRef, Deref, Full}
 use Rattle.jlr_machine.specs.declared.ask.FullMode.TheVariants.{Policy}
 use Rattle.jlr_machine.specs.declared.ask.Answer.{Answer}
-use Rattle.jlr_machine.specs.declared.ask.Answer.TheVariants.{Done, Handle, Refused}
+use Rattle.jlr_machine.specs.declared.ask.Answer.TheVariants.{Done, Refused}
 use Rattle.jlr_machine.specs.declared.entry.Chosen.{Chosen}
 use Rattle.jlr_machine.specs.declared.entry.Collected.{Collected}
 use Rattle.jlr_machine.specs.Objects.{Heap, at, occupied, some_and, Table}
-use Rattle.jlr_machine.specs.Lookups.{free_handle, with_handle, with_new, on, slot_named, has_free_handle, object_named}
+use Rattle.jlr_machine.specs.Lookups.{with_handle, with_new, slot_named, has_free_handle, object_named}
 use Rattle.jlr_machine.specs.Refusals.{refusal, cells_needed, is_joined, has_call, is_any, applies, is_of_wrong_kind, object_or_null, is_queue}
-use Rattle.jlr_machine.specs.Calls.{reply, after, new_handle, made}
+use Rattle.jlr_machine.specs.Calls.{reply, after, new_handle}
 use Rattle.jlr_machine.specs.Choices.{Choosing}
 use Rattle.jlr_machine.specs.Collection.{IsFull, after_collection}
-use Rattle.jlr_machine.specs.Run.{has_room, MayCollect, with_collection, Answers, is_free, IsFresh, carried, done, no_choice, IsLegal}
+use Rattle.jlr_machine.specs.Run.{has_room, MayCollect, with_collection, Answers, is_free, IsFresh, carried, no_choice}
 use Rattle.jlr_machine.specs.Run.IsLegal.{carried_out, refused, heap_full}
-use Rattle.jlr_laws.proofs.Frames.{no_some, some_same}
 use Rattle.jlr_laws.proofs.Refused.{is_refusal, gives_no_refusal}
-use Rattle.jlr_core.specs.State.{entry_of, answer_of, Meets, Answered}
+use Rattle.jlr_core.specs.State.{answer_of, Meets, Answered}
 use Rattle.jlr_core.specs.Collecting.{MayMakeRoom, Allocates, FindsNoRoom}
 
 -- ---- Refused

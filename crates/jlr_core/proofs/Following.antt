@@ -1,8 +1,8 @@
 -- Following edges from a base: how it begins, a step, and its end.
-use Rattle.std.proofs.Common.{ℕ, suc, ◌≡◌, ◌⊎◌, ◌↔◌, Bool, true, false, IsTrue, is_some, get_or, count_by, List, [], ◌∷◌, ◌++◌, refl, sym, ◌∙◌, ap, subst, inl, inr}
+use Rattle.std.proofs.Common.{ℕ, suc, ◌≡◌, ◌↔◌, Bool, true, false, IsTrue, is_some, get_or, count_by, List, [], ◌∷◌, ◌++◌, refl, sym, subst, inl, inr}
 use Rattle.jlr_machine.specs.Objects.{Heap, at, ◌∈◌}
 use Rattle.jlr_laws.specs.Laws.{followed, IsPathFollowed}
-use Rattle.jlr_core.specs.Marking.{Marking, is_marked, IsMarked, Shaded, IsFollowed, IsMarking}
+use Rattle.jlr_core.specs.Marking.{Marking, IsMarked, Shaded, IsFollowed, IsMarking}
 use Rattle.jlr_laws.proofs.Sets.{nothing, in_front, in_cons}
 use Rattle.jlr_laws.proofs.Clearing.{in_append, in_left, in_right}
 

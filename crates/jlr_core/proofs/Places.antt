@@ -1,11 +1,11 @@
 -- A walk over the places of roots.
-use Rattle.std.proofs.Common.{◌≡◌, ℕ, zero, suc, ◌+◌, ◌<◌, ◌⊎◌, inl, inr, List, [], ◌∷◌, ◌++◌, Option, Some, None, refl, sym, ◌∙◌, ap, subst, add-one, arith}
+use Rattle.std.proofs.Common.{◌≡◌, ℕ, zero, suc, ◌+◌, ◌<◌, ◌⊎◌, inl, inr, [], ◌++◌, Some, refl, sym, ap, subst, add-one, arith}
 use Rattle.std.specs.Option.{option_to_list}
 use Rattle.std.proofs.lemmas.Bool.{cases_eq}
 use Rattle.jlr_machine.specs.declared.machine.Session.{Session}
 use Rattle.jlr_machine.specs.Objects.{Table, ◌∈◌}
 use Rattle.jlr_roots.specs.Walk.{walked, root_at}
-use Rattle.jlr_laws.proofs.Sets.{nothing, in_front, in_cons}
+use Rattle.jlr_laws.proofs.Sets.{nothing}
 use Rattle.jlr_laws.proofs.Clearing.{in_append, in_left, in_right, option_in, in_option}
 
 walked_none : (m : Table Session) → walked m 0 ≡ []

@@ -1,12 +1,12 @@
 -- A heap in which no cell is free after room was made.
-use Rattle.std.proofs.Common.{◌≡◌, ◌+◌, ◌≤◌, ℕ, true, List, [], length, Option, Some, None, IsTrue, sym, ◌∙◌, ap, subst, arith, refl}
+use Rattle.std.proofs.Common.{◌≡◌, ◌+◌, ℕ, List, [], length, Option, Some, None, ◌∙◌, ap, subst, arith, refl}
 use Rattle.std.proofs.lemmas.Bool.{leb-true}
 use Rattle.jlr_machine.specs.declared.machine.Machine.{Machine}
 use Rattle.jlr_machine.specs.declared.entry.Chosen.{Chosen}
 use Rattle.jlr_machine.specs.declared.entry.Collected.{Collected}
 use Rattle.jlr_machine.specs.Objects.{occupied}
 use Rattle.jlr_machine.specs.Choices.{Choosing}
-use Rattle.jlr_machine.specs.Run.{has_room, with_collection}
+use Rattle.jlr_machine.specs.Run.{with_collection}
 use Rattle.jlr_laws.proofs.CollectionKept.{length_left}
 use Rattle.jlr_core.specs.Collecting.{MayMakeRoom, MakesRoom, FindsNoRoom}
 

@@ -1,11 +1,9 @@
 -- What settling an object leaves.
-use Rattle.std.proofs.Common.{◌≡◌, ℕ, true, false, cond, List, Option, Some, None, option_map, option_and_then, IsTrue, refl, sym, ◌∙◌, ap, subst, slice_set}
+use Rattle.std.proofs.Common.{◌≡◌, ℕ, true, false, cond, Option, Some, None, option_map, option_and_then, IsTrue, refl, sym, ap, subst, slice_set}
 use Rattle.std.proofs.lemmas.Bool.{both_ways}
 use Rattle.std.proofs.lemmas.List.{set-get_or}
 use Rattle.jlr_machine.specs.declared.object.Object.{Object}
 use Rattle.jlr_machine.specs.declared.object.Object.TheVariants.{Plain, Reference, Queue, Cleaner, Cleanable, Guard}
-use Rattle.jlr_machine.specs.declared.object.Reference.{Reference as ReferenceOf}
-use Rattle.jlr_machine.specs.declared.object.Cleanable.{Cleanable as CleanableOf}
 use Rattle.jlr_machine.specs.Objects.{Table, Heap, at, change_at, any_referent, as_reference, some_and}
 use Rattle.jlr_machine.specs.Refusals.{is_reference}
 use Rattle.jlr_core.specs.Marking.{Marking, is_marked, marked_referent, settled_object}

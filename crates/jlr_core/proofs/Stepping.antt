@@ -7,11 +7,11 @@ use Rattle.jlr_machine.specs.declared.ask.Ask.{Ask}
 use Rattle.jlr_machine.specs.declared.ask.Answer.{Answer}
 use Rattle.jlr_machine.specs.declared.entry.Chosen.{Chosen}
 use Rattle.jlr_machine.specs.Objects.{Heap, Table}
-use Rattle.jlr_machine.specs.Run.{IsLegal, done, apply, now_seen}
+use Rattle.jlr_machine.specs.Run.{IsLegal, apply, now_seen}
 use Rattle.jlr_machine.specs.WellFormed.{IsWellFormed}
 use Rattle.jlr_machine.specs.StandsFor.{StandsFor}
 use Rattle.jlr_laws.proofs.Law.{legal_kept}
-use Rattle.jlr_core.specs.State.{Meets, entry_of, machine_with}
+use Rattle.jlr_core.specs.State.{entry_of, machine_with}
 use Rattle.jlr_core.specs.Events.{StepsBy, Enters}
 
 -- ---- Well-formedness

@@ -6,7 +6,6 @@ use Rattle.std.proofs.lemmas.List.Elements.{filter_map-append}
 use Rattle.jlr_machine.specs.Objects.{◌∈◌}
 use Rattle.jlr_laws.proofs.Sets.{nothing, in_front, in_cons}
 use Rattle.jlr_laws.proofs.Clearing.{in_append, in_left, in_right}
-use Rattle.jlr_laws.proofs.Frames.{no_some}
 
 one_gives : (o : Option ℕ) (x : ℕ) → x ∈ cons_option o [] → o ≡ Some x
 one_gives None x h = nothing x h

@@ -1,5 +1,5 @@
 -- Which objects fit in place of none, of a plain object, of a reference and of a queue.
-use Rattle.std.proofs.Common.{◌≡◌, cond, ℕ, zero, suc, ◌<◌, true, false, List, [], ◌∷◌, length, refl, sym, ◌∙◌, ap, subst, ◌⊎◌, inl, inr, arith, Option, Some, None, option_map, option_and_then, is_some, slice_set, filter_map, slice_get}
+use Rattle.std.proofs.Common.{◌≡◌, ℕ, zero, suc, ◌<◌, true, false, List, [], ◌∷◌, length, refl, sym, ◌∙◌, ap, subst, ◌⊎◌, inl, inr, arith, Option, Some, None, option_map, option_and_then, is_some, slice_set, filter_map, slice_get}
 use Rattle.std.specs.List.{list_all, cons_option}
 use Rattle.std.proofs.lemmas.Bool.{both_ways, and_parts}
 use Rattle.jlr_types.specs.declared.FieldValue.{FieldValue}
@@ -11,14 +11,14 @@ use Rattle.jlr_machine.specs.declared.object.CleanState.TheVariants.{Pending as 
 use Rattle.jlr_machine.specs.declared.machine.Machine.{Machine}
 use Rattle.jlr_machine.specs.declared.machine.Session.{Session}
 use Rattle.jlr_machine.specs.declared.machine.Call.TheVariants.{Free}
-use Rattle.jlr_machine.specs.Objects.{Heap, at, ◌∈◌, is_distinct, as_fields, as_reference, as_members, as_cleanable, as_guard, any_referent, queue_ahead, is_unqueued}
+use Rattle.jlr_machine.specs.Objects.{Heap, at, ◌∈◌, is_distinct, as_fields, as_reference, as_members, as_cleanable, as_guard, any_referent, queue_ahead}
 use Rattle.jlr_machine.specs.Edges.{edges, slot_in, strong_edges}
 use Rattle.jlr_machine.specs.Lookups.{with_new, with_object, with_handle}
 use Rattle.jlr_machine.specs.Run.{is_free, IsFresh}
 use Rattle.jlr_machine.specs.WellFormed.{IsObjectAt, IsReferenceAt, IsQueueAt, IsSessionAt, IsWellFormed, FitsItsState, IsPrivate}
 use Rattle.jlr_machine.specs.Edges.Chain.{UpToPhantom}
 use Rattle.jlr_laws.proofs.Sets.{nothing, in_front, in_rest, in_cons}
-use Rattle.jlr_laws.proofs.Clearing.{one_of, edge_from, referent_is, some_kind, option_in, in_option}
+use Rattle.jlr_laws.proofs.Clearing.{one_of, edge_from, referent_is, some_kind, in_option}
 use Rattle.jlr_laws.proofs.Frames.{own_queue, no_some, some_same, set_same, place_within, waiting, root_from}
 use Rattle.jlr_laws.proofs.ObjectsKept.{IsFit, keeps_new, IsPendingKind}
 use Rattle.jlr_laws.proofs.SessionsKept.{keeps_handle}

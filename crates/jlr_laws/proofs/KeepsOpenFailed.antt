@@ -1,5 +1,5 @@
 -- A failed Opened leads from a well-formed machine to a well-formed one.
-use Rattle.std.proofs.Common.{◌≡◌, ℕ, List, length, refl, sym, ◌∙◌, ap, subst, ◌⊎◌, inl, inr, arith, Some, None, option_map, option_and_then}
+use Rattle.std.proofs.Common.{◌≡◌, ℕ, List, length, refl, sym, ◌∙◌, ap, subst, ◌⊎◌, inl, inr, arith, Some, None}
 use Rattle.std.proofs.lemmas.Bool.{cases_eq}
 use Rattle.jlr_types.specs.declared.Work.TheVariants.{Resource as WorkOn}
 use Rattle.jlr_types.specs.declared.Refusal.TheVariants.{NotOut}
@@ -15,11 +15,11 @@ use Rattle.jlr_machine.specs.declared.machine.Call.{Call}
 use Rattle.jlr_machine.specs.declared.machine.Call.TheVariants.{Free, Opening as CallOpening, Out as CallOut, Job as CallJob}
 use Rattle.jlr_machine.specs.declared.machine.ResourceState.{ResourceState}
 use Rattle.jlr_machine.specs.declared.machine.ResourceState.TheVariants.{Opening, Idle, Out, Closing}
-use Rattle.jlr_machine.specs.Objects.{Heap, at, change_at, as_guard, with_cleanable}
-use Rattle.jlr_machine.specs.Lookups.{with_call, with_object, without_resource, on}
+use Rattle.jlr_machine.specs.Objects.{Heap, at, change_at, with_cleanable}
+use Rattle.jlr_machine.specs.Lookups.{on}
 use Rattle.jlr_machine.specs.Refusals.{refusal}
 use Rattle.jlr_machine.specs.Calls.{after, opened, spent}
-use Rattle.jlr_machine.specs.WellFormed.{IsSessionAt, IsGuardAt, IsCleanableAt, IsObjectAt, HasResource, IsFencing, FitsItsCall, IsUnspent, IsWellFormed, AreSlotsNamed, AreReferences, AreLists, AreSessions, AreActions, AreResources, AreCalls, ArePrivate, IsPrivate, IsOwnGuard, OpeningHasRoom, IsCallOf, IsAction, clean_state_at}
+use Rattle.jlr_machine.specs.WellFormed.{IsSessionAt, IsCleanableAt, IsObjectAt, HasResource, IsFencing, FitsItsCall, IsUnspent, IsWellFormed, AreSlotsNamed, AreReferences, AreLists, AreSessions, AreActions, AreResources, AreCalls, ArePrivate, IsPrivate, IsOwnGuard, OpeningHasRoom, IsCallOf, IsAction, clean_state_at}
 use Rattle.jlr_types.specs.declared.Fault.{Fault}
 use Rattle.jlr_machine.specs.declared.ask.Ask.TheVariants.{Opened}
 use Rattle.jlr_machine.specs.declared.ask.Answer.{Answer}
@@ -29,7 +29,7 @@ use Rattle.jlr_laws.proofs.Frames.IsRoot.{held, fencing, named, waiting, lining,
 use Rattle.jlr_laws.proofs.Keyed.{by_key, keyed_without, found_gone, found_left, rising_without, all_without}
 use Rattle.jlr_laws.proofs.Changes.{change_here, change_beside, session_same, cleanable_same, resource_same, HasCleanable, worker_over, IsElsewhere}
 use Rattle.jlr_laws.proofs.Allowed.{allowed, opening_session}
-use Rattle.jlr_laws.proofs.KeepsCalls.{calling, no_one_else, IsEnding, opening_ends, fence_on, guard_on}
+use Rattle.jlr_laws.proofs.KeepsCalls.{calling, no_one_else, IsEnding, opening_ends, guard_on}
 use Rattle.jlr_laws.proofs.KeepsTakeUps.{one_less}
 use Rattle.jlr_laws.proofs.Ended.{IsFreed}
 use Rattle.jlr_laws.proofs.Retouched.{IsRetouched, not_armed, back, over, cleanable_cases, alive, edges_back, active_back, state_same, clean_state_here, clean_state_beside, references_kept, queue_over, cleanable_there, private_back}

@@ -29,7 +29,7 @@ use Rattle.jlr_machine.specs.Calls.{after, prepared}
 use Rattle.jlr_machine.specs.Run.{IsFresh, is_free}
 use Rattle.jlr_machine.specs.WellFormed.{IsSessionAt, IsGuardAt, IsCleanableAt, IsObjectAt, HasResource, IsFencing, FitsItsCall, IsUnspent, IsWellFormed, AreSlotsNamed, AreReferences, AreLists, AreSessions, AreActions, AreResources, AreCalls, ArePrivate, IsPrivate, OpeningHasRoom, IsCallOf, IsAction, state_at, clean_state_at, is_unspent_place}
 use Rattle.jlr_machine.specs.Edges.Chain.{UpToPhantom}
-use Rattle.std.proofs.Common.{slice_index, is_none}
+use Rattle.std.proofs.Common.{is_none}
 use Rattle.std.specs.List.{list_all}
 use Rattle.std.proofs.lemmas.Bool.{and_parts, not-true, not-false, ltb-true}
 use Rattle.std.proofs.lemmas.List.{length-set}

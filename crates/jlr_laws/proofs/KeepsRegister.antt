@@ -28,7 +28,6 @@ use Rattle.jlr_machine.specs.Calls.{after, registered}
 use Rattle.jlr_machine.specs.Run.{IsFresh}
 use Rattle.jlr_machine.specs.WellFormed.{IsGuardAt, IsCleanableAt, IsObjectAt, IsFencing, FitsItsCall, IsUnspent, IsWellFormed, AreSlotsNamed, AreReferences, AreLists, AreActions, AreResources, IsPrivate, IsAction, state_at, clean_state_at, is_unspent_place}
 use Rattle.jlr_machine.specs.Edges.Chain.{UpToPhantom}
-use Rattle.std.proofs.Common.{slice_index}
 use Rattle.std.proofs.lemmas.List.{length-set}
 use Rattle.jlr_machine.specs.declared.ask.Ask.TheVariants.{Register}
 use Rattle.jlr_machine.specs.declared.ask.Answer.{Answer}

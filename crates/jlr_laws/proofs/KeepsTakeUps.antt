@@ -18,7 +18,7 @@ use Rattle.jlr_machine.specs.declared.machine.Call.TheVariants.{Free, Job as Cal
 use Rattle.jlr_machine.specs.declared.machine.ResourceState.{ResourceState}
 use Rattle.jlr_machine.specs.declared.machine.ResourceState.TheVariants.{Idle, Closing}
 use Rattle.jlr_machine.specs.Objects.{Table, Heap, at, change_at, ◌∈◌, ◌∋◌, is_rising, is_distinct, as_cleanable, with_cleanable, is_spent, is_lined, some_and, as_guard}
-use Rattle.jlr_machine.specs.Lookups.{object_named, with_object, with_call, with_job, cleanable_at, cleanable_of_guard, rid_of, on}
+use Rattle.jlr_machine.specs.Lookups.{with_object, with_call, with_job, cleanable_at, cleanable_of_guard, rid_of, on}
 use Rattle.jlr_machine.specs.Refusals.{refusal, has_call, is_out, is_guard, is_cleanable}
 use Rattle.jlr_machine.specs.Calls.{after, spent, with_work_state, taken_up, cleaned, line_taken, from_lined}
 use Rattle.jlr_machine.specs.WellFormed.{IsWellFormed, IsSessionAt, IsCleanableAt, HasResource, IsAction, clean_state_at, is_unspent_place}

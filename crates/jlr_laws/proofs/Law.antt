@@ -1,5 +1,5 @@
 -- A legal entry leads from a well-formed machine to a well-formed one.
-use Rattle.std.proofs.Common.{ℕ, List, [], ◌∷◌, refl, sym, subst, Some, None, is_some}
+use Rattle.std.proofs.Common.{ℕ, List, [], ◌∷◌, refl, sym, subst, Some, None}
 use Rattle.jlr_machine.specs.declared.machine.Machine.{Machine}
 use Rattle.jlr_machine.specs.declared.ask.Outcome.TheVariants.{Ok as OutcomeOk, Failed}
 use Rattle.jlr_machine.specs.declared.ask.Ask.{Ask}

@@ -1,14 +1,12 @@
 -- The laws, from the lemmas.
-use Rattle.std.proofs.Common.{◌≡◌, Bool, true, false, not, refl, ℕ, List, [], sym, ◌∙◌, ap, subst, ◌⊎◌, inl, inr, option_and_then, ◌++◌}
+use Rattle.std.proofs.Common.{◌≡◌, Bool, true, false, not, refl, ℕ, List, sym, ◌∙◌, ap, subst, ◌⊎◌, inl, inr, option_and_then, ◌++◌}
 use Rattle.jlr_types.specs.declared.RefKind.{RefKind}
 use Rattle.jlr_types.specs.declared.RefKind.TheVariants.{Soft, Weak, Phantom}
 use Rattle.jlr_machine.specs.declared.machine.Machine.{Machine}
-use Rattle.jlr_machine.specs.declared.entry.Chosen.{Chosen}
 use Rattle.jlr_machine.specs.Objects.{Heap, at, ◌∈◌, ◌∋◌}
 use Rattle.jlr_machine.specs.Edges.{referent, roots}
 use Rattle.jlr_machine.specs.Reachable.{HasStrength}
 use Rattle.jlr_machine.specs.Collection.{IsAllowed, Clears}
-use Rattle.jlr_machine.specs.Run.{carried, with_collection, now_seen}
 use Rattle.jlr_machine.specs.Edges.Chain.{Strong, UpToPhantom, UpToSoft}
 use Rattle.jlr_laws.specs.Laws.{IsWithinHeap, IsSeenWithin, only, BackgroundComesDownToCuttingOff, PolicyMakesFull, KeepingNoneMakesClearing, RoundsFindWhatPathsReach, ClearsAsSpecified, RefersTo, EachClearingIsAsSpecified, LeavesWhatItsStepsLeave, ComesDownToCuttingOff, SoftReferencesGoBeforeAFullHeap}
 use Rattle.jlr_laws.proofs.Paths.{AreEdgesWithin, reached_sound, reached_complete}

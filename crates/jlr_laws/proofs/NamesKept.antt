@@ -2,7 +2,7 @@
 use Rattle.std.proofs.Common.{◌≡◌, ℕ, suc, ◌+◌, ◌≤◌, Bool, true, false, cond, not, ◌&&◌, List, [], ◌∷◌, length, refl, sym, ◌∙◌, ap, subst, ◌⊎◌, inl, inr, arith, Some, None, option_map, is_none, find, map, nat_eq, nat_le}
 use Rattle.std.specs.List.{IsDistinct, AllByRecursion}
 use Rattle.std.proofs.lemmas.Bool.{both_ways, and_parts, eqb-true, le-leb, cases_lt}
-use Rattle.jlr_types.specs.declared.Refusal.TheVariants.{Busy, NamesFull, NoHandle, Null, WrongKind}
+use Rattle.jlr_types.specs.declared.Refusal.TheVariants.{Busy, NamesFull, NoHandle, Null}
 use Rattle.jlr_machine.specs.declared.object.Cleanable.{Cleanable as CleanableOf}
 use Rattle.jlr_machine.specs.declared.machine.Machine.{Machine}
 use Rattle.jlr_machine.specs.declared.machine.Binding.{Binding}
@@ -12,7 +12,7 @@ use Rattle.jlr_machine.specs.declared.object.Object.TheVariants.{Cleaner}
 use Rattle.jlr_machine.specs.declared.ask.Ask.TheVariants.{MakeCleaner, Bind, Find, Unbind, Begin, Abandon}
 use Rattle.jlr_machine.specs.declared.ask.Answer.{Answer}
 use Rattle.jlr_machine.specs.Objects.{◌∈◌}
-use Rattle.jlr_machine.specs.Lookups.{same_name, slot_bound, bound, unbound, slot_named, with_new, with_handle, on, object_named}
+use Rattle.jlr_machine.specs.Lookups.{same_name, slot_bound, bound, unbound, with_new, with_handle, on, object_named}
 use Rattle.jlr_machine.specs.Refusals.{refusal, is_any}
 use Rattle.jlr_machine.specs.Calls.{after}
 use Rattle.jlr_machine.specs.Run.{IsFresh}

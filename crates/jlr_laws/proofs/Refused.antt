@@ -1,12 +1,11 @@
 -- What a refused entry is refused with, and what it leaves.
-use Rattle.std.proofs.Common.{◌≡◌, ◌≢◌, ◌⊎◌, inl, inr, Bool, true, false, not, cond, find, map, List, [], ◌∷◌, ℕ, refl, sym, ◌∙◌, ap, subst, Option, Some, None, option_map, option_and_then, IsTrue, is_some, nat_eq, suc, arith, lit<}
+use Rattle.std.proofs.Common.{◌≡◌, inl, inr, Bool, true, false, not, cond, find, List, [], ◌∷◌, ℕ, refl, sym, ◌∙◌, ap, subst, Option, Some, None, option_map, option_and_then, IsTrue, suc, arith, lit<}
 use Rattle.std.specs.List.{Contains}
 use Rattle.std.proofs.lemmas.Bool.{both_ways}
 use Rattle.jlr_types.specs.declared.FieldValue.{FieldValue}
 use Rattle.jlr_types.specs.declared.FieldValue.TheVariants.{Int as IntValue, Ref as RefValue}
 use Rattle.jlr_types.specs.declared.Refusal.{Refusal}
 use Rattle.jlr_types.specs.declared.Refusal.TheVariants.{NoMemory, HeapFull}
-use Rattle.jlr_machine.specs.declared.object.Object.{Object}
 use Rattle.jlr_machine.specs.declared.object.Cleanable.{Cleanable as CleanableOf}
 use Rattle.jlr_machine.specs.declared.machine.Machine.{Machine}
 use Rattle.jlr_machine.specs.declared.ask.Outcome.{Outcome}
@@ -16,16 +15,16 @@ use Rattle.jlr_machine.specs.declared.ask.CallOutcome.TheVariants.{Data as GotDa
 use Rattle.jlr_machine.specs.declared.ask.Ask.{Ask}
 use Rattle.jlr_machine.specs.declared.ask.Ask.TheVariants.{Join, Leave, New, Put, Get, SetInt, Int, Dup, Drop, Same, MakeRef, Deref, Refers, Clear, Enqueue, Enqueued, MakeQueue, Poll, Remove, MakeCleaner, Register, Clean, Prepare, Opened, CheckOut, CheckIn, Close, Finish, Bind, Find, Unbind, Names, Full, Stat, Notes, Faults, HandOver, TakeUp, Begin, Collect, Abandon}
 use Rattle.jlr_machine.specs.declared.ask.Answer.{Answer}
-use Rattle.jlr_machine.specs.declared.ask.Answer.TheVariants.{Refused, Truth, Handle, AlreadyDone, Job}
+use Rattle.jlr_machine.specs.declared.ask.Answer.TheVariants.{Refused, Handle, AlreadyDone, Job}
 use Rattle.jlr_machine.specs.declared.entry.Collected.{Collected}
 use Rattle.jlr_machine.specs.declared.entry.Chosen.{Chosen}
 use Rattle.jlr_machine.specs.declared.entry.Entry.{Entry}
 use Rattle.jlr_machine.specs.Objects.{at, is_spent}
 use Rattle.jlr_machine.specs.Lookups.{cleanable_at, field_named}
-use Rattle.jlr_machine.specs.Refusals.{applies, listed, refusal, is_end, cells_needed, given}
+use Rattle.jlr_machine.specs.Refusals.{applies, listed, cells_needed, given}
 use Rattle.jlr_machine.specs.Calls.{reply, new_handle, handle_given, number_in, outcome_answer, call_answer, take_up_answer, hand_over_answer, line_answer, from_lined}
 use Rattle.jlr_machine.specs.Collection.{after_collection}
-use Rattle.jlr_machine.specs.Run.{IsLegal, IsCarriedOut, IsHeapFull, Answers, carried, with_collection, no_choice, now_seen, has_room, apply}
+use Rattle.jlr_machine.specs.Run.{IsCarriedOut, Answers, carried, with_collection, no_choice, now_seen, has_room, apply}
 use Rattle.jlr_machine.specs.Run.IsLegal.{carried_out, refused, heap_full, out_of_memory}
 use Rattle.jlr_laws.specs.Laws.{IsUpToDate, ListsAreInOrder, RefusalsAreListed, RefusalChangesNothing, FullHeapLeavesItsCollection}
 use Rattle.jlr_laws.proofs.Frames.{no_some, some_same}

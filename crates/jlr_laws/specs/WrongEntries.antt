@@ -1,5 +1,5 @@
 -- Entries that are not legal, each after a run.
-use Rattle.std.specs.Prelude.{◌+◌, List, [], ◌∷◌, ◌++◌, true}
+use Rattle.std.specs.Prelude.{List, [], ◌∷◌, ◌++◌, true}
 use Rattle.jlr_types.specs.declared.FieldKind.TheVariants.{Ref as RefField}
 use Rattle.jlr_types.specs.declared.RefKind.TheVariants.{Soft, Weak}
 use Rattle.jlr_types.specs.declared.Work.TheVariants.{Note, Resource as WorkOn}

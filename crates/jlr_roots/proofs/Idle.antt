@@ -1,5 +1,5 @@
 -- The sessions of members have no call in flight.
-use Rattle.std.proofs.Common.{◌≡◌, ℕ, zero, suc, List, [], ◌∷◌, Option, Some, None, refl, subst, unwrap_or, is_some, ap, false, true, Bool, cond}
+use Rattle.std.proofs.Common.{◌≡◌, ℕ, zero, suc, List, [], ◌∷◌, Some, None, refl, subst, unwrap_or, is_some, ap, false, true, cond}
 use Rattle.std.proofs.lemmas.Bool.{both_ways}
 use Rattle.jlr_machine.specs.declared.machine.Session.{Session}
 use Rattle.jlr_machine.specs.declared.machine.Call.TheVariants.{Free}

@@ -1,12 +1,11 @@
-use Rattle.std.proofs.Common.{◌≡◌, ◌+◌, ◌++◌, ◌∷◌, [], sym, ◌∙◌, ap, arith, false, length, IsTrue, is_some, subst, length-append, refl, append-nil, get_or}
+use Rattle.std.proofs.Common.{◌≡◌, ◌+◌, ◌++◌, ◌∷◌, [], sym, ◌∙◌, ap, arith, false, length, subst, length-append, refl, append-nil, get_or}
 use Rattle.std.specs.Option.{option_to_list}
-use Rattle.jlr_machine.specs.Objects.{at, ◌∈◌}
+use Rattle.jlr_machine.specs.Objects.{◌∈◌}
 use Rattle.jlr_roots.specs.Walk.{slots_held}
 use Rattle.jlr_laws.proofs.Sets.{in_front}
 use Rattle.jlr_laws.proofs.Clearing.{in_right}
-use Rattle.jlr_core.specs.Marking.{Marking, IsMarked, IsFollowed, marked}
+use Rattle.jlr_core.specs.Marking.{marked}
 use Rattle.jlr_core.proofs.Following.{marking_begins, marking_goes_on, marking_ends, followed_objects, none_counted}
-use Rattle.jlr_core.proofs.Shading.{marked_within}
 use Rattle.jlr_core.proofs.mark.mark.Goals as goal
 
 pub loop-slot-init : goal.loop-slot-init

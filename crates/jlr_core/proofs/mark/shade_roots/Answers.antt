@@ -1,6 +1,6 @@
 use Rattle.std.proofs.Common.{◌≡◌, ◌⊎◌, sym, ◌∙◌, ap, arith, Some, subst}
 use Rattle.jlr_machine.specs.Objects.{◌∈◌}
-use Rattle.jlr_roots.specs.Walk.{walked, root_at}
+use Rattle.jlr_roots.specs.Walk.{walked}
 use Rattle.jlr_core.specs.Marking.{Shaded}
 use Rattle.jlr_core.proofs.Shading.{shaded_none, shaded_same, shaded_then}
 use Rattle.jlr_core.proofs.Places.{no_place, place_gives, place_from, place_in}

@@ -1,4 +1,3 @@
-use Rattle.std.proofs.Common.{◌≡◌}
 use Rattle.jlr_machine.specs.Objects.{◌∈◌}
 use Rattle.jlr_roots.specs.Walk.{walked}
 use Rattle.jlr_core.specs.Marking.{Shaded}

@@ -6,7 +6,6 @@ use Rattle.jlr_machine.specs.Run.{empty}
 use Rattle.jlr_machine.specs.Choices.{Choosing}
 use Rattle.jlr_core.specs.declared.event.Event.{Event}
 use Rattle.jlr_core.specs.declared.event.Reply.{Reply}
-use Rattle.jlr_core.specs.Cores.{Kept}
 use Rattle.jlr_core.specs.Runs.{IsRunOf, all_given, all_handed}
 use Rattle.jlr_core.proofs.RunLaws.{run_more, flow_more, start_run, start_flow, start_room}
 use Rattle.jlr_core.proofs.run.run.Goals as goal

@@ -1,5 +1,4 @@
-use Rattle.std.proofs.Common.{◌≡◌, Some, sym, ◌∙◌, ap, unwrap_or, not, true, false}
-use Rattle.std.proofs.lemmas.Bool.{not-false}
+use Rattle.std.proofs.Common.{sym, ◌∙◌, ap}
 use Rattle.jlr_core.specs.Marking.{is_marked}
 use Rattle.jlr_machine.specs.Objects.{at}
 use Rattle.jlr_core.proofs.Settling.{settled_already, its_own_referent}

@@ -1,9 +1,6 @@
-use Rattle.std.proofs.Common.{◌≡◌, ℕ, ◌≤◌, sym, ◌∙◌, ap, subst, length, None, Option, false, replicate}
+use Rattle.std.proofs.Common.{◌≡◌, sym, ◌∙◌, ap, subst, length, None, Option, false, replicate}
 use Rattle.jlr_machine.specs.declared.object.Object.{Object}
 use Rattle.std.proofs.lemmas.List.{length-replicate}
-use Rattle.jlr_machine.specs.declared.machine.Machine.{Machine}
-use Rattle.jlr_machine.specs.Objects.{Heap, Table}
-use Rattle.jlr_machine.specs.declared.machine.Session.{Session}
 use Rattle.jlr_machine.specs.WellFormed.{IsWellFormed}
 use Rattle.jlr_laws.proofs.Empty.{empty_is_an_image}
 use Rattle.jlr_core.specs.State.{machine_with}

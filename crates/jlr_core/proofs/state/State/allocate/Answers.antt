@@ -1,5 +1,4 @@
-use Rattle.std.proofs.Common.{◌≡◌, refl, sym, ◌∙◌, ap, subst, length, is_none}
-use Rattle.jlr_machine.specs.Objects.{occupied}
+use Rattle.std.proofs.Common.{refl, sym, subst}
 use Rattle.jlr_core.specs.Machines.{machine_of}
 use Rattle.jlr_core.specs.Collecting.{FindsNoRoom}
 use Rattle.jlr_core.specs.State.{machine_with}

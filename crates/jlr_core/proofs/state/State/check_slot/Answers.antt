@@ -1,4 +1,4 @@
-use Rattle.std.proofs.Common.{◌≡◌, sym, ◌∙◌, ap, subst, is_some, IsTrue, option_and_then}
+use Rattle.std.proofs.Common.{sym, ◌∙◌, subst, is_some, IsTrue, option_and_then}
 use Rattle.jlr_machine.specs.Objects.{at}
 use Rattle.jlr_core.specs.Machines.{machine_of}
 use Rattle.jlr_core.proofs.Named.{named_object}

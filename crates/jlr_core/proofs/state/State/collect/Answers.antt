@@ -1,4 +1,4 @@
-use Rattle.std.proofs.Common.{◌≡◌, ◌∙◌, [], ap, length, sym}
+use Rattle.std.proofs.Common.{◌∙◌, [], ap, length, sym}
 use Rattle.jlr_laws.proofs.CollectionKept.{length_left}
 use Rattle.jlr_core.specs.State.{machine_with}
 use Rattle.jlr_core.specs.Marking.{marked_below}
