@@ -34,3 +34,23 @@ impl ProgramFault {
         }
     }
 }
+
+#[cfg(test)]
+mod tests {
+    use super::*;
+    use std::test::Fail;
+
+    #[test]
+    fn each_fault_has_its_status_and_its_words(rt: HostRuntime) -> Result<(), Fail> {
+        for (fault, status, words) in [
+            (ProgramFault::Read, 1, "read failed"),
+            (ProgramFault::Write, 1, "write failed"),
+            (ProgramFault::Unfinished, 4, "unfinished line"),
+            (ProgramFault::NoMemory(AllocError), 5, "no memory"),
+        ] {
+            assert_eq!(rt; fault.status(), status, "of {words}");
+            assert_eq!(rt; format!(in rt.alloc(); "{fault}")?.as_str(), words);
+        }
+        Ok(())
+    }
+}
