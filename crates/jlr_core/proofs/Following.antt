@@ -1,10 +1,12 @@
 -- Following edges from a base: how it begins, a step, and its end.
-use Rattle.std.proofs.Common.{ℕ, suc, ◌≡◌, ◌↔◌, Bool, true, false, IsTrue, is_some, get_or, count_by, List, [], ◌∷◌, ◌++◌, refl, sym, subst, inl, inr}
-use Rattle.jlr_machine.specs.Objects.{Heap, at, ◌∈◌}
+use Rattle.std.proofs.Common.{ℕ, suc, ◌≡◌, ◌↔◌, Bool, true, false, IsTrue, is_some, get_or, count_by, List, [], ◌∷◌, ◌++◌, refl, sym, ◌∙◌, subst, inl, inr}
+use Rattle.std.specs.Prelude.{IsPermutation, nat_eq}
+use Rattle.std.proofs.lemmas.List.Sorted.{list_any-IsPermutation}
+use Rattle.jlr_machine.specs.Objects.{Heap, at, ◌∋◌, ◌∈◌}
 use Rattle.jlr_laws.specs.Laws.{followed, IsPathFollowed}
 use Rattle.jlr_core.specs.Marking.{Marking, IsMarked, Shaded, IsFollowed, IsMarking}
 use Rattle.jlr_laws.proofs.Sets.{nothing, in_front, in_cons}
-use Rattle.jlr_laws.proofs.Clearing.{in_append, in_left, in_right}
+use Rattle.jlr_laws.proofs.Clearing.{in_right}
 
 module _ (keeps : ℕ → Bool) (heap : Heap) (B : List ℕ) where
   -- ---- Paths
@@ -35,23 +37,24 @@ module _ (keeps : ℕ → Bool) (heap : Heap) (B : List ℕ) where
         base = s.all;
       }
 
-  -- x was taken off the stack, and what it leads to was shaded
-  pub marking_goes_on : (m k n : Marking) (x : ℕ) → IsMarking keeps heap B m → k.bits ≡ m.bits → m.grey ≡ k.grey ++ x ∷ [] → Shaded (λ y. y ∈ followed keeps heap x) k n → IsMarking keeps heap B n
+  -- x is grey no more, and what it leads to was shaded
+  pub marking_goes_on : (m k n : Marking) (x : ℕ) → IsMarking keeps heap B m → k.bits ≡ m.bits → IsPermutation m.grey (x ∷ k.grey) → Shaded (λ y. y ∈ followed keeps heap x) k n → IsMarking keeps heap B n
   marking_goes_on m k n x v eb eg s =
+      let same : (z : ℕ) → (m.grey ∋ z) ≡ ((x ∷ k.grey) ∋ z) = λ z. list_any-IsPermutation (nat_eq z) m.grey (x ∷ k.grey) eg in
       let as_k : (z : ℕ) → IsMarked m z → IsMarked k z = λ z h. rw eb h in
       let as_m : (z : ℕ) → IsMarked k z → IsMarked m z = λ z h. rw (← eb) h in
-      let top : IsMarked m x = v.grey x (subst (λ l. x ∈ l) (sym eg) (in_right x k.grey (x ∷ []) (in_front x x [] refl))) in
+      let top : IsMarked m x = v.grey x (same x ∙ in_front x x k.grey refl) in
       record {
         sound = λ z h. elim (s.added z h) [ inl o ↦ v.sound z (as_m z o) | inr a ↦ follows_on x z (v.sound x top) a.0 ];
         grey = λ z h. elim (s.grey_marked z h) [
-          | inl o ↦ s.kept z (as_k z (v.grey z (subst (λ l. z ∈ l) (sym eg) (in_left z k.grey (x ∷ []) o))))
+          | inl o ↦ s.kept z (as_k z (v.grey z (same z ∙ in_right z (x ∷ []) k.grey o)))
           | inr q ↦ q
         ];
         traced = λ a b h t. elim (s.added a h) [
           | inl o ↦ elim (v.traced a b (as_m a o) t) [
-            | inl g ↦ elim (in_append a k.grey (x ∷ []) (subst (λ l. a ∈ l) eg g)) [
-              | inl i ↦ inl (s.grey_kept a i)
-              | inr i ↦ elim (in_cons a x [] i) [ inl e ↦ inr (s.all b (subst (λ c. b ∈ followed keeps heap c) e t)) | inr n ↦ nothing a n ]
+            | inl g ↦ elim (in_cons a x k.grey (sym (same a) ∙ g)) [
+              | inl e ↦ inr (s.all b (subst (λ c. b ∈ followed keeps heap c) e t))
+              | inr i ↦ inl (s.grey_kept a i)
             ]
             | inr q ↦ inr (s.kept b (as_k b q))
           ]

@@ -1,10 +1,14 @@
 //! Which objects the collector has found, and whose edges it has still to follow.
-ghost use Rattle.std.specs.Prelude.{◌≡◌, ℕ, ◌<◌, ◌++◌, ◌∷◌, [], false, true, cond, length, IfOk, slice_set, option_to_list, IfNone, replicate};
+ghost use Rattle.std.specs.Prelude.{◌≡◌, ℕ, ◌<◌, ◌++◌, ◌∷◌, [], false, true, cond, length, IfOk, slice_set, IfNone, IfSome, IsPermutation, replicate};
 ghost use Rattle.jlr_core.specs.Marking.{is_marked, IsMarked};
 
 use jlr_types::Slot;
 use std::alloc::{AllocError, Global};
 use std::marker::Model;
+
+/// From how far below the top of the stack a grey cell is taken. The cells above it come soon after, so that the processor
+/// can fetch them while it still waits for this one; from the top, each would be known only once the one before it is there.
+const AHEAD: usize = 4;
 
 /// A mark for each cell, and a stack of the marked cells that are grey: their edges were not yet followed.
 #[derive(Drop)]
@@ -56,13 +60,17 @@ impl Marks {
         }
     }
 
-    /// Takes a grey cell off the stack, if there is one.
+    /// Takes a grey cell off the stack, if there is one: the fourth from the top, in whose place the top then lies.
     pub(crate) fn next_grey(&mut self) -> Option<Slot>
         ensures bits { self.new.bits ≡ self.old.bits }
-        ensures grey { self.old.grey ≡ self.new.grey ++ option_to_list result }
-        ensures none { IfNone result (self.new.grey ≡ []) }
+        ensures grey { IfSome result (λ slot. IsPermutation self.old.grey (slot ∷ self.new.grey)) }
+        ensures none { IfNone result ((self.old.grey ≡ []) × (self.new.grey ≡ [])) }
     {
-        self.grey.pop()
+        let count = self.grey.len();
+        if count == 0 {
+            return None;
+        }
+        Some(self.grey.swap_remove(count.saturating_sub(AHEAD)))
     }
 
     /// Unmarks every cell.

@@ -1,9 +1,10 @@
-use Rattle.std.proofs.Common.{◌≡◌, ◌+◌, ◌++◌, ◌∷◌, [], sym, ◌∙◌, ap, arith, false, length, subst, length-append, refl, append-nil, get_or}
-use Rattle.std.specs.Option.{option_to_list}
+use Rattle.std.proofs.Common.{◌≡◌, ◌+◌, ◌∷◌, [], sym, ◌∙◌, ap, arith, false, length, add-one, refl, get_or}
+use Rattle.std.specs.Prelude.{IsPermutation, nat_eq}
+use Rattle.std.proofs.lemmas.List.Sums.{count_by-le-length}
+use Rattle.std.proofs.lemmas.List.Sorted.{length_permutation, list_any-IsPermutation}
 use Rattle.jlr_machine.specs.Objects.{◌∈◌}
 use Rattle.jlr_roots.specs.Walk.{slots_held}
 use Rattle.jlr_laws.proofs.Sets.{in_front}
-use Rattle.jlr_laws.proofs.Clearing.{in_right}
 use Rattle.jlr_core.specs.Marking.{marked}
 use Rattle.jlr_core.proofs.Following.{marking_begins, marking_goes_on, marking_ends, followed_objects, none_counted}
 use Rattle.jlr_core.proofs.mark.mark.Goals as goal
@@ -24,15 +25,25 @@ pub follow-requires-clause-object : goal.follow-requires-clause-object
 follow-requires-clause-object c =
     let v = c.loop-slot.invariant.marking in
     let grey : c.in-Some.slot ∈ c.loop-slot.marks.grey =
-    subst (λ l. c.in-Some.slot ∈ l) (sym (c.next_grey.ensures.grey ∙ ap (λ o. c.next_grey.new.self.grey ++ option_to_list o) c.in-Some.is)) (in_right c.in-Some.slot c.next_grey.new.self.grey (c.in-Some.slot ∷ []) (in_front c.in-Some.slot c.in-Some.slot [] refl)) in
+    list_any-IsPermutation (nat_eq c.in-Some.slot) _ _ c.in-Some.ensures.grey ∙ in_front c.in-Some.slot c.in-Some.slot c.next_grey.new.self.grey refl in
     followed_objects (λ _. false) c.args.cells.now (slots_held c.args.roots.now) c.requires.roots c.requires.edges c.in-Some.slot (v.sound c.in-Some.slot (v.grey c.in-Some.slot grey))
+
+pub loop-slot-smaller : goal.loop-slot-smaller
+loop-slot-smaller c =
+    let s = c.follow.ensures.shaded in
+    let i = c.loop-slot.invariant in
+    let off : IsPermutation c.loop-slot.marks.grey (c.in-Some.slot ∷ c.next_grey.new.self.grey) = c.in-Some.ensures.grey in
+    let shorter : length c.next_grey.new.self.grey + 1 ≡ length c.loop-slot.marks.grey = add-one (length c.next_grey.new.self.grey) ∙ length_permutation c.loop-slot.marks.grey (c.in-Some.slot ∷ c.next_grey.new.self.grey) off in
+    let same : marked c.next_grey.new.self ≡ marked c.loop-slot.marks = ap (λ l. marked (record { bits = l; grey = [] })) c.next_grey.ensures.bits in
+    let long : length c.follow.new.marks.bits ≡ length c.loop-slot.marks.bits = s.long ∙ ap length c.next_grey.ensures.bits in
+    omega (arith, s.black_same, i.room, shorter, same, long, count_by-le-length (λ b. b) c.follow.new.marks.bits)
 
 pub loop-slot-preserved : goal.loop-slot-preserved
 loop-slot-preserved c =
     let s = c.follow.ensures.shaded in
     let i = c.loop-slot.invariant in
-    let off = c.next_grey.ensures.grey ∙ ap (λ o. c.next_grey.new.self.grey ++ option_to_list o) c.in-Some.is in
-    let shorter : length c.loop-slot.marks.grey ≡ length c.next_grey.new.self.grey + 1 = ap length off ∙ length-append c.next_grey.new.self.grey (c.in-Some.slot ∷ []) in
+    let off : IsPermutation c.loop-slot.marks.grey (c.in-Some.slot ∷ c.next_grey.new.self.grey) = c.in-Some.ensures.grey in
+    let shorter : length c.next_grey.new.self.grey + 1 ≡ length c.loop-slot.marks.grey = add-one (length c.next_grey.new.self.grey) ∙ length_permutation c.loop-slot.marks.grey (c.in-Some.slot ∷ c.next_grey.new.self.grey) off in
     let same : marked c.next_grey.new.self ≡ marked c.loop-slot.marks = ap (λ l. marked (record { bits = l; grey = [] })) c.next_grey.ensures.bits in
     record {
       marking = marking_goes_on (λ _. false) c.args.cells.now (slots_held c.args.roots.now) c.loop-slot.marks c.next_grey.new.self c.follow.new.marks c.in-Some.slot i.marking c.next_grey.ensures.bits off s;
@@ -44,7 +55,7 @@ loop-slot-preserved c =
 pub returns-clause-marked : goal.returns-clause-marked
 returns-clause-marked c =
     let m = c.loop-slot.marks in
-    let empty : m.grey ≡ [] = c.next_grey.ensures.grey ∙ ap (λ o. c.next_grey.new.self.grey ++ option_to_list o) c.in_default.is ∙ append-nil c.next_grey.new.self.grey ∙ c.in_default.ensures.none in
+    let empty : m.grey ≡ [] = c.in_default.ensures.none.0 in
     λ x.
     let k = marking_ends (λ _. false) c.args.cells.now (slots_held c.args.roots.now) m c.loop-slot.invariant.marking empty x in
     ((λ h. k.0 (sym (ap (λ l. get_or l x false) c.next_grey.ensures.bits) ∙ h)), (λ f. ap (λ l. get_or l x false) c.next_grey.ensures.bits ∙ k.1 f))
