@@ -232,7 +232,7 @@ fn a_fence_with_no_call(rt: HostRuntime) -> Result<(), Fail> {
 }
 
 #[test]
-fn a_handle_of_a_resource_s_cleanable(rt: HostRuntime) -> Result<(), Fail> {
+fn a_handle_of_the_cleanable_of_a_resource(rt: HostRuntime) -> Result<(), Fail> {
     let alloc = rt.alloc();
     let cleanable = Cleanable {
         referent: None,
