@@ -6,7 +6,7 @@ ghost use Rattle.jlr_cells.specs.Words.{AreFields, IsWritten, fields_of, slot_of
 use jlr_types::{FieldKind, FieldValue, Layout, Slot};
 use std::marker::Model;
 
-/// For what a word is there.
+/// What a word is for.
 #[derive(Clone, Copy)]
 pub(crate) enum Place {
     /// No field.
@@ -17,7 +17,7 @@ pub(crate) enum Place {
     Ref,
 }
 
-/// At most eight fields, each as a word, and in front of the words what each is there for.
+/// At most eight fields, each as a word, and in front of the words what each is for.
 #[derive(Drop)]
 pub struct Fields {
     places: [Place; 8],

@@ -4,7 +4,7 @@
 //! nothing. All tables are made by `Roots::new`, so that joining takes no memory and leaving gives none back. A collector walks
 //! the places of all members in one pass, member by member.
 //!
-//! Contracts see the roots as the machine's table of mutators. No call but `Roots::new` takes memory.
+//! Contracts see the roots as the machine's table of mutators. No call but `Roots::new` and `image` takes memory.
 #![tactic(auto)]
 
 mod handles;
