@@ -434,6 +434,7 @@ fn reading_needs_a_free_handle(rt: HostRuntime) -> Result<(), Fail> {
         Got::Done,
         Got::Handle(9),
     ];
+    assert_eq!(rt; answers.as_slice().len(), 256);
     assert_eq!(rt; answers.as_slice().split_at(252).1, wanted.as_slice());
     Ok(())
 }
