@@ -39,6 +39,8 @@ check "the output goes away" 1 "refheap: write failed" "$(cat "$errors.status")"
 rm -f "$errors.status"
 "$program" run --cells 15 </dev/null >/dev/null 2>"$errors"
 status=$?
-[ -s "$errors" ] && : >"$errors"
-check "too few cells (with the text of the command line)" 2 "" $status
+if [ -s "$errors" ]; then
+    echo "told" >"$errors"
+fi
+check "too few cells, with the text of the command line" 2 "told" $status
 exit $failed

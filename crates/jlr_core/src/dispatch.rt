@@ -28,6 +28,7 @@ impl State {
         requires room { length self.old.cells ≤ choice.old.cells }
         ensures entry { StepsBy (machine_of self.old) (ask_of event) (answer_in result) choice.new.chosen (machine_of self.new) }
         ensures flow { handed result ≡ given event }
+        ensures idle { ask_of event ≡ None → result ≡ Reply.Marked Progress.Idle }
         ensures marks { length marks.new.bits ≡ length self.new.cells }
         ensures room { choice.new.cells ≡ choice.old.cells }
         ensures cells { length self.new.cells ≡ length self.old.cells }

@@ -1,5 +1,5 @@
 //! The core: one event at a time.
-ghost use Rattle.std.specs.Prelude.{◌≡◌, ◌≤◌, [], length, IfOk};
+ghost use Rattle.std.specs.Prelude.{◌≡◌, ◌≤◌, [], length, IfOk, None};
 ghost use Rattle.jlr_machine.specs.declared.machine.Machine.{Machine};
 ghost use Rattle.jlr_machine.specs.Run.{empty};
 ghost use Rattle.jlr_core.specs.Events.{ask_of, answer_in, given, handed, Enters};
@@ -11,7 +11,7 @@ use jlr_cells::Cells;
 use jlr_machine::choice::Choice;
 use jlr_machine::machine::Machine;
 use jlr_roots::Roots;
-use jlr_types::Limits;
+use jlr_types::{Limits, Progress};
 use std::alloc::{AllocError, Global};
 use std::marker::{Model, PhantomData};
 
@@ -62,12 +62,13 @@ impl<R> Core<R> {
         })
     }
 
-    /// One event. The choice says what was chosen; it has room for every cell.
+    /// One event. The choice says what was chosen; it has room for every cell. Marking is idle: there is no cycle yet.
     pub fn step(&mut self, event: Event<R>, choice: &mut Choice) -> Reply<R>
         requires room { length self.old.machine.objects ≤ choice.old.cells }
         ensures entry { (m : Machine) → StandsIn self.old m →
             (n : Machine) × Enters m (ask_of event) (answer_in result) choice.new.chosen n × StandsIn self.new n }
         ensures flow { handed result ≡ given event }
+        ensures idle { ask_of event ≡ None → result ≡ Reply.Marked Progress.Idle }
         ensures room { choice.new.cells ≡ choice.old.cells }
         ensures cells { length self.new.machine.objects ≡ length self.old.machine.objects }
     {

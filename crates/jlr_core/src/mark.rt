@@ -64,7 +64,7 @@ fn shade_roots(roots: &Roots, marks: &mut Marks)
     }
 }
 
-/// Marks just what the roots reach by strong edges: as many ticks as objects marked.
+/// Marks just what the roots reach by strong edges.
 pub(crate) fn mark(cells: &Cells, roots: &Roots, marks: &mut Marks)
     requires unmarked { (x : ℕ) → ¬ (IsMarked marks.old x) }
     requires no_grey { marks.old.grey ≡ [] }

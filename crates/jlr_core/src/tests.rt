@@ -4,7 +4,7 @@ use crate::run::run;
 use jlr_machine::ask::{Answer, FullMode};
 use jlr_machine::object::{Object, RefState, Reference};
 use jlr_types::{
-    Fault, FieldKind, FieldValue, Handle, Layout, Limits, Mutator, RefKind, Refusal, Slot,
+    Fault, FieldKind, FieldValue, Handle, Layout, Limits, Mutator, Progress, RefKind, Refusal, Slot,
 };
 use std::alloc::Global;
 use std::test::Fail;
@@ -436,6 +436,15 @@ fn reading_needs_a_free_handle(rt: HostRuntime) -> Result<(), Fail> {
     ];
     assert_eq!(rt; answers.as_slice().len(), 256);
     assert_eq!(rt; answers.as_slice().split_at(252).1, wanted.as_slice());
+    Ok(())
+}
+
+#[test]
+fn marking_is_idle_without_a_cycle(rt: HostRuntime) -> Result<(), Fail> {
+    let events = vec![in rt.alloc(); join(), Event::Mark { budget: 1 }]?;
+    let replies = replies(rt.alloc(), events)?;
+    assert_eq!(rt; replies.len(), 2);
+    assert!(rt; matches!(replies.get(1), Some(Reply::Marked(Progress::Idle))));
     Ok(())
 }
 

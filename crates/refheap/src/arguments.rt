@@ -6,7 +6,7 @@ ghost use Rattle.refheap.specs.Status.{status_of};
 use crate::fault::ProgramFault;
 use clap::error::ErrorKind;
 use clap::{Arg, ArgMatches, Command, value_parser};
-use jlr_types::Limits;
+use jlr_types::{LimitFault, Limits};
 use std::alloc::{AllocError, Global};
 use std::{env, io};
 
@@ -36,20 +36,9 @@ fn cells(alloc: Global, words: &[String]) -> Result<u32, ProgramFault> {
     Ok(cells.unwrap_or(DEFAULT_CELLS))
 }
 
-/// The limits of the heap that the words of a `run` ask for: one session, and what they leave open as
-/// it is without them.
-pub fn limits(alloc: Global, words: &[String]) -> Result<Limits, ProgramFault>
-    ensures { IfOk result (λ limits. (limits.sessions ≡ 1) × (limits.resources ≡ 16) × (limits.soft_age ≡ 4) × (limits.trace ≡ 10000) × (limits.budget ≡ 64)) }
-{
-    let cells = cells(alloc, words)?;
-    match Limits::checked(
-        cells,
-        1,
-        DEFAULT_RESOURCES,
-        DEFAULT_SOFT_AGE,
-        DEFAULT_TRACE,
-        DEFAULT_BUDGET,
-    ) {
+/// The limits of the heap that the words of a `run` ask for: so many cells, and the rest as it is where nothing is asked for.
+pub fn limits(alloc: Global, words: &[String]) -> Result<Limits, ProgramFault> {
+    match limits_with(cells(alloc, words)?) {
         Ok(limits) => Ok(limits),
         Err(_) => {
             let message = "the number of cells is from 16 to 65536";
@@ -57,6 +46,20 @@ pub fn limits(alloc: Global, words: &[String]) -> Result<Limits, ProgramFault>
             Err(told(command.error(ErrorKind::InvalidValue, message)?))
         }
     }
+}
+
+/// The limits of a session that is alone, with so many cells.
+fn limits_with(cells: u32) -> Result<Limits, LimitFault>
+    ensures { IfOk result (λ limits. (limits.cells ≡ cells) × (limits.sessions ≡ 1) × (limits.resources ≡ 16) × (limits.soft_age ≡ 4) × (limits.trace ≡ 10000) × (limits.budget ≡ 64)) }
+{
+    Limits::checked(
+        cells,
+        1,
+        DEFAULT_RESOURCES,
+        DEFAULT_SOFT_AGE,
+        DEFAULT_TRACE,
+        DEFAULT_BUDGET,
+    )
 }
 
 /// The other limits of a heap where the command line gives none.
