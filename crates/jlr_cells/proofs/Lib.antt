@@ -2,4 +2,4 @@ mod Writing
 mod FieldLists
 mod Slots
 mod Chains
-mod Early
+mod ByKind

@@ -6,7 +6,7 @@ use Rattle.std.proofs.lemmas.Option.{slice_get_read}
 use Rattle.std.proofs.lemmas.List.Sums.{sum_by-set}
 use Rattle.jlr_machine.specs.declared.object.Object.{Object}
 use Rattle.jlr_machine.specs.Objects.{at, occupied, change_at, some_and}
-use Rattle.jlr_machine.specs.Refusals.{is_reference}
+use Rattle.jlr_machine.specs.Refusals.{is_queue, is_reference}
 use Rattle.jlr_cells.specs.declared.cell.Cell.{Cell}
 use Rattle.jlr_cells.specs.Contents.{object_in, objects_in, field_in}
 
@@ -57,6 +57,10 @@ object_of_field (Some o) field h = refl
 pub object_of_reference : (o : Option Object) → some_and is_reference o ≡ true → is_some o ≡ true
 object_of_reference None h = h
 object_of_reference (Some o) h = refl
+
+pub object_of_queue : (o : Option Object) → some_and is_queue o ≡ true → is_some o ≡ true
+object_of_queue None h = h
+object_of_queue (Some o) h = refl
 
 -- what is in a cell that was read
 pub at-read : (cells : List Cell) (s : ℕ) (c : Cell) → s < length cells → c ≡ get_or cells s c → at (objects_in cells) s ≡ object_in c

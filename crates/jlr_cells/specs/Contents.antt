@@ -1,38 +1,51 @@
 -- Which object a cell holds, and what is asked of objects.
-use Rattle.std.specs.Prelude.{◌≡◌, ℕ, List, Option, Some, None, map, option_and_then, slice_get}
+use Rattle.std.specs.Prelude.{◌≡◌, ℕ, List, [], Option, Some, None, map, option_and_then, slice_get}
 use Rattle.jlr_types.specs.declared.FieldValue.{FieldValue}
 use Rattle.jlr_machine.specs.declared.object.Object.{Object}
-use Rattle.jlr_machine.specs.declared.object.Object.TheVariants.{Plain as PlainObject, Reference as ReferenceObject}
+use Rattle.jlr_machine.specs.declared.object.Object.TheVariants.{Plain as PlainObject, Reference as ReferenceObject, Queue as QueueObject}
+use Rattle.jlr_machine.specs.declared.object.Reference.{Reference as ReferenceOf}
+use Rattle.jlr_machine.specs.declared.object.RefState.{RefState}
 use Rattle.jlr_machine.specs.declared.object.RefState.TheVariants.{Fresh}
-use Rattle.jlr_machine.specs.Objects.{Heap, at, as_fields, as_reference}
+use Rattle.jlr_machine.specs.Objects.{Heap, at, as_fields, as_members, as_reference, queue_ahead}
 use Rattle.jlr_machine.specs.Lookups.{blank}
 use Rattle.jlr_cells.specs.declared.cell.Cell.{Cell}
-use Rattle.jlr_cells.specs.declared.cell.Cell.TheVariants.{Free, Plain, Reference}
+use Rattle.jlr_cells.specs.declared.cell.Cell.TheVariants.{Free, Plain, Reference, Queue}
 use Rattle.jlr_cells.specs.declared.shape.Kind.{Kind}
-use Rattle.jlr_cells.specs.declared.shape.Kind.TheVariants.{Plain as PlainKind, Reference as ReferenceKind}
+use Rattle.jlr_cells.specs.declared.shape.Kind.TheVariants.{Plain as PlainKind, Reference as ReferenceKind, Queue as QueueKind}
 use Rattle.jlr_cells.specs.declared.shape.Shape.{Shape}
-use Rattle.jlr_cells.specs.declared.shape.Shape.TheVariants.{Plain as PlainShape, Reference as ReferenceShape}
+use Rattle.jlr_cells.specs.declared.shape.Shape.TheVariants.{Plain as PlainShape, Reference as ReferenceShape, Queue as QueueShape}
 
 -- the object in a cell, if it is not free
 abbrev pub object_in : Cell → Option Object
 object_in (Free next) = None
 object_in (Plain fields) = Some (PlainObject fields)
-object_in (Reference kind referent) = Some (ReferenceObject (record { kind = kind; referent = referent; queue = None; state = Fresh }))
+object_in (Reference r) = Some (ReferenceObject r)
+object_in (Queue members) = Some (QueueObject members.items)
 
 -- the objects in the cells, by slot
 abbrev pub objects_in : List Cell → Heap
 objects_in cells = map object_in cells
 
--- the object that is made of a shape: its fields are 0 or null; a reference is Fresh and has no queue
+-- the object that is made of a shape: its fields are 0 or null, a reference is Fresh, a queue has no members
 abbrev pub object_of : Shape → Object
 object_of (PlainShape layout) = PlainObject (map blank layout)
-object_of (ReferenceShape kind referent) = ReferenceObject (record { kind = kind; referent = referent; queue = None; state = Fresh })
+object_of (ReferenceShape kind referent queue) = ReferenceObject (record { kind = kind; referent = referent; queue = queue; state = Fresh })
+object_of QueueShape = QueueObject []
 
 -- of which kind an object is; of the other kinds no cell is made yet
 abbrev pub kind_of : Object → Option Kind
 kind_of (PlainObject fields) = Some PlainKind
 kind_of (ReferenceObject r) = Some (ReferenceKind r.kind)
+kind_of (QueueObject members) = Some QueueKind
 kind_of _ = None
+
+-- of which kind a cell's object is, if it is not free
+abbrev pub kind_in : Cell → Option Kind
+kind_in c = option_and_then kind_of (object_in c)
+
+-- the kinds of the objects in the cells, by slot
+abbrev pub kinds_in : List Cell → List (Option Kind)
+kinds_in cells = map kind_in cells
 
 -- a field of an object, if it is a plain one and has that field
 abbrev pub field_in : Option Object → ℕ → Option FieldValue
@@ -46,8 +59,23 @@ field_at heap s field = field_in (at heap s) field
 abbrev pub referent_in : Option Object → Option ℕ
 referent_in o = option_and_then (λ r. r.referent) (option_and_then as_reference o)
 
--- an object of the kinds that cells have so far: a plain one, or a Fresh reference without a queue
-abbrev pub IsEarly : Object → Type 0
-IsEarly (PlainObject fields) = Unit {0}
-IsEarly (ReferenceObject r) = (r.queue ≡ None) × (r.state ≡ Fresh)
-IsEarly _ = ⊥
+-- the queue that an object may still be added to, if it is a reference
+abbrev pub ahead_in : Option Object → Option ℕ
+ahead_in o = option_and_then queue_ahead (option_and_then as_reference o)
+
+-- a reference in another state, and one that is registered with no queue any more
+abbrev pub in_state : RefState → ReferenceOf → ReferenceOf
+in_state state r = record r { state = state }
+
+abbrev pub unregistered : ReferenceOf → ReferenceOf
+unregistered r = record r { queue = None }
+
+-- the members of an object, if it is a queue
+abbrev pub members_in : Option Object → List ℕ
+members_in None = []
+members_in (Some (QueueObject members)) = members
+members_in (Some _) = []
+
+-- a member of an object, if it is a queue and has one at this place
+abbrev pub member_in : Option Object → ℕ → Option ℕ
+member_in o place = option_and_then (λ members. slice_get members place) (option_and_then as_members o)

@@ -3,7 +3,8 @@ use Rattle.std.specs.Prelude.{◌≡◌, ℕ, zero, suc, ◌+◌, ◌<◌, ◌^�
 use Rattle.jlr_machine.specs.Objects.{occupied}
 use Rattle.jlr_cells.specs.declared.cell.Cell.{Cell}
 use Rattle.jlr_cells.specs.declared.cell.Cell.TheVariants.{Free}
-use Rattle.jlr_cells.specs.Contents.{objects_in}
+use Rattle.jlr_cells.specs.Contents.{objects_in, kinds_in}
+use Rattle.jlr_cells.specs.declared.shape.Kind.{Kind}
 
 -- the cell is free, and names the next free one
 abbrev pub IsFreeAt : List Cell → ℕ → Option ℕ → Type 0
@@ -33,3 +34,8 @@ link_to count s = if nat_lt s count then Some s else None
 pub record AreLinkedUp (cells : List Cell) (count : ℕ) : Type 0 where
   pub cell_count : length cells ≡ count
   pub links : (s : ℕ) → s < count → IsFreeAt cells s (link_to count (s + 1))
+
+-- The free list is well linked, and the kinds that stand by themselves are those of the objects
+pub record AreKept (cells : List Cell) (kinds : List (Option Kind)) (first : Option ℕ) (count : ℕ) : Type 0 where
+  pub list : IsFreeList cells first count
+  pub by_kind : kinds ≡ kinds_in cells

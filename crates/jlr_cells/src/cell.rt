@@ -1,51 +1,60 @@
 //! One cell.
-ghost use Rattle.std.specs.Prelude.{◌≡◌, IfOk, Some, IsTrue, is_some, length, option_and_then, option_copied, option_map};
-ghost use Rattle.jlr_machine.specs.Objects.{as_fields, some_and, with_field, with_reference};
-ghost use Rattle.jlr_machine.specs.Refusals.{is_reference};
+ghost use Rattle.std.specs.Prelude.{◌≡◌, ◌++◌, ◌∷◌, [], IfOk, OnErr, OnOk, Some, IsTrue, drop, is_some, length, option_and_then, option_copied, option_map};
+ghost use Rattle.jlr_machine.specs.Objects.{as_fields, as_reference, some_and, with_field, with_members, with_reference};
+ghost use Rattle.jlr_machine.specs.Refusals.{is_queue, is_reference};
 ghost use Rattle.jlr_machine.specs.Calls.{unreferred};
-ghost use Rattle.jlr_cells.specs.Contents.{field_in, kind_of, object_in, object_of, referent_in};
+ghost use Rattle.jlr_cells.specs.Contents.{ahead_in, field_in, in_state, kind_in, member_in, object_in, object_of, referent_in, unregistered};
 
 use crate::fields::Fields;
 use crate::shape::{Kind, Shape};
 use jlr_machine::items::Items;
 use jlr_machine::object::{Object, RefState, Reference};
-use jlr_types::{FieldValue, RefKind, Slot};
+use jlr_types::{FieldValue, Slot};
 use std::alloc::{AllocError, Global};
+use std::collections::VecDeque;
 use std::mem::size_of;
 
 /// A place for one object.
 #[derive(Drop)]
 pub(crate) enum Cell {
-    Free {
-        next: Option<u32>,
-    },
+    Free { next: Option<u32> },
     Plain(Fields),
-    Reference {
-        kind: RefKind,
-        referent: Option<Slot>,
-    },
+    Reference(Reference),
+    /// A queue, with its members from the front on.
+    Queue(VecDeque<Slot>),
 }
 
 // What the head of the crate says of the layout.
 const _: () = prove!(size_of::<Cell>() == 80);
 
 impl Cell {
-    pub(crate) fn new(shape: Shape) -> Self
+    pub(crate) fn new(alloc: Global, shape: Shape) -> Self
         ensures { object_in result ≡ Some (object_of shape) }
     {
         match shape {
             Shape::Plain(layout) => Cell::Plain(Fields::blank(&layout)),
-            Shape::Reference { kind, referent } => Cell::Reference { kind, referent },
+            Shape::Reference {
+                kind,
+                referent,
+                queue,
+            } => Cell::Reference(Reference {
+                kind,
+                referent,
+                queue,
+                state: RefState::Fresh,
+            }),
+            Shape::Queue => Cell::Queue(VecDeque::new(alloc)),
         }
     }
 
     pub(crate) fn kind(&self) -> Option<Kind>
-        ensures { result ≡ option_and_then kind_of (object_in self.now) }
+        ensures { result ≡ kind_in self.now }
     {
         match self {
             Cell::Free { .. } => None,
             Cell::Plain(_) => Some(Kind::Plain),
-            Cell::Reference { kind, .. } => Some(Kind::Reference(*kind)),
+            Cell::Reference(reference) => Some(Kind::Reference(reference.kind)),
+            Cell::Queue(_) => Some(Kind::Queue),
         }
     }
 
@@ -54,7 +63,7 @@ impl Cell {
     {
         match self {
             Cell::Plain(fields) => Some(fields.len()),
-            Cell::Free { .. } | Cell::Reference { .. } => None,
+            Cell::Free { .. } | Cell::Reference(_) | Cell::Queue(_) => None,
         }
     }
 
@@ -64,7 +73,7 @@ impl Cell {
     {
         match self {
             Cell::Plain(fields) => fields.get(field),
-            Cell::Free { .. } | Cell::Reference { .. } => None,
+            Cell::Free { .. } | Cell::Reference(_) | Cell::Queue(_) => None,
         }
     }
 
@@ -73,21 +82,56 @@ impl Cell {
         requires { IsTrue (is_some (field_in (object_in self.old) field)) }
         ensures old { field_in (object_in self.old) field ≡ Some result }
         ensures new { object_in self.new ≡ option_map (with_field field value) (object_in self.old) }
+        ensures kind { kind_in self.new ≡ kind_in self.old }
     {
         match self {
             Cell::Plain(fields) => fields.set(field, value),
-            Cell::Free { .. } | Cell::Reference { .. } => unreachable!(),
+            Cell::Free { .. } | Cell::Reference(_) | Cell::Queue(_) => unreachable!(),
+        }
+    }
+
+    /// A reference comes into another state.
+    pub(crate) fn set_state(&mut self, state: RefState)
+        requires { IsTrue (some_and is_reference (object_in self.old)) }
+        ensures new { object_in self.new ≡ option_map (with_reference (in_state state)) (object_in self.old) }
+        ensures kind { kind_in self.new ≡ kind_in self.old }
+    {
+        match self {
+            Cell::Reference(reference) => reference.state = state,
+            Cell::Free { .. } | Cell::Plain(_) | Cell::Queue(_) => unreachable!(),
+        }
+    }
+
+    /// A reference is registered with no queue any more.
+    pub(crate) fn cut_queue(&mut self)
+        requires { IsTrue (some_and is_reference (object_in self.old)) }
+        ensures new { object_in self.new ≡ option_map (with_reference unregistered) (object_in self.old) }
+        ensures kind { kind_in self.new ≡ kind_in self.old }
+    {
+        match self {
+            Cell::Reference(reference) => reference.queue = None,
+            Cell::Free { .. } | Cell::Plain(_) | Cell::Queue(_) => unreachable!(),
         }
     }
 
     /// A reference loses its referent.
     pub(crate) fn clear_referent(&mut self)
         requires { IsTrue (some_and is_reference (object_in self.old)) }
-        ensures { object_in self.new ≡ option_map (with_reference unreferred) (object_in self.old) }
+        ensures new { object_in self.new ≡ option_map (with_reference unreferred) (object_in self.old) }
+        ensures kind { kind_in self.new ≡ kind_in self.old }
     {
         match self {
-            Cell::Reference { referent, .. } => *referent = None,
-            Cell::Free { .. } | Cell::Plain(_) => unreachable!(),
+            Cell::Reference(reference) => reference.referent = None,
+            Cell::Free { .. } | Cell::Plain(_) | Cell::Queue(_) => unreachable!(),
+        }
+    }
+
+    pub(crate) fn reference(&self) -> Option<Reference>
+        ensures { result ≡ option_and_then as_reference (object_in self.now) }
+    {
+        match self {
+            Cell::Reference(reference) => Some(*reference),
+            Cell::Free { .. } | Cell::Plain(_) | Cell::Queue(_) => None,
         }
     }
 
@@ -95,8 +139,57 @@ impl Cell {
         ensures { result ≡ referent_in (object_in self.now) }
     {
         match self {
-            Cell::Reference { referent, .. } => *referent,
-            Cell::Free { .. } | Cell::Plain(_) => None,
+            Cell::Reference(reference) => reference.referent,
+            Cell::Free { .. } | Cell::Plain(_) | Cell::Queue(_) => None,
+        }
+    }
+
+    /// The queue that a reference may still be added to.
+    pub(crate) fn queue_ahead(&self) -> Option<Slot>
+        ensures { result ≡ ahead_in (object_in self.now) }
+    {
+        match self {
+            Cell::Reference(reference) => match reference.state {
+                RefState::Fresh | RefState::Pending => reference.queue,
+                RefState::Queued | RefState::Removed => None,
+            },
+            Cell::Free { .. } | Cell::Plain(_) | Cell::Queue(_) => None,
+        }
+    }
+
+    /// A member of a queue, by its place from the front on.
+    pub(crate) fn member(&self, place: usize) -> Option<Slot>
+        ensures { result ≡ member_in (object_in self.now) place }
+    {
+        match self {
+            Cell::Queue(members) => members.get(place).copied(),
+            Cell::Free { .. } | Cell::Plain(_) | Cell::Reference(_) => None,
+        }
+    }
+
+    /// A queue gets a member at its end.
+    pub(crate) fn push_member(&mut self, member: Slot) -> Result<(), AllocError>
+        requires { IsTrue (some_and is_queue (object_in self.old)) }
+        ensures pushed { OnOk result (object_in self.new ≡ option_map (with_members (λ members. members ++ member ∷ [])) (object_in self.old)) }
+        ensures err { OnErr result (object_in self.new ≡ object_in self.old) }
+        ensures kind { kind_in self.new ≡ kind_in self.old }
+    {
+        match self {
+            Cell::Queue(members) => members.push_back(member).map_err(|_| AllocError),
+            Cell::Free { .. } | Cell::Plain(_) | Cell::Reference(_) => unreachable!(),
+        }
+    }
+
+    /// The member at a queue's front leaves it, if there is one.
+    pub(crate) fn pop_member(&mut self) -> Option<Slot>
+        requires { IsTrue (some_and is_queue (object_in self.old)) }
+        ensures front { result ≡ member_in (object_in self.old) 0 }
+        ensures popped { object_in self.new ≡ option_map (with_members (drop 1)) (object_in self.old) }
+        ensures kind { kind_in self.new ≡ kind_in self.old }
+    {
+        match self {
+            Cell::Queue(members) => members.pop_front(),
+            Cell::Free { .. } | Cell::Plain(_) | Cell::Reference(_) => unreachable!(),
         }
     }
 
@@ -116,12 +209,8 @@ impl Cell {
                 }
                 Ok(Some(Object::Plain(Items::from_vec(values))))
             }
-            Cell::Reference { kind, referent } => Ok(Some(Object::Reference(Reference {
-                kind: *kind,
-                referent: *referent,
-                queue: None,
-                state: RefState::Fresh,
-            }))),
+            Cell::Reference(reference) => Ok(Some(Object::Reference(*reference))),
+            Cell::Queue(members) => Ok(Some(Object::Queue(members_image(alloc, members)?))),
         }
     }
 
@@ -131,7 +220,20 @@ impl Cell {
     {
         match self {
             Cell::Plain(fields) => Some(fields),
-            Cell::Free { .. } | Cell::Reference { .. } => None,
+            Cell::Free { .. } | Cell::Reference(_) | Cell::Queue(_) => None,
         }
     }
+}
+
+fn members_image(alloc: Global, members: &VecDeque<Slot>) -> Result<Items<Slot>, AllocError>
+    ensures { IfOk result (λ slots. slots ≡ members.now.items) }
+{
+    let mut slots = Vec::with_capacity(alloc, members.len())?;
+    for place in 0..members.len() {
+        match members.get(place) {
+            Some(member) => slots.push_reserved(*member),
+            None => unreachable!(),
+        }
+    }
+    Ok(Items::from_vec(slots))
 }

@@ -1,29 +1,30 @@
 //! All cells.
-ghost use Rattle.std.specs.Prelude.{◌≡◌, ℕ, ◌+◌, ◌^◌, ◌<◌, ◌↔◌, IfOk, IfNone, IfSome, IsNone, IsTrue, None, Some, filter_map, is_some, length, option_and_then, option_copied, option_map, option_to_list, replicate};
+ghost use Rattle.std.specs.Prelude.{◌≡◌, ℕ, ◌+◌, ◌++◌, ◌∷◌, [], ◌^◌, ◌<◌, ◌↔◌, IfOk, IfNone, IfSome, IsNone, IsTrue, None, OnErr, OnOk, Some, drop, filter_map, is_some, length, option_and_then, option_copied, option_map, option_to_list, replicate};
 ghost use Rattle.std.specs.List.{flat_map};
-ghost use Rattle.jlr_machine.specs.Objects.{as_fields, at, change_at, empty_at, occupied, set_at, some_and};
+ghost use Rattle.jlr_machine.specs.Objects.{as_fields, as_reference, at, change_at, empty_at, occupied, set_at, some_and};
 ghost use Rattle.jlr_machine.specs.Edges.{edges_from, slot_in};
 ghost use Rattle.jlr_machine.specs.Edges.Chain.{Strong};
-ghost use Rattle.jlr_machine.specs.Objects.{with_field, with_reference};
-ghost use Rattle.jlr_machine.specs.Refusals.{is_plain, is_reference};
+ghost use Rattle.jlr_machine.specs.Objects.{with_field, with_members, with_reference};
+ghost use Rattle.jlr_machine.specs.Refusals.{is_plain, is_queue, is_reference};
 ghost use Rattle.jlr_machine.specs.Calls.{unreferred};
-ghost use Rattle.jlr_cells.specs.Contents.{IsEarly, field_at, kind_of, object_of, objects_in, referent_in};
-ghost use Rattle.jlr_machine.specs.declared.object.Object.{Object};
+ghost use Rattle.jlr_cells.specs.Contents.{ahead_in, field_at, in_state, kind_of, kinds_in, member_in, members_in, object_of, objects_in, referent_in, unregistered};
 
 use crate::cell::Cell;
 use crate::fields::Fields;
 use crate::free_list::{free_cells, link_to, next_free};
 use crate::shape::{Kind, Shape};
-use jlr_machine::object::Object;
+use jlr_machine::object::{Object, RefState, Reference};
 use jlr_machine::table::Table;
 use jlr_types::{FieldValue, Meter, Slot};
 use std::alloc::{AllocError, Global};
 use std::marker::Model;
 
-/// The objects of the heap, by slot.
+/// The objects of the heap, by slot. The kinds stand by themselves once more, side by side, so that a pass over all cells reads
+/// only those that it has to.
 #[derive(Drop)]
 pub struct Cells {
     cells: Vec<Cell>,
+    kinds: Vec<Option<Kind>>,
     first_free: Option<u32>,
     free_count: u32,
 }
@@ -35,20 +36,24 @@ impl Model for Cells {
     ghost Value = { List (Option Object) };
 
     ghost use Rattle.jlr_cells.specs.Contents.{objects_in};
-    ghost use Rattle.jlr_cells.specs.FreeList.{IsFreeList};
+    ghost use Rattle.jlr_cells.specs.FreeList.{AreKept};
 
     ghost view = { λ a. objects_in a.cells.items };
 
-    ghost invariant = { λ a. IsFreeList a.cells.items a.first_free a.free_count };
+    ghost invariant = { λ a. AreKept a.cells.items a.kinds.items a.first_free a.free_count };
 }
 
 impl Cells {
     /// So many cells, all free.
+    ///
+    /// # Errors
+    /// `AllocError` where there is no memory for them.
     pub fn new(alloc: Global, count: u32) -> Result<Self, AllocError>
         ensures { IfOk result (λ cells. cells ≡ replicate count None) }
     {
         Ok(Cells {
             cells: free_cells(alloc, count)?,
+            kinds: no_kinds(alloc, count)?,
             first_free: link_to(0, count),
             free_count: count,
         })
@@ -79,7 +84,9 @@ impl Cells {
             None => None,
             Some(slot) => {
                 self.first_free = next_free(&self.cells, slot);
-                self.cells[slot as usize] = Cell::new(shape);
+                let cell = Cell::new(*self.cells.allocator(), shape);
+                self.kinds[slot as usize] = cell.kind();
+                self.cells[slot as usize] = cell;
                 self.free_count -= 1;
                 Some(Slot::new(slot))
             }
@@ -95,15 +102,9 @@ impl Cells {
         self.cells[number as usize] = Cell::Free {
             next: self.first_free,
         };
+        self.kinds[number as usize] = None;
         self.first_free = Some(number);
         self.free_count += 1;
-    }
-
-    /// Each object is a plain one, or a Fresh reference without a queue: of the other kinds no cell is made yet.
-    pub fn objects_are_early(&self)
-        ensures { (s : ℕ) (o : Object) → at self.now s ≡ Some o → IsEarly o }
-    {
-        cells_are_early(&self.cells);
     }
 
     /// Of which kind the object at a slot is, if there is one.
@@ -111,8 +112,8 @@ impl Cells {
         ensures kind { result ≡ option_and_then kind_of (at self.now slot) }
         ensures object { is_some result ≡ is_some (at self.now slot) }
     {
-        match self.cells.get(slot.number() as usize) {
-            Some(cell) => cell.kind(),
+        match self.kinds.get(slot.number() as usize) {
+            Some(kind) => *kind,
             None => None,
         }
     }
@@ -129,6 +130,13 @@ impl Cells {
         ensures { result ≡ some_and is_reference (at self.now slot) }
     {
         matches!(self.kind(slot), Some(Kind::Reference(_)))
+    }
+
+    /// Whether there is a queue at a slot.
+    pub fn is_queue(&self, slot: Slot) -> bool
+        ensures { result ≡ some_and is_queue (at self.now slot) }
+    {
+        self.kind(slot) == Some(Kind::Queue)
     }
 
     /// How many fields the object at a slot has, if it is a plain one.
@@ -166,9 +174,18 @@ impl Cells {
         cell.set_field(field, value)
     }
 
-    /// What the reference at a slot refers to.
+    /// The reference at a slot, if there is one.
+    pub fn reference(&self, slot: Slot) -> Option<Reference>
+        ensures { result ≡ option_and_then as_reference (at self.now slot) }
+    {
+        match self.cells.get(slot.number() as usize) {
+            Some(cell) => cell.reference(),
+            None => None,
+        }
+    }
+
+    /// What the reference at a slot refers to, if there is a reference and it was not cleared.
     pub fn referent(&self, slot: Slot) -> Option<Slot>
-        requires { IsTrue (some_and is_reference (at self.now slot)) }
         ensures { result ≡ referent_in (at self.now slot) }
     {
         match self.cells.get(slot.number() as usize) {
@@ -186,6 +203,57 @@ impl Cells {
         cell.clear_referent();
     }
 
+    /// The reference at a slot comes into another state.
+    pub fn set_state(&mut self, slot: Slot, state: RefState)
+        requires { IsTrue (some_and is_reference (at self.old slot)) }
+        ensures { self.new ≡ change_at self.old slot (with_reference (in_state state)) }
+    {
+        let cell = &mut self.cells[slot.number() as usize];
+        cell.set_state(state);
+    }
+
+    /// The reference at a slot is registered with no queue any more.
+    pub fn cut_queue(&mut self, slot: Slot)
+        requires { IsTrue (some_and is_reference (at self.old slot)) }
+        ensures { self.new ≡ change_at self.old slot (with_reference unregistered) }
+    {
+        let cell = &mut self.cells[slot.number() as usize];
+        cell.cut_queue();
+    }
+
+    /// A member of the queue at a slot, by its place from the front on, if there is a queue and it has so many.
+    pub fn member(&self, queue: Slot, place: usize) -> Option<Slot>
+        ensures { result ≡ member_in (at self.now queue) place }
+    {
+        match self.cells.get(queue.number() as usize) {
+            Some(cell) => cell.member(place),
+            None => None,
+        }
+    }
+
+    /// The queue at a slot gets a member at its end.
+    ///
+    /// # Errors
+    /// `AllocError` where there is no memory for one member more. Nothing has changed then.
+    pub fn push_member(&mut self, queue: Slot, member: Slot) -> Result<(), AllocError>
+        requires { IsTrue (some_and is_queue (at self.old queue)) }
+        ensures pushed { OnOk result (self.new ≡ change_at self.old queue (with_members (λ members. members ++ member ∷ []))) }
+        ensures err { OnErr result (self.new ≡ self.old) }
+    {
+        let cell = &mut self.cells[queue.number() as usize];
+        cell.push_member(member)
+    }
+
+    /// The member at the front of the queue at a slot leaves it, if there is one.
+    pub fn pop_member(&mut self, queue: Slot) -> Option<Slot>
+        requires { IsTrue (some_and is_queue (at self.old queue)) }
+        ensures front { result ≡ member_in (at self.old queue) 0 }
+        ensures popped { self.new ≡ change_at self.old queue (with_members (drop 1)) }
+    {
+        let cell = &mut self.cells[queue.number() as usize];
+        cell.pop_member()
+    }
+
     /// The objects as plain data.
     ///
     /// # Errors
@@ -196,24 +264,24 @@ impl Cells {
         Ok(Table::from_vec(images(alloc, &self.cells)?))
     }
 
-    /// Visits the object at a slot: one tick. Lends the fields that hold its strong edges; a reference has none.
-    pub fn visit(&self, slot: Slot, meter: &mut Meter) -> Option<&Fields>
+    /// Visits the object at a slot: one tick. Gives its strong edges, but those of a queue to its members: it lends the fields of a
+    /// plain object, and tells the queue that a reference may still be added to.
+    pub fn visit(&self, slot: Slot, meter: &mut Meter) -> (Option<&Fields>, Option<Slot>)
         requires object { IsTrue (is_some (at self.now slot)) }
         requires ticks { meter.old + 1 < 2 ^ 64 }
-        ensures edges { flat_map (filter_map slot_in) (option_to_list (option_copied result)) ≡ edges_from Strong self.now slot }
+        ensures edges { edges_from Strong self.now slot ≡ flat_map (filter_map slot_in) (option_to_list (option_copied result.0)) ++ option_to_list result.1 ++ members_in (at self.now slot) }
         ensures ticked { meter.new ≡ meter.old + 1 }
     {
         meter.tick();
         let cell = &self.cells[slot.number() as usize];
-        cell.fields()
+        (cell.fields(), cell.queue_ahead())
     }
 }
 
-/// Cells hold objects of these kinds alone.
-fn cells_are_early(cells: &[Cell])
-    ensures { (s : ℕ) (o : Object) → at (objects_in cells.now) s ≡ Some o → IsEarly o }
+fn no_kinds(alloc: Global, count: u32) -> Result<Vec<Option<Kind>>, AllocError>
+    ensures { IfOk result (λ kinds. kinds.items ≡ replicate count None) }
 {
-    let _ = cells;
+    Ok(vec![in alloc; None; count as usize]?)
 }
 
 fn images(alloc: Global, cells: &[Cell]) -> Result<Vec<Option<Object>>, AllocError>
@@ -296,7 +364,11 @@ mod tests {
         let referent = Some(Slot::new(7));
         let kind = RefKind::Weak;
         let slot = cells
-            .take(Shape::Reference { kind, referent })
+            .take(Shape::Reference {
+                kind,
+                referent,
+                queue: None,
+            })
             .ok_or("no cell")?;
         assert_eq!(rt; cells.kind(slot), Some(Kind::Reference(RefKind::Weak)));
         assert_eq!(rt; cells.field_count(slot), None);
@@ -317,15 +389,80 @@ mod tests {
         let referent = Some(plain);
         let kind = RefKind::Weak;
         let weak = cells
-            .take(Shape::Reference { kind, referent })
+            .take(Shape::Reference {
+                kind,
+                referent,
+                queue: None,
+            })
             .ok_or("no cell")?;
         assert!(rt; cells.kind(plain).is_some() && cells.kind(weak).is_some());
-        let fields = cells.visit(plain, &mut meter).ok_or("no fields")?;
+        let (fields, _) = cells.visit(plain, &mut meter);
+        let fields = fields.ok_or("no fields")?;
         assert_eq!(rt; fields.get(0), Some(FieldValue::Ref(None)));
         assert_eq!(rt; fields.get(1), Some(FieldValue::Int(0)));
         assert_eq!(rt; fields.get(2), None);
-        assert!(rt; cells.visit(weak, &mut meter).is_none());
+        let (fields, ahead) = cells.visit(weak, &mut meter);
+        assert!(rt; fields.is_none());
+        assert_eq!(rt; ahead, None);
         assert_eq!(rt; meter.ticks(), 2);
+        Ok(())
+    }
+
+    #[test]
+    fn a_queue_gives_its_members_in_order(rt: HostRuntime) -> Result<(), Fail> {
+        let mut cells = Cells::new(rt.alloc(), 16)?;
+        let queue = cells.take(Shape::Queue).ok_or("no cell")?;
+        assert_eq!(rt; cells.kind(queue), Some(Kind::Queue));
+        assert_eq!(rt; cells.member(queue, 0), None);
+        for number in 1u32..4 {
+            assert!(rt; cells.is_queue(queue));
+            cells.push_member(queue, Slot::new(number))?;
+        }
+        assert_eq!(rt; cells.member(queue, 2), Some(Slot::new(3)));
+        for number in 1u32..4 {
+            assert!(rt; cells.is_queue(queue));
+            assert_eq!(rt; cells.pop_member(queue), Some(Slot::new(number)));
+        }
+        assert!(rt; cells.is_queue(queue));
+        assert_eq!(rt; cells.pop_member(queue), None);
+        Ok(())
+    }
+
+    #[test]
+    fn a_reference_leaves_its_queue_behind(rt: HostRuntime) -> Result<(), Fail> {
+        let mut cells = Cells::new(rt.alloc(), 16)?;
+        let mut meter = Meter::new();
+        let queue = cells.take(Shape::Queue);
+        let referent = None;
+        let kind = RefKind::Phantom;
+        let slot = cells
+            .take(Shape::Reference {
+                kind,
+                referent,
+                queue,
+            })
+            .ok_or("no cell")?;
+        assert!(rt; cells.kind(slot).is_some());
+        let (_, ahead) = cells.visit(slot, &mut meter);
+        assert_eq!(rt; ahead, queue);
+        assert!(rt; cells.is_reference(slot));
+        cells.set_state(slot, RefState::Queued);
+        assert!(rt; cells.kind(slot).is_some());
+        let (_, ahead) = cells.visit(slot, &mut meter);
+        assert_eq!(rt; ahead, None);
+        assert!(rt; cells.is_reference(slot));
+        cells.cut_queue(slot);
+        let state = RefState::Queued;
+        let queue = None;
+        assert_eq!(rt;
+            cells.reference(slot),
+            Some(Reference {
+                kind,
+                referent,
+                queue,
+                state
+            })
+        );
         Ok(())
     }
 }

@@ -8,6 +8,8 @@ pub enum Kind {
     Plain,
     /// A reference object of this strength.
     Reference(RefKind),
+    /// A reference queue.
+    Queue,
 }
 
 /// A new object: its kind and body.
@@ -15,11 +17,15 @@ pub enum Kind {
 pub enum Shape {
     /// An object with these fields, each 0 or null.
     Plain(Layout),
-    /// A reference to an object, or to none, that is registered with no queue.
+    /// A reference to an object, or to none.
     Reference {
         /// How strongly it holds its referent.
         kind: RefKind,
         /// What it refers to.
         referent: Option<Slot>,
+        /// The queue that it is registered with, if any.
+        queue: Option<Slot>,
     },
+    /// A reference queue without members.
+    Queue,
 }

@@ -1,16 +1,16 @@
-use Rattle.std.proofs.Common.{◌≡◌, ◌<◌, true, length}
+use Rattle.std.proofs.Common.{◌≡◌, ◌<◌, ◌++◌, ◌∷◌, [], true, length, drop}
 use Rattle.std.specs.Prelude.{is_some}
 use Rattle.jlr_machine.specs.Objects.{at, with_field}
-use Rattle.jlr_cells.specs.Contents.{objects_in}
+use Rattle.jlr_cells.specs.Contents.{objects_in, in_state, unregistered}
 use Rattle.jlr_cells.proofs.Slots.{object_of_field, change_at-objects_in, within_cells}
-use Rattle.jlr_cells.proofs.Chains.{changed}
+use Rattle.jlr_cells.proofs.ByKind.{kept_changed}
 use Rattle.jlr_cells.proofs.cells.Cells.set_field.Goals as goal
 
 holds : (c : goal.After-self-1) → is_some (at (objects_in c.self.inside.cells.items) c.number.result) ≡ true
 holds c = rw (c.number.ensures, c.self.view_is) (object_of_field _ c.args.field c.requires)
 
 pub invariant_of-self : goal.invariant_of-self
-invariant_of-self c = changed _ _ _ _ c.index_mut-cell.result.now _ (with_field c.args.field c.args.value) c.self.invariant (holds c) c.index_mut-cell.ensures.value c.set_field.ensures.new
+invariant_of-self c = kept_changed _ _ _ _ _ c.index_mut-cell.result.now _ (with_field c.args.field c.args.value) c.self.invariant (holds c) c.index_mut-cell.ensures.value c.set_field.ensures.new c.set_field.ensures.kind
 
 pub returns-clause-new : goal.returns-clause-new
 returns-clause-new c =
