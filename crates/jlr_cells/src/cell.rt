@@ -1,5 +1,5 @@
 //! One cell.
-ghost use Rattle.std.specs.Prelude.{◌≡◌, ◌++◌, ◌∷◌, [], IfOk, OnErr, OnOk, Some, IsTrue, drop, is_some, length, option_and_then, option_copied, option_map};
+ghost use Rattle.std.specs.Prelude.{◌≡◌, ◌++◌, ◌∷◌, [], ◌+◌, ◌<◌, ◌^◌, IfOk, IfSome, OnErr, OnOk, Some, IsTrue, drop, is_some, length, option_and_then, option_copied, option_map};
 ghost use Rattle.jlr_machine.specs.Objects.{as_fields, as_reference, some_and, with_field, with_members, with_reference};
 ghost use Rattle.jlr_machine.specs.Refusals.{is_queue, is_reference};
 ghost use Rattle.jlr_machine.specs.Calls.{unreferred};
@@ -159,7 +159,8 @@ impl Cell {
 
     /// A member of a queue, by its place from the front on.
     pub(crate) fn member(&self, place: usize) -> Option<Slot>
-        ensures { result ≡ member_in (object_in self.now) place }
+        ensures member { result ≡ member_in (object_in self.now) place }
+        ensures few { IfSome result (λ _. place + 1 < 2 ^ 64) }
     {
         match self {
             Cell::Queue(members) => members.get(place).copied(),

@@ -223,7 +223,8 @@ impl Cells {
 
     /// A member of the queue at a slot, by its place from the front on, if there is a queue and it has so many.
     pub fn member(&self, queue: Slot, place: usize) -> Option<Slot>
-        ensures { result ≡ member_in (at self.now queue) place }
+        ensures member { result ≡ member_in (at self.now queue) place }
+        ensures few { IfSome result (λ _. place + 1 < 2 ^ 64) }
     {
         match self.cells.get(queue.number() as usize) {
             Some(cell) => cell.member(place),

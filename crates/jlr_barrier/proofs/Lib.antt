@@ -1,0 +1,4 @@
+pub mod Counting
+pub mod Shading
+pub mod Places
+pub mod Walking

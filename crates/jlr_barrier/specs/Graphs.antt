@@ -1,0 +1,79 @@
+-- What a heap is seen as: an object graph with its roots, a clock of collections, and a mark set.
+use Rattle.std.specs.Prelude.{◌≡◌, ◌≤◌, ◌+◌, ◌^◌, ℕ, false, cond, nat_lt, Option, List, [], ◌++◌, None, length, replicate, slice_set, option_and_then}
+use Rattle.jlr_machine.specs.declared.machine.Machine.{Machine}
+use Rattle.jlr_machine.specs.declared.machine.Session.{Session}
+use Rattle.jlr_machine.specs.Objects.{Heap, Table, as_reference, at}
+use Rattle.jlr_machine.specs.Refusals.{gotten}
+use Rattle.jlr_roots.specs.Walk.{slots_held}
+use Rattle.jlr_barrier.specs.Marking.{Marking}
+
+-- the part of a machine that the heap keeps
+pub record Graph : Type 0 where
+  pub objects : Heap
+  pub mutators : Table Session
+  pub pending : List ℕ
+
+-- Time for the soft policy: how many collections have finished, and, by slot, that number when the object there was made or, if it is a
+-- reference, last gave its referent
+pub record Clock : Type 0 where
+  pub last_gets : List ℕ
+  pub collections : ℕ
+
+pub record Known : Type 0 where
+  pub graph : Graph
+  pub clock : Clock
+  pub marking : Marking
+
+-- a machine of which the heap keeps its part
+abbrev pub in_machine : Machine → Graph → Machine
+in_machine m g = record m { objects = g.objects; mutators = g.mutators; pending = g.pending }
+
+-- ---- A new heap
+
+abbrev pub empty_graph : ℕ → ℕ → Graph
+empty_graph cells sessions = record { objects = replicate cells None; mutators = replicate sessions None; pending = [] }
+
+abbrev pub empty_known : ℕ → ℕ → Known
+empty_known cells sessions =
+    record {
+      graph = empty_graph cells sessions;
+      clock = record { last_gets = replicate cells 0; collections = 0 };
+      marking = record { bits = replicate cells false; grey = [] };
+    }
+
+-- ---- Changes
+
+abbrev pub with_objects : Graph → Heap → Graph
+with_objects g objects = record g { objects = objects }
+
+abbrev pub with_mutators : Graph → Table Session → Graph
+with_mutators g mutators = record g { mutators = mutators }
+
+abbrev pub with_pending : Graph → List ℕ → Graph
+with_pending g pending = record g { pending = pending }
+
+-- the object at s was made, or gave its referent, now
+abbrev pub used_now : Clock → ℕ → Clock
+used_now c s = record c { last_gets = slice_set c.last_gets s c.collections }
+
+-- one collection more has finished. The count saturates
+abbrev pub counted : Clock → Clock
+counted c = record c { collections = cond (nat_lt (c.collections + 1) (2 ^ 64)) (c.collections + 1) c.collections }
+
+-- what the object at a slot gives, if it is a reference
+abbrev pub gotten_at : Heap → ℕ → Option ℕ
+gotten_at heap s = option_and_then gotten (option_and_then as_reference (at heap s))
+
+-- ---- Roots
+
+-- what the mutators' handles and the pending list hold
+abbrev pub held : Graph → List ℕ
+held g = slots_held g.mutators ++ g.pending
+
+-- ---- What fits together in a heap
+
+pub record FitsTogether (known : Known) (room : ℕ) : Type 0 where
+  pub few : length known.graph.objects ≤ 65536
+  pub bits : length known.marking.bits ≡ length known.graph.objects
+  pub ages : length known.clock.last_gets ≡ length known.graph.objects
+  pub has_room : length known.graph.objects ≤ room

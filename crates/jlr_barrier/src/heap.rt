@@ -1,0 +1,206 @@
+//! The heap, its objects and their fields.
+ghost use Rattle.std.specs.Prelude.{◌≡◌, ◌+◌, ◌<◌, ◌≤◌, ◌↔◌, IfNone, IfOk, IfSome, IsNone, IsTrue, None, Some, is_some, length, option_and_then, option_map};
+ghost use Rattle.jlr_machine.specs.Objects.{as_fields, as_reference, at, change_at, empty_at, occupied, set_at, some_and, with_field};
+ghost use Rattle.jlr_machine.specs.Refusals.{is_plain, is_queue, is_reference};
+ghost use Rattle.jlr_cells.specs.Contents.{field_at, kind_of, object_of, referent_in};
+ghost use Rattle.jlr_barrier.specs.Graphs.{empty_known, used_now, with_objects};
+
+use crate::marks::Marks;
+use jlr_cells::{Cells, Kind, Shape};
+use jlr_machine::object::{Object, Reference};
+use jlr_machine::table::Table;
+use jlr_roots::Roots;
+use jlr_types::{FieldValue, Limits, Slot};
+use std::alloc::{AllocError, Global};
+use std::collections::VecDeque;
+use std::marker::Model;
+
+/// The objects of a heap with their roots. Contracts see the part of the machine that it keeps, its clock and its mark set.
+#[derive(Drop)]
+pub struct Heap {
+    pub(crate) cells: Cells,
+    pub(crate) roots: Roots,
+    /// References to be enqueued, from the front on. It has room for every cell.
+    pub(crate) waiting: VecDeque<Slot>,
+    pub(crate) marks: Marks,
+    /// By slot, how many collections had finished when the object was made or last gave its referent.
+    pub(crate) last_gets: Vec<u64>,
+    /// How many collections have finished. It saturates.
+    pub(crate) collections: u64,
+}
+
+impl Model for Heap {
+    ghost use Rattle.std.specs.VecDeque.{deque_capacity};
+    ghost use Rattle.jlr_barrier.specs.Graphs.{FitsTogether, Known};
+
+    ghost Value = { Known };
+
+    ghost view = { λ h. record {
+      graph = record { objects = h.cells; mutators = h.roots; pending = h.waiting.items };
+      clock = record { last_gets = h.last_gets.items; collections = h.collections };
+      marking = h.marks;
+    } };
+
+    ghost invariant = { λ h. FitsTogether (record {
+      graph = record { objects = h.cells; mutators = h.roots; pending = h.waiting.items };
+      clock = record { last_gets = h.last_gets.items; collections = h.collections };
+      marking = h.marks;
+    }) (deque_capacity h.waiting) };
+}
+
+impl Heap {
+    /// A heap without objects, whose mutators are not joined. All room is made at once.
+    ///
+    /// # Errors
+    /// `AllocError` where the room cannot be had.
+    pub fn new(alloc: Global, limits: Limits) -> Result<Self, AllocError>
+        ensures { IfOk result (λ heap. heap ≡ empty_known limits.cells limits.sessions) }
+    {
+        let cells = cell_count(limits);
+        Ok(Heap {
+            cells: Cells::new(alloc, cells)?,
+            roots: Roots::new(alloc, session_count(limits))?,
+            waiting: VecDeque::with_capacity(alloc, cells as usize)?,
+            marks: Marks::new(alloc, cells)?,
+            last_gets: vec![in alloc; 0; cells as usize]?,
+            collections: 0,
+        })
+    }
+
+    /// How many cells there are. Their slots are the numbers below.
+    pub fn cell_count(&self) -> u32
+        ensures count { result ≡ length self.now.graph.objects }
+        ensures few { result ≤ 65536 }
+    {
+        self.cells.cell_count()
+    }
+
+    /// How many cells are free.
+    pub fn free_count(&self) -> u32
+        ensures { result + occupied self.now.graph.objects ≡ length self.now.graph.objects }
+    {
+        self.cells.free_count()
+    }
+
+    /// Of which kind the object at a slot is, if there is one.
+    pub fn kind(&self, slot: Slot) -> Option<Kind>
+        ensures kind { result ≡ option_and_then kind_of (at self.now.graph.objects slot) }
+        ensures object { is_some result ≡ is_some (at self.now.graph.objects slot) }
+    {
+        self.cells.kind(slot)
+    }
+
+    /// Whether there is a plain object at a slot.
+    pub fn is_plain(&self, slot: Slot) -> bool
+        ensures { result ≡ some_and is_plain (at self.now.graph.objects slot) }
+    {
+        self.cells.is_plain(slot)
+    }
+
+    /// Whether there is a reference at a slot.
+    pub fn is_reference(&self, slot: Slot) -> bool
+        ensures { result ≡ some_and is_reference (at self.now.graph.objects slot) }
+    {
+        self.cells.is_reference(slot)
+    }
+
+    /// Whether there is a queue at a slot.
+    pub fn is_queue(&self, slot: Slot) -> bool
+        ensures { result ≡ some_and is_queue (at self.now.graph.objects slot) }
+    {
+        self.cells.is_queue(slot)
+    }
+
+    /// How many fields the object at a slot has, if it is a plain one.
+    pub fn field_count(&self, slot: Slot) -> Option<usize>
+        ensures { result ≡ option_map length (option_and_then as_fields (at self.now.graph.objects slot)) }
+    {
+        self.cells.field_count(slot)
+    }
+
+    /// Whether there is a plain object at a slot that has this field.
+    pub fn has_field(&self, slot: Slot, field: usize) -> bool
+        ensures { result ≡ is_some (field_at self.now.graph.objects slot field) }
+    {
+        self.cells.has_field(slot, field)
+    }
+
+    /// What a field holds.
+    pub fn load(&self, slot: Slot, field: usize) -> FieldValue
+        requires { IsTrue (is_some (field_at self.now.graph.objects slot field)) }
+        ensures { field_at self.now.graph.objects slot field ≡ Some result }
+    {
+        self.cells.field(slot, field)
+    }
+
+    /// Sets a field.
+    pub fn store(&mut self, slot: Slot, field: usize, value: FieldValue)
+        requires { IsTrue (is_some (field_at self.old.graph.objects slot field)) }
+        ensures graph { self.new.graph ≡ with_objects self.old.graph (change_at self.old.graph.objects slot (with_field field value)) }
+        ensures clock { self.new.clock ≡ self.old.clock }
+    {
+        let _old = self.cells.set_field(slot, field, value);
+    }
+
+    /// A new object in a free cell, if there is one. It was made now.
+    pub fn allocate(&mut self, shape: Shape) -> Option<Slot>
+        ensures full { IsNone result ↔ (occupied self.old.graph.objects ≡ length self.old.graph.objects) }
+        ensures none { IfNone result ((self.new.graph ≡ self.old.graph) × (self.new.clock ≡ self.old.clock)) }
+        ensures free { IfSome result (λ slot. (slot < length self.old.graph.objects) × (at self.old.graph.objects slot ≡ None)) }
+        ensures made { IfSome result (λ slot. self.new.graph ≡ with_objects self.old.graph (set_at self.old.graph.objects slot (object_of shape))) }
+        ensures clock { IfSome result (λ slot. self.new.clock ≡ used_now self.old.clock slot) }
+    {
+        let slot = self.cells.take(shape)?;
+        self.last_gets[slot.number() as usize] = self.collections;
+        Some(slot)
+    }
+
+    /// The object at a slot is no more.
+    pub fn remove(&mut self, slot: Slot)
+        requires { IsTrue (is_some (at self.old.graph.objects slot)) }
+        ensures graph { self.new.graph ≡ with_objects self.old.graph (empty_at self.old.graph.objects slot) }
+        ensures clock { self.new.clock ≡ self.old.clock }
+        ensures marking { self.new.marking ≡ self.old.marking }
+    {
+        self.cells.give_back(slot);
+    }
+
+    /// The reference at a slot, if there is one.
+    pub fn reference(&self, slot: Slot) -> Option<Reference>
+        ensures { result ≡ option_and_then as_reference (at self.now.graph.objects slot) }
+    {
+        self.cells.reference(slot)
+    }
+
+    /// What the reference at a slot refers to, if there is a reference and it was not cleared. The collector asks so: it is no
+    /// giving of the referent, and does not keep it.
+    pub fn referent(&self, slot: Slot) -> Option<Slot>
+        ensures { result ≡ referent_in (at self.now.graph.objects slot) }
+    {
+        self.cells.referent(slot)
+    }
+
+    /// The objects as plain data.
+    ///
+    /// # Errors
+    /// `AllocError` where there is no memory for them.
+    pub fn objects_image(&self, alloc: Global) -> Result<Table<Object>, AllocError>
+        ensures { IfOk result (λ objects. objects ≡ self.now.graph.objects) }
+    {
+        self.cells.image(alloc)
+    }
+}
+
+fn cell_count(limits: Limits) -> u32
+    ensures count { result ≡ limits.cells }
+    ensures few { result ≤ 65536 }
+{
+    limits.cells
+}
+
+fn session_count(limits: Limits) -> u8
+    ensures count { result ≡ limits.sessions }
+    ensures few { result ≤ 64 }
+{
+    limits.sessions as u8
+}

@@ -1,0 +1,73 @@
+//! The calls that change references and the members of queues.
+ghost use Rattle.std.specs.Prelude.{◌≡◌, ◌++◌, ◌∷◌, [], IsTrue, OnErr, OnOk, drop};
+ghost use Rattle.jlr_machine.specs.Objects.{at, change_at, some_and, with_members, with_reference};
+ghost use Rattle.jlr_machine.specs.Refusals.{is_queue, is_reference};
+ghost use Rattle.jlr_machine.specs.Calls.{unreferred};
+ghost use Rattle.jlr_cells.specs.Contents.{in_state, member_in, unregistered};
+ghost use Rattle.jlr_barrier.specs.Graphs.{with_objects};
+
+use crate::heap::Heap;
+use jlr_machine::object::RefState;
+use jlr_types::Slot;
+use std::alloc::AllocError;
+
+impl Heap {
+    /// The reference at a slot loses its referent.
+    pub fn lose_referent(&mut self, slot: Slot)
+        requires { IsTrue (some_and is_reference (at self.old.graph.objects slot)) }
+        ensures graph { self.new.graph ≡ with_objects self.old.graph (change_at self.old.graph.objects slot (with_reference unreferred)) }
+        ensures clock { self.new.clock ≡ self.old.clock }
+        ensures marking { self.new.marking ≡ self.old.marking }
+    {
+        self.cells.clear_referent(slot);
+    }
+
+    /// The reference at a slot comes into another state.
+    pub fn set_state(&mut self, slot: Slot, state: RefState)
+        requires { IsTrue (some_and is_reference (at self.old.graph.objects slot)) }
+        ensures graph { self.new.graph ≡ with_objects self.old.graph (change_at self.old.graph.objects slot (with_reference (in_state state))) }
+        ensures clock { self.new.clock ≡ self.old.clock }
+        ensures marking { self.new.marking ≡ self.old.marking }
+    {
+        self.cells.set_state(slot, state);
+    }
+
+    /// The reference at a slot is registered with no queue any more, and its edge to it is gone.
+    pub fn cut_queue_edge(&mut self, slot: Slot)
+        requires { IsTrue (some_and is_reference (at self.old.graph.objects slot)) }
+        ensures graph { self.new.graph ≡ with_objects self.old.graph (change_at self.old.graph.objects slot (with_reference unregistered)) }
+        ensures clock { self.new.clock ≡ self.old.clock }
+    {
+        self.cells.cut_queue(slot);
+    }
+
+    /// The member at the front of a queue, if there is a queue at this slot and it has members.
+    pub fn front(&self, queue: Slot) -> Option<Slot>
+        ensures { result ≡ member_in (at self.now.graph.objects queue) 0 }
+    {
+        self.cells.member(queue, 0)
+    }
+
+    /// The queue at a slot gets a member at its end.
+    ///
+    /// # Errors
+    /// `AllocError` where there is no memory for one member more. Nothing has changed then.
+    pub fn link(&mut self, queue: Slot, member: Slot) -> Result<(), AllocError>
+        requires { IsTrue (some_and is_queue (at self.old.graph.objects queue)) }
+        ensures linked { OnOk result (self.new.graph ≡ with_objects self.old.graph (change_at self.old.graph.objects queue (with_members (λ members. members ++ member ∷ [])))) }
+        ensures err { OnErr result (self.new ≡ self.old) }
+        ensures clock { self.new.clock ≡ self.old.clock }
+    {
+        self.cells.push_member(queue, member)
+    }
+
+    /// The member at the front of the queue at a slot leaves it, if there is one.
+    pub fn unlink(&mut self, queue: Slot) -> Option<Slot>
+        requires { IsTrue (some_and is_queue (at self.old.graph.objects queue)) }
+        ensures front { result ≡ member_in (at self.old.graph.objects queue) 0 }
+        ensures graph { self.new.graph ≡ with_objects self.old.graph (change_at self.old.graph.objects queue (with_members (drop 1))) }
+        ensures clock { self.new.clock ≡ self.old.clock }
+    {
+        self.cells.pop_member(queue)
+    }
+}

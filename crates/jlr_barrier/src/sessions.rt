@@ -1,0 +1,101 @@
+//! The mutators and their handles.
+ghost use Rattle.std.specs.Prelude.{◌≡◌, ℕ, ◌<◌, IfNone, IfOk, IfSome, IsTrue, None, Some, is_some, length};
+ghost use Rattle.jlr_machine.specs.declared.machine.Session.{Session};
+ghost use Rattle.jlr_machine.specs.declared.machine.Call.TheVariants.{Free};
+ghost use Rattle.jlr_machine.specs.Objects.{at, change_at, empty_at, set_at};
+ghost use Rattle.jlr_machine.specs.Calls.{fresh_session};
+ghost use Rattle.jlr_roots.specs.Sessions.{free_handle, has_free_handle, slot_held, with_slot, without_handle};
+ghost use Rattle.jlr_barrier.specs.Graphs.{with_mutators};
+
+use crate::heap::Heap;
+use jlr_machine::machine::Session;
+use jlr_machine::table::Table;
+use jlr_types::{Handle, Mutator, Slot};
+use std::alloc::{AllocError, Global};
+
+impl Heap {
+    /// How many mutators there may be. Their numbers are those below.
+    pub fn mutator_count(&self) -> usize
+        ensures { result ≡ length self.now.graph.mutators }
+    {
+        self.roots.mutator_count()
+    }
+
+    /// Whether a mutator is joined.
+    pub fn is_joined(&self, mutator: Mutator) -> bool
+        ensures { result ≡ is_some (at self.now.graph.mutators mutator) }
+    {
+        self.roots.is_joined(mutator)
+    }
+
+    /// No mutator has a call in flight: calls come later.
+    pub fn no_calls(&self)
+        ensures { (k : ℕ) (s : Session) → at self.now.graph.mutators k ≡ Some s → (s.call ≡ Free) × (s.fence ≡ None) }
+    {
+        self.roots.no_calls();
+    }
+
+    /// A mutator joins, with no handle in use.
+    pub fn join(&mut self, mutator: Mutator)
+        requires in_range { mutator < length self.old.graph.mutators }
+        requires absent { at self.old.graph.mutators mutator ≡ None }
+        ensures graph { self.new.graph ≡ with_mutators self.old.graph (set_at self.old.graph.mutators mutator fresh_session) }
+        ensures clock { self.new.clock ≡ self.old.clock }
+    {
+        self.roots.join(mutator);
+    }
+
+    /// A mutator leaves, and its handles are dropped.
+    pub fn leave(&mut self, mutator: Mutator)
+        requires { IsTrue (is_some (at self.old.graph.mutators mutator)) }
+        ensures graph { self.new.graph ≡ with_mutators self.old.graph (empty_at self.old.graph.mutators mutator) }
+        ensures clock { self.new.clock ≡ self.old.clock }
+    {
+        self.roots.leave(mutator);
+    }
+
+    /// Whether a mutator is joined and has a free handle: fewer than 250 are in use.
+    pub fn has_free_handle(&self, mutator: Mutator) -> bool
+        ensures { result ≡ has_free_handle self.now.graph.mutators mutator }
+    {
+        self.roots.has_free_handle(mutator)
+    }
+
+    /// The mutator holds a slot by its lowest free handle, if it has one.
+    pub fn put_handle(&mut self, mutator: Mutator, slot: Slot) -> Option<Handle>
+        requires { IsTrue (is_some (at self.old.graph.mutators mutator)) }
+        ensures room { is_some result ≡ has_free_handle self.old.graph.mutators mutator }
+        ensures none { IfNone result (self.new.graph ≡ self.old.graph) }
+        ensures lowest { IfSome result (λ handle. handle ≡ free_handle self.old.graph.mutators mutator) }
+        ensures held { IfSome result (λ handle. self.new.graph ≡ with_mutators self.old.graph (change_at self.old.graph.mutators mutator (with_slot handle slot))) }
+        ensures clock { self.new.clock ≡ self.old.clock }
+    {
+        self.roots.put_handle(mutator, slot)
+    }
+
+    /// A handle that is in use is in use no more.
+    pub fn drop_handle(&mut self, mutator: Mutator, handle: Handle)
+        requires { IsTrue (is_some (slot_held self.old.graph.mutators mutator handle)) }
+        ensures graph { self.new.graph ≡ with_mutators self.old.graph (change_at self.old.graph.mutators mutator (without_handle handle)) }
+        ensures clock { self.new.clock ≡ self.old.clock }
+    {
+        self.roots.drop_handle(mutator, handle);
+    }
+
+    /// The slot that a handle stands for, if it is in use.
+    pub fn lookup(&self, mutator: Mutator, handle: Handle) -> Option<Slot>
+        ensures { result ≡ slot_held self.now.graph.mutators mutator handle }
+    {
+        self.roots.lookup(mutator, handle)
+    }
+
+    /// The sessions as plain data.
+    ///
+    /// # Errors
+    /// `AllocError` where there is no memory for them.
+    pub fn mutators_image(&self, alloc: Global) -> Result<Table<Session>, AllocError>
+        ensures { IfOk result (λ mutators. mutators ≡ self.now.graph.mutators) }
+    {
+        self.roots.image(alloc)
+    }
+}
