@@ -1,5 +1,5 @@
 //! The heap, its objects and their fields.
-ghost use Rattle.std.specs.Prelude.{◌≡◌, ◌+◌, ◌<◌, ◌≤◌, ◌↔◌, IfNone, IfOk, IfSome, IsNone, IsTrue, None, Some, is_some, length, option_and_then, option_map};
+ghost use Rattle.std.specs.Prelude.{◌≡◌, ℕ, ◌+◌, ◌<◌, ◌≤◌, ◌↔◌, IfNone, IfOk, IfSome, IsNone, IsTrue, None, Some, is_some, length, option_and_then, option_map};
 ghost use Rattle.jlr_machine.specs.Objects.{as_fields, as_reference, at, change_at, empty_at, occupied, set_at, some_and, with_field};
 ghost use Rattle.jlr_machine.specs.Refusals.{is_plain, is_queue, is_reference};
 ghost use Rattle.jlr_cells.specs.Contents.{field_at, kind_of, object_of, referent_in};
@@ -88,6 +88,13 @@ impl Heap {
         ensures object { is_some result ≡ is_some (at self.now.graph.objects slot) }
     {
         self.cells.kind(slot)
+    }
+
+    /// Each object is of one of these kinds: of the others none is made yet.
+    pub fn kinds_are_known(&self)
+        ensures { (s : ℕ) → is_some (option_and_then kind_of (at self.now.graph.objects s)) ≡ is_some (at self.now.graph.objects s) }
+    {
+        self.cells.kinds_are_known();
     }
 
     /// Whether there is a plain object at a slot.

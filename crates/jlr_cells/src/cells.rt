@@ -7,7 +7,7 @@ ghost use Rattle.jlr_machine.specs.Edges.Chain.{Strong};
 ghost use Rattle.jlr_machine.specs.Objects.{with_field, with_members, with_reference};
 ghost use Rattle.jlr_machine.specs.Refusals.{is_plain, is_queue, is_reference};
 ghost use Rattle.jlr_machine.specs.Calls.{unreferred};
-ghost use Rattle.jlr_cells.specs.Contents.{ahead_in, field_at, in_state, kind_of, kinds_in, member_in, members_in, object_of, objects_in, referent_in, unregistered};
+ghost use Rattle.jlr_cells.specs.Contents.{ahead_in, field_at, in_state, kind_of, member_in, members_in, object_of, objects_in, referent_in, unregistered};
 
 use crate::cell::Cell;
 use crate::fields::Fields;
@@ -116,6 +116,13 @@ impl Cells {
             Some(kind) => *kind,
             None => None,
         }
+    }
+
+    /// Each object is of one of these kinds: of the others no cell is made yet.
+    pub fn kinds_are_known(&self)
+        ensures { (s : ℕ) → is_some (option_and_then kind_of (at self.now s)) ≡ is_some (at self.now s) }
+    {
+        all_have_kinds(&self.cells);
     }
 
     /// Whether there is a plain object at a slot.
@@ -277,6 +284,12 @@ impl Cells {
         let cell = &self.cells[slot.number() as usize];
         (cell.fields(), cell.queue_ahead())
     }
+}
+
+fn all_have_kinds(cells: &[Cell])
+    ensures { (s : ℕ) → is_some (option_and_then kind_of (at (objects_in cells.now) s)) ≡ is_some (at (objects_in cells.now) s) }
+{
+    let _ = cells;
 }
 
 fn no_kinds(alloc: Global, count: u32) -> Result<Vec<Option<Kind>>, AllocError>

@@ -1,0 +1,55 @@
+-- What settling one place leaves.
+use Rattle.std.proofs.Common.{◌≡◌, ◌<◌, ◌&&◌, ℕ, zero, suc, Bool, true, false, cond, not, List, [], ◌∷◌, ◌++◌, Option, Some, None, length, slice_set, refl, sym, ap, ◌∙◌, subst}
+use Rattle.std.specs.Prelude.{option_map}
+use Rattle.jlr_machine.specs.declared.object.Object.{Object}
+use Rattle.jlr_machine.specs.declared.object.Object.TheVariants.{Reference}
+use Rattle.jlr_machine.specs.declared.object.Reference.{Reference as ReferenceOf}
+use Rattle.jlr_machine.specs.declared.object.RefState.{RefState}
+use Rattle.jlr_machine.specs.declared.object.RefState.TheVariants.{Pending}
+use Rattle.jlr_machine.specs.Objects.{Table, Heap, at, change_at, with_reference, some_and}
+use Rattle.jlr_machine.specs.Calls.{unreferred}
+use Rattle.jlr_machine.specs.Collection.{is_ready}
+use Rattle.jlr_cells.specs.Contents.{in_state}
+use Rattle.jlr_laws.proofs.Frames.{set_same, place_within}
+use Rattle.jlr_barrier.specs.Graphs.{Graph, with_objects, with_pending}
+use Rattle.jlr_barrier.specs.Marking.{Marking, is_marked}
+use Rattle.jlr_process.specs.Settling.{loses, marked_referent, only_if, settled_object, with_settled}
+
+set_twice : {A : Type 0} (table : Table A) (n : ℕ) (v w : Option A) → slice_set (slice_set table n v) n w ≡ slice_set table n w
+set_twice [] n v w = refl
+set_twice (x ∷ table) zero v w = refl
+set_twice (x ∷ table) (suc n) v w = ap (λ l. x ∷ l) (set_twice table n v w)
+
+-- an object is changed twice
+pub changed_twice : (heap : Heap) (s : ℕ) (o : Object) (f g : Object → Object) → at heap s ≡ Some o → change_at (change_at heap s f) s g ≡ slice_set heap s (Some (g (f o)))
+changed_twice heap s o f g here =
+    let once : change_at heap s f ≡ slice_set heap s (Some (f o)) = ap (λ p. slice_set heap s (option_map f p)) here in
+    ap (λ h. change_at h s g) once
+    ∙ ap (λ p. slice_set (slice_set heap s (Some (f o))) s (option_map g p)) (set_same heap s (Some (f o)) (place_within heap s o here))
+    ∙ set_twice heap s (Some (f o)) (Some (g (f o)))
+
+is_lost : (m : Marking) (r : ReferenceOf) (x : ℕ) → r.referent ≡ Some x → is_marked m x ≡ false → is_ready (Reference r) ≡ true → loses m (Reference r) ≡ true
+is_lost m r x refers unmarked ready =
+    ap (λ o. is_ready (Reference r) && some_and (λ y. not (is_marked m y)) o) refers
+    ∙ ap (λ b. is_ready (Reference r) && not b) unmarked
+    ∙ ap (λ b. b && true) ready
+
+-- a ready reference with a referent that is not marked loses it, and becomes Pending
+settled_lost : (m : Marking) (r : ReferenceOf) (x : ℕ) → r.referent ≡ Some x → is_marked m x ≡ false → is_ready (Reference r) ≡ true → settled_object m (Reference r) ≡ Reference (record r { referent = None; state = Pending })
+settled_lost m r x refers unmarked ready =
+    let gone : marked_referent m r.referent ≡ None = ap (marked_referent m) refers ∙ ap (λ b. cond b (Some x) None) unmarked in
+    ap {A = Option ℕ} {B = Object} (λ t. Reference (record r { referent = t; state = cond (loses m (Reference r)) Pending r.state })) gone
+    ∙ ap {A = Bool} {B = Object} (λ b. Reference (record r { referent = None; state = cond b Pending r.state })) (is_lost m r x refers unmarked ready)
+
+pub handed_over :
+    (m : Marking) (g a b d : Graph) (s x : ℕ) (r : ReferenceOf) → at g.objects s ≡ Some (Reference r) → r.referent ≡ Some x → is_marked m x ≡ false → is_ready (Reference r) ≡ true
+    → a ≡ with_objects g (change_at g.objects s (with_reference unreferred)) → b ≡ with_objects a (change_at a.objects s (with_reference (in_state Pending))) → d ≡ with_pending b (b.pending ++ s ∷ [])
+    → d ≡ with_settled m g s (Reference r)
+handed_over m g a b d s x r here refers unmarked ready ea eb ed =
+    let first : Graph = with_objects g (change_at g.objects s (with_reference unreferred)) in
+    let put : Heap → List ℕ → Graph = λ h l. record g { objects = h; pending = l } in
+    ed
+    ∙ ap (λ k. with_pending k (k.pending ++ s ∷ [])) (eb ∙ ap (λ k. with_objects k (change_at k.objects s (with_reference (in_state Pending)))) ea)
+    ∙ ap (λ h. put h (g.pending ++ s ∷ [])) (changed_twice g.objects s (Reference r) (with_reference unreferred) (with_reference (in_state Pending)) here)
+    ∙ ap (λ o. put (slice_set g.objects s (Some o)) (g.pending ++ s ∷ [])) (sym (settled_lost m r x refers unmarked ready))
+    ∙ ap (λ l. put (slice_set g.objects s (Some (settled_object m (Reference r)))) (g.pending ++ only_if l s)) (sym (is_lost m r x refers unmarked ready))

@@ -1,0 +1,109 @@
+use Rattle.std.proofs.Common.{◌≡◌, ℕ, ◌+◌, ◌<◌, ◌≤◌, ◌++◌, ◌∷◌, [], Some, sym, ◌∙◌, ap, arith, length, inl, inr, subst, slice_set, cond, true, false, refl, option_and_then, IsTrue, List, append_assoc}
+use Rattle.std.proofs.lemmas.Bool.{cases_eq}
+use Rattle.std.proofs.lemmas.List.{length-set}
+use Rattle.jlr_machine.specs.declared.machine.Machine.{Machine}
+use Rattle.jlr_machine.specs.Objects.{any_referent, at, Heap, occupied}
+use Rattle.jlr_machine.specs.Choices.{Choosing, collecting, kept_by, pended_by}
+use Rattle.jlr_laws.proofs.Frames.{set_same, set_other}
+use Rattle.jlr_barrier.specs.Graphs.{Graph, in_machine}
+use Rattle.jlr_barrier.specs.Marking.{Marking, is_marked}
+use Rattle.jlr_process.specs.Settling.{handed, is_losing, lost_below, marked_below, only_if, settled, settled_choice, settled_graph}
+use Rattle.jlr_process.proofs.Whole.{all_settled, below_short, filter_more, kept_counted, losing_alike, as_parts, choice_more, unmarked_loses_not}
+use Rattle.jlr_process.proofs.Gone.{collection, referent_within, room_for_one}
+use Rattle.jlr_process.proofs.collection.flip.Goals as goal
+
+pub settle-requires-clause-within : goal.settle-requires-clause-within
+settle-requires-clause-within c =
+    λ x e.
+    let i = c.loop-number.invariant in
+    let n = c.loop-number.number in
+    let here : at c.loop-number.heap.graph.objects c.new.result ≡ at c.args.heap.now.graph.objects n = ap (at c.loop-number.heap.graph.objects) c.new.ensures ∙ i.rest n (omega arith) in
+    let inside = referent_within (in_machine c.requires.whole.0 c.args.heap.now.graph) c.args.heap.now.marking c.requires.whole.1 n x (subst (λ o. option_and_then any_referent o ≡ Some x) here e) in
+    omega (arith, inside, i.long)
+
+pub settle-requires-clause-pending : goal.settle-requires-clause-pending
+settle-requires-clause-pending c =
+    λ h.
+    let i = c.loop-number.invariant in
+    let n = c.loop-number.number in
+    let m = c.args.heap.now.marking in
+    let here : at c.loop-number.heap.graph.objects c.new.result ≡ at c.args.heap.now.graph.objects n = ap (at c.loop-number.heap.graph.objects) c.new.ensures ∙ i.rest n (omega arith) in
+    let losing : is_losing m c.args.heap.now.graph.objects n ≡ true = sym (losing_alike c.loop-number.heap.marking m c.loop-number.heap.graph.objects c.args.heap.now.graph.objects c.new.result n i.marking c.new.ensures here) ∙ h in
+    let inside : n < length c.args.heap.now.graph.objects = omega (arith, c.loop-number-test.true, c.cell_count-number-end.ensures.count) in
+    let room = room_for_one (in_machine c.requires.whole.0 c.args.heap.now.graph) m c.requires.whole.1 n inside losing in
+    omega (arith, room, ap length i.pending, i.long)
+
+pub settle-requires-clause-kept : goal.settle-requires-clause-kept
+settle-requires-clause-kept c =
+    let i = c.loop-number.invariant in
+    let kept : kept_by c.loop-number.choice ≡ marked_below c.args.heap.now.marking c.loop-number.number = ap kept_by i.choice in
+    let cells : c.loop-number.choice.cells ≡ c.args.choice.now.cells = ap (λ (x : Choosing). x.cells) i.choice in
+    omega (arith, ap length kept, cells, below_short (is_marked c.args.heap.now.marking) c.loop-number.number, c.loop-number-test.true, c.cell_count-number-end.ensures.count, c.requires.room)
+
+pub settle-requires-clause-pended : goal.settle-requires-clause-pended
+settle-requires-clause-pended c =
+    let i = c.loop-number.invariant in
+    let lost : pended_by c.loop-number.choice ≡ lost_below c.args.heap.now.marking c.args.heap.now.graph.objects c.loop-number.number = ap pended_by i.choice in
+    let cells : c.loop-number.choice.cells ≡ c.args.choice.now.cells = ap (λ (x : Choosing). x.cells) i.choice in
+    omega (arith, ap length lost, cells, below_short (is_losing c.args.heap.now.marking c.args.heap.now.graph.objects) c.loop-number.number, c.loop-number-test.true, c.cell_count-number-end.ensures.count, c.requires.room)
+
+pub loop-number-preserved : goal.loop-number-preserved
+loop-number-preserved c =
+    let i = c.loop-number.invariant in
+    let m = c.args.heap.now.marking in
+    let n = c.loop-number.number in
+    let old : Heap = c.args.heap.now.graph.objects in
+    let cur : Heap = c.loop-number.heap.graph.objects in
+    let v = settled m n (at cur n) in
+    let inside : n < length cur = omega (arith, c.loop-number-test.true, c.cell_count-number-end.ensures.count, i.long) in
+    let rest = i.rest n (omega arith) in
+    let after : c.settle.new.heap.graph ≡ settled_graph m c.loop-number.heap.graph n = c.settle.ensures.graph ∙ ap (λ (k : Marking). settled_graph k c.loop-number.heap.graph c.new.result) i.marking ∙ ap (settled_graph m c.loop-number.heap.graph) c.new.ensures in
+    let objects : c.settle.new.heap.graph.objects ≡ slice_set cur n v = ap (λ (g : Graph). g.objects) after in
+    let here : at c.settle.new.heap.graph.objects n ≡ settled m n (at old n) = ap (λ l. at l n) objects ∙ set_same cur n v inside ∙ ap (settled m n) rest in
+    let beside : (x : ℕ) → (x ≡ n → ⊥) → at c.settle.new.heap.graph.objects x ≡ at cur x = λ x d. ap (λ l. at l x) objects ∙ set_other cur n x v d in
+    let losing : is_losing m cur n ≡ is_losing m old n = losing_alike m m cur old n n refl refl rest in
+    record {
+      long = ap length objects ∙ length-set cur n v ∙ i.long;
+      settled = λ x l. elim (cases_eq x n) [
+        | inl e ↦ subst (λ y. at c.settle.new.heap.graph.objects y ≡ settled m y (at old y)) (sym e) here
+        | inr d ↦ beside x d ∙ i.settled x (omega (arith, l, d))
+      ];
+      rest = λ x l. beside x (λ e. omega (arith, e, l)) ∙ i.rest x (omega (arith, l));
+      pending =
+          ap (λ (g : Graph). g.pending) after
+          ∙ ap (λ l. l ++ handed m cur n) i.pending
+          ∙ ap (λ b. (c.args.heap.now.graph.pending ++ lost_below m old n) ++ only_if b n) losing
+          ∙ append_assoc c.args.heap.now.graph.pending (lost_below m old n) (only_if (is_losing m old n) n)
+          ∙ ap (λ l. c.args.heap.now.graph.pending ++ l) (sym (filter_more (is_losing m old) n));
+      mutators = ap (λ (g : Graph). g.mutators) after ∙ i.mutators;
+      clock = c.settle.ensures.clock ∙ i.clock;
+      marking = c.settle.ensures.marking ∙ i.marking;
+      choice =
+          c.settle.ensures.choice
+          ∙ ap (λ (k : Marking). settled_choice k cur c.new.result c.loop-number.choice) i.marking
+          ∙ ap (λ k. settled_choice m cur k c.loop-number.choice) c.new.ensures
+          ∙ ap (settled_choice m cur n) i.choice
+          ∙ ap (λ b. cond (is_marked m n) (collecting c.args.choice.now (marked_below m n ++ n ∷ []) (lost_below m old n ++ only_if b n)) (collecting c.args.choice.now (marked_below m n) (lost_below m old n))) losing
+          ∙ choice_more c.args.choice.now (marked_below m n) (lost_below m old n) (is_marked m n) (is_losing m old n) n (unmarked_loses_not m old n)
+          ∙ ap (λ l. collecting c.args.choice.now l (lost_below m old n ++ only_if (is_losing m old n) n)) (sym (filter_more (is_marked m) n))
+          ∙ ap (collecting c.args.choice.now (marked_below m (n + 1))) (sym (filter_more (is_losing m old) n));
+    }
+
+pub returns-clause-flips : goal.returns-clause-flips
+returns-clause-flips c =
+    λ k w.
+    let i = c.loop-number.invariant in
+    let m = c.args.heap.now.marking in
+    let old : Heap = c.args.heap.now.graph.objects in
+    let machine : Machine = in_machine k c.args.heap.now.graph in
+    let end : c.loop-number.number ≡ length old = omega (arith, c.loop-number-test.false, c.loop-number.auto.number-end, c.cell_count-number-end.ensures.count) in
+    let objects = all_settled m old w.long c.loop-number.heap.graph.objects i.long (λ s l. i.settled s (omega (arith, l, end))) in
+    record {
+      pending = lost_below m old (length old);
+      chosen = i.choice ∙ ap (λ n. collecting c.args.choice.now (marked_below m n) (lost_below m old n)) end;
+      collection = collection machine m w;
+      left =
+          ap (in_machine k) c.count_collection.ensures.graph
+          ∙ as_parts k c.loop-number.heap.graph _ _ _ objects i.mutators (i.pending ∙ ap (λ n. c.args.heap.now.graph.pending ++ lost_below m old n) end);
+      counted = ap (λ (g : Graph). occupied g.objects) c.count_collection.ensures.graph ∙ ap (λ h. occupied h) objects ∙ kept_counted m old w.long w.objects;
+    }

@@ -1,0 +1,3 @@
+-- Reading order.
+pub mod Settling
+pub mod Flipping

@@ -1,0 +1,85 @@
+//! One place of the heap.
+ghost use Rattle.std.specs.Prelude.{◌≡◌, ℕ, ◌<◌, ◌++◌, IsTrue, Some, is_some, length, option_and_then};
+ghost use Rattle.jlr_machine.specs.declared.object.Object.TheVariants as object;
+ghost use Rattle.jlr_machine.specs.Objects.{any_referent, as_reference, at};
+ghost use Rattle.jlr_cells.specs.Contents.{kind_of};
+ghost use Rattle.jlr_machine.specs.Collection.{is_ready};
+ghost use Rattle.jlr_machine.specs.Choices.{collecting, kept_by, pended_by};
+ghost use Rattle.jlr_barrier.specs.Marking.{IsMarked};
+ghost use Rattle.jlr_process.specs.Settling.{handed, is_losing, loses, only_if, settled_choice, settled_graph, with_settled};
+
+use jlr_barrier::Heap;
+use jlr_cells::Kind;
+use jlr_machine::choice::Choice;
+use jlr_machine::object::{RefState, Reference};
+use jlr_types::Slot;
+
+/// Whether a reference is ready to be handed over once it is cleared: it is Fresh, and registered with a queue.
+fn is_ready(reference: Reference) -> bool
+    ensures { result ≡ is_ready (object.Reference reference) }
+{
+    reference.state == RefState::Fresh && reference.queue.is_some()
+}
+
+/// A reference loses a referent that is not marked. If it was ready, it is put on the pending list.
+fn settle_reference(heap: &mut Heap, slot: Slot, reference: Reference, choice: &mut Choice)
+    requires here { at heap.old.graph.objects slot ≡ Some (object.Reference reference) }
+    requires within { (x : ℕ) → reference.referent ≡ Some x → x < length heap.old.graph.objects }
+    requires pending { IsTrue (loses heap.old.marking (object.Reference reference)) → length heap.old.graph.pending < length heap.old.graph.objects }
+    requires pended { length (pended_by choice.old) < choice.old.cells }
+    requires collects { choice.old ≡ collecting choice.old (kept_by choice.old) (pended_by choice.old) }
+    ensures graph { heap.new.graph ≡ with_settled heap.old.marking heap.old.graph slot (object.Reference reference) }
+    ensures clock { heap.new.clock ≡ heap.old.clock }
+    ensures marking { heap.new.marking ≡ heap.old.marking }
+    ensures choice { choice.new ≡ collecting choice.old (kept_by choice.old) (pended_by choice.old ++ only_if (loses heap.old.marking (object.Reference reference)) slot) }
+{
+    let Some(referent) = reference.referent else {
+        return;
+    };
+    if heap.is_marked(referent) {
+        return;
+    }
+    heap.lose_referent(slot);
+    if is_ready(reference) {
+        heap.set_state(slot, RefState::Pending);
+        heap.add_pending(slot);
+        choice.pend(slot);
+    }
+}
+
+/// Keeps what is at a slot, if it is marked, and tells the choice; else removes it.
+pub(crate) fn settle(heap: &mut Heap, slot: Slot, choice: &mut Choice)
+    requires inside { slot < length heap.old.graph.objects }
+    requires object { IsMarked heap.old.marking slot → IsTrue (is_some (at heap.old.graph.objects slot)) }
+    requires within { (x : ℕ) → option_and_then any_referent (at heap.old.graph.objects slot) ≡ Some x → x < length heap.old.graph.objects }
+    requires pending { IsTrue (is_losing heap.old.marking heap.old.graph.objects slot) → length heap.old.graph.pending < length heap.old.graph.objects }
+    requires kept { length (kept_by choice.old) < choice.old.cells }
+    requires pended { length (pended_by choice.old) < choice.old.cells }
+    ensures graph { heap.new.graph ≡ settled_graph heap.old.marking heap.old.graph slot }
+    ensures clock { heap.new.clock ≡ heap.old.clock }
+    ensures marking { heap.new.marking ≡ heap.old.marking }
+    ensures choice { choice.new ≡ settled_choice heap.old.marking heap.old.graph.objects slot choice.old }
+{
+    let kind = heap.kind(slot);
+    if !heap.is_marked(slot) {
+        if kind.is_some() {
+            heap.remove(slot);
+        }
+        return;
+    }
+    choice.keep(slot);
+    if let Some(reference) = reference_of(heap, slot, kind) {
+        settle_reference(heap, slot, reference, choice);
+    }
+}
+
+/// The reference at a slot, if its kind says that there is one. Other cells are not read.
+fn reference_of(heap: &Heap, slot: Slot, kind: Option<Kind>) -> Option<Reference>
+    requires { kind ≡ option_and_then kind_of (at heap.now.graph.objects slot) }
+    ensures { result ≡ option_and_then as_reference (at heap.now.graph.objects slot) }
+{
+    match kind {
+        Some(Kind::Reference(_)) => heap.reference(slot),
+        _ => None,
+    }
+}
