@@ -1,0 +1,141 @@
+//! The states of a reference, and the calls of the program on it (package `java.lang.ref`, classes `Reference`, `SoftReference`,
+//! `PhantomReference` and `ReferenceQueue`).
+//!
+//! | State | Referent | Queue | Stands in | `get` | `clear` | `enqueue` | `poll` | Collector | Handler |
+//! |---|---|---|---|---|---|---|---|---|---|
+//! | Fresh, with a queue | any | its own | no list | the referent, never a phantom reference's | no referent, still Fresh | Queued, true | | Pending, where it clears it | |
+//! | Fresh, without one | any | none | no list | the same | the same | no referent, false | | stays Fresh | |
+//! | Pending | none | its own | the pending list | null | as it is | Queued, true; it stays on the pending list | | as it is | Queued |
+//! | Queued | none | none | its queue, perhaps still the pending list | null | as it is | false | Removed, from the front | as it is | skipped |
+//! | Removed | none | none | perhaps still the pending list | null | as it is | false | | as it is | skipped |
+ghost use Rattle.std.specs.Prelude.{◌≡◌, ◌<◌, ◌↔◌, IfNone, IfOk, IfSome, IsNone, IsTrue, None, OnErr, Some, cond, is_some, length, nat_eq, option_and_then};
+ghost use Rattle.std.specs.Option.{option_eq};
+ghost use Rattle.jlr_machine.specs.Objects.{as_members, at, change_at, is_queued, occupied, queue_ahead, set_at, some_and, with_reference};
+ghost use Rattle.jlr_machine.specs.Refusals.{front, is_queue, is_reference};
+ghost use Rattle.jlr_machine.specs.Calls.{may_enqueue, unreferred};
+ghost use Rattle.jlr_cells.specs.Contents.{object_of, referent_in};
+ghost use Rattle.jlr_cells.specs.declared.shape.Shape.TheVariants as shape;
+ghost use Rattle.jlr_barrier.specs.Graphs.{gotten_at, used_now, with_objects};
+ghost use Rattle.jlr_refs.specs.Parts.{Enqueues, IsFit, Polls, reference_at};
+
+use jlr_barrier::Heap;
+use jlr_cells::Shape;
+use jlr_machine::object::{RefState, Reference};
+use jlr_types::{RefKind, Slot};
+use std::alloc::AllocError;
+
+/// A new reference to an object, registered with a queue or with none, in a free cell, if there is one. It is Fresh, and was made
+/// now.
+pub fn new_reference(
+    heap: &mut Heap,
+    kind: RefKind,
+    referent: Slot,
+    queue: Option<Slot>,
+) -> Option<Slot>
+    ensures full { IsNone result ↔ (occupied heap.old.graph.objects ≡ length heap.old.graph.objects) }
+    ensures none { IfNone result ((heap.new.graph ≡ heap.old.graph) × (heap.new.clock ≡ heap.old.clock)) }
+    ensures free { IfSome result (λ slot. (slot < length heap.old.graph.objects) × (at heap.old.graph.objects slot ≡ None)) }
+    ensures made { IfSome result (λ slot. heap.new.graph ≡ with_objects heap.old.graph (set_at heap.old.graph.objects slot (object_of (shape.Reference kind (Some referent) queue)))) }
+    ensures clock { IfSome result (λ slot. heap.new.clock ≡ used_now heap.old.clock slot) }
+{
+    heap.allocate(Shape::Reference {
+        kind,
+        referent: Some(referent),
+        queue,
+    })
+}
+
+/// A new queue without members in a free cell, if there is one.
+pub fn new_queue(heap: &mut Heap) -> Option<Slot>
+    ensures full { IsNone result ↔ (occupied heap.old.graph.objects ≡ length heap.old.graph.objects) }
+    ensures none { IfNone result ((heap.new.graph ≡ heap.old.graph) × (heap.new.clock ≡ heap.old.clock)) }
+    ensures free { IfSome result (λ slot. (slot < length heap.old.graph.objects) × (at heap.old.graph.objects slot ≡ None)) }
+    ensures made { IfSome result (λ slot. heap.new.graph ≡ with_objects heap.old.graph (set_at heap.old.graph.objects slot (object_of shape.Queue))) }
+    ensures clock { IfSome result (λ slot. heap.new.clock ≡ used_now heap.old.clock slot) }
+{
+    heap.allocate(Shape::Queue)
+}
+
+/// What a reference gives (`Reference.get`): its referent, or nothing where it was cleared or is a phantom reference. A soft
+/// reference that gives its referent was used now.
+pub fn get(heap: &mut Heap, reference: Slot) -> Option<Slot>
+    ensures given { result ≡ gotten_at heap.old.graph.objects reference }
+    ensures graph { heap.new.graph ≡ heap.old.graph }
+    ensures clock { heap.new.clock ≡ cond (is_some result) (used_now heap.old.clock reference) heap.old.clock }
+{
+    heap.deref(reference)
+}
+
+/// Whether a reference of any kind refers to an object, or with none, whether it was cleared (`Reference.refersTo`).
+pub fn refers_to(heap: &Heap, reference: Slot, object: Option<Slot>) -> bool
+    ensures { result ≡ option_eq nat_eq (referent_in (at heap.now.graph.objects reference)) object }
+{
+    heap.referent(reference) == object
+}
+
+/// A reference loses its referent. It is not enqueued (`Reference.clear`).
+pub fn clear(heap: &mut Heap, reference: Slot)
+    requires { IsTrue (some_and is_reference (at heap.old.graph.objects reference)) }
+    ensures graph { heap.new.graph ≡ with_objects heap.old.graph (change_at heap.old.graph.objects reference (with_reference unreferred)) }
+    ensures clock { heap.new.clock ≡ heap.old.clock }
+{
+    heap.lose_referent(reference);
+}
+
+/// A reference loses its referent, and goes to the end of its queue, if it has one and was not enqueued before
+/// (`Reference.enqueue`). Whether it went there.
+///
+/// # Errors
+/// `AllocError` where the queue cannot grow. Nothing has changed then.
+pub fn enqueue(heap: &mut Heap, reference: Slot) -> Result<bool, AllocError>
+    requires fit { IsFit heap.old.graph }
+    requires reference { IsTrue (some_and is_reference (at heap.old.graph.objects reference)) }
+    ensures answer { IfOk result (λ added. Some added ≡ option_and_then (λ r. Some (may_enqueue r)) (reference_at heap.old.graph.objects reference)) }
+    ensures enqueued { IfOk result (λ _. Enqueues heap.old.graph reference heap.new.graph) }
+    ensures err { OnErr result (heap.new.graph ≡ heap.old.graph) }
+    ensures clock { heap.new.clock ≡ heap.old.clock }
+{
+    let Some(queue) = queue_ahead(heap.reference(reference)) else {
+        heap.lose_referent(reference);
+        return Ok(false);
+    };
+    heap.link(queue, reference)?;
+    heap.cut_queue_edge(reference);
+    heap.set_state(reference, RefState::Queued);
+    heap.lose_referent(reference);
+    Ok(true)
+}
+
+/// The queue that a reference may still be added to.
+fn queue_ahead(reference: Option<Reference>) -> Option<Slot>
+    ensures { result ≡ option_and_then queue_ahead reference }
+{
+    let reference = reference?;
+    match reference.state {
+        RefState::Fresh | RefState::Pending => reference.queue,
+        RefState::Queued | RefState::Removed => None,
+    }
+}
+
+/// Whether a reference was enqueued and not yet removed from its queue (`Reference.isEnqueued`).
+pub fn is_enqueued(heap: &Heap, reference: Slot) -> bool
+    ensures { result ≡ some_and (λ r. is_queued r.state) (reference_at heap.now.graph.objects reference) }
+{
+    match heap.reference(reference) {
+        Some(found) => found.state == RefState::Queued,
+        None => false,
+    }
+}
+
+/// The reference at the front of a queue leaves it, if there is one, and is Removed (`ReferenceQueue.poll`).
+pub fn poll(heap: &mut Heap, queue: Slot) -> Option<Slot>
+    requires fit { IsFit heap.old.graph }
+    requires queue { IsTrue (some_and is_queue (at heap.old.graph.objects queue)) }
+    ensures front { result ≡ option_and_then front (option_and_then as_members (at heap.old.graph.objects queue)) }
+    ensures polled { Polls heap.old.graph queue result heap.new.graph }
+    ensures clock { heap.new.clock ≡ heap.old.clock }
+{
+    let member = heap.unlink(queue)?;
+    heap.set_state(member, RefState::Removed);
+    Some(member)
+}
