@@ -1,140 +1,119 @@
--- What the marked objects of an early machine are: a full collection that clears all.
-use Rattle.std.proofs.Common.{◌≡◌, ◌&&◌, ◌+◌, suc, filter, ℕ, ◌<◌, ◌↔◌, Bool, true, false, cond, List, [], ◌∷◌, length, Option, Some, None, option_map, option_and_then, IsTrue, is_some, refl, sym, ◌∙◌, ap, subst, inl, inr, filter, arith, filter_map}
+-- What the marked objects are: what a full collection under the policy keeps.
+use Rattle.std.proofs.Common.{◌≡◌, ◌++◌, ℕ, ◌<◌, ◌↔◌, Bool, true, false, List, [], length, Option, Some, None, option_and_then, IsTrue, is_some, refl, sym, ◌∙◌, ap, subst, inl, inr, arith, filter_map}
 use Rattle.std.proofs.lemmas.Bool.{both_ways}
-use Rattle.std.proofs.lemmas.List.Sums.{length-filter}
 use Rattle.jlr_machine.specs.declared.object.Object.{Object}
 use Rattle.jlr_machine.specs.declared.object.Object.TheVariants.{Plain, Reference, Queue, Cleaner, Cleanable, Guard}
 use Rattle.jlr_machine.specs.declared.machine.Machine.{Machine}
 use Rattle.jlr_machine.specs.declared.machine.Session.{Session}
 use Rattle.jlr_machine.specs.declared.machine.Call.TheVariants.{Free}
-use Rattle.jlr_machine.specs.Objects.{Table, Heap, at, ◌∈◌, ◌∋◌, any_referent, is_fresh, occupied}
+use Rattle.jlr_machine.specs.Objects.{Heap, at, ◌∈◌, ◌∋◌, occupied}
 use Rattle.jlr_machine.specs.Edges.{edges_from, roots, is_own_root}
-use Rattle.jlr_machine.specs.Edges.Chain.{Strong, UpToPhantom}
-use Rattle.jlr_machine.specs.Collection.{is_ready, IsFullClearing, places_left, left_of}
+use Rattle.jlr_machine.specs.Edges.Chain.{Strong, UpToSoft, UpToPhantom}
+use Rattle.jlr_machine.specs.Choices.{Choosing}
+use Rattle.jlr_machine.specs.Collection.{IsCollection, IsFull}
 use Rattle.jlr_machine.specs.WellFormed.{IsWellFormed}
+use Rattle.jlr_cells.specs.Contents.{kind_of}
 use Rattle.jlr_roots.specs.Walk.{slots_held}
-use Rattle.jlr_cells.specs.Contents.{IsEarly}
-use Rattle.jlr_laws.specs.Laws.{LosesReferent, IsLeast}
+use Rattle.jlr_laws.specs.Laws.{IsLeast, IsMarked as IsMarkedBy, IsWithinHeap}
 use Rattle.jlr_laws.proofs.Sets.{nothing}
-use Rattle.jlr_laws.proofs.Clearing.{edge_gives, edge_from}
-use Rattle.jlr_laws.proofs.Frames.{no_some, place_within, root_gives, in_sessions, from_sessions, from_places, IsRoot, in_places, root_from}
-use Rattle.jlr_laws.proofs.Frames.IsRoot.{held, fencing, named, waiting, lining, active}
-use Rattle.jlr_laws.proofs.Fits.{referent_object}
+use Rattle.jlr_laws.proofs.Clearing.{edge_gives, edge_from, in_append, in_left, in_right}
+use Rattle.jlr_laws.proofs.Frames.{no_some, root_gives, in_sessions, from_sessions, from_places, IsRoot, in_places, root_from, place_within}
+use Rattle.jlr_laws.proofs.Frames.IsRoot.{held as by_handle, fencing, named, waiting, lining, active}
 use Rattle.jlr_laws.proofs.Empty.{well_formed_within}
-use Rattle.jlr_laws.proofs.SeenKept.{rising_filter}
-use Rattle.jlr_laws.proofs.LawProofs.{keeping_none_makes_clearing}
+use Rattle.jlr_laws.proofs.LawProofs.{comes_down_to_cutting_off, policy_makes_full}
+use Rattle.jlr_barrier.specs.Graphs.{Graph, held, in_machine}
+use Rattle.jlr_barrier.specs.Marking.{Marking, IsMarked, is_marked}
+use Rattle.jlr_process.specs.Settling.{marked_below}
+use Rattle.jlr_process.specs.Flipping.{Flips, IsMarkedWhole}
+use Rattle.jlr_process.proofs.Whole.{kept_is_marked}
 use Rattle.jlr_core.specs.State.{machine_with}
-use Rattle.jlr_core.specs.Marking.{Marking, is_marked, IsMarked, IsFollowed, marked_below}
-use Rattle.jlr_core.proofs.Sweeping.{kept_is_marked}
-use Rattle.jlr_core.proofs.Following.{follows_on}
-use Rattle.jlr_machine.specs.ReachSet.{up_to}
+use Rattle.jlr_core.specs.Marking.{IsFollowed}
+use Rattle.jlr_core.specs.Collecting.{Collects}
+use Rattle.jlr_core.proofs.Following.{follows_on, strong_is_followed}
 
-module _ (heap : Heap) (mutators : Table Session) (limit : ℕ) (early : (s : ℕ) (o : Object) → at heap s ≡ Some o → IsEarly o) (idle : (k : ℕ) (s : Session) → at mutators k ≡ Some s → (s.call ≡ Free) × (s.fence ≡ None)) (w : IsWellFormed (machine_with heap mutators limit)) where
+module _ (g : Graph) (limit : ℕ) (known : (s : ℕ) → is_some (option_and_then kind_of (at g.objects s)) ≡ is_some (at g.objects s)) (idle : (k : ℕ) (s : Session) → at g.mutators k ≡ Some s → (s.call ≡ Free) × (s.fence ≡ None)) (w : IsWellFormed (machine_with g limit)) where
   abbrev m : Machine
-  m = machine_with heap mutators limit
+  m = machine_with g limit
 
-  -- ---- Roots are what handles hold
+  -- ---- Roots are what handles and the pending list hold
 
-  not_active : (o : Option Object) → ((p : Object) → o ≡ Some p → IsEarly p) → is_own_root o ≡ true → ⊥
+  not_active : (o : Option Object) → is_some (option_and_then kind_of o) ≡ is_some o → is_own_root o ≡ true → ⊥
   not_active None h e = both_ways false refl e
   not_active (Some (Plain fields)) h e = both_ways false refl e
   not_active (Some (Reference r)) h e = both_ways false refl e
   not_active (Some (Queue members)) h e = both_ways false refl e
   not_active (Some Cleaner) h e = both_ways false refl e
-  not_active (Some (Cleanable c)) h e = h (Cleanable c) refl
-  not_active (Some (Guard g)) h e = both_ways false refl e
+  not_active (Some (Cleanable c)) h e = both_ways false refl (sym h)
+  not_active (Some (Guard x)) h e = both_ways false refl e
 
-  is_held : (s : ℕ) → IsRoot m s → s ∈ slots_held mutators
-  is_held s (held k h session e f) = from_sessions (λ s. filter_map (λ h. h) s.handles) mutators k session s e (from_places session.handles h s f)
+  is_held : (s : ℕ) → IsRoot m s → s ∈ held g
+  is_held s (by_handle k h session e f) = in_left s (slots_held g.mutators) g.pending (from_sessions (λ s. filter_map (λ h. h) s.handles) g.mutators k session s e (from_places session.handles h s f))
   is_held s (fencing k session e f) = no_some s (sym (idle k session e).1 ∙ f)
   is_held s (named h) = nothing s h
-  is_held s (waiting h) = nothing s h
+  is_held s (waiting h) = in_right s (slots_held g.mutators) g.pending h
   is_held s (lining h) = nothing s h
-  is_held s (active h) = absurd (not_active (at heap s) (early s) h)
+  is_held s (active h) = absurd (not_active (at g.objects s) (known s) h)
 
-  pub root_held : (s : ℕ) → s ∈ roots m → s ∈ slots_held mutators
+  pub root_held : (s : ℕ) → s ∈ roots m → s ∈ held g
   root_held s h = is_held s (root_gives m s h)
 
-  pub held_root : (s : ℕ) → s ∈ slots_held mutators → s ∈ roots m
-  held_root s h = let r = in_sessions (λ s. filter_map (λ h. h) s.handles) mutators s h in let p = in_places r.1.handles s r.3 in root_from m s (held r.0 p.0 r.1 r.2 p.1)
+  pub held_root : (s : ℕ) → s ∈ held g → s ∈ roots m
+  held_root s h = elim (in_append s (slots_held g.mutators) g.pending h) [
+    | inl a ↦ let r = in_sessions (λ s. filter_map (λ h. h) s.handles) g.mutators s a in let p = in_places r.1.handles s r.3 in root_from m s (by_handle r.0 p.0 r.1 r.2 p.1)
+    | inr b ↦ root_from m s (waiting b)
+  ]
 
-  -- ---- What marking and sweeping ask for
+  -- ---- What marking asks for
 
-  pub held_object : (s : ℕ) → s ∈ slots_held mutators → IsTrue (is_some (at heap s))
+  pub held_object : (s : ℕ) → s ∈ held g → IsTrue (is_some (at g.objects s))
   held_object s h = w.slots.roots s (held_root s h)
 
-  pub edge_object : (x y : ℕ) → y ∈ edges_from Strong heap x → IsTrue (is_some (at heap y))
-  edge_object x y h = w.slots.edges x y (elim (edge_gives Strong heap x y h) [ inl s ↦ edge_from UpToPhantom heap x y (inl s) | inr r ↦ absurd (both_ways false refl r.1) ])
+  pub edge_object : (x y : ℕ) → y ∈ edges_from UpToSoft g.objects x → IsTrue (is_some (at g.objects y))
+  edge_object x y h = w.slots.edges x y (elim (edge_gives UpToSoft g.objects x y h) [ inl s ↦ edge_from UpToPhantom g.objects x y (inl s) | inr r ↦ edge_from UpToPhantom g.objects x y (inr (r.0, refl, r.2)) ])
 
-  object_within : (s : ℕ) → IsTrue (is_some (at heap s)) → s < length heap
-  object_within s h = elim (at heap s) as (λ o. at heap s ≡ o → IsTrue (is_some o) → s < length heap) [ None ↦ λ e h. absurd (both_ways false refl h) | Some o ↦ λ e h. place_within heap s o e ] refl h
-
-  pub referent_within : (s x : ℕ) → option_and_then any_referent (at heap s) ≡ Some x → x < length heap
-  referent_within s x e = elim (at heap s) as (λ o. at heap s ≡ o → option_and_then any_referent o ≡ Some x → x < length heap) [
-    | None ↦ λ f e. no_some x e
-    | Some o ↦ λ f e. object_within x (referent_object m w s x o f e)
-  ] refl e
+  object_within : (s : ℕ) → IsTrue (is_some (at g.objects s)) → s < length g.objects
+  object_within s h = elim (at g.objects s) as (λ o. at g.objects s ≡ o → IsTrue (is_some o) → s < length g.objects) [ None ↦ λ e h. absurd (both_ways false refl h) | Some o ↦ λ e h. place_within g.objects s o e ] refl h
 
   -- ---- What was kept
 
-  module _ (marks : Marking) (long : length marks.bits ≡ length heap) (marked : (x : ℕ) → IsMarked marks x ↔ IsFollowed (λ _. false) heap (slots_held mutators) x) where
+  module _ (kept_soft : ℕ → Bool) (marks : Marking) (long : length marks.bits ≡ length g.objects) (marked : (x : ℕ) → IsMarked marks x ↔ IsFollowed kept_soft g.objects (held g) x) (objects : (x : ℕ) → IsMarked marks x → IsTrue (is_some (at g.objects x))) where
     abbrev kept : List ℕ
-    kept = marked_below marks (length heap)
+    kept = marked_below marks (length g.objects)
 
     same : (x : ℕ) → (kept ∋ x) ≡ is_marked marks x
-    same x = kept_is_marked marks (length heap) x (omega (arith, long))
+    same x = kept_is_marked marks (length g.objects) x (omega (arith, long))
 
-    least : IsLeast (λ _. false) heap (roots m) kept
+    least : IsLeast kept_soft g.objects (roots m) kept
     least =
         record {
           holds_base = λ s h. same s ∙ (marked s).1 (s, root_held s h, [], refl);
-          closed = λ x y h e. let f = (marked x).0 (sym (same x) ∙ h) in same y ∙ (marked y).1 (follows_on (λ _. false) heap (slots_held mutators) x y f e);
+          closed = λ x y h e. let f = (marked x).0 (sym (same x) ∙ h) in same y ∙ (marked y).1 (follows_on kept_soft g.objects (held g) x y f e);
           least = λ s h. let f = (marked s).0 (sym (same s) ∙ h) in (f.0, held_root f.0 f.1, f.2, f.3);
         }
 
-    early_unready : (o : Object) → IsEarly o → is_ready o ≡ false
-    early_unready (Plain fields) e = refl
-    early_unready (Reference r) e = ap (λ q. is_fresh r.state && is_some q) e.0 ∙ elim (is_fresh r.state) as (λ b. (b && false) ≡ false) [ true ↦ refl | false ↦ refl ]
-    early_unready (Queue members) e = absurd e
-    early_unready Cleaner e = absurd e
-    early_unready (Cleanable c) e = absurd e
-    early_unready (Guard g) e = absurd e
+    pub whole : IsMarkedWhole m marks
+    whole =
+        record {
+          fit = w;
+          long = long;
+          objects = objects;
+          roots = λ s h. (marked s).1 (s, root_held s h, [], refl);
+          closed = λ s t h e. (marked t).1 (follows_on kept_soft g.objects (held g) s t ((marked s).0 h) (strong_is_followed kept_soft g.objects s t e));
+        }
 
-    none_loses : (s : ℕ) → LosesReferent heap kept s → s ∈ []
-    none_loses s l = absurd (both_ways (is_ready l.1.0) (early_unready l.1.0 (early s l.1.0 l.2)) l.3)
-
-    pub clears : IsFullClearing m kept []
-    clears =
-        keeping_none_makes_clearing m (λ _. false) kept [] (well_formed_within m w) (λ s. refl)
-        (record {
-          marked = least;
-          pended = λ s. ((λ h. nothing s h), none_loses s);
-          once = refl;
-          rising = rising_filter (is_marked marks) 0 (length heap);
-        })
-
-    -- ---- How many are kept
-
-    places_counted : (slots : List ℕ) (n : ℕ) (places : Heap) → ((s : ℕ) → (n + s) ∈ slots → IsTrue (is_some (at places s))) → length (filter is_some (places_left slots [] n places)) ≡ length (filter (λ s. slots ∋ s) (up_to n (length places)))
-    places_counted slots n [] h = refl
-    places_counted slots n (o ∷ places) h =
-        let tail : Heap = places_left slots [] (suc n) places in
-        let later : List ℕ = filter (λ s. slots ∋ s) (up_to (suc n) (length places)) in
-        let rest : length (filter is_some tail) ≡ length later = places_counted slots (suc n) places (λ s m. h (suc s) (subst (λ k. k ∈ slots) (omega arith) m)) in
-        elim (slots ∋ n) as (λ b. (slots ∋ n) ≡ b → length (filter is_some (cond b (option_map (left_of slots ([] ∋ n)) o) None ∷ tail)) ≡ length (cond b (n ∷ later) later)) [
-          | true ↦ λ e. elim o as (λ o. IsTrue (is_some o) → length (filter is_some (option_map (left_of slots ([] ∋ n)) o ∷ tail)) ≡ length (n ∷ later)) [
-            | None ↦ λ i. absurd (both_ways false refl i)
-            | Some p ↦ λ i. ap suc rest
-          ] (h 0 (subst (λ k. k ∈ slots) (omega arith) e))
-          | false ↦ λ e. rest
-        ] refl
-
-    filter_alike : (p q : ℕ → Bool) (xs : List ℕ) → ((x : ℕ) → p x ≡ q x) → filter p xs ≡ filter q xs
-    filter_alike p q [] h = refl
-    filter_alike p q (x ∷ xs) h = ap (λ b. cond b (x ∷ filter p xs) (filter p xs)) (h x) ∙ ap (λ l. cond (q x) (x ∷ l) l) (filter_alike p q xs h)
-
-    pub kept_counted : ((x : ℕ) → IsMarked marks x → IsTrue (is_some (at heap x))) → occupied (places_left kept [] 0 heap) ≡ length kept
-    kept_counted objects =
-        sym (length-filter is_some (places_left kept [] 0 heap))
-        ∙ places_counted kept 0 heap (λ s h. objects s (sym (same s) ∙ subst (λ k. k ∈ kept) (omega arith) h))
-        ∙ ap length (filter_alike (λ s. kept ∋ s) (is_marked marks) (up_to 0 (length heap)) same)
+    pub collects : (old new : Choosing) (n : Machine) → Flips m marks old new n → Collects kept_soft m old new n
+    collects old new n f =
+        let within = well_formed_within m w in
+        let around : IsWithinHeap g.objects (roots m ++ kept) =
+        record { edges = within.edges; base = λ s h. elim (in_append s (roots m) kept h) [ inl r ↦ within.base s r | inr k ↦ (let there = objects s (sym (same s) ∙ k) in object_within s there) ] } in
+        let cut = (comes_down_to_cutting_off g.objects (roots m ++ kept) kept f.pending around).0 f.collection in
+        let by_policy : IsMarkedBy kept_soft g.objects (roots m) kept f.pending = record { marked = least; pended = cut.pended; once = cut.once; rising = cut.rising } in
+        record {
+          kept = kept;
+          pending = f.pending;
+          chosen = f.chosen;
+          marked = by_policy;
+          full = policy_makes_full m kept_soft kept f.pending within by_policy;
+          left = f.left;
+          counted = f.counted;
+        }

@@ -1,10 +1,16 @@
 -- Following edges from a base: how it begins, a step, and its end.
-use Rattle.std.proofs.Common.{ℕ, suc, ◌≡◌, ◌↔◌, Bool, true, false, IsTrue, is_some, get_or, count_by, List, [], ◌∷◌, ◌++◌, refl, sym, ◌∙◌, subst, inl, inr}
+use Rattle.std.proofs.Common.{ℕ, suc, ◌≡◌, ◌↔◌, ◌⊎◌, Some, cond, Bool, true, false, IsTrue, is_some, get_or, count_by, List, [], ◌∷◌, ◌++◌, refl, sym, ◌∙◌, subst, inl, inr}
 use Rattle.std.specs.Prelude.{IsPermutation, nat_eq}
 use Rattle.std.proofs.lemmas.List.Sorted.{list_any-IsPermutation}
+use Rattle.std.proofs.lemmas.Bool.{both_ways}
+use Rattle.jlr_types.specs.declared.RefKind.TheVariants.{Soft}
 use Rattle.jlr_machine.specs.Objects.{Heap, at, ◌∋◌, ◌∈◌}
+use Rattle.jlr_machine.specs.Edges.{edges_from}
+use Rattle.jlr_machine.specs.Edges.Chain.{Strong, UpToSoft}
+use Rattle.jlr_laws.proofs.Clearing.{edge_from, edge_gives}
 use Rattle.jlr_laws.specs.Laws.{followed, IsPathFollowed}
-use Rattle.jlr_core.specs.Marking.{Marking, IsMarked, Shaded, IsFollowed, IsMarking}
+use Rattle.jlr_barrier.specs.Marking.{Marking, IsMarked, Shaded}
+use Rattle.jlr_core.specs.Marking.{IsFollowed, IsMarking, soft_at}
 use Rattle.jlr_laws.proofs.Sets.{nothing, in_front, in_cons}
 use Rattle.jlr_laws.proofs.Clearing.{in_right}
 
@@ -79,3 +85,36 @@ pub none_counted : (bits : List Bool) → ((x : ℕ) → get_or bits x false ≡
 none_counted [] none = refl
 none_counted (true ∷ bits) none = absurd (none 0 refl)
 none_counted (false ∷ bits) none = none_counted bits (λ x h. none (suc x) h)
+
+-- ---- Strong edges are followed, and with them the soft ones that are kept
+
+pub strong_is_followed : (keeps : ℕ → Bool) (heap : Heap) (s t : ℕ) → t ∈ edges_from Strong heap s → t ∈ followed keeps heap s
+strong_is_followed keeps heap s t h =
+    elim (keeps s) as (λ b. t ∈ edges_from (cond b UpToSoft Strong) heap s) [
+      | true ↦ elim (edge_gives Strong heap s t h) [ inl e ↦ edge_from UpToSoft heap s t (inl e) | inr r ↦ absurd (both_ways false refl r.1) ]
+      | false ↦ h
+    ]
+
+pub followed_is_soft : (keeps : ℕ → Bool) (heap : Heap) (s t : ℕ) → t ∈ followed keeps heap s → t ∈ edges_from UpToSoft heap s
+followed_is_soft keeps heap s t h =
+    elim (keeps s) as (λ b. t ∈ edges_from (cond b UpToSoft Strong) heap s → t ∈ edges_from UpToSoft heap s) [
+      | true ↦ λ h. h
+      | false ↦ λ h. elim (edge_gives Strong heap s t h) [ inl e ↦ edge_from UpToSoft heap s t (inl e) | inr r ↦ absurd (both_ways false refl r.1) ]
+    ] h
+
+-- the soft edge of a soft reference
+pub soft_edge : (heap : Heap) (s t : ℕ) → soft_at heap s ≡ Some t → t ∈ edges_from UpToSoft heap s
+soft_edge heap s t e = edge_from UpToSoft heap s t (inr (Soft, refl, ?))
+
+pub followed_from : (keeps : ℕ → Bool) (heap : Heap) (s t : ℕ) → (t ∈ edges_from Strong heap s) ⊎ ((keeps s ≡ true) × (soft_at heap s ≡ Some t)) → t ∈ followed keeps heap s
+followed_from keeps heap s t h = elim h [
+  | inl e ↦ strong_is_followed keeps heap s t e
+  | inr k ↦ subst (λ b. t ∈ edges_from (cond b UpToSoft Strong) heap s) (sym k.0) (soft_edge heap s t k.1)
+]
+
+pub followed_gives : (keeps : ℕ → Bool) (heap : Heap) (s t : ℕ) → t ∈ followed keeps heap s → (t ∈ edges_from Strong heap s) ⊎ ((keeps s ≡ true) × (soft_at heap s ≡ Some t))
+followed_gives keeps heap s t h =
+    elim (keeps s) as (λ b. keeps s ≡ b → t ∈ edges_from (cond b UpToSoft Strong) heap s → (t ∈ edges_from Strong heap s) ⊎ ((keeps s ≡ true) × (soft_at heap s ≡ Some t))) [
+      | true ↦ λ e h. ?
+      | false ↦ λ e h. inl h
+    ] refl h

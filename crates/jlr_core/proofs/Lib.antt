@@ -1,10 +1,4 @@
-pub mod Counting
-pub mod Shading
 pub mod Following
-pub mod Walking
-pub mod Settling
-pub mod Places
-pub mod Sweeping
 pub mod Named
 pub mod Clearings
 pub mod Rooms

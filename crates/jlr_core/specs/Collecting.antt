@@ -1,20 +1,25 @@
--- What a full collection that clears all soft references does to the machine, and what it tells the choice.
-use Rattle.std.specs.Prelude.{◌≡◌, ℕ, ◌+◌, ◌<◌, not, IsTrue, List, [], ◌∷◌, length, Option, Some, None}
+-- What a full collection does to the machine, and what it tells the choice.
+use Rattle.std.specs.Prelude.{◌≡◌, ℕ, ◌+◌, ◌<◌, not, IsTrue, List, [], ◌∷◌, length, Bool, Option, Some, None}
 use Rattle.jlr_machine.specs.declared.machine.Machine.{Machine}
 use Rattle.jlr_machine.specs.declared.object.Object.{Object}
 use Rattle.jlr_machine.specs.declared.entry.Collected.{Collected}
 use Rattle.jlr_machine.specs.Objects.{at, occupied}
 use Rattle.jlr_machine.specs.Lookups.{with_new}
 use Rattle.jlr_machine.specs.Run.{has_room, with_collection}
-use Rattle.jlr_machine.specs.Collection.{IsFullClearing, after_collection}
+use Rattle.jlr_machine.specs.Edges.{roots}
+use Rattle.jlr_machine.specs.Collection.{IsFull, IsFullClearing, after_collection}
+use Rattle.jlr_laws.specs.Laws.{IsMarked}
 use Rattle.jlr_machine.specs.Choices.{Choosing, collecting}
 
--- the choice says what was kept, with nothing pending; that is a collection of m, which leaves n
-pub record Collects (m : Machine) (old new : Choosing) (n : Machine) : Type 0 where
+-- A full collection of m that leaves n: it keeps the least set that holds the roots and is closed under strong edges and under the soft edges
+-- of those members that are kept, and the choice says so
+pub record Collects (kept_soft : ℕ → Bool) (m : Machine) (old new : Choosing) (n : Machine) : Type 0 where
   pub kept : List ℕ
-  pub chosen : new ≡ collecting old kept []
-  pub clearing : IsFullClearing m kept []
-  pub left : n ≡ after_collection m kept []
+  pub pending : List ℕ
+  pub chosen : new ≡ collecting old kept pending
+  pub marked : IsMarked kept_soft m.objects (roots m) kept pending
+  pub full : IsFull m kept pending
+  pub left : n ≡ after_collection m kept pending
   pub counted : occupied n.objects ≡ length kept
 
 -- ---- Room for one more object

@@ -1,8 +1,7 @@
 -- What a core is seen as: the machine that it keeps, and what it marked; and the machines for which it stands.
 use Rattle.std.specs.Prelude.{ℕ, List, []}
 use Rattle.jlr_machine.specs.declared.machine.Machine.{Machine}
-use Rattle.jlr_machine.specs.Objects.{Heap, Table}
-use Rattle.jlr_machine.specs.declared.machine.Session.{Session}
+use Rattle.jlr_barrier.specs.Graphs.{Graph}
 use Rattle.jlr_machine.specs.StandsFor.{StandsFor}
 use Rattle.jlr_core.specs.State.{machine_with}
 
@@ -12,8 +11,8 @@ pub record Kept : Type 0 where
   -- the objects marked in an open cycle. There is no cycle yet
   pub marked : List ℕ
 
-abbrev pub kept_with : Heap → Table Session → ℕ → Kept
-kept_with objects mutators resource_limit = record { machine = machine_with objects mutators resource_limit; marked = [] }
+abbrev pub kept_with : Graph → ℕ → Kept
+kept_with g resource_limit = record { machine = machine_with g resource_limit; marked = [] }
 
 abbrev pub StandsIn : Kept → Machine → Type 0
 StandsIn core m = StandsFor core.machine core.marked m

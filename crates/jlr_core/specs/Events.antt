@@ -12,7 +12,7 @@ use Rattle.jlr_machine.specs.declared.entry.Entry.{Entry}
 use Rattle.jlr_machine.specs.Run.{no_choice, IsLegal, apply}
 use Rattle.jlr_core.specs.State.{Meets, entry_of}
 use Rattle.jlr_core.specs.declared.event.Event.{Event}
-use Rattle.jlr_core.specs.declared.event.Event.TheVariants.{Join, Leave, New, Put, Get, Dup, Drop, Same, MakeRef, Deref, Opened, Full, Mark}
+use Rattle.jlr_core.specs.declared.event.Event.TheVariants.{Join, Leave, New, Put, Get, Dup, Drop, Same, MakeRef, Deref, Refers, Clear, Enqueue, Enqueued, MakeQueue, Poll, Opened, Full, HandOver, Mark}
 use Rattle.jlr_core.specs.declared.event.Reply.{Reply}
 use Rattle.jlr_core.specs.declared.event.Reply.TheVariants.{Answered, Marked}
 
@@ -36,8 +36,15 @@ ask_of (Drop k h) = Some (ask.Drop k h)
 ask_of (Same k a b) = Some (ask.Same k a b)
 ask_of (MakeRef k kind h q) = Some (ask.MakeRef k kind h q)
 ask_of (Deref k r) = Some (ask.Deref k r)
+ask_of (Refers k r h) = Some (ask.Refers k r h)
+ask_of (Clear k r) = Some (ask.Clear k r)
+ask_of (Enqueue k r) = Some (ask.Enqueue k r)
+ask_of (Enqueued k r) = Some (ask.Enqueued k r)
+ask_of (MakeQueue k) = Some (ask.MakeQueue k)
+ask_of (Poll k q) = Some (ask.Poll k q)
 ask_of (Opened k outcome) = Some (ask.Opened k (outcome_of outcome))
 ask_of (Full k mode) = Some (ask.Full k mode)
+ask_of HandOver = Some ask.HandOver
 ask_of (Mark budget) = None
 
 -- the resource that an event hands in

@@ -4,4 +4,4 @@ use Rattle.jlr_core.specs.declared.state.State.{State}
 use Rattle.jlr_core.specs.State.{machine_with}
 
 abbrev pub machine_of : State → Machine
-machine_of s = machine_with s.cells s.roots s.resource_limit
+machine_of s = machine_with s.heap.graph s.resource_limit

@@ -1,61 +1,29 @@
--- The marker's state, and what is known while it follows edges.
-use Rattle.std.specs.Prelude.{◌≡◌, ℕ, ◌+◌, ◌⊎◌, Bool, true, false, cond, List, length, count_by, slice_index_or, filter, Option, Some, None, option_map}
-use Rattle.jlr_machine.specs.declared.object.Object.{Object}
-use Rattle.jlr_machine.specs.ReachSet.{up_to}
-use Rattle.jlr_machine.specs.Objects.{Heap, ◌∈◌, with_reference, with_cleanable}
+-- What is known while a collector follows edges, and which soft references it follows.
+use Rattle.std.specs.Prelude.{ℕ, ◌⊎◌, Bool, List, Option, option_and_then, slice_index_or}
+use Rattle.jlr_machine.specs.Objects.{Heap, at, ◌∈◌}
+use Rattle.jlr_types.specs.declared.RefKind.TheVariants.{Soft}
+use Rattle.jlr_machine.specs.Edges.{referent}
 use Rattle.jlr_laws.specs.Laws.{followed, IsPathFollowed}
+use Rattle.jlr_soft.specs.Keeping.{is_kept_in}
+use Rattle.jlr_soft.specs.declared.policy.Policy.{Policy}
+use Rattle.jlr_barrier.specs.Graphs.{Clock}
+use Rattle.jlr_barrier.specs.Marking.{IsMarked, Marking}
 
--- which slots are marked, and those whose edges were not yet followed
-pub record Marking : Type 0 where
-  pub bits : List Bool
-  pub grey : List ℕ
+-- whether the policy keeps the soft reference at a slot
+abbrev pub keeps : Policy → Clock → ℕ → Bool
+keeps policy clock s = is_kept_in policy.mode policy.soft_age (slice_index_or clock.last_gets s 0) clock.collections
 
-abbrev pub is_marked : Marking → ℕ → Bool
-is_marked m x = slice_index_or m.bits x false
-
-abbrev pub IsMarked : Marking → ℕ → Type 0
-IsMarked m x = is_marked m x ≡ true
-
--- how many are marked
-abbrev pub marked : Marking → ℕ
-marked m = count_by (λ b. b) m.bits
-
--- The members of T were shaded: those that were unmarked are marked and grey then
-pub record Shaded (T : ℕ → Type 0) (old new : Marking) : Type 0 where
-  pub long : length new.bits ≡ length old.bits
-  pub kept : (x : ℕ) → IsMarked old x → IsMarked new x
-  pub added : (x : ℕ) → IsMarked new x → IsMarked old x ⊎ (T x × (x ∈ new.grey))
-  pub grey_kept : (x : ℕ) → x ∈ old.grey → x ∈ new.grey
-  pub grey_marked : (x : ℕ) → x ∈ new.grey → (x ∈ old.grey) ⊎ IsMarked new x
-  pub all : (x : ℕ) → T x → IsMarked new x
-  -- what is marked but not grey is as many as before
-  pub black_same : marked new + length old.grey ≡ marked old + length new.grey
+-- what the object at a slot refers to, if it is a soft reference
+abbrev pub soft_at : Heap → ℕ → Option ℕ
+soft_at heap s = option_and_then (referent Soft) (at heap s)
 
 -- s is in B, or the edges that a marker follows lead to it from there
 abbrev pub IsFollowed : (ℕ → Bool) → Heap → List ℕ → ℕ → Type 0
-IsFollowed keeps heap B s = (x : ℕ) × (x ∈ B) × (path : List ℕ) × IsPathFollowed keeps heap x path s
+IsFollowed kept heap B s = (x : ℕ) × (x ∈ B) × (path : List ℕ) × IsPathFollowed kept heap x path s
 
 -- While edges are followed from B: what is marked is followed, and a marked slot whose edges were not all followed is grey
-pub record IsMarking (keeps : ℕ → Bool) (heap : Heap) (B : List ℕ) (m : Marking) : Type 0 where
-  pub sound : (x : ℕ) → IsMarked m x → IsFollowed keeps heap B x
+pub record IsMarking (kept : ℕ → Bool) (heap : Heap) (B : List ℕ) (m : Marking) : Type 0 where
+  pub sound : (x : ℕ) → IsMarked m x → IsFollowed kept heap B x
   pub grey : (x : ℕ) → x ∈ m.grey → IsMarked m x
-  pub traced : (x y : ℕ) → IsMarked m x → y ∈ followed keeps heap x → (x ∈ m.grey) ⊎ IsMarked m y
+  pub traced : (x y : ℕ) → IsMarked m x → y ∈ followed kept heap x → (x ∈ m.grey) ⊎ IsMarked m y
   pub base : (x : ℕ) → x ∈ B → IsMarked m x
-
--- the marked slots below n, rising
-abbrev pub marked_below : Marking → ℕ → List ℕ
-marked_below m n = filter (is_marked m) (up_to 0 n)
-
--- ---- What a sweep leaves
-
-abbrev pub marked_referent : Marking → Option ℕ → Option ℕ
-marked_referent m None = None
-marked_referent m (Some x) = cond (is_marked m x) (Some x) None
-
--- an object with no referent that is not marked
-abbrev pub settled_object : Marking → Object → Object
-settled_object m o = with_reference (λ r. record r { referent = marked_referent m r.referent }) (with_cleanable (λ c. record c { referent = marked_referent m c.referent }) o)
-
--- a marked object so, and nothing else
-abbrev pub settled : Marking → ℕ → Option Object → Option Object
-settled m s o = cond (is_marked m s) (option_map (settled_object m) o) None

@@ -5,20 +5,19 @@ use Rattle.jlr_types.specs.declared.FieldValue.TheVariants.{Int, Ref}
 use Rattle.jlr_types.specs.declared.Refusal.{Refusal}
 use Rattle.jlr_types.specs.declared.Refusal.TheVariants.{NoField, WrongType}
 use Rattle.jlr_machine.specs.declared.machine.Machine.{Machine}
-use Rattle.jlr_machine.specs.declared.machine.Session.{Session}
 use Rattle.jlr_machine.specs.declared.ask.Ask.{Ask}
 use Rattle.jlr_machine.specs.declared.ask.Answer.{Answer}
 use Rattle.jlr_machine.specs.declared.ask.Answer.TheVariants.{Refused}
 use Rattle.jlr_machine.specs.declared.entry.Chosen.{Chosen}
 use Rattle.jlr_machine.specs.declared.entry.Entry.{Entry}
-use Rattle.jlr_machine.specs.Objects.{Heap, Table}
+use Rattle.jlr_barrier.specs.Graphs.{Graph, in_machine}
 use Rattle.jlr_machine.specs.Refusals.{refusal}
 use Rattle.jlr_machine.specs.Calls.{reply, after}
 use Rattle.jlr_machine.specs.Run.{IsLegal, done, empty}
 
--- the machine with these objects and mutators, and this limit of resources; all else is as in the empty machine
-abbrev pub machine_with : Heap → Table Session → ℕ → Machine
-machine_with objects mutators resource_limit = record (empty 0 0 resource_limit) { objects = objects; mutators = mutators }
+-- the machine of which the heap keeps this part, with this limit of resources; all else is as in the empty machine
+abbrev pub machine_with : Graph → ℕ → Machine
+machine_with g resource_limit = in_machine (empty 0 0 resource_limit) g
 
 -- an entry of the core's. Its seat is not looked at
 abbrev pub entry_of : Ask → Answer → Chosen → Entry

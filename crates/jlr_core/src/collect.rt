@@ -1,104 +1,95 @@
-//! Full collections: what the roots reach by strong edges is kept, and all references to the rest are cleared.
+//! Full collections: what the roots reach is kept, by strong edges and by the soft ones that the policy keeps, and all references to
+//! the rest are cleared.
 ghost use Rattle.std.specs.Prelude.{◌≡◌, ◌≤◌, length, IfOk, IfErr};
 ghost use Rattle.jlr_cells.specs.Contents.{object_of};
+ghost use Rattle.jlr_soft.specs.declared.policy.Policy.{Policy};
 ghost use Rattle.jlr_machine.specs.WellFormed.{IsWellFormed};
 ghost use Rattle.jlr_machine.specs.Choices.{nothing_chosen};
 ghost use Rattle.jlr_core.specs.Collecting.{Collects, MakesRoom, Allocates, FindsNoRoom};
+ghost use Rattle.jlr_core.specs.Marking.{keeps};
 ghost use Rattle.jlr_core.specs.State.{Meets, answer_of};
 
 use crate::mark::mark;
-use crate::marks::Marks;
 use crate::state::State;
-use crate::sweep::sweep;
 use jlr_cells::Shape;
 use jlr_machine::ask::{Answer, Ask, FullMode};
 use jlr_machine::choice::Choice;
+use jlr_process::flip;
+use jlr_soft::{Mode, Policy};
 use jlr_types::{Mutator, Refusal, Slot};
 
 impl State {
     ghost use Rattle.jlr_core.specs.Machines.{machine_of};
 
-    /// A full collection that clears all soft references: it marks, and then keeps just what is marked.
-    pub(crate) fn collect(&mut self, marks: &mut Marks, choice: &mut Choice)
+    /// A full collection. It keeps the least set that holds the roots and is closed under strong edges and under the soft edges of
+    /// those members that the policy keeps.
+    pub(crate) fn collect(&mut self, mode: Mode, choice: &mut Choice)
         requires fit { IsWellFormed (machine_of self.old) }
-        requires marks { length marks.old.bits ≡ length self.old.cells }
         requires nothing { choice.old ≡ nothing_chosen choice.old.cells }
-        requires room { length self.old.cells ≤ choice.old.cells }
-        ensures collects { Collects (machine_of self.old) choice.old choice.new (machine_of self.new) }
-        ensures marks { length marks.new.bits ≡ length self.new.cells }
+        requires room { length self.old.heap.graph.objects ≤ choice.old.cells }
+        ensures collects { Collects (keeps (record { soft_age = self.old.soft_age; mode = mode }) self.old.heap.clock) (machine_of self.old) choice.old choice.new (machine_of self.new) }
         ensures room { choice.new.cells ≡ choice.old.cells }
-        ensures cells { length self.new.cells ≡ length self.old.cells }
+        ensures cells { length self.new.heap.graph.objects ≡ length self.old.heap.graph.objects }
     {
-        self.cells.objects_are_early();
-        self.roots.no_calls();
-        marks.reset();
-        mark(&self.cells, &self.roots, marks);
-        sweep(&mut self.cells, marks, choice);
+        self.heap.kinds_are_known();
+        self.heap.no_calls();
+        let policy = Policy::new(self.soft_age, mode);
+        mark(&mut self.heap, &policy);
+        flip(&mut self.heap, choice);
     }
 
     /// Where no cell is free, a full collection that clears all soft references.
-    fn make_room(&mut self, marks: &mut Marks, choice: &mut Choice)
+    fn make_room(&mut self, choice: &mut Choice)
         requires fit { IsWellFormed (machine_of self.old) }
-        requires marks { length marks.old.bits ≡ length self.old.cells }
         requires nothing { choice.old ≡ nothing_chosen choice.old.cells }
-        requires room { length self.old.cells ≤ choice.old.cells }
+        requires room { length self.old.heap.graph.objects ≤ choice.old.cells }
         ensures made { MakesRoom (machine_of self.old) choice.old choice.new (machine_of self.new) }
-        ensures marks { length marks.new.bits ≡ length self.new.cells }
         ensures room { choice.new.cells ≡ choice.old.cells }
-        ensures cells { length self.new.cells ≡ length self.old.cells }
+        ensures cells { length self.new.heap.graph.objects ≡ length self.old.heap.graph.objects }
     {
-        if self.cells.free_count() == 0 {
-            self.collect(marks, choice);
+        if self.heap.free_count() == 0 {
+            self.collect(Mode::ClearAll, choice);
         }
     }
 
     /// A new object in a free cell, after a full collection where none is free; refused where that leaves none free.
-    pub(crate) fn allocate(
-        &mut self,
-        shape: Shape,
-        marks: &mut Marks,
-        choice: &mut Choice,
-    ) -> Result<Slot, Refusal>
+    pub(crate) fn allocate(&mut self, shape: Shape, choice: &mut Choice) -> Result<Slot, Refusal>
         requires fit { IsWellFormed (machine_of self.old) }
-        requires marks { length marks.old.bits ≡ length self.old.cells }
         requires nothing { choice.old ≡ nothing_chosen choice.old.cells }
-        requires room { length self.old.cells ≤ choice.old.cells }
+        requires room { length self.old.heap.graph.objects ≤ choice.old.cells }
         ensures allocates { IfOk result (λ slot. Allocates (machine_of self.old) (object_of shape) choice.new slot (machine_of self.new)) }
         ensures full { IfErr result (λ r. (r ≡ Refusal.HeapFull) × FindsNoRoom (machine_of self.old) choice.new (machine_of self.new)) }
-        ensures marks { length marks.new.bits ≡ length self.new.cells }
         ensures room { choice.new.cells ≡ choice.old.cells }
-        ensures cells { length self.new.cells ≡ length self.old.cells }
+        ensures cells { length self.new.heap.graph.objects ≡ length self.old.heap.graph.objects }
     {
-        self.make_room(marks, choice);
-        let Some(slot) = self.cells.take(shape) else {
+        self.make_room(choice);
+        let Some(slot) = self.heap.allocate(shape) else {
             return Err(Refusal::HeapFull);
         };
         choice.add_fresh(slot);
         Ok(slot)
     }
 
-    /// A full collection that is asked for. It clears all soft references in either mode.
+    /// A full collection that is asked for.
     pub(crate) fn full(
         &mut self,
         by: Mutator,
         mode: FullMode,
-        marks: &mut Marks,
         choice: &mut Choice,
     ) -> Result<Answer, Refusal>
         requires fit { IsWellFormed (machine_of self.old) }
-        requires marks { length marks.old.bits ≡ length self.old.cells }
         requires nothing { choice.old ≡ nothing_chosen choice.old.cells }
-        requires room { length self.old.cells ≤ choice.old.cells }
+        requires room { length self.old.heap.graph.objects ≤ choice.old.cells }
         ensures meets { Meets (machine_of self.old) (Ask.Full by mode) (answer_of result) choice.new.chosen (machine_of self.new) }
-        ensures marks { length marks.new.bits ≡ length self.new.cells }
         ensures room { choice.new.cells ≡ choice.old.cells }
-        ensures cells { length self.new.cells ≡ length self.old.cells }
+        ensures cells { length self.new.heap.graph.objects ≡ length self.old.heap.graph.objects }
     {
         self.check_session(by)?;
         self.no_call(by);
-        self.collect(marks, choice);
         match mode {
-            FullMode::Policy | FullMode::ClearAll => Ok(Answer::Done),
+            FullMode::Policy => self.collect(Mode::Policy, choice),
+            FullMode::ClearAll => self.collect(Mode::ClearAll, choice),
         }
+        Ok(Answer::Done)
     }
 }

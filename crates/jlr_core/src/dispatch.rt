@@ -6,7 +6,6 @@ ghost use Rattle.jlr_core.specs.State.{answer_of};
 ghost use Rattle.jlr_core.specs.Events.{ask_of, answer_in, given, handed, StepsBy};
 
 use crate::event::{Event, Reply};
-use crate::marks::Marks;
 use crate::state::State;
 use jlr_machine::ask::Answer;
 use jlr_machine::choice::Choice;
@@ -16,29 +15,20 @@ impl State {
     ghost use Rattle.jlr_core.specs.Machines.{machine_of};
 
     /// One event.
-    pub(crate) fn step<R>(
-        &mut self,
-        event: Event<R>,
-        marks: &mut Marks,
-        choice: &mut Choice,
-    ) -> Reply<R>
+    pub(crate) fn step<R>(&mut self, event: Event<R>, choice: &mut Choice) -> Reply<R>
         requires fit { IsWellFormed (machine_of self.old) }
-        requires marks { length marks.old.bits ≡ length self.old.cells }
         requires nothing { choice.old ≡ nothing_chosen choice.old.cells }
-        requires room { length self.old.cells ≤ choice.old.cells }
+        requires room { length self.old.heap.graph.objects ≤ choice.old.cells }
         ensures entry { StepsBy (machine_of self.old) (ask_of event) (answer_in result) choice.new.chosen (machine_of self.new) }
         ensures flow { handed result ≡ given event }
         ensures idle { ask_of event ≡ None → result ≡ Reply.Marked Progress.Idle }
-        ensures marks { length marks.new.bits ≡ length self.new.cells }
         ensures room { choice.new.cells ≡ choice.old.cells }
-        ensures cells { length self.new.cells ≡ length self.old.cells }
+        ensures cells { length self.new.heap.graph.objects ≡ length self.old.heap.graph.objects }
     {
         match event {
             Event::Join { mutator } => answered(self.join(mutator)),
             Event::Leave { mutator } => answered(self.leave(mutator)),
-            Event::New { mutator, layout } => {
-                answered(self.new_object(mutator, layout, marks, choice))
-            }
+            Event::New { mutator, layout } => { answered(self.new_object(mutator, layout, choice)) }
             Event::Put {
                 mutator,
                 object,
@@ -62,13 +52,24 @@ impl State {
                 kind,
                 referent,
                 queue,
-            } => answered(self.make_reference(mutator, kind, referent, queue, marks, choice)),
+            } => answered(self.make_reference(mutator, kind, referent, queue, choice)),
             Event::Deref { mutator, reference } => answered(self.deref(mutator, reference)),
+            Event::Refers {
+                mutator,
+                reference,
+                object,
+            } => answered(self.refers(mutator, reference, object)),
+            Event::Clear { mutator, reference } => answered(self.clear(mutator, reference)),
+            Event::Enqueue { mutator, reference } => answered(self.enqueue(mutator, reference)),
+            Event::Enqueued { mutator, reference } => answered(self.enqueued(mutator, reference)),
+            Event::MakeQueue { mutator } => answered(self.make_queue(mutator, choice)),
+            Event::Poll { mutator, queue } => answered(self.poll(mutator, queue)),
+            Event::HandOver => answered(self.hand_over()),
             Event::Opened { mutator, outcome } => Reply::Answered {
                 answer: Answer::Refused(self.opened(mutator)),
                 resource: outcome.ok(),
             },
-            Event::Full { mutator, mode } => answered(self.full(mutator, mode, marks, choice)),
+            Event::Full { mutator, mode } => answered(self.full(mutator, mode, choice)),
             Event::Mark { .. } => Reply::Marked(Progress::Idle),
         }
     }

@@ -5,12 +5,10 @@ ghost use Rattle.jlr_machine.specs.Run.{empty};
 ghost use Rattle.jlr_core.specs.Events.{ask_of, answer_in, given, handed, Enters};
 
 use crate::event::{Event, Reply};
-use crate::marks::Marks;
 use crate::state::State;
-use jlr_cells::Cells;
+use jlr_barrier::Heap;
 use jlr_machine::choice::Choice;
 use jlr_machine::machine::Machine;
-use jlr_roots::Roots;
 use jlr_types::{Limits, Progress};
 use std::alloc::{AllocError, Global};
 use std::marker::{Model, PhantomData};
@@ -19,23 +17,19 @@ use std::marker::{Model, PhantomData};
 #[derive(Drop)]
 pub struct Core<R> {
     state: State,
-    marks: Marks,
     resources: PhantomData<R>,
 }
 
 impl<R> Model for Core<R> {
-    ghost use Rattle.std.specs.Prelude.{◌≡◌, length};
     ghost use Rattle.jlr_machine.specs.WellFormed.{IsWellFormed};
     ghost use Rattle.jlr_core.specs.State.{machine_with};
     ghost use Rattle.jlr_core.specs.Cores.{Kept, kept_with};
 
     ghost Value = { Kept };
 
-    ghost view = { λ c. kept_with c.state.cells c.state.roots c.state.resource_limit };
+    ghost view = { λ c. kept_with c.state.heap.graph c.state.resource_limit };
 
-    ghost invariant = { λ c.
-        IsWellFormed (machine_with c.state.cells c.state.roots c.state.resource_limit)
-        × (length c.marks.bits ≡ length c.state.cells) };
+    ghost invariant = { λ c. IsWellFormed (machine_with c.state.heap.graph c.state.resource_limit) };
 }
 
 impl<R> Core<R> {
@@ -48,16 +42,13 @@ impl<R> Core<R> {
     pub fn new(alloc: Global, limits: Limits) -> Result<Self, AllocError>
         ensures { IfOk result (λ core. core.machine ≡ empty limits.cells limits.sessions limits.resources) }
     {
-        let cells = cell_count(limits);
         let state = State {
-            cells: Cells::new(alloc, cells)?,
-            roots: Roots::new(alloc, session_count(limits))?,
+            heap: Heap::new(alloc, limits)?,
+            soft_age: limits.soft_age,
             resource_limit: limits.resources,
         };
-        let marks = Marks::new(alloc, cells)?;
         Ok(Core {
             state,
-            marks,
             resources: PhantomData,
         })
     }
@@ -73,7 +64,7 @@ impl<R> Core<R> {
         ensures cells { length self.new.machine.objects ≡ length self.old.machine.objects }
     {
         choice.clear();
-        self.state.step(event, &mut self.marks, choice)
+        self.state.step(event, choice)
     }
 
     /// The machine that the core stands for, as plain data, with nothing seen.
@@ -86,18 +77,4 @@ impl<R> Core<R> {
     {
         self.state.image(alloc)
     }
-}
-
-fn cell_count(limits: Limits) -> u32
-    ensures count { result ≡ limits.cells }
-    ensures few { result ≤ 65536 }
-{
-    limits.cells
-}
-
-fn session_count(limits: Limits) -> u8
-    ensures count { result ≡ limits.sessions }
-    ensures few { result ≤ 64 }
-{
-    limits.sessions as u8
 }

@@ -52,6 +52,30 @@ pub enum Event<R> {
         mutator: Mutator,
         reference: Handle,
     },
+    Refers {
+        mutator: Mutator,
+        reference: Handle,
+        object: Handle,
+    },
+    Clear {
+        mutator: Mutator,
+        reference: Handle,
+    },
+    Enqueue {
+        mutator: Mutator,
+        reference: Handle,
+    },
+    Enqueued {
+        mutator: Mutator,
+        reference: Handle,
+    },
+    MakeQueue {
+        mutator: Mutator,
+    },
+    Poll {
+        mutator: Mutator,
+        queue: Handle,
+    },
     /// An open ended: with the resource, or with a fault.
     Opened {
         mutator: Mutator,
@@ -61,6 +85,8 @@ pub enum Event<R> {
         mutator: Mutator,
         mode: FullMode,
     },
+    /// The handler's step: what is pending is handed over to its queue.
+    HandOver,
     /// A piece of marking of at most so many ticks. The machine does not see it.
     Mark {
         budget: u32,
@@ -138,6 +164,32 @@ impl<R> Event<R> {
                 mutator: *mutator,
                 reference: *reference,
             },
+            Event::Refers {
+                mutator,
+                reference,
+                object,
+            } => Ask::Refers {
+                mutator: *mutator,
+                reference: *reference,
+                object: *object,
+            },
+            Event::Clear { mutator, reference } => Ask::Clear {
+                mutator: *mutator,
+                reference: *reference,
+            },
+            Event::Enqueue { mutator, reference } => Ask::Enqueue {
+                mutator: *mutator,
+                reference: *reference,
+            },
+            Event::Enqueued { mutator, reference } => Ask::Enqueued {
+                mutator: *mutator,
+                reference: *reference,
+            },
+            Event::MakeQueue { mutator } => Ask::MakeQueue { mutator: *mutator },
+            Event::Poll { mutator, queue } => Ask::Poll {
+                mutator: *mutator,
+                queue: *queue,
+            },
             Event::Opened { mutator, outcome } => Ask::Opened {
                 mutator: *mutator,
                 outcome: match outcome {
@@ -149,6 +201,7 @@ impl<R> Event<R> {
                 mutator: *mutator,
                 mode: *mode,
             },
+            Event::HandOver => Ask::HandOver,
             Event::Mark { .. } => return None,
         })
     }

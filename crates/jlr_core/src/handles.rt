@@ -16,22 +16,22 @@ impl State {
 
     pub(crate) fn join(&mut self, by: Mutator) -> Result<Answer, Refusal>
         ensures answered { Answered (machine_of self.old) (Ask.Join by) result (machine_of self.new) }
-        ensures cells { length self.new.cells ≡ length self.old.cells }
+        ensures cells { length self.new.heap.graph.objects ≡ length self.old.heap.graph.objects }
     {
-        if by.number() as usize >= self.roots.mutator_count() || self.roots.is_joined(by) {
+        if by.number() as usize >= self.heap.mutator_count() || self.heap.is_joined(by) {
             return Err(Refusal::NoSession);
         }
-        self.roots.join(by);
+        self.heap.join(by);
         Ok(Answer::Done)
     }
 
     pub(crate) fn leave(&mut self, by: Mutator) -> Result<Answer, Refusal>
         ensures answered { Answered (machine_of self.old) (Ask.Leave by) result (machine_of self.new) }
-        ensures cells { length self.new.cells ≡ length self.old.cells }
+        ensures cells { length self.new.heap.graph.objects ≡ length self.old.heap.graph.objects }
     {
         self.check_session(by)?;
         self.no_call(by);
-        self.roots.leave(by);
+        self.heap.leave(by);
         Ok(Answer::Done)
     }
 
@@ -43,7 +43,7 @@ impl State {
         self.check_handle(by, object)?;
         self.check_slot(by, object)?;
         self.no_call(by);
-        self.roots.drop_handle(by, object);
+        self.heap.drop_handle(by, object);
         Ok(Answer::Done)
     }
 
@@ -54,7 +54,7 @@ impl State {
         self.check_handle(by, left)?;
         self.check_handle(by, right)?;
         self.no_call(by);
-        let same = self.roots.lookup(by, left) == self.roots.lookup(by, right);
+        let same = self.heap.lookup(by, left) == self.heap.lookup(by, right);
         Ok(Answer::Truth(same))
     }
 
@@ -75,9 +75,9 @@ impl State {
         requires { has_free_handle (machine_of self.old) by ≡ true }
         ensures answer { new_handle (machine_of self.old) by ≡ Some result }
         ensures held { machine_of self.new ≡ with_handle (machine_of self.old) by slot }
-        ensures cells { self.new.cells ≡ self.old.cells }
+        ensures objects { self.new.heap.graph.objects ≡ self.old.heap.graph.objects }
     {
-        match self.roots.put_handle(by, slot) {
+        match self.heap.put_handle(by, slot) {
             Some(handle) => Answer::Handle(handle),
             None => unreachable!(),
         }
@@ -104,7 +104,7 @@ impl State {
     pub(crate) fn opened(&self, by: Mutator) -> Refusal
         ensures { (outcome : Outcome) → refusal (machine_of self.now) (Ask.Opened by outcome) ≡ Some result }
     {
-        self.roots.no_calls();
+        self.heap.no_calls();
         match self.check_session(by) {
             Ok(()) => Refusal::NotOut,
             Err(refusal) => refusal,

@@ -7,10 +7,9 @@ pub mod engine;
 pub mod event;
 mod handles;
 mod mark;
-mod marks;
 mod objects;
+mod references;
 pub mod run;
 mod state;
-mod sweep;
 #[cfg(test)]
 mod tests;

@@ -1,85 +1,61 @@
-//! Marking: what the roots reach by strong edges.
-ghost use Rattle.std.specs.Prelude.{◌≡◌, ℕ, ◌+◌, ◌^◌, ◌<◌, ◌≤◌, ◌↔◌, [], Some, Bool, false, IsTrue, is_some, length, filter_map};
+//! Marking: what the roots reach by strong edges, and by the soft edges that the policy keeps.
+ghost use Rattle.std.specs.Prelude.{◌≡◌, ℕ, ◌+◌, ◌^◌, ◌<◌, ◌↔◌, [], IsTrue, Some, is_some, length, true};
 ghost use Rattle.jlr_machine.specs.Objects.{at, ◌∈◌};
-ghost use Rattle.jlr_machine.specs.Edges.{edges_from, slot_in};
-ghost use Rattle.jlr_machine.specs.Edges.Chain.{Strong};
-ghost use Rattle.jlr_roots.specs.Walk.{slots_held};
-ghost use Rattle.jlr_core.specs.Marking.{Shaded, IsMarked, IsFollowed};
+ghost use Rattle.jlr_laws.specs.Laws.{followed};
+ghost use Rattle.jlr_machine.specs.Edges.{edges_from};
+ghost use Rattle.jlr_machine.specs.Edges.Chain.{UpToSoft};
+ghost use Rattle.jlr_barrier.specs.Graphs.{held};
+ghost use Rattle.jlr_barrier.specs.Marking.{IsMarked, Shaded};
+ghost use Rattle.jlr_core.specs.Marking.{IsFollowed, keeps, soft_at};
 
-use crate::marks::Marks;
-use jlr_cells::{Cells, Fields};
-use jlr_roots::Roots;
-use jlr_types::{FieldValue, Meter, Slot};
+use jlr_barrier::Heap;
+use jlr_soft::Policy;
+use jlr_types::{Meter, Slot};
 
-fn shade_target(target: Option<Slot>, marks: &mut Marks)
-    requires { (x : ℕ) → target ≡ Some x → x < length marks.old.bits }
-    ensures { Shaded (λ x. target ≡ Some x) marks.old marks.new }
+/// Marks what a kept soft reference refers to.
+fn follow_soft(heap: &mut Heap, policy: &Policy, slot: Slot)
+    requires inside { slot < length heap.old.graph.objects }
+    requires within { (x : ℕ) → soft_at heap.old.graph.objects slot ≡ Some x → x < length heap.old.graph.objects }
+    ensures graph { heap.new.graph ≡ heap.old.graph }
+    ensures clock { heap.new.clock ≡ heap.old.clock }
+    ensures shaded { Shaded (λ x. (keeps policy.now heap.old.clock slot ≡ true) × (soft_at heap.old.graph.objects slot ≡ Some x)) heap.old.marking heap.new.marking }
 {
-    if let Some(slot) = target {
-        marks.shade(slot);
+    if let Some(referent) = heap.soft_referent(slot) {
+        if policy.keeps(heap.last_get(slot), heap.collections()) {
+            heap.shade(referent);
+        }
     }
 }
 
-fn shade_field(field: FieldValue, marks: &mut Marks)
-    requires { (x : ℕ) → slot_in field ≡ Some x → x < length marks.old.bits }
-    ensures { Shaded (λ x. slot_in field ≡ Some x) marks.old marks.new }
-{
-    match field {
-        FieldValue::Int(_) => {}
-        FieldValue::Ref(target) => shade_target(target, marks),
-    }
-}
-
-/// Shades what fields refer to.
-fn shade_fields(fields: &Fields, marks: &mut Marks)
-    requires { (x : ℕ) → x ∈ filter_map slot_in fields.now → x < length marks.old.bits }
-    ensures { Shaded (λ x. x ∈ filter_map slot_in fields.now) marks.old marks.new }
-{
-    let mut number = 0;
-    while let Some(field) = fields.get(number) {
-        shade_field(field, marks);
-        number += 1;
-    }
-}
-
-/// Shades what an object's strong edges lead to: one tick.
-fn follow(cells: &Cells, slot: Slot, meter: &mut Meter, marks: &mut Marks)
-    requires object { IsTrue (is_some (at cells.now slot)) }
+/// Marks what the object at a slot leads to by the edges that are followed: one tick.
+fn follow(heap: &mut Heap, policy: &Policy, slot: Slot, meter: &mut Meter)
+    requires object { IsTrue (is_some (at heap.old.graph.objects slot)) }
     requires ticks { meter.old + 1 < 2 ^ 64 }
-    requires within { (x : ℕ) → x ∈ edges_from Strong cells.now slot → x < length marks.old.bits }
-    ensures shaded { Shaded (λ x. x ∈ edges_from Strong cells.now slot) marks.old marks.new }
+    requires within { (x : ℕ) → x ∈ edges_from UpToSoft heap.old.graph.objects slot → x < length heap.old.graph.objects }
+    ensures graph { heap.new.graph ≡ heap.old.graph }
+    ensures clock { heap.new.clock ≡ heap.old.clock }
+    ensures shaded { Shaded (λ x. x ∈ followed (keeps policy.now heap.old.clock) heap.old.graph.objects slot) heap.old.marking heap.new.marking }
     ensures ticked { meter.new ≡ meter.old + 1 }
 {
-    if let Some(fields) = cells.visit(slot, meter) {
-        shade_fields(fields, marks);
-    }
+    heap.scan(slot, meter);
+    follow_soft(heap, policy, slot);
 }
 
-fn shade_roots(roots: &Roots, marks: &mut Marks)
-    requires { (x : ℕ) → x ∈ slots_held roots.now → x < length marks.old.bits }
-    ensures { Shaded (λ x. x ∈ slots_held roots.now) marks.old marks.new }
+/// Marks just what the roots reach by strong edges, and by the soft edges of those references that the policy keeps.
+pub(crate) fn mark(heap: &mut Heap, policy: &Policy)
+    requires roots { (x : ℕ) → x ∈ held heap.old.graph → IsTrue (is_some (at heap.old.graph.objects x)) }
+    requires edges { (x y : ℕ) → y ∈ edges_from UpToSoft heap.old.graph.objects x → IsTrue (is_some (at heap.old.graph.objects y)) }
+    ensures graph { heap.new.graph ≡ heap.old.graph }
+    ensures clock { heap.new.clock ≡ heap.old.clock }
+    ensures marked { (x : ℕ) → IsMarked heap.new.marking x ↔ IsFollowed (keeps policy.now heap.old.clock) heap.old.graph.objects (held heap.old.graph) x }
+    ensures objects { (x : ℕ) → IsMarked heap.new.marking x → IsTrue (is_some (at heap.old.graph.objects x)) }
+    ensures no_grey { heap.new.marking.grey ≡ [] }
+    ensures long { length heap.new.marking.bits ≡ length heap.old.graph.objects }
 {
-    for place in 0..roots.places() {
-        shade_target(roots.root(place), marks);
-    }
-}
-
-/// Marks just what the roots reach by strong edges.
-pub(crate) fn mark(cells: &Cells, roots: &Roots, marks: &mut Marks)
-    requires unmarked { (x : ℕ) → ¬ (IsMarked marks.old x) }
-    requires no_grey { marks.old.grey ≡ [] }
-    requires long { length marks.old.bits ≡ length cells.now }
-    requires few { length cells.now ≤ 65536 }
-    requires roots { (x : ℕ) → x ∈ slots_held roots.now → IsTrue (is_some (at cells.now x)) }
-    requires edges { (x y : ℕ) → y ∈ edges_from Strong cells.now x → IsTrue (is_some (at cells.now y)) }
-    ensures marked { (x : ℕ) → IsMarked marks.new x ↔ IsFollowed (λ _. false) cells.now (slots_held roots.now) x }
-    ensures objects { (x : ℕ) → IsMarked marks.new x → IsTrue (is_some (at cells.now x)) }
-    ensures no_grey { marks.new.grey ≡ [] }
-    ensures long { length marks.new.bits ≡ length cells.now }
-{
-    shade_roots(roots, marks);
+    heap.unmark_all();
+    heap.shade_roots();
     let mut meter = Meter::new();
-    while let Some(slot) = marks.next_grey() {
-        follow(cells, slot, &mut meter, marks);
+    while let Some(slot) = heap.next_grey() {
+        follow(heap, policy, slot, &mut meter);
     }
 }

@@ -1,4 +1,4 @@
-//! What the core keeps: the objects and the roots, as the machine has them.
+//! What the core keeps, as the machine has it, and the checks of refusals that many asks share.
 ghost use Rattle.std.specs.Prelude.{◌≡◌, None, Some, Ok, Err, MatchResult, IfOk, true, false, not, is_none, is_some, ◌&&◌, ◌==◌, OnOk, IsTrue};
 ghost use Rattle.jlr_machine.specs.WellFormed.{IsWellFormed};
 ghost use Rattle.jlr_machine.specs.Objects.{at};
@@ -6,18 +6,17 @@ ghost use Rattle.jlr_machine.specs.Lookups.{slot_named, object_named, has_free_h
 ghost use Rattle.jlr_machine.specs.Refusals.{is_joined, has_call};
 ghost use Rattle.jlr_core.specs.State.{machine_with};
 
-use jlr_cells::Cells;
+use jlr_barrier::Heap;
 use jlr_machine::items::Items;
 use jlr_machine::machine::Machine;
-use jlr_roots::Roots;
 use jlr_types::{Handle, Mutator, Refusal, Slot};
 use std::alloc::{AllocError, Global};
 
-/// The objects, the roots and the limit of resources.
+/// The heap, the soft age, in collections, and the limit of resources.
 #[derive(Drop)]
 pub(crate) struct State {
-    pub(crate) cells: Cells,
-    pub(crate) roots: Roots,
+    pub(crate) heap: Heap,
+    pub(crate) soft_age: u32,
     pub(crate) resource_limit: u32,
 }
 
@@ -29,10 +28,10 @@ impl State {
         ensures { IfOk result (λ machine. machine ≡ machine_of self.now) }
     {
         Ok(Machine {
-            objects: self.cells.image(alloc)?,
-            mutators: self.roots.image(alloc)?,
+            objects: self.heap.objects_image(alloc)?,
+            mutators: self.heap.mutators_image(alloc)?,
             names: Items::new(alloc),
-            pending: Items::new(alloc),
+            pending: self.heap.pending_image(alloc)?,
             line: Items::new(alloc),
             jobs: Items::new(alloc),
             resources: Items::new(alloc),
@@ -52,7 +51,7 @@ impl State {
     pub(crate) fn check_session(&self, by: Mutator) -> Result<(), Refusal>
         ensures { MatchResult result (λ _. is_joined (machine_of self.now) by ≡ true) (λ r. (r ≡ Refusal.NoSession) × (is_joined (machine_of self.now) by ≡ false)) }
     {
-        if self.roots.is_joined(by) {
+        if self.heap.is_joined(by) {
             Ok(())
         } else {
             Err(Refusal::NoSession)
@@ -63,7 +62,7 @@ impl State {
     pub(crate) fn check_handle(&self, by: Mutator, handle: Handle) -> Result<(), Refusal>
         ensures { MatchResult result (λ _. (not (handle == 0) && is_none (slot_named (machine_of self.now) by handle)) ≡ false) (λ r. (r ≡ Refusal.NoHandle) × ((not (handle == 0) && is_none (slot_named (machine_of self.now) by handle)) ≡ true)) }
     {
-        if handle.number() == 0 || self.roots.lookup(by, handle).is_some() {
+        if handle.number() == 0 || self.heap.lookup(by, handle).is_some() {
             Ok(())
         } else {
             Err(Refusal::NoHandle)
@@ -80,7 +79,7 @@ impl State {
         if handle.number() == 0 {
             return Err(Refusal::Null);
         }
-        match self.roots.lookup(by, handle) {
+        match self.heap.lookup(by, handle) {
             Some(slot) => Ok(slot),
             None => Err(Refusal::Null),
         }
@@ -90,7 +89,7 @@ impl State {
     pub(crate) fn check_free_handle(&self, by: Mutator) -> Result<(), Refusal>
         ensures { MatchResult result (λ _. has_free_handle (machine_of self.now) by ≡ true) (λ r. (r ≡ Refusal.HandlesFull) × (has_free_handle (machine_of self.now) by ≡ false)) }
     {
-        if self.roots.has_free_handle(by) {
+        if self.heap.has_free_handle(by) {
             Ok(())
         } else {
             Err(Refusal::HandlesFull)
@@ -101,7 +100,7 @@ impl State {
     pub(crate) fn no_call(&self, by: Mutator)
         ensures { has_call (machine_of self.now) by ≡ false }
     {
-        self.roots.no_calls();
+        self.heap.no_calls();
         let _ = by;
     }
 }

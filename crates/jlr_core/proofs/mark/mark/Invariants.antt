@@ -1,16 +1,18 @@
-use Rattle.std.proofs.Common.{◌≡◌, ◌+◌, ◌-◌, ◌≤◌, false, length, count_by}
-use Rattle.jlr_roots.specs.Walk.{slots_held}
-use Rattle.jlr_core.specs.Marking.{IsMarking}
+use Rattle.std.proofs.Common.{◌≡◌, ◌+◌, ◌-◌, ◌≤◌, length, count_by}
+use Rattle.jlr_barrier.specs.Graphs.{held}
+use Rattle.jlr_core.specs.Marking.{IsMarking, keeps}
 use Rattle.jlr_core.proofs.mark.mark.Given as goal
 
 abbrev pub invariant-loop-slot : goal.invariant-loop-slot
 invariant-loop-slot l = record {
-  marking : IsMarking (λ _. false) l.cells (slots_held l.roots) l.marks;
-  long : length l.marks.bits ≡ length l.cells;
-  room : length l.marks.grey ≤ count_by (λ b. b) l.marks.bits;
-  ticks : l.meter + length l.marks.grey ≡ count_by (λ b. b) l.marks.bits;
+  marking : IsMarking (keeps l.policy l.fn.heap.clock) l.fn.heap.graph.objects (held l.fn.heap.graph) l.heap.marking;
+  graph : l.heap.graph ≡ l.fn.heap.graph;
+  clock : l.heap.clock ≡ l.fn.heap.clock;
+  long : length l.heap.marking.bits ≡ length l.fn.heap.graph.objects;
+  room : length l.heap.marking.grey ≤ count_by (λ b. b) l.heap.marking.bits;
+  ticks : l.meter + length l.heap.marking.grey ≡ count_by (λ b. b) l.heap.marking.bits;
 }
 
 -- the slots that are not black yet
 abbrev pub decreases-loop-slot : goal.decreases-loop-slot
-decreases-loop-slot l = length l.marks.bits + length l.marks.grey - count_by (λ b. b) l.marks.bits
+decreases-loop-slot l = length l.heap.marking.bits + length l.heap.marking.grey - count_by (λ b. b) l.heap.marking.bits

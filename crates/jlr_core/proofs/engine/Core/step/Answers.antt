@@ -6,13 +6,11 @@ use Rattle.jlr_core.proofs.Stepping.{well_formed_after, enters}
 use Rattle.jlr_core.proofs.engine.Core.step.Goals as goal
 
 pub invariant_of-self : goal.invariant_of-self
-invariant_of-self g c = (
-  well_formed_after (machine_of c.self.inside.state) c.step.new.self.cells c.step.new.self.roots c.step.new.self.resource_limit (ask_of c.args.event) (answer_in c.step.result) c.step.new.choice.chosen c.self.invariant.0 c.step.ensures.entry,
-  c.step.ensures.marks,
-)
+invariant_of-self g c =
+    well_formed_after (machine_of c.self.inside.state) c.step.new.self.heap.graph c.step.new.self.resource_limit (ask_of c.args.event) (answer_in c.step.result) c.step.new.choice.chosen c.self.invariant c.step.ensures.entry
 
 pub returns-clause-entry : goal.returns-clause-entry
 returns-clause-entry g c =
     λ m stands.
-    enters c.self.inside.state.cells c.self.inside.state.roots c.self.inside.state.resource_limit c.step.new.self.cells c.step.new.self.roots c.step.new.self.resource_limit (ask_of c.args.event) (answer_in c.step.result) c.step.new.choice.chosen c.step.ensures.entry m
+    enters c.self.inside.state.heap.graph c.self.inside.state.resource_limit c.step.new.self.heap.graph c.step.new.self.resource_limit (ask_of c.args.event) (answer_in c.step.result) c.step.new.choice.chosen c.step.ensures.entry m
     (subst (λ k. StandsIn k m) (sym c.self.view_is) stands)

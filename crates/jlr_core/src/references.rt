@@ -1,0 +1,214 @@
+//! The asks on references and queues, and the handler's.
+ghost use Rattle.std.specs.Prelude.{◌≡◌, ◌&&◌, ◌==◌, ◌≤◌, IsTrue, MatchResult, None, false, true, is_none, is_some, length, not, option_and_then};
+ghost use Rattle.jlr_machine.specs.Objects.{at, some_and};
+ghost use Rattle.jlr_machine.specs.Lookups.{object_named, slot_named};
+ghost use Rattle.jlr_machine.specs.Refusals.{is_of_wrong_kind, is_queue, is_reference, object_or_null};
+ghost use Rattle.jlr_machine.specs.Run.{no_choice};
+ghost use Rattle.jlr_machine.specs.Choices.{nothing_chosen};
+ghost use Rattle.jlr_machine.specs.WellFormed.{IsWellFormed};
+ghost use Rattle.jlr_core.specs.State.{Answered, Meets, answer_of};
+
+use crate::state::State;
+use jlr_cells::Shape;
+use jlr_machine::ask::{Answer, Ask};
+use jlr_machine::choice::Choice;
+use jlr_types::{Handle, Mutator, RefKind, Refusal, Slot};
+
+impl State {
+    ghost use Rattle.jlr_core.specs.Machines.{machine_of};
+
+    /// A reference.
+    fn check_reference(&self, slot: Slot) -> Result<(), Refusal>
+        requires { IsTrue (is_some (at self.now.heap.graph.objects slot)) }
+        ensures { MatchResult result (λ _. some_and (λ o. not (is_reference o)) (at self.now.heap.graph.objects slot) ≡ false) (λ r. (r ≡ Refusal.WrongKind) × (some_and (λ o. not (is_reference o)) (at self.now.heap.graph.objects slot) ≡ true)) }
+    {
+        if self.heap.is_reference(slot) {
+            Ok(())
+        } else {
+            Err(Refusal::WrongKind)
+        }
+    }
+
+    /// The reference of a handle that is in use.
+    fn check_queue(&self, slot: Slot) -> Result<(), Refusal>
+        requires { IsTrue (is_some (at self.now.heap.graph.objects slot)) }
+        ensures { MatchResult result (λ _. some_and (λ o. not (is_queue o)) (at self.now.heap.graph.objects slot) ≡ false) (λ r. (r ≡ Refusal.WrongKind) × (some_and (λ o. not (is_queue o)) (at self.now.heap.graph.objects slot) ≡ true)) }
+    {
+        if self.heap.is_queue(slot) {
+            Ok(())
+        } else {
+            Err(Refusal::WrongKind)
+        }
+    }
+
+    /// A queue, or null.
+    fn check_queue_or_null(&self, by: Mutator, queue: Handle) -> Result<Option<Slot>, Refusal>
+        requires fit { IsWellFormed (machine_of self.now) }
+        requires in_use { (not (queue == 0) && is_none (slot_named (machine_of self.now) by queue)) ≡ false }
+        ensures { MatchResult result
+            (λ slot. (slot_named (machine_of self.now) by queue ≡ slot) × (some_and (λ o. not (is_queue o)) (object_named (machine_of self.now) by queue) ≡ false))
+            (λ r. (r ≡ Refusal.WrongKind) × (is_of_wrong_kind (machine_of self.now) by (object_or_null queue is_queue) ≡ true)) }
+    {
+        match self.heap.lookup(by, queue) {
+            None => Ok(None),
+            Some(slot) if self.heap.is_queue(slot) => Ok(Some(slot)),
+            Some(_) => Err(Refusal::WrongKind),
+        }
+    }
+
+    pub(crate) fn deref(&mut self, by: Mutator, reference: Handle) -> Result<Answer, Refusal>
+        requires { IsWellFormed (machine_of self.old) }
+        ensures answered { Answered (machine_of self.old) (Ask.Deref by reference) result (machine_of self.new) }
+        ensures cells { length self.new.heap.graph.objects ≡ length self.old.heap.graph.objects }
+    {
+        self.check_session(by)?;
+        self.check_handle(by, reference)?;
+        let slot = self.check_slot(by, reference)?;
+        self.check_reference(slot)?;
+        self.no_call(by);
+        let target = self.heap.gotten(slot);
+        if target.is_some() {
+            self.check_free_handle(by)?;
+        }
+        let _given = jlr_refs::get(&mut self.heap, slot);
+        self.give_or_null(by, target)
+    }
+
+    pub(crate) fn refers(
+        &self,
+        by: Mutator,
+        reference: Handle,
+        object: Handle,
+    ) -> Result<Answer, Refusal>
+        requires { IsWellFormed (machine_of self.now) }
+        ensures { Answered (machine_of self.now) (Ask.Refers by reference object) result (machine_of self.now) }
+    {
+        self.check_session(by)?;
+        self.check_handle(by, reference)?;
+        self.check_handle(by, object)?;
+        let slot = self.check_slot(by, reference)?;
+        self.check_reference(slot)?;
+        self.no_call(by);
+        let target = self.heap.lookup(by, object);
+        Ok(Answer::Truth(jlr_refs::refers_to(&self.heap, slot, target)))
+    }
+
+    pub(crate) fn clear(&mut self, by: Mutator, reference: Handle) -> Result<Answer, Refusal>
+        requires { IsWellFormed (machine_of self.old) }
+        ensures answered { Answered (machine_of self.old) (Ask.Clear by reference) result (machine_of self.new) }
+        ensures cells { length self.new.heap.graph.objects ≡ length self.old.heap.graph.objects }
+    {
+        self.check_session(by)?;
+        self.check_handle(by, reference)?;
+        let slot = self.check_slot(by, reference)?;
+        self.check_reference(slot)?;
+        self.no_call(by);
+        jlr_refs::clear(&mut self.heap, slot);
+        Ok(Answer::Done)
+    }
+
+    pub(crate) fn enqueue(&mut self, by: Mutator, reference: Handle) -> Result<Answer, Refusal>
+        requires { IsWellFormed (machine_of self.old) }
+        ensures meets { Meets (machine_of self.old) (Ask.Enqueue by reference) (answer_of result) no_choice (machine_of self.new) }
+        ensures cells { length self.new.heap.graph.objects ≡ length self.old.heap.graph.objects }
+    {
+        self.check_session(by)?;
+        self.check_handle(by, reference)?;
+        let slot = self.check_slot(by, reference)?;
+        self.check_reference(slot)?;
+        self.no_call(by);
+        match jlr_refs::enqueue(&mut self.heap, slot) {
+            Ok(added) => Ok(Answer::Truth(added)),
+            Err(_) => Err(Refusal::NoMemory),
+        }
+    }
+
+    pub(crate) fn enqueued(&self, by: Mutator, reference: Handle) -> Result<Answer, Refusal>
+        requires { IsWellFormed (machine_of self.now) }
+        ensures { Answered (machine_of self.now) (Ask.Enqueued by reference) result (machine_of self.now) }
+    {
+        self.check_session(by)?;
+        self.check_handle(by, reference)?;
+        let slot = self.check_slot(by, reference)?;
+        self.check_reference(slot)?;
+        self.no_call(by);
+        Ok(Answer::Truth(jlr_refs::is_enqueued(&self.heap, slot)))
+    }
+
+    pub(crate) fn poll(&mut self, by: Mutator, queue: Handle) -> Result<Answer, Refusal>
+        requires { IsWellFormed (machine_of self.old) }
+        ensures answered { Answered (machine_of self.old) (Ask.Poll by queue) result (machine_of self.new) }
+        ensures cells { length self.new.heap.graph.objects ≡ length self.old.heap.graph.objects }
+    {
+        self.check_session(by)?;
+        self.check_handle(by, queue)?;
+        let slot = self.check_slot(by, queue)?;
+        self.check_queue(slot)?;
+        self.no_call(by);
+        if self.heap.front(slot).is_some() {
+            self.check_free_handle(by)?;
+        }
+        let front = jlr_refs::poll(&mut self.heap, slot);
+        self.give_or_null(by, front)
+    }
+
+    /// The handler's step.
+    pub(crate) fn hand_over(&mut self) -> Result<Answer, Refusal>
+        requires { IsWellFormed (machine_of self.old) }
+        ensures meets { Meets (machine_of self.old) Ask.HandOver (answer_of result) no_choice (machine_of self.new) }
+        ensures cells { length self.new.heap.graph.objects ≡ length self.old.heap.graph.objects }
+    {
+        match jlr_refs::hand_over(&mut self.heap) {
+            Ok(handed) => Ok(Answer::Handed(handed)),
+            Err(_) => Err(Refusal::NoMemory),
+        }
+    }
+
+    pub(crate) fn make_queue(&mut self, by: Mutator, choice: &mut Choice) -> Result<Answer, Refusal>
+        requires fit { IsWellFormed (machine_of self.old) }
+        requires nothing { choice.old ≡ nothing_chosen choice.old.cells }
+        requires room { length self.old.heap.graph.objects ≤ choice.old.cells }
+        ensures meets { Meets (machine_of self.old) (Ask.MakeQueue by) (answer_of result) choice.new.chosen (machine_of self.new) }
+        ensures room { choice.new.cells ≡ choice.old.cells }
+        ensures cells { length self.new.heap.graph.objects ≡ length self.old.heap.graph.objects }
+    {
+        self.check_session(by)?;
+        self.no_call(by);
+        self.check_free_handle(by)?;
+        let slot = self.allocate(Shape::Queue, choice)?;
+        Ok(self.give(by, slot))
+    }
+
+    pub(crate) fn make_reference(
+        &mut self,
+        by: Mutator,
+        kind: RefKind,
+        referent: Handle,
+        queue: Handle,
+        choice: &mut Choice,
+    ) -> Result<Answer, Refusal>
+        requires fit { IsWellFormed (machine_of self.old) }
+        requires nothing { choice.old ≡ nothing_chosen choice.old.cells }
+        requires room { length self.old.heap.graph.objects ≤ choice.old.cells }
+        ensures meets { Meets (machine_of self.old) (Ask.MakeRef by kind referent queue) (answer_of result) choice.new.chosen (machine_of self.new) }
+        ensures room { choice.new.cells ≡ choice.old.cells }
+        ensures cells { length self.new.heap.graph.objects ≡ length self.old.heap.graph.objects }
+    {
+        self.check_session(by)?;
+        self.check_handle(by, referent)?;
+        self.check_handle(by, queue)?;
+        let target = self.check_slot(by, referent)?;
+        let queue = self.check_queue_or_null(by, queue)?;
+        self.no_call(by);
+        self.check_free_handle(by)?;
+        let shape = Shape::Reference {
+            kind,
+            referent: Some(target),
+            queue,
+        };
+        match self.allocate(shape, choice) {
+            Ok(slot) => Ok(self.give(by, slot)),
+            Err(refusal) => Err(refusal),
+        }
+    }
+}
