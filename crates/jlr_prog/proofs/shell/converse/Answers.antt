@@ -1,4 +1,4 @@
-use Rattle.std.proofs.Common.{arith, ◌≡◌, take, [], ap}
+use Rattle.std.proofs.Common.{arith, ◌≡◌, take, [], ap, refl}
 use Rattle.jlr_prog.proofs.Standing.{stands_first, stands_more, ends_in_chunk, ends_at_end}
 use Rattle.jlr_prog.proofs.shell.converse.Goals as goal
 
@@ -7,11 +7,11 @@ loop-init g c = stands_first _ _ _ _ _ c.new-pieces.ensures
 
 pub loop-preserved : goal.loop-preserved
 loop-preserved g c =
-    stands_more _ _ _ _ _ _ _ _ _ _ _ _ (take c.in-Ok.count c.read.new.buf) _ c.loop.invariant c.in-Ok.ensures.bytes.0 (grind arith) c.in_default-take_chunk.ensures
+    stands_more _ _ _ _ _ _ _ _ _ _ _ _ (take c.in-Ok.count c.read.new.buf) _ c.loop.invariant c.in-Ok.ensures.bytes.0 refl c.in_default-take_chunk.ensures
 
 pub returns-in-Some : goal.returns-in-Some
 returns-in-Some g c =
-    ends_in_chunk _ _ _ _ _ _ _ _ _ c.take_chunk.new.pieces _ _ (take c.in-Ok.count c.read.new.buf) _ c.in-Some.end c.loop.invariant c.in-Ok.ensures.bytes.0 (grind arith) c.in-Some.ensures
+    ends_in_chunk _ _ _ _ _ _ _ _ _ c.take_chunk.new.pieces _ _ (take c.in-Ok.count c.read.new.buf) _ c.in-Some.end c.loop.invariant c.in-Ok.ensures.bytes.0 refl c.in-Some.ensures
 
 pub returns-then-count-eq0 : goal.returns-then-count-eq0
 returns-then-count-eq0 g c =
