@@ -4,27 +4,28 @@ use Rattle.std.proofs.lemmas.Bool.{both_ways, le-leb}
 use Rattle.std.proofs.lemmas.List.Sums.{count_by-le-length}
 use Rattle.jlr_types.specs.declared.RefKind.{RefKind}
 use Rattle.jlr_types.specs.declared.Refusal.{Refusal}
-use Rattle.jlr_types.specs.declared.Refusal.TheVariants.{NoSession, NoHandle, Null, WrongKind, Busy, HandlesFull, HeapFull}
+use Rattle.jlr_types.specs.declared.Refusal.TheVariants.{NoMemory, NoSession, NoHandle, Null, WrongKind, Busy, HandlesFull, HeapFull}
 use Rattle.jlr_machine.specs.declared.object.Object.{Object}
 use Rattle.jlr_machine.specs.declared.object.Object.TheVariants.{Reference}
 use Rattle.jlr_machine.specs.declared.object.RefState.TheVariants.{Fresh}
 use Rattle.jlr_machine.specs.declared.machine.Machine.{Machine}
 use Rattle.jlr_machine.specs.declared.machine.Session.{Session}
 use Rattle.jlr_machine.specs.declared.ask.Ask.{Ask}
-use Rattle.jlr_machine.specs.declared.ask.Ask.TheVariants.{Join, Leave, Put, Get, Dup, Drop, Same, MakeRef, Deref, Full}
-use Rattle.jlr_machine.specs.declared.ask.FullMode.TheVariants.{Policy}
+use Rattle.jlr_machine.specs.declared.ask.Ask.TheVariants.{Join, Leave, Put, Get, Dup, Drop, Same, MakeRef, Deref, Refers, Clear, Enqueue, Enqueued, Poll, HandOver, Full}
+use Rattle.jlr_machine.specs.declared.ask.FullMode.{FullMode}
+use Rattle.jlr_machine.specs.declared.ask.FullMode.TheVariants.{Policy, ClearAll}
 use Rattle.jlr_machine.specs.declared.ask.Answer.{Answer}
 use Rattle.jlr_machine.specs.declared.ask.Answer.TheVariants.{Done, Refused}
 use Rattle.jlr_machine.specs.declared.entry.Chosen.{Chosen}
 use Rattle.jlr_machine.specs.declared.entry.Collected.{Collected}
 use Rattle.jlr_machine.specs.Objects.{Heap, at, occupied, some_and, Table}
 use Rattle.jlr_machine.specs.Lookups.{with_handle, with_new, slot_named, has_free_handle, object_named}
-use Rattle.jlr_machine.specs.Refusals.{refusal, cells_needed, is_joined, has_call, is_any, applies, is_of_wrong_kind, object_or_null, is_queue}
+use Rattle.jlr_machine.specs.Refusals.{refusal, cells_needed, is_end, is_joined, has_call, is_any, applies, is_of_wrong_kind, object_or_null, is_queue}
 use Rattle.jlr_machine.specs.Calls.{reply, after, new_handle}
 use Rattle.jlr_machine.specs.Choices.{Choosing}
-use Rattle.jlr_machine.specs.Collection.{IsFull, after_collection}
+use Rattle.jlr_machine.specs.Collection.{after_collection}
 use Rattle.jlr_machine.specs.Run.{has_room, MayCollect, with_collection, Answers, is_free, IsFresh, carried, no_choice}
-use Rattle.jlr_machine.specs.Run.IsLegal.{carried_out, refused, heap_full}
+use Rattle.jlr_machine.specs.Run.IsLegal.{carried_out, refused, heap_full, out_of_memory}
 use Rattle.jlr_laws.proofs.Refused.{is_refusal, gives_no_refusal}
 use Rattle.jlr_core.specs.State.{answer_of, Meets, Answered}
 use Rattle.jlr_core.specs.Collecting.{MayMakeRoom, Allocates, FindsNoRoom}
@@ -84,6 +85,12 @@ IsPlain (Dup k h) = Unit {0}
 IsPlain (Drop k h) = Unit {0}
 IsPlain (Same k a b) = Unit {0}
 IsPlain (Deref k r) = Unit {0}
+IsPlain (Refers k r h) = Unit {0}
+IsPlain (Clear k r) = Unit {0}
+IsPlain (Enqueue k r) = Unit {0}
+IsPlain (Enqueued k r) = Unit {0}
+IsPlain (Poll k q) = Unit {0}
+IsPlain HandOver = Unit {0}
 IsPlain _ = ⊥
 
 plainly : (m n : Machine) (ask : Ask) (a : Answer) → IsPlain ask → refusal m ask ≡ None → reply m ask ≡ Some a → n ≡ after m ask a [] → Meets m ask a no_choice n
@@ -95,7 +102,20 @@ plainly m n (Dup k h) a p e r l = meets_plainly m (Dup k h) a n e (room_for_none
 plainly m n (Drop k h) a p e r l = meets_plainly m (Drop k h) a n e (room_for_none m) refl r r l
 plainly m n (Same k x y) a p e r l = meets_plainly m (Same k x y) a n e (room_for_none m) refl r r l
 plainly m n (Deref k h) a p e r l = meets_plainly m (Deref k h) a n e (room_for_none m) refl r r l
+plainly m n (Refers k x h) a p e r l = meets_plainly m (Refers k x h) a n e (room_for_none m) refl r r l
+plainly m n (Clear k h) a p e r l = meets_plainly m (Clear k h) a n e (room_for_none m) refl r r l
+plainly m n (Enqueue k h) a p e r l = meets_plainly m (Enqueue k h) a n e (room_for_none m) refl r r l
+plainly m n (Enqueued k h) a p e r l = meets_plainly m (Enqueued k h) a n e (room_for_none m) refl r r l
+plainly m n (Poll k h) a p e r l = meets_plainly m (Poll k h) a n e (room_for_none m) refl r r l
+plainly m n HandOver a p e r l = meets_plainly m HandOver a n e (room_for_none m) refl r r l
 plainly m n _ a p e r l = absurd p
+
+pub meets_plain : (m n : Machine) (ask : Ask) (a : Answer) → IsPlain ask → refusal m ask ≡ None → reply m ask ≡ Some a → n ≡ after m ask a [] → Meets m ask a no_choice n
+meets_plain m n ask a p e r l = plainly m n ask a p e r l
+
+-- a growth was refused, and nothing has changed
+pub meets_no_memory : (m n : Machine) (ask : Ask) → is_end ask ≡ false → n ≡ m → Meets m ask (Refused NoMemory) no_choice n
+meets_no_memory m n ask no_end same = record { legal = out_of_memory (record { no_end = ap not no_end; answers = refl; nothing = refl }); applied = same }
 
 pub meets_answered : (m n : Machine) (ask : Ask) (result : Result Answer Refusal) → IsPlain ask → Answered m ask result n → Meets m ask (answer_of result) no_choice n
 meets_answered m n ask (Ok a) p x = plainly m n ask a p x.0 x.1 x.2
@@ -103,11 +123,15 @@ meets_answered m n ask (Err r) p x = subst (λ n. Meets m ask (Refused r) no_cho
 
 -- ---- A full collection that is asked for
 
-pub meets_collection : (m : Machine) (k : ℕ) (c : Collected) (new : Choosing) (n : Machine) → refusal m (Full k Policy) ≡ None → new.chosen ≡ record { collected = Some c; fresh = [] } → IsFull m c.kept c.pending → n ≡ after_collection m c.kept c.pending → Meets m (Full k Policy) Done new.chosen n
-meets_collection m k c new n e chosen full l =
+answers : (m : Machine) (k : ℕ) (mode : FullMode) (c : Option Collected) → Answers m (Full k mode) c Done
+answers m k Policy c = refl
+answers m k ClearAll c = refl
+
+pub meets_collection : (m : Machine) (k : ℕ) (mode : FullMode) (c : Collected) (new : Choosing) (n : Machine) → refusal m (Full k mode) ≡ None → new.chosen ≡ record { collected = Some c; fresh = [] } → MayCollect m (Full k mode) (Some c) → n ≡ after_collection m c.kept c.pending → Meets m (Full k mode) Done new.chosen n
+meets_collection m k mode c new n e chosen may l =
     let chosen_there : Chosen = record { collected = Some c; fresh = [] } in
-    subst (λ x. Meets m (Full k Policy) Done x n) (sym chosen)
-    (record { legal = carried_out (record { allowed = e; collection = full; fresh = none_fresh (after_collection m c.kept c.pending).objects; answers = refl }); applied = l })
+    subst (λ x. Meets m (Full k mode) Done x n) (sym chosen)
+    (record { legal = carried_out (record { allowed = e; collection = may; fresh = none_fresh (after_collection m c.kept c.pending).objects; answers = answers m k mode (Some c) }); applied = l })
 
 -- ---- A new object
 
@@ -172,27 +196,32 @@ skip p x xs r e h = ap (λ b. cond b (Some x) (find p xs)) e ∙ h
 joined : (m : Machine) (k : ℕ) → is_joined m k ≡ true → not (is_joined m k) ≡ false
 joined m k e = ap not e
 
+pub allowed_full : (m : Machine) (k : ℕ) (mode : FullMode) → is_joined m k ≡ true → has_call m k ≡ false → refusal m (Full k mode) ≡ None
+allowed_full m k mode j b =
+    let p = applies m (Full k mode) in
+    skip p NoSession (Busy ∷ []) None (ap not j) (skip p Busy [] None b refl)
+
 pub allowed_reference :
     (m : Machine) (k : ℕ) (kind : RefKind) (h q : ℕ) → is_joined m k ≡ true
     → (not (h == 0) && is_none (slot_named m k h)) ≡ false → (not (q == 0) && is_none (slot_named m k q)) ≡ false
-    → (h == 0) ≡ false → slot_named m k q ≡ None → has_call m k ≡ false → has_free_handle m k ≡ true → refusal m (MakeRef k kind h q) ≡ None
+    → (h == 0) ≡ false → some_and (λ o. not (is_queue o)) (object_named m k q) ≡ false → has_call m k ≡ false → has_free_handle m k ≡ true → refusal m (MakeRef k kind h q) ≡ None
 allowed_reference m k kind h q j uh uq nh nq b f =
     let p = applies m (MakeRef k kind h q) in
     skip p NoSession (NoHandle ∷ Null ∷ WrongKind ∷ Busy ∷ HandlesFull ∷ HeapFull ∷ []) None (ap not j)
     (skip p NoHandle (Null ∷ WrongKind ∷ Busy ∷ HandlesFull ∷ HeapFull ∷ []) None (ap (λ b. b || (not (q == 0) && is_none (slot_named m k q) || false)) uh ∙ ap (λ b. b || false) uq)
     (skip p Null (WrongKind ∷ Busy ∷ HandlesFull ∷ HeapFull ∷ []) None (ap (λ b. (b && true) || ((q == 0) && false || false)) nh ∙ and_or_false (q == 0))
-    (skip p WrongKind (Busy ∷ HandlesFull ∷ HeapFull ∷ []) None (ap (λ b. b || (is_of_wrong_kind m k (object_or_null q is_queue) || false)) (no_kind (object_named m k h)) ∙ ap (λ o. some_and (λ o. not (is_queue o)) (option_and_then (at m.objects) o) || false) nq)
+    (skip p WrongKind (Busy ∷ HandlesFull ∷ HeapFull ∷ []) None (ap (λ b. b || (is_of_wrong_kind m k (object_or_null q is_queue) || false)) (no_kind (object_named m k h)) ∙ ap (λ b. b || false) nq)
     (skip p Busy (HandlesFull ∷ HeapFull ∷ []) None b
     (skip p HandlesFull (HeapFull ∷ []) None (ap not f)
     (skip p HeapFull [] None refl refl))))))
 
 pub meets_new_reference :
-    (m mid n : Machine) (k slot : ℕ) (kind : RefKind) (h q target : ℕ) (new : Choosing) (a : Answer) → refusal m (MakeRef k kind h q) ≡ None
-    → slot_named m k h ≡ Some target → slot_named m k q ≡ None
-    → Allocates m (Reference (record { kind = kind; referent = Some target; queue = None; state = Fresh })) new slot mid → new_handle mid k ≡ Some a → n ≡ with_handle mid k slot → Meets m (MakeRef k kind h q) a new.chosen n
-meets_new_reference m mid n k slot kind h q target new a e named no_queue x handle left =
-    meets_new m mid n (MakeRef k kind h q) k slot (Reference (record { kind = kind; referent = Some target; queue = None; state = Fresh })) new a e (may_collect_reference m k kind h q) refl (λ y s h. (h, h))
+    (m mid n : Machine) (k slot : ℕ) (kind : RefKind) (h q target : ℕ) (queue : Option ℕ) (new : Choosing) (a : Answer) → refusal m (MakeRef k kind h q) ≡ None
+    → slot_named m k h ≡ Some target → slot_named m k q ≡ queue
+    → Allocates m (Reference (record { kind = kind; referent = Some target; queue = queue; state = Fresh })) new slot mid → new_handle mid k ≡ Some a → n ≡ with_handle mid k slot → Meets m (MakeRef k kind h q) a new.chosen n
+meets_new_reference m mid n k slot kind h q target queue new a e named in_queue x handle left =
+    meets_new m mid n (MakeRef k kind h q) k slot (Reference (record { kind = kind; referent = Some target; queue = queue; state = Fresh })) new a e (may_collect_reference m k kind h q) refl (λ y s h. (h, h))
     (λ y s.
     let lookup : ℕ → Table Session → Option ℕ = λ i t. option_and_then (λ z. at z.handles i) (at t k) in
     ap {A = Option ℕ} {B = Machine} (λ r. with_handle (with_new y slot (Reference (record { kind = kind; referent = r; queue = slot_named y k q; state = Fresh }))) k slot) (ap (lookup h) s ∙ named)
-    ∙ ap {A = Option ℕ} {B = Machine} (λ r. with_handle (with_new y slot (Reference (record { kind = kind; referent = Some target; queue = r; state = Fresh }))) k slot) (ap (lookup q) s ∙ no_queue)) x handle left
+    ∙ ap {A = Option ℕ} {B = Machine} (λ r. with_handle (with_new y slot (Reference (record { kind = kind; referent = Some target; queue = r; state = Fresh }))) k slot) (ap (lookup q) s ∙ in_queue)) x handle left

@@ -1,13 +1,15 @@
 -- Following edges from a base: how it begins, a step, and its end.
-use Rattle.std.proofs.Common.{ℕ, suc, ◌≡◌, ◌↔◌, ◌⊎◌, Some, cond, Bool, true, false, IsTrue, is_some, get_or, count_by, List, [], ◌∷◌, ◌++◌, refl, sym, ◌∙◌, subst, inl, inr}
+use Rattle.std.proofs.Common.{ℕ, suc, length, ◌<◌, ◌≡◌, ◌↔◌, ◌⊎◌, Some, None, option_and_then, ap, cond, Bool, true, false, IsTrue, is_some, get_or, count_by, List, [], ◌∷◌, ◌++◌, refl, sym, ◌∙◌, subst, inl, inr}
 use Rattle.std.specs.Prelude.{IsPermutation, nat_eq}
 use Rattle.std.proofs.lemmas.List.Sorted.{list_any-IsPermutation}
 use Rattle.std.proofs.lemmas.Bool.{both_ways}
-use Rattle.jlr_types.specs.declared.RefKind.TheVariants.{Soft}
+use Rattle.jlr_types.specs.declared.RefKind.{RefKind}
+use Rattle.jlr_types.specs.declared.RefKind.TheVariants.{Soft, Weak, Phantom}
 use Rattle.jlr_machine.specs.Objects.{Heap, at, ◌∋◌, ◌∈◌}
-use Rattle.jlr_machine.specs.Edges.{edges_from}
+use Rattle.jlr_machine.specs.Edges.{edges_from, referent}
 use Rattle.jlr_machine.specs.Edges.Chain.{Strong, UpToSoft}
-use Rattle.jlr_laws.proofs.Clearing.{edge_from, edge_gives}
+use Rattle.jlr_laws.proofs.Clearing.{HasReferent, edge_from, edge_gives, takes}
+use Rattle.jlr_laws.proofs.Frames.{no_some, place_within}
 use Rattle.jlr_laws.specs.Laws.{followed, IsPathFollowed}
 use Rattle.jlr_barrier.specs.Marking.{Marking, IsMarked, Shaded}
 use Rattle.jlr_core.specs.Marking.{IsFollowed, IsMarking, soft_at}
@@ -104,7 +106,11 @@ followed_is_soft keeps heap s t h =
 
 -- the soft edge of a soft reference
 pub soft_edge : (heap : Heap) (s t : ℕ) → soft_at heap s ≡ Some t → t ∈ edges_from UpToSoft heap s
-soft_edge heap s t e = edge_from UpToSoft heap s t (inr (Soft, refl, ?))
+soft_edge heap s t e =
+    elim (at heap s) as (λ o. at heap s ≡ o → option_and_then (referent Soft) o ≡ Some t → t ∈ edges_from UpToSoft heap s) [
+      | None ↦ λ there h. no_some t h
+      | Some o ↦ λ there h. edge_from UpToSoft heap s t (inr (Soft, refl, (o, there, h)))
+    ] refl e
 
 pub followed_from : (keeps : ℕ → Bool) (heap : Heap) (s t : ℕ) → (t ∈ edges_from Strong heap s) ⊎ ((keeps s ≡ true) × (soft_at heap s ≡ Some t)) → t ∈ followed keeps heap s
 followed_from keeps heap s t h = elim h [
@@ -112,9 +118,21 @@ followed_from keeps heap s t h = elim h [
   | inr k ↦ subst (λ b. t ∈ edges_from (cond b UpToSoft Strong) heap s) (sym k.0) (soft_edge heap s t k.1)
 ]
 
+soft_gives : (kind : RefKind) → takes UpToSoft kind ≡ true → (heap : Heap) (s t : ℕ) → HasReferent kind heap s t → soft_at heap s ≡ Some t
+soft_gives Soft e heap s t h = ap (option_and_then (referent Soft)) h.1 ∙ h.2
+soft_gives Weak e heap s t h = absurd (both_ways false refl e)
+soft_gives Phantom e heap s t h = absurd (both_ways false refl e)
+
 pub followed_gives : (keeps : ℕ → Bool) (heap : Heap) (s t : ℕ) → t ∈ followed keeps heap s → (t ∈ edges_from Strong heap s) ⊎ ((keeps s ≡ true) × (soft_at heap s ≡ Some t))
 followed_gives keeps heap s t h =
     elim (keeps s) as (λ b. keeps s ≡ b → t ∈ edges_from (cond b UpToSoft Strong) heap s → (t ∈ edges_from Strong heap s) ⊎ ((keeps s ≡ true) × (soft_at heap s ≡ Some t))) [
-      | true ↦ λ e h. ?
+      | true ↦ λ e h. elim (edge_gives UpToSoft heap s t h) [
+        | inl k ↦ inl (edge_from Strong heap s t (inl k))
+        | inr k ↦ inr (e, soft_gives k.0 k.1 heap s t k.2)
+      ]
       | false ↦ λ e h. inl h
     ] refl h
+
+-- an object lies within the heap
+pub object_within : (heap : Heap) (s : ℕ) → IsTrue (is_some (at heap s)) → s < length heap
+object_within heap s h = elim (at heap s) as (λ o. at heap s ≡ o → IsTrue (is_some o) → s < length heap) [ None ↦ λ e h. absurd (both_ways false refl h) | Some o ↦ λ e h. place_within heap s o e ] refl h

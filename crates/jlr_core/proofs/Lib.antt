@@ -5,3 +5,4 @@ pub mod Rooms
 pub mod Entries
 pub mod Stepping
 pub mod RunLaws
+pub mod Queues

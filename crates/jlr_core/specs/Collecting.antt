@@ -2,6 +2,10 @@
 use Rattle.std.specs.Prelude.{◌≡◌, ℕ, ◌+◌, ◌<◌, not, IsTrue, List, [], ◌∷◌, length, Bool, Option, Some, None}
 use Rattle.jlr_machine.specs.declared.machine.Machine.{Machine}
 use Rattle.jlr_machine.specs.declared.object.Object.{Object}
+use Rattle.jlr_soft.specs.declared.policy.Mode.{Mode}
+use Rattle.jlr_soft.specs.declared.policy.Mode.TheVariants.{Policy, ClearAll}
+use Rattle.jlr_machine.specs.declared.ask.FullMode.{FullMode}
+use Rattle.jlr_machine.specs.declared.ask.FullMode.TheVariants.{Policy as AskedPolicy, ClearAll as AskedClearAll}
 use Rattle.jlr_machine.specs.declared.entry.Collected.{Collected}
 use Rattle.jlr_machine.specs.Objects.{at, occupied}
 use Rattle.jlr_machine.specs.Lookups.{with_new}
@@ -21,6 +25,11 @@ pub record Collects (kept_soft : ℕ → Bool) (m : Machine) (old new : Choosing
   pub full : IsFull m kept pending
   pub left : n ≡ after_collection m kept pending
   pub counted : occupied n.objects ≡ length kept
+
+-- which soft references a collection keeps that is asked for
+abbrev pub mode_of : FullMode → Mode
+mode_of AskedPolicy = Policy
+mode_of AskedClearAll = ClearAll
 
 -- ---- Room for one more object
 

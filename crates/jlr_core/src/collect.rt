@@ -5,7 +5,7 @@ ghost use Rattle.jlr_cells.specs.Contents.{object_of};
 ghost use Rattle.jlr_soft.specs.declared.policy.Policy.{Policy};
 ghost use Rattle.jlr_machine.specs.WellFormed.{IsWellFormed};
 ghost use Rattle.jlr_machine.specs.Choices.{nothing_chosen};
-ghost use Rattle.jlr_core.specs.Collecting.{Collects, MakesRoom, Allocates, FindsNoRoom};
+ghost use Rattle.jlr_core.specs.Collecting.{Collects, MakesRoom, Allocates, FindsNoRoom, mode_of};
 ghost use Rattle.jlr_core.specs.Marking.{keeps};
 ghost use Rattle.jlr_core.specs.State.{Meets, answer_of};
 
@@ -16,7 +16,7 @@ use jlr_machine::ask::{Answer, Ask, FullMode};
 use jlr_machine::choice::Choice;
 use jlr_process::flip;
 use jlr_soft::{Mode, Policy};
-use jlr_types::{Mutator, Refusal, Slot};
+use jlr_types::{Meter, Mutator, Refusal, Slot};
 
 impl State {
     ghost use Rattle.jlr_core.specs.Machines.{machine_of};
@@ -34,7 +34,7 @@ impl State {
         self.heap.kinds_are_known();
         self.heap.no_calls();
         let policy = Policy::new(self.soft_age, mode);
-        mark(&mut self.heap, &policy);
+        mark(&mut self.heap, &policy, &mut Meter::new());
         flip(&mut self.heap, choice);
     }
 
@@ -86,10 +86,17 @@ impl State {
     {
         self.check_session(by)?;
         self.no_call(by);
-        match mode {
-            FullMode::Policy => self.collect(Mode::Policy, choice),
-            FullMode::ClearAll => self.collect(Mode::ClearAll, choice),
-        }
+        self.collect(mode_of(mode), choice);
         Ok(Answer::Done)
+    }
+}
+
+/// Which soft references a collection keeps that is asked for.
+fn mode_of(mode: FullMode) -> Mode
+    ensures { result ≡ mode_of mode }
+{
+    match mode {
+        FullMode::Policy => Mode::Policy,
+        FullMode::ClearAll => Mode::ClearAll,
     }
 }

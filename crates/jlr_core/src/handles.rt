@@ -83,15 +83,41 @@ impl State {
         }
     }
 
+    /// There is a free handle, if one is needed.
+    pub(crate) fn check_room_for(&self, by: Mutator, target: Option<Slot>) -> Result<(), Refusal>
+        ensures { MatchResult result
+            (λ _. (is_some target && not (has_free_handle (machine_of self.now) by)) ≡ false)
+            (λ r. (r ≡ Refusal.HandlesFull) × ((is_some target && not (has_free_handle (machine_of self.now) by)) ≡ true)) }
+    {
+        if target.is_some() {
+            self.check_free_handle(by)?;
+        }
+        Ok(())
+    }
+
+    /// The handle for what may be null, where a handle is free if one is needed.
+    pub(crate) fn give_known(&mut self, by: Mutator, target: Option<Slot>) -> Answer
+        requires { (is_some target && not (has_free_handle (machine_of self.old) by)) ≡ false }
+        ensures answer { handle_given (machine_of self.old) by target ≡ Some result }
+        ensures held { machine_of self.new ≡ with_given (machine_of self.old) by target }
+        ensures objects { self.new.heap.graph.objects ≡ self.old.heap.graph.objects }
+    {
+        match target {
+            Some(slot) => self.give(by, slot),
+            None => Answer::Handle(Handle::new(0)),
+        }
+    }
+
     /// The handle for what may be null.
     pub(crate) fn give_or_null(
         &mut self,
         by: Mutator,
         target: Option<Slot>,
     ) -> Result<Answer, Refusal>
-        ensures { MatchResult result
+        ensures given { MatchResult result
             (λ a. (handle_given (machine_of self.old) by target ≡ Some a) × ((is_some target && not (has_free_handle (machine_of self.old) by)) ≡ false) × (machine_of self.new ≡ with_given (machine_of self.old) by target))
             (λ r. (r ≡ Refusal.HandlesFull) × ((is_some target && not (has_free_handle (machine_of self.old) by)) ≡ true) × (machine_of self.new ≡ machine_of self.old)) }
+        ensures objects { self.new.heap.graph.objects ≡ self.old.heap.graph.objects }
     {
         let Some(slot) = target else {
             return Ok(Answer::Handle(Handle::new(0)));

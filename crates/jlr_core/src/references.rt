@@ -1,8 +1,9 @@
 //! The asks on references and queues, and the handler's.
-ghost use Rattle.std.specs.Prelude.{◌≡◌, ◌&&◌, ◌==◌, ◌≤◌, IsTrue, MatchResult, None, false, true, is_none, is_some, length, not, option_and_then};
+ghost use Rattle.std.specs.Prelude.{◌≡◌, ◌&&◌, ◌==◌, ◌≤◌, IsTrue, MatchResult, None, Some, false, true, is_none, is_some, length, not, option_and_then};
 ghost use Rattle.jlr_machine.specs.Objects.{at, some_and};
-ghost use Rattle.jlr_machine.specs.Lookups.{object_named, slot_named};
-ghost use Rattle.jlr_machine.specs.Refusals.{is_of_wrong_kind, is_queue, is_reference, object_or_null};
+ghost use Rattle.jlr_cells.specs.Contents.{member_in};
+ghost use Rattle.jlr_machine.specs.Lookups.{has_free_handle, object_named, slot_named};
+ghost use Rattle.jlr_machine.specs.Refusals.{refusal, is_of_wrong_kind, is_queue, is_reference, object_or_null};
 ghost use Rattle.jlr_machine.specs.Run.{no_choice};
 ghost use Rattle.jlr_machine.specs.Choices.{nothing_chosen};
 ghost use Rattle.jlr_machine.specs.WellFormed.{IsWellFormed};
@@ -107,16 +108,27 @@ impl State {
         Ok(Answer::Done)
     }
 
-    pub(crate) fn enqueue(&mut self, by: Mutator, reference: Handle) -> Result<Answer, Refusal>
-        requires { IsWellFormed (machine_of self.old) }
-        ensures meets { Meets (machine_of self.old) (Ask.Enqueue by reference) (answer_of result) no_choice (machine_of self.new) }
-        ensures cells { length self.new.heap.graph.objects ≡ length self.old.heap.graph.objects }
+    /// The reference that is to be enqueued.
+    fn check_enqueue(&self, by: Mutator, reference: Handle) -> Result<Slot, Refusal>
+        requires { IsWellFormed (machine_of self.now) }
+        ensures { MatchResult result
+            (λ slot. (refusal (machine_of self.now) (Ask.Enqueue by reference) ≡ None) × (slot_named (machine_of self.now) by reference ≡ Some slot) × IsTrue (some_and is_reference (at self.now.heap.graph.objects slot)))
+            (λ r. refusal (machine_of self.now) (Ask.Enqueue by reference) ≡ Some r) }
     {
         self.check_session(by)?;
         self.check_handle(by, reference)?;
         let slot = self.check_slot(by, reference)?;
         self.check_reference(slot)?;
         self.no_call(by);
+        Ok(slot)
+    }
+
+    pub(crate) fn enqueue(&mut self, by: Mutator, reference: Handle) -> Result<Answer, Refusal>
+        requires { IsWellFormed (machine_of self.old) }
+        ensures meets { Meets (machine_of self.old) (Ask.Enqueue by reference) (answer_of result) no_choice (machine_of self.new) }
+        ensures cells { length self.new.heap.graph.objects ≡ length self.old.heap.graph.objects }
+    {
+        let slot = self.check_enqueue(by, reference)?;
         match jlr_refs::enqueue(&mut self.heap, slot) {
             Ok(added) => Ok(Answer::Truth(added)),
             Err(_) => Err(Refusal::NoMemory),
@@ -135,21 +147,30 @@ impl State {
         Ok(Answer::Truth(jlr_refs::is_enqueued(&self.heap, slot)))
     }
 
-    pub(crate) fn poll(&mut self, by: Mutator, queue: Handle) -> Result<Answer, Refusal>
-        requires { IsWellFormed (machine_of self.old) }
-        ensures answered { Answered (machine_of self.old) (Ask.Poll by queue) result (machine_of self.new) }
-        ensures cells { length self.new.heap.graph.objects ≡ length self.old.heap.graph.objects }
+    /// The queue that is polled, with a free handle for its front, if it has one.
+    fn check_poll(&self, by: Mutator, queue: Handle) -> Result<Slot, Refusal>
+        requires { IsWellFormed (machine_of self.now) }
+        ensures { MatchResult result
+            (λ slot. (refusal (machine_of self.now) (Ask.Poll by queue) ≡ None) × (slot_named (machine_of self.now) by queue ≡ Some slot) × IsTrue (some_and is_queue (at self.now.heap.graph.objects slot)) × ((is_some (member_in (at self.now.heap.graph.objects slot) 0) && not (has_free_handle (machine_of self.now) by)) ≡ false))
+            (λ r. refusal (machine_of self.now) (Ask.Poll by queue) ≡ Some r) }
     {
         self.check_session(by)?;
         self.check_handle(by, queue)?;
         let slot = self.check_slot(by, queue)?;
         self.check_queue(slot)?;
         self.no_call(by);
-        if self.heap.front(slot).is_some() {
-            self.check_free_handle(by)?;
-        }
+        self.check_room_for(by, self.heap.front(slot))?;
+        Ok(slot)
+    }
+
+    pub(crate) fn poll(&mut self, by: Mutator, queue: Handle) -> Result<Answer, Refusal>
+        requires { IsWellFormed (machine_of self.old) }
+        ensures answered { Answered (machine_of self.old) (Ask.Poll by queue) result (machine_of self.new) }
+        ensures cells { length self.new.heap.graph.objects ≡ length self.old.heap.graph.objects }
+    {
+        let slot = self.check_poll(by, queue)?;
         let front = jlr_refs::poll(&mut self.heap, slot);
-        self.give_or_null(by, front)
+        Ok(self.give_known(by, front))
     }
 
     /// The handler's step.

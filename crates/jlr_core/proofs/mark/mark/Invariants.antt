@@ -10,7 +10,7 @@ invariant-loop-slot l = record {
   clock : l.heap.clock ≡ l.fn.heap.clock;
   long : length l.heap.marking.bits ≡ length l.fn.heap.graph.objects;
   room : length l.heap.marking.grey ≤ count_by (λ b. b) l.heap.marking.bits;
-  ticks : l.meter + length l.heap.marking.grey ≡ count_by (λ b. b) l.heap.marking.bits;
+  ticks : l.meter + length l.heap.marking.grey ≡ l.fn.meter + count_by (λ b. b) l.heap.marking.bits;
 }
 
 -- the slots that are not black yet

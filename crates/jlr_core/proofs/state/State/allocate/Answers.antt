@@ -1,4 +1,6 @@
-use Rattle.std.proofs.Common.{refl, sym, subst}
+use Rattle.std.proofs.Common.{refl, sym, subst, ap}
+use Rattle.jlr_machine.specs.declared.machine.Machine.{Machine}
+use Rattle.jlr_barrier.specs.Graphs.{Graph}
 use Rattle.jlr_core.specs.Machines.{machine_of}
 use Rattle.jlr_core.specs.Collecting.{FindsNoRoom}
 use Rattle.jlr_core.specs.State.{machine_with}
@@ -8,6 +10,6 @@ use Rattle.jlr_core.proofs.state.State.allocate.Goals as goal
 pub returns-in_default-clause-full : goal.returns-in_default-clause-full
 returns-in_default-clause-full c = (
   refl,
-  subst (λ cells. FindsNoRoom (machine_of c.args.self.now) c.make_room.new.choice (machine_with cells c.make_room.new.self.roots c.make_room.new.self.resource_limit)) (sym c.in_default.ensures.none)
+  subst (λ (g : Graph). FindsNoRoom (machine_of c.args.self.now) c.make_room.new.choice (machine_with g c.make_room.new.self.resource_limit)) (sym c.in_default.ensures.none.0)
       (finds_no_room (machine_of c.args.self.now) c.args.choice.now c.make_room.new.choice (machine_of c.make_room.new.self) c.make_room.ensures.made (c.in_default.ensures.full.0 refl)),
 )

@@ -1,0 +1,29 @@
+use Rattle.std.proofs.Common.{◌≡◌, ◌⊎◌, ◌<◌, ℕ, Some, false, true, sym, ap, subst, length}
+use Rattle.jlr_machine.specs.Objects.{◌∈◌, at}
+use Rattle.jlr_machine.specs.Edges.{edges_from}
+use Rattle.jlr_machine.specs.Edges.Chain.{Strong}
+use Rattle.jlr_laws.specs.Laws.{followed}
+use Rattle.jlr_barrier.specs.Graphs.{Clock, Graph}
+use Rattle.jlr_barrier.specs.Marking.{Shaded}
+use Rattle.jlr_barrier.proofs.Shading.{shaded_same, shaded_then}
+use Rattle.jlr_core.specs.Marking.{keeps, soft_at}
+use Rattle.jlr_core.proofs.Following.{followed_from, followed_gives, followed_is_soft, soft_edge}
+use Rattle.jlr_core.proofs.mark.follow.Goals as goal
+
+pub scan-requires-clause-within : goal.scan-requires-clause-within
+scan-requires-clause-within c = λ x h. c.requires.within x (followed_is_soft (λ _. false) c.args.heap.now.graph.objects c.args.slot x h)
+
+pub follow_soft-requires-clause-within : goal.follow_soft-requires-clause-within
+follow_soft-requires-clause-within c =
+    subst (λ (g : Graph). (x : ℕ) → soft_at g.objects c.args.slot ≡ Some x → x < length g.objects) (sym c.scan.ensures.graph)
+    (λ x e. c.requires.within x (soft_edge c.args.heap.now.graph.objects c.args.slot x e))
+
+pub returns-clause-shaded : goal.returns-clause-shaded
+returns-clause-shaded c =
+    let heap = c.args.heap.now.graph.objects in
+    let s = c.args.slot in
+    let kept = keeps c.args.policy.now c.args.heap.now.clock in
+    let soft : Shaded (λ x. (kept s ≡ true) × (soft_at heap s ≡ Some x)) c.scan.new.self.marking c.follow_soft.new.heap.marking =
+    subst (λ (k : Clock). Shaded (λ x. (keeps c.args.policy.now k s ≡ true) × (soft_at heap s ≡ Some x)) c.scan.new.self.marking c.follow_soft.new.heap.marking) c.scan.ensures.clock
+    (subst (λ (g : Graph). Shaded (λ x. (keeps c.args.policy.now c.scan.new.self.clock s ≡ true) × (soft_at g.objects s ≡ Some x)) c.scan.new.self.marking c.follow_soft.new.heap.marking) c.scan.ensures.graph c.follow_soft.ensures.shaded) in
+    shaded_same _ _ (λ x h. followed_from kept heap s x h) (λ x h. followed_gives kept heap s x h) _ _ (shaded_then _ _ _ _ _ c.scan.ensures.shaded soft)
