@@ -16,4 +16,4 @@ returns-in-Some-clause-session g c =
 pub returns-then-count-eq0-clause-session : goal.returns-then-count-eq0-clause-session
 returns-then-count-eq0-clause-session g c =
     let none : take c.in-Ok.count c.read.new.buf ≡ [] = ap (λ n. take n c.read.new.buf) c.if-count-eq0.true in
-    ends_at_end _ _ _ _ _ _ _ _ _ _ (take c.in-Ok.count c.read.new.buf) c.close.result c.loop.invariant c.in-Ok.ensures.bytes.0 none c.close.ensures
+    ends_at_end _ _ _ _ _ _ _ _ _ _ _ (take c.in-Ok.count c.read.new.buf) c.close.result c.loop.invariant c.in-Ok.ensures.bytes.0 none c.close.ensures
