@@ -1,12 +1,16 @@
 //! Lists of events and their replies. What is expected comes from the description of the asks.
+ghost use Rattle.std.specs.Prelude.{IfOk, length, ◌≤◌};
+
+use crate::engine::Core;
 use crate::event::{Event, Reply};
 use crate::run::run;
 use jlr_machine::ask::{Answer, FullMode};
+use jlr_machine::choice::Choice;
 use jlr_machine::object::{Object, RefState, Reference};
 use jlr_types::{
     Fault, FieldKind, FieldValue, Handle, Layout, Limits, Mutator, Progress, RefKind, Refusal, Slot,
 };
-use std::alloc::Global;
+use std::alloc::{AllocError, Global};
 use std::test::Fail;
 
 // An answer, as far as these tests look at it.
@@ -473,5 +477,56 @@ fn an_outcome_hands_its_resource_back(rt: HostRuntime) -> Result<(), Fail> {
         resources.as_slice(),
         [Some(5), None, Some(7), None].as_slice()
     );
+    Ok(())
+}
+
+// A core and a choice that has room for all its cells.
+fn ready(alloc: Global, limits: Limits) -> Result<(Core<u32>, Choice), AllocError>
+    ensures { IfOk result (λ made. length made.0.machine.objects ≤ made.1.cells) }
+{
+    let core = Core::new(alloc, limits)?;
+    let choice = Choice::new(alloc, limits.cells)?;
+    Ok((core, choice))
+}
+
+// The same, made again where memory was refused once.
+fn ready_again(alloc: Global, limits: Limits) -> Result<(Core<u32>, Choice), AllocError>
+    ensures { IfOk result (λ made. length made.0.machine.objects ≤ made.1.cells) }
+{
+    match ready(alloc, limits) {
+        Ok(made) => Ok(made),
+        Err(_) => ready(alloc, limits),
+    }
+}
+
+// The core is made again where memory was refused once, and no event is: an event that took memory would be answered otherwise in the
+// run in which it is refused. `bench/failing.sh` runs this test once for each of its allocations.
+#[test]
+fn no_event_takes_memory(rt: HostRuntime) -> Result<(), Fail> {
+    let limits = Limits::checked(16, 1, 1, 0, 64, 1).ok().ok_or("limits")?;
+    let (mut core, mut choice) = ready_again(rt.alloc(), limits)?;
+    for (event, wanted) in [
+        (join(), Got::Done),
+        (new(), Got::Handle(1)),
+        (weak(1), Got::Handle(2)),
+        (weak(1), Got::Handle(3)),
+        (put(1, 0, 1), Got::Done),
+        (get(1, 0), Got::Handle(4)),
+        (same(1, 4), Got::Truth(true)),
+        (drop_handle(4), Got::Done),
+        (full(), Got::Done),
+        (deref(2), Got::Handle(4)),
+        (dup(4), Got::Handle(5)),
+        (drop_handle(5), Got::Done),
+        (drop_handle(4), Got::Done),
+        (drop_handle(1), Got::Done),
+        (full(), Got::Done),
+        (deref(2), Got::Handle(0)),
+        (deref(3), Got::Handle(0)),
+        (put(9, 0, 1), Got::Refused(Refusal::NoHandle)),
+        (leave(), Got::Done),
+    ] {
+        assert_eq!(rt; seen(&core.step(event, &mut choice)), wanted);
+    }
     Ok(())
 }

@@ -13,11 +13,15 @@ mod cycles;
 #[cfg(test)]
 mod layouts;
 #[cfg(test)]
+mod memory;
+#[cfg(test)]
 mod play;
 #[cfg(test)]
 mod references;
 #[cfg(test)]
 mod refusals;
+#[cfg(test)]
+mod same;
 #[cfg(test)]
 mod step;
 #[cfg(test)]

@@ -2,6 +2,7 @@
 ghost use Rattle.std.specs.Prelude.{◌≤◌, IfOk};
 ghost use Rattle.jlr_machine.specs.WellFormed.{IsWellFormed};
 
+use crate::same::same_machine;
 use crate::step::Step;
 use jlr_machine::entry::Entry;
 use jlr_machine::machine::Machine;
@@ -38,8 +39,16 @@ fn entry_again(alloc: Global, step: &Step<'_>) -> Result<Entry, AllocError> {
     }
 }
 
-/// Applies the entry if it is legal, and says whether it is. Tried again where memory was refused once: the machine is then as it
-/// was.
+/// A copy of the machine, made again where memory was refused once.
+fn copy_again(alloc: Global, machine: &Machine) -> Result<Machine, AllocError> {
+    match machine.copy(alloc) {
+        Ok(copy) => Ok(copy),
+        Err(_) => machine.copy(alloc),
+    }
+}
+
+/// Applies the entry if it is legal, and says whether it is. Where memory was refused once, the machine is compared with what it was,
+/// and the entry is tried again; a machine that has changed counts as an entry that is not legal.
 pub(crate) fn take(
     alloc: Global,
     machine: &mut Machine,
@@ -49,9 +58,15 @@ pub(crate) fn take(
     ensures { IsWellFormed machine.new }
 {
     let entry = entry_again(alloc, step)?;
+    let before = copy_again(alloc, machine)?;
     match step_plain(alloc, machine, &entry) {
         Ok(legal) => Ok(legal),
-        Err(_) => step_plain(alloc, machine, &entry),
+        Err(_) => {
+            if !same_machine(machine, &before) {
+                return Ok(false);
+            }
+            step_plain(alloc, machine, &entry)
+        }
     }
 }
 

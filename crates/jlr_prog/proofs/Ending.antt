@@ -11,9 +11,10 @@ use Rattle.jlr_wire.specs.declared.command.Command.{Command}
 use Rattle.jlr_wire.specs.declared.command.Command.TheVariants.{Bye}
 use Rattle.jlr_prog.specs.Settling.{Carrying}
 use Rattle.jlr_prog.specs.Turns.{Answers, reply_line, refusal_of}
-use Rattle.jlr_prog.specs.Sessions.{Answered, Ended}
+use Rattle.jlr_prog.specs.Sessions.{Answered, IsDue, Ended}
 use Rattle.jlr_prog.specs.Chunks.{SoFar}
-use Rattle.jlr_prog.specs.declared.shell.FirstEnd.TheVariants.{Bye as EndsByBye, End, Truncated, WriteFault}
+use Rattle.jlr_prog.specs.declared.shell.FirstEnd.{FirstEnd}
+use Rattle.jlr_prog.specs.declared.shell.FirstEnd.TheVariants.{Bye as EndsByBye, End, Truncated, ReadFault, WriteFault}
 use Rattle.jlr_prog.proofs.Going.{AnyEnd, answers_line, same_refusal, whole_command}
 
 -- the line that is bye
@@ -42,9 +43,9 @@ answered_now carries bytes held old out heap s rest e = record {
 }
 
 pub ended_end : {H : Type 0} (carries : Carrying H) (bytes : List ℕ) (held : Held) (old : H) (out : List ℕ) (heap : H)
-    → SoFar carries bytes held old out heap → begun held ≡ [] → Ended carries End bytes old out heap
-ended_end carries bytes held old out heap s e =
-    (s.lines, answered_now carries bytes held old out heap s [] (nothing_shown s.last (sym s.holds ∙ e)))
+    → (at_end : Type 0) → at_end → SoFar carries bytes held old out heap → begun held ≡ [] → Ended carries at_end End bytes old out heap
+ended_end carries bytes held old out heap at_end is s e =
+    (is, s.lines, answered_now carries bytes held old out heap s [] (nothing_shown s.last (sym s.holds ∙ e)))
 
 -- what is refused of the line under way is what is refused of all of it
 refused_last : (shown last : List ℕ) → shown ≡ take 513 last → refusal_of shown ≡ refusal_of last
@@ -54,9 +55,10 @@ some_last : (shown last : List ℕ) → shown ≡ take 513 last → shown ≢ []
 some_last shown last e n none = n (e ∙ ap (take 513) none)
 
 pub ended_truncated : {H : Type 0} (carries : Carrying H) (bytes : List ℕ) (held : Held) (old : H) (out : List ℕ) (heap heap' : H)
-    → SoFar carries bytes held old out heap → begun held ≢ [] → carries.settling heap heap'
-    → Ended carries Truncated bytes old (out ++ reply_line (Refused (refusal_of (begun held)))) heap'
-ended_truncated carries bytes held old out heap heap' s n settled = (
+    → (at_end : Type 0) → at_end → SoFar carries bytes held old out heap → begun held ≢ [] → carries.settling heap heap'
+    → Ended carries at_end Truncated bytes old (out ++ reply_line (Refused (refusal_of (begun held)))) heap'
+ended_truncated carries bytes held old out heap heap' at_end is s n settled = (
+  is,
   s.lines,
   s.last,
   out,
@@ -69,8 +71,8 @@ ended_truncated carries bytes held old out heap heap' s n settled = (
 )
 
 pub ended_close_fault : {H : Type 0} (carries : Carrying H) (bytes : List ℕ) (held : Held) (old : H) (out : List ℕ) (heap : H) (n : ℕ)
-    → SoFar carries bytes held old out heap → begun held ≢ [] → Ended carries WriteFault bytes old (out ++ take n (reply_line (Refused (refusal_of (begun held))))) heap
-ended_close_fault carries bytes held old out heap n s some = (
+    → (at_end : Type 0) → at_end → SoFar carries bytes held old out heap → begun held ≢ [] → Ended carries at_end WriteFault bytes old (out ++ take n (reply_line (Refused (refusal_of (begun held))))) heap
+ended_close_fault carries bytes held old out heap n at_end is s some = (
   s.lines,
   s.last,
   out,
@@ -78,7 +80,7 @@ ended_close_fault carries bytes held old out heap n s some = (
   Refused (refusal_of (begun held)),
   n,
   answered_now carries bytes held old out heap s s.last refl,
-  inr (some_last (begun held) s.last s.holds some, s.are.open_end, ap Refused (refused_last (begun held) s.last s.holds), refl),
+  inr (is, some_last (begun held) s.last s.holds some, s.are.open_end, ap Refused (refused_last (begun held) s.last s.holds), refl),
   refl,
 )
 
@@ -88,7 +90,7 @@ line_in_rest last front rest later e = ap (λ t. last ++ t) e ∙ sym (append_as
 
 pub ended_bye : {H : Type 0} (carries : Carrying H) (bytes : List ℕ) (held : Held) (old : H) (out : List ℕ) (heap : H) (rest : List ℕ) (used : ℕ) (held' : Held) (heap' : H)
     → SoFar carries bytes held old out heap → AnyEnd held rest used held' → IsCommand held'.bytes Bye → carries.settling heap heap'
-    → Ended carries EndsByBye (bytes ++ rest) old (out ++ reply_line Done) heap'
+    → Ended carries ⊥ EndsByBye (bytes ++ rest) old (out ++ reply_line Done) heap'
 ended_bye carries bytes held old out heap rest used held' heap' s h b settled =
     let ends = line_ends (λ n. Unit {0}) bytes s.last s.lines held rest used held' s.are s.holds h in
     let P : List ℕ → Type 0 = λ t. IsCommand t Bye in
@@ -104,7 +106,7 @@ ended_bye carries bytes held old out heap rest used held' heap' s h b settled =
 
 pub ended_turn_fault : {H : Type 0} (carries : Carrying H) (bytes : List ℕ) (held : Held) (old : H) (out : List ℕ) (heap : H) (rest : List ℕ) (used : ℕ) (held' : Held) (answer : Answer) (heap' : H) (n : ℕ)
     → SoFar carries bytes held old out heap → AnyEnd held rest used held' → Answers carries held'.bytes heap answer heap'
-    → Ended carries WriteFault (bytes ++ rest) old (out ++ take n (reply_line answer)) heap'
+    → Ended carries ⊥ WriteFault (bytes ++ rest) old (out ++ take n (reply_line answer)) heap'
 ended_turn_fault carries bytes held old out heap rest used held' answer heap' n s h a =
     let line = s.last ++ h.front in
     let ends = line_ends (λ n. Unit {0}) bytes s.last s.lines held rest used held' s.are s.holds h in (
@@ -118,3 +120,17 @@ ended_turn_fault carries bytes held old out heap rest used held' answer heap' n 
       inl (line, h.rest, refl, ends.1, answers_line carries held'.bytes line heap answer heap' ends.2 a),
       refl,
     )
+
+due_anyhow : {H : Type 0} (carries : Carrying H) (at_end : Type 0) (rest : List ℕ) (old : H) (answer : Answer) (new : H)
+    → IsDue carries ⊥ rest old answer new → IsDue carries at_end rest old answer new
+due_anyhow carries at_end rest old answer new (inl d) = inl d
+due_anyhow carries at_end rest old answer new (inr d) = absurd d.0
+
+-- what is no matter of the input's end
+pub ended_anyhow : {H : Type 0} (carries : Carrying H) (at_end : Type 0) (end : FirstEnd) (bytes : List ℕ) (old : H) (out : List ℕ) (new : H)
+    → Ended carries ⊥ end bytes old out new → Ended carries at_end end bytes old out new
+ended_anyhow carries at_end EndsByBye bytes old out new e = e
+ended_anyhow carries at_end End bytes old out new e = absurd e.0
+ended_anyhow carries at_end Truncated bytes old out new e = absurd e.0
+ended_anyhow carries at_end ReadFault bytes old out new e = e
+ended_anyhow carries at_end WriteFault bytes old out new e = (e.0, e.1, e.2, e.3, e.4, e.5, e.6, due_anyhow carries at_end e.1 e.3 e.4 new e.7, e.8)

@@ -42,23 +42,24 @@ answered_along carries tells S f bytes lines rest h k out x a s =
     (d.0, record { joined = a.joined; each = a.each; speaks = d.1 }, d.2)
 
 due_along : {H X : Type 0} (carries : Carrying H) (tells : Carrying X) (S : H → X → Type 0)
-    → IsFollowed carries tells S → (rest : List ℕ) (h k : H) (a : Answer) (x : X) → IsDue carries rest h a k → S h x → (y : X) × IsDue tells rest x a y × S k y
-due_along carries tells S f rest h k a x (inl d) s = let e = answers_along carries tells S f d.0 h k a x d.4 s in (e.0, inl (d.0, d.1, d.2, d.3, e.1), e.2)
-due_along carries tells S f rest h k a x (inr d) s = (x, inr (d.0, d.1, d.2, refl), subst (λ l. S l x) (sym d.3) s)
+    → IsFollowed carries tells S → (at_end : Type 0) (rest : List ℕ) (h k : H) (a : Answer) (x : X) → IsDue carries at_end rest h a k → S h x → (y : X) × IsDue tells at_end rest x a y × S k y
+due_along carries tells S f at_end rest h k a x (inl d) s = let e = answers_along carries tells S f d.0 h k a x d.4 s in (e.0, inl (d.0, d.1, d.2, d.3, e.1), e.2)
+due_along carries tells S f at_end rest h k a x (inr d) s = (x, inr (d.0, d.1, d.2, d.3, refl), subst (λ l. S l x) (sym d.4) s)
 
 pub ended_along : {H X : Type 0} (carries : Carrying H) (tells : Carrying X) (S : H → X → Type 0)
-    → IsFollowed carries tells S → (end : FirstEnd) (bytes : List ℕ) (h k : H) (out : List ℕ) (x : X) → Ended carries end bytes h out k → S h x → (y : X) × Ended tells end bytes x out y × S k y
-ended_along carries tells S f EndsByBye bytes h k out x e s =
+    → IsFollowed carries tells S → (at_end : Type 0) (end : FirstEnd) (bytes : List ℕ) (h k : H) (out : List ℕ) (x : X) → Ended carries at_end end bytes h out k → S h x
+    → (y : X) × Ended tells at_end end bytes x out y × S k y
+ended_along carries tells S f at_end EndsByBye bytes h k out x e s =
     let a = answered_along carries tells S f bytes e.0 _ h e.3 e.2 x e.4 s in
     let settled = f.settlings e.3 k a.0 e.5 a.2 in
     (settled.0, (e.0, e.1, e.2, a.0, a.1, settled.1, e.6), settled.2)
-ended_along carries tells S f End bytes h k out x e s = let a = answered_along carries tells S f bytes e.0 _ h k out x e.1 s in (a.0, (e.0, a.1), a.2)
-ended_along carries tells S f Truncated bytes h k out x e s =
-    let a = answered_along carries tells S f bytes e.0 e.1 h e.3 e.2 x e.4 s in
-    let settled = f.settlings e.3 k a.0 e.7 a.2 in
-    (settled.0, (e.0, e.1, e.2, a.0, a.1, e.5, e.6, settled.1, e.8), settled.2)
-ended_along carries tells S f ReadFault bytes h k out x e s = let a = answered_along carries tells S f bytes e.0 e.1 h k out x e.2 s in (a.0, (e.0, e.1, a.1, e.3), a.2)
-ended_along carries tells S f WriteFault bytes h k out x e s =
+ended_along carries tells S f at_end End bytes h k out x e s = let a = answered_along carries tells S f bytes e.1 _ h k out x e.2 s in (a.0, (e.0, e.1, a.1), a.2)
+ended_along carries tells S f at_end Truncated bytes h k out x e s =
+    let a = answered_along carries tells S f bytes e.1 e.2 h e.4 e.3 x e.5 s in
+    let settled = f.settlings e.4 k a.0 e.8 a.2 in
+    (settled.0, (e.0, e.1, e.2, e.3, a.0, a.1, e.6, e.7, settled.1, e.9), settled.2)
+ended_along carries tells S f at_end ReadFault bytes h k out x e s = let a = answered_along carries tells S f bytes e.0 e.1 h k out x e.2 s in (a.0, (e.0, e.1, a.1, e.3), a.2)
+ended_along carries tells S f at_end WriteFault bytes h k out x e s =
     let a = answered_along carries tells S f bytes e.0 e.1 h e.3 e.2 x e.6 s in
-    let d = due_along carries tells S f e.1 e.3 k e.4 a.0 e.7 a.2 in
+    let d = due_along carries tells S f at_end e.1 e.3 k e.4 a.0 e.7 a.2 in
     (d.0, (e.0, e.1, e.2, a.0, e.4, e.5, a.1, d.1, e.8), d.2)

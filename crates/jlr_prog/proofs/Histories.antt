@@ -75,13 +75,13 @@ carried m = record {
       (λ old new history answer a r. told m old new HandOver answer history (λ n chosen h. stays_handing_over n answer chosen h) a r);
 }
 
-pub is_session : (m : Machine) (joined left over : Kept) (end : FirstEnd) (bytes out : List ℕ) (answer : Answer)
-    → IsJoined m joined → Ended by_core end bytes joined out left → Answers left (Some (Leave 0)) answer over → IsSession m end bytes out
-is_session m joined left over end bytes out answer j e l =
+pub is_session : (m : Machine) (joined left over : Kept) (at_end : Type 0) (end : FirstEnd) (bytes out : List ℕ) (answer : Answer)
+    → IsJoined m joined → Ended by_core at_end end bytes joined out left → Answers left (Some (Leave 0)) answer over → IsSession m at_end end bytes out
+is_session m joined left over at_end end bytes out answer j e l =
     let first = entry_of (Join 0) Done j.0 in
     let here : IsHere j.1 = subst IsHere (sym j.2.1) (joins m j.0 j.2.0) in
     let start : IsAfter m joined (first ∷ []) = (j.1, (j.2.0, j.2.1), j.3, here) in
-    let d = ended_along by_core by_entries (IsAfter m) (carried m) end bytes joined left out (first ∷ []) e start in
+    let d = ended_along by_core by_entries (IsAfter m) (carried m) at_end end bytes joined left out (first ∷ []) e start in
     let n = d.2.0 in
     let x = l n d.2.2 in
     let last = entry_of (Leave 0) answer x.0 in

@@ -68,8 +68,6 @@ taken_end carries held0 heap0 w0 w w' chunk rest line held heap used got held' h
     let v = subst P e u in (
       t.1 ++ reply_line Done,
       Appends-then w0 w w' t.1 (reply_line Done) t.3 v.2,
-      λ k. cc,
-      λ k. cc,
       λ bytes old out s. rw (t.2, ← append_assoc bytes t.0 rest, ← append_assoc out t.1 (reply_line Done))
           (ended_bye carries (bytes ++ t.0) held old (out ++ t.1) heap rest used held' heap' (t.4 bytes old out s) (any_end got held rest used held' n f) v.0 v.1),
     )
@@ -78,8 +76,6 @@ taken_end carries held0 heap0 w0 w w' chunk rest line held heap used got held' h
     let v = subst P e u in (
       t.1 ++ take v.1 (reply_line v.0),
       Appends-then w0 w w' t.1 (take v.1 (reply_line v.0)) t.3 v.3,
-      λ k. cc,
-      λ k. cc,
       λ bytes old out s. rw (t.2, ← append_assoc bytes t.0 rest, ← append_assoc out t.1 (take v.1 (reply_line v.0)))
           (ended_turn_fault carries (bytes ++ t.0) held old (out ++ t.1) heap rest used held' v.0 heap' v.1 (t.4 bytes old out s) (any_end got held rest used held' n f) v.2),
     )

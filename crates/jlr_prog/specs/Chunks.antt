@@ -17,14 +17,14 @@ pub record SoFar {H : Type 0} (carries : Carrying H) (bytes : List ℕ) (held : 
   pub holds : begun held ≡ take 513 last
   pub speaks : Speaks carries lines old out new
 
--- a chunk is answered, whatever came before it
+-- a chunk is answered, whatever came before it. That a session ends in a chunk is never because the input is at its end
 abbrev pub TakesChunk : {H : Type 0} → Carrying H → Held → List ℕ → H → Option (List ℕ) → Option FirstEnd → Held → H → Option (List ℕ) → Type 0
 TakesChunk {H} carries held chunk heap wrote None held' heap' written =
     (more : List ℕ) × Appends wrote written more
     × ((bytes : List ℕ) (old : H) (out : List ℕ) → SoFar carries bytes held old out heap → SoFar carries (bytes ++ chunk) held' old (out ++ more) heap')
 TakesChunk {H} carries held chunk heap wrote (Some end) held' heap' written =
-    (more : List ℕ) × Appends wrote written more × (end ≢ End) × (end ≢ Truncated)
-    × ((bytes : List ℕ) (old : H) (out : List ℕ) → SoFar carries bytes held old out heap → Ended carries end (bytes ++ chunk) old (out ++ more) heap')
+    (more : List ℕ) × Appends wrote written more
+    × ((bytes : List ℕ) (old : H) (out : List ℕ) → SoFar carries bytes held old out heap → Ended carries ⊥ end (bytes ++ chunk) old (out ++ more) heap')
 
 -- what is held at the end of the input is refused, and settled
 abbrev pub Closes : {H : Type 0} → Carrying H → FirstEnd → Held → H → Option (List ℕ) → H → Option (List ℕ) → Type 0

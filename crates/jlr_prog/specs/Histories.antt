@@ -21,15 +21,16 @@ abbrev pub by_entries : Carrying (List Entry)
 by_entries = record { command = λ old command answer new. Tells (ask_for command) old answer new; settling = Settles (Tells (Some HandOver)) }
 
 -- Mutator 0 joins; the lines of the bytes are answered one after the other, each command by the answer of its entry, and after
--- each reply come the entries of its settling; then mutator 0 leaves. All these entries, in order, are a run from m
-pub record IsSession (m : Machine) (end : FirstEnd) (bytes out : List ℕ) : Type 0 where
+-- each reply come the entries of its settling; then mutator 0 leaves. All these entries, in order, are a run from m. at_end
+-- says that the input is at its end
+pub record IsSession (m : Machine) (at_end : Type 0) (end : FirstEnd) (bytes out : List ℕ) : Type 0 where
   pub join : Entry
   pub entries : List Entry
   pub leave : Entry
   pub last : Machine
   pub joins : join.ask ≡ Join 0
   pub joined : join.answer ≡ Done
-  pub tells : Ended by_entries end bytes (join ∷ []) out entries
+  pub tells : Ended by_entries at_end end bytes (join ∷ []) out entries
   pub leaves : leave.ask ≡ Leave 0
   pub left : leave.answer ≡ Done
   pub run : Run m (entries ++ leave ∷ []) last

@@ -27,26 +27,27 @@ pub record Answered {H : Type 0} (carries : Carrying H) (bytes : List ℕ) (line
   pub each : All IsInLine lines
   pub speaks : Speaks carries lines old out new
 
--- an answer that is due where these bytes are still to be answered: that of the next line, or a refusal where the input ends in it
-abbrev pub IsDue : {H : Type 0} → Carrying H → List ℕ → H → Answer → H → Type 0
-IsDue {H} carries rest old answer new =
+-- an answer that is due where these bytes are still to be answered: that of the next line, or, once the input is at its end, a refusal of
+-- what has no end of its line
+abbrev pub IsDue : {H : Type 0} → Carrying H → Type 0 → List ℕ → H → Answer → H → Type 0
+IsDue {H} carries at_end rest old answer new =
     ((line : List ℕ) × (later : List ℕ) × (rest ≡ line ++ 10 ∷ later) × IsInLine line × Answers carries line old answer new)
-    ⊎ ((rest ≢ []) × IsInLine rest × (answer ≡ Refused (refusal_of rest)) × (new ≡ old))
+    ⊎ (at_end × (rest ≢ []) × IsInLine rest × (answer ≡ Refused (refusal_of rest)) × (new ≡ old))
 
--- what the bytes that were read came to. A settling follows each reply that went out, that of bye and the refusal at the end of the
--- input among them
-abbrev pub Ended : {H : Type 0} → Carrying H → FirstEnd → List ℕ → H → List ℕ → H → Type 0
-Ended {H} carries EndsByBye bytes old out new =
+-- what the bytes that were read came to, where at_end says that the input is at its end. A settling follows each reply that went out,
+-- that of bye and the refusal at the end of the input among them
+abbrev pub Ended : {H : Type 0} → Carrying H → Type 0 → FirstEnd → List ℕ → H → List ℕ → H → Type 0
+Ended {H} carries at_end EndsByBye bytes old out new =
     (lines : List (List ℕ)) × (later : List ℕ) × (said : List ℕ) × (before : H)
     × Answered carries bytes lines (codes "bye" ++ 10 ∷ later) old said before × carries.settling before new × (out ≡ said ++ reply_line Done)
-Ended {H} carries End bytes old out new =
-    (lines : List (List ℕ)) × Answered carries bytes lines [] old out new
-Ended {H} carries Truncated bytes old out new =
-    (lines : List (List ℕ)) × (last : List ℕ) × (said : List ℕ) × (before : H)
+Ended {H} carries at_end End bytes old out new =
+    at_end × (lines : List (List ℕ)) × Answered carries bytes lines [] old out new
+Ended {H} carries at_end Truncated bytes old out new =
+    at_end × (lines : List (List ℕ)) × (last : List ℕ) × (said : List ℕ) × (before : H)
     × Answered carries bytes lines last old said before × (last ≢ []) × IsInLine last × carries.settling before new
     × (out ≡ said ++ reply_line (Refused (refusal_of last)))
-Ended {H} carries ReadFault bytes old out new =
+Ended {H} carries at_end ReadFault bytes old out new =
     (lines : List (List ℕ)) × (last : List ℕ) × Answered carries bytes lines last old out new × IsInLine last
-Ended {H} carries WriteFault bytes old out new =
+Ended {H} carries at_end WriteFault bytes old out new =
     (lines : List (List ℕ)) × (rest : List ℕ) × (said : List ℕ) × (before : H) × (answer : Answer) × (n : ℕ)
-    × Answered carries bytes lines rest old said before × IsDue carries rest before answer new × (out ≡ said ++ take n (reply_line answer))
+    × Answered carries bytes lines rest old said before × IsDue carries at_end rest before answer new × (out ≡ said ++ take n (reply_line answer))

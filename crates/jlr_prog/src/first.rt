@@ -1,9 +1,8 @@
 //! A whole session over a heap of its own.
-ghost use Rattle.std.specs.Prelude.{ℕ, List, ◌≡◌, ◌⊎◌, IfOk, IfErr};
+ghost use Rattle.std.specs.Prelude.{ℕ, List, ◌≡◌, IfOk, IfErr};
 ghost use Rattle.std.specs.Io.KnownBytes.{Appends, Consumes, IsAtEnd};
 ghost use Rattle.jlr_machine.specs.Run.{empty};
 ghost use Rattle.jlr_prog.specs.Histories.{IsSession};
-ghost use Rattle.jlr_prog.specs.declared.shell.FirstEnd.TheVariants.{End, Truncated};
 
 use crate::heap::Heap;
 use crate::shell::{FirstEnd, converse};
@@ -15,7 +14,8 @@ use std::io::{Read, Write};
 /// one ask, and it leaves at the end. Each line is answered by one reply line, which is flushed.
 ///
 /// What went out is that of a run of the machine of java.lang.ref, line by line; after a fault of the writer it is a front of
-/// it.
+/// it. The session ends as `End` or `Truncated`, and bytes without the end of their line are refused, only where the reader is at
+/// its end.
 ///
 /// # Errors
 /// `AllocError` where there is no room for the heap. Then nothing was read or written.
@@ -28,8 +28,7 @@ pub fn first_run<R: Read, W: Write>(
     ensures session { IfOk result (λ end. (bytes : List ℕ) × (out : List ℕ)
         × Consumes (R.remaining reader.old) (R.remaining reader.new) bytes
         × Appends (W.contents writer.old) (W.contents writer.new) out
-        × IsSession (empty limits.cells limits.sessions limits.resources) end bytes out) }
-    ensures whole { IfOk result (λ end. (end ≡ End) ⊎ (end ≡ Truncated) → IsAtEnd (R.remaining reader.new)) }
+        × IsSession (empty limits.cells limits.sessions limits.resources) (IsAtEnd (R.remaining reader.new)) end bytes out) }
     ensures untouched { IfErr result (λ _. (reader.new ≡ reader.old) × (writer.new ≡ writer.old)) }
 {
     let mut heap = Heap::new(alloc, limits)?;

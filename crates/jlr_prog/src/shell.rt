@@ -1,5 +1,5 @@
 //! The lines of a session, from the first one to the end.
-ghost use Rattle.std.specs.Prelude.{ℕ, List, ◌≡◌, ◌⊎◌};
+ghost use Rattle.std.specs.Prelude.{ℕ, List, ◌≡◌};
 ghost use Rattle.std.specs.Io.KnownBytes.{Appends, Consumes, IsAtEnd};
 ghost use Rattle.jlr_prog.specs.Sessions.{Ended};
 ghost use Rattle.jlr_prog.specs.Chunks.{TakesChunk, Closes};
@@ -39,11 +39,10 @@ pub fn converse<R: Read, W: Write, C: CarryOut>(
     writer: &mut W,
     heap: &mut C,
 ) -> FirstEnd
-    ensures session { (bytes : List ℕ) × (out : List ℕ)
+    ensures { (bytes : List ℕ) × (out : List ℕ)
         × Consumes (R.remaining reader.old) (R.remaining reader.new) bytes
         × Appends (W.contents writer.old) (W.contents writer.new) out
-        × Ended C.carries result bytes heap.old out heap.new }
-    ensures whole { (result ≡ FirstEnd.End) ⊎ (result ≡ FirstEnd.Truncated) → IsAtEnd (R.remaining reader.new) }
+        × Ended C.carries (IsAtEnd (R.remaining reader.new)) result bytes heap.old out heap.new }
 {
     let mut pieces = Pieces::new();
     let mut chunk = [0u8; CHUNK_SIZE];

@@ -1,5 +1,5 @@
 -- The exit statuses.
-use Rattle.std.specs.Prelude.{ℕ, Option, None, Some}
+use Rattle.std.specs.Prelude.{◌≡◌, ℕ, Option, None, Some, Result, IsErrAnd, MatchResult}
 use Rattle.jlr_prog.specs.declared.shell.FirstEnd.{FirstEnd}
 use Rattle.jlr_prog.specs.declared.shell.FirstEnd.TheVariants.{Bye, End, Truncated, ReadFault, WriteFault}
 use Rattle.refheap.specs.declared.fault.ProgramFault.{ProgramFault}
@@ -20,3 +20,11 @@ fault_after End = None
 fault_after Truncated = Some Unfinished
 fault_after ReadFault = Some Read
 fault_after WriteFault = Some Write
+
+-- what the program comes to where a session ended so
+abbrev pub IsOutcome : FirstEnd → Result (Unit {0}) ProgramFault → Type 0
+IsOutcome end result = MatchResult result (λ _. fault_after end ≡ None) (λ fault. fault_after end ≡ Some fault)
+
+-- there was no memory for the session
+abbrev pub IsOutOfMemory : Result (Unit {0}) ProgramFault → Type 0
+IsOutOfMemory result = IsErrAnd result (λ fault. status_of fault ≡ 5)

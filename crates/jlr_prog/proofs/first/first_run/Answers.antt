@@ -5,6 +5,6 @@ use Rattle.jlr_prog.proofs.first.first_run.Goals as goal
 pub returns-clause-session : goal.returns-clause-session
 returns-clause-session g c =
     let l = c.args.limits in
-    let s = c.converse-end.ensures.session in
+    let s = c.converse-end.ensures in
     let joined = c.in_ok-heap.ensures in
-    (s.0, s.1, s.2, s.3, is_session (empty l.cells l.sessions l.resources) _ _ _ c.converse-end.result s.0 s.1 c.leave.result joined s.4 c.leave.ensures)
+    (s.0, s.1, s.2, s.3, is_session (empty l.cells l.sessions l.resources) _ _ _ _ c.converse-end.result s.0 s.1 c.leave.result joined s.4 c.leave.ensures)

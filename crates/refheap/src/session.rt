@@ -1,0 +1,48 @@
+//! A session, and what it leaves of the program.
+ghost use Rattle.std.specs.Prelude.{◌≡◌, ◌⊎◌, List, ℕ, MatchResult, None, Some};
+ghost use Rattle.std.specs.Io.KnownBytes.{Appends, Consumes, IsAtEnd};
+ghost use Rattle.jlr_machine.specs.Run.{empty};
+ghost use Rattle.jlr_prog.specs.Histories.{IsSession};
+ghost use Rattle.jlr_prog.specs.declared.shell.FirstEnd.{FirstEnd};
+ghost use Rattle.refheap.specs.Status.{IsOutOfMemory, IsOutcome, fault_after};
+
+use crate::fault::ProgramFault;
+use jlr_prog::first::first_run;
+use jlr_prog::shell::FirstEnd;
+use jlr_types::Limits;
+use std::alloc::Global;
+use std::io::{Read, Write};
+
+/// A session over the heap of these limits, and what its end is to the program.
+///
+/// # Errors
+/// The fault of the session's end, or `NoMemory` where there was no room for the heap. Then nothing was read or written.
+pub fn session<R: Read, W: Write>(
+    alloc: Global,
+    limits: Limits,
+    reader: &mut R,
+    writer: &mut W,
+) -> Result<(), ProgramFault>
+    ensures { (IsOutOfMemory result × (reader.new ≡ reader.old) × (writer.new ≡ writer.old))
+        ⊎ ((end : FirstEnd) × (bytes : List ℕ) × (out : List ℕ) × IsOutcome end result
+        × Consumes (R.remaining reader.old) (R.remaining reader.new) bytes
+        × Appends (W.contents writer.old) (W.contents writer.new) out
+        × IsSession (empty limits.cells limits.sessions limits.resources) (IsAtEnd (R.remaining reader.new)) end bytes out) }
+{
+    match first_run(alloc, limits, reader, writer) {
+        Ok(end) => outcome_of(end),
+        Err(fault) => Err(ProgramFault::NoMemory(fault)),
+    }
+}
+
+/// What the end of the session is to the program.
+fn outcome_of(end: FirstEnd) -> Result<(), ProgramFault>
+    ensures { IsOutcome end result }
+{
+    match end {
+        FirstEnd::Bye | FirstEnd::End => Ok(()),
+        FirstEnd::Truncated => Err(ProgramFault::Unfinished),
+        FirstEnd::ReadFault => Err(ProgramFault::Read),
+        FirstEnd::WriteFault => Err(ProgramFault::Write),
+    }
+}
