@@ -7,7 +7,6 @@ use Rattle.jlr_machine.specs.declared.ask.Answer.TheVariants.{Refused, Done}
 use Rattle.jlr_wire.specs.Lines.{Held, begun, ended_lines}
 use Rattle.jlr_wire.specs.Commands.{IsCommand}
 use Rattle.jlr_wire.proofs.Streams.{line_ends}
-use Rattle.jlr_wire.specs.declared.command.Command.{Command}
 use Rattle.jlr_wire.specs.declared.command.Command.TheVariants.{Bye}
 use Rattle.jlr_prog.specs.Settling.{Carrying}
 use Rattle.jlr_prog.specs.Turns.{Answers, reply_line, refusal_of}

@@ -2,11 +2,9 @@
 use Rattle.std.proofs.Common.{◌≡◌, ℕ, List, [], ◌++◌, take, Option, Some, None, sym, subst}
 use Rattle.std.specs.Io.KnownBytes.{Appends, Consumes, IsAtEnd}
 use Rattle.std.proofs.lemmas.List.{append-nil}
-use Rattle.jlr_machine.specs.declared.ask.Answer.{Answer}
 use Rattle.jlr_machine.specs.declared.ask.Answer.TheVariants.{Refused}
 use Rattle.jlr_wire.specs.Lines.{Held, begun, nothing_held}
 use Rattle.jlr_wire.proofs.Sending.{Appends-none, Appends-then}
-use Rattle.jlr_wire.specs.declared.command.Command.{Command}
 use Rattle.jlr_prog.specs.Settling.{Carrying}
 use Rattle.jlr_prog.specs.Turns.{reply_line, refusal_of}
 use Rattle.jlr_prog.specs.Sessions.{Ended}

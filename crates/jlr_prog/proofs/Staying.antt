@@ -18,7 +18,7 @@ use Rattle.jlr_machine.specs.declared.entry.Collected.{Collected}
 use Rattle.jlr_machine.specs.Objects.{Table, at, set_at, change_at, with_reference, as_reference, queue_ahead}
 use Rattle.jlr_machine.specs.Lookups.{slot_named, with_object, on}
 use Rattle.jlr_machine.specs.Refusals.{refusal, given}
-use Rattle.jlr_machine.specs.Calls.{after, made, with_given, unreferred, to_queue, enqueued, polled, poll_given, handed, delivered, handed_over, fresh_session}
+use Rattle.jlr_machine.specs.Calls.{after, made, with_given, unreferred, to_queue, enqueued, polled, handed, delivered, handed_over, fresh_session}
 use Rattle.jlr_machine.specs.Run.{IsLegal, with_collection, carried, apply}
 use Rattle.jlr_machine.specs.Run.IsLegal.{carried_out, refused, heap_full, out_of_memory}
 use Rattle.jlr_laws.proofs.Frames.{no_some, some_same, set_same, place_within}

@@ -2,12 +2,10 @@
 use Rattle.std.proofs.Common.{◌≡◌, ◌≢◌, ℕ, List, [], ◌++◌, take, drop, Option, Some, None, refl, sym, ap, subst, ◌∙◌, append_assoc}
 use Rattle.std.specs.Io.KnownBytes.{Appends}
 use Rattle.std.proofs.lemmas.List.{append-nil, take-append-drop}
-use Rattle.jlr_machine.specs.declared.ask.Answer.{Answer}
 use Rattle.jlr_machine.specs.declared.ask.Answer.TheVariants.{Done}
 use Rattle.jlr_wire.specs.Lines.{Held}
 use Rattle.jlr_wire.specs.Feeding.{Feeds, Continues}
 use Rattle.jlr_wire.proofs.Sending.{Appends-none, Appends-then}
-use Rattle.jlr_wire.specs.declared.command.Command.{Command}
 use Rattle.jlr_wire.specs.declared.pieces.Got.{Got}
 use Rattle.jlr_wire.specs.declared.pieces.Got.TheVariants.{More}
 use Rattle.jlr_prog.specs.Settling.{Carrying}

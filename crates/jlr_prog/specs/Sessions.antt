@@ -6,7 +6,6 @@ use Rattle.jlr_machine.specs.declared.ask.Answer.TheVariants.{Done, Refused}
 use Rattle.jlr_wire.specs.Lines.{IsInLine, ended_lines}
 use Rattle.jlr_wire.specs.Commands.{IsCommand}
 use Rattle.jlr_wire.specs.Replies.{words}
-use Rattle.jlr_wire.specs.declared.command.Command.{Command}
 use Rattle.jlr_wire.specs.declared.command.Command.TheVariants.{Bye}
 use Rattle.jlr_prog.specs.Settling.{Carrying}
 use Rattle.jlr_prog.specs.Turns.{Answers, AnswersAndSettles, reply_line, refusal_of}
