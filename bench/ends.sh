@@ -43,4 +43,10 @@ if [ -s "$errors" ]; then
     echo "told" >"$errors"
 fi
 check "too few cells, with the text of the command line" 2 "told" $status
+"$program" run --soft-age 1001 </dev/null >/dev/null 2>"$errors"
+status=$?
+if [ -s "$errors" ]; then
+    echo "told" >"$errors"
+fi
+check "too high a soft age, with the text of the command line" 2 "told" $status
 exit $failed

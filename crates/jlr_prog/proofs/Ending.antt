@@ -7,8 +7,8 @@ use Rattle.jlr_machine.specs.declared.ask.Answer.TheVariants.{Refused, Done}
 use Rattle.jlr_wire.specs.Lines.{Held, begun, ended_lines}
 use Rattle.jlr_wire.specs.Commands.{IsCommand}
 use Rattle.jlr_wire.proofs.Streams.{line_ends}
-use Rattle.jlr_wire.specs.declared.command.Command.{Command}
 use Rattle.jlr_wire.specs.declared.command.Command.TheVariants.{Bye}
+use Rattle.jlr_prog.specs.Settling.{Carrying}
 use Rattle.jlr_prog.specs.Turns.{Answers, reply_line, refusal_of}
 use Rattle.jlr_prog.specs.Sessions.{Answered, IsDue, Ended}
 use Rattle.jlr_prog.specs.Chunks.{SoFar}
@@ -25,7 +25,7 @@ nothing_shown [] e = refl
 nothing_shown (b ∷ last) e = absurd (omega (arith, ap length e))
 
 -- the lines so far were answered, and the rest stands after them
-answered : {H : Type 0} (carries : H → Command → Answer → H → Type 0) (bytes : List ℕ) (held : Held) (old : H) (out : List ℕ) (heap : H)
+answered : {H : Type 0} (carries : Carrying H) (bytes : List ℕ) (held : Held) (old : H) (out : List ℕ) (heap : H)
     → (s : SoFar carries bytes held old out heap) → (more rest : List ℕ) → s.last ++ more ≡ rest → Answered carries (bytes ++ more) s.lines rest old out heap
 answered carries bytes held old out heap s more rest e = record {
   joined = ap (λ t. t ++ more) s.are.joined ∙ append_assoc (ended_lines s.lines) s.last more ∙ ap (λ t. ended_lines s.lines ++ t) e;
@@ -33,7 +33,7 @@ answered carries bytes held old out heap s more rest e = record {
   speaks = s.speaks;
 }
 
-answered_now : {H : Type 0} (carries : H → Command → Answer → H → Type 0) (bytes : List ℕ) (held : Held) (old : H) (out : List ℕ) (heap : H)
+answered_now : {H : Type 0} (carries : Carrying H) (bytes : List ℕ) (held : Held) (old : H) (out : List ℕ) (heap : H)
     → (s : SoFar carries bytes held old out heap) → (rest : List ℕ) → s.last ≡ rest → Answered carries bytes s.lines rest old out heap
 answered_now carries bytes held old out heap s rest e = record {
   joined = s.are.joined ∙ ap (λ t. ended_lines s.lines ++ t) e;
@@ -41,7 +41,7 @@ answered_now carries bytes held old out heap s rest e = record {
   speaks = s.speaks;
 }
 
-pub ended_end : {H : Type 0} (carries : H → Command → Answer → H → Type 0) (bytes : List ℕ) (held : Held) (old : H) (out : List ℕ) (heap : H)
+pub ended_end : {H : Type 0} (carries : Carrying H) (bytes : List ℕ) (held : Held) (old : H) (out : List ℕ) (heap : H)
     → (at_end : Type 0) → at_end → SoFar carries bytes held old out heap → begun held ≡ [] → Ended carries at_end End bytes old out heap
 ended_end carries bytes held old out heap at_end is s e =
     (is, s.lines, answered_now carries bytes held old out heap s [] (nothing_shown s.last (sym s.holds ∙ e)))
@@ -53,20 +53,23 @@ refused_last shown last e = ap refusal_of e ∙ same_refusal last
 some_last : (shown last : List ℕ) → shown ≡ take 513 last → shown ≢ [] → last ≢ []
 some_last shown last e n none = n (e ∙ ap (take 513) none)
 
-pub ended_truncated : {H : Type 0} (carries : H → Command → Answer → H → Type 0) (bytes : List ℕ) (held : Held) (old : H) (out : List ℕ) (heap : H)
-    → (at_end : Type 0) → at_end → SoFar carries bytes held old out heap → begun held ≢ [] → Ended carries at_end Truncated bytes old (out ++ reply_line (Refused (refusal_of (begun held)))) heap
-ended_truncated carries bytes held old out heap at_end is s n = (
+pub ended_truncated : {H : Type 0} (carries : Carrying H) (bytes : List ℕ) (held : Held) (old : H) (out : List ℕ) (heap heap' : H)
+    → (at_end : Type 0) → at_end → SoFar carries bytes held old out heap → begun held ≢ [] → carries.settling heap heap'
+    → Ended carries at_end Truncated bytes old (out ++ reply_line (Refused (refusal_of (begun held)))) heap'
+ended_truncated carries bytes held old out heap heap' at_end is s n settled = (
   is,
   s.lines,
   s.last,
   out,
+  heap,
   answered_now carries bytes held old out heap s s.last refl,
   some_last (begun held) s.last s.holds n,
   s.are.open_end,
+  settled,
   ap (λ r. out ++ reply_line (Refused r)) (refused_last (begun held) s.last s.holds),
 )
 
-pub ended_close_fault : {H : Type 0} (carries : H → Command → Answer → H → Type 0) (bytes : List ℕ) (held : Held) (old : H) (out : List ℕ) (heap : H) (n : ℕ)
+pub ended_close_fault : {H : Type 0} (carries : Carrying H) (bytes : List ℕ) (held : Held) (old : H) (out : List ℕ) (heap : H) (n : ℕ)
     → (at_end : Type 0) → at_end → SoFar carries bytes held old out heap → begun held ≢ [] → Ended carries at_end WriteFault bytes old (out ++ take n (reply_line (Refused (refusal_of (begun held))))) heap
 ended_close_fault carries bytes held old out heap n at_end is s some = (
   s.lines,
@@ -84,22 +87,23 @@ ended_close_fault carries bytes held old out heap n at_end is s some = (
 line_in_rest : (last front rest later : List ℕ) → rest ≡ front ++ 10 ∷ later → last ++ rest ≡ (last ++ front) ++ 10 ∷ later
 line_in_rest last front rest later e = ap (λ t. last ++ t) e ∙ sym (append_assoc last front (10 ∷ later))
 
-pub ended_bye : {H : Type 0} (carries : H → Command → Answer → H → Type 0) (bytes : List ℕ) (held : Held) (old : H) (out : List ℕ) (heap : H) (rest : List ℕ) (used : ℕ) (held' : Held) (heap' : H)
-    → SoFar carries bytes held old out heap → AnyEnd held rest used held' → IsCommand held'.bytes Bye → heap' ≡ heap
+pub ended_bye : {H : Type 0} (carries : Carrying H) (bytes : List ℕ) (held : Held) (old : H) (out : List ℕ) (heap : H) (rest : List ℕ) (used : ℕ) (held' : Held) (heap' : H)
+    → SoFar carries bytes held old out heap → AnyEnd held rest used held' → IsCommand held'.bytes Bye → carries.settling heap heap'
     → Ended carries ⊥ EndsByBye (bytes ++ rest) old (out ++ reply_line Done) heap'
-ended_bye {H} carries bytes held old out heap rest used held' heap' s h b e =
+ended_bye carries bytes held old out heap rest used held' heap' s h b settled =
     let ends = line_ends (λ n. Unit {0}) bytes s.last s.lines held rest used held' s.are s.holds h in
     let P : List ℕ → Type 0 = λ t. IsCommand t Bye in
-    let is : s.last ++ h.front ≡ codes "bye" = bye_line (s.last ++ h.front) (whole_command (s.last ++ h.front) Bye (subst P ends.2 b)) in
-    let Q : H → Type 0 = λ x. Answered carries (bytes ++ rest) s.lines (codes "bye" ++ 10 ∷ h.rest) old out x in (
+    let is : s.last ++ h.front ≡ codes "bye" = bye_line (s.last ++ h.front) (whole_command (s.last ++ h.front) Bye (subst P ends.2 b)) in (
       s.lines,
       h.rest,
       out,
-      subst Q (sym e) (answered carries bytes held old out heap s rest _ (line_in_rest s.last h.front rest h.rest h.cut ∙ ap (λ t. t ++ 10 ∷ h.rest) is)),
+      heap,
+      answered carries bytes held old out heap s rest _ (line_in_rest s.last h.front rest h.rest h.cut ∙ ap (λ t. t ++ 10 ∷ h.rest) is),
+      settled,
       refl,
     )
 
-pub ended_turn_fault : {H : Type 0} (carries : H → Command → Answer → H → Type 0) (bytes : List ℕ) (held : Held) (old : H) (out : List ℕ) (heap : H) (rest : List ℕ) (used : ℕ) (held' : Held) (answer : Answer) (heap' : H) (n : ℕ)
+pub ended_turn_fault : {H : Type 0} (carries : Carrying H) (bytes : List ℕ) (held : Held) (old : H) (out : List ℕ) (heap : H) (rest : List ℕ) (used : ℕ) (held' : Held) (answer : Answer) (heap' : H) (n : ℕ)
     → SoFar carries bytes held old out heap → AnyEnd held rest used held' → Answers carries held'.bytes heap answer heap'
     → Ended carries ⊥ WriteFault (bytes ++ rest) old (out ++ take n (reply_line answer)) heap'
 ended_turn_fault carries bytes held old out heap rest used held' answer heap' n s h a =
@@ -116,13 +120,13 @@ ended_turn_fault carries bytes held old out heap rest used held' answer heap' n 
       refl,
     )
 
-due_anyhow : {H : Type 0} (carries : H → Command → Answer → H → Type 0) (at_end : Type 0) (rest : List ℕ) (old : H) (answer : Answer) (new : H)
+due_anyhow : {H : Type 0} (carries : Carrying H) (at_end : Type 0) (rest : List ℕ) (old : H) (answer : Answer) (new : H)
     → IsDue carries ⊥ rest old answer new → IsDue carries at_end rest old answer new
 due_anyhow carries at_end rest old answer new (inl d) = inl d
 due_anyhow carries at_end rest old answer new (inr d) = absurd d.0
 
 -- what is no matter of the input's end
-pub ended_anyhow : {H : Type 0} (carries : H → Command → Answer → H → Type 0) (at_end : Type 0) (end : FirstEnd) (bytes : List ℕ) (old : H) (out : List ℕ) (new : H)
+pub ended_anyhow : {H : Type 0} (carries : Carrying H) (at_end : Type 0) (end : FirstEnd) (bytes : List ℕ) (old : H) (out : List ℕ) (new : H)
     → Ended carries ⊥ end bytes old out new → Ended carries at_end end bytes old out new
 ended_anyhow carries at_end EndsByBye bytes old out new e = e
 ended_anyhow carries at_end End bytes old out new e = absurd e.0

@@ -14,7 +14,8 @@ use Rattle.jlr_wire.specs.declared.command.Command.{Command}
 use Rattle.jlr_wire.specs.declared.command.Command.TheVariants.{Bye}
 use Rattle.jlr_wire.specs.declared.pieces.Got.{Got}
 use Rattle.jlr_wire.specs.declared.pieces.Got.TheVariants.{More, Line, TooLong}
-use Rattle.jlr_prog.specs.Turns.{Answers, reply_line, refusal_of}
+use Rattle.jlr_prog.specs.Settling.{Carrying}
+use Rattle.jlr_prog.specs.Turns.{Answers, AnswersAndSettles, reply_line, refusal_of}
 use Rattle.jlr_prog.specs.Sessions.{Speaks}
 use Rattle.jlr_prog.specs.Chunks.{SoFar}
 
@@ -39,7 +40,7 @@ shown_command line c h =
     let all : take 513 line ≡ line = take_all 513 line (omega (arith, h.short)) in
     let P : List ℕ → Type 0 = λ t. IsCommand t c in subst P (sym all) h
 
-pub answers_line : {H : Type 0} (carries : H → Command → Answer → H → Type 0) (shown line : List ℕ) (old : H) (answer : Answer) (new : H)
+pub answers_line : {H : Type 0} (carries : Carrying H) (shown line : List ℕ) (old : H) (answer : Answer) (new : H)
     → shown ≡ take 513 line → Answers carries shown old answer new → Answers carries line old answer new
 answers_line {H} carries shown line old answer new e (inl h) =
     let P : List ℕ → Type 0 = λ t. IsCommand t h.0 in inl (h.0, whole_command line h.0 (subst P e h.1), h.2, h.3)
@@ -49,12 +50,17 @@ answers_line {H} carries shown line old answer new e (inr (inr h)) =
     let P : List ℕ → Type 0 = λ t. (c : Command) → IsCommand t c → ⊥ in
     inr (inr (λ c k. subst P e h.0 c (shown_command line c k), h.1 ∙ ap (λ t. Refused (refusal_of t)) e ∙ ap Refused (same_refusal line), h.2))
 
+-- and so is the line, with the settling that follows its reply
+pub turns_line : {H : Type 0} (carries : Carrying H) (shown line : List ℕ) (old : H) (answer : Answer) (new : H)
+    → shown ≡ take 513 line → AnswersAndSettles carries shown old answer new → AnswersAndSettles carries line old answer new
+turns_line carries shown line old answer new e t = (t.0, answers_line carries shown line old answer t.0 e t.1, t.2)
+
 -- one line more
-pub speaks_more : {H : Type 0} (carries : H → Command → Answer → H → Type 0) (lines : List (List ℕ)) (line : List ℕ) (old now next : H) (out : List ℕ) (answer : Answer)
-    → Speaks carries lines old out now → Answers carries line now answer next → words answer ≢ None → (IsCommand line Bye → ⊥)
+pub speaks_more : {H : Type 0} (carries : Carrying H) (lines : List (List ℕ)) (line : List ℕ) (old now next : H) (out : List ℕ) (answer : Answer)
+    → Speaks carries lines old out now → AnswersAndSettles carries line now answer next → words answer ≢ None → (IsCommand line Bye → ⊥)
     → Speaks carries (lines ++ line ∷ []) old (out ++ reply_line answer) next
 speaks_more {H} carries [] line old now next out answer s a w b =
-    let P : H → Type 0 = λ h. Answers carries line h answer next in
+    let P : H → Type 0 = λ h. AnswersAndSettles carries line h answer next in
     (answer, next, [], subst P s.1 a, w, b, ap (λ t. t ++ reply_line answer) s.0 ∙ sym (append-nil (reply_line answer)), (refl, refl))
 speaks_more {H} carries (first ∷ lines) line old now next out answer s a w b = (
   s.0,
@@ -68,7 +74,7 @@ speaks_more {H} carries (first ∷ lines) line old now next out answer s a w b =
 )
 
 -- before the first byte
-pub so_far_none : {H : Type 0} (carries : H → Command → Answer → H → Type 0) (heap : H) → SoFar carries [] nothing_held heap [] heap
+pub so_far_none : {H : Type 0} (carries : Carrying H) (heap : H) → SoFar carries [] nothing_held heap [] heap
 so_far_none carries heap = record {
   lines = [];
   last = [];
@@ -78,7 +84,7 @@ so_far_none carries heap = record {
 }
 
 -- the line goes on
-pub so_far_on : {H : Type 0} (carries : H → Command → Answer → H → Type 0) (bytes : List ℕ) (held : Held) (old : H) (out : List ℕ) (heap : H) (rest : List ℕ) (used : ℕ) (held' : Held)
+pub so_far_on : {H : Type 0} (carries : Carrying H) (bytes : List ℕ) (held : Held) (old : H) (out : List ℕ) (heap : H) (rest : List ℕ) (used : ℕ) (held' : Held)
     → SoFar carries bytes held old out heap → Continues held rest used held' → SoFar carries (bytes ++ take used rest) held' old out heap
 so_far_on carries bytes held old out heap rest used held' s h =
     let on = line_goes_on bytes s.last s.lines held rest used held' s.are s.holds h in
@@ -94,8 +100,8 @@ any_end Line held rest used held' n h = record { front = h.front; rest = h.rest;
 any_end TooLong held rest used held' n h = record { front = h.front; rest = h.rest; cut = h.cut; taken = h.taken; in_line = h.in_line; size = tt; ended = h.ended; held = h.held }
 
 -- a line is answered
-pub so_far_line : {H : Type 0} (carries : H → Command → Answer → H → Type 0) (bytes : List ℕ) (held : Held) (old : H) (out : List ℕ) (heap : H) (rest : List ℕ) (used : ℕ) (held' : Held) (answer : Answer) (heap' : H)
-    → SoFar carries bytes held old out heap → AnyEnd held rest used held' → Answers carries held'.bytes heap answer heap' → words answer ≢ None → (IsCommand held'.bytes Bye → ⊥)
+pub so_far_line : {H : Type 0} (carries : Carrying H) (bytes : List ℕ) (held : Held) (old : H) (out : List ℕ) (heap : H) (rest : List ℕ) (used : ℕ) (held' : Held) (answer : Answer) (heap' : H)
+    → SoFar carries bytes held old out heap → AnyEnd held rest used held' → AnswersAndSettles carries held'.bytes heap answer heap' → words answer ≢ None → (IsCommand held'.bytes Bye → ⊥)
     → SoFar carries (bytes ++ take used rest) held' old (out ++ reply_line answer) heap'
 so_far_line carries bytes held old out heap rest used held' answer heap' s h a w b =
     let line = s.last ++ h.front in
@@ -107,6 +113,6 @@ so_far_line carries bytes held old out heap rest used held' answer heap' s h a w
       are = ends.0;
       holds = ends.3;
       speaks = speaks_more carries s.lines line old heap heap' out answer s.speaks
-          (answers_line carries held'.bytes line heap answer heap' ends.2 a) w
+          (turns_line carries held'.bytes line heap answer heap' ends.2 a) w
           (λ k. b (subst P (sym ends.2) (shown_command line Bye k)));
     }

@@ -5,5 +5,7 @@ pub mod Ending
 pub mod Taking
 pub mod Standing
 pub mod Following
+pub mod HandingOn
+pub mod HandingOver
 pub mod Staying
 pub mod Histories

@@ -1,11 +1,13 @@
 -- Replies that go out, and bytes that come in.
 use Rattle.std.proofs.Common.{true, false, subst, ◌≡◌, ℕ, List, [], ◌∷◌, ◌++◌, take, length, Option, Some, None, refl, sym, ap, ◌∙◌, arith, append_assoc}
-use Rattle.std.specs.Prelude.{IfSome, IfNone}
+use Rattle.std.specs.Prelude.{◌≢◌, IfSome, IfNone, Result, Ok, Err, is_err}
 use Rattle.std.specs.Io.KnownBytes.{Appends, Consumes, Keeps}
 use Rattle.std.proofs.lemmas.List.{take_all}
 use Rattle.std.proofs.lemmas.Bool.{false≢true}
 use Rattle.jlr_wire.proofs.Sending.{Appends-keeps}
-use Rattle.jlr_prog.specs.Turns.{with_end}
+use Rattle.jlr_machine.specs.declared.ask.Answer.{Answer}
+use Rattle.jlr_wire.specs.Replies.{words}
+use Rattle.jlr_prog.specs.Turns.{with_end, reply_line, SendsReply}
 
 pub Consumes-none : (a : Option (List ℕ)) → Consumes a a []
 Consumes-none None = tt
@@ -25,3 +27,9 @@ sent_then_kept (Some text) a b c line none kept =
     let P : List ℕ → Type 0 = λ t. Appends a c t in
     (length (text ++ 10 ∷ []), subst P (sym (take_all (length (text ++ 10 ∷ [])) (text ++ 10 ∷ []) (omega arith))) (Appends-keeps a b c (text ++ 10 ∷ []) line kept))
 sent_then_kept None a b c line none kept = absurd (false≢true none.0)
+
+-- a reply that did not fail
+pub went_out : {E : Type 0} (old new : Option (List ℕ)) (result : Result (Unit {0}) E) (answer : Answer)
+    → SendsReply old new result answer → is_err result ≡ false → (words answer ≢ None) × Appends old new (reply_line answer)
+went_out old new (Ok u) answer h e = h
+went_out old new (Err x) answer h e = absurd (false≢true (sym e))

@@ -2,14 +2,13 @@
 use Rattle.std.proofs.Common.{◌≡◌, ◌≢◌, ℕ, List, [], ◌++◌, take, drop, Option, Some, None, refl, sym, ap, subst, ◌∙◌, append_assoc}
 use Rattle.std.specs.Io.KnownBytes.{Appends}
 use Rattle.std.proofs.lemmas.List.{append-nil, take-append-drop}
-use Rattle.jlr_machine.specs.declared.ask.Answer.{Answer}
 use Rattle.jlr_machine.specs.declared.ask.Answer.TheVariants.{Done}
 use Rattle.jlr_wire.specs.Lines.{Held}
 use Rattle.jlr_wire.specs.Feeding.{Feeds, Continues}
 use Rattle.jlr_wire.proofs.Sending.{Appends-none, Appends-then}
-use Rattle.jlr_wire.specs.declared.command.Command.{Command}
 use Rattle.jlr_wire.specs.declared.pieces.Got.{Got}
 use Rattle.jlr_wire.specs.declared.pieces.Got.TheVariants.{More}
+use Rattle.jlr_prog.specs.Settling.{Carrying}
 use Rattle.jlr_prog.specs.Turns.{TurnEnds, reply_line}
 use Rattle.jlr_prog.specs.Chunks.{SoFar, TakesChunk}
 use Rattle.jlr_prog.specs.declared.shell.FirstEnd.{FirstEnd}
@@ -18,12 +17,12 @@ use Rattle.jlr_prog.proofs.Going.{any_end, so_far_on, so_far_line}
 use Rattle.jlr_prog.proofs.Ending.{ended_bye, ended_turn_fault}
 
 -- the chunk is answered up to the rest, whatever came before it
-abbrev pub Taken : {H : Type 0} → (H → Command → Answer → H → Type 0) → Held → H → Option (List ℕ) → List ℕ → List ℕ → Held → H → Option (List ℕ) → Type 0
+abbrev pub Taken : {H : Type 0} → Carrying H → Held → H → Option (List ℕ) → List ℕ → List ℕ → Held → H → Option (List ℕ) → Type 0
 Taken {H} carries held0 heap0 w0 chunk rest held heap w =
     (front : List ℕ) × (more : List ℕ) × (chunk ≡ front ++ rest) × Appends w0 w more
     × ((bytes : List ℕ) (old : H) (out : List ℕ) → SoFar carries bytes held0 old out heap0 → SoFar carries (bytes ++ front) held old (out ++ more) heap)
 
-pub taken_none : {H : Type 0} (carries : H → Command → Answer → H → Type 0) (held : Held) (heap : H) (w : Option (List ℕ)) (chunk : List ℕ)
+pub taken_none : {H : Type 0} (carries : Carrying H) (held : Held) (heap : H) (w : Option (List ℕ)) (chunk : List ℕ)
     → Taken carries held heap w chunk chunk held heap w
 taken_none carries held heap w chunk = ([], [], refl, Appends-none w, λ bytes old out s. rw (append-nil bytes, append-nil out) s)
 
@@ -32,7 +31,7 @@ front_more : (chunk front rest : List ℕ) (used : ℕ) → chunk ≡ front ++ r
 front_more chunk front rest used e =
     e ∙ ap (λ t. front ++ t) (sym (take-append-drop used rest)) ∙ sym (append_assoc front (take used rest) (drop used rest))
 
-pub taken_on : {H : Type 0} (carries : H → Command → Answer → H → Type 0) (held0 : Held) (heap0 : H) (w0 w : Option (List ℕ)) (chunk rest : List ℕ) (held : Held) (heap : H) (used : ℕ) (got : Got) (held' : Held)
+pub taken_on : {H : Type 0} (carries : Carrying H) (held0 : Held) (heap0 : H) (w0 w : Option (List ℕ)) (chunk rest : List ℕ) (held : Held) (heap : H) (used : ℕ) (got : Got) (held' : Held)
     → Taken carries held0 heap0 w0 chunk rest held heap w → Feeds held rest used got held' → got ≡ More
     → Taken carries held0 heap0 w0 chunk (drop used rest) held' heap w
 taken_on carries held0 heap0 w0 w chunk rest held heap used got held' t f e =
@@ -45,7 +44,7 @@ taken_on carries held0 heap0 w0 w chunk rest held heap used got held' t f e =
       λ bytes old out s. rw (← append_assoc bytes t.0 (take used rest)) (so_far_on carries (bytes ++ t.0) held old (out ++ t.1) heap rest used held' (t.4 bytes old out s) on),
     )
 
-pub taken_line : {H : Type 0} (carries : H → Command → Answer → H → Type 0) (held0 : Held) (heap0 : H) (w0 w w' : Option (List ℕ)) (chunk rest line : List ℕ) (held : Held) (heap : H) (used : ℕ) (got : Got) (held' : Held) (heap' : H)
+pub taken_line : {H : Type 0} (carries : Carrying H) (held0 : Held) (heap0 : H) (w0 w w' : Option (List ℕ)) (chunk rest line : List ℕ) (held : Held) (heap : H) (used : ℕ) (got : Got) (held' : Held) (heap' : H)
     → Taken carries held0 heap0 w0 chunk rest held heap w → Feeds held rest used got held' → got ≢ More → line ≡ held'.bytes → TurnEnds carries line heap w None heap' w'
     → Taken carries held0 heap0 w0 chunk (drop used rest) held' heap' w'
 taken_line carries held0 heap0 w0 w w' chunk rest line held heap used got held' heap' t f n e u =
@@ -59,7 +58,7 @@ taken_line carries held0 heap0 w0 w w' chunk rest line held heap used got held' 
           (so_far_line carries (bytes ++ t.0) held old (out ++ t.1) heap rest used held' v.0 heap' (t.4 bytes old out s) (any_end got held rest used held' n f) v.1 v.2 v.4),
     )
 
-pub taken_end : {H : Type 0} (carries : H → Command → Answer → H → Type 0) (held0 : Held) (heap0 : H) (w0 w w' : Option (List ℕ)) (chunk rest line : List ℕ) (held : Held) (heap : H) (used : ℕ) (got : Got) (held' : Held) (heap' : H) (end : FirstEnd)
+pub taken_end : {H : Type 0} (carries : Carrying H) (held0 : Held) (heap0 : H) (w0 w w' : Option (List ℕ)) (chunk rest line : List ℕ) (held : Held) (heap : H) (used : ℕ) (got : Got) (held' : Held) (heap' : H) (end : FirstEnd)
     → Taken carries held0 heap0 w0 chunk rest held heap w → Feeds held rest used got held' → got ≢ More → line ≡ held'.bytes → TurnEnds carries line heap w (Some end) heap' w'
     → TakesChunk carries held0 chunk heap0 w0 (Some end) held' heap' w'
 taken_end carries held0 heap0 w0 w w' chunk rest line held heap used got held' heap' Bye t f n e u =

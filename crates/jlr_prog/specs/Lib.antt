@@ -1,4 +1,5 @@
 -- Reading order.
+pub mod Settling
 pub mod Turns
 pub mod Sessions
 pub mod Heaps

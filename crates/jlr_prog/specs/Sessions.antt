@@ -6,43 +6,45 @@ use Rattle.jlr_machine.specs.declared.ask.Answer.TheVariants.{Done, Refused}
 use Rattle.jlr_wire.specs.Lines.{IsInLine, ended_lines}
 use Rattle.jlr_wire.specs.Commands.{IsCommand}
 use Rattle.jlr_wire.specs.Replies.{words}
-use Rattle.jlr_wire.specs.declared.command.Command.{Command}
 use Rattle.jlr_wire.specs.declared.command.Command.TheVariants.{Bye}
-use Rattle.jlr_prog.specs.Turns.{Answers, reply_line, refusal_of}
+use Rattle.jlr_prog.specs.Settling.{Carrying}
+use Rattle.jlr_prog.specs.Turns.{Answers, AnswersAndSettles, reply_line, refusal_of}
 use Rattle.jlr_prog.specs.declared.shell.FirstEnd.{FirstEnd}
 use Rattle.jlr_prog.specs.declared.shell.FirstEnd.TheVariants.{Bye as EndsByBye, End, Truncated, ReadFault, WriteFault}
 
--- the lines are answered in turn, each by one reply line, and none of them is bye
-abbrev pub Speaks : {H : Type 0} → (H → Command → Answer → H → Type 0) → List (List ℕ) → H → List ℕ → H → Type 0
+-- the lines are answered in turn, each by one reply line, which a settling follows; and none of them is bye
+abbrev pub Speaks : {H : Type 0} → Carrying H → List (List ℕ) → H → List ℕ → H → Type 0
 Speaks {H} carries [] old out new = (out ≡ []) × (new ≡ old)
 Speaks {H} carries (line ∷ lines) old out new =
     (answer : Answer) × (next : H) × (later : List ℕ)
-    × Answers carries line old answer next × (words answer ≢ None) × (IsCommand line Bye → ⊥)
+    × AnswersAndSettles carries line old answer next × (words answer ≢ None) × (IsCommand line Bye → ⊥)
     × (out ≡ reply_line answer ++ later) × Speaks carries lines next later new
 
 -- The bytes begin with these lines, which were answered; the rest is still to be answered.
-pub record Answered {H : Type 0} (carries : H → Command → Answer → H → Type 0) (bytes : List ℕ) (lines : List (List ℕ)) (rest : List ℕ) (old : H) (out : List ℕ) (new : H) : Type 0 where
+pub record Answered {H : Type 0} (carries : Carrying H) (bytes : List ℕ) (lines : List (List ℕ)) (rest : List ℕ) (old : H) (out : List ℕ) (new : H) : Type 0 where
   pub joined : bytes ≡ ended_lines lines ++ rest
   pub each : All IsInLine lines
   pub speaks : Speaks carries lines old out new
 
 -- an answer that is due where these bytes are still to be answered: that of the next line, or, once the input is at its end, a refusal of
 -- what has no end of its line
-abbrev pub IsDue : {H : Type 0} → (H → Command → Answer → H → Type 0) → Type 0 → List ℕ → H → Answer → H → Type 0
+abbrev pub IsDue : {H : Type 0} → Carrying H → Type 0 → List ℕ → H → Answer → H → Type 0
 IsDue {H} carries at_end rest old answer new =
     ((line : List ℕ) × (later : List ℕ) × (rest ≡ line ++ 10 ∷ later) × IsInLine line × Answers carries line old answer new)
     ⊎ (at_end × (rest ≢ []) × IsInLine rest × (answer ≡ Refused (refusal_of rest)) × (new ≡ old))
 
--- what the bytes that were read came to, where at_end says that the input is at its end
-abbrev pub Ended : {H : Type 0} → (H → Command → Answer → H → Type 0) → Type 0 → FirstEnd → List ℕ → H → List ℕ → H → Type 0
+-- what the bytes that were read came to, where at_end says that the input is at its end. A settling follows each reply that went out,
+-- that of bye and the refusal at the end of the input among them
+abbrev pub Ended : {H : Type 0} → Carrying H → Type 0 → FirstEnd → List ℕ → H → List ℕ → H → Type 0
 Ended {H} carries at_end EndsByBye bytes old out new =
-    (lines : List (List ℕ)) × (later : List ℕ) × (said : List ℕ)
-    × Answered carries bytes lines (codes "bye" ++ 10 ∷ later) old said new × (out ≡ said ++ reply_line Done)
+    (lines : List (List ℕ)) × (later : List ℕ) × (said : List ℕ) × (before : H)
+    × Answered carries bytes lines (codes "bye" ++ 10 ∷ later) old said before × carries.settling before new × (out ≡ said ++ reply_line Done)
 Ended {H} carries at_end End bytes old out new =
     at_end × (lines : List (List ℕ)) × Answered carries bytes lines [] old out new
 Ended {H} carries at_end Truncated bytes old out new =
-    at_end × (lines : List (List ℕ)) × (last : List ℕ) × (said : List ℕ)
-    × Answered carries bytes lines last old said new × (last ≢ []) × IsInLine last × (out ≡ said ++ reply_line (Refused (refusal_of last)))
+    at_end × (lines : List (List ℕ)) × (last : List ℕ) × (said : List ℕ) × (before : H)
+    × Answered carries bytes lines last old said before × (last ≢ []) × IsInLine last × carries.settling before new
+    × (out ≡ said ++ reply_line (Refused (refusal_of last)))
 Ended {H} carries at_end ReadFault bytes old out new =
     (lines : List (List ℕ)) × (last : List ℕ) × Answered carries bytes lines last old out new × IsInLine last
 Ended {H} carries at_end WriteFault bytes old out new =

@@ -9,6 +9,7 @@ use Rattle.jlr_wire.specs.Commands.{IsCommand}
 use Rattle.jlr_wire.specs.Replies.{words}
 use Rattle.jlr_wire.specs.declared.command.Command.{Command}
 use Rattle.jlr_wire.specs.declared.command.Command.TheVariants.{Bye}
+use Rattle.jlr_prog.specs.Settling.{Carrying}
 use Rattle.jlr_prog.specs.declared.shell.FirstEnd.{FirstEnd}
 use Rattle.jlr_prog.specs.declared.shell.FirstEnd.TheVariants.{Bye as EndsByBye, WriteFault, End, Truncated, ReadFault}
 
@@ -17,11 +18,15 @@ abbrev pub refusal_of : List ℕ → Refusal
 refusal_of bytes = if nat_lt 512 (length bytes) then TooLong else Malformed
 
 -- the line is carried out, or it is bye, or it is refused
-abbrev pub Answers : {H : Type 0} → (H → Command → Answer → H → Type 0) → List ℕ → H → Answer → H → Type 0
+abbrev pub Answers : {H : Type 0} → Carrying H → List ℕ → H → Answer → H → Type 0
 Answers {H} carries line old answer new =
-    ((command : Command) × IsCommand line command × (command ≢ Bye) × carries old command answer new)
+    ((command : Command) × IsCommand line command × (command ≢ Bye) × carries.command old command answer new)
     ⊎ (IsCommand line Bye × (answer ≡ Done) × (new ≡ old))
     ⊎ (((command : Command) → IsCommand line command → ⊥) × (answer ≡ Refused (refusal_of line)) × (new ≡ old))
+
+-- the line is answered, and the settling follows its reply
+abbrev pub AnswersAndSettles : {H : Type 0} → Carrying H → List ℕ → H → Answer → H → Type 0
+AnswersAndSettles {H} carries line old answer new = (next : H) × Answers carries line old answer next × carries.settling next new
 
 -- the reply line of an answer, with its end; nothing for an answer that has no line
 abbrev pub with_end : Option (List ℕ) → List ℕ
@@ -37,12 +42,12 @@ SendsReply old new result answer = MatchResult result
     (λ _. (words answer ≢ None) × Appends old new (reply_line answer))
     (λ _. (n : ℕ) × Appends old new (take n (reply_line answer)))
 
--- one line is answered: the session goes on, or ends by bye, or by a fault of the writer
-abbrev pub TurnEnds : {H : Type 0} → (H → Command → Answer → H → Type 0) → List ℕ → H → Option (List ℕ) → Option FirstEnd → H → Option (List ℕ) → Type 0
+-- one line is answered and settled: the session goes on, or ends by bye. Or the writer fails, and nothing is settled
+abbrev pub TurnEnds : {H : Type 0} → Carrying H → List ℕ → H → Option (List ℕ) → Option FirstEnd → H → Option (List ℕ) → Type 0
 TurnEnds {H} carries line old wrote None new written =
-    (answer : Answer) × Answers carries line old answer new × (words answer ≢ None) × Appends wrote written (reply_line answer) × (IsCommand line Bye → ⊥)
+    (answer : Answer) × AnswersAndSettles carries line old answer new × (words answer ≢ None) × Appends wrote written (reply_line answer) × (IsCommand line Bye → ⊥)
 TurnEnds {H} carries line old wrote (Some EndsByBye) new written =
-    IsCommand line Bye × (new ≡ old) × Appends wrote written (reply_line Done)
+    IsCommand line Bye × carries.settling old new × Appends wrote written (reply_line Done)
 TurnEnds {H} carries line old wrote (Some WriteFault) new written =
     (answer : Answer) × (n : ℕ) × Answers carries line old answer new × Appends wrote written (take n (reply_line answer))
 TurnEnds {H} carries line old wrote (Some End) new written = ⊥

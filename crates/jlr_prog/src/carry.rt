@@ -2,15 +2,18 @@
 use jlr_machine::ask::Answer;
 use jlr_wire::command::Command;
 
-/// Carries commands out, one at a time.
+/// Carries commands out, one at a time, and settles after each reply.
 pub trait CarryOut {
-    ghost use Rattle.jlr_wire.specs.declared.command.Command.{Command};
-    ghost use Rattle.jlr_machine.specs.declared.ask.Answer.{Answer};
+    ghost use Rattle.jlr_prog.specs.Settling.{Carrying};
 
-    // what may come of a command: the value before, the command, its answer, the value after
-    ghost carries: { Self → Command → Answer → Self → Type 0 };
+    // what may come of a command, and of a settling
+    ghost carries: { Carrying Self };
 
     /// Carries a command out and gives its answer. `bye` is the session's own and never comes here.
     fn carry_out(&mut self, command: Command) -> Answer
-        ensures { carries self.old command result self.new };
+        ensures { carries.command self.old command result self.new };
+
+    /// Does what is left to do after a reply went out.
+    fn settle(&mut self)
+        ensures { carries.settling self.old self.new };
 }

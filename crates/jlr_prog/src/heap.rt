@@ -1,16 +1,17 @@
 //! The heap of one session.
-ghost use Rattle.std.specs.Prelude.{◌≡◌, IfOk, IfSome, IsTrue, MatchOption, None, Some, is_some};
+ghost use Rattle.std.specs.Prelude.{◌≡◌, ◌↔◌, IfOk, IfSome, IsTrue, MatchOption, None, Some, is_some};
 ghost use Rattle.jlr_machine.specs.Run.{empty};
 ghost use Rattle.jlr_machine.specs.declared.ask.Ask.TheVariants as ask;
 ghost use Rattle.jlr_core.specs.Events.{ask_of};
-ghost use Rattle.jlr_prog.specs.Heaps.{Answers, IsJoined, ask_for};
+ghost use Rattle.jlr_prog.specs.Settling.{TookOne};
+ghost use Rattle.jlr_prog.specs.Heaps.{Answers, IsJoined, StepsOnce, ask_for};
 
 use crate::carry::CarryOut;
 use jlr_core::engine::Core;
 use jlr_core::event::{Event, Reply};
-use jlr_machine::ask::{Answer, FullMode};
+use jlr_machine::ask::{Answer, FullMode, Handed};
 use jlr_machine::choice::Choice;
-use jlr_types::{Limits, Mutator, RefKind};
+use jlr_types::{Handle, Limits, Mutator, RefKind};
 use jlr_wire::command::Command;
 use std::alloc::{AllocError, Global};
 use std::marker::Model;
@@ -25,12 +26,13 @@ pub struct Heap {
 impl Model for Heap {
     ghost use Rattle.std.specs.Prelude.{length, ◌≤◌};
     ghost use Rattle.jlr_core.specs.Cores.{Kept};
+    ghost use Rattle.jlr_prog.specs.Heaps.{Stands};
 
     ghost Value = { Kept };
 
     ghost view = { λ h. h.core };
 
-    ghost invariant = { λ h. length h.core.machine.objects ≤ h.choice.cells };
+    ghost invariant = { λ h. (length h.core.machine.objects ≤ h.choice.cells) × Stands h.core };
 }
 
 impl Heap {
@@ -64,6 +66,14 @@ impl Heap {
         })
     }
 
+    /// One step of the handler, and whether there may be more to hand over.
+    fn hand_over(&mut self) -> bool
+        ensures { StepsOnce self.old result self.new }
+    {
+        let _core = &self.core;
+        goes_on(&self.answer(Event::HandOver))
+    }
+
     /// The answer of an event that asks something.
     fn answer(&mut self, event: Event<()>) -> Answer
         requires { IsTrue (is_some (ask_of event)) }
@@ -77,15 +87,29 @@ impl Heap {
 }
 
 impl CarryOut for Heap {
-    ghost use Rattle.jlr_prog.specs.Heaps.{CarriesOut};
+    ghost use Rattle.jlr_prog.specs.Heaps.{by_core};
 
-    ghost carries = { CarriesOut };
+    ghost carries = { by_core };
 
     fn carry_out(&mut self, command: Command) -> Answer {
         match event_for(command) {
             Some(event) => self.answer(event),
             None => Answer::Done,
         }
+    }
+
+    fn settle(&mut self) {
+        while self.hand_over() {}
+    }
+}
+
+/// Whether a step of the handler took something off the pending list.
+fn goes_on(answer: &Answer) -> bool
+    ensures { IsTrue result ↔ TookOne answer.now }
+{
+    match answer {
+        Answer::Handed(handed) => *handed != Handed::Nothing,
+        _ => false,
     }
 }
 
@@ -119,17 +143,36 @@ fn event_for(command: Command) -> Option<Event<()>>
             left,
             right,
         },
-        Command::Weak { referent, queue } => Event::MakeRef {
-            mutator,
-            kind: RefKind::Weak,
-            referent,
-            queue,
-        },
+        Command::Soft { referent, queue } => make_reference(RefKind::Soft, referent, queue),
+        Command::Weak { referent, queue } => make_reference(RefKind::Weak, referent, queue),
+        Command::Phantom { referent, queue } => make_reference(RefKind::Phantom, referent, queue),
         Command::Deref { reference } => Event::Deref { mutator, reference },
+        Command::Refers { reference, object } => Event::Refers {
+            mutator,
+            reference,
+            object,
+        },
+        Command::Clear { reference } => Event::Clear { mutator, reference },
+        Command::Enqueue { reference } => Event::Enqueue { mutator, reference },
+        Command::Enqueued { reference } => Event::Enqueued { mutator, reference },
+        Command::Queue => Event::MakeQueue { mutator },
+        Command::Poll { queue } => Event::Poll { mutator, queue },
         Command::Full => Event::Full {
             mutator,
             mode: FullMode::Policy,
         },
         Command::Bye => return None,
     })
+}
+
+/// Mutator 0 makes a reference of a kind.
+fn make_reference(kind: RefKind, referent: Handle, queue: Handle) -> Event<()>
+    ensures { ask_of result ≡ Some (ask.MakeRef 0 kind referent queue) }
+{
+    Event::MakeRef {
+        mutator: Mutator::new(0),
+        kind,
+        referent,
+        queue,
+    }
 }

@@ -7,6 +7,8 @@
 pub mod carry;
 pub mod first;
 pub mod heap;
+#[cfg(test)]
+mod references;
 pub mod shell;
 #[cfg(test)]
 mod tests;

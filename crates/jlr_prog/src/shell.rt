@@ -30,7 +30,7 @@ pub enum FirstEnd {
 }
 
 /// Answers the lines of the reader one after the other, each on one flushed line, until a line says
-/// `bye`, the input ends, or a read or a write fails.
+/// `bye`, the input ends, or a read or a write fails. After each reply that went out the heap settles.
 ///
 /// `bye` is answered `ok`. Bytes without the end of their line are answered `! 15`, or `! 16` if
 /// there are more than 512. A failed read or write is not tried again.
@@ -51,7 +51,7 @@ pub fn converse<R: Read, W: Write, C: CarryOut>(
             return FirstEnd::ReadFault;
         };
         if count == 0 {
-            return close(&pieces, writer);
+            return close(&pieces, writer, heap);
         }
         if let Some(end) = take_chunk(&mut pieces, &chunk[..count], writer, heap) {
             return end;
@@ -82,9 +82,9 @@ fn take_chunk<W: Write, C: CarryOut>(
     None
 }
 
-/// Answers what is left at the end of the input.
-fn close<W: Write>(pieces: &Pieces, writer: &mut W) -> FirstEnd
-    ensures { Closes result pieces.now (W.contents writer.old) (W.contents writer.new) }
+/// Answers what is left at the end of the input, and settles.
+fn close<W: Write, C: CarryOut>(pieces: &Pieces, writer: &mut W, heap: &mut C) -> FirstEnd
+    ensures { Closes C.carries result pieces.now heap.old (W.contents writer.old) heap.new (W.contents writer.new) }
 {
     if !pieces.unfinished() {
         return FirstEnd::End;
@@ -94,8 +94,9 @@ fn close<W: Write>(pieces: &Pieces, writer: &mut W) -> FirstEnd
     } else {
         Refusal::Malformed
     };
-    match reply(&Answer::Refused(refusal), writer) {
-        Ok(()) => FirstEnd::Truncated,
-        Err(_) => FirstEnd::WriteFault,
+    if reply(&Answer::Refused(refusal), writer).is_err() {
+        return FirstEnd::WriteFault;
     }
+    heap.settle();
+    FirstEnd::Truncated
 }

@@ -69,20 +69,23 @@ impl Write for Narrow {
 struct NoHeap;
 
 impl CarryOut for NoHeap {
-    ghost carries = { λ _ _ _ _. Unit {0} };
+    ghost carries = { record { command = λ _ _ _ _. Unit {0}; settling = λ _ _. Unit {0} } };
 
     fn carry_out(&mut self, _command: Command) -> Answer {
         Answer::Done
     }
+
+    fn settle(&mut self) {}
 }
 
-/// Answers each command by a handle one higher, and the fourth by an answer that has no line.
+/// Answers each command by a handle one higher, and the fourth by an answer that has no line. Counts its settlings.
 struct Counting {
     count: u8,
+    settlings: u8,
 }
 
 impl CarryOut for Counting {
-    ghost carries = { λ _ _ _ _. Unit {0} };
+    ghost carries = { record { command = λ _ _ _ _. Unit {0}; settling = λ _ _. Unit {0} } };
 
     fn carry_out(&mut self, _command: Command) -> Answer {
         if self.count >= 3 {
@@ -90,6 +93,10 @@ impl CarryOut for Counting {
         }
         self.count += 1;
         Answer::Handle(Handle::new(self.count))
+    }
+
+    fn settle(&mut self) {
+        self.settlings = self.settlings.saturating_add(1);
     }
 }
 
@@ -211,22 +218,74 @@ fn what_carries_out_is_asked_line_by_line(rt: HostRuntime) {
         fails: false,
     };
     let mut out = Vec::new(rt.alloc());
-    let mut heap = Counting { count: 0 };
+    let mut heap = Counting {
+        count: 0,
+        settlings: 0,
+    };
     let end = converse(&mut reader, &mut out, &mut heap);
-    let Counting { count } = heap;
+    let Counting { count, settlings } = heap;
     assert_eq!(rt; end, FirstEnd::WriteFault);
     assert_eq!(rt; out.as_slice(), b"= 1\n! 15\n= 2\n= 3\n".as_slice());
     assert_eq!(rt; count, 3);
+    assert_eq!(rt; settlings, 4);
+}
+
+#[test]
+fn each_reply_that_went_out_is_settled(rt: HostRuntime) {
+    for (bytes, room, end, settled) in [
+        ("", 64, FirstEnd::End, 0),
+        ("gc\n", 64, FirstEnd::End, 1),
+        ("\nput\ngc\n", 64, FirstEnd::End, 3),
+        ("gc\nbye\ngc\n", 64, FirstEnd::Bye, 2),
+        ("bye\n", 64, FirstEnd::Bye, 1),
+        ("gc\nbye", 64, FirstEnd::Truncated, 2),
+        ("x", 64, FirstEnd::Truncated, 1),
+        ("gc\nput\ngc\n", 8, FirstEnd::WriteFault, 1),
+        ("gc\nx", 8, FirstEnd::WriteFault, 1),
+        ("bye\n", 2, FirstEnd::WriteFault, 0),
+    ] {
+        let mut reader = Pieced {
+            bytes: bytes.as_bytes(),
+            first: 0,
+            step: 3,
+            fails: false,
+        };
+        let mut writer = Narrow {
+            taken: Vec::new(rt.alloc()),
+            room,
+            flushes: 9,
+        };
+        let mut heap = Counting {
+            count: 0,
+            settlings: 0,
+        };
+        let ended = converse(&mut reader, &mut writer, &mut heap);
+        let Counting {
+            count: _,
+            settlings,
+        } = heap;
+        assert_eq!(rt; ended, end, "at {bytes:?}");
+        assert_eq!(rt; settlings, settled, "at {bytes:?}");
+    }
 }
 
 /// What a session of the heap with 16 cells answers to these commands, which are parted by `; `.
-fn heap_answers(alloc: Global, commands: &str) -> Result<(FirstEnd, Vec<u8>), Fail> {
+pub(crate) fn heap_answers(alloc: Global, commands: &str) -> Result<(FirstEnd, Vec<u8>), Fail> {
+    aged_answers(alloc, 4, commands)
+}
+
+/// What it answers where soft references are kept for so many collections.
+pub(crate) fn aged_answers(
+    alloc: Global,
+    soft_age: u32,
+    commands: &str,
+) -> Result<(FirstEnd, Vec<u8>), Fail> {
     let mut bytes = Vec::new(alloc);
     for command in commands.split_terminator("; ") {
         bytes.extend_from_slice(command.as_bytes())?;
         bytes.extend_from_slice(b"\n")?;
     }
-    let limits = Limits::checked(16, 1, 16, 4, 10_000, 64)
+    let limits = Limits::checked(16, 1, 16, soft_age, 10_000, 64)
         .ok()
         .ok_or("limits")?;
     let mut reader = Pieced {
@@ -241,7 +300,7 @@ fn heap_answers(alloc: Global, commands: &str) -> Result<(FirstEnd, Vec<u8>), Fa
 }
 
 /// The reply lines that are parted by `; `.
-fn replies(alloc: Global, answers: &str) -> Result<Vec<u8>, AllocError> {
+pub(crate) fn replies(alloc: Global, answers: &str) -> Result<Vec<u8>, AllocError> {
     let mut bytes = Vec::new(alloc);
     for answer in answers.split_terminator("; ") {
         bytes.extend_from_slice(answer.as_bytes())?;

@@ -63,7 +63,7 @@ pub fn reply<W: Write>(answer: &Answer, writer: &mut W) -> Result<(), WriteFault
     Ok(())
 }
 
-/// Answers a line, and says how the session ended if this was its last.
+/// Answers a line, settles once the reply went out, and says how the session ended if this was its last.
 pub fn answer_line<W: Write, C: CarryOut>(
     line: &[u8],
     writer: &mut W,
@@ -75,6 +75,7 @@ pub fn answer_line<W: Write, C: CarryOut>(
     if reply(&turn.answer, writer).is_err() {
         return Some(FirstEnd::WriteFault);
     }
+    heap.settle();
     if turn.last {
         return Some(FirstEnd::Bye);
     }

@@ -18,7 +18,7 @@ use Rattle.jlr_wire.specs.Reading.{reading}
 use Rattle.jlr_types.specs.declared.FieldKind.{FieldKind}
 use Rattle.jlr_types.specs.declared.FieldKind.TheVariants.{Ref, Int}
 use Rattle.jlr_wire.specs.declared.command.Command.{Command}
-use Rattle.jlr_wire.specs.declared.command.Command.TheVariants.{New, Put, Get, Dup, Drop, Same, Weak, Deref, Full, Bye}
+use Rattle.jlr_wire.specs.declared.command.Command.TheVariants.{New, Put, Get, Dup, Drop, Same, Soft, Weak, Phantom, Deref, Refers, Clear, Enqueue, Enqueued, Queue, Poll, Full, Bye}
 
 -- a test for texts without a space
 abbrev spaceless : List ℕ → Bool
@@ -80,8 +80,16 @@ apart (Get h k) fields f = rw f.2 (three _ _ _ (word (codes "get") refl) (number
 apart (Dup h) fields f = rw f.1 (two _ _ (word (codes "dup") refl) (number h f.0))
 apart (Drop h) fields f = rw f.1 (two _ _ (word (codes "drop") refl) (number h f.0))
 apart (Same h k) fields f = rw f.2 (three _ _ _ (word (codes "same") refl) (number h f.0) (number k f.1))
-apart (Weak h k) fields f = rw f.2 (three _ _ _ (word (codes "weak") refl) (number h f.0) (number k f.1))
-apart (Deref h) fields f = rw f.1 (two _ _ (word (codes "deref") refl) (number h f.0))
+apart (Soft h q) fields f = rw f.2 (three _ _ _ (word (codes "soft") refl) (number h f.0) (number q f.1))
+apart (Weak h q) fields f = rw f.2 (three _ _ _ (word (codes "weak") refl) (number h f.0) (number q f.1))
+apart (Phantom h q) fields f = rw f.2 (three _ _ _ (word (codes "phantom") refl) (number h f.0) (number q f.1))
+apart (Deref r) fields f = rw f.1 (two _ _ (word (codes "deref") refl) (number r f.0))
+apart (Refers r h) fields f = rw f.2 (three _ _ _ (word (codes "refers") refl) (number r f.0) (number h f.1))
+apart (Clear r) fields f = rw f.1 (two _ _ (word (codes "clear") refl) (number r f.0))
+apart (Enqueue r) fields f = rw f.1 (two _ _ (word (codes "enqueue") refl) (number r f.0))
+apart (Enqueued r) fields f = rw f.1 (two _ _ (word (codes "enqueued") refl) (number r f.0))
+apart Queue fields f = rw f (one _ (word (codes "queue") refl))
+apart (Poll q) fields f = rw f.1 (two _ _ (word (codes "poll") refl) (number q f.0))
 apart Full fields f = rw f (one _ (word (codes "gc") refl))
 apart Bye fields f = rw f (one _ (word (codes "bye") refl))
 

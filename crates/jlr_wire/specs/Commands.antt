@@ -4,7 +4,7 @@ use Rattle.std.specs.List.{All, join_with_byte}
 use Rattle.jlr_types.specs.declared.FieldKind.{FieldKind}
 use Rattle.jlr_types.specs.declared.FieldKind.TheVariants.{Int, Ref}
 use Rattle.jlr_wire.specs.declared.command.Command.{Command}
-use Rattle.jlr_wire.specs.declared.command.Command.TheVariants.{New, Put, Get, Dup, Drop, Same, Weak, Deref, Full, Bye}
+use Rattle.jlr_wire.specs.declared.command.Command.TheVariants.{New, Put, Get, Dup, Drop, Same, Soft, Weak, Phantom, Deref, Refers, Clear, Enqueue, Enqueued, Queue, Poll, Full, Bye}
 
 -- the letter of a field
 abbrev pub letter : FieldKind → ℕ
@@ -28,8 +28,16 @@ Fields (Get h k) fields = (h < 256) × (k < 256) × (fields ≡ codes "get" ∷ 
 Fields (Dup h) fields = (h < 256) × (fields ≡ codes "dup" ∷ decimal h ∷ [])
 Fields (Drop h) fields = (h < 256) × (fields ≡ codes "drop" ∷ decimal h ∷ [])
 Fields (Same a b) fields = (a < 256) × (b < 256) × (fields ≡ codes "same" ∷ decimal a ∷ decimal b ∷ [])
+Fields (Soft h q) fields = (h < 256) × (q < 256) × (fields ≡ codes "soft" ∷ decimal h ∷ decimal q ∷ [])
 Fields (Weak h q) fields = (h < 256) × (q < 256) × (fields ≡ codes "weak" ∷ decimal h ∷ decimal q ∷ [])
+Fields (Phantom h q) fields = (h < 256) × (q < 256) × (fields ≡ codes "phantom" ∷ decimal h ∷ decimal q ∷ [])
 Fields (Deref r) fields = (r < 256) × (fields ≡ codes "deref" ∷ decimal r ∷ [])
+Fields (Refers r h) fields = (r < 256) × (h < 256) × (fields ≡ codes "refers" ∷ decimal r ∷ decimal h ∷ [])
+Fields (Clear r) fields = (r < 256) × (fields ≡ codes "clear" ∷ decimal r ∷ [])
+Fields (Enqueue r) fields = (r < 256) × (fields ≡ codes "enqueue" ∷ decimal r ∷ [])
+Fields (Enqueued r) fields = (r < 256) × (fields ≡ codes "enqueued" ∷ decimal r ∷ [])
+Fields Queue fields = fields ≡ codes "queue" ∷ []
+Fields (Poll q) fields = (q < 256) × (fields ≡ codes "poll" ∷ decimal q ∷ [])
 Fields Full fields = fields ≡ codes "gc" ∷ []
 Fields Bye fields = fields ≡ codes "bye" ∷ []
 

@@ -5,7 +5,7 @@ use Rattle.jlr_types.specs.declared.FieldKind.{FieldKind}
 use Rattle.jlr_types.specs.declared.FieldKind.TheVariants.{Ref}
 use Rattle.jlr_wire.specs.Fields.{byte_of}
 use Rattle.jlr_wire.specs.declared.command.Command.{Command}
-use Rattle.jlr_wire.specs.declared.command.Command.TheVariants.{New, Put, Get, Dup, Drop, Same, Weak, Deref, Full, Bye}
+use Rattle.jlr_wire.specs.declared.command.Command.TheVariants.{New, Put, Get, Dup, Drop, Same, Soft, Weak, Phantom, Deref, Refers, Clear, Enqueue, Enqueued, Queue, Poll, Full, Bye}
 
 -- the ? of the logic
 infixl 10 ◌>>=◌
@@ -28,24 +28,51 @@ layout_of text =
     cond (bytes_eq text (codes "-")) (Some [])
     (cond (nat_lt 0 (length text) && nat_lt (length text) 9) (kinds_of text) None)
 
+-- the commands of a name alone, of a name and a number, and of a name and two numbers, each beside its name
+abbrev pub names_alone : List (List ℕ × Command)
+names_alone = (codes "queue", Queue) ∷ (codes "gc", Full) ∷ (codes "bye", Bye) ∷ []
+
+abbrev pub names_with_number : ℕ → List (List ℕ × Command)
+names_with_number a =
+    (codes "dup", Dup a)
+    ∷ (codes "drop", Drop a)
+    ∷ (codes "deref", Deref a)
+    ∷ (codes "clear", Clear a)
+    ∷ (codes "enqueue", Enqueue a)
+    ∷ (codes "enqueued", Enqueued a)
+    ∷ (codes "poll", Poll a)
+    ∷ []
+
+abbrev pub names_with_two : ℕ → ℕ → List (List ℕ × Command)
+names_with_two a b =
+    (codes "get", Get a b)
+    ∷ (codes "same", Same a b)
+    ∷ (codes "soft", Soft a b)
+    ∷ (codes "weak", Weak a b)
+    ∷ (codes "phantom", Phantom a b)
+    ∷ (codes "refers", Refers a b)
+    ∷ []
+
+-- the command that stands beside a name
+abbrev pub named : List ℕ → List (List ℕ × Command) → Option Command
+named name [] = None
+named name (row ∷ table) = cond (bytes_eq name row.0) (Some row.1) (named name table)
+
+unfoldable pub with_number : List ℕ → ℕ → Option Command
+with_number name a = named name (names_with_number a)
+
+unfoldable pub with_two_numbers : List ℕ → ℕ → ℕ → Option Command
+with_two_numbers name a b = named name (names_with_two a b)
+
 -- the command of one field, of two, of three, of four
 unfoldable pub reading_1 : List ℕ → Option Command
-reading_1 name =
-    cond (bytes_eq name (codes "gc")) (Some Full)
-    (cond (bytes_eq name (codes "bye")) (Some Bye) None)
+reading_1 name = named name names_alone
 
 unfoldable pub reading_2 : List ℕ → List ℕ → Option Command
-reading_2 name a =
-    cond (bytes_eq name (codes "new")) (layout_of a >>= λ l. Some (New l))
-    (cond (bytes_eq name (codes "dup")) (byte_of a >>= λ h. Some (Dup h))
-    (cond (bytes_eq name (codes "drop")) (byte_of a >>= λ h. Some (Drop h))
-    (cond (bytes_eq name (codes "deref")) (byte_of a >>= λ h. Some (Deref h)) None)))
+reading_2 name a = cond (bytes_eq name (codes "new")) (layout_of a >>= λ l. Some (New l)) (byte_of a >>= λ h. with_number name h)
 
 unfoldable pub reading_3 : List ℕ → List ℕ → List ℕ → Option Command
-reading_3 name a b =
-    cond (bytes_eq name (codes "get")) (byte_of a >>= λ h. byte_of b >>= λ k. Some (Get h k))
-    (cond (bytes_eq name (codes "same")) (byte_of a >>= λ h. byte_of b >>= λ k. Some (Same h k))
-    (cond (bytes_eq name (codes "weak")) (byte_of a >>= λ h. byte_of b >>= λ k. Some (Weak h k)) None))
+reading_3 name a b = byte_of a >>= λ h. byte_of b >>= λ k. with_two_numbers name h k
 
 unfoldable pub reading_4 : List ℕ → List ℕ → List ℕ → List ℕ → Option Command
 reading_4 name a b c =

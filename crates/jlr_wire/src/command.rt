@@ -3,7 +3,7 @@ ghost use Rattle.jlr_wire.specs.declared.command.Command.{Command};
 ghost use Rattle.jlr_types.specs.declared.Refusal.TheVariants.{TooLong, Malformed};
 ghost use Rattle.std.specs.Prelude.{if◌then◌else◌, nat_lt, Ok, ◌≡◌, ◌<◌, ◌↔◌, IfErr, MatchOption, length};
 ghost use Rattle.std.specs.List.{slice_split};
-ghost use Rattle.jlr_wire.specs.Reading.{reading_1, reading_2, reading_3, reading_4, reading};
+ghost use Rattle.jlr_wire.specs.Reading.{with_number, with_two_numbers, reading_1, reading_2, reading_3, reading_4, reading};
 ghost use Rattle.jlr_wire.specs.Commands.{IsCommand};
 ghost use Rattle.jlr_wire.specs.Fields.{is_space, texts};
 
@@ -45,14 +45,47 @@ pub enum Command {
         left: Handle,
         right: Handle,
     },
+    /// `soft h q`: makes a soft reference, with a queue or without one.
+    Soft {
+        referent: Handle,
+        queue: Handle,
+    },
     /// `weak h q`: makes a weak reference, with a queue or without one.
     Weak {
+        referent: Handle,
+        queue: Handle,
+    },
+    /// `phantom h q`: makes a phantom reference, with a queue or without one.
+    Phantom {
         referent: Handle,
         queue: Handle,
     },
     /// `deref r`: what a reference refers to.
     Deref {
         reference: Handle,
+    },
+    /// `refers r h`: whether a reference refers to the object, or to none where h is 0.
+    Refers {
+        reference: Handle,
+        object: Handle,
+    },
+    /// `clear r`: a reference loses its referent.
+    Clear {
+        reference: Handle,
+    },
+    /// `enqueue r`: a reference loses its referent and goes to the end of its queue, if it may.
+    Enqueue {
+        reference: Handle,
+    },
+    /// `enqueued r`: whether a reference is in its queue.
+    Enqueued {
+        reference: Handle,
+    },
+    /// `queue`: makes a queue.
+    Queue,
+    /// `poll q`: takes the front of a queue.
+    Poll {
+        queue: Handle,
     },
     /// `gc`: a full collection.
     Full,
@@ -87,6 +120,7 @@ fn one_field(name: &[u8]) -> Option<Command>
     ensures { result ≡ reading_1 name.now }
 {
     match name {
+        b"queue" => Some(Command::Queue),
         b"gc" => Some(Command::Full),
         b"bye" => Some(Command::Bye),
         _ => None,
@@ -101,20 +135,35 @@ fn two_fields(name: &[u8], a: &[u8]) -> Option<Command>
     if name == b"new".as_slice() {
         return Some(Command::New { layout: layout(a)? });
     }
+    one_number(name, number(a)?)
+}
+
+/// A command of a name and a number.
+#[tactic(auto, unfolding(crate::specs::Reading::with_number))]
+fn one_number(name: &[u8], a: u8) -> Option<Command>
+    ensures { result ≡ with_number name.now a }
+{
+    let h = Handle::new(a);
     if name == b"dup".as_slice() {
-        return Some(Command::Dup {
-            object: Handle::new(number(a)?),
-        });
+        return Some(Command::Dup { object: h });
     }
     if name == b"drop".as_slice() {
-        return Some(Command::Drop {
-            object: Handle::new(number(a)?),
-        });
+        return Some(Command::Drop { object: h });
     }
     if name == b"deref".as_slice() {
-        return Some(Command::Deref {
-            reference: Handle::new(number(a)?),
-        });
+        return Some(Command::Deref { reference: h });
+    }
+    if name == b"clear".as_slice() {
+        return Some(Command::Clear { reference: h });
+    }
+    if name == b"enqueue".as_slice() {
+        return Some(Command::Enqueue { reference: h });
+    }
+    if name == b"enqueued".as_slice() {
+        return Some(Command::Enqueued { reference: h });
+    }
+    if name == b"poll".as_slice() {
+        return Some(Command::Poll { queue: h });
     }
     None
 }
@@ -124,23 +173,35 @@ fn two_fields(name: &[u8], a: &[u8]) -> Option<Command>
 fn three_fields(name: &[u8], a: &[u8], b: &[u8]) -> Option<Command>
     ensures { result ≡ reading_3 name.now a.now b.now }
 {
+    two_numbers(name, number(a)?, number(b)?)
+}
+
+/// A command of a name and two numbers.
+#[tactic(auto, unfolding(crate::specs::Reading::with_two_numbers))]
+fn two_numbers(name: &[u8], a: u8, b: u8) -> Option<Command>
+    ensures { result ≡ with_two_numbers name.now a b }
+{
+    let object = Handle::new(a);
     if name == b"get".as_slice() {
-        return Some(Command::Get {
-            object: Handle::new(number(a)?),
-            field: number(b)?,
-        });
+        return Some(Command::Get { object, field: b });
     }
+    let (left, right) = (object, Handle::new(b));
     if name == b"same".as_slice() {
-        return Some(Command::Same {
-            left: Handle::new(number(a)?),
-            right: Handle::new(number(b)?),
-        });
+        return Some(Command::Same { left, right });
+    }
+    let (referent, queue) = (left, right);
+    if name == b"soft".as_slice() {
+        return Some(Command::Soft { referent, queue });
     }
     if name == b"weak".as_slice() {
-        return Some(Command::Weak {
-            referent: Handle::new(number(a)?),
-            queue: Handle::new(number(b)?),
-        });
+        return Some(Command::Weak { referent, queue });
+    }
+    if name == b"phantom".as_slice() {
+        return Some(Command::Phantom { referent, queue });
+    }
+    let (reference, object) = (left, right);
+    if name == b"refers".as_slice() {
+        return Some(Command::Refers { reference, object });
     }
     None
 }

@@ -135,29 +135,42 @@ fn case_of(alloc: Global, command: Command) -> Result<String, AllocError> {
             let h = object.number();
             format!(in alloc; "Get {h} {field}")
         }
-        Command::Dup { object } => {
-            let h = object.number();
-            format!(in alloc; "Dup {h}")
-        }
-        Command::Drop { object } => {
-            let h = object.number();
-            format!(in alloc; "Drop {h}")
-        }
-        Command::Same { left, right } => {
-            let (a, b) = (left.number(), right.number());
-            format!(in alloc; "Same {a} {b}")
-        }
-        Command::Weak { referent, queue } => {
-            let (h, q) = (referent.number(), queue.number());
-            format!(in alloc; "Weak {h} {q}")
-        }
-        Command::Deref { reference } => {
-            let r = reference.number();
-            format!(in alloc; "Deref {r}")
-        }
+        Command::Dup { object } => with_one(alloc, "Dup", object),
+        Command::Drop { object } => with_one(alloc, "Drop", object),
+        Command::Same { left, right } => with_two(alloc, "Same", left, right),
         Command::Full => format!(in alloc; "Full"),
         Command::Bye => format!(in alloc; "Bye"),
+        about_a_reference => reference_case_of(alloc, about_a_reference),
     }
+}
+
+/// The case of a command about references or queues, and its parts.
+fn reference_case_of(alloc: Global, command: Command) -> Result<String, AllocError> {
+    match command {
+        Command::Soft { referent, queue } => with_two(alloc, "Soft", referent, queue),
+        Command::Weak { referent, queue } => with_two(alloc, "Weak", referent, queue),
+        Command::Phantom { referent, queue } => with_two(alloc, "Phantom", referent, queue),
+        Command::Deref { reference } => with_one(alloc, "Deref", reference),
+        Command::Refers { reference, object } => with_two(alloc, "Refers", reference, object),
+        Command::Clear { reference } => with_one(alloc, "Clear", reference),
+        Command::Enqueue { reference } => with_one(alloc, "Enqueue", reference),
+        Command::Enqueued { reference } => with_one(alloc, "Enqueued", reference),
+        Command::Queue => format!(in alloc; "Queue"),
+        Command::Poll { queue } => with_one(alloc, "Poll", queue),
+        _ => format!(in alloc; "another"),
+    }
+}
+
+/// The name of a case and the number of a handle.
+fn with_one(alloc: Global, case: &str, handle: Handle) -> Result<String, AllocError> {
+    let h = handle.number();
+    format!(in alloc; "{case} {h}")
+}
+
+/// The name of a case and the numbers of two handles.
+fn with_two(alloc: Global, case: &str, left: Handle, right: Handle) -> Result<String, AllocError> {
+    let (a, b) = (left.number(), right.number());
+    format!(in alloc; "{case} {a} {b}")
 }
 
 #[test]
@@ -171,8 +184,16 @@ fn reads_each_command(rt: HostRuntime) -> Result<(), Fail> {
         ("dup 3", "Dup 3"),
         ("drop 4", "Drop 4"),
         ("same 0 10", "Same 0 10"),
+        ("soft 12 13", "Soft 12 13"),
         ("weak 5 6", "Weak 5 6"),
+        ("phantom 200 0", "Phantom 200 0"),
         ("deref 250", "Deref 250"),
+        ("refers 8 9", "Refers 8 9"),
+        ("clear 14", "Clear 14"),
+        ("enqueue 15", "Enqueue 15"),
+        ("enqueued 16", "Enqueued 16"),
+        ("queue", "Queue"),
+        ("poll 17", "Poll 17"),
         ("gc", "Full"),
         ("bye", "Bye"),
     ] {
@@ -232,9 +253,41 @@ fn refuses_what_is_no_command(rt: HostRuntime) {
         "new i",
         "new ri",
         "new R",
-        "soft 1 0",
-        "phantom 1 0",
-        "queue",
+        "soft",
+        "soft 1",
+        "soft 1 0 0",
+        "soft 1  0",
+        "soft 1 256",
+        "soft 01 0",
+        "Soft 1 0",
+        "softer 1 0",
+        "weak 1 -",
+        "phantom 1",
+        "phantom 1 00",
+        "phantom  1 0",
+        "refers 1",
+        "refers 1 2 3",
+        "refers 1 null",
+        "clear",
+        "clear 1 2",
+        "clear -1",
+        "enqueue",
+        "enqueue 01",
+        "enqueue 1 2",
+        "enqueue 256",
+        "enqueues 1",
+        "enqueued",
+        "enqueued 1 2",
+        "enqueued 01",
+        "queue 1",
+        "queue ",
+        " queue",
+        "queues",
+        "poll",
+        "poll ",
+        "poll 1 2",
+        "poll 300",
+        "remove 1",
         "stat",
         "setint 1 0 5",
         "new\t-",

@@ -26,46 +26,62 @@ pub fn words(rt: &HostRuntime) -> Result<Vec<String>, ProgramFault> {
     }
 }
 
-/// The number of cells that the words of a `run` ask for, 16 to 65,536, or 1,024 where they ask for
-/// none.
-fn cells(alloc: Global, words: &[String]) -> Result<u32, ProgramFault> {
-    let matches = parsed(command(alloc)?, words)?;
-    let cells = matches
-        .subcommand_matches("run")
-        .and_then(|run| run.get_one::<u32>("cells"));
-    Ok(cells.unwrap_or(DEFAULT_CELLS))
+/// The numbers that the words of a `run` ask for.
+#[derive(Clone, Copy)]
+struct Numbers {
+    /// The number of cells, from 16 to 65,536.
+    cells: u32,
+    /// For how many collections a soft reference keeps its referent, from 0 to 1,000.
+    soft_age: u32,
 }
 
-/// The limits of the heap that the words of a `run` ask for: so many cells, and the rest as it is where nothing is asked for.
+/// The numbers that the words of a `run` ask for, each as it is usually where they ask for none.
+fn numbers_asked(alloc: Global, words: &[String]) -> Result<Numbers, ProgramFault> {
+    let matches = parsed(command(alloc)?, words)?;
+    let run = matches.subcommand_matches("run");
+    Ok(Numbers {
+        cells: number(run, "cells").unwrap_or(DEFAULT_CELLS),
+        soft_age: number(run, "soft-age").unwrap_or(DEFAULT_SOFT_AGE),
+    })
+}
+
+/// The number that is given for an option of a `run`, if there is one.
+fn number(run: Option<&ArgMatches<'_>>, option: &str) -> Option<u32> {
+    run.and_then(|run| run.get_one::<u32>(option))
+}
+
+/// The limits of the heap that the words of a `run` ask for: what they ask for, and the rest as it is usually.
 pub fn limits(alloc: Global, words: &[String]) -> Result<Limits, ProgramFault> {
-    match limits_with(cells(alloc, words)?) {
+    let asked = numbers_asked(alloc, words)?;
+    match limits_with(asked.cells, asked.soft_age) {
         Ok(limits) => Ok(limits),
-        Err(_) => {
-            let message = "the number of cells is from 16 to 65536";
+        Err(fault) => {
+            let message = match fault {
+                LimitFault::SoftAge => "the soft age is from 0 to 1000",
+                _ => "the number of cells is from 16 to 65536",
+            };
             let mut command = command(alloc)?;
             Err(told(command.error(ErrorKind::InvalidValue, message)?))
         }
     }
 }
 
-/// The limits of a session that is alone, with so many cells.
-fn limits_with(cells: u32) -> Result<Limits, LimitFault>
-    ensures { IfOk result (λ limits. (limits.cells ≡ cells) × (limits.sessions ≡ 1) × (limits.resources ≡ 16) × (limits.soft_age ≡ 4) × (limits.trace ≡ 10000) × (limits.budget ≡ 64)) }
+/// The limits of a session that is alone, with so many cells and this soft age.
+fn limits_with(cells: u32, soft_age: u32) -> Result<Limits, LimitFault>
+    ensures { IfOk result (λ limits. (limits.cells ≡ cells) × (limits.sessions ≡ 1) × (limits.resources ≡ 16) × (limits.soft_age ≡ soft_age) × (limits.trace ≡ 10000) × (limits.budget ≡ 64)) }
 {
     Limits::checked(
         cells,
         1,
         DEFAULT_RESOURCES,
-        DEFAULT_SOFT_AGE,
+        soft_age,
         DEFAULT_TRACE,
         DEFAULT_BUDGET,
     )
 }
 
-/// The other limits of a heap where the command line gives none.
+/// The limits of a heap for which the command line has no option.
 const DEFAULT_RESOURCES: u32 = 16;
-
-const DEFAULT_SOFT_AGE: u32 = 4;
 
 const DEFAULT_TRACE: u32 = 10_000;
 
@@ -73,6 +89,9 @@ const DEFAULT_BUDGET: u32 = 64;
 
 /// The cells of a heap where the command line gives no number.
 const DEFAULT_CELLS: u32 = 1_024;
+
+/// The soft age of a heap where the command line gives none.
+const DEFAULT_SOFT_AGE: u32 = 4;
 
 /// What the words match.
 fn parsed<'a>(command: Command<'a>, words: &'a [String]) -> Result<ArgMatches<'a>, ProgramFault> {
@@ -101,9 +120,16 @@ fn command<'a>(alloc: Global) -> Result<Command<'a>, AllocError> {
         .help("Number of cells of the heap, from 16 to 65536")
         .value_parser(value_parser!(u32).range(16..=65_536))
         .default_value("1024");
+    let soft_age = Arg::new(alloc, "soft-age")
+        .long("soft-age")
+        .value_name("N")
+        .help("Number of collections for which a soft reference keeps its referent, from 0 to 1000")
+        .value_parser(value_parser!(u32).range(0..=1_000))
+        .default_value("4");
     let run = Command::new(alloc, "run")
         .about("One session on standard input and output")
-        .arg(cells)?;
+        .arg(cells)?
+        .arg(soft_age)?;
     Command::new(alloc, "refheap")
         .about("A managed object heap with reference objects")
         .subcommand_required(true)

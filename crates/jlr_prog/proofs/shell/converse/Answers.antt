@@ -16,4 +16,4 @@ returns-in-Some g c =
 pub returns-then-count-eq0 : goal.returns-then-count-eq0
 returns-then-count-eq0 g c =
     let none : take c.in-Ok.count c.read.new.buf ≡ [] = ap (λ n. take n c.read.new.buf) c.if-count-eq0.true in
-    ends_at_end _ _ _ _ _ _ _ _ _ _ (take c.in-Ok.count c.read.new.buf) c.close.result c.loop.invariant c.in-Ok.ensures.bytes.0 none (c.in-Ok.ensures.bytes.1 c.if-count-eq0.true (omega arith)) c.close.ensures
+    ends_at_end _ _ _ _ _ _ _ _ _ _ _ (take c.in-Ok.count c.read.new.buf) c.close.result c.loop.invariant c.in-Ok.ensures.bytes.0 none (c.in-Ok.ensures.bytes.1 c.if-count-eq0.true (omega arith)) c.close.ensures

@@ -1,8 +1,8 @@
-use Rattle.std.proofs.Common.{◌∙◌, subst, Some, ap}
+use Rattle.std.proofs.Common.{rules, arith, ◌∙◌, subst, Some, ap}
 use Rattle.jlr_machine.specs.Run.{empty}
 use Rattle.jlr_machine.specs.declared.ask.Ask.TheVariants as ask
 use Rattle.jlr_core.specs.Events.{answer_in, Enters}
-use Rattle.jlr_core.proofs.RunLaws.{stands_at_start}
+use Rattle.jlr_core.proofs.RunLaws.{stands_at_start, start_room}
 use Rattle.jlr_prog.proofs.heap.Heap.new.Goals as goal
 
 pub returns-in-Answered-Done-default : goal.returns-in-Answered-Done-default
@@ -13,3 +13,10 @@ returns-in-Answered-Done-default c =
     let chosen = c.step.new.choice.chosen in
     let joined = subst (λ k. Enters m (Some (ask.Join k)) (answer_in c.step.result) chosen x.0) c.new-3.ensures x.1 in
     (chosen, x.0, subst (λ a. Enters m (Some (ask.Join 0)) a chosen x.0) (ap answer_in c.in-Answered-Done-default.is ∙ ap Some c.in-Answered-Done-default.answer-is) joined, x.2)
+
+pub invariant_of-result : goal.invariant_of-result
+invariant_of-result c =
+    let l = c.args.limits in
+    let x = c.step.ensures.entry (empty l.cells l.sessions l.resources) (stands_at_start c.in_ok-core.core l.cells l.sessions l.resources c.in_ok-core.ensures) in
+    let room = start_room c.in_ok-core.core l.cells l.sessions l.resources c.in_ok-choice.choice.cells c.in_ok-core.ensures (search rules) in
+    (omega (arith, room, c.step.ensures.cells, c.step.ensures.room), (x.0, x.2))
