@@ -1,12 +1,14 @@
 -- Events and replies without their resources, and the resources that they carry.
-use Rattle.std.specs.Prelude.{◌≡◌, Option, Some, None, Result, Ok, Err}
+use Rattle.std.specs.Prelude.{◌≡◌, Bool, true, false, IsTrue, Option, Some, None, Result, Ok, Err}
 use Rattle.jlr_types.specs.declared.Fault.{Fault}
 use Rattle.jlr_machine.specs.declared.machine.Machine.{Machine}
 use Rattle.jlr_machine.specs.declared.ask.Outcome.{Outcome}
 use Rattle.jlr_machine.specs.declared.ask.Outcome.TheVariants as outcome
 use Rattle.jlr_machine.specs.declared.ask.Ask.{Ask}
 use Rattle.jlr_machine.specs.declared.ask.Ask.TheVariants as ask
+use Rattle.jlr_types.specs.declared.Refusal.TheVariants.{NoMemory}
 use Rattle.jlr_machine.specs.declared.ask.Answer.{Answer}
+use Rattle.jlr_machine.specs.declared.ask.Answer.TheVariants.{Refused}
 use Rattle.jlr_machine.specs.declared.entry.Chosen.{Chosen}
 use Rattle.jlr_machine.specs.declared.entry.Entry.{Entry}
 use Rattle.jlr_machine.specs.Run.{no_choice, IsLegal, apply}
@@ -60,6 +62,16 @@ answer_in (Marked progress) = None
 abbrev pub handed : {R : Type 0} → Reply R → Option R
 handed (Answered answer resource) = resource
 handed (Marked progress) = None
+
+-- the events that may find no memory: a queue grows with its members
+abbrev pub may_grow : {R : Type 0} → Event R → Bool
+may_grow (Enqueue k r) = true
+may_grow HandOver = true
+may_grow _ = false
+
+-- memory is said to be wanting only where a queue may grow
+abbrev pub WantsMemory : {R : Type 0} → Event R → Reply R → Type 0
+WantsMemory event reply = answer_in reply ≡ Some (Refused NoMemory) → IsTrue (may_grow event)
 
 -- ---- What an event and its reply are to the machine
 

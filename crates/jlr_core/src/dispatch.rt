@@ -3,7 +3,7 @@ ghost use Rattle.std.specs.Prelude.{◌≡◌, ◌≤◌, length, None, Some};
 ghost use Rattle.jlr_machine.specs.Choices.{nothing_chosen};
 ghost use Rattle.jlr_machine.specs.WellFormed.{IsWellFormed};
 ghost use Rattle.jlr_core.specs.State.{answer_of};
-ghost use Rattle.jlr_core.specs.Events.{ask_of, answer_in, given, handed, StepsBy};
+ghost use Rattle.jlr_core.specs.Events.{ask_of, answer_in, given, handed, StepsBy, WantsMemory};
 
 use crate::event::{Event, Reply};
 use crate::state::State;
@@ -21,6 +21,7 @@ impl State {
         requires room { length self.old.heap.graph.objects ≤ choice.old.cells }
         ensures entry { StepsBy (machine_of self.old) (ask_of event) (answer_in result) choice.new.chosen (machine_of self.new) }
         ensures flow { handed result ≡ given event }
+        ensures memory { WantsMemory event result }
         ensures idle { ask_of event ≡ None → result ≡ Reply.Marked Progress.Idle }
         ensures room { choice.new.cells ≡ choice.old.cells }
         ensures cells { length self.new.heap.graph.objects ≡ length self.old.heap.graph.objects }

@@ -2,7 +2,7 @@
 ghost use Rattle.std.specs.Prelude.{◌≡◌, ◌≤◌, [], length, IfOk, None};
 ghost use Rattle.jlr_machine.specs.declared.machine.Machine.{Machine};
 ghost use Rattle.jlr_machine.specs.Run.{empty};
-ghost use Rattle.jlr_core.specs.Events.{ask_of, answer_in, given, handed, Enters};
+ghost use Rattle.jlr_core.specs.Events.{ask_of, answer_in, given, handed, Enters, WantsMemory};
 
 use crate::event::{Event, Reply};
 use crate::state::State;
@@ -53,12 +53,14 @@ impl<R> Core<R> {
         })
     }
 
-    /// One event. The choice says what was chosen; it has room for every cell. Marking is idle: there is no cycle yet.
+    /// One event. The choice says what was chosen; it has room for every cell. Only `Enqueue` and `HandOver`, by which a queue grows, may
+    /// find no memory. Marking is idle: there is no cycle yet.
     pub fn step(&mut self, event: Event<R>, choice: &mut Choice) -> Reply<R>
         requires room { length self.old.machine.objects ≤ choice.old.cells }
         ensures entry { (m : Machine) → StandsIn self.old m →
             (n : Machine) × Enters m (ask_of event) (answer_in result) choice.new.chosen n × StandsIn self.new n }
         ensures flow { handed result ≡ given event }
+        ensures memory { WantsMemory event result }
         ensures idle { ask_of event ≡ None → result ≡ Reply.Marked Progress.Idle }
         ensures room { choice.new.cells ≡ choice.old.cells }
         ensures cells { length self.new.machine.objects ≡ length self.old.machine.objects }

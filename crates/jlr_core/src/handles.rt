@@ -128,7 +128,8 @@ impl State {
 
     /// The end of an open. It is refused: there is no call in flight yet.
     pub(crate) fn opened(&self, by: Mutator) -> Refusal
-        ensures { (outcome : Outcome) → refusal (machine_of self.now) (Ask.Opened by outcome) ≡ Some result }
+        ensures refused { (outcome : Outcome) → refusal (machine_of self.now) (Ask.Opened by outcome) ≡ Some result }
+        ensures memory { result ≡ Refusal.NoMemory → ⊥ }
     {
         self.heap.no_calls();
         match self.check_session(by) {

@@ -64,7 +64,8 @@ impl State {
         value: Handle,
     ) -> Result<Answer, Refusal>
         requires { IsWellFormed (machine_of self.old) }
-        ensures { Answered (machine_of self.old) (Ask.Put by object field value) result (machine_of self.new) }
+        ensures answered { Answered (machine_of self.old) (Ask.Put by object field value) result (machine_of self.new) }
+        ensures memory { answer_of result ≡ Answer.Refused Refusal.NoMemory → ⊥ }
     {
         self.check_session(by)?;
         self.check_handle(by, object)?;
@@ -89,6 +90,7 @@ impl State {
         requires nothing { choice.old ≡ nothing_chosen choice.old.cells }
         requires room { length self.old.heap.graph.objects ≤ choice.old.cells }
         ensures meets { Meets (machine_of self.old) (Ask.New by layout) (answer_of result) choice.new.chosen (machine_of self.new) }
+        ensures memory { answer_of result ≡ Answer.Refused Refusal.NoMemory → ⊥ }
         ensures room { choice.new.cells ≡ choice.old.cells }
         ensures cells { length self.new.heap.graph.objects ≡ length self.old.heap.graph.objects }
     {

@@ -82,7 +82,8 @@ impl State {
         object: Handle,
     ) -> Result<Answer, Refusal>
         requires { IsWellFormed (machine_of self.now) }
-        ensures { Answered (machine_of self.now) (Ask.Refers by reference object) result (machine_of self.now) }
+        ensures answered { Answered (machine_of self.now) (Ask.Refers by reference object) result (machine_of self.now) }
+        ensures memory { answer_of result ≡ Answer.Refused Refusal.NoMemory → ⊥ }
     {
         self.check_session(by)?;
         self.check_handle(by, reference)?;
@@ -190,6 +191,7 @@ impl State {
         requires nothing { choice.old ≡ nothing_chosen choice.old.cells }
         requires room { length self.old.heap.graph.objects ≤ choice.old.cells }
         ensures meets { Meets (machine_of self.old) (Ask.MakeQueue by) (answer_of result) choice.new.chosen (machine_of self.new) }
+        ensures memory { answer_of result ≡ Answer.Refused Refusal.NoMemory → ⊥ }
         ensures room { choice.new.cells ≡ choice.old.cells }
         ensures cells { length self.new.heap.graph.objects ≡ length self.old.heap.graph.objects }
     {
@@ -212,6 +214,7 @@ impl State {
         requires nothing { choice.old ≡ nothing_chosen choice.old.cells }
         requires room { length self.old.heap.graph.objects ≤ choice.old.cells }
         ensures meets { Meets (machine_of self.old) (Ask.MakeRef by kind referent queue) (answer_of result) choice.new.chosen (machine_of self.new) }
+        ensures memory { answer_of result ≡ Answer.Refused Refusal.NoMemory → ⊥ }
         ensures room { choice.new.cells ≡ choice.old.cells }
         ensures cells { length self.new.heap.graph.objects ≡ length self.old.heap.graph.objects }
     {

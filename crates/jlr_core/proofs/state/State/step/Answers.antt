@@ -14,4 +14,4 @@ returns-in-Opened-clause-entry g c =
     let m = machine_of c.args.self.now in
     let ask = Opened c.in-Opened.mutator (outcome_of c.in-Opened.outcome) in
     subst (λ e. StepsBy m (ask_of e) (Some (Refused c.opened.result)) c.args.choice.now.chosen m) (sym c.in-Opened.is)
-    (subst (λ (x : Chosen). Meets m ask (Refused c.opened.result) x m) (sym (ap (λ (x : Choosing). x.chosen) c.requires.nothing)) (meets_refused m ask c.opened.result (c.opened.ensures (outcome_of c.in-Opened.outcome))))
+    (subst (λ (x : Chosen). Meets m ask (Refused c.opened.result) x m) (sym (ap (λ (x : Choosing). x.chosen) c.requires.nothing)) (meets_refused m ask c.opened.result (c.opened.ensures.refused (outcome_of c.in-Opened.outcome))))
