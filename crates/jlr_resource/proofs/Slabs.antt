@@ -1,5 +1,5 @@
 -- What a slab of places holds, after each of its calls.
-use Rattle.std.proofs.Common.{◌≡◌, ℕ, suc, ◌+◌, ◌<◌, ◌^◌, List, [], ◌∷◌, ◌++◌, map, length, get_or, set, refl, ◌∙◌, ap, subst, arith, Option, Some, None, IsSome}
+use Rattle.std.proofs.Common.{◌≡◌, ◌≢◌, ℕ, suc, ◌+◌, ◌<◌, ◌^◌, List, [], ◌∷◌, ◌++◌, map, length, get_or, set, refl, ◌∙◌, ap, subst, arith, Option, Some, None, IsSome}
 use Rattle.std.specs.Option.{option_to_list, option_map}
 use Rattle.std.specs.List.{AllByRecursion}
 use Rattle.std.specs.List.Sorted.{IsPermutation}
@@ -49,6 +49,10 @@ module _ {R : Type 0} where
   pub state_nowhere : (slab : Slab (Place R)) (rid : ℕ) → get slab rid ≡ None → state_in (resources_in (held_by slab)) rid ≡ None
   state_nowhere slab rid gone = rw (state_kept slab rid, gone) refl
 
+  -- a change at one key leaves what is kept elsewhere
+  pub kept_elsewhere : (old new : Slab (Place R)) (rid : ℕ) (slot : Option (Place R)) → Updates old new rid slot → (other : ℕ) → other ≢ rid → kept_in (held_by new) other ≡ kept_in (held_by old) other
+  kept_elsewhere old new rid slot updates other apart = rw (kept_found new other, kept_found old other, updates.others other apart) refl
+
   -- ---- A place where another kind of thing is kept
 
   module _ (slab : Slab (Place R)) (rid : ℕ) (p : Place R) (kept : Kept R) (here : get slab rid ≡ Some p) where
@@ -60,6 +64,9 @@ module _ {R : Type 0} where
 
     pub kept_changed : kept_in (held_by changed_slab) rid ≡ Some kept
     kept_changed = kept_there changed_slab rid (record p { kept = kept }) here_changed
+
+    pub others_changed : (other : ℕ) → other ≢ rid → kept_in (held_by changed_slab) other ≡ kept_in (held_by slab) other
+    others_changed = kept_elsewhere slab changed_slab rid _ (Updates-with_value slab rid (record p { kept = kept }) (rw here refl))
 
     pub state_changed : state_in (resources_in (held_by changed_slab)) rid ≡ Some (state_of kept)
     state_changed = state_there changed_slab rid (record p { kept = kept }) here_changed

@@ -1,5 +1,5 @@
 //! The table of resources.
-ghost use Rattle.std.specs.Prelude.{◌≡◌, ◌≤◌, ◌<◌, ◌+◌, ◌^◌, ◌∷◌, ◌++◌, ◌↔◌, ◌⊎◌, [], length, nat_le, Some, None, Err, IfOk, IfErr, OnErr, IsSome};
+ghost use Rattle.std.specs.Prelude.{◌≡◌, ◌≢◌, ℕ, ◌≤◌, ◌<◌, ◌+◌, ◌^◌, ◌∷◌, ◌++◌, ◌↔◌, ◌⊎◌, [], length, nat_le, Some, None, Err, IfOk, IfErr, OnErr, IsSome};
 ghost use Rattle.std.specs.Option.{option_to_list};
 ghost use Rattle.std.specs.List.Sorted.{IsPermutation};
 ghost use Rattle.jlr_machine.specs.Lookups.{with_resource};
@@ -78,6 +78,7 @@ impl<R> Table<R> {
         ensures free { IfOk result (λ rid. resource_in (resources self.old) rid ≡ None) }
         ensures held { IfOk result (λ rid. self.new.held ≡ opening self.old rid action) }
         ensures state { IfOk result (λ rid. state_at self.new rid ≡ Some state.Opening) }
+        ensures others { IfOk result (λ rid. (other : ℕ) → other ≢ rid → kept_at self.new other ≡ kept_at self.old other) }
         ensures resources { IfOk result (λ rid. resources self.new ≡ with_resource (resources self.old) (record { rid = rid; action = action; state = state.Opening })) }
         ensures refused { IfErr result (λ r. (r ≡ Refusal.ResourcesFull) ⊎ (r ≡ Refusal.NoMemory)) }
         ensures no_room { result ≡ Err Refusal.NoMemory → (self.old.room ≤ length (resources self.old)) ⊎ (2 ^ 32 ≤ self.old.next) }
@@ -98,6 +99,7 @@ impl<R> Table<R> {
         ensures idle { self.new ≡ changed self.old rid (kept.Idle resource) }
         ensures lies_here { kept_at self.new rid ≡ Some (kept.Idle resource) }
         ensures state { state_at self.new rid ≡ Some state.Idle }
+        ensures others { (other : ℕ) → other ≢ rid → kept_at self.new other ≡ kept_at self.old other }
         ensures resources { resources self.new ≡ in_state (resources self.old) rid state.Idle }
         ensures values { IsPermutation (resource ∷ values self.old) (values self.new) }
     {
@@ -114,6 +116,7 @@ impl<R> Table<R> {
         ensures put_in_last { kept_at self.old rid ≡ Some (kept.Idle result) }
         ensures out { self.new ≡ changed self.old rid kept.Out }
         ensures state { state_at self.new rid ≡ Some state.Out }
+        ensures others { (other : ℕ) → other ≢ rid → kept_at self.new other ≡ kept_at self.old other }
         ensures resources { resources self.new ≡ in_state (resources self.old) rid state.Out }
         ensures values { IsPermutation (values self.old) (result ∷ values self.new) }
     {
@@ -129,6 +132,7 @@ impl<R> Table<R> {
         ensures idle { self.new ≡ changed self.old rid (kept.Idle returned) }
         ensures lies_here { kept_at self.new rid ≡ Some (kept.Idle returned) }
         ensures state { state_at self.new rid ≡ Some state.Idle }
+        ensures others { (other : ℕ) → other ≢ rid → kept_at self.new other ≡ kept_at self.old other }
         ensures resources { resources self.new ≡ in_state (resources self.old) rid state.Idle }
         ensures values { IsPermutation (returned ∷ values self.old) (values self.new) }
     {
@@ -145,6 +149,7 @@ impl<R> Table<R> {
         ensures put_in_last { kept_at self.old rid ≡ Some (kept.Idle result) }
         ensures closing { self.new ≡ changed self.old rid kept.Closing }
         ensures state { state_at self.new rid ≡ Some state.Closing }
+        ensures others { (other : ℕ) → other ≢ rid → kept_at self.new other ≡ kept_at self.old other }
         ensures resources { resources self.new ≡ in_state (resources self.old) rid state.Closing }
         ensures values { IsPermutation (values self.old) (result ∷ values self.new) }
     {
@@ -159,6 +164,7 @@ impl<R> Table<R> {
         requires { (state_at self.old rid ≡ Some state.Closing) ⊎ (state_at self.old rid ≡ Some state.Opening) }
         ensures gone { self.new ≡ removed self.old rid }
         ensures state { state_at self.new rid ≡ None }
+        ensures others { (other : ℕ) → other ≢ rid → kept_at self.new other ≡ kept_at self.old other }
         ensures resources { resources self.new ≡ ended (resources self.old) rid }
         ensures values { values self.new ≡ values self.old }
         ensures room { length (resources self.new) < self.new.room }
@@ -212,6 +218,7 @@ fn place_for<R>(places: &mut Slab<Place<R>>, action: ActionNo) -> Result<Rid, Re
     ensures next { IfOk result (λ rid. (rid ≡ places.old.vacant_key) × (rid < 2 ^ 32)) }
     ensures free { IfOk result (λ rid. resource_in (resources_in (held_by places.old)) rid ≡ None) }
     ensures state { IfOk result (λ rid. state_in (resources_in (held_by places.new)) rid ≡ Some state.Opening) }
+    ensures others { IfOk result (λ rid. (other : ℕ) → other ≢ rid → kept_in (held_by places.new) other ≡ kept_in (held_by places.old) other) }
     ensures held { IfOk result (λ rid. held_by places.new ≡ with_held (held_by places.old) (record { rid = rid; action = action; kept = kept.Opening })) }
     ensures resources { IfOk result (λ rid. resources_in (held_by places.new) ≡ with_resource (resources_in (held_by places.old)) (record { rid = rid; action = action; state = state.Opening })) }
     ensures no_room { IfErr result (λ r. (r ≡ Refusal.NoMemory) × ((places.old.capacity ≤ length (resources_in (held_by places.old))) ⊎ (2 ^ 32 ≤ places.old.vacant_key))) }
@@ -242,6 +249,7 @@ fn exchange<R>(places: &mut Slab<Place<R>>, rid: Rid, kept: Kept<R>) -> Kept<R>
     ensures state_before { state_in (resources_in (held_by places.old)) rid ≡ Some (state_of result) }
     ensures after { kept_in (held_by places.new) rid ≡ Some kept }
     ensures state_after { state_in (resources_in (held_by places.new)) rid ≡ Some (state_of kept) }
+    ensures others { (other : ℕ) → other ≢ rid → kept_in (held_by places.new) other ≡ kept_in (held_by places.old) other }
     ensures held { held_by places.new ≡ with_kept (held_by places.old) rid kept }
     ensures resources { resources_in (held_by places.new) ≡ in_state (resources_in (held_by places.old)) rid (state_of kept) }
     ensures values { IsPermutation (option_to_list (value_of kept) ++ values_in (held_by places.old)) (option_to_list (value_of result) ++ values_in (held_by places.new)) }
@@ -259,6 +267,7 @@ fn remove<R>(places: &mut Slab<Place<R>>, rid: Rid) -> Kept<R>
     ensures rids { AreRids places.new }
     ensures state_before { state_in (resources_in (held_by places.old)) rid ≡ Some (state_of result) }
     ensures state_after { state_in (resources_in (held_by places.new)) rid ≡ None }
+    ensures others { (other : ℕ) → other ≢ rid → kept_in (held_by places.new) other ≡ kept_in (held_by places.old) other }
     ensures held { held_by places.new ≡ without_held (held_by places.old) rid }
     ensures resources { resources_in (held_by places.new) ≡ ended (resources_in (held_by places.old)) rid }
     ensures values { value_of result ≡ None → values_in (held_by places.new) ≡ values_in (held_by places.old) }

@@ -1,6 +1,6 @@
 use Rattle.std.proofs.Common.{◌≡◌, Some}
 use Rattle.slab.specs.Slab.{get}
-use Rattle.jlr_resource.proofs.Slabs.{kept_there, state_there, kept_changed, state_changed, has_place, held_changed, listed_changed, flow_changed}
+use Rattle.jlr_resource.proofs.Slabs.{kept_there, state_there, kept_changed, others_changed, state_changed, has_place, held_changed, listed_changed, flow_changed}
 use Rattle.jlr_resource.proofs.table.exchange.Goals as goal
 
 pub index_mut-place-requires : goal.index_mut-place-requires
@@ -22,6 +22,10 @@ returns-clause-after g c =
 pub returns-clause-state_after : goal.returns-clause-state_after
 returns-clause-state_after g c =
     rw (c.number.ensures, c.replace.ensures.after) (state_changed c.args.places.now c.args.rid _ c.args.kept (here g c))
+
+pub returns-clause-others : goal.returns-clause-others
+returns-clause-others g c =
+    rw (c.number.ensures, c.replace.ensures.after) (others_changed c.args.places.now c.args.rid _ c.args.kept (here g c))
 
 pub returns-clause-held : goal.returns-clause-held
 returns-clause-held g c =

@@ -3,7 +3,7 @@ use Rattle.std.proofs.lemmas.Bool.{cases_lt}
 use Rattle.std.specs.Prelude.{IsOk}
 use Rattle.slab.specs.Slab.{get, slab_len, Updates}
 use Rattle.jlr_resource.specs.declared.place.Kept.TheVariants as kept
-use Rattle.jlr_resource.proofs.Slabs.{state_there, held_new, listed_new, no_value_new, none_listed, count_listed, vacant_before, updates_before}
+use Rattle.jlr_resource.proofs.Slabs.{kept_elsewhere, state_there, held_new, listed_new, no_value_new, none_listed, count_listed, vacant_before, updates_before}
 use Rattle.jlr_resource.proofs.table.place_for.Goals as goal
 
 key : (g : _) (c : goal.After-new g) → c.insert_reserved.result ≡ c.new.result
@@ -28,6 +28,9 @@ returns-clause-free g c = none_listed c.args.places.now c.new.result (vacant g c
 
 pub returns-clause-state : goal.returns-clause-state
 returns-clause-state g c = state_there c.insert_reserved.new.self c.new.result _ (updates g c).changed
+
+pub returns-clause-others : goal.returns-clause-others
+returns-clause-others g c = kept_elsewhere c.args.places.now c.insert_reserved.new.self c.new.result _ (updates g c)
 
 pub returns-clause-held : goal.returns-clause-held
 returns-clause-held g c = held_new c.args.places.now _ c.new.result _ (vacant g c) (updates g c)

@@ -1,6 +1,6 @@
 use Rattle.std.proofs.Common.{◌≡◌, Some, arith}
 use Rattle.slab.specs.Slab.{get}
-use Rattle.jlr_resource.proofs.Slabs.{state_there, state_nowhere, has_place, held_gone, listed_gone, no_value_gone, count_listed}
+use Rattle.jlr_resource.proofs.Slabs.{kept_elsewhere, state_there, state_nowhere, has_place, held_gone, listed_gone, no_value_gone, count_listed}
 use Rattle.jlr_resource.proofs.table.remove.Goals as goal
 
 pub remove-kept-requires : goal.remove-kept-requires
@@ -13,6 +13,9 @@ returns-clause-state_before g c =
 
 pub returns-clause-state_after : goal.returns-clause-state_after
 returns-clause-state_after g c = state_nowhere c.remove-kept.new.self c.args.rid (rw c.number.ensures at c.remove-kept.ensures.updates.changed)
+
+pub returns-clause-others : goal.returns-clause-others
+returns-clause-others g c = kept_elsewhere c.args.places.now c.remove-kept.new.self c.args.rid _ (rw c.number.ensures at c.remove-kept.ensures.updates)
 
 pub returns-clause-held : goal.returns-clause-held
 returns-clause-held g c =
