@@ -1,0 +1,14 @@
+-- How calls count their failures.
+use Rattle.std.specs.Prelude.{◌≡◌, ℕ, ◌+◌, ◌^◌, ◌<◌, Result, is_err, cond}
+
+-- a fault raises the count by one, and any other answer leaves it
+abbrev pub Counts : {T E : Type 0} → ℕ → Result T E → ℕ → Type 0
+Counts old result new = new ≡ old + cond (is_err result) 1 0
+
+-- one failure more can be counted
+abbrev pub Fits : ℕ → Type 0
+Fits count = count + 1 < 2 ^ 64
+
+-- the count is at its last value
+abbrev pub IsFull : ℕ → Type 0
+IsFull count = count + 1 ≡ 2 ^ 64

@@ -1,0 +1,5 @@
+-- Counts of failures, and what a script makes of calls.
+pub mod Failures
+pub mod Faults
+pub mod Scripts
+pub mod Queues

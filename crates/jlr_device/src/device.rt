@@ -1,0 +1,50 @@
+//! What opens files and joins sockets.
+
+use crate::resource::Resource;
+use jlr_types::Fault;
+
+/// What a file is opened for.
+#[derive(Clone, Copy, PartialEq, Eq, Debug)]
+pub enum Mode {
+    /// Reading: the file is there already.
+    Read,
+    /// Writing: the file is made, or loses what it holds.
+    Write,
+}
+
+/// What opens files and joins sockets.
+pub trait Device {
+    ghost use Rattle.std.specs.Prelude.{◌≡◌, ℕ, ◌+◌, ◌^◌, ◌<◌, List, Result, IfOk};
+    ghost use Rattle.jlr_types.specs.declared.Fault.{Fault};
+    ghost use Rattle.jlr_device.specs.Failures.{Counts};
+    ghost use Rattle.jlr_device.specs.declared.device.Mode.{Mode};
+
+    type Res: Resource;
+
+    // how many calls failed
+    ghost count: { Self → ℕ };
+
+    // what an open may do: the device before, the mode, the path, the answer, and the device after
+    ghost may_open: { Self → Mode → List ℕ → Result Self.Res Fault → Self → Type 0 } = { λ _ _ _ _ _. Unit {0} };
+
+    // what joining a socket may do: the device before, the path, the answer, and the device after
+    ghost may_connect: { Self → List ℕ → Result Self.Res Fault → Self → Type 0 } = { λ _ _ _ _. Unit {0} };
+
+    /// How many calls failed.
+    fn failures(&self) -> u64
+        ensures { result ≡ count self.now };
+
+    /// Opens a file. No call of the resource has failed yet.
+    fn open(&mut self, mode: Mode, path: &str) -> Result<Self::Res, Fault>
+        requires { count self.old + 1 < 2 ^ 64 }
+        ensures counted { Counts (count self.old) result (count self.new) }
+        ensures fresh { IfOk result (λ resource. Self.Res.count resource ≡ 0) }
+        ensures told { may_open self.old mode path.now result self.new };
+
+    /// Joins a socket. No call of the resource has failed yet.
+    fn connect(&mut self, path: &str) -> Result<Self::Res, Fault>
+        requires { count self.old + 1 < 2 ^ 64 }
+        ensures counted { Counts (count self.old) result (count self.new) }
+        ensures fresh { IfOk result (λ resource. Self.Res.count resource ≡ 0) }
+        ensures told { may_connect self.old path.now result self.new };
+}

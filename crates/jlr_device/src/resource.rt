@@ -1,0 +1,56 @@
+//! An open file or a connected socket.
+
+use jlr_types::Fault;
+
+/// How a resource ended.
+#[derive(Clone, Copy, PartialEq, Eq, Debug)]
+pub struct Finished {
+    /// Whether it ended well.
+    pub outcome: Result<(), Fault>,
+    /// How many of its calls failed, the last one among them.
+    pub failures: u64,
+}
+
+/// An open file or a connected socket. It sees reads and writes, then at most one `finish`, then nothing.
+pub trait Resource {
+    ghost use Rattle.std.specs.Prelude.{◌≡◌, ℕ, ◌+◌, ◌^◌, ◌<◌, ◌≤◌, List, Result, length, IfOk};
+    ghost use Rattle.jlr_types.specs.declared.Fault.{Fault};
+    ghost use Rattle.jlr_device.specs.Failures.{Counts};
+    ghost use Rattle.jlr_device.specs.declared.resource.Finished.{Finished};
+
+    // how many calls failed
+    ghost count: { Self → ℕ };
+
+    // what a read may do: the resource and the buffer before, the answer, the buffer and the resource after
+    ghost may_read: { Self → List ℕ → Result ℕ Fault → List ℕ → Self → Type 0 } = { λ _ _ _ _ _. Unit {0} };
+
+    // what a write may do: the resource before, the bytes, the answer, and the resource after
+    ghost may_write: { Self → List ℕ → Result ℕ Fault → Self → Type 0 } = { λ _ _ _ _. Unit {0} };
+
+    // how a resource may end
+    ghost may_finish: { Self → Finished → Type 0 } = { λ _ _. Unit {0} };
+
+    /// How many calls failed.
+    fn failures(&self) -> u64
+        ensures { result ≡ count self.now };
+
+    /// Reads bytes to the front of `buf`, and answers how many; 0 at the end.
+    fn read(&mut self, buf: &mut [u8]) -> Result<usize, Fault>
+        requires { count self.old + 1 < 2 ^ 64 }
+        ensures bound { IfOk result (λ n. n ≤ length buf.old) }
+        ensures counted { Counts (count self.old) result (count self.new) }
+        ensures told { may_read self.old buf.old result buf.new self.new };
+
+    /// Writes bytes of the front of `bytes`, and answers how many, which may be fewer than there are.
+    fn write(&mut self, bytes: &[u8]) -> Result<usize, Fault>
+        requires { count self.old + 1 < 2 ^ 64 }
+        ensures bound { IfOk result (λ n. n ≤ length bytes.now) }
+        ensures counted { Counts (count self.old) result (count self.new) }
+        ensures told { may_write self.old bytes.now result self.new };
+
+    /// Ends the resource: a file's bytes go to the disk, a socket is shut down both ways, and then it is gone.
+    fn finish(self) -> Finished
+        requires { count self + 1 < 2 ^ 64 }
+        ensures counted { Counts (count self) result.outcome result.failures }
+        ensures told { may_finish self result };
+}
