@@ -1,5 +1,5 @@
 -- The machine that a core's state is, and what an ask did to it.
-use Rattle.std.specs.Prelude.{◌≡◌, ℕ, [], Option, Some, None, Result, Ok, Err}
+use Rattle.std.specs.Prelude.{◌≡◌, ℕ, cond, is_some, [], Option, Some, None, Result, Ok, Err}
 use Rattle.jlr_types.specs.declared.FieldValue.{FieldValue}
 use Rattle.jlr_types.specs.declared.FieldValue.TheVariants.{Int, Ref}
 use Rattle.jlr_types.specs.declared.Refusal.{Refusal}
@@ -10,8 +10,10 @@ use Rattle.jlr_machine.specs.declared.ask.Answer.{Answer}
 use Rattle.jlr_machine.specs.declared.ask.Answer.TheVariants.{Refused}
 use Rattle.jlr_machine.specs.declared.entry.Chosen.{Chosen}
 use Rattle.jlr_machine.specs.declared.entry.Entry.{Entry}
-use Rattle.jlr_barrier.specs.Graphs.{Graph, in_machine}
-use Rattle.jlr_machine.specs.Refusals.{refusal}
+use Rattle.jlr_machine.specs.declared.ask.Ask.TheVariants.{Deref}
+use Rattle.jlr_machine.specs.Lookups.{slot_named}
+use Rattle.jlr_barrier.specs.Graphs.{Clock, Graph, in_machine, used_now}
+use Rattle.jlr_machine.specs.Refusals.{given, refusal}
 use Rattle.jlr_machine.specs.Calls.{reply, after}
 use Rattle.jlr_machine.specs.Run.{IsLegal, done, empty}
 
@@ -42,3 +44,15 @@ abbrev pub FieldRefused : Option FieldValue → Refusal → Type 0
 FieldRefused None r = r ≡ NoField
 FieldRefused (Some (Int n)) r = r ≡ WrongType
 FieldRefused (Some (Ref s)) r = ⊥
+
+-- ---- The clock of the soft policy
+
+-- a reference that gave its referent was used now
+abbrev pub used_at : Option ℕ → Clock → Clock
+used_at None c = c
+used_at (Some s) c = used_now c s
+
+-- the clock after a Deref: what is refused, or gives nothing, is no use
+abbrev pub clock_after_deref : Machine → ℕ → ℕ → Result Answer Refusal → Clock → Clock
+clock_after_deref m k r (Ok a) c = cond (is_some (given m (Deref k r))) (used_at (slot_named m k r) c) c
+clock_after_deref m k r (Err refusal) c = c

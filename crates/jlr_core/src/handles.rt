@@ -76,6 +76,7 @@ impl State {
         ensures answer { new_handle (machine_of self.old) by ≡ Some result }
         ensures held { machine_of self.new ≡ with_handle (machine_of self.old) by slot }
         ensures objects { self.new.heap.graph.objects ≡ self.old.heap.graph.objects }
+        ensures clock { self.new.heap.clock ≡ self.old.heap.clock }
     {
         match self.heap.put_handle(by, slot) {
             Some(handle) => Answer::Handle(handle),
@@ -101,6 +102,7 @@ impl State {
         ensures answer { handle_given (machine_of self.old) by target ≡ Some result }
         ensures held { machine_of self.new ≡ with_given (machine_of self.old) by target }
         ensures objects { self.new.heap.graph.objects ≡ self.old.heap.graph.objects }
+        ensures clock { self.new.heap.clock ≡ self.old.heap.clock }
     {
         match target {
             Some(slot) => self.give(by, slot),
@@ -118,6 +120,7 @@ impl State {
             (λ a. (handle_given (machine_of self.old) by target ≡ Some a) × ((is_some target && not (has_free_handle (machine_of self.old) by)) ≡ false) × (machine_of self.new ≡ with_given (machine_of self.old) by target))
             (λ r. (r ≡ Refusal.HandlesFull) × ((is_some target && not (has_free_handle (machine_of self.old) by)) ≡ true) × (machine_of self.new ≡ machine_of self.old)) }
         ensures objects { self.new.heap.graph.objects ≡ self.old.heap.graph.objects }
+        ensures clock { self.new.heap.clock ≡ self.old.heap.clock }
     {
         let Some(slot) = target else {
             return Ok(Answer::Handle(Handle::new(0)));

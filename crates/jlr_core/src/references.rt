@@ -7,7 +7,7 @@ ghost use Rattle.jlr_machine.specs.Refusals.{refusal, is_of_wrong_kind, is_queue
 ghost use Rattle.jlr_machine.specs.Run.{no_choice};
 ghost use Rattle.jlr_machine.specs.Choices.{nothing_chosen};
 ghost use Rattle.jlr_machine.specs.WellFormed.{IsWellFormed};
-ghost use Rattle.jlr_core.specs.State.{Answered, Meets, answer_of};
+ghost use Rattle.jlr_core.specs.State.{Answered, Meets, answer_of, clock_after_deref};
 
 use crate::state::State;
 use jlr_cells::Shape;
@@ -60,6 +60,7 @@ impl State {
     pub(crate) fn deref(&mut self, by: Mutator, reference: Handle) -> Result<Answer, Refusal>
         requires { IsWellFormed (machine_of self.old) }
         ensures answered { Answered (machine_of self.old) (Ask.Deref by reference) result (machine_of self.new) }
+        ensures clock { self.new.heap.clock ≡ clock_after_deref (machine_of self.old) by reference result self.old.heap.clock }
         ensures cells { length self.new.heap.graph.objects ≡ length self.old.heap.graph.objects }
     {
         self.check_session(by)?;
