@@ -1,11 +1,13 @@
 -- What a full collection does to the machine, and what it tells the choice.
-use Rattle.std.specs.Prelude.{◌≡◌, ℕ, ◌+◌, ◌<◌, not, IsTrue, List, [], ◌∷◌, length, Bool, Option, Some, None}
+use Rattle.std.specs.Prelude.{◌≡◌, ℕ, cond, is_some, ◌+◌, ◌<◌, not, IsTrue, List, [], ◌∷◌, length, Bool, Option, Some, None}
 use Rattle.jlr_machine.specs.declared.machine.Machine.{Machine}
 use Rattle.jlr_machine.specs.declared.object.Object.{Object}
 use Rattle.jlr_soft.specs.declared.policy.Mode.{Mode}
 use Rattle.jlr_soft.specs.declared.policy.Mode.TheVariants.{Policy, ClearAll}
 use Rattle.jlr_machine.specs.declared.ask.FullMode.{FullMode}
 use Rattle.jlr_machine.specs.declared.ask.FullMode.TheVariants.{Policy as AskedPolicy, ClearAll as AskedClearAll}
+use Rattle.jlr_barrier.specs.Graphs.{Clock, counted}
+use Rattle.jlr_machine.specs.declared.entry.Chosen.{Chosen}
 use Rattle.jlr_machine.specs.declared.entry.Collected.{Collected}
 use Rattle.jlr_machine.specs.Objects.{at, occupied}
 use Rattle.jlr_machine.specs.Lookups.{with_new}
@@ -61,3 +63,9 @@ pub record FindsNoRoom (m : Machine) (new : Choosing) (n : Machine) : Type 0 whe
   pub full : IsFullClearing m clearing.kept clearing.pending
   pub too_few : length m.objects < length clearing.kept + 1
   pub left : n ≡ after_collection m clearing.kept clearing.pending
+
+-- ---- The clock of the soft policy
+
+-- a collection was counted, if there was one
+abbrev pub after_collected : Chosen → Clock → Clock
+after_collected chosen c = cond (is_some chosen.collected) (counted c) c
