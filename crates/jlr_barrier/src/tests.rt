@@ -5,7 +5,7 @@ ghost use Rattle.jlr_barrier.specs.Graphs.{empty_graph};
 use crate::heap::Heap;
 use jlr_cells::{Kind, Shape};
 use jlr_machine::object::{Object, RefState, Reference};
-use jlr_types::{FieldKind, FieldValue, Handle, Layout, Limits, Mutator, RefKind, Slot};
+use jlr_types::{FieldKind, FieldValue, Handle, Layout, Limits, Meter, Mutator, RefKind, Slot};
 use std::alloc::Global;
 use std::test::Fail;
 
@@ -239,5 +239,26 @@ fn the_image_has_each_object(rt: HostRuntime) -> Result<(), Fail> {
     assert!(rt; matches!(image.get(0), Some(Object::Plain(_))));
     assert!(rt; matches!(image.get(1), Some(Object::Queue(_))));
     assert!(rt; image.get(2).is_none());
+    Ok(())
+}
+
+#[test]
+fn roots_and_what_they_lead_to_are_marked(rt: HostRuntime) -> Result<(), Fail> {
+    let mut heap = heap_of(rt.alloc())?;
+    let mut meter = Meter::new();
+    let (queue, member) = (Slot::new(0), Slot::new(3));
+    assert_eq!(rt; heap.allocate(Shape::Queue), Some(queue));
+    assert!(rt; heap.is_queue(queue));
+    heap.link(queue, member)?;
+    heap.add_pending(queue);
+    heap.shade_roots();
+    assert_eq!(rt; heap.next_grey(), Some(queue));
+    assert!(rt; heap.kind(queue).is_some());
+    heap.scan(queue, &mut meter);
+    assert_eq!(rt; meter.ticks(), 1);
+    assert_eq!(rt; heap.next_grey(), Some(member));
+    assert_eq!(rt; heap.next_grey(), None);
+    assert!(rt; queue.number() < heap.cell_count() && member.number() < heap.cell_count());
+    assert!(rt; heap.is_marked(queue) && heap.is_marked(member));
     Ok(())
 }
