@@ -16,5 +16,7 @@ mod pending;
 mod queues;
 mod sessions;
 mod shade;
+#[cfg(test)]
+mod tests;
 
 pub use heap::Heap;

@@ -8,5 +8,7 @@
 
 mod collection;
 mod settle;
+#[cfg(test)]
+mod tests;
 
 pub use collection::flip;

@@ -129,14 +129,13 @@ handed_to_queue g h k s first pending enqueues taken m =
     let M : Machine = in_machine m g in
     let rest : List ℕ = drop 1 g.pending in
     let ahead = option_and_then queue_ahead (reference_at g.objects s) in
-    let on_pending : h.pending ≡ g.pending = ap (λ (x : Machine). x.pending) (enqueues m) ∙ to_queue_pending (with_object M s (with_reference unreferred)) s ahead in
-    (
+    let on_pending : h.pending ≡ g.pending = ap (λ (x : Machine). x.pending) (enqueues m) ∙ to_queue_pending (with_object M s (with_reference unreferred)) s ahead in (
       ap (hand_over_answer M) list ∙ ap (option_map (λ o. HandedAnswer (handed o))) there ∙ ap (λ x. Some (HandedAnswer (handed_reference x))) r.2,
       ap (in_machine m) taken
-      ∙ ap (λ l. record (in_machine m h) { pending = drop 1 l }) on_pending
-      ∙ ap (λ (x : Machine). record x { pending = rest }) (enqueues m)
-      ∙ sym (to_queue_apart (with_object M s (with_reference unreferred)) s ahead rest)
-      ∙ ap (λ x. delivered (record M { pending = rest }) s (handed_reference x)) (sym r.2)
-      ∙ ap (λ o. elim o [ None ↦ record M { pending = rest } | Some p ↦ delivered (record M { pending = rest }) s (handed p) ]) (sym there)
-      ∙ ap (handed_over M) (sym list),
+          ∙ ap (λ l. record (in_machine m h) { pending = drop 1 l }) on_pending
+          ∙ ap (λ (x : Machine). record x { pending = rest }) (enqueues m)
+          ∙ sym (to_queue_apart (with_object M s (with_reference unreferred)) s ahead rest)
+          ∙ ap (λ x. delivered (record M { pending = rest }) s (handed_reference x)) (sym r.2)
+          ∙ ap (λ o. elim o [ None ↦ record M { pending = rest } | Some p ↦ delivered (record M { pending = rest }) s (handed p) ]) (sym there)
+          ∙ ap (handed_over M) (sym list),
     )

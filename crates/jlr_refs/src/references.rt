@@ -96,13 +96,13 @@ pub fn enqueue(heap: &mut Heap, reference: Slot) -> Result<bool, AllocError>
     ensures clock { heap.new.clock ≡ heap.old.clock }
 {
     let Some(queue) = queue_ahead(heap.reference(reference)) else {
-        heap.lose_referent(reference);
+        clear(heap, reference);
         return Ok(false);
     };
     heap.link(queue, reference)?;
     heap.cut_queue_edge(reference);
     heap.set_state(reference, RefState::Queued);
-    heap.lose_referent(reference);
+    clear(heap, reference);
     Ok(true)
 }
 

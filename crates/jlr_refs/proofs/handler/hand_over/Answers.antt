@@ -6,4 +6,4 @@ use Rattle.jlr_refs.proofs.handler.hand_over.Goals as goal
 
 pub returns-in_ok-_added-clause-handed : goal.returns-in_ok-_added-clause-handed
 returns-in_ok-_added-clause-handed c =
-    handed_to_queue c.args.heap.now.graph c.enqueue.new.heap.graph _ c.in-Some.slot (sym c.first_pending.ensures ∙ c.in-Some.is) (ap (some_and is_pending) (sym c.reference.ensures) ∙ sym c.is_pending.ensures ∙ c.if-is_pending.true)  c.in_ok-_added.ensures.enqueued c.take_pending.ensures.graph
+    handed_to_queue c.args.heap.now.graph c.enqueue.new.heap.graph _ c.in-Some.slot (sym c.first_pending.ensures ∙ c.in-Some.is) (ap (some_and is_pending) (sym c.reference.ensures) ∙ sym c.is_pending.ensures ∙ c.if-is_pending.true) c.in_ok-_added.ensures.enqueued c.take_pending.ensures.graph

@@ -11,8 +11,8 @@ use Rattle.jlr_refs.proofs.references.enqueue.Goals as goal
 pub link-requires : goal.link-requires
 link-requires c = ahead_is_queue c.args.heap.now.graph c.args.reference c.in-Some.queue c.requires.fit c.requires.reference (ap (option_and_then queue_ahead) (sym c.reference.ensures) ∙ sym c.queue_ahead.ensures ∙ c.in-Some.is)
 
-pub lose_referent-requires-2 : goal.lose_referent-requires-2
-lose_referent-requires-2 c =
+pub clear-requires-2 : goal.clear-requires-2
+clear-requires-2 c =
     let old = c.args.heap.now.graph.objects in
     let s = c.args.reference in
     let ahead = ap (option_and_then queue_ahead) (sym c.reference.ensures) ∙ sym c.queue_ahead.ensures ∙ c.in-Some.is in
@@ -31,4 +31,4 @@ returns-clause-enqueued c =
     let ahead = ap (option_and_then queue_ahead) (sym c.reference.ensures) ∙ sym c.queue_ahead.ensures ∙ c.in-Some.is in
     let is_q = ahead_is_queue c.args.heap.now.graph c.args.reference c.in-Some.queue c.requires.fit c.requires.reference ahead in
     enqueued_in_queue m c.args.heap.now.graph _ _ _ _ c.args.reference c.in-Some.queue c.requires.reference is_q ahead
-    c.in_ok-link.ensures.linked c.cut_queue_edge.ensures.graph c.set_state.ensures.graph c.lose_referent-2.ensures.graph
+    c.in_ok-link.ensures.linked c.cut_queue_edge.ensures.graph c.set_state.ensures.graph c.clear-2.ensures.graph

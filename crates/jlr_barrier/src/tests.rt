@@ -1,0 +1,264 @@
+//! A heap by its calls, at concrete values. What is expected comes from the description of the calls.
+ghost use Rattle.std.specs.Prelude.{◌≡◌, ◌<◌, IfOk, length};
+ghost use Rattle.jlr_barrier.specs.Graphs.{empty_graph};
+
+use crate::heap::Heap;
+use jlr_cells::{Kind, Shape};
+use jlr_machine::object::{Object, RefState, Reference};
+use jlr_types::{FieldKind, FieldValue, Handle, Layout, Limits, Meter, Mutator, RefKind, Slot};
+use std::alloc::Global;
+use std::test::Fail;
+
+// A heap with 16 cells and two mutators.
+fn heap_of(alloc: Global) -> Result<Heap, Fail>
+    ensures { IfOk result (λ heap. heap.graph ≡ empty_graph 16 2) }
+{
+    let limits = Limits::checked(16, 2, 1, 0, 64, 1).ok().ok_or("limits")?;
+    Ok(Heap::new(alloc, limits)?)
+}
+
+fn pair() -> Shape {
+    let mut layout = Layout::new();
+    layout.push(FieldKind::Ref);
+    layout.push(FieldKind::Int);
+    Shape::Plain(layout)
+}
+
+fn reference_to(kind: RefKind, referent: Slot, queue: Option<Slot>) -> Shape {
+    let referent = Some(referent);
+    Shape::Reference {
+        kind,
+        referent,
+        queue,
+    }
+}
+
+#[test]
+fn a_new_heap_is_empty(rt: HostRuntime) -> Result<(), Fail> {
+    let mut heap = heap_of(rt.alloc())?;
+    let first = Slot::new(0);
+    assert_eq!(rt; heap.cell_count(), 16);
+    assert_eq!(rt; heap.free_count(), 16);
+    assert_eq!(rt; heap.mutator_count(), 2);
+    assert_eq!(rt; heap.kind(first), None);
+    assert_eq!(rt; heap.first_pending(), None);
+    assert_eq!(rt; heap.take_pending(), None);
+    assert_eq!(rt; heap.collections(), 0);
+    assert!(rt; first.number() < heap.cell_count());
+    assert_eq!(rt; heap.last_get(first), 0);
+    assert!(rt; !heap.is_marked(first));
+    assert_eq!(rt; heap.next_grey(), None);
+    Ok(())
+}
+
+#[test]
+fn objects_come_and_go(rt: HostRuntime) -> Result<(), Fail> {
+    let mut heap = heap_of(rt.alloc())?;
+    for number in 0u32..16 {
+        assert_eq!(rt; heap.free_count(), 16 - number);
+        assert_eq!(rt; heap.allocate(pair()), Some(Slot::new(number)));
+    }
+    assert_eq!(rt; heap.allocate(pair()), None);
+
+    let fifth = Slot::new(5);
+    assert!(rt; heap.kind(fifth).is_some());
+    heap.remove(fifth);
+    assert_eq!(rt; heap.kind(fifth), None);
+    assert_eq!(rt; heap.free_count(), 1);
+    for _ in 0u8..3 {
+        heap.count_collection();
+    }
+    assert_eq!(rt; heap.collections(), 3);
+    assert_eq!(rt; heap.allocate(Shape::Queue), Some(fifth));
+    assert!(rt; heap.is_queue(fifth) && !heap.is_plain(fifth) && !heap.is_reference(fifth));
+    assert!(rt; fifth.number() < heap.cell_count());
+    assert_eq!(rt; heap.last_get(fifth), 3);
+    assert_eq!(rt; heap.last_get(Slot::new(0)), 0);
+    Ok(())
+}
+
+#[test]
+fn fields_hold_what_was_stored(rt: HostRuntime) -> Result<(), Fail> {
+    let mut heap = heap_of(rt.alloc())?;
+    let slot = heap.allocate(pair()).ok_or("no cell")?;
+    assert_eq!(rt; heap.kind(slot), Some(Kind::Plain));
+    assert!(rt; heap.is_plain(slot) && !heap.is_queue(slot));
+    assert_eq!(rt; heap.field_count(slot), Some(2));
+    assert!(rt; !heap.has_field(slot, 2));
+    assert!(rt; heap.has_field(slot, 0));
+    assert_eq!(rt; heap.load(slot, 0), FieldValue::Ref(None));
+    heap.store(slot, 0, FieldValue::Ref(Some(slot)));
+    assert!(rt; heap.has_field(slot, 0));
+    assert_eq!(rt; heap.load(slot, 0), FieldValue::Ref(Some(slot)));
+    assert!(rt; heap.has_field(slot, 1));
+    heap.store(slot, 1, FieldValue::Int(-7));
+    assert!(rt; heap.has_field(slot, 1));
+    assert_eq!(rt; heap.load(slot, 1), FieldValue::Int(-7));
+    Ok(())
+}
+
+#[test]
+fn a_reference_gives_its_referent_until_it_is_cleared(rt: HostRuntime) -> Result<(), Fail> {
+    let mut heap = heap_of(rt.alloc())?;
+    let object = heap.allocate(pair()).ok_or("no cell")?;
+    let soft = heap
+        .allocate(reference_to(RefKind::Soft, object, None))
+        .ok_or("no cell")?;
+    let phantom = heap
+        .allocate(reference_to(RefKind::Phantom, object, None))
+        .ok_or("no cell")?;
+    heap.count_collection();
+    assert_eq!(rt; heap.kind(soft), Some(Kind::Reference(RefKind::Soft)));
+    assert_eq!(rt; heap.field_count(soft), None);
+    assert_eq!(rt;
+        (heap.referent(soft), heap.referent(phantom)),
+        (Some(object), Some(object))
+    );
+    assert_eq!(rt;
+        (heap.gotten(soft), heap.gotten(phantom)),
+        (Some(object), None)
+    );
+    assert_eq!(rt;
+        (heap.soft_referent(soft), heap.soft_referent(phantom)),
+        (Some(object), None)
+    );
+    assert!(rt; soft.number() < heap.cell_count() && phantom.number() < heap.cell_count());
+    assert_eq!(rt; heap.last_get(soft), 0);
+    assert_eq!(rt; heap.deref(phantom), None);
+    assert_eq!(rt; heap.deref(soft), Some(object));
+    assert!(rt; soft.number() < heap.cell_count() && phantom.number() < heap.cell_count());
+    assert_eq!(rt; (heap.last_get(soft), heap.last_get(phantom)), (1, 0));
+
+    assert!(rt; heap.is_reference(soft));
+    heap.lose_referent(soft);
+    assert_eq!(rt; (heap.referent(soft), heap.deref(soft)), (None, None));
+    Ok(())
+}
+
+#[test]
+fn members_leave_a_queue_in_their_order(rt: HostRuntime) -> Result<(), Fail> {
+    let mut heap = heap_of(rt.alloc())?;
+    let queue = heap.allocate(Shape::Queue).ok_or("no cell")?;
+    let kind = RefKind::Weak;
+    let first = heap
+        .allocate(reference_to(kind, queue, Some(queue)))
+        .ok_or("no cell")?;
+    let second = heap
+        .allocate(reference_to(kind, queue, None))
+        .ok_or("no cell")?;
+    assert_eq!(rt; heap.front(queue), None);
+    assert!(rt; heap.is_queue(queue));
+    heap.link(queue, first)?;
+    assert!(rt; heap.is_queue(queue));
+    heap.link(queue, second)?;
+    assert!(rt; heap.is_reference(first));
+    heap.set_state(first, RefState::Queued);
+    assert!(rt; heap.is_reference(first));
+    heap.cut_queue_edge(first);
+    assert_eq!(rt;
+        heap.reference(first),
+        Some(Reference {
+            kind,
+            referent: Some(queue),
+            queue: None,
+            state: RefState::Queued
+        })
+    );
+    for member in [Some(first), Some(second), None] {
+        assert_eq!(rt; heap.front(queue), member);
+        assert!(rt; heap.is_queue(queue));
+        assert_eq!(rt; heap.unlink(queue), member);
+    }
+    Ok(())
+}
+
+#[test]
+fn the_pending_list_is_taken_from_its_front(rt: HostRuntime) -> Result<(), Fail> {
+    let mut heap = heap_of(rt.alloc())?;
+    let (first, second) = (Slot::new(9), Slot::new(2));
+    heap.add_pending(first);
+    heap.add_pending(second);
+    let image = heap.pending_image(rt.alloc())?;
+    assert_eq!(rt; image.as_slice(), [first, second].as_slice());
+    for slot in [Some(first), Some(second), None] {
+        assert_eq!(rt; heap.first_pending(), slot);
+        assert_eq!(rt; heap.take_pending(), slot);
+    }
+    Ok(())
+}
+
+#[test]
+fn handles_of_mutators(rt: HostRuntime) -> Result<(), Fail> {
+    let mut heap = heap_of(rt.alloc())?;
+    let (mutator, slot, handle) = (Mutator::new(1), Slot::new(7), Handle::new(1));
+    assert!(rt; heap.mutator_count() == 2 && !heap.is_joined(mutator));
+    heap.join(mutator);
+    assert!(rt; heap.is_joined(mutator) && heap.has_free_handle(mutator));
+    assert_eq!(rt; heap.put_handle(mutator, slot), Some(handle));
+    assert_eq!(rt; heap.lookup(mutator, handle), Some(slot));
+    assert_eq!(rt; heap.lookup(Mutator::new(0), handle), None);
+    let image = heap.mutators_image(rt.alloc())?;
+    assert!(rt; image.get(0).is_none() && image.get(1).is_some());
+    assert!(rt; heap.lookup(mutator, handle).is_some());
+    heap.drop_handle(mutator, handle);
+    assert_eq!(rt; heap.lookup(mutator, handle), None);
+    assert!(rt; heap.is_joined(mutator));
+    heap.leave(mutator);
+    assert!(rt; !heap.is_joined(mutator) && !heap.has_free_handle(mutator));
+    Ok(())
+}
+
+#[test]
+fn what_is_shaded_is_grey_once(rt: HostRuntime) -> Result<(), Fail> {
+    let mut heap = heap_of(rt.alloc())?;
+    let (fourth, ninth) = (Slot::new(4), Slot::new(9));
+    for _ in 0u8..2 {
+        assert!(rt; fourth.number() < heap.cell_count());
+        heap.shade(fourth);
+    }
+    assert!(rt; fourth.number() < heap.cell_count() && ninth.number() < heap.cell_count());
+    assert!(rt; heap.is_marked(fourth) && !heap.is_marked(ninth));
+    assert_eq!(rt; heap.next_grey(), Some(fourth));
+    assert_eq!(rt; heap.next_grey(), None);
+    assert!(rt; ninth.number() < heap.cell_count());
+    heap.shade(ninth);
+    heap.unmark_all();
+    assert!(rt; fourth.number() < heap.cell_count() && ninth.number() < heap.cell_count());
+    assert!(rt; !heap.is_marked(fourth) && !heap.is_marked(ninth));
+    assert_eq!(rt; heap.next_grey(), None);
+    Ok(())
+}
+
+#[test]
+fn the_image_has_each_object(rt: HostRuntime) -> Result<(), Fail> {
+    let mut heap = heap_of(rt.alloc())?;
+    assert_eq!(rt; heap.allocate(pair()), Some(Slot::new(0)));
+    assert_eq!(rt; heap.allocate(Shape::Queue), Some(Slot::new(1)));
+    let image = heap.objects_image(rt.alloc())?;
+    assert_eq!(rt; image.len(), 16);
+    assert!(rt; matches!(image.get(0), Some(Object::Plain(_))));
+    assert!(rt; matches!(image.get(1), Some(Object::Queue(_))));
+    assert!(rt; image.get(2).is_none());
+    Ok(())
+}
+
+#[test]
+fn roots_and_what_they_lead_to_are_marked(rt: HostRuntime) -> Result<(), Fail> {
+    let mut heap = heap_of(rt.alloc())?;
+    let mut meter = Meter::new();
+    let (queue, member) = (Slot::new(0), Slot::new(3));
+    assert_eq!(rt; heap.allocate(Shape::Queue), Some(queue));
+    assert!(rt; heap.is_queue(queue));
+    heap.link(queue, member)?;
+    heap.add_pending(queue);
+    heap.shade_roots();
+    assert_eq!(rt; heap.next_grey(), Some(queue));
+    assert!(rt; heap.kind(queue).is_some());
+    heap.scan(queue, &mut meter);
+    assert_eq!(rt; meter.ticks(), 1);
+    assert_eq!(rt; heap.next_grey(), Some(member));
+    assert_eq!(rt; heap.next_grey(), None);
+    assert!(rt; queue.number() < heap.cell_count() && member.number() < heap.cell_count());
+    assert!(rt; heap.is_marked(queue) && heap.is_marked(member));
+    Ok(())
+}
