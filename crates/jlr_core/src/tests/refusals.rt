@@ -1,0 +1,241 @@
+//! Refusals: each ask for each of its reasons, in their order.
+use super::*;
+
+#[test]
+fn nobody_asks_before_joining(rt: HostRuntime) -> Result<(), Fail> {
+    let events = vec![in rt.alloc();
+        leave(),
+        bare(),
+        put(1, 0, 1),
+        get(1, 0),
+        dup(1),
+        drop_handle(1),
+        same(1, 1),
+        weak(1),
+        deref(1),
+        full(),
+        opened(Err(Fault::Other)),
+        Event::Join {
+            mutator: Mutator::new(1)
+        },
+    ]?;
+    let answers = answers(rt.alloc(), 0, events)?;
+    assert_eq!(rt; answers.len(), 12);
+    for answer in &answers {
+        assert_eq!(rt; *answer, Got::Refused(Refusal::NoSession));
+    }
+    Ok(())
+}
+
+#[test]
+fn each_ask_is_refused_for_its_reasons(rt: HostRuntime) -> Result<(), Fail> {
+    let cases = [
+        (join(), Got::Done),
+        (join(), Got::Refused(Refusal::NoSession)),
+        (new(), Got::Handle(1)),
+        (weak(1), Got::Handle(2)),
+        (put(3, 0, 1), Got::Refused(Refusal::NoHandle)),
+        (put(1, 0, 3), Got::Refused(Refusal::NoHandle)),
+        (put(0, 0, 1), Got::Refused(Refusal::Null)),
+        (put(2, 0, 1), Got::Refused(Refusal::WrongKind)),
+        (put(1, 2, 1), Got::Refused(Refusal::NoField)),
+        (put(1, 1, 1), Got::Refused(Refusal::WrongType)),
+        (get(3, 0), Got::Refused(Refusal::NoHandle)),
+        (get(0, 0), Got::Refused(Refusal::Null)),
+        (get(2, 0), Got::Refused(Refusal::WrongKind)),
+        (get(1, 2), Got::Refused(Refusal::NoField)),
+        (get(1, 1), Got::Refused(Refusal::WrongType)),
+        (dup(3), Got::Refused(Refusal::NoHandle)),
+        (dup(0), Got::Refused(Refusal::Null)),
+        (drop_handle(3), Got::Refused(Refusal::NoHandle)),
+        (drop_handle(0), Got::Refused(Refusal::Null)),
+        (same(1, 3), Got::Refused(Refusal::NoHandle)),
+        (same(0, 0), Got::Truth(true)),
+        (weak(3), Got::Refused(Refusal::NoHandle)),
+        (weak(0), Got::Refused(Refusal::Null)),
+        (weak_with_queue(1, 3), Got::Refused(Refusal::NoHandle)),
+        (weak_with_queue(0, 1), Got::Refused(Refusal::Null)),
+        (weak_with_queue(1, 1), Got::Refused(Refusal::WrongKind)),
+        (deref(3), Got::Refused(Refusal::NoHandle)),
+        (deref(0), Got::Refused(Refusal::Null)),
+        (deref(1), Got::Refused(Refusal::WrongKind)),
+        (opened(Ok(1)), Got::Refused(Refusal::NotOut)),
+        (get(1, 0), Got::Handle(0)),
+        (same(1, 2), Got::Truth(false)),
+        (leave(), Got::Done),
+        (leave(), Got::Refused(Refusal::NoSession)),
+    ];
+    let mut events = Vec::new(rt.alloc());
+    let mut wanted = Vec::new(rt.alloc());
+    for (event, answer) in cases {
+        events.push(event)?;
+        wanted.push(answer)?;
+    }
+    assert_eq!(rt;
+        answers(rt.alloc(), 0, events)?.as_slice(),
+        wanted.as_slice()
+    );
+    Ok(())
+}
+
+#[test]
+fn reading_needs_a_free_handle(rt: HostRuntime) -> Result<(), Fail> {
+    let mut events = vec![in rt.alloc(); join(), new(), weak(1), put(1, 0, 2)]?;
+    for _ in 0u8..248 {
+        events.push(dup(1))?;
+    }
+    for event in [get(1, 0), deref(2), drop_handle(9), deref(2)] {
+        events.push(event)?;
+    }
+    let answers = answers(rt.alloc(), 0, events)?;
+    let wanted = [
+        Got::Refused(Refusal::HandlesFull),
+        Got::Refused(Refusal::HandlesFull),
+        Got::Done,
+        Got::Handle(9),
+    ];
+    assert_eq!(rt; answers.as_slice().len(), 256);
+    assert_eq!(rt; answers.as_slice().split_at(252).1, wanted.as_slice());
+    Ok(())
+}
+
+// The handler is no mutator.
+#[test]
+fn nobody_asks_for_references_before_joining(rt: HostRuntime) -> Result<(), Fail> {
+    let cases = vec![in rt.alloc();
+        (weak_with_queue(1, 2), Got::Refused(Refusal::NoSession)),
+        (refers(1, 2), Got::Refused(Refusal::NoSession)),
+        (clear(1), Got::Refused(Refusal::NoSession)),
+        (enqueue(1), Got::Refused(Refusal::NoSession)),
+        (enqueued(1), Got::Refused(Refusal::NoSession)),
+        (queue(), Got::Refused(Refusal::NoSession)),
+        (poll(1), Got::Refused(Refusal::NoSession)),
+        (full_clearing(), Got::Refused(Refusal::NoSession)),
+        (hand_over(), Got::Handed(Handed::Nothing)),
+    ]?;
+    let (got, wanted) = play(rt.alloc(), 4, cases)?;
+    assert_eq!(rt; got.as_slice(), wanted.as_slice());
+    Ok(())
+}
+
+#[test]
+fn asks_on_references_are_refused_for_their_reasons(rt: HostRuntime) -> Result<(), Fail> {
+    let cases = vec![in rt.alloc();
+        (join(), Got::Done),
+        (bare(), Got::Handle(1)),
+        (queue(), Got::Handle(2)),
+        (weak_with_queue(1, 2), Got::Handle(3)),
+        (refers(9, 1), Got::Refused(Refusal::NoHandle)),
+        (refers(3, 9), Got::Refused(Refusal::NoHandle)),
+        (refers(0, 9), Got::Refused(Refusal::NoHandle)),
+        (refers(1, 9), Got::Refused(Refusal::NoHandle)),
+        (refers(0, 1), Got::Refused(Refusal::Null)),
+        (refers(1, 1), Got::Refused(Refusal::WrongKind)),
+        (refers(2, 0), Got::Refused(Refusal::WrongKind)),
+        (clear(9), Got::Refused(Refusal::NoHandle)),
+        (clear(0), Got::Refused(Refusal::Null)),
+        (clear(1), Got::Refused(Refusal::WrongKind)),
+        (clear(2), Got::Refused(Refusal::WrongKind)),
+        (enqueue(9), Got::Refused(Refusal::NoHandle)),
+        (enqueue(0), Got::Refused(Refusal::Null)),
+        (enqueue(1), Got::Refused(Refusal::WrongKind)),
+        (enqueue(2), Got::Refused(Refusal::WrongKind)),
+        (enqueued(9), Got::Refused(Refusal::NoHandle)),
+        (enqueued(0), Got::Refused(Refusal::Null)),
+        (enqueued(1), Got::Refused(Refusal::WrongKind)),
+        (enqueued(2), Got::Refused(Refusal::WrongKind)),
+        (deref(2), Got::Refused(Refusal::WrongKind)),
+        (refers(3, 1), Got::Truth(true)),
+        (enqueued(3), Got::Truth(false)),
+    ]?;
+    let (got, wanted) = play(rt.alloc(), 4, cases)?;
+    assert_eq!(rt; got.as_slice(), wanted.as_slice());
+    Ok(())
+}
+
+#[test]
+fn asks_on_queues_are_refused_for_their_reasons(rt: HostRuntime) -> Result<(), Fail> {
+    let cases = vec![in rt.alloc();
+        (join(), Got::Done),
+        (bare(), Got::Handle(1)),
+        (queue(), Got::Handle(2)),
+        (weak_with_queue(1, 2), Got::Handle(3)),
+        (poll(9), Got::Refused(Refusal::NoHandle)),
+        (poll(0), Got::Refused(Refusal::Null)),
+        (poll(1), Got::Refused(Refusal::WrongKind)),
+        (poll(3), Got::Refused(Refusal::WrongKind)),
+        (weak_with_queue(9, 2), Got::Refused(Refusal::NoHandle)),
+        (weak_with_queue(1, 9), Got::Refused(Refusal::NoHandle)),
+        (weak_with_queue(0, 9), Got::Refused(Refusal::NoHandle)),
+        (weak_with_queue(0, 2), Got::Refused(Refusal::Null)),
+        (weak_with_queue(0, 1), Got::Refused(Refusal::Null)),
+        (weak_with_queue(1, 1), Got::Refused(Refusal::WrongKind)),
+        (weak_with_queue(1, 3), Got::Refused(Refusal::WrongKind)),
+        (put(2, 0, 1), Got::Refused(Refusal::WrongKind)),
+        (get(2, 0), Got::Refused(Refusal::WrongKind)),
+        (poll(2), Got::Handle(0)),
+    ]?;
+    let (got, wanted) = play(rt.alloc(), 4, cases)?;
+    assert_eq!(rt; got.as_slice(), wanted.as_slice());
+    Ok(())
+}
+
+// A null result needs no handle.
+#[test]
+fn queues_and_what_they_give_need_a_free_handle(rt: HostRuntime) -> Result<(), Fail> {
+    let mut cases = vec![in rt.alloc();
+        (join(), Got::Done),
+        (queue(), Got::Handle(1)),
+        (bare(), Got::Handle(2)),
+        (weak_with_queue(2, 1), Got::Handle(3)),
+        (enqueue(3), Got::Truth(true)),
+    ]?;
+    for number in 4u8..251 {
+        cases.push((dup(2), Got::Handle(number)))?;
+    }
+    for case in [
+        (poll(1), Got::Refused(Refusal::HandlesFull)),
+        (poll(2), Got::Refused(Refusal::WrongKind)),
+        (queue(), Got::Refused(Refusal::HandlesFull)),
+        (weak_with_queue(2, 1), Got::Refused(Refusal::HandlesFull)),
+        (weak_with_queue(2, 2), Got::Refused(Refusal::WrongKind)),
+        (deref(3), Got::Handle(0)),
+        (enqueued(3), Got::Truth(true)),
+        (drop_handle(77), Got::Done),
+        (poll(1), Got::Handle(77)),
+        (same(77, 3), Got::Truth(true)),
+        (poll(1), Got::Handle(0)),
+    ] {
+        cases.push(case)?;
+    }
+    let (got, wanted) = play(rt.alloc(), 4, cases)?;
+    assert_eq!(rt; got.as_slice(), wanted.as_slice());
+    Ok(())
+}
+
+// Where no handle is free and no cell either, there is no collection: the handle is looked for first.
+#[test]
+fn queues_and_references_need_a_free_cell(rt: HostRuntime) -> Result<(), Fail> {
+    let mut cases = vec![in rt.alloc(); (join(), Got::Done), (queue(), Got::Handle(1))]?;
+    for number in 2u8..17 {
+        cases.push((bare(), Got::Handle(number)))?;
+    }
+    cases.push((queue(), Got::Refused(Refusal::HeapFull)))?;
+    cases.push((weak_with_queue(2, 1), Got::Refused(Refusal::HeapFull)))?;
+    for number in 17u8..251 {
+        cases.push((dup(2), Got::Handle(number)))?;
+    }
+    for case in [
+        (queue(), Got::Refused(Refusal::HandlesFull)),
+        (weak_with_queue(2, 1), Got::Refused(Refusal::HandlesFull)),
+        (drop_handle(16), Got::Done),
+        (weak_with_queue(2, 1), Got::Handle(16)),
+        (refers(16, 2), Got::Truth(true)),
+        (poll(1), Got::Handle(0)),
+    ] {
+        cases.push(case)?;
+    }
+    let (got, wanted) = play(rt.alloc(), 4, cases)?;
+    assert_eq!(rt; got.as_slice(), wanted.as_slice());
+    Ok(())
+}
