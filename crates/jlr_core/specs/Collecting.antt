@@ -6,7 +6,7 @@ use Rattle.jlr_soft.specs.declared.policy.Mode.{Mode}
 use Rattle.jlr_soft.specs.declared.policy.Mode.TheVariants.{Policy, ClearAll}
 use Rattle.jlr_machine.specs.declared.ask.FullMode.{FullMode}
 use Rattle.jlr_machine.specs.declared.ask.FullMode.TheVariants.{Policy as AskedPolicy, ClearAll as AskedClearAll}
-use Rattle.jlr_barrier.specs.Graphs.{Clock, counted}
+use Rattle.jlr_barrier.specs.Graphs.{Clock, counted, used_now}
 use Rattle.jlr_machine.specs.declared.entry.Chosen.{Chosen}
 use Rattle.jlr_machine.specs.declared.entry.Collected.{Collected}
 use Rattle.jlr_machine.specs.Objects.{at, occupied}
@@ -69,3 +69,11 @@ pub record FindsNoRoom (m : Machine) (new : Choosing) (n : Machine) : Type 0 whe
 -- a collection was counted, if there was one
 abbrev pub after_collected : Chosen → Clock → Clock
 after_collected chosen c = cond (is_some chosen.collected) (counted c) c
+
+-- and new objects were made now
+abbrev pub after_fresh : List ℕ → Clock → Clock
+after_fresh [] c = c
+after_fresh (s ∷ fresh) c = after_fresh fresh (used_now c s)
+
+abbrev pub after_choice : Chosen → Clock → Clock
+after_choice chosen c = after_fresh chosen.fresh (after_collected chosen c)

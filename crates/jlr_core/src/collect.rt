@@ -5,8 +5,8 @@ ghost use Rattle.jlr_cells.specs.Contents.{object_of};
 ghost use Rattle.jlr_soft.specs.declared.policy.Policy.{Policy};
 ghost use Rattle.jlr_machine.specs.WellFormed.{IsWellFormed};
 ghost use Rattle.jlr_machine.specs.Choices.{nothing_chosen};
-ghost use Rattle.jlr_core.specs.Collecting.{Collects, MakesRoom, Allocates, FindsNoRoom, after_collected, mode_of};
-ghost use Rattle.jlr_barrier.specs.Graphs.{counted, used_now};
+ghost use Rattle.jlr_core.specs.Collecting.{Collects, MakesRoom, Allocates, FindsNoRoom, after_choice, after_collected, mode_of};
+ghost use Rattle.jlr_barrier.specs.Graphs.{counted};
 ghost use Rattle.jlr_core.specs.Marking.{keeps};
 ghost use Rattle.jlr_core.specs.State.{Meets, answer_of};
 
@@ -32,6 +32,7 @@ impl State {
         ensures clock { self.new.heap.clock ≡ counted self.old.heap.clock }
         ensures room { choice.new.cells ≡ choice.old.cells }
         ensures cells { length self.new.heap.graph.objects ≡ length self.old.heap.graph.objects }
+        ensures age { self.new.soft_age ≡ self.old.soft_age }
     {
         self.heap.kinds_are_known();
         self.heap.no_calls();
@@ -49,6 +50,7 @@ impl State {
         ensures clock { self.new.heap.clock ≡ after_collected choice.new.chosen self.old.heap.clock }
         ensures room { choice.new.cells ≡ choice.old.cells }
         ensures cells { length self.new.heap.graph.objects ≡ length self.old.heap.graph.objects }
+        ensures age { self.new.soft_age ≡ self.old.soft_age }
     {
         if self.heap.free_count() == 0 {
             self.collect(Mode::ClearAll, choice);
@@ -61,10 +63,11 @@ impl State {
         requires nothing { choice.old ≡ nothing_chosen choice.old.cells }
         requires room { length self.old.heap.graph.objects ≤ choice.old.cells }
         ensures allocates { IfOk result (λ slot. Allocates (machine_of self.old) (object_of shape) choice.new slot (machine_of self.new)) }
-        ensures clock { IfOk result (λ slot. self.new.heap.clock ≡ used_now (after_collected choice.new.chosen self.old.heap.clock) slot) }
+        ensures clock { self.new.heap.clock ≡ after_choice choice.new.chosen self.old.heap.clock }
         ensures full { IfErr result (λ r. (r ≡ Refusal.HeapFull) × FindsNoRoom (machine_of self.old) choice.new (machine_of self.new)) }
         ensures room { choice.new.cells ≡ choice.old.cells }
         ensures cells { length self.new.heap.graph.objects ≡ length self.old.heap.graph.objects }
+        ensures age { self.new.soft_age ≡ self.old.soft_age }
     {
         self.make_room(choice);
         let Some(slot) = self.heap.allocate(shape) else {
@@ -88,6 +91,9 @@ impl State {
         ensures memory { answer_of result ≡ Answer.Refused Refusal.NoMemory → ⊥ }
         ensures room { choice.new.cells ≡ choice.old.cells }
         ensures cells { length self.new.heap.graph.objects ≡ length self.old.heap.graph.objects }
+        ensures age { self.new.soft_age ≡ self.old.soft_age }
+        ensures clock { self.new.heap.clock ≡ after_choice choice.new.chosen self.old.heap.clock }
+        ensures kept { IfOk result (λ _. Collects (keeps (record { soft_age = self.old.soft_age; mode = mode_of mode }) self.old.heap.clock) (machine_of self.old) choice.old choice.new (machine_of self.new)) }
     {
         self.check_session(by)?;
         self.no_call(by);

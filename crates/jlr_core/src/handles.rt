@@ -17,6 +17,8 @@ impl State {
     pub(crate) fn join(&mut self, by: Mutator) -> Result<Answer, Refusal>
         ensures answered { Answered (machine_of self.old) (Ask.Join by) result (machine_of self.new) }
         ensures cells { length self.new.heap.graph.objects ≡ length self.old.heap.graph.objects }
+        ensures age { self.new.soft_age ≡ self.old.soft_age }
+        ensures clock { self.new.heap.clock ≡ self.old.heap.clock }
     {
         if by.number() as usize >= self.heap.mutator_count() || self.heap.is_joined(by) {
             return Err(Refusal::NoSession);
@@ -28,6 +30,8 @@ impl State {
     pub(crate) fn leave(&mut self, by: Mutator) -> Result<Answer, Refusal>
         ensures answered { Answered (machine_of self.old) (Ask.Leave by) result (machine_of self.new) }
         ensures cells { length self.new.heap.graph.objects ≡ length self.old.heap.graph.objects }
+        ensures age { self.new.soft_age ≡ self.old.soft_age }
+        ensures clock { self.new.heap.clock ≡ self.old.heap.clock }
     {
         self.check_session(by)?;
         self.no_call(by);
@@ -37,7 +41,9 @@ impl State {
 
     pub(crate) fn drop_handle(&mut self, by: Mutator, object: Handle) -> Result<Answer, Refusal>
         requires { IsWellFormed (machine_of self.old) }
-        ensures { Answered (machine_of self.old) (Ask.Drop by object) result (machine_of self.new) }
+        ensures answered { Answered (machine_of self.old) (Ask.Drop by object) result (machine_of self.new) }
+        ensures age { self.new.soft_age ≡ self.old.soft_age }
+        ensures clock { self.new.heap.clock ≡ self.old.heap.clock }
     {
         self.check_session(by)?;
         self.check_handle(by, object)?;
@@ -60,7 +66,9 @@ impl State {
 
     pub(crate) fn dup(&mut self, by: Mutator, object: Handle) -> Result<Answer, Refusal>
         requires { IsWellFormed (machine_of self.old) }
-        ensures { Answered (machine_of self.old) (Ask.Dup by object) result (machine_of self.new) }
+        ensures answered { Answered (machine_of self.old) (Ask.Dup by object) result (machine_of self.new) }
+        ensures age { self.new.soft_age ≡ self.old.soft_age }
+        ensures clock { self.new.heap.clock ≡ self.old.heap.clock }
     {
         self.check_session(by)?;
         self.check_handle(by, object)?;
@@ -77,6 +85,7 @@ impl State {
         ensures held { machine_of self.new ≡ with_handle (machine_of self.old) by slot }
         ensures objects { self.new.heap.graph.objects ≡ self.old.heap.graph.objects }
         ensures clock { self.new.heap.clock ≡ self.old.heap.clock }
+        ensures age { self.new.soft_age ≡ self.old.soft_age }
     {
         match self.heap.put_handle(by, slot) {
             Some(handle) => Answer::Handle(handle),
@@ -103,6 +112,7 @@ impl State {
         ensures held { machine_of self.new ≡ with_given (machine_of self.old) by target }
         ensures objects { self.new.heap.graph.objects ≡ self.old.heap.graph.objects }
         ensures clock { self.new.heap.clock ≡ self.old.heap.clock }
+        ensures age { self.new.soft_age ≡ self.old.soft_age }
     {
         match target {
             Some(slot) => self.give(by, slot),
@@ -121,6 +131,7 @@ impl State {
             (λ r. (r ≡ Refusal.HandlesFull) × ((is_some target && not (has_free_handle (machine_of self.old) by)) ≡ true) × (machine_of self.new ≡ machine_of self.old)) }
         ensures objects { self.new.heap.graph.objects ≡ self.old.heap.graph.objects }
         ensures clock { self.new.heap.clock ≡ self.old.heap.clock }
+        ensures age { self.new.soft_age ≡ self.old.soft_age }
     {
         let Some(slot) = target else {
             return Ok(Answer::Handle(Handle::new(0)));

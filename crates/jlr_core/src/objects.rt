@@ -5,6 +5,7 @@ ghost use Rattle.jlr_machine.specs.Lookups.{slot_named};
 ghost use Rattle.jlr_machine.specs.Refusals.{is_plain, is_reference, is_queue, gotten, is_of_wrong_kind, object_or_null};
 ghost use Rattle.jlr_machine.specs.Choices.{nothing_chosen};
 ghost use Rattle.jlr_machine.specs.WellFormed.{IsWellFormed};
+ghost use Rattle.jlr_core.specs.Collecting.{after_choice};
 ghost use Rattle.jlr_core.specs.State.{Answered, FieldRefused, Meets, answer_of};
 
 use crate::state::State;
@@ -45,7 +46,9 @@ impl State {
 
     pub(crate) fn get(&mut self, by: Mutator, object: Handle, field: u8) -> Result<Answer, Refusal>
         requires { IsWellFormed (machine_of self.old) }
-        ensures { Answered (machine_of self.old) (Ask.Get by object field) result (machine_of self.new) }
+        ensures answered { Answered (machine_of self.old) (Ask.Get by object field) result (machine_of self.new) }
+        ensures age { self.new.soft_age ≡ self.old.soft_age }
+        ensures clock { self.new.heap.clock ≡ self.old.heap.clock }
     {
         self.check_session(by)?;
         self.check_handle(by, object)?;
@@ -66,6 +69,8 @@ impl State {
         requires { IsWellFormed (machine_of self.old) }
         ensures answered { Answered (machine_of self.old) (Ask.Put by object field value) result (machine_of self.new) }
         ensures memory { answer_of result ≡ Answer.Refused Refusal.NoMemory → ⊥ }
+        ensures age { self.new.soft_age ≡ self.old.soft_age }
+        ensures clock { self.new.heap.clock ≡ self.old.heap.clock }
     {
         self.check_session(by)?;
         self.check_handle(by, object)?;
@@ -93,6 +98,8 @@ impl State {
         ensures memory { answer_of result ≡ Answer.Refused Refusal.NoMemory → ⊥ }
         ensures room { choice.new.cells ≡ choice.old.cells }
         ensures cells { length self.new.heap.graph.objects ≡ length self.old.heap.graph.objects }
+        ensures age { self.new.soft_age ≡ self.old.soft_age }
+        ensures clock { self.new.heap.clock ≡ after_choice choice.new.chosen self.old.heap.clock }
     {
         self.check_session(by)?;
         self.no_call(by);

@@ -7,6 +7,7 @@ ghost use Rattle.jlr_machine.specs.Refusals.{refusal, is_of_wrong_kind, is_queue
 ghost use Rattle.jlr_machine.specs.Run.{no_choice};
 ghost use Rattle.jlr_machine.specs.Choices.{nothing_chosen};
 ghost use Rattle.jlr_machine.specs.WellFormed.{IsWellFormed};
+ghost use Rattle.jlr_core.specs.Collecting.{after_choice};
 ghost use Rattle.jlr_core.specs.State.{Answered, Meets, answer_of, clock_after_deref};
 
 use crate::state::State;
@@ -18,7 +19,7 @@ use jlr_types::{Handle, Mutator, RefKind, Refusal, Slot};
 impl State {
     ghost use Rattle.jlr_core.specs.Machines.{machine_of};
 
-    /// A reference.
+    /// There is a reference at a slot.
     fn check_reference(&self, slot: Slot) -> Result<(), Refusal>
         requires { IsTrue (is_some (at self.now.heap.graph.objects slot)) }
         ensures { MatchResult result (λ _. some_and (λ o. not (is_reference o)) (at self.now.heap.graph.objects slot) ≡ false) (λ r. (r ≡ Refusal.WrongKind) × (some_and (λ o. not (is_reference o)) (at self.now.heap.graph.objects slot) ≡ true)) }
@@ -30,7 +31,7 @@ impl State {
         }
     }
 
-    /// The reference of a handle that is in use.
+    /// There is a queue at a slot.
     fn check_queue(&self, slot: Slot) -> Result<(), Refusal>
         requires { IsTrue (is_some (at self.now.heap.graph.objects slot)) }
         ensures { MatchResult result (λ _. some_and (λ o. not (is_queue o)) (at self.now.heap.graph.objects slot) ≡ false) (λ r. (r ≡ Refusal.WrongKind) × (some_and (λ o. not (is_queue o)) (at self.now.heap.graph.objects slot) ≡ true)) }
@@ -62,6 +63,7 @@ impl State {
         ensures answered { Answered (machine_of self.old) (Ask.Deref by reference) result (machine_of self.new) }
         ensures clock { self.new.heap.clock ≡ clock_after_deref (machine_of self.old) by reference result self.old.heap.clock }
         ensures cells { length self.new.heap.graph.objects ≡ length self.old.heap.graph.objects }
+        ensures age { self.new.soft_age ≡ self.old.soft_age }
     {
         self.check_session(by)?;
         self.check_handle(by, reference)?;
@@ -100,6 +102,8 @@ impl State {
         requires { IsWellFormed (machine_of self.old) }
         ensures answered { Answered (machine_of self.old) (Ask.Clear by reference) result (machine_of self.new) }
         ensures cells { length self.new.heap.graph.objects ≡ length self.old.heap.graph.objects }
+        ensures age { self.new.soft_age ≡ self.old.soft_age }
+        ensures clock { self.new.heap.clock ≡ self.old.heap.clock }
     {
         self.check_session(by)?;
         self.check_handle(by, reference)?;
@@ -129,6 +133,8 @@ impl State {
         requires { IsWellFormed (machine_of self.old) }
         ensures meets { Meets (machine_of self.old) (Ask.Enqueue by reference) (answer_of result) no_choice (machine_of self.new) }
         ensures cells { length self.new.heap.graph.objects ≡ length self.old.heap.graph.objects }
+        ensures age { self.new.soft_age ≡ self.old.soft_age }
+        ensures clock { self.new.heap.clock ≡ self.old.heap.clock }
     {
         let slot = self.check_enqueue(by, reference)?;
         match jlr_refs::enqueue(&mut self.heap, slot) {
@@ -169,6 +175,8 @@ impl State {
         requires { IsWellFormed (machine_of self.old) }
         ensures answered { Answered (machine_of self.old) (Ask.Poll by queue) result (machine_of self.new) }
         ensures cells { length self.new.heap.graph.objects ≡ length self.old.heap.graph.objects }
+        ensures age { self.new.soft_age ≡ self.old.soft_age }
+        ensures clock { self.new.heap.clock ≡ self.old.heap.clock }
     {
         let slot = self.check_poll(by, queue)?;
         let front = jlr_refs::poll(&mut self.heap, slot);
@@ -180,6 +188,8 @@ impl State {
         requires { IsWellFormed (machine_of self.old) }
         ensures meets { Meets (machine_of self.old) Ask.HandOver (answer_of result) no_choice (machine_of self.new) }
         ensures cells { length self.new.heap.graph.objects ≡ length self.old.heap.graph.objects }
+        ensures age { self.new.soft_age ≡ self.old.soft_age }
+        ensures clock { self.new.heap.clock ≡ self.old.heap.clock }
     {
         match jlr_refs::hand_over(&mut self.heap) {
             Ok(handed) => Ok(Answer::Handed(handed)),
@@ -195,6 +205,8 @@ impl State {
         ensures memory { answer_of result ≡ Answer.Refused Refusal.NoMemory → ⊥ }
         ensures room { choice.new.cells ≡ choice.old.cells }
         ensures cells { length self.new.heap.graph.objects ≡ length self.old.heap.graph.objects }
+        ensures age { self.new.soft_age ≡ self.old.soft_age }
+        ensures clock { self.new.heap.clock ≡ after_choice choice.new.chosen self.old.heap.clock }
     {
         self.check_session(by)?;
         self.no_call(by);
@@ -218,6 +230,8 @@ impl State {
         ensures memory { answer_of result ≡ Answer.Refused Refusal.NoMemory → ⊥ }
         ensures room { choice.new.cells ≡ choice.old.cells }
         ensures cells { length self.new.heap.graph.objects ≡ length self.old.heap.graph.objects }
+        ensures age { self.new.soft_age ≡ self.old.soft_age }
+        ensures clock { self.new.heap.clock ≡ after_choice choice.new.chosen self.old.heap.clock }
     {
         self.check_session(by)?;
         self.check_handle(by, referent)?;
