@@ -23,6 +23,7 @@ impl State {
         ensures flow { handed result ≡ given event }
         ensures memory { WantsMemory event result }
         ensures idle { ask_of event ≡ None → result ≡ Reply.Marked Progress.Idle }
+        ensures age { self.new.soft_age ≡ self.old.soft_age }
         ensures room { choice.new.cells ≡ choice.old.cells }
         ensures cells { length self.new.heap.graph.objects ≡ length self.old.heap.graph.objects }
     {

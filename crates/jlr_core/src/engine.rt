@@ -6,7 +6,6 @@ ghost use Rattle.jlr_core.specs.Events.{ask_of, answer_in, given, handed, Enters
 
 use crate::event::{Event, Reply};
 use crate::state::State;
-use jlr_barrier::Heap;
 use jlr_machine::choice::Choice;
 use jlr_machine::machine::Machine;
 use jlr_types::{Limits, Progress};
@@ -42,13 +41,8 @@ impl<R> Core<R> {
     pub fn new(alloc: Global, limits: Limits) -> Result<Self, AllocError>
         ensures { IfOk result (λ core. core.machine ≡ empty limits.cells limits.sessions limits.resources) }
     {
-        let state = State {
-            heap: Heap::new(alloc, limits)?,
-            soft_age: limits.soft_age,
-            resource_limit: limits.resources,
-        };
         Ok(Core {
-            state,
+            state: State::new(alloc, limits)?,
             resources: PhantomData,
         })
     }

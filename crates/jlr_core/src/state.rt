@@ -4,12 +4,14 @@ ghost use Rattle.jlr_machine.specs.WellFormed.{IsWellFormed};
 ghost use Rattle.jlr_machine.specs.Objects.{at};
 ghost use Rattle.jlr_machine.specs.Lookups.{slot_named, object_named, has_free_handle};
 ghost use Rattle.jlr_machine.specs.Refusals.{is_joined, has_call};
+ghost use Rattle.jlr_machine.specs.Run.{empty};
+ghost use Rattle.jlr_barrier.specs.Graphs.{empty_known};
 ghost use Rattle.jlr_core.specs.State.{machine_with};
 
 use jlr_barrier::Heap;
 use jlr_machine::items::Items;
 use jlr_machine::machine::Machine;
-use jlr_types::{Handle, Mutator, Refusal, Slot};
+use jlr_types::{Handle, Limits, Mutator, Refusal, Slot};
 use std::alloc::{AllocError, Global};
 
 /// The heap, the soft age, in collections, and the limit of resources.
@@ -22,6 +24,19 @@ pub(crate) struct State {
 
 impl State {
     ghost use Rattle.jlr_core.specs.Machines.{machine_of};
+
+    /// The state of an empty machine. All room is made at once.
+    pub(crate) fn new(alloc: Global, limits: Limits) -> Result<Self, AllocError>
+        ensures machine { IfOk result (λ state. machine_of state ≡ empty limits.cells limits.sessions limits.resources) }
+        ensures age { IfOk result (λ state. state.soft_age ≡ limits.soft_age) }
+        ensures clock { IfOk result (λ state. state.heap.clock ≡ (empty_known limits.cells limits.sessions).clock) }
+    {
+        Ok(State {
+            heap: Heap::new(alloc, limits)?,
+            soft_age: limits.soft_age,
+            resource_limit: limits.resources,
+        })
+    }
 
     /// The machine as plain data, with nothing seen.
     pub(crate) fn image(&self, alloc: Global) -> Result<Machine, AllocError>

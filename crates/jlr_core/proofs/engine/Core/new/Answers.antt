@@ -1,8 +1,6 @@
 use Rattle.std.proofs.Common.{rules, sym, subst, ◌≤◌}
 use Rattle.jlr_machine.specs.WellFormed.{IsWellFormed}
 use Rattle.jlr_laws.proofs.Empty.{empty_is_an_image}
-use Rattle.jlr_barrier.specs.Graphs.{Known}
-use Rattle.jlr_core.specs.State.{machine_with}
 use Rattle.jlr_core.proofs.engine.Core.new.Goals as goal
 
 pub invariant_of-result : goal.invariant_of-result
@@ -10,4 +8,4 @@ invariant_of-result g c =
     let few_cells : c.args.limits.cells ≤ 65536 = search rules in
     let few_sessions : c.args.limits.sessions ≤ 64 = search rules in
     let image = empty_is_an_image c.args.limits.cells c.args.limits.sessions c.args.limits.resources few_cells few_sessions in
-    subst (λ (k : Known). IsWellFormed (machine_with k.graph c.args.limits.resources)) (sym c.in_ok-new.ensures) image.well_formed
+    subst IsWellFormed (sym c.in_ok-new.ensures.machine) image.well_formed
