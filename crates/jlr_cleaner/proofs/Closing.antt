@@ -9,8 +9,9 @@ use Rattle.jlr_machine.specs.declared.machine.Resource.{Resource}
 use Rattle.jlr_machine.specs.declared.machine.ResourceState.{ResourceState}
 use Rattle.jlr_machine.specs.declared.machine.ResourceState.TheVariants.{Closing, Idle, Opening}
 use Rattle.jlr_machine.specs.Lookups.{rid_of, with_job, without_job, with_resource}
+use Rattle.jlr_resource.specs.declared.place.Kept.{Kept}
 use Rattle.jlr_resource.specs.declared.place.Kept.TheVariants as kept
-use Rattle.jlr_resource.specs.Resources.{Resources, changed, removed, ended, in_state, resource_in, resources, state_at}
+use Rattle.jlr_resource.specs.Resources.{Resources, changed, removed, ended, in_state, resource_in, resources, state_at, state_of}
 use Rattle.jlr_resource.proofs.Listed.{resources_changed, resources_ended}
 use Rattle.jlr_cleaner.specs.Jobs.{job_in}
 use Rattle.jlr_cleaner.specs.Cleanings.{AreClosing, HasWork, IsInState, table_closed, table_closing}
@@ -102,6 +103,9 @@ module _ {R : Type 0} where
       (λ _. (here, closing))
       (λ _. (closing.0, closing_with t jobs new here closing.1))
 
+  pub work_changed : (t : Resources R) (action rid : ℕ) (s : ResourceState) (k : Kept R) → HasWork t action s (WorkOn rid) → HasWork (changed t rid k) action (state_of k) (WorkOn rid)
+  work_changed t action rid s k has = rw (resources_changed t.held rid k, this_goes (resources t) rid (state_of k), has) refl
+
   changed_others : (t : Resources R) (rid : ℕ) → SameOthers t (changed t rid kept.Closing) rid
   changed_others t rid other apart = rw (resources_changed t.held rid kept.Closing) (other_stays (resources t) rid Closing other apart)
 
@@ -109,7 +113,7 @@ module _ {R : Type 0} where
   closing_begun t jobs action by (Note n) idle closing = closing_with t jobs (record { action = action; work = Note n; by = by }) tt closing
   closing_begun t jobs action by (WorkOn rid) idle closing =
       let apart = apart_by_state t rid (λ e. cc (ap (option_map (λ r. r.state)) idle, e)) jobs closing in
-      let here : HasWork (changed t rid kept.Closing) action Closing (WorkOn rid) = rw (resources_changed t.held rid kept.Closing, this_goes (resources t) rid Closing, idle) refl in
+      let here = work_changed t action rid Idle kept.Closing idle in
       closing_with (changed t rid kept.Closing) jobs (record { action = action; work = WorkOn rid; by = by }) here
       (closing_kept t (changed t rid kept.Closing) rid (changed_others t rid) jobs apart closing)
 

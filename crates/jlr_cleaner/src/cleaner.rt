@@ -260,6 +260,7 @@ impl<R> Cleaner<R> {
         ensures next { IfOk result (λ rid. (rid ≡ self.old.table.next) × (rid < 2 ^ 32)) }
         ensures free { IfOk result (λ rid. resource_in (resources self.old.table) rid ≡ None) }
         ensures held { IfOk result (λ rid. self.new.table.held ≡ opening self.old.table rid action) }
+        ensures state { IfOk result (λ rid. state_at self.new.table rid ≡ Some state.Opening) }
         ensures others { IfOk result (λ rid. (other : ℕ) → other ≢ rid → kept_at self.new.table other ≡ kept_at self.old.table other) }
         ensures resources { IfOk result (λ rid. resources self.new.table ≡ with_resource (resources self.old.table) (record { rid = rid; action = action; state = state.Opening })) }
         ensures refused { IfErr result (λ r. (r ≡ Refusal.ResourcesFull) ⊎ (r ≡ Refusal.NoMemory)) }
@@ -278,6 +279,7 @@ impl<R> Cleaner<R> {
         requires { state_at self.old.table rid ≡ Some state.Opening }
         ensures idle { self.new ≡ record self.old { table = changed self.old.table rid (kept.Idle resource) } }
         ensures lies_here { kept_at self.new.table rid ≡ Some (kept.Idle resource) }
+        ensures state { state_at self.new.table rid ≡ Some state.Idle }
         ensures others { (other : ℕ) → other ≢ rid → kept_at self.new.table other ≡ kept_at self.old.table other }
         ensures machine { (m : Machine) → machine_with self.new m ≡ with_state (machine_with self.old m) rid state.Idle }
         ensures values { IsPermutation (resource ∷ values self.old.table) (values self.new.table) }
@@ -302,6 +304,7 @@ impl<R> Cleaner<R> {
         requires { state_at self.old.table rid ≡ Some state.Idle }
         ensures put_in_last { kept_at self.old.table rid ≡ Some (kept.Idle result) }
         ensures out { self.new ≡ record self.old { table = changed self.old.table rid kept.Out } }
+        ensures state { state_at self.new.table rid ≡ Some state.Out }
         ensures others { (other : ℕ) → other ≢ rid → kept_at self.new.table other ≡ kept_at self.old.table other }
         ensures machine { (m : Machine) → machine_with self.new m ≡ with_state (machine_with self.old m) rid state.Out }
         ensures values { IsPermutation (values self.old.table) (result ∷ values self.new.table) }
@@ -314,6 +317,7 @@ impl<R> Cleaner<R> {
         requires { state_at self.old.table rid ≡ Some state.Out }
         ensures idle { self.new ≡ record self.old { table = changed self.old.table rid (kept.Idle returned) } }
         ensures lies_here { kept_at self.new.table rid ≡ Some (kept.Idle returned) }
+        ensures state { state_at self.new.table rid ≡ Some state.Idle }
         ensures others { (other : ℕ) → other ≢ rid → kept_at self.new.table other ≡ kept_at self.old.table other }
         ensures machine { (m : Machine) → machine_with self.new m ≡ with_state (machine_with self.old m) rid state.Idle }
         ensures values { IsPermutation (returned ∷ values self.old.table) (values self.new.table) }

@@ -14,6 +14,8 @@ mod job;
 mod latest;
 mod outcomes;
 mod running;
+#[cfg(test)]
+mod tests;
 
 pub use cleaner::{Cleaner, Totals};
 pub use job::Job;
