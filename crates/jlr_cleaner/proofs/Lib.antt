@@ -1,0 +1,4 @@
+pub mod Apart
+pub mod Listing
+pub mod Closing
+pub mod Stepping
