@@ -146,6 +146,7 @@ impl<R> Cleaner<R> {
         ensures machine { (m : Machine) (s : ℕ) (c : Cleanable) → c.action ≡ action → c.work ≡ work → machine_with self.new (with_object m s (with_cleanable spent)) ≡ taken_up (machine_with self.old m) by s c }
         ensures values { IsPermutation (values self.old.table) (option_to_list result.resource ++ values self.new.table) }
     {
+        // The work can be passed on only once, since its type holds one with a model: the helper is lent it, and the job told a copy.
         let told = work;
         let resource = take_out(&mut self.table, &work);
         self.running.start(RunningJob { action, work, by });
@@ -295,6 +296,7 @@ impl<R> Cleaner<R> {
         ensures others { (other : ℕ) → other ≢ rid → kept_at self.new.table other ≡ kept_at self.old.table other }
         ensures machine { (m : Machine) → machine_with self.new m ≡ without_resource (machine_with self.old m) rid }
         ensures values { values self.new.table ≡ values self.old.table }
+        ensures room { length (resources self.new.table) < self.new.table.room }
     {
         self.table.closed(rid);
     }
