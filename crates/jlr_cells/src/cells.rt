@@ -443,7 +443,7 @@ mod tests {
     }
 
     #[test]
-    fn a_reference_leaves_its_queue_behind(rt: HostRuntime) -> Result<(), Fail> {
+    fn a_visit_tells_the_queue_ahead(rt: HostRuntime) -> Result<(), Fail> {
         let mut cells = Cells::new(rt.alloc(), 16)?;
         let mut meter = Meter::new();
         let queue = cells.take(Shape::Queue);
@@ -457,26 +457,32 @@ mod tests {
             })
             .ok_or("no cell")?;
         assert!(rt; cells.kind(slot).is_some());
-        let (_, ahead) = cells.visit(slot, &mut meter);
+        let (fields, ahead) = cells.visit(slot, &mut meter);
+        assert!(rt; fields.is_none());
         assert_eq!(rt; ahead, queue);
+        Ok(())
+    }
+
+    #[test]
+    fn a_reference_leaves_its_queue_behind(rt: HostRuntime) -> Result<(), Fail> {
+        let mut cells = Cells::new(rt.alloc(), 16)?;
+        let fresh = Shape::Reference {
+            kind: RefKind::Phantom,
+            referent: None,
+            queue: Some(Slot::new(9)),
+        };
+        let slot = cells.take(fresh).ok_or("no cell")?;
         assert!(rt; cells.is_reference(slot));
         cells.set_state(slot, RefState::Queued);
-        assert!(rt; cells.kind(slot).is_some());
-        let (_, ahead) = cells.visit(slot, &mut meter);
-        assert_eq!(rt; ahead, None);
         assert!(rt; cells.is_reference(slot));
         cells.cut_queue(slot);
-        let state = RefState::Queued;
-        let queue = None;
-        assert_eq!(rt;
-            cells.reference(slot),
-            Some(Reference {
-                kind,
-                referent,
-                queue,
-                state
-            })
-        );
+        let queued = Reference {
+            kind: RefKind::Phantom,
+            referent: None,
+            queue: None,
+            state: RefState::Queued,
+        };
+        assert_eq!(rt; cells.reference(slot), Some(queued));
         Ok(())
     }
 }
