@@ -6,7 +6,7 @@ ghost use Rattle.jlr_machine.specs.Edges.{edges_from};
 ghost use Rattle.jlr_machine.specs.Edges.Chain.{UpToSoft};
 ghost use Rattle.jlr_barrier.specs.Graphs.{held};
 ghost use Rattle.jlr_barrier.specs.Marking.{IsMarked, Shaded};
-ghost use Rattle.jlr_core.specs.Marking.{IsFollowed, keeps, soft_at};
+ghost use Rattle.jlr_sweep.specs.Marking.{IsFollowed, keeps, soft_at};
 
 use jlr_barrier::Heap;
 use jlr_soft::Policy;

@@ -6,9 +6,9 @@ use Rattle.jlr_laws.specs.Laws.{followed}
 use Rattle.jlr_barrier.specs.Graphs.{Clock, Graph}
 use Rattle.jlr_barrier.specs.Marking.{Shaded}
 use Rattle.jlr_barrier.proofs.Shading.{shaded_same, shaded_then}
-use Rattle.jlr_core.specs.Marking.{keeps, soft_at}
-use Rattle.jlr_core.proofs.Following.{followed_from, followed_gives, followed_is_soft, soft_edge}
-use Rattle.jlr_core.proofs.mark.follow.Goals as goal
+use Rattle.jlr_sweep.specs.Marking.{keeps, soft_at}
+use Rattle.jlr_sweep.proofs.Following.{followed_from, followed_gives, followed_is_soft, soft_edge}
+use Rattle.jlr_sweep.proofs.mark.follow.Goals as goal
 
 pub scan-requires-clause-within : goal.scan-requires-clause-within
 scan-requires-clause-within c = λ x h. c.requires.within x (followed_is_soft (λ _. false) c.args.heap.now.graph.objects c.args.slot x h)

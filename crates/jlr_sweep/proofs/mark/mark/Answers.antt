@@ -9,9 +9,9 @@ use Rattle.jlr_laws.specs.Laws.{followed}
 use Rattle.jlr_laws.proofs.Sets.{in_front}
 use Rattle.jlr_barrier.specs.Graphs.{Clock, Graph, held}
 use Rattle.jlr_barrier.specs.Marking.{Marking, Shaded, marked}
-use Rattle.jlr_core.specs.Marking.{keeps}
-use Rattle.jlr_core.proofs.Following.{marking_begins, marking_goes_on, marking_ends, followed_objects, followed_is_soft, none_counted, object_within}
-use Rattle.jlr_core.proofs.mark.mark.Goals as goal
+use Rattle.jlr_sweep.specs.Marking.{keeps}
+use Rattle.jlr_sweep.proofs.Following.{marking_begins, marking_goes_on, marking_ends, followed_objects, followed_is_soft, none_counted, object_within}
+use Rattle.jlr_sweep.proofs.mark.mark.Goals as goal
 
 pub shade_roots-requires : goal.shade_roots-requires
 shade_roots-requires c =

@@ -1,0 +1,101 @@
+-- What the marked objects are: what a full collection under the policy keeps.
+use Rattle.std.proofs.Common.{◌≡◌, ◌+◌, ◌++◌, not, ℕ, ◌<◌, ◌↔◌, Bool, true, false, List, [], length, Option, Some, None, option_and_then, IsTrue, is_some, refl, sym, ◌∙◌, ap, subst, inl, inr, arith}
+use Rattle.jlr_machine.specs.declared.machine.Machine.{Machine}
+use Rattle.jlr_machine.specs.Objects.{at, ◌∈◌, ◌∋◌}
+use Rattle.jlr_machine.specs.Edges.{edges_from, roots}
+use Rattle.jlr_machine.specs.Edges.Chain.{UpToSoft, UpToPhantom}
+use Rattle.jlr_soft.specs.declared.policy.Policy.{Policy}
+use Rattle.jlr_soft.specs.declared.policy.Mode.TheVariants.{ClearAll}
+use Rattle.jlr_machine.specs.Choices.{Choosing, kept_by, pended_by}
+use Rattle.jlr_machine.specs.Collection.{IsFullClearing}
+use Rattle.jlr_machine.specs.WellFormed.{IsWellFormed}
+use Rattle.jlr_roots.specs.Walk.{slots_held}
+use Rattle.jlr_laws.specs.Laws.{IsLeast, IsMarked as IsMarkedBy, IsWithinHeap}
+use Rattle.jlr_laws.proofs.Clearing.{edge_gives, edge_from, in_append}
+use Rattle.jlr_laws.proofs.Frames.{in_sessions, IsRoot, in_places, root_from}
+use Rattle.jlr_laws.proofs.Frames.IsRoot.{held as by_handle, waiting}
+use Rattle.jlr_laws.proofs.Empty.{well_formed_within}
+use Rattle.jlr_laws.proofs.LawProofs.{comes_down_to_cutting_off, keeping_none_makes_clearing, policy_makes_full}
+use Rattle.std.proofs.Common.{filter_map}
+use Rattle.jlr_barrier.specs.Graphs.{Clock, Graph, held, in_machine}
+use Rattle.jlr_barrier.specs.Marking.{Marking, IsMarked, is_marked}
+use Rattle.jlr_process.specs.Settling.{marked_below}
+use Rattle.jlr_process.specs.Flipping.{Flips, IsMarkedWhole}
+use Rattle.jlr_process.proofs.Whole.{kept_is_marked}
+use Rattle.jlr_sweep.specs.Marking.{IsFollowed, keeps}
+use Rattle.jlr_sweep.specs.Collecting.{Collects, IsRooted, closed}
+use Rattle.jlr_sweep.proofs.Following.{follows_on, object_within, strong_is_followed}
+
+module _ (f : Machine) (g : Graph) (rooted : IsRooted f g) where
+  abbrev m : Machine
+  m = in_machine f g
+
+  -- ---- What is held is a root
+
+  held_root : (s : ℕ) → s ∈ held g → s ∈ roots m
+  held_root s h = elim (in_append s (slots_held g.mutators) g.pending h) [
+    | inl a ↦ let r = in_sessions (λ s. filter_map (λ h. h) s.handles) g.mutators s a in let p = in_places r.1.handles s r.3 in root_from m s (by_handle r.0 p.0 r.1 r.2 p.1)
+    | inr b ↦ root_from m s (waiting b)
+  ]
+
+  -- ---- What marking asks for
+
+  pub held_object : (s : ℕ) → s ∈ held g → IsTrue (is_some (at g.objects s))
+  held_object s h = rooted.fit.slots.roots s (held_root s h)
+
+  pub edge_object : (x y : ℕ) → y ∈ edges_from UpToSoft g.objects x → IsTrue (is_some (at g.objects y))
+  edge_object x y h = rooted.fit.slots.edges x y (elim (edge_gives UpToSoft g.objects x y h) [ inl s ↦ edge_from UpToPhantom g.objects x y (inl s) | inr r ↦ edge_from UpToPhantom g.objects x y (inr (r.0, refl, r.2)) ])
+
+  -- ---- What was kept
+
+  module _ (kept_soft : ℕ → Bool) (marks : Marking) (long : length marks.bits ≡ length g.objects) (marked : (x : ℕ) → IsMarked marks x ↔ IsFollowed kept_soft g.objects (held g) x) (objects : (x : ℕ) → IsMarked marks x → IsTrue (is_some (at g.objects x))) where
+    abbrev kept : List ℕ
+    kept = marked_below marks (length g.objects)
+
+    same : (x : ℕ) → (kept ∋ x) ≡ is_marked marks x
+    same x = kept_is_marked marks (length g.objects) x (omega (arith, long))
+
+    least : IsLeast kept_soft g.objects (roots m) kept
+    least =
+        record {
+          holds_base = λ s h. same s ∙ (marked s).1 (s, rooted.all_held s h, [], refl);
+          closed = λ x y h e. let f = (marked x).0 (sym (same x) ∙ h) in same y ∙ (marked y).1 (follows_on kept_soft g.objects (held g) x y f e);
+          least = λ s h. let f = (marked s).0 (sym (same s) ∙ h) in (f.0, held_root f.0 f.1, f.2, f.3);
+        }
+
+    pub whole : IsMarkedWhole m marks
+    whole =
+        record {
+          fit = rooted.fit;
+          long = long;
+          objects = objects;
+          roots = λ s h. (marked s).1 (s, rooted.all_held s h, [], refl);
+          closed = λ s t h e. (marked t).1 (follows_on kept_soft g.objects (held g) s t ((marked s).0 h) (strong_is_followed kept_soft g.objects s t e));
+        }
+
+    pub collects : (old new : Choosing) (n : Machine) → Flips m marks old new n → Collects kept_soft m old new (closed n)
+    collects old new n f =
+        let within = well_formed_within m rooted.fit in
+        let around : IsWithinHeap g.objects (roots m ++ kept) =
+        record { edges = within.edges; base = λ s h. elim (in_append s (roots m) kept h) [ inl r ↦ within.base s r | inr k ↦ (let there = objects s (sym (same s) ∙ k) in object_within g.objects s there) ] } in
+        let cut = (comes_down_to_cutting_off g.objects (roots m ++ kept) kept f.pending around).0 f.collection in
+        let by_policy : IsMarkedBy kept_soft g.objects (roots m) kept f.pending = record { marked = least; pended = cut.pended; once = cut.once; rising = cut.rising } in
+        record {
+          kept = kept;
+          pending = f.pending;
+          chosen = f.chosen;
+          marked = by_policy;
+          full = policy_makes_full m kept_soft kept f.pending within by_policy;
+          left = ap {A = Machine} {B = Machine} closed f.left;
+          counted = f.counted;
+        }
+
+-- where no soft reference is kept, all are cleared
+pub clears_all : (m : Machine) (policy : Policy) (clock : Clock) (old new : Choosing) (n : Machine) → policy.mode ≡ ClearAll → IsWellFormed m → (c : Collects (keeps policy clock) m old new n) → IsFullClearing m c.kept c.pending
+clears_all m policy clock old new n all w c =
+    keeping_none_makes_clearing m (keeps policy clock) c.kept c.pending (well_formed_within m w) (λ s. rw all refl) c.marked
+
+-- as the choice tells it
+pub clears_told : (m : Machine) (policy : Policy) (clock : Clock) (old new : Choosing) (n : Machine) → policy.mode ≡ ClearAll → IsWellFormed m → Collects (keeps policy clock) m old new n → IsFullClearing m (kept_by new) (pended_by new)
+clears_told m policy clock old new n all w c =
+    subst (λ k. IsFullClearing m (kept_by k) (pended_by k)) (sym c.chosen) (clears_all m policy clock old new n all w c)

@@ -1,0 +1,52 @@
+use Rattle.std.proofs.Common.{◌≡◌, sym, ◌∙◌, ap, subst, length}
+use Rattle.jlr_machine.specs.declared.machine.Machine.{Machine}
+use Rattle.jlr_machine.specs.Choices.{Choosing}
+use Rattle.jlr_laws.proofs.CollectionKept.{length_left}
+use Rattle.jlr_barrier.specs.Graphs.{Graph, in_machine}
+use Rattle.jlr_process.specs.Flipping.{Flips, IsMarkedWhole}
+use Rattle.jlr_sweep.specs.Collecting.{Collects, IsRooted, closed}
+use Rattle.jlr_sweep.specs.Marking.{keeps}
+use Rattle.jlr_sweep.proofs.Kept.{clears_told, collects, edge_object, held_object, whole}
+use Rattle.jlr_sweep.proofs.collection.full.Goals as goal
+
+pub mark-requires-clause-roots : goal.mark-requires-clause-roots
+mark-requires-clause-roots c = held_object c.requires.fit.0 c.args.heap.now.graph c.requires.fit.1
+
+pub mark-requires-clause-edges : goal.mark-requires-clause-edges
+mark-requires-clause-edges c = edge_object c.requires.fit.0 c.args.heap.now.graph c.requires.fit.1
+
+pub flip-requires-clause-whole : goal.flip-requires-clause-whole
+flip-requires-clause-whole c =
+    let m = c.requires.fit.0 in (
+      m,
+      subst (λ (k : Graph). IsMarkedWhole (in_machine m k) c.mark.new.heap.marking) (sym c.mark.ensures.graph)
+          (whole m c.args.heap.now.graph c.requires.fit.1 (keeps c.args.policy.now c.args.heap.now.clock) c.mark.new.heap.marking c.mark.ensures.long c.mark.ensures.marked c.mark.ensures.objects),
+    )
+
+flips : (c : goal.After-flip) (m : Machine) → IsRooted m c.args.heap.now.graph → Flips (in_machine m c.args.heap.now.graph) c.mark.new.heap.marking c.args.choice.now c.flip.new.choice (in_machine m c.flip.new.heap.graph)
+flips c m rooted =
+    let w : IsMarkedWhole (in_machine m c.mark.new.heap.graph) c.mark.new.heap.marking =
+    subst (λ (k : Graph). IsMarkedWhole (in_machine m k) c.mark.new.heap.marking) (sym c.mark.ensures.graph)
+    (whole m c.args.heap.now.graph rooted (keeps c.args.policy.now c.args.heap.now.clock) c.mark.new.heap.marking c.mark.ensures.long c.mark.ensures.marked c.mark.ensures.objects) in
+    subst (λ (k : Graph). Flips (in_machine m k) c.mark.new.heap.marking c.args.choice.now c.flip.new.choice (in_machine m c.flip.new.heap.graph)) c.mark.ensures.graph
+    (c.flip.ensures.flips m w)
+
+collected : (c : goal.After-flip) (m : Machine) → IsRooted m c.args.heap.now.graph → Collects (keeps c.args.policy.now c.args.heap.now.clock) (in_machine m c.args.heap.now.graph) c.args.choice.now c.flip.new.choice (closed (in_machine m c.flip.new.heap.graph))
+collected c m rooted =
+    collects m c.args.heap.now.graph rooted (keeps c.args.policy.now c.args.heap.now.clock) c.mark.new.heap.marking c.mark.ensures.long c.mark.ensures.marked c.mark.ensures.objects c.args.choice.now c.flip.new.choice (in_machine m c.flip.new.heap.graph) (flips c m rooted)
+
+pub returns-clause-collects : goal.returns-clause-collects
+returns-clause-collects c = λ m rooted. collected c m rooted
+
+pub returns-clause-clears : goal.returns-clause-clears
+returns-clause-clears c =
+    λ all m rooted.
+    clears_told (in_machine m c.args.heap.now.graph) c.args.policy.now c.args.heap.now.clock c.args.choice.now c.flip.new.choice (closed (in_machine m c.flip.new.heap.graph)) all rooted.fit (collected c m rooted)
+
+pub returns-clause-room : goal.returns-clause-room
+returns-clause-room c = ap (λ (x : Choosing). x.cells) (flips c c.requires.fit.0 c.requires.fit.1).chosen
+
+pub returns-clause-cells : goal.returns-clause-cells
+returns-clause-cells c =
+    let f = flips c c.requires.fit.0 c.requires.fit.1 in
+    ap (λ (x : Machine). length x.objects) f.left ∙ length_left _ f.pending 0 c.args.heap.now.graph.objects

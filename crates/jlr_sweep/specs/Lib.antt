@@ -1,0 +1,3 @@
+-- Reading order.
+pub mod Marking
+pub mod Collecting
