@@ -1,0 +1,4 @@
+pub mod Asks
+pub mod Legal
+pub mod Left
+pub mod Standing
