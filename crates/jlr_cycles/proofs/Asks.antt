@@ -1,20 +1,18 @@
 -- What was seen plays no part in what asks are refused with and answer, nor in what they leave.
-use Rattle.jlr_types.specs.declared.Refusal.{Refusal}
-use Rattle.jlr_machine.specs.declared.machine.Machine.{Machine}
-use Rattle.jlr_machine.specs.declared.ask.Ask.{Ask}
-use Rattle.jlr_machine.specs.declared.ask.Answer.{Answer}
-use Rattle.jlr_cycles.specs.Laws.{with_seen}
-use Rattle.std.proofs.Common.{◌≡◌, ℕ, ◌+◌, ◌==◌, Bool, true, false, cond, List, [], ◌∷◌, ◌++◌, ◌⊎◌, inl, inr, refl, sym, ◌∙◌, ap, Option, Some, None, option_and_then, map, slice_get}
+use Rattle.std.proofs.Common.{◌≡◌, ℕ, ◌+◌, ◌==◌, Bool, true, false, cond, List, [], ◌∷◌, ◌++◌, ◌⊎◌, inl, inr, refl, ◌∙◌, ap, Option, Some, None, option_and_then, map, slice_get}
 use Rattle.jlr_types.specs.declared.FieldValue.TheVariants.{Int as IntValue, Ref as RefValue}
 use Rattle.jlr_machine.specs.declared.object.Object.{Object}
 use Rattle.jlr_machine.specs.declared.object.Object.TheVariants.{Plain, Reference, Queue, Cleaner}
 use Rattle.jlr_machine.specs.declared.object.Cleanable.{Cleanable as CleanableOf}
 use Rattle.jlr_machine.specs.declared.object.Guard.{Guard as GuardOf}
 use Rattle.jlr_machine.specs.declared.object.RefState.TheVariants.{Fresh}
+use Rattle.jlr_machine.specs.declared.machine.Machine.{Machine}
 use Rattle.jlr_machine.specs.declared.machine.Job.{Job as JobOf}
 use Rattle.jlr_machine.specs.declared.machine.Call.TheVariants.{Free, Job as CallJob}
 use Rattle.jlr_machine.specs.declared.machine.ResourceState.{ResourceState}
 use Rattle.jlr_machine.specs.declared.machine.ResourceState.TheVariants.{Idle, Closing}
+use Rattle.jlr_machine.specs.declared.ask.Ask.{Ask}
+use Rattle.jlr_machine.specs.declared.ask.Answer.{Answer}
 use Rattle.jlr_machine.specs.declared.ask.Outcome.{Outcome}
 use Rattle.jlr_machine.specs.declared.ask.Outcome.TheVariants.{Ok as OutcomeOk, Failed}
 use Rattle.jlr_machine.specs.declared.ask.Handed.{Handed}
@@ -25,6 +23,7 @@ use Rattle.jlr_machine.specs.Objects.{at, some_and, as_reference, with_field, wi
 use Rattle.jlr_machine.specs.Lookups.{slot_named, guard_named, with_object, with_new, with_handle, with_call, on, blank, bound, job_of, with_job, without_job, with_state, rid_of, cleanable_at, cleanable_of_guard, last_256}
 use Rattle.jlr_machine.specs.Refusals.{given, refusal}
 use Rattle.jlr_machine.specs.Calls.{reply, after, from_lined, line_answer, hand_over_answer, handle_given, with_given, made, to_queue, enqueued, unreferred, polled, poll_given, with_work_state, without_work_resource, taken_up, spent, cleaned, line_taken, delivered, handed, handed_over, prepared_in, opened, fence_of, guard_fenced, checked_out, checked_in, without_work, finished, noted, free_again, registered}
+use Rattle.jlr_cycles.specs.Laws.{with_seen}
 
 -- the machine with a cycle open or not, and these slots seen
 abbrev pub with_cycle : Machine → Bool → List ℕ → Machine

@@ -1,20 +1,19 @@
 -- What was seen matters to which collection a Collect may come with, and to nothing else that is legal.
-use Rattle.std.proofs.Common.{ℕ, List, ◌∙◌, refl, Option, Some, None}
+use Rattle.std.proofs.Common.{ℕ, List, ◌∙◌, Option, Some, None}
 use Rattle.jlr_machine.specs.declared.machine.Machine.{Machine}
 use Rattle.jlr_machine.specs.declared.ask.Ask.{Ask}
 use Rattle.jlr_machine.specs.declared.ask.Answer.{Answer}
+use Rattle.jlr_machine.specs.declared.ask.Ask.TheVariants.{Join, Leave, New, Put, Get, SetInt, Int, Dup, Drop, Same, MakeRef, Deref, Refers, Clear, Enqueue, Enqueued, MakeQueue, Poll, Remove, MakeCleaner, Register, Clean, Prepare, Opened, CheckOut, CheckIn, Close, Finish, Bind, Find, Unbind, Names, Full, Stat, Notes, Faults, HandOver, TakeUp, Begin, Collect, Abandon}
+use Rattle.jlr_machine.specs.declared.ask.FullMode.TheVariants.{Policy, ClearAll}
 use Rattle.jlr_machine.specs.declared.entry.Collected.{Collected}
-use Rattle.jlr_machine.specs.declared.entry.Chosen.{Chosen}
 use Rattle.jlr_machine.specs.declared.entry.Entry.{Entry}
 use Rattle.jlr_machine.specs.Objects.{◌∈◌}
 use Rattle.jlr_machine.specs.Run.IsLegal.{carried_out, refused, heap_full, out_of_memory}
-use Rattle.jlr_cycles.specs.Laws.{with_seen, LegalWhenMoreWasSeen}
-use Rattle.jlr_cycles.proofs.Asks.{same_refusal, same_reply}
-use Rattle.jlr_machine.specs.declared.ask.Ask.TheVariants.{Join, Leave, New, Put, Get, SetInt, Int, Dup, Drop, Same, MakeRef, Deref, Refers, Clear, Enqueue, Enqueued, MakeQueue, Poll, Remove, MakeCleaner, Register, Clean, Prepare, Opened, CheckOut, CheckIn, Close, Finish, Bind, Find, Unbind, Names, Full, Stat, Notes, Faults, HandOver, TakeUp, Begin, Collect, Abandon}
-use Rattle.jlr_machine.specs.declared.ask.FullMode.TheVariants.{Policy, ClearAll}
 use Rattle.jlr_machine.specs.Refusals.{cells_needed}
 use Rattle.jlr_machine.specs.Collection.{IsBackground, IsFullClearing}
 use Rattle.jlr_machine.specs.Run.{with_collection, MayCollect, Answers, IsFresh, IsCarriedOut, IsRefused, IsHeapFull, IsOutOfMemory}
+use Rattle.jlr_cycles.specs.Laws.{with_seen, LegalWhenMoreWasSeen}
+use Rattle.jlr_cycles.proofs.Asks.{same_refusal, same_reply}
 
 -- ---- Answers
 

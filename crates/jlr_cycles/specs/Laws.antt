@@ -1,5 +1,5 @@
 -- Statements of the laws of open cycles. Each is the contract of a function of its own, with an empty body.
-use Rattle.std.specs.Prelude.{◌≡◌, ℕ, false, List, []}
+use Rattle.std.specs.Prelude.{◌≡◌, ◌⊎◌, ℕ, true, false, List, []}
 use Rattle.jlr_machine.specs.declared.machine.Machine.{Machine}
 use Rattle.jlr_machine.specs.declared.entry.Entry.{Entry}
 use Rattle.jlr_machine.specs.Objects.{◌∈◌}
@@ -21,6 +21,10 @@ LegalWhenMoreWasSeen = (m : Machine) (slots : List ℕ) (e : Entry) → ((s : �
 abbrev pub LeavesTheSameWhateverWasSeen : Type 0
 LeavesTheSameWhateverWasSeen = (m : Machine) (slots : List ℕ) (e : Entry) → with_seen (done (with_seen m slots) e) [] ≡ with_seen (done m e) []
 
+-- what was seen stays seen as long as the cycle is open
+abbrev pub SeenStaysSeen : Type 0
+SeenStaysSeen = (m : Machine) (e : Entry) (s : ℕ) → IsWellFormed m → IsLegal m e → s ∈ m.seen → (apply m e).cycle_open ≡ true → s ∈ (apply m e).seen
+
 -- ---- The machines for which a core stands that has marked nothing
 
 abbrev pub StandsForItself : Type 0
@@ -37,3 +41,7 @@ GoesOnStanding = (core m : Machine) (e : Entry) → IsWellFormed core → Stands
 -- what is legal where nothing was seen
 abbrev pub LegalInAllForWhichItStands : Type 0
 LegalInAllForWhichItStands = (core m : Machine) (e : Entry) → IsWellFormed core → StandsFor core [] m → IsLegal core e → GoesOn core m e
+
+-- after either the core's machine is well formed again
+abbrev pub CoreStaysWellFormed : Type 0
+CoreStaysWellFormed = (core : Machine) (e : Entry) → IsWellFormed core → IsLegal core e ⊎ IsLegal (with_seen core (now_seen core)) e → IsWellFormed (with_seen (done core e) [])

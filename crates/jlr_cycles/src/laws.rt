@@ -1,6 +1,6 @@
 //! Laws of open cycles. Each function's contract is the law, and its body is empty.
 
-ghost use Rattle.jlr_cycles.specs.Laws.{LegalWhenMoreWasSeen, LeavesTheSameWhateverWasSeen, StandsForItself, GoesOnStanding, LegalInAllForWhichItStands};
+ghost use Rattle.jlr_cycles.specs.Laws.{LegalWhenMoreWasSeen, LeavesTheSameWhateverWasSeen, SeenStaysSeen, StandsForItself, GoesOnStanding, LegalInAllForWhichItStands, CoreStaysWellFormed};
 
 /// What was seen matters to nothing but what a background collection may keep: where more was seen, at least the same entries are legal.
 pub fn an_entry_stays_legal_when_more_was_seen()
@@ -10,6 +10,11 @@ pub fn an_entry_stays_legal_when_more_was_seen()
 /// And it changes nothing of what an entry does.
 pub fn an_entry_leaves_the_same_whatever_was_seen()
     ensures { LeavesTheSameWhateverWasSeen }
+{}
+
+/// What was seen in a cycle stays seen as long as the cycle is open.
+pub fn what_was_seen_stays_seen()
+    ensures { SeenStaysSeen }
 {}
 
 /// Outside a cycle, where nothing was seen, a core stands for the machine that it keeps.
@@ -25,4 +30,9 @@ pub fn a_core_goes_on_standing()
 /// So is an entry that is legal in the core's own machine, with nothing seen.
 pub fn a_legal_entry_of_a_core_is_legal_in_all_for_which_it_stands()
     ensures { LegalInAllForWhichItStands }
+{}
+
+/// And the machine that the core keeps stays well formed.
+pub fn the_machine_of_a_core_stays_well_formed()
+    ensures { CoreStaysWellFormed }
 {}
