@@ -11,7 +11,7 @@ use Rattle.jlr_machine.specs.declared.object.RefState.TheVariants.{Fresh}
 use Rattle.jlr_machine.specs.declared.machine.Machine.{Machine}
 use Rattle.jlr_machine.specs.declared.machine.Session.{Session}
 use Rattle.jlr_machine.specs.declared.ask.Ask.{Ask}
-use Rattle.jlr_machine.specs.declared.ask.Ask.TheVariants.{Join, Leave, Put, Get, Dup, Drop, Same, MakeRef, Deref, Refers, Clear, Enqueue, Enqueued, Poll, HandOver, Full}
+use Rattle.jlr_machine.specs.declared.ask.Ask.TheVariants.{Join, Leave, Put, Get, SetInt, Int, Dup, Drop, Same, MakeRef, Deref, Refers, Clear, Enqueue, Enqueued, Poll, HandOver, Full, Stat, Begin, Abandon}
 use Rattle.jlr_machine.specs.declared.ask.FullMode.{FullMode}
 use Rattle.jlr_machine.specs.declared.ask.FullMode.TheVariants.{Policy, ClearAll}
 use Rattle.jlr_machine.specs.declared.ask.Answer.{Answer}
@@ -81,6 +81,8 @@ IsPlain (Join k) = Unit {0}
 IsPlain (Leave k) = Unit {0}
 IsPlain (Put k h f v) = Unit {0}
 IsPlain (Get k h f) = Unit {0}
+IsPlain (SetInt k h f n) = Unit {0}
+IsPlain (Int k h f) = Unit {0}
 IsPlain (Dup k h) = Unit {0}
 IsPlain (Drop k h) = Unit {0}
 IsPlain (Same k a b) = Unit {0}
@@ -90,7 +92,10 @@ IsPlain (Clear k r) = Unit {0}
 IsPlain (Enqueue k r) = Unit {0}
 IsPlain (Enqueued k r) = Unit {0}
 IsPlain (Poll k q) = Unit {0}
+IsPlain (Stat k) = Unit {0}
 IsPlain HandOver = Unit {0}
+IsPlain Begin = Unit {0}
+IsPlain Abandon = Unit {0}
 IsPlain _ = ⊥
 
 plainly : (m n : Machine) (ask : Ask) (a : Answer) → IsPlain ask → refusal m ask ≡ None → reply m ask ≡ Some a → n ≡ after m ask a [] → Meets m ask a no_choice n
@@ -98,6 +103,8 @@ plainly m n (Join k) a p e r l = meets_plainly m (Join k) a n e (room_for_none m
 plainly m n (Leave k) a p e r l = meets_plainly m (Leave k) a n e (room_for_none m) refl r r l
 plainly m n (Put k h f v) a p e r l = meets_plainly m (Put k h f v) a n e (room_for_none m) refl r r l
 plainly m n (Get k h f) a p e r l = meets_plainly m (Get k h f) a n e (room_for_none m) refl r r l
+plainly m n (SetInt k h f x) a p e r l = meets_plainly m (SetInt k h f x) a n e (room_for_none m) refl r r l
+plainly m n (Int k h f) a p e r l = meets_plainly m (Int k h f) a n e (room_for_none m) refl r r l
 plainly m n (Dup k h) a p e r l = meets_plainly m (Dup k h) a n e (room_for_none m) refl r r l
 plainly m n (Drop k h) a p e r l = meets_plainly m (Drop k h) a n e (room_for_none m) refl r r l
 plainly m n (Same k x y) a p e r l = meets_plainly m (Same k x y) a n e (room_for_none m) refl r r l
@@ -107,6 +114,9 @@ plainly m n (Clear k h) a p e r l = meets_plainly m (Clear k h) a n e (room_for_
 plainly m n (Enqueue k h) a p e r l = meets_plainly m (Enqueue k h) a n e (room_for_none m) refl r r l
 plainly m n (Enqueued k h) a p e r l = meets_plainly m (Enqueued k h) a n e (room_for_none m) refl r r l
 plainly m n (Poll k h) a p e r l = meets_plainly m (Poll k h) a n e (room_for_none m) refl r r l
+plainly m n (Stat k) a p e r l = meets_plainly m (Stat k) a n e (room_for_none m) refl r r l
+plainly m n Begin a p e r l = meets_plainly m Begin a n e (room_for_none m) refl r r l
+plainly m n Abandon a p e r l = meets_plainly m Abandon a n e (room_for_none m) refl r r l
 plainly m n HandOver a p e r l = meets_plainly m HandOver a n e (room_for_none m) refl r r l
 plainly m n _ a p e r l = absurd p
 

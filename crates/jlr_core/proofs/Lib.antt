@@ -1,5 +1,5 @@
-pub mod Following
 pub mod Named
+pub mod Roots
 pub mod Clearings
 pub mod Rooms
 pub mod Entries

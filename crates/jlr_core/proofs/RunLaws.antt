@@ -12,9 +12,9 @@ use Rattle.jlr_machine.specs.declared.entry.Entry.{Entry}
 use Rattle.jlr_machine.specs.Run.{Run, apply, empty}
 use Rattle.jlr_core.specs.declared.event.Event.{Event}
 use Rattle.jlr_core.specs.declared.event.Reply.{Reply}
-use Rattle.jlr_core.specs.Events.{ask_of, answer_in, given, handed, entry_with, Enters}
+use Rattle.jlr_core.specs.Events.{ask_of, answer_in, given, handed, entry_with, Enters, WantsMemory}
 use Rattle.jlr_core.specs.Cores.{Kept, StandsIn}
-use Rattle.jlr_core.specs.Runs.{entries_of, AreAnswered, IsRunOf, all_given, all_handed}
+use Rattle.jlr_core.specs.Runs.{entries_of, AreAnswered, AreWanting, IsRunOf, all_given, all_handed}
 
 -- ---- Lists with one more
 
@@ -81,6 +81,17 @@ handed_more (x ∷ replies) r = ap (λ l. option_to_list (handed x) ++ l) (hande
 
 pub flow_more : {R : Type 0} (events : List (Event R)) (replies : List (Reply R)) (e : Event R) (r : Reply R) → all_handed replies ≡ all_given events → handed r ≡ given e → all_handed (replies ++ r ∷ []) ≡ all_given (events ++ e ∷ [])
 flow_more events replies e r h g = handed_more replies r ∙ ap (λ l. l ++ option_to_list (handed r)) h ∙ ap (λ o. all_given events ++ option_to_list o) g ∙ sym (given_more events e)
+
+-- ---- Memory
+
+pub wanting_more : {R : Type 0} (events : List (Event R)) (replies : List (Reply R)) (e : Event R) (r : Reply R) → AreWanting events replies → WantsMemory e r → AreWanting (events ++ e ∷ []) (replies ++ r ∷ [])
+wanting_more [] [] e r a h = (h, tt)
+wanting_more (x ∷ events) (y ∷ replies) e r a h = (a.0, wanting_more events replies e r a.1 h)
+wanting_more [] (y ∷ replies) e r a h = absurd a
+wanting_more (x ∷ events) [] e r a h = absurd a
+
+pub start_memory : {R : Type 0} (replies : List (Reply R)) → replies ≡ [] → AreWanting [] replies
+start_memory {R} replies n = let none : List (Event R) = [] in subst (λ l. AreWanting none l) (sym n) tt
 
 -- ---- The start
 

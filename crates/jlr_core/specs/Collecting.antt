@@ -1,4 +1,4 @@
--- What a full collection does to the machine, and what it tells the choice.
+-- What collections do to the machine that an ask finds, and to its clock.
 use Rattle.std.specs.Prelude.{◌≡◌, ℕ, cond, is_some, ◌+◌, ◌<◌, not, IsTrue, List, [], ◌∷◌, length, Bool, Option, Some, None}
 use Rattle.jlr_machine.specs.declared.machine.Machine.{Machine}
 use Rattle.jlr_machine.specs.declared.object.Object.{Object}
@@ -12,21 +12,8 @@ use Rattle.jlr_machine.specs.declared.entry.Collected.{Collected}
 use Rattle.jlr_machine.specs.Objects.{at, occupied}
 use Rattle.jlr_machine.specs.Lookups.{with_new}
 use Rattle.jlr_machine.specs.Run.{has_room, with_collection}
-use Rattle.jlr_machine.specs.Edges.{roots}
-use Rattle.jlr_machine.specs.Collection.{IsFull, IsFullClearing, after_collection}
-use Rattle.jlr_laws.specs.Laws.{IsMarked}
-use Rattle.jlr_machine.specs.Choices.{Choosing, collecting}
-
--- A full collection of m that leaves n: it keeps the least set that holds the roots and is closed under strong edges and under the soft edges
--- of those members that are kept, and the choice says so
-pub record Collects (kept_soft : ℕ → Bool) (m : Machine) (old new : Choosing) (n : Machine) : Type 0 where
-  pub kept : List ℕ
-  pub pending : List ℕ
-  pub chosen : new ≡ collecting old kept pending
-  pub marked : IsMarked kept_soft m.objects (roots m) kept pending
-  pub full : IsFull m kept pending
-  pub left : n ≡ after_collection m kept pending
-  pub counted : occupied n.objects ≡ length kept
+use Rattle.jlr_machine.specs.Collection.{IsFullClearing, after_collection}
+use Rattle.jlr_machine.specs.Choices.{Choosing}
 
 -- which soft references a collection keeps that is asked for
 abbrev pub mode_of : FullMode → Mode

@@ -1,6 +1,8 @@
 -- Events and replies without their resources, and the resources that they carry.
-use Rattle.std.specs.Prelude.{◌≡◌, Bool, true, false, IsTrue, Option, Some, None, Result, Ok, Err}
+use Rattle.std.specs.Prelude.{◌≡◌, Bool, true, false, cond, IsTrue, Option, Some, None, Result, Ok, Err}
 use Rattle.jlr_types.specs.declared.Fault.{Fault}
+use Rattle.jlr_types.specs.declared.Progress.{Progress}
+use Rattle.jlr_types.specs.declared.Progress.TheVariants.{Done, Idle}
 use Rattle.jlr_machine.specs.declared.machine.Machine.{Machine}
 use Rattle.jlr_machine.specs.declared.ask.Outcome.{Outcome}
 use Rattle.jlr_machine.specs.declared.ask.Outcome.TheVariants as outcome
@@ -12,9 +14,9 @@ use Rattle.jlr_machine.specs.declared.ask.Answer.TheVariants.{Refused}
 use Rattle.jlr_machine.specs.declared.entry.Chosen.{Chosen}
 use Rattle.jlr_machine.specs.declared.entry.Entry.{Entry}
 use Rattle.jlr_machine.specs.Run.{no_choice, IsLegal, apply}
-use Rattle.jlr_core.specs.State.{Meets, entry_of}
+use Rattle.jlr_core.specs.State.{MeetsAsk, entry_of}
 use Rattle.jlr_core.specs.declared.event.Event.{Event}
-use Rattle.jlr_core.specs.declared.event.Event.TheVariants.{Join, Leave, New, Put, Get, Dup, Drop, Same, MakeRef, Deref, Refers, Clear, Enqueue, Enqueued, MakeQueue, Poll, Opened, Full, HandOver, Mark}
+use Rattle.jlr_core.specs.declared.event.Event.TheVariants.{Join, Leave, New, Put, Get, SetInt, Int, Dup, Drop, Same, MakeRef, Deref, Refers, Clear, Enqueue, Enqueued, MakeQueue, Poll, Opened, Full, Stat, HandOver, Begin, Collect, Abandon, Mark}
 use Rattle.jlr_core.specs.declared.event.Reply.{Reply}
 use Rattle.jlr_core.specs.declared.event.Reply.TheVariants.{Answered, Marked}
 
@@ -33,6 +35,8 @@ ask_of (Leave k) = Some (ask.Leave k)
 ask_of (New k layout) = Some (ask.New k layout)
 ask_of (Put k h f v) = Some (ask.Put k h f v)
 ask_of (Get k h f) = Some (ask.Get k h f)
+ask_of (SetInt k h f n) = Some (ask.SetInt k h f n)
+ask_of (Int k h f) = Some (ask.Int k h f)
 ask_of (Dup k h) = Some (ask.Dup k h)
 ask_of (Drop k h) = Some (ask.Drop k h)
 ask_of (Same k a b) = Some (ask.Same k a b)
@@ -46,7 +50,11 @@ ask_of (MakeQueue k) = Some (ask.MakeQueue k)
 ask_of (Poll k q) = Some (ask.Poll k q)
 ask_of (Opened k outcome) = Some (ask.Opened k (outcome_of outcome))
 ask_of (Full k mode) = Some (ask.Full k mode)
+ask_of (Stat k) = Some (ask.Stat k)
 ask_of HandOver = Some ask.HandOver
+ask_of Begin = Some ask.Begin
+ask_of Collect = Some ask.Collect
+ask_of Abandon = Some ask.Abandon
 ask_of (Mark budget) = None
 
 -- the resource that an event hands in
@@ -73,11 +81,15 @@ may_grow _ = false
 abbrev pub WantsMemory : {R : Type 0} → Event R → Reply R → Type 0
 WantsMemory event reply = answer_in reply ≡ Some (Refused NoMemory) → IsTrue (may_grow event)
 
+-- what a piece of marking is answered: it is done in an open cycle, since a Collect marks whole, and idle without one
+abbrev pub progress_in : Machine → Progress
+progress_in m = cond m.cycle_open Done Idle
+
 -- ---- What an event and its reply are to the machine
 
 -- an ask met as its answer says; a piece of marking chooses nothing and leaves m
 abbrev pub StepsBy : Machine → Option Ask → Option Answer → Chosen → Machine → Type 0
-StepsBy m (Some ask) (Some answer) chosen n = Meets m ask answer chosen n
+StepsBy m (Some ask) (Some answer) chosen n = MeetsAsk m ask answer chosen n
 StepsBy m (Some ask) None chosen n = ⊥
 StepsBy m None (Some answer) chosen n = ⊥
 StepsBy m None None chosen n = (chosen ≡ no_choice) × (n ≡ m)

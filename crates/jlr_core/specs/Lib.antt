@@ -1,8 +1,8 @@
--- What the collector keeps, and what the core's events mean.
-pub mod Marking
+-- What a core's state is, what collections do to it, and what the core's events mean.
 pub mod State
 pub mod Machines
 pub mod Collecting
+pub mod Policy
 pub mod Events
 pub mod Cores
 pub mod Runs

@@ -1,7 +1,11 @@
 -- The machine that a core's state is.
 use Rattle.jlr_machine.specs.declared.machine.Machine.{Machine}
 use Rattle.jlr_core.specs.declared.state.State.{State}
-use Rattle.jlr_core.specs.State.{machine_with}
+use Rattle.jlr_core.specs.State.{frame, machine_with}
 
 abbrev pub machine_of : State → Machine
-machine_of s = machine_with s.heap.graph s.resource_limit
+machine_of s = machine_with s.heap.graph s.resource_limit s.cycle_open
+
+-- and what it keeps beside its heap
+abbrev pub frame_of : State → Machine
+frame_of s = frame s.resource_limit s.cycle_open

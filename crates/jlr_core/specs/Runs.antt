@@ -7,7 +7,7 @@ use Rattle.jlr_machine.specs.declared.entry.Entry.{Entry}
 use Rattle.jlr_machine.specs.Run.{Run}
 use Rattle.jlr_core.specs.declared.event.Event.{Event}
 use Rattle.jlr_core.specs.declared.event.Reply.{Reply}
-use Rattle.jlr_core.specs.Events.{ask_of, answer_in, given, handed, entry_with}
+use Rattle.jlr_core.specs.Events.{ask_of, answer_in, given, handed, entry_with, WantsMemory}
 use Rattle.jlr_core.specs.Cores.{Kept, StandsIn}
 
 -- the entries of events with their replies and choices, in order. A piece of marking is none
@@ -31,6 +31,12 @@ pub record IsRunOf {R : Type 0} (m : Machine) (events : List (Event R)) (replies
   pub run : Run m (entries_of events replies choices) last
   pub stands : StandsIn core last
   pub answered : AreAnswered events replies choices
+
+-- memory is said to be wanting only where a queue may grow
+abbrev pub AreWanting : {R : Type 0} → List (Event R) → List (Reply R) → Type 0
+AreWanting [] [] = Unit {0}
+AreWanting (e ∷ events) (r ∷ replies) = WantsMemory e r × AreWanting events replies
+AreWanting _ _ = ⊥
 
 -- the resources that events hand in, and those that replies hand out, in order
 abbrev pub all_given : {R : Type 0} → List (Event R) → List R

@@ -1,5 +1,5 @@
 -- The machine that a core's state is, and what an ask did to it.
-use Rattle.std.specs.Prelude.{◌≡◌, ℕ, cond, is_some, [], Option, Some, None, Result, Ok, Err}
+use Rattle.std.specs.Prelude.{◌≡◌, ℕ, Bool, true, false, cond, is_some, [], Option, Some, None, Result, Ok, Err}
 use Rattle.jlr_types.specs.declared.FieldValue.{FieldValue}
 use Rattle.jlr_types.specs.declared.FieldValue.TheVariants.{Int, Ref}
 use Rattle.jlr_types.specs.declared.Refusal.{Refusal}
@@ -10,16 +10,21 @@ use Rattle.jlr_machine.specs.declared.ask.Answer.{Answer}
 use Rattle.jlr_machine.specs.declared.ask.Answer.TheVariants.{Refused}
 use Rattle.jlr_machine.specs.declared.entry.Chosen.{Chosen}
 use Rattle.jlr_machine.specs.declared.entry.Entry.{Entry}
-use Rattle.jlr_machine.specs.declared.ask.Ask.TheVariants.{Deref}
+use Rattle.jlr_machine.specs.declared.ask.Ask.TheVariants.{Collect, Deref}
 use Rattle.jlr_machine.specs.Lookups.{slot_named}
 use Rattle.jlr_barrier.specs.Graphs.{Clock, Graph, in_machine, used_now}
 use Rattle.jlr_machine.specs.Refusals.{given, refusal}
 use Rattle.jlr_machine.specs.Calls.{reply, after}
-use Rattle.jlr_machine.specs.Run.{IsLegal, done, empty}
+use Rattle.jlr_machine.specs.Run.{IsLegal, done, empty, now_seen}
+use Rattle.jlr_cycles.specs.Laws.{with_seen}
 
--- the machine of which the heap keeps this part, with this limit of resources; all else is as in the empty machine
-abbrev pub machine_with : Graph → ℕ → Machine
-machine_with g resource_limit = in_machine (empty 0 0 resource_limit) g
+-- what a core keeps beside its heap, in a machine that is empty otherwise: its limit of resources, and whether a cycle is open
+abbrev pub frame : ℕ → Bool → Machine
+frame resource_limit cycle_open = record (empty 0 0 resource_limit) { cycle_open = cycle_open }
+
+-- the machine of which the heap keeps this part. Nothing is seen in it
+abbrev pub machine_with : Graph → ℕ → Bool → Machine
+machine_with g resource_limit cycle_open = in_machine (frame resource_limit cycle_open) g
 
 -- an entry of the core's. Its seat is not looked at
 abbrev pub entry_of : Ask → Answer → Chosen → Entry
@@ -34,6 +39,19 @@ pub record Meets (m : Machine) (ask : Ask) (answer : Answer) (chosen : Chosen) (
   pub legal : IsLegal m (entry_of ask answer chosen)
   pub applied : n ≡ done m (entry_of ask answer chosen)
 
+-- a Collect: a legal entry of the machine in which just what the roots now reach was seen. A law says that it is legal, then, in each machine
+-- for which the core stands
+pub record MeetsSeen (m : Machine) (ask : Ask) (answer : Answer) (chosen : Chosen) (n : Machine) : Type 0 where
+  pub legal : IsLegal (with_seen m (now_seen m)) (entry_of ask answer chosen)
+  pub applied : n ≡ with_seen (done m (entry_of ask answer chosen)) []
+
+abbrev pub is_collect : Ask → Bool
+is_collect Collect = true
+is_collect _ = false
+
+abbrev pub MeetsAsk : Machine → Ask → Answer → Chosen → Machine → Type 0
+MeetsAsk m ask answer chosen n = elim (is_collect ask) [ true ↦ MeetsSeen m ask answer chosen n | false ↦ Meets m ask answer chosen n ]
+
 -- an ask that chooses nothing: it was carried out, or refused by the first refusal whose condition holds
 abbrev pub Answered : Machine → Ask → Result Answer Refusal → Machine → Type 0
 Answered m ask (Ok a) n = (refusal m ask ≡ None) × (reply m ask ≡ Some a) × (n ≡ after m ask a [])
@@ -45,6 +63,12 @@ FieldRefused None r = r ≡ NoField
 FieldRefused (Some (Int n)) r = r ≡ WrongType
 FieldRefused (Some (Ref s)) r = ⊥
 
+-- a field is refused where an integer is wanted: there is none, or it holds a reference
+abbrev pub IntRefused : Option FieldValue → Refusal → Type 0
+IntRefused None r = r ≡ NoField
+IntRefused (Some (Ref s)) r = r ≡ WrongType
+IntRefused (Some (Int n)) r = ⊥
+
 -- ---- The clock of the soft policy
 
 -- a reference that gave its referent was used now
@@ -53,6 +77,6 @@ used_at None c = c
 used_at (Some s) c = used_now c s
 
 -- the clock after a Deref: what is refused, or gives nothing, is no use
-abbrev pub clock_after_deref : Machine → ℕ → ℕ → Result Answer Refusal → Clock → Clock
-clock_after_deref m k r (Ok a) c = cond (is_some (given m (Deref k r))) (used_at (slot_named m k r) c) c
-clock_after_deref m k r (Err refusal) c = c
+abbrev pub clock_after_deref : Machine → ℕ → ℕ → Answer → Clock → Clock
+clock_after_deref m k r (Refused by) c = c
+clock_after_deref m k r answer c = cond (is_some (given m (Deref k r))) (used_at (slot_named m k r) c) c

@@ -1,29 +1,27 @@
-//! Full collections: what the roots reach is kept, by strong edges and by the soft ones that the policy keeps, and all references to
-//! the rest are cleared.
+//! The full collections that an ask makes: one that is asked for, and one that makes room for a new object.
 ghost use Rattle.std.specs.Prelude.{◌≡◌, ◌≤◌, length, IfOk, IfErr};
 ghost use Rattle.jlr_cells.specs.Contents.{object_of};
 ghost use Rattle.jlr_soft.specs.declared.policy.Policy.{Policy};
 ghost use Rattle.jlr_machine.specs.WellFormed.{IsWellFormed};
 ghost use Rattle.jlr_machine.specs.Choices.{nothing_chosen};
-ghost use Rattle.jlr_core.specs.Collecting.{Collects, MakesRoom, Allocates, FindsNoRoom, after_choice, after_collected, mode_of};
+ghost use Rattle.jlr_sweep.specs.Collecting.{Collects};
+ghost use Rattle.jlr_core.specs.Collecting.{MakesRoom, Allocates, FindsNoRoom, after_choice, after_collected, mode_of};
 ghost use Rattle.jlr_barrier.specs.Graphs.{counted};
-ghost use Rattle.jlr_core.specs.Marking.{keeps};
+ghost use Rattle.jlr_sweep.specs.Marking.{keeps};
+ghost use Rattle.jlr_core.specs.Policy.{KeepsIn};
 ghost use Rattle.jlr_core.specs.State.{Meets, answer_of};
 
-use crate::mark::mark;
 use crate::state::State;
 use jlr_cells::Shape;
 use jlr_machine::ask::{Answer, Ask, FullMode};
 use jlr_machine::choice::Choice;
-use jlr_process::flip;
 use jlr_soft::{Mode, Policy};
-use jlr_types::{Meter, Mutator, Refusal, Slot};
+use jlr_types::{Mutator, Refusal, Slot};
 
 impl State {
     ghost use Rattle.jlr_core.specs.Machines.{machine_of};
 
-    /// A full collection. It keeps the least set that holds the roots and is closed under strong edges and under the soft edges of
-    /// those members that the policy keeps.
+    /// A full collection (see `jlr_sweep`). An open cycle is over then.
     pub(crate) fn collect(&mut self, mode: Mode, choice: &mut Choice)
         requires fit { IsWellFormed (machine_of self.old) }
         requires nothing { choice.old ≡ nothing_chosen choice.old.cells }
@@ -37,8 +35,8 @@ impl State {
         self.heap.kinds_are_known();
         self.heap.no_calls();
         let policy = Policy::new(self.soft_age, mode);
-        mark(&mut self.heap, &policy, &mut Meter::new());
-        flip(&mut self.heap, choice);
+        jlr_sweep::full(&mut self.heap, &policy, choice);
+        self.cycle_open = false;
     }
 
     /// Where no cell is free, a full collection that clears all soft references.
@@ -93,7 +91,7 @@ impl State {
         ensures cells { length self.new.heap.graph.objects ≡ length self.old.heap.graph.objects }
         ensures age { self.new.soft_age ≡ self.old.soft_age }
         ensures clock { self.new.heap.clock ≡ after_choice choice.new.chosen self.old.heap.clock }
-        ensures kept { IfOk result (λ _. Collects (keeps (record { soft_age = self.old.soft_age; mode = mode_of mode }) self.old.heap.clock) (machine_of self.old) choice.old choice.new (machine_of self.new)) }
+        ensures policy { KeepsIn (mode_of mode) self.old.soft_age self.old.heap.clock (machine_of self.old) choice.new.chosen }
     {
         self.check_session(by)?;
         self.no_call(by);

@@ -3,13 +3,14 @@ ghost use Rattle.std.specs.Prelude.{◌≡◌, ◌≤◌, length, None, Some};
 ghost use Rattle.jlr_machine.specs.Choices.{nothing_chosen};
 ghost use Rattle.jlr_machine.specs.WellFormed.{IsWellFormed};
 ghost use Rattle.jlr_core.specs.State.{answer_of};
-ghost use Rattle.jlr_core.specs.Events.{ask_of, answer_in, given, handed, StepsBy, WantsMemory};
+ghost use Rattle.jlr_core.specs.Events.{ask_of, answer_in, given, handed, progress_in, StepsBy, WantsMemory};
+ghost use Rattle.jlr_core.specs.Policy.{KeepsByPolicy, clock_after};
 
 use crate::event::{Event, Reply};
 use crate::state::State;
-use jlr_machine::ask::Answer;
+use jlr_machine::ask::{Answer, Ask};
 use jlr_machine::choice::Choice;
-use jlr_types::{Progress, Refusal};
+use jlr_types::Refusal;
 
 impl State {
     ghost use Rattle.jlr_core.specs.Machines.{machine_of};
@@ -22,8 +23,11 @@ impl State {
         ensures entry { StepsBy (machine_of self.old) (ask_of event) (answer_in result) choice.new.chosen (machine_of self.new) }
         ensures flow { handed result ≡ given event }
         ensures memory { WantsMemory event result }
-        ensures idle { ask_of event ≡ None → result ≡ Reply.Marked Progress.Idle }
+        ensures marking { ask_of event ≡ None → result ≡ Reply.Marked (progress_in (machine_of self.old)) }
+        ensures collects { ask_of event ≡ Some Ask.Collect → answer_in result ≡ Some (Answer.Truth self.old.cycle_open) }
+        ensures policy { KeepsByPolicy self.old.soft_age self.old.heap.clock (machine_of self.old) (ask_of event) choice.new.chosen }
         ensures age { self.new.soft_age ≡ self.old.soft_age }
+        ensures clock { self.new.heap.clock ≡ clock_after (machine_of self.old) self.old.heap.clock (ask_of event) (answer_in result) choice.new.chosen }
         ensures room { choice.new.cells ≡ choice.old.cells }
         ensures cells { length self.new.heap.graph.objects ≡ length self.old.heap.graph.objects }
     {
@@ -42,6 +46,17 @@ impl State {
                 object,
                 field,
             } => answered(self.get(mutator, object, field)),
+            Event::SetInt {
+                mutator,
+                object,
+                field,
+                value,
+            } => answered(self.set_int(mutator, object, field, value)),
+            Event::Int {
+                mutator,
+                object,
+                field,
+            } => answered(self.int(mutator, object, field)),
             Event::Dup { mutator, object } => answered(self.dup(mutator, object)),
             Event::Drop { mutator, object } => answered(self.drop_handle(mutator, object)),
             Event::Same {
@@ -72,7 +87,11 @@ impl State {
                 resource: outcome.ok(),
             },
             Event::Full { mutator, mode } => answered(self.full(mutator, mode, choice)),
-            Event::Mark { .. } => Reply::Marked(Progress::Idle),
+            Event::Stat { mutator } => answered(self.stat(mutator)),
+            Event::Begin => answered(Ok(Answer::Truth(self.begin()))),
+            Event::Collect => answered(Ok(Answer::Truth(self.collect_cycle(choice)))),
+            Event::Abandon => answered(Ok(Answer::Truth(self.abandon()))),
+            Event::Mark { .. } => Reply::Marked(self.progress()),
         }
     }
 }

@@ -1,14 +1,17 @@
 //! The core: one event at a time.
-ghost use Rattle.std.specs.Prelude.{◌≡◌, ◌≤◌, [], length, IfOk, None};
+ghost use Rattle.std.specs.Prelude.{◌≡◌, ◌≤◌, [], length, IfOk, None, Some};
 ghost use Rattle.jlr_machine.specs.declared.machine.Machine.{Machine};
 ghost use Rattle.jlr_machine.specs.Run.{empty};
-ghost use Rattle.jlr_core.specs.Events.{ask_of, answer_in, given, handed, Enters, WantsMemory};
+ghost use Rattle.jlr_barrier.specs.Graphs.{empty_known};
+ghost use Rattle.jlr_core.specs.Events.{ask_of, answer_in, given, handed, progress_in, Enters, WantsMemory};
+ghost use Rattle.jlr_core.specs.Policy.{KeepsByPolicy, clock_after};
 
 use crate::event::{Event, Reply};
 use crate::state::State;
+use jlr_machine::ask::{Answer, Ask};
 use jlr_machine::choice::Choice;
 use jlr_machine::machine::Machine;
-use jlr_types::{Limits, Progress};
+use jlr_types::Limits;
 use std::alloc::{AllocError, Global};
 use std::marker::{Model, PhantomData};
 
@@ -26,9 +29,9 @@ impl<R> Model for Core<R> {
 
     ghost Value = { Kept };
 
-    ghost view = { λ c. kept_with c.state.heap.graph c.state.resource_limit };
+    ghost view = { λ c. kept_with c.state.heap.graph c.state.heap.clock c.state.soft_age c.state.resource_limit c.state.cycle_open };
 
-    ghost invariant = { λ c. IsWellFormed (machine_with c.state.heap.graph c.state.resource_limit) };
+    ghost invariant = { λ c. IsWellFormed (machine_with c.state.heap.graph c.state.resource_limit c.state.cycle_open) };
 }
 
 impl<R> Core<R> {
@@ -39,7 +42,9 @@ impl<R> Core<R> {
     /// # Errors
     /// `AllocError` where the room cannot be had.
     pub fn new(alloc: Global, limits: Limits) -> Result<Self, AllocError>
-        ensures { IfOk result (λ core. core.machine ≡ empty limits.cells limits.sessions limits.resources) }
+        ensures machine { IfOk result (λ core. core.machine ≡ empty limits.cells limits.sessions limits.resources) }
+        ensures age { IfOk result (λ core. core.soft_age ≡ limits.soft_age) }
+        ensures clock { IfOk result (λ core. core.clock ≡ (empty_known limits.cells limits.sessions).clock) }
     {
         Ok(Core {
             state: State::new(alloc, limits)?,
@@ -48,14 +53,19 @@ impl<R> Core<R> {
     }
 
     /// One event. The choice says what was chosen; it has room for every cell. Only `Enqueue` and `HandOver`, by which a queue grows, may
-    /// find no memory. Marking is idle: there is no cycle yet.
+    /// find no memory. A piece of marking is answered Done in an open cycle and Idle without one, and changes nothing: a `Collect` marks
+    /// whole, by the soft policy, and is answered yes exactly where a cycle is open.
     pub fn step(&mut self, event: Event<R>, choice: &mut Choice) -> Reply<R>
         requires room { length self.old.machine.objects ≤ choice.old.cells }
         ensures entry { (m : Machine) → StandsIn self.old m →
             (n : Machine) × Enters m (ask_of event) (answer_in result) choice.new.chosen n × StandsIn self.new n }
         ensures flow { handed result ≡ given event }
         ensures memory { WantsMemory event result }
-        ensures idle { ask_of event ≡ None → result ≡ Reply.Marked Progress.Idle }
+        ensures marking { ask_of event ≡ None → result ≡ Reply.Marked (progress_in self.old.machine) }
+        ensures collects { ask_of event ≡ Some Ask.Collect → answer_in result ≡ Some (Answer.Truth self.old.machine.cycle_open) }
+        ensures policy { KeepsByPolicy self.old.soft_age self.old.clock self.old.machine (ask_of event) choice.new.chosen }
+        ensures age { self.new.soft_age ≡ self.old.soft_age }
+        ensures clock { self.new.clock ≡ clock_after self.old.machine self.old.clock (ask_of event) (answer_in result) choice.new.chosen }
         ensures room { choice.new.cells ≡ choice.old.cells }
         ensures cells { length self.new.machine.objects ≡ length self.old.machine.objects }
     {

@@ -29,6 +29,17 @@ pub enum Event<R> {
         object: Handle,
         field: u8,
     },
+    SetInt {
+        mutator: Mutator,
+        object: Handle,
+        field: u8,
+        value: i64,
+    },
+    Int {
+        mutator: Mutator,
+        object: Handle,
+        field: u8,
+    },
     Dup {
         mutator: Mutator,
         object: Handle,
@@ -85,6 +96,16 @@ pub enum Event<R> {
         mutator: Mutator,
         mode: FullMode,
     },
+    /// How many objects and resources there are, and what became of the cleaning actions.
+    Stat {
+        mutator: Mutator,
+    },
+    /// A cycle is opened, unless one is open.
+    Begin,
+    /// The collection of an open cycle. It closes it.
+    Collect,
+    /// An open cycle is given up.
+    Abandon,
     /// The handler's step: what is pending is handed over to its queue.
     HandOver,
     /// A piece of marking of at most so many ticks. The machine does not see it.
@@ -128,6 +149,26 @@ impl<R> Event<R> {
                 object,
                 field,
             } => Ask::Get {
+                mutator: *mutator,
+                object: *object,
+                field: *field,
+            },
+            Event::SetInt {
+                mutator,
+                object,
+                field,
+                value,
+            } => Ask::SetInt {
+                mutator: *mutator,
+                object: *object,
+                field: *field,
+                value: *value,
+            },
+            Event::Int {
+                mutator,
+                object,
+                field,
+            } => Ask::Int {
                 mutator: *mutator,
                 object: *object,
                 field: *field,
@@ -201,6 +242,10 @@ impl<R> Event<R> {
                 mutator: *mutator,
                 mode: *mode,
             },
+            Event::Stat { mutator } => Ask::Stat { mutator: *mutator },
+            Event::Begin => Ask::Begin,
+            Event::Collect => Ask::Collect,
+            Event::Abandon => Ask::Abandon,
             Event::HandOver => Ask::HandOver,
             Event::Mark { .. } => return None,
         })

@@ -2,11 +2,12 @@
 #![tactic(auto)]
 
 mod collect;
+mod counts;
+mod cycles;
 mod dispatch;
 pub mod engine;
 pub mod event;
 mod handles;
-mod mark;
 mod objects;
 mod references;
 pub mod run;

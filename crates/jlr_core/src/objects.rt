@@ -6,7 +6,7 @@ ghost use Rattle.jlr_machine.specs.Refusals.{is_plain, is_reference, is_queue, g
 ghost use Rattle.jlr_machine.specs.Choices.{nothing_chosen};
 ghost use Rattle.jlr_machine.specs.WellFormed.{IsWellFormed};
 ghost use Rattle.jlr_core.specs.Collecting.{after_choice};
-ghost use Rattle.jlr_core.specs.State.{Answered, FieldRefused, Meets, answer_of};
+ghost use Rattle.jlr_core.specs.State.{Answered, FieldRefused, IntRefused, Meets, answer_of};
 
 use crate::state::State;
 use jlr_cells::Shape;
@@ -82,6 +82,58 @@ impl State {
         let target = self.heap.lookup(by, value);
         self.heap
             .store(slot, field as usize, FieldValue::Ref(target));
+        Ok(Answer::Done)
+    }
+
+    /// The integer in an integer field of the object at a slot.
+    fn check_int_field(&self, slot: Slot, field: u8) -> Result<i64, Refusal>
+        ensures { MatchResult result
+            (λ number. option_and_then (λ fields. slice_get fields field) (option_and_then as_fields (at self.now.heap.graph.objects slot)) ≡ Some (FieldValue.Int number))
+            (λ r. IntRefused (option_and_then (λ fields. slice_get fields field) (option_and_then as_fields (at self.now.heap.graph.objects slot))) r) }
+    {
+        if !self.heap.has_field(slot, field as usize) {
+            return Err(Refusal::NoField);
+        }
+        match self.heap.load(slot, field as usize) {
+            FieldValue::Int(number) => Ok(number),
+            FieldValue::Ref(_) => Err(Refusal::WrongType),
+        }
+    }
+
+    pub(crate) fn int(&self, by: Mutator, object: Handle, field: u8) -> Result<Answer, Refusal>
+        requires { IsWellFormed (machine_of self.now) }
+        ensures answered { Answered (machine_of self.now) (Ask.Int by object field) result (machine_of self.now) }
+        ensures memory { answer_of result ≡ Answer.Refused Refusal.NoMemory → ⊥ }
+    {
+        self.check_session(by)?;
+        self.check_handle(by, object)?;
+        let slot = self.check_slot(by, object)?;
+        self.check_plain(slot)?;
+        let number = self.check_int_field(slot, field)?;
+        self.no_call(by);
+        Ok(Answer::Int(number))
+    }
+
+    pub(crate) fn set_int(
+        &mut self,
+        by: Mutator,
+        object: Handle,
+        field: u8,
+        value: i64,
+    ) -> Result<Answer, Refusal>
+        requires { IsWellFormed (machine_of self.old) }
+        ensures answered { Answered (machine_of self.old) (Ask.SetInt by object field value) result (machine_of self.new) }
+        ensures memory { answer_of result ≡ Answer.Refused Refusal.NoMemory → ⊥ }
+        ensures age { self.new.soft_age ≡ self.old.soft_age }
+        ensures clock { self.new.heap.clock ≡ self.old.heap.clock }
+    {
+        self.check_session(by)?;
+        self.check_handle(by, object)?;
+        let slot = self.check_slot(by, object)?;
+        self.check_plain(slot)?;
+        self.check_int_field(slot, field)?;
+        self.no_call(by);
+        self.heap.store(slot, field as usize, FieldValue::Int(value));
         Ok(Answer::Done)
     }
 

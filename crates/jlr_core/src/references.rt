@@ -61,7 +61,7 @@ impl State {
     pub(crate) fn deref(&mut self, by: Mutator, reference: Handle) -> Result<Answer, Refusal>
         requires { IsWellFormed (machine_of self.old) }
         ensures answered { Answered (machine_of self.old) (Ask.Deref by reference) result (machine_of self.new) }
-        ensures clock { self.new.heap.clock ≡ clock_after_deref (machine_of self.old) by reference result self.old.heap.clock }
+        ensures clock { self.new.heap.clock ≡ clock_after_deref (machine_of self.old) by reference (answer_of result) self.old.heap.clock }
         ensures cells { length self.new.heap.graph.objects ≡ length self.old.heap.graph.objects }
         ensures age { self.new.soft_age ≡ self.old.soft_age }
     {

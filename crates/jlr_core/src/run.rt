@@ -3,7 +3,7 @@ ghost use Rattle.std.specs.Prelude.{◌≡◌, List, IfOk, length};
 ghost use Rattle.jlr_machine.specs.declared.machine.Machine.{Machine};
 ghost use Rattle.jlr_machine.specs.declared.entry.Chosen.{Chosen};
 ghost use Rattle.jlr_machine.specs.Run.{Run, empty};
-ghost use Rattle.jlr_core.specs.Runs.{IsRunOf, all_given, all_handed};
+ghost use Rattle.jlr_core.specs.Runs.{AreWanting, IsRunOf, all_given, all_handed};
 
 use crate::engine::Core;
 use crate::event::{Event, Reply};
@@ -12,7 +12,8 @@ use jlr_types::Limits;
 use std::alloc::{AllocError, Global};
 
 /// Runs the events in order from the empty machine of the limits. There are choices with which the replies and the core that is
-/// left are a run of the machine of java.lang.ref; and no resource is made or lost.
+/// left are a run of the machine of java.lang.ref; memory is said to be wanting only where a queue may grow; and no resource is made or
+/// lost.
 ///
 /// # Errors
 /// `AllocError` where there is no room for the core, for a choice or for the replies.
@@ -22,6 +23,8 @@ pub fn run<R: Drop>(
     events: Vec<Event<R>>,
 ) -> Result<(Vec<Reply<R>>, Core<R>), AllocError>
     ensures run { IfOk result (λ out. IsRunOf (empty limits.cells limits.sessions limits.resources) events.items out.0.items out.1) }
+    ensures memory { IfOk result (λ out. AreWanting events.items out.0.items) }
+    ensures age { IfOk result (λ out. out.1.soft_age ≡ limits.soft_age) }
     ensures flow { IfOk result (λ out. all_handed out.0.items ≡ all_given events.items) }
 {
     let mut core = Core::new(alloc, limits)?;

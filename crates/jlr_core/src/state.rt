@@ -14,12 +14,13 @@ use jlr_machine::machine::Machine;
 use jlr_types::{Handle, Limits, Mutator, Refusal, Slot};
 use std::alloc::{AllocError, Global};
 
-/// The heap, the soft age, in collections, and the limit of resources.
+/// The heap, the soft age, in collections, the limit of resources, and whether a cycle is open.
 #[derive(Drop)]
 pub(crate) struct State {
     pub(crate) heap: Heap,
     pub(crate) soft_age: u32,
     pub(crate) resource_limit: u32,
+    pub(crate) cycle_open: bool,
 }
 
 impl State {
@@ -35,6 +36,7 @@ impl State {
             heap: Heap::new(alloc, limits)?,
             soft_age: limits.soft_age,
             resource_limit: limits.resources,
+            cycle_open: false,
         })
     }
 
@@ -57,7 +59,7 @@ impl State {
             taken: 0,
             ok: 0,
             failed: 0,
-            cycle_open: false,
+            cycle_open: self.cycle_open,
             seen: Items::new(alloc),
         })
     }

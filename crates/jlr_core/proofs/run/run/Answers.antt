@@ -6,17 +6,19 @@ use Rattle.jlr_machine.specs.Run.{empty}
 use Rattle.jlr_machine.specs.Choices.{Choosing}
 use Rattle.jlr_core.specs.declared.event.Event.{Event}
 use Rattle.jlr_core.specs.declared.event.Reply.{Reply}
-use Rattle.jlr_core.specs.Runs.{IsRunOf, all_given, all_handed}
-use Rattle.jlr_core.proofs.RunLaws.{run_more, flow_more, start_run, start_flow, start_room}
+use Rattle.jlr_core.specs.Runs.{AreWanting, IsRunOf, all_given, all_handed}
+use Rattle.jlr_core.proofs.RunLaws.{run_more, flow_more, wanting_more, start_run, start_flow, start_memory, start_room}
 use Rattle.jlr_core.proofs.run.run.Goals as goal
 
 pub loop-event-init : goal.loop-event-init
 loop-event-init g c =
     let l = c.args.limits in
     record {
-      run = start_run c.in_ok-core.core l.cells l.sessions l.resources c.in_ok-replies.replies.items c.in_ok-core.ensures c.in_ok-replies.ensures.items;
+      run = start_run c.in_ok-core.core l.cells l.sessions l.resources c.in_ok-replies.replies.items c.in_ok-core.ensures.machine c.in_ok-replies.ensures.items;
       flow = start_flow c.in_ok-replies.replies.items c.in_ok-replies.ensures.items;
-      room = start_room c.in_ok-core.core l.cells l.sessions l.resources c.in_ok-choice.choice.cells c.in_ok-core.ensures (ap (λ (x : Choosing). x.cells) c.in_ok-choice.ensures);
+      memory = start_memory c.in_ok-replies.replies.items c.in_ok-replies.ensures.items;
+      age = c.in_ok-core.ensures.age;
+      room = start_room c.in_ok-core.core l.cells l.sessions l.resources c.in_ok-choice.choice.cells c.in_ok-core.ensures.machine (ap (λ (x : Choosing). x.cells) c.in_ok-choice.ensures);
     }
 
 pub loop-event-preserved : goal.loop-event-preserved
@@ -32,6 +34,10 @@ loop-event-preserved g c =
       flow =
           subst (λ (replies : List (Reply g.row.R.Denot)). all_handed replies ≡ all_given (c.loop-event.yielded ++ c.in-Some.event ∷ [])) (sym pushed)
           (flow_more c.loop-event.yielded c.loop-event.replies.items c.in-Some.event c.step.result i.flow c.step.ensures.flow);
+      memory =
+          subst (λ (replies : List (Reply g.row.R.Denot)). AreWanting (c.loop-event.yielded ++ c.in-Some.event ∷ []) replies) (sym pushed)
+          (wanting_more c.loop-event.yielded c.loop-event.replies.items c.in-Some.event c.step.result i.memory c.step.ensures.memory);
+      age = c.step.ensures.age ∙ i.age;
       room = omega (arith, i.room, c.step.ensures.room, c.step.ensures.cells);
     }
 
@@ -51,3 +57,11 @@ returns-clause-flow g c =
     let end = YieldsList-end (YieldsList-from_vec c.args.events.items from.0 length_is) c.loop-event.yielded c.loop-event.event-iterator c.loop-event.yielded_by c.next.result c.next.new.self c.in-None.is c.next.ensures.steps in
     let all : c.loop-event.yielded ≡ c.args.events.items = sym (map-id c.loop-event.yielded) ∙ end.0 in
     subst (λ (events : List (Event g.row.R.Denot)). all_handed c.loop-event.replies.items ≡ all_given events) all c.loop-event.invariant.flow
+
+pub returns-clause-memory : goal.returns-clause-memory
+returns-clause-memory g c =
+    let from = c.into_iter-event-iterator.ensures.into_iter_gives in
+    let length_is : c.into_iter-event-iterator.result.rest.len ≡ length c.args.events.items = omega arith in
+    let end = YieldsList-end (YieldsList-from_vec c.args.events.items from.0 length_is) c.loop-event.yielded c.loop-event.event-iterator c.loop-event.yielded_by c.next.result c.next.new.self c.in-None.is c.next.ensures.steps in
+    let all : c.loop-event.yielded ≡ c.args.events.items = sym (map-id c.loop-event.yielded) ∙ end.0 in
+    subst (λ (events : List (Event g.row.R.Denot)). AreWanting events c.loop-event.replies.items) all c.loop-event.invariant.memory

@@ -1,4 +1,4 @@
-use Rattle.std.proofs.Common.{sym, subst}
+use Rattle.std.proofs.Common.{refl, sym, subst}
 use Rattle.jlr_core.specs.Machines.{machine_of}
 use Rattle.jlr_core.specs.Events.{ask_of, answer_in}
 use Rattle.jlr_core.specs.Cores.{StandsIn}
@@ -7,10 +7,10 @@ use Rattle.jlr_core.proofs.engine.Core.step.Goals as goal
 
 pub invariant_of-self : goal.invariant_of-self
 invariant_of-self g c =
-    well_formed_after (machine_of c.self.inside.state) c.step.new.self.heap.graph c.step.new.self.resource_limit (ask_of c.args.event) (answer_in c.step.result) c.step.new.choice.chosen c.self.invariant c.step.ensures.entry
+    well_formed_after (machine_of c.self.inside.state) (machine_of c.step.new.self) (ask_of c.args.event) (answer_in c.step.result) c.step.new.choice.chosen refl c.self.invariant c.step.ensures.entry
 
 pub returns-clause-entry : goal.returns-clause-entry
 returns-clause-entry g c =
     λ m stands.
-    enters c.self.inside.state.heap.graph c.self.inside.state.resource_limit c.step.new.self.heap.graph c.step.new.self.resource_limit (ask_of c.args.event) (answer_in c.step.result) c.step.new.choice.chosen c.step.ensures.entry m
+    enters (machine_of c.self.inside.state) (machine_of c.step.new.self) (ask_of c.args.event) (answer_in c.step.result) c.step.new.choice.chosen refl c.self.invariant c.step.ensures.entry m
     (subst (λ k. StandsIn k m) (sym c.self.view_is) stands)

@@ -1,8 +1,7 @@
 use Rattle.std.proofs.Common.{◌≡◌, Some, sym, ◌∙◌, ap, option_and_then}
 use Rattle.jlr_machine.specs.declared.ask.Ask.TheVariants.{Enqueue}
 use Rattle.jlr_machine.specs.declared.ask.Answer.TheVariants.{Truth}
-use Rattle.jlr_machine.specs.Run.{empty}
-use Rattle.jlr_core.specs.Machines.{machine_of}
+use Rattle.jlr_core.specs.Machines.{frame_of, machine_of}
 use Rattle.jlr_core.specs.State.{machine_with}
 use Rattle.jlr_core.proofs.Entries.{meets_plain}
 use Rattle.jlr_core.proofs.Queues.{enqueue_after, enqueue_reply, enqueued_long}
@@ -11,12 +10,12 @@ use Rattle.jlr_core.proofs.state.State.enqueue.Goals as goal
 pub returns-in-Ok-clause-meets : goal.returns-in-Ok-clause-meets
 returns-in-Ok-clause-meets c =
     let m = machine_of c.args.self.now in
-    let n = machine_with c.enqueue.new.heap.graph c.args.self.now.resource_limit in
+    let n = machine_with c.enqueue.new.heap.graph c.args.self.now.resource_limit c.args.self.now.cycle_open in
     let slot = c.in_ok-slot.slot in
     let named = c.in_ok-slot.ensures.1 in
     meets_plain m n (Enqueue c.args.by c.args.reference) (Truth c.in-Ok.added) tt c.in_ok-slot.ensures.0
     (enqueue_reply m c.args.by c.args.reference slot c.in-Ok.added named c.in-Ok.ensures.answer)
-    (c.in-Ok.ensures.enqueued (empty 0 0 c.args.self.now.resource_limit) ∙ enqueue_after m c.args.by c.args.reference slot named)
+    (c.in-Ok.ensures.enqueued (frame_of c.args.self.now) ∙ enqueue_after m c.args.by c.args.reference slot named)
 
 pub returns-in-Ok-clause-cells : goal.returns-in-Ok-clause-cells
-returns-in-Ok-clause-cells c = enqueued_long (machine_of c.args.self.now) (machine_with c.enqueue.new.heap.graph c.args.self.now.resource_limit) c.in_ok-slot.slot (c.in-Ok.ensures.enqueued (empty 0 0 c.args.self.now.resource_limit))
+returns-in-Ok-clause-cells c = enqueued_long (machine_of c.args.self.now) (machine_with c.enqueue.new.heap.graph c.args.self.now.resource_limit c.args.self.now.cycle_open) c.in_ok-slot.slot (c.in-Ok.ensures.enqueued (frame_of c.args.self.now))

@@ -2,10 +2,11 @@ use Rattle.std.proofs.Common.{◌≡◌, [], Some, sym, ◌∙◌, ap, subst}
 use Rattle.jlr_soft.specs.declared.policy.Mode.{Mode}
 use Rattle.jlr_machine.specs.declared.entry.Chosen.{Chosen}
 use Rattle.jlr_machine.specs.Choices.{Choosing, collecting}
-use Rattle.jlr_core.specs.Collecting.{Collects, mode_of}
+use Rattle.jlr_sweep.specs.Collecting.{Collects}
+use Rattle.jlr_core.specs.Collecting.{mode_of}
 use Rattle.jlr_core.specs.Machines.{machine_of}
-use Rattle.jlr_core.specs.Marking.{keeps}
-use Rattle.jlr_core.proofs.Clearings.{may_collect}
+use Rattle.jlr_sweep.specs.Marking.{keeps}
+use Rattle.jlr_core.proofs.Clearings.{keeps_in, may_collect}
 use Rattle.jlr_core.proofs.Entries.{allowed_full, meets_collection}
 use Rattle.jlr_core.proofs.state.State.full.Goals as goal
 
@@ -21,3 +22,13 @@ returns-clause-meets c =
     ap (λ (k : Choosing). k.chosen) (x.chosen ∙ ap (λ (k : Choosing). collecting k x.kept x.pending) c.requires.nothing) in
     meets_collection m c.args.by c.args.mode (record { kept = x.kept; pending = x.pending }) c.collect.new.choice n (allowed_full m c.args.by c.args.mode c.in_ok-check_session.ensures c.no_call.ensures) chosen
     (may_collect m c.args.by c.args.mode age clock c.args.choice.now c.collect.new.choice n c.requires.fit x) x.left
+
+pub returns-clause-policy : goal.returns-clause-policy
+returns-clause-policy c =
+    let m = machine_of c.args.self.now in
+    let n = machine_of c.collect.new.self in
+    let age = c.args.self.now.soft_age in
+    let clock = c.args.self.now.heap.clock in
+    let x : Collects (keeps (record { soft_age = age; mode = mode_of c.args.mode }) clock) m c.args.choice.now c.collect.new.choice n =
+    subst (λ (k : Mode). Collects (keeps (record { soft_age = age; mode = k }) clock) m c.args.choice.now c.collect.new.choice n) c.mode_of.ensures c.collect.ensures.collects in
+    keeps_in (mode_of c.args.mode) age clock m c.args.choice.now c.collect.new.choice n c.requires.nothing x

@@ -1,8 +1,7 @@
 use Rattle.std.proofs.Common.{refl}
 use Rattle.jlr_machine.specs.declared.ask.Ask.TheVariants.{HandOver}
 use Rattle.jlr_machine.specs.declared.ask.Answer.TheVariants.{Handed}
-use Rattle.jlr_machine.specs.Run.{empty}
-use Rattle.jlr_core.specs.Machines.{machine_of}
+use Rattle.jlr_core.specs.Machines.{frame_of, machine_of}
 use Rattle.jlr_core.specs.State.{machine_with}
 use Rattle.jlr_core.proofs.Entries.{meets_plain}
 use Rattle.jlr_core.proofs.Queues.{handed_over_long}
@@ -11,11 +10,11 @@ use Rattle.jlr_core.proofs.state.State.hand_over.Goals as goal
 pub returns-in-Ok-clause-meets : goal.returns-in-Ok-clause-meets
 returns-in-Ok-clause-meets c =
     let m = machine_of c.args.self.now in
-    let n = machine_with c.hand_over.new.heap.graph c.args.self.now.resource_limit in
-    let h = c.in-Ok.ensures.handed (empty 0 0 c.args.self.now.resource_limit) in
+    let n = machine_with c.hand_over.new.heap.graph c.args.self.now.resource_limit c.args.self.now.cycle_open in
+    let h = c.in-Ok.ensures.handed (frame_of c.args.self.now) in
     meets_plain m n HandOver (Handed c.in-Ok.handed) tt refl h.0 h.1
 
 pub returns-in-Ok-clause-cells : goal.returns-in-Ok-clause-cells
 returns-in-Ok-clause-cells c =
-    let h = c.in-Ok.ensures.handed (empty 0 0 c.args.self.now.resource_limit) in
-    handed_over_long (machine_of c.args.self.now) (machine_with c.hand_over.new.heap.graph c.args.self.now.resource_limit) h.1
+    let h = c.in-Ok.ensures.handed (frame_of c.args.self.now) in
+    handed_over_long (machine_of c.args.self.now) (machine_with c.hand_over.new.heap.graph c.args.self.now.resource_limit c.args.self.now.cycle_open) h.1

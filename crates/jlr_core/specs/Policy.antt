@@ -1,0 +1,32 @@
+-- The soft policy: which references a collection keeps, and what an event does to its clock.
+use Rattle.std.specs.Prelude.{◌≡◌, ℕ, Option, Some, None}
+use Rattle.jlr_machine.specs.declared.machine.Machine.{Machine}
+use Rattle.jlr_machine.specs.declared.ask.Ask.{Ask}
+use Rattle.jlr_machine.specs.declared.ask.Ask.TheVariants.{Collect, Deref, Full}
+use Rattle.jlr_machine.specs.declared.ask.Answer.{Answer}
+use Rattle.jlr_machine.specs.declared.entry.Chosen.{Chosen}
+use Rattle.jlr_machine.specs.declared.entry.Collected.{Collected}
+use Rattle.jlr_machine.specs.Edges.{roots}
+use Rattle.jlr_soft.specs.declared.policy.Mode.{Mode}
+use Rattle.jlr_soft.specs.declared.policy.Mode.TheVariants.{Policy}
+use Rattle.jlr_laws.specs.Laws.{IsMarked}
+use Rattle.jlr_barrier.specs.Graphs.{Clock}
+use Rattle.jlr_sweep.specs.Marking.{keeps}
+use Rattle.jlr_core.specs.State.{clock_after_deref}
+use Rattle.jlr_core.specs.Collecting.{after_choice, mode_of}
+
+-- A collection keeps the least set that holds the roots and is closed under strong edges and under the soft edges of those members that
+-- the policy keeps in this mode
+abbrev pub KeepsIn : Mode → ℕ → Clock → Machine → Chosen → Type 0
+KeepsIn mode soft_age clock m chosen = (c : Collected) → chosen.collected ≡ Some c → IsMarked (keeps (record { soft_age = soft_age; mode = mode }) clock) m.objects (roots m) c.kept c.pending
+
+-- one that is asked for keeps what its mode says, and that of a cycle what the policy says. Of those that make room the machine says it
+abbrev pub KeepsByPolicy : ℕ → Clock → Machine → Option Ask → Chosen → Type 0
+KeepsByPolicy soft_age clock m (Some (Full k mode)) chosen = KeepsIn (mode_of mode) soft_age clock m chosen
+KeepsByPolicy soft_age clock m (Some Collect) chosen = KeepsIn Policy soft_age clock m chosen
+KeepsByPolicy soft_age clock m _ chosen = Unit {0}
+
+-- the clock after an event: a Deref that gives a referent is a use of the reference, a collection is counted, and what was made is new
+abbrev pub clock_after : Machine → Clock → Option Ask → Option Answer → Chosen → Clock
+clock_after m c (Some (Deref k r)) (Some answer) chosen = clock_after_deref m k r answer c
+clock_after m c ask answer chosen = after_choice chosen c
