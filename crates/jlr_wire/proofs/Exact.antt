@@ -1,6 +1,8 @@
 -- A line is a command exactly where the parts between its spaces are the command's fields.
-use Rattle.std.proofs.Common.{◌≡◌, ◌≢◌, ℕ, zero, suc, ◌<◌, ◌≤◌, Bool, true, ◌&&◌, not, eqb, List, [], ◌∷◌, map, length, get_or, Some, refl, sym, ap, ◌∙◌, arith, inl, inr}
-use Rattle.std.specs.Prelude.{codes, decimal}
+use Rattle.std.proofs.Common.{◌≡◌, ◌≢◌, ℕ, zero, suc, ◌^◌, ◌<◌, ◌≤◌, Bool, true, ◌&&◌, not, eqb, List, [], ◌∷◌, map, length, get_or, Some, refl, sym, ap, ◌∙◌, arith, rules, inl, inr}
+use Rattle.std.specs.Prelude.{codes, decimal, ℤ, pos, negsuc, FitsSigned}
+use Rattle.std.specs.Int.{w64}
+use Rattle.std.specs.Fmt.{signed_decimal}
 use Rattle.std.specs.List.{slice_split, join_with_byte, AllByRecursion}
 use Rattle.std.specs.Str.Parse.{AllDigits}
 use Rattle.std.proofs.lemmas.List.Splits.{join_with_byte-slice_split}
@@ -8,6 +10,7 @@ use Rattle.std.proofs.lemmas.Str.Parse.{numerals_by_value, tells_digits, not_in_
 use Rattle.std.proofs.lemmas.Fmt.{digits_decimal}
 use Rattle.std.proofs.lemmas.Bool.Decides.{eqb_tells}
 use Rattle.std.proofs.lemmas.List.{get_or_default}
+use Rattle.std.proofs.lemmas.List.Elements.{All-cons}
 use Rattle.jlr_wire.proofs.Options.{and_parts}
 use Rattle.jlr_wire.proofs.Splits.{split_first, split_last}
 use Rattle.jlr_wire.proofs.Laws.{complete, sound}
@@ -16,9 +19,10 @@ use Rattle.jlr_wire.specs.Fields.{is_space}
 use Rattle.jlr_wire.specs.Commands.{Fields, IsCommand, layout, letter}
 use Rattle.jlr_wire.specs.Reading.{reading}
 use Rattle.jlr_types.specs.declared.FieldKind.{FieldKind}
-use Rattle.jlr_types.specs.declared.FieldKind.TheVariants.{Ref, Int}
+use Rattle.jlr_types.specs.declared.FieldKind.TheVariants.{Int as IntField, Ref as RefField}
+use Rattle.jlr_machine.specs.declared.ask.FullMode.TheVariants.{Policy, ClearAll}
 use Rattle.jlr_wire.specs.declared.command.Command.{Command}
-use Rattle.jlr_wire.specs.declared.command.Command.TheVariants.{New, Put, Get, Dup, Drop, Same, Soft, Weak, Phantom, Deref, Refers, Clear, Enqueue, Enqueued, Queue, Poll, Full, Bye}
+use Rattle.jlr_wire.specs.declared.command.Command.TheVariants.{New, Put, Get, SetInt, Int, Dup, Drop, Same, Soft, Weak, Phantom, Deref, Refers, Clear, Enqueue, Enqueued, Queue, Poll, Full, Stat, Bye}
 
 -- a test for texts without a space
 abbrev spaceless : List ℕ → Bool
@@ -34,16 +38,26 @@ word (x ∷ xs) h =
       | suc i ↦ λ d lt. word xs p.1 i d (omega (arith, lt))
     ]
 
-number : (n : ℕ) → n < 256 → IsWithout 32 (decimal n)
-number n lt = λ k d h.
+digits : (n : ℕ) → n < 2 ^ 64 → IsWithout 32 (decimal n)
+digits n lt = λ k d h.
     let own = numerals_by_value (AllDigits 10) tells_digits in
-    let at = not_in_digits own (decimal n) 32 (digits_decimal own n (omega (arith, lt))) (λ r. omega (arith, r)) k h in
+    let at = not_in_digits own (decimal n) 32 (digits_decimal own n lt) (λ r. omega (arith, r)) k h in
     λ e. at (get_or_default (decimal n) k 0 d h ∙ e)
+
+number : (n : ℕ) → n < 256 → IsWithout 32 (decimal n)
+number n lt = digits n (omega (arith, lt))
+
+after_sign : (xs : List ℕ) → IsWithout 32 xs → IsWithout 32 (45 ∷ xs)
+after_sign xs h = All-cons (λ b. b ≢ 32) 45 xs (search rules) h
+
+integer : (n : ℤ) → FitsSigned w64 n → IsWithout 32 (signed_decimal n)
+integer (pos n) fits = digits n (omega (arith, fits.sfits))
+integer (negsuc n) fits = after_sign (decimal (suc n)) (digits (suc n) (omega (arith, fits.sfits)))
 
 letters : (kinds : List FieldKind) → spaceless (map letter kinds) ≡ true
 letters [] = refl
-letters (Ref ∷ kinds) = letters kinds
-letters (Int ∷ kinds) = letters kinds
+letters (RefField ∷ kinds) = letters kinds
+letters (IntField ∷ kinds) = letters kinds
 
 layout_word : (kinds : List FieldKind) → IsWithout 32 (layout kinds)
 layout_word [] = word (codes "-") refl
@@ -74,9 +88,11 @@ four : (a b c d : List ℕ) → IsWithout 32 a → IsWithout 32 b → IsWithout 
 four a b c d h k l m = record { first = a; rest = b ∷ c ∷ d ∷ []; are = refl; words = (h, (k, (l, (m, tt)))); few = omega arith }
 
 apart : (c : Command) (fields : List (List ℕ)) → Fields c fields → Apart fields
-apart (New l) fields f = rw f.2 (two _ _ (word (codes "new") refl) (layout_word l))
+apart (New l) fields f = rw f.1 (two _ _ (word (codes "new") refl) (layout_word l))
 apart (Put h k v) fields f = rw f.3 (four _ _ _ _ (word (codes "put") refl) (number h f.0) (number k f.1) (number v f.2))
 apart (Get h k) fields f = rw f.2 (three _ _ _ (word (codes "get") refl) (number h f.0) (number k f.1))
+apart (SetInt h k n) fields f = rw f.3 (four _ _ _ _ (word (codes "setint") refl) (number h f.0) (number k f.1) (integer n f.2))
+apart (Int h k) fields f = rw f.2 (three _ _ _ (word (codes "int") refl) (number h f.0) (number k f.1))
 apart (Dup h) fields f = rw f.1 (two _ _ (word (codes "dup") refl) (number h f.0))
 apart (Drop h) fields f = rw f.1 (two _ _ (word (codes "drop") refl) (number h f.0))
 apart (Same h k) fields f = rw f.2 (three _ _ _ (word (codes "same") refl) (number h f.0) (number k f.1))
@@ -90,7 +106,9 @@ apart (Enqueue r) fields f = rw f.1 (two _ _ (word (codes "enqueue") refl) (numb
 apart (Enqueued r) fields f = rw f.1 (two _ _ (word (codes "enqueued") refl) (number r f.0))
 apart Queue fields f = rw f (one _ (word (codes "queue") refl))
 apart (Poll q) fields f = rw f.1 (two _ _ (word (codes "poll") refl) (number q f.0))
-apart Full fields f = rw f (one _ (word (codes "gc") refl))
+apart (Full Policy) fields f = rw f (one _ (word (codes "gc") refl))
+apart (Full ClearAll) fields f = rw f (two _ _ (word (codes "gc") refl) (word (codes "soft") refl))
+apart Stat fields f = rw f (one _ (word (codes "stat") refl))
 apart Bye fields f = rw f (one _ (word (codes "bye") refl))
 
 -- the parts of a command's line are its fields

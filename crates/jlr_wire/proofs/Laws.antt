@@ -1,25 +1,29 @@
 -- What is read is what the fields of a command are.
-use Rattle.std.proofs.Common.{◌≡◌, ℕ, ◌<◌, true, List, [], ◌∷◌, Option, Some, refl, sym, subst, inl, inr}
+use Rattle.std.proofs.Common.{◌≡◌, ℕ, ◌<◌, true, ◌&&◌, List, [], ◌∷◌, Option, Some, refl, sym, subst, inl, inr}
 use Rattle.std.specs.Prelude.{codes, decimal}
 use Rattle.std.specs.List.{AllByRecursion}
 use Rattle.std.specs.Str.{bytes_eq}
 use Rattle.std.proofs.lemmas.Slice.Eq.{bytes_eq-Decides}
 use Rattle.std.proofs.lemmas.Option.{same_Some, none-some}
-use Rattle.jlr_wire.proofs.Options.{bind_some, chosen, cond_some_of}
+use Rattle.jlr_wire.proofs.Options.{bind_some, chosen, cond_some_of, and_parts}
 use Rattle.jlr_wire.proofs.Numbers.{byte_of_decimal, byte_of_spells}
+use Rattle.jlr_wire.proofs.Integers.{integer_of_decimal, integer_of_spells}
 use Rattle.jlr_wire.proofs.Layouts.{layout_of_layout, layout_of_spells}
-use Rattle.jlr_wire.specs.Fields.{byte_of}
+use Rattle.jlr_wire.specs.Fields.{byte_of, integer_of}
 use Rattle.jlr_wire.specs.Commands.{Fields}
 use Rattle.jlr_wire.specs.Reading.{◌>>=◌, layout_of, names_alone, names_with_number, names_with_two, named, with_number, with_two_numbers, reading_1, reading_2, reading_3, reading_4, reading}
+use Rattle.jlr_machine.specs.declared.ask.FullMode.TheVariants.{Policy, ClearAll}
 use Rattle.jlr_wire.specs.declared.command.Command.{Command}
-use Rattle.jlr_wire.specs.declared.command.Command.TheVariants.{New, Put, Get, Dup, Drop, Same, Soft, Weak, Phantom, Deref, Refers, Clear, Enqueue, Enqueued, Queue, Poll, Full, Bye}
+use Rattle.jlr_wire.specs.declared.command.Command.TheVariants.{New, Put, Get, SetInt, Int, Dup, Drop, Same, Soft, Weak, Phantom, Deref, Refers, Clear, Enqueue, Enqueued, Queue, Poll, Full, Stat, Bye}
 
 -- the fields of a command are read as that command
 pub complete : (c : Command) (fields : List (List ℕ)) → Fields c fields → reading fields ≡ Some c
 unfolding reading reading_1 reading_2 reading_3 reading_4 with_number with_two_numbers
-complete (New l) fields f = rw (f.2, layout_of_layout l f.0 f.1) refl
+complete (New l) fields f = rw (f.1, layout_of_layout l f.0) refl
 complete (Put h k v) fields f = rw (f.3, byte_of_decimal h f.0, byte_of_decimal k f.1, byte_of_decimal v f.2) refl
 complete (Get h k) fields f = rw (f.2, byte_of_decimal h f.0, byte_of_decimal k f.1) refl
+complete (SetInt h k n) fields f = rw (f.3, byte_of_decimal h f.0, byte_of_decimal k f.1, integer_of_decimal n f.2) refl
+complete (Int h k) fields f = rw (f.2, byte_of_decimal h f.0, byte_of_decimal k f.1) refl
 complete (Dup h) fields f = rw (f.1, byte_of_decimal h f.0) refl
 complete (Drop h) fields f = rw (f.1, byte_of_decimal h f.0) refl
 complete (Same h k) fields f = rw (f.2, byte_of_decimal h f.0, byte_of_decimal k f.1) refl
@@ -33,7 +37,9 @@ complete (Enqueue r) fields f = rw (f.1, byte_of_decimal r f.0) refl
 complete (Enqueued r) fields f = rw (f.1, byte_of_decimal r f.0) refl
 complete Queue fields f = rw f refl
 complete (Poll q) fields f = rw (f.1, byte_of_decimal q f.0) refl
-complete Full fields f = rw f refl
+complete (Full Policy) fields f = rw f refl
+complete (Full ClearAll) fields f = rw f refl
+complete Stat fields f = rw f refl
 complete Bye fields f = rw f refl
 
 same_name : (name word : List ℕ) → bytes_eq name word ≡ true → name ≡ word
@@ -65,7 +71,7 @@ sound_1 : (n : List ℕ) (c : Command) → reading_1 n ≡ Some c → Fields c (
 unfolding reading_1
 sound_1 n c e =
     let P : List ℕ → Command → Type 0 = λ n c. Fields c (n ∷ []) in
-    in_table P n names_alone c (refl, (refl, (refl, tt))) e
+    in_table P n names_alone c (refl, (refl, (refl, (refl, tt)))) e
 
 sound_number : (n : List ℕ) (h : ℕ) (c : Command) → h < 256 → with_number n h ≡ Some c → Fields c (n ∷ decimal h ∷ [])
 unfolding with_number
@@ -79,7 +85,7 @@ unfolding with_two_numbers
 sound_two_numbers n h k c h_fits k_fits e =
     let P : List ℕ → Command → Type 0 = λ n c. Fields c (n ∷ decimal h ∷ decimal k ∷ []) in
     in_table P n (names_with_two h k) c
-    ((h_fits, k_fits, refl), ((h_fits, k_fits, refl), ((h_fits, k_fits, refl), ((h_fits, k_fits, refl), ((h_fits, k_fits, refl), ((h_fits, k_fits, refl), tt)))))) e
+    ((h_fits, k_fits, refl), ((h_fits, k_fits, refl), ((h_fits, k_fits, refl), ((h_fits, k_fits, refl), ((h_fits, k_fits, refl), ((h_fits, k_fits, refl), ((h_fits, k_fits, refl), tt))))))) e
 
 sound_2 : (n a : List ℕ) (c : Command) → reading_2 n a ≡ Some c → Fields c (n ∷ a ∷ [])
 unfolding reading_2
@@ -87,10 +93,15 @@ sound_2 n a c e = elim (chosen (bytes_eq n (codes "new")) (layout_of a >>= λ l.
   | inl p ↦
       let q = bind_some (layout_of a) _ c p.1 in
       let l = layout_of_spells a q.0 q.1 in
-      rw (← same_Some _ _ q.2) (l.0, l.1, same_2 _ _ _ _ (same_name n (codes "new") p.0) l.2)
-  | inr p ↦
-      let h = spelled (with_number n) a c p.1 in
-      subst (λ t. Fields c (n ∷ t ∷ [])) (sym h.2) (sound_number n h.0 c h.1 h.3)
+      rw (← same_Some _ _ q.2) (l.0, same_2 _ _ _ _ (same_name n (codes "new") p.0) l.1)
+  | inr p ↦ elim (chosen (bytes_eq n (codes "gc") && bytes_eq a (codes "soft")) (Some (Full ClearAll)) _ (Some c) p.1) [
+    | inl q ↦
+        let both = and_parts (bytes_eq n (codes "gc")) (bytes_eq a (codes "soft")) q.0 in
+        rw (← same_Some _ _ q.1) (same_2 _ _ _ _ (same_name n (codes "gc") both.0) (same_name a (codes "soft") both.1))
+    | inr q ↦
+        let h = spelled (with_number n) a c q.1 in
+        subst (λ t. Fields c (n ∷ t ∷ [])) (sym h.2) (sound_number n h.0 c h.1 h.3)
+  ]
 ]
 
 sound_3 : (n a b : List ℕ) (c : Command) → reading_3 n a b ≡ Some c → Fields c (n ∷ a ∷ b ∷ [])
@@ -101,14 +112,29 @@ sound_3 n a b c e =
     subst (λ t. Fields c (n ∷ t ∷ b ∷ [])) (sym h.2)
     (subst (λ t. Fields c (n ∷ decimal h.0 ∷ t ∷ [])) (sym k.2) (sound_two_numbers n h.0 k.0 c h.1 k.1 k.3))
 
-sound_4 : (n x a b : List ℕ) (c : Command) → reading_4 n x a b ≡ Some c → Fields c (n ∷ x ∷ a ∷ b ∷ [])
-unfolding reading_4
-sound_4 n x a b c e =
-    let p = cond_some_of (bytes_eq n (codes "put")) _ c e in
-    let g = spelled (λ g. byte_of a >>= λ h. byte_of b >>= λ k. Some (Put g h k)) x c p.1 in
+sound_put : (n x a b : List ℕ) (c : Command) → bytes_eq n (codes "put") ≡ true
+    → (byte_of x >>= λ g. byte_of a >>= λ h. byte_of b >>= λ k. Some (Put g h k)) ≡ Some c → Fields c (n ∷ x ∷ a ∷ b ∷ [])
+sound_put n x a b c name e =
+    let g = spelled (λ g. byte_of a >>= λ h. byte_of b >>= λ k. Some (Put g h k)) x c e in
     let h = spelled (λ h. byte_of b >>= λ k. Some (Put g.0 h k)) a c g.3 in
     let k = spelled (λ k. Some (Put g.0 h.0 k)) b c h.3 in
-    rw (← same_Some _ _ k.3) (g.1, h.1, k.1, same_4 _ _ _ _ _ _ _ _ (same_name n (codes "put") p.0) g.2 h.2 k.2)
+    rw (← same_Some _ _ k.3) (g.1, h.1, k.1, same_4 _ _ _ _ _ _ _ _ (same_name n (codes "put") name) g.2 h.2 k.2)
+
+sound_setint : (n x a b : List ℕ) (c : Command) → bytes_eq n (codes "setint") ≡ true
+    → (byte_of x >>= λ h. byte_of a >>= λ k. integer_of b >>= λ z. Some (SetInt h k z)) ≡ Some c → Fields c (n ∷ x ∷ a ∷ b ∷ [])
+sound_setint n x a b c name e =
+    let h = spelled (λ h. byte_of a >>= λ k. integer_of b >>= λ z. Some (SetInt h k z)) x c e in
+    let k = spelled (λ k. integer_of b >>= λ z. Some (SetInt h.0 k z)) a c h.3 in
+    let q = bind_some (integer_of b) (λ z. Some (SetInt h.0 k.0 z)) c k.3 in
+    let z = integer_of_spells b q.0 q.1 in
+    rw (← same_Some _ _ q.2) (h.1, k.1, z.0, same_4 _ _ _ _ _ _ _ _ (same_name n (codes "setint") name) h.2 k.2 z.1)
+
+sound_4 : (n x a b : List ℕ) (c : Command) → reading_4 n x a b ≡ Some c → Fields c (n ∷ x ∷ a ∷ b ∷ [])
+unfolding reading_4
+sound_4 n x a b c e = elim (chosen (bytes_eq n (codes "put")) _ _ (Some c) e) [
+  | inl p ↦ sound_put n x a b c p.0 p.1
+  | inr p ↦ let q = cond_some_of (bytes_eq n (codes "setint")) _ c p.1 in sound_setint n x a b c q.0 q.1
+]
 
 -- what is read as a command is its fields
 pub sound : (c : Command) (fields : List (List ℕ)) → reading fields ≡ Some c → Fields c fields

@@ -1,10 +1,12 @@
 pub mod Cuts
 pub mod Exact
 pub mod Layouts
+pub mod Integers
 pub mod Numbers
 pub mod Options
 pub mod Laws
 pub mod Splits
 pub mod Sending
+pub mod Spaced
 pub mod Streams
 pub mod Unique

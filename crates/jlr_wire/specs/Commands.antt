@@ -1,30 +1,32 @@
 -- What lines are commands: a line is its fields, with exactly one space between each two.
-use Rattle.std.specs.Prelude.{◌≡◌, ℕ, ◌<◌, ◌≤◌, List, [], ◌∷◌, map, length, decimal, codes}
-use Rattle.std.specs.List.{All, join_with_byte}
+use Rattle.std.specs.Prelude.{◌≡◌, ℕ, ◌<◌, ◌≤◌, List, [], ◌∷◌, map, length, decimal, codes, FitsSigned}
+use Rattle.std.specs.List.{join_with_byte}
+use Rattle.std.specs.Int.{w64}
+use Rattle.std.specs.Fmt.{signed_decimal}
 use Rattle.jlr_types.specs.declared.FieldKind.{FieldKind}
-use Rattle.jlr_types.specs.declared.FieldKind.TheVariants.{Int, Ref}
+use Rattle.jlr_types.specs.declared.FieldKind.TheVariants.{Int as IntField, Ref as RefField}
+use Rattle.jlr_machine.specs.declared.ask.FullMode.TheVariants.{Policy, ClearAll}
 use Rattle.jlr_wire.specs.declared.command.Command.{Command}
-use Rattle.jlr_wire.specs.declared.command.Command.TheVariants.{New, Put, Get, Dup, Drop, Same, Soft, Weak, Phantom, Deref, Refers, Clear, Enqueue, Enqueued, Queue, Poll, Full, Bye}
+use Rattle.jlr_wire.specs.declared.command.Command.TheVariants.{New, Put, Get, SetInt, Int, Dup, Drop, Same, Soft, Weak, Phantom, Deref, Refers, Clear, Enqueue, Enqueued, Queue, Poll, Full, Stat, Bye}
 
 -- the letter of a field
 abbrev pub letter : FieldKind → ℕ
-letter Ref = 114
-letter Int = 105
+letter RefField = 114
+letter IntField = 105
 
 -- a layout of no fields is a dash, another one letter for each field
 abbrev pub layout : List FieldKind → List ℕ
 layout [] = codes "-"
 layout (kind ∷ kinds) = map letter (kind ∷ kinds)
 
--- a layout that a line can ask for: integer fields have no line yet
-abbrev pub OnlyReferences : List FieldKind → Type 0
-OnlyReferences kinds = All (λ kind. kind ≡ Ref) kinds
-
 -- these are the fields of the command; a number has no leading zero
 abbrev pub Fields : Command → List (List ℕ) → Type 0
-Fields (New kinds) fields = (length kinds ≤ 8) × OnlyReferences kinds × (fields ≡ codes "new" ∷ layout kinds ∷ [])
+Fields (New kinds) fields = (length kinds ≤ 8) × (fields ≡ codes "new" ∷ layout kinds ∷ [])
 Fields (Put h k v) fields = (h < 256) × (k < 256) × (v < 256) × (fields ≡ codes "put" ∷ decimal h ∷ decimal k ∷ decimal v ∷ [])
 Fields (Get h k) fields = (h < 256) × (k < 256) × (fields ≡ codes "get" ∷ decimal h ∷ decimal k ∷ [])
+Fields (SetInt h k n) fields =
+    (h < 256) × (k < 256) × FitsSigned w64 n × (fields ≡ codes "setint" ∷ decimal h ∷ decimal k ∷ signed_decimal n ∷ [])
+Fields (Int h k) fields = (h < 256) × (k < 256) × (fields ≡ codes "int" ∷ decimal h ∷ decimal k ∷ [])
 Fields (Dup h) fields = (h < 256) × (fields ≡ codes "dup" ∷ decimal h ∷ [])
 Fields (Drop h) fields = (h < 256) × (fields ≡ codes "drop" ∷ decimal h ∷ [])
 Fields (Same a b) fields = (a < 256) × (b < 256) × (fields ≡ codes "same" ∷ decimal a ∷ decimal b ∷ [])
@@ -38,7 +40,9 @@ Fields (Enqueue r) fields = (r < 256) × (fields ≡ codes "enqueue" ∷ decimal
 Fields (Enqueued r) fields = (r < 256) × (fields ≡ codes "enqueued" ∷ decimal r ∷ [])
 Fields Queue fields = fields ≡ codes "queue" ∷ []
 Fields (Poll q) fields = (q < 256) × (fields ≡ codes "poll" ∷ decimal q ∷ [])
-Fields Full fields = fields ≡ codes "gc" ∷ []
+Fields (Full Policy) fields = fields ≡ codes "gc" ∷ []
+Fields (Full ClearAll) fields = fields ≡ codes "gc" ∷ codes "soft" ∷ []
+Fields Stat fields = fields ≡ codes "stat" ∷ []
 Fields Bye fields = fields ≡ codes "bye" ∷ []
 
 -- The line, without its end, is the command.

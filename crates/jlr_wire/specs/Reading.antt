@@ -2,10 +2,11 @@
 use Rattle.std.specs.Prelude.{ℕ, eqb, nat_lt, length, cond, ◌&&◌, List, [], ◌∷◌, Option, Some, None, codes}
 use Rattle.std.specs.Str.{bytes_eq}
 use Rattle.jlr_types.specs.declared.FieldKind.{FieldKind}
-use Rattle.jlr_types.specs.declared.FieldKind.TheVariants.{Ref}
-use Rattle.jlr_wire.specs.Fields.{byte_of}
+use Rattle.jlr_types.specs.declared.FieldKind.TheVariants.{Int as IntField, Ref as RefField}
+use Rattle.jlr_machine.specs.declared.ask.FullMode.TheVariants.{Policy, ClearAll}
+use Rattle.jlr_wire.specs.Fields.{byte_of, integer_of}
 use Rattle.jlr_wire.specs.declared.command.Command.{Command}
-use Rattle.jlr_wire.specs.declared.command.Command.TheVariants.{New, Put, Get, Dup, Drop, Same, Soft, Weak, Phantom, Deref, Refers, Clear, Enqueue, Enqueued, Queue, Poll, Full, Bye}
+use Rattle.jlr_wire.specs.declared.command.Command.TheVariants.{New, Put, Get, SetInt, Int, Dup, Drop, Same, Soft, Weak, Phantom, Deref, Refers, Clear, Enqueue, Enqueued, Queue, Poll, Full, Stat, Bye}
 
 -- the ? of the logic
 infixl 10 ◌>>=◌
@@ -15,7 +16,7 @@ None >>= f = None
 
 -- the kind that a letter stands for
 abbrev pub kind_of : ℕ → Option FieldKind
-kind_of c = cond (eqb c 114) (Some Ref) None
+kind_of c = cond (eqb c 114) (Some RefField) (cond (eqb c 105) (Some IntField) None)
 
 -- the kinds that letters stand for
 abbrev pub kinds_of : List ℕ → Option (List FieldKind)
@@ -30,7 +31,7 @@ layout_of text =
 
 -- the commands of a name alone, of a name and a number, and of a name and two numbers, each beside its name
 abbrev pub names_alone : List (List ℕ × Command)
-names_alone = (codes "queue", Queue) ∷ (codes "gc", Full) ∷ (codes "bye", Bye) ∷ []
+names_alone = (codes "queue", Queue) ∷ (codes "gc", Full Policy) ∷ (codes "stat", Stat) ∷ (codes "bye", Bye) ∷ []
 
 abbrev pub names_with_number : ℕ → List (List ℕ × Command)
 names_with_number a =
@@ -46,6 +47,7 @@ names_with_number a =
 abbrev pub names_with_two : ℕ → ℕ → List (List ℕ × Command)
 names_with_two a b =
     (codes "get", Get a b)
+    ∷ (codes "int", Int a b)
     ∷ (codes "same", Same a b)
     ∷ (codes "soft", Soft a b)
     ∷ (codes "weak", Weak a b)
@@ -69,14 +71,17 @@ unfoldable pub reading_1 : List ℕ → Option Command
 reading_1 name = named name names_alone
 
 unfoldable pub reading_2 : List ℕ → List ℕ → Option Command
-reading_2 name a = cond (bytes_eq name (codes "new")) (layout_of a >>= λ l. Some (New l)) (byte_of a >>= λ h. with_number name h)
+reading_2 name a =
+    cond (bytes_eq name (codes "new")) (layout_of a >>= λ l. Some (New l))
+    (cond (bytes_eq name (codes "gc") && bytes_eq a (codes "soft")) (Some (Full ClearAll)) (byte_of a >>= λ h. with_number name h))
 
 unfoldable pub reading_3 : List ℕ → List ℕ → List ℕ → Option Command
 reading_3 name a b = byte_of a >>= λ h. byte_of b >>= λ k. with_two_numbers name h k
 
 unfoldable pub reading_4 : List ℕ → List ℕ → List ℕ → List ℕ → Option Command
 reading_4 name a b c =
-    cond (bytes_eq name (codes "put")) (byte_of a >>= λ h. byte_of b >>= λ k. byte_of c >>= λ v. Some (Put h k v)) None
+    cond (bytes_eq name (codes "put")) (byte_of a >>= λ h. byte_of b >>= λ k. byte_of c >>= λ v. Some (Put h k v))
+    (cond (bytes_eq name (codes "setint")) (byte_of a >>= λ h. byte_of b >>= λ k. integer_of c >>= λ n. Some (SetInt h k n)) None)
 
 -- the command of these fields
 unfoldable pub reading : List (List ℕ) → Option Command

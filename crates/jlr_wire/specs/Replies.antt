@@ -1,9 +1,20 @@
 -- The line of an answer.
-use Rattle.std.specs.Prelude.{ℕ, true, false, List, ◌++◌, take, Option, Some, None, Result, MatchResult, codes, decimal}
+use Rattle.std.specs.Prelude.{ℕ, true, false, List, [], ◌∷◌, ◌++◌, take, Option, Some, None, Result, MatchResult, codes, decimal}
+use Rattle.std.specs.List.{flat_map}
+use Rattle.std.specs.Fmt.{signed_decimal}
 use Rattle.std.specs.Io.KnownBytes.{Appends}
 use Rattle.jlr_types.specs.Numbers.{number_of}
 use Rattle.jlr_machine.specs.declared.ask.Answer.{Answer}
-use Rattle.jlr_machine.specs.declared.ask.Answer.TheVariants.{Done, Handle, Truth, Refused}
+use Rattle.jlr_machine.specs.declared.ask.Answer.TheVariants.{Done, Handle, Truth, Int, Stat as StatAnswer, Refused}
+use Rattle.jlr_machine.specs.declared.ask.Stat.{Stat}
+
+-- the items in order, each after a space
+abbrev pub spaced : {T : Type 0} → (T → List ℕ) → List T → List ℕ
+spaced text items = flat_map (λ item. 32 ∷ text item) items
+
+-- what the machine's counts say
+abbrev pub stat_words : Stat → List ℕ
+stat_words s = codes "stat" ++ spaced decimal (s.objects ∷ s.resources ∷ s.taken ∷ s.ok ∷ s.failed ∷ [])
 
 -- what an answer says, where it has a line
 abbrev pub words : Answer → Option (List ℕ)
@@ -11,6 +22,8 @@ words Done = Some (codes "ok")
 words (Handle h) = Some (codes "= " ++ decimal h)
 words (Truth true) = Some (codes "yes")
 words (Truth false) = Some (codes "no")
+words (Int n) = Some (codes "int " ++ signed_decimal n)
+words (StatAnswer s) = Some (stat_words s)
 words (Refused refusal) = Some (codes "! " ++ decimal (number_of refusal))
 words _ = None
 

@@ -8,10 +8,12 @@ ghost use Rattle.jlr_wire.specs.Commands.{IsCommand};
 ghost use Rattle.jlr_wire.specs.Fields.{is_space, texts};
 
 use crate::cut::cut_at;
+use crate::integer::integer;
 use crate::layout::layout;
 use crate::number::number;
 use crate::pieces::LINE_LIMIT;
 use arrayvec::ArrayVec;
+use jlr_machine::ask::FullMode;
 use jlr_types::{Handle, Layout, Refusal};
 
 /// What a line asks for. A handle may be any number from 0 to 255, also one that is never in use.
@@ -29,6 +31,17 @@ pub enum Command {
     },
     /// `get h k`: reads a reference field.
     Get {
+        object: Handle,
+        field: u8,
+    },
+    /// `setint h k integer`: writes an integer field.
+    SetInt {
+        object: Handle,
+        field: u8,
+        value: i64,
+    },
+    /// `int h k`: reads an integer field.
+    Int {
         object: Handle,
         field: u8,
     },
@@ -87,8 +100,12 @@ pub enum Command {
     Poll {
         queue: Handle,
     },
-    /// `gc`: a full collection.
-    Full,
+    /// `gc`: a full collection by the policy for soft references. `gc soft`: one that clears them all.
+    Full {
+        mode: FullMode,
+    },
+    /// `stat`: the machine's counts.
+    Stat,
     /// `bye`: ends the session.
     Bye,
 }
@@ -121,7 +138,10 @@ fn one_field(name: &[u8]) -> Option<Command>
 {
     match name {
         b"queue" => Some(Command::Queue),
-        b"gc" => Some(Command::Full),
+        b"gc" => Some(Command::Full {
+            mode: FullMode::Policy,
+        }),
+        b"stat" => Some(Command::Stat),
         b"bye" => Some(Command::Bye),
         _ => None,
     }
@@ -134,6 +154,11 @@ fn two_fields(name: &[u8], a: &[u8]) -> Option<Command>
 {
     if name == b"new".as_slice() {
         return Some(Command::New { layout: layout(a)? });
+    }
+    if name == b"gc".as_slice() && a == b"soft".as_slice() {
+        return Some(Command::Full {
+            mode: FullMode::ClearAll,
+        });
     }
     one_number(name, number(a)?)
 }
@@ -185,6 +210,9 @@ fn two_numbers(name: &[u8], a: u8, b: u8) -> Option<Command>
     if name == b"get".as_slice() {
         return Some(Command::Get { object, field: b });
     }
+    if name == b"int".as_slice() {
+        return Some(Command::Int { object, field: b });
+    }
     let (left, right) = (object, Handle::new(b));
     if name == b"same".as_slice() {
         return Some(Command::Same { left, right });
@@ -216,6 +244,13 @@ fn four_fields(name: &[u8], a: &[u8], b: &[u8], c: &[u8]) -> Option<Command>
             object: Handle::new(number(a)?),
             field: number(b)?,
             value: Handle::new(number(c)?),
+        });
+    }
+    if name == b"setint".as_slice() {
+        return Some(Command::SetInt {
+            object: Handle::new(number(a)?),
+            field: number(b)?,
+            value: integer(c)?,
         });
     }
     None

@@ -5,6 +5,7 @@
 
 pub mod command;
 mod cut;
+mod integer;
 mod layout;
 mod number;
 pub mod pieces;

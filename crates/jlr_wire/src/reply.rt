@@ -1,10 +1,10 @@
 //! Reply lines out of answers.
 ghost use Rattle.std.specs.Prelude.{◌≡◌, ◌++◌, ◌∷◌, [], IfSome, IfNone, IsErr};
 ghost use Rattle.std.specs.Io.KnownBytes.{Keeps};
-ghost use Rattle.jlr_wire.specs.Replies.{Sends, words};
+ghost use Rattle.jlr_wire.specs.Replies.{Sends, spaced, stat_words, words};
 
 use itoa::Buffer;
-use jlr_machine::ask::Answer;
+use jlr_machine::ask::{Answer, Stat};
 use std::io::Write;
 
 /// A write that failed or took nothing, or an answer that has no line.
@@ -38,6 +38,35 @@ fn send_after<W: Write, N: itoa::Integer + Drop>(
     send(buffer.format(n).as_bytes(), writer)
 }
 
+/// Writes a word and then the numbers in decimal, each after a space.
+fn send_list<W: Write, N: itoa::Integer + Drop>(
+    word: &str,
+    numbers: &[N],
+    writer: &mut W,
+) -> Result<(), WriteFault>
+    ensures { Sends (W.contents writer.old) (W.contents writer.new) result (word.now ++ spaced N.text numbers.now) }
+{
+    send(word.as_bytes(), writer)?;
+    for number in numbers {
+        send_after(" ", *number, writer)?;
+    }
+    Ok(())
+}
+
+/// Writes the five counts.
+fn send_stat<W: Write>(stat: &Stat, writer: &mut W) -> Result<(), WriteFault>
+    ensures { Sends (W.contents writer.old) (W.contents writer.new) result (stat_words stat.now) }
+{
+    let counts = [
+        stat.objects,
+        stat.resources,
+        stat.taken,
+        stat.ok,
+        stat.failed,
+    ];
+    send_list("stat", &counts, writer)
+}
+
 /// Writes what an answer says, without the end of the line.
 fn write_words<W: Write>(answer: &Answer, writer: &mut W) -> Result<(), WriteFault>
     ensures line { IfSome (words answer.now) (Sends (W.contents writer.old) (W.contents writer.new) result) }
@@ -48,6 +77,8 @@ fn write_words<W: Write>(answer: &Answer, writer: &mut W) -> Result<(), WriteFau
         Answer::Handle(handle) => send_after("= ", handle.number(), writer),
         Answer::Truth(true) => send(b"yes", writer),
         Answer::Truth(false) => send(b"no", writer),
+        Answer::Int(n) => send_after("int ", *n, writer),
+        Answer::Stat(stat) => send_stat(stat, writer),
         Answer::Refused(refusal) => send_after("! ", refusal.number(), writer),
         _ => Err(WriteFault),
     }

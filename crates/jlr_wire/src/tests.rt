@@ -3,8 +3,8 @@ use crate::command::{Command, read_command};
 use crate::pieces::{Got, Pieces};
 use crate::reply::{WriteFault, write_reply};
 use arrayvec::ArrayVec;
-use jlr_machine::ask::{Answer, Handed};
-use jlr_types::{Fault, FieldKind, Handle, Refusal, Rid};
+use jlr_machine::ask::{Answer, Handed, Stat};
+use jlr_types::{Fault, FieldKind, Handle, Layout, Refusal, Rid};
 use std::alloc::{AllocError, Global};
 use std::io::{self, Write};
 use std::process::Abort;
@@ -115,13 +115,12 @@ fn a_line_has_at_most_512_bytes(rt: HostRuntime) {
     }
 }
 
-/// The case of a command and its parts.
+/// The case of a command and its parts: here those about objects.
 fn case_of(alloc: Global, command: Command) -> Result<String, AllocError> {
     match command {
         Command::New { layout } => {
-            let count = layout.len();
-            let last_is_a_reference = layout.get(count.max(1) - 1) == Some(FieldKind::Ref);
-            format!(in alloc; "New {count} {last_is_a_reference}")
+            let letters = letters_of(alloc, &layout)?;
+            format!(in alloc; "New [{letters}]")
         }
         Command::Put {
             object,
@@ -135,12 +134,22 @@ fn case_of(alloc: Global, command: Command) -> Result<String, AllocError> {
             let h = object.number();
             format!(in alloc; "Get {h} {field}")
         }
+        Command::SetInt {
+            object,
+            field,
+            value,
+        } => {
+            let h = object.number();
+            format!(in alloc; "SetInt {h} {field} {value}")
+        }
+        Command::Int { object, field } => {
+            let h = object.number();
+            format!(in alloc; "Int {h} {field}")
+        }
         Command::Dup { object } => with_one(alloc, "Dup", object),
         Command::Drop { object } => with_one(alloc, "Drop", object),
         Command::Same { left, right } => with_two(alloc, "Same", left, right),
-        Command::Full => format!(in alloc; "Full"),
-        Command::Bye => format!(in alloc; "Bye"),
-        about_a_reference => reference_case_of(alloc, about_a_reference),
+        another => reference_case_of(alloc, another),
     }
 }
 
@@ -157,8 +166,31 @@ fn reference_case_of(alloc: Global, command: Command) -> Result<String, AllocErr
         Command::Enqueued { reference } => with_one(alloc, "Enqueued", reference),
         Command::Queue => format!(in alloc; "Queue"),
         Command::Poll { queue } => with_one(alloc, "Poll", queue),
+        another => whole_case_of(alloc, another),
+    }
+}
+
+/// The case of a command about no single object, and its parts.
+fn whole_case_of(alloc: Global, command: Command) -> Result<String, AllocError> {
+    match command {
+        Command::Full { mode } => format!(in alloc; "Full {mode:?}"),
+        Command::Stat => format!(in alloc; "Stat"),
+        Command::Bye => format!(in alloc; "Bye"),
         _ => format!(in alloc; "another"),
     }
+}
+
+/// The letters of a layout.
+fn letters_of(alloc: Global, layout: &Layout) -> Result<String, AllocError> {
+    let mut letters = String::new(alloc);
+    for field in 0..layout.len() {
+        letters.push(match layout.get(field) {
+            Some(FieldKind::Ref) => 'r',
+            Some(FieldKind::Int) => 'i',
+            None => '?',
+        })?;
+    }
+    Ok(letters)
 }
 
 /// The name of a case and the number of a handle.
@@ -173,17 +205,61 @@ fn with_two(alloc: Global, case: &str, left: Handle, right: Handle) -> Result<St
     format!(in alloc; "{case} {a} {b}")
 }
 
+/// Reads each line as a command, which must be the case beside it.
+fn read_as(alloc: Global, rt: &impl Abort, rows: &[(&str, &str)]) -> Result<(), Fail> {
+    for (line, case) in rows {
+        let Ok(command) = read_command(line.as_bytes()) else {
+            return Err(Fail::from(*line));
+        };
+        let text = case_of(alloc, command)?;
+        assert_eq!(rt; text.as_str(), *case);
+    }
+    Ok(())
+}
+
 #[test]
-fn reads_each_command(rt: HostRuntime) -> Result<(), Fail> {
-    for (line, case) in [
-        ("new -", "New 0 false"),
-        ("new r", "New 1 true"),
-        ("new rrrrrrrr", "New 8 true"),
+fn reads_commands_of_objects(rt: HostRuntime) -> Result<(), Fail> {
+    let rows = [
+        ("new -", "New []"),
+        ("new r", "New [r]"),
+        ("new i", "New [i]"),
+        ("new ri", "New [ri]"),
+        ("new rrrrrrrr", "New [rrrrrrrr]"),
+        ("new rirririr", "New [rirririr]"),
         ("put 1 0 255", "Put 1 0 255"),
         ("get 2 7", "Get 2 7"),
+        ("int 1 0", "Int 1 0"),
+        ("int 255 255", "Int 255 255"),
         ("dup 3", "Dup 3"),
         ("drop 4", "Drop 4"),
         ("same 0 10", "Same 0 10"),
+    ];
+    read_as(rt.alloc(), &rt, &rows)
+}
+
+#[test]
+fn reads_the_integers_of_64_bits(rt: HostRuntime) -> Result<(), Fail> {
+    let rows = [
+        ("setint 1 0 5", "SetInt 1 0 5"),
+        ("setint 1 1 0", "SetInt 1 1 0"),
+        ("setint 255 255 -1", "SetInt 255 255 -1"),
+        ("setint 1 1 -10", "SetInt 1 1 -10"),
+        ("setint 1 1 256", "SetInt 1 1 256"),
+        (
+            "setint 1 1 9223372036854775807",
+            "SetInt 1 1 9223372036854775807",
+        ),
+        (
+            "setint 1 1 -9223372036854775808",
+            "SetInt 1 1 -9223372036854775808",
+        ),
+    ];
+    read_as(rt.alloc(), &rt, &rows)
+}
+
+#[test]
+fn reads_commands_of_references(rt: HostRuntime) -> Result<(), Fail> {
+    let rows = [
         ("soft 12 13", "Soft 12 13"),
         ("weak 5 6", "Weak 5 6"),
         ("phantom 200 0", "Phantom 200 0"),
@@ -194,107 +270,187 @@ fn reads_each_command(rt: HostRuntime) -> Result<(), Fail> {
         ("enqueued 16", "Enqueued 16"),
         ("queue", "Queue"),
         ("poll 17", "Poll 17"),
-        ("gc", "Full"),
-        ("bye", "Bye"),
-    ] {
-        let Ok(command) = read_command(line.as_bytes()) else {
-            return Err(Fail::from(line));
-        };
-        let text = case_of(rt.alloc(), command)?;
-        assert_eq!(rt; text.as_str(), case);
-    }
-    Ok(())
+    ];
+    read_as(rt.alloc(), &rt, &rows)
 }
 
 #[test]
-fn refuses_what_is_no_command(rt: HostRuntime) {
-    for line in [
+fn reads_commands_of_the_whole(rt: HostRuntime) -> Result<(), Fail> {
+    let rows = [
+        ("gc", "Full Policy"),
+        ("gc soft", "Full ClearAll"),
+        ("stat", "Stat"),
+        ("bye", "Bye"),
+    ];
+    read_as(rt.alloc(), &rt, &rows)
+}
+
+/// Each line is malformed.
+fn malformed(rt: &impl Abort, lines: &[&str]) {
+    for line in lines {
+        let refused = matches!(read_command(line.as_bytes()), Err(Refusal::Malformed));
+        assert!(rt; refused, "at {line:?}");
+    }
+}
+
+#[test]
+fn refuses_other_spaces_than_one_between_fields(rt: HostRuntime) {
+    let lines = [
         "",
         " ",
+        "put 1 0 2 ",
+        " put 1 0 2",
+        "get  1 0",
+        "get 1  0",
+        "get 1 0 ",
+        "dup ",
+        "gc\r",
+        "gc ",
+        " gc",
+        "gc  soft",
+        "gc soft ",
+        " gc soft",
+        "gc\tsoft",
+        "bye ",
+        " bye",
+        "bye\r",
+        "new ",
+        "new\t-",
+        "soft 1  0",
+        "phantom  1 0",
+        "queue ",
+        " queue",
+        "poll ",
+        "stat ",
+        " stat",
+        "int 1 0 ",
+        "setint 1 0  5",
+        "setint 1 0 5 ",
+    ];
+    malformed(&rt, &lines);
+}
+
+#[test]
+fn refuses_another_count_of_fields(rt: HostRuntime) {
+    let lines = [
         "put 1",
         "put 1 0",
         "put 1 0 2 3",
-        "put 1 0 2 ",
-        " put 1 0 2",
+        "dup",
+        "drop 1 2",
+        "same 1",
+        "gc soft soft",
+        "new",
+        "soft",
+        "soft 1",
+        "soft 1 0 0",
+        "weak 1",
+        "phantom 1",
+        "deref",
+        "refers 1",
+        "refers 1 2 3",
+        "clear",
+        "clear 1 2",
+        "enqueue",
+        "enqueue 1 2",
+        "enqueued",
+        "enqueued 1 2",
+        "queue 1",
+        "poll",
+        "poll 1 2",
+        "int",
+        "int 1",
+        "int 1 0 5",
+        "setint 1 0",
+        "setint 1 0 5 6",
+        "stat 1",
+    ];
+    malformed(&rt, &lines);
+}
+
+#[test]
+fn refuses_other_names(rt: HostRuntime) {
+    let lines = [
+        "GC",
+        "Gc",
+        "gc gc",
+        "gc Soft",
+        "gc weak",
+        "gc softly",
+        "gc 1",
+        "soft soft",
+        "BYE",
+        "Soft 1 0",
+        "softer 1 0",
+        "enqueues 1",
+        "queues",
+        "remove 1",
+        "Stat",
+        "stats",
+        "Int 1 0",
+        "getint 1 0",
+        "set 1 0 5",
+        "setInt 1 0 5",
+    ];
+    malformed(&rt, &lines);
+}
+
+#[test]
+fn refuses_other_handles_and_field_numbers(rt: HostRuntime) {
+    let lines = [
         "get 01 0",
-        "get  1 0",
-        "get 1  0",
         "get 1 00",
-        "get 1 0 ",
         "get +1 0",
         "get -1 0",
         "get 1 256",
-        "dup",
-        "dup ",
         "dup 256",
         "dup 1000",
         "dup 0x1",
         "dup a",
-        "drop 1 2",
-        "same 1",
-        "weak 1",
-        "deref",
-        "GC",
-        "Gc",
-        "gc\r",
-        "gc ",
-        " gc",
-        "gc soft",
-        "gc gc",
-        "bye ",
-        " bye",
-        "BYE",
-        "bye\r",
-        "new",
-        "new ",
-        "new --",
-        "new -r",
-        "new rrrrrrrrr",
-        "new i",
-        "new ri",
-        "new R",
-        "soft",
-        "soft 1",
-        "soft 1 0 0",
-        "soft 1  0",
         "soft 1 256",
         "soft 01 0",
-        "Soft 1 0",
-        "softer 1 0",
         "weak 1 -",
-        "phantom 1",
         "phantom 1 00",
-        "phantom  1 0",
-        "refers 1",
-        "refers 1 2 3",
         "refers 1 null",
-        "clear",
-        "clear 1 2",
         "clear -1",
-        "enqueue",
         "enqueue 01",
-        "enqueue 1 2",
         "enqueue 256",
-        "enqueues 1",
-        "enqueued",
-        "enqueued 1 2",
         "enqueued 01",
-        "queue 1",
-        "queue ",
-        " queue",
-        "queues",
-        "poll",
-        "poll ",
-        "poll 1 2",
         "poll 300",
-        "remove 1",
-        "stat",
-        "setint 1 0 5",
-        "new\t-",
-    ] {
-        let refused = matches!(read_command(line.as_bytes()), Err(Refusal::Malformed));
-        assert!(rt; refused, "at {line:?}");
-    }
+        "int 01 0",
+        "int 1 256",
+        "setint 256 0 5",
+        "setint 1 00 5",
+    ];
+    malformed(&rt, &lines);
+}
+
+#[test]
+fn refuses_other_layouts_and_integers(rt: HostRuntime) {
+    let lines = [
+        "new --",
+        "new -r",
+        "new i-",
+        "new rrrrrrrrr",
+        "new rirririri",
+        "new R",
+        "new I",
+        "new rx",
+        "setint 1 1 -0",
+        "setint 1 1 +1",
+        "setint 1 1 01",
+        "setint 1 1 -01",
+        "setint 1 1 00",
+        "setint 1 1 -",
+        "setint 1 1 --1",
+        "setint 1 1 1-",
+        "setint 1 1 5x",
+        "setint 1 1 0x5",
+        "setint 1 1 9223372036854775808",
+        "setint 1 1 -9223372036854775809",
+        "setint 1 1 18446744073709551616",
+    ];
+    malformed(&rt, &lines);
 }
 
 #[test]
@@ -311,6 +467,43 @@ fn writes_each_reply(rt: HostRuntime) -> Result<(), Fail> {
     assert_eq!(rt;
         out.as_slice(),
         b"ok\n= 0\n= 250\nyes\nno\n! 1\n! 15\n! 19\n".as_slice()
+    );
+    Ok(())
+}
+
+#[test]
+fn writes_integers(rt: HostRuntime) -> Result<(), Fail> {
+    let mut out = Vec::new(rt.alloc());
+    for n in [0, -7, i64::MAX, i64::MIN] {
+        write_reply(&Answer::Int(n), &mut out)?;
+    }
+    assert_eq!(rt;
+        out.as_slice(),
+        b"int 0\nint -7\nint 9223372036854775807\nint -9223372036854775808\n".as_slice()
+    );
+    Ok(())
+}
+
+/// The counts, in the order of their line.
+fn counts(objects: u64, resources: u64, taken: u64, ok: u64, failed: u64) -> Answer {
+    Answer::Stat(Stat {
+        objects,
+        resources,
+        taken,
+        ok,
+        failed,
+    })
+}
+
+#[test]
+fn writes_the_counts(rt: HostRuntime) -> Result<(), Fail> {
+    let mut out = Vec::new(rt.alloc());
+    write_reply(&counts(9, 0, 0, 0, 0), &mut out)?;
+    write_reply(&counts(1, 2, 12, 7, 3), &mut out)?;
+    write_reply(&counts(65536, 256, u64::MAX, 0, 0), &mut out)?;
+    assert_eq!(rt;
+        out.as_slice(),
+        b"stat 9 0 0 0 0\nstat 1 2 12 7 3\nstat 65536 256 18446744073709551615 0 0\n".as_slice()
     );
     Ok(())
 }
