@@ -133,7 +133,8 @@ impl State {
         self.check_plain(slot)?;
         self.check_int_field(slot, field)?;
         self.no_call(by);
-        self.heap.store(slot, field as usize, FieldValue::Int(value));
+        self.heap
+            .store(slot, field as usize, FieldValue::Int(value));
         Ok(Answer::Done)
     }
 

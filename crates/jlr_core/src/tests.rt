@@ -1,11 +1,12 @@
 //! Lists of events and their replies. What is expected comes from the description of the asks.
 use crate::event::{Event, Reply};
 use crate::run::run;
-use jlr_machine::ask::{Answer, FullMode, Handed};
-use jlr_types::{Fault, FieldKind, Handle, Layout, Limits, Mutator, RefKind, Refusal};
+use jlr_machine::ask::{Answer, FullMode, Handed, Stat};
+use jlr_types::{Fault, FieldKind, Handle, Layout, Limits, Mutator, Progress, RefKind, Refusal};
 use std::alloc::Global;
 use std::test::Fail;
 
+mod cycles;
 mod memory;
 mod objects;
 mod queues;
@@ -20,6 +21,9 @@ enum Got {
     Handle(u8),
     Truth(bool),
     Handed(Handed),
+    Int(i64),
+    Stat(Stat),
+    Marked(Progress),
     Refused(Refusal),
     Other,
 }
@@ -31,10 +35,12 @@ fn seen(reply: &Reply<u32>) -> Got {
             Answer::Handle(handle) => Got::Handle(handle.number()),
             Answer::Truth(truth) => Got::Truth(*truth),
             Answer::Handed(handed) => Got::Handed(*handed),
+            Answer::Int(number) => Got::Int(*number),
+            Answer::Stat(stat) => Got::Stat(*stat),
             Answer::Refused(refusal) => Got::Refused(*refusal),
             _ => Got::Other,
         },
-        Reply::Marked(_) => Got::Other,
+        Reply::Marked(progress) => Got::Marked(*progress),
     }
 }
 
@@ -254,4 +260,40 @@ fn opened(outcome: Result<u32, Fault>) -> Event<u32> {
         mutator: me(),
         outcome,
     }
+}
+
+fn set_int(object: u8, field: u8, value: i64) -> Event<u32> {
+    Event::SetInt {
+        mutator: me(),
+        object: Handle::new(object),
+        field,
+        value,
+    }
+}
+
+fn int(object: u8, field: u8) -> Event<u32> {
+    Event::Int {
+        mutator: me(),
+        object: Handle::new(object),
+        field,
+    }
+}
+
+fn stat() -> Event<u32> {
+    Event::Stat { mutator: me() }
+}
+
+// The counts of a heap without resources and cleaning actions.
+fn counted(objects: u64) -> Got {
+    Got::Stat(Stat {
+        objects,
+        resources: 0,
+        taken: 0,
+        ok: 0,
+        failed: 0,
+    })
+}
+
+fn mark() -> Event<u32> {
+    Event::Mark { budget: 64 }
 }

@@ -11,7 +11,7 @@ use Rattle.jlr_machine.specs.Run.{Run, IsLegal, apply}
 use Rattle.jlr_core.specs.State.{entry_of}
 use Rattle.jlr_core.specs.Cores.{Kept, StandsIn}
 use Rattle.jlr_wire.specs.declared.command.Command.{Command}
-use Rattle.jlr_wire.specs.declared.command.Command.TheVariants.{New, Put, Get, Dup, Drop, Same, Soft, Weak, Phantom, Deref, Refers, Clear, Enqueue, Enqueued, Queue, Poll, Full, Bye}
+use Rattle.jlr_wire.specs.declared.command.Command.TheVariants.{New, Put, Get, SetInt, Int, Dup, Drop, Same, Soft, Weak, Phantom, Deref, Refers, Clear, Enqueue, Enqueued, Queue, Poll, Full, Stat, Bye}
 use Rattle.jlr_prog.specs.Heaps.{ask_for, Answers, HandsOver, by_core, IsJoined}
 use Rattle.jlr_prog.specs.Sessions.{Ended}
 use Rattle.jlr_prog.specs.Histories.{Tells, by_entries, IsSession}
@@ -51,6 +51,8 @@ asks_something : (c : Command) → c ≢ Bye → ask_for c ≢ None
 asks_something (New layout) n = some_none _
 asks_something (Put h f v) n = some_none _
 asks_something (Get h f) n = some_none _
+asks_something (SetInt h f v) n = some_none _
+asks_something (Int h f) n = some_none _
 asks_something (Dup h) n = some_none _
 asks_something (Drop h) n = some_none _
 asks_something (Same x y) n = some_none _
@@ -64,7 +66,8 @@ asks_something (Enqueue r) n = some_none _
 asks_something (Enqueued r) n = some_none _
 asks_something Queue n = some_none _
 asks_something (Poll q) n = some_none _
-asks_something Full n = some_none _
+asks_something (Full mode) n = some_none _
+asks_something Stat n = some_none _
 asks_something Bye n = absurd (n refl)
 
 -- the core carries out what the entries tell

@@ -75,6 +75,8 @@ asked_here : (m : Machine) (c : Command) (ask : Ask) (answer : Answer) (fresh : 
 asked_here m (command.New layout) ask a fresh e h = subst (λ k. IsHere (after m k a fresh)) (some_same _ ask e) (made_here m _ fresh h)
 asked_here m (command.Put x f v) ask a fresh e h = subst (λ k. IsHere (after m k a fresh)) (some_same _ ask e) (put_here m _ (slot_named m 0 x) h)
 asked_here m (command.Get x f) ask a fresh e h = subst (λ k. IsHere (after m k a fresh)) (some_same _ ask e) (given_here m (given m (Get 0 x f)) h)
+asked_here m (command.SetInt x f v) ask a fresh e h = subst (λ k. IsHere (after m k a fresh)) (some_same _ ask e) (put_here m _ (slot_named m 0 x) h)
+asked_here m (command.Int x f) ask a fresh e h = subst (λ k. IsHere (after m k a fresh)) (some_same _ ask e) h
 asked_here m (command.Dup x) ask a fresh e h = subst (λ k. IsHere (after m k a fresh)) (some_same _ ask e) (given_here m (given m (Dup 0 x)) h)
 asked_here m (command.Drop x) ask a fresh e h = subst (λ k. IsHere (after m k a fresh)) (some_same _ ask e) (changed m _ (λ s. refl) h)
 asked_here m (command.Same x y) ask a fresh e h = subst (λ k. IsHere (after m k a fresh)) (some_same _ ask e) h
@@ -89,7 +91,8 @@ asked_here m (command.Enqueued x) ask a fresh e h = subst (λ k. IsHere (after m
 asked_here m command.Queue ask a fresh e h = subst (λ k. IsHere (after m k a fresh)) (some_same _ ask e) (made_here m _ fresh h)
 asked_here m (command.Poll q) ask a fresh e h =
     subst (λ k. IsHere (after m k a fresh)) (some_same _ ask e) (asked_poll_here m (slot_named m 0 q) (given m (Poll 0 q)) h)
-asked_here m command.Full ask a fresh e h = subst (λ k. IsHere (after m k a fresh)) (some_same _ ask e) h
+asked_here m (command.Full mode) ask a fresh e h = subst (λ k. IsHere (after m k a fresh)) (some_same _ ask e) h
+asked_here m command.Stat ask a fresh e h = subst (λ k. IsHere (after m k a fresh)) (some_same _ ask e) h
 asked_here m command.Bye ask a fresh e h = no_some _ e
 
 carried_here : (m : Machine) (ask : Ask) (answer : Answer) (fresh : List ℕ) → IsHere m → IsHere (after m ask answer fresh) → IsHere (carried m ask answer fresh)

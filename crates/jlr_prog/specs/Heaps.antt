@@ -4,14 +4,13 @@ use Rattle.jlr_types.specs.declared.RefKind.TheVariants.{Soft as SoftKind, Weak 
 use Rattle.jlr_machine.specs.declared.machine.Machine.{Machine}
 use Rattle.jlr_machine.specs.declared.ask.Ask.{Ask}
 use Rattle.jlr_machine.specs.declared.ask.Ask.TheVariants as ask
-use Rattle.jlr_machine.specs.declared.ask.FullMode.TheVariants.{Policy}
 use Rattle.jlr_machine.specs.declared.ask.Answer.{Answer}
 use Rattle.jlr_machine.specs.declared.ask.Answer.TheVariants.{Done}
 use Rattle.jlr_machine.specs.declared.entry.Chosen.{Chosen}
 use Rattle.jlr_core.specs.Cores.{Kept, StandsIn}
 use Rattle.jlr_core.specs.Events.{Enters}
 use Rattle.jlr_wire.specs.declared.command.Command.{Command}
-use Rattle.jlr_wire.specs.declared.command.Command.TheVariants.{New, Put, Get, Dup, Drop, Same, Soft, Weak, Phantom, Deref, Refers, Clear, Enqueue, Enqueued, Queue, Poll, Full, Bye}
+use Rattle.jlr_wire.specs.declared.command.Command.TheVariants.{New, Put, Get, SetInt, Int, Dup, Drop, Same, Soft, Weak, Phantom, Deref, Refers, Clear, Enqueue, Enqueued, Queue, Poll, Full, Stat, Bye}
 use Rattle.jlr_prog.specs.Settling.{Carrying, Settles, TookOne, FoundNone}
 
 -- what a command asks of the machine, in the name of mutator 0. bye asks nothing
@@ -19,6 +18,8 @@ abbrev pub ask_for : Command → Option Ask
 ask_for (New layout) = Some (ask.New 0 layout)
 ask_for (Put h f v) = Some (ask.Put 0 h f v)
 ask_for (Get h f) = Some (ask.Get 0 h f)
+ask_for (SetInt h f n) = Some (ask.SetInt 0 h f n)
+ask_for (Int h f) = Some (ask.Int 0 h f)
 ask_for (Dup h) = Some (ask.Dup 0 h)
 ask_for (Drop h) = Some (ask.Drop 0 h)
 ask_for (Same a b) = Some (ask.Same 0 a b)
@@ -32,7 +33,8 @@ ask_for (Enqueue r) = Some (ask.Enqueue 0 r)
 ask_for (Enqueued r) = Some (ask.Enqueued 0 r)
 ask_for Queue = Some (ask.MakeQueue 0)
 ask_for (Poll q) = Some (ask.Poll 0 q)
-ask_for Full = Some (ask.Full 0 Policy)
+ask_for (Full mode) = Some (ask.Full 0 mode)
+ask_for Stat = Some (ask.Stat 0)
 ask_for Bye = None
 
 -- the ask and its answer are a legal entry of each machine that the core stands for, with some choice, and the core then stands for the

@@ -9,7 +9,7 @@ ghost use Rattle.jlr_prog.specs.Heaps.{Answers, IsJoined, StepsOnce, ask_for};
 use crate::carry::CarryOut;
 use jlr_core::engine::Core;
 use jlr_core::event::{Event, Reply};
-use jlr_machine::ask::{Answer, FullMode, Handed};
+use jlr_machine::ask::{Answer, Handed};
 use jlr_machine::choice::Choice;
 use jlr_types::{Handle, Limits, Mutator, RefKind};
 use jlr_wire::command::Command;
@@ -136,6 +136,21 @@ fn event_for(command: Command) -> Option<Event<()>>
             object,
             field,
         },
+        Command::SetInt {
+            object,
+            field,
+            value,
+        } => Event::SetInt {
+            mutator,
+            object,
+            field,
+            value,
+        },
+        Command::Int { object, field } => Event::Int {
+            mutator,
+            object,
+            field,
+        },
         Command::Dup { object } => Event::Dup { mutator, object },
         Command::Drop { object } => Event::Drop { mutator, object },
         Command::Same { left, right } => Event::Same {
@@ -157,10 +172,8 @@ fn event_for(command: Command) -> Option<Event<()>>
         Command::Enqueued { reference } => Event::Enqueued { mutator, reference },
         Command::Queue => Event::MakeQueue { mutator },
         Command::Poll { queue } => Event::Poll { mutator, queue },
-        Command::Full => Event::Full {
-            mutator,
-            mode: FullMode::Policy,
-        },
+        Command::Full { mode } => Event::Full { mutator, mode },
+        Command::Stat => Event::Stat { mutator },
         Command::Bye => return None,
     })
 }

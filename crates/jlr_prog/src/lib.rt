@@ -8,6 +8,8 @@ pub mod carry;
 pub mod first;
 pub mod heap;
 #[cfg(test)]
+mod integers;
+#[cfg(test)]
 mod references;
 pub mod shell;
 #[cfg(test)]

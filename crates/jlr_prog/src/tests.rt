@@ -326,7 +326,7 @@ fn the_heap_answers_short_sessions(rt: HostRuntime) -> Result<(), Fail> {
             "= 1; ok; = 2; yes; ok; = 1; yes",
         ),
         (
-            "get 9 0; dup 0; new r; deref 1; get 1 2; weak 0 1; weak 1 1; gc soft",
+            "get 9 0; dup 0; new r; deref 1; get 1 2; weak 0 1; weak 1 1; gc hard",
             "! 3; ! 8; = 1; ! 5; ! 6; ! 8; ! 5; ! 15",
         ),
     ] {
