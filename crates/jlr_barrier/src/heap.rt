@@ -142,7 +142,8 @@ impl Heap {
 
     /// Sets a field.
     pub fn store(&mut self, slot: Slot, field: usize, value: FieldValue)
-        requires { IsTrue (is_some (field_at self.old.graph.objects slot field)) }
+        requires field { IsTrue (is_some (field_at self.old.graph.objects slot field)) }
+        requires within { (s : ℕ) → value ≡ FieldValue.Ref (Some s) → s < length self.old.graph.objects }
         ensures graph { self.new.graph ≡ with_objects self.old.graph (change_at self.old.graph.objects slot (with_field field value)) }
         ensures clock { self.new.clock ≡ self.old.clock }
     {

@@ -1,7 +1,8 @@
 //! The mark set, as a collector uses it.
 ghost use Rattle.std.specs.Prelude.{◌≡◌, ℕ, ◌+◌, ◌^◌, ◌<◌, ◌≤◌, ◌∷◌, [], IfNone, IfSome, IsPermutation, IsTrue, Some, is_some, length, option_and_then};
 ghost use Rattle.jlr_types.specs.declared.RefKind.TheVariants.{Soft};
-ghost use Rattle.jlr_machine.specs.Objects.{at, ◌∈◌};
+ghost use Rattle.jlr_machine.specs.Objects.{at, some_and, ◌∈◌};
+ghost use Rattle.jlr_machine.specs.Refusals.{is_plain};
 ghost use Rattle.jlr_machine.specs.Edges.{edges_from, referent};
 ghost use Rattle.jlr_machine.specs.Edges.Chain.{Strong};
 ghost use Rattle.jlr_barrier.specs.Graphs.{held};
@@ -54,17 +55,19 @@ impl Heap {
         self.marks.next_grey()
     }
 
-    /// Marks what the object at a slot leads to by strong edges: one tick. What was not marked before is grey then.
-    pub fn scan(&mut self, slot: Slot, meter: &mut Meter)
+    /// Marks what the object at a slot leads to by strong edges: one tick. What was not marked before is grey then. Answers whether it
+    /// is a plain object.
+    pub fn scan(&mut self, slot: Slot, meter: &mut Meter) -> bool
         requires object { IsTrue (is_some (at self.old.graph.objects slot)) }
         requires ticks { meter.old + 1 < 2 ^ 64 }
         requires within { (x : ℕ) → x ∈ edges_from Strong self.old.graph.objects slot → x < length self.old.graph.objects }
         ensures graph { self.new.graph ≡ self.old.graph }
         ensures clock { self.new.clock ≡ self.old.clock }
         ensures shaded { Shaded (λ x. x ∈ edges_from Strong self.old.graph.objects slot) self.old.marking self.new.marking }
+        ensures plain { result ≡ some_and is_plain (at self.old.graph.objects slot) }
         ensures ticked { meter.new ≡ meter.old + 1 }
     {
-        follow(&self.cells, slot, meter, &mut self.marks);
+        follow(&self.cells, slot, meter, &mut self.marks)
     }
 
     /// What the object at a slot refers to, if it is a soft reference that was not cleared.

@@ -1,16 +1,18 @@
-//! Shading: what fields, queues, roots and lists lead to is marked, and grey if it was not marked before.
-ghost use Rattle.std.specs.Prelude.{◌≡◌, ℕ, ◌+◌, ◌^◌, ◌<◌, IsTrue, Some, is_some, length, filter_map};
-ghost use Rattle.jlr_machine.specs.Objects.{at, ◌∈◌};
-ghost use Rattle.jlr_machine.specs.Edges.{edges_from, slot_in};
+//! Shading: what links, queues, roots and lists lead to is marked, and grey if it was not marked before.
+ghost use Rattle.std.specs.Prelude.{◌≡◌, ℕ, ◌+◌, ◌^◌, ◌<◌, IsTrue, Some, is_some, length};
+ghost use Rattle.jlr_machine.specs.Objects.{at, some_and, ◌∈◌};
+ghost use Rattle.jlr_machine.specs.Refusals.{is_plain};
+ghost use Rattle.jlr_machine.specs.Edges.{edges_from};
 ghost use Rattle.jlr_machine.specs.Edges.Chain.{Strong};
 ghost use Rattle.jlr_roots.specs.Walk.{slots_held};
 ghost use Rattle.jlr_cells.specs.Contents.{members_in};
+ghost use Rattle.jlr_cells.specs.Links.{linked};
 ghost use Rattle.jlr_barrier.specs.Marking.{Shaded};
 
 use crate::marks::Marks;
-use jlr_cells::{Cells, Fields};
+use jlr_cells::{Cells, Links, Visited};
 use jlr_roots::Roots;
-use jlr_types::{FieldValue, Meter, Slot};
+use jlr_types::{Meter, Slot};
 use std::collections::VecDeque;
 
 pub(crate) fn shade_target(target: Option<Slot>, marks: &mut Marks)
@@ -22,42 +24,36 @@ pub(crate) fn shade_target(target: Option<Slot>, marks: &mut Marks)
     }
 }
 
-fn shade_field(field: FieldValue, marks: &mut Marks)
-    requires { (x : ℕ) → slot_in field ≡ Some x → x < length marks.old.bits }
-    ensures { Shaded (λ x. slot_in field ≡ Some x) marks.old marks.new }
+/// Shades what links refer to.
+fn shade_links(links: &Links, marks: &mut Marks)
+    requires { (x : ℕ) → x ∈ linked links.now → x < length marks.old.bits }
+    ensures { Shaded (λ x. x ∈ linked links.now) marks.old marks.new }
 {
-    match field {
-        FieldValue::Int(_) => {}
-        FieldValue::Ref(target) => shade_target(target, marks),
+    for place in 0..links.count() {
+        shade_target(links.get(place), marks);
     }
 }
 
-/// Shades what fields refer to.
-fn shade_fields(fields: &Fields, marks: &mut Marks)
-    requires { (x : ℕ) → x ∈ filter_map slot_in fields.now → x < length marks.old.bits }
-    ensures { Shaded (λ x. x ∈ filter_map slot_in fields.now) marks.old marks.new }
-{
-    let mut number = 0;
-    while let Some(field) = fields.get(number) {
-        shade_field(field, marks);
-        number += 1;
-    }
-}
-
-/// Shades what the strong edges of the object at a slot lead to: one tick.
-pub(crate) fn follow(cells: &Cells, slot: Slot, meter: &mut Meter, marks: &mut Marks)
+/// Shades what the strong edges of the object at a slot lead to: one tick. Answers whether it is a plain object.
+pub(crate) fn follow(cells: &Cells, slot: Slot, meter: &mut Meter, marks: &mut Marks) -> bool
     requires object { IsTrue (is_some (at cells.now slot)) }
     requires ticks { meter.old + 1 < 2 ^ 64 }
     requires within { (x : ℕ) → x ∈ edges_from Strong cells.now slot → x < length marks.old.bits }
     ensures shaded { Shaded (λ x. x ∈ edges_from Strong cells.now slot) marks.old marks.new }
+    ensures plain { result ≡ some_and is_plain (at cells.now slot) }
     ensures ticked { meter.new ≡ meter.old + 1 }
 {
-    let (fields, ahead) = cells.visit(slot, meter);
-    if let Some(fields) = fields {
-        shade_fields(fields, marks);
+    match cells.visit(slot, meter) {
+        Visited::Plain(links) => {
+            shade_links(links, marks);
+            true
+        }
+        Visited::Other { queue } => {
+            shade_target(queue, marks);
+            shade_members(cells, slot, marks);
+            false
+        }
     }
-    shade_target(ahead, marks);
-    shade_members(cells, slot, marks);
 }
 
 /// Shades the members of a queue, if there is one at the slot.

@@ -85,7 +85,7 @@ fn fields_hold_what_was_stored(rt: HostRuntime) -> Result<(), Fail> {
     assert!(rt; heap.is_plain(slot) && !heap.is_queue(slot));
     assert_eq!(rt; heap.field_count(slot), Some(2));
     assert!(rt; !heap.has_field(slot, 2));
-    assert!(rt; heap.has_field(slot, 0));
+    assert!(rt; heap.has_field(slot, 0) && slot.number() < heap.cell_count());
     assert_eq!(rt; heap.load(slot, 0), FieldValue::Ref(None));
     heap.store(slot, 0, FieldValue::Ref(Some(slot)));
     assert!(rt; heap.has_field(slot, 0));
@@ -254,7 +254,7 @@ fn roots_and_what_they_lead_to_are_marked(rt: HostRuntime) -> Result<(), Fail> {
     heap.shade_roots();
     assert_eq!(rt; heap.next_grey(), Some(queue));
     assert!(rt; heap.kind(queue).is_some());
-    heap.scan(queue, &mut meter);
+    assert!(rt; !heap.scan(queue, &mut meter));
     assert_eq!(rt; meter.ticks(), 1);
     assert_eq!(rt; heap.next_grey(), Some(member));
     assert_eq!(rt; heap.next_grey(), None);

@@ -1,16 +1,22 @@
--- The kinds that stand by themselves, and the free list, after a change of one cell.
-use Rattle.std.proofs.Common.{◌≡◌, ℕ, zero, suc, ◌+◌, ◌-◌, ◌<◌, ◌^◌, true, List, [], ◌∷◌, Option, Some, None, length, set, get_or, replicate, refl, sym, ap, ◌∙◌, arith, length-set}
-use Rattle.std.specs.Prelude.{drop, is_some, OnErr, OnOk, Result, Ok, Err, option_and_then, option_map, map, slice_get, slice_index_or}
+-- The kinds and the links that stand by themselves, and the free list, after a change of one cell.
+use Rattle.std.proofs.Common.{◌≡◌, ℕ, zero, suc, ◌+◌, ◌-◌, ◌<◌, ◌^◌, true, List, [], ◌∷◌, Option, Some, None, length, set, get_or, replicate, refl, sym, ap, ◌∙◌}
+use Rattle.std.specs.Prelude.{drop, is_some, OnErr, OnOk, Result, Ok, Err, option_and_then, option_map, slice_index_or}
 use Rattle.std.proofs.Math.Seq.{map-set_same}
-use Rattle.std.proofs.lemmas.List.{map-set, length-map}
+use Rattle.std.proofs.lemmas.List.{map-set, get_or-map}
+use Rattle.std.proofs.lemmas.Option.{get_or_from_slice_get}
 use Rattle.jlr_machine.specs.declared.object.Object.{Object}
-use Rattle.jlr_machine.specs.Objects.{at, change_at}
-use Rattle.jlr_cells.proofs.Slots.{change_at-objects_in}
+use Rattle.jlr_types.specs.declared.FieldValue.{FieldValue}
+use Rattle.jlr_machine.specs.declared.object.Reference.{Reference as ReferenceOf}
+use Rattle.jlr_machine.specs.Edges.{slot_in}
+use Rattle.jlr_machine.specs.Objects.{at, change_at, with_field, with_members, with_reference}
+use Rattle.jlr_cells.proofs.Slots.{at-read, change_at-objects_in, object_of_field, within_cells}
+use Rattle.jlr_cells.proofs.LinkLists.{links_with_field, links_with_members, links_with_reference}
 use Rattle.jlr_cells.specs.declared.cell.Cell.{Cell}
 use Rattle.jlr_cells.specs.declared.cell.Cell.TheVariants.{Free, Plain, Reference, Queue}
 use Rattle.jlr_cells.specs.declared.shape.Kind.{Kind}
-use Rattle.jlr_cells.specs.Contents.{object_in, objects_in, kind_of, kind_in, kinds_in}
-use Rattle.jlr_cells.specs.FreeList.{IsFreeAt, IsFreeList, AreKept, AreLinkedUp, link_to}
+use Rattle.jlr_cells.specs.Contents.{object_in, objects_in, kind_of, kind_in, kinds_in, field_in}
+use Rattle.jlr_cells.specs.Links.{cell_links, links_in, links_of, no_links}
+use Rattle.jlr_cells.specs.FreeList.{IsFreeAt, AreKept, AreLinkedUp, link_to}
 use Rattle.jlr_cells.proofs.Chains.{changed, taken, given_back, new_list, new_objects}
 
 -- a kind by itself is that of the object in the cell
@@ -31,29 +37,69 @@ has_kind_at [] s = refl
 has_kind_at (c ∷ cells) zero = has_kind c
 has_kind_at (c ∷ cells) (suc s) = has_kind_at cells s
 
+-- the links of the object in a cell that was read
+links_read :
+    (cells : List Cell) (links : List (List (Option ℕ))) (s : ℕ) (c : Cell) (ls : List (Option ℕ)) → s < length cells
+    → links ≡ links_in cells → c ≡ get_or cells s c → ls ≡ get_or links s ls → ls ≡ cell_links c
+links_read cells links s c ls within by_links read read_links =
+    read_links ∙ ap (λ l. get_or l s ls) by_links ∙ get_or-map cell_links cells s c ls within ∙ ap cell_links (sym read)
+
 mapped_by_same : {A : Type 0} (o : Option A) → option_map (λ x. x) o ≡ o
 mapped_by_same None = refl
 mapped_by_same (Some x) = refl
 
 -- the object in a cell becomes another of its kind
 pub kept_changed :
-    (cells : List Cell) (kinds : List (Option Kind)) (s count : ℕ) (first : Option ℕ) (c d : Cell) (f : Object → Object)
-    → AreKept cells kinds first count → is_some (at (objects_in cells) s) ≡ true → c ≡ get_or cells s c → object_in d ≡ option_map f (object_in c) → kind_in d ≡ kind_in c
-    → AreKept (set cells s d) kinds first count
-kept_changed cells kinds s count first c d f kept holds read becomes same =
+    (cells : List Cell) (kinds : List (Option Kind)) (links : List (List (Option ℕ))) (s count : ℕ) (first : Option ℕ) (c d : Cell) (f : Object → Object)
+    → AreKept cells kinds links first count → is_some (at (objects_in cells) s) ≡ true → c ≡ get_or cells s c → object_in d ≡ option_map f (object_in c) → kind_in d ≡ kind_in c → cell_links d ≡ cell_links c
+    → AreKept (set cells s d) kinds links first count
+kept_changed cells kinds links s count first c d f kept holds read becomes same linked =
     record {
       list = changed cells s count first c d f kept.list holds read becomes;
       by_kind = kept.by_kind ∙ sym (map-set_same kind_in cells s d c (same ∙ ap kind_in read));
+      by_links = kept.by_links ∙ sym (map-set_same cell_links cells s d c (linked ∙ ap cell_links read));
+    }
+
+-- a reference changes, or the members of a queue
+pub kept_reference :
+    (cells : List Cell) (kinds : List (Option Kind)) (links : List (List (Option ℕ))) (s count : ℕ) (first : Option ℕ) (c d : Cell) (f : ReferenceOf → ReferenceOf)
+    → AreKept cells kinds links first count → is_some (at (objects_in cells) s) ≡ true → c ≡ get_or cells s c → object_in d ≡ option_map (with_reference f) (object_in c) → kind_in d ≡ kind_in c
+    → AreKept (set cells s d) kinds links first count
+kept_reference cells kinds links s count first c d f kept holds read becomes same =
+    kept_changed cells kinds links s count first c d (with_reference f) kept holds read becomes same (ap links_of becomes ∙ links_with_reference f (object_in c))
+
+pub kept_members :
+    (cells : List Cell) (kinds : List (Option Kind)) (links : List (List (Option ℕ))) (s count : ℕ) (first : Option ℕ) (c d : Cell) (f : List ℕ → List ℕ)
+    → AreKept cells kinds links first count → is_some (at (objects_in cells) s) ≡ true → c ≡ get_or cells s c → object_in d ≡ option_map (with_members f) (object_in c) → kind_in d ≡ kind_in c
+    → AreKept (set cells s d) kinds links first count
+kept_members cells kinds links s count first c d f kept holds read becomes same =
+    kept_changed cells kinds links s count first c d (with_members f) kept holds read becomes same (ap links_of becomes ∙ links_with_members f (object_in c))
+
+-- a field changes, and its link with it
+pub kept_field :
+    (cells : List Cell) (kinds : List (Option Kind)) (links : List (List (Option ℕ))) (s count : ℕ) (first : Option ℕ) (c d : Cell) (i : ℕ) (v : FieldValue) (old new : List (Option ℕ))
+    → AreKept cells kinds links first count → is_some (field_in (at (objects_in cells) s) i) ≡ true → c ≡ get_or cells s c → object_in d ≡ option_map (with_field i v) (object_in c) → kind_in d ≡ kind_in c
+    → old ≡ get_or links s old → new ≡ set old i (slot_in v) → AreKept (set cells s d) kinds (set links s new) first count
+kept_field cells kinds links s count first c d i v old new kept holds read becomes same read_links written =
+    let object : is_some (at (objects_in cells) s) ≡ true = object_of_field (at (objects_in cells) s) i holds in
+    let within : s < length cells = within_cells cells s object in
+    let holds' : is_some (field_in (object_in c) i) ≡ true = rw (← at-read cells s c within read) holds in
+    let was : old ≡ cell_links c = links_read cells links s c old within kept.by_links read read_links in
+    let is : new ≡ cell_links d = written ∙ ap (λ l. set l i (slot_in v)) was ∙ sym (links_with_field (object_in c) i v holds') ∙ sym (ap links_of becomes) in
+    record {
+      list = changed cells s count first c d (with_field i v) kept.list object read becomes;
+      by_kind = kept.by_kind ∙ sym (map-set_same kind_in cells s d c (same ∙ ap kind_in read));
+      by_links = rw (kept.by_links, is) (sym (map-set cell_links cells s d));
     }
 
 -- a member is pushed, or there was no memory and the object stays
 pub kept_pushed :
-    {T E : Type 0} (cells : List Cell) (kinds : List (Option Kind)) (s count : ℕ) (first : Option ℕ) (c d : Cell) (f : Object → Object) (result : Result T E)
-    → AreKept cells kinds first count → is_some (at (objects_in cells) s) ≡ true → c ≡ get_or cells s c
-    → OnOk result (object_in d ≡ option_map f (object_in c)) → OnErr result (object_in d ≡ object_in c) → kind_in d ≡ kind_in c
-    → AreKept (set cells s d) kinds first count
-kept_pushed cells kinds s count first c d f (Ok x) kept holds read ok err same = kept_changed cells kinds s count first c d f kept holds read ok same
-kept_pushed cells kinds s count first c d f (Err x) kept holds read ok err same = kept_changed cells kinds s count first c d (λ o. o) kept holds read (err ∙ sym (mapped_by_same (object_in c))) same
+    {T E : Type 0} (cells : List Cell) (kinds : List (Option Kind)) (links : List (List (Option ℕ))) (s count : ℕ) (first : Option ℕ) (c d : Cell) (f : List ℕ → List ℕ) (result : Result T E)
+    → AreKept cells kinds links first count → is_some (at (objects_in cells) s) ≡ true → c ≡ get_or cells s c
+    → OnOk result (object_in d ≡ option_map (with_members f) (object_in c)) → OnErr result (object_in d ≡ object_in c) → kind_in d ≡ kind_in c
+    → AreKept (set cells s d) kinds links first count
+kept_pushed cells kinds links s count first c d f (Ok x) kept holds read ok err same = kept_members cells kinds links s count first c d f kept holds read ok same
+kept_pushed cells kinds links s count first c d f (Err x) kept holds read ok err same = kept_changed cells kinds links s count first c d (λ o. o) kept holds read (err ∙ sym (mapped_by_same (object_in c))) same (ap links_of err)
 
 pub pushed :
     {T E : Type 0} (cells : List Cell) (s : ℕ) (c d : Cell) (f : Object → Object) (result : Result T E) → s < length cells → c ≡ get_or cells s c
@@ -69,25 +115,28 @@ unpushed cells s c d (Err x) within read err = map-set_same object_in cells s d 
 
 -- the first free cell is taken
 pub kept_taken :
-    (cells : List Cell) (kinds : List (Option Kind)) (s count : ℕ) (next : Option ℕ) (c : Cell) (o : Object) (kind : Option Kind)
-    → AreKept cells kinds (Some s) count → IsFreeAt cells s next → object_in c ≡ Some o → kind ≡ kind_in c → AreKept (set cells s c) (set kinds s kind) next (count - 1)
-kept_taken cells kinds s count next c o kind kept here holds is =
+    (cells : List Cell) (kinds : List (Option Kind)) (links : List (List (Option ℕ))) (s count : ℕ) (next : Option ℕ) (c : Cell) (o : Object) (kind : Option Kind)
+    → AreKept cells kinds links (Some s) count → IsFreeAt cells s next → object_in c ≡ Some o → kind ≡ kind_in c → cell_links c ≡ no_links
+    → AreKept (set cells s c) (set kinds s kind) links next (count - 1)
+kept_taken cells kinds links s count next c o kind kept here holds is blank =
     record {
       list = taken cells s count next c o kept.list here holds;
       by_kind = rw (kept.by_kind, is) (sym (map-set kind_in cells s c));
+      by_links = kept.by_links ∙ sym (map-set_same cell_links cells s c (Free next) (blank ∙ sym (ap cell_links (get_or_from_slice_get cells s (Free next) (Free next) here))));
     }
 
 -- a cell with an object becomes free
 pub kept_given_back :
-    (cells : List Cell) (kinds : List (Option Kind)) (s count : ℕ) (first : Option ℕ)
-    → AreKept cells kinds first count → is_some (at (objects_in cells) s) ≡ true → AreKept (set cells s (Free first)) (set kinds s None) (Some s) (count + 1)
-kept_given_back cells kinds s count first kept holds =
+    (cells : List Cell) (kinds : List (Option Kind)) (links : List (List (Option ℕ))) (s count : ℕ) (first : Option ℕ)
+    → AreKept cells kinds links first count → is_some (at (objects_in cells) s) ≡ true → AreKept (set cells s (Free first)) (set kinds s None) (set links s no_links) (Some s) (count + 1)
+kept_given_back cells kinds links s count first kept holds =
     record {
       list = given_back cells s count first kept.list holds;
       by_kind = rw kept.by_kind (sym (map-set kind_in cells s (Free first)));
+      by_links = rw kept.by_links (sym (map-set cell_links cells s (Free first)));
     }
 
--- free cells have no kinds
+-- free cells have no kinds, and no links
 no_kinds : (cells : List Cell) (n : ℕ) → objects_in cells ≡ replicate n None → kinds_in cells ≡ replicate n None
 no_kinds [] zero e = refl
 no_kinds [] (suc n) e = absurd (cc)
@@ -96,8 +145,17 @@ no_kinds (c ∷ cells) (suc n) e =
     let first : object_in c ≡ None = ap (λ l. slice_index_or l 0 None) e in
     rw (no_kinds cells n (ap (drop 1) e)) (ap (λ o. option_and_then kind_of o ∷ replicate n None) first)
 
+null_links : (cells : List Cell) (n : ℕ) → objects_in cells ≡ replicate n None → links_in cells ≡ replicate n no_links
+null_links [] zero e = refl
+null_links [] (suc n) e = absurd (cc)
+null_links (c ∷ cells) zero e = cc
+null_links (c ∷ cells) (suc n) e =
+    let first : object_in c ≡ None = ap (λ l. slice_index_or l 0 None) e in
+    rw (null_links cells n (ap (drop 1) e)) (ap (λ o. links_of o ∷ replicate n no_links) first)
+
 pub new_kept :
-    (cells : List Cell) (kinds : List (Option Kind)) (count : ℕ) → AreLinkedUp cells count → count < 2 ^ 32 → kinds ≡ replicate count None
-    → AreKept cells kinds (link_to count 0) count
-new_kept cells kinds count all fits e =
-    record { list = new_list cells count all fits; by_kind = e ∙ sym (no_kinds cells count (new_objects cells count all)) }
+    (cells : List Cell) (kinds : List (Option Kind)) (links : List (List (Option ℕ))) (count : ℕ) → AreLinkedUp cells count → count < 2 ^ 32 → kinds ≡ replicate count None → links ≡ replicate count no_links
+    → AreKept cells kinds links (link_to count 0) count
+new_kept cells kinds links count all fits by_kind by_links =
+    let none = new_objects cells count all in
+    record { list = new_list cells count all fits; by_kind = by_kind ∙ sym (no_kinds cells count none); by_links = by_links ∙ sym (null_links cells count none) }

@@ -2,4 +2,5 @@ mod Writing
 mod FieldLists
 mod Slots
 mod Chains
+mod LinkLists
 mod ByKind

@@ -1,5 +1,5 @@
 -- Which object a cell holds, and what is asked of objects.
-use Rattle.std.specs.Prelude.{◌≡◌, ℕ, List, [], Option, Some, None, map, option_and_then, slice_get}
+use Rattle.std.specs.Prelude.{ℕ, List, [], Option, Some, None, map, option_and_then, slice_get}
 use Rattle.jlr_types.specs.declared.FieldValue.{FieldValue}
 use Rattle.jlr_machine.specs.declared.object.Object.{Object}
 use Rattle.jlr_machine.specs.declared.object.Object.TheVariants.{Plain as PlainObject, Reference as ReferenceObject, Queue as QueueObject}

@@ -4,6 +4,7 @@ use Rattle.jlr_machine.specs.Objects.{occupied}
 use Rattle.jlr_cells.specs.declared.cell.Cell.{Cell}
 use Rattle.jlr_cells.specs.declared.cell.Cell.TheVariants.{Free}
 use Rattle.jlr_cells.specs.Contents.{objects_in, kinds_in}
+use Rattle.jlr_cells.specs.Links.{links_in}
 use Rattle.jlr_cells.specs.declared.shape.Kind.{Kind}
 
 -- the cell is free, and names the next free one
@@ -35,7 +36,8 @@ pub record AreLinkedUp (cells : List Cell) (count : ℕ) : Type 0 where
   pub cell_count : length cells ≡ count
   pub links : (s : ℕ) → s < count → IsFreeAt cells s (link_to count (s + 1))
 
--- The free list is well linked, and the kinds that stand by themselves are those of the objects
-pub record AreKept (cells : List Cell) (kinds : List (Option Kind)) (first : Option ℕ) (count : ℕ) : Type 0 where
+-- The free list is well linked, and the kinds and the links that stand by themselves are those of the objects
+pub record AreKept (cells : List Cell) (kinds : List (Option Kind)) (links : List (List (Option ℕ))) (first : Option ℕ) (count : ℕ) : Type 0 where
   pub list : IsFreeList cells first count
   pub by_kind : kinds ≡ kinds_in cells
+  pub by_links : links ≡ links_in cells

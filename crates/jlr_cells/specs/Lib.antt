@@ -1,4 +1,6 @@
--- What words stand for, which object a cell holds, which cells are free, and how the free ones are linked.
+-- What words and links stand for, which object a cell holds, which cells are free, and how the free ones are linked.
 pub mod Words
 pub mod Contents
+pub mod Links
+pub mod Visits
 pub mod FreeList

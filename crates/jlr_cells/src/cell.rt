@@ -1,9 +1,10 @@
 //! One cell.
-ghost use Rattle.std.specs.Prelude.{◌≡◌, ◌++◌, ◌∷◌, [], ◌+◌, ◌<◌, ◌^◌, IfOk, IfSome, OnErr, OnOk, Some, IsTrue, drop, is_some, length, option_and_then, option_copied, option_map};
+ghost use Rattle.std.specs.Prelude.{◌≡◌, ◌++◌, ◌∷◌, [], ◌+◌, ◌<◌, ◌^◌, IfOk, IfSome, OnErr, OnOk, Some, IsTrue, drop, is_some, length, option_and_then, option_map};
 ghost use Rattle.jlr_machine.specs.Objects.{as_fields, as_reference, some_and, with_field, with_members, with_reference};
 ghost use Rattle.jlr_machine.specs.Refusals.{is_queue, is_reference};
 ghost use Rattle.jlr_machine.specs.Calls.{unreferred};
 ghost use Rattle.jlr_cells.specs.Contents.{ahead_in, field_in, in_state, kind_in, member_in, object_in, object_of, referent_in, unregistered};
+ghost use Rattle.jlr_cells.specs.Links.{links_of, no_links};
 
 use crate::fields::Fields;
 use crate::shape::{Kind, Shape};
@@ -29,7 +30,8 @@ const _: () = prove!(size_of::<Cell>() == 80);
 
 impl Cell {
     pub(crate) fn new(alloc: Global, shape: Shape) -> Self
-        ensures { object_in result ≡ Some (object_of shape) }
+        ensures object { object_in result ≡ Some (object_of shape) }
+        ensures links { links_of (object_in result) ≡ no_links }
     {
         match shape {
             Shape::Plain(layout) => Cell::Plain(Fields::blank(&layout)),
@@ -83,6 +85,7 @@ impl Cell {
         ensures old { field_in (object_in self.old) field ≡ Some result }
         ensures new { object_in self.new ≡ option_map (with_field field value) (object_in self.old) }
         ensures kind { kind_in self.new ≡ kind_in self.old }
+        ensures few { field < 8 }
     {
         match self {
             Cell::Plain(fields) => fields.set(field, value),
@@ -212,16 +215,6 @@ impl Cell {
             }
             Cell::Reference(reference) => Ok(Some(Object::Reference(*reference))),
             Cell::Queue(members) => Ok(Some(Object::Queue(members_image(alloc, members)?))),
-        }
-    }
-
-    /// The fields, where they lie, if this is a plain object.
-    pub(crate) fn fields(&self) -> Option<&Fields>
-        ensures { option_copied result ≡ option_and_then as_fields (object_in self.now) }
-    {
-        match self {
-            Cell::Plain(fields) => Some(fields),
-            Cell::Free { .. } | Cell::Reference(_) | Cell::Queue(_) => None,
         }
     }
 }

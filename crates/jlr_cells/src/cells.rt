@@ -1,17 +1,18 @@
 //! All cells.
-ghost use Rattle.std.specs.Prelude.{◌≡◌, ℕ, ◌+◌, ◌++◌, ◌∷◌, [], ◌^◌, ◌<◌, ◌↔◌, IfOk, IfNone, IfSome, IsNone, IsTrue, None, OnErr, OnOk, Some, drop, filter_map, is_some, length, option_and_then, option_copied, option_map, option_to_list, replicate};
-ghost use Rattle.std.specs.List.{flat_map};
+ghost use Rattle.std.specs.Prelude.{◌≡◌, ℕ, ◌+◌, ◌++◌, ◌∷◌, [], ◌^◌, ◌<◌, ◌↔◌, IfOk, IfNone, IfSome, IsNone, IsTrue, None, OnErr, OnOk, Some, drop, is_some, length, option_and_then, option_map, replicate};
 ghost use Rattle.jlr_machine.specs.Objects.{as_fields, as_reference, at, change_at, empty_at, occupied, set_at, some_and};
-ghost use Rattle.jlr_machine.specs.Edges.{edges_from, slot_in};
+ghost use Rattle.jlr_machine.specs.Edges.{edges_from};
 ghost use Rattle.jlr_machine.specs.Edges.Chain.{Strong};
 ghost use Rattle.jlr_machine.specs.Objects.{with_field, with_members, with_reference};
 ghost use Rattle.jlr_machine.specs.Refusals.{is_plain, is_queue, is_reference};
 ghost use Rattle.jlr_machine.specs.Calls.{unreferred};
 ghost use Rattle.jlr_cells.specs.Contents.{ahead_in, field_at, in_state, kind_of, member_in, members_in, object_of, objects_in, referent_in, unregistered};
+ghost use Rattle.jlr_cells.specs.Links.{no_links};
+ghost use Rattle.jlr_cells.specs.Visits.{edges_told, found_plain};
 
 use crate::cell::Cell;
-use crate::fields::Fields;
 use crate::free_list::{free_cells, link_to, next_free};
+use crate::links::{Links, Visited, target_of};
 use crate::shape::{Kind, Shape};
 use jlr_machine::object::{Object, RefState, Reference};
 use jlr_machine::table::Table;
@@ -20,11 +21,12 @@ use std::alloc::{AllocError, Global};
 use std::marker::Model;
 
 /// The objects of the heap, by slot. The kinds stand by themselves once more, side by side, so that a pass over all cells reads
-/// only those that it has to.
+/// only those that it has to; and so does what the fields of plain objects refer to, so that marking reads no cell of those.
 #[derive(Drop)]
 pub struct Cells {
     cells: Vec<Cell>,
     kinds: Vec<Option<Kind>>,
+    links: Vec<Links>,
     first_free: Option<u32>,
     free_count: u32,
 }
@@ -40,7 +42,7 @@ impl Model for Cells {
 
     ghost view = { λ a. objects_in a.cells.items };
 
-    ghost invariant = { λ a. AreKept a.cells.items a.kinds.items a.first_free a.free_count };
+    ghost invariant = { λ a. AreKept a.cells.items a.kinds.items a.links.items a.first_free a.free_count };
 }
 
 impl Cells {
@@ -54,6 +56,7 @@ impl Cells {
         Ok(Cells {
             cells: free_cells(alloc, count)?,
             kinds: no_kinds(alloc, count)?,
+            links: all_null(alloc, count)?,
             first_free: link_to(0, count),
             free_count: count,
         })
@@ -103,6 +106,7 @@ impl Cells {
             next: self.first_free,
         };
         self.kinds[number as usize] = None;
+        self.links[number as usize] = Links::none();
         self.first_free = Some(number);
         self.free_count += 1;
     }
@@ -173,12 +177,18 @@ impl Cells {
 
     /// Sets a field, and answers what it held.
     pub fn set_field(&mut self, slot: Slot, field: usize, value: FieldValue) -> FieldValue
-        requires { IsTrue (is_some (field_at self.old slot field)) }
+        requires field { IsTrue (is_some (field_at self.old slot field)) }
+        requires within { (s : ℕ) → value ≡ FieldValue.Ref (Some s) → s < length self.old }
         ensures old { field_at self.old slot field ≡ Some result }
         ensures new { self.new ≡ change_at self.old slot (with_field field value) }
     {
-        let cell = &mut self.cells[slot.number() as usize];
-        cell.set_field(field, value)
+        let place = slot.number() as usize;
+        let target = target_of(&value);
+        let cell = &mut self.cells[place];
+        let old = cell.set_field(field, value);
+        let links = &mut self.links[place];
+        links.set(field, target);
+        old
     }
 
     /// The reference at a slot, if there is one.
@@ -272,17 +282,23 @@ impl Cells {
         Ok(Table::from_vec(images(alloc, &self.cells)?))
     }
 
-    /// Visits the object at a slot: one tick. Gives its strong edges, but those of a queue to its members: it lends the fields of a
-    /// plain object, and tells the queue that a reference may still be added to.
-    pub fn visit(&self, slot: Slot, meter: &mut Meter) -> (Option<&Fields>, Option<Slot>)
+    /// Visits the object at a slot: one tick. Gives its strong edges, but those of a queue to its members: it lends the links of a
+    /// plain object, whose cell it does not read, and tells the queue that a reference may still be added to.
+    pub fn visit(&self, slot: Slot, meter: &mut Meter) -> Visited<'_>
         requires object { IsTrue (is_some (at self.now slot)) }
         requires ticks { meter.old + 1 < 2 ^ 64 }
-        ensures edges { edges_from Strong self.now slot ≡ flat_map (filter_map slot_in) (option_to_list (option_copied result.0)) ++ option_to_list result.1 ++ members_in (at self.now slot) }
+        ensures edges { edges_from Strong self.now slot ≡ edges_told result (members_in (at self.now slot)) }
+        ensures plain { found_plain result ≡ some_and is_plain (at self.now slot) }
         ensures ticked { meter.new ≡ meter.old + 1 }
     {
         meter.tick();
-        let cell = &self.cells[slot.number() as usize];
-        (cell.fields(), cell.queue_ahead())
+        let place = slot.number() as usize;
+        if self.is_plain(slot) {
+            return Visited::Plain(&self.links[place]);
+        }
+        Visited::Other {
+            queue: self.cells[place].queue_ahead(),
+        }
     }
 }
 
@@ -296,6 +312,16 @@ fn no_kinds(alloc: Global, count: u32) -> Result<Vec<Option<Kind>>, AllocError>
     ensures { IfOk result (λ kinds. kinds.items ≡ replicate count None) }
 {
     Ok(vec![in alloc; None; count as usize]?)
+}
+
+fn all_null(alloc: Global, count: u32) -> Result<Vec<Links>, AllocError>
+    ensures { IfOk result (λ links. links.items ≡ replicate count no_links) }
+{
+    let mut links = Vec::with_capacity(alloc, count as usize)?;
+    for _slot in 0..count {
+        links.push_reserved(Links::none());
+    }
+    Ok(links)
 }
 
 fn images(alloc: Global, cells: &[Cell]) -> Result<Vec<Option<Object>>, AllocError>
@@ -330,6 +356,41 @@ mod tests {
         layout
     }
 
+    /// The links of the first two fields, where a plain object was visited.
+    fn first_links(visited: Visited<'_>) -> Option<(Option<Slot>, Option<Slot>)> {
+        match visited {
+            Visited::Plain(links) if links.count() == 8 => Some((links.get(0), links.get(1))),
+            _ => None,
+        }
+    }
+
+    #[test]
+    fn links_follow_the_fields(rt: HostRuntime) -> Result<(), Fail> {
+        let mut cells = Cells::new(rt.alloc(), 2)?;
+        let mut meter = Meter::new();
+        let slot = cells.take(Shape::Plain(pair())).ok_or("no cell")?;
+        let target = Some(slot);
+        assert!(rt; cells.has_field(slot, 0) && slot.number() < cells.cell_count());
+        let _ = cells.set_field(slot, 0, FieldValue::Ref(target));
+        assert!(rt; cells.has_field(slot, 1));
+        let _ = cells.set_field(slot, 1, FieldValue::Int(7));
+        assert!(rt; cells.kind(slot).is_some());
+        assert_eq!(rt;
+            first_links(cells.visit(slot, &mut meter)),
+            Some((target, None))
+        );
+
+        cells.give_back(slot);
+        let again = cells.take(Shape::Plain(pair())).ok_or("no cell")?;
+        assert_eq!(rt; again, slot);
+        assert!(rt; cells.kind(again).is_some());
+        assert_eq!(rt;
+            first_links(cells.visit(again, &mut meter)),
+            Some((None, None))
+        );
+        Ok(())
+    }
+
     #[test]
     fn sixteen_cells_and_the_seventeenth(rt: HostRuntime) -> Result<(), Fail> {
         let mut cells = Cells::new(rt.alloc(), 16)?;
@@ -362,7 +423,7 @@ mod tests {
         assert!(rt; !cells.has_field(slot, 2));
         assert!(rt; cells.has_field(slot, 1));
         assert_eq!(rt; cells.field(slot, 1), FieldValue::Int(0));
-        assert!(rt; cells.has_field(slot, 0));
+        assert!(rt; cells.has_field(slot, 0) && slot.number() < cells.cell_count());
         assert_eq!(rt;
             cells.set_field(slot, 0, FieldValue::Ref(Some(slot))),
             FieldValue::Ref(None)
@@ -396,7 +457,7 @@ mod tests {
     }
 
     #[test]
-    fn a_visit_lends_the_fields_and_ticks(rt: HostRuntime) -> Result<(), Fail> {
+    fn a_visit_lends_the_links_and_ticks(rt: HostRuntime) -> Result<(), Fail> {
         let mut cells = Cells::new(rt.alloc(), 16)?;
         let mut meter = Meter::new();
         let plain = cells.take(Shape::Plain(pair())).ok_or("no cell")?;
@@ -410,14 +471,11 @@ mod tests {
             })
             .ok_or("no cell")?;
         assert!(rt; cells.kind(plain).is_some() && cells.kind(weak).is_some());
-        let (fields, _) = cells.visit(plain, &mut meter);
-        let fields = fields.ok_or("no fields")?;
-        assert_eq!(rt; fields.get(0), Some(FieldValue::Ref(None)));
-        assert_eq!(rt; fields.get(1), Some(FieldValue::Int(0)));
-        assert_eq!(rt; fields.get(2), None);
-        let (fields, ahead) = cells.visit(weak, &mut meter);
-        assert!(rt; fields.is_none());
-        assert_eq!(rt; ahead, None);
+        assert_eq!(rt;
+            first_links(cells.visit(plain, &mut meter)),
+            Some((None, None))
+        );
+        assert_eq!(rt; first_links(cells.visit(weak, &mut meter)), None);
         assert_eq!(rt; meter.ticks(), 2);
         Ok(())
     }
@@ -457,9 +515,10 @@ mod tests {
             })
             .ok_or("no cell")?;
         assert!(rt; cells.kind(slot).is_some());
-        let (fields, ahead) = cells.visit(slot, &mut meter);
-        assert!(rt; fields.is_none());
-        assert_eq!(rt; ahead, queue);
+        match cells.visit(slot, &mut meter) {
+            Visited::Plain(_) => assert!(rt; false, "a reference is plain"),
+            Visited::Other { queue: ahead } => assert_eq!(rt; ahead, queue),
+        }
         Ok(())
     }
 

@@ -1,5 +1,5 @@
 //! The fields of a plain object.
-ghost use Rattle.std.specs.Prelude.{◌≡◌, ◌++◌, ◌<◌, [], ◌∷◌, IfSome, Some, length, map, slice_get, slice_set};
+ghost use Rattle.std.specs.Prelude.{◌≡◌, ◌++◌, ◌<◌, ◌≤◌, [], ◌∷◌, IfSome, Some, length, map, slice_get, slice_set};
 ghost use Rattle.jlr_machine.specs.Lookups.{blank};
 ghost use Rattle.jlr_cells.specs.Words.{AreFields, IsWritten, fields_of, slot_of, value_in};
 
@@ -19,7 +19,7 @@ pub(crate) enum Place {
 
 /// At most eight fields, each as a word, and in front of the words what each is for.
 #[derive(Drop)]
-pub struct Fields {
+pub(crate) struct Fields {
     places: [Place; 8],
     words: [i64; 8],
 }
@@ -49,7 +49,8 @@ impl Fields {
 
     /// Fields of these kinds, each 0 or null.
     pub(crate) fn blank(layout: &Layout) -> Self
-        ensures { result ≡ map blank layout.now }
+        ensures fields { result ≡ map blank layout.now }
+        ensures few { length result ≤ 8 }
     {
         let mut fields = Fields::empty();
         for field in 0..layout.len() {
@@ -71,7 +72,7 @@ impl Fields {
     }
 
     /// A field, if there is one of that number.
-    pub fn get(&self, field: usize) -> Option<FieldValue>
+    pub(crate) fn get(&self, field: usize) -> Option<FieldValue>
         ensures value { result ≡ slice_get self.now field }
         ensures at_most_eight { IfSome result (λ _. field < 8) }
     {
@@ -94,6 +95,7 @@ impl Fields {
         requires { field < length self.old }
         ensures old { slice_get self.old field ≡ Some result }
         ensures new { self.new ≡ slice_set self.old field value }
+        ensures few { field < 8 }
     {
         match self.get(field) {
             Some(old) => {

@@ -12,8 +12,9 @@ mod cell;
 mod cells;
 mod fields;
 mod free_list;
+mod links;
 mod shape;
 
 pub use cells::Cells;
-pub use fields::Fields;
+pub use links::{Links, Visited};
 pub use shape::{Kind, Shape};

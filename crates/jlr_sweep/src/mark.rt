@@ -37,7 +37,9 @@ fn follow(heap: &mut Heap, policy: &Policy, slot: Slot, meter: &mut Meter)
     ensures shaded { Shaded (λ x. x ∈ followed (keeps policy.now heap.old.clock) heap.old.graph.objects slot) heap.old.marking heap.new.marking }
     ensures ticked { meter.new ≡ meter.old + 1 }
 {
-    heap.scan(slot, meter);
+    if heap.scan(slot, meter) {
+        return;
+    }
     follow_soft(heap, policy, slot);
 }
 

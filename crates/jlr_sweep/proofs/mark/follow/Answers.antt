@@ -1,6 +1,11 @@
-use Rattle.std.proofs.Common.{◌≡◌, ◌⊎◌, ◌<◌, ℕ, Some, false, true, sym, ap, subst, length}
-use Rattle.jlr_machine.specs.Objects.{◌∈◌, at}
-use Rattle.jlr_machine.specs.Edges.{edges_from}
+use Rattle.std.proofs.Common.{◌≡◌, ◌⊎◌, ◌<◌, ℕ, Option, Some, None, false, true, sym, ◌∙◌, ap, subst, length, inl, inr}
+use Rattle.jlr_machine.specs.declared.object.Object.{Object}
+use Rattle.jlr_machine.specs.declared.object.Object.TheVariants.{Plain, Reference, Queue, Cleaner, Cleanable, Guard}
+use Rattle.jlr_types.specs.declared.RefKind.TheVariants.{Soft}
+use Rattle.jlr_machine.specs.Objects.{◌∈◌, at, some_and}
+use Rattle.jlr_machine.specs.Refusals.{is_plain}
+use Rattle.jlr_machine.specs.Edges.{edges_from, referent}
+use Rattle.std.specs.Prelude.{option_and_then}
 use Rattle.jlr_machine.specs.Edges.Chain.{Strong}
 use Rattle.jlr_laws.specs.Laws.{followed}
 use Rattle.jlr_barrier.specs.Graphs.{Clock, Graph}
@@ -17,6 +22,24 @@ pub follow_soft-requires-clause-within : goal.follow_soft-requires-clause-within
 follow_soft-requires-clause-within c =
     subst (λ (g : Graph). (x : ℕ) → soft_at g.objects c.args.slot ≡ Some x → x < length g.objects) (sym c.scan.ensures.graph)
     (λ x e. c.requires.within x (soft_edge c.args.heap.now.graph.objects c.args.slot x e))
+
+-- a plain object has no soft referent
+no_soft : {P : Type 0} (o : Option Object) (x : ℕ) → some_and is_plain o ≡ true → option_and_then (referent Soft) o ≡ Some x → P
+no_soft None x plain soft = cc
+no_soft (Some (Plain fields)) x plain soft = cc
+no_soft (Some (Reference r)) x plain soft = cc
+no_soft (Some (Queue members)) x plain soft = cc
+no_soft (Some Cleaner) x plain soft = cc
+no_soft (Some (Cleanable c)) x plain soft = cc
+no_soft (Some (Guard g)) x plain soft = cc
+
+pub returns-then-scan-clause-shaded : goal.returns-then-scan-clause-shaded
+returns-then-scan-clause-shaded c =
+    let heap = c.args.heap.now.graph.objects in
+    let s = c.args.slot in
+    let kept = keeps c.args.policy.now c.args.heap.now.clock in
+    let plain : some_and is_plain (at heap s) ≡ true = sym c.scan.ensures.plain ∙ c.if-scan.true in
+    shaded_same _ _ (λ x h. followed_from kept heap s x (inl h)) (λ x h. elim (followed_gives kept heap s x h) [ inl strong ↦ strong | inr soft ↦ no_soft (at heap s) x plain soft.1 ]) _ _ c.scan.ensures.shaded
 
 pub returns-clause-shaded : goal.returns-clause-shaded
 returns-clause-shaded c =

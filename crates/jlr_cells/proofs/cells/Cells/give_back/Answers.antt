@@ -9,7 +9,7 @@ use Rattle.jlr_cells.proofs.cells.Cells.give_back.Goals as goal
 pub invariant_of-self : goal.invariant_of-self
 invariant_of-self c =
     let holds : is_some (at (objects_in c.self.inside.cells.items) c.number-number.result) ≡ true = rw (c.number-number.ensures, c.self.view_is) c.requires in
-    kept_given_back _ _ _ _ _ c.self.invariant holds
+    rw c.none.ensures (kept_given_back _ _ _ _ _ _ c.self.invariant holds)
 
 pub returns : goal.returns
 returns c = rw (← c.self.view_is, c.number-number.ensures) (map-set object_in _ _ _)

@@ -1,9 +1,8 @@
-use Rattle.std.proofs.Common.{◌≡◌, ◌∙◌, ap, sym, subst, length, Some, None, Option}
+use Rattle.std.proofs.Common.{◌≡◌, ◌∙◌, ap, subst, None}
 use native.Mathlib.Omega.{arith}
 use Rattle.std.specs.Prelude.{is_some, option_and_then, slice_index_or}
 use Rattle.jlr_machine.specs.Objects.{at}
-use Rattle.jlr_cells.specs.declared.shape.Kind.{Kind}
-use Rattle.jlr_cells.specs.Contents.{kind_of, kinds_in, objects_in}
+use Rattle.jlr_cells.specs.Contents.{kind_of, kinds_in}
 use Rattle.jlr_cells.proofs.ByKind.{kind_at, has_kind_at}
 use Rattle.jlr_cells.proofs.cells.Cells.kind.Goals as goal
 

@@ -1,4 +1,4 @@
-use Rattle.std.proofs.Common.{◌≡◌, ◌<◌, ◌++◌, ◌∷◌, [], true, length, drop}
+use Rattle.std.proofs.Common.{◌≡◌, ◌<◌, ◌++◌, ◌∷◌, [], true, length}
 use Rattle.std.specs.Prelude.{is_some}
 use Rattle.jlr_machine.specs.Objects.{at, with_members}
 use Rattle.jlr_cells.specs.Contents.{objects_in}
@@ -10,7 +10,7 @@ holds : (c : goal.After-self-1) → is_some (at (objects_in c.self.inside.cells.
 holds c = rw (c.number.ensures, c.self.view_is) (object_of_queue _ c.requires)
 
 pub invariant_of-self : goal.invariant_of-self
-invariant_of-self c = kept_pushed _ _ _ _ _ c.index_mut-cell.result.now _ (with_members (λ members. members ++ c.args.member ∷ [])) c.push_member.result c.self.invariant (holds c) c.index_mut-cell.ensures.value c.push_member.ensures.pushed c.push_member.ensures.err c.push_member.ensures.kind
+invariant_of-self c = kept_pushed _ _ _ _ _ _ c.index_mut-cell.result.now _ (λ members. members ++ c.args.member ∷ []) c.push_member.result c.self.invariant (holds c) c.index_mut-cell.ensures.value c.push_member.ensures.pushed c.push_member.ensures.err c.push_member.ensures.kind
 
 pub returns-clause-pushed : goal.returns-clause-pushed
 returns-clause-pushed c =

@@ -1,17 +1,16 @@
-use Rattle.std.proofs.Common.{◌≡◌, ◌<◌, ◌++◌, ◌∷◌, [], true, length, drop}
+use Rattle.std.proofs.Common.{◌≡◌, ◌<◌, true, length}
 use Rattle.std.specs.Prelude.{is_some}
 use Rattle.jlr_machine.specs.Objects.{at, with_reference}
-use Rattle.jlr_machine.specs.Calls.{unreferred}
-use Rattle.jlr_cells.specs.Contents.{objects_in, in_state, unregistered}
+use Rattle.jlr_cells.specs.Contents.{objects_in, in_state}
 use Rattle.jlr_cells.proofs.Slots.{object_of_reference, change_at-objects_in, within_cells}
-use Rattle.jlr_cells.proofs.ByKind.{kept_changed}
+use Rattle.jlr_cells.proofs.ByKind.{kept_reference}
 use Rattle.jlr_cells.proofs.cells.Cells.set_state.Goals as goal
 
 holds : (c : goal.After-self-1) → is_some (at (objects_in c.self.inside.cells.items) c.number.result) ≡ true
 holds c = rw (c.number.ensures, c.self.view_is) (object_of_reference _ c.requires)
 
 pub invariant_of-self : goal.invariant_of-self
-invariant_of-self c = kept_changed _ _ _ _ _ c.index_mut-cell.result.now _ (with_reference (in_state c.args.state)) c.self.invariant (holds c) c.index_mut-cell.ensures.value c.set_state.ensures.new c.set_state.ensures.kind
+invariant_of-self c = kept_reference _ _ _ _ _ _ c.index_mut-cell.result.now _ (in_state c.args.state) c.self.invariant (holds c) c.index_mut-cell.ensures.value c.set_state.ensures.new c.set_state.ensures.kind
 
 pub returns : goal.returns
 returns c =

@@ -41,9 +41,9 @@ overflow_sub-self c =
 
 pub invariant_of-self : goal.invariant_of-self
 invariant_of-self c =
-    let kept : AreKept c.self.inside.cells.items c.self.inside.kinds.items (Some c.in-Some.slot) c.self.inside.free_count = rw c.in-Some.is at c.self.invariant in
+    let kept : AreKept c.self.inside.cells.items c.self.inside.kinds.items c.self.inside.links.items (Some c.in-Some.slot) c.self.inside.free_count = rw c.in-Some.is at c.self.invariant in
     let here : IsFreeAt c.self.inside.cells.items c.in-Some.slot c.next_free-self-inside.result = rw c.deref.ensures.value at c.next_free-self-inside.ensures in
-    kept_taken _ _ _ _ _ _ _ _ kept here c.new-cell.ensures c.kind.ensures
+    kept_taken _ _ _ _ _ _ _ _ _ kept here c.new-cell.ensures.object c.kind.ensures c.new-cell.ensures.links
 
 pub returns-in-Some-clause-full : goal.returns-in-Some-clause-full
 returns-in-Some-clause-full c =
@@ -59,4 +59,4 @@ returns-in-Some-clause-free c =
     rw (← c.self.view_is, c.new.ensures) (within, at-objects_in c.self.inside.cells.items c.in-Some.slot ∙ ap (option_and_then object_in) here)
 
 pub returns-in-Some-clause-taken : goal.returns-in-Some-clause-taken
-returns-in-Some-clause-taken c = rw (← c.self.view_is, c.new.ensures, ← c.new-cell.ensures) (map-set object_in _ _ _)
+returns-in-Some-clause-taken c = rw (← c.self.view_is, c.new.ensures, ← c.new-cell.ensures.object) (map-set object_in _ _ _)

@@ -1,0 +1,9 @@
+use Rattle.std.proofs.Common.{take}
+use Rattle.jlr_machine.specs.Objects.{◌∈◌}
+use Rattle.jlr_cells.specs.Links.{linked}
+use Rattle.jlr_barrier.specs.Marking.{Shaded}
+use Rattle.jlr_barrier.proofs.shade.shade_links.Given as goal
+
+-- what the links so far refer to is shaded
+abbrev pub invariant-loop-place : goal.invariant-loop-place
+invariant-loop-place l = Shaded (λ x. x ∈ linked (take l.place l.links)) l.fn.marks l.marks

@@ -1,0 +1,15 @@
+-- What a visit of an object tells.
+use Rattle.std.specs.Prelude.{ℕ, ◌++◌, Bool, true, false, List, option_to_list}
+use Rattle.jlr_cells.specs.declared.links.Visited.{Visited}
+use Rattle.jlr_cells.specs.declared.links.Visited.TheVariants.{Plain, Other}
+use Rattle.jlr_cells.specs.Links.{linked}
+
+-- whether a visit found a plain object
+abbrev pub found_plain : Visited → Bool
+found_plain (Plain links) = true
+found_plain (Other queue) = false
+
+-- what a visit tells of strong edges, with the members that the object has if it is a queue
+abbrev pub edges_told : Visited → List ℕ → List ℕ
+edges_told (Plain links) members = linked links.now
+edges_told (Other queue) members = option_to_list queue ++ members

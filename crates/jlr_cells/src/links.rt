@@ -1,0 +1,112 @@
+//! What the fields of plain objects refer to, apart from the fields themselves.
+ghost use Rattle.std.specs.Prelude.{◌≡◌, ℕ, ◌<◌, Some, length, map, slice_set};
+ghost use Rattle.jlr_machine.specs.Objects.{at};
+ghost use Rattle.jlr_machine.specs.Edges.{slot_in};
+ghost use Rattle.jlr_cells.specs.Links.{link_of, no_links};
+
+use jlr_types::{FieldValue, Slot};
+use std::marker::Model;
+
+/// Stands for a link to no object.
+const NULL: u32 = u32::MAX;
+
+/// For each of the eight fields that a plain object may have, what it refers to. An integer refers to nothing, and no field does.
+#[derive(Drop)]
+pub struct Links {
+    slots: [u32; 8],
+}
+
+impl Model for Links {
+    ghost use Rattle.std.specs.Prelude.{◌≡◌, List, Option, ℕ, length, map};
+    ghost use Rattle.jlr_cells.specs.Links.{link_of};
+
+    ghost Value = { List (Option ℕ) };
+
+    ghost view = { λ a. map link_of a.slots };
+
+    ghost invariant = { λ a. length a.slots ≡ 8 };
+}
+
+impl Links {
+    /// No field refers to anything.
+    pub(crate) fn none() -> Self
+        ensures { result ≡ no_links }
+    {
+        Links { slots: [NULL; 8] }
+    }
+
+    /// How many links there are: eight.
+    pub fn count(&self) -> usize
+        ensures { result ≡ length self.now }
+    {
+        let slots: &[u32] = &self.slots;
+        slots.len()
+    }
+
+    /// What a field refers to.
+    pub fn get(&self, place: usize) -> Option<Slot>
+        requires { place < length self.now }
+        ensures { result ≡ at self.now place }
+    {
+        link_at(&self.slots, place)
+    }
+
+    /// A field refers to something else.
+    pub(crate) fn set(&mut self, place: usize, target: Option<Slot>)
+        requires place { place < 8 }
+        requires few { (s : ℕ) → target ≡ Some s → s < 4294967295 }
+        ensures { self.new ≡ slice_set self.old place target }
+    {
+        self.slots[place] = number_of(target);
+    }
+}
+
+fn link_at(slots: &[u32], place: usize) -> Option<Slot>
+    requires { place < length slots.now }
+    ensures { result ≡ at (map link_of slots.now) place }
+{
+    slot_of(slots[place])
+}
+
+/// The slot of a number; none, where it stands for null.
+fn slot_of(number: u32) -> Option<Slot>
+    ensures { result ≡ link_of number }
+{
+    if number < NULL {
+        Some(Slot::new(number))
+    } else {
+        None
+    }
+}
+
+fn number_of(target: Option<Slot>) -> u32
+    requires { (s : ℕ) → target ≡ Some s → s < 4294967295 }
+    ensures { link_of result ≡ target }
+{
+    match target {
+        Some(slot) => slot.number(),
+        None => NULL,
+    }
+}
+
+/// What a field of this value refers to.
+pub(crate) fn target_of(value: &FieldValue) -> Option<Slot>
+    ensures { result ≡ slot_in value.now }
+{
+    match value {
+        FieldValue::Int(_) => None,
+        FieldValue::Ref(target) => *target,
+    }
+}
+
+/// What a visit of an object tells of its strong edges.
+#[derive(Drop)]
+pub enum Visited<'a> {
+    /// It is a plain object, and these are the links of its fields.
+    Plain(&'a Links),
+    /// It is of another kind. A reference may still be added to this queue; a queue has its members besides.
+    Other {
+        /// The queue that a reference may still be added to.
+        queue: Option<Slot>,
+    },
+}
