@@ -2,8 +2,11 @@
 //!
 //! One flat vector of cells, one for each slot. A cell holds an object, or the number of the next free cell: the free cells are
 //! a list through the cells themselves, so that `take` and `give_back` take constant time and no memory. A cell is 80 bytes:
-//! which kind of cell it is, then for each of eight fields what its word is for, then the eight words. So what a
-//! collection reads of an object with few fields mostly lies in one line of the cache. `visit` lends the fields where they lie.
+//! which kind of cell it is, then for each of eight fields what its word is for, then the eight words.
+//!
+//! Beside the cells stand two columns: the kinds of the objects, and the links of plain objects, in 32 bytes each, which say
+//! for each of eight fields which slot it refers to. A collection reads little else: `visit` lends the links of a plain
+//! object, and reads no cell of one.
 //!
 //! Contracts see the cells as the machine's table of objects. No call but `Cells::new` and `image` takes memory.
 #![tactic(auto)]
