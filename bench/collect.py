@@ -4,8 +4,8 @@
     bench/collect.py [--program crates/refheap/out/refheap] [--objects 65528] [--rounds 101] [--shapes chain,tree,graph]
 
 Each object has three reference fields. One handle is left, from which all objects are reached. The time of a collection is that
-of `gc` less that of `same 0 0`, which does next to nothing; the median of the rounds, and the least, which a busy machine
-disturbs less.
+of `gc` less that of `same 0 0`, which does next to nothing. The two sides take turns, so that a machine that changes its speed
+changes it for both: shown are the medians of the rounds, the median of the ratios of neighbours, and the least.
 """
 import argparse
 import os
@@ -105,20 +105,33 @@ def graph(builder, count):
     return last
 
 
-def plain(edges, root, rounds):
-    """Nanoseconds a live object of the plain mark-sweep: the median, and the least."""
-    with tempfile.TemporaryDirectory() as folder:
-        program = os.path.join(folder, "plain_mark_sweep")
+class Plain:
+    """The plain mark-sweep over the same objects, one collection at a time."""
+
+    def __init__(self, edges, root):
+        self.live = len(edges)
+        self.folder = tempfile.TemporaryDirectory()
+        program = os.path.join(self.folder.name, "plain_mark_sweep")
         subprocess.run(["rustc", "-O", os.path.join(HERE, "plain_mark_sweep.rs"), "-o", program], check=True)
-        objects = os.path.join(folder, "objects")
+        objects = os.path.join(self.folder.name, "objects")
         with open(objects, "w") as out:
             for fields in edges:
                 out.write(" ".join("-" if field is None else str(field) for field in fields) + "\n")
-        answer = subprocess.run([program, objects, str(root), str(rounds)], check=True, capture_output=True, text=True)
-    live, median, least = answer.stdout.split()
-    if int(live) != len(edges):
-        raise SystemExit(f"the plain mark-sweep reaches {live} of {len(edges)} objects")
-    return float(median), float(least)
+        self.process = subprocess.Popen([program, objects, str(root)], stdin=subprocess.PIPE, stdout=subprocess.PIPE, text=True)
+
+    def time(self):
+        """Nanoseconds of a collection."""
+        self.process.stdin.write("\n")
+        self.process.stdin.flush()
+        live, took = self.process.stdout.readline().split()
+        if int(live) != self.live:
+            raise SystemExit(f"the plain mark-sweep reaches {live} of {self.live} objects")
+        return int(took)
+
+    def close(self):
+        self.process.stdin.close()
+        self.process.wait()
+        self.folder.cleanup()
 
 
 def main():
@@ -133,13 +146,18 @@ def main():
         builder = Builder(session)
         root = {"chain": chain, "tree": tree, "graph": graph}[shape](builder, given.objects)
         idle = [session.time("same 0 0") for _ in range(200)]
-        full = [session.time("gc") for _ in range(given.rounds)]
+        plain = Plain(builder.edges, root)
+        full, other = [], []
+        for _ in range(given.rounds):
+            full.append(session.time("gc") - statistics.median(idle))
+            other.append(plain.time())
         session.close()
-        median = (statistics.median(full) - statistics.median(idle)) / given.objects
-        least = (min(full) - min(idle)) / given.objects
-        plain_median, plain_least = plain(builder.edges, root, given.rounds)
+        plain.close()
+        median, plain_median = (statistics.median(times) / given.objects for times in (full, other))
+        least, plain_least = (min(times) / given.objects for times in (full, other))
+        ratio = statistics.median(mine / its for mine, its in zip(full, other))
         print(
-            f"{shape}: {median:.1f} ns a live object, plain mark-sweep {plain_median:.1f} ns, ratio {median / plain_median:.2f}; "
+            f"{shape}: {median:.1f} ns a live object, plain mark-sweep {plain_median:.1f} ns, ratio {ratio:.2f}; "
             f"at best {least:.1f} and {plain_least:.1f} ns, ratio {least / plain_least:.2f}"
         )
 

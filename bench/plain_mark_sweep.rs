@@ -1,9 +1,10 @@
 // A plain mark-sweep over a table of cells in ordinary Rust: no proof, no barriers, three fields a cell. The yardstick of collect.py.
 //
-//     plain_mark_sweep OBJECTS ROOT ROUNDS
+//     plain_mark_sweep OBJECTS ROOT
 //
-// OBJECTS is a file with a line for each object: its three fields, each the number of an object or `-`. Prints how many objects are
-// reached from ROOT, and the time of a collection in nanoseconds a live object: the median, and the least.
+// OBJECTS is a file with a line for each object: its three fields, each the number of an object or `-`. For each line of the input there is one
+// collection, and one line of output: how many objects are reached from ROOT, and the time in nanoseconds.
+use std::io::Write;
 use std::time::Instant;
 
 const NONE: u32 = u32::MAX;
@@ -53,7 +54,6 @@ fn main() {
     let arguments: Vec<String> = std::env::args().collect();
     let text = std::fs::read_to_string(&arguments[1]).expect("the objects");
     let root: u32 = arguments[2].parse().expect("a root");
-    let rounds: usize = arguments[3].parse().expect("a number of rounds");
     let field = |word: &str| word.parse().unwrap_or(NONE);
     let cells: Vec<Cell> = text
         .lines()
@@ -72,13 +72,11 @@ fn main() {
         grey: Vec::with_capacity(count),
         free: Vec::with_capacity(count),
     };
-    let mut live = heap.collect(root);
-    let mut times = Vec::new();
-    for _ in 0..rounds {
+    for _ in std::io::stdin().lines() {
         let begin = Instant::now();
-        live = heap.collect(root);
-        times.push(begin.elapsed().as_nanos() as f64 / live as f64);
+        let live = heap.collect(root);
+        let took = begin.elapsed().as_nanos();
+        println!("{live} {took}");
+        std::io::stdout().flush().expect("the output");
     }
-    times.sort_by(f64::total_cmp);
-    println!("{live} {:.2} {:.2}", times[rounds / 2], times[0]);
 }
