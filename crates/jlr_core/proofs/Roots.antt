@@ -1,25 +1,24 @@
 -- The roots of a core's machine are what its heap holds.
-use Rattle.std.proofs.Common.{◌≡◌, ℕ, Bool, true, false, Option, Some, None, option_and_then, is_some, refl, sym, ◌∙◌, filter_map}
+use Rattle.std.proofs.Common.{◌≡◌, ℕ, Bool, true, false, [], Option, Some, None, option_and_then, is_some, refl, sym, subst, filter_map}
 use Rattle.std.proofs.lemmas.Bool.{both_ways}
+use Rattle.std.specs.Option.{option_to_list}
 use Rattle.jlr_machine.specs.declared.object.Object.{Object}
 use Rattle.jlr_machine.specs.declared.object.Object.TheVariants.{Plain, Reference, Queue, Cleaner, Cleanable, Guard}
 use Rattle.jlr_machine.specs.declared.machine.Machine.{Machine}
-use Rattle.jlr_machine.specs.declared.machine.Session.{Session}
-use Rattle.jlr_machine.specs.declared.machine.Call.TheVariants.{Free}
 use Rattle.jlr_machine.specs.Objects.{at, ◌∈◌}
 use Rattle.jlr_machine.specs.Edges.{is_own_root}
 use Rattle.jlr_machine.specs.WellFormed.{IsWellFormed}
 use Rattle.jlr_cells.specs.Contents.{kind_of}
-use Rattle.jlr_roots.specs.Walk.{slots_held}
-use Rattle.jlr_laws.proofs.Sets.{nothing}
+use Rattle.jlr_roots.specs.Walk.{slots_held, slots_of}
+use Rattle.jlr_laws.proofs.Sets.{in_front, nothing}
 use Rattle.jlr_laws.proofs.Clearing.{in_left, in_right}
-use Rattle.jlr_laws.proofs.Frames.{no_some, root_gives, from_sessions, from_places, IsRoot}
+use Rattle.jlr_laws.proofs.Frames.{root_gives, from_sessions, from_places, IsRoot}
 use Rattle.jlr_laws.proofs.Frames.IsRoot.{held as by_handle, fencing, named, waiting, lining, active}
 use Rattle.jlr_barrier.specs.Graphs.{Graph, held}
 use Rattle.jlr_sweep.specs.Collecting.{IsRooted}
 use Rattle.jlr_core.specs.State.{frame, machine_with}
 
-module _ (g : Graph) (limit : ℕ) (cycle : Bool) (known : (s : ℕ) → is_some (option_and_then kind_of (at g.objects s)) ≡ is_some (at g.objects s)) (idle : (k : ℕ) (s : Session) → at g.mutators k ≡ Some s → (s.call ≡ Free) × (s.fence ≡ None)) where
+module _ (g : Graph) (limit : ℕ) (cycle : Bool) (known : (s : ℕ) → is_some (option_and_then kind_of (at g.objects s)) ≡ is_some (at g.objects s)) where
   abbrev m : Machine
   m = machine_with g limit cycle
 
@@ -32,9 +31,15 @@ module _ (g : Graph) (limit : ℕ) (cycle : Bool) (known : (s : ℕ) → is_some
   not_active (Some (Cleanable c)) h e = both_ways true (sym h) refl
   not_active (Some (Guard x)) h e = both_ways false refl e
 
+  by_session : (s : ℕ) → s ∈ slots_held g.mutators → s ∈ held g
+  by_session s h = in_left s (slots_held g.mutators) g.pending h
+
   is_held : (s : ℕ) → IsRoot m s → s ∈ held g
-  is_held s (by_handle k h session e f) = in_left s (slots_held g.mutators) g.pending (from_sessions (λ s. filter_map (λ h. h) s.handles) g.mutators k session s e (from_places session.handles h s f))
-  is_held s (fencing k session e f) = no_some s (sym (idle k session e).1 ∙ f)
+  is_held s (by_handle k h session e f) =
+      by_session s (from_sessions slots_of g.mutators k session s e (in_left s (filter_map (λ h. h) session.handles) (option_to_list session.fence) (from_places session.handles h s f)))
+  is_held s (fencing k session e f) =
+      let there : s ∈ option_to_list session.fence = subst (λ o. s ∈ option_to_list o) (sym f) (in_front s s [] refl) in
+      by_session s (from_sessions slots_of g.mutators k session s e (in_right s (filter_map (λ h. h) session.handles) (option_to_list session.fence) there))
   is_held s (named h) = nothing s h
   is_held s (waiting h) = in_right s (slots_held g.mutators) g.pending h
   is_held s (lining h) = nothing s h

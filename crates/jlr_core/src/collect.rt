@@ -33,7 +33,6 @@ impl State {
         ensures age { self.new.soft_age ≡ self.old.soft_age }
     {
         self.heap.kinds_are_known();
-        self.heap.no_calls();
         let policy = Policy::new(self.soft_age, mode);
         jlr_sweep::full(&mut self.heap, &policy, choice);
         self.cycle_open = false;
@@ -94,7 +93,7 @@ impl State {
         ensures policy { KeepsIn (mode_of mode) self.old.soft_age self.old.heap.clock (machine_of self.old) choice.new.chosen }
     {
         self.check_session(by)?;
-        self.no_call(by);
+        self.check_no_call(by)?;
         self.collect(mode_of(mode), choice);
         Ok(Answer::Done)
     }

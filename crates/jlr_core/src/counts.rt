@@ -15,7 +15,7 @@ impl State {
         ensures memory { answer_of result ≡ Answer.Refused Refusal.NoMemory → ⊥ }
     {
         self.check_session(by)?;
-        self.no_call(by);
+        self.check_no_call(by)?;
         let objects = self.heap.cell_count() - self.heap.free_count();
         Ok(Answer::Stat(Stat {
             objects: u64::from(objects),

@@ -34,7 +34,7 @@ impl State {
         ensures clock { self.new.heap.clock ≡ self.old.heap.clock }
     {
         self.check_session(by)?;
-        self.no_call(by);
+        self.check_no_call(by)?;
         self.heap.leave(by);
         Ok(Answer::Done)
     }
@@ -48,7 +48,7 @@ impl State {
         self.check_session(by)?;
         self.check_handle(by, object)?;
         self.check_slot(by, object)?;
-        self.no_call(by);
+        self.check_no_call(by)?;
         self.heap.drop_handle(by, object);
         Ok(Answer::Done)
     }
@@ -59,7 +59,7 @@ impl State {
         self.check_session(by)?;
         self.check_handle(by, left)?;
         self.check_handle(by, right)?;
-        self.no_call(by);
+        self.check_no_call(by)?;
         let same = self.heap.lookup(by, left) == self.heap.lookup(by, right);
         Ok(Answer::Truth(same))
     }
@@ -73,7 +73,7 @@ impl State {
         self.check_session(by)?;
         self.check_handle(by, object)?;
         let slot = self.check_slot(by, object)?;
-        self.no_call(by);
+        self.check_no_call(by)?;
         self.check_free_handle(by)?;
         Ok(self.give(by, slot))
     }
@@ -140,12 +140,12 @@ impl State {
         Ok(self.give(by, slot))
     }
 
-    /// The end of an open. It is refused: there is no call in flight yet.
+    /// The end of an open. It is refused: there are no resources yet, and so no open in flight.
     pub(crate) fn opened(&self, by: Mutator) -> Refusal
+        requires { IsWellFormed (machine_of self.now) }
         ensures refused { (outcome : Outcome) → refusal (machine_of self.now) (Ask.Opened by outcome) ≡ Some result }
         ensures memory { result ≡ Refusal.NoMemory → ⊥ }
     {
-        self.heap.no_calls();
         match self.check_session(by) {
             Ok(()) => Refusal::NotOut,
             Err(refusal) => refusal,

@@ -55,7 +55,7 @@ impl State {
         let slot = self.check_slot(by, object)?;
         self.check_plain(slot)?;
         let target = self.check_reference_field(slot, field)?;
-        self.no_call(by);
+        self.check_no_call(by)?;
         self.give_or_null(by, target)
     }
 
@@ -78,7 +78,7 @@ impl State {
         let slot = self.check_slot(by, object)?;
         self.check_plain(slot)?;
         self.check_reference_field(slot, field)?;
-        self.no_call(by);
+        self.check_no_call(by)?;
         let target = self.heap.lookup(by, value);
         self.heap
             .store(slot, field as usize, FieldValue::Ref(target));
@@ -110,7 +110,7 @@ impl State {
         let slot = self.check_slot(by, object)?;
         self.check_plain(slot)?;
         let number = self.check_int_field(slot, field)?;
-        self.no_call(by);
+        self.check_no_call(by)?;
         Ok(Answer::Int(number))
     }
 
@@ -132,7 +132,7 @@ impl State {
         let slot = self.check_slot(by, object)?;
         self.check_plain(slot)?;
         self.check_int_field(slot, field)?;
-        self.no_call(by);
+        self.check_no_call(by)?;
         self.heap
             .store(slot, field as usize, FieldValue::Int(value));
         Ok(Answer::Done)
@@ -155,7 +155,7 @@ impl State {
         ensures clock { self.new.heap.clock ≡ after_choice choice.new.chosen self.old.heap.clock }
     {
         self.check_session(by)?;
-        self.no_call(by);
+        self.check_no_call(by)?;
         self.check_free_handle(by)?;
         let slot = self.allocate(Shape::Plain(layout), choice)?;
         Ok(self.give(by, slot))

@@ -69,7 +69,7 @@ impl State {
         self.check_handle(by, reference)?;
         let slot = self.check_slot(by, reference)?;
         self.check_reference(slot)?;
-        self.no_call(by);
+        self.check_no_call(by)?;
         let target = self.heap.gotten(slot);
         if target.is_some() {
             self.check_free_handle(by)?;
@@ -93,7 +93,7 @@ impl State {
         self.check_handle(by, object)?;
         let slot = self.check_slot(by, reference)?;
         self.check_reference(slot)?;
-        self.no_call(by);
+        self.check_no_call(by)?;
         let target = self.heap.lookup(by, object);
         Ok(Answer::Truth(jlr_refs::refers_to(&self.heap, slot, target)))
     }
@@ -109,7 +109,7 @@ impl State {
         self.check_handle(by, reference)?;
         let slot = self.check_slot(by, reference)?;
         self.check_reference(slot)?;
-        self.no_call(by);
+        self.check_no_call(by)?;
         jlr_refs::clear(&mut self.heap, slot);
         Ok(Answer::Done)
     }
@@ -125,7 +125,7 @@ impl State {
         self.check_handle(by, reference)?;
         let slot = self.check_slot(by, reference)?;
         self.check_reference(slot)?;
-        self.no_call(by);
+        self.check_no_call(by)?;
         Ok(slot)
     }
 
@@ -151,7 +151,7 @@ impl State {
         self.check_handle(by, reference)?;
         let slot = self.check_slot(by, reference)?;
         self.check_reference(slot)?;
-        self.no_call(by);
+        self.check_no_call(by)?;
         Ok(Answer::Truth(jlr_refs::is_enqueued(&self.heap, slot)))
     }
 
@@ -166,7 +166,7 @@ impl State {
         self.check_handle(by, queue)?;
         let slot = self.check_slot(by, queue)?;
         self.check_queue(slot)?;
-        self.no_call(by);
+        self.check_no_call(by)?;
         self.check_room_for(by, self.heap.front(slot))?;
         Ok(slot)
     }
@@ -209,7 +209,7 @@ impl State {
         ensures clock { self.new.heap.clock ≡ after_choice choice.new.chosen self.old.heap.clock }
     {
         self.check_session(by)?;
-        self.no_call(by);
+        self.check_no_call(by)?;
         self.check_free_handle(by)?;
         let slot = self.allocate(Shape::Queue, choice)?;
         Ok(self.give(by, slot))
@@ -238,7 +238,7 @@ impl State {
         self.check_handle(by, queue)?;
         let target = self.check_slot(by, referent)?;
         let queue = self.check_queue_or_null(by, queue)?;
-        self.no_call(by);
+        self.check_no_call(by)?;
         self.check_free_handle(by)?;
         let shape = Shape::Reference {
             kind,

@@ -113,11 +113,14 @@ impl State {
         }
     }
 
-    /// No mutator has a call in flight: calls come later.
-    pub(crate) fn no_call(&self, by: Mutator)
-        ensures { has_call (machine_of self.now) by ≡ false }
+    /// The mutator has no call in flight.
+    pub(crate) fn check_no_call(&self, by: Mutator) -> Result<(), Refusal>
+        ensures { MatchResult result (λ _. has_call (machine_of self.now) by ≡ false) (λ r. (r ≡ Refusal.Busy) × (has_call (machine_of self.now) by ≡ true)) }
     {
-        self.heap.no_calls();
-        let _ = by;
+        if self.heap.has_call(by) {
+            Err(Refusal::Busy)
+        } else {
+            Ok(())
+        }
     }
 }
