@@ -299,7 +299,8 @@ fn roots_and_what_they_lead_to_are_marked(rt: HostRuntime) -> Result<(), Fail> {
     heap.shade_roots();
     assert_eq!(rt; heap.next_grey(), Some(queue));
     assert!(rt; heap.kind(queue).is_some());
-    assert!(rt; !heap.scan(queue, &mut meter));
+    let plain = heap.scan(queue, &mut meter);
+    assert!(rt; !plain);
     assert_eq!(rt; meter.ticks(), 1);
     assert_eq!(rt; heap.next_grey(), Some(member));
     assert_eq!(rt; heap.next_grey(), None);
