@@ -66,7 +66,7 @@ gotten_at heap s = option_and_then gotten (option_and_then as_reference (at heap
 
 -- ---- Roots
 
--- what the mutators' handles and the pending list hold
+-- what the mutators' handles and fences hold, and the pending list
 abbrev pub held : Graph → List ℕ
 held g = slots_held g.mutators ++ g.pending
 

@@ -2,8 +2,9 @@
 //! and a mark set for the collector.
 //!
 //! All calls that make or remove a strong edge stand here: the fields of plain objects, the queue of a reference while it may still
-//! be added to it, the members of a queue, and the pending list. A collector that marks in steps will have its barriers in
-//! these calls, and the contracts, which speak of objects, roots and lists alone, stay as they are.
+//! be added to it, the members of a queue, and the pending list. So do those that make or remove a root of a mutator: its handles,
+//! and the fence of its call. A collector that marks in steps will have its barriers in these calls, and the contracts, which speak
+//! of objects, roots and lists alone, stay as they are.
 //!
 //! No call but `Heap::new`, `Heap::link` and the images takes memory.
 #![tactic(auto)]

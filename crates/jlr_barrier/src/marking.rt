@@ -33,7 +33,7 @@ impl Heap {
         self.marks.reset();
     }
 
-    /// Marks what the handles and the pending list hold. What was not marked before is grey then.
+    /// Marks what the handles, the fences and the pending list hold. What was not marked before is grey then.
     pub fn shade_roots(&mut self)
         requires { (x : ℕ) → x ∈ held self.old.graph → x < length self.old.graph.objects }
         ensures graph { self.new.graph ≡ self.old.graph }

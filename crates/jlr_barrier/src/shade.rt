@@ -68,7 +68,7 @@ fn shade_members(cells: &Cells, queue: Slot, marks: &mut Marks)
     }
 }
 
-/// Shades what the handles of all mutators stand for.
+/// Shades what all mutators hold.
 pub(crate) fn shade_roots(roots: &Roots, marks: &mut Marks)
     requires { (x : ℕ) → x ∈ slots_held roots.now → x < length marks.old.bits }
     ensures { Shaded (λ x. x ∈ slots_held roots.now) marks.old marks.new }

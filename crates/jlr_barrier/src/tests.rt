@@ -4,8 +4,11 @@ ghost use Rattle.jlr_barrier.specs.Graphs.{empty_graph};
 
 use crate::heap::Heap;
 use jlr_cells::{Kind, Shape};
+use jlr_machine::machine::Call;
 use jlr_machine::object::{Object, RefState, Reference};
-use jlr_types::{FieldKind, FieldValue, Handle, Layout, Limits, Meter, Mutator, RefKind, Slot};
+use jlr_types::{
+    FieldKind, FieldValue, Handle, Layout, Limits, Meter, Mutator, RefKind, Rid, Slot,
+};
 use std::alloc::Global;
 use std::test::Fail;
 
@@ -205,6 +208,48 @@ fn handles_of_mutators(rt: HostRuntime) -> Result<(), Fail> {
     assert!(rt; heap.is_joined(mutator));
     heap.leave(mutator);
     assert!(rt; !heap.is_joined(mutator) && !heap.has_free_handle(mutator));
+    Ok(())
+}
+
+#[test]
+fn a_call_of_a_mutator(rt: HostRuntime) -> Result<(), Fail> {
+    let mut heap = heap_of(rt.alloc())?;
+    let (mutator, guard, call) = (Mutator::new(1), Slot::new(7), Call::Out(Rid::new(5)));
+    assert!(rt; heap.mutator_count() == 2 && !heap.is_joined(mutator));
+    assert_eq!(rt; (heap.call(mutator), heap.fence(mutator)), (None, None));
+    heap.join(mutator);
+    assert_eq!(rt;
+        (heap.call(mutator), heap.fence(mutator)),
+        (Some(Call::Free), None)
+    );
+    assert!(rt; heap.is_joined(mutator) && !heap.has_call(mutator));
+    heap.begin_call(mutator, Some(guard), call);
+    assert_eq!(rt;
+        (heap.call(mutator), heap.fence(mutator)),
+        (Some(call), Some(guard))
+    );
+    assert_eq!(rt; heap.call(Mutator::new(0)), None);
+    assert!(rt; heap.is_joined(mutator) && heap.has_call(mutator));
+    heap.end_call(mutator);
+    assert_eq!(rt;
+        (heap.call(mutator), heap.fence(mutator)),
+        (Some(Call::Free), None)
+    );
+    assert!(rt; !heap.has_call(mutator));
+    Ok(())
+}
+
+#[test]
+fn a_fence_is_marked_as_a_root(rt: HostRuntime) -> Result<(), Fail> {
+    let mut heap = heap_of(rt.alloc())?;
+    let (mutator, guard) = (Mutator::new(1), Slot::new(7));
+    assert!(rt; heap.mutator_count() == 2 && !heap.is_joined(mutator));
+    heap.join(mutator);
+    assert!(rt; heap.is_joined(mutator));
+    heap.begin_call(mutator, Some(guard), Call::Out(Rid::new(5)));
+    heap.shade_roots();
+    assert_eq!(rt; heap.next_grey(), Some(guard));
+    assert_eq!(rt; heap.next_grey(), None);
     Ok(())
 }
 

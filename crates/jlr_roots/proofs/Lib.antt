@@ -1,4 +1,3 @@
 mod Lowest
 mod Members
 mod Walking
-mod Idle

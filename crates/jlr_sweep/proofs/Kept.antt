@@ -9,14 +9,14 @@ use Rattle.jlr_soft.specs.declared.policy.Mode.TheVariants.{ClearAll}
 use Rattle.jlr_machine.specs.Choices.{Choosing, kept_by, pended_by}
 use Rattle.jlr_machine.specs.Collection.{IsFullClearing}
 use Rattle.jlr_machine.specs.WellFormed.{IsWellFormed}
-use Rattle.jlr_roots.specs.Walk.{slots_held}
+use Rattle.jlr_roots.specs.Walk.{slots_held, slots_of}
 use Rattle.jlr_laws.specs.Laws.{IsLeast, IsMarked as IsMarkedBy, IsWithinHeap}
-use Rattle.jlr_laws.proofs.Clearing.{edge_gives, edge_from, in_append}
+use Rattle.jlr_laws.proofs.Clearing.{edge_gives, edge_from, in_append, in_option}
 use Rattle.jlr_laws.proofs.Frames.{in_sessions, IsRoot, in_places, root_from}
-use Rattle.jlr_laws.proofs.Frames.IsRoot.{held as by_handle, waiting}
+use Rattle.jlr_laws.proofs.Frames.IsRoot.{held as by_handle, fencing, waiting}
 use Rattle.jlr_laws.proofs.Empty.{well_formed_within}
 use Rattle.jlr_laws.proofs.LawProofs.{comes_down_to_cutting_off, keeping_none_makes_clearing, policy_makes_full}
-use Rattle.std.proofs.Common.{filter_map}
+use Rattle.std.proofs.Common.{filter_map, option_to_list}
 use Rattle.jlr_barrier.specs.Graphs.{Clock, Graph, held, in_machine}
 use Rattle.jlr_barrier.specs.Marking.{Marking, IsMarked, is_marked}
 use Rattle.jlr_process.specs.Settling.{marked_below}
@@ -34,7 +34,12 @@ module _ (f : Machine) (g : Graph) (rooted : IsRooted f g) where
 
   held_root : (s : ℕ) → s ∈ held g → s ∈ roots m
   held_root s h = elim (in_append s (slots_held g.mutators) g.pending h) [
-    | inl a ↦ let r = in_sessions (λ s. filter_map (λ h. h) s.handles) g.mutators s a in let p = in_places r.1.handles s r.3 in root_from m s (by_handle r.0 p.0 r.1 r.2 p.1)
+    | inl a ↦
+        let r = in_sessions slots_of g.mutators s a in
+        elim (in_append s (filter_map (λ h. h) r.1.handles) (option_to_list r.1.fence) r.3) [
+          | inl by ↦ let p = in_places r.1.handles s by in root_from m s (by_handle r.0 p.0 r.1 r.2 p.1)
+          | inr by ↦ root_from m s (fencing r.0 r.1 r.2 (in_option s r.1.fence by))
+        ]
     | inr b ↦ root_from m s (waiting b)
   ]
 
