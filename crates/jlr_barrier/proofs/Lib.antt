@@ -2,3 +2,4 @@ pub mod Counting
 pub mod Shading
 pub mod Places
 pub mod Walking
+pub mod OwnRoots

@@ -20,8 +20,10 @@ use std::marker::Model;
 pub struct Heap {
     pub(crate) cells: Cells,
     pub(crate) roots: Roots,
-    /// References to be enqueued, from the front on. It has room for every cell.
+    /// References to be enqueued and cleanables to be lined up, from the front on. It has room for every cell.
     pub(crate) waiting: VecDeque<Slot>,
+    /// Cleanables to be taken up, from the front on. It has room for every cell.
+    pub(crate) lined: VecDeque<Slot>,
     pub(crate) marks: Marks,
     /// By slot, how many collections had finished when the object was made or last gave its referent.
     pub(crate) last_gets: Vec<u64>,
@@ -36,16 +38,16 @@ impl Model for Heap {
     ghost Value = { Known };
 
     ghost view = { λ h. record {
-      graph = record { objects = h.cells; mutators = h.roots; pending = h.waiting.items };
+      graph = record { objects = h.cells; mutators = h.roots; pending = h.waiting.items; line = h.lined.items };
       clock = record { last_gets = h.last_gets.items; collections = h.collections };
       marking = h.marks;
     } };
 
     ghost invariant = { λ h. FitsTogether (record {
-      graph = record { objects = h.cells; mutators = h.roots; pending = h.waiting.items };
+      graph = record { objects = h.cells; mutators = h.roots; pending = h.waiting.items; line = h.lined.items };
       clock = record { last_gets = h.last_gets.items; collections = h.collections };
       marking = h.marks;
-    }) (deque_capacity h.waiting) };
+    }) (deque_capacity h.waiting) (deque_capacity h.lined) };
 }
 
 impl Heap {
@@ -61,6 +63,7 @@ impl Heap {
             cells: Cells::new(alloc, cells)?,
             roots: Roots::new(alloc, session_count(limits))?,
             waiting: VecDeque::with_capacity(alloc, cells as usize)?,
+            lined: VecDeque::with_capacity(alloc, cells as usize)?,
             marks: Marks::new(alloc, cells)?,
             last_gets: vec![in alloc; 0; cells as usize]?,
             collections: 0,
@@ -84,17 +87,10 @@ impl Heap {
 
     /// Of which kind the object at a slot is, if there is one.
     pub fn kind(&self, slot: Slot) -> Option<Kind>
-        ensures kind { result ≡ option_and_then kind_of (at self.now.graph.objects slot) }
+        ensures kind { result ≡ option_map kind_of (at self.now.graph.objects slot) }
         ensures object { is_some result ≡ is_some (at self.now.graph.objects slot) }
     {
         self.cells.kind(slot)
-    }
-
-    /// Each object is of one of these kinds: of the others none is made yet.
-    pub fn kinds_are_known(&self)
-        ensures { (s : ℕ) → is_some (option_and_then kind_of (at self.now.graph.objects s)) ≡ is_some (at self.now.graph.objects s) }
-    {
-        self.cells.kinds_are_known();
     }
 
     /// Whether there is a plain object at a slot.

@@ -5,9 +5,10 @@ ghost use Rattle.jlr_barrier.specs.Graphs.{empty_graph};
 use crate::heap::Heap;
 use jlr_cells::{Kind, Shape};
 use jlr_machine::machine::Call;
-use jlr_machine::object::{Object, RefState, Reference};
+use jlr_machine::object::{CleanState, Cleanable, Guard, Object, RefState, Reference};
 use jlr_types::{
-    FieldKind, FieldValue, Handle, Layout, Limits, Meter, Mutator, RefKind, Rid, Slot,
+    ActionNo, FieldKind, FieldValue, Handle, Layout, Limits, Meter, Mutator, RefKind, Rid, Slot,
+    Work,
 };
 use std::alloc::Global;
 use std::test::Fail;
@@ -46,6 +47,8 @@ fn a_new_heap_is_empty(rt: HostRuntime) -> Result<(), Fail> {
     assert_eq!(rt; heap.kind(first), None);
     assert_eq!(rt; heap.first_pending(), None);
     assert_eq!(rt; heap.take_pending(), None);
+    assert_eq!(rt; heap.first_lined(), None);
+    assert_eq!(rt; heap.take_lined_front(), None);
     assert_eq!(rt; heap.collections(), 0);
     assert!(rt; first.number() < heap.cell_count());
     assert_eq!(rt; heap.last_get(first), 0);
@@ -187,6 +190,97 @@ fn the_pending_list_is_taken_from_its_front(rt: HostRuntime) -> Result<(), Fail>
         assert_eq!(rt; heap.first_pending(), slot);
         assert_eq!(rt; heap.take_pending(), slot);
     }
+    Ok(())
+}
+
+#[test]
+fn the_line_is_taken_from_its_front(rt: HostRuntime) -> Result<(), Fail> {
+    let mut heap = heap_of(rt.alloc())?;
+    let (first, second) = (Slot::new(9), Slot::new(2));
+    heap.add_lined(first);
+    heap.add_lined(second);
+    let image = heap.line_image(rt.alloc())?;
+    assert_eq!(rt; image.as_slice(), [first, second].as_slice());
+    assert_eq!(rt; heap.first_pending(), None);
+    for slot in [Some(first), Some(second), None] {
+        assert_eq!(rt; heap.first_lined(), slot);
+        assert_eq!(rt; heap.take_lined_front(), slot);
+    }
+    Ok(())
+}
+
+fn armed(referent: Slot) -> Shape {
+    Shape::Cleanable {
+        referent: Some(referent),
+        action: ActionNo::new(7),
+        work: Work::Note(42),
+    }
+}
+
+fn cleanable(referent: Option<Slot>, state: CleanState) -> Option<Cleanable> {
+    Some(Cleanable {
+        referent,
+        action: ActionNo::new(7),
+        work: Work::Note(42),
+        state,
+    })
+}
+
+#[test]
+fn a_cleanable_is_lined_and_spent(rt: HostRuntime) -> Result<(), Fail> {
+    let mut heap = heap_of(rt.alloc())?;
+    let cleaner = heap.allocate(Shape::Cleaner).ok_or("no cell")?;
+    let slot = heap.allocate(armed(cleaner)).ok_or("no cell")?;
+    assert!(rt; heap.is_cleaner(cleaner) && !heap.is_cleaner(slot));
+    assert_eq!(rt;
+        heap.cleanable(slot),
+        cleanable(Some(cleaner), CleanState::Armed)
+    );
+    assert_eq!(rt; heap.cleanable(cleaner), None);
+
+    assert!(rt; heap.is_cleanable(slot) && !heap.is_cleanable(cleaner));
+    heap.clear_cleanable(slot);
+    assert!(rt; heap.is_cleanable(slot));
+    heap.set_clean_state(slot, CleanState::Lined);
+    assert_eq!(rt; heap.cleanable(slot), cleanable(None, CleanState::Lined));
+
+    let other = heap.allocate(armed(cleaner)).ok_or("no cell")?;
+    assert!(rt; heap.is_cleanable(other));
+    heap.spend(other);
+    assert_eq!(rt; heap.cleanable(other), cleanable(None, CleanState::Spent));
+    Ok(())
+}
+
+#[test]
+fn a_guard_leads_to_its_cleanable(rt: HostRuntime) -> Result<(), Fail> {
+    let mut heap = heap_of(rt.alloc())?;
+    let mut meter = Meter::new();
+    let rid = Rid::new(3);
+    let cleanable = Slot::new(4);
+    let slot = heap
+        .allocate(Shape::Guard { rid, cleanable })
+        .ok_or("no cell")?;
+    assert!(rt; heap.is_guard(slot) && !heap.is_cleanable(slot));
+    assert_eq!(rt; heap.guard(slot), Some(Guard { rid, cleanable }));
+    assert_eq!(rt; heap.guard(cleanable), None);
+    assert!(rt; heap.kind(slot).is_some());
+    assert!(rt; !heap.scan(slot, &mut meter));
+    assert_eq!(rt; heap.next_grey(), Some(cleanable));
+    assert_eq!(rt; heap.next_grey(), None);
+    Ok(())
+}
+
+#[test]
+fn cleanables_are_roots_by_themselves(rt: HostRuntime) -> Result<(), Fail> {
+    let mut heap = heap_of(rt.alloc())?;
+    let watched = heap.allocate(Shape::Cleaner).ok_or("no cell")?;
+    let spent = heap.allocate(armed(watched)).ok_or("no cell")?;
+    let waiting = heap.allocate(armed(watched)).ok_or("no cell")?;
+    assert!(rt; heap.is_cleanable(spent));
+    heap.spend(spent);
+    heap.shade_roots();
+    assert_eq!(rt; heap.next_grey(), Some(waiting));
+    assert_eq!(rt; heap.next_grey(), None);
     Ok(())
 }
 
