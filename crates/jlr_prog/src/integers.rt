@@ -35,8 +35,10 @@ fn integer_fields_hold_integers(rt: HostRuntime) -> Result<(), Fail> {
 
 #[test]
 fn refusals_of_many_kinds(rt: HostRuntime) -> Result<(), Fail> {
-    let commands = "get 9 0; dup 0; new ri; poll 1; get 1 2; get 1 1; setint 1 0 5; queue; weak 0 2; weak 1 1; setint 1 1 -9223372036854775808; int 1 1; setint 1 1 9223372036854775808";
-    let answers = "! 3; ! 8; = 1; ! 5; ! 6; ! 7; ! 7; = 2; ! 8; ! 5; ok; int -9223372036854775808; ! 15";
+    let commands =
+        "get 9 0; dup 0; new ri; poll 1; get 1 2; get 1 1; setint 1 0 5; queue; weak 0 2; weak 1 1; setint 1 1 -9223372036854775808; int 1 1; setint 1 1 9223372036854775808";
+    let answers =
+        "! 3; ! 8; = 1; ! 5; ! 6; ! 7; ! 7; = 2; ! 8; ! 5; ok; int -9223372036854775808; ! 15";
     let (end, out) = heap_answers(rt.alloc(), commands)?;
     assert_eq!(rt; end, FirstEnd::End);
     let expected = replies(rt.alloc(), answers)?;
@@ -47,7 +49,8 @@ fn refusals_of_many_kinds(rt: HostRuntime) -> Result<(), Fail> {
 // A soft reference outlives a collection by the policy, and no clearing one.
 #[test]
 fn gc_soft_clears_soft_references(rt: HostRuntime) -> Result<(), Fail> {
-    let commands = "new r; new -; put 1 0 2; soft 1 0; soft 2 0; drop 1; drop 2; gc; deref 3; deref 4; drop 1; drop 2; gc soft; deref 3; deref 4";
+    let commands =
+        "new r; new -; put 1 0 2; soft 1 0; soft 2 0; drop 1; drop 2; gc; deref 3; deref 4; drop 1; drop 2; gc soft; deref 3; deref 4";
     let answers = "= 1; = 2; ok; = 3; = 4; ok; ok; ok; = 1; = 2; ok; ok; ok; = 0; = 0";
     let (end, out) = heap_answers(rt.alloc(), commands)?;
     assert_eq!(rt; end, FirstEnd::End);
