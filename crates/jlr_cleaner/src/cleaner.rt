@@ -267,6 +267,8 @@ impl<R> Cleaner<R> {
         ensures refused { IfErr result (λ r. (r ≡ Refusal.ResourcesFull) ⊎ (r ≡ Refusal.NoMemory)) }
         ensures no_room { result ≡ Err Refusal.NoMemory → (self.old.table.room ≤ length (resources self.old.table)) ⊎ (2 ^ 32 ≤ self.old.table.next) }
         ensures err { OnErr result (self.new.table.held ≡ self.old.table.held) }
+        ensures err_next { OnErr result (self.new.table.next ≡ self.old.table.next) }
+        ensures untouched { result ≡ Err Refusal.ResourcesFull → self.new ≡ self.old }
         ensures values { values self.new.table ≡ values self.old.table }
         ensures limit { self.new.table.limit ≡ self.old.table.limit }
         ensures room { self.old.table.room ≤ self.new.table.room }

@@ -41,7 +41,8 @@ impl Heap {
     /// # Errors
     /// `AllocError` where the room cannot be had.
     pub fn new(alloc: Global, limits: Limits) -> Result<Self, AllocError>
-        ensures { IfOk result (IsJoined (empty limits.cells limits.sessions limits.resources)) }
+        ensures joined { IfOk result (IsJoined (empty limits.cells limits.sessions limits.resources)) }
+        ensures age { IfOk result (λ heap. heap.soft_age ≡ limits.soft_age) }
     {
         let mut core = Core::new(alloc, limits)?;
         let mut choice = Choice::new(alloc, limits.cells)?;

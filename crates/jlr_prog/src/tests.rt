@@ -184,6 +184,40 @@ fn a_failed_read_is_a_fault(rt: HostRuntime) {
     assert_eq!(rt; out.as_slice(), b"ok\n".as_slice());
 }
 
+/// Fails at its first read, and then gives its bytes.
+#[derive(Drop)]
+struct FailsOnce<'a> {
+    failed: bool,
+    later: Pieced<'a>,
+}
+
+impl Read for FailsOnce<'_> {
+    fn read(&mut self, buf: &mut [u8]) -> io::Result<usize> {
+        if !self.failed {
+            self.failed = true;
+            return Err(io::Error::from(ErrorKind::Other));
+        }
+        self.later.read(buf)
+    }
+}
+
+#[test]
+fn a_failed_read_is_not_tried_again(rt: HostRuntime) {
+    let mut reader = FailsOnce {
+        failed: false,
+        later: Pieced {
+            bytes: b"gc\n",
+            first: 0,
+            step: 3,
+            fails: false,
+        },
+    };
+    let mut out = Vec::new(rt.alloc());
+    let end = converse(&mut reader, &mut out, &mut NoHeap);
+    assert_eq!(rt; end, FirstEnd::ReadFault);
+    assert!(rt; out.is_empty());
+}
+
 #[test]
 fn a_failed_write_or_flush_is_a_fault(rt: HostRuntime) {
     for (room, flushes, sent) in [

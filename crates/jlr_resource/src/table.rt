@@ -83,6 +83,8 @@ impl<R> Table<R> {
         ensures refused { IfErr result (λ r. (r ≡ Refusal.ResourcesFull) ⊎ (r ≡ Refusal.NoMemory)) }
         ensures no_room { result ≡ Err Refusal.NoMemory → (self.old.room ≤ length (resources self.old)) ⊎ (2 ^ 32 ≤ self.old.next) }
         ensures err { OnErr result (self.new.held ≡ self.old.held) }
+        ensures err_next { OnErr result (self.new.next ≡ self.old.next) }
+        ensures untouched { result ≡ Err Refusal.ResourcesFull → self.new ≡ self.old }
         ensures values { values self.new ≡ values self.old }
         ensures limit { self.new.limit ≡ self.old.limit }
         ensures room { self.old.room ≤ self.new.room }
@@ -223,6 +225,7 @@ fn place_for<R>(places: &mut Slab<Place<R>>, action: ActionNo) -> Result<Rid, Re
     ensures resources { IfOk result (λ rid. resources_in (held_by places.new) ≡ with_resource (resources_in (held_by places.old)) (record { rid = rid; action = action; state = state.Opening })) }
     ensures no_room { IfErr result (λ r. (r ≡ Refusal.NoMemory) × ((places.old.capacity ≤ length (resources_in (held_by places.old))) ⊎ (2 ^ 32 ≤ places.old.vacant_key))) }
     ensures err { OnErr result (held_by places.new ≡ held_by places.old) }
+    ensures err_next { OnErr result (places.new.vacant_key ≡ places.old.vacant_key) }
     ensures values { values_in (held_by places.new) ≡ values_in (held_by places.old) }
     ensures room { places.old.capacity ≤ places.new.capacity }
 {

@@ -563,3 +563,36 @@ fn a_short_write_is_gone_on_with(rt: HostRuntime) {
         assert_eq!(rt; writer.taken.as_slice(), sent.as_bytes(), "at {room}");
     }
 }
+
+/// Fails at its first write, and takes all later ones.
+#[derive(Drop)]
+struct FailsOnce {
+    failed: bool,
+    taken: usize,
+}
+
+impl Write for FailsOnce {
+    fn write(&mut self, buf: &[u8]) -> io::Result<usize> {
+        if !self.failed {
+            self.failed = true;
+            return Err(io::Error::from(io::ErrorKind::Other));
+        }
+        self.taken = buf.len();
+        Ok(buf.len())
+    }
+
+    fn flush(&mut self) -> io::Result<()> {
+        Ok(())
+    }
+}
+
+#[test]
+fn a_failed_write_is_not_tried_again(rt: HostRuntime) {
+    let mut writer = FailsOnce {
+        failed: false,
+        taken: 0,
+    };
+    assert!(rt; write_reply(&Answer::Done, &mut writer).is_err());
+    assert!(rt; writer.failed);
+    assert_eq!(rt; writer.taken, 0);
+}

@@ -1,5 +1,5 @@
 //! The command line.
-ghost use Rattle.std.specs.Prelude.{◌≡◌, ◌≢◌, IfOk};
+ghost use Rattle.std.specs.Prelude.{◌≡◌, ◌≢◌, ◌⊎◌, IfOk, IfErr};
 ghost use Rattle.clap.specs.Values.{kind_of};
 ghost use Rattle.refheap.specs.Status.{status_of};
 
@@ -12,16 +12,19 @@ use std::{env, io};
 
 /// The words that the program was called with, its own name first. A word that is no text is a bad
 /// command line.
-pub fn words(rt: &HostRuntime) -> Result<Vec<String>, ProgramFault> {
+pub fn words(rt: &HostRuntime) -> Result<Vec<String>, ProgramFault>
+    ensures { IfErr result (λ fault. (status_of fault ≡ 2) ⊎ (status_of fault ≡ 5)) }
+{
     match env::args(rt) {
-        Ok(args) => Ok(args.collect(rt.alloc())?),
+        Ok(args) => args
+            .collect(rt.alloc())
+            .map_err(|_| ProgramFault::NoMemory(AllocError)),
         Err(error) if error.kind() == io::ErrorKind::OutOfMemory => {
             Err(ProgramFault::NoMemory(AllocError))
         }
         Err(_) => {
             let message = "a word of the command line is not UTF-8 text";
-            let mut command = command(rt.alloc())?;
-            Err(told(command.error(ErrorKind::InvalidValue, message)?))
+            Err(refused(rt.alloc(), message))
         }
     }
 }
@@ -36,8 +39,11 @@ struct Numbers {
 }
 
 /// The numbers that the words of a `run` ask for, each as it is usually where they ask for none.
-fn numbers_asked(alloc: Global, words: &[String]) -> Result<Numbers, ProgramFault> {
-    let matches = parsed(command(alloc)?, words)?;
+fn numbers_asked(alloc: Global, words: &[String]) -> Result<Numbers, ProgramFault>
+    ensures { IfErr result (λ fault. (status_of fault ≡ 2) ⊎ (status_of fault ≡ 5)) }
+{
+    let command = command(alloc).map_err(ProgramFault::NoMemory)?;
+    let matches = parsed(command, words)?;
     let run = matches.subcommand_matches("run");
     Ok(Numbers {
         cells: number(run, "cells").unwrap_or(DEFAULT_CELLS),
@@ -51,7 +57,10 @@ fn number(run: Option<&ArgMatches<'_>>, option: &str) -> Option<u32> {
 }
 
 /// The limits of the heap that the words of a `run` ask for: what they ask for, and the rest as it is usually.
-pub fn limits(alloc: Global, words: &[String]) -> Result<Limits, ProgramFault> {
+pub fn limits(alloc: Global, words: &[String]) -> Result<Limits, ProgramFault>
+    ensures usual { IfOk result (λ limits. (limits.sessions ≡ 1) × (limits.resources ≡ 16) × (limits.trace ≡ 10000) × (limits.budget ≡ 64)) }
+    ensures refused { IfErr result (λ fault. (status_of fault ≡ 2) ⊎ (status_of fault ≡ 5)) }
+{
     let asked = numbers_asked(alloc, words)?;
     match limits_with(asked.cells, asked.soft_age) {
         Ok(limits) => Ok(limits),
@@ -60,8 +69,7 @@ pub fn limits(alloc: Global, words: &[String]) -> Result<Limits, ProgramFault> {
                 LimitFault::SoftAge => "the soft age is from 0 to 1000",
                 _ => "the number of cells is from 16 to 65536",
             };
-            let mut command = command(alloc)?;
-            Err(told(command.error(ErrorKind::InvalidValue, message)?))
+            Err(refused(alloc, message))
         }
     }
 }
@@ -93,8 +101,25 @@ const DEFAULT_CELLS: u32 = 1_024;
 /// The soft age of a heap where the command line gives none.
 const DEFAULT_SOFT_AGE: u32 = 4;
 
+/// A bad command line, with what is wrong with it, or the want of memory to say so.
+fn refused(alloc: Global, message: &str) -> ProgramFault
+    ensures { (status_of result ≡ 2) ⊎ (status_of result ≡ 5) }
+{
+    match refusal(alloc, message) {
+        Ok(error) => told(error),
+        Err(fault) => ProgramFault::NoMemory(fault),
+    }
+}
+
+/// What `clap` says of a bad command line.
+fn refusal(alloc: Global, message: &str) -> Result<clap::Error, AllocError> {
+    command(alloc)?.error(ErrorKind::InvalidValue, message)
+}
+
 /// What the words match.
-fn parsed<'a>(command: Command<'a>, words: &'a [String]) -> Result<ArgMatches<'a>, ProgramFault> {
+fn parsed<'a>(command: Command<'a>, words: &'a [String]) -> Result<ArgMatches<'a>, ProgramFault>
+    ensures { IfErr result (λ fault. (status_of fault ≡ 2) ⊎ (status_of fault ≡ 5)) }
+{
     match command.try_get_matches_from(words) {
         Ok(matches) => Ok(matches),
         Err(error) => Err(told(error)),
@@ -105,6 +130,7 @@ fn parsed<'a>(command: Command<'a>, words: &'a [String]) -> Result<ArgMatches<'a
 fn told(error: clap::Error) -> ProgramFault
     ensures memory { kind_of error ≡ ErrorKind.OutOfMemory → status_of result ≡ 5 }
     ensures words { kind_of error ≢ ErrorKind.OutOfMemory → status_of result ≡ 2 }
+    ensures either { (status_of result ≡ 2) ⊎ (status_of result ≡ 5) }
 {
     if error.kind() == ErrorKind::OutOfMemory {
         return ProgramFault::NoMemory(AllocError);

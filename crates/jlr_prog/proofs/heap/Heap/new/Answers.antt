@@ -5,8 +5,8 @@ use Rattle.jlr_core.specs.Events.{answer_in, Enters}
 use Rattle.jlr_core.proofs.RunLaws.{stands_at_start, start_room}
 use Rattle.jlr_prog.proofs.heap.Heap.new.Goals as goal
 
-pub returns-in-Answered-Done-default : goal.returns-in-Answered-Done-default
-returns-in-Answered-Done-default c =
+pub returns-in-Answered-Done-default-clause-joined : goal.returns-in-Answered-Done-default-clause-joined
+returns-in-Answered-Done-default-clause-joined c =
     let l = c.args.limits in
     let m = empty l.cells l.sessions l.resources in
     let x = c.step.ensures.entry m (stands_at_start c.in_ok-core.core l.cells l.sessions l.resources c.in_ok-core.ensures.machine) in
