@@ -1,38 +1,39 @@
 -- The roots of a core's machine are what its heap holds.
-use Rattle.std.proofs.Common.{◌≡◌, ℕ, Bool, true, false, [], Option, Some, None, option_and_then, is_some, refl, sym, subst, filter_map}
-use Rattle.std.proofs.lemmas.Bool.{both_ways}
+use Rattle.std.proofs.Common.{◌≡◌, ◌++◌, ℕ, Bool, [], Some, refl, sym, subst, filter_map}
 use Rattle.std.specs.Option.{option_to_list}
-use Rattle.jlr_machine.specs.declared.object.Object.{Object}
-use Rattle.jlr_machine.specs.declared.object.Object.TheVariants.{Plain, Reference, Queue, Cleaner, Cleanable, Guard}
 use Rattle.jlr_machine.specs.declared.machine.Machine.{Machine}
+use Rattle.jlr_machine.specs.declared.machine.Session.{Session}
 use Rattle.jlr_machine.specs.Objects.{at, ◌∈◌}
-use Rattle.jlr_machine.specs.Edges.{is_own_root}
+use Rattle.jlr_machine.specs.Edges.{active_cleanables}
 use Rattle.jlr_machine.specs.WellFormed.{IsWellFormed}
-use Rattle.jlr_cells.specs.Contents.{kind_of}
 use Rattle.jlr_roots.specs.Walk.{slots_held, slots_of}
 use Rattle.jlr_laws.proofs.Sets.{in_front, nothing}
 use Rattle.jlr_laws.proofs.Clearing.{in_left, in_right}
 use Rattle.jlr_laws.proofs.Frames.{root_gives, from_sessions, from_places, IsRoot}
 use Rattle.jlr_laws.proofs.Frames.IsRoot.{held as by_handle, fencing, named, waiting, lining, active}
 use Rattle.jlr_barrier.specs.Graphs.{Graph, held}
+use Rattle.jlr_barrier.proofs.OwnRoots.{active_from}
 use Rattle.jlr_sweep.specs.Collecting.{IsRooted}
 use Rattle.jlr_core.specs.State.{frame, machine_with}
 
-module _ (g : Graph) (limit : ℕ) (cycle : Bool) (known : (s : ℕ) → is_some (option_and_then kind_of (at g.objects s)) ≡ is_some (at g.objects s)) where
+module _ (g : Graph) (limit : ℕ) (cycle : Bool) where
   abbrev m : Machine
   m = machine_with g limit cycle
 
-  not_active : (o : Option Object) → is_some (option_and_then kind_of o) ≡ is_some o → is_own_root o ≡ true → ⊥
-  not_active None h e = both_ways false refl e
-  not_active (Some (Plain fields)) h e = both_ways false refl e
-  not_active (Some (Reference r)) h e = both_ways false refl e
-  not_active (Some (Queue members)) h e = both_ways false refl e
-  not_active (Some Cleaner) h e = both_ways false refl e
-  not_active (Some (Cleanable c)) h e = both_ways true (sym h) refl
-  not_active (Some (Guard x)) h e = both_ways false refl e
+  -- ---- What is held first is held
 
   by_session : (s : ℕ) → s ∈ slots_held g.mutators → s ∈ held g
-  by_session s h = in_left s (slots_held g.mutators) g.pending h
+  by_session s h =
+      in_left s (slots_held g.mutators ++ g.pending ++ g.line) (active_cleanables 0 g.objects)
+      (in_left s (slots_held g.mutators ++ g.pending) g.line (in_left s (slots_held g.mutators) g.pending h))
+
+  by_pending : (s : ℕ) → s ∈ g.pending → s ∈ held g
+  by_pending s h =
+      in_left s (slots_held g.mutators ++ g.pending ++ g.line) (active_cleanables 0 g.objects)
+      (in_left s (slots_held g.mutators ++ g.pending) g.line (in_right s (slots_held g.mutators) g.pending h))
+
+  by_line : (s : ℕ) → s ∈ g.line → s ∈ held g
+  by_line s h = in_left s (slots_held g.mutators ++ g.pending ++ g.line) (active_cleanables 0 g.objects) (in_right s (slots_held g.mutators ++ g.pending) g.line h)
 
   is_held : (s : ℕ) → IsRoot m s → s ∈ held g
   is_held s (by_handle k h session e f) =
@@ -41,9 +42,9 @@ module _ (g : Graph) (limit : ℕ) (cycle : Bool) (known : (s : ℕ) → is_some
       let there : s ∈ option_to_list session.fence = subst (λ o. s ∈ option_to_list o) (sym f) (in_front s s [] refl) in
       by_session s (from_sessions slots_of g.mutators k session s e (in_right s (filter_map (λ h. h) session.handles) (option_to_list session.fence) there))
   is_held s (named h) = nothing s h
-  is_held s (waiting h) = in_right s (slots_held g.mutators) g.pending h
-  is_held s (lining h) = nothing s h
-  is_held s (active h) = absurd (not_active (at g.objects s) (known s) h)
+  is_held s (waiting h) = by_pending s h
+  is_held s (lining h) = by_line s h
+  is_held s (active h) = in_right s (slots_held g.mutators ++ g.pending ++ g.line) (active_cleanables 0 g.objects) (active_from g.objects s h)
 
   pub rooted : IsWellFormed m → IsRooted (frame limit cycle) g
   rooted w = record { fit = w; all_held = λ s h. is_held s (root_gives m s h) }

@@ -32,7 +32,6 @@ impl State {
         ensures cells { length self.new.heap.graph.objects ≡ length self.old.heap.graph.objects }
         ensures age { self.new.soft_age ≡ self.old.soft_age }
     {
-        self.heap.kinds_are_known();
         let policy = Policy::new(self.soft_age, mode);
         jlr_sweep::full(&mut self.heap, &policy, choice);
         self.cycle_open = false;

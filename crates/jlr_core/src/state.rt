@@ -49,7 +49,7 @@ impl State {
             mutators: self.heap.mutators_image(alloc)?,
             names: Items::new(alloc),
             pending: self.heap.pending_image(alloc)?,
-            line: Items::new(alloc),
+            line: self.heap.line_image(alloc)?,
             jobs: Items::new(alloc),
             resources: Items::new(alloc),
             resource_limit: self.resource_limit,
