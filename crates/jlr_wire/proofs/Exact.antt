@@ -22,7 +22,7 @@ use Rattle.jlr_types.specs.declared.FieldKind.{FieldKind}
 use Rattle.jlr_types.specs.declared.FieldKind.TheVariants.{Int as IntField, Ref as RefField}
 use Rattle.jlr_machine.specs.declared.ask.FullMode.TheVariants.{Policy, ClearAll}
 use Rattle.jlr_wire.specs.declared.command.Command.{Command}
-use Rattle.jlr_wire.specs.declared.command.Command.TheVariants.{New, Put, Get, SetInt, Int, Dup, Drop, Same, Soft, Weak, Phantom, Deref, Refers, Clear, Enqueue, Enqueued, Queue, Poll, Full, Stat, Bye}
+use Rattle.jlr_wire.specs.declared.command.Command.TheVariants.{New, Put, Get, SetInt, Int, Dup, Drop, Same, Soft, Weak, Phantom, Deref, Refers, Clear, Enqueue, Enqueued, Queue, Poll, Cleaner, Register, Clean, Full, Stat, Notes, Faults, Bye}
 
 -- a test for texts without a space
 abbrev spaceless : List ℕ → Bool
@@ -106,9 +106,14 @@ apart (Enqueue r) fields f = rw f.1 (two _ _ (word (codes "enqueue") refl) (numb
 apart (Enqueued r) fields f = rw f.1 (two _ _ (word (codes "enqueued") refl) (number r f.0))
 apart Queue fields f = rw f (one _ (word (codes "queue") refl))
 apart (Poll q) fields f = rw f.1 (two _ _ (word (codes "poll") refl) (number q f.0))
+apart Cleaner fields f = rw f (one _ (word (codes "cleaner") refl))
+apart (Register c h n) fields f = rw f.3 (four _ _ _ _ (word (codes "register") refl) (number c f.0) (number h f.1) (digits n (omega (arith, f.2))))
+apart (Clean c) fields f = rw f.1 (two _ _ (word (codes "clean") refl) (number c f.0))
 apart (Full Policy) fields f = rw f (one _ (word (codes "gc") refl))
 apart (Full ClearAll) fields f = rw f (two _ _ (word (codes "gc") refl) (word (codes "soft") refl))
 apart Stat fields f = rw f (one _ (word (codes "stat") refl))
+apart Notes fields f = rw f (one _ (word (codes "notes") refl))
+apart Faults fields f = rw f (one _ (word (codes "faults") refl))
 apart Bye fields f = rw f (one _ (word (codes "bye") refl))
 
 -- the parts of a command's line are its fields

@@ -6,15 +6,15 @@ use Rattle.std.specs.Str.{bytes_eq}
 use Rattle.std.proofs.lemmas.Slice.Eq.{bytes_eq-Decides}
 use Rattle.std.proofs.lemmas.Option.{same_Some, none-some}
 use Rattle.jlr_wire.proofs.Options.{bind_some, chosen, cond_some_of, and_parts}
-use Rattle.jlr_wire.proofs.Numbers.{byte_of_decimal, byte_of_spells}
+use Rattle.jlr_wire.proofs.Numbers.{byte_of_decimal, byte_of_spells, note_of_decimal, note_of_spells}
 use Rattle.jlr_wire.proofs.Integers.{integer_of_decimal, integer_of_spells}
 use Rattle.jlr_wire.proofs.Layouts.{layout_of_layout, layout_of_spells}
-use Rattle.jlr_wire.specs.Fields.{byte_of, integer_of}
+use Rattle.jlr_wire.specs.Fields.{byte_of, note_of, integer_of}
 use Rattle.jlr_wire.specs.Commands.{Fields}
 use Rattle.jlr_wire.specs.Reading.{◌>>=◌, layout_of, names_alone, names_with_number, names_with_two, named, with_number, with_two_numbers, reading_1, reading_2, reading_3, reading_4, reading}
 use Rattle.jlr_machine.specs.declared.ask.FullMode.TheVariants.{Policy, ClearAll}
 use Rattle.jlr_wire.specs.declared.command.Command.{Command}
-use Rattle.jlr_wire.specs.declared.command.Command.TheVariants.{New, Put, Get, SetInt, Int, Dup, Drop, Same, Soft, Weak, Phantom, Deref, Refers, Clear, Enqueue, Enqueued, Queue, Poll, Full, Stat, Bye}
+use Rattle.jlr_wire.specs.declared.command.Command.TheVariants.{New, Put, Get, SetInt, Int, Dup, Drop, Same, Soft, Weak, Phantom, Deref, Refers, Clear, Enqueue, Enqueued, Queue, Poll, Cleaner, Register, Clean, Full, Stat, Notes, Faults, Bye}
 
 -- the fields of a command are read as that command
 pub complete : (c : Command) (fields : List (List ℕ)) → Fields c fields → reading fields ≡ Some c
@@ -37,9 +37,14 @@ complete (Enqueue r) fields f = rw (f.1, byte_of_decimal r f.0) refl
 complete (Enqueued r) fields f = rw (f.1, byte_of_decimal r f.0) refl
 complete Queue fields f = rw f refl
 complete (Poll q) fields f = rw (f.1, byte_of_decimal q f.0) refl
+complete Cleaner fields f = rw f refl
+complete (Register c h n) fields f = rw (f.3, byte_of_decimal c f.0, byte_of_decimal h f.1, note_of_decimal n f.2) refl
+complete (Clean c) fields f = rw (f.1, byte_of_decimal c f.0) refl
 complete (Full Policy) fields f = rw f refl
 complete (Full ClearAll) fields f = rw f refl
 complete Stat fields f = rw f refl
+complete Notes fields f = rw f refl
+complete Faults fields f = rw f refl
 complete Bye fields f = rw f refl
 
 same_name : (name word : List ℕ) → bytes_eq name word ≡ true → name ≡ word
@@ -71,14 +76,14 @@ sound_1 : (n : List ℕ) (c : Command) → reading_1 n ≡ Some c → Fields c (
 unfolding reading_1
 sound_1 n c e =
     let P : List ℕ → Command → Type 0 = λ n c. Fields c (n ∷ []) in
-    in_table P n names_alone c (refl, (refl, (refl, (refl, tt)))) e
+    in_table P n names_alone c (refl, (refl, (refl, (refl, (refl, (refl, (refl, tt))))))) e
 
 sound_number : (n : List ℕ) (h : ℕ) (c : Command) → h < 256 → with_number n h ≡ Some c → Fields c (n ∷ decimal h ∷ [])
 unfolding with_number
 sound_number n h c lt e =
     let P : List ℕ → Command → Type 0 = λ n c. Fields c (n ∷ decimal h ∷ []) in
     in_table P n (names_with_number h) c
-    ((lt, refl), ((lt, refl), ((lt, refl), ((lt, refl), ((lt, refl), ((lt, refl), ((lt, refl), tt))))))) e
+    ((lt, refl), ((lt, refl), ((lt, refl), ((lt, refl), ((lt, refl), ((lt, refl), ((lt, refl), ((lt, refl), tt)))))))) e
 
 sound_two_numbers : (n : List ℕ) (h k : ℕ) (c : Command) → h < 256 → k < 256 → with_two_numbers n h k ≡ Some c → Fields c (n ∷ decimal h ∷ decimal k ∷ [])
 unfolding with_two_numbers
@@ -129,11 +134,23 @@ sound_setint n x a b c name e =
     let z = integer_of_spells b q.0 q.1 in
     rw (← same_Some _ _ q.2) (h.1, k.1, z.0, same_4 _ _ _ _ _ _ _ _ (same_name n (codes "setint") name) h.2 k.2 z.1)
 
+sound_register : (n x a b : List ℕ) (c : Command) → bytes_eq n (codes "register") ≡ true
+    → (byte_of x >>= λ k. byte_of a >>= λ h. note_of b >>= λ z. Some (Register k h z)) ≡ Some c → Fields c (n ∷ x ∷ a ∷ b ∷ [])
+sound_register n x a b c name e =
+    let k = spelled (λ k. byte_of a >>= λ h. note_of b >>= λ z. Some (Register k h z)) x c e in
+    let h = spelled (λ h. note_of b >>= λ z. Some (Register k.0 h z)) a c k.3 in
+    let q = bind_some (note_of b) (λ z. Some (Register k.0 h.0 z)) c h.3 in
+    let z = note_of_spells b q.0 q.1 in
+    rw (← same_Some _ _ q.2) (k.1, h.1, z.0, same_4 _ _ _ _ _ _ _ _ (same_name n (codes "register") name) k.2 h.2 z.1)
+
 sound_4 : (n x a b : List ℕ) (c : Command) → reading_4 n x a b ≡ Some c → Fields c (n ∷ x ∷ a ∷ b ∷ [])
 unfolding reading_4
 sound_4 n x a b c e = elim (chosen (bytes_eq n (codes "put")) _ _ (Some c) e) [
   | inl p ↦ sound_put n x a b c p.0 p.1
-  | inr p ↦ let q = cond_some_of (bytes_eq n (codes "setint")) _ c p.1 in sound_setint n x a b c q.0 q.1
+  | inr p ↦ elim (chosen (bytes_eq n (codes "setint")) _ _ (Some c) p.1) [
+    | inl q ↦ sound_setint n x a b c q.0 q.1
+    | inr q ↦ let r = cond_some_of (bytes_eq n (codes "register")) _ c q.1 in sound_register n x a b c r.0 r.1
+  ]
 ]
 
 -- what is read as a command is its fields

@@ -1,5 +1,5 @@
 -- What lines are commands: a line is its fields, with exactly one space between each two.
-use Rattle.std.specs.Prelude.{◌≡◌, ℕ, ◌<◌, ◌≤◌, List, [], ◌∷◌, map, length, decimal, codes, FitsSigned}
+use Rattle.std.specs.Prelude.{◌≡◌, ℕ, ◌^◌, ◌<◌, ◌≤◌, List, [], ◌∷◌, map, length, decimal, codes, FitsSigned}
 use Rattle.std.specs.List.{join_with_byte}
 use Rattle.std.specs.Int.{w64}
 use Rattle.std.specs.Fmt.{signed_decimal}
@@ -7,7 +7,7 @@ use Rattle.jlr_types.specs.declared.FieldKind.{FieldKind}
 use Rattle.jlr_types.specs.declared.FieldKind.TheVariants.{Int as IntField, Ref as RefField}
 use Rattle.jlr_machine.specs.declared.ask.FullMode.TheVariants.{Policy, ClearAll}
 use Rattle.jlr_wire.specs.declared.command.Command.{Command}
-use Rattle.jlr_wire.specs.declared.command.Command.TheVariants.{New, Put, Get, SetInt, Int, Dup, Drop, Same, Soft, Weak, Phantom, Deref, Refers, Clear, Enqueue, Enqueued, Queue, Poll, Full, Stat, Bye}
+use Rattle.jlr_wire.specs.declared.command.Command.TheVariants.{New, Put, Get, SetInt, Int, Dup, Drop, Same, Soft, Weak, Phantom, Deref, Refers, Clear, Enqueue, Enqueued, Queue, Poll, Cleaner, Register, Clean, Full, Stat, Notes, Faults, Bye}
 
 -- the letter of a field
 abbrev pub letter : FieldKind → ℕ
@@ -40,9 +40,15 @@ Fields (Enqueue r) fields = (r < 256) × (fields ≡ codes "enqueue" ∷ decimal
 Fields (Enqueued r) fields = (r < 256) × (fields ≡ codes "enqueued" ∷ decimal r ∷ [])
 Fields Queue fields = fields ≡ codes "queue" ∷ []
 Fields (Poll q) fields = (q < 256) × (fields ≡ codes "poll" ∷ decimal q ∷ [])
+Fields Cleaner fields = fields ≡ codes "cleaner" ∷ []
+Fields (Register c h note) fields =
+    (c < 256) × (h < 256) × (note < 2 ^ 32) × (fields ≡ codes "register" ∷ decimal c ∷ decimal h ∷ decimal note ∷ [])
+Fields (Clean c) fields = (c < 256) × (fields ≡ codes "clean" ∷ decimal c ∷ [])
 Fields (Full Policy) fields = fields ≡ codes "gc" ∷ []
 Fields (Full ClearAll) fields = fields ≡ codes "gc" ∷ codes "soft" ∷ []
 Fields Stat fields = fields ≡ codes "stat" ∷ []
+Fields Notes fields = fields ≡ codes "notes" ∷ []
+Fields Faults fields = fields ≡ codes "faults" ∷ []
 Fields Bye fields = fields ≡ codes "bye" ∷ []
 
 -- The line, without its end, is the command.

@@ -4,9 +4,9 @@ use Rattle.std.specs.Str.{bytes_eq}
 use Rattle.jlr_types.specs.declared.FieldKind.{FieldKind}
 use Rattle.jlr_types.specs.declared.FieldKind.TheVariants.{Int as IntField, Ref as RefField}
 use Rattle.jlr_machine.specs.declared.ask.FullMode.TheVariants.{Policy, ClearAll}
-use Rattle.jlr_wire.specs.Fields.{byte_of, integer_of}
+use Rattle.jlr_wire.specs.Fields.{byte_of, note_of, integer_of}
 use Rattle.jlr_wire.specs.declared.command.Command.{Command}
-use Rattle.jlr_wire.specs.declared.command.Command.TheVariants.{New, Put, Get, SetInt, Int, Dup, Drop, Same, Soft, Weak, Phantom, Deref, Refers, Clear, Enqueue, Enqueued, Queue, Poll, Full, Stat, Bye}
+use Rattle.jlr_wire.specs.declared.command.Command.TheVariants.{New, Put, Get, SetInt, Int, Dup, Drop, Same, Soft, Weak, Phantom, Deref, Refers, Clear, Enqueue, Enqueued, Queue, Poll, Cleaner, Register, Clean, Full, Stat, Notes, Faults, Bye}
 
 -- the ? of the logic
 infixl 10 ◌>>=◌
@@ -31,7 +31,15 @@ layout_of text =
 
 -- the commands of a name alone, of a name and a number, and of a name and two numbers, each beside its name
 abbrev pub names_alone : List (List ℕ × Command)
-names_alone = (codes "queue", Queue) ∷ (codes "gc", Full Policy) ∷ (codes "stat", Stat) ∷ (codes "bye", Bye) ∷ []
+names_alone =
+    (codes "queue", Queue)
+    ∷ (codes "cleaner", Cleaner)
+    ∷ (codes "gc", Full Policy)
+    ∷ (codes "stat", Stat)
+    ∷ (codes "notes", Notes)
+    ∷ (codes "faults", Faults)
+    ∷ (codes "bye", Bye)
+    ∷ []
 
 abbrev pub names_with_number : ℕ → List (List ℕ × Command)
 names_with_number a =
@@ -42,6 +50,7 @@ names_with_number a =
     ∷ (codes "enqueue", Enqueue a)
     ∷ (codes "enqueued", Enqueued a)
     ∷ (codes "poll", Poll a)
+    ∷ (codes "clean", Clean a)
     ∷ []
 
 abbrev pub names_with_two : ℕ → ℕ → List (List ℕ × Command)
@@ -81,7 +90,8 @@ reading_3 name a b = byte_of a >>= λ h. byte_of b >>= λ k. with_two_numbers na
 unfoldable pub reading_4 : List ℕ → List ℕ → List ℕ → List ℕ → Option Command
 reading_4 name a b c =
     cond (bytes_eq name (codes "put")) (byte_of a >>= λ h. byte_of b >>= λ k. byte_of c >>= λ v. Some (Put h k v))
-    (cond (bytes_eq name (codes "setint")) (byte_of a >>= λ h. byte_of b >>= λ k. integer_of c >>= λ n. Some (SetInt h k n)) None)
+    (cond (bytes_eq name (codes "setint")) (byte_of a >>= λ h. byte_of b >>= λ k. integer_of c >>= λ n. Some (SetInt h k n))
+    (cond (bytes_eq name (codes "register")) (byte_of a >>= λ k. byte_of b >>= λ h. note_of c >>= λ n. Some (Register k h n)) None))
 
 -- the command of these fields
 unfoldable pub reading : List (List ℕ) → Option Command

@@ -10,7 +10,7 @@ ghost use Rattle.jlr_wire.specs.Fields.{is_space, texts};
 use crate::cut::cut_at;
 use crate::integer::integer;
 use crate::layout::layout;
-use crate::number::number;
+use crate::number::{note, number};
 use crate::pieces::LINE_LIMIT;
 use arrayvec::ArrayVec;
 use jlr_machine::ask::FullMode;
@@ -100,12 +100,28 @@ pub enum Command {
     Poll {
         queue: Handle,
     },
+    /// `cleaner`: makes a cleaner.
+    Cleaner,
+    /// `register c h note`: has a cleaner note the number once the object is unreachable.
+    Register {
+        cleaner: Handle,
+        object: Handle,
+        note: u32,
+    },
+    /// `clean c`: does what a cleanable was made for, if that was not done before.
+    Clean {
+        cleanable: Handle,
+    },
     /// `gc`: a full collection by the policy for soft references. `gc soft`: one that clears them all.
     Full {
         mode: FullMode,
     },
     /// `stat`: the machine's counts.
     Stat,
+    /// `notes`: the numbers that were noted.
+    Notes,
+    /// `faults`: the cleaning actions that failed.
+    Faults,
     /// `bye`: ends the session.
     Bye,
 }
@@ -136,15 +152,30 @@ fn fields_of<'a>(line: &'a [u8]) -> Option<ArrayVec<&'a [u8], FIELD_LIMIT>>
 fn one_field(name: &[u8]) -> Option<Command>
     ensures { result ≡ reading_1 name.now }
 {
-    match name {
-        b"queue" => Some(Command::Queue),
-        b"gc" => Some(Command::Full {
-            mode: FullMode::Policy,
-        }),
-        b"stat" => Some(Command::Stat),
-        b"bye" => Some(Command::Bye),
-        _ => None,
+    if name == b"queue".as_slice() {
+        return Some(Command::Queue);
     }
+    if name == b"cleaner".as_slice() {
+        return Some(Command::Cleaner);
+    }
+    if name == b"gc".as_slice() {
+        return Some(Command::Full {
+            mode: FullMode::Policy,
+        });
+    }
+    if name == b"stat".as_slice() {
+        return Some(Command::Stat);
+    }
+    if name == b"notes".as_slice() {
+        return Some(Command::Notes);
+    }
+    if name == b"faults".as_slice() {
+        return Some(Command::Faults);
+    }
+    if name == b"bye".as_slice() {
+        return Some(Command::Bye);
+    }
+    None
 }
 
 /// A command of a name and one field.
@@ -189,6 +220,9 @@ fn one_number(name: &[u8], a: u8) -> Option<Command>
     }
     if name == b"poll".as_slice() {
         return Some(Command::Poll { queue: h });
+    }
+    if name == b"clean".as_slice() {
+        return Some(Command::Clean { cleanable: h });
     }
     None
 }
@@ -251,6 +285,13 @@ fn four_fields(name: &[u8], a: &[u8], b: &[u8], c: &[u8]) -> Option<Command>
             object: Handle::new(number(a)?),
             field: number(b)?,
             value: integer(c)?,
+        });
+    }
+    if name == b"register".as_slice() {
+        return Some(Command::Register {
+            cleaner: Handle::new(number(a)?),
+            object: Handle::new(number(b)?),
+            note: note(c)?,
         });
     }
     None

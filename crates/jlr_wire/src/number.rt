@@ -1,6 +1,6 @@
 //! The decimal numbers of a line.
-ghost use Rattle.std.specs.Prelude.{ℕ, ◌≡◌, ◌<◌, IfSome, IfNone, decimal};
-ghost use Rattle.jlr_wire.specs.Fields.{byte_of};
+ghost use Rattle.std.specs.Prelude.{ℕ, ◌≡◌, ◌<◌, ◌^◌, IfSome, IfNone, decimal};
+ghost use Rattle.jlr_wire.specs.Fields.{byte_of, note_of};
 
 use itoa::Buffer;
 
@@ -8,18 +8,26 @@ use itoa::Buffer;
 pub fn number(text: &[u8]) -> Option<u8>
     ensures { result ≡ byte_of text.now }
 {
+    let number = note(text)?;
+    u8::try_from(number).ok()
+}
+
+/// The number from 0 to 4,294,967,295 that the text spells in decimal without a leading zero, or `None`.
+pub fn note(text: &[u8]) -> Option<u32>
+    ensures { result ≡ note_of text.now }
+{
     parse_number(text)
 }
 
-/// The number from 0 to 255 whose decimal text this is, or `None`.
-fn parse_number(text: &[u8]) -> Option<u8>
+/// The number from 0 to 4,294,967,295 whose decimal text this is, or `None`.
+fn parse_number(text: &[u8]) -> Option<u32>
     ensures found { IfSome result (λ n. text.now ≡ decimal n) }
-    ensures none { IfNone result ((n : ℕ) → n < 256 → text.now ≡ decimal n → ⊥) }
+    ensures none { IfNone result ((n : ℕ) → n < 2 ^ 32 → text.now ≡ decimal n → ⊥) }
 {
     let Ok(digits) = str::from_utf8(text) else {
         return None;
     };
-    let Ok(n) = digits.parse::<u8>() else {
+    let Ok(n) = digits.parse::<u32>() else {
         return None;
     };
     let mut buffer = Buffer::new();

@@ -1,10 +1,12 @@
 //! Reply lines out of answers.
-ghost use Rattle.std.specs.Prelude.{◌≡◌, ◌++◌, ◌∷◌, [], IfSome, IfNone, IsErr};
+ghost use Rattle.std.specs.Prelude.{◌≡◌, ◌++◌, ◌∷◌, [], codes, IfSome, IfNone, IsErr};
 ghost use Rattle.std.specs.Io.KnownBytes.{Keeps};
-ghost use Rattle.jlr_wire.specs.Replies.{Sends, spaced, stat_words, words};
+ghost use Rattle.jlr_wire.specs.Replies.{Sends, spaced, stat_words, fault_text, failure_text, words};
 
 use itoa::Buffer;
 use jlr_machine::ask::{Answer, Stat};
+use jlr_machine::machine::Failure;
+use jlr_types::Fault;
 use std::io::Write;
 
 /// A write that failed or took nothing, or an answer that has no line.
@@ -25,6 +27,14 @@ fn send<W: Write>(bytes: &[u8], writer: &mut W) -> Result<(), WriteFault>
     Ok(())
 }
 
+/// Writes two texts, one after the other.
+fn send_both<W: Write>(text: &str, more: &str, writer: &mut W) -> Result<(), WriteFault>
+    ensures { Sends (W.contents writer.old) (W.contents writer.new) result (text.now ++ more.now) }
+{
+    send(text.as_bytes(), writer)?;
+    send(more.as_bytes(), writer)
+}
+
 /// Writes a text and then a number in decimal.
 fn send_after<W: Write, N: itoa::Integer + Drop>(
     text: &str,
@@ -33,9 +43,8 @@ fn send_after<W: Write, N: itoa::Integer + Drop>(
 ) -> Result<(), WriteFault>
     ensures { Sends (W.contents writer.old) (W.contents writer.new) result (text.now ++ N.text n) }
 {
-    send(text.as_bytes(), writer)?;
     let mut buffer = Buffer::new();
-    send(buffer.format(n).as_bytes(), writer)
+    send_both(text, buffer.format(n), writer)
 }
 
 /// Writes a word and then the numbers in decimal, each after a space.
@@ -67,17 +76,50 @@ fn send_stat<W: Write>(stat: &Stat, writer: &mut W) -> Result<(), WriteFault>
     send_list("stat", &counts, writer)
 }
 
+/// The name of a fault in a line.
+fn fault_name(fault: Fault) -> &'static str
+    ensures { result.now ≡ fault_text fault }
+{
+    match fault {
+        Fault::NotFound => "notfound",
+        Fault::Denied => "denied",
+        Fault::Other => "other",
+    }
+}
+
+/// Writes a space, a failed action and its fault.
+fn send_failure<W: Write>(failure: &Failure, writer: &mut W) -> Result<(), WriteFault>
+    ensures { Sends (W.contents writer.old) (W.contents writer.new) result (32 ∷ failure_text failure.now) }
+{
+    send_after(" ", failure.action.number(), writer)?;
+    send_both(":", fault_name(failure.fault), writer)
+}
+
+/// Writes the list of the failed actions.
+fn send_failures<W: Write>(failures: &[Failure], writer: &mut W) -> Result<(), WriteFault>
+    ensures { Sends (W.contents writer.old) (W.contents writer.new) result (codes "list" ++ spaced failure_text failures.now) }
+{
+    send(b"list", writer)?;
+    for failure in failures {
+        send_failure(failure, writer)?;
+    }
+    Ok(())
+}
+
 /// Writes what an answer says, without the end of the line.
 fn write_words<W: Write>(answer: &Answer, writer: &mut W) -> Result<(), WriteFault>
     ensures line { IfSome (words answer.now) (Sends (W.contents writer.old) (W.contents writer.new) result) }
     ensures none { IfNone (words answer.now) (IsErr result × Keeps (W.contents writer.old) (W.contents writer.new)) }
 {
     match answer {
-        Answer::Done => send(b"ok", writer),
+        Answer::Done | Answer::AlreadyDone => send(b"ok", writer),
         Answer::Handle(handle) => send_after("= ", handle.number(), writer),
         Answer::Truth(true) => send(b"yes", writer),
         Answer::Truth(false) => send(b"no", writer),
         Answer::Int(n) => send_after("int ", *n, writer),
+        Answer::Faulted(fault) => send_both("fault ", fault_name(*fault), writer),
+        Answer::Notes(notes) => send_list("list", notes.as_slice(), writer),
+        Answer::Faults(failures) => send_failures(failures.as_slice(), writer),
         Answer::Stat(stat) => send_stat(stat, writer),
         Answer::Refused(refusal) => send_after("! ", refusal.number(), writer),
         _ => Err(WriteFault),

@@ -4,7 +4,9 @@ use crate::pieces::{Got, Pieces};
 use crate::reply::{WriteFault, write_reply};
 use arrayvec::ArrayVec;
 use jlr_machine::ask::{Answer, Handed, Stat};
-use jlr_types::{Fault, FieldKind, Handle, Layout, Refusal, Rid};
+use jlr_machine::items::Items;
+use jlr_machine::machine::Failure;
+use jlr_types::{ActionNo, Fault, FieldKind, Handle, Layout, Refusal, Rid};
 use std::alloc::{AllocError, Global};
 use std::io::{self, Write};
 use std::process::Abort;
@@ -166,6 +168,25 @@ fn reference_case_of(alloc: Global, command: Command) -> Result<String, AllocErr
         Command::Enqueued { reference } => with_one(alloc, "Enqueued", reference),
         Command::Queue => format!(in alloc; "Queue"),
         Command::Poll { queue } => with_one(alloc, "Poll", queue),
+        another => cleaning_case_of(alloc, another),
+    }
+}
+
+/// The case of a command about cleaners, and its parts.
+fn cleaning_case_of(alloc: Global, command: Command) -> Result<String, AllocError> {
+    match command {
+        Command::Cleaner => format!(in alloc; "Cleaner"),
+        Command::Register {
+            cleaner,
+            object,
+            note,
+        } => {
+            let (c, h) = (cleaner.number(), object.number());
+            format!(in alloc; "Register {c} {h} {note}")
+        }
+        Command::Clean { cleanable } => with_one(alloc, "Clean", cleanable),
+        Command::Notes => format!(in alloc; "Notes"),
+        Command::Faults => format!(in alloc; "Faults"),
         another => whole_case_of(alloc, another),
     }
 }
@@ -275,6 +296,21 @@ fn reads_commands_of_references(rt: HostRuntime) -> Result<(), Fail> {
 }
 
 #[test]
+fn reads_commands_of_cleaners(rt: HostRuntime) -> Result<(), Fail> {
+    let rows = [
+        ("cleaner", "Cleaner"),
+        ("register 1 2 0", "Register 1 2 0"),
+        ("register 255 0 7", "Register 255 0 7"),
+        ("register 1 2 256", "Register 1 2 256"),
+        ("register 1 2 4294967295", "Register 1 2 4294967295"),
+        ("clean 9", "Clean 9"),
+        ("notes", "Notes"),
+        ("faults", "Faults"),
+    ];
+    read_as(rt.alloc(), &rt, &rows)
+}
+
+#[test]
 fn reads_commands_of_the_whole(rt: HostRuntime) -> Result<(), Fail> {
     let rows = [
         ("gc", "Full Policy"),
@@ -294,76 +330,105 @@ fn malformed(rt: &impl Abort, lines: &[&str]) {
 }
 
 #[test]
-fn refuses_other_spaces_than_one_between_fields(rt: HostRuntime) {
+fn refuses_spaces_at_an_end(rt: HostRuntime) {
     let lines = [
         "",
         " ",
         "put 1 0 2 ",
         " put 1 0 2",
-        "get  1 0",
-        "get 1  0",
         "get 1 0 ",
         "dup ",
-        "gc\r",
         "gc ",
         " gc",
-        "gc  soft",
         "gc soft ",
         " gc soft",
-        "gc\tsoft",
         "bye ",
         " bye",
-        "bye\r",
         "new ",
-        "new\t-",
-        "soft 1  0",
-        "phantom  1 0",
         "queue ",
         " queue",
         "poll ",
         "stat ",
         " stat",
         "int 1 0 ",
-        "setint 1 0  5",
         "setint 1 0 5 ",
+        "cleaner ",
+        "register 1 2 7 ",
+        " clean 1",
+        "notes ",
+        " faults",
     ];
     malformed(&rt, &lines);
 }
 
 #[test]
-fn refuses_another_count_of_fields(rt: HostRuntime) {
+fn refuses_other_separators_than_one_space(rt: HostRuntime) {
+    let lines = [
+        "get  1 0",
+        "get 1  0",
+        "gc\r",
+        "gc  soft",
+        "gc\tsoft",
+        "bye\r",
+        "new\t-",
+        "soft 1  0",
+        "phantom  1 0",
+        "setint 1 0  5",
+        "register 1  2 7",
+    ];
+    malformed(&rt, &lines);
+}
+
+#[test]
+fn refuses_too_few_fields(rt: HostRuntime) {
     let lines = [
         "put 1",
         "put 1 0",
-        "put 1 0 2 3",
         "dup",
-        "drop 1 2",
         "same 1",
-        "gc soft soft",
         "new",
         "soft",
         "soft 1",
-        "soft 1 0 0",
         "weak 1",
         "phantom 1",
         "deref",
         "refers 1",
-        "refers 1 2 3",
         "clear",
-        "clear 1 2",
         "enqueue",
-        "enqueue 1 2",
         "enqueued",
-        "enqueued 1 2",
-        "queue 1",
         "poll",
-        "poll 1 2",
         "int",
         "int 1",
-        "int 1 0 5",
         "setint 1 0",
+        "register",
+        "register 1",
+        "register 1 2",
+        "clean",
+    ];
+    malformed(&rt, &lines);
+}
+
+#[test]
+fn refuses_too_many_fields(rt: HostRuntime) {
+    let lines = [
+        "put 1 0 2 3",
+        "drop 1 2",
+        "gc soft soft",
+        "soft 1 0 0",
+        "refers 1 2 3",
+        "clear 1 2",
+        "enqueue 1 2",
+        "enqueued 1 2",
+        "queue 1",
+        "poll 1 2",
+        "int 1 0 5",
         "setint 1 0 5 6",
         "stat 1",
+        "cleaner 1",
+        "register 1 2 7 8",
+        "clean 1 2",
+        "notes 1",
+        "faults 1",
     ];
     malformed(&rt, &lines);
 }
@@ -391,6 +456,12 @@ fn refuses_other_names(rt: HostRuntime) {
         "getint 1 0",
         "set 1 0 5",
         "setInt 1 0 5",
+        "Cleaner",
+        "cleaners",
+        "registers 1 2 7",
+        "cleaned 1",
+        "note",
+        "fault",
     ];
     malformed(&rt, &lines);
 }
@@ -421,6 +492,12 @@ fn refuses_other_handles_and_field_numbers(rt: HostRuntime) {
         "int 1 256",
         "setint 256 0 5",
         "setint 1 00 5",
+        "register 256 2 7",
+        "register 01 2 7",
+        "register 1 256 7",
+        "clean 256",
+        "clean 01",
+        "clean -1",
     ];
     malformed(&rt, &lines);
 }
@@ -449,6 +526,22 @@ fn refuses_other_layouts_and_integers(rt: HostRuntime) {
         "setint 1 1 9223372036854775808",
         "setint 1 1 -9223372036854775809",
         "setint 1 1 18446744073709551616",
+    ];
+    malformed(&rt, &lines);
+}
+
+#[test]
+fn refuses_other_notes(rt: HostRuntime) {
+    let lines = [
+        "register 1 2 4294967296",
+        "register 1 2 18446744073709551616",
+        "register 1 2 07",
+        "register 1 2 00",
+        "register 1 2 -1",
+        "register 1 2 -0",
+        "register 1 2 +7",
+        "register 1 2 7x",
+        "register 1 2 -",
     ];
     malformed(&rt, &lines);
 }
@@ -509,12 +602,73 @@ fn writes_the_counts(rt: HostRuntime) -> Result<(), Fail> {
 }
 
 #[test]
+fn writes_faults_and_what_was_done_before(rt: HostRuntime) -> Result<(), Fail> {
+    let mut out = Vec::new(rt.alloc());
+    write_reply(&Answer::AlreadyDone, &mut out)?;
+    write_reply(&Answer::Faulted(Fault::NotFound), &mut out)?;
+    write_reply(&Answer::Faulted(Fault::Denied), &mut out)?;
+    write_reply(&Answer::Faulted(Fault::Other), &mut out)?;
+    assert_eq!(rt;
+        out.as_slice(),
+        b"ok\nfault notfound\nfault denied\nfault other\n".as_slice()
+    );
+    Ok(())
+}
+
+/// The answer of these notes.
+fn notes_of(alloc: Global, notes: &[u32]) -> Result<Answer, AllocError> {
+    Ok(Answer::Notes(Items::from_vec(notes.to_vec(alloc)?)))
+}
+
+/// The answer of these failed actions.
+fn faults_of(alloc: Global, faults: &[(u64, Fault)]) -> Result<Answer, AllocError> {
+    let mut failures = Items::new(alloc);
+    for (action, fault) in faults {
+        failures.push(Failure {
+            action: ActionNo::new(*action),
+            fault: *fault,
+        })?;
+    }
+    Ok(Answer::Faults(failures))
+}
+
+#[test]
+fn writes_lists(rt: HostRuntime) -> Result<(), Fail> {
+    let mut out = Vec::new(rt.alloc());
+    write_reply(&notes_of(rt.alloc(), &[])?, &mut out)?;
+    write_reply(&notes_of(rt.alloc(), &[7])?, &mut out)?;
+    write_reply(&notes_of(rt.alloc(), &[0, 4294967295, 7, 7])?, &mut out)?;
+    write_reply(&faults_of(rt.alloc(), &[])?, &mut out)?;
+    write_reply(&faults_of(rt.alloc(), &[(1, Fault::Other)])?, &mut out)?;
+    let several = [
+        (12, Fault::Denied),
+        (3, Fault::NotFound),
+        (u64::MAX, Fault::Other),
+    ];
+    write_reply(&faults_of(rt.alloc(), &several)?, &mut out)?;
+    assert_eq!(rt;
+        out.as_slice(),
+        b"list\nlist 7\nlist 0 4294967295 7 7\nlist\nlist 1:other\nlist 12:denied 3:notfound 18446744073709551615:other\n".as_slice()
+    );
+    Ok(())
+}
+
+#[test]
+fn writes_a_list_longer_than_a_line_read(rt: HostRuntime) -> Result<(), Fail> {
+    let mut out = Vec::new(rt.alloc());
+    write_reply(&notes_of(rt.alloc(), &[4294967295; 256])?, &mut out)?;
+    assert_eq!(rt; out.len(), 4 + 256 * 11 + 1);
+    assert!(rt; out.as_slice().starts_with(b"list 4294967295 4294967295 "));
+    assert!(rt; out.as_slice().ends_with(b" 4294967295\n"));
+    Ok(())
+}
+
+#[test]
 fn writes_nothing_where_there_is_no_line(rt: HostRuntime) {
     for answer in [
         Answer::Handed(Handed::Nothing),
         Answer::Prepared(Rid::new(1)),
-        Answer::Faulted(Fault::Other),
-        Answer::AlreadyDone,
+        Answer::Out(Rid::new(1)),
     ] {
         let mut out = Vec::new(rt.alloc());
         assert!(rt; write_reply(&answer, &mut out).is_err());
@@ -525,7 +679,7 @@ fn writes_nothing_where_there_is_no_line(rt: HostRuntime) {
 /// Takes at most so many bytes in one write, and so many in all.
 #[derive(Drop)]
 struct Narrow {
-    taken: ArrayVec<u8, 16>,
+    taken: ArrayVec<u8, 32>,
     step: usize,
     room: usize,
 }
@@ -595,4 +749,27 @@ fn a_failed_write_is_not_tried_again(rt: HostRuntime) {
     assert!(rt; write_reply(&Answer::Done, &mut writer).is_err());
     assert!(rt; writer.failed);
     assert_eq!(rt; writer.taken, 0);
+}
+
+#[test]
+fn a_list_that_fails_is_a_front_of_its_line(rt: HostRuntime) -> Result<(), Fail> {
+    let answer = faults_of(rt.alloc(), &[(1, Fault::Other), (2, Fault::Denied)])?;
+    for (room, whole, sent) in [
+        (22, true, "list 1:other 2:denied\n"),
+        (21, false, "list 1:other 2:denied"),
+        (14, false, "list 1:other 2"),
+        (7, false, "list 1:"),
+        (4, false, "list"),
+        (0, false, ""),
+    ] {
+        let mut writer = Narrow {
+            taken: ArrayVec::new(),
+            step: 3,
+            room,
+        };
+        let result = write_reply(&answer, &mut writer);
+        assert_eq!(rt; result.is_ok(), whole, "at {room}");
+        assert_eq!(rt; writer.taken.as_slice(), sent.as_bytes(), "at {room}");
+    }
+    Ok(())
 }
