@@ -227,6 +227,13 @@ impl<R> Cleaner<R> {
         self.table.count()
     }
 
+    /// How many resources the limits allow.
+    pub fn resource_limit(&self) -> u32
+        ensures { result ≡ self.now.table.limit }
+    {
+        self.table.limit()
+    }
+
     /// Whether as many resources are open as the limits allow.
     pub fn is_full(&self) -> bool
         ensures { result ≡ nat_le self.now.table.limit (length (resources self.now.table)) }

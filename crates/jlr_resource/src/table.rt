@@ -53,6 +53,13 @@ impl<R> Table<R> {
         self.places.len()
     }
 
+    /// How many resources the table may hold.
+    pub fn limit(&self) -> u32
+        ensures { result ≡ self.now.limit }
+    {
+        self.limit
+    }
+
     /// Whether as many resources are open as the table may hold.
     pub fn is_full(&self) -> bool
         ensures { result ≡ nat_le self.now.limit (length (resources self.now)) }
