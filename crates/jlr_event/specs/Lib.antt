@@ -1,0 +1,2 @@
+-- What events and replies are without their resources.
+pub mod Events
