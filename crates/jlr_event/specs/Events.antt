@@ -7,7 +7,7 @@ use Rattle.jlr_machine.specs.declared.ask.Ask.{Ask}
 use Rattle.jlr_machine.specs.declared.ask.Ask.TheVariants as ask
 use Rattle.jlr_machine.specs.declared.ask.Answer.{Answer}
 use Rattle.jlr_event.specs.declared.event.Event.{Event}
-use Rattle.jlr_event.specs.declared.event.Event.TheVariants.{Join, Leave, New, Put, Get, SetInt, Int, Dup, Drop, Same, MakeRef, Deref, Refers, Clear, Enqueue, Enqueued, MakeQueue, Poll, Remove, MakeCleaner, Register, Clean, Prepare, Opened, CheckOut, Close, Finish, Names, Full, Stat, Notes, Faults, HandOver, TakeUp, Begin, Collect, Abandon, Mark}
+use Rattle.jlr_event.specs.declared.event.Event.TheVariants.{Join, Leave, New, Put, Get, SetInt, Int, Dup, Drop, Same, MakeRef, Deref, Refers, Clear, Enqueue, Enqueued, MakeQueue, Poll, Remove, MakeCleaner, Register, Clean, Prepare, Opened, CheckOut, CheckIn, Close, Finish, Bind, Find, Unbind, Names, Full, Stat, Notes, Faults, HandOver, TakeUp, Begin, Collect, Abandon, Mark}
 use Rattle.jlr_event.specs.declared.event.Reply.{Reply}
 use Rattle.jlr_event.specs.declared.event.Reply.TheVariants.{Answered, Marked}
 
@@ -47,8 +47,12 @@ ask_of (Clean k c) = Some (ask.Clean k c)
 ask_of (Prepare k) = Some (ask.Prepare k)
 ask_of (Opened k outcome) = Some (ask.Opened k (outcome_of outcome))
 ask_of (CheckOut k h) = Some (ask.CheckOut k h)
+ask_of (CheckIn k outcome resource) = Some (ask.CheckIn k outcome)
 ask_of (Close k h) = Some (ask.Close k h)
 ask_of (Finish by action outcome) = Some (ask.Finish by action (outcome_of outcome))
+ask_of (Bind k name h) = Some (ask.Bind k name h)
+ask_of (Find k name) = Some (ask.Find k name)
+ask_of (Unbind k name) = Some (ask.Unbind k name)
 ask_of (Names k) = Some (ask.Names k)
 ask_of (Full k mode) = Some (ask.Full k mode)
 ask_of (Stat k) = Some (ask.Stat k)
@@ -64,6 +68,7 @@ ask_of (Mark budget) = None
 -- the resource that an event hands in
 abbrev pub given : {R : Type 0} → Event R → Option R
 given (Opened k outcome) = resource_of outcome
+given (CheckIn k outcome resource) = Some resource
 given _ = None
 
 -- the answer of a reply; none for a piece of marking

@@ -1,8 +1,12 @@
 //! What comes to the core, and what goes back: an ask or an answer with the resource that it carries.
 ghost use Rattle.std.specs.Prelude.{◌≡◌};
-ghost use Rattle.jlr_event.specs.Events.{ask_of, outcome_of, answer_in, handed};
+ghost use Rattle.jlr_event.specs.Events.{ask_of, answer_in, handed};
 
-use jlr_machine::ask::{Answer, Ask, FullMode, Outcome};
+use crate::asks::{
+    cleaner_ask, field_ask, heap_ask, name_ask, object_ask, queue_ask, reference_ask, resource_ask,
+};
+use jlr_machine::ask::{Answer, Ask, CallOutcome, FullMode};
+use jlr_machine::text::Name;
 use jlr_types::{ActionNo, Fault, Handle, Layout, Mutator, Progress, RefKind};
 
 /// An event: an ask, with the resource that is handed in where one is, or a piece of marking.
@@ -121,6 +125,12 @@ pub enum Event<R> {
         mutator: Mutator,
         guard: Handle,
     },
+    /// A call on a resource ended: the resource comes back, well or not.
+    CheckIn {
+        mutator: Mutator,
+        outcome: CallOutcome,
+        resource: R,
+    },
     /// A resource is taken up to be finished.
     Close {
         mutator: Mutator,
@@ -131,6 +141,20 @@ pub enum Event<R> {
         by: u8,
         action: ActionNo,
         outcome: Result<(), Fault>,
+    },
+    /// A name is bound to an object; one that is bound already keeps its place.
+    Bind {
+        mutator: Mutator,
+        name: Name,
+        object: Handle,
+    },
+    Find {
+        mutator: Mutator,
+        name: Name,
+    },
+    Unbind {
+        mutator: Mutator,
+        name: Name,
     },
     /// All names that are bound.
     Names {
@@ -180,148 +204,28 @@ impl<R> Event<R> {
     pub fn plain(&self) -> Option<Ask>
         ensures { result ≡ ask_of self.now }
     {
-        Some(match *self {
-            Event::Join { mutator } => Ask::Join { mutator },
-            Event::Leave { mutator } => Ask::Leave { mutator },
-            Event::New {
-                mutator,
-                ref layout,
-            } => Ask::New {
-                mutator,
-                layout: layout.copy(),
-            },
-            Event::Put {
-                mutator,
-                object,
-                field,
-                value,
-            } => Ask::Put {
-                mutator,
-                object,
-                field,
-                value,
-            },
-            Event::Get {
-                mutator,
-                object,
-                field,
-            } => Ask::Get {
-                mutator,
-                object,
-                field,
-            },
-            Event::SetInt {
-                mutator,
-                object,
-                field,
-                value,
-            } => Ask::SetInt {
-                mutator,
-                object,
-                field,
-                value,
-            },
-            Event::Int {
-                mutator,
-                object,
-                field,
-            } => Ask::Int {
-                mutator,
-                object,
-                field,
-            },
-            Event::Dup { mutator, object } => Ask::Dup { mutator, object },
-            Event::Drop { mutator, object } => Ask::Drop { mutator, object },
-            Event::Same {
-                mutator,
-                left,
-                right,
-            } => Ask::Same {
-                mutator,
-                left,
-                right,
-            },
-            Event::MakeRef {
-                mutator,
-                kind,
-                referent,
-                queue,
-            } => Ask::MakeRef {
-                mutator,
-                kind,
-                referent,
-                queue,
-            },
-            Event::Deref { mutator, reference } => Ask::Deref { mutator, reference },
-            Event::Refers {
-                mutator,
-                reference,
-                object,
-            } => Ask::Refers {
-                mutator,
-                reference,
-                object,
-            },
-            Event::Clear { mutator, reference } => Ask::Clear { mutator, reference },
-            Event::Enqueue { mutator, reference } => Ask::Enqueue { mutator, reference },
-            Event::Enqueued { mutator, reference } => Ask::Enqueued { mutator, reference },
-            Event::MakeQueue { mutator } => Ask::MakeQueue { mutator },
-            Event::Poll { mutator, queue } => Ask::Poll { mutator, queue },
-            Event::Remove { mutator, queue } => Ask::Remove { mutator, queue },
-            Event::MakeCleaner { mutator } => Ask::MakeCleaner { mutator },
-            Event::Register {
-                mutator,
-                cleaner,
-                object,
-                note,
-            } => Ask::Register {
-                mutator,
-                cleaner,
-                object,
-                note,
-            },
-            Event::Clean { mutator, cleanable } => Ask::Clean { mutator, cleanable },
-            Event::Prepare { mutator } => Ask::Prepare { mutator },
-            Event::Opened {
-                mutator,
-                ref outcome,
-            } => Ask::Opened {
-                mutator,
-                outcome: ended(outcome),
-            },
-            Event::CheckOut { mutator, guard } => Ask::CheckOut { mutator, guard },
-            Event::Close { mutator, guard } => Ask::Close { mutator, guard },
-            Event::Finish {
-                by,
-                action,
-                ref outcome,
-            } => Ask::Finish {
-                by,
-                action,
-                outcome: ended(outcome),
-            },
-            Event::Names { mutator } => Ask::Names { mutator },
-            Event::Full { mutator, mode } => Ask::Full { mutator, mode },
-            Event::Stat { mutator } => Ask::Stat { mutator },
-            Event::Notes { mutator } => Ask::Notes { mutator },
-            Event::Faults { mutator } => Ask::Faults { mutator },
-            Event::HandOver => Ask::HandOver,
-            Event::TakeUp => Ask::TakeUp,
-            Event::Begin => Ask::Begin,
-            Event::Collect => Ask::Collect,
-            Event::Abandon => Ask::Abandon,
-            Event::Mark { .. } => return None,
-        })
-    }
-}
-
-/// How it ended, without what it gave.
-fn ended<T>(outcome: &Result<T, Fault>) -> Outcome
-    ensures { result ≡ outcome_of outcome.now }
-{
-    match outcome {
-        Ok(_) => Outcome::Ok,
-        Err(fault) => Outcome::Failed(*fault),
+        if let Some(ask) = object_ask(self) {
+            return Some(ask);
+        }
+        if let Some(ask) = field_ask(self) {
+            return Some(ask);
+        }
+        if let Some(ask) = reference_ask(self) {
+            return Some(ask);
+        }
+        if let Some(ask) = queue_ask(self) {
+            return Some(ask);
+        }
+        if let Some(ask) = cleaner_ask(self) {
+            return Some(ask);
+        }
+        if let Some(ask) = resource_ask(self) {
+            return Some(ask);
+        }
+        if let Some(ask) = name_ask(self) {
+            return Some(ask);
+        }
+        heap_ask(self)
     }
 }
 

@@ -2,6 +2,7 @@
 //! them.
 #![tactic(auto)]
 
+mod asks;
 pub mod event;
 #[cfg(test)]
 mod tests;
