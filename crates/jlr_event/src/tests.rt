@@ -22,6 +22,20 @@ fn plain(event: Event<u32>) -> Option<Ask> {
 
 // ---- Replies
 
+fn is_handle(answer: &Option<Answer>, wanted: Handle) -> bool {
+    match answer {
+        Some(Answer::Handle(handle)) => *handle == wanted,
+        _ => false,
+    }
+}
+
+fn is_out(answer: &Option<Answer>, wanted: Rid) -> bool {
+    match answer {
+        Some(Answer::Out(rid)) => *rid == wanted,
+        _ => false,
+    }
+}
+
 #[test]
 fn an_answer_without_a_resource_is_alone(rt: HostRuntime) {
     let reply: Reply<u32> = Reply::Answered {
@@ -29,7 +43,7 @@ fn an_answer_without_a_resource_is_alone(rt: HostRuntime) {
         resource: None,
     };
     let (answer, resource) = reply.plain();
-    assert!(rt; matches!(answer, Some(Answer::Handle(h)) if h == handle(7)));
+    assert!(rt; is_handle(&answer, handle(7)));
     assert!(rt; resource.is_none());
 }
 
@@ -40,7 +54,7 @@ fn a_resource_goes_with_its_answer(rt: HostRuntime) {
         resource: Some(9u32),
     };
     let (answer, resource) = reply.plain();
-    assert!(rt; matches!(answer, Some(Answer::Out(rid)) if rid == Rid::new(2)));
+    assert!(rt; is_out(&answer, Rid::new(2)));
     assert_eq!(rt; resource, Some(9));
 }
 

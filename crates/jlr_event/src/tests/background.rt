@@ -5,37 +5,76 @@ use jlr_machine::ask::{Ask, FullMode};
 use jlr_machine::text::Name;
 use std::test::Fail;
 
-fn name(bytes: &[u8]) -> Result<Name, Fail> {
-    Ok(Name::from_slice(bytes).ok_or("too long")?)
+fn name() -> Result<Name, Fail> {
+    Ok(Name::from_slice(b"log_1").ok_or("too long")?)
+}
+
+fn is_log(name: &Name) -> bool {
+    name.as_slice() == b"log_1".as_slice()
+}
+
+fn is_bind(ask: &Option<Ask>) -> bool {
+    match ask {
+        Some(
+            Ask::Bind {
+                mutator,
+                name,
+                object,
+            },
+        ) => *mutator == me() && is_log(name) && *object == handle(2),
+        _ => false,
+    }
+}
+
+fn is_find(ask: &Option<Ask>) -> bool {
+    match ask {
+        Some(Ask::Find { mutator, name }) => *mutator == me() && is_log(name),
+        _ => false,
+    }
+}
+
+fn is_unbind(ask: &Option<Ask>) -> bool {
+    match ask {
+        Some(Ask::Unbind { mutator, name }) => *mutator == me() && is_log(name),
+        _ => false,
+    }
+}
+
+fn is_names(ask: &Option<Ask>) -> bool {
+    match ask {
+        Some(Ask::Names { mutator }) => *mutator == me(),
+        _ => false,
+    }
 }
 
 #[test]
 fn names_are_bound_found_and_unbound(rt: HostRuntime) -> Result<(), Fail> {
     let bind = plain(Event::Bind {
         mutator: me(),
-        name: name(b"log_1")?,
+        name: name()?,
         object: handle(2),
     });
-    assert!(rt;
-        matches!(bind, Some(Ask::Bind { mutator, name, object }) if mutator == me() && name.as_slice() == b"log_1".as_slice() && object == handle(2))
-    );
+    assert!(rt; is_bind(&bind));
     let find = plain(Event::Find {
         mutator: me(),
-        name: name(b"log_1")?,
+        name: name()?,
     });
-    assert!(rt;
-        matches!(find, Some(Ask::Find { mutator, name }) if mutator == me() && name.as_slice() == b"log_1".as_slice())
-    );
+    assert!(rt; is_find(&find));
     let unbind = plain(Event::Unbind {
         mutator: me(),
-        name: name(b"log_1")?,
+        name: name()?,
     });
-    assert!(rt;
-        matches!(unbind, Some(Ask::Unbind { mutator, name }) if mutator == me() && name.as_slice() == b"log_1".as_slice())
-    );
+    assert!(rt; is_unbind(&unbind));
     let names = plain(Event::Names { mutator: me() });
-    assert!(rt; matches!(names, Some(Ask::Names { mutator }) if mutator == me()));
+    assert!(rt; is_names(&names));
     Ok(())
+}
+
+fn is_full(ask: &Option<Ask>) -> bool {
+    match ask {
+        Some(Ask::Full { mutator, mode }) => *mutator == me() && *mode == FullMode::ClearAll,
+        _ => false,
+    }
 }
 
 #[test]
@@ -44,19 +83,38 @@ fn a_full_collection_has_its_mode(rt: HostRuntime) {
         mutator: me(),
         mode: FullMode::ClearAll,
     });
-    assert!(rt;
-        matches!(full, Some(Ask::Full { mutator, mode }) if mutator == me() && mode == FullMode::ClearAll)
-    );
+    assert!(rt; is_full(&full));
+}
+
+fn is_stat(ask: &Option<Ask>) -> bool {
+    match ask {
+        Some(Ask::Stat { mutator }) => *mutator == me(),
+        _ => false,
+    }
+}
+
+fn is_notes(ask: &Option<Ask>) -> bool {
+    match ask {
+        Some(Ask::Notes { mutator }) => *mutator == me(),
+        _ => false,
+    }
+}
+
+fn is_faults(ask: &Option<Ask>) -> bool {
+    match ask {
+        Some(Ask::Faults { mutator }) => *mutator == me(),
+        _ => false,
+    }
 }
 
 #[test]
 fn counts_notes_and_faults_are_asked_for(rt: HostRuntime) {
     let stat = plain(Event::Stat { mutator: me() });
-    assert!(rt; matches!(stat, Some(Ask::Stat { mutator }) if mutator == me()));
+    assert!(rt; is_stat(&stat));
     let notes = plain(Event::Notes { mutator: me() });
-    assert!(rt; matches!(notes, Some(Ask::Notes { mutator }) if mutator == me()));
+    assert!(rt; is_notes(&notes));
     let faults = plain(Event::Faults { mutator: me() });
-    assert!(rt; matches!(faults, Some(Ask::Faults { mutator }) if mutator == me()));
+    assert!(rt; is_faults(&faults));
 }
 
 #[test]

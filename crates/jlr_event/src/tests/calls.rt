@@ -6,66 +6,123 @@ use jlr_machine::text::Data;
 use jlr_types::{ActionNo, Fault};
 use std::test::Fail;
 
+fn is_make_cleaner(ask: &Option<Ask>) -> bool {
+    match ask {
+        Some(Ask::MakeCleaner { mutator }) => *mutator == me(),
+        _ => false,
+    }
+}
+
+fn is_register(ask: &Option<Ask>) -> bool {
+    match ask {
+        Some(
+            Ask::Register {
+                mutator,
+                cleaner,
+                object,
+                note,
+            },
+        ) => *mutator == me() && *cleaner == handle(9) && *object == handle(2) && *note == 70_000,
+        _ => false,
+    }
+}
+
+fn is_clean(ask: &Option<Ask>) -> bool {
+    match ask {
+        Some(Ask::Clean { mutator, cleanable }) => *mutator == me() && *cleanable == handle(10),
+        _ => false,
+    }
+}
+
 #[test]
 fn cleaners_are_made_and_actions_registered(rt: HostRuntime) {
     let make_cleaner = plain(Event::MakeCleaner { mutator: me() });
-    assert!(rt; matches!(make_cleaner, Some(Ask::MakeCleaner { mutator }) if mutator == me()));
+    assert!(rt; is_make_cleaner(&make_cleaner));
     let register = plain(Event::Register {
         mutator: me(),
         cleaner: handle(9),
         object: handle(2),
         note: 70_000,
     });
-    assert!(rt;
-        matches!(register, Some(Ask::Register { mutator, cleaner, object, note }) if mutator == me() && cleaner == handle(9) && object == handle(2) && note == 70_000)
-    );
+    assert!(rt; is_register(&register));
     let clean = plain(Event::Clean {
         mutator: me(),
         cleanable: handle(10),
     });
-    assert!(rt;
-        matches!(clean, Some(Ask::Clean { mutator, cleanable }) if mutator == me() && cleanable == handle(10))
-    );
+    assert!(rt; is_clean(&clean));
+}
+
+fn is_finish(ask: &Option<Ask>, wanted: Outcome) -> bool {
+    match ask {
+        Some(
+            Ask::Finish {
+                by,
+                action,
+                outcome,
+            },
+        ) => *by == 255 && *action == ActionNo::new(5) && *outcome == wanted,
+        _ => false,
+    }
 }
 
 #[test]
 fn an_action_ends_well_or_with_its_fault(rt: HostRuntime) {
-    let finish = plain(Event::Finish {
+    let well = plain(Event::Finish {
         by: 255,
         action: ActionNo::new(5),
         outcome: Ok(()),
     });
-    assert!(rt;
-        matches!(finish, Some(Ask::Finish { by, action, outcome }) if by == 255 && action == ActionNo::new(5) && outcome == Outcome::Ok)
-    );
-    let finish = plain(Event::Finish {
+    assert!(rt; is_finish(&well, Outcome::Ok));
+    let faulted = plain(Event::Finish {
         by: 255,
         action: ActionNo::new(5),
         outcome: Err(Fault::Denied),
     });
-    assert!(rt;
-        matches!(finish, Some(Ask::Finish { by, action, outcome }) if by == 255 && action == ActionNo::new(5) && outcome == Outcome::Failed(Fault::Denied))
-    );
+    assert!(rt; is_finish(&faulted, Outcome::Failed(Fault::Denied)));
+}
+
+fn is_prepare(ask: &Option<Ask>) -> bool {
+    match ask {
+        Some(Ask::Prepare { mutator }) => *mutator == me(),
+        _ => false,
+    }
+}
+
+fn is_opened(ask: &Option<Ask>, wanted: Outcome) -> bool {
+    match ask {
+        Some(Ask::Opened { mutator, outcome }) => *mutator == me() && *outcome == wanted,
+        _ => false,
+    }
 }
 
 #[test]
 fn an_open_is_prepared_and_ends(rt: HostRuntime) {
     let prepare = plain(Event::Prepare { mutator: me() });
-    assert!(rt; matches!(prepare, Some(Ask::Prepare { mutator }) if mutator == me()));
-    let opened = plain(Event::Opened {
+    assert!(rt; is_prepare(&prepare));
+    let well = plain(Event::Opened {
         mutator: me(),
         outcome: Ok(9),
     });
-    assert!(rt;
-        matches!(opened, Some(Ask::Opened { mutator, outcome }) if mutator == me() && outcome == Outcome::Ok)
-    );
-    let opened = plain(Event::Opened {
+    assert!(rt; is_opened(&well, Outcome::Ok));
+    let faulted = plain(Event::Opened {
         mutator: me(),
         outcome: Err(Fault::NotFound),
     });
-    assert!(rt;
-        matches!(opened, Some(Ask::Opened { mutator, outcome }) if mutator == me() && outcome == Outcome::Failed(Fault::NotFound))
-    );
+    assert!(rt; is_opened(&faulted, Outcome::Failed(Fault::NotFound)));
+}
+
+fn is_check_out(ask: &Option<Ask>) -> bool {
+    match ask {
+        Some(Ask::CheckOut { mutator, guard }) => *mutator == me() && *guard == handle(11),
+        _ => false,
+    }
+}
+
+fn is_close(ask: &Option<Ask>) -> bool {
+    match ask {
+        Some(Ask::Close { mutator, guard }) => *mutator == me() && *guard == handle(11),
+        _ => false,
+    }
 }
 
 #[test]
@@ -74,16 +131,28 @@ fn resources_are_checked_out_and_closed(rt: HostRuntime) {
         mutator: me(),
         guard: handle(11),
     });
-    assert!(rt;
-        matches!(check_out, Some(Ask::CheckOut { mutator, guard }) if mutator == me() && guard == handle(11))
-    );
+    assert!(rt; is_check_out(&check_out));
     let close = plain(Event::Close {
         mutator: me(),
         guard: handle(11),
     });
-    assert!(rt;
-        matches!(close, Some(Ask::Close { mutator, guard }) if mutator == me() && guard == handle(11))
-    );
+    assert!(rt; is_close(&close));
+}
+
+// The ask of a call that ended so, and whose resource comes back.
+fn check_in(outcome: CallOutcome) -> Option<Ask> {
+    plain(Event::CheckIn {
+        mutator: me(),
+        outcome,
+        resource: 9,
+    })
+}
+
+fn came_back_with(ask: &Option<Ask>, wanted: &[u8]) -> bool {
+    match ask {
+        Some(Ask::CheckIn { mutator, outcome }) => *mutator == me() && has_bytes(outcome, wanted),
+        _ => false,
+    }
 }
 
 fn has_bytes(outcome: &CallOutcome, wanted: &[u8]) -> bool {
@@ -96,33 +165,26 @@ fn has_bytes(outcome: &CallOutcome, wanted: &[u8]) -> bool {
 #[test]
 fn a_resource_comes_back_with_what_was_read(rt: HostRuntime) -> Result<(), Fail> {
     let bytes = Data::from_slice(&[1, 2]).ok_or("too long")?;
-    let check_in = plain(Event::CheckIn {
-        mutator: me(),
-        outcome: CallOutcome::Data(bytes),
-        resource: 9,
-    });
-    assert!(rt;
-        matches!(check_in, Some(Ask::CheckIn { mutator, outcome }) if mutator == me() && has_bytes(&outcome, &[1, 2]))
-    );
+    assert!(rt; came_back_with(&check_in(CallOutcome::Data(bytes)), &[1, 2]));
     Ok(())
+}
+
+fn came_back_written(ask: &Option<Ask>) -> bool {
+    match ask {
+        Some(Ask::CheckIn { outcome, .. }) => matches!(outcome, CallOutcome::Wrote(200)),
+        _ => false,
+    }
+}
+
+fn came_back_faulted(ask: &Option<Ask>) -> bool {
+    match ask {
+        Some(Ask::CheckIn { outcome, .. }) => matches!(outcome, CallOutcome::Failed(Fault::Other)),
+        _ => false,
+    }
 }
 
 #[test]
 fn a_resource_comes_back_after_a_write_or_a_fault(rt: HostRuntime) {
-    let check_in = plain(Event::CheckIn {
-        mutator: me(),
-        outcome: CallOutcome::Wrote(200),
-        resource: 9,
-    });
-    assert!(rt;
-        matches!(check_in, Some(Ask::CheckIn { mutator, outcome }) if mutator == me() && matches!(outcome, CallOutcome::Wrote(200)))
-    );
-    let check_in = plain(Event::CheckIn {
-        mutator: me(),
-        outcome: CallOutcome::Failed(Fault::Other),
-        resource: 9,
-    });
-    assert!(rt;
-        matches!(check_in, Some(Ask::CheckIn { mutator, outcome }) if mutator == me() && matches!(outcome, CallOutcome::Failed(Fault::Other)))
-    );
+    assert!(rt; came_back_written(&check_in(CallOutcome::Wrote(200))));
+    assert!(rt; came_back_faulted(&check_in(CallOutcome::Failed(Fault::Other))));
 }

@@ -4,18 +4,39 @@ use crate::event::Event;
 use jlr_machine::ask::Ask;
 use jlr_types::{FieldKind, Layout};
 
+fn is_join(ask: &Option<Ask>) -> bool {
+    match ask {
+        Some(Ask::Join { mutator }) => *mutator == me(),
+        _ => false,
+    }
+}
+
+fn is_leave(ask: &Option<Ask>) -> bool {
+    match ask {
+        Some(Ask::Leave { mutator }) => *mutator == me(),
+        _ => false,
+    }
+}
+
 #[test]
 fn mutators_join_and_leave(rt: HostRuntime) {
     let join = plain(Event::Join { mutator: me() });
-    assert!(rt; matches!(join, Some(Ask::Join { mutator }) if mutator == me()));
+    assert!(rt; is_join(&join));
     let leave = plain(Event::Leave { mutator: me() });
-    assert!(rt; matches!(leave, Some(Ask::Leave { mutator }) if mutator == me()));
+    assert!(rt; is_leave(&leave));
 }
 
 fn has_both_kinds(layout: &Layout) -> bool {
     layout.len() == 2
         && layout.get(0) == Some(FieldKind::Ref)
         && layout.get(1) == Some(FieldKind::Int)
+}
+
+fn is_new(ask: &Option<Ask>) -> bool {
+    match ask {
+        Some(Ask::New { mutator, layout }) => *mutator == me() && has_both_kinds(layout),
+        _ => false,
+    }
 }
 
 #[test]
@@ -27,9 +48,34 @@ fn a_new_object_has_its_layout(rt: HostRuntime) {
         mutator: me(),
         layout,
     });
-    assert!(rt;
-        matches!(new, Some(Ask::New { mutator, layout }) if mutator == me() && has_both_kinds(&layout))
-    );
+    assert!(rt; is_new(&new));
+}
+
+fn is_dup(ask: &Option<Ask>) -> bool {
+    match ask {
+        Some(Ask::Dup { mutator, object }) => *mutator == me() && *object == handle(2),
+        _ => false,
+    }
+}
+
+fn is_drop(ask: &Option<Ask>) -> bool {
+    match ask {
+        Some(Ask::Drop { mutator, object }) => *mutator == me() && *object == handle(2),
+        _ => false,
+    }
+}
+
+fn is_same(ask: &Option<Ask>) -> bool {
+    match ask {
+        Some(
+            Ask::Same {
+                mutator,
+                left,
+                right,
+            },
+        ) => *mutator == me() && *left == handle(5) && *right == handle(6),
+        _ => false,
+    }
 }
 
 #[test]
@@ -38,24 +84,45 @@ fn handles_are_copied_dropped_and_compared(rt: HostRuntime) {
         mutator: me(),
         object: handle(2),
     });
-    assert!(rt;
-        matches!(dup, Some(Ask::Dup { mutator, object }) if mutator == me() && object == handle(2))
-    );
+    assert!(rt; is_dup(&dup));
     let drop = plain(Event::Drop {
         mutator: me(),
         object: handle(2),
     });
-    assert!(rt;
-        matches!(drop, Some(Ask::Drop { mutator, object }) if mutator == me() && object == handle(2))
-    );
+    assert!(rt; is_drop(&drop));
     let same = plain(Event::Same {
         mutator: me(),
         left: handle(5),
         right: handle(6),
     });
-    assert!(rt;
-        matches!(same, Some(Ask::Same { mutator, left, right }) if mutator == me() && left == handle(5) && right == handle(6))
-    );
+    assert!(rt; is_same(&same));
+}
+
+fn is_put(ask: &Option<Ask>) -> bool {
+    match ask {
+        Some(
+            Ask::Put {
+                mutator,
+                object,
+                field,
+                value,
+            },
+        ) => *mutator == me() && *object == handle(2) && *field == 3 && *value == handle(4),
+        _ => false,
+    }
+}
+
+fn is_get(ask: &Option<Ask>) -> bool {
+    match ask {
+        Some(
+            Ask::Get {
+                mutator,
+                object,
+                field,
+            },
+        ) => *mutator == me() && *object == handle(2) && *field == 3,
+        _ => false,
+    }
 }
 
 #[test]
@@ -66,17 +133,40 @@ fn reference_fields_are_written_and_read(rt: HostRuntime) {
         field: 3,
         value: handle(4),
     });
-    assert!(rt;
-        matches!(put, Some(Ask::Put { mutator, object, field, value }) if mutator == me() && object == handle(2) && field == 3 && value == handle(4))
-    );
+    assert!(rt; is_put(&put));
     let get = plain(Event::Get {
         mutator: me(),
         object: handle(2),
         field: 3,
     });
-    assert!(rt;
-        matches!(get, Some(Ask::Get { mutator, object, field }) if mutator == me() && object == handle(2) && field == 3)
-    );
+    assert!(rt; is_get(&get));
+}
+
+fn is_set_int(ask: &Option<Ask>) -> bool {
+    match ask {
+        Some(
+            Ask::SetInt {
+                mutator,
+                object,
+                field,
+                value,
+            },
+        ) => *mutator == me() && *object == handle(2) && *field == 3 && *value == -12,
+        _ => false,
+    }
+}
+
+fn is_int(ask: &Option<Ask>) -> bool {
+    match ask {
+        Some(
+            Ask::Int {
+                mutator,
+                object,
+                field,
+            },
+        ) => *mutator == me() && *object == handle(2) && *field == 3,
+        _ => false,
+    }
 }
 
 #[test]
@@ -87,15 +177,11 @@ fn integer_fields_are_written_and_read(rt: HostRuntime) {
         field: 3,
         value: -12,
     });
-    assert!(rt;
-        matches!(set_int, Some(Ask::SetInt { mutator, object, field, value }) if mutator == me() && object == handle(2) && field == 3 && value == -12)
-    );
+    assert!(rt; is_set_int(&set_int));
     let int = plain(Event::Int {
         mutator: me(),
         object: handle(2),
         field: 3,
     });
-    assert!(rt;
-        matches!(int, Some(Ask::Int { mutator, object, field }) if mutator == me() && object == handle(2) && field == 3)
-    );
+    assert!(rt; is_int(&int));
 }
