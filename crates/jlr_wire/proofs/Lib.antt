@@ -4,6 +4,7 @@ pub mod Layouts
 pub mod Integers
 pub mod Numbers
 pub mod Options
+pub mod Texts
 pub mod Laws
 pub mod Splits
 pub mod Sending

@@ -449,7 +449,6 @@ fn refuses_other_names(rt: HostRuntime) {
         "softer 1 0",
         "enqueues 1",
         "queues",
-        "remove 1",
         "Stat",
         "stats",
         "Int 1 0",
