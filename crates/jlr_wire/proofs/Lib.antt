@@ -9,5 +9,6 @@ pub mod Laws
 pub mod Splits
 pub mod Sending
 pub mod Spaced
+pub mod Digits
 pub mod Streams
 pub mod Unique
