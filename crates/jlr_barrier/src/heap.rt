@@ -9,7 +9,7 @@ use crate::marks::Marks;
 use jlr_cells::{Cells, Kind, Shape};
 use jlr_machine::object::{Object, Reference};
 use jlr_machine::table::Table;
-use jlr_roots::Roots;
+use jlr_roots::{Names, Roots};
 use jlr_types::{FieldValue, Limits, Slot};
 use std::alloc::{AllocError, Global};
 use std::collections::VecDeque;
@@ -20,6 +20,7 @@ use std::marker::Model;
 pub struct Heap {
     pub(crate) cells: Cells,
     pub(crate) roots: Roots,
+    pub(crate) names: Names,
     /// References to be enqueued and cleanables to be lined up, from the front on. It has room for every cell.
     pub(crate) waiting: VecDeque<Slot>,
     /// Cleanables to be taken up, from the front on. It has room for every cell.
@@ -38,20 +39,20 @@ impl Model for Heap {
     ghost Value = { Known };
 
     ghost view = { λ h. record {
-      graph = record { objects = h.cells; mutators = h.roots; pending = h.waiting.items; line = h.lined.items };
+      graph = record { objects = h.cells; mutators = h.roots; names = h.names; pending = h.waiting.items; line = h.lined.items };
       clock = record { last_gets = h.last_gets.items; collections = h.collections };
       marking = h.marks;
     } };
 
     ghost invariant = { λ h. FitsTogether (record {
-      graph = record { objects = h.cells; mutators = h.roots; pending = h.waiting.items; line = h.lined.items };
+      graph = record { objects = h.cells; mutators = h.roots; names = h.names; pending = h.waiting.items; line = h.lined.items };
       clock = record { last_gets = h.last_gets.items; collections = h.collections };
       marking = h.marks;
     }) (deque_capacity h.waiting) (deque_capacity h.lined) };
 }
 
 impl Heap {
-    /// A heap without objects, whose mutators are not joined. All room is made at once.
+    /// A heap without objects or names, whose mutators are not joined. All room but that of names is made at once.
     ///
     /// # Errors
     /// `AllocError` where the room cannot be had.
@@ -62,6 +63,7 @@ impl Heap {
         Ok(Heap {
             cells: Cells::new(alloc, cells)?,
             roots: Roots::new(alloc, session_count(limits))?,
+            names: Names::new(alloc),
             waiting: VecDeque::with_capacity(alloc, cells as usize)?,
             lined: VecDeque::with_capacity(alloc, cells as usize)?,
             marks: Marks::new(alloc, cells)?,

@@ -1,9 +1,10 @@
-//! Shading: what links, queues, roots and lists lead to is marked, and grey if it was not marked before.
+//! Shading: what links, queues, roots, names and lists lead to is marked, and grey if it was not marked before.
 ghost use Rattle.std.specs.Prelude.{◌≡◌, ℕ, ◌+◌, ◌^◌, ◌<◌, ◌≤◌, IsTrue, Some, is_some, length};
 ghost use Rattle.jlr_machine.specs.Objects.{at, some_and, ◌∈◌};
 ghost use Rattle.jlr_machine.specs.Refusals.{is_plain};
 ghost use Rattle.jlr_machine.specs.Edges.{active_cleanables, edges_from, is_active, is_own_root};
 ghost use Rattle.jlr_machine.specs.Edges.Chain.{Strong};
+ghost use Rattle.jlr_roots.specs.Naming.{named};
 ghost use Rattle.jlr_roots.specs.Walk.{slots_held};
 ghost use Rattle.jlr_cells.specs.Contents.{members_in};
 ghost use Rattle.jlr_cells.specs.Links.{linked};
@@ -12,7 +13,7 @@ ghost use Rattle.jlr_barrier.specs.Marking.{Shaded};
 use crate::marks::Marks;
 use jlr_cells::{Cells, Links, Visited};
 use jlr_machine::object::CleanState;
-use jlr_roots::Roots;
+use jlr_roots::{Names, Roots};
 use jlr_types::{Meter, Slot};
 use std::collections::VecDeque;
 
@@ -76,6 +77,18 @@ pub(crate) fn shade_roots(roots: &Roots, marks: &mut Marks)
 {
     for place in 0..roots.places() {
         shade_target(roots.root(place), marks);
+    }
+}
+
+/// Shades what the names stand for.
+pub(crate) fn shade_names(names: &Names, marks: &mut Marks)
+    requires { (x : ℕ) → x ∈ named names.now → x < length marks.old.bits }
+    ensures { Shaded (λ x. x ∈ named names.now) marks.old marks.new }
+{
+    let mut place = 0;
+    while let Some(slot) = names.slot_at(place) {
+        shade_target(Some(slot), marks);
+        place += 1;
     }
 }
 
