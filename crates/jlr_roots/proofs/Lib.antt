@@ -1,3 +1,4 @@
 mod Lowest
 mod Members
 mod Walking
+pub mod Bindings

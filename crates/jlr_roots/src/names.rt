@@ -112,10 +112,7 @@ fn place_of(bindings: &[Binding], name: &Name) -> Option<usize>
 fn slot_bound(bindings: &[Binding], name: &Name) -> Option<Slot>
     ensures { result ≡ slot_bound bindings.now name.now }
 {
-    match place_of(bindings, name) {
-        Some(place) => Some(bindings[place].slot),
-        None => None,
-    }
+    slot_at(bindings, place_of(bindings, name)?)
 }
 
 fn bind(bindings: &mut Vec<Binding>, name: &Name, slot: Slot) -> Result<(), AllocError>
