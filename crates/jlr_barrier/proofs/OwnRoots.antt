@@ -1,5 +1,5 @@
 -- Cleanables that are roots by themselves.
-use Rattle.std.proofs.Common.{◌≡◌, ℕ, zero, suc, ◌+◌, ◌<◌, [], ◌∷◌, length, IsTrue, sym, subst, arith}
+use Rattle.std.proofs.Common.{◌≡◌, ℕ, zero, suc, ◌<◌, [], ◌∷◌, length, IsTrue, sym, subst, arith}
 use Rattle.jlr_machine.specs.Objects.{Heap, at, ◌∈◌}
 use Rattle.jlr_machine.specs.Edges.{active_cleanables, is_own_root}
 use Rattle.jlr_laws.proofs.Frames.{from_active, in_active}

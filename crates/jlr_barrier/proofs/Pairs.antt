@@ -1,5 +1,5 @@
 -- A guard and its cleanable, made one after the other.
-use Rattle.std.proofs.Common.{◌≡◌, ◌+◌, ◌<◌, ℕ, zero, suc, Bool, cond, List, [], ◌∷◌, length, Option, Some, None, is_some, option_map, slice_set, refl, sym, ◌∙◌, ap, arith}
+use Rattle.std.proofs.Common.{◌≡◌, ◌+◌, ◌<◌, ℕ, zero, suc, cond, List, [], ◌∷◌, length, Option, Some, None, is_some, option_map, slice_set, refl, sym, ◌∙◌, ap, arith}
 use Rattle.std.proofs.lemmas.List.Sums.{sum_by-set}
 use Rattle.jlr_types.specs.declared.Work.TheVariants.{Resource as WorkOn}
 use Rattle.jlr_machine.specs.declared.object.Object.{Object}
@@ -9,7 +9,7 @@ use Rattle.jlr_machine.specs.Objects.{Heap, at, change_at, occupied, set_at, wit
 use Rattle.jlr_laws.proofs.Frames.{set_other, set_same}
 use Rattle.jlr_cells.specs.Contents.{watching}
 use Rattle.jlr_barrier.specs.Graphs.{Clock, used_now}
-use Rattle.jlr_barrier.specs.Guards.{AreFree, with_guard}
+use Rattle.jlr_barrier.specs.Guards.{with_guard}
 
 -- ---- Two places of a list
 

@@ -85,10 +85,8 @@ pub(crate) fn shade_names(names: &Names, marks: &mut Marks)
     requires { (x : ℕ) → x ∈ named names.now → x < length marks.old.bits }
     ensures { Shaded (λ x. x ∈ named names.now) marks.old marks.new }
 {
-    let mut place = 0;
-    while let Some(slot) = names.slot_at(place) {
-        shade_target(Some(slot), marks);
-        place += 1;
+    for place in 0..names.len() {
+        shade_target(names.slot_at(place), marks);
     }
 }
 

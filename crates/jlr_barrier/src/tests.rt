@@ -6,6 +6,7 @@ use crate::heap::Heap;
 use jlr_cells::{Kind, Shape};
 use jlr_machine::machine::Call;
 use jlr_machine::object::{CleanState, Cleanable, Guard, Object, RefState, Reference};
+use jlr_machine::text::Name;
 use jlr_types::{
     ActionNo, FieldKind, FieldValue, Handle, Layout, Limits, Meter, Mutator, RefKind, Rid, Slot,
     Work,
@@ -19,6 +20,10 @@ fn heap_of(alloc: Global) -> Result<Heap, Fail>
 {
     let limits = Limits::checked(16, 2, 1, 0, 64, 1).ok().ok_or("limits")?;
     Ok(Heap::new(alloc, limits)?)
+}
+
+fn name_of(bytes: &[u8]) -> Result<Name, Fail> {
+    Ok(Name::from_slice(bytes).ok_or("too long a name")?)
 }
 
 fn pair() -> Shape {
@@ -369,6 +374,38 @@ fn a_fence_is_marked_as_a_root(rt: HostRuntime) -> Result<(), Fail> {
     heap.shade_roots();
     assert_eq!(rt; heap.next_grey(), Some(guard));
     assert_eq!(rt; heap.next_grey(), None);
+    Ok(())
+}
+
+#[test]
+fn what_a_name_stands_for_is_marked_as_a_root(rt: HostRuntime) -> Result<(), Fail> {
+    let mut heap = heap_of(rt.alloc())?;
+    let (name, slot) = (name_of(b"root")?, Slot::new(7));
+    heap.bind(&name, slot)?;
+    heap.shade_roots();
+    assert_eq!(rt; heap.next_grey(), Some(slot));
+    assert_eq!(rt; heap.next_grey(), None);
+    Ok(())
+}
+
+#[test]
+fn a_name_is_bound_found_and_unbound(rt: HostRuntime) -> Result<(), Fail> {
+    let mut heap = heap_of(rt.alloc())?;
+    let (left, right) = (name_of(b"left")?, name_of(b"right")?);
+    assert_eq!(rt; (heap.name_count(), heap.find(&left)), (0, None));
+    heap.bind(&left, Slot::new(3))?;
+    heap.bind(&right, Slot::new(5))?;
+    heap.bind(&left, Slot::new(7))?;
+    assert_eq!(rt;
+        (heap.find(&left), heap.find(&right)),
+        (Some(Slot::new(7)), Some(Slot::new(5)))
+    );
+    let (names, image) = (heap.names(rt.alloc())?, heap.names_image(rt.alloc())?);
+    assert_eq!(rt; (names.len(), image.len()), (2, 2));
+    assert!(rt; names.as_slice()[0].as_slice() == left.as_slice());
+    assert!(rt; image.as_slice()[0].slot == Slot::new(7));
+    heap.unbind(&left);
+    assert_eq!(rt; (heap.name_count(), heap.find(&left)), (1, None));
     Ok(())
 }
 

@@ -15,6 +15,7 @@ use Rattle.jlr_laws.proofs.Checks.{at_beyond}
 use Rattle.jlr_laws.proofs.CollectionKept.{length_left}
 use Rattle.jlr_machine.specs.declared.machine.Machine.{Machine}
 use Rattle.jlr_machine.specs.declared.machine.Session.{Session}
+use Rattle.jlr_machine.specs.declared.machine.Binding.{Binding}
 use Rattle.jlr_machine.specs.Choices.{Choosing, collecting}
 use Rattle.jlr_barrier.specs.Graphs.{Graph, in_machine}
 use Rattle.jlr_barrier.specs.Marking.{Marking, IsMarked, is_marked}
@@ -215,7 +216,13 @@ choice_more c kept lost false false n h = ap (λ k. collecting c k lost) (sym (a
 pub unmarked_loses_not : (m : Marking) (heap : Heap) (n : ℕ) → is_marked m n ≡ false → is_losing m heap n ≡ false
 unmarked_loses_not m heap n e = ap (λ b. b && some_and (loses m) (at heap n)) e
 
-pub as_parts : (k : Machine) (g : Graph) (objects : Heap) (mutators : Table Session) (pending line : List ℕ) → g.objects ≡ objects → g.mutators ≡ mutators → g.pending ≡ pending → g.line ≡ line → in_machine k g ≡ record k { objects = objects; mutators = mutators; pending = pending; line = line }
-as_parts k g objects mutators pending line eo em ep el =
-    let put : Heap → Table Session → List ℕ → List ℕ → Machine = λ o t l w. record k { objects = o; mutators = t; pending = l; line = w } in
-    ap (λ o. put o g.mutators g.pending g.line) eo ∙ ap (λ t. put objects t g.pending g.line) em ∙ ap (λ l. put objects mutators l g.line) ep ∙ ap (put objects mutators pending) el
+pub as_parts : (k : Machine) (g : Graph) (objects : Heap) (mutators : Table Session) (names : List Binding) (pending line : List ℕ)
+    → g.objects ≡ objects → g.mutators ≡ mutators → g.names ≡ names → g.pending ≡ pending → g.line ≡ line
+    → in_machine k g ≡ record k { objects = objects; mutators = mutators; names = names; pending = pending; line = line }
+as_parts k g objects mutators names pending line eo em en ep el =
+    let put : Heap → Table Session → List Binding → List ℕ → List ℕ → Machine = λ o t b l w. record k { objects = o; mutators = t; names = b; pending = l; line = w } in
+    ap (λ o. put o g.mutators g.names g.pending g.line) eo
+    ∙ ap (λ t. put objects t g.names g.pending g.line) em
+    ∙ ap (λ b. put objects mutators b g.pending g.line) en
+    ∙ ap (λ l. put objects mutators names l g.line) ep
+    ∙ ap (put objects mutators names pending) el

@@ -166,3 +166,69 @@ fn copy_names(alloc: Global, bindings: &[Binding]) -> Result<Vec<Name>, AllocErr
     }
     Ok(names)
 }
+
+#[cfg(test)]
+mod tests {
+    use super::*;
+    use std::test::Fail;
+
+    fn name(bytes: &[u8]) -> Result<Name, Fail> {
+        Ok(Name::from_slice(bytes).ok_or("too long a name")?)
+    }
+
+    #[test]
+    fn a_name_is_bound_found_and_unbound(rt: HostRuntime) -> Result<(), Fail> {
+        let mut names = Names::new(rt.alloc());
+        let (left, right) = (name(b"left")?, name(b"right")?);
+        assert_eq!(rt; (names.len(), names.find(&left)), (0, None));
+        names.bind(&left, Slot::new(3))?;
+        names.bind(&right, Slot::new(5))?;
+        assert_eq!(rt; names.len(), 2);
+        assert_eq!(rt;
+            (names.find(&left), names.find(&right)),
+            (Some(Slot::new(3)), Some(Slot::new(5)))
+        );
+        assert_eq!(rt; names.find(&name(b"lef")?), None);
+        names.unbind(&left);
+        assert_eq!(rt;
+            (names.find(&left), names.find(&right)),
+            (None, Some(Slot::new(5)))
+        );
+        names.unbind(&left);
+        assert_eq!(rt; names.len(), 1);
+        Ok(())
+    }
+
+    #[test]
+    fn an_old_name_keeps_its_place(rt: HostRuntime) -> Result<(), Fail> {
+        let mut names = Names::new(rt.alloc());
+        for (bytes, slot) in [(97, 3), (98, 5), (97, 7)] {
+            names.bind(&name(&[bytes])?, Slot::new(slot))?;
+        }
+        assert_eq!(rt;
+            (names.slot_at(0), names.slot_at(1), names.slot_at(2)),
+            (Some(Slot::new(7)), Some(Slot::new(5)), None)
+        );
+        Ok(())
+    }
+
+    #[test]
+    fn a_name_that_was_unbound_comes_last(rt: HostRuntime) -> Result<(), Fail> {
+        let mut names = Names::new(rt.alloc());
+        for bytes in [97, 98, 99] {
+            names.bind(&name(&[bytes])?, Slot::new(bytes as u32))?;
+        }
+        names.unbind(&name(&[97])?);
+        names.bind(&name(&[97])?, Slot::new(1))?;
+        let (all, image) = (names.names(rt.alloc())?, names.image(rt.alloc())?);
+        for (place, byte) in [98, 99, 97].into_iter().enumerate() {
+            assert!(rt; all.as_slice()[place].as_slice() == &[byte]);
+            assert!(rt; image.as_slice()[place].name.as_slice() == &[byte]);
+        }
+        assert_eq!(rt;
+            (all.len(), image.len(), image.as_slice()[2].slot),
+            (3, 3, Slot::new(1))
+        );
+        Ok(())
+    }
+}

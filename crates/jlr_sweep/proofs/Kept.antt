@@ -13,8 +13,9 @@ use Rattle.jlr_roots.specs.Walk.{slots_held, slots_of}
 use Rattle.jlr_laws.specs.Laws.{IsLeast, IsMarked as IsMarkedBy, IsWithinHeap}
 use Rattle.jlr_laws.proofs.Clearing.{edge_gives, edge_from, in_append, in_option}
 use Rattle.jlr_laws.proofs.Frames.{in_sessions, IsRoot, in_places, root_from}
+use Rattle.jlr_barrier.proofs.Held.{held_cases}
 use Rattle.jlr_barrier.proofs.OwnRoots.{active_gives}
-use Rattle.jlr_laws.proofs.Frames.IsRoot.{lining, active, held as by_handle, fencing, waiting}
+use Rattle.jlr_laws.proofs.Frames.IsRoot.{lining, active, held as by_handle, fencing, named as by_name, waiting}
 use Rattle.jlr_laws.proofs.Empty.{well_formed_within}
 use Rattle.jlr_laws.proofs.LawProofs.{comes_down_to_cutting_off, keeping_none_makes_clearing, policy_makes_full}
 use Rattle.std.proofs.Common.{filter_map, option_to_list}
@@ -42,13 +43,9 @@ module _ (f : Machine) (g : Graph) (rooted : IsRooted f g) where
       ]
 
   held_root : (s : ℕ) → s ∈ held g → s ∈ roots m
-  held_root s h = elim (in_append s (slots_held g.mutators ++ g.pending ++ g.line) (active_cleanables 0 g.objects) h) [
-    | inl listed ↦ elim (in_append s (slots_held g.mutators ++ g.pending) g.line listed) [
-      | inl before ↦ elim (in_append s (slots_held g.mutators) g.pending before) [ inl a ↦ session_root s a | inr b ↦ root_from m s (waiting b) ]
-      | inr l ↦ root_from m s (lining l)
-    ]
-    | inr own ↦ root_from m s (active (active_gives g.objects s own))
-  ]
+  held_root s h =
+      held_cases g s h (session_root s) (λ b. root_from m s (by_name b)) (λ b. root_from m s (waiting b)) (λ b. root_from m s (lining b))
+      (λ own. root_from m s (active (active_gives g.objects s own)))
 
   -- ---- What marking asks for
 

@@ -13,6 +13,7 @@ invariant-loop-number l = record {
   pending : l.heap.graph.pending ≡ l.fn.heap.graph.pending ++ lost_below l.fn.heap.marking l.fn.heap.graph.objects l.number;
   line : l.heap.graph.line ≡ l.fn.heap.graph.line;
   mutators : l.heap.graph.mutators ≡ l.fn.heap.graph.mutators;
+  names : l.heap.graph.names ≡ l.fn.heap.graph.names;
   clock : l.heap.clock ≡ l.fn.heap.clock;
   marking : l.heap.marking ≡ l.fn.heap.marking;
   choice : l.choice ≡ collecting l.fn.choice (marked_below l.fn.heap.marking l.number) (lost_below l.fn.heap.marking l.fn.heap.graph.objects l.number);
