@@ -1,8 +1,8 @@
 -- What the marked objects are: what a full collection under the policy keeps.
-use Rattle.std.proofs.Common.{◌≡◌, ◌+◌, ◌++◌, not, ℕ, ◌<◌, ◌↔◌, Bool, true, false, List, [], length, Option, Some, None, option_and_then, IsTrue, is_some, refl, sym, ◌∙◌, ap, subst, inl, inr, arith}
+use Rattle.std.proofs.Common.{◌≡◌, ◌++◌, ℕ, ◌↔◌, Bool, List, [], length, IsTrue, is_some, refl, sym, ◌∙◌, ap, subst, inl, inr, arith}
 use Rattle.jlr_machine.specs.declared.machine.Machine.{Machine}
 use Rattle.jlr_machine.specs.Objects.{at, ◌∈◌, ◌∋◌}
-use Rattle.jlr_machine.specs.Edges.{active_cleanables, edges_from, roots}
+use Rattle.jlr_machine.specs.Edges.{edges_from, roots}
 use Rattle.jlr_machine.specs.Edges.Chain.{UpToSoft, UpToPhantom}
 use Rattle.jlr_soft.specs.declared.policy.Policy.{Policy}
 use Rattle.jlr_soft.specs.declared.policy.Mode.TheVariants.{ClearAll}
@@ -12,7 +12,7 @@ use Rattle.jlr_machine.specs.WellFormed.{IsWellFormed}
 use Rattle.jlr_roots.specs.Walk.{slots_held, slots_of}
 use Rattle.jlr_laws.specs.Laws.{IsLeast, IsMarked as IsMarkedBy, IsWithinHeap}
 use Rattle.jlr_laws.proofs.Clearing.{edge_gives, edge_from, in_append, in_option}
-use Rattle.jlr_laws.proofs.Frames.{in_sessions, IsRoot, in_places, root_from}
+use Rattle.jlr_laws.proofs.Frames.{in_sessions, in_places, root_from}
 use Rattle.jlr_barrier.proofs.Held.{held_cases}
 use Rattle.jlr_barrier.proofs.OwnRoots.{active_gives}
 use Rattle.jlr_laws.proofs.Frames.IsRoot.{lining, active, held as by_handle, fencing, named as by_name, waiting}
