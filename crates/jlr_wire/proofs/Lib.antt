@@ -9,7 +9,7 @@ pub mod Laws
 pub mod Splits
 pub mod Sending
 pub mod Spelled
+pub mod Data
 pub mod Spaced
-pub mod Digits
 pub mod Streams
 pub mod Unique

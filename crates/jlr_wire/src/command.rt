@@ -13,11 +13,11 @@ use crate::layout::layout;
 use crate::number::{count, note, number};
 use crate::path::Path;
 use crate::pieces::LINE_LIMIT;
-use crate::text::{Data, Name};
 use crate::word::{data, mode, name};
 use arrayvec::ArrayVec;
 use jlr_device::Mode;
 use jlr_machine::ask::FullMode;
+use jlr_machine::text::{Data, Name};
 use jlr_types::{Handle, Layout, Refusal};
 
 /// What a line asks for. A handle may be any number from 0 to 255, also one that is never in use.

@@ -15,5 +15,4 @@ pub mod spelling;
 pub mod stream;
 #[cfg(test)]
 mod tests;
-pub mod text;
 mod word;

@@ -4,7 +4,7 @@ ghost use Rattle.std.specs.List.{list_all};
 ghost use Rattle.std.specs.Char.{is_ascii_graphic};
 ghost use Rattle.jlr_wire.specs.Fields.{path_of};
 
-use crate::text::Text;
+use jlr_machine::text::Text;
 use std::marker::Model;
 
 /// A path of 1 to 255 bytes, each of them a visible character of ASCII and no space.

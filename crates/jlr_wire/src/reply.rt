@@ -6,13 +6,13 @@ ghost use Rattle.hex.specs.Hex.{encode_lower};
 
 use itoa::Buffer;
 use jlr_machine::ask::{Answer, Stat};
-use jlr_machine::items::Items;
 use jlr_machine::machine::Failure;
+use jlr_machine::text::Name;
 use jlr_types::Fault;
 use std::io::Write;
 
-/// The most bytes whose digits are written at once.
-const CHUNK: usize = 200;
+/// The most bytes that one call reads.
+const DATA_LIMIT: usize = 200;
 
 /// A write that failed or took nothing, or an answer that has no line.
 #[derive(Clone, Copy, Debug, PartialEq, Eq)]
@@ -120,7 +120,7 @@ fn send_name<W: Write>(name: &[u8], writer: &mut W) -> Result<(), WriteFault>
 }
 
 /// Writes the list of the names.
-fn send_names<W: Write>(names: &[Items<u8>], writer: &mut W) -> Result<(), WriteFault>
+fn send_names<W: Write>(names: &[Name], writer: &mut W) -> Result<(), WriteFault>
     ensures { Sends (W.contents writer.old) (W.contents writer.new) result (codes "list" ++ spaced (λ name. name) names.now) }
 {
     send(b"list", writer)?;
@@ -135,7 +135,7 @@ fn send_digits<W: Write>(bytes: &[u8], writer: &mut W) -> Result<(), WriteFault>
     requires { length bytes.now ≤ 200 }
     ensures { Sends (W.contents writer.old) (W.contents writer.new) result (encode_lower bytes.now) }
 {
-    let mut room = [0u8; 2 * CHUNK];
+    let mut room = [0u8; 2 * DATA_LIMIT];
     let digits = &mut room[..2 * bytes.len()];
     hex::encode_to_slice(bytes, digits).unwrap();
     send(digits, writer)
@@ -143,19 +143,14 @@ fn send_digits<W: Write>(bytes: &[u8], writer: &mut W) -> Result<(), WriteFault>
 
 /// Writes the bytes that were read, or that there were none.
 fn send_data<W: Write>(bytes: &[u8], writer: &mut W) -> Result<(), WriteFault>
+    requires { length bytes.now ≤ 200 }
     ensures { Sends (W.contents writer.old) (W.contents writer.new) result (data_words bytes.now) }
 {
     if bytes.is_empty() {
         return send(b"end", writer);
     }
     send(b"data ", writer)?;
-    let mut rest = bytes;
-    while !rest.is_empty() {
-        let (front, more) = rest.split_at(rest.len().min(CHUNK));
-        send_digits(front, writer)?;
-        rest = more;
-    }
-    Ok(())
+    send_digits(bytes, writer)
 }
 
 /// Writes what an answer says, without the end of the line.

@@ -4,8 +4,8 @@ ghost use Rattle.std.specs.List.{list_all};
 ghost use Rattle.jlr_wire.specs.Texts.{is_name_byte};
 ghost use Rattle.jlr_wire.specs.Fields.{mode_of, name_of, data_of};
 
-use crate::text::{Data, Name};
 use jlr_device::Mode;
+use jlr_machine::text::{Data, Name};
 
 /// The most bytes of a write.
 const DATA_LIMIT: usize = 200;
