@@ -1,7 +1,7 @@
 -- What take-ups need, in a well-formed machine, and what they leave.
-use Rattle.std.proofs.Common.{◌≡◌, ◌+◌, ◌<◌, ℕ, Bool, true, false, not, ◌==◌, ◌||◌, List, [], ◌∷◌, length, Option, Some, None, is_some, IsTrue, refl, sym, ◌∙◌, ap, subst, arith, cond, find, map, nat_lt, option_and_then, option_map}
+use Rattle.std.proofs.Common.{◌≡◌, ◌+◌, ◌<◌, ℕ, Bool, true, false, not, ◌==◌, ◌||◌, List, [], ◌∷◌, length, Option, Some, None, is_some, IsTrue, refl, sym, ◌∙◌, ap, subst, arith, cond, find, map, nat_le, nat_lt, option_and_then, option_map, ◌-◌, ◌^◌, IfNone, IfSome}
 use Rattle.std.specs.List.{list_any, AllByRecursion}
-use Rattle.std.proofs.lemmas.Bool.{and_parts, cond-false, cond_both, cond-true, eq-eqb, ltb-true, ne_eqb}
+use Rattle.std.proofs.lemmas.Bool.{and_parts, leb-false, cond-false, cond_both, cond-true, eq-eqb, ltb-true, ne_eqb}
 use Rattle.jlr_types.specs.declared.Work.TheVariants.{Note, Resource as WorkOn}
 use Rattle.jlr_machine.specs.declared.machine.Machine.{Machine}
 use Rattle.jlr_machine.specs.declared.machine.Session.{Session}
@@ -14,11 +14,16 @@ use Rattle.jlr_machine.specs.declared.object.CleanState.{CleanState}
 use Rattle.jlr_machine.specs.declared.object.CleanState.TheVariants.{Lined, Spent}
 use Rattle.jlr_machine.specs.declared.ask.Answer.TheVariants.{AlreadyDone, Job as JobAnswer}
 use Rattle.jlr_machine.specs.Objects.{as_cleanable, at, is_above, is_lined, is_rising, is_spent, some_and, with_cleanable}
-use Rattle.jlr_machine.specs.Lookups.{cleanable_at, job_of, with_object}
-use Rattle.jlr_machine.specs.Calls.{from_lined, line_answer, line_taken, spent, take_up_answer, taken_up}
+use Rattle.jlr_machine.specs.Lookups.{cleanable_at, cleanable_of_guard, job_of, on, slot_named, with_object}
+use Rattle.jlr_machine.specs.Calls.{after, cleaned, from_lined, line_answer, line_taken, reply, spent, take_up_answer, taken_up}
 use Rattle.jlr_machine.specs.WellFormed.{HasResource, IsCleanableAt, IsUnspent, IsWellFormed}
-use Rattle.jlr_laws.proofs.Allowed.{free_session, joined_session, some_and_gives}
-use Rattle.jlr_laws.proofs.Frames.{is_cleanable_there, no_some, place_within, some_same}
+use Rattle.jlr_types.specs.declared.Refusal.{Refusal}
+use Rattle.jlr_types.specs.declared.Refusal.TheVariants.{Busy}
+use Rattle.jlr_machine.specs.declared.ask.Ask.TheVariants.{Clean, Close, TakeUp}
+use Rattle.jlr_machine.specs.declared.ask.Answer.{Answer}
+use Rattle.jlr_machine.specs.Refusals.{is_cleanable, refusal}
+use Rattle.jlr_laws.proofs.Allowed.{cleanable_of, free_session, joined_session, some_and_gives}
+use Rattle.jlr_laws.proofs.Frames.{change_as_long, is_cleanable_there, no_some, place_within, some_same}
 use Rattle.jlr_laws.proofs.Keyed.{all_found}
 use Rattle.jlr_laws.proofs.KeepsTakeUps.{one_less}
 use Rattle.jlr_barrier.specs.Graphs.{Graph, in_machine}
@@ -112,3 +117,46 @@ pub lined_taken :
     → machine_with new h cycle ≡ taken_up (record (machine_with old g cycle) { line = rest }) 255 s c
 lined_taken old new g h cycle s rest c l e left machine =
     ap (with_cleanings new) (left ∙ ap (front_spent (machine_with old g cycle)) e) ∙ machine (record (machine_with old g cycle) { line = rest })
+
+pub unspent_when_lined : (state : CleanState) → state ≡ Lined → state ≡ Spent → ⊥
+unspent_when_lined state lined spent = absurd (cc (lined, spent))
+
+-- the heap is as long
+front_as_long : (m : Machine) (l : List ℕ) → length (front_spent m l).objects ≡ length m.objects
+front_as_long m [] = refl
+front_as_long m (s ∷ rest) = change_as_long m.objects s (with_cleanable spent)
+
+pub front_long : (m n : Machine) (l : List ℕ) → n ≡ front_spent m l → length n.objects ≡ length m.objects
+front_long m n l e = ap (λ (x : Machine). length x.objects) e ∙ front_as_long m l
+
+-- the cleaner may take up where it runs no job
+pub line_allowed : (m : Machine) → list_any (λ job. job.by == 255) m.jobs ≡ false → refusal m TakeUp ≡ None
+line_allowed m none = ap (λ b. cond b (Some Busy) None) none
+
+-- ---- A take-up by a mutator, as an entry
+
+pub cleanable_there : (m : Machine) (s : ℕ) → some_and is_cleanable (at m.objects s) ≡ true → (c : CleanableOf) × IsCleanableAt m s c
+cleanable_there m s e =
+    let o = some_and_gives is_cleanable (at m.objects s) e in
+    let c = cleanable_of o.0 o.2 in
+    (c.0, o.1 ∙ ap {A = Object} {B = Option Object} Some c.1)
+
+pub clean_reply : (m : Machine) (k d s : ℕ) (c : CleanableOf) → slot_named m k d ≡ Some s → IsCleanableAt m s c → reply m (Clean k d) ≡ Some (take_up_answer c)
+clean_reply m k d s c named there =
+    ap (λ (o : Option ℕ). option_map take_up_answer (option_and_then as_cleanable (option_and_then (at m.objects) o))) named ∙ ap (λ (o : Option Object). option_map take_up_answer (option_and_then as_cleanable o)) there
+
+pub clean_after : (m : Machine) (k d s : ℕ) (a : Answer) → slot_named m k d ≡ Some s → cleaned m k s (cleanable_at m s) ≡ after m (Clean k d) a []
+clean_after m k d s a named = ap (λ (o : Option ℕ). on o (λ x. cleaned m k x (cleanable_at m x)) m) (sym named)
+
+pub close_reply : (m : Machine) (k h s : ℕ) (c : CleanableOf) → cleanable_of_guard m k h ≡ Some s → IsCleanableAt m s c → reply m (Close k h) ≡ Some (take_up_answer c)
+close_reply m k h s c named there =
+    ap (λ (o : Option ℕ). option_map take_up_answer (option_and_then (cleanable_at m) o)) named ∙ ap (λ (o : Option Object). option_map take_up_answer (option_and_then as_cleanable o)) there
+
+pub close_after : (m : Machine) (k h s : ℕ) (a : Answer) → cleanable_of_guard m k h ≡ Some s → cleaned m k s (cleanable_at m s) ≡ after m (Close k h) a []
+close_after m k h s a named = ap (λ (o : Option ℕ). on o (λ x. cleaned m k x (cleanable_at m x)) m) (sym named)
+
+-- ---- A number is taken, where one is left
+
+pub numbered : {R : Type 0} (o : Option ℕ) (old new : Cleanings R) → nat_le (2 ^ 64 - 1) old.next_action ≡ false → IfSome o (λ _. new ≡ record old { next_action = old.next_action + 1 }) → IfNone o ((old.next_action ≡ 2 ^ 64 - 1) × (new ≡ old)) → new ≡ record old { next_action = old.next_action + 1 }
+numbered None old new left given none = absurd (omega (arith, none.0, leb-false (2 ^ 64 - 1) old.next_action left))
+numbered (Some action) old new left given none = given

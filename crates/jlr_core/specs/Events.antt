@@ -16,7 +16,7 @@ use Rattle.jlr_machine.specs.declared.entry.Entry.{Entry}
 use Rattle.jlr_machine.specs.Run.{no_choice, IsLegal, apply}
 use Rattle.jlr_core.specs.State.{MeetsAsk, entry_of}
 use Rattle.jlr_core.specs.declared.event.Event.{Event}
-use Rattle.jlr_core.specs.declared.event.Event.TheVariants.{Join, Leave, New, Put, Get, SetInt, Int, Dup, Drop, Same, MakeRef, Deref, Refers, Clear, Enqueue, Enqueued, MakeQueue, Poll, MakeCleaner, Register, Clean, Opened, Finish, Full, Stat, Notes, Faults, HandOver, TakeUp, Begin, Collect, Abandon, Mark}
+use Rattle.jlr_core.specs.declared.event.Event.TheVariants.{Join, Leave, New, Put, Get, SetInt, Int, Dup, Drop, Same, MakeRef, Deref, Refers, Clear, Enqueue, Enqueued, MakeQueue, Poll, MakeCleaner, Register, Clean, Prepare, Opened, CheckOut, CheckIn, Close, Finish, Full, Stat, Notes, Faults, HandOver, TakeUp, Begin, Collect, Abandon, Mark}
 use Rattle.jlr_core.specs.declared.event.Reply.{Reply}
 use Rattle.jlr_core.specs.declared.event.Reply.TheVariants.{Answered, Marked}
 
@@ -52,6 +52,10 @@ ask_of (MakeCleaner k) = Some (ask.MakeCleaner k)
 ask_of (Register k c h note) = Some (ask.Register k c h note)
 ask_of (Clean k c) = Some (ask.Clean k c)
 ask_of (Opened k outcome) = Some (ask.Opened k (outcome_of outcome))
+ask_of (Prepare k) = Some (ask.Prepare k)
+ask_of (CheckOut k h) = Some (ask.CheckOut k h)
+ask_of (CheckIn k outcome resource) = Some (ask.CheckIn k outcome)
+ask_of (Close k h) = Some (ask.Close k h)
 ask_of (Finish by action outcome) = Some (ask.Finish by action (outcome_of outcome))
 ask_of (Full k mode) = Some (ask.Full k mode)
 ask_of (Stat k) = Some (ask.Stat k)
@@ -67,6 +71,7 @@ ask_of (Mark budget) = None
 -- the resource that an event hands in
 abbrev pub given : {R : Type 0} → Event R → Option R
 given (Opened k outcome) = resource_of outcome
+given (CheckIn k outcome resource) = Some resource
 given _ = None
 
 abbrev pub answer_in : {R : Type 0} → Reply R → Option Answer
@@ -78,10 +83,11 @@ abbrev pub handed : {R : Type 0} → Reply R → Option R
 handed (Answered answer resource) = resource
 handed (Marked progress) = None
 
--- the events that may find no memory: a queue grows with its members, and lists are copied
+-- the events that may find no memory: a queue grows with its members, the table with its resources, and lists are copied
 abbrev pub may_grow : {R : Type 0} → Event R → Bool
 may_grow (Enqueue k r) = true
 may_grow (Notes k) = true
+may_grow (Prepare k) = true
 may_grow (Faults k) = true
 may_grow HandOver = true
 may_grow _ = false

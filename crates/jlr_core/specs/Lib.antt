@@ -5,6 +5,7 @@ pub mod Collecting
 pub mod Flows
 pub mod TakeUps
 pub mod Guards
+pub mod Preparing
 pub mod Policy
 pub mod Events
 pub mod Cores

@@ -59,12 +59,6 @@ abbrev pub Answered : Machine → Ask → Result Answer Refusal → Machine → 
 Answered m ask (Ok a) n = (refusal m ask ≡ None) × (reply m ask ≡ Some a) × (n ≡ after m ask a [])
 Answered m ask (Err r) n = (refusal m ask ≡ Some r) × (n ≡ m)
 
--- as an answer says
-abbrev pub Replied : Machine → Ask → Option Answer → Machine → Type 0
-Replied m ask (Some (Refused r)) n = (refusal m ask ≡ Some r) × (n ≡ m)
-Replied m ask (Some a) n = (refusal m ask ≡ None) × (reply m ask ≡ Some a) × (n ≡ after m ask a [])
-Replied m ask None n = ⊥
-
 -- a field is refused: there is none, or it holds an integer
 abbrev pub FieldRefused : Option FieldValue → Refusal → Type 0
 FieldRefused None r = r ≡ NoField

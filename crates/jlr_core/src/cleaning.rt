@@ -5,9 +5,10 @@ ghost use Rattle.jlr_machine.specs.declared.object.Object.TheVariants as object;
 ghost use Rattle.jlr_machine.specs.declared.object.CleanState.TheVariants as state;
 ghost use Rattle.jlr_machine.specs.declared.machine.ResourceState.TheVariants.{Idle};
 ghost use Rattle.jlr_machine.specs.Objects.{at, some_and, is_cleaner};
-ghost use Rattle.jlr_machine.specs.Lookups.{cleanable_at, has_free_handle, slot_named};
+ghost use Rattle.jlr_machine.specs.Lookups.{cleanable_at, has_free_handle, job_of, on, slot_named};
 ghost use Rattle.jlr_machine.specs.Refusals.{has_call, is_cleanable, is_joined, refusal};
-ghost use Rattle.jlr_machine.specs.Calls.{cleaned, outcome_answer, take_up_answer, taken_up};
+ghost use Rattle.jlr_machine.specs.Calls.{cleaned, finished, outcome_answer, take_up_answer, taken_up};
+ghost use Rattle.jlr_cleaner.specs.Jobs.{is_job_of};
 ghost use Rattle.jlr_machine.specs.Run.{no_choice};
 ghost use Rattle.jlr_machine.specs.Choices.{nothing_chosen};
 ghost use Rattle.jlr_machine.specs.WellFormed.{IsWellFormed};
@@ -17,6 +18,7 @@ ghost use Rattle.jlr_cleaner.specs.Outcomes.{outcome_of};
 ghost use Rattle.jlr_core.specs.Collecting.{after_choice};
 ghost use Rattle.jlr_core.specs.State.{Answered, Meets, answer_of};
 ghost use Rattle.jlr_core.specs.Flows.{Conserves, GoesOut};
+ghost use Rattle.jlr_core.specs.Guards.{IsIdleAt};
 ghost use Rattle.jlr_core.specs.TakeUps.{IsFreeMutator, clean_answer, handed_out, job_resource, started_answer, take_up_answered};
 
 use crate::state::State;
@@ -82,7 +84,7 @@ impl<R> State<R> {
     }
 
     /// An action number is left.
-    fn check_numbers(&self) -> Result<(), Refusal>
+    pub(crate) fn check_numbers(&self) -> Result<(), Refusal>
         ensures { MatchResult result (λ _. nat_le (2 ^ 64 - 1) self.now.cleaner.next_action ≡ false) (λ r. (r ≡ Refusal.Exhausted) × (nat_le (2 ^ 64 - 1) self.now.cleaner.next_action ≡ true)) }
     {
         if self.cleaner.is_exhausted() {
@@ -100,9 +102,9 @@ impl<R> State<R> {
         object: Handle,
     ) -> Result<Slot, Refusal>
         requires { IsWellFormed (machine_of self.now) }
-        ensures { (note : ℕ) → MatchResult result
-            (λ slot. (refusal (machine_of self.now) (Ask.Register by cleaner object note) ≡ None) × (slot_named (machine_of self.now) by object ≡ Some slot) × (has_free_handle (machine_of self.now) by ≡ true) × (nat_le (2 ^ 64 - 1) self.now.cleaner.next_action ≡ false))
-            (λ r. refusal (machine_of self.now) (Ask.Register by cleaner object note) ≡ Some r) }
+        ensures { MatchResult result
+            (λ slot. ((note : ℕ) → refusal (machine_of self.now) (Ask.Register by cleaner object note) ≡ None) × (slot_named (machine_of self.now) by object ≡ Some slot) × (has_free_handle (machine_of self.now) by ≡ true) × (nat_le (2 ^ 64 - 1) self.now.cleaner.next_action ≡ false))
+            (λ r. (note : ℕ) → refusal (machine_of self.now) (Ask.Register by cleaner object note) ≡ Some r) }
     {
         self.check_session(by)?;
         self.check_handle(by, cleaner)?;
@@ -136,15 +138,22 @@ impl<R> State<R> {
         ensures table { self.new.cleaner.table ≡ self.old.cleaner.table }
         ensures clock { self.new.heap.clock ≡ after_choice choice.new.chosen self.old.heap.clock }
     {
-        let target = self.check_register(by, cleaner, object)?;
+        let target = match self.check_register(by, cleaner, object) {
+            Ok(target) => target,
+            Err(refusal) => return Err(refusal),
+        };
         let shape = Shape::Cleanable {
             referent: Some(target),
             action: ActionNo::new(self.cleaner.next_action()),
             work: Work::Note(note),
         };
-        let slot = self.allocate(shape, choice)?;
-        let _number = self.cleaner.take_number();
-        Ok(self.give(by, slot))
+        match self.allocate(shape, choice) {
+            Ok(slot) => {
+                let _number = self.cleaner.take_number();
+                Ok(self.give(by, slot))
+            }
+            Err(refusal) => Err(refusal),
+        }
     }
 
     /// The cleanable that is to be cleaned.
@@ -183,10 +192,10 @@ impl<R> State<R> {
 
     /// A mutator without a call takes up the action of a cleanable whose resource, if its work is one, lies here, unless it was taken up
     /// before. The job is its call then.
-    fn start_job(&mut self, by: Mutator, slot: Slot) -> Option<Job<R>>
+    pub(crate) fn start_job(&mut self, by: Mutator, slot: Slot) -> Option<Job<R>>
         requires fit { IsWellFormed (machine_of self.old) }
         requires free { IsFreeMutator (machine_of self.old) by }
-        requires idle { (c : Cleanable) → at self.old.heap.graph.objects slot ≡ Some (object.Cleanable c) → c.state ≢ state.Spent → HasWork self.old.cleaner.table c.action Idle c.work }
+        requires idle { IsIdleAt (machine_of self.old) slot }
         ensures cleaned { machine_of self.new ≡ cleaned (machine_of self.old) by slot (cleanable_at (machine_of self.old) slot) }
         ensures answer { (c : Cleanable) → at self.old.heap.graph.objects slot ≡ Some (object.Cleanable c) → take_up_answer c ≡ started_answer result }
         ensures flow { Conserves None self.old.cleaner.table (job_resource result) self.new.cleaner.table }
@@ -266,14 +275,32 @@ impl<R> State<R> {
         ensures age { self.new.soft_age ≡ self.old.soft_age }
         ensures clock { self.new.heap.clock ≡ self.old.heap.clock }
     {
-        if by != CLEANER {
-            self.check_session(Mutator::new(by))?;
+        if by == CLEANER {
+            return self.end_job(by, action, outcome);
         }
+        let taker = Mutator::new(by);
+        self.check_session(taker)?;
+        let answer = self.end_job(by, action, outcome)?;
+        self.heap.end_call(taker);
+        Ok(answer)
+    }
+
+    /// A job of this taker is over.
+    fn end_job(
+        &mut self,
+        by: u8,
+        action: ActionNo,
+        outcome: Result<(), Fault>,
+    ) -> Result<Answer, Refusal>
+        ensures ended { MatchResult result
+            (λ answer. (is_job_of (machine_of self.old).jobs by action ≡ true) × (outcome_answer (outcome_of outcome) (Some Answer.Done) ≡ Some answer) × (machine_of self.new ≡ on (job_of (machine_of self.old) action) (λ job. finished (machine_of self.old) job (outcome_of outcome)) (machine_of self.old)))
+            (λ r. (r ≡ Refusal.NotOut) × (is_job_of (machine_of self.old).jobs by action ≡ false) × (machine_of self.new ≡ machine_of self.old)) }
+        ensures values { values self.new.cleaner.table ≡ values self.old.cleaner.table }
+        ensures heap { self.new.heap ≡ self.old.heap }
+        ensures age { self.new.soft_age ≡ self.old.soft_age }
+    {
         if !self.cleaner.finish(by, action, outcome) {
             return Err(Refusal::NotOut);
-        }
-        if by != CLEANER {
-            self.heap.end_call(Mutator::new(by));
         }
         Ok(ended(outcome))
     }

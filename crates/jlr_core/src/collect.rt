@@ -38,19 +38,19 @@ impl<R> State<R> {
         self.cycle_open = false;
     }
 
-    /// Where no cell is free, a full collection that clears all soft references.
-    fn make_room(&mut self, choice: &mut Choice)
+    /// Where fewer cells are free, a full collection that clears all soft references.
+    pub(crate) fn make_room(&mut self, cells: u32, choice: &mut Choice)
         requires fit { IsWellFormed (machine_of self.old) }
         requires nothing { choice.old ≡ nothing_chosen choice.old.cells }
         requires room { length self.old.heap.graph.objects ≤ choice.old.cells }
-        ensures made { MakesRoom (machine_of self.old) choice.old choice.new (machine_of self.new) }
+        ensures made { MakesRoom (machine_of self.old) cells choice.old choice.new (machine_of self.new) }
         ensures clock { self.new.heap.clock ≡ after_collected choice.new.chosen self.old.heap.clock }
         ensures room { choice.new.cells ≡ choice.old.cells }
         ensures cells { length self.new.heap.graph.objects ≡ length self.old.heap.graph.objects }
         ensures age { self.new.soft_age ≡ self.old.soft_age }
         ensures cleaner { self.new.cleaner ≡ self.old.cleaner }
     {
-        if self.heap.free_count() == 0 {
+        if self.heap.free_count() < cells {
             self.collect(Mode::ClearAll, choice);
         }
     }
@@ -62,13 +62,13 @@ impl<R> State<R> {
         requires room { length self.old.heap.graph.objects ≤ choice.old.cells }
         ensures allocates { IfOk result (λ slot. Allocates (machine_of self.old) (object_of shape) choice.new slot (machine_of self.new)) }
         ensures clock { self.new.heap.clock ≡ after_choice choice.new.chosen self.old.heap.clock }
-        ensures full { IfErr result (λ r. (r ≡ Refusal.HeapFull) × FindsNoRoom (machine_of self.old) choice.new (machine_of self.new)) }
+        ensures full { IfErr result (λ r. (r ≡ Refusal.HeapFull) × FindsNoRoom (machine_of self.old) 1 choice.new (machine_of self.new)) }
         ensures room { choice.new.cells ≡ choice.old.cells }
         ensures cells { length self.new.heap.graph.objects ≡ length self.old.heap.graph.objects }
         ensures age { self.new.soft_age ≡ self.old.soft_age }
         ensures cleaner { self.new.cleaner ≡ self.old.cleaner }
     {
-        self.make_room(choice);
+        self.make_room(1, choice);
         let Some(slot) = self.heap.allocate(shape) else {
             return Err(Refusal::HeapFull);
         };

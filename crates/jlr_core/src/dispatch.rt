@@ -95,6 +95,14 @@ impl<R> State<R> {
             } => answered(self.register(mutator, cleaner, object, note, choice)),
             Event::Clean { mutator, cleanable } => cleaned(self.clean(mutator, cleanable)),
             Event::Opened { mutator, outcome } => self.opened(mutator, outcome),
+            Event::Prepare { mutator } => answered(self.prepare(mutator, choice)),
+            Event::CheckOut { mutator, guard } => self.check_out(mutator, guard),
+            Event::CheckIn {
+                mutator,
+                outcome,
+                resource,
+            } => self.check_in(mutator, outcome, resource),
+            Event::Close { mutator, guard } => cleaned(self.close(mutator, guard)),
             Event::Finish {
                 by,
                 action,

@@ -68,7 +68,7 @@ impl<R> Core<R> {
     }
 
     /// One event. The choice says what was chosen; it has room for every cell. Only `Enqueue` and `HandOver`, by which a queue grows,
-    /// and `Notes` and `Faults`, which copy a list, may find no memory. A piece of marking is answered Done in an open cycle and Idle without one, and changes nothing: a `Collect` marks
+    /// `Prepare`, by which the table of resources grows, and `Notes` and `Faults`, which copy a list, may find no memory. A piece of marking is answered Done in an open cycle and Idle without one, and changes nothing: a `Collect` marks
     /// whole, by the soft policy, and is answered yes exactly where a cycle is open.
     pub fn step(&mut self, event: Event<R>, choice: &mut Choice) -> Reply<R>
         requires room { length self.old.machine.objects ≤ choice.old.cells }

@@ -2,7 +2,7 @@
 ghost use Rattle.std.specs.Prelude.{◌≡◌, None};
 ghost use Rattle.jlr_core.specs.Events.{ask_of, answer_in, handed, outcome_of};
 
-use jlr_machine::ask::{Answer, Ask, FullMode, Outcome};
+use jlr_machine::ask::{Answer, Ask, CallOutcome, FullMode, Outcome};
 use jlr_types::{ActionNo, Fault, Handle, Layout, Mutator, Progress, RefKind};
 
 /// An event: an ask, with the resource that is handed in where one is, or a piece of marking.
@@ -101,10 +101,29 @@ pub enum Event<R> {
         mutator: Mutator,
         cleanable: Handle,
     },
+    /// A file or socket is about to be opened.
+    Prepare {
+        mutator: Mutator,
+    },
     /// An open ended: with the resource, or with a fault.
     Opened {
         mutator: Mutator,
         outcome: Result<R, Fault>,
+    },
+    /// A call on the file or socket of a guard begins.
+    CheckOut {
+        mutator: Mutator,
+        guard: Handle,
+    },
+    /// It ended, well or not, and the resource comes back.
+    CheckIn {
+        mutator: Mutator,
+        outcome: CallOutcome,
+        resource: R,
+    },
+    Close {
+        mutator: Mutator,
+        guard: Handle,
     },
     /// A job of this taker ended, a mutator's or the cleaner's, which is 255.
     Finish {
@@ -280,6 +299,16 @@ impl<R> Event<R> {
             Event::Opened { mutator, outcome } => Ask::Opened {
                 mutator: *mutator,
                 outcome: plain_outcome(outcome),
+            },
+            Event::Prepare { mutator } => Ask::Prepare { mutator: *mutator },
+            Event::CheckOut { mutator, guard } => Ask::CheckOut {
+                mutator: *mutator,
+                guard: *guard,
+            },
+            Event::CheckIn { .. } => return None,
+            Event::Close { mutator, guard } => Ask::Close {
+                mutator: *mutator,
+                guard: *guard,
             },
             Event::Finish {
                 by,

@@ -10,6 +10,7 @@ pub mod engine;
 pub mod event;
 mod handles;
 mod objects;
+mod prepare;
 mod references;
 mod resources;
 pub mod run;

@@ -12,7 +12,7 @@ returns-in-Err-clause-meets g c =
     let n = machine_of c.allocate.new.self in
     let ask = MakeRef c.args.by c.args.kind c.args.referent c.args.queue in
     let allowed = allowed_reference m c.args.by c.args.kind c.args.referent c.args.queue c.in_ok-check_session.ensures c.in_ok-check_handle.ensures c.in_ok-check_handle-2.ensures c.in_ok-target.ensures.slot.1 c.in_ok-queue.ensures.1 c.in_ok-check_no_call.ensures c.in_ok-check_free_handle.ensures in
-    subst (λ r. Meets m ask (Refused r) c.allocate.new.choice.chosen n) (sym c.in-Err.ensures.full.0) (meets_full m ask c.allocate.new.choice n allowed refl c.in-Err.ensures.full.1)
+    subst (λ r. Meets m ask (Refused r) c.allocate.new.choice.chosen n) (sym c.in-Err.ensures.full.0) (meets_full m 1 ask c.allocate.new.choice n allowed refl c.in-Err.ensures.full.1)
 
 pub returns-in-Ok-clause-meets : goal.returns-in-Ok-clause-meets
 returns-in-Ok-clause-meets g c =
