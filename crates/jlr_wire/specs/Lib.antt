@@ -2,6 +2,7 @@
 pub mod Lines
 pub mod Feeding
 pub mod Stream
+pub mod Texts
 pub mod Commands
 pub mod Replies
 -- How lines are read, which no public clause names.

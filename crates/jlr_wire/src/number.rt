@@ -1,8 +1,12 @@
 //! The decimal numbers of a line.
 ghost use Rattle.std.specs.Prelude.{ℕ, ◌≡◌, ◌<◌, ◌^◌, IfSome, IfNone, decimal};
 ghost use Rattle.jlr_wire.specs.Fields.{byte_of, note_of};
+ghost use Rattle.jlr_wire.specs.Reading.{count_of};
 
 use itoa::Buffer;
+
+/// The most bytes of a read.
+const COUNT_LIMIT: u8 = 200;
 
 /// The number from 0 to 255 that the text spells in decimal without a leading zero, or `None`.
 pub fn number(text: &[u8]) -> Option<u8>
@@ -10,6 +14,17 @@ pub fn number(text: &[u8]) -> Option<u8>
 {
     let number = note(text)?;
     u8::try_from(number).ok()
+}
+
+/// The number from 1 to 200 that the text spells in decimal without a leading zero, or `None`.
+pub fn count(text: &[u8]) -> Option<u8>
+    ensures { result ≡ count_of text.now }
+{
+    let count = number(text)?;
+    if (1..=COUNT_LIMIT).contains(&count) {
+        return Some(count);
+    }
+    None
 }
 
 /// The number from 0 to 4,294,967,295 that the text spells in decimal without a leading zero, or `None`.

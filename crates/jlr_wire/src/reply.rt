@@ -1,13 +1,18 @@
 //! Reply lines out of answers.
-ghost use Rattle.std.specs.Prelude.{◌≡◌, ◌++◌, ◌∷◌, [], codes, IfSome, IfNone, IsErr};
+ghost use Rattle.std.specs.Prelude.{◌≡◌, ◌++◌, ◌∷◌, [], ◌≤◌, length, codes, IfSome, IfNone, IsErr};
 ghost use Rattle.std.specs.Io.KnownBytes.{Keeps};
-ghost use Rattle.jlr_wire.specs.Replies.{Sends, spaced, stat_words, fault_text, failure_text, words};
+ghost use Rattle.jlr_wire.specs.Replies.{Sends, spaced, stat_words, fault_text, failure_text, data_words, words};
+ghost use Rattle.hex.specs.Hex.{encode_lower};
 
 use itoa::Buffer;
 use jlr_machine::ask::{Answer, Stat};
+use jlr_machine::items::Items;
 use jlr_machine::machine::Failure;
 use jlr_types::Fault;
 use std::io::Write;
+
+/// The most bytes whose digits are written at once.
+const CHUNK: usize = 200;
 
 /// A write that failed or took nothing, or an answer that has no line.
 #[derive(Clone, Copy, Debug, PartialEq, Eq)]
@@ -106,6 +111,53 @@ fn send_failures<W: Write>(failures: &[Failure], writer: &mut W) -> Result<(), W
     Ok(())
 }
 
+/// Writes a space and a name.
+fn send_name<W: Write>(name: &[u8], writer: &mut W) -> Result<(), WriteFault>
+    ensures { Sends (W.contents writer.old) (W.contents writer.new) result (32 ∷ name.now) }
+{
+    send(b" ", writer)?;
+    send(name, writer)
+}
+
+/// Writes the list of the names.
+fn send_names<W: Write>(names: &[Items<u8>], writer: &mut W) -> Result<(), WriteFault>
+    ensures { Sends (W.contents writer.old) (W.contents writer.new) result (codes "list" ++ spaced (λ name. name) names.now) }
+{
+    send(b"list", writer)?;
+    for name in names {
+        send_name(name.as_slice(), writer)?;
+    }
+    Ok(())
+}
+
+/// Writes some bytes in hexadecimal digits.
+fn send_digits<W: Write>(bytes: &[u8], writer: &mut W) -> Result<(), WriteFault>
+    requires { length bytes.now ≤ 200 }
+    ensures { Sends (W.contents writer.old) (W.contents writer.new) result (encode_lower bytes.now) }
+{
+    let mut room = [0u8; 2 * CHUNK];
+    let digits = &mut room[..2 * bytes.len()];
+    hex::encode_to_slice(bytes, digits).unwrap();
+    send(digits, writer)
+}
+
+/// Writes the bytes that were read, or that there were none.
+fn send_data<W: Write>(bytes: &[u8], writer: &mut W) -> Result<(), WriteFault>
+    ensures { Sends (W.contents writer.old) (W.contents writer.new) result (data_words bytes.now) }
+{
+    if bytes.is_empty() {
+        return send(b"end", writer);
+    }
+    send(b"data ", writer)?;
+    let mut rest = bytes;
+    while !rest.is_empty() {
+        let (front, more) = rest.split_at(rest.len().min(CHUNK));
+        send_digits(front, writer)?;
+        rest = more;
+    }
+    Ok(())
+}
+
 /// Writes what an answer says, without the end of the line.
 fn write_words<W: Write>(answer: &Answer, writer: &mut W) -> Result<(), WriteFault>
     ensures line { IfSome (words answer.now) (Sends (W.contents writer.old) (W.contents writer.new) result) }
@@ -117,12 +169,17 @@ fn write_words<W: Write>(answer: &Answer, writer: &mut W) -> Result<(), WriteFau
         Answer::Truth(true) => send(b"yes", writer),
         Answer::Truth(false) => send(b"no", writer),
         Answer::Int(n) => send_after("int ", *n, writer),
+        Answer::Data(bytes) => send_data(bytes.as_slice(), writer),
+        Answer::Wrote(count) => send_after("wrote ", *count, writer),
         Answer::Faulted(fault) => send_both("fault ", fault_name(*fault), writer),
+        Answer::Names(names) => send_names(names.as_slice(), writer),
         Answer::Notes(notes) => send_list("list", notes.as_slice(), writer),
         Answer::Faults(failures) => send_failures(failures.as_slice(), writer),
         Answer::Stat(stat) => send_stat(stat, writer),
         Answer::Refused(refusal) => send_after("! ", refusal.number(), writer),
-        _ => Err(WriteFault),
+        Answer::Job { .. } | Answer::Prepared(_) | Answer::Out(_) | Answer::Handed(_) => {
+            Err(WriteFault)
+        }
     }
 }
 
