@@ -13,10 +13,10 @@ use Rattle.jlr_core.specs.Cores.{Kept, StandsIn}
 use Rattle.jlr_wire.specs.declared.command.Command.{Command}
 use Rattle.jlr_wire.specs.declared.command.Command.TheVariants.{New, Put, Get, SetInt, Int, Dup, Drop, Same, Soft, Weak, Phantom, Deref, Refers, Clear, Enqueue, Enqueued, Queue, Poll, Full, Stat, Bye}
 use Rattle.jlr_prog.specs.Heaps.{ask_for, Answers, HandsOver, by_core, IsJoined}
-use Rattle.jlr_prog.specs.Sessions.{Ended}
+use Rattle.jlr_session.specs.Sessions.{Ended}
 use Rattle.jlr_prog.specs.Histories.{Tells, by_entries, IsSession}
-use Rattle.jlr_prog.specs.declared.shell.FirstEnd.{FirstEnd}
-use Rattle.jlr_prog.proofs.Following.{IsFollowed, ended_along}
+use Rattle.jlr_session.specs.declared.shell.FirstEnd.{FirstEnd}
+use Rattle.jlr_session.proofs.Following.{IsFollowed, ended_along}
 use Rattle.jlr_prog.proofs.HandingOn.{settles_along}
 use Rattle.jlr_prog.proofs.Staying.{IsHere, stays, stays_handing_over, joins, leaves}
 

@@ -11,7 +11,8 @@ use Rattle.jlr_core.specs.Cores.{Kept, StandsIn}
 use Rattle.jlr_core.specs.Events.{Enters}
 use Rattle.jlr_wire.specs.declared.command.Command.{Command}
 use Rattle.jlr_wire.specs.declared.command.Command.TheVariants.{New, Put, Get, SetInt, Int, Dup, Drop, Same, Soft, Weak, Phantom, Deref, Refers, Clear, Enqueue, Enqueued, Queue, Poll, Full, Stat, Bye}
-use Rattle.jlr_prog.specs.Settling.{Carrying, Settles, TookOne, FoundNone}
+use Rattle.jlr_session.specs.Carrying.{Carrying}
+use Rattle.jlr_prog.specs.Settling.{Settles, TookOne, FoundNone}
 
 -- what a command asks of the machine, in the name of mutator 0. bye asks nothing
 abbrev pub ask_for : Command → Option Ask

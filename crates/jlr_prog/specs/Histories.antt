@@ -7,10 +7,11 @@ use Rattle.jlr_machine.specs.declared.ask.Answer.{Answer}
 use Rattle.jlr_machine.specs.declared.ask.Answer.TheVariants.{Done}
 use Rattle.jlr_machine.specs.declared.entry.Entry.{Entry}
 use Rattle.jlr_machine.specs.Run.{Run}
-use Rattle.jlr_prog.specs.Settling.{Carrying, Settles}
+use Rattle.jlr_session.specs.Carrying.{Carrying}
+use Rattle.jlr_prog.specs.Settling.{Settles}
 use Rattle.jlr_prog.specs.Heaps.{ask_for}
-use Rattle.jlr_prog.specs.Sessions.{Ended}
-use Rattle.jlr_prog.specs.declared.shell.FirstEnd.{FirstEnd}
+use Rattle.jlr_session.specs.Sessions.{Ended}
+use Rattle.jlr_session.specs.declared.shell.FirstEnd.{FirstEnd}
 
 -- one entry more: this ask with its answer
 abbrev pub Tells : Option Ask → List Entry → Answer → List Entry → Type 0

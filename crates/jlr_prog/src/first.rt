@@ -5,7 +5,7 @@ ghost use Rattle.jlr_machine.specs.Run.{empty};
 ghost use Rattle.jlr_prog.specs.Histories.{IsSession};
 
 use crate::heap::Heap;
-use crate::shell::{FirstEnd, converse};
+use jlr_session::shell::{FirstEnd, converse};
 use jlr_types::Limits;
 use std::alloc::{AllocError, Global};
 use std::io::{Read, Write};

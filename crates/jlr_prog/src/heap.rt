@@ -6,11 +6,11 @@ ghost use Rattle.jlr_core.specs.Events.{ask_of};
 ghost use Rattle.jlr_prog.specs.Settling.{TookOne};
 ghost use Rattle.jlr_prog.specs.Heaps.{Answers, IsJoined, StepsOnce, ask_for};
 
-use crate::carry::CarryOut;
 use jlr_core::engine::Core;
 use jlr_core::event::{Event, Reply};
 use jlr_machine::ask::{Answer, Handed};
 use jlr_machine::choice::Choice;
+use jlr_session::carry::CarryOut;
 use jlr_types::{Handle, Limits, Mutator, RefKind};
 use jlr_wire::command::Command;
 use std::alloc::{AllocError, Global};

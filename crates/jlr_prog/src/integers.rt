@@ -1,6 +1,6 @@
 //! Sessions of integer fields, clearing collections and counts, spelled out. The expected texts come from the description of the machine.
-use crate::shell::FirstEnd;
 use crate::tests::{heap_answers, replies};
+use jlr_session::shell::FirstEnd;
 use std::test::Fail;
 
 #[test]

@@ -1,6 +1,6 @@
 //! Sessions of references and queues spelled out. The expected texts come from the description of the machine.
-use crate::shell::FirstEnd;
 use crate::tests::{aged_answers, heap_answers, replies};
+use jlr_session::shell::FirstEnd;
 use std::test::Fail;
 
 #[test]

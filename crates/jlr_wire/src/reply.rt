@@ -6,8 +6,8 @@ ghost use Rattle.hex.specs.Hex.{encode_lower};
 
 use itoa::Buffer;
 use jlr_machine::ask::{Answer, Stat};
-use jlr_machine::items::Items;
 use jlr_machine::machine::Failure;
+use jlr_machine::text::Name;
 use jlr_types::Fault;
 use std::io::Write;
 
@@ -120,7 +120,7 @@ fn send_name<W: Write>(name: &[u8], writer: &mut W) -> Result<(), WriteFault>
 }
 
 /// Writes the list of the names.
-fn send_names<W: Write>(names: &[Items<u8>], writer: &mut W) -> Result<(), WriteFault>
+fn send_names<W: Write>(names: &[Name], writer: &mut W) -> Result<(), WriteFault>
     ensures { Sends (W.contents writer.old) (W.contents writer.new) result (codes "list" ++ spaced (λ name. name) names.now) }
 {
     send(b"list", writer)?;

@@ -3,12 +3,12 @@ ghost use Rattle.std.specs.Prelude.{◌≡◌, ◌⊎◌, List, ℕ, MatchResult
 ghost use Rattle.std.specs.Io.KnownBytes.{Appends, Consumes, IsAtEnd};
 ghost use Rattle.jlr_machine.specs.Run.{empty};
 ghost use Rattle.jlr_prog.specs.Histories.{IsSession};
-ghost use Rattle.jlr_prog.specs.declared.shell.FirstEnd.{FirstEnd};
+ghost use Rattle.jlr_session.specs.declared.shell.FirstEnd.{FirstEnd};
 ghost use Rattle.refheap.specs.Status.{IsOutOfMemory, IsOutcome, fault_after};
 
 use crate::fault::ProgramFault;
 use jlr_prog::first::first_run;
-use jlr_prog::shell::FirstEnd;
+use jlr_session::shell::FirstEnd;
 use jlr_types::Limits;
 use std::alloc::Global;
 use std::io::{Read, Write};

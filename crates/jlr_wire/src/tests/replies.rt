@@ -2,6 +2,7 @@
 use crate::reply::write_reply;
 use jlr_machine::ask::{Answer, Handed, Stat};
 use jlr_machine::items::Items;
+use jlr_machine::text::{Data, Name};
 use jlr_machine::machine::Failure;
 use jlr_types::{ActionNo, Fault, Handle, Refusal, Rid, Work};
 use std::alloc::{AllocError, Global};
@@ -77,16 +78,16 @@ fn writes_faults_and_what_was_done_before(rt: HostRuntime) -> Result<(), Fail> {
 }
 
 /// The answer of these bytes.
-fn data_of(alloc: Global, bytes: &[u8]) -> Result<Answer, AllocError> {
-    Ok(Answer::Data(Items::from_vec(bytes.to_vec(alloc)?)))
+fn data_of(bytes: &[u8]) -> Result<Answer, Fail> {
+    Ok(Answer::Data(Data::from_slice(bytes).ok_or("data")?))
 }
 
 #[test]
 fn writes_what_was_read_and_how_much_was_written(rt: HostRuntime) -> Result<(), Fail> {
     let mut out = Vec::new(rt.alloc());
-    write_reply(&data_of(rt.alloc(), b"")?, &mut out)?;
-    write_reply(&data_of(rt.alloc(), b"\x01\x02")?, &mut out)?;
-    write_reply(&data_of(rt.alloc(), b"\x00\x9a\xbc\xde\xff\x10")?, &mut out)?;
+    write_reply(&data_of(b"")?, &mut out)?;
+    write_reply(&data_of(b"\x01\x02")?, &mut out)?;
+    write_reply(&data_of(b"\x00\x9a\xbc\xde\xff\x10")?, &mut out)?;
     write_reply(&Answer::Wrote(0), &mut out)?;
     write_reply(&Answer::Wrote(2), &mut out)?;
     write_reply(&Answer::Wrote(200), &mut out)?;
@@ -99,13 +100,13 @@ fn writes_what_was_read_and_how_much_was_written(rt: HostRuntime) -> Result<(), 
 
 #[test]
 fn writes_as_many_digits_as_there_are(rt: HostRuntime) -> Result<(), Fail> {
-    for count in [199, 200, 201, 400, 401] {
+    for count in [1, 199, 200] {
         let mut bytes = Vec::new(rt.alloc());
         for _ in 0..count {
             bytes.push(0xa5)?;
         }
         let mut out = Vec::new(rt.alloc());
-        write_reply(&data_of(rt.alloc(), bytes.as_slice())?, &mut out)?;
+        write_reply(&data_of(bytes.as_slice())?, &mut out)?;
         assert_eq!(rt; out.len(), 5 + 2 * bytes.len() + 1, "at {count}");
         assert!(rt; out.as_slice().starts_with(b"data a5a5"), "at {count}");
         assert!(rt; out.as_slice().ends_with(b"a5a5\n"), "at {count}");
@@ -114,10 +115,10 @@ fn writes_as_many_digits_as_there_are(rt: HostRuntime) -> Result<(), Fail> {
 }
 
 /// The answer of these names.
-pub fn names_of(alloc: Global, names: &[&str]) -> Result<Answer, AllocError> {
+pub fn names_of(alloc: Global, names: &[&str]) -> Result<Answer, Fail> {
     let mut items = Items::new(alloc);
     for name in names {
-        items.push(Items::from_vec(name.as_bytes().to_vec(alloc)?))?;
+        items.push(Name::from_slice(name.as_bytes()).ok_or("name")?)?;
     }
     Ok(Answer::Names(items))
 }

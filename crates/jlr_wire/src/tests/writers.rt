@@ -3,7 +3,7 @@ use super::replies::{faults_of, names_of};
 use crate::reply::write_reply;
 use arrayvec::ArrayVec;
 use jlr_machine::ask::Answer;
-use jlr_machine::items::Items;
+use jlr_machine::text::Data;
 use jlr_types::{Fault, Refusal};
 use std::io::{self, Write};
 use std::test::Fail;
@@ -108,7 +108,7 @@ fn a_list_that_fails_is_a_front_of_its_line(rt: HostRuntime) -> Result<(), Fail>
 
 #[test]
 fn data_that_fail_are_a_front_of_their_line(rt: HostRuntime) -> Result<(), Fail> {
-    let answer = Answer::Data(Items::from_vec(b"\x01\x02\xff".to_vec(rt.alloc())?));
+    let answer = Answer::Data(Data::from_slice(b"\x01\x02\xff").ok_or("data")?);
     for (room, whole, sent) in [
         (12, true, "data 0102ff\n"),
         (11, false, "data 0102ff"),

@@ -16,4 +16,4 @@ returns-in_err-send_name g c =
     let p = err_from_is_err_and c.from_residual-in_err-send_name.result c.from_residual-in_err-send_name.ensures.1 in
     rw p.1 (spaced_cut (λ name. name) c.args.names.now c.loop-name.name-index c.name-item.result (codes "list") _ _ _
     c.loop-name-test.true c.name-item.is c.loop-name.invariant
-    (front_same _ _ _ (32 ∷ c.name-item.result) (ap (λ name. 32 ∷ name) c.as_slice.ensures) c.in_err-send_name.ensures))
+    (front_same _ _ _ (32 ∷ c.name-item.result) (ap (λ name. 32 ∷ name) c.as_slice.ensures.bytes) c.in_err-send_name.ensures))

@@ -1,5 +1,5 @@
-use Rattle.jlr_prog.proofs.Standing.{Stands}
-use Rattle.jlr_prog.proofs.shell.converse.Given as goal
+use Rattle.jlr_session.proofs.Standing.{Stands}
+use Rattle.jlr_session.proofs.shell.converse.Given as goal
 
 abbrev pub invariant-loop : goal.invariant-loop
 invariant-loop g l =

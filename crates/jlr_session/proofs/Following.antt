@@ -3,11 +3,11 @@ use Rattle.std.proofs.Common.{◌≢◌, ℕ, inl, inr, List, [], ◌∷◌, ref
 use Rattle.jlr_machine.specs.declared.ask.Answer.{Answer}
 use Rattle.jlr_wire.specs.declared.command.Command.{Command}
 use Rattle.jlr_wire.specs.declared.command.Command.TheVariants.{Bye}
-use Rattle.jlr_prog.specs.Settling.{Carrying}
-use Rattle.jlr_prog.specs.Turns.{Answers, AnswersAndSettles}
-use Rattle.jlr_prog.specs.Sessions.{Speaks, Answered, IsDue, Ended}
-use Rattle.jlr_prog.specs.declared.shell.FirstEnd.{FirstEnd}
-use Rattle.jlr_prog.specs.declared.shell.FirstEnd.TheVariants.{Bye as EndsByBye, End, Truncated, ReadFault, WriteFault}
+use Rattle.jlr_session.specs.Carrying.{Carrying}
+use Rattle.jlr_session.specs.Turns.{Answers, AnswersAndSettles}
+use Rattle.jlr_session.specs.Sessions.{Speaks, Answered, IsDue, Ended}
+use Rattle.jlr_session.specs.declared.shell.FirstEnd.{FirstEnd}
+use Rattle.jlr_session.specs.declared.shell.FirstEnd.TheVariants.{Bye as EndsByBye, End, Truncated, ReadFault, WriteFault}
 
 pub record IsFollowed {H X : Type 0} (carries : Carrying H) (tells : Carrying X) (S : H → X → Type 0) : Type 0 where
   pub commands : (h k : H) (x : X) (c : Command) (a : Answer) → c ≢ Bye → carries.command h c a k → S h x → (y : X) × tells.command x c a y × S k y

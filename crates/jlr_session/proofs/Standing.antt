@@ -5,15 +5,15 @@ use Rattle.std.proofs.lemmas.List.{append-nil}
 use Rattle.jlr_machine.specs.declared.ask.Answer.TheVariants.{Refused}
 use Rattle.jlr_wire.specs.Lines.{Held, begun, nothing_held}
 use Rattle.jlr_wire.proofs.Sending.{Appends-none, Appends-then}
-use Rattle.jlr_prog.specs.Settling.{Carrying}
-use Rattle.jlr_prog.specs.Turns.{reply_line, refusal_of}
-use Rattle.jlr_prog.specs.Sessions.{Ended}
-use Rattle.jlr_prog.specs.Chunks.{SoFar, TakesChunk, Closes}
-use Rattle.jlr_prog.specs.declared.shell.FirstEnd.{FirstEnd}
-use Rattle.jlr_prog.specs.declared.shell.FirstEnd.TheVariants.{Bye, End, Truncated, ReadFault, WriteFault}
-use Rattle.jlr_prog.proofs.Sent.{Consumes-none, Consumes-then}
-use Rattle.jlr_prog.proofs.Going.{so_far_none}
-use Rattle.jlr_prog.proofs.Ending.{ended_end, ended_truncated, ended_close_fault, ended_anyhow}
+use Rattle.jlr_session.specs.Carrying.{Carrying}
+use Rattle.jlr_session.specs.Turns.{reply_line, refusal_of}
+use Rattle.jlr_session.specs.Sessions.{Ended}
+use Rattle.jlr_session.specs.Chunks.{SoFar, TakesChunk, Closes}
+use Rattle.jlr_session.specs.declared.shell.FirstEnd.{FirstEnd}
+use Rattle.jlr_session.specs.declared.shell.FirstEnd.TheVariants.{Bye, End, Truncated, ReadFault, WriteFault}
+use Rattle.jlr_session.proofs.Sent.{Consumes-none, Consumes-then}
+use Rattle.jlr_session.proofs.Going.{so_far_none}
+use Rattle.jlr_session.proofs.Ending.{ended_end, ended_truncated, ended_close_fault, ended_anyhow}
 
 -- what was read was answered as far as it goes
 abbrev pub Stands : {H : Type 0} → Carrying H → Option (List ℕ) → Option (List ℕ) → H → Option (List ℕ) → Option (List ℕ) → Held → H → Type 0

@@ -1,7 +1,7 @@
 use Rattle.std.proofs.Common.{rules, ◌≡◌, ◌≢◌}
 use Rattle.jlr_wire.specs.declared.pieces.Got.TheVariants.{More}
-use Rattle.jlr_prog.proofs.Taking.{taken_none, taken_on, taken_line, taken_end}
-use Rattle.jlr_prog.proofs.shell.take_chunk.Goals as goal
+use Rattle.jlr_session.proofs.Taking.{taken_none, taken_on, taken_line, taken_end}
+use Rattle.jlr_session.proofs.shell.take_chunk.Goals as goal
 
 pub loop-rest-init : goal.loop-rest-init
 loop-rest-init g c = taken_none _ _ _ _ _

@@ -1,6 +1,6 @@
 use Rattle.std.proofs.Common.{length}
-use Rattle.jlr_prog.proofs.Taking.{Taken}
-use Rattle.jlr_prog.proofs.shell.take_chunk.Given as goal
+use Rattle.jlr_session.proofs.Taking.{Taken}
+use Rattle.jlr_session.proofs.shell.take_chunk.Given as goal
 
 abbrev pub invariant-loop-rest : goal.invariant-loop-rest
 invariant-loop-rest g l =

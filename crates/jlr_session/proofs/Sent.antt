@@ -7,7 +7,7 @@ use Rattle.std.proofs.lemmas.Bool.{false≢true}
 use Rattle.jlr_wire.proofs.Sending.{Appends-keeps}
 use Rattle.jlr_machine.specs.declared.ask.Answer.{Answer}
 use Rattle.jlr_wire.specs.Replies.{words}
-use Rattle.jlr_prog.specs.Turns.{with_end, reply_line, SendsReply}
+use Rattle.jlr_session.specs.Turns.{with_end, reply_line, SendsReply}
 
 pub Consumes-none : (a : Option (List ℕ)) → Consumes a a []
 Consumes-none None = tt

@@ -4,7 +4,7 @@ use jlr_wire::command::Command;
 
 /// Carries commands out, one at a time, and settles after each reply.
 pub trait CarryOut {
-    ghost use Rattle.jlr_prog.specs.Settling.{Carrying};
+    ghost use Rattle.jlr_session.specs.Carrying.{Carrying};
 
     // what may come of a command, and of a settling
     ghost carries: { Carrying Self };

@@ -14,10 +14,10 @@ use Rattle.jlr_wire.specs.declared.command.Command.{Command}
 use Rattle.jlr_wire.specs.declared.command.Command.TheVariants.{Bye}
 use Rattle.jlr_wire.specs.declared.pieces.Got.{Got}
 use Rattle.jlr_wire.specs.declared.pieces.Got.TheVariants.{More, Line, TooLong}
-use Rattle.jlr_prog.specs.Settling.{Carrying}
-use Rattle.jlr_prog.specs.Turns.{Answers, AnswersAndSettles, reply_line, refusal_of}
-use Rattle.jlr_prog.specs.Sessions.{Speaks}
-use Rattle.jlr_prog.specs.Chunks.{SoFar}
+use Rattle.jlr_session.specs.Carrying.{Carrying}
+use Rattle.jlr_session.specs.Turns.{Answers, AnswersAndSettles, reply_line, refusal_of}
+use Rattle.jlr_session.specs.Sessions.{Speaks}
+use Rattle.jlr_session.specs.Chunks.{SoFar}
 
 -- more than 512 bytes show in the first 513
 pub same_size : (line : List ℕ) → nat_lt 512 (length (take 513 line)) ≡ nat_lt 512 (length line)

@@ -1,6 +1,6 @@
 //! One line and its reply.
 ghost use Rattle.std.specs.Prelude.{◌≡◌, ◌↔◌, IsTrue};
-ghost use Rattle.jlr_prog.specs.Turns.{Answers, SendsReply, TurnEnds};
+ghost use Rattle.jlr_session.specs.Turns.{Answers, SendsReply, TurnEnds};
 ghost use Rattle.jlr_wire.specs.Commands.{IsCommand};
 ghost use Rattle.jlr_wire.specs.declared.command.Command.TheVariants.{Bye};
 

@@ -1,7 +1,7 @@
 use Rattle.std.proofs.Common.{rules, ◌≡◌, false}
 use Rattle.std.specs.Prelude.{is_err}
-use Rattle.jlr_prog.proofs.Sent.{went_out}
-use Rattle.jlr_prog.proofs.turn.answer_line.Goals as goal
+use Rattle.jlr_session.proofs.Sent.{went_out}
+use Rattle.jlr_session.proofs.turn.answer_line.Goals as goal
 
 pub returns : goal.returns
 returns g c =

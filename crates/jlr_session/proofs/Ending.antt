@@ -8,13 +8,13 @@ use Rattle.jlr_wire.specs.Lines.{Held, begun, ended_lines}
 use Rattle.jlr_wire.specs.Commands.{IsCommand}
 use Rattle.jlr_wire.proofs.Streams.{line_ends}
 use Rattle.jlr_wire.specs.declared.command.Command.TheVariants.{Bye}
-use Rattle.jlr_prog.specs.Settling.{Carrying}
-use Rattle.jlr_prog.specs.Turns.{Answers, reply_line, refusal_of}
-use Rattle.jlr_prog.specs.Sessions.{Answered, IsDue, Ended}
-use Rattle.jlr_prog.specs.Chunks.{SoFar}
-use Rattle.jlr_prog.specs.declared.shell.FirstEnd.{FirstEnd}
-use Rattle.jlr_prog.specs.declared.shell.FirstEnd.TheVariants.{Bye as EndsByBye, End, Truncated, ReadFault, WriteFault}
-use Rattle.jlr_prog.proofs.Going.{AnyEnd, answers_line, same_refusal, whole_command}
+use Rattle.jlr_session.specs.Carrying.{Carrying}
+use Rattle.jlr_session.specs.Turns.{Answers, reply_line, refusal_of}
+use Rattle.jlr_session.specs.Sessions.{Answered, IsDue, Ended}
+use Rattle.jlr_session.specs.Chunks.{SoFar}
+use Rattle.jlr_session.specs.declared.shell.FirstEnd.{FirstEnd}
+use Rattle.jlr_session.specs.declared.shell.FirstEnd.TheVariants.{Bye as EndsByBye, End, Truncated, ReadFault, WriteFault}
+use Rattle.jlr_session.proofs.Going.{AnyEnd, answers_line, same_refusal, whole_command}
 
 -- the line that is bye
 bye_line : (line : List ℕ) → IsCommand line Bye → line ≡ codes "bye"

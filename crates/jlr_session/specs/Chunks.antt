@@ -3,11 +3,11 @@ use Rattle.std.specs.Prelude.{◌≡◌, ◌≢◌, ℕ, List, [], ◌++◌, tak
 use Rattle.std.specs.Io.KnownBytes.{Appends}
 use Rattle.jlr_machine.specs.declared.ask.Answer.TheVariants.{Refused}
 use Rattle.jlr_wire.specs.Lines.{Held, begun, AreLines}
-use Rattle.jlr_prog.specs.Settling.{Carrying}
-use Rattle.jlr_prog.specs.Turns.{reply_line, refusal_of}
-use Rattle.jlr_prog.specs.Sessions.{Speaks, Ended}
-use Rattle.jlr_prog.specs.declared.shell.FirstEnd.{FirstEnd}
-use Rattle.jlr_prog.specs.declared.shell.FirstEnd.TheVariants.{Bye, End, Truncated, ReadFault, WriteFault}
+use Rattle.jlr_session.specs.Carrying.{Carrying}
+use Rattle.jlr_session.specs.Turns.{reply_line, refusal_of}
+use Rattle.jlr_session.specs.Sessions.{Speaks, Ended}
+use Rattle.jlr_session.specs.declared.shell.FirstEnd.{FirstEnd}
+use Rattle.jlr_session.specs.declared.shell.FirstEnd.TheVariants.{Bye, End, Truncated, ReadFault, WriteFault}
 
 -- The whole lines of the bytes were answered, and the reader of lines holds what stands after them.
 pub record SoFar {H : Type 0} (carries : Carrying H) (bytes : List ℕ) (held : Held) (old : H) (out : List ℕ) (new : H) : Type 0 where

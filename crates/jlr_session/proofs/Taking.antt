@@ -8,13 +8,13 @@ use Rattle.jlr_wire.specs.Feeding.{Feeds, Continues}
 use Rattle.jlr_wire.proofs.Sending.{Appends-none, Appends-then}
 use Rattle.jlr_wire.specs.declared.pieces.Got.{Got}
 use Rattle.jlr_wire.specs.declared.pieces.Got.TheVariants.{More}
-use Rattle.jlr_prog.specs.Settling.{Carrying}
-use Rattle.jlr_prog.specs.Turns.{TurnEnds, reply_line}
-use Rattle.jlr_prog.specs.Chunks.{SoFar, TakesChunk}
-use Rattle.jlr_prog.specs.declared.shell.FirstEnd.{FirstEnd}
-use Rattle.jlr_prog.specs.declared.shell.FirstEnd.TheVariants.{Bye, End, Truncated, ReadFault, WriteFault}
-use Rattle.jlr_prog.proofs.Going.{any_end, so_far_on, so_far_line}
-use Rattle.jlr_prog.proofs.Ending.{ended_bye, ended_turn_fault}
+use Rattle.jlr_session.specs.Carrying.{Carrying}
+use Rattle.jlr_session.specs.Turns.{TurnEnds, reply_line}
+use Rattle.jlr_session.specs.Chunks.{SoFar, TakesChunk}
+use Rattle.jlr_session.specs.declared.shell.FirstEnd.{FirstEnd}
+use Rattle.jlr_session.specs.declared.shell.FirstEnd.TheVariants.{Bye, End, Truncated, ReadFault, WriteFault}
+use Rattle.jlr_session.proofs.Going.{any_end, so_far_on, so_far_line}
+use Rattle.jlr_session.proofs.Ending.{ended_bye, ended_turn_fault}
 
 -- the chunk is answered up to the rest, whatever came before it
 abbrev pub Taken : {H : Type 0} → Carrying H → Held → H → Option (List ℕ) → List ℕ → List ℕ → Held → H → Option (List ℕ) → Type 0

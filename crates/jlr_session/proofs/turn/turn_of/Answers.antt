@@ -1,7 +1,7 @@
 use Rattle.std.proofs.Common.{◌≡◌, inl, inr, refl, ap, Ok}
 use Rattle.jlr_machine.specs.declared.ask.Answer.TheVariants.{Refused}
 use Rattle.jlr_wire.specs.declared.command.Command.TheVariants.{Bye}
-use Rattle.jlr_prog.proofs.turn.turn_of.Goals as goal
+use Rattle.jlr_session.proofs.turn.turn_of.Goals as goal
 
 pub returns-in-Err-clause-answer : goal.returns-in-Err-clause-answer
 returns-in-Err-clause-answer g c = inr (inr (λ k h. (let e = (c.in-Err.ensures.exact k).1 h in absurd cc), ap Refused c.in-Err.ensures.refused, refl))

@@ -1,8 +1,8 @@
 //! The lines of a session, from the first one to the end.
 ghost use Rattle.std.specs.Prelude.{ℕ, List, ◌≡◌};
 ghost use Rattle.std.specs.Io.KnownBytes.{Appends, Consumes, IsAtEnd};
-ghost use Rattle.jlr_prog.specs.Sessions.{Ended};
-ghost use Rattle.jlr_prog.specs.Chunks.{TakesChunk, Closes};
+ghost use Rattle.jlr_session.specs.Sessions.{Ended};
+ghost use Rattle.jlr_session.specs.Chunks.{TakesChunk, Closes};
 
 use crate::carry::CarryOut;
 use crate::turn::{answer_line, reply};

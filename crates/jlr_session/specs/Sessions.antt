@@ -7,10 +7,10 @@ use Rattle.jlr_wire.specs.Lines.{IsInLine, ended_lines}
 use Rattle.jlr_wire.specs.Commands.{IsCommand}
 use Rattle.jlr_wire.specs.Replies.{words}
 use Rattle.jlr_wire.specs.declared.command.Command.TheVariants.{Bye}
-use Rattle.jlr_prog.specs.Settling.{Carrying}
-use Rattle.jlr_prog.specs.Turns.{Answers, AnswersAndSettles, reply_line, refusal_of}
-use Rattle.jlr_prog.specs.declared.shell.FirstEnd.{FirstEnd}
-use Rattle.jlr_prog.specs.declared.shell.FirstEnd.TheVariants.{Bye as EndsByBye, End, Truncated, ReadFault, WriteFault}
+use Rattle.jlr_session.specs.Carrying.{Carrying}
+use Rattle.jlr_session.specs.Turns.{Answers, AnswersAndSettles, reply_line, refusal_of}
+use Rattle.jlr_session.specs.declared.shell.FirstEnd.{FirstEnd}
+use Rattle.jlr_session.specs.declared.shell.FirstEnd.TheVariants.{Bye as EndsByBye, End, Truncated, ReadFault, WriteFault}
 
 -- the lines are answered in turn, each by one reply line, which a settling follows; and none of them is bye
 abbrev pub Speaks : {H : Type 0} → Carrying H → List (List ℕ) → H → List ℕ → H → Type 0

@@ -1,6 +1,6 @@
 use Rattle.std.proofs.Common.{arith, ◌≡◌, take, [], ap, refl}
-use Rattle.jlr_prog.proofs.Standing.{stands_first, stands_more, ends_in_chunk, ends_at_end}
-use Rattle.jlr_prog.proofs.shell.converse.Goals as goal
+use Rattle.jlr_session.proofs.Standing.{stands_first, stands_more, ends_in_chunk, ends_at_end}
+use Rattle.jlr_session.proofs.shell.converse.Goals as goal
 
 pub loop-init : goal.loop-init
 loop-init g c = stands_first _ _ _ _ _ c.new-pieces.ensures
