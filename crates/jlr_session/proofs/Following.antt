@@ -6,8 +6,8 @@ use Rattle.jlr_wire.specs.declared.command.Command.TheVariants.{Bye}
 use Rattle.jlr_session.specs.Carrying.{Carrying}
 use Rattle.jlr_session.specs.Turns.{Answers, AnswersAndSettles}
 use Rattle.jlr_session.specs.Sessions.{Speaks, Answered, IsDue, Ended}
-use Rattle.jlr_session.specs.declared.shell.FirstEnd.{FirstEnd}
-use Rattle.jlr_session.specs.declared.shell.FirstEnd.TheVariants.{Bye as EndsByBye, End, Truncated, ReadFault, WriteFault}
+use Rattle.jlr_session.specs.declared.shell.SessionEnd.{SessionEnd}
+use Rattle.jlr_session.specs.declared.shell.SessionEnd.TheVariants.{Bye as EndsByBye, End, Truncated, ReadFault, WriteFault, TooManyLines, NotJoined}
 
 pub record IsFollowed {H X : Type 0} (carries : Carrying H) (tells : Carrying X) (S : H → X → Type 0) : Type 0 where
   pub commands : (h k : H) (x : X) (c : Command) (a : Answer) → c ≢ Bye → carries.command h c a k → S h x → (y : X) × tells.command x c a y × S k y
@@ -47,19 +47,21 @@ due_along carries tells S f at_end rest h k a x (inl d) s = let e = answers_alon
 due_along carries tells S f at_end rest h k a x (inr d) s = (x, inr (d.0, d.1, d.2, d.3, refl), subst (λ l. S l x) (sym d.4) s)
 
 pub ended_along : {H X : Type 0} (carries : Carrying H) (tells : Carrying X) (S : H → X → Type 0)
-    → IsFollowed carries tells S → (at_end : Type 0) (end : FirstEnd) (bytes : List ℕ) (h k : H) (out : List ℕ) (x : X) → Ended carries at_end end bytes h out k → S h x
+    → IsFollowed carries tells S → (at_end : Type 0) (end : SessionEnd) (bytes : List ℕ) (h k : H) (out : List ℕ) (x : X) → Ended carries at_end end bytes h out k → S h x
     → (y : X) × Ended tells at_end end bytes x out y × S k y
 ended_along carries tells S f at_end EndsByBye bytes h k out x e s =
     let a = answered_along carries tells S f bytes e.0 _ h e.3 e.2 x e.4 s in
-    let settled = f.settlings e.3 k a.0 e.5 a.2 in
-    (settled.0, (e.0, e.1, e.2, a.0, a.1, settled.1, e.6), settled.2)
-ended_along carries tells S f at_end End bytes h k out x e s = let a = answered_along carries tells S f bytes e.1 _ h k out x e.2 s in (a.0, (e.0, e.1, a.1), a.2)
+    let settled = f.settlings e.3 k a.0 e.6 a.2 in
+    (settled.0, (e.0, e.1, e.2, a.0, a.1, e.5, settled.1, e.7), settled.2)
+ended_along carries tells S f at_end End bytes h k out x e s = let a = answered_along carries tells S f bytes e.1 _ h k out x e.2 s in (a.0, (e.0, e.1, a.1, e.3), a.2)
 ended_along carries tells S f at_end Truncated bytes h k out x e s =
     let a = answered_along carries tells S f bytes e.1 e.2 h e.4 e.3 x e.5 s in
-    let settled = f.settlings e.4 k a.0 e.8 a.2 in
-    (settled.0, (e.0, e.1, e.2, e.3, a.0, a.1, e.6, e.7, settled.1, e.9), settled.2)
-ended_along carries tells S f at_end ReadFault bytes h k out x e s = let a = answered_along carries tells S f bytes e.0 e.1 h k out x e.2 s in (a.0, (e.0, e.1, a.1, e.3), a.2)
+    let settled = f.settlings e.4 k a.0 e.9 a.2 in
+    (settled.0, (e.0, e.1, e.2, e.3, a.0, a.1, e.6, e.7, e.8, settled.1, e.10), settled.2)
+ended_along carries tells S f at_end ReadFault bytes h k out x e s = let a = answered_along carries tells S f bytes e.0 e.1 h k out x e.2 s in (a.0, (e.0, e.1, a.1, e.3, e.4), a.2)
 ended_along carries tells S f at_end WriteFault bytes h k out x e s =
     let a = answered_along carries tells S f bytes e.0 e.1 h e.3 e.2 x e.6 s in
-    let d = due_along carries tells S f at_end e.1 e.3 k e.4 a.0 e.7 a.2 in
-    (d.0, (e.0, e.1, e.2, a.0, e.4, e.5, a.1, d.1, e.8), d.2)
+    let d = due_along carries tells S f at_end e.1 e.3 k e.4 a.0 e.8 a.2 in
+    (d.0, (e.0, e.1, e.2, a.0, e.4, e.5, a.1, e.7, d.1, e.9), d.2)
+ended_along carries tells S f at_end TooManyLines bytes h k out x e s = let a = answered_along carries tells S f bytes e.0 e.1 h k out x e.2 s in (a.0, (e.0, e.1, a.1, e.3), a.2)
+ended_along carries tells S f at_end (NotJoined by) bytes h k out x e s = absurd e

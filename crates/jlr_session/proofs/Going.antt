@@ -1,6 +1,6 @@
 -- A session that goes on.
-use Rattle.std.proofs.Common.{◌≡◌, ◌≢◌, ℕ, nat_lt, inl, inr, List, [], ◌∷◌, ◌++◌, take, length, None, refl, sym, ap, subst, ◌∙◌, arith, append_assoc}
-use Rattle.std.proofs.lemmas.List.{append-nil, take_all, length-take}
+use Rattle.std.proofs.Common.{◌≡◌, ◌≢◌, ℕ, nat_lt, ◌+◌, inl, inr, List, [], ◌∷◌, ◌++◌, take, length, None, refl, sym, ap, subst, ◌∙◌, arith, append_assoc}
+use Rattle.std.proofs.lemmas.List.{append-nil, take_all, length-take, length-append}
 use Rattle.std.proofs.lemmas.Bool.{cases_lt, le-ltb, lt-ltb}
 use Rattle.std.proofs.lemmas.List.Elements.{All-nil}
 use Rattle.jlr_machine.specs.declared.ask.Answer.{Answer}
@@ -74,21 +74,22 @@ speaks_more {H} carries (first ∷ lines) line old now next out answer s a w b =
 )
 
 -- before the first byte
-pub so_far_none : {H : Type 0} (carries : Carrying H) (heap : H) → SoFar carries [] nothing_held heap [] heap
+pub so_far_none : {H : Type 0} (carries : Carrying H) (heap : H) → SoFar carries [] nothing_held 0 heap [] heap
 so_far_none carries heap = record {
   lines = [];
   last = [];
   are = record { joined = refl; each = All-nil IsInLine; open_end = All-nil (λ b. b ≡ 10 → ⊥) };
   holds = refl;
+  counted = refl;
   speaks = (refl, refl);
 }
 
 -- the line goes on
-pub so_far_on : {H : Type 0} (carries : Carrying H) (bytes : List ℕ) (held : Held) (old : H) (out : List ℕ) (heap : H) (rest : List ℕ) (used : ℕ) (held' : Held)
-    → SoFar carries bytes held old out heap → Continues held rest used held' → SoFar carries (bytes ++ take used rest) held' old out heap
-so_far_on carries bytes held old out heap rest used held' s h =
+pub so_far_on : {H : Type 0} (carries : Carrying H) (bytes : List ℕ) (held : Held) (n : ℕ) (old : H) (out : List ℕ) (heap : H) (rest : List ℕ) (used : ℕ) (held' : Held)
+    → SoFar carries bytes held n old out heap → Continues held rest used held' → SoFar carries (bytes ++ take used rest) held' n old out heap
+so_far_on carries bytes held n old out heap rest used held' s h =
     let on = line_goes_on bytes s.last s.lines held rest used held' s.are s.holds h in
-    record { lines = s.lines; last = s.last ++ rest; are = on.0; holds = on.1; speaks = s.speaks }
+    record { lines = s.lines; last = s.last ++ rest; are = on.0; holds = on.1; counted = s.counted; speaks = s.speaks }
 
 -- the end of a line, however long it is
 abbrev pub AnyEnd : Held → List ℕ → ℕ → Held → Type 0
@@ -100,10 +101,10 @@ any_end Line held rest used held' n h = record { front = h.front; rest = h.rest;
 any_end TooLong held rest used held' n h = record { front = h.front; rest = h.rest; cut = h.cut; taken = h.taken; in_line = h.in_line; size = tt; ended = h.ended; held = h.held }
 
 -- a line is answered
-pub so_far_line : {H : Type 0} (carries : Carrying H) (bytes : List ℕ) (held : Held) (old : H) (out : List ℕ) (heap : H) (rest : List ℕ) (used : ℕ) (held' : Held) (answer : Answer) (heap' : H)
-    → SoFar carries bytes held old out heap → AnyEnd held rest used held' → AnswersAndSettles carries held'.bytes heap answer heap' → words answer ≢ None → (IsCommand held'.bytes Bye → ⊥)
-    → SoFar carries (bytes ++ take used rest) held' old (out ++ reply_line answer) heap'
-so_far_line carries bytes held old out heap rest used held' answer heap' s h a w b =
+pub so_far_line : {H : Type 0} (carries : Carrying H) (bytes : List ℕ) (held : Held) (n : ℕ) (old : H) (out : List ℕ) (heap : H) (rest : List ℕ) (used : ℕ) (held' : Held) (answer : Answer) (heap' : H)
+    → SoFar carries bytes held n old out heap → AnyEnd held rest used held' → AnswersAndSettles carries held'.bytes heap answer heap' → words answer ≢ None → (IsCommand held'.bytes Bye → ⊥)
+    → SoFar carries (bytes ++ take used rest) held' (n + 1) old (out ++ reply_line answer) heap'
+so_far_line carries bytes held n old out heap rest used held' answer heap' s h a w b =
     let line = s.last ++ h.front in
     let ends = line_ends (λ n. Unit {0}) bytes s.last s.lines held rest used held' s.are s.holds h in
     let P : List ℕ → Type 0 = λ t. IsCommand t Bye in
@@ -112,6 +113,7 @@ so_far_line carries bytes held old out heap rest used held' answer heap' s h a w
       last = [];
       are = ends.0;
       holds = ends.3;
+      counted = length-append s.lines (line ∷ []) ∙ ap (λ k. k + 1) s.counted;
       speaks = speaks_more carries s.lines line old heap heap' out answer s.speaks
           (turns_line carries held'.bytes line heap answer heap' ends.2 a) w
           (λ k. b (subst P (sym ends.2) (shown_command line Bye k)));

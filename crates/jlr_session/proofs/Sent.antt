@@ -19,6 +19,12 @@ Consumes-then (Some o) None c xs ys h k = absurd h
 Consumes-then (Some o) (Some m) None xs ys h k = absurd k
 Consumes-then (Some o) (Some m) (Some n) xs ys h k = h ∙ ap (λ t. xs ++ t) k ∙ sym (append_assoc xs ys n)
 
+pub Consumes-keeps : (a b c : Option (List ℕ)) (xs : List ℕ) → Consumes a b xs → Keeps b c → Consumes a c xs
+Consumes-keeps None b c xs h k = tt
+Consumes-keeps (Some o) None c xs h k = absurd h
+Consumes-keeps (Some o) (Some m) None xs h k = absurd k
+Consumes-keeps (Some o) (Some m) (Some n) xs h k = h ∙ ap (λ t. xs ++ t) (sym k)
+
 -- a line that went out whole, and then a fault that wrote nothing
 pub sent_then_kept : (o : Option (List ℕ)) (a b c : Option (List ℕ))
     → IfSome o (λ text. Appends a b (text ++ 10 ∷ [])) → IfNone o ((false ≡ true) × Keeps a b) → Keeps b c

@@ -1,5 +1,6 @@
 -- Reading order.
 pub mod Carrying
+pub mod Limits
 pub mod Turns
 pub mod Sessions
 -- What the parts of a session do, which no public clause names.

@@ -1,5 +1,5 @@
 -- What a session says: its lines are answered one after the other.
-use Rattle.std.specs.Prelude.{◌≡◌, ◌≢◌, ℕ, ◌⊎◌, List, [], ◌∷◌, ◌++◌, take, None, codes}
+use Rattle.std.specs.Prelude.{◌≡◌, ◌≢◌, ℕ, ◌<◌, ◌⊎◌, List, [], ◌∷◌, ◌++◌, length, take, None, codes}
 use Rattle.std.specs.List.{All}
 use Rattle.jlr_machine.specs.declared.ask.Answer.{Answer}
 use Rattle.jlr_machine.specs.declared.ask.Answer.TheVariants.{Done, Refused}
@@ -8,9 +8,10 @@ use Rattle.jlr_wire.specs.Commands.{IsCommand}
 use Rattle.jlr_wire.specs.Replies.{words}
 use Rattle.jlr_wire.specs.declared.command.Command.TheVariants.{Bye}
 use Rattle.jlr_session.specs.Carrying.{Carrying}
+use Rattle.jlr_session.specs.Limits.{most_lines}
 use Rattle.jlr_session.specs.Turns.{Answers, AnswersAndSettles, reply_line, refusal_of}
-use Rattle.jlr_session.specs.declared.shell.FirstEnd.{FirstEnd}
-use Rattle.jlr_session.specs.declared.shell.FirstEnd.TheVariants.{Bye as EndsByBye, End, Truncated, ReadFault, WriteFault}
+use Rattle.jlr_session.specs.declared.shell.SessionEnd.{SessionEnd}
+use Rattle.jlr_session.specs.declared.shell.SessionEnd.TheVariants.{Bye as EndsByBye, End, Truncated, ReadFault, WriteFault, TooManyLines, NotJoined}
 
 -- the lines are answered in turn, each by one reply line, which a settling follows; and none of them is bye
 abbrev pub Speaks : {H : Type 0} → Carrying H → List (List ℕ) → H → List ℕ → H → Type 0
@@ -35,18 +36,23 @@ IsDue {H} carries at_end rest old answer new =
 
 -- what the bytes that were read came to, where at_end says that the input is at its end. A settling follows each reply that went out,
 -- that of bye and the refusal at the end of the input among them
-abbrev pub Ended : {H : Type 0} → Carrying H → Type 0 → FirstEnd → List ℕ → H → List ℕ → H → Type 0
+abbrev pub Ended : {H : Type 0} → Carrying H → Type 0 → SessionEnd → List ℕ → H → List ℕ → H → Type 0
 Ended {H} carries at_end EndsByBye bytes old out new =
     (lines : List (List ℕ)) × (later : List ℕ) × (said : List ℕ) × (before : H)
-    × Answered carries bytes lines (codes "bye" ++ 10 ∷ later) old said before × carries.settling before new × (out ≡ said ++ reply_line Done)
+    × Answered carries bytes lines (codes "bye" ++ 10 ∷ later) old said before × (length lines < most_lines)
+    × carries.settling before new × (out ≡ said ++ reply_line Done)
 Ended {H} carries at_end End bytes old out new =
-    at_end × (lines : List (List ℕ)) × Answered carries bytes lines [] old out new
+    at_end × (lines : List (List ℕ)) × Answered carries bytes lines [] old out new × (length lines < most_lines)
 Ended {H} carries at_end Truncated bytes old out new =
     at_end × (lines : List (List ℕ)) × (last : List ℕ) × (said : List ℕ) × (before : H)
-    × Answered carries bytes lines last old said before × (last ≢ []) × IsInLine last × carries.settling before new
-    × (out ≡ said ++ reply_line (Refused (refusal_of last)))
+    × Answered carries bytes lines last old said before × (length lines < most_lines) × (last ≢ []) × IsInLine last
+    × carries.settling before new × (out ≡ said ++ reply_line (Refused (refusal_of last)))
 Ended {H} carries at_end ReadFault bytes old out new =
-    (lines : List (List ℕ)) × (last : List ℕ) × Answered carries bytes lines last old out new × IsInLine last
+    (lines : List (List ℕ)) × (last : List ℕ) × Answered carries bytes lines last old out new × (length lines < most_lines) × IsInLine last
 Ended {H} carries at_end WriteFault bytes old out new =
     (lines : List (List ℕ)) × (rest : List ℕ) × (said : List ℕ) × (before : H) × (answer : Answer) × (n : ℕ)
-    × Answered carries bytes lines rest old said before × IsDue carries at_end rest before answer new × (out ≡ said ++ take n (reply_line answer))
+    × Answered carries bytes lines rest old said before × (length lines < most_lines) × IsDue carries at_end rest before answer new
+    × (out ≡ said ++ take n (reply_line answer))
+Ended {H} carries at_end TooManyLines bytes old out new =
+    (lines : List (List ℕ)) × (rest : List ℕ) × Answered carries bytes lines rest old out new × (length lines ≡ most_lines)
+Ended {H} carries at_end (NotJoined by) bytes old out new = ⊥

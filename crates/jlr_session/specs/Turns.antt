@@ -10,8 +10,8 @@ use Rattle.jlr_wire.specs.Replies.{words}
 use Rattle.jlr_wire.specs.declared.command.Command.{Command}
 use Rattle.jlr_wire.specs.declared.command.Command.TheVariants.{Bye}
 use Rattle.jlr_session.specs.Carrying.{Carrying}
-use Rattle.jlr_session.specs.declared.shell.FirstEnd.{FirstEnd}
-use Rattle.jlr_session.specs.declared.shell.FirstEnd.TheVariants.{Bye as EndsByBye, WriteFault, End, Truncated, ReadFault}
+use Rattle.jlr_session.specs.declared.shell.SessionEnd.{SessionEnd}
+use Rattle.jlr_session.specs.declared.shell.SessionEnd.TheVariants.{Bye as EndsByBye, WriteFault}
 
 -- why bytes that are no command are refused
 abbrev pub refusal_of : List ℕ → Refusal
@@ -43,13 +43,11 @@ SendsReply old new result answer = MatchResult result
     (λ _. (n : ℕ) × Appends old new (take n (reply_line answer)))
 
 -- one line is answered and settled: the session goes on, or ends by bye. Or the writer fails, and nothing is settled
-abbrev pub TurnEnds : {H : Type 0} → Carrying H → List ℕ → H → Option (List ℕ) → Option FirstEnd → H → Option (List ℕ) → Type 0
+abbrev pub TurnEnds : {H : Type 0} → Carrying H → List ℕ → H → Option (List ℕ) → Option SessionEnd → H → Option (List ℕ) → Type 0
 TurnEnds {H} carries line old wrote None new written =
     (answer : Answer) × AnswersAndSettles carries line old answer new × (words answer ≢ None) × Appends wrote written (reply_line answer) × (IsCommand line Bye → ⊥)
 TurnEnds {H} carries line old wrote (Some EndsByBye) new written =
     IsCommand line Bye × carries.settling old new × Appends wrote written (reply_line Done)
 TurnEnds {H} carries line old wrote (Some WriteFault) new written =
     (answer : Answer) × (n : ℕ) × Answers carries line old answer new × Appends wrote written (take n (reply_line answer))
-TurnEnds {H} carries line old wrote (Some End) new written = ⊥
-TurnEnds {H} carries line old wrote (Some Truncated) new written = ⊥
-TurnEnds {H} carries line old wrote (Some ReadFault) new written = ⊥
+TurnEnds {H} carries line old wrote (Some _) new written = ⊥

@@ -1,6 +1,7 @@
 //! The lines of a session, from the first one to the end.
-ghost use Rattle.std.specs.Prelude.{ℕ, List, ◌≡◌};
+ghost use Rattle.std.specs.Prelude.{ℕ, List, ◌≡◌, ◌≤◌, ◌<◌, IfNone, length};
 ghost use Rattle.std.specs.Io.KnownBytes.{Appends, Consumes, IsAtEnd};
+ghost use Rattle.jlr_session.specs.Limits.{most_lines, most_bytes};
 ghost use Rattle.jlr_session.specs.Sessions.{Ended};
 ghost use Rattle.jlr_session.specs.Chunks.{TakesChunk, Closes};
 
@@ -11,71 +12,107 @@ use jlr_types::Refusal;
 use jlr_wire::pieces::{Got, LINE_LIMIT, Pieces};
 use std::io::{Read, Write};
 
+/// The most lines that a session answers.
+pub const MOST_LINES: u32 = 1_000_000;
+
+/// The most bytes that a session takes.
+pub const MOST_BYTES: usize = 67_108_864;
+
 /// The bytes that are asked for in one read.
 const CHUNK_SIZE: usize = 4_096;
 
 /// How a session ended.
 #[derive(Clone, Copy, Debug, PartialEq, Eq)]
-pub enum FirstEnd {
+pub enum SessionEnd {
     /// A line said `bye`.
     Bye,
     /// The input ended after a whole line, or at once.
     End,
     /// The input ended within a line.
     Truncated,
-    /// A read failed.
+    /// A read failed, or as many bytes were taken as may be.
     ReadFault,
     /// A write or a flush failed, a write took nothing, or an answer has no line.
     WriteFault,
+    /// As many lines were answered as may be, and none of them said `bye`.
+    TooManyLines,
+    /// The session could not join the heap.
+    NotJoined(Refusal),
 }
 
 /// Answers the lines of the reader one after the other, each on one flushed line, until a line says
 /// `bye`, the input ends, or a read or a write fails. After each reply that went out the heap settles.
 ///
 /// `bye` is answered `ok`. Bytes without the end of their line are answered `! 15`, or `! 16` if
-/// there are more than 512. A failed read or write is not tried again.
-pub fn converse<R: Read, W: Write, C: CarryOut>(
+/// there are more than 512. A failed read or write is not tried again. At most 67,108,864 bytes are
+/// taken: in place of the read after them the session ends with `ReadFault`. At most 1,000,000
+/// lines are answered: the session ends with `TooManyLines` after the last of them, unless that is `bye`.
+pub fn converse<C: CarryOut<H, D>, H, D, R: Read, W: Write>(
     reader: &mut R,
     writer: &mut W,
-    heap: &mut C,
-) -> FirstEnd
+    heap: &mut H,
+    device: &mut D,
+) -> SessionEnd
     ensures { (bytes : List ℕ) × (out : List ℕ)
         × Consumes (R.remaining reader.old) (R.remaining reader.new) bytes
         × Appends (W.contents writer.old) (W.contents writer.new) out
-        × Ended C.carries (IsAtEnd (R.remaining reader.new)) result bytes heap.old out heap.new }
+        × (length bytes ≤ most_bytes)
+        × Ended C.carries (IsAtEnd (R.remaining reader.new)) result bytes (heap.old, device.old) out (heap.new, device.new) }
 {
     let mut pieces = Pieces::new();
-    let mut chunk = [0u8; CHUNK_SIZE];
-    for _ in 0..u64::MAX {
-        let Ok(count) = reader.read(&mut chunk) else {
-            return FirstEnd::ReadFault;
+    let mut buffer = [0u8; CHUNK_SIZE];
+    let mut answered = 0;
+    let mut left = MOST_BYTES;
+    while left > 0 {
+        let room = &mut buffer[..left.min(CHUNK_SIZE)];
+        let Ok(count) = reader.read(room) else {
+            return SessionEnd::ReadFault;
         };
         if count == 0 {
-            return close(&pieces, writer, heap);
+            return close::<C, H, D, W>(&pieces, writer, heap);
         }
-        if let Some(end) = take_chunk(&mut pieces, &chunk[..count], writer, heap) {
+        let chunk = &room[..count];
+        if let Some(end) = take_chunk::<C, H, D, W>(
+            &mut pieces,
+            chunk,
+            &mut answered,
+            writer,
+            heap,
+            device,
+        ) {
             return end;
         }
+        left -= count;
     }
-    FirstEnd::ReadFault
+    SessionEnd::ReadFault
 }
 
 /// Answers the lines that end in a chunk, and says how the session ended if it did.
-fn take_chunk<W: Write, C: CarryOut>(
+fn take_chunk<C: CarryOut<H, D>, H, D, W: Write>(
     pieces: &mut Pieces,
     chunk: &[u8],
+    answered: &mut u32,
     writer: &mut W,
-    heap: &mut C,
-) -> Option<FirstEnd>
-    ensures { TakesChunk C.carries pieces.old chunk.now heap.old (W.contents writer.old) result pieces.new heap.new (W.contents writer.new) }
+    heap: &mut H,
+    device: &mut D,
+) -> Option<SessionEnd>
+    requires { answered.old < most_lines }
+    ensures few { IfNone result (answered.new < most_lines) }
+    ensures taken { TakesChunk C.carries pieces.old answered.old chunk.now (heap.old, device.old) (W.contents writer.old)
+        result pieces.new answered.new (heap.new, device.new) (W.contents writer.new) }
 {
     let mut rest = chunk;
     while !rest.is_empty() {
         let fed = pieces.feed(rest);
         rest = rest.split_at(fed.used).1;
         if fed.got != Got::More {
-            if let Some(end) = answer_line(pieces.line(), writer, heap) {
+            let line = pieces.line();
+            if let Some(end) = answer_line::<C, H, D, W>(line, writer, heap, device) {
                 return Some(end);
+            }
+            *answered += 1;
+            if *answered == MOST_LINES {
+                return Some(SessionEnd::TooManyLines);
             }
         }
     }
@@ -83,11 +120,15 @@ fn take_chunk<W: Write, C: CarryOut>(
 }
 
 /// Answers what is left at the end of the input, and settles.
-fn close<W: Write, C: CarryOut>(pieces: &Pieces, writer: &mut W, heap: &mut C) -> FirstEnd
-    ensures { Closes C.carries result pieces.now heap.old (W.contents writer.old) heap.new (W.contents writer.new) }
+fn close<C: CarryOut<H, D>, H, D, W: Write>(
+    pieces: &Pieces,
+    writer: &mut W,
+    heap: &mut H,
+) -> SessionEnd
+    ensures { (device : D) → Closes C.carries result pieces.now (heap.old, device) (W.contents writer.old) (heap.new, device) (W.contents writer.new) }
 {
     if !pieces.unfinished() {
-        return FirstEnd::End;
+        return SessionEnd::End;
     }
     let refusal = if pieces.line().len() > LINE_LIMIT {
         Refusal::TooLong
@@ -95,8 +136,8 @@ fn close<W: Write, C: CarryOut>(pieces: &Pieces, writer: &mut W, heap: &mut C) -
         Refusal::Malformed
     };
     if reply(&Answer::Refused(refusal), writer).is_err() {
-        return FirstEnd::WriteFault;
+        return SessionEnd::WriteFault;
     }
-    heap.settle();
-    FirstEnd::Truncated
+    C::settle(heap);
+    SessionEnd::Truncated
 }

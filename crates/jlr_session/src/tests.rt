@@ -1,6 +1,6 @@
 //! Sessions spelled out. The expected texts come from the description of the protocol.
 use crate::carry::CarryOut;
-use crate::shell::{FirstEnd, converse};
+use crate::shell::{SessionEnd, converse};
 use jlr_machine::ask::{Answer, Handed};
 use jlr_types::Handle;
 use jlr_wire::command::Command;
@@ -67,14 +67,14 @@ impl Write for Narrow {
 #[derive(Clone, Copy)]
 struct NoHeap;
 
-impl CarryOut for NoHeap {
+impl CarryOut<NoHeap, ()> for NoHeap {
     ghost carries = { record { command = λ _ _ _ _. Unit {0}; settling = λ _ _. Unit {0} } };
 
-    fn carry_out(&mut self, _command: Command) -> Answer {
+    fn carry_out(_heap: &mut NoHeap, _device: &mut (), _command: Command) -> Answer {
         Answer::Done
     }
 
-    fn settle(&mut self) {}
+    fn settle(_heap: &mut NoHeap) {}
 }
 
 /// Answers each command by a handle one higher, and the fourth by an answer that has no line. Counts its settlings.
@@ -83,25 +83,34 @@ struct Counting {
     settlings: u8,
 }
 
-impl CarryOut for Counting {
+impl CarryOut<Counting, ()> for Counting {
     ghost carries = { record { command = λ _ _ _ _. Unit {0}; settling = λ _ _. Unit {0} } };
 
-    fn carry_out(&mut self, _command: Command) -> Answer {
-        if self.count >= 3 {
+    fn carry_out(heap: &mut Counting, _device: &mut (), _command: Command) -> Answer {
+        if heap.count >= 3 {
             return Answer::Handed(Handed::Nothing);
         }
-        self.count += 1;
-        Answer::Handle(Handle::new(self.count))
+        heap.count += 1;
+        Answer::Handle(Handle::new(heap.count))
     }
 
-    fn settle(&mut self) {
-        self.settlings = self.settlings.saturating_add(1);
+    fn settle(heap: &mut Counting) {
+        heap.settlings = heap.settlings.saturating_add(1);
     }
+}
+
+/// A session over what carries commands out by itself.
+fn talk<C: CarryOut<C, ()>, R: Read, W: Write>(
+    reader: &mut R,
+    writer: &mut W,
+    heap: &mut C,
+) -> SessionEnd {
+    converse::<C, C, (), R, W>(reader, writer, heap, &mut ())
 }
 
 /// A session over these bytes, the first piece of so many bytes and each further one of the next so
 /// many.
-fn session(alloc: Global, bytes: &[u8], first: usize, step: usize) -> (FirstEnd, Vec<u8>) {
+fn session(alloc: Global, bytes: &[u8], first: usize, step: usize) -> (SessionEnd, Vec<u8>) {
     let mut out = Vec::new(alloc);
     let mut reader = Pieced {
         bytes,
@@ -109,7 +118,7 @@ fn session(alloc: Global, bytes: &[u8], first: usize, step: usize) -> (FirstEnd,
         step,
         fails: false,
     };
-    let end = converse(&mut reader, &mut out, &mut NoHeap);
+    let end = talk(&mut reader, &mut out, &mut NoHeap);
     (end, out)
 }
 
@@ -129,11 +138,11 @@ fn each_cut_gives_the_same_session(rt: HostRuntime) -> Result<(), Fail> {
     let expected = b"! 15\n! 16\n! 15\n! 15\n! 15\n".as_slice();
     for cut in 0..=bytes.len() {
         let (end, out) = session(rt.alloc(), bytes.as_slice(), cut, 4_096);
-        assert_eq!(rt; end, FirstEnd::Truncated, "at {cut}");
+        assert_eq!(rt; end, SessionEnd::Truncated, "at {cut}");
         assert_eq!(rt; out.as_slice(), expected, "at {cut}");
     }
     let (end, out) = session(rt.alloc(), bytes.as_slice(), 1, 1);
-    assert_eq!(rt; end, FirstEnd::Truncated);
+    assert_eq!(rt; end, SessionEnd::Truncated);
     assert_eq!(rt; out.as_slice(), expected);
     Ok(())
 }
@@ -141,15 +150,15 @@ fn each_cut_gives_the_same_session(rt: HostRuntime) -> Result<(), Fail> {
 #[test]
 fn sessions_end_as_they_should(rt: HostRuntime) {
     for (bytes, expected, how) in [
-        ("", "", FirstEnd::End),
-        ("\n", "! 15\n", FirstEnd::End),
-        ("gc\n", "ok\n", FirstEnd::End),
-        ("bye\n", "ok\n", FirstEnd::Bye),
-        ("bye\ngc\nput\n", "ok\n", FirstEnd::Bye),
-        ("bye \nbye\n", "! 15\nok\n", FirstEnd::Bye),
-        ("bye", "! 15\n", FirstEnd::Truncated),
-        ("gc\nbye", "ok\n! 15\n", FirstEnd::Truncated),
-        ("gc\r\n", "! 15\n", FirstEnd::End),
+        ("", "", SessionEnd::End),
+        ("\n", "! 15\n", SessionEnd::End),
+        ("gc\n", "ok\n", SessionEnd::End),
+        ("bye\n", "ok\n", SessionEnd::Bye),
+        ("bye\ngc\nput\n", "ok\n", SessionEnd::Bye),
+        ("bye \nbye\n", "! 15\nok\n", SessionEnd::Bye),
+        ("bye", "! 15\n", SessionEnd::Truncated),
+        ("gc\nbye", "ok\n! 15\n", SessionEnd::Truncated),
+        ("gc\r\n", "! 15\n", SessionEnd::End),
     ] {
         for step in 1..5usize {
             let (end, out) = session(rt.alloc(), bytes.as_bytes(), 0, step);
@@ -164,7 +173,7 @@ fn a_long_unfinished_line_is_too_long(rt: HostRuntime) {
     for (count, expected) in [(512usize, "! 15\n"), (513, "! 16\n"), (600, "! 16\n")] {
         let bytes = [b'x'; 600];
         let (end, out) = session(rt.alloc(), bytes.as_slice().split_at(count).0, 0, 100);
-        assert_eq!(rt; end, FirstEnd::Truncated, "at {count}");
+        assert_eq!(rt; end, SessionEnd::Truncated, "at {count}");
         assert_eq!(rt; out.as_slice(), expected.as_bytes(), "at {count}");
     }
 }
@@ -178,8 +187,8 @@ fn a_failed_read_is_a_fault(rt: HostRuntime) {
         fails: true,
     };
     let mut out = Vec::new(rt.alloc());
-    let end = converse(&mut reader, &mut out, &mut NoHeap);
-    assert_eq!(rt; end, FirstEnd::ReadFault);
+    let end = talk(&mut reader, &mut out, &mut NoHeap);
+    assert_eq!(rt; end, SessionEnd::ReadFault);
     assert_eq!(rt; out.as_slice(), b"ok\n".as_slice());
 }
 
@@ -212,8 +221,8 @@ fn a_failed_read_is_not_tried_again(rt: HostRuntime) {
         },
     };
     let mut out = Vec::new(rt.alloc());
-    let end = converse(&mut reader, &mut out, &mut NoHeap);
-    assert_eq!(rt; end, FirstEnd::ReadFault);
+    let end = talk(&mut reader, &mut out, &mut NoHeap);
+    assert_eq!(rt; end, SessionEnd::ReadFault);
     assert!(rt; out.is_empty());
 }
 
@@ -236,8 +245,8 @@ fn a_failed_write_or_flush_is_a_fault(rt: HostRuntime) {
             room,
             flushes,
         };
-        let end = converse(&mut reader, &mut writer, &mut NoHeap);
-        assert_eq!(rt; end, FirstEnd::WriteFault, "at {room}");
+        let end = talk(&mut reader, &mut writer, &mut NoHeap);
+        assert_eq!(rt; end, SessionEnd::WriteFault, "at {room}");
         assert_eq!(rt; writer.taken.as_slice(), sent.as_bytes(), "at {room}");
     }
 }
@@ -255,9 +264,9 @@ fn what_carries_out_is_asked_line_by_line(rt: HostRuntime) {
         count: 0,
         settlings: 0,
     };
-    let end = converse(&mut reader, &mut out, &mut heap);
+    let end = talk(&mut reader, &mut out, &mut heap);
     let Counting { count, settlings } = heap;
-    assert_eq!(rt; end, FirstEnd::WriteFault);
+    assert_eq!(rt; end, SessionEnd::WriteFault);
     assert_eq!(rt; out.as_slice(), b"= 1\n! 15\n= 2\n= 3\n".as_slice());
     assert_eq!(rt; count, 3);
     assert_eq!(rt; settlings, 4);
@@ -266,16 +275,16 @@ fn what_carries_out_is_asked_line_by_line(rt: HostRuntime) {
 #[test]
 fn each_reply_that_went_out_is_settled(rt: HostRuntime) {
     for (bytes, room, end, settled) in [
-        ("", 64, FirstEnd::End, 0),
-        ("gc\n", 64, FirstEnd::End, 1),
-        ("\nput\ngc\n", 64, FirstEnd::End, 3),
-        ("gc\nbye\ngc\n", 64, FirstEnd::Bye, 2),
-        ("bye\n", 64, FirstEnd::Bye, 1),
-        ("gc\nbye", 64, FirstEnd::Truncated, 2),
-        ("x", 64, FirstEnd::Truncated, 1),
-        ("gc\nput\ngc\n", 8, FirstEnd::WriteFault, 1),
-        ("gc\nx", 8, FirstEnd::WriteFault, 1),
-        ("bye\n", 2, FirstEnd::WriteFault, 0),
+        ("", 64, SessionEnd::End, 0),
+        ("gc\n", 64, SessionEnd::End, 1),
+        ("\nput\ngc\n", 64, SessionEnd::End, 3),
+        ("gc\nbye\ngc\n", 64, SessionEnd::Bye, 2),
+        ("bye\n", 64, SessionEnd::Bye, 1),
+        ("gc\nbye", 64, SessionEnd::Truncated, 2),
+        ("x", 64, SessionEnd::Truncated, 1),
+        ("gc\nput\ngc\n", 8, SessionEnd::WriteFault, 1),
+        ("gc\nx", 8, SessionEnd::WriteFault, 1),
+        ("bye\n", 2, SessionEnd::WriteFault, 0),
     ] {
         let mut reader = Pieced {
             bytes: bytes.as_bytes(),
@@ -292,7 +301,7 @@ fn each_reply_that_went_out_is_settled(rt: HostRuntime) {
             count: 0,
             settlings: 0,
         };
-        let ended = converse(&mut reader, &mut writer, &mut heap);
+        let ended = talk(&mut reader, &mut writer, &mut heap);
         let Counting {
             count: _,
             settlings,
@@ -300,4 +309,94 @@ fn each_reply_that_went_out_is_settled(rt: HostRuntime) {
         assert_eq!(rt; ended, end, "at {bytes:?}");
         assert_eq!(rt; settlings, settled, "at {bytes:?}");
     }
+}
+
+/// Gives one byte so many times, and ends. Counts its reads.
+#[derive(Drop)]
+struct Repeated {
+    byte: u8,
+    left: usize,
+    reads: u32,
+}
+
+impl Repeated {
+    fn new(byte: u8, left: usize) -> Repeated {
+        Repeated {
+            byte,
+            left,
+            reads: 0,
+        }
+    }
+}
+
+impl Read for Repeated {
+    fn read(&mut self, buf: &mut [u8]) -> io::Result<usize> {
+        self.reads = self.reads.wrapping_add(1);
+        let count = self.left.min(buf.len());
+        buf[..count].fill(self.byte);
+        self.left -= count;
+        Ok(count)
+    }
+}
+
+/// Counts the bytes that it takes.
+#[derive(Drop)]
+struct Tally(u64);
+
+impl Write for Tally {
+    fn write(&mut self, buf: &[u8]) -> io::Result<usize> {
+        self.0 = self.0.wrapping_add(buf.len() as u64);
+        Ok(buf.len())
+    }
+
+    fn flush(&mut self) -> io::Result<()> {
+        Ok(())
+    }
+}
+
+#[test]
+fn the_millionth_line_is_the_last(rt: HostRuntime) {
+    let mut reader = Repeated::new(b'\n', 1_000_007);
+    let mut writer = Tally(0);
+    assert_eq!(rt;
+        talk(&mut reader, &mut writer, &mut NoHeap),
+        SessionEnd::TooManyLines
+    );
+    assert_eq!(rt; writer.0, 5_000_000);
+}
+
+#[test]
+fn bye_may_be_the_millionth_line(rt: HostRuntime) {
+    let mut reader = Repeated::new(b'\n', 999_999).chain(b"bye\ngc\n".as_slice());
+    let mut writer = Tally(0);
+    assert_eq!(rt;
+        talk(&mut reader, &mut writer, &mut NoHeap),
+        SessionEnd::Bye
+    );
+    assert_eq!(rt; writer.0, 4_999_998);
+}
+
+// A session takes 67,108,864 bytes; the read after them is not made.
+#[test]
+fn a_line_without_end_is_not_read_on(rt: HostRuntime) {
+    let mut reader = Repeated::new(b'x', 67_108_864);
+    let mut writer = Tally(0);
+    assert_eq!(rt;
+        talk(&mut reader, &mut writer, &mut NoHeap),
+        SessionEnd::ReadFault
+    );
+    assert_eq!(rt; writer.0, 0);
+    assert_eq!(rt; reader.reads, 16_384);
+}
+
+#[test]
+fn a_line_of_all_bytes_but_one_is_unfinished(rt: HostRuntime) {
+    let mut reader = Repeated::new(b'x', 67_108_863);
+    let mut writer = Tally(0);
+    assert_eq!(rt;
+        talk(&mut reader, &mut writer, &mut NoHeap),
+        SessionEnd::Truncated
+    );
+    assert_eq!(rt; writer.0, 5);
+    assert_eq!(rt; reader.reads, 16_385);
 }

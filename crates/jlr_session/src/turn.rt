@@ -5,7 +5,7 @@ ghost use Rattle.jlr_wire.specs.Commands.{IsCommand};
 ghost use Rattle.jlr_wire.specs.declared.command.Command.TheVariants.{Bye};
 
 use crate::carry::CarryOut;
-use crate::shell::FirstEnd;
+use crate::shell::SessionEnd;
 use jlr_machine::ask::Answer;
 use jlr_wire::command::{Command, read_command};
 use jlr_wire::reply::{WriteFault, write_reply};
@@ -20,8 +20,8 @@ pub struct Turn {
 
 /// What a line is answered: `bye` by `ok`, a line that is no command by its refusal, and every
 /// other command by what carries it out.
-pub fn turn_of<C: CarryOut>(line: &[u8], heap: &mut C) -> Turn
-    ensures answer { Answers C.carries line.now heap.old result.answer heap.new }
+pub fn turn_of<C: CarryOut<H, D>, H, D>(line: &[u8], heap: &mut H, device: &mut D) -> Turn
+    ensures answer { Answers C.carries line.now (heap.old, device.old) result.answer (heap.new, device.new) }
     ensures last { IsTrue result.last ↔ IsCommand line.now Bye }
 {
     let command = match read_command(line) {
@@ -40,7 +40,7 @@ pub fn turn_of<C: CarryOut>(line: &[u8], heap: &mut C) -> Turn
         };
     }
     Turn {
-        answer: heap.carry_out(command),
+        answer: C::carry_out(heap, device, command),
         last: false,
     }
 }
@@ -64,20 +64,21 @@ pub fn reply<W: Write>(answer: &Answer, writer: &mut W) -> Result<(), WriteFault
 }
 
 /// Answers a line, settles once the reply went out, and says how the session ended if this was its last.
-pub fn answer_line<W: Write, C: CarryOut>(
+pub fn answer_line<C: CarryOut<H, D>, H, D, W: Write>(
     line: &[u8],
     writer: &mut W,
-    heap: &mut C,
-) -> Option<FirstEnd>
-    ensures { TurnEnds C.carries line.now heap.old (W.contents writer.old) result heap.new (W.contents writer.new) }
+    heap: &mut H,
+    device: &mut D,
+) -> Option<SessionEnd>
+    ensures { TurnEnds C.carries line.now (heap.old, device.old) (W.contents writer.old) result (heap.new, device.new) (W.contents writer.new) }
 {
-    let turn = turn_of(line, heap);
+    let turn = turn_of::<C, H, D>(line, heap, device);
     if reply(&turn.answer, writer).is_err() {
-        return Some(FirstEnd::WriteFault);
+        return Some(SessionEnd::WriteFault);
     }
-    heap.settle();
+    C::settle(heap);
     if turn.last {
-        return Some(FirstEnd::Bye);
+        return Some(SessionEnd::Bye);
     }
     None
 }
