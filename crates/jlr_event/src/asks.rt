@@ -215,7 +215,8 @@ pub(crate) fn name_ask<R>(event: &Event<R>) -> Option<Ask>
     })
 }
 
-/// The ask of an event about the heap as a whole: its collections and counts, and the steps of handler, cleaner and collector; none of another.
+/// The ask of an event about the heap as a whole: its collections and counts, and the steps of handler, cleaner and collector;
+/// none of another.
 pub(crate) fn heap_ask<R>(event: &Event<R>) -> Option<Ask>
     ensures { result ≡ ask_about Heap event.now }
 {

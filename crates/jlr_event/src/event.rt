@@ -12,81 +12,99 @@ use jlr_types::{ActionNo, Fault, Handle, Layout, Mutator, Progress, RefKind};
 /// An event: an ask, with the resource that is handed in where one is, or a piece of marking.
 #[derive(Drop)]
 pub enum Event<R> {
+    /// A mutator joins the heap.
     Join {
         mutator: Mutator,
     },
+    /// A mutator leaves: its handles are dropped.
     Leave {
         mutator: Mutator,
     },
+    /// A plain object is made, its reference fields null and its integer fields 0.
     New {
         mutator: Mutator,
         layout: Layout,
     },
+    /// A reference field is written; the value may be null.
     Put {
         mutator: Mutator,
         object: Handle,
         field: u8,
         value: Handle,
     },
+    /// A reference field is read.
     Get {
         mutator: Mutator,
         object: Handle,
         field: u8,
     },
+    /// An integer field is written.
     SetInt {
         mutator: Mutator,
         object: Handle,
         field: u8,
         value: i64,
     },
+    /// An integer field is read.
     Int {
         mutator: Mutator,
         object: Handle,
         field: u8,
     },
+    /// A second handle is taken for an object.
     Dup {
         mutator: Mutator,
         object: Handle,
     },
+    /// A handle is given back.
     Drop {
         mutator: Mutator,
         object: Handle,
     },
+    /// Whether two handles name one object, or are both null.
     Same {
         mutator: Mutator,
         left: Handle,
         right: Handle,
     },
+    /// A soft, weak or phantom reference is made, on a queue or none.
     MakeRef {
         mutator: Mutator,
         kind: RefKind,
         referent: Handle,
         queue: Handle,
     },
+    /// What a reference refers to is asked for; a phantom one never gives it.
     Deref {
         mutator: Mutator,
         reference: Handle,
     },
+    /// Whether a reference refers to this object, or, for null, to none.
     Refers {
         mutator: Mutator,
         reference: Handle,
         object: Handle,
     },
+    /// A reference is cleared by the program, which does not enqueue it.
     Clear {
         mutator: Mutator,
         reference: Handle,
     },
+    /// A reference is cleared by the program and put on its queue, if it has one that it was never on.
     Enqueue {
         mutator: Mutator,
         reference: Handle,
     },
+    /// Whether a reference is on its queue.
     Enqueued {
         mutator: Mutator,
         reference: Handle,
     },
+    /// A queue is made.
     MakeQueue {
         mutator: Mutator,
     },
+    /// The oldest member is taken off a queue; an empty one gives null.
     Poll {
         mutator: Mutator,
         queue: Handle,
@@ -96,6 +114,7 @@ pub enum Event<R> {
         mutator: Mutator,
         queue: Handle,
     },
+    /// A cleaner is made.
     MakeCleaner {
         mutator: Mutator,
     },
@@ -148,10 +167,12 @@ pub enum Event<R> {
         name: Name,
         object: Handle,
     },
+    /// A handle is taken for the object that is bound to a name.
     Find {
         mutator: Mutator,
         name: Name,
     },
+    /// A name is given up.
     Unbind {
         mutator: Mutator,
         name: Name,
@@ -160,6 +181,7 @@ pub enum Event<R> {
     Names {
         mutator: Mutator,
     },
+    /// A full collection, as the mode says.
     Full {
         mutator: Mutator,
         mode: FullMode,
@@ -195,7 +217,9 @@ pub enum Event<R> {
 /// What an event is answered, with the resource that is handed out where one is.
 #[derive(Drop)]
 pub enum Reply<R> {
+    /// The answer of an ask.
     Answered { answer: Answer, resource: Option<R> },
+    /// How far a piece of marking came.
     Marked(Progress),
 }
 
