@@ -13,7 +13,7 @@ use Rattle.std.specs.Char.{is_ascii_graphic}
 use Rattle.jlr_wire.proofs.Texts.{word_of_word, word_of_spells, data_of_digits, data_of_spells, count_of_decimal, count_of_spells, mode_of_letter, mode_of_spells}
 use Rattle.jlr_wire.specs.Texts.{is_name_byte}
 use Rattle.jlr_wire.specs.Fields.{byte_of, note_of, integer_of, path_of, name_of, data_of, mode_of}
-use Rattle.jlr_wire.specs.Commands.{Fields, mode_letter}
+use Rattle.jlr_wire.specs.Commands.{Fields}
 use Rattle.jlr_wire.specs.Reading.{◌>>=◌, layout_of, count_of, among, names_with_word, names_with_words, names_alone, names_with_number, names_with_two, named, with_number, with_two_numbers, reading_1, reading_2, reading_3, reading_4, reading}
 use Rattle.jlr_machine.specs.declared.ask.FullMode.TheVariants.{Policy, ClearAll}
 use Rattle.jlr_wire.specs.declared.command.Command.{Command}

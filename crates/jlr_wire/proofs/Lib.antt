@@ -8,6 +8,7 @@ pub mod Texts
 pub mod Laws
 pub mod Splits
 pub mod Sending
+pub mod Spelled
 pub mod Spaced
 pub mod Digits
 pub mod Streams

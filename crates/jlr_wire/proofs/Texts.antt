@@ -1,7 +1,7 @@
 -- Words of a line and what they spell.
-use Rattle.std.proofs.Common.{◌≡◌, ◌≢◌, ℕ, ◌<◌, ◌≤◌, ◌%◌, Bool, true, false, nat_lt, nat_le, ◌&&◌, cond, List, [], ◌∷◌, length, Option, Some, None, Result, Ok, Err, IfSome, IfNone, refl, sym, ap, ◌∙◌, arith, rules, inl, inr}
+use Rattle.std.proofs.Common.{◌≡◌, ℕ, ◌<◌, ◌≤◌, Bool, true, false, nat_lt, nat_le, ◌&&◌, cond, List, length, Some, None, Result, Ok, Err, refl, sym, ap, ◌∙◌, arith, inl, inr}
 use Rattle.std.specs.Prelude.{codes, decimal, IsOk, MatchResult}
-use Rattle.std.specs.List.{All, AllPass, list_all}
+use Rattle.std.specs.List.{AllPass, list_all}
 use Rattle.std.specs.Char.{is_ascii_graphic}
 use Rattle.std.specs.Result.{result_ok}
 use Rattle.std.specs.Str.{bytes_eq, IsUtf8}
@@ -22,7 +22,7 @@ use Rattle.jlr_wire.specs.Lines.{IsWithout}
 use Rattle.jlr_wire.specs.Texts.{IsWord, IsPath, AreDigits}
 use Rattle.jlr_wire.specs.Commands.{mode_letter}
 use Rattle.jlr_wire.specs.Fields.{byte_of, word_of, data_of, mode_of}
-use Rattle.jlr_wire.specs.Reading.{◌>>=◌, count_of}
+use Rattle.jlr_wire.specs.Reading.{count_of}
 
 pub word_of_word : (limit : ℕ) (kind : ℕ → Bool) (text : List ℕ) → IsWord limit kind text → word_of limit kind text ≡ Some text
 unfolding word_of

@@ -11,6 +11,7 @@ mod number;
 pub mod path;
 pub mod pieces;
 pub mod reply;
+pub mod spelling;
 pub mod stream;
 #[cfg(test)]
 mod tests;

@@ -27,7 +27,7 @@ impl Model for Path {
 impl Path {
     /// The path that the text spells, or `None`.
     #[tactic(auto, unfolding(crate::specs::Fields::word_of))]
-    pub fn parse(text: &[u8]) -> Option<Path>
+    pub(crate) fn parse(text: &[u8]) -> Option<Path>
         ensures { result ≡ path_of text.now }
     {
         if text.is_empty() || !has_path_bytes(text) {

@@ -3,5 +3,6 @@ mod cases;
 mod commands;
 mod lines;
 mod malformed;
+mod malformed_texts;
 mod replies;
 mod writers;

@@ -1,5 +1,5 @@
 //! Texts of a bounded length, which lie in the value itself and take no memory.
-ghost use Rattle.std.specs.Prelude.{◌≡◌, ◌≤◌, cond, nat_le, length, Some, None};
+ghost use Rattle.std.specs.Prelude.{◌≡◌, ◌≤◌, ◌↔◌, length, IsSome, IfSome};
 
 use arrayvec::ArrayVec;
 use std::marker::Model;
@@ -29,7 +29,8 @@ impl<const N: usize> Model for Text<N> {
 impl<const N: usize> Text<N> {
     /// These bytes, or `None` where they are more than `N`.
     pub fn from_slice(bytes: &[u8]) -> Option<Self>
-        ensures { result ≡ cond (nat_le (length bytes.now) N) (Some bytes.now) None }
+        ensures fits { IsSome result ↔ (length bytes.now ≤ N) }
+        ensures text { IfSome result (λ t. t ≡ bytes.now) }
     {
         let mut text = ArrayVec::new();
         text.try_extend_from_slice(bytes).ok()?;
@@ -38,8 +39,8 @@ impl<const N: usize> Text<N> {
 
     /// The bytes.
     pub fn as_slice(&self) -> &[u8]
-        ensures value { result.now ≡ self.now }
-        ensures bound { length result.now ≤ N }
+        ensures bytes { result.now ≡ self.now }
+        ensures fits { length result.now ≤ N }
     {
         self.bytes.as_slice()
     }

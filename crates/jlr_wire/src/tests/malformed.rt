@@ -1,12 +1,10 @@
-//! Lines that are nearly a command.
-use super::cases::padded;
+//! Lines that are nearly a command about objects, references or cleaners.
 use crate::command::read_command;
 use jlr_types::Refusal;
 use std::process::Abort;
-use std::test::Fail;
 
 /// Each line is malformed.
-fn malformed(rt: &impl Abort, lines: &[&str]) {
+pub fn malformed(rt: &impl Abort, lines: &[&str]) {
     for line in lines {
         let refused = matches!(read_command(line.as_bytes()), Err(Refusal::Malformed));
         assert!(rt; refused, "at {line:?}");
@@ -41,18 +39,6 @@ fn refuses_spaces_at_an_end(rt: HostRuntime) {
         " clean 1",
         "notes ",
         " faults",
-        "open r /a ",
-        " connect /a",
-        "connect /a ",
-        "read 1 1 ",
-        "write 1 00 ",
-        "close 1 ",
-        " remove 1",
-        "bind a 1 ",
-        "find ",
-        "find a ",
-        " unbind a",
-        "names ",
     ];
     malformed(&rt, &lines);
 }
@@ -71,17 +57,6 @@ fn refuses_other_separators_than_one_space(rt: HostRuntime) {
         "phantom  1 0",
         "setint 1 0  5",
         "register 1  2 7",
-        "open  r /a",
-        "open r  /a",
-        "open r\t/a",
-        "connect  /a",
-        "read 1  1",
-        "write  1 00",
-        "write 1 00\r",
-        "bind a  1",
-        "find  a",
-        "find a\r",
-        "names\r",
     ];
     malformed(&rt, &lines);
 }
@@ -111,19 +86,6 @@ fn refuses_too_few_fields(rt: HostRuntime) {
         "register 1",
         "register 1 2",
         "clean",
-        "remove",
-        "open",
-        "open r",
-        "connect",
-        "read",
-        "read 1",
-        "write",
-        "write 1",
-        "close",
-        "bind",
-        "bind a",
-        "find",
-        "unbind",
     ];
     malformed(&rt, &lines);
 }
@@ -149,17 +111,6 @@ fn refuses_too_many_fields(rt: HostRuntime) {
         "clean 1 2",
         "notes 1",
         "faults 1",
-        "remove 1 2",
-        "open r /a /b",
-        "connect /a /b",
-        "connect r /a",
-        "read 1 1 1",
-        "write 1 00 00",
-        "close 1 2",
-        "bind a 1 2",
-        "find a b",
-        "unbind a b",
-        "names a",
     ];
     malformed(&rt, &lines);
 }
@@ -192,17 +143,6 @@ fn refuses_other_names(rt: HostRuntime) {
         "cleaned 1",
         "note",
         "fault",
-        "Remove 1",
-        "Open r /a",
-        "opens r /a",
-        "Connect /a",
-        "READ 1 1",
-        "wrote 1 00",
-        "closed 1",
-        "Bind a 1",
-        "finds a",
-        "Unbind a",
-        "name",
     ];
     malformed(&rt, &lines);
 }
@@ -239,18 +179,6 @@ fn refuses_other_handles_and_field_numbers(rt: HostRuntime) {
         "clean 256",
         "clean 01",
         "clean -1",
-        "remove 01",
-        "remove 256",
-        "read 01 1",
-        "read 256 1",
-        "write 00 00",
-        "write 256 00",
-        "write x 00",
-        "close 01",
-        "close 256",
-        "bind a 01",
-        "bind a 256",
-        "bind 1 a",
     ];
     malformed(&rt, &lines);
 }
@@ -297,100 +225,4 @@ fn refuses_other_notes(rt: HostRuntime) {
         "register 1 2 -",
     ];
     malformed(&rt, &lines);
-}
-
-#[test]
-fn refuses_other_modes_and_paths(rt: HostRuntime) -> Result<(), Fail> {
-    let lines = [
-        "open x /a",
-        "open R /a",
-        "open rw /a",
-        "open  /a",
-        "open /a r",
-        "open r a b",
-        "open r \u{7f}",
-        "open w a\u{7f}",
-        "open r a\tb",
-        "open r \u{e9}",
-        "connect a\u{7f}b",
-        "connect \u{1f}",
-        "connect ",
-    ];
-    malformed(&rt, &lines);
-    for front in ["open r ", "open w ", "connect "] {
-        let line = padded(rt.alloc(), front, 'p', 256)?;
-        malformed(&rt, &[line.as_str()]);
-    }
-    Ok(())
-}
-
-#[test]
-fn refuses_other_counts(rt: HostRuntime) {
-    let lines = [
-        "read 1 0",
-        "read 1 201",
-        "read 1 256",
-        "read 1 257",
-        "read 1 01",
-        "read 1 00",
-        "read 1 +1",
-        "read 1 -1",
-        "read 1 x",
-        "read 1 0x1",
-        "read 1 1000",
-    ];
-    malformed(&rt, &lines);
-}
-
-#[test]
-fn refuses_other_digits(rt: HostRuntime) -> Result<(), Fail> {
-    let lines = [
-        "write 1 ",
-        "write 1 0",
-        "write 1 012",
-        "write 1 0g",
-        "write 1 g0",
-        "write 1 0x",
-        "write 1 -1",
-        "write 1 /0",
-        "write 1 :0",
-        "write 1 @0",
-        "write 1 `0",
-    ];
-    malformed(&rt, &lines);
-    for count in [1, 399, 401, 402] {
-        let line = padded(rt.alloc(), "write 1 ", '0', count)?;
-        malformed(&rt, &[line.as_str()]);
-    }
-    Ok(())
-}
-
-#[test]
-fn refuses_other_names_of_objects(rt: HostRuntime) -> Result<(), Fail> {
-    let lines = [
-        "bind A 1",
-        "bind aB 1",
-        "bind a-b 1",
-        "bind a.b 1",
-        "bind  1",
-        "find A",
-        "find a/b",
-        "find a:b",
-        "find `",
-        "find {",
-        "find @",
-        "find \u{e9}",
-        "unbind Z",
-        "unbind [",
-        "unbind ^",
-    ];
-    malformed(&rt, &lines);
-    for front in ["find ", "unbind "] {
-        let line = padded(rt.alloc(), front, 'a', 33)?;
-        malformed(&rt, &[line.as_str()]);
-    }
-    let mut line = padded(rt.alloc(), "bind ", 'a', 33)?;
-    line.push_str(" 1")?;
-    malformed(&rt, &[line.as_str()]);
-    Ok(())
 }

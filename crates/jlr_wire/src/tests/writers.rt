@@ -6,6 +6,7 @@ use jlr_machine::ask::Answer;
 use jlr_machine::text::Data;
 use jlr_types::{Fault, Refusal};
 use std::io::{self, Write};
+use std::process::Abort;
 use std::test::Fail;
 
 /// Takes at most so many bytes in one write, and so many in all.
@@ -30,24 +31,30 @@ impl Write for Narrow {
     }
 }
 
+/// Writes a reply so many bytes at a time with so much room in all: whether it goes out whole, and what goes out.
+fn sends_a_front(rt: &impl Abort, answer: &Answer, step: usize, rows: &[(usize, bool, &str)]) {
+    for (room, whole, sent) in rows {
+        let mut writer = Narrow {
+            taken: ArrayVec::new(),
+            step,
+            room: *room,
+        };
+        let result = write_reply(answer, &mut writer);
+        assert_eq!(rt; result.is_ok(), *whole, "at {room}");
+        assert_eq!(rt; writer.taken.as_slice(), sent.as_bytes(), "at {room}");
+    }
+}
+
 #[test]
 fn a_short_write_is_gone_on_with(rt: HostRuntime) {
-    for (room, whole, sent) in [
+    let rows = [
         (16, true, "! 15\n"),
         (5, true, "! 15\n"),
         (4, false, "! 15"),
         (3, false, "! 1"),
         (0, false, ""),
-    ] {
-        let mut writer = Narrow {
-            taken: ArrayVec::new(),
-            step: 1,
-            room,
-        };
-        let result = write_reply(&Answer::Refused(Refusal::Malformed), &mut writer);
-        assert_eq!(rt; result.is_ok(), whole, "at {room}");
-        assert_eq!(rt; writer.taken.as_slice(), sent.as_bytes(), "at {room}");
-    }
+    ];
+    sends_a_front(&rt, &Answer::Refused(Refusal::Malformed), 1, &rows);
 }
 
 /// Fails at its first write, and takes all later ones.
@@ -86,68 +93,44 @@ fn a_failed_write_is_not_tried_again(rt: HostRuntime) {
 #[test]
 fn a_list_that_fails_is_a_front_of_its_line(rt: HostRuntime) -> Result<(), Fail> {
     let answer = faults_of(rt.alloc(), &[(1, Fault::Other), (2, Fault::Denied)])?;
-    for (room, whole, sent) in [
+    let rows = [
         (22, true, "list 1:other 2:denied\n"),
         (21, false, "list 1:other 2:denied"),
         (14, false, "list 1:other 2"),
         (7, false, "list 1:"),
         (4, false, "list"),
         (0, false, ""),
-    ] {
-        let mut writer = Narrow {
-            taken: ArrayVec::new(),
-            step: 3,
-            room,
-        };
-        let result = write_reply(&answer, &mut writer);
-        assert_eq!(rt; result.is_ok(), whole, "at {room}");
-        assert_eq!(rt; writer.taken.as_slice(), sent.as_bytes(), "at {room}");
-    }
+    ];
+    sends_a_front(&rt, &answer, 3, &rows);
     Ok(())
 }
 
 #[test]
 fn data_that_fail_are_a_front_of_their_line(rt: HostRuntime) -> Result<(), Fail> {
     let answer = Answer::Data(Data::from_slice(b"\x01\x02\xff").ok_or("data")?);
-    for (room, whole, sent) in [
+    let rows = [
         (12, true, "data 0102ff\n"),
         (11, false, "data 0102ff"),
         (8, false, "data 010"),
         (5, false, "data "),
         (2, false, "da"),
         (0, false, ""),
-    ] {
-        let mut writer = Narrow {
-            taken: ArrayVec::new(),
-            step: 3,
-            room,
-        };
-        let result = write_reply(&answer, &mut writer);
-        assert_eq!(rt; result.is_ok(), whole, "at {room}");
-        assert_eq!(rt; writer.taken.as_slice(), sent.as_bytes(), "at {room}");
-    }
+    ];
+    sends_a_front(&rt, &answer, 3, &rows);
     Ok(())
 }
 
 #[test]
 fn names_that_fail_are_a_front_of_their_line(rt: HostRuntime) -> Result<(), Fail> {
     let answer = names_of(rt.alloc(), &["ab", "c"])?;
-    for (room, whole, sent) in [
+    let rows = [
         (10, true, "list ab c\n"),
         (9, false, "list ab c"),
         (8, false, "list ab "),
         (6, false, "list a"),
         (5, false, "list "),
         (4, false, "list"),
-    ] {
-        let mut writer = Narrow {
-            taken: ArrayVec::new(),
-            step: 3,
-            room,
-        };
-        let result = write_reply(&answer, &mut writer);
-        assert_eq!(rt; result.is_ok(), whole, "at {room}");
-        assert_eq!(rt; writer.taken.as_slice(), sent.as_bytes(), "at {room}");
-    }
+    ];
+    sends_a_front(&rt, &answer, 3, &rows);
     Ok(())
 }

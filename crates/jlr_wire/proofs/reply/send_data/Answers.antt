@@ -1,4 +1,4 @@
-use Rattle.std.proofs.Common.{◌≡◌, ◌<◌, length, [], refl, rules}
+use Rattle.std.proofs.Common.{◌<◌, length, [], refl, rules}
 use Rattle.std.specs.Prelude.{codes}
 use Rattle.std.proofs.lemmas.Result.{err_from_is_err_and}
 use Rattle.hex.specs.Hex.{encode_lower}
