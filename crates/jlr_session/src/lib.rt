@@ -1,9 +1,13 @@
 //! Sessions: the lines of a reader are carried out one after the other, and each is answered by one line of a writer.
 //!
-//! `shell` knows lines, answers and ends, and what a command does is up to a `CarryOut`.
+//! `serve` has the whole session over a `Port` and a device. Below it, `shell` knows lines, answers and ends, and what a command
+//! does is up to a `CarryOut`.
 #![tactic(auto)]
 
 pub mod carry;
+mod event;
+pub mod job;
+pub mod port;
 pub mod shell;
 #[cfg(test)]
 mod tests;
