@@ -4,3 +4,6 @@ pub mod Ending
 pub mod Taking
 pub mod Standing
 pub mod Following
+pub mod Calling
+pub mod Once
+pub mod Joining

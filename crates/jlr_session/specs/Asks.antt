@@ -1,5 +1,5 @@
 -- What each command asks of a port, and what it asks of a device or a resource between two asks.
-use Rattle.std.specs.Prelude.{◌≡◌, ℕ, List, Option, Some, None, Result, Ok, Err, MatchResult}
+use Rattle.std.specs.Prelude.{◌≡◌, ℕ, List, Option, Some, None, Result, Ok, Err, MatchResult, ⊤}
 use Rattle.jlr_types.specs.declared.Fault.{Fault}
 use Rattle.jlr_types.specs.declared.RefKind.TheVariants as kind
 use Rattle.jlr_machine.specs.declared.ask.Answer.{Answer}
@@ -101,53 +101,60 @@ event_of m (Clean c) = None
 event_of m (Close h) = None
 event_of m Bye = None
 
-module _ {P D R : Type 0} (port : Asking P R) (device : Opening D R) (resource : Handling R) where
+-- ---- What a device or a resource is asked between two asks, and the second ask that tells it
+
+-- the device opened a file, or failed
+abbrev pub TellsOpened : {D R : Type 0} → Opening D R → ℕ → Mode → List ℕ → D → D → Event R → Type 0
+TellsOpened {D} {R} device m mode path d d' second = (outcome : Result R Fault) × Opens device mode path d outcome d' × (second ≡ event.Opened m outcome)
+
+-- the device joined a socket, or failed
+abbrev pub TellsConnected : {D R : Type 0} → Opening D R → ℕ → List ℕ → D → D → Event R → Type 0
+TellsConnected {D} {R} device m path d d' second = (outcome : Result R Fault) × Connects device path d outcome d' × (second ≡ event.Opened m outcome)
+
+-- the resource was read, and comes back
+abbrev pub TellsRead : {R : Type 0} → Handling R → ℕ → ℕ → R → Event R → Type 0
+TellsRead {R} resource m count r second = (outcome : CallOutcome) × (r' : R) × Reads resource count r outcome r' × (second ≡ event.CheckIn m outcome r')
+
+-- the resource was written, and comes back
+abbrev pub TellsWritten : {R : Type 0} → Handling R → ℕ → List ℕ → R → Event R → Type 0
+TellsWritten {R} resource m bytes r second = (outcome : CallOutcome) × (r' : R) × Writes resource bytes r outcome r' × (second ≡ event.CheckIn m outcome r')
+
+-- the work of a job that by took up was done
+abbrev pub TellsFinished : {R : Type 0} → Handling R → ℕ → Job R → Event R → Type 0
+TellsFinished resource by job second = (outcome : Result (Unit {0}) Fault) × Finishes resource job.resource outcome × (second ≡ event.Finish by job.action outcome)
+
+-- ---- How commands are carried out
+
+module _ {P R : Type 0} (port : Asking P R) where
   -- one ask, whose answer is the last; where nothing is asked the answer is ok
-  abbrev pub AsksOnce : Option (Event R) → P → D → Answer → P → D → Type 0
-  AsksOnce None p d said p' d' = (said ≡ answer.Done) × (p' ≡ p) × (d' ≡ d)
-  AsksOnce (Some first) p d said p' d' = (reply : Reply R) × port.asks p first reply p' × (said ≡ said_by reply) × (d' ≡ d)
+  abbrev pub AsksOnce : Option (Event R) → P → Answer → P → Type 0
+  AsksOnce None p said p' = (said ≡ answer.Done) × (p' ≡ p)
+  AsksOnce (Some first) p said p' = (reply : Reply R) × port.asks p first reply p' × (said ≡ said_by reply)
 
-  -- an ask, and, where its reply leads on, one call and a second ask, whose answer is the last; else that of the first is
-  abbrev pub AsksTwice : {X : Type 0} → Event R → (Reply R → Result X Answer) → (X → D → Event R → D → Type 0) → P → D → Answer → P → D → Type 0
-  AsksTwice {X} first leads call p d said p' d' = (reply : Reply R) × (between : P) × port.asks p first reply between
+  -- An ask. Where its reply leads on, what it gives comes to a second ask, whose answer is the last; else the first answer is the
+  -- last, and rests holds
+  abbrev pub AsksTwice : {X : Type 0} → Event R → (Reply R → Result X Answer) → (X → Event R → Type 0) → Type 0 → P → Answer → P → Type 0
+  AsksTwice {X} first leads comes_to rests p said p' = (reply : Reply R) × (between : P) × port.asks p first reply between
       × MatchResult (leads reply)
-          (λ x. (second : Event R) × (last : Reply R) × call x d second d' × port.asks between second last p' × (said ≡ said_by last))
-          (λ answer. (said ≡ answer) × (p' ≡ between) × (d' ≡ d))
+          (λ x. (second : Event R) × (last : Reply R) × comes_to x second × port.asks between second last p' × (said ≡ said_by last))
+          (λ answer. (said ≡ answer) × (p' ≡ between) × rests)
 
-  -- the device opens a file, and the outcome is told
-  abbrev pub TellsOpened : ℕ → Mode → List ℕ → Unit {0} → D → Event R → D → Type 0
-  TellsOpened m mode path u d second d' = (outcome : Result R Fault) × Opens device mode path d outcome d' × (second ≡ event.Opened m outcome)
+module _ {P D R : Type 0} (port : Asking P R) (device : Opening D R) (resource : Handling R) where
+  -- A command in the name of m: at most two asks, and at most one call of the device or of a resource between them
+  abbrev pub CarriesOut : ℕ → Command → P → D → Answer → P → D → Type 0
+  CarriesOut m (Open mode path) p d said p' d' =
+      AsksTwice port (event.Prepare m) prepared_by (λ u. TellsOpened device m mode path d d') (d' ≡ d) p said p'
+  CarriesOut m (Connect path) p d said p' d' =
+      AsksTwice port (event.Prepare m) prepared_by (λ u. TellsConnected device m path d d') (d' ≡ d) p said p'
+  CarriesOut m (Read h count) p d said p' d' = AsksTwice port (event.CheckOut m h) out_by (TellsRead resource m count) ⊤ p said p' × (d' ≡ d)
+  CarriesOut m (Write h bytes) p d said p' d' = AsksTwice port (event.CheckOut m h) out_by (TellsWritten resource m bytes) ⊤ p said p' × (d' ≡ d)
+  CarriesOut m (Clean c) p d said p' d' = AsksTwice port (event.Clean m c) job_by (TellsFinished resource m) ⊤ p said p' × (d' ≡ d)
+  CarriesOut m (Close h) p d said p' d' = AsksTwice port (event.Close m h) job_by (TellsFinished resource m) ⊤ p said p' × (d' ≡ d)
+  CarriesOut m command p d said p' d' = AsksOnce port (event_of m command) p said p' × (d' ≡ d)
 
-  -- the device joins a socket, and the outcome is told
-  abbrev pub TellsConnected : ℕ → List ℕ → Unit {0} → D → Event R → D → Type 0
-  TellsConnected m path u d second d' = (outcome : Result R Fault) × Connects device path d outcome d' × (second ≡ event.Opened m outcome)
-
-  -- the resource is read and comes back
-  abbrev pub TellsRead : ℕ → ℕ → R → D → Event R → D → Type 0
-  TellsRead m count r d second d' = (outcome : CallOutcome) × (r' : R) × Reads resource count r outcome r' × (second ≡ event.CheckIn m outcome r') × (d' ≡ d)
-
-  -- the resource is written and comes back
-  abbrev pub TellsWritten : ℕ → List ℕ → R → D → Event R → D → Type 0
-  TellsWritten m bytes r d second d' = (outcome : CallOutcome) × (r' : R) × Writes resource bytes r outcome r' × (second ≡ event.CheckIn m outcome r') × (d' ≡ d)
-
-  -- the job's work is done, and its outcome told
-  abbrev pub TellsFinished : ℕ → Job R → D → Event R → D → Type 0
-  TellsFinished m job d second d' =
-      (outcome : Result (Unit {0}) Fault) × Finishes resource job.resource outcome × (second ≡ event.Finish m job.action outcome) × (d' ≡ d)
-
-  -- a command in the name of m
-  abbrev pub CarriesOutAs : ℕ → Command → P → D → Answer → P → D → Type 0
-  CarriesOutAs m (Open mode path) = AsksTwice (event.Prepare m) prepared_by (TellsOpened m mode path)
-  CarriesOutAs m (Connect path) = AsksTwice (event.Prepare m) prepared_by (TellsConnected m path)
-  CarriesOutAs m (Read h count) = AsksTwice (event.CheckOut m h) out_by (TellsRead m count)
-  CarriesOutAs m (Write h bytes) = AsksTwice (event.CheckOut m h) out_by (TellsWritten m bytes)
-  CarriesOutAs m (Clean c) = AsksTwice (event.Clean m c) job_by (TellsFinished m)
-  CarriesOutAs m (Close h) = AsksTwice (event.Close m h) job_by (TellsFinished m)
-  CarriesOutAs m command = AsksOnce (event_of m command)
-
-  -- each command is carried out in the name of the port's mutator, and the device has no part in a settling
+  -- each command is carried out in the name of the port's mutator, and a settling is the port's
   abbrev pub by_asks : Carrying (P × D)
   by_asks = record {
-    command = λ old command said new. CarriesOutAs (port.mutator old.0) command old.0 old.1 said new.0 new.1;
+    command = λ old command said new. CarriesOut (port.mutator old.0) command old.0 old.1 said new.0 new.1;
     settling = λ old new. port.settling old.0 new.0 × (new.1 ≡ old.1);
   }

@@ -1,5 +1,5 @@
 -- Calls of devices and of resources. A call that fails is counted; where no failure more can be counted none is made, and its outcome is other.
-use Rattle.std.specs.Prelude.{◌≡◌, ℕ, ◌≤◌, ◌⊎◌, List, take, length, replicate, Option, Some, None, Result, Ok, Err, IfOk, ⊤}
+use Rattle.std.specs.Prelude.{◌≡◌, ℕ, ◌≤◌, ◌⊎◌, min, List, take, length, replicate, Option, Some, None, Result, Ok, Err, IfOk, ⊤}
 use Rattle.jlr_types.specs.declared.Fault.{Fault}
 use Rattle.jlr_types.specs.declared.Fault.TheVariants.{Other}
 use Rattle.jlr_machine.specs.declared.ask.CallOutcome.{CallOutcome}
@@ -47,7 +47,7 @@ write_outcome (Err fault) = Failed fault
 
 -- a buffer for so many bytes, at most 200
 abbrev pub room_for : ℕ → List ℕ
-room_for count = take count (replicate 200 0)
+room_for count = take (min 200 count) (replicate 200 0)
 
 -- so many bytes are read, or as many of them as there are
 abbrev pub Reads : {R : Type 0} → Handling R → ℕ → R → CallOutcome → R → Type 0

@@ -12,16 +12,16 @@ use Rattle.jlr_session.specs.Sessions.{Ended}
 use Rattle.jlr_session.specs.declared.shell.SessionEnd.{SessionEnd}
 use Rattle.jlr_session.specs.declared.shell.SessionEnd.TheVariants.{NotJoined, WriteFault}
 
-module _ {P D R : Type 0} (port : Asking P R) (device : Opening D R) (resource : Handling R) where
-  -- the refusal of a join goes out, and a settling follows; or a write fails, and a front of it goes out
-  abbrev pub IsTurnedAway : Refusal → SessionEnd → P → List ℕ → P → Type 0
-  IsTurnedAway by end p out p' =
-      ((end ≡ NotJoined by) × (out ≡ reply_line (Refused by)) × port.settling p p')
-      ⊎ ((end ≡ WriteFault) × (n : ℕ) × (out ≡ take n (reply_line (Refused by))) × (p' ≡ p))
+-- the refusal of a join goes out, and a settling follows; or a write fails, and a front of it goes out
+abbrev pub IsTurnedAway : {P R : Type 0} → Asking P R → Refusal → SessionEnd → P → List ℕ → P → Type 0
+IsTurnedAway port by end p out p' =
+    ((end ≡ NotJoined by) × (out ≡ reply_line (Refused by)) × port.settling p p')
+    ⊎ ((end ≡ WriteFault) × (n : ℕ) × (out ≡ take n (reply_line (Refused by))) × (p' ≡ p))
 
+module _ {P D R : Type 0} (port : Asking P R) (device : Opening D R) (resource : Handling R) where
   -- a refused join ends the session before a byte is read; after any other the lines are carried out, and then the mutator leaves
   abbrev pub Follows : Answer → Type 0 → SessionEnd → List ℕ → P → D → List ℕ → P → D → Type 0
-  Follows (Refused by) at_end end bytes p d out p' d' = IsTurnedAway by end p out p' × (bytes ≡ []) × (d' ≡ d)
+  Follows (Refused by) at_end end bytes p d out p' d' = IsTurnedAway port by end p out p' × (bytes ≡ []) × (d' ≡ d)
   Follows answer at_end end bytes p d out p' d' =
       (left : P) × (last : Reply R) × Ended (by_asks port device resource) at_end end bytes (p, d) out (left, d')
       × port.asks left (Leave (port.mutator left)) last p'

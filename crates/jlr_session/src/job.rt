@@ -1,7 +1,5 @@
 //! The work of a cleaning action.
-ghost use Rattle.std.specs.Prelude.{◌≡◌, Result};
-ghost use Rattle.jlr_types.specs.declared.Fault.{Fault};
-ghost use Rattle.jlr_event.specs.declared.event.Event.TheVariants.{Finish};
+ghost use Rattle.jlr_session.specs.Asks.{TellsFinished};
 ghost use Rattle.jlr_session.specs.Calls.{Finishes};
 
 use jlr_cleaner::Job;
@@ -15,9 +13,7 @@ use jlr_types::Fault;
 /// A resource is finished, once, and its outcome told; where its count of failures is at its last value it is dropped, and the
 /// outcome is `other`. A job without one, a note, ends well.
 pub fn carry_out<R: Resource + Drop>(by: u8, job: Job<R>) -> Event<R>
-    ensures { (outcome : Result (Unit {0}) Fault)
-        × Finishes (record { count = R.count; reads = R.may_read; writes = R.may_write; finishes = R.may_finish }) job.resource outcome
-        × (result ≡ Finish by job.action outcome) }
+    ensures { TellsFinished (record { count = R.count; reads = R.may_read; writes = R.may_write; finishes = R.may_finish }) by job result }
 {
     let Job {
         action, resource, ..

@@ -4,10 +4,14 @@
 //! does is up to a `CarryOut`.
 #![tactic(auto)]
 
+mod asks;
+mod call;
 pub mod carry;
 mod event;
 pub mod job;
 pub mod port;
+mod reply;
+pub mod serve;
 pub mod shell;
 #[cfg(test)]
 mod tests;
