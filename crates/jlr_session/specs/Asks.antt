@@ -136,8 +136,8 @@ module _ {P R : Type 0} (port : Asking P R) where
   abbrev pub AsksTwice : {X : Type 0} → Event R → (Reply R → Result X Answer) → (X → Event R → Type 0) → Type 0 → P → Answer → P → Type 0
   AsksTwice {X} first leads comes_to rests p said p' = (reply : Reply R) × (between : P) × port.asks p first reply between
       × MatchResult (leads reply)
-          (λ x. (second : Event R) × (last : Reply R) × comes_to x second × port.asks between second last p' × (said ≡ said_by last))
-          (λ answer. (said ≡ answer) × (p' ≡ between) × rests)
+      (λ x. (second : Event R) × (last : Reply R) × comes_to x second × port.asks between second last p' × (said ≡ said_by last))
+      (λ answer. (said ≡ answer) × (p' ≡ between) × rests)
 
 module _ {P D R : Type 0} (port : Asking P R) (device : Opening D R) (resource : Handling R) where
   -- A command in the name of m: at most two asks, and at most one call of the device or of a resource between them

@@ -34,7 +34,11 @@ where
             Command::Connect { path } => connect(heap, device, mutator, path.as_str()),
             Command::Read { guard, count } => read(heap, mutator, guard, count),
             Command::Write { guard, bytes } => write(heap, mutator, guard, bytes.as_slice()),
-            Command::Clean { cleanable } => work(heap, mutator, Event::Clean { mutator, cleanable }),
+            Command::Clean { cleanable } => work(
+                heap,
+                mutator,
+                Event::Clean { mutator, cleanable },
+            ),
             Command::Close { guard } => work(heap, mutator, Event::Close { mutator, guard }),
             command => ask_once(heap, mutator, &command),
         }

@@ -16,7 +16,9 @@ pub fn carry_out<R: Resource + Drop>(by: u8, job: Job<R>) -> Event<R>
     ensures { TellsFinished (record { count = R.count; reads = R.may_read; writes = R.may_write; finishes = R.may_finish }) by job result }
 {
     let Job {
-        action, resource, ..
+        action,
+        resource,
+        ..
     } = job;
     Event::Finish {
         by,

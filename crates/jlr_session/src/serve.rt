@@ -41,8 +41,8 @@ where
         × Appends (W.contents writer.old) (W.contents writer.new) out
         × (length bytes ≤ most_bytes)
         × Serves P.asking (record { count = D.count; opens = D.may_open; connects = D.may_connect })
-            (record { count = D.Res.count; reads = D.Res.may_read; writes = D.Res.may_write; finishes = D.Res.may_finish })
-            (IsAtEnd (R.remaining reader.new)) result bytes port.old device.old out port.new device.new }
+        (record { count = D.Res.count; reads = D.Res.may_read; writes = D.Res.may_write; finishes = D.Res.may_finish })
+        (IsAtEnd (R.remaining reader.new)) result bytes port.old device.old out port.new device.new }
 {
     if let Answer::Refused(refusal) = join(port) {
         return turn_away(writer, port, refusal);

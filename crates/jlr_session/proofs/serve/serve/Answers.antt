@@ -14,5 +14,5 @@ returns g c =
     let at_end = IsAtEnd (g.R.Read.remaining c.converse-end.new.reader) in
     let F : Answer → Type 0 = λ a. Follows g.P.Port.asking device resource a at_end c.converse-end.result e.0 c.join.new.port c.args.device.now e.1 c.leave.new.port c.converse-end.new.device in
     let session = goes_on g.P.Port.asking device resource c.join.result at_end c.converse-end.result e.0 c.join.new.port c.args.device.now e.1 c.leave.new.port c.converse-end.new.device c.in_default.not-Refused
-            (c.converse-end.new.heap, c.leave.ensures.0, e.5, c.leave.ensures.1) in
+    (c.converse-end.new.heap, c.leave.ensures.0, e.5, c.leave.ensures.1) in
     (e.0, e.1, e.2, e.3, e.4, (c.join.ensures.0, c.join.new.port, c.join.ensures.1, subst F c.join.ensures.2 session))
