@@ -3,3 +3,4 @@ pub mod Shading
 pub mod Places
 pub mod Walking
 pub mod OwnRoots
+pub mod Pairs

@@ -11,6 +11,7 @@
 
 mod cleanables;
 mod clock;
+mod guards;
 mod heap;
 mod line;
 mod marking;

@@ -271,6 +271,31 @@ fn a_guard_leads_to_its_cleanable(rt: HostRuntime) -> Result<(), Fail> {
 }
 
 #[test]
+fn a_new_guard_has_a_cleanable_that_waits_for_it(rt: HostRuntime) -> Result<(), Fail> {
+    let mut heap = heap_of(rt.alloc())?;
+    let rid = Rid::new(3);
+    let action = ActionNo::new(7);
+    let (guard, cleanable) = heap.allocate_guard(rid, action).ok_or("no cells")?;
+    assert_eq!(rt; heap.guard(guard), Some(Guard { rid, cleanable }));
+    assert_eq!(rt;
+        heap.cleanable(cleanable),
+        Some(Cleanable {
+            referent: Some(guard),
+            action,
+            work: Work::Resource(rid),
+            state: CleanState::Armed,
+        })
+    );
+    assert_eq!(rt; heap.free_count() + 2, heap.cell_count());
+    while heap.free_count() > 1 {
+        assert!(rt; heap.allocate(Shape::Queue).is_some());
+    }
+    assert_eq!(rt; heap.allocate_guard(rid, action), None);
+    assert_eq!(rt; heap.free_count(), 1);
+    Ok(())
+}
+
+#[test]
 fn cleanables_are_roots_by_themselves(rt: HostRuntime) -> Result<(), Fail> {
     let mut heap = heap_of(rt.alloc())?;
     let watched = heap.allocate(Shape::Cleaner).ok_or("no cell")?;

@@ -95,6 +95,10 @@ in_clean_state state c = record c { state = state }
 abbrev pub without_referent : CleanableOf → CleanableOf
 without_referent c = record c { referent = None }
 
+-- and one that waits for an object
+abbrev pub watching : ℕ → CleanableOf → CleanableOf
+watching s c = record c { referent = Some s }
+
 -- the members of an object, if it is a queue
 abbrev pub members_in : Option Object → List ℕ
 members_in None = []

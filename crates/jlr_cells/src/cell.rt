@@ -3,7 +3,7 @@ ghost use Rattle.std.specs.Prelude.{◌≡◌, ◌++◌, ◌∷◌, [], ◌+◌,
 ghost use Rattle.jlr_machine.specs.Objects.{as_cleanable, as_fields, as_guard, as_reference, some_and, with_cleanable, with_field, with_members, with_reference};
 ghost use Rattle.jlr_machine.specs.Refusals.{is_cleanable, is_queue, is_reference};
 ghost use Rattle.jlr_machine.specs.Calls.{spent, unreferred};
-ghost use Rattle.jlr_cells.specs.Contents.{field_in, in_clean_state, in_state, kind_in, member_in, next_in, object_in, object_of, referent_in, unregistered, without_referent};
+ghost use Rattle.jlr_cells.specs.Contents.{field_in, in_clean_state, in_state, kind_in, member_in, next_in, object_in, object_of, referent_in, unregistered, without_referent, watching};
 ghost use Rattle.jlr_cells.specs.Links.{links_of, no_links};
 
 use crate::fields::Fields;
@@ -167,6 +167,18 @@ impl Cell {
     {
         match self {
             Cell::Cleanable(cleanable) => cleanable.referent = None,
+            _ => unreachable!(),
+        }
+    }
+
+    /// A cleanable waits for an object from now on.
+    pub(crate) fn watch(&mut self, referent: Slot)
+        requires { IsTrue (some_and is_cleanable (object_in self.old)) }
+        ensures new { object_in self.new ≡ option_map (with_cleanable (watching referent)) (object_in self.old) }
+        ensures kind { kind_in self.new ≡ kind_in self.old }
+    {
+        match self {
+            Cell::Cleanable(cleanable) => cleanable.referent = Some(referent),
             _ => unreachable!(),
         }
     }

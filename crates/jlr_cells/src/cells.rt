@@ -6,7 +6,7 @@ ghost use Rattle.jlr_machine.specs.Edges.Chain.{Strong};
 ghost use Rattle.jlr_machine.specs.Objects.{with_cleanable, with_field, with_members, with_reference};
 ghost use Rattle.jlr_machine.specs.Refusals.{is_cleanable, is_guard, is_plain, is_queue, is_reference};
 ghost use Rattle.jlr_machine.specs.Calls.{spent, unreferred};
-ghost use Rattle.jlr_cells.specs.Contents.{field_at, in_clean_state, in_state, kind_of, member_in, members_in, object_of, objects_in, referent_in, unregistered, without_referent};
+ghost use Rattle.jlr_cells.specs.Contents.{field_at, in_clean_state, in_state, kind_of, member_in, members_in, object_of, objects_in, referent_in, unregistered, watching, without_referent};
 ghost use Rattle.jlr_cells.specs.Links.{no_links};
 ghost use Rattle.jlr_cells.specs.Visits.{edges_told, found_plain};
 
@@ -288,6 +288,15 @@ impl Cells {
     {
         let cell = &mut self.cells[slot.number() as usize];
         cell.clear_cleanable();
+    }
+
+    /// The cleanable at a slot waits for an object from now on.
+    pub fn watch(&mut self, slot: Slot, referent: Slot)
+        requires { IsTrue (some_and is_cleanable (at self.old slot)) }
+        ensures { self.new ≡ change_at self.old slot (with_cleanable (watching referent)) }
+    {
+        let cell = &mut self.cells[slot.number() as usize];
+        cell.watch(referent);
     }
 
     /// The cleanable at a slot has done what it was for: it is spent, and has no referent any more.
@@ -637,6 +646,12 @@ mod tests {
         assert_eq!(rt; cells.cleanable(slot), cleanable(None, CleanState::Lined));
 
         let other = cells.take(armed(watched)).ok_or("no cell")?;
+        assert!(rt; cells.is_cleanable(other));
+        cells.watch(other, slot);
+        assert_eq!(rt;
+            cells.cleanable(other),
+            cleanable(Some(slot), CleanState::Armed)
+        );
         assert!(rt; cells.is_cleanable(other));
         cells.spend(other);
         assert_eq!(rt; cells.cleanable(other), cleanable(None, CleanState::Spent));

@@ -6,12 +6,14 @@ use Rattle.jlr_types.specs.declared.RefKind.{RefKind}
 use Rattle.jlr_types.specs.declared.Refusal.{Refusal}
 use Rattle.jlr_types.specs.declared.Refusal.TheVariants.{NoMemory, NoSession, NoHandle, Null, WrongKind, Busy, HandlesFull, HeapFull}
 use Rattle.jlr_machine.specs.declared.object.Object.{Object}
-use Rattle.jlr_machine.specs.declared.object.Object.TheVariants.{Reference}
+use Rattle.jlr_types.specs.declared.Work.TheVariants.{Note}
+use Rattle.jlr_machine.specs.declared.object.CleanState.TheVariants.{Armed}
+use Rattle.jlr_machine.specs.declared.object.Object.TheVariants.{Cleanable, Reference}
 use Rattle.jlr_machine.specs.declared.object.RefState.TheVariants.{Fresh}
 use Rattle.jlr_machine.specs.declared.machine.Machine.{Machine}
 use Rattle.jlr_machine.specs.declared.machine.Session.{Session}
 use Rattle.jlr_machine.specs.declared.ask.Ask.{Ask}
-use Rattle.jlr_machine.specs.declared.ask.Ask.TheVariants.{Join, Leave, Put, Get, SetInt, Int, Dup, Drop, Same, MakeRef, Deref, Refers, Clear, Enqueue, Enqueued, Poll, HandOver, Full, Stat, Begin, Abandon}
+use Rattle.jlr_machine.specs.declared.ask.Ask.TheVariants.{Join, Leave, Put, Get, SetInt, Int, Dup, Drop, Same, MakeRef, Deref, Refers, Clear, Enqueue, Enqueued, Poll, Register, Clean, Opened, Finish, HandOver, TakeUp, Full, Stat, Notes, Faults, Begin, Abandon}
 use Rattle.jlr_machine.specs.declared.ask.FullMode.{FullMode}
 use Rattle.jlr_machine.specs.declared.ask.FullMode.TheVariants.{Policy, ClearAll}
 use Rattle.jlr_machine.specs.declared.ask.Answer.{Answer}
@@ -96,6 +98,12 @@ IsPlain (Stat k) = Unit {0}
 IsPlain HandOver = Unit {0}
 IsPlain Begin = Unit {0}
 IsPlain Abandon = Unit {0}
+IsPlain (Clean k d) = Unit {0}
+IsPlain (Opened k outcome) = Unit {0}
+IsPlain (Finish by action outcome) = Unit {0}
+IsPlain (Notes k) = Unit {0}
+IsPlain (Faults k) = Unit {0}
+IsPlain TakeUp = Unit {0}
 IsPlain _ = ⊥
 
 plainly : (m n : Machine) (ask : Ask) (a : Answer) → IsPlain ask → refusal m ask ≡ None → reply m ask ≡ Some a → n ≡ after m ask a [] → Meets m ask a no_choice n
@@ -118,6 +126,12 @@ plainly m n (Stat k) a p e r l = meets_plainly m (Stat k) a n e (room_for_none m
 plainly m n Begin a p e r l = meets_plainly m Begin a n e (room_for_none m) refl r r l
 plainly m n Abandon a p e r l = meets_plainly m Abandon a n e (room_for_none m) refl r r l
 plainly m n HandOver a p e r l = meets_plainly m HandOver a n e (room_for_none m) refl r r l
+plainly m n (Clean k d) a p e r l = meets_plainly m (Clean k d) a n e (room_for_none m) refl r r l
+plainly m n (Opened k outcome) a p e r l = meets_plainly m (Opened k outcome) a n e (room_for_none m) refl r r l
+plainly m n (Finish by action outcome) a p e r l = meets_plainly m (Finish by action outcome) a n e (room_for_none m) refl r r l
+plainly m n (Notes k) a p e r l = meets_plainly m (Notes k) a n e (room_for_none m) refl r r l
+plainly m n (Faults k) a p e r l = meets_plainly m (Faults k) a n e (room_for_none m) refl r r l
+plainly m n TakeUp a p e r l = meets_plainly m TakeUp a n e (room_for_none m) refl r r l
 plainly m n _ a p e r l = absurd p
 
 pub meets_plain : (m n : Machine) (ask : Ask) (a : Answer) → IsPlain ask → refusal m ask ≡ None → reply m ask ≡ Some a → n ≡ after m ask a [] → Meets m ask a no_choice n
@@ -162,15 +176,21 @@ same_mutators : (m : Machine) (c : Option Collected) → (with_collection m c).m
 same_mutators m None = refl
 same_mutators m (Some c) = refl
 
-pub meets_new :
-    (m mid n : Machine) (ask : Ask) (k slot : ℕ) (o : Object) (new : Choosing) (a : Answer)
+-- and the next action
+same_number : (m : Machine) (c : Option Collected) → (with_collection m c).next_action ≡ m.next_action
+same_number m None = refl
+same_number m (Some c) = refl
+
+-- an ask that makes one object, and then does more to the machine
+pub meets_made :
+    (m mid n : Machine) (ask : Ask) (k slot : ℕ) (o : Object) (new : Choosing) (a : Answer) (more : Machine → Machine)
     → refusal m ask ≡ None
     → ((c : Option Collected) → MayMakeRoom m c → MayCollect m ask c)
     → cells_needed ask ≡ 1
     → ((x : Machine) → x.mutators ≡ m.mutators → new_handle x k ≡ Some a → Answers x ask new.chosen.collected a × (reply x ask ≡ Some a))
-    → ((x : Machine) → x.mutators ≡ m.mutators → after x ask a (slot ∷ []) ≡ with_handle (with_new x slot o) k slot)
-    → Allocates m o new slot mid → new_handle mid k ≡ Some a → n ≡ with_handle mid k slot → Meets m ask a new.chosen n
-meets_new m mid n ask k slot o new a e collects one answers leaves x handle left =
+    → ((x : Machine) → x.mutators ≡ m.mutators → x.next_action ≡ m.next_action → after x ask a (slot ∷ []) ≡ more (with_handle (with_new x slot o) k slot))
+    → Allocates m o new slot mid → new_handle mid k ≡ Some a → n ≡ more (with_handle mid k slot) → Meets m ask a new.chosen n
+meets_made m mid n ask k slot o new a more e collects one answers leaves x handle left =
     let y : Machine = with_collection m new.chosen.collected in
     let same : y.mutators ≡ m.mutators = same_mutators m new.chosen.collected in
     let there : new_handle y k ≡ Some a = sym (ap (λ (z : Machine). new_handle z k) x.left) ∙ handle in
@@ -184,11 +204,22 @@ meets_new m mid n ask k slot o new a e collects one answers leaves x handle left
       });
       applied =
           left
-          ∙ ap (λ (z : Machine). with_handle z k slot) x.left
-          ∙ sym (leaves y same)
+          ∙ ap (λ (z : Machine). more (with_handle z k slot)) x.left
+          ∙ sym (leaves y same (same_number m new.chosen.collected))
           ∙ sym (carried_on y ask a (slot ∷ []) r.1)
           ∙ ap (λ l. carried y ask a l) (sym x.fresh);
     }
+
+pub meets_new :
+    (m mid n : Machine) (ask : Ask) (k slot : ℕ) (o : Object) (new : Choosing) (a : Answer)
+    → refusal m ask ≡ None
+    → ((c : Option Collected) → MayMakeRoom m c → MayCollect m ask c)
+    → cells_needed ask ≡ 1
+    → ((x : Machine) → x.mutators ≡ m.mutators → new_handle x k ≡ Some a → Answers x ask new.chosen.collected a × (reply x ask ≡ Some a))
+    → ((x : Machine) → x.mutators ≡ m.mutators → after x ask a (slot ∷ []) ≡ with_handle (with_new x slot o) k slot)
+    → Allocates m o new slot mid → new_handle mid k ≡ Some a → n ≡ with_handle mid k slot → Meets m ask a new.chosen n
+meets_new m mid n ask k slot o new a e collects one answers leaves x handle left =
+    meets_made m mid n ask k slot o new a (λ z. z) e collects one answers (λ z s _. leaves z s) x handle left
 
 -- ---- The asks that make an object
 
@@ -235,3 +266,24 @@ meets_new_reference m mid n k slot kind h q target queue new a e named in_queue 
     let lookup : ℕ → Table Session → Option ℕ = λ i t. option_and_then (λ z. at z.handles i) (at t k) in
     ap {A = Option ℕ} {B = Machine} (λ r. with_handle (with_new y slot (Reference (record { kind = kind; referent = r; queue = slot_named y k q; state = Fresh }))) k slot) (ap (lookup h) s ∙ named)
     ∙ ap {A = Option ℕ} {B = Machine} (λ r. with_handle (with_new y slot (Reference (record { kind = kind; referent = Some target; queue = r; state = Fresh }))) k slot) (ap (lookup q) s ∙ in_queue)) x handle left
+
+-- ---- A registered action
+
+abbrev armed : ℕ → Option ℕ → ℕ → Object
+armed action referent note = Cleanable (record { referent = referent; action = action; work = Note note; state = Armed })
+
+may_collect_register : (m : Machine) (k d h note : ℕ) (o : Option Collected) → MayMakeRoom m o → MayCollect m (Register k d h note) o
+may_collect_register m k d h note None r = r
+may_collect_register m k d h note (Some c) r = r
+
+pub meets_registered :
+    (m mid n : Machine) (k slot d h note target : ℕ) (new : Choosing) (a : Answer) → refusal m (Register k d h note) ≡ None → slot_named m k h ≡ Some target
+    → Allocates m (Cleanable (record { referent = Some target; action = m.next_action; work = Note note; state = Armed })) new slot mid → new_handle mid k ≡ Some a → n ≡ with_handle (record mid { next_action = mid.next_action + 1 }) k slot
+    → Meets m (Register k d h note) a new.chosen n
+meets_registered m mid n k slot d h note target new a e named x handle left =
+    meets_made m mid n (Register k d h note) k slot (armed m.next_action (Some target) note) new a (λ z. record z { next_action = z.next_action + 1 }) e (may_collect_register m k d h note) refl (λ y s g. (g, g))
+    (λ y s t.
+    let lookup : Table Session → Option ℕ = λ table. option_and_then (λ z. at z.handles h) (at table k) in
+    ap {A = Option ℕ} {B = Machine} (λ r. record (with_handle (with_new y slot (armed y.next_action r note)) k slot) { next_action = y.next_action + 1 }) (ap lookup s ∙ named)
+    ∙ ap {A = ℕ} {B = Machine} (λ number. record (with_handle (with_new y slot (armed number (Some target) note)) k slot) { next_action = y.next_action + 1 }) t)
+    x handle left

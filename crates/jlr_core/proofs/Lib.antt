@@ -6,3 +6,5 @@ pub mod Entries
 pub mod Stepping
 pub mod RunLaws
 pub mod Queues
+pub mod TakeUps
+pub mod Guards

@@ -14,11 +14,12 @@ use Rattle.jlr_laws.proofs.Frames.IsRoot.{held as by_handle, fencing, named, wai
 use Rattle.jlr_barrier.specs.Graphs.{Graph, held}
 use Rattle.jlr_barrier.proofs.OwnRoots.{active_from}
 use Rattle.jlr_sweep.specs.Collecting.{IsRooted}
+use Rattle.jlr_cleaner.specs.Cleanings.{Cleanings}
 use Rattle.jlr_core.specs.State.{frame, machine_with}
 
-module _ (g : Graph) (limit : ℕ) (cycle : Bool) where
+module _ {R : Type 0} (c : Cleanings R) (g : Graph) (cycle : Bool) where
   abbrev m : Machine
-  m = machine_with g limit cycle
+  m = machine_with c g cycle
 
   -- ---- What is held first is held
 
@@ -46,5 +47,5 @@ module _ (g : Graph) (limit : ℕ) (cycle : Bool) where
   is_held s (lining h) = by_line s h
   is_held s (active h) = in_right s (slots_held g.mutators ++ g.pending ++ g.line) (active_cleanables 0 g.objects) (active_from g.objects s h)
 
-  pub rooted : IsWellFormed m → IsRooted (frame limit cycle) g
+  pub rooted : IsWellFormed m → IsRooted (frame c cycle) g
   rooted w = record { fit = w; all_held = λ s h. is_held s (root_gives m s h) }

@@ -2,6 +2,10 @@
 use Rattle.std.proofs.Common.{◌≡◌, ℕ, List, [], ◌∷◌, ◌++◌, Option, Some, None, is_some, refl, sym, ◌∙◌, ap, subst, append_assoc, append-nil, true, length, ◌≤◌, arith}
 use Rattle.std.proofs.lemmas.Bool.{both_ways}
 use Rattle.std.proofs.lemmas.List.{length-replicate}
+use Rattle.std.specs.List.Sorted.{IsPermutation}
+use Rattle.std.proofs.lemmas.List.Sorted.{IsPermutation-append_comm, IsPermutation-append_left, IsPermutation-append_right, IsPermutation-refl, IsPermutation-trans}
+use Rattle.jlr_resource.specs.Resources.{Resources, values}
+use Rattle.jlr_core.specs.Flows.{Conserves}
 use Rattle.jlr_machine.specs.declared.object.Object.{Object}
 use Rattle.std.specs.Option.{option_to_list}
 use Rattle.jlr_machine.specs.declared.machine.Machine.{Machine}
@@ -53,7 +57,7 @@ entered m (Some ask) None chosen n e = absurd e
 entered m None (Some answer) chosen n e = absurd e
 entered m None None chosen n e = (e.1, refl)
 
-pub run_more : {R : Type 0} (m : Machine) (events : List (Event R)) (replies : List (Reply R)) (old new : Kept) (e : Event R) (r : Reply R) (chosen : Chosen)
+pub run_more : {R : Type 0} (m : Machine) (events : List (Event R)) (replies : List (Reply R)) (old new : Kept R) (e : Event R) (r : Reply R) (chosen : Chosen)
     → IsRunOf m events replies old → ((k : Machine) → StandsIn old k → (n : Machine) × Enters k (ask_of e) (answer_in r) chosen n × StandsIn new n) → IsRunOf m (events ++ e ∷ []) (replies ++ r ∷ []) new
 run_more m events replies old new e r chosen x step =
     let s = step x.last x.stands in
@@ -66,7 +70,7 @@ run_more m events replies old new e r chosen x step =
       answered = answered_more events replies x.choices e r chosen x.answered d.1;
     }
 
-pub run_none : {R : Type 0} (m : Machine) (core : Kept) → StandsIn core m → IsRunOf {R = R} m [] [] core
+pub run_none : {R : Type 0} (m : Machine) (core : Kept R) → StandsIn core m → IsRunOf {R = R} m [] [] core
 run_none m core s = record { choices = []; last = m; run = refl; stands = s; answered = tt }
 
 -- ---- Resources
@@ -79,8 +83,24 @@ pub handed_more : {R : Type 0} (replies : List (Reply R)) (r : Reply R) → all_
 handed_more [] r = append-nil (option_to_list (handed r))
 handed_more (x ∷ replies) r = ap (λ l. option_to_list (handed x) ++ l) (handed_more replies r) ∙ sym (append_assoc (option_to_list (handed x)) (all_handed replies) (option_to_list (handed r)))
 
-pub flow_more : {R : Type 0} (events : List (Event R)) (replies : List (Reply R)) (e : Event R) (r : Reply R) → all_handed replies ≡ all_given events → handed r ≡ given e → all_handed (replies ++ r ∷ []) ≡ all_given (events ++ e ∷ [])
-flow_more events replies e r h g = handed_more replies r ∙ ap (λ l. l ++ option_to_list (handed r)) h ∙ ap (λ o. all_given events ++ option_to_list o) g ∙ sym (given_more events e)
+-- what came in and what lay there is what went out and what lies there
+pub flow_more : {R : Type 0} (events : List (Event R)) (replies : List (Reply R)) (old new : Resources R) (e : Event R) (r : Reply R)
+    → IsPermutation (all_given events) (all_handed replies ++ values old) → Conserves (given e) old (handed r) new → IsPermutation (all_given (events ++ e ∷ [])) (all_handed (replies ++ r ∷ []) ++ values new)
+flow_more {R} events replies old new e r before step =
+    let before_in : List R = all_given events in
+    let before_out : List R = all_handed replies in
+    let came : List R = option_to_list (given e) in
+    let went : List R = option_to_list (handed r) in
+    let lay : List R = values old in
+    let lies : List R = values new in
+    let moved : IsPermutation ((before_out ++ lay) ++ came) (before_out ++ (came ++ lay)) =
+    subst (λ l. IsPermutation l (before_out ++ (came ++ lay))) (sym (append_assoc before_out lay came)) (IsPermutation-append_right before_out (lay ++ came) (came ++ lay) (IsPermutation-append_comm lay came)) in
+    let stepped : IsPermutation (before_out ++ (came ++ lay)) (before_out ++ (went ++ lies)) = IsPermutation-append_right before_out (came ++ lay) (went ++ lies) step in
+    let whole : IsPermutation (before_in ++ came) (before_out ++ (went ++ lies)) =
+    IsPermutation-trans (before_in ++ came) ((before_out ++ lay) ++ came) (before_out ++ (went ++ lies)) (IsPermutation-append_left came before_in (before_out ++ lay) before)
+    (IsPermutation-trans ((before_out ++ lay) ++ came) (before_out ++ (came ++ lay)) (before_out ++ (went ++ lies)) moved stepped) in
+    subst (λ l. IsPermutation l (all_handed (replies ++ r ∷ []) ++ lies)) (sym (given_more events e))
+    (subst (λ l. IsPermutation (before_in ++ came) (l ++ lies)) (sym (handed_more replies r)) (subst (λ l. IsPermutation (before_in ++ came) l) (sym (append_assoc before_out went lies)) whole))
 
 -- ---- Memory
 
@@ -95,18 +115,20 @@ start_memory {R} replies n = let none : List (Event R) = [] in subst (λ l. AreW
 
 -- ---- The start
 
-pub stands_at_start : (core : Kept) (cells sessions resources : ℕ) → core.machine ≡ empty cells sessions resources → StandsIn core (empty cells sessions resources)
+pub stands_at_start : {R : Type 0} (core : Kept R) (cells sessions resources : ℕ) → core.machine ≡ empty cells sessions resources → StandsIn core (empty cells sessions resources)
 stands_at_start core cells sessions resources e = record { same = e; seen = λ h. absurd (both_ways true (sym h) refl); outside = λ _. refl }
 
-pub start_run : {R : Type 0} (core : Kept) (cells sessions resources : ℕ) (replies : List (Reply R)) → core.machine ≡ empty cells sessions resources → replies ≡ [] → IsRunOf (empty cells sessions resources) [] replies core
+pub start_run : {R : Type 0} (core : Kept R) (cells sessions resources : ℕ) (replies : List (Reply R)) → core.machine ≡ empty cells sessions resources → replies ≡ [] → IsRunOf (empty cells sessions resources) [] replies core
 start_run {R} core cells sessions resources replies e n =
     let none : List (Event R) = [] in
     subst (λ l. IsRunOf (empty cells sessions resources) none l core) (sym n) (run_none (empty cells sessions resources) core (stands_at_start core cells sessions resources e))
 
-pub start_flow : {R : Type 0} (replies : List (Reply R)) → replies ≡ [] → all_handed replies ≡ []
-start_flow replies n = ap all_handed n
+pub start_flow : {R : Type 0} (replies : List (Reply R)) (table : Resources R) → replies ≡ [] → values table ≡ [] → IsPermutation (all_given {R = R} []) (all_handed replies ++ values table)
+start_flow {R} replies table none empty_table =
+    let nothing : List R = [] in
+    subst (λ l. IsPermutation nothing (all_handed l ++ values table)) (sym none) (subst (λ l. IsPermutation nothing l) (sym empty_table) (IsPermutation-refl nothing))
 
-pub start_room : (core : Kept) (cells sessions resources room : ℕ) → core.machine ≡ empty cells sessions resources → room ≡ cells → length core.machine.objects ≤ room
+pub start_room : {R : Type 0} (core : Kept R) (cells sessions resources room : ℕ) → core.machine ≡ empty cells sessions resources → room ≡ cells → length core.machine.objects ≤ room
 start_room core cells sessions resources room e r =
     let none : Option Object = None in
     omega (arith, ap (λ (x : Machine). length x.objects) e, length-replicate cells none, r)

@@ -16,7 +16,7 @@ use Rattle.jlr_machine.specs.declared.entry.Entry.{Entry}
 use Rattle.jlr_machine.specs.Run.{no_choice, IsLegal, apply}
 use Rattle.jlr_core.specs.State.{MeetsAsk, entry_of}
 use Rattle.jlr_core.specs.declared.event.Event.{Event}
-use Rattle.jlr_core.specs.declared.event.Event.TheVariants.{Join, Leave, New, Put, Get, SetInt, Int, Dup, Drop, Same, MakeRef, Deref, Refers, Clear, Enqueue, Enqueued, MakeQueue, Poll, Opened, Full, Stat, HandOver, Begin, Collect, Abandon, Mark}
+use Rattle.jlr_core.specs.declared.event.Event.TheVariants.{Join, Leave, New, Put, Get, SetInt, Int, Dup, Drop, Same, MakeRef, Deref, Refers, Clear, Enqueue, Enqueued, MakeQueue, Poll, MakeCleaner, Register, Clean, Opened, Finish, Full, Stat, Notes, Faults, HandOver, TakeUp, Begin, Collect, Abandon, Mark}
 use Rattle.jlr_core.specs.declared.event.Reply.{Reply}
 use Rattle.jlr_core.specs.declared.event.Reply.TheVariants.{Answered, Marked}
 
@@ -48,10 +48,17 @@ ask_of (Enqueue k r) = Some (ask.Enqueue k r)
 ask_of (Enqueued k r) = Some (ask.Enqueued k r)
 ask_of (MakeQueue k) = Some (ask.MakeQueue k)
 ask_of (Poll k q) = Some (ask.Poll k q)
+ask_of (MakeCleaner k) = Some (ask.MakeCleaner k)
+ask_of (Register k c h note) = Some (ask.Register k c h note)
+ask_of (Clean k c) = Some (ask.Clean k c)
 ask_of (Opened k outcome) = Some (ask.Opened k (outcome_of outcome))
+ask_of (Finish by action outcome) = Some (ask.Finish by action (outcome_of outcome))
 ask_of (Full k mode) = Some (ask.Full k mode)
 ask_of (Stat k) = Some (ask.Stat k)
+ask_of (Notes k) = Some (ask.Notes k)
+ask_of (Faults k) = Some (ask.Faults k)
 ask_of HandOver = Some ask.HandOver
+ask_of TakeUp = Some ask.TakeUp
 ask_of Begin = Some ask.Begin
 ask_of Collect = Some ask.Collect
 ask_of Abandon = Some ask.Abandon
@@ -71,13 +78,15 @@ abbrev pub handed : {R : Type 0} → Reply R → Option R
 handed (Answered answer resource) = resource
 handed (Marked progress) = None
 
--- the events that may find no memory: a queue grows with its members
+-- the events that may find no memory: a queue grows with its members, and lists are copied
 abbrev pub may_grow : {R : Type 0} → Event R → Bool
 may_grow (Enqueue k r) = true
+may_grow (Notes k) = true
+may_grow (Faults k) = true
 may_grow HandOver = true
 may_grow _ = false
 
--- memory is said to be wanting only where a queue may grow
+-- memory is said to be wanting only there
 abbrev pub WantsMemory : {R : Type 0} → Event R → Reply R → Type 0
 WantsMemory event reply = answer_in reply ≡ Some (Refused NoMemory) → IsTrue (may_grow event)
 

@@ -2,6 +2,9 @@
 pub mod State
 pub mod Machines
 pub mod Collecting
+pub mod Flows
+pub mod TakeUps
+pub mod Guards
 pub mod Policy
 pub mod Events
 pub mod Cores

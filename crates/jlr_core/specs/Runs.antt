@@ -25,14 +25,14 @@ AreAnswered _ _ _ = ⊥
 
 -- There are choices, one for each event, with which the entries are a run from m to a machine for which the core stands; and
 -- there are as many replies as events, where just a piece of marking has no answer
-pub record IsRunOf {R : Type 0} (m : Machine) (events : List (Event R)) (replies : List (Reply R)) (core : Kept) : Type 0 where
+pub record IsRunOf {R : Type 0} (m : Machine) (events : List (Event R)) (replies : List (Reply R)) (core : Kept R) : Type 0 where
   pub choices : List Chosen
   pub last : Machine
   pub run : Run m (entries_of events replies choices) last
   pub stands : StandsIn core last
   pub answered : AreAnswered events replies choices
 
--- memory is said to be wanting only where a queue may grow
+-- memory is said to be wanting only by events that may grow
 abbrev pub AreWanting : {R : Type 0} → List (Event R) → List (Reply R) → Type 0
 AreWanting [] [] = Unit {0}
 AreWanting (e ∷ events) (r ∷ replies) = WantsMemory e r × AreWanting events replies

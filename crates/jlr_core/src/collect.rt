@@ -18,7 +18,7 @@ use jlr_machine::choice::Choice;
 use jlr_soft::{Mode, Policy};
 use jlr_types::{Mutator, Refusal, Slot};
 
-impl State {
+impl<R> State<R> {
     ghost use Rattle.jlr_core.specs.Machines.{machine_of};
 
     /// A full collection (see `jlr_sweep`). An open cycle is over then.
@@ -31,6 +31,7 @@ impl State {
         ensures room { choice.new.cells ≡ choice.old.cells }
         ensures cells { length self.new.heap.graph.objects ≡ length self.old.heap.graph.objects }
         ensures age { self.new.soft_age ≡ self.old.soft_age }
+        ensures cleaner { self.new.cleaner ≡ self.old.cleaner }
     {
         let policy = Policy::new(self.soft_age, mode);
         jlr_sweep::full(&mut self.heap, &policy, choice);
@@ -47,6 +48,7 @@ impl State {
         ensures room { choice.new.cells ≡ choice.old.cells }
         ensures cells { length self.new.heap.graph.objects ≡ length self.old.heap.graph.objects }
         ensures age { self.new.soft_age ≡ self.old.soft_age }
+        ensures cleaner { self.new.cleaner ≡ self.old.cleaner }
     {
         if self.heap.free_count() == 0 {
             self.collect(Mode::ClearAll, choice);
@@ -64,6 +66,7 @@ impl State {
         ensures room { choice.new.cells ≡ choice.old.cells }
         ensures cells { length self.new.heap.graph.objects ≡ length self.old.heap.graph.objects }
         ensures age { self.new.soft_age ≡ self.old.soft_age }
+        ensures cleaner { self.new.cleaner ≡ self.old.cleaner }
     {
         self.make_room(choice);
         let Some(slot) = self.heap.allocate(shape) else {
@@ -88,6 +91,7 @@ impl State {
         ensures room { choice.new.cells ≡ choice.old.cells }
         ensures cells { length self.new.heap.graph.objects ≡ length self.old.heap.graph.objects }
         ensures age { self.new.soft_age ≡ self.old.soft_age }
+        ensures cleaner { self.new.cleaner ≡ self.old.cleaner }
         ensures clock { self.new.heap.clock ≡ after_choice choice.new.chosen self.old.heap.clock }
         ensures policy { KeepsIn (mode_of mode) self.old.soft_age self.old.heap.clock (machine_of self.old) choice.new.chosen }
     {

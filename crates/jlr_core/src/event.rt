@@ -1,9 +1,9 @@
 //! What comes to the core, and what goes back: an ask or an answer with the resource that it carries.
 ghost use Rattle.std.specs.Prelude.{◌≡◌, None};
-ghost use Rattle.jlr_core.specs.Events.{ask_of, answer_in, handed};
+ghost use Rattle.jlr_core.specs.Events.{ask_of, answer_in, handed, outcome_of};
 
 use jlr_machine::ask::{Answer, Ask, FullMode, Outcome};
-use jlr_types::{Fault, Handle, Layout, Mutator, Progress, RefKind};
+use jlr_types::{ActionNo, Fault, Handle, Layout, Mutator, Progress, RefKind};
 
 /// An event: an ask, with the resource that is handed in where one is, or a piece of marking.
 #[derive(Drop)]
@@ -87,10 +87,30 @@ pub enum Event<R> {
         mutator: Mutator,
         queue: Handle,
     },
+    MakeCleaner {
+        mutator: Mutator,
+    },
+    /// A cleaning action of a note is registered for an object.
+    Register {
+        mutator: Mutator,
+        cleaner: Handle,
+        object: Handle,
+        note: u32,
+    },
+    Clean {
+        mutator: Mutator,
+        cleanable: Handle,
+    },
     /// An open ended: with the resource, or with a fault.
     Opened {
         mutator: Mutator,
         outcome: Result<R, Fault>,
+    },
+    /// A job of this taker ended, a mutator's or the cleaner's, which is 255.
+    Finish {
+        by: u8,
+        action: ActionNo,
+        outcome: Result<(), Fault>,
     },
     Full {
         mutator: Mutator,
@@ -98,6 +118,14 @@ pub enum Event<R> {
     },
     /// How many objects and resources there are, and what became of the cleaning actions.
     Stat {
+        mutator: Mutator,
+    },
+    /// The last notes, the oldest first.
+    Notes {
+        mutator: Mutator,
+    },
+    /// The last actions that failed, the oldest first.
+    Faults {
         mutator: Mutator,
     },
     /// A cycle is opened, unless one is open.
@@ -108,6 +136,8 @@ pub enum Event<R> {
     Abandon,
     /// The handler's step: what is pending is handed over to its queue.
     HandOver,
+    /// The cleaner's step: the action of the first Lined cleanable is taken up.
+    TakeUp,
     /// A piece of marking of at most so many ticks. The machine does not see it.
     Mark {
         budget: u32,
@@ -231,18 +261,43 @@ impl<R> Event<R> {
                 mutator: *mutator,
                 queue: *queue,
             },
+            Event::MakeCleaner { mutator } => Ask::MakeCleaner { mutator: *mutator },
+            Event::Register {
+                mutator,
+                cleaner,
+                object,
+                note,
+            } => Ask::Register {
+                mutator: *mutator,
+                cleaner: *cleaner,
+                object: *object,
+                note: *note,
+            },
+            Event::Clean { mutator, cleanable } => Ask::Clean {
+                mutator: *mutator,
+                cleanable: *cleanable,
+            },
             Event::Opened { mutator, outcome } => Ask::Opened {
                 mutator: *mutator,
-                outcome: match outcome {
-                    Ok(_) => Outcome::Ok,
-                    Err(fault) => Outcome::Failed(*fault),
-                },
+                outcome: plain_outcome(outcome),
+            },
+            Event::Finish {
+                by,
+                action,
+                outcome,
+            } => Ask::Finish {
+                by: *by,
+                action: *action,
+                outcome: plain_outcome(outcome),
             },
             Event::Full { mutator, mode } => Ask::Full {
                 mutator: *mutator,
                 mode: *mode,
             },
             Event::Stat { mutator } => Ask::Stat { mutator: *mutator },
+            Event::Notes { mutator } => Ask::Notes { mutator: *mutator },
+            Event::Faults { mutator } => Ask::Faults { mutator: *mutator },
+            Event::TakeUp => Ask::TakeUp,
             Event::Begin => Ask::Begin,
             Event::Collect => Ask::Collect,
             Event::Abandon => Ask::Abandon,
@@ -261,5 +316,15 @@ impl<R> Reply<R> {
             Reply::Answered { answer, resource } => (Some(answer), resource),
             Reply::Marked(_) => (None, None),
         }
+    }
+}
+
+/// How a call ended, without the resource that it carries.
+fn plain_outcome<T>(outcome: &Result<T, Fault>) -> Outcome
+    ensures { result ≡ outcome_of outcome.now }
+{
+    match outcome {
+        Ok(_) => Outcome::Ok,
+        Err(fault) => Outcome::Failed(*fault),
     }
 }

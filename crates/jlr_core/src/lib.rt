@@ -1,6 +1,7 @@
 //! The machine in code: one event at a time, whose reply and state are an entry of the machine.
 #![tactic(auto)]
 
+mod cleaning;
 mod collect;
 mod counts;
 mod cycles;
@@ -10,6 +11,7 @@ pub mod event;
 mod handles;
 mod objects;
 mod references;
+mod resources;
 pub mod run;
 mod state;
 #[cfg(test)]

@@ -14,7 +14,7 @@ use jlr_machine::ask::{Answer, Ask};
 use jlr_machine::choice::Choice;
 use jlr_types::{FieldValue, Handle, Layout, Mutator, Refusal, Slot};
 
-impl State {
+impl<R> State<R> {
     ghost use Rattle.jlr_core.specs.Machines.{machine_of};
 
     /// A plain object.
@@ -48,6 +48,7 @@ impl State {
         requires { IsWellFormed (machine_of self.old) }
         ensures answered { Answered (machine_of self.old) (Ask.Get by object field) result (machine_of self.new) }
         ensures age { self.new.soft_age ≡ self.old.soft_age }
+        ensures cleaner { self.new.cleaner ≡ self.old.cleaner }
         ensures clock { self.new.heap.clock ≡ self.old.heap.clock }
     {
         self.check_session(by)?;
@@ -70,6 +71,7 @@ impl State {
         ensures answered { Answered (machine_of self.old) (Ask.Put by object field value) result (machine_of self.new) }
         ensures memory { answer_of result ≡ Answer.Refused Refusal.NoMemory → ⊥ }
         ensures age { self.new.soft_age ≡ self.old.soft_age }
+        ensures cleaner { self.new.cleaner ≡ self.old.cleaner }
         ensures clock { self.new.heap.clock ≡ self.old.heap.clock }
     {
         self.check_session(by)?;
@@ -125,6 +127,7 @@ impl State {
         ensures answered { Answered (machine_of self.old) (Ask.SetInt by object field value) result (machine_of self.new) }
         ensures memory { answer_of result ≡ Answer.Refused Refusal.NoMemory → ⊥ }
         ensures age { self.new.soft_age ≡ self.old.soft_age }
+        ensures cleaner { self.new.cleaner ≡ self.old.cleaner }
         ensures clock { self.new.heap.clock ≡ self.old.heap.clock }
     {
         self.check_session(by)?;
@@ -152,6 +155,7 @@ impl State {
         ensures room { choice.new.cells ≡ choice.old.cells }
         ensures cells { length self.new.heap.graph.objects ≡ length self.old.heap.graph.objects }
         ensures age { self.new.soft_age ≡ self.old.soft_age }
+        ensures cleaner { self.new.cleaner ≡ self.old.cleaner }
         ensures clock { self.new.heap.clock ≡ after_choice choice.new.chosen self.old.heap.clock }
     {
         self.check_session(by)?;

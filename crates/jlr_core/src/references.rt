@@ -16,7 +16,7 @@ use jlr_machine::ask::{Answer, Ask};
 use jlr_machine::choice::Choice;
 use jlr_types::{Handle, Mutator, RefKind, Refusal, Slot};
 
-impl State {
+impl<R> State<R> {
     ghost use Rattle.jlr_core.specs.Machines.{machine_of};
 
     /// There is a reference at a slot.
@@ -64,6 +64,7 @@ impl State {
         ensures clock { self.new.heap.clock ≡ clock_after_deref (machine_of self.old) by reference (answer_of result) self.old.heap.clock }
         ensures cells { length self.new.heap.graph.objects ≡ length self.old.heap.graph.objects }
         ensures age { self.new.soft_age ≡ self.old.soft_age }
+        ensures cleaner { self.new.cleaner ≡ self.old.cleaner }
     {
         self.check_session(by)?;
         self.check_handle(by, reference)?;
@@ -103,6 +104,7 @@ impl State {
         ensures answered { Answered (machine_of self.old) (Ask.Clear by reference) result (machine_of self.new) }
         ensures cells { length self.new.heap.graph.objects ≡ length self.old.heap.graph.objects }
         ensures age { self.new.soft_age ≡ self.old.soft_age }
+        ensures cleaner { self.new.cleaner ≡ self.old.cleaner }
         ensures clock { self.new.heap.clock ≡ self.old.heap.clock }
     {
         self.check_session(by)?;
@@ -134,6 +136,7 @@ impl State {
         ensures meets { Meets (machine_of self.old) (Ask.Enqueue by reference) (answer_of result) no_choice (machine_of self.new) }
         ensures cells { length self.new.heap.graph.objects ≡ length self.old.heap.graph.objects }
         ensures age { self.new.soft_age ≡ self.old.soft_age }
+        ensures cleaner { self.new.cleaner ≡ self.old.cleaner }
         ensures clock { self.new.heap.clock ≡ self.old.heap.clock }
     {
         let slot = self.check_enqueue(by, reference)?;
@@ -176,6 +179,7 @@ impl State {
         ensures answered { Answered (machine_of self.old) (Ask.Poll by queue) result (machine_of self.new) }
         ensures cells { length self.new.heap.graph.objects ≡ length self.old.heap.graph.objects }
         ensures age { self.new.soft_age ≡ self.old.soft_age }
+        ensures cleaner { self.new.cleaner ≡ self.old.cleaner }
         ensures clock { self.new.heap.clock ≡ self.old.heap.clock }
     {
         let slot = self.check_poll(by, queue)?;
@@ -189,6 +193,7 @@ impl State {
         ensures meets { Meets (machine_of self.old) Ask.HandOver (answer_of result) no_choice (machine_of self.new) }
         ensures cells { length self.new.heap.graph.objects ≡ length self.old.heap.graph.objects }
         ensures age { self.new.soft_age ≡ self.old.soft_age }
+        ensures cleaner { self.new.cleaner ≡ self.old.cleaner }
         ensures clock { self.new.heap.clock ≡ self.old.heap.clock }
     {
         match jlr_refs::hand_over(&mut self.heap) {
@@ -206,6 +211,7 @@ impl State {
         ensures room { choice.new.cells ≡ choice.old.cells }
         ensures cells { length self.new.heap.graph.objects ≡ length self.old.heap.graph.objects }
         ensures age { self.new.soft_age ≡ self.old.soft_age }
+        ensures cleaner { self.new.cleaner ≡ self.old.cleaner }
         ensures clock { self.new.heap.clock ≡ after_choice choice.new.chosen self.old.heap.clock }
     {
         self.check_session(by)?;
@@ -231,6 +237,7 @@ impl State {
         ensures room { choice.new.cells ≡ choice.old.cells }
         ensures cells { length self.new.heap.graph.objects ≡ length self.old.heap.graph.objects }
         ensures age { self.new.soft_age ≡ self.old.soft_age }
+        ensures cleaner { self.new.cleaner ≡ self.old.cleaner }
         ensures clock { self.new.heap.clock ≡ after_choice choice.new.chosen self.old.heap.clock }
     {
         self.check_session(by)?;

@@ -11,7 +11,7 @@ use Rattle.jlr_core.proofs.Entries.{allowed_full, meets_collection}
 use Rattle.jlr_core.proofs.state.State.full.Goals as goal
 
 pub returns-clause-meets : goal.returns-clause-meets
-returns-clause-meets c =
+returns-clause-meets g c =
     let m = machine_of c.args.self.now in
     let n = machine_of c.collect.new.self in
     let age = c.args.self.now.soft_age in
@@ -24,7 +24,7 @@ returns-clause-meets c =
     (may_collect m c.args.by c.args.mode age clock c.args.choice.now c.collect.new.choice n c.requires.fit x) x.left
 
 pub returns-clause-policy : goal.returns-clause-policy
-returns-clause-policy c =
+returns-clause-policy g c =
     let m = machine_of c.args.self.now in
     let n = machine_of c.collect.new.self in
     let age = c.args.self.now.soft_age in

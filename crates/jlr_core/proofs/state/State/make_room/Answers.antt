@@ -4,5 +4,5 @@ use Rattle.jlr_core.proofs.Clearings.{makes_room}
 use Rattle.jlr_core.proofs.state.State.make_room.Goals as goal
 
 pub returns-then-free_count-eq0-clause-made : goal.returns-then-free_count-eq0-clause-made
-returns-then-free_count-eq0-clause-made c =
+returns-then-free_count-eq0-clause-made g c =
     makes_room (machine_of c.args.self.now) c.args.self.now.soft_age c.args.self.now.heap.clock c.args.choice.now c.collect.new.choice (machine_of c.collect.new.self) c.requires.fit (omega (arith, c.if-free_count-eq0.true, c.free_count.ensures)) c.requires.nothing c.collect.ensures.room c.collect.ensures.collects
