@@ -1,12 +1,12 @@
 //! Sessions of the heap, spelled out. The expected texts come from the description of the protocol.
 use crate::first::first_run;
-use jlr_session::shell::FirstEnd;
+use jlr_session::shell::SessionEnd;
 use jlr_types::Limits;
 use std::alloc::{AllocError, Global};
 use std::test::Fail;
 
 /// What a session of the heap with 16 cells answers to these commands, which are parted by `; `.
-pub(crate) fn heap_answers(alloc: Global, commands: &str) -> Result<(FirstEnd, Vec<u8>), Fail> {
+pub(crate) fn heap_answers(alloc: Global, commands: &str) -> Result<(SessionEnd, Vec<u8>), Fail> {
     aged_answers(alloc, 4, commands)
 }
 
@@ -15,7 +15,7 @@ pub(crate) fn aged_answers(
     alloc: Global,
     soft_age: u32,
     commands: &str,
-) -> Result<(FirstEnd, Vec<u8>), Fail> {
+) -> Result<(SessionEnd, Vec<u8>), Fail> {
     let mut bytes = Vec::new(alloc);
     for command in commands.split_terminator("; ") {
         bytes.extend_from_slice(command.as_bytes())?;
@@ -62,7 +62,7 @@ fn the_heap_answers_short_sessions(rt: HostRuntime) -> Result<(), Fail> {
         ),
     ] {
         let (end, out) = heap_answers(rt.alloc(), commands)?;
-        assert_eq!(rt; end, FirstEnd::End, "at {commands}");
+        assert_eq!(rt; end, SessionEnd::End, "at {commands}");
         let expected = replies(rt.alloc(), answers)?;
         assert_eq!(rt; out.as_slice(), expected.as_slice(), "at {commands}");
     }
@@ -80,7 +80,7 @@ fn a_heap_of_sixteen_cells_is_full_and_has_room_again(rt: HostRuntime) -> Result
     commands.push_str("new -; drop 1; new -; bye")?;
     answers.push_str("! 2; ok; = 1; ok")?;
     let (end, out) = heap_answers(rt.alloc(), commands.as_str())?;
-    assert_eq!(rt; end, FirstEnd::Bye);
+    assert_eq!(rt; end, SessionEnd::Bye);
     let expected = replies(rt.alloc(), answers.as_str())?;
     assert_eq!(rt; out.as_slice(), expected.as_slice());
     Ok(())
@@ -99,7 +99,7 @@ fn two_hundred_and_fifty_handles_are_in_use(rt: HostRuntime) -> Result<(), Fail>
     commands.push_str("dup 1; new -; weak 1 0; same 1 250")?;
     answers.push_str("! 4; ! 4; ! 4; yes")?;
     let (end, out) = heap_answers(rt.alloc(), commands.as_str())?;
-    assert_eq!(rt; end, FirstEnd::End);
+    assert_eq!(rt; end, SessionEnd::End);
     let expected = replies(rt.alloc(), answers.as_str())?;
     assert_eq!(rt; out.as_slice(), expected.as_slice());
     Ok(())
