@@ -13,10 +13,10 @@ use Rattle.jlr_core.specs.Cores.{Kept, StandsIn}
 use Rattle.jlr_wire.specs.declared.command.Command.{Command}
 use Rattle.jlr_wire.specs.declared.command.Command.TheVariants.{New, Put, Get, SetInt, Int, Dup, Drop, Same, Soft, Weak, Phantom, Deref, Refers, Clear, Enqueue, Enqueued, Queue, Poll, Full, Stat, Bye}
 use Rattle.jlr_prog.specs.Heaps.{ask_for, Answers, HandsOver, by_core, IsJoined}
-use Rattle.jlr_prog.specs.Sessions.{Ended}
+use Rattle.jlr_session.specs.Sessions.{Ended}
 use Rattle.jlr_prog.specs.Histories.{Tells, by_entries, IsSession}
-use Rattle.jlr_prog.specs.declared.shell.FirstEnd.{FirstEnd}
-use Rattle.jlr_prog.proofs.Following.{IsFollowed, ended_along}
+use Rattle.jlr_session.specs.declared.shell.SessionEnd.{SessionEnd}
+use Rattle.jlr_session.proofs.Following.{IsFollowed, ended_along}
 use Rattle.jlr_prog.proofs.HandingOn.{settles_along}
 use Rattle.jlr_prog.proofs.Staying.{IsHere, stays, stays_handing_over, joins, leaves}
 
@@ -71,20 +71,20 @@ asks_something Stat n = some_none _
 asks_something Bye n = absurd (n refl)
 
 -- the core carries out what the entries tell
-carried : (m : Machine) → IsFollowed by_core by_entries (IsAfter m)
+carried : (m : Machine) → IsFollowed by_core by_entries (λ h history. IsAfter m h.0 history)
 carried m = record {
-  commands = λ old new history c answer n a r. asked m old new c (ask_for c) answer history refl (asks_something c n) a r;
-  settlings = settles_along HandsOver (Tells (Some HandOver)) (IsAfter m)
-      (λ old new history answer a r. told m old new HandOver answer history (λ n chosen h. stays_handing_over n answer chosen h) a r);
+  commands = λ old new history c answer n a r. asked m old.0 new.0 c (ask_for c) answer history refl (asks_something c n) a r;
+  settlings = λ old new history s r. settles_along HandsOver (Tells (Some HandOver)) (IsAfter m)
+      (λ old new history answer a r. told m old new HandOver answer history (λ n chosen h. stays_handing_over n answer chosen h) a r) old.0 new.0 history s r;
 }
 
-pub is_session : (m : Machine) (joined left over : Kept) (at_end : Type 0) (end : FirstEnd) (bytes out : List ℕ) (answer : Answer)
-    → IsJoined m joined → Ended by_core at_end end bytes joined out left → Answers left (Some (Leave 0)) answer over → IsSession m at_end end bytes out
+pub is_session : (m : Machine) (joined left over : Kept) (at_end : Type 0) (end : SessionEnd) (bytes out : List ℕ) (answer : Answer)
+    → IsJoined m joined → Ended by_core at_end end bytes (joined, tt) out (left, tt) → Answers left (Some (Leave 0)) answer over → IsSession m at_end end bytes out
 is_session m joined left over at_end end bytes out answer j e l =
     let first = entry_of (Join 0) Done j.0 in
     let here : IsHere j.1 = subst IsHere (sym j.2.1) (joins m j.0 j.2.0) in
     let start : IsAfter m joined (first ∷ []) = (j.1, (j.2.0, j.2.1), j.3, here) in
-    let d = ended_along by_core by_entries (IsAfter m) (carried m) at_end end bytes joined left out (first ∷ []) e start in
+    let d = ended_along by_core by_entries (λ h history. IsAfter m h.0 history) (carried m) at_end end bytes (joined, tt) (left, tt) out (first ∷ []) e start in
     let n = d.2.0 in
     let x = l n d.2.2 in
     let last = entry_of (Leave 0) answer x.0 in

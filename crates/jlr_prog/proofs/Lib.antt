@@ -1,10 +1,4 @@
 pub mod Carrying
-pub mod Sent
-pub mod Going
-pub mod Ending
-pub mod Taking
-pub mod Standing
-pub mod Following
 pub mod HandingOn
 pub mod HandingOver
 pub mod Staying

@@ -11,7 +11,8 @@ use Rattle.jlr_core.specs.Cores.{Kept, StandsIn}
 use Rattle.jlr_core.specs.Events.{Enters}
 use Rattle.jlr_wire.specs.declared.command.Command.{Command}
 use Rattle.jlr_wire.specs.declared.command.Command.TheVariants.{New, Put, Get, SetInt, Int, Dup, Drop, Same, Soft, Weak, Phantom, Deref, Refers, Clear, Enqueue, Enqueued, Queue, Poll, Full, Stat, Bye}
-use Rattle.jlr_prog.specs.Settling.{Carrying, Settles, TookOne, FoundNone}
+use Rattle.jlr_session.specs.Carrying.{Carrying}
+use Rattle.jlr_prog.specs.Settling.{Settles, TookOne, FoundNone}
 
 -- what a command asks of the machine, in the name of mutator 0. bye asks nothing
 abbrev pub ask_for : Command → Option Ask
@@ -51,9 +52,12 @@ Stands core = (m : Machine) × StandsIn core m
 abbrev pub HandsOver : Kept → Answer → Kept → Type 0
 HandsOver old answer new = Answers old (Some ask.HandOver) answer new
 
--- a command is its ask, and a settling is steps of the handler
-abbrev pub by_core : Carrying Kept
-by_core = record { command = λ old command answer new. Answers old (ask_for command) answer new; settling = Settles HandsOver }
+-- a command is its ask, and a settling is steps of the handler. There is no device
+abbrev pub by_core : Carrying (Kept × Unit {0})
+by_core = record {
+  command = λ old command answer new. Answers old.0 (ask_for command) answer new.0;
+  settling = λ old new. Settles HandsOver old.0 new.0;
+}
 
 -- mutator 0 has joined the machine
 abbrev pub IsJoined : Machine → Kept → Type 0

@@ -7,10 +7,11 @@ use Rattle.jlr_machine.specs.declared.ask.Answer.{Answer}
 use Rattle.jlr_machine.specs.declared.ask.Answer.TheVariants.{Done}
 use Rattle.jlr_machine.specs.declared.entry.Entry.{Entry}
 use Rattle.jlr_machine.specs.Run.{Run}
-use Rattle.jlr_prog.specs.Settling.{Carrying, Settles}
+use Rattle.jlr_session.specs.Carrying.{Carrying}
+use Rattle.jlr_prog.specs.Settling.{Settles}
 use Rattle.jlr_prog.specs.Heaps.{ask_for}
-use Rattle.jlr_prog.specs.Sessions.{Ended}
-use Rattle.jlr_prog.specs.declared.shell.FirstEnd.{FirstEnd}
+use Rattle.jlr_session.specs.Sessions.{Ended}
+use Rattle.jlr_session.specs.declared.shell.SessionEnd.{SessionEnd}
 
 -- one entry more: this ask with its answer
 abbrev pub Tells : Option Ask → List Entry → Answer → List Entry → Type 0
@@ -23,7 +24,7 @@ by_entries = record { command = λ old command answer new. Tells (ask_for comman
 -- Mutator 0 joins; the lines of the bytes are answered one after the other, each command by the answer of its entry, and after
 -- each reply come the entries of its settling; then mutator 0 leaves. All these entries, in order, are a run from m. at_end
 -- says that the input is at its end
-pub record IsSession (m : Machine) (at_end : Type 0) (end : FirstEnd) (bytes out : List ℕ) : Type 0 where
+pub record IsSession (m : Machine) (at_end : Type 0) (end : SessionEnd) (bytes out : List ℕ) : Type 0 where
   pub join : Entry
   pub entries : List Entry
   pub leave : Entry

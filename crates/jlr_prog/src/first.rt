@@ -1,11 +1,12 @@
 //! A whole session over a heap of its own.
-ghost use Rattle.std.specs.Prelude.{ℕ, List, ◌≡◌, IfOk, IfErr};
+ghost use Rattle.std.specs.Prelude.{ℕ, List, ◌≡◌, ◌≤◌, length, IfOk, IfErr};
 ghost use Rattle.std.specs.Io.KnownBytes.{Appends, Consumes, IsAtEnd};
 ghost use Rattle.jlr_machine.specs.Run.{empty};
 ghost use Rattle.jlr_prog.specs.Histories.{IsSession};
+ghost use Rattle.jlr_session.specs.Limits.{most_bytes};
 
 use crate::heap::Heap;
-use crate::shell::{FirstEnd, converse};
+use jlr_session::shell::{SessionEnd, converse};
 use jlr_types::Limits;
 use std::alloc::{AllocError, Global};
 use std::io::{Read, Write};
@@ -24,15 +25,16 @@ pub fn first_run<R: Read, W: Write>(
     limits: Limits,
     reader: &mut R,
     writer: &mut W,
-) -> Result<FirstEnd, AllocError>
+) -> Result<SessionEnd, AllocError>
     ensures session { IfOk result (λ end. (bytes : List ℕ) × (out : List ℕ)
         × Consumes (R.remaining reader.old) (R.remaining reader.new) bytes
         × Appends (W.contents writer.old) (W.contents writer.new) out
+        × (length bytes ≤ most_bytes)
         × IsSession (empty limits.cells limits.sessions limits.resources) (IsAtEnd (R.remaining reader.new)) end bytes out) }
     ensures untouched { IfErr result (λ _. (reader.new ≡ reader.old) × (writer.new ≡ writer.old)) }
 {
     let mut heap = Heap::new(alloc, limits)?;
-    let end = converse(reader, writer, &mut heap);
+    let end = converse::<Heap, Heap, (), R, W>(reader, writer, &mut heap, &mut ());
     let _ = heap.leave();
     Ok(end)
 }

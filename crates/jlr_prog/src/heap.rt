@@ -6,11 +6,11 @@ ghost use Rattle.jlr_core.specs.Events.{ask_of};
 ghost use Rattle.jlr_prog.specs.Settling.{TookOne};
 ghost use Rattle.jlr_prog.specs.Heaps.{Answers, IsJoined, StepsOnce, ask_for};
 
-use crate::carry::CarryOut;
 use jlr_core::engine::Core;
 use jlr_core::event::{Event, Reply};
 use jlr_machine::ask::{Answer, Handed};
 use jlr_machine::choice::Choice;
+use jlr_session::carry::CarryOut;
 use jlr_types::{Handle, Limits, Mutator, RefKind};
 use jlr_wire::command::Command;
 use std::alloc::{AllocError, Global};
@@ -87,20 +87,20 @@ impl Heap {
     }
 }
 
-impl CarryOut for Heap {
+impl CarryOut<Heap, ()> for Heap {
     ghost use Rattle.jlr_prog.specs.Heaps.{by_core};
 
     ghost carries = { by_core };
 
-    fn carry_out(&mut self, command: Command) -> Answer {
+    fn carry_out(heap: &mut Heap, _device: &mut (), command: Command) -> Answer {
         match event_for(command) {
-            Some(event) => self.answer(event),
+            Some(event) => heap.answer(event),
             None => Answer::Done,
         }
     }
 
-    fn settle(&mut self) {
-        while self.hand_over() {}
+    fn settle(heap: &mut Heap) {
+        while heap.hand_over() {}
     }
 }
 

@@ -1,6 +1,6 @@
 //! Sessions of references and queues spelled out. The expected texts come from the description of the machine.
-use crate::shell::FirstEnd;
 use crate::tests::{aged_answers, heap_answers, replies};
+use jlr_session::shell::SessionEnd;
 use std::test::Fail;
 
 #[test]
@@ -35,7 +35,7 @@ fn queues_give_what_was_enqueued(rt: HostRuntime) -> Result<(), Fail> {
         ),
     ] {
         let (end, out) = heap_answers(rt.alloc(), commands)?;
-        assert_eq!(rt; end, FirstEnd::End, "at {commands}");
+        assert_eq!(rt; end, SessionEnd::End, "at {commands}");
         let expected = replies(rt.alloc(), expected)?;
         assert_eq!(rt; out.as_slice(), expected.as_slice(), "at {commands}");
     }
@@ -55,7 +55,7 @@ fn references_of_two_collections_come_out_in_order(rt: HostRuntime) -> Result<()
         ),
     ] {
         let (end, out) = heap_answers(rt.alloc(), commands)?;
-        assert_eq!(rt; end, FirstEnd::End, "at {commands}");
+        assert_eq!(rt; end, SessionEnd::End, "at {commands}");
         let expected = replies(rt.alloc(), expected)?;
         assert_eq!(rt; out.as_slice(), expected.as_slice(), "at {commands}");
     }
@@ -96,7 +96,7 @@ fn queues_live_by_their_references(rt: HostRuntime) -> Result<(), Fail> {
         ),
     ] {
         let (end, out) = heap_answers(rt.alloc(), commands)?;
-        assert_eq!(rt; end, FirstEnd::End, "at {commands}");
+        assert_eq!(rt; end, SessionEnd::End, "at {commands}");
         let expected = replies(rt.alloc(), expected)?;
         assert_eq!(rt; out.as_slice(), expected.as_slice(), "at {commands}");
     }
@@ -131,7 +131,7 @@ fn phantoms_and_cycles(rt: HostRuntime) -> Result<(), Fail> {
         ),
     ] {
         let (end, out) = heap_answers(rt.alloc(), commands)?;
-        assert_eq!(rt; end, FirstEnd::End, "at {commands}");
+        assert_eq!(rt; end, SessionEnd::End, "at {commands}");
         let expected = replies(rt.alloc(), expected)?;
         assert_eq!(rt; out.as_slice(), expected.as_slice(), "at {commands}");
     }
@@ -170,7 +170,7 @@ fn soft_references_go_by_their_age(rt: HostRuntime) -> Result<(), Fail> {
         ),
     ] {
         let (end, out) = aged_answers(rt.alloc(), soft_age, commands)?;
-        assert_eq!(rt; end, FirstEnd::End, "at {commands}");
+        assert_eq!(rt; end, SessionEnd::End, "at {commands}");
         let expected = replies(rt.alloc(), expected)?;
         assert_eq!(rt; out.as_slice(), expected.as_slice(), "at {commands}");
     }
@@ -188,7 +188,7 @@ fn a_full_heap_clears_soft_references_of_any_age(rt: HostRuntime) -> Result<(), 
     commands.push_str("new -; deref 2; deref 9")?;
     answers.push_str("= 1; = 0; = 0")?;
     let (end, out) = heap_answers(rt.alloc(), commands.as_str())?;
-    assert_eq!(rt; end, FirstEnd::End);
+    assert_eq!(rt; end, SessionEnd::End);
     let expected = replies(rt.alloc(), answers.as_str())?;
     assert_eq!(rt; out.as_slice(), expected.as_slice());
     Ok(())
@@ -200,7 +200,7 @@ fn what_is_no_reference_and_no_queue_is_refused(rt: HostRuntime) -> Result<(), F
         "queue; new -; poll 2; weak 2 2; soft 0 1; phantom 2 9; enqueue 2; enqueued 1; deref 1; refers 2 0; clear 9; poll 0; get 1 0; put 1 0 0";
     let answers = "= 1; = 2; ! 5; ! 5; ! 8; ! 3; ! 5; ! 5; ! 5; ! 5; ! 3; ! 8; ! 5; ! 5";
     let (end, out) = heap_answers(rt.alloc(), commands)?;
-    assert_eq!(rt; end, FirstEnd::End);
+    assert_eq!(rt; end, SessionEnd::End);
     let expected = replies(rt.alloc(), answers)?;
     assert_eq!(rt; out.as_slice(), expected.as_slice());
     Ok(())
@@ -219,7 +219,7 @@ fn a_poll_needs_a_handle_for_what_it_takes(rt: HostRuntime) -> Result<(), Fail> 
     commands.push_str("poll 1; enqueued 3; drop 250; poll 1; same 250 3; poll 1")?;
     answers.push_str("! 4; yes; ok; = 250; yes; = 0")?;
     let (end, out) = heap_answers(rt.alloc(), commands.as_str())?;
-    assert_eq!(rt; end, FirstEnd::End);
+    assert_eq!(rt; end, SessionEnd::End);
     let expected = replies(rt.alloc(), answers.as_str())?;
     assert_eq!(rt; out.as_slice(), expected.as_slice());
     Ok(())

@@ -1,14 +1,15 @@
 //! A session, and what it leaves of the program.
-ghost use Rattle.std.specs.Prelude.{◌≡◌, ◌⊎◌, List, ℕ, MatchResult, None, Some};
+ghost use Rattle.std.specs.Prelude.{◌≡◌, ◌≤◌, ◌⊎◌, List, ℕ, length, MatchResult, None, Some};
 ghost use Rattle.std.specs.Io.KnownBytes.{Appends, Consumes, IsAtEnd};
 ghost use Rattle.jlr_machine.specs.Run.{empty};
 ghost use Rattle.jlr_prog.specs.Histories.{IsSession};
-ghost use Rattle.jlr_prog.specs.declared.shell.FirstEnd.{FirstEnd};
+ghost use Rattle.jlr_session.specs.Limits.{most_bytes};
+ghost use Rattle.jlr_session.specs.declared.shell.SessionEnd.{SessionEnd};
 ghost use Rattle.refheap.specs.Status.{IsOutOfMemory, IsOutcome, fault_after};
 
 use crate::fault::ProgramFault;
 use jlr_prog::first::first_run;
-use jlr_prog::shell::FirstEnd;
+use jlr_session::shell::SessionEnd;
 use jlr_types::Limits;
 use std::alloc::Global;
 use std::io::{Read, Write};
@@ -24,9 +25,10 @@ pub fn session<R: Read, W: Write>(
     writer: &mut W,
 ) -> Result<(), ProgramFault>
     ensures { (IsOutOfMemory result × (reader.new ≡ reader.old) × (writer.new ≡ writer.old))
-        ⊎ ((end : FirstEnd) × (bytes : List ℕ) × (out : List ℕ) × IsOutcome end result
+        ⊎ ((end : SessionEnd) × (bytes : List ℕ) × (out : List ℕ) × IsOutcome end result
         × Consumes (R.remaining reader.old) (R.remaining reader.new) bytes
         × Appends (W.contents writer.old) (W.contents writer.new) out
+        × (length bytes ≤ most_bytes)
         × IsSession (empty limits.cells limits.sessions limits.resources) (IsAtEnd (R.remaining reader.new)) end bytes out) }
 {
     match first_run(alloc, limits, reader, writer) {
@@ -36,13 +38,15 @@ pub fn session<R: Read, W: Write>(
 }
 
 /// What the end of the session is to the program.
-fn outcome_of(end: FirstEnd) -> Result<(), ProgramFault>
+fn outcome_of(end: SessionEnd) -> Result<(), ProgramFault>
     ensures { IsOutcome end result }
 {
     match end {
-        FirstEnd::Bye | FirstEnd::End => Ok(()),
-        FirstEnd::Truncated => Err(ProgramFault::Unfinished),
-        FirstEnd::ReadFault => Err(ProgramFault::Read),
-        FirstEnd::WriteFault => Err(ProgramFault::Write),
+        SessionEnd::Bye | SessionEnd::End => Ok(()),
+        SessionEnd::Truncated => Err(ProgramFault::Unfinished),
+        SessionEnd::TooManyLines => Err(ProgramFault::TooManyLines),
+        SessionEnd::NotJoined(_) => Err(ProgramFault::NotJoined),
+        SessionEnd::ReadFault => Err(ProgramFault::Read),
+        SessionEnd::WriteFault => Err(ProgramFault::Write),
     }
 }

@@ -7,4 +7,4 @@ returns-clause-session g c =
     let l = c.args.limits in
     let s = c.converse-end.ensures in
     let joined = c.in_ok-heap.ensures.joined in
-    (s.0, s.1, s.2, s.3, is_session (empty l.cells l.sessions l.resources) c.in_ok-heap.heap c.converse-end.new.heap c.leave.new.self _ c.converse-end.result s.0 s.1 c.leave.result joined s.4 c.leave.ensures)
+    (s.0, s.1, s.2, s.3, s.4, is_session (empty l.cells l.sessions l.resources) c.in_ok-heap.heap c.converse-end.new.heap c.leave.new.self _ c.converse-end.result s.0 s.1 c.leave.result joined s.5 c.leave.ensures)

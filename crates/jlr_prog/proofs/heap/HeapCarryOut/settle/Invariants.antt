@@ -5,7 +5,7 @@ use Rattle.jlr_prog.specs.Heaps.{HandsOver}
 use Rattle.jlr_prog.proofs.heap.HeapCarryOut.settle.Given as goal
 
 abbrev pub invariant-loop : goal.invariant-loop
-invariant-loop l = (answers : List Answer) × HandsOn HandsOver answers l.fn.self l.self
+invariant-loop l = (answers : List Answer) × HandsOn HandsOver answers l.fn.heap l.heap
 
 abbrev pub decreases-loop : goal.decreases-loop
-decreases-loop l = length l.self.machine.pending
+decreases-loop l = length l.heap.machine.pending

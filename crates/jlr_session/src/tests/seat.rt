@@ -1,0 +1,195 @@
+//! A port that plays a heap with one file.
+use crate::port::Port;
+use jlr_device::script::ScriptResource;
+use jlr_event::event::{Event, Reply};
+use jlr_machine::ask::{Answer, CallOutcome, Handed};
+use jlr_types::{ActionNo, Fault, Handle, Mutator, Progress, Refusal, Rid, Work};
+use std::alloc::Global;
+
+/// Answers the asks of mutator 3 as a heap with one file would, and keeps the file. Writes down what was asked, and its settlings.
+///
+/// `gc` is answered as a piece of marking would be, `stat` by an answer that has no line, and each other command by `ok`.
+#[derive(Drop)]
+pub struct Seat {
+    pub asked: String,
+    pub settlings: u8,
+    pub refuses_join: bool,
+    pub refuses_prepare: bool,
+    pub refuses_opened: bool,
+    pub forgets_the_file: bool,
+    file: Option<ScriptResource>,
+}
+
+impl Seat {
+    pub fn new(alloc: Global) -> Seat {
+        Seat {
+            asked: String::new(alloc),
+            settlings: 0,
+            refuses_join: false,
+            refuses_prepare: false,
+            refuses_opened: false,
+            forgets_the_file: false,
+            file: None,
+        }
+    }
+
+    fn opened(&mut self, outcome: Result<ScriptResource, Fault>) -> Reply<ScriptResource> {
+        match outcome {
+            Ok(file) if self.refuses_opened => Reply::Answered {
+                answer: Answer::Refused(Refusal::NotOut),
+                resource: Some(file),
+            },
+            Ok(file) => {
+                self.file = Some(file);
+                plain(Answer::Handle(Handle::new(1)))
+            }
+            Err(fault) => plain(Answer::Faulted(fault)),
+        }
+    }
+
+    fn checked_out(&mut self) -> Reply<ScriptResource> {
+        match self.file.take() {
+            Some(file) => Reply::Answered {
+                answer: Answer::Out(Rid::new(0)),
+                resource: if self.forgets_the_file {
+                    None
+                } else {
+                    Some(file)
+                },
+            },
+            None => plain(Answer::Refused(Refusal::Closed)),
+        }
+    }
+
+    fn closed(&mut self) -> Reply<ScriptResource> {
+        match self.file.take() {
+            Some(file) => Reply::Answered {
+                answer: Answer::Job {
+                    action: ActionNo::new(1),
+                    work: Work::Resource(Rid::new(0)),
+                },
+                resource: Some(file),
+            },
+            None => plain(Answer::AlreadyDone),
+        }
+    }
+}
+
+impl Port<ScriptResource> for Seat {
+    ghost asking = { record { mutator = λ _. 3; asks = λ _ _ _ _. Unit {0}; settling = λ _ _. Unit {0} } };
+
+    fn mutator(&self) -> Mutator {
+        Mutator::new(3)
+    }
+
+    fn ask(&mut self, event: Event<ScriptResource>) -> Reply<ScriptResource> {
+        let _ = self.asked.push_str(name_of(&event));
+        let _ = self.asked.push_str("; ");
+        match event {
+            Event::Join { .. } if self.refuses_join => plain(Answer::Refused(Refusal::NoSession)),
+            Event::Prepare { .. } if self.refuses_prepare => {
+                plain(Answer::Refused(Refusal::ResourcesFull))
+            }
+            Event::Prepare { .. } => plain(Answer::Prepared(Rid::new(0))),
+            Event::Opened { outcome, .. } => self.opened(outcome),
+            Event::CheckOut { .. } => self.checked_out(),
+            Event::CheckIn {
+                outcome,
+                resource,
+                ..
+            } => {
+                self.file = Some(resource);
+                plain(answer_of(outcome))
+            }
+            Event::Close { .. } => self.closed(),
+            Event::Clean { .. } => plain(Answer::Job {
+                action: ActionNo::new(2),
+                work: Work::Note(7),
+            }),
+            Event::Finish { outcome, .. } => plain(match outcome {
+                Ok(()) => Answer::Done,
+                Err(fault) => Answer::Faulted(fault),
+            }),
+            Event::Full { .. } => Reply::Marked(Progress::Done),
+            Event::Stat { .. } => plain(Answer::Handed(Handed::Nothing)),
+            _ => plain(Answer::Done),
+        }
+    }
+
+    fn settle(&mut self) {
+        self.settlings = self.settlings.saturating_add(1);
+    }
+}
+
+/// A reply without a resource.
+fn plain(answer: Answer) -> Reply<ScriptResource> {
+    Reply::Answered {
+        answer,
+        resource: None,
+    }
+}
+
+/// What the end of a call is answered.
+fn answer_of(outcome: CallOutcome) -> Answer {
+    match outcome {
+        CallOutcome::Data(bytes) => Answer::Data(bytes),
+        CallOutcome::Wrote(count) => Answer::Wrote(count),
+        CallOutcome::Failed(fault) => Answer::Faulted(fault),
+    }
+}
+
+/// How an event is written down. The asks of another mutator are strange.
+fn name_of(event: &Event<ScriptResource>) -> &'static str {
+    match event {
+        Event::Join { mutator } if mutator.number() == 3 => "Join",
+        Event::Leave { mutator } if mutator.number() == 3 => "Leave",
+        Event::Prepare { mutator } if mutator.number() == 3 => "Prepare",
+        Event::Opened { mutator, outcome } if mutator.number() == 3 => match outcome {
+            Ok(_) => "Opened ok",
+            Err(fault) => with_fault(*fault, "Opened notfound", "Opened denied", "Opened other"),
+        },
+        Event::CheckOut { mutator, guard } if mutator.number() == 3 && guard.number() == 1 => "Out",
+        Event::CheckIn {
+            mutator,
+            outcome,
+            ..
+        } if mutator.number() == 3 => match outcome {
+            CallOutcome::Data(_) => "In data",
+            CallOutcome::Wrote(_) => "In wrote",
+            CallOutcome::Failed(fault) => {
+                with_fault(*fault, "In notfound", "In denied", "In other")
+            }
+        },
+        Event::Close { mutator, guard } if mutator.number() == 3 && guard.number() == 1 => "Close",
+        Event::Clean { mutator, cleanable } if mutator.number() == 3 && cleanable.number() == 2 => {
+            "Clean"
+        }
+        Event::Finish {
+            by: 3,
+            action,
+            outcome,
+        } => match outcome {
+            Ok(()) if action.number() == 1 => "Finish 1 ok",
+            Ok(()) => "Finish ok",
+            Err(fault) => with_fault(*fault, "Finish notfound", "Finish denied", "Finish other"),
+        },
+        Event::Full { .. } => "Full",
+        Event::Stat { .. } => "Stat",
+        Event::MakeQueue { mutator } if mutator.number() == 3 => "MakeQueue",
+        Event::Names { mutator } if mutator.number() == 3 => "Names",
+        _ => "strange",
+    }
+}
+
+fn with_fault(
+    fault: Fault,
+    not_found: &'static str,
+    denied: &'static str,
+    other: &'static str,
+) -> &'static str {
+    match fault {
+        Fault::NotFound => not_found,
+        Fault::Denied => denied,
+        Fault::Other => other,
+    }
+}
