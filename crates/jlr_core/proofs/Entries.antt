@@ -13,7 +13,7 @@ use Rattle.jlr_machine.specs.declared.object.RefState.TheVariants.{Fresh}
 use Rattle.jlr_machine.specs.declared.machine.Machine.{Machine}
 use Rattle.jlr_machine.specs.declared.machine.Session.{Session}
 use Rattle.jlr_machine.specs.declared.ask.Ask.{Ask}
-use Rattle.jlr_machine.specs.declared.ask.Ask.TheVariants.{Join, Leave, Put, Get, SetInt, Int, Dup, Drop, Same, MakeRef, Deref, Refers, Clear, Enqueue, Enqueued, Poll, Register, Clean, Prepare, Opened, CheckOut, CheckIn, Close, Finish, HandOver, TakeUp, Full, Stat, Notes, Faults, Begin, Abandon}
+use Rattle.jlr_machine.specs.declared.ask.Ask.TheVariants.{Join, Leave, Put, Get, SetInt, Int, Dup, Drop, Same, MakeRef, Deref, Refers, Clear, Enqueue, Enqueued, Poll, Register, Clean, Prepare, Opened, CheckOut, CheckIn, Close, Finish, Remove, Bind, Find, Unbind, Names, HandOver, TakeUp, Full, Stat, Notes, Faults, Begin, Abandon}
 use Rattle.jlr_machine.specs.declared.ask.FullMode.{FullMode}
 use Rattle.jlr_machine.specs.declared.ask.FullMode.TheVariants.{Policy, ClearAll}
 use Rattle.jlr_machine.specs.declared.ask.Answer.{Answer}
@@ -111,6 +111,11 @@ IsPlain TakeUp = Unit {0}
 IsPlain (CheckOut k h) = Unit {0}
 IsPlain (CheckIn k outcome) = Unit {0}
 IsPlain (Close k h) = Unit {0}
+IsPlain (Remove k q) = Unit {0}
+IsPlain (Bind k name h) = Unit {0}
+IsPlain (Find k name) = Unit {0}
+IsPlain (Unbind k name) = Unit {0}
+IsPlain (Names k) = Unit {0}
 IsPlain _ = ⊥
 
 plainly : (m n : Machine) (ask : Ask) (a : Answer) → IsPlain ask → refusal m ask ≡ None → reply m ask ≡ Some a → n ≡ after m ask a [] → Meets m ask a no_choice n
@@ -142,6 +147,11 @@ plainly m n TakeUp a p e r l = meets_plainly m TakeUp a n e (room_for_none m) re
 plainly m n (CheckOut k h) a p e r l = meets_plainly m (CheckOut k h) a n e (room_for_none m) refl r r l
 plainly m n (CheckIn k outcome) a p e r l = meets_plainly m (CheckIn k outcome) a n e (room_for_none m) refl r r l
 plainly m n (Close k h) a p e r l = meets_plainly m (Close k h) a n e (room_for_none m) refl r r l
+plainly m n (Remove k q) a p e r l = meets_plainly m (Remove k q) a n e (room_for_none m) refl r r l
+plainly m n (Bind k name h) a p e r l = meets_plainly m (Bind k name h) a n e (room_for_none m) refl r r l
+plainly m n (Find k name) a p e r l = meets_plainly m (Find k name) a n e (room_for_none m) refl r r l
+plainly m n (Unbind k name) a p e r l = meets_plainly m (Unbind k name) a n e (room_for_none m) refl r r l
+plainly m n (Names k) a p e r l = meets_plainly m (Names k) a n e (room_for_none m) refl r r l
 plainly m n _ a p e r l = absurd p
 
 pub meets_plain : (m n : Machine) (ask : Ask) (a : Answer) → IsPlain ask → refusal m ask ≡ None → reply m ask ≡ Some a → n ≡ after m ask a [] → Meets m ask a no_choice n

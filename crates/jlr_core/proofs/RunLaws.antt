@@ -14,9 +14,10 @@ use Rattle.jlr_machine.specs.declared.ask.Answer.{Answer}
 use Rattle.jlr_machine.specs.declared.entry.Chosen.{Chosen}
 use Rattle.jlr_machine.specs.declared.entry.Entry.{Entry}
 use Rattle.jlr_machine.specs.Run.{Run, apply, empty}
-use Rattle.jlr_core.specs.declared.event.Event.{Event}
-use Rattle.jlr_core.specs.declared.event.Reply.{Reply}
-use Rattle.jlr_core.specs.Events.{ask_of, answer_in, given, handed, entry_with, Enters, WantsMemory}
+use Rattle.jlr_event.specs.declared.event.Event.{Event}
+use Rattle.jlr_event.specs.declared.event.Reply.{Reply}
+use Rattle.jlr_event.specs.Events.{ask_of, answer_in, given, handed}
+use Rattle.jlr_core.specs.Events.{entry_with, Enters, WantsMemory}
 use Rattle.jlr_core.specs.Cores.{Kept, StandsIn}
 use Rattle.jlr_core.specs.Runs.{entries_of, AreAnswered, AreWanting, IsRunOf, all_given, all_handed}
 

@@ -5,9 +5,10 @@ use Rattle.jlr_machine.specs.declared.machine.Machine.{Machine}
 use Rattle.jlr_machine.specs.declared.entry.Chosen.{Chosen}
 use Rattle.jlr_machine.specs.declared.entry.Entry.{Entry}
 use Rattle.jlr_machine.specs.Run.{Run}
-use Rattle.jlr_core.specs.declared.event.Event.{Event}
-use Rattle.jlr_core.specs.declared.event.Reply.{Reply}
-use Rattle.jlr_core.specs.Events.{ask_of, answer_in, given, handed, entry_with, WantsMemory}
+use Rattle.jlr_event.specs.declared.event.Event.{Event}
+use Rattle.jlr_event.specs.declared.event.Reply.{Reply}
+use Rattle.jlr_event.specs.Events.{ask_of, answer_in, given, handed}
+use Rattle.jlr_core.specs.Events.{entry_with, WantsMemory}
 use Rattle.jlr_core.specs.Cores.{Kept, StandsIn}
 
 -- the entries of events with their replies and choices, in order. A piece of marking is none

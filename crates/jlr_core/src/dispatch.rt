@@ -3,12 +3,13 @@ ghost use Rattle.std.specs.Prelude.{◌≡◌, ◌≤◌, length, None, Some};
 ghost use Rattle.jlr_machine.specs.Choices.{nothing_chosen};
 ghost use Rattle.jlr_machine.specs.WellFormed.{IsWellFormed};
 ghost use Rattle.jlr_core.specs.State.{answer_of};
-ghost use Rattle.jlr_core.specs.Events.{ask_of, answer_in, given, handed, progress_in, StepsBy, WantsMemory};
+ghost use Rattle.jlr_event.specs.Events.{ask_of, answer_in, given, handed};
+ghost use Rattle.jlr_core.specs.Events.{progress_in, StepsBy, WantsMemory};
 ghost use Rattle.jlr_core.specs.Flows.{Conserves, GoesOut};
 ghost use Rattle.jlr_core.specs.TakeUps.{clean_answer, handed_out, take_up_answered};
 ghost use Rattle.jlr_core.specs.Policy.{KeepsByPolicy, clock_after};
 
-use crate::event::{Event, Reply};
+use jlr_event::event::{Event, Reply};
 use crate::state::State;
 use jlr_cleaner::Job;
 use jlr_machine::ask::{Answer, Ask, Handed};
@@ -86,6 +87,7 @@ impl<R> State<R> {
             Event::MakeQueue { mutator } => answered(self.make_queue(mutator, choice)),
             Event::Poll { mutator, queue } => answered(self.poll(mutator, queue)),
             Event::HandOver => answered(self.hand_over()),
+            Event::Remove { mutator, queue } => answered(self.remove(mutator, queue)),
             Event::MakeCleaner { mutator } => answered(self.make_cleaner(mutator, choice)),
             Event::Register {
                 mutator,
@@ -108,6 +110,14 @@ impl<R> State<R> {
                 action,
                 outcome,
             } => answered(self.finish(by, action, outcome)),
+            Event::Bind {
+                mutator,
+                name,
+                object,
+            } => answered(self.bind(mutator, &name, object)),
+            Event::Find { mutator, name } => answered(self.find(mutator, &name)),
+            Event::Unbind { mutator, name } => answered(self.unbind(mutator, &name)),
+            Event::Names { mutator } => answered(self.names(mutator)),
             Event::Full { mutator, mode } => answered(self.full(mutator, mode, choice)),
             Event::Stat { mutator } => answered(self.stat(mutator)),
             Event::Notes { mutator } => answered(self.notes(mutator)),

@@ -4,11 +4,12 @@ ghost use Rattle.jlr_machine.specs.declared.machine.Machine.{Machine};
 ghost use Rattle.jlr_machine.specs.Run.{empty, empty_from};
 ghost use Rattle.jlr_resource.specs.Resources.{values};
 ghost use Rattle.jlr_barrier.specs.Graphs.{empty_known};
-ghost use Rattle.jlr_core.specs.Events.{ask_of, answer_in, given, handed, progress_in, Enters, WantsMemory};
+ghost use Rattle.jlr_event.specs.Events.{ask_of, answer_in, given, handed};
+ghost use Rattle.jlr_core.specs.Events.{progress_in, Enters, WantsMemory};
 ghost use Rattle.jlr_core.specs.Flows.{Conserves, GoesOut};
 ghost use Rattle.jlr_core.specs.Policy.{KeepsByPolicy, clock_after};
 
-use crate::event::{Event, Reply};
+use jlr_event::event::{Event, Reply};
 use crate::state::State;
 use jlr_machine::ask::{Answer, Ask};
 use jlr_machine::choice::Choice;
@@ -68,7 +69,8 @@ impl<R> Core<R> {
     }
 
     /// One event. The choice says what was chosen; it has room for every cell. Only `Enqueue` and `HandOver`, by which a queue grows,
-    /// `Prepare`, by which the table of resources grows, and `Notes` and `Faults`, which copy a list, may find no memory. A piece of marking is answered Done in an open cycle and Idle without one, and changes nothing: a `Collect` marks
+    /// `Prepare`, by which the table of resources grows, `Bind` of a new name, and `Names`, `Notes` and `Faults`, which copy a list, may find
+    /// no memory. A piece of marking is answered Done in an open cycle and Idle without one, and changes nothing: a `Collect` marks
     /// whole, by the soft policy, and is answered yes exactly where a cycle is open.
     pub fn step(&mut self, event: Event<R>, choice: &mut Choice) -> Reply<R>
         requires room { length self.old.machine.objects ≤ choice.old.cells }

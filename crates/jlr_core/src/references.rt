@@ -187,6 +187,40 @@ impl<R> State<R> {
         Ok(self.give_known(by, front))
     }
 
+    /// The queue whose front is removed, with a free handle for it.
+    fn check_remove(&self, by: Mutator, queue: Handle) -> Result<Slot, Refusal>
+        requires { IsWellFormed (machine_of self.now) }
+        ensures { MatchResult result
+            (λ slot. (refusal (machine_of self.now) (Ask.Remove by queue) ≡ None) × (slot_named (machine_of self.now) by queue ≡ Some slot) × IsTrue (some_and is_queue (at self.now.heap.graph.objects slot)) × ((is_some (member_in (at self.now.heap.graph.objects slot) 0) && not (has_free_handle (machine_of self.now) by)) ≡ false))
+            (λ r. refusal (machine_of self.now) (Ask.Remove by queue) ≡ Some r) }
+    {
+        self.check_session(by)?;
+        self.check_handle(by, queue)?;
+        let slot = self.check_slot(by, queue)?;
+        self.check_queue(slot)?;
+        self.check_no_call(by)?;
+        let front = self.heap.front(slot);
+        if front.is_none() {
+            return Err(Refusal::WouldWait);
+        }
+        self.check_room_for(by, front)?;
+        Ok(slot)
+    }
+
+    /// As `poll`, but it does not answer null: it is refused where the queue is empty.
+    pub(crate) fn remove(&mut self, by: Mutator, queue: Handle) -> Result<Answer, Refusal>
+        requires { IsWellFormed (machine_of self.old) }
+        ensures answered { Answered (machine_of self.old) (Ask.Remove by queue) result (machine_of self.new) }
+        ensures cells { length self.new.heap.graph.objects ≡ length self.old.heap.graph.objects }
+        ensures age { self.new.soft_age ≡ self.old.soft_age }
+        ensures cleaner { self.new.cleaner ≡ self.old.cleaner }
+        ensures clock { self.new.heap.clock ≡ self.old.heap.clock }
+    {
+        let slot = self.check_remove(by, queue)?;
+        let front = jlr_refs::poll(&mut self.heap, slot);
+        Ok(self.give_known(by, front))
+    }
+
     /// The handler's step.
     pub(crate) fn hand_over(&mut self) -> Result<Answer, Refusal>
         requires { IsWellFormed (machine_of self.old) }

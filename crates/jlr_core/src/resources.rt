@@ -12,13 +12,14 @@ ghost use Rattle.jlr_machine.specs.Calls.{call_answer, new_handle, opened};
 ghost use Rattle.jlr_machine.specs.Run.{no_choice};
 ghost use Rattle.jlr_machine.specs.WellFormed.{IsWellFormed};
 ghost use Rattle.jlr_resource.specs.Resources.{state_at};
-ghost use Rattle.jlr_core.specs.Events.{StepsBy, answer_in, handed, outcome_of, resource_of};
+ghost use Rattle.jlr_event.specs.Events.{answer_in, handed, outcome_of, resource_of};
+ghost use Rattle.jlr_core.specs.Events.{StepsBy};
 ghost use Rattle.jlr_core.specs.Flows.{Conserves, GoesOut};
 ghost use Rattle.jlr_core.specs.Guards.{HoldsGuard, IsGuardNamed, IsIdleAt, fenced_guard, is_spent_at};
 ghost use Rattle.jlr_core.specs.TakeUps.{IsFreeMutator, clean_answer, handed_out};
 ghost use Rattle.jlr_core.specs.State.{Meets};
 
-use crate::event::Reply;
+use jlr_event::event::Reply;
 use crate::state::State;
 use jlr_cleaner::Job;
 use jlr_machine::ask::{Answer, Ask, CallOutcome};

@@ -8,7 +8,7 @@ ghost use Rattle.jlr_machine.specs.Run.{Run, empty};
 ghost use Rattle.jlr_core.specs.Runs.{AreWanting, IsRunOf, all_given, all_handed};
 
 use crate::engine::Core;
-use crate::event::{Event, Reply};
+use jlr_event::event::{Event, Reply};
 use jlr_machine::choice::Choice;
 use jlr_types::Limits;
 use std::alloc::{AllocError, Global};

@@ -54,7 +54,7 @@ impl<R> State<R> {
         Ok(Machine {
             objects: self.heap.objects_image(alloc)?,
             mutators: self.heap.mutators_image(alloc)?,
-            names: Items::new(alloc),
+            names: self.heap.names_image(alloc)?,
             pending: self.heap.pending_image(alloc)?,
             line: self.heap.line_image(alloc)?,
             jobs: self.cleaner.jobs(alloc)?,

@@ -1,5 +1,5 @@
 //! Lists of events and their replies. What is expected comes from the description of the asks.
-use crate::event::{Event, Reply};
+use jlr_event::event::{Event, Reply};
 use crate::run::run;
 use jlr_machine::ask::{Answer, FullMode, Handed, Stat};
 use jlr_types::{Fault, FieldKind, Handle, Layout, Limits, Mutator, Progress, RefKind, Refusal};

@@ -6,8 +6,8 @@ use Rattle.std.proofs.lemmas.Iterator.Consumers.{YieldsList-end}
 use Rattle.std.proofs.lemmas.Iterator.Adapters.{YieldsList-from_vec}
 use Rattle.jlr_machine.specs.Run.{empty}
 use Rattle.jlr_machine.specs.Choices.{Choosing}
-use Rattle.jlr_core.specs.declared.event.Event.{Event}
-use Rattle.jlr_core.specs.declared.event.Reply.{Reply}
+use Rattle.jlr_event.specs.declared.event.Event.{Event}
+use Rattle.jlr_event.specs.declared.event.Reply.{Reply}
 use Rattle.jlr_core.specs.Runs.{AreWanting, IsRunOf, all_given, all_handed}
 use Rattle.jlr_core.proofs.RunLaws.{run_more, flow_more, wanting_more, start_run, start_flow, start_memory, start_room}
 use Rattle.jlr_core.proofs.run.run.Goals as goal

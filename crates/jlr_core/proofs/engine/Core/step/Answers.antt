@@ -1,6 +1,6 @@
 use Rattle.std.proofs.Common.{refl, sym, subst}
 use Rattle.jlr_core.specs.Machines.{machine_of}
-use Rattle.jlr_core.specs.Events.{ask_of, answer_in}
+use Rattle.jlr_event.specs.Events.{ask_of, answer_in}
 use Rattle.jlr_core.specs.Cores.{StandsIn}
 use Rattle.jlr_core.proofs.Stepping.{well_formed_after, enters}
 use Rattle.jlr_core.proofs.engine.Core.step.Goals as goal

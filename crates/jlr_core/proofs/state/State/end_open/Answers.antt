@@ -5,7 +5,7 @@ use Rattle.jlr_machine.specs.declared.ask.Outcome.TheVariants.{Ok as EndedOk, Fa
 use Rattle.jlr_machine.specs.declared.machine.ResourceState.TheVariants.{Opening}
 use Rattle.jlr_machine.specs.Refusals.{refusal}
 use Rattle.jlr_machine.specs.Run.{no_choice}
-use Rattle.jlr_core.specs.Events.{outcome_of}
+use Rattle.jlr_event.specs.Events.{outcome_of}
 use Rattle.jlr_core.specs.Machines.{machine_of}
 use Rattle.jlr_core.specs.State.{Meets}
 use Rattle.jlr_core.proofs.Entries.{meets_plain}

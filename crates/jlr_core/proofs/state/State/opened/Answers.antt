@@ -2,7 +2,7 @@ use Rattle.std.proofs.Common.{◌≡◌, refl}
 use Rattle.jlr_types.specs.declared.Refusal.TheVariants.{NoMemory}
 use Rattle.jlr_machine.specs.declared.ask.Ask.TheVariants.{Opened}
 use Rattle.jlr_core.specs.Machines.{machine_of}
-use Rattle.jlr_core.specs.Events.{outcome_of}
+use Rattle.jlr_event.specs.Events.{outcome_of}
 use Rattle.jlr_core.proofs.Entries.{meets_refused, never_memory}
 use Rattle.jlr_core.proofs.state.State.opened.Goals as goal
 
