@@ -128,13 +128,15 @@ pub guard_idle :
 guard_idle m k h s g c w named there cleanable unspent not_out =
     let own : IsOwnGuard m s g c = elim (w.resources.guards s g c there cleanable) [ inl spent ↦ absurd (unspent spent) | inr own ↦ own ] in
     let r = w.resources.of_cleanables g.cleanable g.rid c (record { there = cleanable; unspent = unspent }) own.work in
-    let names = named_of_slot m k h s w named in
-    (own.work, elim (r.0) as (λ state. HasResource m g.rid c.action state → (state ≡ Closing → ⊥) → HasResource m g.rid c.action Idle) [
-      | Opening ↦ λ x _. absurd (w.unnamed.handles k h s names.0 names.2.session_there names.2.handle (inr (g, c, there, cleanable, own.armed, x)))
-      | Idle ↦ λ x _. x
-      | Out ↦ λ x _. absurd (both_ways (some_and (λ r. is_out_state r.state) (resource_at m g.rid)) not_out (ap (some_and (λ (z : Resource). is_out_state z.state)) x))
-      | Closing ↦ λ _ never. absurd (never refl)
-    ] r.1 r.2)
+    let names = named_of_slot m k h s w named in (
+      own.work,
+      elim (r.0) as (λ state. HasResource m g.rid c.action state → (state ≡ Closing → ⊥) → HasResource m g.rid c.action Idle) [
+        | Opening ↦ λ x _. absurd (w.unnamed.handles k h s names.0 names.2.session_there names.2.handle (inr (g, c, there, cleanable, own.armed, x)))
+        | Idle ↦ λ x _. x
+        | Out ↦ λ x _. absurd (both_ways (some_and (λ r. is_out_state r.state) (resource_at m g.rid)) not_out (ap (some_and (λ (z : Resource). is_out_state z.state)) x))
+        | Closing ↦ λ _ never. absurd (never refl)
+      ] r.1 r.2,
+    )
 
 not_spent : (c : CleanableOf) → is_spent c.state ≡ false → c.state ≡ Spent → ⊥
 not_spent c f e = both_ways (is_spent c.state) f (ap is_spent e)

@@ -95,12 +95,7 @@ impl<R> State<R> {
     }
 
     /// The object that an action is to be registered for.
-    fn check_register(
-        &self,
-        by: Mutator,
-        cleaner: Handle,
-        object: Handle,
-    ) -> Result<Slot, Refusal>
+    fn check_register(&self, by: Mutator, cleaner: Handle, object: Handle) -> Result<Slot, Refusal>
         requires { IsWellFormed (machine_of self.now) }
         ensures { MatchResult result
             (λ slot. ((note : ℕ) → refusal (machine_of self.now) (Ask.Register by cleaner object note) ≡ None) × (slot_named (machine_of self.now) by object ≡ Some slot) × (has_free_handle (machine_of self.now) by ≡ true) × (nat_le (2 ^ 64 - 1) self.now.cleaner.next_action ≡ false))

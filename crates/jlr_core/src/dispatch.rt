@@ -9,9 +9,9 @@ ghost use Rattle.jlr_core.specs.Flows.{Conserves, GoesOut};
 ghost use Rattle.jlr_core.specs.TakeUps.{clean_answer, handed_out, take_up_answered};
 ghost use Rattle.jlr_core.specs.Policy.{KeepsByPolicy, clock_after};
 
-use jlr_event::event::{Event, Reply};
 use crate::state::State;
 use jlr_cleaner::Job;
+use jlr_event::event::{Event, Reply};
 use jlr_machine::ask::{Answer, Ask, Handed};
 use jlr_machine::choice::Choice;
 use jlr_types::Refusal;

@@ -9,8 +9,8 @@ ghost use Rattle.jlr_core.specs.Events.{progress_in, Enters, WantsMemory};
 ghost use Rattle.jlr_core.specs.Flows.{Conserves, GoesOut};
 ghost use Rattle.jlr_core.specs.Policy.{KeepsByPolicy, clock_after};
 
-use jlr_event::event::{Event, Reply};
 use crate::state::State;
+use jlr_event::event::{Event, Reply};
 use jlr_machine::ask::{Answer, Ask};
 use jlr_machine::choice::Choice;
 use jlr_machine::machine::Machine;

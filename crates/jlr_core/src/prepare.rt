@@ -36,11 +36,7 @@ impl<R> State<R> {
     }
 
     /// A file or socket is about to be opened. Its place and its number are taken, and the mutator's call holds its guard.
-    pub(crate) fn prepare(
-        &mut self,
-        by: Mutator,
-        choice: &mut Choice,
-    ) -> Result<Answer, Refusal>
+    pub(crate) fn prepare(&mut self, by: Mutator, choice: &mut Choice) -> Result<Answer, Refusal>
         requires fit { IsWellFormed (machine_of self.old) }
         requires nothing { choice.old ≡ nothing_chosen choice.old.cells }
         requires room { length self.old.heap.graph.objects ≤ choice.old.cells }

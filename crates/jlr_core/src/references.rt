@@ -217,8 +217,8 @@ impl<R> State<R> {
         ensures clock { self.new.heap.clock ≡ self.old.heap.clock }
     {
         let slot = self.check_remove(by, queue)?;
-        let front = jlr_refs::poll(&mut self.heap, slot);
-        Ok(self.give_known(by, front))
+        let member = jlr_refs::poll(&mut self.heap, slot);
+        Ok(self.give_known(by, member))
     }
 
     /// The handler's step.

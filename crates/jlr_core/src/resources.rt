@@ -19,9 +19,9 @@ ghost use Rattle.jlr_core.specs.Guards.{HoldsGuard, IsGuardNamed, IsIdleAt, fenc
 ghost use Rattle.jlr_core.specs.TakeUps.{IsFreeMutator, clean_answer, handed_out};
 ghost use Rattle.jlr_core.specs.State.{Meets};
 
-use jlr_event::event::Reply;
 use crate::state::State;
 use jlr_cleaner::Job;
+use jlr_event::event::Reply;
 use jlr_machine::ask::{Answer, Ask, CallOutcome};
 use jlr_machine::machine::{Call, ResourceState};
 use jlr_machine::object::{CleanState, Guard};
