@@ -402,8 +402,18 @@ fn a_name_is_bound_found_and_unbound(rt: HostRuntime) -> Result<(), Fail> {
     );
     let (names, image) = (heap.names(rt.alloc())?, heap.names_image(rt.alloc())?);
     assert_eq!(rt; (names.len(), image.len()), (2, 2));
-    assert!(rt; names.as_slice()[0].as_slice() == left.as_slice());
-    assert!(rt; image.as_slice()[0].slot == Slot::new(7));
+    assert!(rt;
+        names
+            .as_slice()
+            .get(0)
+            .is_some_and(|name| name.as_slice() == b"left".as_slice())
+    );
+    assert!(rt;
+        image
+            .as_slice()
+            .get(0)
+            .is_some_and(|binding| binding.slot == Slot::new(7))
+    );
     heap.unbind(&left);
     assert_eq!(rt; (heap.name_count(), heap.find(&left)), (1, None));
     Ok(())

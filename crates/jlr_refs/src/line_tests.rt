@@ -49,6 +49,7 @@ fn waiting(alloc: Global) -> Result<Heap, Fail>
     ensures { IfOk result (λ heap. heap.graph ≡ record {
       objects = set_at (replicate 16 None) 0 (object.Cleanable (record { referent = None; action = 1; work = work.Note 42; state = state.Pending }));
       mutators = replicate 1 None;
+      names = [];
       pending = 0 ∷ [];
       line = [];
     }) }

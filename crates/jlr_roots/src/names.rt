@@ -221,13 +221,25 @@ mod tests {
         names.unbind(&name(&[97])?);
         names.bind(&name(&[97])?, Slot::new(1))?;
         let (all, image) = (names.names(rt.alloc())?, names.image(rt.alloc())?);
-        for (place, byte) in [98, 99, 97].into_iter().enumerate() {
-            assert!(rt; all.as_slice()[place].as_slice() == &[byte]);
-            assert!(rt; image.as_slice()[place].name.as_slice() == &[byte]);
+        assert_eq!(rt; (all.len(), image.len()), (3, 3));
+        for (place, byte) in [(0usize, 98u8), (1, 99), (2, 97)] {
+            assert!(rt;
+                all.as_slice()
+                    .get(place)
+                    .is_some_and(|name| name.as_slice() == [byte].as_slice())
+            );
+            assert!(rt;
+                image
+                    .as_slice()
+                    .get(place)
+                    .is_some_and(|binding| binding.name.as_slice() == [byte].as_slice())
+            );
         }
-        assert_eq!(rt;
-            (all.len(), image.len(), image.as_slice()[2].slot),
-            (3, 3, Slot::new(1))
+        assert!(rt;
+            image
+                .as_slice()
+                .get(2)
+                .is_some_and(|binding| binding.slot == Slot::new(1))
         );
         Ok(())
     }
