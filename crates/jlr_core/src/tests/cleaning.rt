@@ -1,4 +1,6 @@
 //! Cleaning actions: registered, taken up once, by hand or by the cleaner, and what became of them.
+ghost use Rattle.std.specs.Prelude.{IfOk, length, ◌≤◌};
+
 use super::*;
 use crate::engine::Core;
 use jlr_machine::choice::Choice;
@@ -268,23 +270,43 @@ fn the_last_256_notes_are_kept(rt: HostRuntime) -> Result<(), Fail> {
     Ok(())
 }
 
+// A core whose first action number is this one, and a choice that has room for all its cells.
+fn starting_at(alloc: Global, next_action: u64) -> Result<(Core<u32>, Choice), Fail>
+    requires { 1 ≤ next_action }
+    ensures { IfOk result (λ made. length made.0.machine.objects ≤ made.1.cells) }
+{
+    let limits = limits(0)?;
+    let core = Core::new_from(alloc, limits, next_action)?;
+    let choice = Choice::new(alloc, limits.cells)?;
+    Ok((core, choice))
+}
+
+fn ask(core: &mut Core<u32>, choice: &mut Choice, event: Event<u32>) -> Got
+    requires { length core.old.machine.objects ≤ choice.old.cells }
+    ensures { length core.new.machine.objects ≤ choice.new.cells }
+{
+    seen(&core.step(event, choice))
+}
+
 #[test]
 fn no_action_number_is_left_at_the_end(rt: HostRuntime) -> Result<(), Fail> {
-    let limits = limits(0)?;
-    let mut core: Core<u32> = Core::new_from(rt.alloc(), limits, u64::MAX - 1)?;
-    let mut choice = Choice::new(rt.alloc(), limits.cells)?;
-    for (event, wanted) in [
-        (join(), Got::Done),
-        (cleaner(), Got::Handle(1)),
-        (register(1, 1, 5), Got::Handle(2)),
-        (register(1, 1, 5), Got::Refused(Refusal::Exhausted)),
-        (
-            Event::Prepare { mutator: me() },
-            Got::Refused(Refusal::Exhausted),
-        ),
-        (clean(2), job(u64::MAX - 1)),
-    ] {
-        assert_eq!(rt; seen(&core.step(event, &mut choice)), wanted);
-    }
+    let (mut core, mut choice) = starting_at(rt.alloc(), u64::MAX - 1)?;
+    let prepare = Event::Prepare { mutator: me() };
+    let last = job(u64::MAX - 1);
+    assert_eq!(rt; ask(&mut core, &mut choice, join()), Got::Done);
+    assert_eq!(rt; ask(&mut core, &mut choice, cleaner()), Got::Handle(1));
+    assert_eq!(rt;
+        ask(&mut core, &mut choice, register(1, 1, 5)),
+        Got::Handle(2)
+    );
+    assert_eq!(rt;
+        ask(&mut core, &mut choice, register(1, 1, 5)),
+        Got::Refused(Refusal::Exhausted)
+    );
+    assert_eq!(rt;
+        ask(&mut core, &mut choice, prepare),
+        Got::Refused(Refusal::Exhausted)
+    );
+    assert_eq!(rt; ask(&mut core, &mut choice, clean(2)), last);
     Ok(())
 }
