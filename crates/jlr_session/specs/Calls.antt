@@ -8,9 +8,10 @@ use Rattle.jlr_device.specs.declared.device.Mode.{Mode}
 use Rattle.jlr_device.specs.declared.resource.Finished.{Finished}
 use Rattle.jlr_device.specs.Failures.{Counts, Fits, IsFull}
 
--- What the calls of a device may do, and its count of failures.
+-- What the calls of a device may do, its count of failures, and those of its resources.
 pub record Opening (D R : Type 0) : Type 1 where
   pub count : D → ℕ
+  pub failures : R → ℕ
   pub opens : D → Mode → List ℕ → Result R Fault → D → Type 0
   pub connects : D → List ℕ → Result R Fault → D → Type 0
 
@@ -26,15 +27,17 @@ abbrev pub Calls : {T : Type 0} → ℕ → Result T Fault → ℕ → Type 0 �
 Calls before outcome after made unmade =
     (Fits before × Counts before outcome after × made) ⊎ (IsFull before × (outcome ≡ Err Other) × unmade)
 
--- a file is opened
+-- a file is opened, and no call of it has failed yet
 abbrev pub Opens : {D R : Type 0} → Opening D R → Mode → List ℕ → D → Result R Fault → D → Type 0
 Opens device mode path old outcome new =
     Calls (device.count old) outcome (device.count new) (device.opens old mode path outcome new) (new ≡ old)
+    × IfOk outcome (λ r. device.failures r ≡ 0)
 
--- a socket is joined
+-- a socket is joined, and no call of it has failed yet
 abbrev pub Connects : {D R : Type 0} → Opening D R → List ℕ → D → Result R Fault → D → Type 0
 Connects device path old outcome new =
     Calls (device.count old) outcome (device.count new) (device.connects old path outcome new) (new ≡ old)
+    × IfOk outcome (λ r. device.failures r ≡ 0)
 
 -- the bytes that a read gave, at the front of its buffer
 abbrev pub read_outcome : Result ℕ Fault → List ℕ → CallOutcome

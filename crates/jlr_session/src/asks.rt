@@ -24,7 +24,7 @@ where
 {
     ghost use Rattle.jlr_session.specs.Asks.{by_asks};
 
-    ghost carries = { by_asks P.asking (record { count = D.count; opens = D.may_open; connects = D.may_connect })
+    ghost carries = { by_asks P.asking (record { count = D.count; opens = D.may_open; connects = D.may_connect; failures = D.Res.count })
         (record { count = D.Res.count; reads = D.Res.may_read; writes = D.Res.may_write; finishes = D.Res.may_finish }) };
 
     fn carry_out(heap: &mut P, device: &mut D, command: Command) -> Answer {
@@ -70,7 +70,7 @@ fn open<P: Port<D::Res>, D: Device>(
 where
     D::Res: Drop,
     ensures { AsksTwice P.asking (event.Prepare mutator) prepared_by
-        (λ _. TellsOpened (record { count = D.count; opens = D.may_open; connects = D.may_connect }) mutator mode path.now device.old device.new)
+        (λ _. TellsOpened (record { count = D.count; opens = D.may_open; connects = D.may_connect; failures = D.Res.count }) mutator mode path.now device.old device.new)
         (device.new ≡ device.old) port.old result port.new }
 {
     match prepared(port.ask(Event::Prepare { mutator })) {
@@ -89,7 +89,7 @@ fn connect<P: Port<D::Res>, D: Device>(
 where
     D::Res: Drop,
     ensures { AsksTwice P.asking (event.Prepare mutator) prepared_by
-        (λ _. TellsConnected (record { count = D.count; opens = D.may_open; connects = D.may_connect }) mutator path.now device.old device.new)
+        (λ _. TellsConnected (record { count = D.count; opens = D.may_open; connects = D.may_connect; failures = D.Res.count }) mutator path.now device.old device.new)
         (device.new ≡ device.old) port.old result port.new }
 {
     match prepared(port.ask(Event::Prepare { mutator })) {

@@ -21,7 +21,7 @@ pub(crate) fn opened<D: Device>(
     mode: Mode,
     path: &str,
 ) -> Event<D::Res>
-    ensures { TellsOpened (record { count = D.count; opens = D.may_open; connects = D.may_connect })
+    ensures { TellsOpened (record { count = D.count; opens = D.may_open; connects = D.may_connect; failures = D.Res.count })
         mutator mode path.now device.old device.new result }
 {
     Event::Opened {
@@ -32,7 +32,7 @@ pub(crate) fn opened<D: Device>(
 
 /// Joins a socket, and gives the event that tells its outcome.
 pub(crate) fn connected<D: Device>(device: &mut D, mutator: Mutator, path: &str) -> Event<D::Res>
-    ensures { TellsConnected (record { count = D.count; opens = D.may_open; connects = D.may_connect })
+    ensures { TellsConnected (record { count = D.count; opens = D.may_open; connects = D.may_connect; failures = D.Res.count })
         mutator path.now device.old device.new result }
 {
     Event::Opened {

@@ -40,7 +40,7 @@ where
         × Consumes (R.remaining reader.old) (R.remaining reader.new) bytes
         × Appends (W.contents writer.old) (W.contents writer.new) out
         × (length bytes ≤ most_bytes)
-        × Serves P.asking (record { count = D.count; opens = D.may_open; connects = D.may_connect })
+        × Serves P.asking (record { count = D.count; opens = D.may_open; connects = D.may_connect; failures = D.Res.count })
         (record { count = D.Res.count; reads = D.Res.may_read; writes = D.Res.may_write; finishes = D.Res.may_finish })
         (IsAtEnd (R.remaining reader.new)) result bytes port.old device.old out port.new device.new }
 {

@@ -8,7 +8,7 @@ use Rattle.jlr_session.proofs.serve.serve.Goals as goal
 
 pub returns : goal.returns
 returns g c =
-    let device : Opening g.row.D.Denot g.row.D-Res.Denot = record { count = g.D.Device.count; opens = g.D.Device.may_open; connects = g.D.Device.may_connect } in
+    let device : Opening g.row.D.Denot g.row.D-Res.Denot = record { count = g.D.Device.count; opens = g.D.Device.may_open; connects = g.D.Device.may_connect; failures = g.D.Res.Resource.count } in
     let resource : Handling g.row.D-Res.Denot = record { count = g.D.Res.Resource.count; reads = g.D.Res.Resource.may_read; writes = g.D.Res.Resource.may_write; finishes = g.D.Res.Resource.may_finish } in
     let e = c.converse-end.ensures in
     let at_end = IsAtEnd (g.R.Read.remaining c.converse-end.new.reader) in
