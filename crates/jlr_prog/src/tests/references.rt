@@ -1,5 +1,5 @@
 //! Sessions of references and queues spelled out. The expected texts come from the description of the machine.
-use crate::tests::{aged_answers, heap_answers, replies};
+use super::{aged_answers, heap_answers, lines};
 use jlr_session::shell::SessionEnd;
 use std::test::Fail;
 
@@ -36,7 +36,7 @@ fn queues_give_what_was_enqueued(rt: HostRuntime) -> Result<(), Fail> {
     ] {
         let (end, out) = heap_answers(rt.alloc(), commands)?;
         assert_eq!(rt; end, SessionEnd::End, "at {commands}");
-        let expected = replies(rt.alloc(), expected)?;
+        let expected = lines(rt.alloc(), expected)?;
         assert_eq!(rt; out.as_slice(), expected.as_slice(), "at {commands}");
     }
     Ok(())
@@ -56,7 +56,7 @@ fn references_of_two_collections_come_out_in_order(rt: HostRuntime) -> Result<()
     ] {
         let (end, out) = heap_answers(rt.alloc(), commands)?;
         assert_eq!(rt; end, SessionEnd::End, "at {commands}");
-        let expected = replies(rt.alloc(), expected)?;
+        let expected = lines(rt.alloc(), expected)?;
         assert_eq!(rt; out.as_slice(), expected.as_slice(), "at {commands}");
     }
     Ok(())
@@ -69,8 +69,8 @@ fn references_of_one_collection_come_out_once_each(rt: HostRuntime) -> Result<()
     let (_, out) = heap_answers(rt.alloc(), commands)?;
     let first = "= 1; = 2; = 3; = 4; ok; ok; = 2; = 5; = 0; yes; no; no; yes";
     let other = "= 1; = 2; = 3; = 4; ok; ok; = 2; = 5; = 0; no; yes; yes; no";
-    let first = replies(rt.alloc(), first)?;
-    let other = replies(rt.alloc(), other)?;
+    let first = lines(rt.alloc(), first)?;
+    let other = lines(rt.alloc(), other)?;
     let in_some_order = out.as_slice() == first.as_slice() || out.as_slice() == other.as_slice();
     assert!(rt; in_some_order);
     Ok(())
@@ -97,7 +97,7 @@ fn queues_live_by_their_references(rt: HostRuntime) -> Result<(), Fail> {
     ] {
         let (end, out) = heap_answers(rt.alloc(), commands)?;
         assert_eq!(rt; end, SessionEnd::End, "at {commands}");
-        let expected = replies(rt.alloc(), expected)?;
+        let expected = lines(rt.alloc(), expected)?;
         assert_eq!(rt; out.as_slice(), expected.as_slice(), "at {commands}");
     }
     Ok(())
@@ -132,7 +132,7 @@ fn phantoms_and_cycles(rt: HostRuntime) -> Result<(), Fail> {
     ] {
         let (end, out) = heap_answers(rt.alloc(), commands)?;
         assert_eq!(rt; end, SessionEnd::End, "at {commands}");
-        let expected = replies(rt.alloc(), expected)?;
+        let expected = lines(rt.alloc(), expected)?;
         assert_eq!(rt; out.as_slice(), expected.as_slice(), "at {commands}");
     }
     Ok(())
@@ -171,7 +171,7 @@ fn soft_references_go_by_their_age(rt: HostRuntime) -> Result<(), Fail> {
     ] {
         let (end, out) = aged_answers(rt.alloc(), soft_age, commands)?;
         assert_eq!(rt; end, SessionEnd::End, "at {commands}");
-        let expected = replies(rt.alloc(), expected)?;
+        let expected = lines(rt.alloc(), expected)?;
         assert_eq!(rt; out.as_slice(), expected.as_slice(), "at {commands}");
     }
     Ok(())
@@ -189,7 +189,7 @@ fn a_full_heap_clears_soft_references_of_any_age(rt: HostRuntime) -> Result<(), 
     answers.push_str("= 1; = 0; = 0")?;
     let (end, out) = heap_answers(rt.alloc(), commands.as_str())?;
     assert_eq!(rt; end, SessionEnd::End);
-    let expected = replies(rt.alloc(), answers.as_str())?;
+    let expected = lines(rt.alloc(), answers.as_str())?;
     assert_eq!(rt; out.as_slice(), expected.as_slice());
     Ok(())
 }
@@ -201,7 +201,7 @@ fn what_is_no_reference_and_no_queue_is_refused(rt: HostRuntime) -> Result<(), F
     let answers = "= 1; = 2; ! 5; ! 5; ! 8; ! 3; ! 5; ! 5; ! 5; ! 5; ! 3; ! 8; ! 5; ! 5";
     let (end, out) = heap_answers(rt.alloc(), commands)?;
     assert_eq!(rt; end, SessionEnd::End);
-    let expected = replies(rt.alloc(), answers)?;
+    let expected = lines(rt.alloc(), answers)?;
     assert_eq!(rt; out.as_slice(), expected.as_slice());
     Ok(())
 }
@@ -220,7 +220,7 @@ fn a_poll_needs_a_handle_for_what_it_takes(rt: HostRuntime) -> Result<(), Fail> 
     answers.push_str("! 4; yes; ok; = 250; yes; = 0")?;
     let (end, out) = heap_answers(rt.alloc(), commands.as_str())?;
     assert_eq!(rt; end, SessionEnd::End);
-    let expected = replies(rt.alloc(), answers.as_str())?;
+    let expected = lines(rt.alloc(), answers.as_str())?;
     assert_eq!(rt; out.as_slice(), expected.as_slice());
     Ok(())
 }

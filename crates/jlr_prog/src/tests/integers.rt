@@ -1,5 +1,5 @@
 //! Sessions of integer fields, clearing collections and counts, spelled out. The expected texts come from the description of the machine.
-use crate::tests::{heap_answers, replies};
+use super::{heap_answers, lines};
 use jlr_session::shell::SessionEnd;
 use std::test::Fail;
 
@@ -27,7 +27,7 @@ fn integer_fields_hold_integers(rt: HostRuntime) -> Result<(), Fail> {
     ] {
         let (end, out) = heap_answers(rt.alloc(), commands)?;
         assert_eq!(rt; end, SessionEnd::End, "at {commands}");
-        let expected = replies(rt.alloc(), expected)?;
+        let expected = lines(rt.alloc(), expected)?;
         assert_eq!(rt; out.as_slice(), expected.as_slice(), "at {commands}");
     }
     Ok(())
@@ -41,7 +41,7 @@ fn refusals_of_many_kinds(rt: HostRuntime) -> Result<(), Fail> {
         "! 3; ! 8; = 1; ! 5; ! 6; ! 7; ! 7; = 2; ! 8; ! 5; ok; int -9223372036854775808; ! 15";
     let (end, out) = heap_answers(rt.alloc(), commands)?;
     assert_eq!(rt; end, SessionEnd::End);
-    let expected = replies(rt.alloc(), answers)?;
+    let expected = lines(rt.alloc(), answers)?;
     assert_eq!(rt; out.as_slice(), expected.as_slice());
     Ok(())
 }
@@ -54,7 +54,7 @@ fn gc_soft_clears_soft_references(rt: HostRuntime) -> Result<(), Fail> {
     let answers = "= 1; = 2; ok; = 3; = 4; ok; ok; ok; = 1; = 2; ok; ok; ok; = 0; = 0";
     let (end, out) = heap_answers(rt.alloc(), commands)?;
     assert_eq!(rt; end, SessionEnd::End);
-    let expected = replies(rt.alloc(), answers)?;
+    let expected = lines(rt.alloc(), answers)?;
     assert_eq!(rt; out.as_slice(), expected.as_slice());
     Ok(())
 }
@@ -77,7 +77,7 @@ fn stat_counts_what_a_full_heap_kept(rt: HostRuntime) -> Result<(), Fail> {
     answers.push_str("stat 9 0 0 0 0")?;
     let (end, out) = heap_answers(rt.alloc(), commands.as_str())?;
     assert_eq!(rt; end, SessionEnd::End);
-    let expected = replies(rt.alloc(), answers.as_str())?;
+    let expected = lines(rt.alloc(), answers.as_str())?;
     assert_eq!(rt; out.as_slice(), expected.as_slice());
     Ok(())
 }
