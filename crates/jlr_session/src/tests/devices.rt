@@ -4,8 +4,9 @@ use crate::job::carry_out;
 use crate::serve::serve;
 use crate::shell::SessionEnd;
 use jlr_cleaner::Job;
+use jlr_device::Mode;
+use jlr_device::guarded::guarded_open;
 use jlr_device::script::{Script, ScriptDevice, ScriptResource, Step};
-use jlr_device::{Device, Mode};
 use jlr_event::event::Event;
 use jlr_types::{ActionNo, Fault, Rid, Work};
 use std::alloc::{AllocError, Global};
@@ -57,7 +58,7 @@ fn each_call_may_fail(rt: HostRuntime) -> Result<(), Fail> {
             Step::Fail(Fault::Other),
             Ok(()),
             "= 1\nfault other\nok\n",
-            "Join; Prepare; Opened ok; Out; In other; Close; Finish 1 ok; Leave; ",
+            "Join; Prepare; Opened ok; Out; In other; Close; Finish ok; Leave; ",
         ),
         (
             Ok(()),
@@ -71,7 +72,7 @@ fn each_call_may_fail(rt: HostRuntime) -> Result<(), Fail> {
             Step::Take(1),
             Ok(()),
             "= 1\nwrote 1\nok\n",
-            "Join; Prepare; Opened ok; Out; In wrote; Close; Finish 1 ok; Leave; ",
+            "Join; Prepare; Opened ok; Out; In wrote; Close; Finish ok; Leave; ",
         ),
     ] {
         let mut steps = Vec::new(rt.alloc());
@@ -103,7 +104,7 @@ fn reads_give_what_the_steps_give(rt: HostRuntime) -> Result<(), Fail> {
     );
     assert_eq!(rt;
         asked.as_str(),
-        "Join; Prepare; Opened ok; Out; In denied; Out; In data; Out; In data; Close; Finish 1 ok; Close; Out; Leave; "
+        "Join; Prepare; Opened ok; Out; In denied; Out; In data; Out; In data; Close; Finish ok; Close; Out; Leave; "
     );
     Ok(())
 }
@@ -213,7 +214,7 @@ fn a_job_tells_how_its_resource_ended(rt: HostRuntime) -> Result<(), Fail> {
     let job = Job {
         action: ActionNo::new(9),
         work: Work::Resource(Rid::new(0)),
-        resource: Some(device.open(Mode::Write, "a")?),
+        resource: Some(guarded_open(&mut device, Mode::Write, "a")?),
     };
     let Event::Finish {
         by,

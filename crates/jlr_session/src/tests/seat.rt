@@ -33,18 +33,33 @@ impl Seat {
         }
     }
 
+    fn joined(&self) -> Reply<ScriptResource> {
+        if self.refuses_join {
+            return plain(Answer::Refused(Refusal::NoSession));
+        }
+        plain(Answer::Done)
+    }
+
+    fn prepared(&self) -> Reply<ScriptResource> {
+        if self.refuses_prepare {
+            return plain(Answer::Refused(Refusal::ResourcesFull));
+        }
+        plain(Answer::Prepared(Rid::new(0)))
+    }
+
     fn opened(&mut self, outcome: Result<ScriptResource, Fault>) -> Reply<ScriptResource> {
-        match outcome {
-            Ok(file) if self.refuses_opened => Reply::Answered {
+        let file = match outcome {
+            Ok(file) => file,
+            Err(fault) => return plain(Answer::Faulted(fault)),
+        };
+        if self.refuses_opened {
+            return Reply::Answered {
                 answer: Answer::Refused(Refusal::NotOut),
                 resource: Some(file),
-            },
-            Ok(file) => {
-                self.file = Some(file);
-                plain(Answer::Handle(Handle::new(1)))
-            }
-            Err(fault) => plain(Answer::Faulted(fault)),
+            };
         }
+        self.file = Some(file);
+        plain(Answer::Handle(Handle::new(1)))
     }
 
     fn checked_out(&mut self) -> Reply<ScriptResource> {
@@ -82,15 +97,14 @@ impl Port<ScriptResource> for Seat {
         Mutator::new(3)
     }
 
-    fn ask(&mut self, event: Event<ScriptResource>) -> Reply<ScriptResource> {
+    fn ask(&mut self, event: Event<ScriptResource>) -> Reply<ScriptResource>
+        ensures { Unit {0} }
+    {
         let _ = self.asked.push_str(name_of(&event));
         let _ = self.asked.push_str("; ");
         match event {
-            Event::Join { .. } if self.refuses_join => plain(Answer::Refused(Refusal::NoSession)),
-            Event::Prepare { .. } if self.refuses_prepare => {
-                plain(Answer::Refused(Refusal::ResourcesFull))
-            }
-            Event::Prepare { .. } => plain(Answer::Prepared(Rid::new(0))),
+            Event::Join { .. } => self.joined(),
+            Event::Prepare { .. } => self.prepared(),
             Event::Opened { outcome, .. } => self.opened(outcome),
             Event::CheckOut { .. } => self.checked_out(),
             Event::CheckIn {
@@ -106,10 +120,7 @@ impl Port<ScriptResource> for Seat {
                 action: ActionNo::new(2),
                 work: Work::Note(7),
             }),
-            Event::Finish { outcome, .. } => plain(match outcome {
-                Ok(()) => Answer::Done,
-                Err(fault) => Answer::Faulted(fault),
-            }),
+            Event::Finish { outcome, .. } => plain(ended(outcome)),
             Event::Full { .. } => Reply::Marked(Progress::Done),
             Event::Stat { .. } => plain(Answer::Handed(Handed::Nothing)),
             _ => plain(Answer::Done),
@@ -138,58 +149,54 @@ fn answer_of(outcome: CallOutcome) -> Answer {
     }
 }
 
-/// How an event is written down. The asks of another mutator are strange.
-fn name_of(event: &Event<ScriptResource>) -> &'static str {
-    match event {
-        Event::Join { mutator } if mutator.number() == 3 => "Join",
-        Event::Leave { mutator } if mutator.number() == 3 => "Leave",
-        Event::Prepare { mutator } if mutator.number() == 3 => "Prepare",
-        Event::Opened { mutator, outcome } if mutator.number() == 3 => match outcome {
-            Ok(_) => "Opened ok",
-            Err(fault) => with_fault(*fault, "Opened notfound", "Opened denied", "Opened other"),
-        },
-        Event::CheckOut { mutator, guard } if mutator.number() == 3 && guard.number() == 1 => "Out",
-        Event::CheckIn {
-            mutator,
-            outcome,
-            ..
-        } if mutator.number() == 3 => match outcome {
-            CallOutcome::Data(_) => "In data",
-            CallOutcome::Wrote(_) => "In wrote",
-            CallOutcome::Failed(fault) => {
-                with_fault(*fault, "In notfound", "In denied", "In other")
-            }
-        },
-        Event::Close { mutator, guard } if mutator.number() == 3 && guard.number() == 1 => "Close",
-        Event::Clean { mutator, cleanable } if mutator.number() == 3 && cleanable.number() == 2 => {
-            "Clean"
-        }
-        Event::Finish {
-            by: 3,
-            action,
-            outcome,
-        } => match outcome {
-            Ok(()) if action.number() == 1 => "Finish 1 ok",
-            Ok(()) => "Finish ok",
-            Err(fault) => with_fault(*fault, "Finish notfound", "Finish denied", "Finish other"),
-        },
-        Event::Full { .. } => "Full",
-        Event::Stat { .. } => "Stat",
-        Event::MakeQueue { mutator } if mutator.number() == 3 => "MakeQueue",
-        Event::Names { mutator } if mutator.number() == 3 => "Names",
-        _ => "strange",
+/// What the end of a job is answered.
+fn ended(outcome: Result<(), Fault>) -> Answer {
+    match outcome {
+        Ok(()) => Answer::Done,
+        Err(fault) => Answer::Faulted(fault),
     }
 }
 
-fn with_fault(
-    fault: Fault,
-    not_found: &'static str,
-    denied: &'static str,
-    other: &'static str,
-) -> &'static str {
-    match fault {
-        Fault::NotFound => not_found,
-        Fault::Denied => denied,
-        Fault::Other => other,
+/// How an event is written down.
+fn name_of(event: &Event<ScriptResource>) -> &'static str {
+    match event {
+        Event::Join { .. } => "Join",
+        Event::Leave { .. } => "Leave",
+        Event::Prepare { .. } => "Prepare",
+        Event::Opened { outcome, .. } => opened_name(outcome),
+        Event::CheckOut { .. } => "Out",
+        Event::CheckIn { outcome, .. } => call_name(outcome),
+        Event::Close { .. } => "Close",
+        Event::Clean { .. } => "Clean",
+        Event::Finish { outcome, .. } => finish_name(outcome),
+        Event::Full { .. } => "Full",
+        Event::Stat { .. } => "Stat",
+        Event::MakeQueue { .. } => "MakeQueue",
+        Event::Names { .. } => "Names",
+        _ => "other",
+    }
+}
+
+fn opened_name(outcome: &Result<ScriptResource, Fault>) -> &'static str {
+    match outcome {
+        Ok(_) => "Opened ok",
+        Err(Fault::NotFound) => "Opened notfound",
+        Err(_) => "Opened other",
+    }
+}
+
+fn call_name(outcome: &CallOutcome) -> &'static str {
+    match outcome {
+        CallOutcome::Data(_) => "In data",
+        CallOutcome::Wrote(_) => "In wrote",
+        CallOutcome::Failed(Fault::Denied) => "In denied",
+        CallOutcome::Failed(_) => "In other",
+    }
+}
+
+fn finish_name(outcome: &Result<(), Fault>) -> &'static str {
+    match outcome {
+        Ok(()) => "Finish ok",
+        Err(_) => "Finish other",
     }
 }

@@ -17,7 +17,7 @@ const REPLIES: &[u8] = b"ok\n= 1\n! 15\nwrote 2\nok\nok\n! 12\nok\n";
 
 /// What they ask.
 const ASKED: &str =
-    "Join; MakeQueue; Prepare; Opened ok; Out; In wrote; Close; Finish 1 ok; Close; Out; Leave; ";
+    "Join; MakeQueue; Prepare; Opened ok; Out; In wrote; Close; Finish ok; Close; Out; Leave; ";
 
 /// A device whose calls succeed.
 fn obliging(alloc: Global) -> ScriptDevice {
