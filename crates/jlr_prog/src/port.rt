@@ -66,8 +66,8 @@ impl<R> CorePort<R> {
         ensures clock { IfOk result (λ port. port.clock ≡ (empty_known limits.cells limits.sessions).clock) }
         ensures none_held { IfOk result (λ port. values port.table ≡ []) }
     {
-        let core = Core::new(alloc, limits)?;
         let choice = Choice::new(alloc, limits.cells)?;
+        let core = Core::new(alloc, limits)?;
         Ok(CorePort { core, choice })
     }
 

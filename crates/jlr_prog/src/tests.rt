@@ -13,6 +13,7 @@ use jlr_device::script::ScriptDevice;
 use jlr_session::shell::SessionEnd;
 use jlr_types::Limits;
 use std::alloc::{AllocError, Global};
+use std::process::Abort;
 use std::test::Fail;
 
 /// What a session of the heap with 16 cells answers to these commands, which are parted by `; `. Files and sockets are had without
@@ -55,10 +56,15 @@ where
 }
 
 /// Checks that a session of the heap ends as its input does, and what it answers.
-pub(crate) fn expect(rt: HostRuntime, commands: &str, answers: &str) -> Result<(), Fail> {
-    let (end, out) = heap_answers(rt.alloc(), commands)?;
+pub(crate) fn expect(
+    rt: &impl Abort,
+    alloc: Global,
+    commands: &str,
+    answers: &str,
+) -> Result<(), Fail> {
+    let (end, out) = heap_answers(alloc, commands)?;
     assert_eq!(rt; end, SessionEnd::End, "at {commands}");
-    let expected = lines(rt.alloc(), answers)?;
+    let expected = lines(alloc, answers)?;
     assert_eq!(rt; out.as_slice(), expected.as_slice(), "at {commands}");
     Ok(())
 }

@@ -34,7 +34,7 @@ fn actions_run_once_when_their_object_has_died(rt: HostRuntime) -> Result<(), Fa
             "= 1; ! 5; ! 5; = 2; ! 5; ! 8; ! 3; ! 8",
         ),
     ] {
-        expect(rt, commands, answers)?;
+        expect(&rt, rt.alloc(), commands, answers)?;
     }
     Ok(())
 }
@@ -48,7 +48,7 @@ fn a_remove_gives_what_is_there_and_never_waits(rt: HostRuntime) -> Result<(), F
             "= 1; = 2; = 3; ok; ok; = 2; ! 18; yes",
         ),
     ] {
-        expect(rt, commands, answers)?;
+        expect(&rt, rt.alloc(), commands, answers)?;
     }
     Ok(())
 }

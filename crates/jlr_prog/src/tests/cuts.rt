@@ -8,6 +8,7 @@ use std::io::{self, Read};
 use std::test::Fail;
 
 /// A reader that gives so many bytes at first, and then the rest.
+#[derive(Drop)]
 struct Pieced<'a> {
     first: &'a [u8],
     rest: &'a [u8],

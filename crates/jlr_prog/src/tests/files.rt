@@ -3,7 +3,8 @@ use super::{device_answers, limits, lines};
 use jlr_device::Device;
 use jlr_device::real::RealDevice;
 use jlr_session::shell::SessionEnd;
-use std::fs;
+use std::fs::{self, File};
+use std::io::Read;
 use std::test::Fail;
 
 #[test]
@@ -20,7 +21,8 @@ fn a_file_whose_guard_has_died_is_closed_once(rt: HostRuntime) -> Result<(), Fai
     let expected = lines(rt.alloc(), answers)?;
     assert_eq!(rt; out.as_slice(), expected.as_slice());
     assert_eq!(rt; device.failures(), 1);
-    let bytes = fs::read(&rt, rt.alloc(), path)?;
+    let mut bytes = Vec::new(rt.alloc());
+    File::open(&rt, path)?.read_to_end(&mut bytes)?;
     assert_eq!(rt; bytes.as_slice(), b"\x00\xff".as_slice());
     fs::remove_file(&rt, path)?;
     Ok(())

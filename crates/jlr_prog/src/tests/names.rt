@@ -14,7 +14,7 @@ fn names_hold_objects(rt: HostRuntime) -> Result<(), Fail> {
             "! 9; ! 9; = 1; ok; = 2; ok; ok; = 1; ok; ok; ok; = 0; ! 9",
         ),
     ] {
-        expect(rt, commands, answers)?;
+        expect(&rt, rt.alloc(), commands, answers)?;
     }
     Ok(())
 }
@@ -31,13 +31,14 @@ fn there_are_256_names(rt: HostRuntime) -> Result<(), Fail> {
     }
     commands.push_str("bind one_more 1; bind n7 1; unbind n7; bind one_more 1")?;
     answers.push_str("! 10; ok; ok; ok")?;
-    expect(rt, commands.as_str(), answers.as_str())
+    expect(&rt, rt.alloc(), commands.as_str(), answers.as_str())
 }
 
 #[test]
 fn refusals_of_many_kinds(rt: HostRuntime) -> Result<(), Fail> {
     expect(
-        rt,
+        &rt,
+        rt.alloc(),
         "get 9 0; dup 0; new ri; poll 1; get 1 2; get 1 1; setint 1 0 5; find x; queue; remove 2; weak 0 2; weak 1 1; setint 1 1 -9223372036854775808; int 1 1; setint 1 1 9223372036854775808",
         "! 3; ! 8; = 1; ! 5; ! 6; ! 7; ! 7; ! 9; = 2; ! 18; ! 8; ! 5; ok; int -9223372036854775808; ! 15",
     )

@@ -6,6 +6,7 @@ use jlr_session::shell::SessionEnd;
 use jlr_types::Fault;
 use std::alloc::{AllocError, Global};
 use std::io::{self, ErrorKind, Write};
+use std::process::Abort;
 use std::test::Fail;
 
 /// A device whose first open, its calls and its finish go so. All other calls go well.
@@ -30,14 +31,15 @@ fn device_of(
 
 /// Checks what a session answers over a device.
 fn expect_over(
-    rt: HostRuntime,
+    rt: &impl Abort,
+    alloc: Global,
     mut device: ScriptDevice,
     commands: &str,
     answers: &str,
 ) -> Result<(), Fail> {
-    let (end, out) = device_answers(rt.alloc(), limits(16, 4)?, commands, &mut device)?;
+    let (end, out) = device_answers(alloc, limits(16, 4)?, commands, &mut device)?;
     assert_eq!(rt; end, SessionEnd::End, "at {commands}");
-    let expected = lines(rt.alloc(), answers)?;
+    let expected = lines(alloc, answers)?;
     assert_eq!(rt; out.as_slice(), expected.as_slice(), "at {commands}");
     Ok(())
 }
@@ -46,7 +48,8 @@ fn expect_over(
 fn a_fault_of_an_action_is_recorded_and_others_run(rt: HostRuntime) -> Result<(), Fail> {
     let device = device_of(rt.alloc(), Ok(()), None, Err(Fault::Other))?;
     expect_over(
-        rt,
+        &rt,
+        rt.alloc(),
         device,
         "open w a; cleaner; new -; register 2 3 9; drop 1; gc; faults; drop 3; gc; notes; stat",
         "= 1; = 2; = 3; = 4; ok; ok; list 1:other; ok; ok; list 9; stat 2 0 2 1 1",
@@ -67,7 +70,7 @@ fn a_closed_guard_stays_closed(rt: HostRuntime) -> Result<(), Fail> {
         ),
         ("new -; read 1 1; close 1; read 0 1; write 9 00", "= 1; ! 5; ! 5; ! 8; ! 3"),
     ] {
-        expect(rt, commands, answers)?;
+        expect(&rt, rt.alloc(), commands, answers)?;
     }
     Ok(())
 }
@@ -114,7 +117,8 @@ fn each_call_may_fail(rt: HostRuntime) -> Result<(), Fail> {
     ] {
         let device = device_of(rt.alloc(), opened, step, finished)?;
         expect_over(
-            rt,
+            &rt,
+            rt.alloc(),
             device,
             "open w a; write 1 0102; close 1; faults; stat",
             answers,
@@ -137,7 +141,8 @@ fn a_read_that_failed_is_followed_by_others(rt: HostRuntime) -> Result<(), Fail>
         finished: Ok(()),
     })?;
     expect_over(
-        rt,
+        &rt,
+        rt.alloc(),
         ScriptDevice::new(scripts, 0),
         "open r a; read 1 4; read 1 4; read 1 4; close 1; close 1; read 1 4",
         "= 1; fault other; data 0102; end; ok; ok; ! 12",
@@ -147,7 +152,8 @@ fn a_read_that_failed_is_followed_by_others(rt: HostRuntime) -> Result<(), Fail>
 #[test]
 fn a_device_whose_count_is_full_is_not_called(rt: HostRuntime) -> Result<(), Fail> {
     expect_over(
-        rt,
+        &rt,
+        rt.alloc(),
         ScriptDevice::new(Vec::new(rt.alloc()), u64::MAX),
         "open r a; connect b; stat",
         "fault other; fault other; stat 4 0 0 0 0",
@@ -155,6 +161,7 @@ fn a_device_whose_count_is_full_is_not_called(rt: HostRuntime) -> Result<(), Fai
 }
 
 /// A writer that takes two lines, and fails at the third.
+#[derive(Drop)]
 struct TwoLines {
     lines: Vec<u8>,
     count: usize,
