@@ -1,0 +1,5 @@
+pub mod Turning
+pub mod HandingOver
+pub mod TakingUp
+pub mod Following
+pub mod Histories
