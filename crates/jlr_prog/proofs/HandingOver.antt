@@ -163,6 +163,10 @@ nothing_worked e = cc e
 refusal_worked : {P : Type 0} → turn.Refused ≡ turn.Worked → P
 refusal_worked e = cc e
 
+-- a turn that worked
+pub worked : {R : Type 0} (works : Kept R → Kept R → Type 0) (e : Event R) (old new : Kept R) (t : Turn) → t ≡ turn.Worked → IsTurn Steps works e t old new → works old new
+worked works e old new t is h = subst (λ t. IsTurn Steps works e t old new) is h
+
 -- an ask after which there is nothing to do, whatever a turn would be
 pub no_turn : {R : Type 0} (works : Kept R → Kept R → Type 0) (old new : Kept R) (e : Event R) (reply : Reply R) (answer : Answer) (t : Turn)
     → answer_in reply ≡ Some answer → t ≡ turn_by answer → Steps old e reply new → (answer ≡ Handed Nothing) ⊎ ((by : Refusal) × (answer ≡ Refused by))

@@ -20,7 +20,7 @@ use Rattle.jlr_machine.specs.declared.entry.Chosen.{Chosen}
 use Rattle.jlr_machine.specs.declared.entry.Collected.{Collected}
 use Rattle.jlr_machine.specs.Objects.{some_and, is_lined, is_spent}
 use Rattle.jlr_machine.specs.Lookups.{cleanable_at, rid_of, job_of, on}
-use Rattle.jlr_machine.specs.Calls.{from_lined, line_answer, line_taken, take_up_answer, taken_up, with_work_state, without_work_resource, without_work, finished, free_again, outcome_answer, reply, after}
+use Rattle.jlr_machine.specs.Calls.{from_lined, line_answer, line_taken, take_up_answer, taken_up, with_work_state, without_work_resource, without_work, finished, free_again, outcome_answer}
 use Rattle.jlr_machine.specs.Run.{IsLegal, MayCollect, Answers, with_collection, apply}
 use Rattle.jlr_machine.specs.Run.IsLegal.{carried_out, refused, heap_full, out_of_memory}
 use Rattle.jlr_laws.proofs.Frames.{some_same}
@@ -67,13 +67,13 @@ lined_is_not_spent : (state : CleanState) → is_lined state ≡ true → is_spe
 lined_is_not_spent Lined e = refl
 lined_is_not_spent Armed e = refl
 lined_is_not_spent PendingClean e = refl
-lined_is_not_spent Spent e = absurd (both_ways false refl (sym e))
+lined_is_not_spent Spent e = absurd (both_ways false refl e)
 
 lined_job : (c : CleanableOf) → is_lined c.state ≡ true → take_up_answer c ≡ JobAnswer c.action c.work
 lined_job c e = rw (lined_is_not_spent c.state e) refl
 
 first_comes : (m : Machine) (s : ℕ) (rest : List ℕ) (o : Option CleanableOf) → cleanable_at m s ≡ o → some_and (λ c. is_lined c.state) o ≡ true → LineComes m (s ∷ rest) (s ∷ rest)
-first_comes m s rest None e h answer is = absurd (both_ways false refl (sym h))
+first_comes m s rest None e h answer is = absurd (both_ways false refl h)
 first_comes m s rest (Some c) e h answer is =
     let is_job : Some (take_up_answer c) ≡ Some answer = subst (λ o. Rattle.std.specs.Prelude.option_map take_up_answer o ≡ Some answer) e is in
     inl ((c.action, c.work, sym (some_same _ answer is_job) ∙ lined_job c h), omega (arith, ap length (taken_line m s rest (Some c) e)))
@@ -173,8 +173,11 @@ job_in : {R : Type 0} (reply : Reply R) (answer : Answer) → answer_in reply �
 job_in (Answered said resource) answer e = (resource, ap (λ a. job_with a resource) (some_same said answer e))
 job_in (Marked progress) answer e = cc e
 
-no_job : {R P : Type 0} (job : Job R) (answer : Answer) → Ok job ≡ Err {E = Answer} answer → P
+no_job : {R P : Type 0} (job : Job R) (answer : Answer) → ◌≡◌ {A = Result (Job R) Answer} (Ok job) (Err answer) → P
 no_job job answer e = cc e
+
+err_same : {R : Type 0} (a b : Answer) → ◌≡◌ {A = Result (Job R) Answer} (Err a) (Err b) → a ≡ b
+err_same a b e = cc e
 
 pub worked_turn : {R : Type 0} (resource : Handling R) (old between new : Kept R) (reply told : Reply R) (job : Job R) (finish : Event R)
     → job_by reply ≡ Ok job → Stands old → Steps old event.TakeUp reply between → TellsFinished resource 255 job finish → Steps between finish told new
@@ -199,9 +202,9 @@ idle_turn resource old new reply answer t none which stands s =
     elim (stepped old new x.0 x.2) [
       | inl w ↦ absurd (no_job _ answer (ap (λ a. job_with a d.0) (sym w.0.2) ∙ sym d.1 ∙ none))
       | inr (inl n) ↦
-          let same : x.0 ≡ answer = cc (n, d.1, none) in
+          let same : x.0 ≡ answer = n ∙ err_same (Handed Nothing) answer (sym (ap (λ a. job_with a d.0) n) ∙ sym d.1 ∙ none) in
           no_turn (Works Steps resource) old new event.TakeUp reply answer t (x.1 ∙ ap Some same) which s (inl (sym same ∙ n))
       | inr (inr r) ↦
-          let same : x.0 ≡ answer = cc (r.1, d.1, none) in
+          let same : x.0 ≡ answer = r.1 ∙ err_same (Refused r.0) answer (sym (ap (λ a. job_with a d.0) r.1) ∙ sym d.1 ∙ none) in
           no_turn (Works Steps resource) old new event.TakeUp reply answer t (x.1 ∙ ap Some same) which s (inr (r.0, sym same ∙ r.1))
     ]

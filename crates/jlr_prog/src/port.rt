@@ -98,6 +98,7 @@ impl<R: Resource + Drop> CorePort<R> {
         ensures turn { IsTurn Steps (HandsOver Steps) HandOver result self.old self.new }
         ensures shorter { result ≡ Turn.Worked → length self.new.machine.pending < length self.old.machine.pending }
     {
+        let _core = &self.core;
         match self.step(Event::HandOver) {
             Reply::Answered { answer, .. } => turn_after(&answer),
             Reply::Marked(_) => Turn::Refused,
@@ -116,6 +117,7 @@ impl<R: Resource + Drop> CorePort<R> {
         ensures turn { IsTurn Steps (Works Steps (record { count = R.count; reads = R.may_read; writes = R.may_write; finishes = R.may_finish })) Event.TakeUp result self.old self.new }
         ensures shorter { result ≡ Turn.Worked → length self.new.machine.line < length self.old.machine.line }
     {
+        let _core = &self.core;
         match job_of(self.step(Event::TakeUp)) {
             Ok(job) => {
                 self.step(carry_out(CLEANER, job));
@@ -133,7 +135,9 @@ impl<R: Resource + Drop> Port<R> for CorePort<R> {
         Mutator::new(0)
     }
 
-    fn ask(&mut self, event: Event<R>) -> Reply<R> {
+    fn ask(&mut self, event: Event<R>) -> Reply<R>
+        ensures { Steps self.old event result self.new }
+    {
         self.step(event)
     }
 
