@@ -45,7 +45,7 @@ impl<R> Model for CorePort<R> {
 }
 
 /// What a turn of the handler or of the cleaner came to.
-#[derive(Clone, Copy, PartialEq, Eq, Debug)]
+#[derive(Clone, Copy)]
 enum Turn {
     /// There may be more to do.
     Worked,
@@ -109,7 +109,12 @@ impl<R: Resource + Drop> CorePort<R> {
     fn clean_all(&mut self)
         ensures { Cleans Steps (record { count = R.count; reads = R.may_read; writes = R.may_write; finishes = R.may_finish }) self.old self.new }
     {
-        while self.clean() == Turn::Worked {}
+        loop {
+            match self.clean() {
+                Turn::Worked => {}
+                Turn::FoundNothing | Turn::Refused => return,
+            }
+        }
     }
 
     /// One job, if one is Lined.
