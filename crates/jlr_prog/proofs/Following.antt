@@ -1,5 +1,5 @@
 -- What a session does over one port it does over another as well, along a relation between the two.
-use Rattle.std.proofs.Common.{◌≡◌, ℕ, List, [], Option, Some, None, Result, Ok, Err, inl, inr, refl, sym, ◌∙◌, ap, subst}
+use Rattle.std.proofs.Common.{◌≡◌, ℕ, List, Option, Some, None, Result, Ok, Err, inl, inr, refl, sym, ◌∙◌, ap, subst}
 use Rattle.std.specs.Prelude.{MatchResult, ⊤}
 use Rattle.jlr_types.specs.declared.Refusal.{Refusal}
 use Rattle.jlr_machine.specs.declared.ask.Answer.{Answer}
@@ -13,7 +13,6 @@ use Rattle.jlr_session.specs.Calls.{Opening, Handling}
 use Rattle.jlr_session.specs.Asks.{Asking, AsksOnce, AsksTwice, CarriesOut, by_asks, event_of, said_by, prepared_by, out_by, job_by, TellsOpened, TellsConnected, TellsRead, TellsWritten, TellsFinished}
 use Rattle.jlr_session.specs.Sessions.{Ended}
 use Rattle.jlr_session.specs.Serving.{IsTurnedAway, Follows, Serves}
-use Rattle.jlr_session.specs.Turns.{reply_line}
 use Rattle.jlr_session.specs.declared.shell.SessionEnd.{SessionEnd}
 use Rattle.jlr_session.proofs.Following.{IsFollowed, ended_along}
 use Rattle.jlr_prog.proofs.Turning.{IsAskAlong, IsTurnAlong}

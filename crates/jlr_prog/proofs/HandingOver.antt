@@ -30,7 +30,7 @@ use Rattle.jlr_event.specs.declared.event.Reply.TheVariants.{Answered, Marked}
 use Rattle.jlr_event.specs.Events.{ask_of, answer_in}
 use Rattle.jlr_core.specs.State.{entry_of}
 use Rattle.jlr_core.specs.Cores.{Kept, StandsIn}
-use Rattle.jlr_prog.specs.Settling.{TookOne, FoundNothing, WasRefused, HandsOver}
+use Rattle.jlr_prog.specs.Settling.{HandsOver}
 use Rattle.jlr_prog.specs.Ports.{Stands, Steps}
 use Rattle.jlr_prog.specs.OneTurn.{IsTurn, turn_by}
 use Rattle.jlr_prog.specs.declared.port.Turn.{Turn}

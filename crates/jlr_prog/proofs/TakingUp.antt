@@ -1,7 +1,6 @@
 -- A take-up of the cleaner's that is legal gave a job, and the line is then shorter, or it was the last one; and the end of a job leaves the line.
-use Rattle.std.proofs.Common.{◌≡◌, ◌≢◌, ℕ, ◌<◌, ◌⊎◌, inl, inr, Bool, true, false, List, [], ◌∷◌, length, Option, Some, None, Result, Ok, Err, refl, sym, ◌∙◌, ap, subst, arith}
+use Rattle.std.proofs.Common.{◌≡◌, ℕ, ◌<◌, ◌⊎◌, inl, inr, true, false, List, [], ◌∷◌, length, Option, Some, None, Result, Ok, Err, refl, sym, ◌∙◌, ap, subst, arith}
 use Rattle.std.proofs.lemmas.Bool.{both_ways}
-use Rattle.jlr_types.specs.declared.Fault.{Fault}
 use Rattle.jlr_types.specs.declared.Refusal.{Refusal}
 use Rattle.jlr_types.specs.declared.Refusal.TheVariants.{NoMemory, HeapFull}
 use Rattle.jlr_types.specs.declared.Work.{Work}
@@ -15,12 +14,12 @@ use Rattle.jlr_machine.specs.declared.ask.Outcome.TheVariants.{Ok as OutcomeOk, 
 use Rattle.jlr_machine.specs.declared.ask.Handed.TheVariants.{Nothing}
 use Rattle.jlr_machine.specs.declared.ask.Ask.TheVariants.{TakeUp, Finish}
 use Rattle.jlr_machine.specs.declared.ask.Answer.{Answer}
-use Rattle.jlr_machine.specs.declared.ask.Answer.TheVariants.{Done, Faulted, Handed, Refused, Job as JobAnswer}
+use Rattle.jlr_machine.specs.declared.ask.Answer.TheVariants.{Done, Handed, Refused, Job as JobAnswer}
 use Rattle.jlr_machine.specs.declared.entry.Chosen.{Chosen}
 use Rattle.jlr_machine.specs.declared.entry.Collected.{Collected}
 use Rattle.jlr_machine.specs.Objects.{some_and, is_lined, is_spent}
 use Rattle.jlr_machine.specs.Lookups.{cleanable_at, rid_of, job_of, on}
-use Rattle.jlr_machine.specs.Calls.{from_lined, line_answer, line_taken, take_up_answer, taken_up, with_work_state, without_work_resource, without_work, finished, free_again, outcome_answer}
+use Rattle.jlr_machine.specs.Calls.{from_lined, line_answer, line_taken, take_up_answer, taken_up, with_work_state, without_work_resource, finished, free_again, outcome_answer}
 use Rattle.jlr_machine.specs.Run.{IsLegal, MayCollect, Answers, with_collection, apply}
 use Rattle.jlr_machine.specs.Run.IsLegal.{carried_out, refused, heap_full, out_of_memory}
 use Rattle.jlr_laws.proofs.Frames.{some_same}
@@ -185,13 +184,14 @@ pub worked_turn : {R : Type 0} (resource : Handling R) (old between new : Kept R
 worked_turn resource old between new reply told job finish took stands s tells t =
     let x = entered old between event.TakeUp reply TakeUp refl stands s in
     let same = told_line resource between new job finish told tells (still_stands old between event.TakeUp reply s stands) t in
-    let d = job_in reply x.0 x.1 in
-    ((reply, job, between, finish, told, s, took, tells, t),
-    λ _. elim (stepped old between x.0 x.2) [
-      | inl w ↦ omega (arith, w.1, ap length same)
-      | inr (inl n) ↦ absurd (no_job job (Handed Nothing) (sym took ∙ d.1 ∙ ap (λ a. job_with a d.0) n))
-      | inr (inr r) ↦ absurd (no_job job (Refused r.0) (sym took ∙ d.1 ∙ ap (λ a. job_with a d.0) r.1))
-    ])
+    let d = job_in reply x.0 x.1 in (
+      (reply, job, between, finish, told, s, took, tells, t),
+      λ _. elim (stepped old between x.0 x.2) [
+        | inl w ↦ omega (arith, w.1, ap length same)
+        | inr (inl n) ↦ absurd (no_job job (Handed Nothing) (sym took ∙ d.1 ∙ ap (λ a. job_with a d.0) n))
+        | inr (inr r) ↦ absurd (no_job job (Refused r.0) (sym took ∙ d.1 ∙ ap (λ a. job_with a d.0) r.1))
+      ],
+    )
 
 pub idle_turn : {R : Type 0} (resource : Handling R) (old new : Kept R) (reply : Reply R) (answer : Answer) (t : Turn)
     → job_by reply ≡ Err answer → t ≡ turn_by answer → Stands old → Steps old event.TakeUp reply new

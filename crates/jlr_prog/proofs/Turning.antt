@@ -1,5 +1,5 @@
 -- Turns one after the other, and what follows each reply, in one way and in another along a relation between the two.
-use Rattle.std.proofs.Common.{◌≡◌, List, [], ◌∷◌, ◌++◌, inl, inr, refl, sym, subst}
+use Rattle.std.proofs.Common.{List, [], ◌∷◌, ◌++◌, inl, inr, refl, sym, subst}
 use Rattle.jlr_event.specs.declared.event.Event.{Event}
 use Rattle.jlr_event.specs.declared.event.Event.TheVariants.{HandOver, TakeUp}
 use Rattle.jlr_event.specs.declared.event.Reply.{Reply}

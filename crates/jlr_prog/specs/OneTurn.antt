@@ -1,5 +1,5 @@
 -- Single turns of a settling, which no public clause names.
-use Rattle.std.specs.Prelude.{◌≡◌, Bool, true, false}
+use Rattle.std.specs.Prelude.{Bool, true, false}
 use Rattle.jlr_machine.specs.declared.ask.Handed.TheVariants.{Nothing}
 use Rattle.jlr_machine.specs.declared.ask.Answer.{Answer}
 use Rattle.jlr_machine.specs.declared.ask.Answer.TheVariants.{Handed, Refused}

@@ -82,14 +82,7 @@ pub fn limits(alloc: Global, words: &[String]) -> Result<Limits, ProgramFault>
 fn limits_with(cells: u32, resources: u32, soft_age: u32) -> Result<Limits, LimitFault>
     ensures { IfOk result (λ limits. (limits.cells ≡ cells) × (limits.sessions ≡ 1) × (limits.resources ≡ resources) × (limits.soft_age ≡ soft_age) × (limits.trace ≡ 10000) × (limits.budget ≡ 64)) }
 {
-    Limits::checked(
-        cells,
-        1,
-        resources,
-        soft_age,
-        DEFAULT_TRACE,
-        DEFAULT_BUDGET,
-    )
+    Limits::checked(cells, 1, resources, soft_age, DEFAULT_TRACE, DEFAULT_BUDGET)
 }
 
 /// The limits of a heap for which the command line has no option.

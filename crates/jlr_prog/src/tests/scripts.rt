@@ -68,7 +68,10 @@ fn a_closed_guard_stays_closed(rt: HostRuntime) -> Result<(), Fail> {
             "open w f; close 1; open w g; read 1 5",
             "= 1; ok; = 2; ! 12",
         ),
-        ("new -; read 1 1; close 1; read 0 1; write 9 00", "= 1; ! 5; ! 5; ! 8; ! 3"),
+        (
+            "new -; read 1 1; close 1; read 0 1; write 9 00",
+            "= 1; ! 5; ! 5; ! 8; ! 3",
+        ),
     ] {
         expect(&rt, rt.alloc(), commands, answers)?;
     }

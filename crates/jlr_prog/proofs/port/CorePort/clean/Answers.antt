@@ -1,4 +1,4 @@
-use Rattle.std.proofs.Common.{refl, subst, sym, ◌∙◌}
+use Rattle.std.proofs.Common.{subst, sym, ◌∙◌}
 use Rattle.jlr_prog.specs.Ports.{Stands}
 use Rattle.jlr_prog.proofs.TakingUp.{worked_turn, idle_turn}
 use Rattle.jlr_prog.proofs.port.CorePort.clean.Goals as goal
