@@ -1,5 +1,5 @@
-pub mod Carrying
-pub mod HandingOn
+pub mod Turning
 pub mod HandingOver
-pub mod Staying
+pub mod TakingUp
+pub mod Following
 pub mod Histories

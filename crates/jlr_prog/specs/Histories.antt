@@ -1,37 +1,39 @@
--- A session as a history of the machine: what was asked in its name, and what its lines were answered.
-use Rattle.std.specs.Prelude.{◌≡◌, ℕ, List, [], ◌∷◌, ◌++◌, Option, Some}
+-- A session as a history of the machine: what was asked, and what it was answered.
+use Rattle.std.specs.Prelude.{◌≡◌, ℕ, List, [], ◌∷◌, ◌++◌, Option, Some, None}
 use Rattle.jlr_machine.specs.declared.machine.Machine.{Machine}
 use Rattle.jlr_machine.specs.declared.ask.Ask.{Ask}
-use Rattle.jlr_machine.specs.declared.ask.Ask.TheVariants.{Join, Leave, HandOver}
 use Rattle.jlr_machine.specs.declared.ask.Answer.{Answer}
-use Rattle.jlr_machine.specs.declared.ask.Answer.TheVariants.{Done}
+use Rattle.jlr_machine.specs.declared.entry.Chosen.{Chosen}
 use Rattle.jlr_machine.specs.declared.entry.Entry.{Entry}
 use Rattle.jlr_machine.specs.Run.{Run}
-use Rattle.jlr_session.specs.Carrying.{Carrying}
-use Rattle.jlr_prog.specs.Settling.{Settles}
-use Rattle.jlr_prog.specs.Heaps.{ask_for}
-use Rattle.jlr_session.specs.Sessions.{Ended}
+use Rattle.jlr_event.specs.declared.event.Event.{Event}
+use Rattle.jlr_event.specs.declared.event.Reply.{Reply}
+use Rattle.jlr_event.specs.Events.{ask_of, answer_in}
+use Rattle.jlr_core.specs.State.{entry_of}
+use Rattle.jlr_session.specs.Calls.{Opening, Handling}
+use Rattle.jlr_session.specs.Asks.{Asking}
+use Rattle.jlr_session.specs.Serving.{Serves}
 use Rattle.jlr_session.specs.declared.shell.SessionEnd.{SessionEnd}
+use Rattle.jlr_prog.specs.Settling.{Settles}
 
--- one entry more: this ask with its answer
-abbrev pub Tells : Option Ask → List Entry → Answer → List Entry → Type 0
-Tells ask old answer new = (e : Entry) × (ask ≡ Some e.ask) × (e.answer ≡ answer) × (new ≡ old ++ e ∷ [])
+-- an ask and its answer are one entry more, with some choice; a piece of marking is none
+abbrev pub AddsEntry : Option Ask → Option Answer → List Entry → List Entry → Type 0
+AddsEntry (Some ask) (Some answer) old new = (chosen : Chosen) × (new ≡ old ++ entry_of ask answer chosen ∷ [])
+AddsEntry (Some ask) None old new = ⊥
+AddsEntry None (Some answer) old new = ⊥
+AddsEntry None None old new = new ≡ old
 
--- a command is one entry more, and a settling one for each step of the handler
-abbrev pub by_entries : Carrying (List Entry)
-by_entries = record { command = λ old command answer new. Tells (ask_for command) old answer new; settling = Settles (Tells (Some HandOver)) }
+abbrev pub Tells : {R : Type 0} → List Entry → Event R → Reply R → List Entry → Type 0
+Tells old event reply new = AddsEntry (ask_of event) (answer_in reply) old new
 
--- Mutator 0 joins; the lines of the bytes are answered one after the other, each command by the answer of its entry, and after
--- each reply come the entries of its settling; then mutator 0 leaves. All these entries, in order, are a run from m. at_end
--- says that the input is at its end
-pub record IsSession (m : Machine) (at_end : Type 0) (end : SessionEnd) (bytes out : List ℕ) : Type 0 where
-  pub join : Entry
+-- a heap of which just the history is known: mutator 0 asks, and a settling adds the entries of the handler and the cleaner
+abbrev pub by_entries : {R : Type 0} → Handling R → Asking (List Entry) R
+by_entries resource = record { mutator = λ _. 0; asks = Tells; settling = Settles Tells resource }
+
+-- The bytes that came in, those that went out, and the calls of the device belong to this history, which begins with the join of mutator 0;
+-- and it is a run from m. at_end says that the input is at its end
+pub record IsSession {D R : Type 0} (device : Opening D R) (resource : Handling R) (m : Machine) (at_end : Type 0) (end : SessionEnd) (bytes : List ℕ) (d : D) (out : List ℕ) (d' : D) : Type 0 where
   pub entries : List Entry
-  pub leave : Entry
   pub last : Machine
-  pub joins : join.ask ≡ Join 0
-  pub joined : join.answer ≡ Done
-  pub tells : Ended by_entries at_end end bytes (join ∷ []) out entries
-  pub leaves : leave.ask ≡ Leave 0
-  pub left : leave.answer ≡ Done
-  pub run : Run m (entries ++ leave ∷ []) last
+  pub serves : Serves (by_entries resource) device resource at_end end bytes [] d out entries d'
+  pub run : Run m entries last

@@ -1,4 +1,6 @@
 -- Reading order.
 pub mod Settling
-pub mod Heaps
+pub mod Ports
 pub mod Histories
+-- What the parts of a settling do, which no public clause names.
+pub mod OneTurn

@@ -1,11 +1,23 @@
 //! Sessions of the heap, spelled out. The expected texts come from the description of the protocol.
-use crate::first::first_run;
+mod cleaners;
+mod cuts;
+mod files;
+mod integers;
+mod names;
+mod references;
+mod scripts;
+
+use crate::session::session;
+use jlr_device::Device;
+use jlr_device::script::ScriptDevice;
 use jlr_session::shell::SessionEnd;
 use jlr_types::Limits;
 use std::alloc::{AllocError, Global};
+use std::process::Abort;
 use std::test::Fail;
 
-/// What a session of the heap with 16 cells answers to these commands, which are parted by `; `.
+/// What a session of the heap with 16 cells answers to these commands, which are parted by `; `. Files and sockets are had without
+/// a fault.
 pub(crate) fn heap_answers(alloc: Global, commands: &str) -> Result<(SessionEnd, Vec<u8>), Fail> {
     aged_answers(alloc, 4, commands)
 }
@@ -16,25 +28,52 @@ pub(crate) fn aged_answers(
     soft_age: u32,
     commands: &str,
 ) -> Result<(SessionEnd, Vec<u8>), Fail> {
-    let mut bytes = Vec::new(alloc);
-    for command in commands.split_terminator("; ") {
-        bytes.extend_from_slice(command.as_bytes())?;
-        bytes.extend_from_slice(b"\n")?;
-    }
-    let limits = Limits::checked(16, 1, 16, soft_age, 10_000, 64)
-        .ok()
-        .ok_or("limits")?;
+    let mut device = ScriptDevice::new(Vec::new(alloc), 0);
+    device_answers(alloc, limits(16, soft_age)?, commands, &mut device)
+}
+
+/// The limits of a session with 16 cells, and these.
+pub(crate) fn limits(resources: u32, soft_age: u32) -> Result<Limits, Fail> {
+    let limits = Limits::checked(16, 1, resources, soft_age, 10_000, 64);
+    Ok(limits.ok().ok_or("limits")?)
+}
+
+/// What a session of such a heap answers over a device.
+pub(crate) fn device_answers<D: Device>(
+    alloc: Global,
+    limits: Limits,
+    commands: &str,
+    device: &mut D,
+) -> Result<(SessionEnd, Vec<u8>), Fail>
+where
+    D::Res: Drop,
+{
+    let bytes = lines(alloc, commands)?;
     let mut reader = bytes.as_slice();
     let mut out = Vec::new(alloc);
-    let end = first_run(alloc, limits, &mut reader, &mut out)?;
+    let end = session(alloc, limits, &mut reader, &mut out, device)?;
     Ok((end, out))
 }
 
-/// The reply lines that are parted by `; `.
-pub(crate) fn replies(alloc: Global, answers: &str) -> Result<Vec<u8>, AllocError> {
+/// Checks that a session of the heap ends as its input does, and what it answers.
+pub(crate) fn expect(
+    rt: &impl Abort,
+    alloc: Global,
+    commands: &str,
+    answers: &str,
+) -> Result<(), Fail> {
+    let (end, out) = heap_answers(alloc, commands)?;
+    assert_eq!(rt; end, SessionEnd::End, "at {commands}");
+    let expected = lines(alloc, answers)?;
+    assert_eq!(rt; out.as_slice(), expected.as_slice(), "at {commands}");
+    Ok(())
+}
+
+/// The lines that are parted by `; `.
+pub(crate) fn lines(alloc: Global, text: &str) -> Result<Vec<u8>, AllocError> {
     let mut bytes = Vec::new(alloc);
-    for answer in answers.split_terminator("; ") {
-        bytes.extend_from_slice(answer.as_bytes())?;
+    for line in text.split_terminator("; ") {
+        bytes.extend_from_slice(line.as_bytes())?;
         bytes.extend_from_slice(b"\n")?;
     }
     Ok(bytes)
@@ -63,7 +102,7 @@ fn the_heap_answers_short_sessions(rt: HostRuntime) -> Result<(), Fail> {
     ] {
         let (end, out) = heap_answers(rt.alloc(), commands)?;
         assert_eq!(rt; end, SessionEnd::End, "at {commands}");
-        let expected = replies(rt.alloc(), answers)?;
+        let expected = lines(rt.alloc(), answers)?;
         assert_eq!(rt; out.as_slice(), expected.as_slice(), "at {commands}");
     }
     Ok(())
@@ -81,7 +120,7 @@ fn a_heap_of_sixteen_cells_is_full_and_has_room_again(rt: HostRuntime) -> Result
     answers.push_str("! 2; ok; = 1; ok")?;
     let (end, out) = heap_answers(rt.alloc(), commands.as_str())?;
     assert_eq!(rt; end, SessionEnd::Bye);
-    let expected = replies(rt.alloc(), answers.as_str())?;
+    let expected = lines(rt.alloc(), answers.as_str())?;
     assert_eq!(rt; out.as_slice(), expected.as_slice());
     Ok(())
 }
@@ -100,7 +139,7 @@ fn two_hundred_and_fifty_handles_are_in_use(rt: HostRuntime) -> Result<(), Fail>
     answers.push_str("! 4; ! 4; ! 4; yes")?;
     let (end, out) = heap_answers(rt.alloc(), commands.as_str())?;
     assert_eq!(rt; end, SessionEnd::End);
-    let expected = replies(rt.alloc(), answers.as_str())?;
+    let expected = lines(rt.alloc(), answers.as_str())?;
     assert_eq!(rt; out.as_slice(), expected.as_slice());
     Ok(())
 }

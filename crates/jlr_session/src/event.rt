@@ -8,7 +8,6 @@ use jlr_event::event::Event;
 use jlr_machine::text::Name;
 use jlr_types::{Handle, Mutator, RefKind};
 use jlr_wire::command::Command;
-use jlr_wire::text::Name as NameInLine;
 
 /// What a command that asks once asks in the name of a mutator. There is none for one that may ask twice, and for `bye`.
 pub(crate) fn event_for<R>(mutator: Mutator, command: &Command) -> Option<Event<R>>
@@ -170,8 +169,8 @@ fn name_event<R>(mutator: Mutator, command: &Command) -> Option<Event<R>>
     })
 }
 
-/// A name of a line as the machine has it.
-fn name_of(name: &NameInLine) -> Name
+/// A name once more.
+fn name_of(name: &Name) -> Name
     ensures { result ≡ name.now }
 {
     Name::from_slice(name.as_slice()).unwrap()

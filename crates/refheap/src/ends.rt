@@ -2,6 +2,7 @@
 //! error, and what it answered before. The texts are those of the description of the protocol.
 use crate::report::status_after;
 use crate::session::session;
+use jlr_device::script::ScriptDevice;
 use jlr_types::Limits;
 use std::alloc::Global;
 use std::cell::RefCell;
@@ -47,7 +48,8 @@ fn ended<R: Read, W: Write>(
         .ok()
         .ok_or("limits")?;
     let text = RefCell::new(String::new(alloc));
-    let outcome = session(alloc, limits, reader, writer);
+    let mut device = ScriptDevice::new(Vec::new(alloc), 0);
+    let outcome = session(alloc, limits, reader, writer, &mut device);
     let status = status_after(Kept { alloc, text: &text }, &outcome);
     Ok((status, text.into_inner()))
 }

@@ -8,7 +8,8 @@ ghost use Rattle.jlr_session.specs.declared.shell.SessionEnd.{SessionEnd};
 ghost use Rattle.refheap.specs.Status.{IsOutOfMemory, IsOutcome, fault_after};
 
 use crate::fault::ProgramFault;
-use jlr_prog::first::first_run;
+use jlr_device::Device;
+use jlr_prog::session::session as session_of_heap;
 use jlr_session::shell::SessionEnd;
 use jlr_types::Limits;
 use std::alloc::Global;
@@ -17,21 +18,27 @@ use std::io::{Read, Write};
 /// A session over the heap of these limits, and what its end is to the program.
 ///
 /// # Errors
-/// The fault of the session's end, or `NoMemory` where there was no room for the heap. Then nothing was read or written.
-pub fn session<R: Read, W: Write>(
+/// The fault of the session's end, or `NoMemory` where there was no room for the heap. Then nothing was read or written, and the
+/// device was not called.
+pub fn session<R: Read, W: Write, D: Device>(
     alloc: Global,
     limits: Limits,
     reader: &mut R,
     writer: &mut W,
+    device: &mut D,
 ) -> Result<(), ProgramFault>
-    ensures { (IsOutOfMemory result × (reader.new ≡ reader.old) × (writer.new ≡ writer.old))
+where
+    D::Res: Drop,
+    ensures { (IsOutOfMemory result × (reader.new ≡ reader.old) × (writer.new ≡ writer.old) × (device.new ≡ device.old))
         ⊎ ((end : SessionEnd) × (bytes : List ℕ) × (out : List ℕ) × IsOutcome end result
         × Consumes (R.remaining reader.old) (R.remaining reader.new) bytes
         × Appends (W.contents writer.old) (W.contents writer.new) out
         × (length bytes ≤ most_bytes)
-        × IsSession (empty limits.cells limits.sessions limits.resources) (IsAtEnd (R.remaining reader.new)) end bytes out) }
+        × IsSession (record { count = D.count; opens = D.may_open; connects = D.may_connect; failures = D.Res.count })
+        (record { count = D.Res.count; reads = D.Res.may_read; writes = D.Res.may_write; finishes = D.Res.may_finish })
+        (empty limits.cells limits.sessions limits.resources) (IsAtEnd (R.remaining reader.new)) end bytes device.old out device.new) }
 {
-    match first_run(alloc, limits, reader, writer) {
+    match session_of_heap(alloc, limits, reader, writer, device) {
         Ok(end) => outcome_of(end),
         Err(fault) => Err(ProgramFault::NoMemory(fault)),
     }
