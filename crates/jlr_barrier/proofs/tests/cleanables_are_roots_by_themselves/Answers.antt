@@ -1,4 +1,4 @@
-use Rattle.std.proofs.Common.{◌≡◌, ◌<◌, ℕ, List, [], Option, Some, None, length, ap, subst, sym, ◌∙◌}
+use Rattle.std.proofs.Common.{◌≡◌, ◌<◌, ℕ, [], Option, Some, None, length, ap, subst, ◌∙◌}
 use Rattle.std.specs.Prelude.{IfNone, IfSome}
 use Rattle.jlr_machine.specs.Objects.{Heap, ◌∈◌}
 use Rattle.jlr_roots.specs.Walk.{slots_held}

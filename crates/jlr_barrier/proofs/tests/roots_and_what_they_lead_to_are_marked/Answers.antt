@@ -1,14 +1,13 @@
-use Rattle.std.proofs.Common.{rules, ◌≡◌, ◌<◌, ◌++◌, ◌∷◌, [], ℕ, List, Option, Some, length, length-set, ap, subst, sym, ◌∙◌, option_map, inl, inr, arith, slice_set}
+use Rattle.std.proofs.Common.{rules, ◌≡◌, ◌<◌, ◌++◌, ◌∷◌, [], ℕ, Some, length, length-set, ap, subst, ◌∙◌, option_map, inl, inr, arith}
 use Rattle.std.specs.List.{flat_map}
 use Rattle.std.specs.Option.{option_to_list}
-use Rattle.jlr_machine.specs.declared.object.Object.{Object}
 use Rattle.jlr_machine.specs.declared.object.Object.TheVariants.{Queue}
 use Rattle.jlr_machine.specs.Objects.{Heap, at, change_at, set_at, with_members, ◌∈◌}
 use Rattle.jlr_machine.specs.Edges.{edges, edges_from}
 use Rattle.jlr_machine.specs.Edges.Chain.{Strong}
 use Rattle.jlr_laws.proofs.Sets.{nothing, in_cons}
 use Rattle.jlr_laws.proofs.Frames.{set_same}
-use Rattle.jlr_barrier.specs.Graphs.{Graph, empty_graph, with_objects}
+use Rattle.jlr_barrier.specs.Graphs.{Graph, with_objects}
 use Rattle.jlr_barrier.proofs.tests.roots_and_what_they_lead_to_are_marked.Goals as goal
 
 -- a queue that was made and got a member
