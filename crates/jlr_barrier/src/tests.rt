@@ -292,7 +292,7 @@ fn a_new_guard_has_a_cleanable_that_waits_for_it(rt: HostRuntime) -> Result<(), 
         })
     );
     assert_eq!(rt; heap.free_count() + 2, heap.cell_count());
-    while heap.free_count() > 1 {
+    for _ in 0u8..13 {
         assert!(rt; heap.allocate(Shape::Queue).is_some());
     }
     assert_eq!(rt; heap.allocate_guard(rid, action), None);

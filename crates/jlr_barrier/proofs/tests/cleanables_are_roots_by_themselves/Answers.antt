@@ -30,9 +30,9 @@ within g same x h =
 pub shade_roots-requires : goal.shade_roots-requires
 shade_roots-requires g c =
     within c.spend.new.self.graph (
-      ap lists c.spend.ensures.graph
-      ∙ allocated _ c.allocate-3.result _ _ _ c.allocate-3.ensures.none c.allocate-3.ensures.made
-      ∙ allocated _ c.allocate-2.result _ _ _ c.allocate-2.ensures.none c.allocate-2.ensures.made
-      ∙ allocated _ c.allocate.result _ _ _ c.allocate.ensures.none c.allocate.ensures.made
-      ∙ ap lists c.in_ok-heap.ensures
+    ap lists c.spend.ensures.graph
+    ∙ allocated _ c.allocate-3.result _ _ _ c.allocate-3.ensures.none c.allocate-3.ensures.made
+    ∙ allocated _ c.allocate-2.result _ _ _ c.allocate-2.ensures.none c.allocate-2.ensures.made
+    ∙ allocated _ c.allocate.result _ _ _ c.allocate.ensures.none c.allocate.ensures.made
+    ∙ ap lists c.in_ok-heap.ensures
     )

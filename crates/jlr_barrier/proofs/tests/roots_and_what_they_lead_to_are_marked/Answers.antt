@@ -18,8 +18,8 @@ only_member : (heap : Heap) (q m : ℕ) → q < length heap → (x : ℕ) → x 
 only_member heap q m within x h =
     let there : at (set_at heap q (Queue [])) q ≡ Some (Queue []) = set_same heap q (Some (Queue [])) within in
     let more : at (queued heap q m) q ≡ Some (Queue (m ∷ [])) =
-        set_same (set_at heap q (Queue [])) q _ (omega (arith, within, length-set heap q (Some (Queue []))))
-        ∙ ap (option_map (with_members (λ members. members ++ m ∷ []))) there in
+    set_same (set_at heap q (Queue [])) q _ (omega (arith, within, length-set heap q (Some (Queue []))))
+    ∙ ap (option_map (with_members (λ members. members ++ m ∷ []))) there in
     elim (in_cons x m [] (subst (λ o. x ∈ flat_map (edges Strong) (option_to_list o)) more h)) [ inl e ↦ e | inr none ↦ nothing x none ]
 
 inside : (heap b : Heap) (q m : ℕ) → b ≡ queued heap q m → q < length heap → m < length heap → (x : ℕ) → x ∈ edges_from Strong b q → x < length b
@@ -37,8 +37,8 @@ scan-plain-requires-clause-within g c =
     let count : length old.objects ≡ 16 = ap (λ (k : Graph). length k.objects) c.in_ok-heap.ensures in
     inside old.objects c.next_grey.new.self.graph.objects q m
     (
-      ap (λ (k : Graph). k.objects) (c.next_grey.ensures.graph ∙ c.shade_roots.ensures.graph ∙ c.add_pending.ensures.graph)
-      ∙ ap (λ (k : Graph). k.objects) c.in_ok-link.ensures.linked
-      ∙ ap (λ (k : Graph). change_at k.objects q (with_members (λ members. members ++ m ∷ []))) made
+    ap (λ (k : Graph). k.objects) (c.next_grey.ensures.graph ∙ c.shade_roots.ensures.graph ∙ c.add_pending.ensures.graph)
+    ∙ ap (λ (k : Graph). k.objects) c.in_ok-link.ensures.linked
+    ∙ ap (λ (k : Graph). change_at k.objects q (with_members (λ members. members ++ m ∷ []))) made
     )
     (omega (arith, count, c.new-queue.ensures)) (omega (arith, count, c.new-member.ensures))
