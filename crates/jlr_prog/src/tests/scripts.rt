@@ -176,12 +176,13 @@ impl Write for TwoLines {
             return Err(ErrorKind::Other.into());
         }
         let taken = self.lines.write(buf)?;
-        self.count += buf
+        let ends = buf
             .split_at(taken)
             .0
             .iter()
             .filter(|byte| **byte == b'\n')
             .count();
+        self.count = self.count.saturating_add(ends);
         Ok(taken)
     }
 
