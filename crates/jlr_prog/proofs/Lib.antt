@@ -1,5 +1,8 @@
 pub mod Turning
 pub mod HandingOver
 pub mod TakingUp
+pub mod Staying
+pub mod Calls
+pub mod Asked
 pub mod Following
 pub mod Histories
