@@ -40,7 +40,7 @@ IsHere m = IsCallOf m 0 Free
 
 -- ---- Cases of legal entries
 
--- carried out, with no collection; or refused
+-- carried out, or refused
 abbrev Comes : Machine → Ask → Answer → Chosen → Type 0
 Comes m ask answer chosen = IsCarriedOut m (entry 0 ask answer chosen) ⊎ ((by : Refusal) × (answer ≡ Refused by))
 
@@ -104,10 +104,10 @@ prepare_begins m answer chosen h l = elim (comes m (Prepare 0) answer chosen l) 
 abbrev pub BeginsToCall : Answer → Machine → Type 0
 BeginsToCall answer n = ((rid : ℕ) × (answer ≡ Out rid) × IsCallOf n 0 (CallOut rid)) ⊎ (WasRefused answer × IsHere n)
 
-guard_out : (m : Machine) (h : ℕ) (answer : Answer) (fresh : List ℕ) (g : Option GuardOf) → IsHere m → option_map (λ g. Out g.rid) g ≡ Some answer
+guard_out : (m : Machine) (h : ℕ) (answer : Answer) (g : Option GuardOf) → IsHere m → option_map (λ g. Out g.rid) g ≡ Some answer
     → (rid : ℕ) × (answer ≡ Out rid) × IsCallOf (on g (checked_out m 0 (slot_named m 0 h)) m) 0 (CallOut rid)
-guard_out m h answer fresh None here e = no_some answer e
-guard_out m h answer fresh (Some g) here e = (g.rid, sym (some_same _ answer e), called m.mutators (slot_named m 0 h) (CallOut g.rid) Free here)
+guard_out m h answer None here e = no_some answer e
+guard_out m h answer (Some g) here e = (g.rid, sym (some_same _ answer e), called m.mutators (slot_named m 0 h) (CallOut g.rid) Free here)
 
 out_carried : (m : Machine) (h : ℕ) (answer : Answer) (fresh : List ℕ)
     → (rid : ℕ) × (answer ≡ Out rid) × IsCallOf (on (guard_named m 0 h) (checked_out m 0 (slot_named m 0 h)) m) 0 (CallOut rid)
@@ -117,7 +117,7 @@ out_carried m h answer fresh x = (x.0, x.1, subst (λ a. IsCallOf (carried m (Ch
 pub check_out_begins : (m : Machine) (h : ℕ) (answer : Answer) (chosen : Chosen) → IsHere m → IsLegal m (entry 0 (CheckOut 0 h) answer chosen) → BeginsToCall answer (apply m (entry 0 (CheckOut 0 h) answer chosen))
 check_out_begins m h answer chosen here l = elim (comes m (CheckOut 0 h) answer chosen l) [
   | inl c ↦ inl (alone m (CheckOut 0 h) answer chosen (λ n. (rid : ℕ) × (answer ≡ Out rid) × IsCallOf n 0 (CallOut rid)) (λ x g. no_need m g.0) (λ n seen q. q)
-      (λ a. out_carried m h answer chosen.fresh (guard_out m h answer chosen.fresh (guard_named m 0 h) here a)) c)
+      (λ a. out_carried m h answer chosen.fresh (guard_out m h answer (guard_named m 0 h) here a)) c)
   | inr r ↦ inr (r, refused_stays Free m (entry 0 (CheckOut 0 h) answer chosen) r.0 r.1 here)
 ]
 

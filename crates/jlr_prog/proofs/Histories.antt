@@ -1,8 +1,11 @@
 -- A session over a core is a session of which the history is told: the join and the leave are answered ok.
-use Rattle.std.proofs.Common.{◌≡◌, ℕ, zero, suc, List, [], Option, None, Some, replicate, length, refl, ◌∙◌, ap, subst, ◌≤◌, arith, false}
-use Rattle.std.proofs.lemmas.Bool.{both_ways, lt-ltb}
+use Rattle.std.proofs.Common.{◌≡◌, ℕ, zero, suc, ◌≤◌, Bool, true, false, cond, nat_le, List, [], Option, None, Some, replicate, length, refl, sym, ◌∙◌, ap, subst, arith}
+use Rattle.std.proofs.lemmas.Bool.{and_parts, both_ways, leb-true, lt-ltb}
 use Rattle.jlr_types.specs.declared.Refusal.TheVariants.{NoMemory}
 use Rattle.jlr_types.specs.declared.limits.Limits.{Limits}
+use Rattle.jlr_types.specs.declared.limits.LimitFault.{LimitFault}
+use Rattle.jlr_types.specs.declared.limits.LimitFault.TheVariants.{Cells, Sessions}
+use Rattle.jlr_types.specs.Ranges.{is_within}
 use Rattle.jlr_machine.specs.declared.machine.Machine.{Machine}
 use Rattle.jlr_machine.specs.declared.machine.Session.{Session}
 use Rattle.jlr_machine.specs.declared.ask.Ask.TheVariants as ask
@@ -11,6 +14,7 @@ use Rattle.jlr_machine.specs.declared.ask.Answer.TheVariants.{Done, Refused}
 use Rattle.jlr_machine.specs.Refusals.{refusal}
 use Rattle.jlr_machine.specs.Run.{empty}
 use Rattle.jlr_machine.specs.WellFormed.{IsWellFormed}
+use Rattle.jlr_laws.proofs.Frames.{no_some}
 use Rattle.jlr_laws.proofs.Empty.{empty_is_well_formed}
 use Rattle.jlr_event.specs.declared.event.Event.{Event}
 use Rattle.jlr_event.specs.declared.event.Event.TheVariants.{Join, Leave}
@@ -57,18 +61,36 @@ module _ {R : Type 0} (m : Machine) where
       recorded m IsHere (λ n. reply ≡ answered_ok) (Leave 0) (ask.Leave 0) refl before over x reply s
       (λ n answer resource is w here l. only_ok before over (Leave 0) reply answer resource s is (leaves n answer s.chosen here l)) a
 
--- where there is a place for a session
+-- ---- What limits allow
+
+passes : (b : Bool) (rest : Option LimitFault) (fault : LimitFault) → cond b rest (Some fault) ≡ None → (b ≡ true) × (rest ≡ None)
+passes true rest fault e = (refl, e)
+passes false rest fault e = no_some fault (sym e)
+
+lies_within : (low high n : ℕ) → is_within low high n ≡ true → (low ≤ n) × (n ≤ high)
+lies_within low high n e =
+    let both = and_parts (nat_le low n) (nat_le n high) e in
+    (leb-true low n both.0, leb-true n high both.1)
+
+limits_hold : (limits : Limits) → (limits.cells ≤ 65536) × (1 ≤ limits.sessions) × (limits.sessions ≤ 64)
+limits_hold limits =
+    let cells = passes (is_within 16 65536 limits.cells) _ Cells limits.in_range in
+    let sessions = passes (is_within 1 64 limits.sessions) _ Sessions cells.1 in
+    let many = lies_within 1 64 limits.sessions sessions.0 in
+    ((lies_within 16 65536 limits.cells cells.0).1, many.0, many.1)
+
 may_join : (cells sessions resources : ℕ) → 1 ≤ sessions → refusal (empty cells sessions resources) (ask.Join 0) ≡ None
 may_join cells zero resources one = absurd (omega (arith, one))
 may_join cells (suc n) resources one = rw (lt-ltb 0 (suc (length (replicate {A = Option Session} n None))) (omega arith)) refl
 
 pub is_session : {D R : Type 0} (device : Opening D R) (resource : Handling R) (limits : Limits) (start over : Kept R) (at_end : Type 0) (end : SessionEnd) (bytes : List ℕ) (d : D) (out : List ℕ) (d' : D)
-    → IsEmpty limits.cells limits.sessions limits.resources limits.soft_age start → limits.cells ≤ 65536 → limits.sessions ≤ 64 → 1 ≤ limits.sessions
+    → IsEmpty limits.cells limits.sessions limits.resources limits.soft_age start
     → Serves (by_core resource) device resource at_end end bytes start d out over d' → IsSession device resource limits at_end end bytes d out d'
-is_session device resource limits start over at_end end bytes d out d' begins few_cells few_sessions one serves =
+is_session device resource limits start over at_end end bytes d out d' begins serves =
+    let fit = limits_hold limits in
     let m = empty limits.cells limits.sessions limits.resources in
-    let j = joined m start serves.1 serves.0 (stands_at_start start limits.cells limits.sessions limits.resources begins.machine) (empty_is_well_formed limits.cells limits.sessions limits.resources few_cells few_sessions)
-    (may_join limits.cells limits.sessions limits.resources one) serves.2 in
+    let j = joined m start serves.1 serves.0 (stands_at_start start limits.cells limits.sessions limits.resources begins.machine) (empty_is_well_formed limits.cells limits.sessions limits.resources fit.0 fit.2)
+    (may_join limits.cells limits.sessions limits.resources fit.1) serves.2 in
     let ok = j.2.1.4.0 in
     let follows = subst (λ q. Follows (by_core resource) device resource (said_by q) at_end end bytes serves.1 d out over d') ok serves.3 in
     let t = lines_along m device resource at_end end bytes serves.1 follows.0 d d' out j.0 follows.2 (j.2.0, (j.2.1.0, j.2.1.1, j.2.1.2, j.2.1.3, j.2.1.4.1)) in

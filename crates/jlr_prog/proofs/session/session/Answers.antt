@@ -1,4 +1,3 @@
-use Rattle.std.proofs.Common.{rules, ◌≤◌}
 use Rattle.jlr_prog.proofs.Histories.{is_session}
 use Rattle.jlr_prog.proofs.session.session.Goals as goal
 
@@ -6,10 +5,7 @@ pub returns-clause-session : goal.returns-clause-session
 returns-clause-session g c =
     let l = c.args.limits in
     let s = c.serve.ensures in
-    let e = c.in_ok-port.ensures in
-    let few_cells : l.cells ≤ 65536 = search rules in
-    let few_sessions : l.sessions ≤ 64 = search rules in
-    let one : 1 ≤ l.sessions = search rules in (
+    let e = c.in_ok-port.ensures in (
       s.0,
       s.1,
       s.2,
@@ -18,5 +14,5 @@ returns-clause-session g c =
       is_session (record { count = g.D.Device.count; opens = g.D.Device.may_open; connects = g.D.Device.may_connect; failures = g.D.Res.Resource.count })
           (record { count = g.D.Res.Resource.count; reads = g.D.Res.Resource.may_read; writes = g.D.Res.Resource.may_write; finishes = g.D.Res.Resource.may_finish })
           l c.in_ok-port.port c.serve.new.port _ c.serve.result s.0 c.args.device.now s.1 c.serve.new.device
-          (record { machine = e.machine; age = e.age; clock = e.clock; none_held = e.none_held }) few_cells few_sessions one s.5,
+          (record { machine = e.machine; age = e.age; clock = e.clock; none_held = e.none_held }) s.5,
     )
