@@ -8,3 +8,4 @@ pub mod RunLaws
 pub mod Queues
 pub mod TakeUps
 pub mod Guards
+pub mod Moving
