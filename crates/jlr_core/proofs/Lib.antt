@@ -7,4 +7,5 @@ pub mod Stepping
 pub mod RunLaws
 pub mod Queues
 pub mod TakeUps
+pub mod Rest
 pub mod Guards
