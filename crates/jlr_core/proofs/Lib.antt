@@ -7,5 +7,6 @@ pub mod Stepping
 pub mod RunLaws
 pub mod Queues
 pub mod TakeUps
+pub mod Rest
 pub mod Guards
 pub mod Moving

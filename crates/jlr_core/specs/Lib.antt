@@ -9,4 +9,5 @@ pub mod Preparing
 pub mod Policy
 pub mod Events
 pub mod Cores
+pub mod Rest
 pub mod Runs

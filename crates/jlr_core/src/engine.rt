@@ -1,5 +1,5 @@
 //! The core: one event at a time.
-ghost use Rattle.std.specs.Prelude.{◌≡◌, ◌≤◌, [], length, IfOk, None, Some};
+ghost use Rattle.std.specs.Prelude.{◌≡◌, ◌≤◌, [], length, IfOk, IsTrue, None, Some};
 ghost use Rattle.jlr_machine.specs.declared.machine.Machine.{Machine};
 ghost use Rattle.jlr_machine.specs.Run.{empty, empty_from};
 ghost use Rattle.jlr_resource.specs.Resources.{resources, values};
@@ -38,6 +38,7 @@ impl<R> Model for Core<R> {
 
 impl<R> Core<R> {
     ghost use Rattle.jlr_core.specs.Cores.{StandsIn};
+    ghost use Rattle.jlr_core.specs.Rest.{FindsNothing, is_at_rest};
 
     /// The core of an empty machine, whose first action number is 1. All room is made at once.
     ///
@@ -93,6 +94,17 @@ impl<R> Core<R> {
     {
         choice.clear();
         self.state.step(event, choice)
+    }
+
+    /// Whether the helpers have nothing to do: nothing is pending, nothing stands in the cleaner's line, and the cleaner runs no job.
+    /// A step of the handler and one of the cleaner would find nothing then, and leave the core as it is.
+    pub fn is_at_rest(&self) -> bool
+        ensures exact { result ≡ is_at_rest self.now.machine }
+        ensures handler { IsTrue result → FindsNothing self.now Ask.HandOver }
+        ensures cleaner { IsTrue result → FindsNothing self.now Ask.TakeUp }
+        ensures listed { resources self.now.table ≡ self.now.machine.resources }
+    {
+        self.state.is_at_rest()
     }
 
     /// The machine that the core stands for, as plain data, with nothing seen.

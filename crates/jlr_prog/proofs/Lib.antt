@@ -1,6 +1,7 @@
 pub mod Turning
 pub mod HandingOver
 pub mod TakingUp
+pub mod Resting
 pub mod Staying
 pub mod Calls
 pub mod Asked

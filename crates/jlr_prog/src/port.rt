@@ -145,6 +145,9 @@ impl<R: Resource + Drop> Port<R> for CorePort<R> {
     }
 
     fn settle(&mut self) {
+        if self.core.is_at_rest() {
+            return;
+        }
         if self.hand_all_over() {
             self.clean_all();
         }

@@ -4,6 +4,7 @@ ghost use Rattle.std.specs.Io.KnownBytes.{Keeps};
 ghost use Rattle.jlr_wire.specs.Replies.{Sends, spaced, stat_words, fault_text, failure_text, data_words, words};
 ghost use Rattle.hex.specs.Hex.{encode_lower};
 
+use arrayvec::ArrayVec;
 use itoa::Buffer;
 use jlr_machine::ask::{Answer, Stat};
 use jlr_machine::machine::Failure;
@@ -13,6 +14,9 @@ use std::io::Write;
 
 /// The most bytes that one call reads.
 const DATA_LIMIT: usize = 200;
+
+/// The most bytes of a line that is gathered before it goes out.
+const GATHERED_LIMIT: usize = 512;
 
 /// A write that failed or took nothing, or an answer that has no line.
 #[derive(Clone, Copy, Debug, PartialEq, Eq)]
@@ -178,7 +182,17 @@ fn write_words<W: Write>(answer: &Answer, writer: &mut W) -> Result<(), WriteFau
     }
 }
 
-/// Writes the line of an answer with its end, and does not flush.
+/// Writes the line of an answer with its end.
+fn write_line<W: Write>(answer: &Answer, writer: &mut W) -> Result<(), WriteFault>
+    ensures line { IfSome (words answer.now) (λ text. Sends (W.contents writer.old) (W.contents writer.new) result (text ++ 10 ∷ [])) }
+    ensures none { IfNone (words answer.now) (IsErr result × Keeps (W.contents writer.old) (W.contents writer.new)) }
+{
+    write_words(answer, writer)?;
+    send(b"\n", writer)
+}
+
+/// Writes the line of an answer with its end, and does not flush. A line of at most 512 bytes, as each is but that of a long list,
+/// goes out by one write, where the writer takes it whole.
 ///
 /// At a fault a front of the line went out. For an answer that has no line nothing is written, and
 /// it is a fault.
@@ -186,6 +200,9 @@ pub fn write_reply<W: Write>(answer: &Answer, writer: &mut W) -> Result<(), Writ
     ensures line { IfSome (words answer.now) (λ text. Sends (W.contents writer.old) (W.contents writer.new) result (text ++ 10 ∷ [])) }
     ensures none { IfNone (words answer.now) (IsErr result × Keeps (W.contents writer.old) (W.contents writer.new)) }
 {
-    write_words(answer, writer)?;
-    send(b"\n", writer)
+    let mut line: ArrayVec<u8, GATHERED_LIMIT> = ArrayVec::new();
+    if write_line(answer, &mut line).is_ok() {
+        return send(line.as_slice(), writer);
+    }
+    write_line(answer, writer)
 }

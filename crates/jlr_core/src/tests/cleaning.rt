@@ -310,3 +310,36 @@ fn no_action_number_is_left_at_the_end(rt: HostRuntime) -> Result<(), Fail> {
     assert_eq!(rt; ask(&mut core, &mut choice, clean(2)), last);
     Ok(())
 }
+
+// Whether the helpers have nothing to do after an event.
+fn rests_after(core: &mut Core<u32>, choice: &mut Choice, event: Event<u32>) -> bool
+    requires { length core.old.machine.objects ≤ choice.old.cells }
+    ensures { length core.new.machine.objects ≤ choice.new.cells }
+{
+    ask(core, choice, event);
+    core.is_at_rest()
+}
+
+#[test]
+fn a_core_rests_until_there_is_something_to_hand_over_or_to_clean(
+    rt: HostRuntime,
+) -> Result<(), Fail> {
+    let (mut core, mut choice) = starting_at(rt.alloc(), 1)?;
+    assert!(rt; core.is_at_rest());
+    assert!(rt; rests_after(&mut core, &mut choice, join()));
+    assert!(rt; rests_after(&mut core, &mut choice, cleaner()));
+    assert!(rt; rests_after(&mut core, &mut choice, bare()));
+    assert!(rt; rests_after(&mut core, &mut choice, register(1, 2, 7)));
+    assert!(rt; rests_after(&mut core, &mut choice, drop_handle(2)));
+    assert!(rt; !rests_after(&mut core, &mut choice, full()), "pending");
+    assert!(rt;
+        !rests_after(&mut core, &mut choice, hand_over()),
+        "in the line"
+    );
+    assert!(rt;
+        !rests_after(&mut core, &mut choice, Event::TakeUp),
+        "taken up"
+    );
+    assert!(rt; rests_after(&mut core, &mut choice, finish(255, 1, Ok(()))));
+    Ok(())
+}

@@ -143,7 +143,7 @@ fn writes_names(rt: HostRuntime) -> Result<(), Fail> {
 }
 
 /// The answer of these notes.
-fn notes_of(alloc: Global, notes: &[u32]) -> Result<Answer, AllocError> {
+pub fn notes_of(alloc: Global, notes: &[u32]) -> Result<Answer, AllocError> {
     Ok(Answer::Notes(Items::from_vec(notes.to_vec(alloc)?)))
 }
 

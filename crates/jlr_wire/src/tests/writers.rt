@@ -1,8 +1,8 @@
 //! Writers that fail, or take little at a time.
-use super::replies::{data_of, faults_of, names_of};
-use crate::reply::write_reply;
+use super::replies::{data_of, faults_of, names_of, notes_of};
+use crate::reply::{WriteFault, write_reply};
 use arrayvec::ArrayVec;
-use jlr_machine::ask::Answer;
+use jlr_machine::ask::{Answer, Stat};
 use jlr_types::{Fault, Refusal};
 use std::io::{self, Write};
 use std::process::Abort;
@@ -54,6 +54,66 @@ fn a_short_write_is_gone_on_with(rt: HostRuntime) {
         (0, false, ""),
     ];
     sends_a_front(&rt, &Answer::Refused(Refusal::Malformed), 1, &rows);
+}
+
+/// Takes each write whole, and counts the writes and their bytes.
+#[derive(Drop)]
+struct Counting {
+    writes: usize,
+    bytes: usize,
+}
+
+impl Write for Counting {
+    fn write(&mut self, buf: &[u8]) -> io::Result<usize> {
+        self.writes += 1;
+        self.bytes += buf.len();
+        Ok(buf.len())
+    }
+
+    fn flush(&mut self) -> io::Result<()> {
+        Ok(())
+    }
+}
+
+/// How many writes a reply takes, and how many bytes it has.
+fn writes_of(answer: &Answer) -> Result<(usize, usize), WriteFault> {
+    let mut writer = Counting {
+        writes: 0,
+        bytes: 0,
+    };
+    write_reply(answer, &mut writer)?;
+    Ok((writer.writes, writer.bytes))
+}
+
+#[test]
+fn a_reply_goes_out_by_one_write(rt: HostRuntime) -> Result<(), Fail> {
+    let counts = Stat {
+        objects: u64::MAX,
+        resources: u64::MAX,
+        taken: u64::MAX,
+        ok: u64::MAX,
+        failed: u64::MAX,
+    };
+    assert_eq!(rt; writes_of(&Answer::Done)?, (1, 3));
+    assert_eq!(rt; writes_of(&Answer::Int(i64::MIN))?, (1, 25));
+    assert_eq!(rt; writes_of(&Answer::Faulted(Fault::NotFound))?, (1, 15));
+    assert_eq!(rt; writes_of(&Answer::Stat(counts))?, (1, 110));
+    assert_eq!(rt; writes_of(&data_of(&[0xa5; 200])?)?, (1, 406));
+    Ok(())
+}
+
+#[test]
+fn a_line_of_512_bytes_is_the_longest_that_goes_out_by_one_write(
+    rt: HostRuntime,
+) -> Result<(), Fail> {
+    for (last, writes, bytes) in [(123, 1, 512), (1234, 96, 513)] {
+        let mut notes = Vec::new(rt.alloc());
+        notes.resize(45, u32::MAX)?;
+        notes.push(1234567)?;
+        notes.push(last)?;
+        assert_eq!(rt; writes_of(&notes_of(rt.alloc(), &notes)?)?, (writes, bytes));
+    }
+    Ok(())
 }
 
 /// Fails at its first write, and takes all later ones.

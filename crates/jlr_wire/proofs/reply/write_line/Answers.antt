@@ -2,7 +2,7 @@ use Rattle.std.proofs.Common.{[], ◌∷◌}
 use Rattle.std.proofs.lemmas.Result.{err_from_is_err_and}
 use Rattle.jlr_wire.specs.Replies.{words}
 use Rattle.jlr_wire.proofs.Sending.{line_end, line_cut}
-use Rattle.jlr_wire.proofs.reply.write_reply.Goals as goal
+use Rattle.jlr_wire.proofs.reply.write_line.Goals as goal
 
 pub returns-in_err-write_words-clause-line : goal.returns-in_err-write_words-clause-line
 returns-in_err-write_words-clause-line g c =
