@@ -113,6 +113,30 @@ fn an_input_that_is_a_directory_cannot_be_read(rt: HostRuntime) -> Result<(), Fa
     Ok(())
 }
 
+/// Empty lines, so many.
+#[derive(Drop)]
+struct EmptyLines {
+    left: usize,
+}
+
+impl Read for EmptyLines {
+    fn read(&mut self, buf: &mut [u8]) -> io::Result<usize> {
+        let count = self.left.min(buf.len());
+        buf[..count].fill(b'\n');
+        self.left -= count;
+        Ok(count)
+    }
+}
+
+#[test]
+fn a_session_of_a_million_lines_has_too_many(rt: HostRuntime) -> Result<(), Fail> {
+    let mut lines = EmptyLines { left: 1_000_000 };
+    let (status, said) = ended(rt.alloc(), &mut lines, &mut io::sink())?;
+    assert_eq!(rt; status, 4);
+    assert_eq!(rt; said.as_str(), "refheap: too many lines\n");
+    Ok(())
+}
+
 /// A session whose first reply cannot be written.
 fn unheard<W: Write>(alloc: Global, writer: &mut W) -> Result<(u8, String), Fail> {
     ended(alloc, &mut b"new -\n".as_slice(), writer)

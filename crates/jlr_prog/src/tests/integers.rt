@@ -33,19 +33,6 @@ fn integer_fields_hold_integers(rt: HostRuntime) -> Result<(), Fail> {
     Ok(())
 }
 
-#[test]
-fn refusals_of_many_kinds(rt: HostRuntime) -> Result<(), Fail> {
-    let commands =
-        "get 9 0; dup 0; new ri; poll 1; get 1 2; get 1 1; setint 1 0 5; queue; weak 0 2; weak 1 1; setint 1 1 -9223372036854775808; int 1 1; setint 1 1 9223372036854775808";
-    let answers =
-        "! 3; ! 8; = 1; ! 5; ! 6; ! 7; ! 7; = 2; ! 8; ! 5; ok; int -9223372036854775808; ! 15";
-    let (end, out) = heap_answers(rt.alloc(), commands)?;
-    assert_eq!(rt; end, SessionEnd::End);
-    let expected = lines(rt.alloc(), answers)?;
-    assert_eq!(rt; out.as_slice(), expected.as_slice());
-    Ok(())
-}
-
 // A soft reference outlives a collection by the policy, and no clearing one.
 #[test]
 fn gc_soft_clears_soft_references(rt: HostRuntime) -> Result<(), Fail> {

@@ -163,6 +163,150 @@ fn a_device_whose_count_is_full_is_not_called(rt: HostRuntime) -> Result<(), Fai
     )
 }
 
+/// A device that follows such scripts, which are parted by `; `. The first word of each is how the open goes; then `00ff` is a read
+/// that gives these bytes, `fails` a call that fails, and `unfinished` a `finish` that fails.
+fn scripted(alloc: Global, text: &str) -> Result<ScriptDevice, AllocError> {
+    let mut scripts = Vec::new(alloc);
+    for words in text.split_terminator("; ") {
+        scripts.push(script_of(alloc, words)?)?;
+    }
+    Ok(ScriptDevice::new(scripts, 0))
+}
+
+/// The script of these words.
+fn script_of(alloc: Global, words: &str) -> Result<Script, AllocError> {
+    let mut opened = Ok(());
+    let mut steps = Vec::new(alloc);
+    let mut finished = Ok(());
+    for word in words.split(' ') {
+        match word {
+            "notfound" => opened = Err(Fault::NotFound),
+            "other" => opened = Err(Fault::Other),
+            "00ff" => steps.push(Step::Bytes(vec![in alloc; 0x00u8, 0xff]?))?,
+            "fails" => steps.push(Step::Fail(Fault::Other))?,
+            "unfinished" => finished = Err(Fault::Other),
+            _ => {}
+        }
+    }
+    Ok(Script {
+        opened,
+        steps,
+        finished,
+    })
+}
+
+/// Checks what these commands are answered over each device.
+fn expect_over_each(
+    rt: &impl Abort,
+    alloc: Global,
+    commands: &str,
+    cases: &[(&str, &str)],
+) -> Result<(), Fail> {
+    for (scripts, answers) in cases {
+        let device = scripted(alloc, scripts)?;
+        expect_over(rt, alloc, device, commands, answers)?;
+    }
+    Ok(())
+}
+
+// No call fails that need not; then each open, write, finish and read in turn.
+#[test]
+fn each_call_of_a_file_that_is_read_back_may_fail(rt: HostRuntime) -> Result<(), Fail> {
+    expect_over_each(
+        &rt,
+        rt.alloc(),
+        "open r x; stat; open w f; write 1 00ff; drop 1; gc; open r f; read 1 200; read 1 200; stat",
+        &[
+            (
+                "notfound; ok; ok 00ff",
+                "fault notfound; stat 2 0 0 0 0; = 1; wrote 2; ok; ok; = 1; data 00ff; end; stat 3 1 1 1 0",
+            ),
+            (
+                "other; ok; ok 00ff",
+                "fault other; stat 2 0 0 0 0; = 1; wrote 2; ok; ok; = 1; data 00ff; end; stat 3 1 1 1 0",
+            ),
+            (
+                "notfound; other; ok 00ff",
+                "fault notfound; stat 2 0 0 0 0; fault other; ! 3; ! 3; ok; = 1; data 00ff; end; stat 2 1 0 0 0",
+            ),
+            (
+                "notfound; ok fails; ok 00ff",
+                "fault notfound; stat 2 0 0 0 0; = 1; fault other; ok; ok; = 1; data 00ff; end; stat 3 1 1 1 0",
+            ),
+            (
+                "notfound; ok unfinished; ok 00ff",
+                "fault notfound; stat 2 0 0 0 0; = 1; wrote 2; ok; ok; = 1; data 00ff; end; stat 3 1 1 0 1",
+            ),
+            (
+                "notfound; ok; other",
+                "fault notfound; stat 2 0 0 0 0; = 1; wrote 2; ok; ok; fault other; ! 3; ! 3; stat 3 0 1 1 0",
+            ),
+            (
+                "notfound; ok; ok fails",
+                "fault notfound; stat 2 0 0 0 0; = 1; wrote 2; ok; ok; = 1; fault other; end; stat 3 1 1 1 0",
+            ),
+            (
+                "notfound; ok; ok 00ff fails",
+                "fault notfound; stat 2 0 0 0 0; = 1; wrote 2; ok; ok; = 1; data 00ff; fault other; stat 3 1 1 1 0",
+            ),
+        ],
+    )
+}
+
+// That the finish fails has a test of its own.
+#[test]
+fn each_call_of_a_file_beside_an_action_may_fail(rt: HostRuntime) -> Result<(), Fail> {
+    expect_over_each(
+        &rt,
+        rt.alloc(),
+        "open w a; cleaner; new -; register 2 3 9; drop 1; gc; faults; drop 3; gc; notes; stat",
+        &[
+            (
+                "ok",
+                "= 1; = 2; = 3; = 4; ok; ok; list; ok; ok; list 9; stat 2 0 2 2 0",
+            ),
+            (
+                "other",
+                "fault other; = 1; = 2; ! 3; ok; ok; list; ! 3; ok; list; stat 1 0 0 0 0",
+            ),
+        ],
+    )
+}
+
+#[test]
+fn each_call_of_a_file_that_is_closed_may_fail(rt: HostRuntime) -> Result<(), Fail> {
+    let (one, two) = (
+        "open w f; close 1; read 1 5; close 1; stat",
+        "open w f; close 1; open w g; read 1 5",
+    );
+    for (commands, scripts, answers) in [
+        (one, "other", "fault other; ! 3; ! 3; ! 3; stat 2 0 0 0 0"),
+        (
+            one,
+            "ok unfinished",
+            "= 1; fault other; ! 12; ok; stat 2 0 1 0 1",
+        ),
+        (two, "other", "fault other; ! 3; = 1; end"),
+        (two, "ok unfinished", "= 1; fault other; = 2; ! 12"),
+        (two, "ok; other", "= 1; ok; fault other; ! 12"),
+    ] {
+        let device = scripted(rt.alloc(), scripts)?;
+        expect_over(&rt, rt.alloc(), device, commands, answers)?;
+    }
+    Ok(())
+}
+
+#[test]
+fn a_failed_open_leaves_its_place_to_the_next(rt: HostRuntime) -> Result<(), Fail> {
+    let mut device = scripted(rt.alloc(), "other")?;
+    let commands = "open w f; open w g; open w h";
+    let (end, out) = device_answers(rt.alloc(), limits(1, 4)?, commands, &mut device)?;
+    assert_eq!(rt; end, SessionEnd::End);
+    let expected = lines(rt.alloc(), "fault other; = 1; ! 19")?;
+    assert_eq!(rt; out.as_slice(), expected.as_slice());
+    Ok(())
+}
+
 /// A writer that takes two lines, and fails at the third.
 #[derive(Drop)]
 struct TwoLines {
