@@ -2,3 +2,6 @@ pub mod Counting
 pub mod Shading
 pub mod Places
 pub mod Walking
+pub mod OwnRoots
+pub mod Pairs
+pub mod Held

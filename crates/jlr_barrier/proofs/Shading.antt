@@ -145,8 +145,11 @@ shaded_fields o fields m n e s =
 pub shaded_no_fields : (o : Option (List FieldValue)) (m : Marking) → o ≡ None → Shaded (λ x. x ∈ led_by o) m m
 shaded_no_fields o m e = shaded_none _ (λ x h. nothing x (subst (λ l. x ∈ led_by l) e h)) m
 
--- what follows from an edge list in three parts
-pub shaded_in_three : (xs ys zs all : List ℕ) (a b c d : Marking) → all ≡ xs ++ ys ++ zs → Shaded (λ x. x ∈ xs) a b → Shaded (λ x. x ∈ ys) b c → Shaded (λ x. x ∈ zs) c d → Shaded (λ x. x ∈ all) a d
-shaded_in_three xs ys zs all a b c d e s t u =
-    subst (λ l. Shaded (λ x. x ∈ l) a d) (sym e)
-    (shaded_in_both (xs ++ ys) zs a d (shaded_then _ _ a c d (shaded_in_both xs ys a c (shaded_then _ _ a b c s t)) u))
+-- ---- Shading the members of five lists
+
+pub shaded_in_five : (xs ys zs vs ws : List ℕ) (a b c d e f : Marking) → Shaded (λ x. x ∈ xs) a b → Shaded (λ x. x ∈ ys) b c → Shaded (λ x. x ∈ zs) c d → Shaded (λ x. x ∈ vs) d e → Shaded (λ x. x ∈ ws) e f → Shaded (λ x. x ∈ xs ++ ys ++ zs ++ vs ++ ws) a f
+shaded_in_five xs ys zs vs ws a b c d e f s t u v w =
+    let two = shaded_in_both xs ys a c (shaded_then _ _ a b c s t) in
+    let three = shaded_in_both (xs ++ ys) zs a d (shaded_then _ _ a c d two u) in
+    let four = shaded_in_both (xs ++ ys ++ zs) vs a e (shaded_then _ _ a d e three v) in
+    shaded_in_both (xs ++ ys ++ zs ++ vs) ws a f (shaded_then _ _ a e f four w)

@@ -2,16 +2,21 @@
 use Rattle.std.specs.Prelude.{◌≡◌, ◌≤◌, ◌+◌, ◌^◌, ℕ, false, cond, nat_lt, Option, List, [], ◌++◌, None, length, replicate, slice_set, option_and_then}
 use Rattle.jlr_machine.specs.declared.machine.Machine.{Machine}
 use Rattle.jlr_machine.specs.declared.machine.Session.{Session}
+use Rattle.jlr_machine.specs.declared.machine.Binding.{Binding}
 use Rattle.jlr_machine.specs.Objects.{Heap, Table, as_reference, at}
+use Rattle.jlr_machine.specs.Edges.{active_cleanables}
 use Rattle.jlr_machine.specs.Refusals.{gotten}
 use Rattle.jlr_roots.specs.Walk.{slots_held}
+use Rattle.jlr_roots.specs.Naming.{named}
 use Rattle.jlr_barrier.specs.Marking.{Marking}
 
 -- the part of a machine that the heap keeps
 pub record Graph : Type 0 where
   pub objects : Heap
   pub mutators : Table Session
+  pub names : List Binding
   pub pending : List ℕ
+  pub line : List ℕ
 
 -- Time for the soft policy: how many collections have finished, and, by slot, that number when the object there was made or, if it is a
 -- reference, last gave its referent
@@ -26,12 +31,12 @@ pub record Known : Type 0 where
 
 -- a machine of which the heap keeps its part
 abbrev pub in_machine : Machine → Graph → Machine
-in_machine m g = record m { objects = g.objects; mutators = g.mutators; pending = g.pending }
+in_machine m g = record m { objects = g.objects; mutators = g.mutators; names = g.names; pending = g.pending; line = g.line }
 
 -- ---- A new heap
 
 abbrev pub empty_graph : ℕ → ℕ → Graph
-empty_graph cells sessions = record { objects = replicate cells None; mutators = replicate sessions None; pending = [] }
+empty_graph cells sessions = record { objects = replicate cells None; mutators = replicate sessions None; names = []; pending = []; line = [] }
 
 abbrev pub empty_known : ℕ → ℕ → Known
 empty_known cells sessions =
@@ -49,8 +54,14 @@ with_objects g objects = record g { objects = objects }
 abbrev pub with_mutators : Graph → Table Session → Graph
 with_mutators g mutators = record g { mutators = mutators }
 
+abbrev pub with_names : Graph → List Binding → Graph
+with_names g names = record g { names = names }
+
 abbrev pub with_pending : Graph → List ℕ → Graph
 with_pending g pending = record g { pending = pending }
+
+abbrev pub with_line : Graph → List ℕ → Graph
+with_line g line = record g { line = line }
 
 -- the object at s was made, or gave its referent, now
 abbrev pub used_now : Clock → ℕ → Clock
@@ -66,14 +77,17 @@ gotten_at heap s = option_and_then gotten (option_and_then as_reference (at heap
 
 -- ---- Roots
 
--- what the mutators' handles and the pending list hold
+-- what the mutators' handles and fences hold, what the names stand for, the pending list and the line, and the cleanables that are
+-- Armed or Pending
 abbrev pub held : Graph → List ℕ
-held g = slots_held g.mutators ++ g.pending
+held g = slots_held g.mutators ++ named g.names ++ g.pending ++ g.line ++ active_cleanables 0 g.objects
 
 -- ---- What fits together in a heap
 
-pub record FitsTogether (known : Known) (room : ℕ) : Type 0 where
+-- each list has room for every cell
+pub record FitsTogether (known : Known) (pending_room line_room : ℕ) : Type 0 where
   pub few : length known.graph.objects ≤ 65536
   pub bits : length known.marking.bits ≡ length known.graph.objects
   pub ages : length known.clock.last_gets ≡ length known.graph.objects
-  pub has_room : length known.graph.objects ≤ room
+  pub has_room : length known.graph.objects ≤ pending_room
+  pub line_has_room : length known.graph.objects ≤ line_room

@@ -1,3 +1,4 @@
 -- Reading order.
 pub mod Marking
 pub mod Graphs
+pub mod Guards

@@ -9,7 +9,7 @@ use crate::marks::Marks;
 use jlr_cells::{Cells, Kind, Shape};
 use jlr_machine::object::{Object, Reference};
 use jlr_machine::table::Table;
-use jlr_roots::Roots;
+use jlr_roots::{Names, Roots};
 use jlr_types::{FieldValue, Limits, Slot};
 use std::alloc::{AllocError, Global};
 use std::collections::VecDeque;
@@ -20,8 +20,11 @@ use std::marker::Model;
 pub struct Heap {
     pub(crate) cells: Cells,
     pub(crate) roots: Roots,
-    /// References to be enqueued, from the front on. It has room for every cell.
+    pub(crate) names: Names,
+    /// References to be enqueued and cleanables to be lined up, from the front on. It has room for every cell.
     pub(crate) waiting: VecDeque<Slot>,
+    /// Cleanables to be taken up, from the front on. It has room for every cell.
+    pub(crate) lined: VecDeque<Slot>,
     pub(crate) marks: Marks,
     /// By slot, how many collections had finished when the object was made or last gave its referent.
     pub(crate) last_gets: Vec<u64>,
@@ -36,20 +39,20 @@ impl Model for Heap {
     ghost Value = { Known };
 
     ghost view = { λ h. record {
-      graph = record { objects = h.cells; mutators = h.roots; pending = h.waiting.items };
+      graph = record { objects = h.cells; mutators = h.roots; names = h.names; pending = h.waiting.items; line = h.lined.items };
       clock = record { last_gets = h.last_gets.items; collections = h.collections };
       marking = h.marks;
     } };
 
     ghost invariant = { λ h. FitsTogether (record {
-      graph = record { objects = h.cells; mutators = h.roots; pending = h.waiting.items };
+      graph = record { objects = h.cells; mutators = h.roots; names = h.names; pending = h.waiting.items; line = h.lined.items };
       clock = record { last_gets = h.last_gets.items; collections = h.collections };
       marking = h.marks;
-    }) (deque_capacity h.waiting) };
+    }) (deque_capacity h.waiting) (deque_capacity h.lined) };
 }
 
 impl Heap {
-    /// A heap without objects, whose mutators are not joined. All room is made at once.
+    /// A heap without objects or names, whose mutators are not joined. All room but that of names is made at once.
     ///
     /// # Errors
     /// `AllocError` where the room cannot be had.
@@ -60,7 +63,9 @@ impl Heap {
         Ok(Heap {
             cells: Cells::new(alloc, cells)?,
             roots: Roots::new(alloc, session_count(limits))?,
+            names: Names::new(alloc),
             waiting: VecDeque::with_capacity(alloc, cells as usize)?,
+            lined: VecDeque::with_capacity(alloc, cells as usize)?,
             marks: Marks::new(alloc, cells)?,
             last_gets: vec![in alloc; 0; cells as usize]?,
             collections: 0,
@@ -84,17 +89,10 @@ impl Heap {
 
     /// Of which kind the object at a slot is, if there is one.
     pub fn kind(&self, slot: Slot) -> Option<Kind>
-        ensures kind { result ≡ option_and_then kind_of (at self.now.graph.objects slot) }
+        ensures kind { result ≡ option_map kind_of (at self.now.graph.objects slot) }
         ensures object { is_some result ≡ is_some (at self.now.graph.objects slot) }
     {
         self.cells.kind(slot)
-    }
-
-    /// Each object is of one of these kinds: of the others none is made yet.
-    pub fn kinds_are_known(&self)
-        ensures { (s : ℕ) → is_some (option_and_then kind_of (at self.now.graph.objects s)) ≡ is_some (at self.now.graph.objects s) }
-    {
-        self.cells.kinds_are_known();
     }
 
     /// Whether there is a plain object at a slot.

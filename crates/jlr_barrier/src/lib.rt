@@ -1,17 +1,22 @@
-//! The object graph: the objects, the roots, and the list of pending references, with a clock of collections for the soft policy
-//! and a mark set for the collector.
+//! The object graph: the objects, the roots, the pending list and the cleaner's line, with a clock of collections for the soft
+//! policy and a mark set for the collector.
 //!
 //! All calls that make or remove a strong edge stand here: the fields of plain objects, the queue of a reference while it may still
-//! be added to it, the members of a queue, and the pending list. A collector that marks in steps will have its barriers in
-//! these calls, and the contracts, which speak of objects, roots and lists alone, stay as they are.
+//! be added to it, the members of a queue, the pending list and the line. So do those that make or remove a root of a mutator: its handles,
+//! the fence of its call, and the names. A collector that marks in steps will have its barriers in these calls, and the contracts, which speak
+//! of objects, roots and lists alone, stay as they are.
 //!
-//! No call but `Heap::new`, `Heap::link` and the images takes memory.
+//! No call but `Heap::new`, `Heap::link`, `Heap::bind` of a new name, `Heap::names` and the images takes memory.
 #![tactic(auto)]
 
+mod cleanables;
 mod clock;
+mod guards;
 mod heap;
+mod line;
 mod marking;
 mod marks;
+mod names;
 mod pending;
 mod queues;
 mod sessions;

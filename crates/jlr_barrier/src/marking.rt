@@ -9,7 +9,7 @@ ghost use Rattle.jlr_barrier.specs.Graphs.{held};
 ghost use Rattle.jlr_barrier.specs.Marking.{IsMarked, Shaded, is_marked};
 
 use crate::heap::Heap;
-use crate::shade::{follow, shade_list, shade_roots, shade_target};
+use crate::shade::{follow, shade_cleanables, shade_list, shade_names, shade_roots, shade_target};
 use jlr_cells::Kind;
 use jlr_types::{Meter, RefKind, Slot};
 
@@ -33,7 +33,8 @@ impl Heap {
         self.marks.reset();
     }
 
-    /// Marks what the handles and the pending list hold. What was not marked before is grey then.
+    /// Marks what the handles, the fences, the names, the pending list and the line hold, and the cleanables that are Armed or Pending.
+    /// What was not marked before is grey then.
     pub fn shade_roots(&mut self)
         requires { (x : ℕ) → x ∈ held self.old.graph → x < length self.old.graph.objects }
         ensures graph { self.new.graph ≡ self.old.graph }
@@ -41,7 +42,10 @@ impl Heap {
         ensures shaded { Shaded (λ x. x ∈ held self.old.graph) self.old.marking self.new.marking }
     {
         shade_roots(&self.roots, &mut self.marks);
+        shade_names(&self.names, &mut self.marks);
         shade_list(&self.waiting, &mut self.marks);
+        shade_list(&self.lined, &mut self.marks);
+        shade_cleanables(&self.cells, &mut self.marks);
     }
 
     /// Takes a grey slot, if there is one. It is grey no more.

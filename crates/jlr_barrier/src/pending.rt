@@ -1,4 +1,4 @@
-//! The pending list: what the collector cleared and the handler has still to enqueue.
+//! The pending list: what the collector cleared and the handler has still to hand over.
 ghost use Rattle.std.specs.Prelude.{◌≡◌, ◌++◌, ◌∷◌, [], ◌<◌, IfOk, drop, length, slice_get};
 ghost use Rattle.jlr_barrier.specs.Graphs.{with_pending};
 
@@ -46,7 +46,8 @@ impl Heap {
     }
 }
 
-fn list_image(alloc: Global, list: &VecDeque<Slot>) -> Result<Items<Slot>, AllocError>
+/// A list as plain data.
+pub(crate) fn list_image(alloc: Global, list: &VecDeque<Slot>) -> Result<Items<Slot>, AllocError>
     ensures { IfOk result (λ slots. slots ≡ list.now.items) }
 {
     let mut slots = Vec::with_capacity(alloc, list.len())?;

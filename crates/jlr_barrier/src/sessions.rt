@@ -1,14 +1,13 @@
-//! The mutators and their handles.
-ghost use Rattle.std.specs.Prelude.{◌≡◌, ℕ, ◌<◌, IfNone, IfOk, IfSome, IsTrue, None, Some, is_some, length};
-ghost use Rattle.jlr_machine.specs.declared.machine.Session.{Session};
+//! The mutators, their handles, and their calls in flight with the fences of those calls.
+ghost use Rattle.std.specs.Prelude.{◌≡◌, ◌<◌, IfNone, IfOk, IfSome, IsTrue, None, is_some, length, option_and_then, option_map};
 ghost use Rattle.jlr_machine.specs.declared.machine.Call.TheVariants.{Free};
 ghost use Rattle.jlr_machine.specs.Objects.{at, change_at, empty_at, set_at};
 ghost use Rattle.jlr_machine.specs.Calls.{fresh_session};
-ghost use Rattle.jlr_roots.specs.Sessions.{free_handle, has_free_handle, slot_held, with_slot, without_handle};
+ghost use Rattle.jlr_roots.specs.Sessions.{free_handle, has_call, has_free_handle, slot_held, with_call, with_slot, without_handle};
 ghost use Rattle.jlr_barrier.specs.Graphs.{with_mutators};
 
 use crate::heap::Heap;
-use jlr_machine::machine::Session;
+use jlr_machine::machine::{Call, Session};
 use jlr_machine::table::Table;
 use jlr_types::{Handle, Mutator, Slot};
 use std::alloc::{AllocError, Global};
@@ -28,14 +27,7 @@ impl Heap {
         self.roots.is_joined(mutator)
     }
 
-    /// No mutator has a call in flight: calls come later.
-    pub fn no_calls(&self)
-        ensures { (k : ℕ) (s : Session) → at self.now.graph.mutators k ≡ Some s → (s.call ≡ Free) × (s.fence ≡ None) }
-    {
-        self.roots.no_calls();
-    }
-
-    /// A mutator joins, with no handle in use.
+    /// A mutator joins, with no handle in use and no call.
     pub fn join(&mut self, mutator: Mutator)
         requires in_range { mutator < length self.old.graph.mutators }
         requires absent { at self.old.graph.mutators mutator ≡ None }
@@ -45,7 +37,7 @@ impl Heap {
         self.roots.join(mutator);
     }
 
-    /// A mutator leaves, and its handles are dropped.
+    /// A mutator leaves. Its handles are dropped, and its fence.
     pub fn leave(&mut self, mutator: Mutator)
         requires { IsTrue (is_some (at self.old.graph.mutators mutator)) }
         ensures graph { self.new.graph ≡ with_mutators self.old.graph (empty_at self.old.graph.mutators mutator) }
@@ -87,6 +79,45 @@ impl Heap {
         ensures { result ≡ slot_held self.now.graph.mutators mutator handle }
     {
         self.roots.lookup(mutator, handle)
+    }
+
+    /// What a mutator is in the middle of, if it is joined.
+    pub fn call(&self, mutator: Mutator) -> Option<Call>
+        ensures { result ≡ option_map (λ s. s.call) (at self.now.graph.mutators mutator) }
+    {
+        self.roots.call(mutator)
+    }
+
+    /// The slot that the call of a mutator holds, if the mutator is joined and has a fence.
+    pub fn fence(&self, mutator: Mutator) -> Option<Slot>
+        ensures { result ≡ option_and_then (λ s. s.fence) (at self.now.graph.mutators mutator) }
+    {
+        self.roots.fence(mutator)
+    }
+
+    /// Whether a mutator is joined and has a call in flight.
+    pub fn has_call(&self, mutator: Mutator) -> bool
+        ensures { result ≡ has_call self.now.graph.mutators mutator }
+    {
+        self.roots.has_call(mutator)
+    }
+
+    /// A mutator begins a call. Its fence is a root from now on, so this is one of the calls that make edges.
+    pub fn begin_call(&mut self, mutator: Mutator, fence: Option<Slot>, call: Call)
+        requires { IsTrue (is_some (at self.old.graph.mutators mutator)) }
+        ensures graph { self.new.graph ≡ with_mutators self.old.graph (change_at self.old.graph.mutators mutator (with_call fence call)) }
+        ensures clock { self.new.clock ≡ self.old.clock }
+    {
+        self.roots.begin_call(mutator, fence, call);
+    }
+
+    /// A mutator's call ends, and its fence with it.
+    pub fn end_call(&mut self, mutator: Mutator)
+        requires { IsTrue (is_some (at self.old.graph.mutators mutator)) }
+        ensures graph { self.new.graph ≡ with_mutators self.old.graph (change_at self.old.graph.mutators mutator (with_call None Free)) }
+        ensures clock { self.new.clock ≡ self.old.clock }
+    {
+        self.roots.end_call(mutator);
     }
 
     /// The sessions as plain data.

@@ -1,9 +1,10 @@
-//! Shading: what links, queues, roots and lists lead to is marked, and grey if it was not marked before.
-ghost use Rattle.std.specs.Prelude.{◌≡◌, ℕ, ◌+◌, ◌^◌, ◌<◌, IsTrue, Some, is_some, length};
+//! Shading: what links, queues, roots, names and lists lead to is marked, and grey if it was not marked before.
+ghost use Rattle.std.specs.Prelude.{◌≡◌, ℕ, ◌+◌, ◌^◌, ◌<◌, ◌≤◌, IsTrue, Some, is_some, length};
 ghost use Rattle.jlr_machine.specs.Objects.{at, some_and, ◌∈◌};
 ghost use Rattle.jlr_machine.specs.Refusals.{is_plain};
-ghost use Rattle.jlr_machine.specs.Edges.{edges_from};
+ghost use Rattle.jlr_machine.specs.Edges.{active_cleanables, edges_from, is_active, is_own_root};
 ghost use Rattle.jlr_machine.specs.Edges.Chain.{Strong};
+ghost use Rattle.jlr_roots.specs.Naming.{named};
 ghost use Rattle.jlr_roots.specs.Walk.{slots_held};
 ghost use Rattle.jlr_cells.specs.Contents.{members_in};
 ghost use Rattle.jlr_cells.specs.Links.{linked};
@@ -11,7 +12,8 @@ ghost use Rattle.jlr_barrier.specs.Marking.{Shaded};
 
 use crate::marks::Marks;
 use jlr_cells::{Cells, Links, Visited};
-use jlr_roots::Roots;
+use jlr_machine::object::CleanState;
+use jlr_roots::{Names, Roots};
 use jlr_types::{Meter, Slot};
 use std::collections::VecDeque;
 
@@ -48,8 +50,8 @@ pub(crate) fn follow(cells: &Cells, slot: Slot, meter: &mut Meter, marks: &mut M
             shade_links(links, marks);
             true
         }
-        Visited::Other { queue } => {
-            shade_target(queue, marks);
+        Visited::Other { next } => {
+            shade_target(next, marks);
             shade_members(cells, slot, marks);
             false
         }
@@ -68,13 +70,23 @@ fn shade_members(cells: &Cells, queue: Slot, marks: &mut Marks)
     }
 }
 
-/// Shades what the handles of all mutators stand for.
+/// Shades what all mutators hold.
 pub(crate) fn shade_roots(roots: &Roots, marks: &mut Marks)
     requires { (x : ℕ) → x ∈ slots_held roots.now → x < length marks.old.bits }
     ensures { Shaded (λ x. x ∈ slots_held roots.now) marks.old marks.new }
 {
     for place in 0..roots.places() {
         shade_target(roots.root(place), marks);
+    }
+}
+
+/// Shades what the names stand for.
+pub(crate) fn shade_names(names: &Names, marks: &mut Marks)
+    requires { (x : ℕ) → x ∈ named names.now → x < length marks.old.bits }
+    ensures { Shaded (λ x. x ∈ named names.now) marks.old marks.new }
+{
+    for place in 0..names.len() {
+        shade_target(names.slot_at(place), marks);
     }
 }
 
@@ -87,5 +99,47 @@ pub(crate) fn shade_list(slots: &VecDeque<Slot>, marks: &mut Marks)
     while let Some(slot) = slots.get(place) {
         shade_target(Some(*slot), marks);
         place += 1;
+    }
+}
+
+/// Shades the cleanables that are roots by themselves. It goes over the kinds of all cells, and reads only the cells of cleanables.
+pub(crate) fn shade_cleanables(cells: &Cells, marks: &mut Marks)
+    requires { length cells.now ≤ length marks.old.bits }
+    ensures { Shaded (λ x. x ∈ active_cleanables 0 cells.now) marks.old marks.new }
+{
+    for number in 0..cells.cell_count() {
+        shade_own_root(cells, Slot::new(number), marks);
+    }
+}
+
+/// Shades a slot, if a cleanable is there that is a root by itself.
+fn shade_own_root(cells: &Cells, slot: Slot, marks: &mut Marks)
+    requires { slot < length marks.old.bits }
+    ensures { Shaded (λ x. (x ≡ slot) × IsTrue (is_own_root (at cells.now slot))) marks.old marks.new }
+{
+    if is_own_root(cells, slot) {
+        marks.shade(slot);
+    }
+}
+
+/// Whether a cleanable is at a slot that is a root by itself.
+fn is_own_root(cells: &Cells, slot: Slot) -> bool
+    ensures { result ≡ is_own_root (at cells.now slot) }
+{
+    if !cells.is_cleanable(slot) {
+        return false;
+    }
+    match cells.cleanable(slot) {
+        Some(cleanable) => is_active(cleanable.state),
+        None => false,
+    }
+}
+
+fn is_active(state: CleanState) -> bool
+    ensures { result ≡ is_active state }
+{
+    match state {
+        CleanState::Armed | CleanState::Pending => true,
+        CleanState::Lined | CleanState::Spent => false,
     }
 }

@@ -4,8 +4,13 @@ ghost use Rattle.jlr_barrier.specs.Graphs.{empty_graph};
 
 use crate::heap::Heap;
 use jlr_cells::{Kind, Shape};
-use jlr_machine::object::{Object, RefState, Reference};
-use jlr_types::{FieldKind, FieldValue, Handle, Layout, Limits, Meter, Mutator, RefKind, Slot};
+use jlr_machine::machine::Call;
+use jlr_machine::object::{CleanState, Cleanable, Guard, Object, RefState, Reference};
+use jlr_machine::text::Name;
+use jlr_types::{
+    ActionNo, FieldKind, FieldValue, Handle, Layout, Limits, Meter, Mutator, RefKind, Rid, Slot,
+    Work,
+};
 use std::alloc::Global;
 use std::test::Fail;
 
@@ -15,6 +20,10 @@ fn heap_of(alloc: Global) -> Result<Heap, Fail>
 {
     let limits = Limits::checked(16, 2, 1, 0, 64, 1).ok().ok_or("limits")?;
     Ok(Heap::new(alloc, limits)?)
+}
+
+fn name_of(bytes: &[u8]) -> Result<Name, Fail> {
+    Ok(Name::from_slice(bytes).ok_or("too long a name")?)
 }
 
 fn pair() -> Shape {
@@ -43,6 +52,8 @@ fn a_new_heap_is_empty(rt: HostRuntime) -> Result<(), Fail> {
     assert_eq!(rt; heap.kind(first), None);
     assert_eq!(rt; heap.first_pending(), None);
     assert_eq!(rt; heap.take_pending(), None);
+    assert_eq!(rt; heap.first_lined(), None);
+    assert_eq!(rt; heap.take_lined_front(), None);
     assert_eq!(rt; heap.collections(), 0);
     assert!(rt; first.number() < heap.cell_count());
     assert_eq!(rt; heap.last_get(first), 0);
@@ -188,6 +199,122 @@ fn the_pending_list_is_taken_from_its_front(rt: HostRuntime) -> Result<(), Fail>
 }
 
 #[test]
+fn the_line_is_taken_from_its_front(rt: HostRuntime) -> Result<(), Fail> {
+    let mut heap = heap_of(rt.alloc())?;
+    let (first, second) = (Slot::new(9), Slot::new(2));
+    heap.add_lined(first);
+    heap.add_lined(second);
+    let image = heap.line_image(rt.alloc())?;
+    assert_eq!(rt; image.as_slice(), [first, second].as_slice());
+    assert_eq!(rt; heap.first_pending(), None);
+    for slot in [Some(first), Some(second), None] {
+        assert_eq!(rt; heap.first_lined(), slot);
+        assert_eq!(rt; heap.take_lined_front(), slot);
+    }
+    Ok(())
+}
+
+fn armed(referent: Slot) -> Shape {
+    Shape::Cleanable {
+        referent: Some(referent),
+        action: ActionNo::new(7),
+        work: Work::Note(42),
+    }
+}
+
+fn cleanable(referent: Option<Slot>, state: CleanState) -> Option<Cleanable> {
+    Some(Cleanable {
+        referent,
+        action: ActionNo::new(7),
+        work: Work::Note(42),
+        state,
+    })
+}
+
+#[test]
+fn a_cleanable_is_lined_and_spent(rt: HostRuntime) -> Result<(), Fail> {
+    let mut heap = heap_of(rt.alloc())?;
+    let cleaner = heap.allocate(Shape::Cleaner).ok_or("no cell")?;
+    let slot = heap.allocate(armed(cleaner)).ok_or("no cell")?;
+    assert!(rt; heap.is_cleaner(cleaner) && !heap.is_cleaner(slot));
+    assert_eq!(rt;
+        heap.cleanable(slot),
+        cleanable(Some(cleaner), CleanState::Armed)
+    );
+    assert_eq!(rt; heap.cleanable(cleaner), None);
+
+    assert!(rt; heap.is_cleanable(slot) && !heap.is_cleanable(cleaner));
+    heap.clear_cleanable(slot);
+    assert!(rt; heap.is_cleanable(slot));
+    heap.set_clean_state(slot, CleanState::Lined);
+    assert_eq!(rt; heap.cleanable(slot), cleanable(None, CleanState::Lined));
+
+    let other = heap.allocate(armed(cleaner)).ok_or("no cell")?;
+    assert!(rt; heap.is_cleanable(other));
+    heap.spend(other);
+    assert_eq!(rt; heap.cleanable(other), cleanable(None, CleanState::Spent));
+    Ok(())
+}
+
+#[test]
+fn a_guard_leads_to_its_cleanable(rt: HostRuntime) -> Result<(), Fail> {
+    let mut heap = heap_of(rt.alloc())?;
+    let mut meter = Meter::new();
+    let rid = Rid::new(3);
+    let cleanable = Slot::new(4);
+    let slot = heap
+        .allocate(Shape::Guard { rid, cleanable })
+        .ok_or("no cell")?;
+    assert!(rt; heap.is_guard(slot) && !heap.is_cleanable(slot));
+    assert_eq!(rt; heap.guard(slot), Some(Guard { rid, cleanable }));
+    assert_eq!(rt; heap.guard(cleanable), None);
+    assert!(rt; heap.kind(slot).is_some());
+    assert!(rt; !heap.scan(slot, &mut meter));
+    assert_eq!(rt; heap.next_grey(), Some(cleanable));
+    assert_eq!(rt; heap.next_grey(), None);
+    Ok(())
+}
+
+#[test]
+fn a_new_guard_has_a_cleanable_that_waits_for_it(rt: HostRuntime) -> Result<(), Fail> {
+    let mut heap = heap_of(rt.alloc())?;
+    let rid = Rid::new(3);
+    let action = ActionNo::new(7);
+    let (guard, cleanable) = heap.allocate_guard(rid, action).ok_or("no cells")?;
+    assert_eq!(rt; heap.guard(guard), Some(Guard { rid, cleanable }));
+    assert_eq!(rt;
+        heap.cleanable(cleanable),
+        Some(Cleanable {
+            referent: Some(guard),
+            action,
+            work: Work::Resource(rid),
+            state: CleanState::Armed,
+        })
+    );
+    assert_eq!(rt; heap.free_count() + 2, heap.cell_count());
+    for _ in 0u8..13 {
+        assert!(rt; heap.allocate(Shape::Queue).is_some());
+    }
+    assert_eq!(rt; heap.allocate_guard(rid, action), None);
+    assert_eq!(rt; heap.free_count(), 1);
+    Ok(())
+}
+
+#[test]
+fn cleanables_are_roots_by_themselves(rt: HostRuntime) -> Result<(), Fail> {
+    let mut heap = heap_of(rt.alloc())?;
+    let watched = heap.allocate(Shape::Cleaner).ok_or("no cell")?;
+    let spent = heap.allocate(armed(watched)).ok_or("no cell")?;
+    let waiting = heap.allocate(armed(watched)).ok_or("no cell")?;
+    assert!(rt; heap.is_cleanable(spent));
+    heap.spend(spent);
+    heap.shade_roots();
+    assert_eq!(rt; heap.next_grey(), Some(waiting));
+    assert_eq!(rt; heap.next_grey(), None);
+    Ok(())
+}
+
+#[test]
 fn handles_of_mutators(rt: HostRuntime) -> Result<(), Fail> {
     let mut heap = heap_of(rt.alloc())?;
     let (mutator, slot, handle) = (Mutator::new(1), Slot::new(7), Handle::new(1));
@@ -205,6 +332,90 @@ fn handles_of_mutators(rt: HostRuntime) -> Result<(), Fail> {
     assert!(rt; heap.is_joined(mutator));
     heap.leave(mutator);
     assert!(rt; !heap.is_joined(mutator) && !heap.has_free_handle(mutator));
+    Ok(())
+}
+
+#[test]
+fn a_call_of_a_mutator(rt: HostRuntime) -> Result<(), Fail> {
+    let mut heap = heap_of(rt.alloc())?;
+    let (mutator, guard, call) = (Mutator::new(1), Slot::new(7), Call::Out(Rid::new(5)));
+    assert!(rt; heap.mutator_count() == 2 && !heap.is_joined(mutator));
+    assert_eq!(rt; (heap.call(mutator), heap.fence(mutator)), (None, None));
+    heap.join(mutator);
+    assert_eq!(rt;
+        (heap.call(mutator), heap.fence(mutator)),
+        (Some(Call::Free), None)
+    );
+    assert!(rt; heap.is_joined(mutator) && !heap.has_call(mutator));
+    heap.begin_call(mutator, Some(guard), call);
+    assert_eq!(rt;
+        (heap.call(mutator), heap.fence(mutator)),
+        (Some(call), Some(guard))
+    );
+    assert_eq!(rt; heap.call(Mutator::new(0)), None);
+    assert!(rt; heap.is_joined(mutator) && heap.has_call(mutator));
+    heap.end_call(mutator);
+    assert_eq!(rt;
+        (heap.call(mutator), heap.fence(mutator)),
+        (Some(Call::Free), None)
+    );
+    assert!(rt; !heap.has_call(mutator));
+    Ok(())
+}
+
+#[test]
+fn a_fence_is_marked_as_a_root(rt: HostRuntime) -> Result<(), Fail> {
+    let mut heap = heap_of(rt.alloc())?;
+    let (mutator, guard) = (Mutator::new(1), Slot::new(7));
+    assert!(rt; heap.mutator_count() == 2 && !heap.is_joined(mutator));
+    heap.join(mutator);
+    assert!(rt; heap.is_joined(mutator));
+    heap.begin_call(mutator, Some(guard), Call::Out(Rid::new(5)));
+    heap.shade_roots();
+    assert_eq!(rt; heap.next_grey(), Some(guard));
+    assert_eq!(rt; heap.next_grey(), None);
+    Ok(())
+}
+
+#[test]
+fn what_a_name_stands_for_is_marked_as_a_root(rt: HostRuntime) -> Result<(), Fail> {
+    let mut heap = heap_of(rt.alloc())?;
+    let (name, slot) = (name_of(b"root")?, Slot::new(7));
+    heap.bind(&name, slot)?;
+    heap.shade_roots();
+    assert_eq!(rt; heap.next_grey(), Some(slot));
+    assert_eq!(rt; heap.next_grey(), None);
+    Ok(())
+}
+
+#[test]
+fn a_name_is_bound_found_and_unbound(rt: HostRuntime) -> Result<(), Fail> {
+    let mut heap = heap_of(rt.alloc())?;
+    let (left, right) = (name_of(b"left")?, name_of(b"right")?);
+    assert_eq!(rt; (heap.name_count(), heap.find(&left)), (0, None));
+    heap.bind(&left, Slot::new(3))?;
+    heap.bind(&right, Slot::new(5))?;
+    heap.bind(&left, Slot::new(7))?;
+    assert_eq!(rt;
+        (heap.find(&left), heap.find(&right)),
+        (Some(Slot::new(7)), Some(Slot::new(5)))
+    );
+    let (names, image) = (heap.names(rt.alloc())?, heap.names_image(rt.alloc())?);
+    assert_eq!(rt; (names.len(), image.len()), (2, 2));
+    assert!(rt;
+        names
+            .as_slice()
+            .get(0)
+            .is_some_and(|name| name.as_slice() == b"left".as_slice())
+    );
+    assert!(rt;
+        image
+            .as_slice()
+            .get(0)
+            .is_some_and(|binding| binding.slot == Slot::new(7))
+    );
+    heap.unbind(&left);
+    assert_eq!(rt; (heap.name_count(), heap.find(&left)), (1, None));
     Ok(())
 }
 

@@ -1,18 +1,19 @@
 -- The kinds and the links that stand by themselves, and the free list, after a change of one cell.
 use Rattle.std.proofs.Common.{◌≡◌, ℕ, zero, suc, ◌+◌, ◌-◌, ◌<◌, ◌^◌, true, List, [], ◌∷◌, Option, Some, None, length, set, get_or, replicate, refl, sym, ap, ◌∙◌}
-use Rattle.std.specs.Prelude.{drop, is_some, OnErr, OnOk, Result, Ok, Err, option_and_then, option_map, slice_index_or}
+use Rattle.std.specs.Prelude.{drop, is_some, OnErr, OnOk, Result, Ok, Err, option_map, slice_index_or}
 use Rattle.std.proofs.Math.Seq.{map-set_same}
 use Rattle.std.proofs.lemmas.List.{map-set, get_or-map}
 use Rattle.std.proofs.lemmas.Option.{get_or_from_slice_get}
 use Rattle.jlr_machine.specs.declared.object.Object.{Object}
 use Rattle.jlr_types.specs.declared.FieldValue.{FieldValue}
 use Rattle.jlr_machine.specs.declared.object.Reference.{Reference as ReferenceOf}
+use Rattle.jlr_machine.specs.declared.object.Cleanable.{Cleanable as CleanableOf}
 use Rattle.jlr_machine.specs.Edges.{slot_in}
-use Rattle.jlr_machine.specs.Objects.{at, change_at, with_field, with_members, with_reference}
+use Rattle.jlr_machine.specs.Objects.{at, change_at, with_cleanable, with_field, with_members, with_reference}
 use Rattle.jlr_cells.proofs.Slots.{at-read, change_at-objects_in, object_of_field, within_cells}
-use Rattle.jlr_cells.proofs.LinkLists.{links_with_field, links_with_members, links_with_reference}
+use Rattle.jlr_cells.proofs.LinkLists.{links_with_cleanable, links_with_field, links_with_members, links_with_reference}
 use Rattle.jlr_cells.specs.declared.cell.Cell.{Cell}
-use Rattle.jlr_cells.specs.declared.cell.Cell.TheVariants.{Free, Plain, Reference, Queue}
+use Rattle.jlr_cells.specs.declared.cell.Cell.TheVariants.{Free}
 use Rattle.jlr_cells.specs.declared.shape.Kind.{Kind}
 use Rattle.jlr_cells.specs.Contents.{object_in, objects_in, kind_of, kind_in, kinds_in, field_in}
 use Rattle.jlr_cells.specs.Links.{cell_links, links_in, links_of, no_links}
@@ -20,22 +21,15 @@ use Rattle.jlr_cells.specs.FreeList.{IsFreeAt, AreKept, AreLinkedUp, link_to}
 use Rattle.jlr_cells.proofs.Chains.{changed, taken, given_back, new_list, new_objects}
 
 -- a kind by itself is that of the object in the cell
-pub kind_at : (cells : List Cell) (s : ℕ) → slice_index_or (kinds_in cells) s None ≡ option_and_then kind_of (at (objects_in cells) s)
+pub kind_at : (cells : List Cell) (s : ℕ) → slice_index_or (kinds_in cells) s None ≡ option_map kind_of (at (objects_in cells) s)
 kind_at [] s = refl
 kind_at (c ∷ cells) zero = refl
 kind_at (c ∷ cells) (suc s) = kind_at cells s
 
--- an object has a kind, where it is of the kinds that cells have
-pub has_kind : (c : Cell) → is_some (kind_in c) ≡ is_some (object_in c)
-has_kind (Free next) = refl
-has_kind (Plain fields) = refl
-has_kind (Reference r) = refl
-has_kind (Queue members) = refl
-
-pub has_kind_at : (cells : List Cell) (s : ℕ) → is_some (option_and_then kind_of (at (objects_in cells) s)) ≡ is_some (at (objects_in cells) s)
-has_kind_at [] s = refl
-has_kind_at (c ∷ cells) zero = has_kind c
-has_kind_at (c ∷ cells) (suc s) = has_kind_at cells s
+-- each object has a kind
+pub has_kind : (o : Option Object) → is_some (option_map kind_of o) ≡ is_some o
+has_kind None = refl
+has_kind (Some o) = refl
 
 -- the links of the object in a cell that was read
 links_read :
@@ -60,13 +54,20 @@ kept_changed cells kinds links s count first c d f kept holds read becomes same 
       by_links = kept.by_links ∙ sym (map-set_same cell_links cells s d c (linked ∙ ap cell_links read));
     }
 
--- a reference changes, or the members of a queue
+-- a reference changes, a cleanable, or the members of a queue
 pub kept_reference :
     (cells : List Cell) (kinds : List (Option Kind)) (links : List (List (Option ℕ))) (s count : ℕ) (first : Option ℕ) (c d : Cell) (f : ReferenceOf → ReferenceOf)
     → AreKept cells kinds links first count → is_some (at (objects_in cells) s) ≡ true → c ≡ get_or cells s c → object_in d ≡ option_map (with_reference f) (object_in c) → kind_in d ≡ kind_in c
     → AreKept (set cells s d) kinds links first count
 kept_reference cells kinds links s count first c d f kept holds read becomes same =
     kept_changed cells kinds links s count first c d (with_reference f) kept holds read becomes same (ap links_of becomes ∙ links_with_reference f (object_in c))
+
+pub kept_cleanable :
+    (cells : List Cell) (kinds : List (Option Kind)) (links : List (List (Option ℕ))) (s count : ℕ) (first : Option ℕ) (c d : Cell) (f : CleanableOf → CleanableOf)
+    → AreKept cells kinds links first count → is_some (at (objects_in cells) s) ≡ true → c ≡ get_or cells s c → object_in d ≡ option_map (with_cleanable f) (object_in c) → kind_in d ≡ kind_in c
+    → AreKept (set cells s d) kinds links first count
+kept_cleanable cells kinds links s count first c d f kept holds read becomes same =
+    kept_changed cells kinds links s count first c d (with_cleanable f) kept holds read becomes same (ap links_of becomes ∙ links_with_cleanable f (object_in c))
 
 pub kept_members :
     (cells : List Cell) (kinds : List (Option Kind)) (links : List (List (Option ℕ))) (s count : ℕ) (first : Option ℕ) (c d : Cell) (f : List ℕ → List ℕ)
@@ -143,7 +144,7 @@ no_kinds [] (suc n) e = absurd (cc)
 no_kinds (c ∷ cells) zero e = cc
 no_kinds (c ∷ cells) (suc n) e =
     let first : object_in c ≡ None = ap (λ l. slice_index_or l 0 None) e in
-    rw (no_kinds cells n (ap (drop 1) e)) (ap (λ o. option_and_then kind_of o ∷ replicate n None) first)
+    rw (no_kinds cells n (ap (drop 1) e)) (ap (λ o. option_map kind_of o ∷ replicate n None) first)
 
 null_links : (cells : List Cell) (n : ℕ) → objects_in cells ≡ replicate n None → links_in cells ≡ replicate n no_links
 null_links [] zero e = refl

@@ -10,14 +10,15 @@ use Rattle.jlr_types.specs.declared.FieldValue.TheVariants as field
 use Rattle.jlr_machine.specs.declared.object.Object.{Object}
 use Rattle.jlr_machine.specs.declared.object.Object.TheVariants as object
 use Rattle.jlr_machine.specs.declared.object.Reference.{Reference as ReferenceOf}
+use Rattle.jlr_machine.specs.declared.object.Cleanable.{Cleanable as CleanableOf}
 use Rattle.jlr_machine.specs.Lookups.{blank}
-use Rattle.jlr_machine.specs.Objects.{at, some_and, with_field, with_members, with_reference}
+use Rattle.jlr_machine.specs.Objects.{at, some_and, with_cleanable, with_field, with_members, with_reference}
 use Rattle.jlr_machine.specs.Edges.{edges_from, slot_in}
 use Rattle.jlr_machine.specs.Edges.Chain.{Strong}
 use Rattle.jlr_machine.specs.Refusals.{is_plain}
 use Rattle.jlr_cells.specs.declared.cell.Cell.{Cell}
-use Rattle.jlr_cells.specs.declared.cell.Cell.TheVariants.{Free, Plain, Reference, Queue}
-use Rattle.jlr_cells.specs.Contents.{ahead_in, field_in, members_in, object_in, objects_in}
+use Rattle.jlr_cells.specs.declared.cell.Cell.TheVariants.{Free, Plain, Reference, Queue, Cleaner, Cleanable, Guard}
+use Rattle.jlr_cells.specs.Contents.{next_in, field_in, members_in, object_in, objects_in}
 use Rattle.jlr_cells.specs.Links.{linked, links_in, links_of, links_to, no_links}
 
 -- ---- New objects
@@ -63,6 +64,15 @@ links_with_reference f (Some object.Cleaner) = refl
 links_with_reference f (Some (object.Cleanable c)) = refl
 links_with_reference f (Some (object.Guard g)) = refl
 
+pub links_with_cleanable : (f : CleanableOf → CleanableOf) (o : Option Object) → links_of (option_map (with_cleanable f) o) ≡ links_of o
+links_with_cleanable f None = refl
+links_with_cleanable f (Some (object.Plain fields)) = refl
+links_with_cleanable f (Some (object.Reference r)) = refl
+links_with_cleanable f (Some (object.Queue members)) = refl
+links_with_cleanable f (Some object.Cleaner) = refl
+links_with_cleanable f (Some (object.Cleanable c)) = refl
+links_with_cleanable f (Some (object.Guard g)) = refl
+
 pub links_with_members : (f : List ℕ → List ℕ) (o : Option Object) → links_of (option_map (with_members f) o) ≡ links_of o
 links_with_members f None = refl
 links_with_members f (Some (object.Plain fields)) = refl
@@ -96,6 +106,9 @@ plain_edges (Free next) h = cc
 plain_edges (Plain fields) h = append-nil (filter_map slot_in fields) ∙ sym (links_lead fields)
 plain_edges (Reference r) h = cc
 plain_edges (Queue members) h = cc
+plain_edges Cleaner h = cc
+plain_edges (Cleanable c) h = cc
+plain_edges (Guard g) h = cc
 
 -- a plain object's strong edges are what its links lead to
 pub plain_edges_at : (cells : List Cell) (s : ℕ) (d : List (Option ℕ)) → some_and is_plain (at (objects_in cells) s) ≡ true → edges_from Strong (objects_in cells) s ≡ linked (get_or (links_in cells) s d)
@@ -103,9 +116,12 @@ plain_edges_at [] s d h = cc
 plain_edges_at (c ∷ cells) zero d h = plain_edges c h
 plain_edges_at (c ∷ cells) (suc s) d h = plain_edges_at cells s d h
 
--- another object's are the queue ahead of it, and its members
-pub other_edges : (c : Cell) → some_and is_plain (object_in c) ≡ false → edges_from Strong (object_in c ∷ []) 0 ≡ option_to_list (ahead_in (object_in c)) ++ members_in (object_in c)
+-- another object's are what is next to it, and its members
+pub other_edges : (c : Cell) → some_and is_plain (object_in c) ≡ false → edges_from Strong (object_in c ∷ []) 0 ≡ option_to_list (next_in (object_in c)) ++ members_in (object_in c)
 other_edges (Free next) h = refl
 other_edges (Plain fields) h = cc
 other_edges (Reference r) h = refl
 other_edges (Queue members) h = append-nil members.items
+other_edges Cleaner h = refl
+other_edges (Cleanable c) h = refl
+other_edges (Guard g) h = refl

@@ -6,7 +6,7 @@ use Rattle.std.proofs.lemmas.Option.{slice_get_read}
 use Rattle.std.proofs.lemmas.List.Sums.{sum_by-set}
 use Rattle.jlr_machine.specs.declared.object.Object.{Object}
 use Rattle.jlr_machine.specs.Objects.{at, occupied, change_at, some_and}
-use Rattle.jlr_machine.specs.Refusals.{is_queue, is_reference}
+use Rattle.jlr_machine.specs.Refusals.{is_cleanable, is_queue, is_reference}
 use Rattle.jlr_cells.specs.declared.cell.Cell.{Cell}
 use Rattle.jlr_cells.specs.Contents.{object_in, objects_in, field_in}
 
@@ -49,7 +49,7 @@ within_cells [] s h = cc
 within_cells (c ∷ cells) zero h = omega arith
 within_cells (c ∷ cells) (suc s) h = let below : s < length cells = within_cells cells s h in omega arith
 
--- a plain object, or a reference, is an object
+-- a plain object, a reference, a cleanable or a queue is an object
 pub object_of_field : (o : Option Object) (field : ℕ) → is_some (field_in o field) ≡ true → is_some o ≡ true
 object_of_field None field h = h
 object_of_field (Some o) field h = refl
@@ -57,6 +57,10 @@ object_of_field (Some o) field h = refl
 pub object_of_reference : (o : Option Object) → some_and is_reference o ≡ true → is_some o ≡ true
 object_of_reference None h = h
 object_of_reference (Some o) h = refl
+
+pub object_of_cleanable : (o : Option Object) → some_and is_cleanable o ≡ true → is_some o ≡ true
+object_of_cleanable None h = h
+object_of_cleanable (Some o) h = refl
 
 pub object_of_queue : (o : Option Object) → some_and is_queue o ≡ true → is_some o ≡ true
 object_of_queue None h = h

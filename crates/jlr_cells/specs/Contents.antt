@@ -1,19 +1,22 @@
 -- Which object a cell holds, and what is asked of objects.
-use Rattle.std.specs.Prelude.{ℕ, List, [], Option, Some, None, map, option_and_then, slice_get}
+use Rattle.std.specs.Prelude.{ℕ, List, [], Option, Some, None, map, option_and_then, option_map, slice_get}
 use Rattle.jlr_types.specs.declared.FieldValue.{FieldValue}
 use Rattle.jlr_machine.specs.declared.object.Object.{Object}
-use Rattle.jlr_machine.specs.declared.object.Object.TheVariants.{Plain as PlainObject, Reference as ReferenceObject, Queue as QueueObject}
+use Rattle.jlr_machine.specs.declared.object.Object.TheVariants.{Plain as PlainObject, Reference as ReferenceObject, Queue as QueueObject, Cleaner as CleanerObject, Cleanable as CleanableObject, Guard as GuardObject}
 use Rattle.jlr_machine.specs.declared.object.Reference.{Reference as ReferenceOf}
+use Rattle.jlr_machine.specs.declared.object.Cleanable.{Cleanable as CleanableOf}
+use Rattle.jlr_machine.specs.declared.object.CleanState.{CleanState}
+use Rattle.jlr_machine.specs.declared.object.CleanState.TheVariants.{Armed}
 use Rattle.jlr_machine.specs.declared.object.RefState.{RefState}
 use Rattle.jlr_machine.specs.declared.object.RefState.TheVariants.{Fresh}
 use Rattle.jlr_machine.specs.Objects.{Heap, at, as_fields, as_members, as_reference, queue_ahead}
 use Rattle.jlr_machine.specs.Lookups.{blank}
 use Rattle.jlr_cells.specs.declared.cell.Cell.{Cell}
-use Rattle.jlr_cells.specs.declared.cell.Cell.TheVariants.{Free, Plain, Reference, Queue}
+use Rattle.jlr_cells.specs.declared.cell.Cell.TheVariants.{Free, Plain, Reference, Queue, Cleaner, Cleanable, Guard}
 use Rattle.jlr_cells.specs.declared.shape.Kind.{Kind}
-use Rattle.jlr_cells.specs.declared.shape.Kind.TheVariants.{Plain as PlainKind, Reference as ReferenceKind, Queue as QueueKind}
+use Rattle.jlr_cells.specs.declared.shape.Kind.TheVariants.{Plain as PlainKind, Reference as ReferenceKind, Queue as QueueKind, Cleaner as CleanerKind, Cleanable as CleanableKind, Guard as GuardKind}
 use Rattle.jlr_cells.specs.declared.shape.Shape.{Shape}
-use Rattle.jlr_cells.specs.declared.shape.Shape.TheVariants.{Plain as PlainShape, Reference as ReferenceShape, Queue as QueueShape}
+use Rattle.jlr_cells.specs.declared.shape.Shape.TheVariants.{Plain as PlainShape, Reference as ReferenceShape, Queue as QueueShape, Cleaner as CleanerShape, Cleanable as CleanableShape, Guard as GuardShape}
 
 -- the object in a cell, if it is not free
 abbrev pub object_in : Cell → Option Object
@@ -21,27 +24,36 @@ object_in (Free next) = None
 object_in (Plain fields) = Some (PlainObject fields)
 object_in (Reference r) = Some (ReferenceObject r)
 object_in (Queue members) = Some (QueueObject members.items)
+object_in Cleaner = Some CleanerObject
+object_in (Cleanable c) = Some (CleanableObject c)
+object_in (Guard g) = Some (GuardObject g)
 
 -- the objects in the cells, by slot
 abbrev pub objects_in : List Cell → Heap
 objects_in cells = map object_in cells
 
--- the object that is made of a shape: its fields are 0 or null, a reference is Fresh, a queue has no members
+-- the object that is made of a shape: its fields are 0 or null, a reference is Fresh, a queue has no members, a cleanable
+-- is Armed
 abbrev pub object_of : Shape → Object
 object_of (PlainShape layout) = PlainObject (map blank layout)
 object_of (ReferenceShape kind referent queue) = ReferenceObject (record { kind = kind; referent = referent; queue = queue; state = Fresh })
 object_of QueueShape = QueueObject []
+object_of CleanerShape = CleanerObject
+object_of (CleanableShape referent action work) = CleanableObject (record { referent = referent; action = action; work = work; state = Armed })
+object_of (GuardShape rid cleanable) = GuardObject (record { rid = rid; cleanable = cleanable })
 
--- of which kind an object is; of the other kinds no cell is made yet
-abbrev pub kind_of : Object → Option Kind
-kind_of (PlainObject fields) = Some PlainKind
-kind_of (ReferenceObject r) = Some (ReferenceKind r.kind)
-kind_of (QueueObject members) = Some QueueKind
-kind_of _ = None
+-- of which kind an object is
+abbrev pub kind_of : Object → Kind
+kind_of (PlainObject fields) = PlainKind
+kind_of (ReferenceObject r) = ReferenceKind r.kind
+kind_of (QueueObject members) = QueueKind
+kind_of CleanerObject = CleanerKind
+kind_of (CleanableObject c) = CleanableKind
+kind_of (GuardObject g) = GuardKind
 
 -- of which kind a cell's object is, if it is not free
 abbrev pub kind_in : Cell → Option Kind
-kind_in c = option_and_then kind_of (object_in c)
+kind_in c = option_map kind_of (object_in c)
 
 -- the kinds of the objects in the cells, by slot
 abbrev pub kinds_in : List Cell → List (Option Kind)
@@ -59,9 +71,15 @@ field_at heap s field = field_in (at heap s) field
 abbrev pub referent_in : Option Object → Option ℕ
 referent_in o = option_and_then (λ r. r.referent) (option_and_then as_reference o)
 
--- the queue that an object may still be added to, if it is a reference
-abbrev pub ahead_in : Option Object → Option ℕ
-ahead_in o = option_and_then queue_ahead (option_and_then as_reference o)
+-- what an object leads to beside fields and members: a reference to the queue that it may still be added to, a guard to its
+-- cleanable
+abbrev pub next_of : Object → Option ℕ
+next_of (ReferenceObject r) = queue_ahead r
+next_of (GuardObject g) = Some g.cleanable
+next_of _ = None
+
+abbrev pub next_in : Option Object → Option ℕ
+next_in o = option_and_then next_of o
 
 -- a reference in another state, and one that is registered with no queue any more
 abbrev pub in_state : RefState → ReferenceOf → ReferenceOf
@@ -69,6 +87,17 @@ in_state state r = record r { state = state }
 
 abbrev pub unregistered : ReferenceOf → ReferenceOf
 unregistered r = record r { queue = None }
+
+-- a cleanable in another state, and one without referent
+abbrev pub in_clean_state : CleanState → CleanableOf → CleanableOf
+in_clean_state state c = record c { state = state }
+
+abbrev pub without_referent : CleanableOf → CleanableOf
+without_referent c = record c { referent = None }
+
+-- and one that waits for an object
+abbrev pub watching : ℕ → CleanableOf → CleanableOf
+watching s c = record c { referent = Some s }
 
 -- the members of an object, if it is a queue
 abbrev pub members_in : Option Object → List ℕ

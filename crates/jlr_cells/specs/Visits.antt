@@ -7,9 +7,9 @@ use Rattle.jlr_cells.specs.Links.{linked}
 -- whether a visit found a plain object
 abbrev pub found_plain : Visited → Bool
 found_plain (Plain links) = true
-found_plain (Other queue) = false
+found_plain (Other next) = false
 
 -- what a visit tells of strong edges, with the members that the object has if it is a queue
 abbrev pub edges_told : Visited → List ℕ → List ℕ
 edges_told (Plain links) members = linked links.now
-edges_told (Other queue) members = option_to_list queue ++ members
+edges_told (Other next) members = option_to_list next ++ members

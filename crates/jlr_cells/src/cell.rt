@@ -1,15 +1,15 @@
 //! One cell.
 ghost use Rattle.std.specs.Prelude.{◌≡◌, ◌++◌, ◌∷◌, [], ◌+◌, ◌<◌, ◌^◌, IfOk, IfSome, OnErr, OnOk, Some, IsTrue, drop, is_some, length, option_and_then, option_map};
-ghost use Rattle.jlr_machine.specs.Objects.{as_fields, as_reference, some_and, with_field, with_members, with_reference};
-ghost use Rattle.jlr_machine.specs.Refusals.{is_queue, is_reference};
-ghost use Rattle.jlr_machine.specs.Calls.{unreferred};
-ghost use Rattle.jlr_cells.specs.Contents.{ahead_in, field_in, in_state, kind_in, member_in, object_in, object_of, referent_in, unregistered};
+ghost use Rattle.jlr_machine.specs.Objects.{as_cleanable, as_fields, as_guard, as_reference, some_and, with_cleanable, with_field, with_members, with_reference};
+ghost use Rattle.jlr_machine.specs.Refusals.{is_cleanable, is_queue, is_reference};
+ghost use Rattle.jlr_machine.specs.Calls.{spent, unreferred};
+ghost use Rattle.jlr_cells.specs.Contents.{field_in, in_clean_state, in_state, kind_in, member_in, next_in, object_in, object_of, referent_in, unregistered, without_referent, watching};
 ghost use Rattle.jlr_cells.specs.Links.{links_of, no_links};
 
 use crate::fields::Fields;
 use crate::shape::{Kind, Shape};
 use jlr_machine::items::Items;
-use jlr_machine::object::{Object, RefState, Reference};
+use jlr_machine::object::{CleanState, Cleanable, Guard, Object, RefState, Reference};
 use jlr_types::{FieldValue, Slot};
 use std::alloc::{AllocError, Global};
 use std::collections::VecDeque;
@@ -23,6 +23,9 @@ pub(crate) enum Cell {
     Reference(Reference),
     /// A queue, with its members from the front on.
     Queue(VecDeque<Slot>),
+    Cleaner,
+    Cleanable(Cleanable),
+    Guard(Guard),
 }
 
 // What the head of the crate says of the layout.
@@ -46,6 +49,18 @@ impl Cell {
                 state: RefState::Fresh,
             }),
             Shape::Queue => Cell::Queue(VecDeque::new(alloc)),
+            Shape::Cleaner => Cell::Cleaner,
+            Shape::Cleanable {
+                referent,
+                action,
+                work,
+            } => Cell::Cleanable(Cleanable {
+                referent,
+                action,
+                work,
+                state: CleanState::Armed,
+            }),
+            Shape::Guard { rid, cleanable } => Cell::Guard(Guard { rid, cleanable }),
         }
     }
 
@@ -57,6 +72,9 @@ impl Cell {
             Cell::Plain(_) => Some(Kind::Plain),
             Cell::Reference(reference) => Some(Kind::Reference(reference.kind)),
             Cell::Queue(_) => Some(Kind::Queue),
+            Cell::Cleaner => Some(Kind::Cleaner),
+            Cell::Cleanable(_) => Some(Kind::Cleanable),
+            Cell::Guard(_) => Some(Kind::Guard),
         }
     }
 
@@ -65,7 +83,7 @@ impl Cell {
     {
         match self {
             Cell::Plain(fields) => Some(fields.len()),
-            Cell::Free { .. } | Cell::Reference(_) | Cell::Queue(_) => None,
+            _ => None,
         }
     }
 
@@ -75,7 +93,7 @@ impl Cell {
     {
         match self {
             Cell::Plain(fields) => fields.get(field),
-            Cell::Free { .. } | Cell::Reference(_) | Cell::Queue(_) => None,
+            _ => None,
         }
     }
 
@@ -89,7 +107,7 @@ impl Cell {
     {
         match self {
             Cell::Plain(fields) => fields.set(field, value),
-            Cell::Free { .. } | Cell::Reference(_) | Cell::Queue(_) => unreachable!(),
+            _ => unreachable!(),
         }
     }
 
@@ -101,7 +119,7 @@ impl Cell {
     {
         match self {
             Cell::Reference(reference) => reference.state = state,
-            Cell::Free { .. } | Cell::Plain(_) | Cell::Queue(_) => unreachable!(),
+            _ => unreachable!(),
         }
     }
 
@@ -113,7 +131,7 @@ impl Cell {
     {
         match self {
             Cell::Reference(reference) => reference.queue = None,
-            Cell::Free { .. } | Cell::Plain(_) | Cell::Queue(_) => unreachable!(),
+            _ => unreachable!(),
         }
     }
 
@@ -125,7 +143,76 @@ impl Cell {
     {
         match self {
             Cell::Reference(reference) => reference.referent = None,
-            Cell::Free { .. } | Cell::Plain(_) | Cell::Queue(_) => unreachable!(),
+            _ => unreachable!(),
+        }
+    }
+
+    /// A cleanable comes into another state.
+    pub(crate) fn set_clean_state(&mut self, state: CleanState)
+        requires { IsTrue (some_and is_cleanable (object_in self.old)) }
+        ensures new { object_in self.new ≡ option_map (with_cleanable (in_clean_state state)) (object_in self.old) }
+        ensures kind { kind_in self.new ≡ kind_in self.old }
+    {
+        match self {
+            Cell::Cleanable(cleanable) => cleanable.state = state,
+            _ => unreachable!(),
+        }
+    }
+
+    /// A cleanable loses its referent.
+    pub(crate) fn clear_cleanable(&mut self)
+        requires { IsTrue (some_and is_cleanable (object_in self.old)) }
+        ensures new { object_in self.new ≡ option_map (with_cleanable without_referent) (object_in self.old) }
+        ensures kind { kind_in self.new ≡ kind_in self.old }
+    {
+        match self {
+            Cell::Cleanable(cleanable) => cleanable.referent = None,
+            _ => unreachable!(),
+        }
+    }
+
+    /// A cleanable waits for an object from now on.
+    pub(crate) fn watch(&mut self, referent: Slot)
+        requires { IsTrue (some_and is_cleanable (object_in self.old)) }
+        ensures new { object_in self.new ≡ option_map (with_cleanable (watching referent)) (object_in self.old) }
+        ensures kind { kind_in self.new ≡ kind_in self.old }
+    {
+        match self {
+            Cell::Cleanable(cleanable) => cleanable.referent = Some(referent),
+            _ => unreachable!(),
+        }
+    }
+
+    /// A cleanable has done what it was for.
+    pub(crate) fn spend(&mut self)
+        requires { IsTrue (some_and is_cleanable (object_in self.old)) }
+        ensures new { object_in self.new ≡ option_map (with_cleanable spent) (object_in self.old) }
+        ensures kind { kind_in self.new ≡ kind_in self.old }
+    {
+        match self {
+            Cell::Cleanable(cleanable) => {
+                cleanable.state = CleanState::Spent;
+                cleanable.referent = None;
+            }
+            _ => unreachable!(),
+        }
+    }
+
+    pub(crate) fn cleanable(&self) -> Option<Cleanable>
+        ensures { result ≡ option_and_then as_cleanable (object_in self.now) }
+    {
+        match self {
+            Cell::Cleanable(cleanable) => Some(*cleanable),
+            _ => None,
+        }
+    }
+
+    pub(crate) fn guard(&self) -> Option<Guard>
+        ensures { result ≡ option_and_then as_guard (object_in self.now) }
+    {
+        match self {
+            Cell::Guard(guard) => Some(*guard),
+            _ => None,
         }
     }
 
@@ -134,7 +221,7 @@ impl Cell {
     {
         match self {
             Cell::Reference(reference) => Some(*reference),
-            Cell::Free { .. } | Cell::Plain(_) | Cell::Queue(_) => None,
+            _ => None,
         }
     }
 
@@ -143,20 +230,21 @@ impl Cell {
     {
         match self {
             Cell::Reference(reference) => reference.referent,
-            Cell::Free { .. } | Cell::Plain(_) | Cell::Queue(_) => None,
+            _ => None,
         }
     }
 
-    /// The queue that a reference may still be added to.
-    pub(crate) fn queue_ahead(&self) -> Option<Slot>
-        ensures { result ≡ ahead_in (object_in self.now) }
+    /// The queue that a reference may still be added to, or the cleanable of a guard.
+    pub(crate) fn next(&self) -> Option<Slot>
+        ensures { result ≡ next_in (object_in self.now) }
     {
         match self {
             Cell::Reference(reference) => match reference.state {
                 RefState::Fresh | RefState::Pending => reference.queue,
                 RefState::Queued | RefState::Removed => None,
             },
-            Cell::Free { .. } | Cell::Plain(_) | Cell::Queue(_) => None,
+            Cell::Guard(guard) => Some(guard.cleanable),
+            _ => None,
         }
     }
 
@@ -167,7 +255,7 @@ impl Cell {
     {
         match self {
             Cell::Queue(members) => members.get(place).copied(),
-            Cell::Free { .. } | Cell::Plain(_) | Cell::Reference(_) => None,
+            _ => None,
         }
     }
 
@@ -180,7 +268,7 @@ impl Cell {
     {
         match self {
             Cell::Queue(members) => members.push_back(member).map_err(|_| AllocError),
-            Cell::Free { .. } | Cell::Plain(_) | Cell::Reference(_) => unreachable!(),
+            _ => unreachable!(),
         }
     }
 
@@ -193,7 +281,7 @@ impl Cell {
     {
         match self {
             Cell::Queue(members) => members.pop_front(),
-            Cell::Free { .. } | Cell::Plain(_) | Cell::Reference(_) => unreachable!(),
+            _ => unreachable!(),
         }
     }
 
@@ -215,6 +303,9 @@ impl Cell {
             }
             Cell::Reference(reference) => Ok(Some(Object::Reference(*reference))),
             Cell::Queue(members) => Ok(Some(Object::Queue(members_image(alloc, members)?))),
+            Cell::Cleaner => Ok(Some(Object::Cleaner)),
+            Cell::Cleanable(cleanable) => Ok(Some(Object::Cleanable(*cleanable))),
+            Cell::Guard(guard) => Ok(Some(Object::Guard(*guard))),
         }
     }
 }

@@ -1,12 +1,12 @@
 //! All cells.
 ghost use Rattle.std.specs.Prelude.{◌≡◌, ℕ, ◌+◌, ◌++◌, ◌∷◌, [], ◌^◌, ◌<◌, ◌↔◌, IfOk, IfNone, IfSome, IsNone, IsTrue, None, OnErr, OnOk, Some, drop, is_some, length, option_and_then, option_map, replicate};
-ghost use Rattle.jlr_machine.specs.Objects.{as_fields, as_reference, at, change_at, empty_at, occupied, set_at, some_and};
+ghost use Rattle.jlr_machine.specs.Objects.{as_cleanable, as_fields, as_guard, as_reference, at, change_at, empty_at, is_cleaner, occupied, set_at, some_and};
 ghost use Rattle.jlr_machine.specs.Edges.{edges_from};
 ghost use Rattle.jlr_machine.specs.Edges.Chain.{Strong};
-ghost use Rattle.jlr_machine.specs.Objects.{with_field, with_members, with_reference};
-ghost use Rattle.jlr_machine.specs.Refusals.{is_plain, is_queue, is_reference};
-ghost use Rattle.jlr_machine.specs.Calls.{unreferred};
-ghost use Rattle.jlr_cells.specs.Contents.{ahead_in, field_at, in_state, kind_of, member_in, members_in, object_of, objects_in, referent_in, unregistered};
+ghost use Rattle.jlr_machine.specs.Objects.{with_cleanable, with_field, with_members, with_reference};
+ghost use Rattle.jlr_machine.specs.Refusals.{is_cleanable, is_guard, is_plain, is_queue, is_reference};
+ghost use Rattle.jlr_machine.specs.Calls.{spent, unreferred};
+ghost use Rattle.jlr_cells.specs.Contents.{field_at, in_clean_state, in_state, kind_of, member_in, members_in, object_of, objects_in, referent_in, unregistered, watching, without_referent};
 ghost use Rattle.jlr_cells.specs.Links.{no_links};
 ghost use Rattle.jlr_cells.specs.Visits.{edges_told, found_plain};
 
@@ -14,7 +14,7 @@ use crate::cell::Cell;
 use crate::free_list::{free_cells, link_to, next_free};
 use crate::links::{Links, Visited, target_of};
 use crate::shape::{Kind, Shape};
-use jlr_machine::object::{Object, RefState, Reference};
+use jlr_machine::object::{CleanState, Cleanable, Guard, Object, RefState, Reference};
 use jlr_machine::table::Table;
 use jlr_types::{FieldValue, Meter, Slot};
 use std::alloc::{AllocError, Global};
@@ -113,20 +113,13 @@ impl Cells {
 
     /// Of which kind the object at a slot is, if there is one.
     pub fn kind(&self, slot: Slot) -> Option<Kind>
-        ensures kind { result ≡ option_and_then kind_of (at self.now slot) }
+        ensures kind { result ≡ option_map kind_of (at self.now slot) }
         ensures object { is_some result ≡ is_some (at self.now slot) }
     {
         match self.kinds.get(slot.number() as usize) {
             Some(kind) => *kind,
             None => None,
         }
-    }
-
-    /// Each object is of one of these kinds: of the others no cell is made yet.
-    pub fn kinds_are_known(&self)
-        ensures { (s : ℕ) → is_some (option_and_then kind_of (at self.now s)) ≡ is_some (at self.now s) }
-    {
-        all_have_kinds(&self.cells);
     }
 
     /// Whether there is a plain object at a slot.
@@ -148,6 +141,27 @@ impl Cells {
         ensures { result ≡ some_and is_queue (at self.now slot) }
     {
         self.kind(slot) == Some(Kind::Queue)
+    }
+
+    /// Whether there is a cleaner at a slot.
+    pub fn is_cleaner(&self, slot: Slot) -> bool
+        ensures { result ≡ some_and is_cleaner (at self.now slot) }
+    {
+        self.kind(slot) == Some(Kind::Cleaner)
+    }
+
+    /// Whether there is a cleanable at a slot.
+    pub fn is_cleanable(&self, slot: Slot) -> bool
+        ensures { result ≡ some_and is_cleanable (at self.now slot) }
+    {
+        self.kind(slot) == Some(Kind::Cleanable)
+    }
+
+    /// Whether there is a guard at a slot.
+    pub fn is_guard(&self, slot: Slot) -> bool
+        ensures { result ≡ some_and is_guard (at self.now slot) }
+    {
+        self.kind(slot) == Some(Kind::Guard)
     }
 
     /// How many fields the object at a slot has, if it is a plain one.
@@ -238,6 +252,62 @@ impl Cells {
         cell.cut_queue();
     }
 
+    /// The cleanable at a slot, if there is one.
+    pub fn cleanable(&self, slot: Slot) -> Option<Cleanable>
+        ensures { result ≡ option_and_then as_cleanable (at self.now slot) }
+    {
+        match self.cells.get(slot.number() as usize) {
+            Some(cell) => cell.cleanable(),
+            None => None,
+        }
+    }
+
+    /// The guard at a slot, if there is one.
+    pub fn guard(&self, slot: Slot) -> Option<Guard>
+        ensures { result ≡ option_and_then as_guard (at self.now slot) }
+    {
+        match self.cells.get(slot.number() as usize) {
+            Some(cell) => cell.guard(),
+            None => None,
+        }
+    }
+
+    /// The cleanable at a slot comes into another state.
+    pub fn set_clean_state(&mut self, slot: Slot, state: CleanState)
+        requires { IsTrue (some_and is_cleanable (at self.old slot)) }
+        ensures { self.new ≡ change_at self.old slot (with_cleanable (in_clean_state state)) }
+    {
+        let cell = &mut self.cells[slot.number() as usize];
+        cell.set_clean_state(state);
+    }
+
+    /// The cleanable at a slot loses its referent.
+    pub fn clear_cleanable(&mut self, slot: Slot)
+        requires { IsTrue (some_and is_cleanable (at self.old slot)) }
+        ensures { self.new ≡ change_at self.old slot (with_cleanable without_referent) }
+    {
+        let cell = &mut self.cells[slot.number() as usize];
+        cell.clear_cleanable();
+    }
+
+    /// The cleanable at a slot waits for an object from now on.
+    pub fn watch(&mut self, slot: Slot, referent: Slot)
+        requires { IsTrue (some_and is_cleanable (at self.old slot)) }
+        ensures { self.new ≡ change_at self.old slot (with_cleanable (watching referent)) }
+    {
+        let cell = &mut self.cells[slot.number() as usize];
+        cell.watch(referent);
+    }
+
+    /// The cleanable at a slot has done what it was for: it is spent, and has no referent any more.
+    pub fn spend(&mut self, slot: Slot)
+        requires { IsTrue (some_and is_cleanable (at self.old slot)) }
+        ensures { self.new ≡ change_at self.old slot (with_cleanable spent) }
+    {
+        let cell = &mut self.cells[slot.number() as usize];
+        cell.spend();
+    }
+
     /// A member of the queue at a slot, by its place from the front on, if there is a queue and it has so many.
     pub fn member(&self, queue: Slot, place: usize) -> Option<Slot>
         ensures member { result ≡ member_in (at self.now queue) place }
@@ -283,7 +353,7 @@ impl Cells {
     }
 
     /// Visits the object at a slot: one tick. Gives its strong edges, but those of a queue to its members: it lends the links of a
-    /// plain object, whose cell it does not read, and tells the queue that a reference may still be added to.
+    /// plain object, whose cell it does not read, and tells the queue that a reference may still be added to, or a guard's cleanable.
     pub fn visit(&self, slot: Slot, meter: &mut Meter) -> Visited<'_>
         requires object { IsTrue (is_some (at self.now slot)) }
         requires ticks { meter.old + 1 < 2 ^ 64 }
@@ -297,15 +367,9 @@ impl Cells {
             return Visited::Plain(&self.links[place]);
         }
         Visited::Other {
-            queue: self.cells[place].queue_ahead(),
+            next: self.cells[place].next(),
         }
     }
-}
-
-fn all_have_kinds(cells: &[Cell])
-    ensures { (s : ℕ) → is_some (option_and_then kind_of (at (objects_in cells.now) s)) ≡ is_some (at (objects_in cells.now) s) }
-{
-    let _ = cells;
 }
 
 fn no_kinds(alloc: Global, count: u32) -> Result<Vec<Option<Kind>>, AllocError>
@@ -346,7 +410,7 @@ fn field_of(cells: &[Cell], slot: Slot, field: usize) -> Option<FieldValue>
 #[cfg(test)]
 mod tests {
     use super::*;
-    use jlr_types::{FieldKind, Layout, RefKind};
+    use jlr_types::{ActionNo, FieldKind, Layout, RefKind, Rid, Work};
     use std::test::Fail;
 
     fn pair() -> Layout {
@@ -517,7 +581,7 @@ mod tests {
         assert!(rt; cells.kind(slot).is_some());
         match cells.visit(slot, &mut meter) {
             Visited::Plain(_) => assert!(rt; false, "a reference is plain"),
-            Visited::Other { queue: ahead } => assert_eq!(rt; ahead, queue),
+            Visited::Other { next } => assert_eq!(rt; next, queue),
         }
         Ok(())
     }
@@ -542,6 +606,122 @@ mod tests {
             state: RefState::Queued,
         };
         assert_eq!(rt; cells.reference(slot), Some(queued));
+        Ok(())
+    }
+
+    fn armed(referent: Slot) -> Shape {
+        Shape::Cleanable {
+            referent: Some(referent),
+            action: ActionNo::new(7),
+            work: Work::Note(42),
+        }
+    }
+
+    fn cleanable(referent: Option<Slot>, state: CleanState) -> Option<Cleanable> {
+        Some(Cleanable {
+            referent,
+            action: ActionNo::new(7),
+            work: Work::Note(42),
+            state,
+        })
+    }
+
+    #[test]
+    fn a_cleanable_is_lined_and_spent(rt: HostRuntime) -> Result<(), Fail> {
+        let mut cells = Cells::new(rt.alloc(), 16)?;
+        let watched = cells.take(Shape::Plain(pair())).ok_or("no cell")?;
+        let slot = cells.take(armed(watched)).ok_or("no cell")?;
+        assert!(rt; cells.is_cleanable(slot) && !cells.is_cleanable(watched));
+        assert_eq!(rt;
+            cells.cleanable(slot),
+            cleanable(Some(watched), CleanState::Armed)
+        );
+        assert_eq!(rt; cells.cleanable(watched), None);
+
+        assert!(rt; cells.is_cleanable(slot));
+        cells.clear_cleanable(slot);
+        assert_eq!(rt; cells.cleanable(slot), cleanable(None, CleanState::Armed));
+        assert!(rt; cells.is_cleanable(slot));
+        cells.set_clean_state(slot, CleanState::Lined);
+        assert_eq!(rt; cells.cleanable(slot), cleanable(None, CleanState::Lined));
+
+        let other = cells.take(armed(watched)).ok_or("no cell")?;
+        assert!(rt; cells.is_cleanable(other));
+        cells.watch(other, slot);
+        assert_eq!(rt;
+            cells.cleanable(other),
+            cleanable(Some(slot), CleanState::Armed)
+        );
+        assert!(rt; cells.is_cleanable(other));
+        cells.spend(other);
+        assert_eq!(rt; cells.cleanable(other), cleanable(None, CleanState::Spent));
+        assert_eq!(rt; cells.cleanable(slot), cleanable(None, CleanState::Lined));
+        Ok(())
+    }
+
+    #[test]
+    fn a_guard_leads_to_its_cleanable(rt: HostRuntime) -> Result<(), Fail> {
+        let mut cells = Cells::new(rt.alloc(), 16)?;
+        let mut meter = Meter::new();
+        let rid = Rid::new(3);
+        let cleanable = cells.take(armed(Slot::new(1))).ok_or("no cell")?;
+        let slot = cells
+            .take(Shape::Guard { rid, cleanable })
+            .ok_or("no cell")?;
+        assert!(rt; cells.is_guard(slot) && !cells.is_guard(cleanable));
+        assert_eq!(rt; cells.guard(slot), Some(Guard { rid, cleanable }));
+        assert_eq!(rt; cells.guard(cleanable), None);
+        assert!(rt; cells.kind(slot).is_some());
+        match cells.visit(slot, &mut meter) {
+            Visited::Plain(_) => assert!(rt; false, "a guard is plain"),
+            Visited::Other { next } => assert_eq!(rt; next, Some(cleanable)),
+        }
+        Ok(())
+    }
+
+    #[test]
+    fn a_cleaner_leads_nowhere(rt: HostRuntime) -> Result<(), Fail> {
+        let mut cells = Cells::new(rt.alloc(), 16)?;
+        let mut meter = Meter::new();
+        let slot = cells.take(Shape::Cleaner).ok_or("no cell")?;
+        assert_eq!(rt; cells.kind(slot), Some(Kind::Cleaner));
+        assert!(rt; cells.is_cleaner(slot) && !cells.is_cleanable(slot));
+        assert!(rt; cells.kind(slot).is_some());
+        match cells.visit(slot, &mut meter) {
+            Visited::Plain(_) => assert!(rt; false, "a cleaner is plain"),
+            Visited::Other { next } => assert_eq!(rt; next, None),
+        }
+        Ok(())
+    }
+
+    #[test]
+    fn the_image_has_objects_of_each_kind(rt: HostRuntime) -> Result<(), Fail> {
+        let mut cells = Cells::new(rt.alloc(), 4)?;
+        let cleaner = cells.take(Shape::Cleaner).ok_or("no cell")?;
+        let cleanable = cells.take(armed(cleaner)).ok_or("no cell")?;
+        let rid = Rid::new(3);
+        let guard = cells
+            .take(Shape::Guard { rid, cleanable })
+            .ok_or("no cell")?;
+        let objects = cells.image(rt.alloc())?;
+        let objects = objects.as_slice();
+        assert!(rt;
+            matches!(
+                objects.get(cleaner.number() as usize),
+                Some(Some(Object::Cleaner))
+            )
+        );
+        match objects.get(cleanable.number() as usize) {
+            Some(Some(Object::Cleanable(image))) => {
+                assert_eq!(rt; image.state, CleanState::Armed);
+            }
+            _ => assert!(rt; false, "no cleanable"),
+        }
+        match objects.get(guard.number() as usize) {
+            Some(Some(Object::Guard(image))) => assert_eq!(rt; image.cleanable, cleanable),
+            _ => assert!(rt; false, "no guard"),
+        }
+        assert!(rt; matches!(objects.get(3), Some(None)));
         Ok(())
     }
 }

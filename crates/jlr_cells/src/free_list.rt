@@ -31,6 +31,6 @@ pub(crate) fn next_free(cells: &[Cell], slot: u32) -> Option<u32>
 {
     match &cells[slot as usize] {
         Cell::Free { next } => *next,
-        Cell::Plain(_) | Cell::Reference(_) | Cell::Queue(_) => unreachable!(),
+        _ => unreachable!(),
     }
 }

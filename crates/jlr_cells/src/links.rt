@@ -104,9 +104,9 @@ pub(crate) fn target_of(value: &FieldValue) -> Option<Slot>
 pub enum Visited<'a> {
     /// It is a plain object, and these are the links of its fields.
     Plain(&'a Links),
-    /// It is of another kind. A reference may still be added to this queue; a queue has its members besides.
+    /// It is of another kind. It leads to one object, or to none; a queue to its members besides.
     Other {
-        /// The queue that a reference may still be added to.
-        queue: Option<Slot>,
+        /// The queue that a reference may still be added to, or the cleanable of a guard.
+        next: Option<Slot>,
     },
 }

@@ -1,5 +1,5 @@
 //! The kinds of objects, and what a new object is.
-use jlr_types::{Layout, RefKind, Slot};
+use jlr_types::{ActionNo, Layout, RefKind, Rid, Slot, Work};
 
 /// Of which kind an object is.
 #[derive(Clone, Copy, PartialEq, Eq, Debug)]
@@ -10,6 +10,12 @@ pub enum Kind {
     Reference(RefKind),
     /// A reference queue.
     Queue,
+    /// A cleaner.
+    Cleaner,
+    /// A registered cleaning action.
+    Cleanable,
+    /// What stands for one open file or one connected socket.
+    Guard,
 }
 
 /// A new object: its kind and body.
@@ -28,4 +34,22 @@ pub enum Shape {
     },
     /// A reference queue without members.
     Queue,
+    /// A cleaner, with which cleaning actions are registered.
+    Cleaner,
+    /// A cleaning action that is armed: it runs once its referent is gone.
+    Cleanable {
+        /// What it waits for.
+        referent: Option<Slot>,
+        /// Names it for good.
+        action: ActionNo,
+        /// What it does.
+        work: Work,
+    },
+    /// Stands for one open file or one connected socket.
+    Guard {
+        /// The place of that file or socket.
+        rid: Rid,
+        /// The cleanable that finishes it.
+        cleanable: Slot,
+    },
 }

@@ -1,5 +1,5 @@
 //! The cleaner.
-ghost use Rattle.std.specs.Prelude.{◌≡◌, ◌≢◌, ℕ, ◌+◌, ◌-◌, ◌^◌, ◌<◌, ◌≤◌, ◌∷◌, ◌++◌, ◌↔◌, ◌⊎◌, None, Some, Err, true, false, length, nat_le, IfErr, IfNone, IfOk, IfSome, OnErr};
+ghost use Rattle.std.specs.Prelude.{◌≡◌, ◌≢◌, ℕ, ◌+◌, ◌-◌, ◌^◌, ◌<◌, ◌≤◌, ◌∷◌, ◌++◌, ◌↔◌, ◌⊎◌, None, Some, Err, true, false, length, nat_le, IfErr, IfNone, IfOk, IfSome, OnErr, OnOk};
 ghost use Rattle.std.specs.Option.{option_to_list};
 ghost use Rattle.std.specs.List.Sorted.{IsPermutation};
 ghost use Rattle.jlr_machine.specs.declared.machine.Job.{Job as RunningJob};
@@ -227,6 +227,13 @@ impl<R> Cleaner<R> {
         self.table.count()
     }
 
+    /// How many resources the limits allow.
+    pub fn resource_limit(&self) -> u32
+        ensures { result ≡ self.now.table.limit }
+    {
+        self.table.limit()
+    }
+
     /// Whether as many resources are open as the limits allow.
     pub fn is_full(&self) -> bool
         ensures { result ≡ nat_le self.now.table.limit (length (resources self.now.table)) }
@@ -249,6 +256,21 @@ impl<R> Cleaner<R> {
         ensures { IfOk result (λ items. items ≡ resources self.now.table) }
     {
         self.table.image(alloc)
+    }
+
+    /// Makes room for one resource more: then a `prepare` finds memory.
+    ///
+    /// # Errors
+    /// `NoMemory` where there is none, also where the next place has no number below 2^32. Nothing has changed then but the room.
+    pub fn reserve(&mut self) -> Result<(), Refusal>
+        ensures room { OnOk result (length (resources self.new.table) < self.new.table.room) }
+        ensures next { OnOk result (self.new.table.next < 2 ^ 32) }
+        ensures refused { IfErr result (λ r. r ≡ Refusal.NoMemory) }
+        ensures grows { self.old.table.room ≤ self.new.table.room }
+        ensures table { self.new.table ≡ record self.old.table { room = self.new.table.room } }
+        ensures rest { self.new ≡ record self.old { table = self.new.table } }
+    {
+        self.table.reserve()
     }
 
     /// A resource is about to be opened, for this cleaning action. It is Opening, at a Rid that no resource has.

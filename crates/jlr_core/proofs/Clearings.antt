@@ -1,5 +1,5 @@
 -- Collections that asks make, from what a full collection is.
-use Rattle.std.proofs.Common.{◌≡◌, ◌+◌, not, ℕ, Option, Some, None, IsTrue, refl, sym, ◌∙◌, ap, subst, arith, length, false, List, [], ◌∷◌, true, Bool, is_some, inl, inr}
+use Rattle.std.proofs.Common.{◌≡◌, ◌<◌, ◌+◌, not, ℕ, Option, Some, None, IsTrue, refl, sym, ◌∙◌, ap, subst, arith, length, false, List, [], ◌∷◌, true, Bool, is_some, inl, inr}
 use Rattle.std.proofs.lemmas.Bool.{both_ways, lt-leb}
 use Rattle.jlr_machine.specs.declared.machine.Machine.{Machine}
 use Rattle.jlr_soft.specs.declared.policy.Policy.{Policy}
@@ -54,18 +54,18 @@ pub may_collect : (m : Machine) (k : ℕ) (mode : FullMode) (age : ℕ) (clock :
 may_collect m k AskedPolicy age clock old new n w c = c.full
 may_collect m k AskedClearAll age clock old new n w c = clears_all m age clock old new n w c
 
--- where no cell is free, a collection that clears all makes what room there is
-pub makes_room : (m : Machine) (age : ℕ) (clock : Clock) (old new : Choosing) (n : Machine) → IsWellFormed m → occupied m.objects ≡ length m.objects → old ≡ nothing_chosen old.cells → new.cells ≡ old.cells → Collects (keeps (record { soft_age = age; mode = ClearAll }) clock) m old new n → MakesRoom m old new n
-makes_room m age clock old new n w taken nothing cells c =
+-- where too few cells are free, a collection that clears all makes what room there is
+pub makes_room : (m : Machine) (cells age : ℕ) (clock : Clock) (old new : Choosing) (n : Machine) → IsWellFormed m → length m.objects < occupied m.objects + cells → old ≡ nothing_chosen old.cells → new.cells ≡ old.cells → Collects (keeps (record { soft_age = age; mode = ClearAll }) clock) m old new n → MakesRoom m cells old new n
+makes_room m cells age clock old new n w few nothing same_cells c =
     let chosen : new.chosen ≡ record { collected = Some (record { kept = c.kept; pending = c.pending }); fresh = [] } =
     ap (λ (k : Choosing). k.chosen) (c.chosen ∙ ap (λ (k : Choosing). collecting k c.kept c.pending) nothing) in
     let collected : new.chosen.collected ≡ Some (record { kept = c.kept; pending = c.pending }) = ap (λ (x : Chosen). x.collected) chosen in
-    let full : has_room m 1 ≡ false = lt-leb (occupied m.objects + 1) (length m.objects) (omega (arith, taken)) in
+    let full : has_room m cells ≡ false = lt-leb (occupied m.objects + cells) (length m.objects) few in
     record {
-      asked = subst (MayMakeRoom m) (sym collected) (ap not full, clears_all m age clock old new n w c);
+      asked = subst (MayMakeRoom m cells) (sym collected) (ap not full, clears_all m age clock old new n w c);
       left = c.left ∙ ap (with_collection m) (sym collected);
       fresh = ap (λ (x : Chosen). x.fresh) chosen;
-      cells = cells;
+      same_cells = same_cells;
       counted = λ k e. c.counted ∙ ap (λ (x : Collected). length x.kept) (some_same (record { kept = c.kept; pending = c.pending }) k (sym collected ∙ e));
     }
 

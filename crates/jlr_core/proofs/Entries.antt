@@ -1,42 +1,48 @@
 -- Legal entries, from what an ask did.
 use Rattle.std.proofs.Common.{◌≡◌, ◌+◌, ◌&&◌, ◌||◌, ◌==◌, zero, suc, ℕ, ◌<◌, Bool, true, false, not, List, [], ◌∷◌, length, Option, Some, None, IsTrue, is_some, is_none, refl, sym, ◌∙◌, ap, subst, Result, Ok, Err, arith, find, cond, option_and_then}
-use Rattle.std.proofs.lemmas.Bool.{both_ways, le-leb}
+use Rattle.std.proofs.lemmas.Bool.{both_ways, le-leb, ne_eqb}
 use Rattle.std.proofs.lemmas.List.Sums.{count_by-le-length}
 use Rattle.jlr_types.specs.declared.RefKind.{RefKind}
 use Rattle.jlr_types.specs.declared.Refusal.{Refusal}
 use Rattle.jlr_types.specs.declared.Refusal.TheVariants.{NoMemory, NoSession, NoHandle, Null, WrongKind, Busy, HandlesFull, HeapFull}
 use Rattle.jlr_machine.specs.declared.object.Object.{Object}
-use Rattle.jlr_machine.specs.declared.object.Object.TheVariants.{Reference}
+use Rattle.jlr_types.specs.declared.Work.TheVariants.{Note}
+use Rattle.jlr_machine.specs.declared.object.CleanState.TheVariants.{Armed}
+use Rattle.jlr_machine.specs.declared.object.Object.TheVariants.{Cleanable, Reference}
 use Rattle.jlr_machine.specs.declared.object.RefState.TheVariants.{Fresh}
 use Rattle.jlr_machine.specs.declared.machine.Machine.{Machine}
 use Rattle.jlr_machine.specs.declared.machine.Session.{Session}
 use Rattle.jlr_machine.specs.declared.ask.Ask.{Ask}
-use Rattle.jlr_machine.specs.declared.ask.Ask.TheVariants.{Join, Leave, Put, Get, SetInt, Int, Dup, Drop, Same, MakeRef, Deref, Refers, Clear, Enqueue, Enqueued, Poll, HandOver, Full, Stat, Begin, Abandon}
+use Rattle.jlr_machine.specs.declared.ask.Ask.TheVariants.{Join, Leave, Put, Get, SetInt, Int, Dup, Drop, Same, MakeRef, Deref, Refers, Clear, Enqueue, Enqueued, Poll, Register, Clean, Prepare, Opened, CheckOut, CheckIn, Close, Finish, Remove, Bind, Find, Unbind, Names, HandOver, TakeUp, Full, Stat, Notes, Faults, Begin, Abandon}
 use Rattle.jlr_machine.specs.declared.ask.FullMode.{FullMode}
 use Rattle.jlr_machine.specs.declared.ask.FullMode.TheVariants.{Policy, ClearAll}
 use Rattle.jlr_machine.specs.declared.ask.Answer.{Answer}
-use Rattle.jlr_machine.specs.declared.ask.Answer.TheVariants.{Done, Refused}
+use Rattle.jlr_machine.specs.declared.ask.Answer.TheVariants.{Done, Prepared, Refused}
 use Rattle.jlr_machine.specs.declared.entry.Chosen.{Chosen}
 use Rattle.jlr_machine.specs.declared.entry.Collected.{Collected}
 use Rattle.jlr_machine.specs.Objects.{Heap, at, occupied, some_and, Table}
-use Rattle.jlr_machine.specs.Lookups.{with_handle, with_new, slot_named, has_free_handle, object_named}
-use Rattle.jlr_machine.specs.Refusals.{refusal, cells_needed, is_end, is_joined, has_call, is_any, applies, is_of_wrong_kind, object_or_null, is_queue}
+use Rattle.jlr_machine.specs.Lookups.{with_handle, with_new, resource_at, slot_named, has_free_handle, object_named}
+use Rattle.jlr_machine.specs.Refusals.{refusal, cells_needed, is_end, is_joined, has_call, is_any, applies, is_of_wrong_kind, listed, object_or_null, is_queue}
 use Rattle.jlr_machine.specs.Calls.{reply, after, new_handle}
 use Rattle.jlr_machine.specs.Choices.{Choosing}
 use Rattle.jlr_machine.specs.Collection.{after_collection}
-use Rattle.jlr_machine.specs.Run.{has_room, MayCollect, with_collection, Answers, is_free, IsFresh, carried, no_choice}
+use Rattle.jlr_machine.specs.Run.{has_room, MayCollect, with_collection, Answers, is_free, IsFresh, carried, done, no_choice}
 use Rattle.jlr_machine.specs.Run.IsLegal.{carried_out, refused, heap_full, out_of_memory}
+use Rattle.jlr_laws.proofs.Frames.{no_some, some_same}
 use Rattle.jlr_laws.proofs.Refused.{is_refusal, gives_no_refusal}
 use Rattle.jlr_core.specs.State.{answer_of, Meets, Answered}
-use Rattle.jlr_core.specs.Collecting.{MayMakeRoom, Allocates, FindsNoRoom}
+use Rattle.jlr_machine.specs.Calls.{prepared}
+use Rattle.jlr_barrier.specs.Guards.{AreFree}
+use Rattle.jlr_core.specs.Preparing.{Places}
+use Rattle.jlr_core.specs.Collecting.{MakesRoom, MayMakeRoom, Allocates, FindsNoRoom}
 
 -- ---- Refused
 
 pub meets_refused : (m : Machine) (ask : Ask) (r : Refusal) → refusal m ask ≡ Some r → Meets m ask (Refused r) no_choice m
 meets_refused m ask r e = record { legal = refused (record { by = r; first = e; answers = refl; nothing = refl }); applied = refl }
 
-pub meets_full : (m : Machine) (ask : Ask) (new : Choosing) (n : Machine) → refusal m ask ≡ None → cells_needed ask ≡ 1 → FindsNoRoom m new n → Meets m ask (Refused HeapFull) new.chosen n
-meets_full m ask new n e one f =
+pub meets_full : (m : Machine) (cells : ℕ) (ask : Ask) (new : Choosing) (n : Machine) → refusal m ask ≡ None → cells_needed ask ≡ cells → FindsNoRoom m cells new n → Meets m ask (Refused HeapFull) new.chosen n
+meets_full m cells ask new n e one f =
     record {
       legal = heap_full (record {
         allowed = e;
@@ -96,6 +102,20 @@ IsPlain (Stat k) = Unit {0}
 IsPlain HandOver = Unit {0}
 IsPlain Begin = Unit {0}
 IsPlain Abandon = Unit {0}
+IsPlain (Clean k d) = Unit {0}
+IsPlain (Opened k outcome) = Unit {0}
+IsPlain (Finish by action outcome) = Unit {0}
+IsPlain (Notes k) = Unit {0}
+IsPlain (Faults k) = Unit {0}
+IsPlain TakeUp = Unit {0}
+IsPlain (CheckOut k h) = Unit {0}
+IsPlain (CheckIn k outcome) = Unit {0}
+IsPlain (Close k h) = Unit {0}
+IsPlain (Remove k q) = Unit {0}
+IsPlain (Bind k name h) = Unit {0}
+IsPlain (Find k name) = Unit {0}
+IsPlain (Unbind k name) = Unit {0}
+IsPlain (Names k) = Unit {0}
 IsPlain _ = ⊥
 
 plainly : (m n : Machine) (ask : Ask) (a : Answer) → IsPlain ask → refusal m ask ≡ None → reply m ask ≡ Some a → n ≡ after m ask a [] → Meets m ask a no_choice n
@@ -118,6 +138,20 @@ plainly m n (Stat k) a p e r l = meets_plainly m (Stat k) a n e (room_for_none m
 plainly m n Begin a p e r l = meets_plainly m Begin a n e (room_for_none m) refl r r l
 plainly m n Abandon a p e r l = meets_plainly m Abandon a n e (room_for_none m) refl r r l
 plainly m n HandOver a p e r l = meets_plainly m HandOver a n e (room_for_none m) refl r r l
+plainly m n (Clean k d) a p e r l = meets_plainly m (Clean k d) a n e (room_for_none m) refl r r l
+plainly m n (Opened k outcome) a p e r l = meets_plainly m (Opened k outcome) a n e (room_for_none m) refl r r l
+plainly m n (Finish by action outcome) a p e r l = meets_plainly m (Finish by action outcome) a n e (room_for_none m) refl r r l
+plainly m n (Notes k) a p e r l = meets_plainly m (Notes k) a n e (room_for_none m) refl r r l
+plainly m n (Faults k) a p e r l = meets_plainly m (Faults k) a n e (room_for_none m) refl r r l
+plainly m n TakeUp a p e r l = meets_plainly m TakeUp a n e (room_for_none m) refl r r l
+plainly m n (CheckOut k h) a p e r l = meets_plainly m (CheckOut k h) a n e (room_for_none m) refl r r l
+plainly m n (CheckIn k outcome) a p e r l = meets_plainly m (CheckIn k outcome) a n e (room_for_none m) refl r r l
+plainly m n (Close k h) a p e r l = meets_plainly m (Close k h) a n e (room_for_none m) refl r r l
+plainly m n (Remove k q) a p e r l = meets_plainly m (Remove k q) a n e (room_for_none m) refl r r l
+plainly m n (Bind k name h) a p e r l = meets_plainly m (Bind k name h) a n e (room_for_none m) refl r r l
+plainly m n (Find k name) a p e r l = meets_plainly m (Find k name) a n e (room_for_none m) refl r r l
+plainly m n (Unbind k name) a p e r l = meets_plainly m (Unbind k name) a n e (room_for_none m) refl r r l
+plainly m n (Names k) a p e r l = meets_plainly m (Names k) a n e (room_for_none m) refl r r l
 plainly m n _ a p e r l = absurd p
 
 pub meets_plain : (m n : Machine) (ask : Ask) (a : Answer) → IsPlain ask → refusal m ask ≡ None → reply m ask ≡ Some a → n ≡ after m ask a [] → Meets m ask a no_choice n
@@ -130,6 +164,20 @@ meets_no_memory m n ask no_end same = record { legal = out_of_memory (record { n
 pub meets_answered : (m n : Machine) (ask : Ask) (result : Result Answer Refusal) → IsPlain ask → Answered m ask result n → Meets m ask (answer_of result) no_choice n
 meets_answered m n ask (Ok a) p x = plainly m n ask a p x.0 x.1 x.2
 meets_answered m n ask (Err r) p x = subst (λ n. Meets m ask (Refused r) no_choice n) (sym x.1) (meets_refused m ask r x.0)
+
+-- ---- No refusal of the list is for want of memory
+
+found_holds : {A : Type 0} (p : A → Bool) (xs : List A) (x : A) → find p xs ≡ Some x → p x ≡ true
+found_holds p [] x e = no_some x e
+found_holds p (y ∷ xs) x e =
+    elim (p y) as (λ b. p y ≡ b → cond b (Some y) (find p xs) ≡ Some x → p x ≡ true) [
+      | true ↦ λ h f. subst (λ z. p z ≡ true) (some_same y x f) h
+      | false ↦ λ h f. found_holds p xs x f
+    ] refl e
+
+pub never_memory : (m : Machine) (ask : Ask) (r : Refusal) → applies m ask NoMemory ≡ false → refusal m ask ≡ Some r → r ≡ NoMemory → ⊥
+never_memory m ask r never first same =
+    both_ways (applies m ask NoMemory) never (found_holds (applies m ask) (listed ask) NoMemory (first ∙ ap {A = Refusal} {B = Option Refusal} Some same))
 
 -- ---- A full collection that is asked for
 
@@ -145,7 +193,7 @@ meets_collection m k mode c new n e chosen may l =
 
 -- ---- A new object
 
-may_collect_reference : (m : Machine) (k : ℕ) (kind : RefKind) (h q : ℕ) (o : Option Collected) → MayMakeRoom m o → MayCollect m (MakeRef k kind h q) o
+may_collect_reference : (m : Machine) (k : ℕ) (kind : RefKind) (h q : ℕ) (o : Option Collected) → MayMakeRoom m 1 o → MayCollect m (MakeRef k kind h q) o
 may_collect_reference m k kind h q None r = r
 may_collect_reference m k kind h q (Some c) r = r
 
@@ -162,15 +210,21 @@ same_mutators : (m : Machine) (c : Option Collected) → (with_collection m c).m
 same_mutators m None = refl
 same_mutators m (Some c) = refl
 
-pub meets_new :
-    (m mid n : Machine) (ask : Ask) (k slot : ℕ) (o : Object) (new : Choosing) (a : Answer)
+-- and the next action
+same_number : (m : Machine) (c : Option Collected) → (with_collection m c).next_action ≡ m.next_action
+same_number m None = refl
+same_number m (Some c) = refl
+
+-- an ask that makes one object, and then does more to the machine
+pub meets_made :
+    (m mid n : Machine) (ask : Ask) (k slot : ℕ) (o : Object) (new : Choosing) (a : Answer) (more : Machine → Machine)
     → refusal m ask ≡ None
-    → ((c : Option Collected) → MayMakeRoom m c → MayCollect m ask c)
+    → ((c : Option Collected) → MayMakeRoom m 1 c → MayCollect m ask c)
     → cells_needed ask ≡ 1
     → ((x : Machine) → x.mutators ≡ m.mutators → new_handle x k ≡ Some a → Answers x ask new.chosen.collected a × (reply x ask ≡ Some a))
-    → ((x : Machine) → x.mutators ≡ m.mutators → after x ask a (slot ∷ []) ≡ with_handle (with_new x slot o) k slot)
-    → Allocates m o new slot mid → new_handle mid k ≡ Some a → n ≡ with_handle mid k slot → Meets m ask a new.chosen n
-meets_new m mid n ask k slot o new a e collects one answers leaves x handle left =
+    → ((x : Machine) → x.mutators ≡ m.mutators → x.next_action ≡ m.next_action → after x ask a (slot ∷ []) ≡ more (with_handle (with_new x slot o) k slot))
+    → Allocates m o new slot mid → new_handle mid k ≡ Some a → n ≡ more (with_handle mid k slot) → Meets m ask a new.chosen n
+meets_made m mid n ask k slot o new a more e collects one answers leaves x handle left =
     let y : Machine = with_collection m new.chosen.collected in
     let same : y.mutators ≡ m.mutators = same_mutators m new.chosen.collected in
     let there : new_handle y k ≡ Some a = sym (ap (λ (z : Machine). new_handle z k) x.left) ∙ handle in
@@ -184,11 +238,22 @@ meets_new m mid n ask k slot o new a e collects one answers leaves x handle left
       });
       applied =
           left
-          ∙ ap (λ (z : Machine). with_handle z k slot) x.left
-          ∙ sym (leaves y same)
+          ∙ ap (λ (z : Machine). more (with_handle z k slot)) x.left
+          ∙ sym (leaves y same (same_number m new.chosen.collected))
           ∙ sym (carried_on y ask a (slot ∷ []) r.1)
           ∙ ap (λ l. carried y ask a l) (sym x.fresh);
     }
+
+pub meets_new :
+    (m mid n : Machine) (ask : Ask) (k slot : ℕ) (o : Object) (new : Choosing) (a : Answer)
+    → refusal m ask ≡ None
+    → ((c : Option Collected) → MayMakeRoom m 1 c → MayCollect m ask c)
+    → cells_needed ask ≡ 1
+    → ((x : Machine) → x.mutators ≡ m.mutators → new_handle x k ≡ Some a → Answers x ask new.chosen.collected a × (reply x ask ≡ Some a))
+    → ((x : Machine) → x.mutators ≡ m.mutators → after x ask a (slot ∷ []) ≡ with_handle (with_new x slot o) k slot)
+    → Allocates m o new slot mid → new_handle mid k ≡ Some a → n ≡ with_handle mid k slot → Meets m ask a new.chosen n
+meets_new m mid n ask k slot o new a e collects one answers leaves x handle left =
+    meets_made m mid n ask k slot o new a (λ z. z) e collects one answers (λ z s _. leaves z s) x handle left
 
 -- ---- The asks that make an object
 
@@ -200,7 +265,7 @@ no_kind : (o : Option Object) → some_and (λ o. not (is_any o)) o ≡ false
 no_kind None = refl
 no_kind (Some o) = refl
 
-skip : (p : Refusal → Bool) (x : Refusal) (xs : List Refusal) (r : Option Refusal) → p x ≡ false → find p xs ≡ r → find p (x ∷ xs) ≡ r
+pub skip : (p : Refusal → Bool) (x : Refusal) (xs : List Refusal) (r : Option Refusal) → p x ≡ false → find p xs ≡ r → find p (x ∷ xs) ≡ r
 skip p x xs r e h = ap (λ b. cond b (Some x) (find p xs)) e ∙ h
 
 joined : (m : Machine) (k : ℕ) → is_joined m k ≡ true → not (is_joined m k) ≡ false
@@ -235,3 +300,55 @@ meets_new_reference m mid n k slot kind h q target queue new a e named in_queue 
     let lookup : ℕ → Table Session → Option ℕ = λ i t. option_and_then (λ z. at z.handles i) (at t k) in
     ap {A = Option ℕ} {B = Machine} (λ r. with_handle (with_new y slot (Reference (record { kind = kind; referent = r; queue = slot_named y k q; state = Fresh }))) k slot) (ap (lookup h) s ∙ named)
     ∙ ap {A = Option ℕ} {B = Machine} (λ r. with_handle (with_new y slot (Reference (record { kind = kind; referent = Some target; queue = r; state = Fresh }))) k slot) (ap (lookup q) s ∙ in_queue)) x handle left
+
+-- ---- A registered action
+
+abbrev armed : ℕ → Option ℕ → ℕ → Object
+armed action referent note = Cleanable (record { referent = referent; action = action; work = Note note; state = Armed })
+
+may_collect_register : (m : Machine) (k d h note : ℕ) (o : Option Collected) → MayMakeRoom m 1 o → MayCollect m (Register k d h note) o
+may_collect_register m k d h note None r = r
+may_collect_register m k d h note (Some c) r = r
+
+pub meets_registered :
+    (m mid n : Machine) (k slot d h note target : ℕ) (new : Choosing) (a : Answer) → refusal m (Register k d h note) ≡ None → slot_named m k h ≡ Some target
+    → Allocates m (Cleanable (record { referent = Some target; action = m.next_action; work = Note note; state = Armed })) new slot mid → new_handle mid k ≡ Some a → n ≡ with_handle (record mid { next_action = mid.next_action + 1 }) k slot
+    → Meets m (Register k d h note) a new.chosen n
+meets_registered m mid n k slot d h note target new a e named x handle left =
+    meets_made m mid n (Register k d h note) k slot (armed m.next_action (Some target) note) new a (λ z. record z { next_action = z.next_action + 1 }) e (may_collect_register m k d h note) refl (λ y s g. (g, g))
+    (λ y s t.
+    let lookup : Table Session → Option ℕ = λ table. option_and_then (λ z. at z.handles h) (at table k) in
+    ap {A = Option ℕ} {B = Machine} (λ r. record (with_handle (with_new y slot (armed y.next_action r note)) k slot) { next_action = y.next_action + 1 }) (ap lookup s ∙ named)
+    ∙ ap {A = ℕ} {B = Machine} (λ number. record (with_handle (with_new y slot (armed number (Some target) note)) k slot) { next_action = y.next_action + 1 }) t)
+    x handle left
+
+-- ---- The start of an open
+
+may_collect_prepare : (m : Machine) (k : ℕ) (o : Option Collected) → MayMakeRoom m 2 o → MayCollect m (Prepare k) o
+may_collect_prepare m k None r = r
+may_collect_prepare m k (Some c) r = r
+
+two_fresh : (heap : Heap) (s t : ℕ) → AreFree heap s t → IsFresh heap 2 (s ∷ t ∷ [])
+two_fresh heap s t f =
+    record {
+      count = refl;
+      free = ap (λ b. b && (is_free heap t && true)) (free_there heap s f.first_within f.first) ∙ ap (λ b. b && true) (free_there heap t f.second_within f.second);
+      distinct = ap (λ b. not (b || false) && true) (ne_eqb s t f.apart);
+    }
+
+pub meets_prepared :
+    (m mid n : Machine) (k rid : ℕ) (cleared new : Choosing) (old : Choosing) → refusal m (Prepare k) ≡ None
+    → MakesRoom m 2 old cleared mid → Places mid k cleared new rid n → Meets m (Prepare k) (Prepared rid) new.chosen n
+meets_prepared m mid n k rid cleared new old e room p =
+    let y : Machine = with_collection m cleared.chosen.collected in
+    let chosen : Chosen = record { collected = cleared.chosen.collected; fresh = p.guard ∷ p.cleanable ∷ [] } in
+    let is : new.chosen ≡ chosen = ap (λ (c : Choosing). c.chosen) p.told in
+    subst (λ (c : Chosen). Meets m (Prepare k) (Prepared rid) c n) (sym is) (record {
+      legal = carried_out (record {
+        allowed = e;
+        collection = may_collect_prepare m k cleared.chosen.collected room.asked;
+        fresh = two_fresh y.objects p.guard p.cleanable (subst (λ (x : Machine). AreFree x.objects p.guard p.cleanable) room.left p.free);
+        answers = (rid, p.rid_fits, subst (λ (x : Machine). IsTrue (is_none (resource_at x rid))) room.left p.unused, refl);
+      });
+      applied = p.left ∙ ap (λ (x : Machine). prepared x k p.guard p.cleanable rid) room.left;
+    })

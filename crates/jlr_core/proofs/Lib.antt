@@ -6,3 +6,7 @@ pub mod Entries
 pub mod Stepping
 pub mod RunLaws
 pub mod Queues
+pub mod TakeUps
+pub mod Rest
+pub mod Guards
+pub mod Moving

@@ -1,5 +1,5 @@
 -- What handles of a well-formed machine name.
-use Rattle.std.proofs.Common.{◌≡◌, ℕ, Bool, Option, zero, suc, true, false, not, ◌&&◌, ◌==◌, Some, None, IsTrue, is_some, is_none, refl, ◌∙◌, ap}
+use Rattle.std.proofs.Common.{◌≡◌, ℕ, Bool, Option, true, false, not, Some, None, IsTrue, is_some, ap}
 use Rattle.jlr_machine.specs.declared.object.Object.{Object}
 use Rattle.jlr_machine.specs.declared.machine.Machine.{Machine}
 use Rattle.jlr_machine.specs.Objects.{at, some_and}

@@ -7,7 +7,7 @@ use Rattle.jlr_machine.specs.declared.object.Reference.{Reference as ReferenceOf
 use Rattle.jlr_machine.specs.declared.object.RefState.TheVariants.{Queued as IsQueued}
 use Rattle.jlr_machine.specs.declared.ask.Handed.{Handed}
 use Rattle.jlr_machine.specs.declared.ask.Handed.TheVariants.{Queued, Lined, Skipped, Nothing}
-use Rattle.jlr_machine.specs.declared.ask.Ask.TheVariants.{Enqueue, Poll}
+use Rattle.jlr_machine.specs.declared.ask.Ask.TheVariants.{Enqueue, Poll, Remove}
 use Rattle.jlr_machine.specs.declared.ask.Answer.{Answer}
 use Rattle.jlr_machine.specs.declared.ask.Answer.TheVariants.{Handle, Truth}
 use Rattle.jlr_machine.specs.Objects.{Heap, Table, as_members, as_reference, at, change_at, occupied, some_and, with_members, with_reference}
@@ -89,6 +89,19 @@ pub poll_answered :
     → mid ≡ polled m q o → handle_given mid k o ≡ Some a → n ≡ with_given mid k o → Answered m (Poll k h) (Ok a) n
 poll_answered m mid n k h q o a allowed named is mid_is handle left =
     let gives : given m (Poll k h) ≡ o = ap (λ s. option_and_then front (option_and_then as_members (option_and_then (at m.objects) s))) named ∙ sym is in (
+      allowed,
+      ap (handle_given m k) gives ∙ sym (given_alike m mid k o (polled_mutators m mid q o mid_is)) ∙ handle,
+      left
+          ∙ ap (λ x. with_given x k o) mid_is
+          ∙ ap (λ s. on s (λ x. with_given (polled m x o) k o) m) (sym named)
+          ∙ ap (λ g. on (slot_named m k h) (λ x. with_given (polled m x g) k g) m) (sym gives),
+    )
+
+pub remove_answered :
+    (m mid n : Machine) (k h q : ℕ) (o : Option ℕ) (a : Answer) → refusal m (Remove k h) ≡ None → slot_named m k h ≡ Some q → o ≡ option_and_then front (option_and_then as_members (at m.objects q))
+    → mid ≡ polled m q o → handle_given mid k o ≡ Some a → n ≡ with_given mid k o → Answered m (Remove k h) (Ok a) n
+remove_answered m mid n k h q o a allowed named is mid_is handle left =
+    let gives : given m (Remove k h) ≡ o = ap (λ s. option_and_then front (option_and_then as_members (option_and_then (at m.objects) s))) named ∙ sym is in (
       allowed,
       ap (handle_given m k) gives ∙ sym (given_alike m mid k o (polled_mutators m mid q o mid_is)) ∙ handle,
       left

@@ -1,5 +1,5 @@
 -- A heap in which no cell is free after room was made.
-use Rattle.std.proofs.Common.{◌≡◌, ◌+◌, ℕ, List, [], length, Option, Some, None, ◌∙◌, ap, subst, arith, refl}
+use Rattle.std.proofs.Common.{◌≡◌, ◌+◌, ◌<◌, ℕ, List, [], length, Option, Some, None, ◌∙◌, ap, subst, arith, refl}
 use Rattle.std.proofs.lemmas.Bool.{leb-true}
 use Rattle.jlr_machine.specs.declared.machine.Machine.{Machine}
 use Rattle.jlr_machine.specs.declared.entry.Chosen.{Chosen}
@@ -15,12 +15,12 @@ chosen_is c x e f =
     ap {A = Option Collected} {B = Chosen} (λ y. record { collected = y; fresh = c.fresh }) e
     ∙ ap {A = List ℕ} {B = Chosen} (λ y. record { collected = x; fresh = y }) f
 
-pub finds_no_room : (m : Machine) (old new : Choosing) (n : Machine) → MakesRoom m old new n → occupied n.objects ≡ length n.objects → FindsNoRoom m new n
-finds_no_room m old new n r full =
-    elim (new.chosen.collected) as (λ o. new.chosen.collected ≡ o → MayMakeRoom m o → n ≡ with_collection m o → FindsNoRoom m new n) [
+pub finds_no_room : (m : Machine) (cells : ℕ) (old new : Choosing) (n : Machine) → MakesRoom m cells old new n → length n.objects < occupied n.objects + cells → FindsNoRoom m cells new n
+finds_no_room m cells old new n r few =
+    elim (new.chosen.collected) as (λ o. new.chosen.collected ≡ o → MayMakeRoom m cells o → n ≡ with_collection m o → FindsNoRoom m cells new n) [
       | None ↦ λ e a l.
-          let room = leb-true (occupied m.objects + 1) (length m.objects) a in
-          let same : occupied m.objects ≡ length m.objects = subst (λ h. occupied h ≡ length h) (ap (λ (x : Machine). x.objects) l) full in
+          let room = leb-true (occupied m.objects + cells) (length m.objects) a in
+          let same : length m.objects < occupied m.objects + cells = subst (λ h. length h < occupied h + cells) (ap (λ (x : Machine). x.objects) l) few in
           absurd (omega (arith, room, same))
       | Some c ↦ λ e a l.
           record {
@@ -28,7 +28,7 @@ finds_no_room m old new n r full =
             collects = chosen_is new.chosen (Some c) e r.fresh;
             no_room = a.0;
             full = a.1;
-            too_few = omega (arith, r.counted c e, full, ap (λ (x : Machine). length x.objects) l, length_left c.kept c.pending 0 m.objects);
+            too_few = omega (arith, r.counted c e, few, ap (λ (x : Machine). length x.objects) l, length_left c.kept c.pending 0 m.objects);
             left = l;
           }
     ] refl r.asked r.left

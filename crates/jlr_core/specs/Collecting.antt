@@ -20,35 +20,35 @@ abbrev pub mode_of : FullMode → Mode
 mode_of AskedPolicy = Policy
 mode_of AskedClearAll = ClearAll
 
--- ---- Room for one more object
+-- ---- Room for new objects
 
 -- no collection where there is room, else a full one that clears all soft references
-abbrev pub MayMakeRoom : Machine → Option Collected → Type 0
-MayMakeRoom m None = IsTrue (has_room m 1)
-MayMakeRoom m (Some c) = IsTrue (not (has_room m 1)) × IsFullClearing m c.kept c.pending
+abbrev pub MayMakeRoom : Machine → ℕ → Option Collected → Type 0
+MayMakeRoom m cells None = IsTrue (has_room m cells)
+MayMakeRoom m cells (Some c) = IsTrue (not (has_room m cells)) × IsFullClearing m c.kept c.pending
 
-pub record MakesRoom (m : Machine) (old new : Choosing) (n : Machine) : Type 0 where
-  pub asked : MayMakeRoom m new.chosen.collected
+pub record MakesRoom (m : Machine) (cells : ℕ) (old new : Choosing) (n : Machine) : Type 0 where
+  pub asked : MayMakeRoom m cells new.chosen.collected
   pub left : n ≡ with_collection m new.chosen.collected
   pub fresh : new.chosen.fresh ≡ []
-  pub cells : new.cells ≡ old.cells
+  pub same_cells : new.cells ≡ old.cells
   pub counted : (c : Collected) → new.chosen.collected ≡ Some c → occupied n.objects ≡ length c.kept
 
 -- a new object in a free slot, after what made room
 pub record Allocates (m : Machine) (o : Object) (new : Choosing) (slot : ℕ) (n : Machine) : Type 0 where
-  pub asked : MayMakeRoom m new.chosen.collected
+  pub asked : MayMakeRoom m 1 new.chosen.collected
   pub inside : slot < length (with_collection m new.chosen.collected).objects
   pub free : at (with_collection m new.chosen.collected).objects slot ≡ None
   pub fresh : new.chosen.fresh ≡ slot ∷ []
   pub left : n ≡ with_new (with_collection m new.chosen.collected) slot o
 
 -- a full collection leaves no room
-pub record FindsNoRoom (m : Machine) (new : Choosing) (n : Machine) : Type 0 where
+pub record FindsNoRoom (m : Machine) (cells : ℕ) (new : Choosing) (n : Machine) : Type 0 where
   pub clearing : Collected
   pub collects : new.chosen ≡ record { collected = Some clearing; fresh = [] }
-  pub no_room : IsTrue (not (has_room m 1))
+  pub no_room : IsTrue (not (has_room m cells))
   pub full : IsFullClearing m clearing.kept clearing.pending
-  pub too_few : length m.objects < length clearing.kept + 1
+  pub too_few : length m.objects < length clearing.kept + cells
   pub left : n ≡ after_collection m clearing.kept clearing.pending
 
 -- ---- The clock of the soft policy

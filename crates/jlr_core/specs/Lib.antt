@@ -2,7 +2,12 @@
 pub mod State
 pub mod Machines
 pub mod Collecting
+pub mod Flows
+pub mod TakeUps
+pub mod Guards
+pub mod Preparing
 pub mod Policy
 pub mod Events
 pub mod Cores
+pub mod Rest
 pub mod Runs

@@ -3,9 +3,9 @@ use Rattle.jlr_machine.specs.declared.machine.Machine.{Machine}
 use Rattle.jlr_core.specs.declared.state.State.{State}
 use Rattle.jlr_core.specs.State.{frame, machine_with}
 
-abbrev pub machine_of : State → Machine
-machine_of s = machine_with s.heap.graph s.resource_limit s.cycle_open
+abbrev pub machine_of : {R : Type 0} → State R → Machine
+machine_of s = machine_with s.cleaner s.heap.graph s.cycle_open
 
 -- and what it keeps beside its heap
-abbrev pub frame_of : State → Machine
-frame_of s = frame s.resource_limit s.cycle_open
+abbrev pub frame_of : {R : Type 0} → State R → Machine
+frame_of s = frame s.cleaner s.cycle_open

@@ -17,14 +17,16 @@ use Rattle.jlr_machine.specs.Refusals.{given, refusal}
 use Rattle.jlr_machine.specs.Calls.{reply, after}
 use Rattle.jlr_machine.specs.Run.{IsLegal, done, empty, now_seen}
 use Rattle.jlr_cycles.specs.Laws.{with_seen}
+use Rattle.jlr_cleaner.specs.Cleanings.{Cleanings, machine_with as with_cleanings}
 
--- what a core keeps beside its heap, in a machine that is empty otherwise: its limit of resources, and whether a cycle is open
-abbrev pub frame : ℕ → Bool → Machine
-frame resource_limit cycle_open = record (empty 0 0 resource_limit) { cycle_open = cycle_open }
+-- what a core keeps beside its heap, in a machine that is empty otherwise: its jobs and what became of others, its files and sockets, and
+-- whether a cycle is open
+abbrev pub frame : {R : Type 0} → Cleanings R → Bool → Machine
+frame c cycle_open = with_cleanings c (record (empty 0 0 0) { cycle_open = cycle_open })
 
 -- the machine of which the heap keeps this part. Nothing is seen in it
-abbrev pub machine_with : Graph → ℕ → Bool → Machine
-machine_with g resource_limit cycle_open = in_machine (frame resource_limit cycle_open) g
+abbrev pub machine_with : {R : Type 0} → Cleanings R → Graph → Bool → Machine
+machine_with c g cycle_open = in_machine (frame c cycle_open) g
 
 -- an entry of the core's. Its seat is not looked at
 abbrev pub entry_of : Ask → Answer → Chosen → Entry

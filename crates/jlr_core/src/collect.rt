@@ -18,7 +18,7 @@ use jlr_machine::choice::Choice;
 use jlr_soft::{Mode, Policy};
 use jlr_types::{Mutator, Refusal, Slot};
 
-impl State {
+impl<R> State<R> {
     ghost use Rattle.jlr_core.specs.Machines.{machine_of};
 
     /// A full collection (see `jlr_sweep`). An open cycle is over then.
@@ -31,26 +31,26 @@ impl State {
         ensures room { choice.new.cells ≡ choice.old.cells }
         ensures cells { length self.new.heap.graph.objects ≡ length self.old.heap.graph.objects }
         ensures age { self.new.soft_age ≡ self.old.soft_age }
+        ensures cleaner { self.new.cleaner ≡ self.old.cleaner }
     {
-        self.heap.kinds_are_known();
-        self.heap.no_calls();
         let policy = Policy::new(self.soft_age, mode);
         jlr_sweep::full(&mut self.heap, &policy, choice);
         self.cycle_open = false;
     }
 
-    /// Where no cell is free, a full collection that clears all soft references.
-    fn make_room(&mut self, choice: &mut Choice)
+    /// Where fewer cells are free, a full collection that clears all soft references.
+    pub(crate) fn make_room(&mut self, cells: u32, choice: &mut Choice)
         requires fit { IsWellFormed (machine_of self.old) }
         requires nothing { choice.old ≡ nothing_chosen choice.old.cells }
         requires room { length self.old.heap.graph.objects ≤ choice.old.cells }
-        ensures made { MakesRoom (machine_of self.old) choice.old choice.new (machine_of self.new) }
+        ensures made { MakesRoom (machine_of self.old) cells choice.old choice.new (machine_of self.new) }
         ensures clock { self.new.heap.clock ≡ after_collected choice.new.chosen self.old.heap.clock }
         ensures room { choice.new.cells ≡ choice.old.cells }
         ensures cells { length self.new.heap.graph.objects ≡ length self.old.heap.graph.objects }
         ensures age { self.new.soft_age ≡ self.old.soft_age }
+        ensures cleaner { self.new.cleaner ≡ self.old.cleaner }
     {
-        if self.heap.free_count() == 0 {
+        if self.heap.free_count() < cells {
             self.collect(Mode::ClearAll, choice);
         }
     }
@@ -62,12 +62,13 @@ impl State {
         requires room { length self.old.heap.graph.objects ≤ choice.old.cells }
         ensures allocates { IfOk result (λ slot. Allocates (machine_of self.old) (object_of shape) choice.new slot (machine_of self.new)) }
         ensures clock { self.new.heap.clock ≡ after_choice choice.new.chosen self.old.heap.clock }
-        ensures full { IfErr result (λ r. (r ≡ Refusal.HeapFull) × FindsNoRoom (machine_of self.old) choice.new (machine_of self.new)) }
+        ensures full { IfErr result (λ r. (r ≡ Refusal.HeapFull) × FindsNoRoom (machine_of self.old) 1 choice.new (machine_of self.new)) }
         ensures room { choice.new.cells ≡ choice.old.cells }
         ensures cells { length self.new.heap.graph.objects ≡ length self.old.heap.graph.objects }
         ensures age { self.new.soft_age ≡ self.old.soft_age }
+        ensures cleaner { self.new.cleaner ≡ self.old.cleaner }
     {
-        self.make_room(choice);
+        self.make_room(1, choice);
         let Some(slot) = self.heap.allocate(shape) else {
             return Err(Refusal::HeapFull);
         };
@@ -90,11 +91,12 @@ impl State {
         ensures room { choice.new.cells ≡ choice.old.cells }
         ensures cells { length self.new.heap.graph.objects ≡ length self.old.heap.graph.objects }
         ensures age { self.new.soft_age ≡ self.old.soft_age }
+        ensures cleaner { self.new.cleaner ≡ self.old.cleaner }
         ensures clock { self.new.heap.clock ≡ after_choice choice.new.chosen self.old.heap.clock }
         ensures policy { KeepsIn (mode_of mode) self.old.soft_age self.old.heap.clock (machine_of self.old) choice.new.chosen }
     {
         self.check_session(by)?;
-        self.no_call(by);
+        self.check_no_call(by)?;
         self.collect(mode_of(mode), choice);
         Ok(Answer::Done)
     }

@@ -14,13 +14,14 @@ use jlr_machine::choice::Choice;
 use jlr_soft::Mode;
 use jlr_types::Progress;
 
-impl State {
+impl<R> State<R> {
     ghost use Rattle.jlr_core.specs.Machines.{machine_of};
 
     /// Opens a cycle. Answers whether none was open.
     pub(crate) fn begin(&mut self) -> bool
         ensures answered { Answered (machine_of self.old) Ask.Begin (Ok (Answer.Truth result)) (machine_of self.new) }
         ensures age { self.new.soft_age ≡ self.old.soft_age }
+        ensures cleaner { self.new.cleaner ≡ self.old.cleaner }
         ensures heap { self.new.heap ≡ self.old.heap }
     {
         let was_open = self.cycle_open;
@@ -32,6 +33,7 @@ impl State {
     pub(crate) fn abandon(&mut self) -> bool
         ensures answered { Answered (machine_of self.old) Ask.Abandon (Ok (Answer.Truth result)) (machine_of self.new) }
         ensures age { self.new.soft_age ≡ self.old.soft_age }
+        ensures cleaner { self.new.cleaner ≡ self.old.cleaner }
         ensures heap { self.new.heap ≡ self.old.heap }
     {
         let was_open = self.cycle_open;
@@ -50,6 +52,7 @@ impl State {
         ensures room { choice.new.cells ≡ choice.old.cells }
         ensures cells { length self.new.heap.graph.objects ≡ length self.old.heap.graph.objects }
         ensures age { self.new.soft_age ≡ self.old.soft_age }
+        ensures cleaner { self.new.cleaner ≡ self.old.cleaner }
         ensures clock { self.new.heap.clock ≡ after_choice choice.new.chosen self.old.heap.clock }
     {
         if !self.cycle_open {

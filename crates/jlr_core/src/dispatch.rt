@@ -3,25 +3,31 @@ ghost use Rattle.std.specs.Prelude.{◌≡◌, ◌≤◌, length, None, Some};
 ghost use Rattle.jlr_machine.specs.Choices.{nothing_chosen};
 ghost use Rattle.jlr_machine.specs.WellFormed.{IsWellFormed};
 ghost use Rattle.jlr_core.specs.State.{answer_of};
-ghost use Rattle.jlr_core.specs.Events.{ask_of, answer_in, given, handed, progress_in, StepsBy, WantsMemory};
+ghost use Rattle.jlr_event.specs.Events.{ask_of, answer_in, given, handed};
+ghost use Rattle.jlr_core.specs.Events.{progress_in, StepsBy, WantsMemory};
+ghost use Rattle.jlr_core.specs.Flows.{Conserves, GoesOut, Moves};
+ghost use Rattle.jlr_core.specs.TakeUps.{clean_answer, handed_out, take_up_answered};
 ghost use Rattle.jlr_core.specs.Policy.{KeepsByPolicy, clock_after};
 
-use crate::event::{Event, Reply};
 use crate::state::State;
-use jlr_machine::ask::{Answer, Ask};
+use jlr_cleaner::Job;
+use jlr_event::event::{Event, Reply};
+use jlr_machine::ask::{Answer, Ask, Handed};
 use jlr_machine::choice::Choice;
 use jlr_types::Refusal;
 
-impl State {
+impl<R> State<R> {
     ghost use Rattle.jlr_core.specs.Machines.{machine_of};
 
     /// One event.
-    pub(crate) fn step<R>(&mut self, event: Event<R>, choice: &mut Choice) -> Reply<R>
+    pub(crate) fn step(&mut self, event: Event<R>, choice: &mut Choice) -> Reply<R>
         requires fit { IsWellFormed (machine_of self.old) }
         requires nothing { choice.old ≡ nothing_chosen choice.old.cells }
         requires room { length self.old.heap.graph.objects ≤ choice.old.cells }
         ensures entry { StepsBy (machine_of self.old) (ask_of event) (answer_in result) choice.new.chosen (machine_of self.new) }
-        ensures flow { handed result ≡ given event }
+        ensures flow { Conserves (given event) self.old.cleaner.table (handed result) self.new.cleaner.table }
+        ensures moves { Moves (given event) self.old.cleaner.table (handed result) self.new.cleaner.table }
+        ensures goes_out { GoesOut self.old.cleaner.table (given event) (answer_in result) (handed result) }
         ensures memory { WantsMemory event result }
         ensures marking { ask_of event ≡ None → result ≡ Reply.Marked (progress_in (machine_of self.old)) }
         ensures collects { ask_of event ≡ Some Ask.Collect → answer_in result ≡ Some (Answer.Truth self.old.cycle_open) }
@@ -82,12 +88,42 @@ impl State {
             Event::MakeQueue { mutator } => answered(self.make_queue(mutator, choice)),
             Event::Poll { mutator, queue } => answered(self.poll(mutator, queue)),
             Event::HandOver => answered(self.hand_over()),
-            Event::Opened { mutator, outcome } => Reply::Answered {
-                answer: Answer::Refused(self.opened(mutator)),
-                resource: outcome.ok(),
-            },
+            Event::Remove { mutator, queue } => answered(self.remove(mutator, queue)),
+            Event::MakeCleaner { mutator } => answered(self.make_cleaner(mutator, choice)),
+            Event::Register {
+                mutator,
+                cleaner,
+                object,
+                note,
+            } => answered(self.register(mutator, cleaner, object, note, choice)),
+            Event::Clean { mutator, cleanable } => cleaned(self.clean(mutator, cleanable)),
+            Event::Opened { mutator, outcome } => self.opened(mutator, outcome),
+            Event::Prepare { mutator } => answered(self.prepare(mutator, choice)),
+            Event::CheckOut { mutator, guard } => self.check_out(mutator, guard),
+            Event::CheckIn {
+                mutator,
+                outcome,
+                resource,
+            } => self.check_in(mutator, outcome, resource),
+            Event::Close { mutator, guard } => cleaned(self.close(mutator, guard)),
+            Event::Finish {
+                by,
+                action,
+                outcome,
+            } => answered(self.finish(by, action, outcome)),
+            Event::Bind {
+                mutator,
+                name,
+                object,
+            } => answered(self.bind(mutator, &name, object)),
+            Event::Find { mutator, name } => answered(self.find(mutator, &name)),
+            Event::Unbind { mutator, name } => answered(self.unbind(mutator, &name)),
+            Event::Names { mutator } => answered(self.names(mutator)),
             Event::Full { mutator, mode } => answered(self.full(mutator, mode, choice)),
             Event::Stat { mutator } => answered(self.stat(mutator)),
+            Event::Notes { mutator } => answered(self.notes(mutator)),
+            Event::Faults { mutator } => answered(self.faults(mutator)),
+            Event::TakeUp => taken_up(self.take_up()),
             Event::Begin => answered(Ok(Answer::Truth(self.begin()))),
             Event::Collect => answered(Ok(Answer::Truth(self.collect_cycle(choice)))),
             Event::Abandon => answered(Ok(Answer::Truth(self.abandon()))),
@@ -106,5 +142,41 @@ fn answered<R>(outcome: Result<Answer, Refusal>) -> Reply<R>
     Reply::Answered {
         answer,
         resource: None,
+    }
+}
+
+/// A take-up by a mutator. Without a job the action was taken up before.
+fn cleaned<R>(outcome: Result<Option<Job<R>>, Refusal>) -> Reply<R>
+    ensures { result ≡ Reply.Answered (clean_answer outcome) (handed_out outcome) }
+{
+    match outcome {
+        Ok(Some(job)) => started(job),
+        Ok(None) => answered(Ok(Answer::AlreadyDone)),
+        Err(refusal) => answered(Err(refusal)),
+    }
+}
+
+/// A take-up by the cleaner. Without a job no cleanable is Lined.
+fn taken_up<R>(outcome: Result<Option<Job<R>>, Refusal>) -> Reply<R>
+    ensures { result ≡ Reply.Answered (take_up_answered outcome) (handed_out outcome) }
+{
+    match outcome {
+        Ok(Some(job)) => started(job),
+        Ok(None) => answered(Ok(Answer::Handed(Handed::Nothing))),
+        Err(refusal) => answered(Err(refusal)),
+    }
+}
+
+fn started<R>(job: Job<R>) -> Reply<R>
+    ensures { result ≡ Reply.Answered (Answer.Job job.action job.work) job.resource }
+{
+    let Job {
+        action,
+        work,
+        resource,
+    } = job;
+    Reply::Answered {
+        answer: Answer::Job { action, work },
+        resource,
     }
 }

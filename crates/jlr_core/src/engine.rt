@@ -1,25 +1,27 @@
 //! The core: one event at a time.
-ghost use Rattle.std.specs.Prelude.{◌≡◌, ◌≤◌, [], length, IfOk, None, Some};
+ghost use Rattle.std.specs.Prelude.{◌≡◌, ◌≤◌, [], length, IfOk, IsTrue, None, Some};
 ghost use Rattle.jlr_machine.specs.declared.machine.Machine.{Machine};
-ghost use Rattle.jlr_machine.specs.Run.{empty};
+ghost use Rattle.jlr_machine.specs.Run.{empty, empty_from};
+ghost use Rattle.jlr_resource.specs.Resources.{resources, values};
 ghost use Rattle.jlr_barrier.specs.Graphs.{empty_known};
-ghost use Rattle.jlr_core.specs.Events.{ask_of, answer_in, given, handed, progress_in, Enters, WantsMemory};
+ghost use Rattle.jlr_event.specs.Events.{ask_of, answer_in, given, handed};
+ghost use Rattle.jlr_core.specs.Events.{progress_in, Enters, WantsMemory};
+ghost use Rattle.jlr_core.specs.Flows.{Conserves, GoesOut, Moves};
 ghost use Rattle.jlr_core.specs.Policy.{KeepsByPolicy, clock_after};
 
-use crate::event::{Event, Reply};
 use crate::state::State;
+use jlr_event::event::{Event, Reply};
 use jlr_machine::ask::{Answer, Ask};
 use jlr_machine::choice::Choice;
 use jlr_machine::machine::Machine;
 use jlr_types::Limits;
 use std::alloc::{AllocError, Global};
-use std::marker::{Model, PhantomData};
+use std::marker::Model;
 
 /// The machine in code. A resource is of the type `R`. Contracts see the machine that it keeps.
 #[derive(Drop)]
 pub struct Core<R> {
-    state: State,
-    resources: PhantomData<R>,
+    state: State<R>,
 }
 
 impl<R> Model for Core<R> {
@@ -27,17 +29,18 @@ impl<R> Model for Core<R> {
     ghost use Rattle.jlr_core.specs.State.{machine_with};
     ghost use Rattle.jlr_core.specs.Cores.{Kept, kept_with};
 
-    ghost Value = { Kept };
+    ghost Value = { Kept R };
 
-    ghost view = { λ c. kept_with c.state.heap.graph c.state.heap.clock c.state.soft_age c.state.resource_limit c.state.cycle_open };
+    ghost view = { λ c. kept_with c.state.cleaner c.state.heap.graph c.state.heap.clock c.state.soft_age c.state.cycle_open };
 
-    ghost invariant = { λ c. IsWellFormed (machine_with c.state.heap.graph c.state.resource_limit c.state.cycle_open) };
+    ghost invariant = { λ c. IsWellFormed (machine_with c.state.cleaner c.state.heap.graph c.state.cycle_open) };
 }
 
 impl<R> Core<R> {
     ghost use Rattle.jlr_core.specs.Cores.{StandsIn};
+    ghost use Rattle.jlr_core.specs.Rest.{FindsNothing, is_at_rest};
 
-    /// The core of an empty machine. All room is made at once.
+    /// The core of an empty machine, whose first action number is 1. All room is made at once.
     ///
     /// # Errors
     /// `AllocError` where the room cannot be had.
@@ -45,21 +48,41 @@ impl<R> Core<R> {
         ensures machine { IfOk result (λ core. core.machine ≡ empty limits.cells limits.sessions limits.resources) }
         ensures age { IfOk result (λ core. core.soft_age ≡ limits.soft_age) }
         ensures clock { IfOk result (λ core. core.clock ≡ (empty_known limits.cells limits.sessions).clock) }
+        ensures none_held { IfOk result (λ core. values core.table ≡ []) }
+        ensures listed { IfOk result (λ core. resources core.table ≡ core.machine.resources) }
+    {
+        Core::new_from(alloc, limits, 1)
+    }
+
+    /// As `new`, but the first action number is this one, at least 1.
+    ///
+    /// # Errors
+    /// `AllocError` where the room cannot be had.
+    pub fn new_from(alloc: Global, limits: Limits, next_action: u64) -> Result<Self, AllocError>
+        requires { 1 ≤ next_action }
+        ensures machine { IfOk result (λ core. core.machine ≡ empty_from limits.cells limits.sessions limits.resources next_action) }
+        ensures age { IfOk result (λ core. core.soft_age ≡ limits.soft_age) }
+        ensures clock { IfOk result (λ core. core.clock ≡ (empty_known limits.cells limits.sessions).clock) }
+        ensures none_held { IfOk result (λ core. values core.table ≡ []) }
+        ensures listed { IfOk result (λ core. resources core.table ≡ core.machine.resources) }
     {
         Ok(Core {
-            state: State::new(alloc, limits)?,
-            resources: PhantomData,
+            state: State::new(alloc, limits, next_action)?,
         })
     }
 
-    /// One event. The choice says what was chosen; it has room for every cell. Only `Enqueue` and `HandOver`, by which a queue grows, may
-    /// find no memory. A piece of marking is answered Done in an open cycle and Idle without one, and changes nothing: a `Collect` marks
+    /// One event. The choice says what was chosen; it has room for every cell. Only `Enqueue` and `HandOver`, by which a queue grows,
+    /// `Prepare`, by which the table of resources grows, `Bind` of a new name, and `Names`, `Notes` and `Faults`, which copy a list, may find
+    /// no memory. A piece of marking is answered Done in an open cycle and Idle without one, and changes nothing: a `Collect` marks
     /// whole, by the soft policy, and is answered yes exactly where a cycle is open.
     pub fn step(&mut self, event: Event<R>, choice: &mut Choice) -> Reply<R>
         requires room { length self.old.machine.objects ≤ choice.old.cells }
         ensures entry { (m : Machine) → StandsIn self.old m →
             (n : Machine) × Enters m (ask_of event) (answer_in result) choice.new.chosen n × StandsIn self.new n }
-        ensures flow { handed result ≡ given event }
+        ensures flow { Conserves (given event) self.old.table (handed result) self.new.table }
+        ensures moves { Moves (given event) self.old.table (handed result) self.new.table }
+        ensures goes_out { GoesOut self.old.table (given event) (answer_in result) (handed result) }
+        ensures listed { resources self.new.table ≡ self.new.machine.resources }
         ensures memory { WantsMemory event result }
         ensures marking { ask_of event ≡ None → result ≡ Reply.Marked (progress_in self.old.machine) }
         ensures collects { ask_of event ≡ Some Ask.Collect → answer_in result ≡ Some (Answer.Truth self.old.machine.cycle_open) }
@@ -71,6 +94,17 @@ impl<R> Core<R> {
     {
         choice.clear();
         self.state.step(event, choice)
+    }
+
+    /// Whether the helpers have nothing to do: nothing is pending, nothing stands in the cleaner's line, and the cleaner runs no job.
+    /// A step of the handler and one of the cleaner would find nothing then, and leave the core as it is.
+    pub fn is_at_rest(&self) -> bool
+        ensures exact { result ≡ is_at_rest self.now.machine }
+        ensures handler { IsTrue result → FindsNothing self.now Ask.HandOver }
+        ensures cleaner { IsTrue result → FindsNothing self.now Ask.TakeUp }
+        ensures listed { resources self.now.table ≡ self.now.machine.resources }
+    {
+        self.state.is_at_rest()
     }
 
     /// The machine that the core stands for, as plain data, with nothing seen.

@@ -2,8 +2,6 @@
 ghost use Rattle.std.specs.Prelude.{◌≡◌, length, ◌&&◌, not, true, false, Some, is_some, MatchResult};
 ghost use Rattle.jlr_machine.specs.Lookups.{has_free_handle, with_handle};
 ghost use Rattle.jlr_machine.specs.Calls.{new_handle, handle_given, with_given};
-ghost use Rattle.jlr_machine.specs.declared.ask.Outcome.{Outcome};
-ghost use Rattle.jlr_machine.specs.Refusals.{refusal};
 ghost use Rattle.jlr_machine.specs.WellFormed.{IsWellFormed};
 ghost use Rattle.jlr_core.specs.State.{Answered};
 
@@ -11,13 +9,14 @@ use crate::state::State;
 use jlr_machine::ask::{Answer, Ask};
 use jlr_types::{Handle, Mutator, Refusal, Slot};
 
-impl State {
+impl<R> State<R> {
     ghost use Rattle.jlr_core.specs.Machines.{machine_of};
 
     pub(crate) fn join(&mut self, by: Mutator) -> Result<Answer, Refusal>
         ensures answered { Answered (machine_of self.old) (Ask.Join by) result (machine_of self.new) }
         ensures cells { length self.new.heap.graph.objects ≡ length self.old.heap.graph.objects }
         ensures age { self.new.soft_age ≡ self.old.soft_age }
+        ensures cleaner { self.new.cleaner ≡ self.old.cleaner }
         ensures clock { self.new.heap.clock ≡ self.old.heap.clock }
     {
         if by.number() as usize >= self.heap.mutator_count() || self.heap.is_joined(by) {
@@ -31,10 +30,11 @@ impl State {
         ensures answered { Answered (machine_of self.old) (Ask.Leave by) result (machine_of self.new) }
         ensures cells { length self.new.heap.graph.objects ≡ length self.old.heap.graph.objects }
         ensures age { self.new.soft_age ≡ self.old.soft_age }
+        ensures cleaner { self.new.cleaner ≡ self.old.cleaner }
         ensures clock { self.new.heap.clock ≡ self.old.heap.clock }
     {
         self.check_session(by)?;
-        self.no_call(by);
+        self.check_no_call(by)?;
         self.heap.leave(by);
         Ok(Answer::Done)
     }
@@ -43,12 +43,13 @@ impl State {
         requires { IsWellFormed (machine_of self.old) }
         ensures answered { Answered (machine_of self.old) (Ask.Drop by object) result (machine_of self.new) }
         ensures age { self.new.soft_age ≡ self.old.soft_age }
+        ensures cleaner { self.new.cleaner ≡ self.old.cleaner }
         ensures clock { self.new.heap.clock ≡ self.old.heap.clock }
     {
         self.check_session(by)?;
         self.check_handle(by, object)?;
         self.check_slot(by, object)?;
-        self.no_call(by);
+        self.check_no_call(by)?;
         self.heap.drop_handle(by, object);
         Ok(Answer::Done)
     }
@@ -59,7 +60,7 @@ impl State {
         self.check_session(by)?;
         self.check_handle(by, left)?;
         self.check_handle(by, right)?;
-        self.no_call(by);
+        self.check_no_call(by)?;
         let same = self.heap.lookup(by, left) == self.heap.lookup(by, right);
         Ok(Answer::Truth(same))
     }
@@ -68,12 +69,13 @@ impl State {
         requires { IsWellFormed (machine_of self.old) }
         ensures answered { Answered (machine_of self.old) (Ask.Dup by object) result (machine_of self.new) }
         ensures age { self.new.soft_age ≡ self.old.soft_age }
+        ensures cleaner { self.new.cleaner ≡ self.old.cleaner }
         ensures clock { self.new.heap.clock ≡ self.old.heap.clock }
     {
         self.check_session(by)?;
         self.check_handle(by, object)?;
         let slot = self.check_slot(by, object)?;
-        self.no_call(by);
+        self.check_no_call(by)?;
         self.check_free_handle(by)?;
         Ok(self.give(by, slot))
     }
@@ -86,6 +88,7 @@ impl State {
         ensures objects { self.new.heap.graph.objects ≡ self.old.heap.graph.objects }
         ensures clock { self.new.heap.clock ≡ self.old.heap.clock }
         ensures age { self.new.soft_age ≡ self.old.soft_age }
+        ensures cleaner { self.new.cleaner ≡ self.old.cleaner }
     {
         match self.heap.put_handle(by, slot) {
             Some(handle) => Answer::Handle(handle),
@@ -113,6 +116,7 @@ impl State {
         ensures objects { self.new.heap.graph.objects ≡ self.old.heap.graph.objects }
         ensures clock { self.new.heap.clock ≡ self.old.heap.clock }
         ensures age { self.new.soft_age ≡ self.old.soft_age }
+        ensures cleaner { self.new.cleaner ≡ self.old.cleaner }
     {
         match target {
             Some(slot) => self.give(by, slot),
@@ -132,23 +136,12 @@ impl State {
         ensures objects { self.new.heap.graph.objects ≡ self.old.heap.graph.objects }
         ensures clock { self.new.heap.clock ≡ self.old.heap.clock }
         ensures age { self.new.soft_age ≡ self.old.soft_age }
+        ensures cleaner { self.new.cleaner ≡ self.old.cleaner }
     {
         let Some(slot) = target else {
             return Ok(Answer::Handle(Handle::new(0)));
         };
         self.check_free_handle(by)?;
         Ok(self.give(by, slot))
-    }
-
-    /// The end of an open. It is refused: there is no call in flight yet.
-    pub(crate) fn opened(&self, by: Mutator) -> Refusal
-        ensures refused { (outcome : Outcome) → refusal (machine_of self.now) (Ask.Opened by outcome) ≡ Some result }
-        ensures memory { result ≡ Refusal.NoMemory → ⊥ }
-    {
-        self.heap.no_calls();
-        match self.check_session(by) {
-            Ok(()) => Refusal::NotOut,
-            Err(refusal) => refusal,
-        }
     }
 }

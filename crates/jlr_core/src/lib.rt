@@ -1,15 +1,18 @@
 //! The machine in code: one event at a time, whose reply and state are an entry of the machine.
 #![tactic(auto)]
 
+mod cleaning;
 mod collect;
 mod counts;
 mod cycles;
 mod dispatch;
 pub mod engine;
-pub mod event;
 mod handles;
+mod names;
 mod objects;
+mod prepare;
 mod references;
+mod resources;
 pub mod run;
 mod state;
 #[cfg(test)]

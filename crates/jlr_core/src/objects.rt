@@ -14,7 +14,7 @@ use jlr_machine::ask::{Answer, Ask};
 use jlr_machine::choice::Choice;
 use jlr_types::{FieldValue, Handle, Layout, Mutator, Refusal, Slot};
 
-impl State {
+impl<R> State<R> {
     ghost use Rattle.jlr_core.specs.Machines.{machine_of};
 
     /// A plain object.
@@ -48,6 +48,7 @@ impl State {
         requires { IsWellFormed (machine_of self.old) }
         ensures answered { Answered (machine_of self.old) (Ask.Get by object field) result (machine_of self.new) }
         ensures age { self.new.soft_age ≡ self.old.soft_age }
+        ensures cleaner { self.new.cleaner ≡ self.old.cleaner }
         ensures clock { self.new.heap.clock ≡ self.old.heap.clock }
     {
         self.check_session(by)?;
@@ -55,7 +56,7 @@ impl State {
         let slot = self.check_slot(by, object)?;
         self.check_plain(slot)?;
         let target = self.check_reference_field(slot, field)?;
-        self.no_call(by);
+        self.check_no_call(by)?;
         self.give_or_null(by, target)
     }
 
@@ -70,6 +71,7 @@ impl State {
         ensures answered { Answered (machine_of self.old) (Ask.Put by object field value) result (machine_of self.new) }
         ensures memory { answer_of result ≡ Answer.Refused Refusal.NoMemory → ⊥ }
         ensures age { self.new.soft_age ≡ self.old.soft_age }
+        ensures cleaner { self.new.cleaner ≡ self.old.cleaner }
         ensures clock { self.new.heap.clock ≡ self.old.heap.clock }
     {
         self.check_session(by)?;
@@ -78,7 +80,7 @@ impl State {
         let slot = self.check_slot(by, object)?;
         self.check_plain(slot)?;
         self.check_reference_field(slot, field)?;
-        self.no_call(by);
+        self.check_no_call(by)?;
         let target = self.heap.lookup(by, value);
         self.heap
             .store(slot, field as usize, FieldValue::Ref(target));
@@ -110,7 +112,7 @@ impl State {
         let slot = self.check_slot(by, object)?;
         self.check_plain(slot)?;
         let number = self.check_int_field(slot, field)?;
-        self.no_call(by);
+        self.check_no_call(by)?;
         Ok(Answer::Int(number))
     }
 
@@ -125,6 +127,7 @@ impl State {
         ensures answered { Answered (machine_of self.old) (Ask.SetInt by object field value) result (machine_of self.new) }
         ensures memory { answer_of result ≡ Answer.Refused Refusal.NoMemory → ⊥ }
         ensures age { self.new.soft_age ≡ self.old.soft_age }
+        ensures cleaner { self.new.cleaner ≡ self.old.cleaner }
         ensures clock { self.new.heap.clock ≡ self.old.heap.clock }
     {
         self.check_session(by)?;
@@ -132,7 +135,7 @@ impl State {
         let slot = self.check_slot(by, object)?;
         self.check_plain(slot)?;
         self.check_int_field(slot, field)?;
-        self.no_call(by);
+        self.check_no_call(by)?;
         self.heap
             .store(slot, field as usize, FieldValue::Int(value));
         Ok(Answer::Done)
@@ -152,10 +155,11 @@ impl State {
         ensures room { choice.new.cells ≡ choice.old.cells }
         ensures cells { length self.new.heap.graph.objects ≡ length self.old.heap.graph.objects }
         ensures age { self.new.soft_age ≡ self.old.soft_age }
+        ensures cleaner { self.new.cleaner ≡ self.old.cleaner }
         ensures clock { self.new.heap.clock ≡ after_choice choice.new.chosen self.old.heap.clock }
     {
         self.check_session(by)?;
-        self.no_call(by);
+        self.check_no_call(by)?;
         self.check_free_handle(by)?;
         let slot = self.allocate(Shape::Plain(layout), choice)?;
         Ok(self.give(by, slot))

@@ -16,7 +16,7 @@ use jlr_machine::ask::{Answer, Ask};
 use jlr_machine::choice::Choice;
 use jlr_types::{Handle, Mutator, RefKind, Refusal, Slot};
 
-impl State {
+impl<R> State<R> {
     ghost use Rattle.jlr_core.specs.Machines.{machine_of};
 
     /// There is a reference at a slot.
@@ -64,12 +64,13 @@ impl State {
         ensures clock { self.new.heap.clock ≡ clock_after_deref (machine_of self.old) by reference (answer_of result) self.old.heap.clock }
         ensures cells { length self.new.heap.graph.objects ≡ length self.old.heap.graph.objects }
         ensures age { self.new.soft_age ≡ self.old.soft_age }
+        ensures cleaner { self.new.cleaner ≡ self.old.cleaner }
     {
         self.check_session(by)?;
         self.check_handle(by, reference)?;
         let slot = self.check_slot(by, reference)?;
         self.check_reference(slot)?;
-        self.no_call(by);
+        self.check_no_call(by)?;
         let target = self.heap.gotten(slot);
         if target.is_some() {
             self.check_free_handle(by)?;
@@ -93,7 +94,7 @@ impl State {
         self.check_handle(by, object)?;
         let slot = self.check_slot(by, reference)?;
         self.check_reference(slot)?;
-        self.no_call(by);
+        self.check_no_call(by)?;
         let target = self.heap.lookup(by, object);
         Ok(Answer::Truth(jlr_refs::refers_to(&self.heap, slot, target)))
     }
@@ -103,13 +104,14 @@ impl State {
         ensures answered { Answered (machine_of self.old) (Ask.Clear by reference) result (machine_of self.new) }
         ensures cells { length self.new.heap.graph.objects ≡ length self.old.heap.graph.objects }
         ensures age { self.new.soft_age ≡ self.old.soft_age }
+        ensures cleaner { self.new.cleaner ≡ self.old.cleaner }
         ensures clock { self.new.heap.clock ≡ self.old.heap.clock }
     {
         self.check_session(by)?;
         self.check_handle(by, reference)?;
         let slot = self.check_slot(by, reference)?;
         self.check_reference(slot)?;
-        self.no_call(by);
+        self.check_no_call(by)?;
         jlr_refs::clear(&mut self.heap, slot);
         Ok(Answer::Done)
     }
@@ -125,7 +127,7 @@ impl State {
         self.check_handle(by, reference)?;
         let slot = self.check_slot(by, reference)?;
         self.check_reference(slot)?;
-        self.no_call(by);
+        self.check_no_call(by)?;
         Ok(slot)
     }
 
@@ -134,6 +136,7 @@ impl State {
         ensures meets { Meets (machine_of self.old) (Ask.Enqueue by reference) (answer_of result) no_choice (machine_of self.new) }
         ensures cells { length self.new.heap.graph.objects ≡ length self.old.heap.graph.objects }
         ensures age { self.new.soft_age ≡ self.old.soft_age }
+        ensures cleaner { self.new.cleaner ≡ self.old.cleaner }
         ensures clock { self.new.heap.clock ≡ self.old.heap.clock }
     {
         let slot = self.check_enqueue(by, reference)?;
@@ -151,7 +154,7 @@ impl State {
         self.check_handle(by, reference)?;
         let slot = self.check_slot(by, reference)?;
         self.check_reference(slot)?;
-        self.no_call(by);
+        self.check_no_call(by)?;
         Ok(Answer::Truth(jlr_refs::is_enqueued(&self.heap, slot)))
     }
 
@@ -166,7 +169,7 @@ impl State {
         self.check_handle(by, queue)?;
         let slot = self.check_slot(by, queue)?;
         self.check_queue(slot)?;
-        self.no_call(by);
+        self.check_no_call(by)?;
         self.check_room_for(by, self.heap.front(slot))?;
         Ok(slot)
     }
@@ -176,11 +179,46 @@ impl State {
         ensures answered { Answered (machine_of self.old) (Ask.Poll by queue) result (machine_of self.new) }
         ensures cells { length self.new.heap.graph.objects ≡ length self.old.heap.graph.objects }
         ensures age { self.new.soft_age ≡ self.old.soft_age }
+        ensures cleaner { self.new.cleaner ≡ self.old.cleaner }
         ensures clock { self.new.heap.clock ≡ self.old.heap.clock }
     {
         let slot = self.check_poll(by, queue)?;
         let front = jlr_refs::poll(&mut self.heap, slot);
         Ok(self.give_known(by, front))
+    }
+
+    /// The queue whose front is removed, with a free handle for it.
+    fn check_remove(&self, by: Mutator, queue: Handle) -> Result<Slot, Refusal>
+        requires { IsWellFormed (machine_of self.now) }
+        ensures { MatchResult result
+            (λ slot. (refusal (machine_of self.now) (Ask.Remove by queue) ≡ None) × (slot_named (machine_of self.now) by queue ≡ Some slot) × IsTrue (some_and is_queue (at self.now.heap.graph.objects slot)) × ((is_some (member_in (at self.now.heap.graph.objects slot) 0) && not (has_free_handle (machine_of self.now) by)) ≡ false))
+            (λ r. refusal (machine_of self.now) (Ask.Remove by queue) ≡ Some r) }
+    {
+        self.check_session(by)?;
+        self.check_handle(by, queue)?;
+        let slot = self.check_slot(by, queue)?;
+        self.check_queue(slot)?;
+        self.check_no_call(by)?;
+        let front = self.heap.front(slot);
+        if front.is_none() {
+            return Err(Refusal::WouldWait);
+        }
+        self.check_room_for(by, front)?;
+        Ok(slot)
+    }
+
+    /// As `poll`, but it does not answer null: it is refused where the queue is empty.
+    pub(crate) fn remove(&mut self, by: Mutator, queue: Handle) -> Result<Answer, Refusal>
+        requires { IsWellFormed (machine_of self.old) }
+        ensures answered { Answered (machine_of self.old) (Ask.Remove by queue) result (machine_of self.new) }
+        ensures cells { length self.new.heap.graph.objects ≡ length self.old.heap.graph.objects }
+        ensures age { self.new.soft_age ≡ self.old.soft_age }
+        ensures cleaner { self.new.cleaner ≡ self.old.cleaner }
+        ensures clock { self.new.heap.clock ≡ self.old.heap.clock }
+    {
+        let slot = self.check_remove(by, queue)?;
+        let member = jlr_refs::poll(&mut self.heap, slot);
+        Ok(self.give_known(by, member))
     }
 
     /// The handler's step.
@@ -189,6 +227,7 @@ impl State {
         ensures meets { Meets (machine_of self.old) Ask.HandOver (answer_of result) no_choice (machine_of self.new) }
         ensures cells { length self.new.heap.graph.objects ≡ length self.old.heap.graph.objects }
         ensures age { self.new.soft_age ≡ self.old.soft_age }
+        ensures cleaner { self.new.cleaner ≡ self.old.cleaner }
         ensures clock { self.new.heap.clock ≡ self.old.heap.clock }
     {
         match jlr_refs::hand_over(&mut self.heap) {
@@ -206,10 +245,11 @@ impl State {
         ensures room { choice.new.cells ≡ choice.old.cells }
         ensures cells { length self.new.heap.graph.objects ≡ length self.old.heap.graph.objects }
         ensures age { self.new.soft_age ≡ self.old.soft_age }
+        ensures cleaner { self.new.cleaner ≡ self.old.cleaner }
         ensures clock { self.new.heap.clock ≡ after_choice choice.new.chosen self.old.heap.clock }
     {
         self.check_session(by)?;
-        self.no_call(by);
+        self.check_no_call(by)?;
         self.check_free_handle(by)?;
         let slot = self.allocate(Shape::Queue, choice)?;
         Ok(self.give(by, slot))
@@ -231,6 +271,7 @@ impl State {
         ensures room { choice.new.cells ≡ choice.old.cells }
         ensures cells { length self.new.heap.graph.objects ≡ length self.old.heap.graph.objects }
         ensures age { self.new.soft_age ≡ self.old.soft_age }
+        ensures cleaner { self.new.cleaner ≡ self.old.cleaner }
         ensures clock { self.new.heap.clock ≡ after_choice choice.new.chosen self.old.heap.clock }
     {
         self.check_session(by)?;
@@ -238,7 +279,7 @@ impl State {
         self.check_handle(by, queue)?;
         let target = self.check_slot(by, referent)?;
         let queue = self.check_queue_or_null(by, queue)?;
-        self.no_call(by);
+        self.check_no_call(by)?;
         self.check_free_handle(by)?;
         let shape = Shape::Reference {
             kind,

@@ -1,42 +1,48 @@
 //! What the core keeps, as the machine has it, and the checks of refusals that many asks share.
-ghost use Rattle.std.specs.Prelude.{◌≡◌, None, Some, Ok, Err, MatchResult, IfOk, true, false, not, is_none, is_some, ◌&&◌, ◌==◌, OnOk, IsTrue};
+ghost use Rattle.std.specs.Prelude.{◌≡◌, ◌≤◌, [], None, Some, Ok, Err, MatchResult, IfOk, true, false, not, is_none, is_some, ◌&&◌, ◌==◌, OnOk, IsTrue};
 ghost use Rattle.jlr_machine.specs.WellFormed.{IsWellFormed};
 ghost use Rattle.jlr_machine.specs.Objects.{at};
 ghost use Rattle.jlr_machine.specs.Lookups.{slot_named, object_named, has_free_handle};
 ghost use Rattle.jlr_machine.specs.Refusals.{is_joined, has_call};
-ghost use Rattle.jlr_machine.specs.Run.{empty};
+ghost use Rattle.jlr_machine.specs.Run.{empty_from};
 ghost use Rattle.jlr_barrier.specs.Graphs.{empty_known};
-ghost use Rattle.jlr_core.specs.State.{machine_with};
+ghost use Rattle.jlr_resource.specs.Resources.{values};
 
 use jlr_barrier::Heap;
+use jlr_cleaner::Cleaner;
 use jlr_machine::items::Items;
 use jlr_machine::machine::Machine;
 use jlr_types::{Handle, Limits, Mutator, Refusal, Slot};
 use std::alloc::{AllocError, Global};
 
-/// The heap, the soft age, in collections, the limit of resources, and whether a cycle is open.
+/// The heap, the soft age, in collections, what cleaning actions left and the files and sockets, whether a cycle is open, and where lists
+/// of an answer come from.
 #[derive(Drop)]
-pub(crate) struct State {
+pub(crate) struct State<R> {
     pub(crate) heap: Heap,
     pub(crate) soft_age: u32,
-    pub(crate) resource_limit: u32,
+    pub(crate) cleaner: Cleaner<R>,
     pub(crate) cycle_open: bool,
+    pub(crate) alloc: Global,
 }
 
-impl State {
+impl<R> State<R> {
     ghost use Rattle.jlr_core.specs.Machines.{machine_of};
 
-    /// The state of an empty machine. All room is made at once.
-    pub(crate) fn new(alloc: Global, limits: Limits) -> Result<Self, AllocError>
-        ensures machine { IfOk result (λ state. machine_of state ≡ empty limits.cells limits.sessions limits.resources) }
+    /// The state of an empty machine, whose next action is this one, at least 1. All room is made at once.
+    pub(crate) fn new(alloc: Global, limits: Limits, next_action: u64) -> Result<Self, AllocError>
+        requires { 1 ≤ next_action }
+        ensures machine { IfOk result (λ state. machine_of state ≡ empty_from limits.cells limits.sessions limits.resources next_action) }
         ensures age { IfOk result (λ state. state.soft_age ≡ limits.soft_age) }
         ensures clock { IfOk result (λ state. state.heap.clock ≡ (empty_known limits.cells limits.sessions).clock) }
+        ensures none_held { IfOk result (λ state. values state.cleaner.table ≡ []) }
     {
         Ok(State {
             heap: Heap::new(alloc, limits)?,
             soft_age: limits.soft_age,
-            resource_limit: limits.resources,
+            cleaner: Cleaner::starting_at(alloc, limits, next_action)?,
             cycle_open: false,
+            alloc,
         })
     }
 
@@ -44,21 +50,22 @@ impl State {
     pub(crate) fn image(&self, alloc: Global) -> Result<Machine, AllocError>
         ensures { IfOk result (λ machine. machine ≡ machine_of self.now) }
     {
+        let totals = self.cleaner.totals();
         Ok(Machine {
             objects: self.heap.objects_image(alloc)?,
             mutators: self.heap.mutators_image(alloc)?,
-            names: Items::new(alloc),
+            names: self.heap.names_image(alloc)?,
             pending: self.heap.pending_image(alloc)?,
-            line: Items::new(alloc),
-            jobs: Items::new(alloc),
-            resources: Items::new(alloc),
-            resource_limit: self.resource_limit,
-            faults: Items::new(alloc),
-            notes: Items::new(alloc),
-            next_action: 1,
-            taken: 0,
-            ok: 0,
-            failed: 0,
+            line: self.heap.line_image(alloc)?,
+            jobs: self.cleaner.jobs(alloc)?,
+            resources: self.cleaner.resources(alloc)?,
+            resource_limit: self.cleaner.resource_limit(),
+            faults: self.cleaner.faults(alloc)?,
+            notes: self.cleaner.notes(alloc)?,
+            next_action: self.cleaner.next_action(),
+            taken: totals.taken,
+            ok: totals.ok,
+            failed: totals.failed,
             cycle_open: self.cycle_open,
             seen: Items::new(alloc),
         })
@@ -113,11 +120,14 @@ impl State {
         }
     }
 
-    /// No mutator has a call in flight: calls come later.
-    pub(crate) fn no_call(&self, by: Mutator)
-        ensures { has_call (machine_of self.now) by ≡ false }
+    /// The mutator has no call in flight.
+    pub(crate) fn check_no_call(&self, by: Mutator) -> Result<(), Refusal>
+        ensures { MatchResult result (λ _. has_call (machine_of self.now) by ≡ false) (λ r. (r ≡ Refusal.Busy) × (has_call (machine_of self.now) by ≡ true)) }
     {
-        self.heap.no_calls();
-        let _ = by;
+        if self.heap.has_call(by) {
+            Err(Refusal::Busy)
+        } else {
+            Ok(())
+        }
     }
 }

@@ -1,17 +1,22 @@
 //! Lists of events and their replies. What is expected comes from the description of the asks.
-use crate::event::{Event, Reply};
 use crate::run::run;
+use jlr_event::event::{Event, Reply};
 use jlr_machine::ask::{Answer, FullMode, Handed, Stat};
-use jlr_types::{Fault, FieldKind, Handle, Layout, Limits, Mutator, Progress, RefKind, Refusal};
+use jlr_types::{
+    Fault, FieldKind, Handle, Layout, LimitFault, Limits, Mutator, Progress, RefKind, Refusal,
+};
 use std::alloc::Global;
 use std::test::Fail;
 
+mod cleaning;
 mod cycles;
 mod memory;
+mod names;
 mod objects;
 mod queues;
 mod references;
 mod refusals;
+mod resources;
 mod soft_references;
 
 // An answer, as far as these tests look at it.
@@ -25,22 +30,72 @@ enum Got {
     Stat(Stat),
     Marked(Progress),
     Refused(Refusal),
+    // A refusal that hands a resource back.
+    Back(Refusal, u32),
+    Faulted(Fault),
+    Wrote(u8),
+    // The number of an action, and its resource.
+    Job(u64, Option<u32>),
+    AlreadyDone,
+    Prepared,
+    Out(u32),
+    // How many there are, and the last one, or of names the first byte of the first.
+    Notes(usize, Option<u32>),
+    Faults(usize, Option<(u64, Fault)>),
+    Names(usize, Option<u8>),
     Other,
 }
 
 fn seen(reply: &Reply<u32>) -> Got {
     match reply {
-        Reply::Answered { answer, .. } => match answer {
-            Answer::Done => Got::Done,
-            Answer::Handle(handle) => Got::Handle(handle.number()),
-            Answer::Truth(truth) => Got::Truth(*truth),
-            Answer::Handed(handed) => Got::Handed(*handed),
-            Answer::Int(number) => Got::Int(*number),
-            Answer::Stat(stat) => Got::Stat(*stat),
-            Answer::Refused(refusal) => Got::Refused(*refusal),
-            _ => Got::Other,
-        },
+        Reply::Answered { answer, resource } => answered(answer, *resource),
         Reply::Marked(progress) => Got::Marked(*progress),
+    }
+}
+
+fn answered(answer: &Answer, resource: Option<u32>) -> Got {
+    match answer {
+        Answer::Done => Got::Done,
+        Answer::Handle(handle) => Got::Handle(handle.number()),
+        Answer::Truth(truth) => Got::Truth(*truth),
+        Answer::Handed(handed) => Got::Handed(*handed),
+        Answer::Int(number) => Got::Int(*number),
+        Answer::Stat(stat) => Got::Stat(*stat),
+        Answer::Faulted(fault) => Got::Faulted(*fault),
+        Answer::Wrote(count) => Got::Wrote(*count),
+        Answer::AlreadyDone => Got::AlreadyDone,
+        Answer::Prepared(_) => Got::Prepared,
+        Answer::Refused(refusal) => match resource {
+            Some(resource) => Got::Back(*refusal, resource),
+            None => Got::Refused(*refusal),
+        },
+        Answer::Out(_) => match resource {
+            Some(resource) => Got::Out(resource),
+            None => Got::Other,
+        },
+        Answer::Job { action, .. } => Got::Job(action.number(), resource),
+        _ => listed(answer),
+    }
+}
+
+fn listed(answer: &Answer) -> Got {
+    match answer {
+        Answer::Notes(notes) => Got::Notes(notes.len(), notes.as_slice().last().copied()),
+        Answer::Faults(faults) => {
+            let last = match faults.as_slice().last() {
+                Some(failure) => Some((failure.action.number(), failure.fault)),
+                None => None,
+            };
+            Got::Faults(faults.len(), last)
+        }
+        Answer::Names(names) => {
+            let first = match names.as_slice().first() {
+                Some(name) => name.as_slice().first().copied(),
+                None => None,
+            };
+            Got::Names(names.len(), first)
+        }
+        _ => Got::Other,
     }
 }
 
@@ -51,6 +106,26 @@ fn limits(soft_age: u32) -> Result<Limits, Fail> {
             .ok()
             .ok_or("limits")?,
     )
+}
+
+// What the events are answered under other limits, and what is wanted.
+fn play_with(
+    alloc: Global,
+    limits: Result<Limits, LimitFault>,
+    cases: Vec<(Event<u32>, Got)>,
+) -> Result<(Vec<Got>, Vec<Got>), Fail> {
+    let mut events = Vec::new(alloc);
+    let mut wanted = Vec::new(alloc);
+    for (event, answer) in cases {
+        events.push(event)?;
+        wanted.push(answer)?;
+    }
+    let mut answers = Vec::new(alloc);
+    let (replies, _) = run(alloc, limits.ok().ok_or("limits")?, events)?;
+    for reply in &replies {
+        answers.push(seen(reply))?;
+    }
+    Ok((answers, wanted))
 }
 
 fn replies(alloc: Global, soft_age: u32, events: Vec<Event<u32>>) -> Result<Vec<Reply<u32>>, Fail> {

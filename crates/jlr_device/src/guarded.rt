@@ -1,6 +1,6 @@
 //! The calls of devices and resources for a caller that does not know whether the count of failures still fits: where it is at
 //! its last value, 2^64 - 1, no call is made, and the answer is `Other`.
-ghost use Rattle.std.specs.Prelude.{◌≡◌, ◌+◌, ◌^◌, ◌<◌, ◌≤◌, Err, length, IfOk};
+ghost use Rattle.std.specs.Prelude.{◌≡◌, ◌+◌, ◌^◌, ◌<◌, ◌≤◌, ◌⊎◌, Err, length, IfOk};
 ghost use Rattle.jlr_types.specs.declared.Fault.TheVariants as fault;
 ghost use Rattle.jlr_device.specs.Failures.{Counts, Fits, IsFull};
 
@@ -11,6 +11,7 @@ use jlr_types::Fault;
 /// Opens a file.
 pub fn guarded_open<D: Device>(device: &mut D, mode: Mode, path: &str) -> Result<D::Res, Fault>
     ensures fresh { IfOk result (λ resource. D.Res.count resource ≡ 0) }
+    ensures either { Fits (D.count device.old) ⊎ IsFull (D.count device.old) }
     ensures counted { Fits (D.count device.old) → Counts (D.count device.old) result (D.count device.new) }
     ensures told { Fits (D.count device.old) → D.may_open device.old mode path.now result device.new }
     ensures uncalled { IsFull (D.count device.old) → (result ≡ Err fault.Other) × (device.new ≡ device.old) }
@@ -24,6 +25,7 @@ pub fn guarded_open<D: Device>(device: &mut D, mode: Mode, path: &str) -> Result
 /// Joins a socket.
 pub fn guarded_connect<D: Device>(device: &mut D, path: &str) -> Result<D::Res, Fault>
     ensures fresh { IfOk result (λ resource. D.Res.count resource ≡ 0) }
+    ensures either { Fits (D.count device.old) ⊎ IsFull (D.count device.old) }
     ensures counted { Fits (D.count device.old) → Counts (D.count device.old) result (D.count device.new) }
     ensures told { Fits (D.count device.old) → D.may_connect device.old path.now result device.new }
     ensures uncalled { IsFull (D.count device.old) → (result ≡ Err fault.Other) × (device.new ≡ device.old) }
@@ -37,6 +39,7 @@ pub fn guarded_connect<D: Device>(device: &mut D, path: &str) -> Result<D::Res, 
 /// Reads bytes to the front of `buf`, and answers how many; 0 at the end.
 pub fn guarded_read<R: Resource>(resource: &mut R, buf: &mut [u8]) -> Result<usize, Fault>
     ensures bound { IfOk result (λ n. n ≤ length buf.old) }
+    ensures either { Fits (R.count resource.old) ⊎ IsFull (R.count resource.old) }
     ensures counted { Fits (R.count resource.old) → Counts (R.count resource.old) result (R.count resource.new) }
     ensures told { Fits (R.count resource.old) → R.may_read resource.old buf.old result buf.new resource.new }
     ensures uncalled { IsFull (R.count resource.old) → (result ≡ Err fault.Other) × (buf.new ≡ buf.old) × (resource.new ≡ resource.old) }
@@ -50,6 +53,7 @@ pub fn guarded_read<R: Resource>(resource: &mut R, buf: &mut [u8]) -> Result<usi
 /// Writes bytes of the front of `bytes`, and answers how many, which may be fewer than there are.
 pub fn guarded_write<R: Resource>(resource: &mut R, bytes: &[u8]) -> Result<usize, Fault>
     ensures bound { IfOk result (λ n. n ≤ length bytes.now) }
+    ensures either { Fits (R.count resource.old) ⊎ IsFull (R.count resource.old) }
     ensures counted { Fits (R.count resource.old) → Counts (R.count resource.old) result (R.count resource.new) }
     ensures told { Fits (R.count resource.old) → R.may_write resource.old bytes.now result resource.new }
     ensures uncalled { IsFull (R.count resource.old) → (result ≡ Err fault.Other) × (resource.new ≡ resource.old) }
@@ -62,6 +66,7 @@ pub fn guarded_write<R: Resource>(resource: &mut R, bytes: &[u8]) -> Result<usiz
 
 /// Ends a resource. Where its count is at its last value it is dropped without its `finish`.
 pub fn guarded_finish<R: Resource + Drop>(resource: R) -> Finished
+    ensures either { Fits (R.count resource) ⊎ IsFull (R.count resource) }
     ensures counted { Fits (R.count resource) → Counts (R.count resource) result.outcome result.failures }
     ensures told { Fits (R.count resource) → R.may_finish resource result }
     ensures uncalled { IsFull (R.count resource) → (result.outcome ≡ Err fault.Other) × (result.failures ≡ R.count resource) }

@@ -8,8 +8,8 @@ ghost use Rattle.jlr_laws.specs.Same.{same_answer, same_truth, same_fault, same_
 ghost use Rattle.jlr_plain_answers.specs.Names.{names_of};
 
 use jlr_machine::ask::{Answer, CallOutcome, Handed, Stat};
-use jlr_machine::items::Items;
 use jlr_machine::machine::{Binding, Failure};
+use jlr_machine::text::Name;
 use jlr_types::{ActionNo, Fault, Refusal, Rid, Work};
 
 fn truths_agree(left: bool, right: bool) -> bool
@@ -108,7 +108,7 @@ fn notes_agree(left: &[u32], right: &[u32]) -> bool
     left == right
 }
 
-fn all_names_agree(left: &[Items<u8>], right: &[Binding]) -> bool
+fn all_names_agree(left: &[Name], right: &[Binding]) -> bool
     ensures { result ≡ pointwise bytes_eq left.now (names_of right.now) }
 {
     if left.len() != right.len() {

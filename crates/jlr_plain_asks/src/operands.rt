@@ -5,7 +5,7 @@ ghost use Rattle.jlr_machine.specs.Refusals.{asker, is_end, operands, field_aske
 ghost use Rattle.jlr_plain_asks.specs.Fits.{operands_in};
 
 use jlr_machine::ask::Ask;
-use jlr_machine::items::Items;
+use jlr_machine::text::Name;
 use jlr_types::{FieldKind, Handle, Mutator};
 
 /// Who takes up what the cleaner is to do.
@@ -233,7 +233,7 @@ fn int_field(object: Handle, field: u8) -> FieldNamed
 }
 
 /// The name that an ask is about.
-pub fn name_of(ask: &Ask) -> Option<&Items<u8>>
+pub fn name_of(ask: &Ask) -> Option<&Name>
     ensures { option_copied result ≡ name_asked ask.now }
 {
     match ask {

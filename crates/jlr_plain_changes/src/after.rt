@@ -21,6 +21,7 @@ use jlr_machine::copy::copy_slice;
 use jlr_machine::items::Items;
 use jlr_machine::machine::Machine;
 use jlr_machine::object::{Object, Reference};
+use jlr_machine::text::Name;
 use jlr_plain_answers::handing::line_from;
 use jlr_plain_asks::given::given_by;
 use jlr_plain_asks::lookups::{
@@ -219,7 +220,7 @@ fn finish_action(
 fn bind_slot(
     alloc: Global,
     machine: Machine,
-    name: &Items<u8>,
+    name: &Name,
     slot: Slot,
 ) -> Result<Machine, AllocError>
     ensures { IfOk result (λ n. n ≡ record machine { names = bound machine.names name.now slot }) }
@@ -234,7 +235,7 @@ fn bind(
     alloc: Global,
     machine: Machine,
     mutator: Mutator,
-    name: &Items<u8>,
+    name: &Name,
     object: Handle,
 ) -> Result<Machine, AllocError>
     ensures { IfOk result (λ n. n ≡ on (slot_named machine mutator object) (λ s. record machine { names = bound machine.names name.now s }) machine) }
@@ -245,7 +246,7 @@ fn bind(
     }
 }
 
-fn unbind(alloc: Global, machine: Machine, name: &Items<u8>) -> Result<Machine, AllocError>
+fn unbind(alloc: Global, machine: Machine, name: &Name) -> Result<Machine, AllocError>
     ensures { IfOk result (λ n. n ≡ record machine { names = unbound machine.names name.now }) }
 {
     let mut machine = machine;

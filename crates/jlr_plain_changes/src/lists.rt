@@ -3,9 +3,9 @@ ghost use Rattle.std.specs.Prelude.{◌≡◌, ◌==◌, ◌++◌, ◌∷◌, []
 ghost use Rattle.jlr_machine.specs.declared.machine.Resource.{Resource as ResourceOf};
 ghost use Rattle.jlr_machine.specs.Lookups.{bound, unbound, with_job, without_job, with_resource, last_256};
 
-use jlr_machine::copy::{copy_items, copy_slice};
-use jlr_machine::items::Items;
+use jlr_machine::copy::copy_slice;
 use jlr_machine::machine::{Binding, Job, Resource, ResourceState};
+use jlr_machine::text::Name;
 use jlr_plain_asks::lookups::names_agree;
 use jlr_types::{ActionNo, Rid, Slot};
 use std::alloc::{AllocError, Global};
@@ -120,29 +120,29 @@ pub fn resource_removed(
     Ok(out)
 }
 
-fn push_bindings(alloc: Global, out: &mut Vec<Binding>, names: &[Binding]) -> Result<(), AllocError>
+fn push_bindings(out: &mut Vec<Binding>, names: &[Binding]) -> Result<(), AllocError>
     ensures { OnOk result (out.new.items ≡ out.old.items ++ names.now) }
 {
     for binding in names {
-        out.push(binding.copy(alloc)?)?;
+        out.push(binding.copy())?;
     }
     Ok(())
 }
 
-fn make_binding(alloc: Global, name: &Items<u8>, slot: Slot) -> Result<Binding, AllocError>
-    ensures { IfOk result (λ b. b ≡ record { name = name.now; slot = slot }) }
+fn make_binding(name: &Name, slot: Slot) -> Binding
+    ensures { result ≡ record { name = name.now; slot = slot } }
 {
-    Ok(Binding {
-        name: copy_items(alloc, name)?,
+    Binding {
+        name: name.copy(),
         slot,
-    })
+    }
 }
 
 /// The names with this one bound; an old name keeps its place.
 pub fn name_bound(
     alloc: Global,
     names: &[Binding],
-    name: &Items<u8>,
+    name: &Name,
     slot: Slot,
 ) -> Result<Vec<Binding>, AllocError>
     ensures { IfOk result (λ v. v.items ≡ bound names.now name.now slot) }
@@ -150,13 +150,13 @@ pub fn name_bound(
     let mut out = Vec::new(alloc);
     for i in 0..names.len() {
         if names_agree(names[i].name.as_slice(), name.as_slice()) {
-            out.push(make_binding(alloc, name, slot)?)?;
-            push_bindings(alloc, &mut out, &names[i + 1..])?;
+            out.push(make_binding(name, slot))?;
+            push_bindings(&mut out, &names[i + 1..])?;
             return Ok(out);
         }
-        out.push(names[i].copy(alloc)?)?;
+        out.push(names[i].copy())?;
     }
-    out.push(make_binding(alloc, name, slot)?)?;
+    out.push(make_binding(name, slot))?;
     Ok(out)
 }
 
@@ -171,7 +171,7 @@ pub fn name_unbound(
     let mut out = Vec::new(alloc);
     for binding in names {
         if !names_agree(binding.name.as_slice(), name) {
-            out.push(binding.copy(alloc)?)?;
+            out.push(binding.copy())?;
         }
     }
     Ok(out)

@@ -1,6 +1,6 @@
 //! Asks, with plain numbers for mutators and handles.
 use jlr_machine::ask::{Ask, CallOutcome, FullMode, Outcome};
-use jlr_machine::items::Items;
+use jlr_machine::text::Name;
 use jlr_types::{ActionNo, Handle, Layout, Mutator, RefKind};
 
 pub(crate) fn new(mutator: u8, layout: Layout) -> Ask {
@@ -206,7 +206,7 @@ pub(crate) fn close(mutator: u8, guard: u8) -> Ask {
     }
 }
 
-pub(crate) fn bind(mutator: u8, name: Items<u8>, object: u8) -> Ask {
+pub(crate) fn bind(mutator: u8, name: Name, object: u8) -> Ask {
     Ask::Bind {
         mutator: Mutator::new(mutator),
         name,
@@ -214,14 +214,14 @@ pub(crate) fn bind(mutator: u8, name: Items<u8>, object: u8) -> Ask {
     }
 }
 
-pub(crate) fn find(mutator: u8, name: Items<u8>) -> Ask {
+pub(crate) fn find(mutator: u8, name: Name) -> Ask {
     Ask::Find {
         mutator: Mutator::new(mutator),
         name,
     }
 }
 
-pub(crate) fn unbind(mutator: u8, name: Items<u8>) -> Ask {
+pub(crate) fn unbind(mutator: u8, name: Name) -> Ask {
     Ask::Unbind {
         mutator: Mutator::new(mutator),
         name,

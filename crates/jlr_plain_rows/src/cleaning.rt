@@ -1,6 +1,6 @@
 //! Worked rows on the cleaner, files and sockets.
 use crate::asks;
-use crate::step::{Step, bytes, collecting, counts, handle, job, making, plain};
+use crate::step::{Step, collecting, counts, handle, job, making, plain, text};
 use jlr_machine::ask::{Answer, Ask, CallOutcome, FullMode, Handed, Outcome};
 use jlr_machine::items::Items;
 use jlr_machine::machine::Failure;
@@ -30,10 +30,10 @@ pub(crate) fn cleaner_row(alloc: Global) -> Result<Vec<Step<'static>>, AllocErro
 
 /// `open r /nowhere/x; stat; open w f; write 1 00ff; drop 1; gc; open r f; read 1 200; read 1 200; stat`
 pub(crate) fn file_row(alloc: Global) -> Result<Vec<Step<'static>>, AllocError> {
-    let got = bytes(alloc, b"\x00\xff")?;
-    let data_2 = bytes(alloc, b"\x00\xff")?;
-    let got_3 = bytes(alloc, b"")?;
-    let data_4 = bytes(alloc, b"")?;
+    let got = text(b"\x00\xff");
+    let data_2 = text(b"\x00\xff");
+    let got_3 = text(b"");
+    let data_4 = text(b"");
     Ok(vec![in alloc;
         plain(asks::join(0), Answer::Done),
         making(asks::prepare(0), Answer::Prepared(Rid::new(0)), &[0, 1]),

@@ -1,10 +1,10 @@
 //! The entries of a row, as they are written down.
-ghost use Rattle.std.specs.Prelude.{IfOk};
+ghost use Rattle.std.specs.Prelude.{◌≤◌, length};
 
 use jlr_machine::ask::{Answer, Ask, Stat};
-use jlr_machine::copy::copy_slice;
 use jlr_machine::entry::{Chosen, Collected, Entry};
 use jlr_machine::items::Items;
+use jlr_machine::text::Text;
 use jlr_types::{ActionNo, Handle, Slot, Work};
 use std::alloc::{AllocError, Global};
 
@@ -70,7 +70,7 @@ impl Step<'_> {
         };
         Ok(Entry {
             seat: 0,
-            ask: self.ask.copy(alloc)?,
+            ask: self.ask.copy(),
             answer: self.answer.copy(alloc)?,
             choice: Chosen {
                 collected,
@@ -89,8 +89,10 @@ fn slots(alloc: Global, numbers: &[u32]) -> Result<Items<Slot>, AllocError> {
 }
 
 /// A name, or data.
-pub(crate) fn bytes(alloc: Global, bytes: &[u8]) -> Result<Items<u8>, AllocError> {
-    Ok(Items::from_vec(copy_slice(alloc, bytes)?))
+pub(crate) fn text<const N: usize>(bytes: &[u8]) -> Text<N>
+    requires { length bytes.now ≤ N }
+{
+    Text::from_slice(bytes).unwrap()
 }
 
 pub(crate) fn handle(number: u8) -> Answer {

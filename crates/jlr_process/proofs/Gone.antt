@@ -1,32 +1,30 @@
 -- What makes a collection of the marked objects go through, and what it is.
-use Rattle.std.proofs.Common.{◌≡◌, ◌&&◌, ◌||◌, ◌⊎◌, ◌+◌, ◌<◌, ◌≤◌, ℕ, Bool, true, false, List, [], ◌∷◌, ◌++◌, length, filter, Option, Some, None, option_and_then, IsTrue, is_some, refl, sym, ◌∙◌, ap, subst, arith, inl, inr, length-append, not}
-use Rattle.std.specs.List.{IsDistinct, AllByRecursion, list_any}
+use Rattle.std.proofs.Common.{◌≡◌, ◌&&◌, ◌||◌, ◌⊎◌, ◌+◌, ◌<◌, ◌≤◌, ℕ, Bool, true, false, List, [], ◌∷◌, ◌++◌, length, Option, Some, None, option_and_then, IsTrue, is_some, refl, sym, ◌∙◌, ap, arith, inl, inr, length-append, not}
+use Rattle.std.specs.List.{IsDistinct, AllByRecursion}
 use Rattle.std.specs.Prelude.{nat_eq}
 use Rattle.std.proofs.lemmas.Bool.{both_ways}
 use Rattle.std.proofs.lemmas.Map.Steps.{length-le_from_distinct_below}
 use Rattle.jlr_machine.specs.declared.object.Object.{Object}
 use Rattle.jlr_machine.specs.declared.object.Object.TheVariants.{Plain, Reference, Queue, Cleaner, Cleanable, Guard}
-use Rattle.jlr_machine.specs.declared.object.Reference.{Reference as ReferenceOf}
 use Rattle.jlr_machine.specs.declared.object.RefState.{RefState}
-use Rattle.jlr_machine.specs.declared.object.RefState.TheVariants.{Fresh, Pending, Queued, Removed}
+use Rattle.jlr_machine.specs.declared.object.RefState.TheVariants.{Pending, Queued, Removed}
 use Rattle.jlr_machine.specs.declared.object.CleanState.{CleanState}
-use Rattle.jlr_machine.specs.declared.object.CleanState.TheVariants.{Armed, Pending as PendingClean, Lined, Spent}
+use Rattle.jlr_machine.specs.declared.object.CleanState.TheVariants.{Pending as PendingClean, Spent}
 use Rattle.jlr_machine.specs.declared.machine.Machine.{Machine}
-use Rattle.jlr_machine.specs.Objects.{Heap, at, ◌∈◌, ◌∋◌, any_referent, as_cleanable, as_reference, is_armed, is_distinct, is_fresh, some_and}
-use Rattle.jlr_machine.specs.Edges.{edges_from, roots}
-use Rattle.jlr_machine.specs.Collection.{IsBackground, IsCollection, is_ready}
+use Rattle.jlr_machine.specs.Objects.{at, ◌∈◌, ◌∋◌, any_referent, as_cleanable, as_reference, is_armed, is_distinct, is_fresh, some_and}
+use Rattle.jlr_machine.specs.Edges.{roots}
+use Rattle.jlr_machine.specs.Collection.{IsCollection, is_ready}
 use Rattle.jlr_machine.specs.ReachSet.{up_to}
-use Rattle.jlr_machine.specs.WellFormed.{IsWellFormed, clean_state_at, state_at}
-use Rattle.jlr_laws.proofs.Sets.{nothing, in_cons, in_filter, in_front, in_rest, in_up_to}
-use Rattle.jlr_laws.proofs.Clearing.{in_append, in_left, in_right}
+use Rattle.jlr_laws.proofs.Sets.{in_filter, in_up_to}
+use Rattle.jlr_laws.proofs.Clearing.{in_append}
 use Rattle.jlr_laws.proofs.CollectionKept.{distinct_append}
 use Rattle.jlr_laws.proofs.Empty.{well_formed_within}
 use Rattle.jlr_laws.proofs.Fits.{referent_object}
-use Rattle.jlr_laws.proofs.Frames.{IsRoot, no_some, place_within, root_from, some_same}
+use Rattle.jlr_laws.proofs.Frames.{no_some, place_within, root_from, some_same}
 use Rattle.jlr_laws.proofs.Frames.IsRoot.{waiting}
 use Rattle.jlr_laws.proofs.LawProofs.{background_comes_down}
 use Rattle.jlr_laws.proofs.SeenKept.{rising_filter}
-use Rattle.jlr_barrier.specs.Marking.{Marking, IsMarked, is_marked}
+use Rattle.jlr_barrier.specs.Marking.{Marking, is_marked}
 use Rattle.jlr_process.specs.Settling.{is_losing, loses, lost_below, marked_below, only_if}
 use Rattle.jlr_process.specs.Flipping.{IsMarkedWhole}
 use Rattle.jlr_process.proofs.Whole.{distinct_below, filter_more, losing_loses, pended, same}

@@ -1,15 +1,16 @@
 -- What settling one place leaves.
-use Rattle.std.proofs.Common.{◌≡◌, ◌<◌, ◌&&◌, ℕ, zero, suc, Bool, true, false, cond, not, List, [], ◌∷◌, ◌++◌, Option, Some, None, length, slice_set, refl, sym, ap, ◌∙◌, subst}
+use Rattle.std.proofs.Common.{◌≡◌, ◌&&◌, ℕ, zero, suc, Bool, true, false, cond, not, List, [], ◌∷◌, ◌++◌, Option, Some, None, slice_set, refl, sym, ap, ◌∙◌}
 use Rattle.std.specs.Prelude.{option_map}
 use Rattle.jlr_machine.specs.declared.object.Object.{Object}
-use Rattle.jlr_machine.specs.declared.object.Object.TheVariants.{Reference}
+use Rattle.jlr_machine.specs.declared.object.Object.TheVariants.{Reference, Cleanable}
 use Rattle.jlr_machine.specs.declared.object.Reference.{Reference as ReferenceOf}
-use Rattle.jlr_machine.specs.declared.object.RefState.{RefState}
+use Rattle.jlr_machine.specs.declared.object.Cleanable.{Cleanable as CleanableOf}
+use Rattle.jlr_machine.specs.declared.object.CleanState.TheVariants.{Pending as PendingClean}
 use Rattle.jlr_machine.specs.declared.object.RefState.TheVariants.{Pending}
-use Rattle.jlr_machine.specs.Objects.{Table, Heap, at, change_at, with_reference, some_and}
+use Rattle.jlr_machine.specs.Objects.{Table, Heap, any_referent, at, change_at, with_cleanable, with_reference, some_and}
 use Rattle.jlr_machine.specs.Calls.{unreferred}
 use Rattle.jlr_machine.specs.Collection.{is_ready}
-use Rattle.jlr_cells.specs.Contents.{in_state}
+use Rattle.jlr_cells.specs.Contents.{in_clean_state, in_state, without_referent}
 use Rattle.jlr_laws.proofs.Frames.{set_same, place_within}
 use Rattle.jlr_barrier.specs.Graphs.{Graph, with_objects, with_pending}
 use Rattle.jlr_barrier.specs.Marking.{Marking, is_marked}
@@ -28,10 +29,10 @@ changed_twice heap s o f g here =
     ∙ ap (λ p. slice_set (slice_set heap s (Some (f o))) s (option_map g p)) (set_same heap s (Some (f o)) (place_within heap s o here))
     ∙ set_twice heap s (Some (f o)) (Some (g (f o)))
 
-is_lost : (m : Marking) (r : ReferenceOf) (x : ℕ) → r.referent ≡ Some x → is_marked m x ≡ false → is_ready (Reference r) ≡ true → loses m (Reference r) ≡ true
-is_lost m r x refers unmarked ready =
-    ap (λ o. is_ready (Reference r) && some_and (λ y. not (is_marked m y)) o) refers
-    ∙ ap (λ b. is_ready (Reference r) && not b) unmarked
+is_lost : (m : Marking) (o : Object) (x : ℕ) → any_referent o ≡ Some x → is_marked m x ≡ false → is_ready o ≡ true → loses m o ≡ true
+is_lost m o x refers unmarked ready =
+    ap (λ t. is_ready o && some_and (λ y. not (is_marked m y)) t) refers
+    ∙ ap (λ b. is_ready o && not b) unmarked
     ∙ ap (λ b. b && true) ready
 
 -- a ready reference with a referent that is not marked loses it, and becomes Pending
@@ -39,7 +40,7 @@ settled_lost : (m : Marking) (r : ReferenceOf) (x : ℕ) → r.referent ≡ Some
 settled_lost m r x refers unmarked ready =
     let gone : marked_referent m r.referent ≡ None = ap (marked_referent m) refers ∙ ap (λ b. cond b (Some x) None) unmarked in
     ap {A = Option ℕ} {B = Object} (λ t. Reference (record r { referent = t; state = cond (loses m (Reference r)) Pending r.state })) gone
-    ∙ ap {A = Bool} {B = Object} (λ b. Reference (record r { referent = None; state = cond b Pending r.state })) (is_lost m r x refers unmarked ready)
+    ∙ ap {A = Bool} {B = Object} (λ b. Reference (record r { referent = None; state = cond b Pending r.state })) (is_lost m (Reference r) x refers unmarked ready)
 
 pub handed_over :
     (m : Marking) (g a b d : Graph) (s x : ℕ) (r : ReferenceOf) → at g.objects s ≡ Some (Reference r) → r.referent ≡ Some x → is_marked m x ≡ false → is_ready (Reference r) ≡ true
@@ -52,4 +53,23 @@ handed_over m g a b d s x r here refers unmarked ready ea eb ed =
     ∙ ap (λ k. with_pending k (k.pending ++ s ∷ [])) (eb ∙ ap (λ k. with_objects k (change_at k.objects s (with_reference (in_state Pending)))) ea)
     ∙ ap (λ h. put h (g.pending ++ s ∷ [])) (changed_twice g.objects s (Reference r) (with_reference unreferred) (with_reference (in_state Pending)) here)
     ∙ ap (λ o. put (slice_set g.objects s (Some o)) (g.pending ++ s ∷ [])) (sym (settled_lost m r x refers unmarked ready))
-    ∙ ap (λ l. put (slice_set g.objects s (Some (settled_object m (Reference r)))) (g.pending ++ only_if l s)) (sym (is_lost m r x refers unmarked ready))
+    ∙ ap (λ l. put (slice_set g.objects s (Some (settled_object m (Reference r)))) (g.pending ++ only_if l s)) (sym (is_lost m (Reference r) x refers unmarked ready))
+
+-- an Armed cleanable with a referent that is not marked loses it, and becomes Pending
+settled_cleanable : (m : Marking) (c : CleanableOf) (x : ℕ) → c.referent ≡ Some x → is_marked m x ≡ false → is_ready (Cleanable c) ≡ true → settled_object m (Cleanable c) ≡ Cleanable (record c { referent = None; state = PendingClean })
+settled_cleanable m c x refers unmarked ready =
+    let gone : marked_referent m c.referent ≡ None = ap (marked_referent m) refers ∙ ap (λ b. cond b (Some x) None) unmarked in
+    ap {A = Option ℕ} {B = Object} (λ t. Cleanable (record c { referent = t; state = cond (loses m (Cleanable c)) PendingClean c.state })) gone
+    ∙ ap {A = Bool} {B = Object} (λ b. Cleanable (record c { referent = None; state = cond b PendingClean c.state })) (is_lost m (Cleanable c) x refers unmarked ready)
+
+pub cleanable_handed_over :
+    (m : Marking) (g a b d : Graph) (s x : ℕ) (c : CleanableOf) → at g.objects s ≡ Some (Cleanable c) → c.referent ≡ Some x → is_marked m x ≡ false → is_ready (Cleanable c) ≡ true
+    → a ≡ with_objects g (change_at g.objects s (with_cleanable without_referent)) → b ≡ with_objects a (change_at a.objects s (with_cleanable (in_clean_state PendingClean))) → d ≡ with_pending b (b.pending ++ s ∷ [])
+    → d ≡ with_settled m g s (Cleanable c)
+cleanable_handed_over m g a b d s x c here refers unmarked ready ea eb ed =
+    let put : Heap → List ℕ → Graph = λ h l. record g { objects = h; pending = l } in
+    ed
+    ∙ ap (λ k. with_pending k (k.pending ++ s ∷ [])) (eb ∙ ap (λ k. with_objects k (change_at k.objects s (with_cleanable (in_clean_state PendingClean)))) ea)
+    ∙ ap (λ h. put h (g.pending ++ s ∷ [])) (changed_twice g.objects s (Cleanable c) (with_cleanable without_referent) (with_cleanable (in_clean_state PendingClean)) here)
+    ∙ ap (λ o. put (slice_set g.objects s (Some o)) (g.pending ++ s ∷ [])) (sym (settled_cleanable m c x refers unmarked ready))
+    ∙ ap (λ l. put (slice_set g.objects s (Some (settled_object m (Cleanable c)))) (g.pending ++ only_if l s)) (sym (is_lost m (Cleanable c) x refers unmarked ready))

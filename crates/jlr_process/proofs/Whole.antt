@@ -1,28 +1,26 @@
 -- What a collection over all places is: that of the marked objects.
-use Rattle.std.proofs.Common.{◌≡◌, ◌≢◌, ◌&&◌, ◌+◌, ◌<◌, ◌≤◌, ◌⊎◌, ◌↔◌, ℕ, zero, suc, Bool, true, false, cond, not, List, [], ◌∷◌, ◌++◌, length, filter, Option, Some, None, option_map, option_and_then, IsTrue, is_some, refl, sym, ◌∙◌, ap, add-one, subst, arith, inl, inr, append-nil, length-append}
-use Rattle.std.specs.List.{IsDistinct, AllByRecursion, list_any}
-use Rattle.std.proofs.lemmas.Bool.{both_ways, cases_eq, cases_lt}
+use Rattle.std.proofs.Common.{◌≡◌, ◌&&◌, ◌+◌, ◌<◌, ◌≤◌, ◌↔◌, ℕ, zero, suc, Bool, true, false, cond, not, List, [], ◌∷◌, ◌++◌, length, filter, Option, Some, None, option_map, IsTrue, is_some, refl, sym, ◌∙◌, ap, add-one, subst, arith, inl, inr, append-nil}
+use Rattle.std.proofs.lemmas.Bool.{both_ways, cases_lt}
 use Rattle.std.proofs.lemmas.List.Elements.{filter-append}
 use Rattle.std.proofs.lemmas.List.Sums.{length-filter}
-use Rattle.std.proofs.lemmas.Map.Steps.{length-le_from_distinct_below}
 use Rattle.jlr_machine.specs.declared.object.Object.{Object}
 use Rattle.jlr_machine.specs.declared.object.Object.TheVariants.{Plain, Reference, Queue, Cleaner, Cleanable, Guard}
 use Rattle.jlr_machine.specs.Objects.{Table, Heap, at, ◌∈◌, ◌∋◌, any_referent, is_distinct, occupied, some_and}
 use Rattle.jlr_machine.specs.Collection.{is_kept_referent, is_ready, left_of, made_pending, places_left}
 use Rattle.jlr_machine.specs.ReachSet.{up_to}
 use Rattle.jlr_laws.specs.Laws.{LosesReferent}
-use Rattle.jlr_laws.proofs.Sets.{nothing, in_cons, in_filter, filter_in, in_front, in_rest, in_up_to, up_to_in}
+use Rattle.jlr_laws.proofs.Sets.{in_filter, filter_in, in_up_to, up_to_in}
 use Rattle.jlr_laws.proofs.Agree.{at-places_left}
 use Rattle.jlr_laws.proofs.Checks.{at_beyond}
 use Rattle.jlr_laws.proofs.CollectionKept.{length_left}
-use Rattle.jlr_laws.proofs.Frames.{no_some, some_same}
 use Rattle.jlr_machine.specs.declared.machine.Machine.{Machine}
 use Rattle.jlr_machine.specs.declared.machine.Session.{Session}
+use Rattle.jlr_machine.specs.declared.machine.Binding.{Binding}
 use Rattle.jlr_machine.specs.Choices.{Choosing, collecting}
 use Rattle.jlr_barrier.specs.Graphs.{Graph, in_machine}
 use Rattle.jlr_barrier.specs.Marking.{Marking, IsMarked, is_marked}
 use Rattle.jlr_barrier.proofs.Shading.{marked_within}
-use Rattle.jlr_process.specs.Settling.{handed, is_losing, loses, lost_below, marked_below, marked_referent, only_if, settled, settled_object}
+use Rattle.jlr_process.specs.Settling.{is_losing, loses, lost_below, marked_below, marked_referent, only_if, settled, settled_object}
 
 -- ---- Slots that pass a test, so far
 
@@ -218,7 +216,13 @@ choice_more c kept lost false false n h = ap (λ k. collecting c k lost) (sym (a
 pub unmarked_loses_not : (m : Marking) (heap : Heap) (n : ℕ) → is_marked m n ≡ false → is_losing m heap n ≡ false
 unmarked_loses_not m heap n e = ap (λ b. b && some_and (loses m) (at heap n)) e
 
-pub as_parts : (k : Machine) (g : Graph) (objects : Heap) (mutators : Table Session) (pending : List ℕ) → g.objects ≡ objects → g.mutators ≡ mutators → g.pending ≡ pending → in_machine k g ≡ record k { objects = objects; mutators = mutators; pending = pending }
-as_parts k g objects mutators pending eo em ep =
-    let put : Heap → Table Session → List ℕ → Machine = λ o t l. record k { objects = o; mutators = t; pending = l } in
-    ap (λ o. put o g.mutators g.pending) eo ∙ ap (λ t. put objects t g.pending) em ∙ ap (put objects mutators) ep
+pub as_parts : (k : Machine) (g : Graph) (objects : Heap) (mutators : Table Session) (names : List Binding) (pending line : List ℕ)
+    → g.objects ≡ objects → g.mutators ≡ mutators → g.names ≡ names → g.pending ≡ pending → g.line ≡ line
+    → in_machine k g ≡ record k { objects = objects; mutators = mutators; names = names; pending = pending; line = line }
+as_parts k g objects mutators names pending line eo em en ep el =
+    let put : Heap → Table Session → List Binding → List ℕ → List ℕ → Machine = λ o t b l w. record k { objects = o; mutators = t; names = b; pending = l; line = w } in
+    ap (λ o. put o g.mutators g.names g.pending g.line) eo
+    ∙ ap (λ t. put objects t g.names g.pending g.line) em
+    ∙ ap (λ b. put objects mutators b g.pending g.line) en
+    ∙ ap (λ l. put objects mutators names l g.line) ep
+    ∙ ap (put objects mutators names pending) el

@@ -1,65 +1,157 @@
--- What is carried out in one way is carried out in another way as well, along a relation between the two.
-use Rattle.std.proofs.Common.{◌≢◌, ℕ, inl, inr, List, [], ◌∷◌, refl, sym, subst}
+-- What a session does over a core it does over a core with its history as well, and mutator 0 stays joined.
+use Rattle.std.proofs.Common.{◌≡◌, ℕ, List, Option, Some, None, Result, Ok, Err, refl, sym, ◌∙◌, ap, subst, option_and_then}
+use Rattle.std.specs.Prelude.{MatchResult, ⊤}
+use Rattle.jlr_types.specs.declared.RefKind.TheVariants as kind
+use Rattle.jlr_machine.specs.declared.machine.Machine.{Machine}
+use Rattle.jlr_machine.specs.declared.machine.Call.TheVariants.{Free}
+use Rattle.jlr_machine.specs.declared.ask.Ask.{Ask}
+use Rattle.jlr_machine.specs.declared.ask.Ask.TheVariants as ask
 use Rattle.jlr_machine.specs.declared.ask.Answer.{Answer}
+use Rattle.jlr_machine.specs.Lookups.{slot_named}
+use Rattle.jlr_machine.specs.Refusals.{given}
+use Rattle.jlr_laws.proofs.Frames.{no_some}
+use Rattle.jlr_event.specs.declared.event.Event.{Event}
+use Rattle.jlr_event.specs.declared.event.Event.TheVariants as event
+use Rattle.jlr_event.specs.declared.event.Reply.{Reply}
+use Rattle.jlr_event.specs.Events.{ask_of}
 use Rattle.jlr_wire.specs.declared.command.Command.{Command}
-use Rattle.jlr_wire.specs.declared.command.Command.TheVariants.{Bye}
-use Rattle.jlr_prog.specs.Settling.{Carrying}
-use Rattle.jlr_prog.specs.Turns.{Answers, AnswersAndSettles}
-use Rattle.jlr_prog.specs.Sessions.{Speaks, Answered, IsDue, Ended}
-use Rattle.jlr_prog.specs.declared.shell.FirstEnd.{FirstEnd}
-use Rattle.jlr_prog.specs.declared.shell.FirstEnd.TheVariants.{Bye as EndsByBye, End, Truncated, ReadFault, WriteFault}
+use Rattle.jlr_wire.specs.declared.command.Command.TheVariants.{New, Put, Get, SetInt, Int, Dup, Drop, Same, Soft, Weak, Phantom, Deref, Refers, Clear, Enqueue, Enqueued, Queue, Poll, Remove, Cleaner, Register, Clean, Open, Connect, Read, Write, Close, Bind, Find, Unbind, Names, Full, Stat, Notes, Faults}
+use Rattle.jlr_cleaner.specs.declared.job.Job.{Job as JobOf}
+use Rattle.jlr_session.specs.Calls.{Opening, Handling}
+use Rattle.jlr_session.specs.Asks.{AsksOnce, AsksTwice, CarriesOut, by_asks, event_of, said_by, prepared_by, out_by, job_by, TellsOpened, TellsConnected, TellsRead, TellsWritten, TellsFinished}
+use Rattle.jlr_session.specs.Sessions.{Ended}
+use Rattle.jlr_session.specs.declared.shell.SessionEnd.{SessionEnd}
+use Rattle.jlr_session.proofs.Following.{IsFollowed, ended_along}
+use Rattle.jlr_core.specs.Cores.{Kept}
+use Rattle.jlr_prog.specs.Ports.{Steps, by_core}
+use Rattle.jlr_prog.specs.Histories.{Recorded, Records, by_records}
+use Rattle.jlr_prog.proofs.Staying.{Stays, changed, given_stays, made_stays, put_stays, asked_enqueue_stays, asked_poll_stays, bound_stays}
+use Rattle.jlr_prog.proofs.Calls.{IsHere, clean_begins, close_begins}
+use Rattle.jlr_prog.proofs.Asked.{IsRecorded, IsAskFrom, IsCallAlong, stays_along, settled_along, opens_along, calls_along, works_along}
+use Rattle.jlr_prog.proofs.Turning.{settles_along}
 
-pub record IsFollowed {H X : Type 0} (carries : Carrying H) (tells : Carrying X) (S : H → X → Type 0) : Type 0 where
-  pub commands : (h k : H) (x : X) (c : Command) (a : Answer) → c ≢ Bye → carries.command h c a k → S h x → (y : X) × tells.command x c a y × S k y
-  pub settlings : (h k : H) (x : X) → carries.settling h k → S h x → (y : X) × tells.settling x y × S k y
+-- ---- Commands that ask once
 
-answers_along : {H X : Type 0} (carries : Carrying H) (tells : Carrying X) (S : H → X → Type 0)
-    → IsFollowed carries tells S → (line : List ℕ) (h k : H) (a : Answer) (x : X) → Answers carries line h a k → S h x → (y : X) × Answers tells line x a y × S k y
-answers_along carries tells S f line h k a x (inl c) s = let d = f.commands h k x c.0 a c.2 c.3 s in (d.0, inl (c.0, c.1, c.2, d.1), d.2)
-answers_along carries tells S f line h k a x (inr (inl b)) s = (x, inr (inl (b.0, b.1, refl)), subst (λ l. S l x) (sym b.2) s)
-answers_along carries tells S f line h k a x (inr (inr r)) s = (x, inr (inr (r.0, r.1, refl)), subst (λ l. S l x) (sym r.2) s)
+-- there is an ask, and it leaves mutator 0 alone
+abbrev StaysIn : Option Ask → Type 0
+StaysIn (Some asked) = Stays Free asked
+StaysIn None = ⊥
 
-turns_along : {H X : Type 0} (carries : Carrying H) (tells : Carrying X) (S : H → X → Type 0)
-    → IsFollowed carries tells S → (line : List ℕ) (h k : H) (a : Answer) (x : X) → AnswersAndSettles carries line h a k → S h x → (y : X) × AnswersAndSettles tells line x a y × S k y
-turns_along carries tells S f line h k a x t s =
-    let one = answers_along carries tells S f line h t.0 a x t.1 s in
-    let settled = f.settlings t.0 k one.0 t.2 one.2 in
-    (settled.0, (one.0, one.1, settled.1), settled.2)
+abbrev AsksQuietly : {R : Type 0} → Option (Event R) → Type 0
+AsksQuietly {R} o = (e : Event R) → o ≡ Some e → StaysIn (ask_of e)
 
-speaks_along : {H X : Type 0} (carries : Carrying H) (tells : Carrying X) (S : H → X → Type 0)
-    → IsFollowed carries tells S → (lines : List (List ℕ)) (h k : H) (out : List ℕ) (x : X) → Speaks carries lines h out k → S h x → (y : X) × Speaks tells lines x out y × S k y
-speaks_along carries tells S f [] h k out x e s = (x, (e.0, refl), subst (λ l. S l x) (sym e.1) s)
-speaks_along carries tells S f (line ∷ lines) h k out x e s =
-    let one = turns_along carries tells S f line h e.1 e.0 x e.3 s in
-    let more = speaks_along carries tells S f lines e.1 k e.2 one.0 e.7 one.2 in
-    (more.0, (e.0, one.0, e.2, one.1, e.4, e.5, e.6, more.1), more.2)
+quietly : {R : Type 0} (e : Event R) → StaysIn (ask_of e) → AsksQuietly (Some e)
+quietly e stays d is = subst (λ o. StaysIn (option_and_then ask_of o)) is stays
 
-answered_along : {H X : Type 0} (carries : Carrying H) (tells : Carrying X) (S : H → X → Type 0)
-    → IsFollowed carries tells S → (bytes : List ℕ) (lines : List (List ℕ)) (rest : List ℕ) (h k : H) (out : List ℕ) (x : X) → Answered carries bytes lines rest h out k → S h x
-    → (y : X) × Answered tells bytes lines rest x out y × S k y
-answered_along carries tells S f bytes lines rest h k out x a s =
-    let d = speaks_along carries tells S f lines h k out x a.speaks s in
-    (d.0, record { joined = a.joined; each = a.each; speaks = d.1 }, d.2)
+asks_quietly : {R : Type 0} (c : Command) → AsksQuietly {R = R} (event_of 0 c)
+asks_quietly (New layout) = quietly (event.New 0 layout) (λ m a fresh x. made_stays Free m _ fresh x)
+asks_quietly (Put h f v) = quietly (event.Put 0 h f v) (λ m a fresh x. put_stays Free m _ (slot_named m 0 h) x)
+asks_quietly (Get h f) = quietly (event.Get 0 h f) (λ m a fresh x. given_stays Free m (given m (ask.Get 0 h f)) x)
+asks_quietly (SetInt h f n) = quietly (event.SetInt 0 h f n) (λ m a fresh x. put_stays Free m _ (slot_named m 0 h) x)
+asks_quietly (Int h f) = quietly (event.Int 0 h f) (λ m a fresh x. x)
+asks_quietly (Dup h) = quietly (event.Dup 0 h) (λ m a fresh x. given_stays Free m (given m (ask.Dup 0 h)) x)
+asks_quietly (Drop h) = quietly (event.Drop 0 h) (λ m a fresh x. changed Free m _ (λ s. refl) x)
+asks_quietly (Same a b) = quietly (event.Same 0 a b) (λ m a fresh x. x)
+asks_quietly (Soft h q) = quietly (event.MakeRef 0 kind.Soft h q) (λ m a fresh x. made_stays Free m _ fresh x)
+asks_quietly (Weak h q) = quietly (event.MakeRef 0 kind.Weak h q) (λ m a fresh x. made_stays Free m _ fresh x)
+asks_quietly (Phantom h q) = quietly (event.MakeRef 0 kind.Phantom h q) (λ m a fresh x. made_stays Free m _ fresh x)
+asks_quietly (Deref r) = quietly (event.Deref 0 r) (λ m a fresh x. given_stays Free m (given m (ask.Deref 0 r)) x)
+asks_quietly (Refers r h) = quietly (event.Refers 0 r h) (λ m a fresh x. x)
+asks_quietly (Clear r) = quietly (event.Clear 0 r) (λ m a fresh x. put_stays Free m _ (slot_named m 0 r) x)
+asks_quietly (Enqueue r) = quietly (event.Enqueue 0 r) (λ m a fresh x. asked_enqueue_stays Free m (slot_named m 0 r) x)
+asks_quietly (Enqueued r) = quietly (event.Enqueued 0 r) (λ m a fresh x. x)
+asks_quietly Queue = quietly (event.MakeQueue 0) (λ m a fresh x. made_stays Free m _ fresh x)
+asks_quietly (Poll q) = quietly (event.Poll 0 q) (λ m a fresh x. asked_poll_stays Free m (slot_named m 0 q) (given m (ask.Poll 0 q)) x)
+asks_quietly (Remove q) = quietly (event.Remove 0 q) (λ m a fresh x. asked_poll_stays Free m (slot_named m 0 q) (given m (ask.Remove 0 q)) x)
+asks_quietly Cleaner = quietly (event.MakeCleaner 0) (λ m a fresh x. made_stays Free m _ fresh x)
+asks_quietly (Register c h note) = quietly (event.Register 0 c h note) (λ m a fresh x. made_stays Free m _ fresh x)
+asks_quietly (Bind name h) = quietly (event.Bind 0 name h) (λ m a fresh x. bound_stays Free m _ (slot_named m 0 h) (λ s y. y) x)
+asks_quietly (Find name) = quietly (event.Find 0 name) (λ m a fresh x. given_stays Free m (given m (ask.Find 0 name)) x)
+asks_quietly (Unbind name) = quietly (event.Unbind 0 name) (λ m a fresh x. x)
+asks_quietly Names = quietly (event.Names 0) (λ m a fresh x. x)
+asks_quietly (Full mode) = quietly (event.Full 0 mode) (λ m a fresh x. x)
+asks_quietly Stat = quietly (event.Stat 0) (λ m a fresh x. x)
+asks_quietly Notes = quietly (event.Notes 0) (λ m a fresh x. x)
+asks_quietly Faults = quietly (event.Faults 0) (λ m a fresh x. x)
+asks_quietly c = λ e is. no_some e is
 
-due_along : {H X : Type 0} (carries : Carrying H) (tells : Carrying X) (S : H → X → Type 0)
-    → IsFollowed carries tells S → (at_end : Type 0) (rest : List ℕ) (h k : H) (a : Answer) (x : X) → IsDue carries at_end rest h a k → S h x → (y : X) × IsDue tells at_end rest x a y × S k y
-due_along carries tells S f at_end rest h k a x (inl d) s = let e = answers_along carries tells S f d.0 h k a x d.4 s in (e.0, inl (d.0, d.1, d.2, d.3, e.1), e.2)
-due_along carries tells S f at_end rest h k a x (inr d) s = (x, inr (d.0, d.1, d.2, d.3, refl), subst (λ l. S l x) (sym d.4) s)
+module _ {R : Type 0} (m : Machine) where
+  quiet_along : (e : Event R) (o : Option Ask) → ask_of e ≡ o → StaysIn o → IsAskFrom m IsHere IsHere e
+  quiet_along e (Some asked) is stays = stays_along m e asked is stays
+  quiet_along e None is stays = absurd stays
 
-pub ended_along : {H X : Type 0} (carries : Carrying H) (tells : Carrying X) (S : H → X → Type 0)
-    → IsFollowed carries tells S → (at_end : Type 0) (end : FirstEnd) (bytes : List ℕ) (h k : H) (out : List ℕ) (x : X) → Ended carries at_end end bytes h out k → S h x
-    → (y : X) × Ended tells at_end end bytes x out y × S k y
-ended_along carries tells S f at_end EndsByBye bytes h k out x e s =
-    let a = answered_along carries tells S f bytes e.0 _ h e.3 e.2 x e.4 s in
-    let settled = f.settlings e.3 k a.0 e.5 a.2 in
-    (settled.0, (e.0, e.1, e.2, a.0, a.1, settled.1, e.6), settled.2)
-ended_along carries tells S f at_end End bytes h k out x e s = let a = answered_along carries tells S f bytes e.1 _ h k out x e.2 s in (a.0, (e.0, e.1, a.1), a.2)
-ended_along carries tells S f at_end Truncated bytes h k out x e s =
-    let a = answered_along carries tells S f bytes e.1 e.2 h e.4 e.3 x e.5 s in
-    let settled = f.settlings e.4 k a.0 e.8 a.2 in
-    (settled.0, (e.0, e.1, e.2, e.3, a.0, a.1, e.6, e.7, settled.1, e.9), settled.2)
-ended_along carries tells S f at_end ReadFault bytes h k out x e s = let a = answered_along carries tells S f bytes e.0 e.1 h k out x e.2 s in (a.0, (e.0, e.1, a.1, e.3), a.2)
-ended_along carries tells S f at_end WriteFault bytes h k out x e s =
-    let a = answered_along carries tells S f bytes e.0 e.1 h e.3 e.2 x e.6 s in
-    let d = due_along carries tells S f at_end e.1 e.3 k e.4 a.0 e.7 a.2 in
-    (d.0, (e.0, e.1, e.2, a.0, e.4, e.5, a.1, d.1, e.8), d.2)
+  module _ {D : Type 0} (device : Opening D R) (resource : Handling R) where
+    once_along : (first : Option (Event R)) → AsksQuietly first → (h k : Kept R) (said : Answer) (x : Recorded R) → AsksOnce (by_core resource) first h said k → IsRecorded m IsHere h x
+        → (y : Recorded R) × AsksOnce (by_records resource) first x said y × IsRecorded m IsHere k y
+    once_along None quiet h k said x a s = (x, (a.0, refl), subst (λ l. IsRecorded m IsHere l x) (sym a.1) s)
+    once_along (Some first) quiet h k said x a s = let d = quiet_along first (ask_of first) refl (quiet first refl) h k x a.0 a.1 s in (d.0, (a.0, d.1, a.2), d.2)
+
+    -- ---- Commands that ask twice
+
+    second_along : {Y : Type 0} (first : Event R) (leads : Reply R → Result Y Answer) (comes_to : Y → Event R → Type 0) (T : Y → Machine → Type 0) → IsCallAlong m first leads comes_to T
+        → (rests : Type 0) (led : Result Y Answer) (h k : Kept R) (said : Answer) (x : Recorded R)
+        → MatchResult led (λ w. (second : Event R) × (last : Reply R) × comes_to w second × Steps h second last k × (said ≡ said_by last)) (λ answer. (said ≡ answer) × (k ≡ h) × rests)
+        → IsRecorded m (λ n. MatchResult led (λ w. T w n) (λ _. IsHere n)) h x
+        → (y : Recorded R) × MatchResult led (λ w. (second : Event R) × (last : Reply R) × comes_to w second × Records x second last y × (said ≡ said_by last)) (λ answer. (said ≡ answer) × (y ≡ x) × rests)
+        × IsRecorded m IsHere k y
+    second_along first leads comes_to T f rests (Ok w) h k said x a s = let d = f.ends w a.0 a.2 h k x a.1 a.3 s in (d.0, (a.0, a.1, a.2, d.1, a.4), d.2)
+    second_along first leads comes_to T f rests (Err answer) h k said x a s = (x, (a.0, refl, a.2), subst (λ l. IsRecorded m IsHere l x) (sym a.1) s)
+
+    twice_along : {Y : Type 0} (first : Event R) (leads : Reply R → Result Y Answer) (comes_to : Y → Event R → Type 0) (T : Y → Machine → Type 0) → IsCallAlong m first leads comes_to T
+        → (rests : Type 0) (h k : Kept R) (said : Answer) (x : Recorded R) → AsksTwice (by_core resource) first leads comes_to rests h said k → IsRecorded m IsHere h x
+        → (y : Recorded R) × AsksTwice (by_records resource) first leads comes_to rests x said y × IsRecorded m IsHere k y
+    twice_along first leads comes_to T f rests h k said x a s =
+        let d = f.begins h a.1 x a.0 a.2 s in
+        let e = second_along first leads comes_to T f rests (leads a.0) a.1 k said d.0 a.3 d.2 in
+        (e.0, (a.0, d.0, d.1, e.1), e.2)
+
+    -- ---- Commands
+
+    carried_along : (c : Command) (h k : Kept R) (d d' : D) (said : Answer) (x : Recorded R) → CarriesOut (by_core resource) device resource 0 c h d said k d' → IsRecorded m IsHere h x
+        → (y : Recorded R) × CarriesOut (by_records resource) device resource 0 c x d said y d' × IsRecorded m IsHere k y
+    carried_along (Open mode path) h k d d' said x a s =
+        let comes_to : Unit {0} → Event R → Type 0 = λ u. TellsOpened device 0 mode path d d' in
+        twice_along (event.Prepare 0) prepared_by comes_to _ (opens_along m comes_to (λ u e t. (t.0, t.2))) (d' ≡ d) h k said x a s
+    carried_along (Connect path) h k d d' said x a s =
+        let comes_to : Unit {0} → Event R → Type 0 = λ u. TellsConnected device 0 path d d' in
+        twice_along (event.Prepare 0) prepared_by comes_to _ (opens_along m comes_to (λ u e t. (t.0, t.2))) (d' ≡ d) h k said x a s
+    carried_along (Read g count) h k d d' said x a s =
+        let comes_to : R → Event R → Type 0 = TellsRead resource 0 count in
+        let t = twice_along (event.CheckOut 0 g) out_by comes_to _ (calls_along m g comes_to (λ value e t. (t.0, t.1, t.3))) ⊤ h k said x a.0 s in
+        (t.0, (t.1, a.1), t.2)
+    carried_along (Write g bytes) h k d d' said x a s =
+        let comes_to : R → Event R → Type 0 = TellsWritten resource 0 bytes in
+        let t = twice_along (event.CheckOut 0 g) out_by comes_to _ (calls_along m g comes_to (λ value e t. (t.0, t.1, t.3))) ⊤ h k said x a.0 s in
+        (t.0, (t.1, a.1), t.2)
+    carried_along (Clean c) h k d d' said x a s =
+        let comes_to : JobOf R → Event R → Type 0 = TellsFinished resource 0 in
+        let t = twice_along (event.Clean 0 c) job_by comes_to _ (works_along m (event.Clean 0 c) (ask.Clean 0 c) refl (λ n answer chosen. clean_begins n c answer chosen) comes_to (λ job e t. (t.0, t.2))) ⊤ h k said x a.0 s in
+        (t.0, (t.1, a.1), t.2)
+    carried_along (Close g) h k d d' said x a s =
+        let comes_to : JobOf R → Event R → Type 0 = TellsFinished resource 0 in
+        let t = twice_along (event.Close 0 g) job_by comes_to _ (works_along m (event.Close 0 g) (ask.Close 0 g) refl (λ n answer chosen. close_begins n g answer chosen) comes_to (λ job e t. (t.0, t.2))) ⊤ h k said x a.0 s in
+        (t.0, (t.1, a.1), t.2)
+    carried_along c h k d d' said x a s = let t = once_along (event_of 0 c) (asks_quietly c) h k said x a.0 s in (t.0, (t.1, a.1), t.2)
+
+    -- a device is the same in both
+    abbrev pub Along : Kept R × D → Recorded R × D → Type 0
+    Along h x = IsRecorded m IsHere h.0 x.0 × (h.1 ≡ x.1)
+
+    pub followed : IsFollowed (by_asks (by_core resource) device resource) (by_asks (by_records resource) device resource) Along
+    followed = record {
+      commands = λ old new history c said n a r.
+          let d = carried_along c old.0 new.0 old.1 new.1 said history.0 a r.0 in
+          ((d.0, new.1), subst (λ (e : D). CarriesOut (by_records resource) device resource 0 c history.0 e said d.0 new.1) r.1 d.1, (d.2, refl));
+      settlings = λ old new history a r.
+          let d = settles_along Steps Records (IsRecorded m IsHere) (settled_along m) resource old.0 new.0 history.0 a.0 r.0 in
+          ((d.0, history.1), (d.1, refl), (d.2, a.1 ∙ r.1));
+    }
+
+    -- what the lines come to
+    pub lines_along : (at_end : Type 0) (end : SessionEnd) (bytes : List ℕ) (h k : Kept R) (d d' : D) (out : List ℕ) (x : Recorded R)
+        → Ended (by_asks (by_core resource) device resource) at_end end bytes (h, d) out (k, d') → IsRecorded m IsHere h x
+        → (y : Recorded R) × Ended (by_asks (by_records resource) device resource) at_end end bytes (x, d) out (y, d') × IsRecorded m IsHere k y
+    lines_along at_end end bytes h k d d' out x a s =
+        let e = ended_along (by_asks (by_core resource) device resource) (by_asks (by_records resource) device resource) Along followed at_end end bytes (h, d) (k, d') out (x, d) a (s, refl) in
+        let same : e.0 ≡ (e.0.0, d') = ap (λ (c : D). (e.0.0, c)) (sym e.2.1) in
+        (e.0.0, subst (λ q. Ended (by_asks (by_records resource) device resource) at_end end bytes (x, d) out q) same e.1, e.2.0)

@@ -1,6 +1,5 @@
 -- A step of the handler that is legal took something off the pending list, which is then shorter, or it was the last one.
-use Rattle.std.proofs.Common.{◌≡◌, ◌≢◌, ℕ, ◌<◌, ◌⊎◌, ◌↔◌, IsTrue, Bool, true, inl, inr, List, [], ◌∷◌, ◌++◌, length, Option, Some, None, false, refl, sym, ◌∙◌, ap, subst, option_map, arith}
-use Rattle.std.proofs.lemmas.Bool.{both_ways}
+use Rattle.std.proofs.Common.{◌≡◌, ◌≢◌, ℕ, ◌<◌, ◌⊎◌, inl, inr, List, [], ◌∷◌, length, Option, Some, None, refl, sym, ◌∙◌, ap, subst, option_map, arith}
 use Rattle.jlr_types.specs.declared.Refusal.{Refusal}
 use Rattle.jlr_types.specs.declared.Refusal.TheVariants.{NoMemory, HeapFull}
 use Rattle.jlr_machine.specs.declared.object.Object.{Object}
@@ -12,6 +11,7 @@ use Rattle.jlr_machine.specs.declared.object.CleanState.TheVariants.{Armed, Pend
 use Rattle.jlr_machine.specs.declared.machine.Machine.{Machine}
 use Rattle.jlr_machine.specs.declared.ask.Handed.{Handed as HandedOver}
 use Rattle.jlr_machine.specs.declared.ask.Handed.TheVariants.{Queued as HandedQueued, Lined as HandedLined, Skipped, Nothing}
+use Rattle.jlr_machine.specs.declared.ask.Ask.{Ask}
 use Rattle.jlr_machine.specs.declared.ask.Ask.TheVariants.{HandOver}
 use Rattle.jlr_machine.specs.declared.ask.Answer.{Answer}
 use Rattle.jlr_machine.specs.declared.ask.Answer.TheVariants.{Handed, Refused}
@@ -23,11 +23,48 @@ use Rattle.jlr_machine.specs.Run.{IsLegal, MayCollect, Answers, with_collection,
 use Rattle.jlr_machine.specs.Run.IsLegal.{carried_out, refused, heap_full, out_of_memory}
 use Rattle.jlr_laws.proofs.Frames.{some_same}
 use Rattle.jlr_laws.proofs.LegalKept.{no_need}
+use Rattle.jlr_event.specs.declared.event.Event.{Event}
+use Rattle.jlr_event.specs.declared.event.Event.TheVariants as event
+use Rattle.jlr_event.specs.declared.event.Reply.{Reply}
+use Rattle.jlr_event.specs.declared.event.Reply.TheVariants.{Answered, Marked}
+use Rattle.jlr_event.specs.Events.{ask_of, answer_in}
 use Rattle.jlr_core.specs.State.{entry_of}
 use Rattle.jlr_core.specs.Cores.{Kept, StandsIn}
-use Rattle.jlr_prog.specs.Settling.{TookOne, FoundNone, HandsOn}
-use Rattle.jlr_prog.specs.Heaps.{Stands, HandsOver, StepsOnce}
-use Rattle.jlr_prog.proofs.HandingOn.{hands_on_more}
+use Rattle.jlr_prog.specs.Settling.{HandsOver}
+use Rattle.jlr_prog.specs.Ports.{Stands, Steps}
+use Rattle.jlr_prog.specs.OneTurn.{IsTurn, turn_by}
+use Rattle.jlr_prog.specs.declared.port.Turn.{Turn}
+use Rattle.jlr_prog.specs.declared.port.Turn.TheVariants as turn
+
+-- ---- Steps of any kind
+
+-- there still is a machine for which the core stands
+pub still_stands : {R : Type 0} (old new : Kept R) (e : Event R) (reply : Reply R) → Steps old e reply new → Stands old → Stands new
+still_stands old new e reply s stands = let x = s.entry stands.0 stands.1 in (x.0, x.2)
+
+-- the pending list or the line of the machine is that of the core
+pub same_part : {R A : Type 0} (core : Kept R) (m : Machine) (part : Machine → A) → ((m : Machine) → part (record m { seen = [] }) ≡ part m) → StandsIn core m → part core.machine ≡ part m
+same_part core m part unseen s = ap part s.same ∙ unseen m
+
+-- an ask that was answered is a legal entry of the machine; that it is answered by a piece of marking cannot be
+abbrev pub Entered : {R : Type 0} → Kept R → Kept R → Ask → Answer → Type 0
+Entered old new ask answer = (m : Machine) × (n : Machine) × (chosen : Chosen) × StandsIn old m × StandsIn new n × IsLegal m (entry_of ask answer chosen) × (n ≡ apply m (entry_of ask answer chosen))
+
+pub entered : {R : Type 0} (old new : Kept R) (e : Event R) (reply : Reply R) (ask : Ask) → ask_of e ≡ Some ask → Stands old → Steps old e reply new
+    → (answer : Answer) × (answer_in reply ≡ Some answer) × Entered old new ask answer
+entered old new e (Answered answer resource) ask is stands s =
+    let x = s.entry stands.0 stands.1 in
+    let l = subst (λ a. Rattle.jlr_core.specs.Events.Enters stands.0 a (Some answer) s.chosen x.0) is x.1 in
+    (answer, refl, (stands.0, x.0, s.chosen, stands.1, x.2, l.0, l.1))
+entered old new e (Marked progress) ask is stands s =
+    let x = s.entry stands.0 stands.1 in
+    absurd (subst (λ a. Rattle.jlr_core.specs.Events.Enters stands.0 a None s.chosen x.0) is x.1)
+
+-- what an answer comes to: work, or none
+abbrev pub ComesTo : Type 0 → Answer → Type 0
+ComesTo work answer = work ⊎ ((answer ≡ Handed Nothing) ⊎ ((by : Refusal) × (answer ≡ Refused by)))
+
+-- ---- The handler
 
 -- an object that is handed over is not nothing
 reference_is_some : (state : RefState) → handed_reference state ≢ Nothing
@@ -69,77 +106,92 @@ rest_is_left m s rest =
       | Some o ↦ delivered_pending (record m { pending = rest }) s (handed o)
     ]
 
+abbrev Took : Answer → Type 0
+Took answer = (h : HandedOver) × (h ≢ Nothing) × (answer ≡ Handed h)
+
 -- the answer for a list, and what is left of it
-one_handed : (m : Machine) (s : ℕ) (rest : List ℕ) (answer : Answer) (o : Option Object) → option_map (λ o. Handed (handed o)) o ≡ Some answer → TookOne answer
-one_handed m s rest answer None e = cc e
-one_handed m s rest answer (Some o) e = (handed o, object_is_some o, sym (some_same _ answer e))
+one_handed : (answer : Answer) (o : Option Object) → option_map (λ o. Handed (handed o)) o ≡ Some answer → Took answer
+one_handed answer None e = cc e
+one_handed answer (Some o) e = (handed o, object_is_some o, sym (some_same _ answer e))
 
 answered : (m : Machine) (pending : List ℕ) (answer : Answer) → hand_over_answer m pending ≡ Some answer
-    → (TookOne answer × (length (handed_over m pending).pending < length pending)) ⊎ FoundNone answer
-answered m [] answer e = inr (inl (sym (some_same _ answer e)))
-answered m (s ∷ rest) answer e =
-    inl (one_handed m s rest answer (at m.objects s) e, omega (arith, ap length (rest_is_left m s rest)))
+    → (Took answer × (length (handed_over m pending).pending < length pending)) ⊎ (answer ≡ Handed Nothing)
+answered m [] answer e = inr (sym (some_same _ answer e))
+answered m (s ∷ rest) answer e = inl (one_handed answer (at m.objects s) e, omega (arith, ap length (rest_is_left m s rest)))
 
--- what a step comes to, by its answer
-abbrev pub ComesTo : Machine → Answer → Chosen → Type 0
-ComesTo m answer chosen = (TookOne answer × (length (apply m (entry_of HandOver answer chosen)).pending < length m.pending)) ⊎ FoundNone answer
+abbrev Shorter : Machine → Answer → Chosen → Type 0
+Shorter m answer chosen = length (apply m (entry_of HandOver answer chosen)).pending < length m.pending
 
 carried : (m : Machine) (answer : Answer) (fresh : List ℕ) (c : Option Collected) → MayCollect m HandOver c → Answers (with_collection m c) HandOver c answer
-    → ComesTo m answer (record { collected = c; fresh = fresh })
+    → ComesTo (Took answer × Shorter m answer (record { collected = c; fresh = fresh })) answer
 carried m answer fresh (Some c) may e = absurd (no_need m may.0)
 carried m answer fresh None may e = elim (answered m m.pending answer e) [
-  | inl t ↦
-      let P : Answer → Type 0 = λ a. length (apply m (entry_of HandOver a (record { collected = None; fresh = fresh }))).pending < length m.pending in
-      inl (t.0, subst P (sym t.0.2) t.1)
-  | inr n ↦ inr n
+  | inl t ↦ inl (t.0, subst (λ a. Shorter m a (record { collected = None; fresh = fresh })) (sym t.0.2) t.1)
+  | inr n ↦ inr (inl n)
 ]
 
-pub comes_to : (m : Machine) (answer : Answer) (chosen : Chosen) → IsLegal m (entry_of HandOver answer chosen) → ComesTo m answer chosen
+comes_to : (m : Machine) (answer : Answer) (chosen : Chosen) → IsLegal m (entry_of HandOver answer chosen) → ComesTo (Took answer × Shorter m answer chosen) answer
 comes_to m answer chosen (carried_out c) = carried m answer chosen.fresh chosen.collected c.collection c.answers
 comes_to m answer chosen (refused r) = inr (inr (r.by, r.answers))
 comes_to m answer chosen (heap_full r) = inr (inr (HeapFull, r.answers))
 comes_to m answer chosen (out_of_memory r) = inr (inr (NoMemory, r.answers))
 
--- a core that stands for a machine has its pending list
-same_pending : (core : Kept) (m : Machine) → StandsIn core m → core.machine.pending ≡ m.pending
-same_pending core m s = ap (λ (x : Machine). x.pending) s.same
-
--- a step of the handler, by its answer
-pub stepped : (old new : Kept) (answer : Answer) → Stands old → HandsOver old answer new
-    → (TookOne answer × (length new.machine.pending < length old.machine.pending)) ⊎ FoundNone answer
-stepped old new answer stands step =
-    let m = stands.0 in
-    let d = step m stands.1 in
-    elim (comes_to m answer d.0 d.2.0) [
+stepped : {R : Type 0} (old new : Kept R) (answer : Answer) → Entered old new HandOver answer
+    → ComesTo (Took answer × (length new.machine.pending < length old.machine.pending)) answer
+stepped old new answer x =
+    elim (comes_to x.0 answer x.2 x.5) [
       | inl t ↦
-          let shorter : length d.1.pending < length m.pending = subst (λ (n : Machine). length n.pending < length m.pending) (sym d.2.1) t.1 in
-          inl (t.0, omega (arith, shorter, ap length (same_pending old m stands.1), ap length (same_pending new d.1 d.3)))
+          let shorter : length x.1.pending < length x.0.pending = subst (λ (n : Machine). length n.pending < length x.0.pending) (sym x.6) t.1 in
+          inl (t.0, omega (arith, shorter, ap length (same_part old x.0 (λ m. m.pending) (λ m. refl) x.3), ap length (same_part new x.1 (λ m. m.pending) (λ m. refl) x.4)))
       | inr n ↦ inr n
     ]
 
-handed_same : (a b : HandedOver) → Handed a ≡ Handed b → a ≡ b
-handed_same a b e = cc
+-- ---- Which turn it was
 
-handed_or_refused : (a : HandedOver) (by : Refusal) → Handed a ≡ Refused by → ⊥
-handed_or_refused a by e = cc e
+took_turn : (h : HandedOver) → h ≢ Nothing → turn_by (Handed h) ≡ turn.Worked
+took_turn HandedQueued some = refl
+took_turn HandedLined some = refl
+took_turn Skipped some = refl
+took_turn Nothing some = absurd (some refl)
 
--- what is nothing, or refused, took nothing off
-nothing_taken : (answer : Answer) → TookOne answer → FoundNone answer → ⊥
-nothing_taken answer t (inl n) = t.1 (handed_same t.0 Nothing (sym t.2 ∙ n))
-nothing_taken answer t (inr r) = handed_or_refused t.0 r.0 (sym t.2 ∙ r.1)
+never_worked : {P : Type 0} (t : Turn) → t ≢ turn.Worked → t ≡ turn.Worked → P
+never_worked t other e = absurd (other e)
 
-pub steps_once : (old new : Kept) (answer : Answer) (on : Bool) → Stands old → HandsOver old answer new → IsTrue on ↔ TookOne answer → StepsOnce old on new
-steps_once old new answer true stands step goes = elim (stepped old new answer stands step) [
-  | inl t ↦ (answer, t.0, step, t.1)
-  | inr n ↦ absurd (nothing_taken answer (goes.0 refl) n)
-]
-steps_once old new answer false stands step goes = elim (stepped old new answer stands step) [
-  | inl t ↦ absurd (both_ways false refl (goes.1 t.0))
-  | inr n ↦ (answer, n, step)
-]
+nothing_worked : {P : Type 0} → turn.FoundNothing ≡ turn.Worked → P
+nothing_worked e = cc e
 
--- a step that is not the last is one more
-pub one_more : (old now new : Kept) (on : Bool) (answers : List Answer) → HandsOn HandsOver answers old now → StepsOnce now on new → IsTrue on
-    → (all : List Answer) × HandsOn HandsOver all old new
-one_more old now new true answers h step t = (answers ++ step.0 ∷ [], hands_on_more HandsOver answers old now new step.0 h step.1 step.2)
-one_more old now new false answers h step t = absurd (both_ways false refl t)
+refusal_worked : {P : Type 0} → turn.Refused ≡ turn.Worked → P
+refusal_worked e = cc e
+
+-- a turn that worked
+pub worked : {R : Type 0} (works : Kept R → Kept R → Type 0) (e : Event R) (old new : Kept R) (t : Turn) → t ≡ turn.Worked → IsTurn Steps works e t old new → works old new
+worked works e old new t is h = subst (λ t. IsTurn Steps works e t old new) is h
+
+-- an ask after which there is nothing to do, whatever a turn would be
+pub no_turn : {R : Type 0} (works : Kept R → Kept R → Type 0) (old new : Kept R) (e : Event R) (reply : Reply R) (answer : Answer) (t : Turn)
+    → answer_in reply ≡ Some answer → t ≡ turn_by answer → Steps old e reply new → (answer ≡ Handed Nothing) ⊎ ((by : Refusal) × (answer ≡ Refused by))
+    → {P : Type 0} → IsTurn Steps works e t old new × (t ≡ turn.Worked → P)
+no_turn works old new e reply answer t is which s (inl n) {P} =
+    let same : t ≡ turn.FoundNothing = which ∙ ap turn_by n in
+    (subst (λ t. IsTurn Steps works e t old new) (sym same) (reply, s, is ∙ ap Some n), λ w. nothing_worked (sym same ∙ w))
+no_turn works old new e reply answer t is which s (inr r) {P} =
+    let same : t ≡ turn.Refused = which ∙ ap turn_by r.1 in
+    (subst (λ t. IsTurn Steps works e t old new) (sym same) (reply, s, (r.0, is ∙ ap Some r.1)), λ w. refusal_worked (sym same ∙ w))
+
+pub handed_turn : {R : Type 0} (old new : Kept R) (reply : Reply R) (answer : Answer) (t : Turn) → answer_in reply ≡ Some answer → t ≡ turn_by answer
+    → Stands old → Steps old event.HandOver reply new
+    → IsTurn Steps (HandsOver Steps) event.HandOver t old new × (t ≡ turn.Worked → length new.machine.pending < length old.machine.pending)
+handed_turn old new reply answer t is which stands s =
+    let x = entered old new event.HandOver reply HandOver refl stands s in
+    let same : x.0 ≡ answer = some_same x.0 answer (sym x.1 ∙ is) in
+    elim (stepped old new answer (subst (Entered old new HandOver) same x.2)) [
+      | inl w ↦
+          let worked : t ≡ turn.Worked = which ∙ ap turn_by w.0.2 ∙ took_turn w.0.0 w.0.1 in
+          (subst (λ t. IsTurn Steps (HandsOver Steps) event.HandOver t old new) (sym worked) (reply, s, (w.0.0, w.0.1, is ∙ ap Some w.0.2)), λ _. w.1)
+      | inr n ↦ no_turn (HandsOver Steps) old new event.HandOver reply answer t is which s n
+    ]
+
+pub never_marked : {R P : Type 0} (old new : Kept R) (reply : Reply R) → answer_in reply ≡ None → Stands old → Steps old event.HandOver reply new → P
+never_marked old new reply none stands s =
+    let x = entered old new event.HandOver reply HandOver refl stands s in
+    cc (none, x.1)

@@ -1,102 +1,109 @@
--- The core carries a session out as a history of the machine.
-use Rattle.std.proofs.Common.{◌≡◌, ◌≢◌, ℕ, List, [], ◌∷◌, ◌++◌, Option, Some, None, refl, sym, subst}
+-- A session over a core is a session of which the history is told: the join and the leave are answered ok.
+use Rattle.std.proofs.Common.{◌≡◌, ℕ, zero, suc, ◌≤◌, Bool, true, false, cond, nat_le, List, [], Option, None, Some, replicate, length, refl, sym, ◌∙◌, ap, subst, arith}
+use Rattle.std.proofs.lemmas.Bool.{and_parts, both_ways, leb-true, lt-ltb}
+use Rattle.jlr_types.specs.declared.Refusal.TheVariants.{NoMemory}
+use Rattle.jlr_types.specs.declared.limits.Limits.{Limits}
+use Rattle.jlr_types.specs.declared.limits.LimitFault.{LimitFault}
+use Rattle.jlr_types.specs.declared.limits.LimitFault.TheVariants.{Cells, Sessions}
+use Rattle.jlr_types.specs.Ranges.{is_within}
 use Rattle.jlr_machine.specs.declared.machine.Machine.{Machine}
-use Rattle.jlr_machine.specs.declared.ask.Ask.{Ask}
-use Rattle.jlr_machine.specs.declared.ask.Ask.TheVariants.{Join, Leave, HandOver}
+use Rattle.jlr_machine.specs.declared.machine.Session.{Session}
+use Rattle.jlr_machine.specs.declared.ask.Ask.TheVariants as ask
 use Rattle.jlr_machine.specs.declared.ask.Answer.{Answer}
-use Rattle.jlr_machine.specs.declared.ask.Answer.TheVariants.{Done}
-use Rattle.jlr_machine.specs.declared.entry.Entry.{Entry}
-use Rattle.jlr_machine.specs.declared.entry.Chosen.{Chosen}
-use Rattle.jlr_machine.specs.Run.{Run, IsLegal, apply}
-use Rattle.jlr_core.specs.State.{entry_of}
+use Rattle.jlr_machine.specs.declared.ask.Answer.TheVariants.{Done, Refused}
+use Rattle.jlr_machine.specs.Refusals.{refusal}
+use Rattle.jlr_machine.specs.Run.{empty}
+use Rattle.jlr_machine.specs.WellFormed.{IsWellFormed}
+use Rattle.jlr_laws.proofs.Frames.{no_some}
+use Rattle.jlr_laws.proofs.Empty.{empty_is_well_formed}
+use Rattle.jlr_event.specs.declared.event.Event.{Event}
+use Rattle.jlr_event.specs.declared.event.Event.TheVariants.{Join, Leave}
+use Rattle.jlr_event.specs.declared.event.Reply.{Reply}
+use Rattle.jlr_event.specs.declared.event.Reply.TheVariants.{Answered}
+use Rattle.jlr_event.specs.Events.{answer_in, given, handed}
+use Rattle.jlr_core.specs.Flows.{GoesOut}
 use Rattle.jlr_core.specs.Cores.{Kept, StandsIn}
-use Rattle.jlr_wire.specs.declared.command.Command.{Command}
-use Rattle.jlr_wire.specs.declared.command.Command.TheVariants.{New, Put, Get, SetInt, Int, Dup, Drop, Same, Soft, Weak, Phantom, Deref, Refers, Clear, Enqueue, Enqueued, Queue, Poll, Full, Stat, Bye}
-use Rattle.jlr_prog.specs.Heaps.{ask_for, Answers, HandsOver, by_core, IsJoined}
-use Rattle.jlr_prog.specs.Sessions.{Ended}
-use Rattle.jlr_prog.specs.Histories.{Tells, by_entries, IsSession}
-use Rattle.jlr_prog.specs.declared.shell.FirstEnd.{FirstEnd}
-use Rattle.jlr_prog.proofs.Following.{IsFollowed, ended_along}
-use Rattle.jlr_prog.proofs.HandingOn.{settles_along}
-use Rattle.jlr_prog.proofs.Staying.{IsHere, stays, stays_handing_over, joins, leaves}
+use Rattle.jlr_core.proofs.RunLaws.{stands_at_start}
+use Rattle.jlr_session.specs.Calls.{Opening, Handling}
+use Rattle.jlr_session.specs.Asks.{said_by}
+use Rattle.jlr_session.specs.Serving.{Follows, Serves}
+use Rattle.jlr_session.specs.declared.shell.SessionEnd.{SessionEnd}
+use Rattle.jlr_prog.specs.Ports.{Steps, IsEmpty, by_core}
+use Rattle.jlr_prog.specs.Histories.{Recorded, Records, IsSession, answered_ok}
+use Rattle.jlr_prog.proofs.Calls.{IsHere, joins, leaves}
+use Rattle.jlr_prog.proofs.Asked.{IsRecorded, recorded}
+use Rattle.jlr_prog.proofs.Following.{lines_along}
 
--- the core stands for the machine to which this history leads, and mutator 0 is there
-abbrev pub IsAfter : Machine → Kept → List Entry → Type 0
-IsAfter m core history = (n : Machine) × Run m history n × StandsIn core n × IsHere n
+-- with ok goes nothing
+only_ok : {R : Type 0} (h k : Kept R) (event : Event R) (reply : Reply R) (answer : Answer) (resource : Option R) → Steps h event reply k → reply ≡ Answered answer resource → answer ≡ Done
+    → reply ≡ answered_ok
+only_ok {R} h k event reply answer resource s is done =
+    let ok : reply ≡ Answered Done resource = is ∙ ap {A = Answer} {B = Reply R} (λ a. Answered a resource) done in
+    let goes : resource ≡ None = subst (λ (q : Reply R). GoesOut h.table (given event) (answer_in q) (handed q)) ok s.goes_out in
+    ok ∙ ap {A = Option R} {B = Reply R} (λ r. Answered Done r) goes
 
-some_none : {A : Type 0} (x : A) → Some x ≢ None
-some_none x = λ e. cc
+module _ {R : Type 0} (m : Machine) where
+  -- the join, where the machine does not refuse it
+  joined : (start now : Kept R) (reply : Reply R) → StandsIn start m → IsWellFormed m → refusal m (ask.Join 0) ≡ None → Steps start (Join 0) reply now
+      → (y : Recorded R) × Records (record { core = start; entries = [] }) (Join 0) reply y × IsRecorded m (λ n. (reply ≡ answered_ok) × IsHere n) now y
+  joined start now reply stands well free s =
+      recorded m (λ n. refusal n (ask.Join 0) ≡ None) (λ n. (reply ≡ answered_ok) × IsHere n) (Join 0) (ask.Join 0) refl start now (record { core = start; entries = [] }) reply s
+      (λ n answer resource is w free l.
+      let memory : answer ≡ Refused NoMemory → ⊥ = λ e. both_ways false refl (s.memory (ap answer_in is ∙ ap (λ a. Some a) e)) in
+      let j = joins n answer s.chosen free memory l in
+      (only_ok start now (Join 0) reply answer resource s is j.0, j.1))
+      (refl, (m, refl, stands, well, free))
 
-run_snoc : (m n : Machine) (entries : List Entry) (e : Entry) → Run m entries n → IsLegal n e → Run m (entries ++ e ∷ []) (apply n e)
-run_snoc m n [] e r l = subst (λ k. IsLegal k e × (apply n e ≡ apply k e)) r (l, refl)
-run_snoc m n (x ∷ entries) e r l = (r.0, run_snoc (apply m x) n entries e r.1 l)
+  -- the leave of a mutator that is there
+  left : (before over : Kept R) (x : Recorded R) (reply : Reply R) → Steps before (Leave 0) reply over → IsRecorded m IsHere before x
+      → (y : Recorded R) × Records x (Leave 0) reply y × IsRecorded m (λ n. reply ≡ answered_ok) over y
+  left before over x reply s a =
+      recorded m IsHere (λ n. reply ≡ answered_ok) (Leave 0) (ask.Leave 0) refl before over x reply s
+      (λ n answer resource is w here l. only_ok before over (Leave 0) reply answer resource s is (leaves n answer s.chosen here l)) a
 
--- an ask and its answer are one entry more, where mutator 0 stays
-told : (m : Machine) (old new : Kept) (ask : Ask) (answer : Answer) (history : List Entry)
-    → ((n : Machine) (chosen : Chosen) → IsHere n → IsHere (apply n (entry_of ask answer chosen)))
-    → Answers old (Some ask) answer new → IsAfter m old history → (y : List Entry) × Tells (Some ask) history answer y × IsAfter m new y
-told m old new ask answer history here a r =
-    let d = a r.0 r.2 in
-    let e = entry_of ask answer d.0 in
-    (history ++ e ∷ [], (e, refl, refl, refl), (apply r.0 e, run_snoc m r.0 history e r.1 d.2.0, subst (StandsIn new) d.2.1 d.3, here r.0 d.0 r.3))
+-- ---- What limits allow
 
--- of a command that asks something
-asked : (m : Machine) (old new : Kept) (c : Command) (asks : Option Ask) (answer : Answer) (history : List Entry) → ask_for c ≡ asks → asks ≢ None
-    → Answers old asks answer new → IsAfter m old history → (y : List Entry) × Tells asks history answer y × IsAfter m new y
-asked m old new c None answer history e some a r = absurd (some refl)
-asked m old new c (Some ask) answer history e some a r = told m old new ask answer history (λ n chosen h. stays n c ask answer chosen e h) a r
+passes : (b : Bool) (rest : Option LimitFault) (fault : LimitFault) → cond b rest (Some fault) ≡ None → (b ≡ true) × (rest ≡ None)
+passes true rest fault e = (refl, e)
+passes false rest fault e = no_some fault (sym e)
 
--- each command but bye asks something
-asks_something : (c : Command) → c ≢ Bye → ask_for c ≢ None
-asks_something (New layout) n = some_none _
-asks_something (Put h f v) n = some_none _
-asks_something (Get h f) n = some_none _
-asks_something (SetInt h f v) n = some_none _
-asks_something (Int h f) n = some_none _
-asks_something (Dup h) n = some_none _
-asks_something (Drop h) n = some_none _
-asks_something (Same x y) n = some_none _
-asks_something (Soft h q) n = some_none _
-asks_something (Weak h q) n = some_none _
-asks_something (Phantom h q) n = some_none _
-asks_something (Deref r) n = some_none _
-asks_something (Refers r h) n = some_none _
-asks_something (Clear r) n = some_none _
-asks_something (Enqueue r) n = some_none _
-asks_something (Enqueued r) n = some_none _
-asks_something Queue n = some_none _
-asks_something (Poll q) n = some_none _
-asks_something (Full mode) n = some_none _
-asks_something Stat n = some_none _
-asks_something Bye n = absurd (n refl)
+lies_within : (low high n : ℕ) → is_within low high n ≡ true → (low ≤ n) × (n ≤ high)
+lies_within low high n e =
+    let both = and_parts (nat_le low n) (nat_le n high) e in
+    (leb-true low n both.0, leb-true n high both.1)
 
--- the core carries out what the entries tell
-carried : (m : Machine) → IsFollowed by_core by_entries (IsAfter m)
-carried m = record {
-  commands = λ old new history c answer n a r. asked m old new c (ask_for c) answer history refl (asks_something c n) a r;
-  settlings = settles_along HandsOver (Tells (Some HandOver)) (IsAfter m)
-      (λ old new history answer a r. told m old new HandOver answer history (λ n chosen h. stays_handing_over n answer chosen h) a r);
-}
+limits_hold : (limits : Limits) → (limits.cells ≤ 65536) × (1 ≤ limits.sessions) × (limits.sessions ≤ 64)
+limits_hold limits =
+    let cells = passes (is_within 16 65536 limits.cells) _ Cells limits.in_range in
+    let sessions = passes (is_within 1 64 limits.sessions) _ Sessions cells.1 in
+    let many = lies_within 1 64 limits.sessions sessions.0 in
+    ((lies_within 16 65536 limits.cells cells.0).1, many.0, many.1)
 
-pub is_session : (m : Machine) (joined left over : Kept) (at_end : Type 0) (end : FirstEnd) (bytes out : List ℕ) (answer : Answer)
-    → IsJoined m joined → Ended by_core at_end end bytes joined out left → Answers left (Some (Leave 0)) answer over → IsSession m at_end end bytes out
-is_session m joined left over at_end end bytes out answer j e l =
-    let first = entry_of (Join 0) Done j.0 in
-    let here : IsHere j.1 = subst IsHere (sym j.2.1) (joins m j.0 j.2.0) in
-    let start : IsAfter m joined (first ∷ []) = (j.1, (j.2.0, j.2.1), j.3, here) in
-    let d = ended_along by_core by_entries (IsAfter m) (carried m) at_end end bytes joined left out (first ∷ []) e start in
-    let n = d.2.0 in
-    let x = l n d.2.2 in
-    let last = entry_of (Leave 0) answer x.0 in
+may_join : (cells sessions resources : ℕ) → 1 ≤ sessions → refusal (empty cells sessions resources) (ask.Join 0) ≡ None
+may_join cells zero resources one = absurd (omega (arith, one))
+may_join cells (suc n) resources one = rw (lt-ltb 0 (suc (length (replicate {A = Option Session} n None))) (omega arith)) refl
+
+pub is_session : {D R : Type 0} (device : Opening D R) (resource : Handling R) (limits : Limits) (start over : Kept R) (at_end : Type 0) (end : SessionEnd) (bytes : List ℕ) (d : D) (out : List ℕ) (d' : D)
+    → IsEmpty limits.cells limits.sessions limits.resources limits.soft_age start
+    → Serves (by_core resource) device resource at_end end bytes start d out over d' → IsSession device resource limits at_end end bytes d out d'
+is_session device resource limits start over at_end end bytes d out d' begins serves =
+    let fit = limits_hold limits in
+    let m = empty limits.cells limits.sessions limits.resources in
+    let j = joined m start serves.1 serves.0 (stands_at_start start limits.cells limits.sessions limits.resources begins.machine) (empty_is_well_formed limits.cells limits.sessions limits.resources fit.0 fit.2)
+    (may_join limits.cells limits.sessions limits.resources fit.1) serves.2 in
+    let ok = j.2.1.4.0 in
+    let follows = subst (λ q. Follows (by_core resource) device resource (said_by q) at_end end bytes serves.1 d out over d') ok serves.3 in
+    let t = lines_along m device resource at_end end bytes serves.1 follows.0 d d' out j.0 follows.2 (j.2.0, (j.2.1.0, j.2.1.1, j.2.1.2, j.2.1.3, j.2.1.4.1)) in
+    let l = left m follows.0 over t.0 follows.1 follows.3 t.2 in
     record {
-      join = first;
-      entries = d.0;
-      leave = last;
-      last = apply n last;
-      joins = refl;
-      joined = refl;
-      tells = d.1;
-      leaves = refl;
-      left = leaves n answer x.0 d.2.3 x.2.0;
-      run = run_snoc m n d.0 last d.2.1 x.2.0;
+      start = start;
+      joined = j.0;
+      before = t.0;
+      over = l.0;
+      last = l.2.1.0;
+      begins = begins;
+      joins = subst (λ q. Records (record { core = start; entries = [] }) (Join 0) q j.0) ok j.1;
+      tells = t.1;
+      leaves = subst (λ q. Records t.0 (Leave 0) q l.0) l.2.1.4 l.1;
+      run = l.2.1.1;
     }

@@ -1,11 +1,9 @@
-pub mod Carrying
-pub mod Sent
-pub mod Going
-pub mod Ending
-pub mod Taking
-pub mod Standing
-pub mod Following
-pub mod HandingOn
+pub mod Turning
 pub mod HandingOver
+pub mod TakingUp
+pub mod Resting
 pub mod Staying
+pub mod Calls
+pub mod Asked
+pub mod Following
 pub mod Histories

@@ -1,8 +1,6 @@
 -- Reading order.
 pub mod Settling
-pub mod Turns
-pub mod Sessions
-pub mod Heaps
+pub mod Ports
 pub mod Histories
--- What the parts of a session do, which no public clause names.
-pub mod Chunks
+-- What the parts of a settling do, which no public clause names.
+pub mod OneTurn

@@ -1,310 +1,24 @@
-//! Sessions spelled out. The expected texts come from the description of the protocol.
-use crate::carry::CarryOut;
-use crate::first::first_run;
-use crate::shell::{FirstEnd, converse};
-use jlr_machine::ask::{Answer, Handed};
-use jlr_types::{Handle, Limits};
-use jlr_wire::command::Command;
+//! Sessions of the heap, spelled out. The expected texts come from the description of the protocol.
+mod cleaners;
+mod cuts;
+mod files;
+mod integers;
+mod names;
+mod references;
+mod scripts;
+
+use crate::session::session;
+use jlr_device::Device;
+use jlr_device::script::ScriptDevice;
+use jlr_session::shell::SessionEnd;
+use jlr_types::Limits;
 use std::alloc::{AllocError, Global};
-use std::io::{self, ErrorKind, Read, Write};
+use std::process::Abort;
 use std::test::Fail;
 
-/// Gives its bytes in pieces, the first of so many, and at last fails or ends.
-#[derive(Drop)]
-struct Pieced<'a> {
-    bytes: &'a [u8],
-    first: usize,
-    step: usize,
-    fails: bool,
-}
-
-impl Read for Pieced<'_> {
-    fn read(&mut self, buf: &mut [u8]) -> io::Result<usize> {
-        if self.bytes.is_empty() && self.fails {
-            return Err(io::Error::from(ErrorKind::Other));
-        }
-        let wanted = if self.first > 0 {
-            self.first
-        } else {
-            self.step
-        };
-        let count = wanted.min(self.bytes.len()).min(buf.len());
-        let (front, back) = self.bytes.split_at(count);
-        for (to, from) in buf.iter_mut().zip(front) {
-            *to = *from;
-        }
-        self.bytes = back;
-        self.first = 0;
-        Ok(count)
-    }
-}
-
-/// Takes so many bytes, and then nothing; flushes so many times, and then fails.
-#[derive(Drop)]
-struct Narrow {
-    taken: Vec<u8>,
-    room: usize,
-    flushes: usize,
-}
-
-impl Write for Narrow {
-    fn write(&mut self, buf: &[u8]) -> io::Result<usize> {
-        let count = self.room.min(buf.len()).min(1);
-        let _ = self.taken.extend_from_slice(buf.split_at(count).0);
-        self.room -= count;
-        Ok(count)
-    }
-
-    fn flush(&mut self) -> io::Result<()> {
-        if self.flushes == 0 {
-            return Err(io::Error::from(ErrorKind::Other));
-        }
-        self.flushes -= 1;
-        Ok(())
-    }
-}
-
-/// Answers each command by `ok`.
-#[derive(Clone, Copy)]
-struct NoHeap;
-
-impl CarryOut for NoHeap {
-    ghost carries = { record { command = λ _ _ _ _. Unit {0}; settling = λ _ _. Unit {0} } };
-
-    fn carry_out(&mut self, _command: Command) -> Answer {
-        Answer::Done
-    }
-
-    fn settle(&mut self) {}
-}
-
-/// Answers each command by a handle one higher, and the fourth by an answer that has no line. Counts its settlings.
-struct Counting {
-    count: u8,
-    settlings: u8,
-}
-
-impl CarryOut for Counting {
-    ghost carries = { record { command = λ _ _ _ _. Unit {0}; settling = λ _ _. Unit {0} } };
-
-    fn carry_out(&mut self, _command: Command) -> Answer {
-        if self.count >= 3 {
-            return Answer::Handed(Handed::Nothing);
-        }
-        self.count += 1;
-        Answer::Handle(Handle::new(self.count))
-    }
-
-    fn settle(&mut self) {
-        self.settlings = self.settlings.saturating_add(1);
-    }
-}
-
-/// A session over these bytes, the first piece of so many bytes and each further one of the next so
-/// many.
-fn session(alloc: Global, bytes: &[u8], first: usize, step: usize) -> (FirstEnd, Vec<u8>) {
-    let mut out = Vec::new(alloc);
-    let mut reader = Pieced {
-        bytes,
-        first,
-        step,
-        fails: false,
-    };
-    let end = converse(&mut reader, &mut out, &mut NoHeap);
-    (end, out)
-}
-
-/// A line of 512 bytes, one of 513, `put 1`, an empty line, and a last `gc` without its end.
-fn stream(alloc: Global) -> Result<Vec<u8>, AllocError> {
-    let mut bytes = Vec::new(alloc);
-    bytes.extend_from_slice(&[b'x'; 512])?;
-    bytes.extend_from_slice(b"\n")?;
-    bytes.extend_from_slice(&[b'x'; 513])?;
-    bytes.extend_from_slice(b"\nput 1\n\ngc")?;
-    Ok(bytes)
-}
-
-#[test]
-fn each_cut_gives_the_same_session(rt: HostRuntime) -> Result<(), Fail> {
-    let bytes = stream(rt.alloc())?;
-    let expected = b"! 15\n! 16\n! 15\n! 15\n! 15\n".as_slice();
-    for cut in 0..=bytes.len() {
-        let (end, out) = session(rt.alloc(), bytes.as_slice(), cut, 4_096);
-        assert_eq!(rt; end, FirstEnd::Truncated, "at {cut}");
-        assert_eq!(rt; out.as_slice(), expected, "at {cut}");
-    }
-    let (end, out) = session(rt.alloc(), bytes.as_slice(), 1, 1);
-    assert_eq!(rt; end, FirstEnd::Truncated);
-    assert_eq!(rt; out.as_slice(), expected);
-    Ok(())
-}
-
-#[test]
-fn sessions_end_as_they_should(rt: HostRuntime) {
-    for (bytes, expected, how) in [
-        ("", "", FirstEnd::End),
-        ("\n", "! 15\n", FirstEnd::End),
-        ("gc\n", "ok\n", FirstEnd::End),
-        ("bye\n", "ok\n", FirstEnd::Bye),
-        ("bye\ngc\nput\n", "ok\n", FirstEnd::Bye),
-        ("bye \nbye\n", "! 15\nok\n", FirstEnd::Bye),
-        ("bye", "! 15\n", FirstEnd::Truncated),
-        ("gc\nbye", "ok\n! 15\n", FirstEnd::Truncated),
-        ("gc\r\n", "! 15\n", FirstEnd::End),
-    ] {
-        for step in 1..5usize {
-            let (end, out) = session(rt.alloc(), bytes.as_bytes(), 0, step);
-            assert_eq!(rt; end, how, "at {bytes:?}");
-            assert_eq!(rt; out.as_slice(), expected.as_bytes(), "at {bytes:?}");
-        }
-    }
-}
-
-#[test]
-fn a_long_unfinished_line_is_too_long(rt: HostRuntime) {
-    for (count, expected) in [(512usize, "! 15\n"), (513, "! 16\n"), (600, "! 16\n")] {
-        let bytes = [b'x'; 600];
-        let (end, out) = session(rt.alloc(), bytes.as_slice().split_at(count).0, 0, 100);
-        assert_eq!(rt; end, FirstEnd::Truncated, "at {count}");
-        assert_eq!(rt; out.as_slice(), expected.as_bytes(), "at {count}");
-    }
-}
-
-#[test]
-fn a_failed_read_is_a_fault(rt: HostRuntime) {
-    let mut reader = Pieced {
-        bytes: b"gc\nby",
-        first: 0,
-        step: 2,
-        fails: true,
-    };
-    let mut out = Vec::new(rt.alloc());
-    let end = converse(&mut reader, &mut out, &mut NoHeap);
-    assert_eq!(rt; end, FirstEnd::ReadFault);
-    assert_eq!(rt; out.as_slice(), b"ok\n".as_slice());
-}
-
-/// Fails at its first read, and then gives its bytes.
-#[derive(Drop)]
-struct FailsOnce<'a> {
-    failed: bool,
-    later: Pieced<'a>,
-}
-
-impl Read for FailsOnce<'_> {
-    fn read(&mut self, buf: &mut [u8]) -> io::Result<usize> {
-        if !self.failed {
-            self.failed = true;
-            return Err(io::Error::from(ErrorKind::Other));
-        }
-        self.later.read(buf)
-    }
-}
-
-#[test]
-fn a_failed_read_is_not_tried_again(rt: HostRuntime) {
-    let mut reader = FailsOnce {
-        failed: false,
-        later: Pieced {
-            bytes: b"gc\n",
-            first: 0,
-            step: 3,
-            fails: false,
-        },
-    };
-    let mut out = Vec::new(rt.alloc());
-    let end = converse(&mut reader, &mut out, &mut NoHeap);
-    assert_eq!(rt; end, FirstEnd::ReadFault);
-    assert!(rt; out.is_empty());
-}
-
-#[test]
-fn a_failed_write_or_flush_is_a_fault(rt: HostRuntime) {
-    for (room, flushes, sent) in [
-        (64, 0, "ok\n"),
-        (64, 1, "ok\n! 15\n"),
-        (5, 9, "ok\n! "),
-        (0, 9, ""),
-    ] {
-        let mut reader = Pieced {
-            bytes: b"gc\nput\ngc\nbye\n",
-            first: 0,
-            step: 9,
-            fails: false,
-        };
-        let mut writer = Narrow {
-            taken: Vec::new(rt.alloc()),
-            room,
-            flushes,
-        };
-        let end = converse(&mut reader, &mut writer, &mut NoHeap);
-        assert_eq!(rt; end, FirstEnd::WriteFault, "at {room}");
-        assert_eq!(rt; writer.taken.as_slice(), sent.as_bytes(), "at {room}");
-    }
-}
-
-#[test]
-fn what_carries_out_is_asked_line_by_line(rt: HostRuntime) {
-    let mut reader = Pieced {
-        bytes: b"new -\nnew\nget 1 0\ngc\ngc\nbye\n",
-        first: 0,
-        step: 100,
-        fails: false,
-    };
-    let mut out = Vec::new(rt.alloc());
-    let mut heap = Counting {
-        count: 0,
-        settlings: 0,
-    };
-    let end = converse(&mut reader, &mut out, &mut heap);
-    let Counting { count, settlings } = heap;
-    assert_eq!(rt; end, FirstEnd::WriteFault);
-    assert_eq!(rt; out.as_slice(), b"= 1\n! 15\n= 2\n= 3\n".as_slice());
-    assert_eq!(rt; count, 3);
-    assert_eq!(rt; settlings, 4);
-}
-
-#[test]
-fn each_reply_that_went_out_is_settled(rt: HostRuntime) {
-    for (bytes, room, end, settled) in [
-        ("", 64, FirstEnd::End, 0),
-        ("gc\n", 64, FirstEnd::End, 1),
-        ("\nput\ngc\n", 64, FirstEnd::End, 3),
-        ("gc\nbye\ngc\n", 64, FirstEnd::Bye, 2),
-        ("bye\n", 64, FirstEnd::Bye, 1),
-        ("gc\nbye", 64, FirstEnd::Truncated, 2),
-        ("x", 64, FirstEnd::Truncated, 1),
-        ("gc\nput\ngc\n", 8, FirstEnd::WriteFault, 1),
-        ("gc\nx", 8, FirstEnd::WriteFault, 1),
-        ("bye\n", 2, FirstEnd::WriteFault, 0),
-    ] {
-        let mut reader = Pieced {
-            bytes: bytes.as_bytes(),
-            first: 0,
-            step: 3,
-            fails: false,
-        };
-        let mut writer = Narrow {
-            taken: Vec::new(rt.alloc()),
-            room,
-            flushes: 9,
-        };
-        let mut heap = Counting {
-            count: 0,
-            settlings: 0,
-        };
-        let ended = converse(&mut reader, &mut writer, &mut heap);
-        let Counting {
-            count: _,
-            settlings,
-        } = heap;
-        assert_eq!(rt; ended, end, "at {bytes:?}");
-        assert_eq!(rt; settlings, settled, "at {bytes:?}");
-    }
-}
-
-/// What a session of the heap with 16 cells answers to these commands, which are parted by `; `.
-pub(crate) fn heap_answers(alloc: Global, commands: &str) -> Result<(FirstEnd, Vec<u8>), Fail> {
+/// What a session of the heap with 16 cells answers to these commands, which are parted by `; `. Files and sockets are had without
+/// a fault.
+pub(crate) fn heap_answers(alloc: Global, commands: &str) -> Result<(SessionEnd, Vec<u8>), Fail> {
     aged_answers(alloc, 4, commands)
 }
 
@@ -313,31 +27,53 @@ pub(crate) fn aged_answers(
     alloc: Global,
     soft_age: u32,
     commands: &str,
-) -> Result<(FirstEnd, Vec<u8>), Fail> {
-    let mut bytes = Vec::new(alloc);
-    for command in commands.split_terminator("; ") {
-        bytes.extend_from_slice(command.as_bytes())?;
-        bytes.extend_from_slice(b"\n")?;
-    }
-    let limits = Limits::checked(16, 1, 16, soft_age, 10_000, 64)
-        .ok()
-        .ok_or("limits")?;
-    let mut reader = Pieced {
-        bytes: bytes.as_slice(),
-        first: 0,
-        step: 4_096,
-        fails: false,
-    };
+) -> Result<(SessionEnd, Vec<u8>), Fail> {
+    let mut device = ScriptDevice::new(Vec::new(alloc), 0);
+    device_answers(alloc, limits(16, soft_age)?, commands, &mut device)
+}
+
+/// The limits of a session with 16 cells, and these.
+pub(crate) fn limits(resources: u32, soft_age: u32) -> Result<Limits, Fail> {
+    let limits = Limits::checked(16, 1, resources, soft_age, 10_000, 64);
+    Ok(limits.ok().ok_or("limits")?)
+}
+
+/// What a session of such a heap answers over a device.
+pub(crate) fn device_answers<D: Device>(
+    alloc: Global,
+    limits: Limits,
+    commands: &str,
+    device: &mut D,
+) -> Result<(SessionEnd, Vec<u8>), Fail>
+where
+    D::Res: Drop,
+{
+    let bytes = lines(alloc, commands)?;
+    let mut reader = bytes.as_slice();
     let mut out = Vec::new(alloc);
-    let end = first_run(alloc, limits, &mut reader, &mut out)?;
+    let end = session(alloc, limits, &mut reader, &mut out, device)?;
     Ok((end, out))
 }
 
-/// The reply lines that are parted by `; `.
-pub(crate) fn replies(alloc: Global, answers: &str) -> Result<Vec<u8>, AllocError> {
+/// Checks that a session of the heap ends as its input does, and what it answers.
+pub(crate) fn expect(
+    rt: &impl Abort,
+    alloc: Global,
+    commands: &str,
+    answers: &str,
+) -> Result<(), Fail> {
+    let (end, out) = heap_answers(alloc, commands)?;
+    assert_eq!(rt; end, SessionEnd::End, "at {commands}");
+    let expected = lines(alloc, answers)?;
+    assert_eq!(rt; out.as_slice(), expected.as_slice(), "at {commands}");
+    Ok(())
+}
+
+/// The lines that are parted by `; `.
+pub(crate) fn lines(alloc: Global, text: &str) -> Result<Vec<u8>, AllocError> {
     let mut bytes = Vec::new(alloc);
-    for answer in answers.split_terminator("; ") {
-        bytes.extend_from_slice(answer.as_bytes())?;
+    for line in text.split_terminator("; ") {
+        bytes.extend_from_slice(line.as_bytes())?;
         bytes.extend_from_slice(b"\n")?;
     }
     Ok(bytes)
@@ -365,8 +101,8 @@ fn the_heap_answers_short_sessions(rt: HostRuntime) -> Result<(), Fail> {
         ),
     ] {
         let (end, out) = heap_answers(rt.alloc(), commands)?;
-        assert_eq!(rt; end, FirstEnd::End, "at {commands}");
-        let expected = replies(rt.alloc(), answers)?;
+        assert_eq!(rt; end, SessionEnd::End, "at {commands}");
+        let expected = lines(rt.alloc(), answers)?;
         assert_eq!(rt; out.as_slice(), expected.as_slice(), "at {commands}");
     }
     Ok(())
@@ -383,8 +119,8 @@ fn a_heap_of_sixteen_cells_is_full_and_has_room_again(rt: HostRuntime) -> Result
     commands.push_str("new -; drop 1; new -; bye")?;
     answers.push_str("! 2; ok; = 1; ok")?;
     let (end, out) = heap_answers(rt.alloc(), commands.as_str())?;
-    assert_eq!(rt; end, FirstEnd::Bye);
-    let expected = replies(rt.alloc(), answers.as_str())?;
+    assert_eq!(rt; end, SessionEnd::Bye);
+    let expected = lines(rt.alloc(), answers.as_str())?;
     assert_eq!(rt; out.as_slice(), expected.as_slice());
     Ok(())
 }
@@ -402,8 +138,8 @@ fn two_hundred_and_fifty_handles_are_in_use(rt: HostRuntime) -> Result<(), Fail>
     commands.push_str("dup 1; new -; weak 1 0; same 1 250")?;
     answers.push_str("! 4; ! 4; ! 4; yes")?;
     let (end, out) = heap_answers(rt.alloc(), commands.as_str())?;
-    assert_eq!(rt; end, FirstEnd::End);
-    let expected = replies(rt.alloc(), answers.as_str())?;
+    assert_eq!(rt; end, SessionEnd::End);
+    let expected = lines(rt.alloc(), answers.as_str())?;
     assert_eq!(rt; out.as_slice(), expected.as_slice());
     Ok(())
 }

@@ -1,26 +1,21 @@
--- Enqueueing, polling and handing over, as the machine has them.
-use Rattle.std.proofs.Common.{◌≡◌, ◌≢◌, ℕ, Bool, true, false, cond, List, [], ◌∷◌, ◌++◌, drop, Option, Some, None, option_and_then, IsTrue, refl, sym, ap, ◌∙◌, subst}
-use Rattle.std.specs.Prelude.{option_map, slice_get}
+-- Enqueueing and polling, as the machine has them.
+use Rattle.std.proofs.Common.{◌≡◌, ◌≢◌, ℕ, true, false, cond, List, [], ◌∷◌, ◌++◌, Option, Some, None, option_and_then, refl, sym, ap, ◌∙◌}
+use Rattle.std.specs.Prelude.{slice_get}
 use Rattle.std.proofs.lemmas.Bool.{both_ways}
 use Rattle.jlr_machine.specs.declared.machine.Machine.{Machine}
 use Rattle.jlr_machine.specs.declared.object.Object.{Object}
 use Rattle.jlr_machine.specs.declared.object.Object.TheVariants.{Plain, Reference, Queue, Cleaner, Cleanable, Guard}
 use Rattle.jlr_machine.specs.declared.object.Reference.{Reference as ReferenceOf}
-use Rattle.jlr_machine.specs.declared.object.RefState.{RefState}
-use Rattle.jlr_machine.specs.declared.object.RefState.TheVariants.{Fresh, Pending, Queued, Removed}
-use Rattle.jlr_machine.specs.declared.ask.Handed.TheVariants.{Queued as HandedQueued}
-use Rattle.jlr_machine.specs.declared.ask.Answer.TheVariants.{Handed as HandedAnswer}
+use Rattle.jlr_machine.specs.declared.object.RefState.TheVariants.{Queued}
 use Rattle.jlr_machine.specs.Objects.{◌∈◌, Heap, at, as_members, as_reference, change_at, queue_ahead, some_and, with_members, with_reference, is_unqueued}
-use Rattle.jlr_machine.specs.Refusals.{front, is_queue, is_reference}
-use Rattle.jlr_machine.specs.Calls.{delivered, enqueued, hand_over_answer, handed, handed_over, handed_reference, to_queue, unreferred}
-use Rattle.jlr_machine.specs.Lookups.{with_object}
-use Rattle.jlr_machine.specs.WellFormed.{IsWellFormed}
+use Rattle.jlr_machine.specs.Refusals.{is_queue, is_reference}
+use Rattle.jlr_machine.specs.Calls.{enqueued, to_queue, unreferred}
 use Rattle.jlr_cells.specs.Contents.{in_state, member_in, unregistered}
 use Rattle.jlr_laws.proofs.Frames.{is_queue_there, is_reference_there, no_some, some_same}
 use Rattle.jlr_laws.proofs.Sets.{in_front}
-use Rattle.jlr_barrier.specs.Graphs.{Graph, in_machine, with_objects, with_pending}
-use Rattle.jlr_refs.specs.Parts.{IsFit, Enqueues, is_pending, is_pending_state, reference_at}
-use Rattle.jlr_refs.proofs.Changing.{apart, change_alike, change_apart, change_other, change_twice}
+use Rattle.jlr_barrier.specs.Graphs.{Graph, in_machine, with_objects}
+use Rattle.jlr_refs.specs.Parts.{IsFit, reference_at}
+use Rattle.jlr_refs.proofs.Changing.{apart, change_alike, change_apart, change_twice}
 
 -- ---- What the state of a well-formed machine says
 
@@ -93,49 +88,3 @@ pub enqueued_nowhere :
     (m : Machine) (g d : Graph) (s : ℕ) → option_and_then queue_ahead (reference_at g.objects s) ≡ None → d ≡ with_objects g (change_at g.objects s (with_reference unreferred)) → in_machine m d ≡ enqueued (in_machine m g) s
 enqueued_nowhere m g d s none ed =
     ap (in_machine m) ed ∙ ap (to_queue (in_machine m (with_objects g (change_at g.objects s (with_reference unreferred)))) s) (sym none)
-
--- ---- Handing over
-
-to_queue_pending : (m : Machine) (s : ℕ) (q : Option ℕ) → (to_queue m s q).pending ≡ m.pending
-to_queue_pending m s None = refl
-to_queue_pending m s (Some q) = refl
-
-to_queue_apart : (m : Machine) (s : ℕ) (q : Option ℕ) (l : List ℕ) → to_queue (record m { pending = l }) s q ≡ record (to_queue m s q) { pending = l }
-to_queue_apart m s None l = refl
-to_queue_apart m s (Some q) l = refl
-
-state_gives : (state : RefState) → is_pending_state state ≡ true → state ≡ Pending
-state_gives Fresh h = absurd (both_ways false refl h)
-state_gives Pending h = refl
-state_gives Queued h = absurd (both_ways false refl h)
-state_gives Removed h = absurd (both_ways false refl h)
-
-pending_gives : (o : Option ReferenceOf) → some_and is_pending o ≡ true → (r : ReferenceOf) × (o ≡ Some r) × (r.state ≡ Pending)
-pending_gives None h = absurd (both_ways false refl h)
-pending_gives (Some r) h = (r, refl, state_gives r.state h)
-
--- the front of the list and the rest
-split : (l : List ℕ) (s : ℕ) → slice_get l 0 ≡ Some s → l ≡ s ∷ drop 1 l
-split [] s h = no_some s h
-split (x ∷ l) s h = ap (λ y. y ∷ l) (some_same x s h)
-
-pub handed_to_queue :
-    (g h k : Graph) (s : ℕ) → slice_get g.pending 0 ≡ Some s → some_and is_pending (reference_at g.objects s) ≡ true → Enqueues g s h → k ≡ with_pending h (drop 1 h.pending)
-    → (m : Machine) → (hand_over_answer (in_machine m g) g.pending ≡ Some (HandedAnswer HandedQueued)) × (in_machine m k ≡ handed_over (in_machine m g) g.pending)
-handed_to_queue g h k s first pending enqueues taken m =
-    let r = pending_gives (reference_at g.objects s) pending in
-    let there : at g.objects s ≡ Some (Reference r.0) = is_reference_there (at g.objects s) r.0 r.1 in
-    let list = split g.pending s first in
-    let M : Machine = in_machine m g in
-    let rest : List ℕ = drop 1 g.pending in
-    let ahead = option_and_then queue_ahead (reference_at g.objects s) in
-    let on_pending : h.pending ≡ g.pending = ap (λ (x : Machine). x.pending) (enqueues m) ∙ to_queue_pending (with_object M s (with_reference unreferred)) s ahead in (
-      ap (hand_over_answer M) list ∙ ap (option_map (λ o. HandedAnswer (handed o))) there ∙ ap (λ x. Some (HandedAnswer (handed_reference x))) r.2,
-      ap (in_machine m) taken
-          ∙ ap (λ l. record (in_machine m h) { pending = drop 1 l }) on_pending
-          ∙ ap (λ (x : Machine). record x { pending = rest }) (enqueues m)
-          ∙ sym (to_queue_apart (with_object M s (with_reference unreferred)) s ahead rest)
-          ∙ ap (λ x. delivered (record M { pending = rest }) s (handed_reference x)) (sym r.2)
-          ∙ ap (λ o. elim o [ None ↦ record M { pending = rest } | Some p ↦ delivered (record M { pending = rest }) s (handed p) ]) (sym there)
-          ∙ ap (handed_over M) (sym list),
-    )

@@ -1,16 +1,23 @@
-//! The handler's step: what is pending is handed over to its queue.
-ghost use Rattle.std.specs.Prelude.{◌≡◌, IfOk, OnErr};
-ghost use Rattle.jlr_refs.specs.Parts.{HandsOver, IsFit, is_pending};
-ghost use Rattle.jlr_machine.specs.Objects.{some_and};
+//! The handler's step: what is pending is handed over, a reference to its queue, and a cleanable to the line.
+ghost use Rattle.std.specs.Prelude.{◌≡◌, ◌++◌, ◌∷◌, ◌<◌, [], IfOk, IsTrue, OnErr, length};
+ghost use Rattle.jlr_machine.specs.declared.object.CleanState.TheVariants as state;
+ghost use Rattle.jlr_machine.specs.Objects.{at, change_at, some_and, with_cleanable};
+ghost use Rattle.jlr_machine.specs.Refusals.{is_cleanable};
+ghost use Rattle.jlr_machine.specs.Calls.{handed_cleanable, handed_reference};
+ghost use Rattle.jlr_cells.specs.Contents.{in_clean_state};
+ghost use Rattle.jlr_barrier.specs.Graphs.{with_line, with_objects};
+ghost use Rattle.jlr_refs.specs.Parts.{Delivers, HandsOver, IsFit, handed_there};
 
 use crate::references::enqueue;
 use jlr_barrier::Heap;
 use jlr_machine::ask::Handed;
-use jlr_machine::object::{RefState, Reference};
+use jlr_machine::object::{CleanState, RefState};
+use jlr_types::Slot;
 use std::alloc::AllocError;
 
-/// The front of the pending list leaves it. A Pending reference goes to the end of its queue; one that the program enqueued in
-/// the meantime is skipped. Nothing is handed over where the list is empty.
+/// The front of the pending list leaves it. A Pending reference goes to the end of its queue, and a Pending cleanable, which is
+/// Lined then, to the end of the line. A reference that the program enqueued in the meantime is skipped, and so is a cleanable
+/// that it cleaned. Nothing is handed over where the list is empty.
 ///
 /// # Errors
 /// `AllocError` where the queue cannot grow. Nothing has changed then.
@@ -23,22 +30,68 @@ pub fn hand_over(heap: &mut Heap) -> Result<Handed, AllocError>
     let Some(slot) = heap.first_pending() else {
         return Ok(Handed::Nothing);
     };
-    heap.kinds_are_known();
-    if is_pending(heap.reference(slot)) {
-        let _added = enqueue(heap, slot)?;
-        heap.take_pending();
-        Ok(Handed::Queued)
-    } else {
-        heap.take_pending();
-        Ok(Handed::Skipped)
+    let handed = handed_at(heap, slot);
+    deliver(heap, slot, handed)?;
+    heap.take_pending();
+    Ok(handed)
+}
+
+/// Where the handler takes what is at a slot.
+fn handed_at(heap: &Heap, slot: Slot) -> Handed
+    ensures { result ≡ handed_there (at heap.now.graph.objects slot) }
+{
+    if let Some(reference) = heap.reference(slot) {
+        return handed_reference(reference.state);
+    }
+    if let Some(cleanable) = heap.cleanable(slot) {
+        return handed_cleanable(cleanable.state);
+    }
+    Handed::Skipped
+}
+
+fn handed_reference(state: RefState) -> Handed
+    ensures { result ≡ handed_reference state }
+{
+    match state {
+        RefState::Pending => Handed::Queued,
+        RefState::Fresh | RefState::Queued | RefState::Removed => Handed::Skipped,
     }
 }
 
-fn is_pending(reference: Option<Reference>) -> bool
-    ensures { result ≡ some_and is_pending reference }
+fn handed_cleanable(state: CleanState) -> Handed
+    ensures { result ≡ handed_cleanable state }
 {
-    match reference {
-        Some(found) => found.state == RefState::Pending,
-        None => false,
+    match state {
+        CleanState::Pending => Handed::Lined,
+        CleanState::Armed | CleanState::Lined | CleanState::Spent => Handed::Skipped,
     }
+}
+
+/// Takes what is at a slot there.
+fn deliver(heap: &mut Heap, slot: Slot, handed: Handed) -> Result<(), AllocError>
+    requires fit { IsFit heap.old.graph }
+    requires handed { handed ≡ handed_there (at heap.old.graph.objects slot) }
+    ensures delivered { IfOk result (λ _. Delivers heap.old.graph slot handed heap.new.graph) }
+    ensures err { OnErr result (heap.new.graph ≡ heap.old.graph) }
+    ensures clock { heap.new.clock ≡ heap.old.clock }
+{
+    match handed {
+        Handed::Queued => {
+            let _added = enqueue(heap, slot)?;
+        }
+        Handed::Lined => line_up(heap, slot),
+        Handed::Skipped | Handed::Nothing => {}
+    }
+    Ok(())
+}
+
+/// A cleanable is Lined, and goes to the end of the line.
+pub(crate) fn line_up(heap: &mut Heap, slot: Slot)
+    requires cleanable { IsTrue (some_and is_cleanable (at heap.old.graph.objects slot)) }
+    requires room { length heap.old.graph.line < length heap.old.graph.objects }
+    ensures graph { heap.new.graph ≡ with_line (with_objects heap.old.graph (change_at heap.old.graph.objects slot (with_cleanable (in_clean_state state.Lined)))) (heap.old.graph.line ++ slot ∷ []) }
+    ensures clock { heap.new.clock ≡ heap.old.clock }
+{
+    heap.set_clean_state(slot, CleanState::Lined);
+    heap.add_lined(slot);
 }

@@ -1,5 +1,5 @@
 //! The rows of the table of a reference's states, at concrete values, as far as no well-formed machine has to be shown. The rows of
-//! `enqueue`, `poll` and the handler's step are run above, where one is.
+//! `enqueue`, `poll` and the handler's step on references are run above, where one is.
 use crate::references::{clear, get, is_enqueued, new_queue, new_reference, refers_to};
 use jlr_barrier::Heap;
 use jlr_cells::Shape;

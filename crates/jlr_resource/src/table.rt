@@ -1,5 +1,5 @@
 //! The table of resources.
-ghost use Rattle.std.specs.Prelude.{◌≡◌, ◌≢◌, ℕ, ◌≤◌, ◌<◌, ◌+◌, ◌^◌, ◌∷◌, ◌++◌, ◌↔◌, ◌⊎◌, [], length, nat_le, Some, None, Err, IfOk, IfErr, OnErr, IsSome};
+ghost use Rattle.std.specs.Prelude.{◌≡◌, ◌≢◌, ℕ, ◌≤◌, ◌<◌, ◌+◌, ◌^◌, ◌∷◌, ◌++◌, ◌↔◌, ◌⊎◌, [], length, nat_le, Some, None, Err, IfOk, IfErr, OnErr, OnOk, IsSome};
 ghost use Rattle.std.specs.Option.{option_to_list};
 ghost use Rattle.std.specs.List.Sorted.{IsPermutation};
 ghost use Rattle.jlr_machine.specs.Lookups.{with_resource};
@@ -53,6 +53,13 @@ impl<R> Table<R> {
         self.places.len()
     }
 
+    /// How many resources the table may hold.
+    pub fn limit(&self) -> u32
+        ensures { result ≡ self.now.limit }
+    {
+        self.limit
+    }
+
     /// Whether as many resources are open as the table may hold.
     pub fn is_full(&self) -> bool
         ensures { result ≡ nat_le self.now.limit (length (resources self.now)) }
@@ -65,6 +72,20 @@ impl<R> Table<R> {
         ensures { result ≡ state_at self.now rid }
     {
         state(&self.places, rid)
+    }
+
+    /// Makes room for one resource more: then a `prepare` finds memory.
+    ///
+    /// # Errors
+    /// `NoMemory` where there is none, also where the next place has no number below 2^32. Nothing has changed then but the room.
+    pub fn reserve(&mut self) -> Result<(), Refusal>
+        ensures room { OnOk result (length (resources self.new) < self.new.room) }
+        ensures next { OnOk result (self.new.next < 2 ^ 32) }
+        ensures refused { IfErr result (λ r. r ≡ Refusal.NoMemory) }
+        ensures grows { self.old.room ≤ self.new.room }
+        ensures rest { self.new ≡ record self.old { room = self.new.room } }
+    {
+        make_room(&mut self.places)
     }
 
     /// A resource is about to be opened, for this cleaning action. It is Opening, at a Rid that no resource has.
@@ -211,6 +232,23 @@ fn images<R>(alloc: Global, places: &Slab<Place<R>>) -> Result<Vec<Resource>, Al
         })?;
     }
     Ok(items)
+}
+
+/// Makes room for one more place, whose number is below 2^32.
+fn make_room<R>(places: &mut Slab<Place<R>>) -> Result<(), Refusal>
+    requires { AreRids places.old }
+    ensures rids { AreRids places.new }
+    ensures room { OnOk result (length (resources_in (held_by places.new)) < places.new.capacity) }
+    ensures next { OnOk result (places.new.vacant_key < 2 ^ 32) }
+    ensures refused { IfErr result (λ r. r ≡ Refusal.NoMemory) }
+    ensures grows { places.old.capacity ≤ places.new.capacity }
+    ensures held { held_by places.new ≡ held_by places.old }
+    ensures same_next { places.new.vacant_key ≡ places.old.vacant_key }
+{
+    if places.reserve(1).is_err() || places.vacant_key() > u32::MAX as usize {
+        return Err(Refusal::NoMemory);
+    }
+    Ok(())
 }
 
 /// Takes the next place, if it can be had and its number is below 2^32.

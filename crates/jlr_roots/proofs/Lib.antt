@@ -1,4 +1,4 @@
 mod Lowest
 mod Members
 mod Walking
-mod Idle
+pub mod Bindings

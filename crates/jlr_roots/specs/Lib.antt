@@ -1,4 +1,5 @@
--- Tables of handles, the sessions of members, and the walk over all places.
+-- Tables of handles, the sessions of members, the walk over all places, and the names.
 pub mod HandleTable
 pub mod Sessions
 pub mod Walk
+pub mod Naming

@@ -1,20 +1,27 @@
 //! One mutator that may join.
-ghost use Rattle.std.specs.Prelude.{◌≡◌, IfOk, IfNone, IfSome, IsTrue, Some, false, is_some, option_and_then, option_map};
+ghost use Rattle.std.specs.Prelude.{◌≡◌, ◌<◌, IfOk, IfNone, IfSome, IsTrue, Some, false, is_some, option_and_then, option_map};
 ghost use Rattle.jlr_machine.specs.Objects.{at, some_and};
 ghost use Rattle.jlr_machine.specs.Calls.{fresh_session};
+ghost use Rattle.jlr_machine.specs.Refusals.{is_in_flight};
 ghost use Rattle.jlr_roots.specs.HandleTable.{IsHandleTable, has_room};
-ghost use Rattle.jlr_roots.specs.Sessions.{absent, lowest_in, session_in, with_slot, without_handle};
+ghost use Rattle.jlr_roots.specs.Sessions.{absent, lowest_in, session_in, with_call, with_slot, without_handle};
+ghost use Rattle.jlr_roots.specs.Walk.{slot_at};
 
 use crate::handles::Handles;
 use jlr_machine::machine::{Call, Session};
 use jlr_types::{Handle, Slot};
 use std::alloc::{AllocError, Global};
 
-/// A mutator, joined or not, with its handles.
+/// The place after the handles' is the fence's.
+const FENCE_PLACE: usize = 251;
+
+/// A mutator, joined or not, with its handles, its call and the fence of that call.
 #[derive(Drop)]
 pub(crate) struct Member {
     joined: bool,
     handles: Handles,
+    fence: Option<Slot>,
+    call: Call,
 }
 
 impl Member {
@@ -24,15 +31,19 @@ impl Member {
         Ok(Member {
             joined: false,
             handles: Handles::new(alloc)?,
+            fence: None,
+            call: Call::Free,
         })
     }
 
-    /// It holds nothing yet.
+    /// It holds nothing yet, and has no call.
     pub(crate) fn join(&mut self)
         ensures session { session_in self.new ≡ Some fresh_session }
         ensures table { IsHandleTable self.new.handles }
     {
         self.handles.clear();
+        self.fence = None;
+        self.call = Call::Free;
         self.joined = true;
     }
 
@@ -57,8 +68,8 @@ impl Member {
         }
         Ok(Some(Session {
             handles: self.handles.image(alloc)?,
-            fence: None,
-            call: Call::Free,
+            fence: self.fence,
+            call: self.call,
         }))
     }
 
@@ -95,5 +106,51 @@ impl Member {
         ensures table { IsHandleTable self.new.handles }
     {
         self.handles.remove(handle);
+    }
+
+    pub(crate) fn call(&self) -> Option<Call>
+        ensures { result ≡ option_map (λ s. s.call) (session_in self.now) }
+    {
+        if self.joined { Some(self.call) } else { None }
+    }
+
+    pub(crate) fn fence(&self) -> Option<Slot>
+        ensures { result ≡ option_and_then (λ s. s.fence) (session_in self.now) }
+    {
+        if self.joined { self.fence } else { None }
+    }
+
+    pub(crate) fn has_call(&self) -> bool
+        ensures { result ≡ some_and (λ s. is_in_flight s.call) (session_in self.now) }
+    {
+        self.joined && is_in_flight(self.call)
+    }
+
+    pub(crate) fn set_call(&mut self, fence: Option<Slot>, call: Call)
+        ensures session { session_in self.new ≡ option_map (with_call fence call) (session_in self.old) }
+        ensures handles { self.new.handles ≡ self.old.handles }
+    {
+        self.fence = fence;
+        self.call = call;
+    }
+
+    /// The slot at a place, if there is one.
+    pub(crate) fn root(&self, place: usize) -> Option<Slot>
+        requires { place < 252 }
+        ensures { result ≡ option_and_then (slot_at place) (session_in self.now) }
+    {
+        if place == FENCE_PLACE {
+            return self.fence();
+        }
+        self.lookup(Handle::new(place as u8))
+    }
+}
+
+fn is_in_flight(call: Call) -> bool
+    ensures { result ≡ is_in_flight call }
+{
+    match call {
+        Call::Free => false,
+        Call::Opening(_) | Call::Out(_) | Call::Job(_) => true,
     }
 }

@@ -1,20 +1,20 @@
 //! The roots that all mutators hold.
-ghost use Rattle.std.specs.Prelude.{◌≡◌, ℕ, ◌*◌, ◌<◌, IfOk, IfNone, IfSome, IsTrue, None, Some, is_some, length, option_map, replicate};
-ghost use Rattle.jlr_machine.specs.declared.machine.Session.{Session};
+ghost use Rattle.std.specs.Prelude.{◌≡◌, ◌*◌, ◌<◌, IfOk, IfNone, IfSome, IsTrue, None, is_some, length, option_and_then, option_map, replicate};
 ghost use Rattle.jlr_machine.specs.declared.machine.Call.TheVariants.{Free};
 ghost use Rattle.jlr_machine.specs.Objects.{at, change_at, empty_at, set_at};
 ghost use Rattle.jlr_machine.specs.Calls.{fresh_session};
-ghost use Rattle.jlr_roots.specs.Sessions.{free_handle, has_free_handle, sessions_in, slot_held, with_slot, without_handle};
-ghost use Rattle.jlr_roots.specs.Walk.{root_at, slots_held, walked};
+ghost use Rattle.jlr_roots.specs.Sessions.{free_handle, has_call, has_free_handle, sessions_in, slot_held, with_call, with_slot, without_handle};
+ghost use Rattle.jlr_roots.specs.Walk.{root_at, slot_at, slots_held, walked};
 
 use crate::member::Member;
-use jlr_machine::machine::Session;
+use jlr_machine::machine::{Call, Session};
 use jlr_machine::table::Table;
 use jlr_types::{Handle, Mutator, Slot};
 use std::alloc::{AllocError, Global};
 use std::marker::Model;
 
-const PLACES: usize = 251;
+/// The places of one mutator: its handles', and its fence's.
+const PLACES: usize = 252;
 
 /// The roots that mutators hold, by mutator.
 #[derive(Drop)]
@@ -64,14 +64,7 @@ impl Roots {
         }
     }
 
-    /// No mutator has a call in flight, or a fence: calls come later.
-    pub fn no_calls(&self)
-        ensures { (k : ℕ) (s : Session) → at self.now k ≡ Some s → (s.call ≡ Free) × (s.fence ≡ None) }
-    {
-        members_are_idle(&self.members);
-    }
-
-    /// A mutator joins, with no handle in use.
+    /// A mutator joins, with no handle in use and no call.
     pub fn join(&mut self, mutator: Mutator)
         requires in_range { mutator < length self.old }
         requires absent { at self.old mutator ≡ None }
@@ -81,7 +74,7 @@ impl Roots {
         member.join();
     }
 
-    /// A mutator leaves, and its handles hold nothing any more.
+    /// A mutator leaves. Its handles and its fence hold nothing any more.
     pub fn leave(&mut self, mutator: Mutator)
         requires { IsTrue (is_some (at self.old mutator)) }
         ensures { self.new ≡ empty_at self.old mutator }
@@ -128,6 +121,53 @@ impl Roots {
         lookup(&self.members, mutator.number() as usize, handle)
     }
 
+    /// What a mutator is in the middle of, if it is joined.
+    pub fn call(&self, mutator: Mutator) -> Option<Call>
+        ensures { result ≡ option_map (λ s. s.call) (at self.now mutator) }
+    {
+        match self.members.get(mutator.number() as usize) {
+            Some(member) => member.call(),
+            None => None,
+        }
+    }
+
+    /// The slot that the call of a mutator holds, if the mutator is joined and has a fence.
+    pub fn fence(&self, mutator: Mutator) -> Option<Slot>
+        ensures { result ≡ option_and_then (λ s. s.fence) (at self.now mutator) }
+    {
+        match self.members.get(mutator.number() as usize) {
+            Some(member) => member.fence(),
+            None => None,
+        }
+    }
+
+    /// Whether a mutator is joined and has a call in flight.
+    pub fn has_call(&self, mutator: Mutator) -> bool
+        ensures { result ≡ has_call self.now mutator }
+    {
+        match self.members.get(mutator.number() as usize) {
+            Some(member) => member.has_call(),
+            None => false,
+        }
+    }
+
+    /// A mutator begins a call, which holds the slot of its fence.
+    pub fn begin_call(&mut self, mutator: Mutator, fence: Option<Slot>, call: Call)
+        requires { IsTrue (is_some (at self.old mutator)) }
+        ensures { self.new ≡ change_at self.old mutator (with_call fence call) }
+    {
+        let member = &mut self.members[mutator.number() as usize];
+        member.set_call(fence, call);
+    }
+
+    /// A mutator's call ends, and its fence with it.
+    pub fn end_call(&mut self, mutator: Mutator)
+        requires { IsTrue (is_some (at self.old mutator)) }
+        ensures { self.new ≡ change_at self.old mutator (with_call None Free) }
+    {
+        self.begin_call(mutator, None, Call::Free);
+    }
+
     /// The sessions as plain data.
     ///
     /// # Errors
@@ -140,7 +180,7 @@ impl Roots {
 
     /// How many places there are. At those below, in order, are just the roots that mutators hold.
     pub fn places(&self) -> usize
-        ensures count { result ≡ 251 * length self.now }
+        ensures count { result ≡ 252 * length self.now }
         ensures walk { walked self.now result ≡ slots_held self.now }
     {
         PLACES * self.members.len()
@@ -150,19 +190,8 @@ impl Roots {
     pub fn root(&self, place: usize) -> Option<Slot>
         ensures { result ≡ root_at self.now place }
     {
-        lookup(
-            &self.members,
-            place / PLACES,
-            Handle::new((place % PLACES) as u8),
-        )
+        root(&self.members, place / PLACES, place % PLACES)
     }
-}
-
-/// Members have no call in flight.
-fn members_are_idle(members: &[Member])
-    ensures { (k : ℕ) (s : Session) → at (sessions_in members.now) k ≡ Some s → (s.call ≡ Free) × (s.fence ≡ None) }
-{
-    let _ = members;
 }
 
 fn images(alloc: Global, members: &[Member]) -> Result<Vec<Option<Session>>, AllocError>
@@ -184,9 +213,20 @@ fn lookup(members: &[Member], mutator: usize, handle: Handle) -> Option<Slot>
     }
 }
 
+fn root(members: &[Member], mutator: usize, place: usize) -> Option<Slot>
+    requires { place < 252 }
+    ensures { result ≡ option_and_then (slot_at place) (at (sessions_in members.now) mutator) }
+{
+    match members.get(mutator) {
+        Some(member) => member.root(place),
+        None => None,
+    }
+}
+
 #[cfg(test)]
 mod tests {
     use super::*;
+    use jlr_types::{ActionNo, Rid};
     use std::test::Fail;
 
     #[test]
@@ -229,21 +269,95 @@ mod tests {
             assert!(rt; roots.is_joined(mutator));
             assert!(rt; roots.put_handle(mutator, Slot::new(slot)).is_some());
         }
-        assert_eq!(rt; roots.places(), 753);
+        assert_eq!(rt; roots.places(), 756);
         assert_eq!(rt; roots.root(0), None);
         assert_eq!(rt; roots.root(1), Some(Slot::new(10)));
         assert_eq!(rt; roots.root(2), Some(Slot::new(11)));
-        assert_eq!(rt; roots.root(502), None);
-        assert_eq!(rt; roots.root(503), Some(Slot::new(30)));
+        assert_eq!(rt; roots.root(504), None);
+        assert_eq!(rt; roots.root(505), Some(Slot::new(30)));
 
         assert!(rt; roots.is_joined(first));
         roots.leave(first);
         assert!(rt; !roots.is_joined(first));
         assert_eq!(rt; roots.root(1), None);
-        assert_eq!(rt; roots.root(503), Some(Slot::new(30)));
+        assert_eq!(rt; roots.root(505), Some(Slot::new(30)));
         assert!(rt; roots.mutator_count() == 3 && !roots.is_joined(first));
         roots.join(first);
         assert_eq!(rt; roots.root(1), None);
+        Ok(())
+    }
+
+    #[test]
+    fn a_call_begins_and_ends(rt: HostRuntime) -> Result<(), Fail> {
+        let mut roots = Roots::new(rt.alloc(), 2)?;
+        let mutator = Mutator::new(1);
+        assert_eq!(rt; roots.call(mutator), None);
+        assert!(rt; roots.mutator_count() == 2 && !roots.is_joined(mutator));
+        roots.join(mutator);
+        assert_eq!(rt; roots.call(mutator), Some(Call::Free));
+        let calls = [
+            Call::Opening(Rid::new(5)),
+            Call::Out(Rid::new(5)),
+            Call::Job(ActionNo::new(9)),
+        ];
+        for call in calls {
+            assert!(rt; roots.is_joined(mutator) && !roots.has_call(mutator));
+            roots.begin_call(mutator, None, call);
+            assert_eq!(rt; roots.call(mutator), Some(call));
+            assert_eq!(rt; roots.call(Mutator::new(0)), None);
+            assert!(rt; roots.is_joined(mutator) && roots.has_call(mutator));
+            roots.end_call(mutator);
+            assert_eq!(rt; roots.call(mutator), Some(Call::Free));
+        }
+        Ok(())
+    }
+
+    #[test]
+    fn a_fence_is_a_root_until_the_call_ends(rt: HostRuntime) -> Result<(), Fail> {
+        let mut roots = Roots::new(rt.alloc(), 2)?;
+        let (mutator, guard) = (Mutator::new(1), Slot::new(7));
+        assert!(rt; roots.mutator_count() == 2 && !roots.is_joined(mutator));
+        roots.join(mutator);
+        assert!(rt; roots.is_joined(mutator));
+        roots.begin_call(mutator, Some(guard), Call::Out(Rid::new(5)));
+        assert_eq!(rt; roots.places(), 504);
+        assert_eq!(rt;
+            (roots.fence(mutator), roots.root(503)),
+            (Some(guard), Some(guard))
+        );
+        assert_eq!(rt;
+            (roots.fence(Mutator::new(0)), roots.root(251)),
+            (None, None)
+        );
+        let image = roots.image(rt.alloc())?;
+        assert!(rt;
+            image
+                .get(1)
+                .is_some_and(|session| session.fence == Some(Slot::new(7)))
+        );
+        assert!(rt; roots.is_joined(mutator));
+        roots.end_call(mutator);
+        assert_eq!(rt; (roots.fence(mutator), roots.root(503)), (None, None));
+        Ok(())
+    }
+
+    #[test]
+    fn who_leaves_and_joins_again_is_in_no_call(rt: HostRuntime) -> Result<(), Fail> {
+        let mut roots = Roots::new(rt.alloc(), 1)?;
+        let mutator = Mutator::new(0);
+        for _ in 0u8..2 {
+            assert!(rt; roots.mutator_count() == 1 && !roots.is_joined(mutator));
+            roots.join(mutator);
+            assert_eq!(rt;
+                (roots.call(mutator), roots.fence(mutator)),
+                (Some(Call::Free), None)
+            );
+            assert!(rt; roots.is_joined(mutator));
+            roots.begin_call(mutator, Some(Slot::new(7)), Call::Out(Rid::new(5)));
+            assert!(rt; roots.is_joined(mutator));
+            roots.leave(mutator);
+            assert_eq!(rt; (roots.call(mutator), roots.root(251)), (None, None));
+        }
         Ok(())
     }
 }

@@ -1,5 +1,5 @@
 -- What the marked objects are: what a full collection under the policy keeps.
-use Rattle.std.proofs.Common.{◌≡◌, ◌+◌, ◌++◌, not, ℕ, ◌<◌, ◌↔◌, Bool, true, false, List, [], length, Option, Some, None, option_and_then, IsTrue, is_some, refl, sym, ◌∙◌, ap, subst, inl, inr, arith}
+use Rattle.std.proofs.Common.{◌≡◌, ◌++◌, ℕ, ◌↔◌, Bool, List, [], length, IsTrue, is_some, refl, sym, ◌∙◌, ap, subst, inl, inr, arith}
 use Rattle.jlr_machine.specs.declared.machine.Machine.{Machine}
 use Rattle.jlr_machine.specs.Objects.{at, ◌∈◌, ◌∋◌}
 use Rattle.jlr_machine.specs.Edges.{edges_from, roots}
@@ -9,14 +9,16 @@ use Rattle.jlr_soft.specs.declared.policy.Mode.TheVariants.{ClearAll}
 use Rattle.jlr_machine.specs.Choices.{Choosing, kept_by, pended_by}
 use Rattle.jlr_machine.specs.Collection.{IsFullClearing}
 use Rattle.jlr_machine.specs.WellFormed.{IsWellFormed}
-use Rattle.jlr_roots.specs.Walk.{slots_held}
+use Rattle.jlr_roots.specs.Walk.{slots_held, slots_of}
 use Rattle.jlr_laws.specs.Laws.{IsLeast, IsMarked as IsMarkedBy, IsWithinHeap}
-use Rattle.jlr_laws.proofs.Clearing.{edge_gives, edge_from, in_append}
-use Rattle.jlr_laws.proofs.Frames.{in_sessions, IsRoot, in_places, root_from}
-use Rattle.jlr_laws.proofs.Frames.IsRoot.{held as by_handle, waiting}
+use Rattle.jlr_laws.proofs.Clearing.{edge_gives, edge_from, in_append, in_option}
+use Rattle.jlr_laws.proofs.Frames.{in_sessions, in_places, root_from}
+use Rattle.jlr_barrier.proofs.Held.{held_cases}
+use Rattle.jlr_barrier.proofs.OwnRoots.{active_gives}
+use Rattle.jlr_laws.proofs.Frames.IsRoot.{lining, active, held as by_handle, fencing, named as by_name, waiting}
 use Rattle.jlr_laws.proofs.Empty.{well_formed_within}
 use Rattle.jlr_laws.proofs.LawProofs.{comes_down_to_cutting_off, keeping_none_makes_clearing, policy_makes_full}
-use Rattle.std.proofs.Common.{filter_map}
+use Rattle.std.proofs.Common.{filter_map, option_to_list}
 use Rattle.jlr_barrier.specs.Graphs.{Clock, Graph, held, in_machine}
 use Rattle.jlr_barrier.specs.Marking.{Marking, IsMarked, is_marked}
 use Rattle.jlr_process.specs.Settling.{marked_below}
@@ -32,11 +34,18 @@ module _ (f : Machine) (g : Graph) (rooted : IsRooted f g) where
 
   -- ---- What is held is a root
 
+  session_root : (s : ℕ) → s ∈ slots_held g.mutators → s ∈ roots m
+  session_root s a =
+      let r = in_sessions slots_of g.mutators s a in
+      elim (in_append s (filter_map (λ h. h) r.1.handles) (option_to_list r.1.fence) r.3) [
+        | inl by ↦ let p = in_places r.1.handles s by in root_from m s (by_handle r.0 p.0 r.1 r.2 p.1)
+        | inr by ↦ root_from m s (fencing r.0 r.1 r.2 (in_option s r.1.fence by))
+      ]
+
   held_root : (s : ℕ) → s ∈ held g → s ∈ roots m
-  held_root s h = elim (in_append s (slots_held g.mutators) g.pending h) [
-    | inl a ↦ let r = in_sessions (λ s. filter_map (λ h. h) s.handles) g.mutators s a in let p = in_places r.1.handles s r.3 in root_from m s (by_handle r.0 p.0 r.1 r.2 p.1)
-    | inr b ↦ root_from m s (waiting b)
-  ]
+  held_root s h =
+      held_cases g s h (session_root s) (λ b. root_from m s (by_name b)) (λ b. root_from m s (waiting b)) (λ b. root_from m s (lining b))
+      (λ own. root_from m s (active (active_gives g.objects s own)))
 
   -- ---- What marking asks for
 

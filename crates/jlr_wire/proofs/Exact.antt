@@ -14,15 +14,20 @@ use Rattle.std.proofs.lemmas.List.Elements.{All-cons}
 use Rattle.jlr_wire.proofs.Options.{and_parts}
 use Rattle.jlr_wire.proofs.Splits.{split_first, split_last}
 use Rattle.jlr_wire.proofs.Laws.{complete, sound}
+use Rattle.jlr_wire.proofs.Texts.{kind_no_space, digits_no_space}
+use Rattle.std.specs.Char.{is_ascii_graphic}
+use Rattle.jlr_wire.specs.Texts.{IsPath, IsName, is_name_byte}
+use Rattle.jlr_device.specs.declared.device.Mode.{Mode}
+use Rattle.jlr_device.specs.declared.device.Mode.TheVariants.{Read as Reading, Write as Writing}
 use Rattle.jlr_wire.specs.Lines.{IsWithout}
 use Rattle.jlr_wire.specs.Fields.{is_space}
-use Rattle.jlr_wire.specs.Commands.{Fields, IsCommand, layout, letter}
+use Rattle.jlr_wire.specs.Commands.{Fields, IsCommand, layout, letter, mode_letter}
 use Rattle.jlr_wire.specs.Reading.{reading}
 use Rattle.jlr_types.specs.declared.FieldKind.{FieldKind}
 use Rattle.jlr_types.specs.declared.FieldKind.TheVariants.{Int as IntField, Ref as RefField}
 use Rattle.jlr_machine.specs.declared.ask.FullMode.TheVariants.{Policy, ClearAll}
 use Rattle.jlr_wire.specs.declared.command.Command.{Command}
-use Rattle.jlr_wire.specs.declared.command.Command.TheVariants.{New, Put, Get, SetInt, Int, Dup, Drop, Same, Soft, Weak, Phantom, Deref, Refers, Clear, Enqueue, Enqueued, Queue, Poll, Full, Stat, Bye}
+use Rattle.jlr_wire.specs.declared.command.Command.TheVariants.{New, Put, Get, SetInt, Int, Dup, Drop, Same, Soft, Weak, Phantom, Deref, Refers, Clear, Enqueue, Enqueued, Queue, Poll, Remove, Cleaner, Register, Clean, Open, Connect, Read, Write, Close, Bind, Find, Unbind, Names, Full, Stat, Notes, Faults, Bye}
 
 -- a test for texts without a space
 abbrev spaceless : List ℕ → Bool
@@ -62,6 +67,16 @@ letters (IntField ∷ kinds) = letters kinds
 layout_word : (kinds : List FieldKind) → IsWithout 32 (layout kinds)
 layout_word [] = word (codes "-") refl
 layout_word (kind ∷ kinds) = word (map letter (kind ∷ kinds)) (letters (kind ∷ kinds))
+
+path_word : (path : List ℕ) → IsPath path → IsWithout 32 path
+path_word path h = kind_no_space is_ascii_graphic path refl h.each
+
+name_word : (name : List ℕ) → IsName name → IsWithout 32 name
+name_word name h = kind_no_space is_name_byte name refl h.each
+
+mode_word : (mode : Mode) → IsWithout 32 (mode_letter mode)
+mode_word Reading = word (codes "r") refl
+mode_word Writing = word (codes "w") refl
 
 -- some fields with no space in them, at most four
 pub record Apart (fields : List (List ℕ)) : Type 0 where
@@ -106,9 +121,24 @@ apart (Enqueue r) fields f = rw f.1 (two _ _ (word (codes "enqueue") refl) (numb
 apart (Enqueued r) fields f = rw f.1 (two _ _ (word (codes "enqueued") refl) (number r f.0))
 apart Queue fields f = rw f (one _ (word (codes "queue") refl))
 apart (Poll q) fields f = rw f.1 (two _ _ (word (codes "poll") refl) (number q f.0))
+apart (Remove q) fields f = rw f.1 (two _ _ (word (codes "remove") refl) (number q f.0))
+apart Cleaner fields f = rw f (one _ (word (codes "cleaner") refl))
+apart (Register c h n) fields f = rw f.3 (four _ _ _ _ (word (codes "register") refl) (number c f.0) (number h f.1) (digits n (omega (arith, f.2))))
+apart (Clean c) fields f = rw f.1 (two _ _ (word (codes "clean") refl) (number c f.0))
+apart (Open mode path) fields f = rw f.1 (three _ _ _ (word (codes "open") refl) (mode_word mode) (path_word path f.0))
+apart (Connect path) fields f = rw f.1 (two _ _ (word (codes "connect") refl) (path_word path f.0))
+apart (Read h n) fields f = rw f.3 (three _ _ _ (word (codes "read") refl) (number h f.0) (number n (omega (arith, f.2))))
+apart (Write h bytes) fields f = rw f.3 (three _ _ _ (word (codes "write") refl) (number h f.0) (digits_no_space f.1 bytes f.2))
+apart (Close h) fields f = rw f.1 (two _ _ (word (codes "close") refl) (number h f.0))
+apart (Bind name h) fields f = rw f.2 (three _ _ _ (word (codes "bind") refl) (name_word name f.0) (number h f.1))
+apart (Find name) fields f = rw f.1 (two _ _ (word (codes "find") refl) (name_word name f.0))
+apart (Unbind name) fields f = rw f.1 (two _ _ (word (codes "unbind") refl) (name_word name f.0))
+apart Names fields f = rw f (one _ (word (codes "names") refl))
 apart (Full Policy) fields f = rw f (one _ (word (codes "gc") refl))
 apart (Full ClearAll) fields f = rw f (two _ _ (word (codes "gc") refl) (word (codes "soft") refl))
 apart Stat fields f = rw f (one _ (word (codes "stat") refl))
+apart Notes fields f = rw f (one _ (word (codes "notes") refl))
+apart Faults fields f = rw f (one _ (word (codes "faults") refl))
 apart Bye fields f = rw f (one _ (word (codes "bye") refl))
 
 -- the parts of a command's line are its fields

@@ -6,15 +6,18 @@ use Rattle.std.specs.Str.{bytes_eq}
 use Rattle.std.proofs.lemmas.Slice.Eq.{bytes_eq-Decides}
 use Rattle.std.proofs.lemmas.Option.{same_Some, none-some}
 use Rattle.jlr_wire.proofs.Options.{bind_some, chosen, cond_some_of, and_parts}
-use Rattle.jlr_wire.proofs.Numbers.{byte_of_decimal, byte_of_spells}
+use Rattle.jlr_wire.proofs.Numbers.{byte_of_decimal, byte_of_spells, note_of_decimal, note_of_spells}
 use Rattle.jlr_wire.proofs.Integers.{integer_of_decimal, integer_of_spells}
 use Rattle.jlr_wire.proofs.Layouts.{layout_of_layout, layout_of_spells}
-use Rattle.jlr_wire.specs.Fields.{byte_of, integer_of}
+use Rattle.std.specs.Char.{is_ascii_graphic}
+use Rattle.jlr_wire.proofs.Texts.{word_of_word, word_of_spells, data_of_digits, data_of_spells, count_of_decimal, count_of_spells, mode_of_letter, mode_of_spells}
+use Rattle.jlr_wire.specs.Texts.{is_name_byte}
+use Rattle.jlr_wire.specs.Fields.{byte_of, note_of, integer_of, path_of, name_of, data_of, mode_of}
 use Rattle.jlr_wire.specs.Commands.{Fields}
-use Rattle.jlr_wire.specs.Reading.{◌>>=◌, layout_of, names_alone, names_with_number, names_with_two, named, with_number, with_two_numbers, reading_1, reading_2, reading_3, reading_4, reading}
+use Rattle.jlr_wire.specs.Reading.{◌>>=◌, layout_of, count_of, among, names_with_word, names_with_words, names_alone, names_with_number, names_with_two, named, with_number, with_two_numbers, reading_1, reading_2, reading_3, reading_4, reading}
 use Rattle.jlr_machine.specs.declared.ask.FullMode.TheVariants.{Policy, ClearAll}
 use Rattle.jlr_wire.specs.declared.command.Command.{Command}
-use Rattle.jlr_wire.specs.declared.command.Command.TheVariants.{New, Put, Get, SetInt, Int, Dup, Drop, Same, Soft, Weak, Phantom, Deref, Refers, Clear, Enqueue, Enqueued, Queue, Poll, Full, Stat, Bye}
+use Rattle.jlr_wire.specs.declared.command.Command.TheVariants.{New, Put, Get, SetInt, Int, Dup, Drop, Same, Soft, Weak, Phantom, Deref, Refers, Clear, Enqueue, Enqueued, Queue, Poll, Remove, Cleaner, Register, Clean, Open, Connect, Read, Write, Close, Bind, Find, Unbind, Names, Full, Stat, Notes, Faults, Bye}
 
 -- the fields of a command are read as that command
 pub complete : (c : Command) (fields : List (List ℕ)) → Fields c fields → reading fields ≡ Some c
@@ -37,9 +40,24 @@ complete (Enqueue r) fields f = rw (f.1, byte_of_decimal r f.0) refl
 complete (Enqueued r) fields f = rw (f.1, byte_of_decimal r f.0) refl
 complete Queue fields f = rw f refl
 complete (Poll q) fields f = rw (f.1, byte_of_decimal q f.0) refl
+complete (Remove q) fields f = rw (f.1, byte_of_decimal q f.0) refl
+complete Cleaner fields f = rw f refl
+complete (Register c h n) fields f = rw (f.3, byte_of_decimal c f.0, byte_of_decimal h f.1, note_of_decimal n f.2) refl
+complete (Clean c) fields f = rw (f.1, byte_of_decimal c f.0) refl
+complete (Open mode path) fields f = rw (f.1, mode_of_letter mode, word_of_word 255 is_ascii_graphic path f.0) refl
+complete (Connect path) fields f = rw (f.1, word_of_word 255 is_ascii_graphic path f.0) refl
+complete (Read h n) fields f = rw (f.3, byte_of_decimal h f.0, count_of_decimal n f.1 f.2) refl
+complete (Write h bytes) fields f = rw (f.3, byte_of_decimal h f.0, data_of_digits f.1 bytes f.2) refl
+complete (Close h) fields f = rw (f.1, byte_of_decimal h f.0) refl
+complete (Bind name h) fields f = rw (f.2, word_of_word 32 is_name_byte name f.0, byte_of_decimal h f.1) refl
+complete (Find name) fields f = rw (f.1, word_of_word 32 is_name_byte name f.0) refl
+complete (Unbind name) fields f = rw (f.1, word_of_word 32 is_name_byte name f.0) refl
+complete Names fields f = rw f refl
 complete (Full Policy) fields f = rw f refl
 complete (Full ClearAll) fields f = rw f refl
 complete Stat fields f = rw f refl
+complete Notes fields f = rw f refl
+complete Faults fields f = rw f refl
 complete Bye fields f = rw f refl
 
 same_name : (name word : List ℕ) → bytes_eq name word ≡ true → name ≡ word
@@ -47,6 +65,9 @@ same_name name word = (bytes_eq-Decides name word).0
 
 same_2 : (n m a b : List ℕ) → n ≡ m → a ≡ b → n ∷ a ∷ [] ≡ m ∷ b ∷ []
 same_2 n m a b e f = rw (e, f) refl
+
+same_3 : (n a b x y : List ℕ) → a ≡ b → x ≡ y → n ∷ a ∷ x ∷ [] ≡ n ∷ b ∷ y ∷ []
+same_3 n a b x y e f = rw (e, f) refl
 
 same_4 : (n m a b x y v w : List ℕ) → n ≡ m → a ≡ b → x ≡ y → v ≡ w → n ∷ a ∷ x ∷ v ∷ [] ≡ m ∷ b ∷ y ∷ w ∷ []
 same_4 n m a b x y v w e f g h = rw (e, f, g, h) refl
@@ -60,6 +81,15 @@ in_table P name (row ∷ table) c h e = elim (chosen (bytes_eq name row.0) (Some
   | inr p ↦ in_table P name table c h.1 p.1
 ]
 
+-- the same where each name of a table has what its reading answers, and there may be another reading
+in_among : (P : List ℕ → Command → Type 0) (name : List ℕ) (table : List (List ℕ × Option Command)) (other : Option Command) (c : Command)
+    → AllByRecursion (λ row. row.1 ≡ Some c → P row.0 c) table → (other ≡ Some c → P name c) → among name table other ≡ Some c → P name c
+in_among P name [] other c h o e = o e
+in_among P name (row ∷ table) other c h o e = elim (chosen (bytes_eq name row.0) row.1 (among name table other) (Some c) e) [
+  | inl p ↦ subst (λ n. P n c) (sym (same_name name row.0 p.0)) (h.0 p.1)
+  | inr p ↦ in_among P name table other c h.1 o p.1
+]
+
 -- a number that was read, and what was made of it
 spelled : (f : ℕ → Option Command) (a : List ℕ) (c : Command) → (byte_of a >>= f) ≡ Some c → (h : ℕ) × (h < 256) × (a ≡ decimal h) × (f h ≡ Some c)
 spelled f a c e =
@@ -71,14 +101,14 @@ sound_1 : (n : List ℕ) (c : Command) → reading_1 n ≡ Some c → Fields c (
 unfolding reading_1
 sound_1 n c e =
     let P : List ℕ → Command → Type 0 = λ n c. Fields c (n ∷ []) in
-    in_table P n names_alone c (refl, (refl, (refl, (refl, tt)))) e
+    in_table P n names_alone c (refl, (refl, (refl, (refl, (refl, (refl, (refl, (refl, tt)))))))) e
 
 sound_number : (n : List ℕ) (h : ℕ) (c : Command) → h < 256 → with_number n h ≡ Some c → Fields c (n ∷ decimal h ∷ [])
 unfolding with_number
 sound_number n h c lt e =
     let P : List ℕ → Command → Type 0 = λ n c. Fields c (n ∷ decimal h ∷ []) in
     in_table P n (names_with_number h) c
-    ((lt, refl), ((lt, refl), ((lt, refl), ((lt, refl), ((lt, refl), ((lt, refl), ((lt, refl), tt))))))) e
+    ((lt, refl), ((lt, refl), ((lt, refl), ((lt, refl), ((lt, refl), ((lt, refl), ((lt, refl), ((lt, refl), ((lt, refl), ((lt, refl), tt)))))))))) e
 
 sound_two_numbers : (n : List ℕ) (h k : ℕ) (c : Command) → h < 256 → k < 256 → with_two_numbers n h k ≡ Some c → Fields c (n ∷ decimal h ∷ decimal k ∷ [])
 unfolding with_two_numbers
@@ -87,30 +117,83 @@ sound_two_numbers n h k c h_fits k_fits e =
     in_table P n (names_with_two h k) c
     ((h_fits, k_fits, refl), ((h_fits, k_fits, refl), ((h_fits, k_fits, refl), ((h_fits, k_fits, refl), ((h_fits, k_fits, refl), ((h_fits, k_fits, refl), ((h_fits, k_fits, refl), tt))))))) e
 
+-- a new object, a socket, and a name
+sound_new : (a : List ℕ) (c : Command) → (layout_of a >>= λ l. Some (New l)) ≡ Some c → Fields c (codes "new" ∷ a ∷ [])
+sound_new a c e =
+    let q = bind_some (layout_of a) (λ l. Some (New l)) c e in
+    let l = layout_of_spells a q.0 q.1 in
+    rw (← same_Some _ _ q.2) (l.0, same_2 _ _ _ _ refl l.1)
+
+sound_connect : (a : List ℕ) (c : Command) → (path_of a >>= λ p. Some (Connect p)) ≡ Some c → Fields c (codes "connect" ∷ a ∷ [])
+sound_connect a c e =
+    let q = bind_some (path_of a) (λ p. Some (Connect p)) c e in
+    let p = word_of_spells 255 is_ascii_graphic a q.0 q.1 in
+    rw (← same_Some _ _ q.2) (p.0, same_2 _ _ _ _ refl p.1)
+
+sound_find : (a : List ℕ) (c : Command) → (name_of a >>= λ n. Some (Find n)) ≡ Some c → Fields c (codes "find" ∷ a ∷ [])
+sound_find a c e =
+    let q = bind_some (name_of a) (λ n. Some (Find n)) c e in
+    let n = word_of_spells 32 is_name_byte a q.0 q.1 in
+    rw (← same_Some _ _ q.2) (n.0, same_2 _ _ _ _ refl n.1)
+
+sound_unbind : (a : List ℕ) (c : Command) → (name_of a >>= λ n. Some (Unbind n)) ≡ Some c → Fields c (codes "unbind" ∷ a ∷ [])
+sound_unbind a c e =
+    let q = bind_some (name_of a) (λ n. Some (Unbind n)) c e in
+    let n = word_of_spells 32 is_name_byte a q.0 q.1 in
+    rw (← same_Some _ _ q.2) (n.0, same_2 _ _ _ _ refl n.1)
+
 sound_2 : (n a : List ℕ) (c : Command) → reading_2 n a ≡ Some c → Fields c (n ∷ a ∷ [])
 unfolding reading_2
-sound_2 n a c e = elim (chosen (bytes_eq n (codes "new")) (layout_of a >>= λ l. Some (New l)) _ (Some c) e) [
-  | inl p ↦
-      let q = bind_some (layout_of a) _ c p.1 in
-      let l = layout_of_spells a q.0 q.1 in
-      rw (← same_Some _ _ q.2) (l.0, same_2 _ _ _ _ (same_name n (codes "new") p.0) l.1)
-  | inr p ↦ elim (chosen (bytes_eq n (codes "gc") && bytes_eq a (codes "soft")) (Some (Full ClearAll)) _ (Some c) p.1) [
-    | inl q ↦
-        let both = and_parts (bytes_eq n (codes "gc")) (bytes_eq a (codes "soft")) q.0 in
-        rw (← same_Some _ _ q.1) (same_2 _ _ _ _ (same_name n (codes "gc") both.0) (same_name a (codes "soft") both.1))
-    | inr q ↦
-        let h = spelled (with_number n) a c q.1 in
-        subst (λ t. Fields c (n ∷ t ∷ [])) (sym h.2) (sound_number n h.0 c h.1 h.3)
-  ]
-]
+sound_2 n a c e =
+    let P : List ℕ → Command → Type 0 = λ n c. Fields c (n ∷ a ∷ []) in
+    in_among P n (names_with_word a) _ c (sound_new a c, (sound_connect a c, (sound_find a c, (sound_unbind a c, tt))))
+    (λ f. elim (chosen (bytes_eq n (codes "gc") && bytes_eq a (codes "soft")) (Some (Full ClearAll)) (byte_of a >>= λ h. with_number n h) (Some c) f) [
+      | inl q ↦
+          let both = and_parts (bytes_eq n (codes "gc")) (bytes_eq a (codes "soft")) q.0 in
+          rw (← same_Some _ _ q.1) (same_2 _ _ _ _ (same_name n (codes "gc") both.0) (same_name a (codes "soft") both.1))
+      | inr q ↦
+          let h = spelled (with_number n) a c q.1 in
+          subst (λ t. Fields c (n ∷ t ∷ [])) (sym h.2) (sound_number n h.0 c h.1 h.3)
+    ]) e
+
+-- a file, a binding, a read and a write
+sound_open : (a b : List ℕ) (c : Command) → (mode_of a >>= λ m. path_of b >>= λ p. Some (Open m p)) ≡ Some c → Fields c (codes "open" ∷ a ∷ b ∷ [])
+sound_open a b c e =
+    let m = bind_some (mode_of a) (λ m. path_of b >>= λ p. Some (Open m p)) c e in
+    let q = bind_some (path_of b) (λ p. Some (Open m.0 p)) c m.2 in
+    let p = word_of_spells 255 is_ascii_graphic b q.0 q.1 in
+    rw (← same_Some _ _ q.2) (p.0, same_3 _ _ _ _ _ (mode_of_spells a m.0 m.1) p.1)
+
+sound_bind : (a b : List ℕ) (c : Command) → (name_of a >>= λ n. byte_of b >>= λ h. Some (Bind n h)) ≡ Some c → Fields c (codes "bind" ∷ a ∷ b ∷ [])
+sound_bind a b c e =
+    let q = bind_some (name_of a) (λ n. byte_of b >>= λ h. Some (Bind n h)) c e in
+    let n = word_of_spells 32 is_name_byte a q.0 q.1 in
+    let h = spelled (λ h. Some (Bind q.0 h)) b c q.2 in
+    rw (← same_Some _ _ h.3) (n.0, h.1, same_3 _ _ _ _ _ n.1 h.2)
+
+sound_read : (a b : List ℕ) (c : Command) → (byte_of a >>= λ h. count_of b >>= λ n. Some (Read h n)) ≡ Some c → Fields c (codes "read" ∷ a ∷ b ∷ [])
+sound_read a b c e =
+    let h = spelled (λ h. count_of b >>= λ n. Some (Read h n)) a c e in
+    let q = bind_some (count_of b) (λ n. Some (Read h.0 n)) c h.3 in
+    let n = count_of_spells b q.0 q.1 in
+    rw (← same_Some _ _ q.2) (h.1, n.0, n.1, same_3 _ _ _ _ _ h.2 n.2)
+
+sound_write : (a b : List ℕ) (c : Command) → (byte_of a >>= λ h. data_of b >>= λ d. Some (Write h d)) ≡ Some c → Fields c (codes "write" ∷ a ∷ b ∷ [])
+sound_write a b c e =
+    let h = spelled (λ h. data_of b >>= λ d. Some (Write h d)) a c e in
+    let q = bind_some (data_of b) (λ d. Some (Write h.0 d)) c h.3 in
+    rw (← same_Some _ _ q.2) (h.1, b, data_of_spells b q.0 q.1, same_3 _ _ _ _ _ h.2 refl)
 
 sound_3 : (n a b : List ℕ) (c : Command) → reading_3 n a b ≡ Some c → Fields c (n ∷ a ∷ b ∷ [])
 unfolding reading_3
 sound_3 n a b c e =
-    let h = spelled (λ h. byte_of b >>= λ k. with_two_numbers n h k) a c e in
+    let P : List ℕ → Command → Type 0 = λ n c. Fields c (n ∷ a ∷ b ∷ []) in
+    in_among P n (names_with_words a b) _ c (sound_open a b c, (sound_bind a b c, (sound_read a b c, (sound_write a b c, tt))))
+    (λ f.
+    let h = spelled (λ h. byte_of b >>= λ k. with_two_numbers n h k) a c f in
     let k = spelled (with_two_numbers n h.0) b c h.3 in
     subst (λ t. Fields c (n ∷ t ∷ b ∷ [])) (sym h.2)
-    (subst (λ t. Fields c (n ∷ decimal h.0 ∷ t ∷ [])) (sym k.2) (sound_two_numbers n h.0 k.0 c h.1 k.1 k.3))
+    (subst (λ t. Fields c (n ∷ decimal h.0 ∷ t ∷ [])) (sym k.2) (sound_two_numbers n h.0 k.0 c h.1 k.1 k.3))) e
 
 sound_put : (n x a b : List ℕ) (c : Command) → bytes_eq n (codes "put") ≡ true
     → (byte_of x >>= λ g. byte_of a >>= λ h. byte_of b >>= λ k. Some (Put g h k)) ≡ Some c → Fields c (n ∷ x ∷ a ∷ b ∷ [])
@@ -129,11 +212,23 @@ sound_setint n x a b c name e =
     let z = integer_of_spells b q.0 q.1 in
     rw (← same_Some _ _ q.2) (h.1, k.1, z.0, same_4 _ _ _ _ _ _ _ _ (same_name n (codes "setint") name) h.2 k.2 z.1)
 
+sound_register : (n x a b : List ℕ) (c : Command) → bytes_eq n (codes "register") ≡ true
+    → (byte_of x >>= λ k. byte_of a >>= λ h. note_of b >>= λ z. Some (Register k h z)) ≡ Some c → Fields c (n ∷ x ∷ a ∷ b ∷ [])
+sound_register n x a b c name e =
+    let k = spelled (λ k. byte_of a >>= λ h. note_of b >>= λ z. Some (Register k h z)) x c e in
+    let h = spelled (λ h. note_of b >>= λ z. Some (Register k.0 h z)) a c k.3 in
+    let q = bind_some (note_of b) (λ z. Some (Register k.0 h.0 z)) c h.3 in
+    let z = note_of_spells b q.0 q.1 in
+    rw (← same_Some _ _ q.2) (k.1, h.1, z.0, same_4 _ _ _ _ _ _ _ _ (same_name n (codes "register") name) k.2 h.2 z.1)
+
 sound_4 : (n x a b : List ℕ) (c : Command) → reading_4 n x a b ≡ Some c → Fields c (n ∷ x ∷ a ∷ b ∷ [])
 unfolding reading_4
 sound_4 n x a b c e = elim (chosen (bytes_eq n (codes "put")) _ _ (Some c) e) [
   | inl p ↦ sound_put n x a b c p.0 p.1
-  | inr p ↦ let q = cond_some_of (bytes_eq n (codes "setint")) _ c p.1 in sound_setint n x a b c q.0 q.1
+  | inr p ↦ elim (chosen (bytes_eq n (codes "setint")) _ _ (Some c) p.1) [
+    | inl q ↦ sound_setint n x a b c q.0 q.1
+    | inr q ↦ let r = cond_some_of (bytes_eq n (codes "register")) _ c q.1 in sound_register n x a b c r.0 r.1
+  ]
 ]
 
 -- what is read as a command is its fields

@@ -4,9 +4,12 @@ pub mod Layouts
 pub mod Integers
 pub mod Numbers
 pub mod Options
+pub mod Texts
 pub mod Laws
 pub mod Splits
 pub mod Sending
+pub mod Spelled
+pub mod Data
 pub mod Spaced
 pub mod Streams
 pub mod Unique

@@ -1,13 +1,16 @@
 -- What lines are commands: a line is its fields, with exactly one space between each two.
-use Rattle.std.specs.Prelude.{◌≡◌, ℕ, ◌<◌, ◌≤◌, List, [], ◌∷◌, map, length, decimal, codes, FitsSigned}
+use Rattle.std.specs.Prelude.{◌≡◌, ℕ, ◌^◌, ◌<◌, ◌≤◌, List, [], ◌∷◌, map, length, decimal, codes, FitsSigned}
 use Rattle.std.specs.List.{join_with_byte}
 use Rattle.std.specs.Int.{w64}
 use Rattle.std.specs.Fmt.{signed_decimal}
 use Rattle.jlr_types.specs.declared.FieldKind.{FieldKind}
 use Rattle.jlr_types.specs.declared.FieldKind.TheVariants.{Int as IntField, Ref as RefField}
+use Rattle.jlr_device.specs.declared.device.Mode.{Mode}
+use Rattle.jlr_device.specs.declared.device.Mode.TheVariants.{Read as Reading, Write as Writing}
 use Rattle.jlr_machine.specs.declared.ask.FullMode.TheVariants.{Policy, ClearAll}
+use Rattle.jlr_wire.specs.Texts.{IsPath, IsName, AreDigits}
 use Rattle.jlr_wire.specs.declared.command.Command.{Command}
-use Rattle.jlr_wire.specs.declared.command.Command.TheVariants.{New, Put, Get, SetInt, Int, Dup, Drop, Same, Soft, Weak, Phantom, Deref, Refers, Clear, Enqueue, Enqueued, Queue, Poll, Full, Stat, Bye}
+use Rattle.jlr_wire.specs.declared.command.Command.TheVariants.{New, Put, Get, SetInt, Int, Dup, Drop, Same, Soft, Weak, Phantom, Deref, Refers, Clear, Enqueue, Enqueued, Queue, Poll, Remove, Cleaner, Register, Clean, Open, Connect, Read, Write, Close, Bind, Find, Unbind, Names, Full, Stat, Notes, Faults, Bye}
 
 -- the letter of a field
 abbrev pub letter : FieldKind → ℕ
@@ -18,6 +21,11 @@ letter IntField = 105
 abbrev pub layout : List FieldKind → List ℕ
 layout [] = codes "-"
 layout (kind ∷ kinds) = map letter (kind ∷ kinds)
+
+-- what a file is opened for
+abbrev pub mode_letter : Mode → List ℕ
+mode_letter Reading = codes "r"
+mode_letter Writing = codes "w"
 
 -- these are the fields of the command; a number has no leading zero
 abbrev pub Fields : Command → List (List ℕ) → Type 0
@@ -40,9 +48,26 @@ Fields (Enqueue r) fields = (r < 256) × (fields ≡ codes "enqueue" ∷ decimal
 Fields (Enqueued r) fields = (r < 256) × (fields ≡ codes "enqueued" ∷ decimal r ∷ [])
 Fields Queue fields = fields ≡ codes "queue" ∷ []
 Fields (Poll q) fields = (q < 256) × (fields ≡ codes "poll" ∷ decimal q ∷ [])
+Fields (Remove q) fields = (q < 256) × (fields ≡ codes "remove" ∷ decimal q ∷ [])
+Fields Cleaner fields = fields ≡ codes "cleaner" ∷ []
+Fields (Register c h note) fields =
+    (c < 256) × (h < 256) × (note < 2 ^ 32) × (fields ≡ codes "register" ∷ decimal c ∷ decimal h ∷ decimal note ∷ [])
+Fields (Clean c) fields = (c < 256) × (fields ≡ codes "clean" ∷ decimal c ∷ [])
+Fields (Open mode path) fields = IsPath path × (fields ≡ codes "open" ∷ mode_letter mode ∷ path ∷ [])
+Fields (Connect path) fields = IsPath path × (fields ≡ codes "connect" ∷ path ∷ [])
+Fields (Read h count) fields = (h < 256) × (1 ≤ count) × (count ≤ 200) × (fields ≡ codes "read" ∷ decimal h ∷ decimal count ∷ [])
+Fields (Write h bytes) fields =
+    (h < 256) × (digits : List ℕ) × AreDigits digits bytes × (fields ≡ codes "write" ∷ decimal h ∷ digits ∷ [])
+Fields (Close h) fields = (h < 256) × (fields ≡ codes "close" ∷ decimal h ∷ [])
+Fields (Bind name h) fields = IsName name × (h < 256) × (fields ≡ codes "bind" ∷ name ∷ decimal h ∷ [])
+Fields (Find name) fields = IsName name × (fields ≡ codes "find" ∷ name ∷ [])
+Fields (Unbind name) fields = IsName name × (fields ≡ codes "unbind" ∷ name ∷ [])
+Fields Names fields = fields ≡ codes "names" ∷ []
 Fields (Full Policy) fields = fields ≡ codes "gc" ∷ []
 Fields (Full ClearAll) fields = fields ≡ codes "gc" ∷ codes "soft" ∷ []
 Fields Stat fields = fields ≡ codes "stat" ∷ []
+Fields Notes fields = fields ≡ codes "notes" ∷ []
+Fields Faults fields = fields ≡ codes "faults" ∷ []
 Fields Bye fields = fields ≡ codes "bye" ∷ []
 
 -- The line, without its end, is the command.

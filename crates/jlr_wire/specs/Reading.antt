@@ -1,18 +1,22 @@
 -- How the fields of a line are read, as functions on lists. No public clause names them.
-use Rattle.std.specs.Prelude.{ℕ, eqb, nat_lt, length, cond, ◌&&◌, List, [], ◌∷◌, Option, Some, None, codes}
+use Rattle.std.specs.Prelude.{ℕ, eqb, nat_lt, nat_le, length, cond, ◌&&◌, List, [], ◌∷◌, Option, Some, None, codes}
 use Rattle.std.specs.Str.{bytes_eq}
 use Rattle.jlr_types.specs.declared.FieldKind.{FieldKind}
 use Rattle.jlr_types.specs.declared.FieldKind.TheVariants.{Int as IntField, Ref as RefField}
 use Rattle.jlr_machine.specs.declared.ask.FullMode.TheVariants.{Policy, ClearAll}
-use Rattle.jlr_wire.specs.Fields.{byte_of, integer_of}
+use Rattle.jlr_wire.specs.Fields.{byte_of, note_of, integer_of, path_of, name_of, data_of, mode_of}
 use Rattle.jlr_wire.specs.declared.command.Command.{Command}
-use Rattle.jlr_wire.specs.declared.command.Command.TheVariants.{New, Put, Get, SetInt, Int, Dup, Drop, Same, Soft, Weak, Phantom, Deref, Refers, Clear, Enqueue, Enqueued, Queue, Poll, Full, Stat, Bye}
+use Rattle.jlr_wire.specs.declared.command.Command.TheVariants.{New, Put, Get, SetInt, Int, Dup, Drop, Same, Soft, Weak, Phantom, Deref, Refers, Clear, Enqueue, Enqueued, Queue, Poll, Remove, Cleaner, Register, Clean, Open, Connect, Read, Write, Close, Bind, Find, Unbind, Names, Full, Stat, Notes, Faults, Bye}
 
 -- the ? of the logic
 infixl 10 ◌>>=◌
 abbrev pub ◌>>=◌ : {A B : Type 0} → Option A → (A → Option B) → Option B
 None >>= f = None
 (Some x) >>= f = f x
+
+-- the count of a read that a text spells
+abbrev pub count_of : List ℕ → Option ℕ
+count_of text = byte_of text >>= λ n. cond (nat_le 1 n && nat_le n 200) (Some n) None
 
 -- the kind that a letter stands for
 abbrev pub kind_of : ℕ → Option FieldKind
@@ -31,7 +35,16 @@ layout_of text =
 
 -- the commands of a name alone, of a name and a number, and of a name and two numbers, each beside its name
 abbrev pub names_alone : List (List ℕ × Command)
-names_alone = (codes "queue", Queue) ∷ (codes "gc", Full Policy) ∷ (codes "stat", Stat) ∷ (codes "bye", Bye) ∷ []
+names_alone =
+    (codes "queue", Queue)
+    ∷ (codes "cleaner", Cleaner)
+    ∷ (codes "gc", Full Policy)
+    ∷ (codes "names", Names)
+    ∷ (codes "stat", Stat)
+    ∷ (codes "notes", Notes)
+    ∷ (codes "faults", Faults)
+    ∷ (codes "bye", Bye)
+    ∷ []
 
 abbrev pub names_with_number : ℕ → List (List ℕ × Command)
 names_with_number a =
@@ -42,6 +55,9 @@ names_with_number a =
     ∷ (codes "enqueue", Enqueue a)
     ∷ (codes "enqueued", Enqueued a)
     ∷ (codes "poll", Poll a)
+    ∷ (codes "remove", Remove a)
+    ∷ (codes "clean", Clean a)
+    ∷ (codes "close", Close a)
     ∷ []
 
 abbrev pub names_with_two : ℕ → ℕ → List (List ℕ × Command)
@@ -60,6 +76,28 @@ abbrev pub named : List ℕ → List (List ℕ × Command) → Option Command
 named name [] = None
 named name (row ∷ table) = cond (bytes_eq name row.0) (Some row.1) (named name table)
 
+-- what stands beside a name, or where it is none of these the other
+abbrev pub among : List ℕ → List (List ℕ × Option Command) → Option Command → Option Command
+among name [] other = other
+among name (row ∷ table) other = cond (bytes_eq name row.0) row.1 (among name table other)
+
+-- the commands of a name and a word that is no number, and of a name and two fields of which one is no handle
+abbrev pub names_with_word : List ℕ → List (List ℕ × Option Command)
+names_with_word a =
+    (codes "new", layout_of a >>= λ l. Some (New l))
+    ∷ (codes "connect", path_of a >>= λ p. Some (Connect p))
+    ∷ (codes "find", name_of a >>= λ n. Some (Find n))
+    ∷ (codes "unbind", name_of a >>= λ n. Some (Unbind n))
+    ∷ []
+
+abbrev pub names_with_words : List ℕ → List ℕ → List (List ℕ × Option Command)
+names_with_words a b =
+    (codes "open", mode_of a >>= λ m. path_of b >>= λ p. Some (Open m p))
+    ∷ (codes "bind", name_of a >>= λ n. byte_of b >>= λ h. Some (Bind n h))
+    ∷ (codes "read", byte_of a >>= λ h. count_of b >>= λ n. Some (Read h n))
+    ∷ (codes "write", byte_of a >>= λ h. data_of b >>= λ d. Some (Write h d))
+    ∷ []
+
 unfoldable pub with_number : List ℕ → ℕ → Option Command
 with_number name a = named name (names_with_number a)
 
@@ -72,16 +110,17 @@ reading_1 name = named name names_alone
 
 unfoldable pub reading_2 : List ℕ → List ℕ → Option Command
 reading_2 name a =
-    cond (bytes_eq name (codes "new")) (layout_of a >>= λ l. Some (New l))
+    among name (names_with_word a)
     (cond (bytes_eq name (codes "gc") && bytes_eq a (codes "soft")) (Some (Full ClearAll)) (byte_of a >>= λ h. with_number name h))
 
 unfoldable pub reading_3 : List ℕ → List ℕ → List ℕ → Option Command
-reading_3 name a b = byte_of a >>= λ h. byte_of b >>= λ k. with_two_numbers name h k
+reading_3 name a b = among name (names_with_words a b) (byte_of a >>= λ h. byte_of b >>= λ k. with_two_numbers name h k)
 
 unfoldable pub reading_4 : List ℕ → List ℕ → List ℕ → List ℕ → Option Command
 reading_4 name a b c =
     cond (bytes_eq name (codes "put")) (byte_of a >>= λ h. byte_of b >>= λ k. byte_of c >>= λ v. Some (Put h k v))
-    (cond (bytes_eq name (codes "setint")) (byte_of a >>= λ h. byte_of b >>= λ k. integer_of c >>= λ n. Some (SetInt h k n)) None)
+    (cond (bytes_eq name (codes "setint")) (byte_of a >>= λ h. byte_of b >>= λ k. integer_of c >>= λ n. Some (SetInt h k n))
+    (cond (bytes_eq name (codes "register")) (byte_of a >>= λ k. byte_of b >>= λ h. note_of c >>= λ n. Some (Register k h n)) None))
 
 -- the command of these fields
 unfoldable pub reading : List (List ℕ) → Option Command

@@ -10,10 +10,14 @@ ghost use Rattle.jlr_wire.specs.Fields.{is_space, texts};
 use crate::cut::cut_at;
 use crate::integer::integer;
 use crate::layout::layout;
-use crate::number::number;
+use crate::number::{count, note, number};
+use crate::path::Path;
 use crate::pieces::LINE_LIMIT;
+use crate::word::{data, mode, name};
 use arrayvec::ArrayVec;
+use jlr_device::Mode;
 use jlr_machine::ask::FullMode;
+use jlr_machine::text::{Data, Name};
 use jlr_types::{Handle, Layout, Refusal};
 
 /// What a line asks for. A handle may be any number from 0 to 255, also one that is never in use.
@@ -100,12 +104,70 @@ pub enum Command {
     Poll {
         queue: Handle,
     },
+    /// `remove q`: takes the front of a queue, and waits for one where there is none.
+    Remove {
+        queue: Handle,
+    },
+    /// `cleaner`: makes a cleaner.
+    Cleaner,
+    /// `register c h note`: has a cleaner note the number once the object is unreachable.
+    Register {
+        cleaner: Handle,
+        object: Handle,
+        note: u32,
+    },
+    /// `clean c`: does what a cleanable was made for, if that was not done before.
+    Clean {
+        cleanable: Handle,
+    },
+    /// `open m path`: opens a file, for reading or for writing.
+    Open {
+        mode: Mode,
+        path: Path,
+    },
+    /// `connect path`: joins a socket.
+    Connect {
+        path: Path,
+    },
+    /// `read h count`: reads at most so many bytes, 1 to 200.
+    Read {
+        guard: Handle,
+        count: u8,
+    },
+    /// `write h bytes`: writes 1 to 200 bytes.
+    Write {
+        guard: Handle,
+        bytes: Data,
+    },
+    /// `close h`: closes a file or a socket, if that was not done before.
+    Close {
+        guard: Handle,
+    },
+    /// `bind name h`: gives the object a name, or the name another object.
+    Bind {
+        name: Name,
+        object: Handle,
+    },
+    /// `find name`: a handle for the object of that name.
+    Find {
+        name: Name,
+    },
+    /// `unbind name`: takes the name away.
+    Unbind {
+        name: Name,
+    },
+    /// `names`: the names that are bound.
+    Names,
     /// `gc`: a full collection by the policy for soft references. `gc soft`: one that clears them all.
     Full {
         mode: FullMode,
     },
     /// `stat`: the machine's counts.
     Stat,
+    /// `notes`: the numbers that were noted.
+    Notes,
+    /// `faults`: the cleaning actions that failed.
+    Faults,
     /// `bye`: ends the session.
     Bye,
 }
@@ -133,102 +195,164 @@ fn fields_of<'a>(line: &'a [u8]) -> Option<ArrayVec<&'a [u8], FIELD_LIMIT>>
 
 /// A command that is its name alone.
 #[tactic(auto, unfolding(crate::specs::Reading::reading_1))]
-fn one_field(name: &[u8]) -> Option<Command>
-    ensures { result ≡ reading_1 name.now }
+fn one_field(word: &[u8]) -> Option<Command>
+    ensures { result ≡ reading_1 word.now }
 {
-    match name {
-        b"queue" => Some(Command::Queue),
-        b"gc" => Some(Command::Full {
-            mode: FullMode::Policy,
-        }),
-        b"stat" => Some(Command::Stat),
-        b"bye" => Some(Command::Bye),
-        _ => None,
+    if word == b"queue".as_slice() {
+        return Some(Command::Queue);
     }
+    if word == b"cleaner".as_slice() {
+        return Some(Command::Cleaner);
+    }
+    if word == b"gc".as_slice() {
+        return Some(Command::Full {
+            mode: FullMode::Policy,
+        });
+    }
+    if word == b"names".as_slice() {
+        return Some(Command::Names);
+    }
+    if word == b"stat".as_slice() {
+        return Some(Command::Stat);
+    }
+    if word == b"notes".as_slice() {
+        return Some(Command::Notes);
+    }
+    if word == b"faults".as_slice() {
+        return Some(Command::Faults);
+    }
+    if word == b"bye".as_slice() {
+        return Some(Command::Bye);
+    }
+    None
 }
 
 /// A command of a name and one field.
 #[tactic(auto, unfolding(crate::specs::Reading::reading_2))]
-fn two_fields(name: &[u8], a: &[u8]) -> Option<Command>
-    ensures { result ≡ reading_2 name.now a.now }
+fn two_fields(word: &[u8], a: &[u8]) -> Option<Command>
+    ensures { result ≡ reading_2 word.now a.now }
 {
-    if name == b"new".as_slice() {
+    if word == b"new".as_slice() {
         return Some(Command::New { layout: layout(a)? });
     }
-    if name == b"gc".as_slice() && a == b"soft".as_slice() {
+    if word == b"connect".as_slice() {
+        return Some(Command::Connect {
+            path: Path::parse(a)?,
+        });
+    }
+    if word == b"find".as_slice() {
+        return Some(Command::Find { name: name(a)? });
+    }
+    if word == b"unbind".as_slice() {
+        return Some(Command::Unbind { name: name(a)? });
+    }
+    if word == b"gc".as_slice() && a == b"soft".as_slice() {
         return Some(Command::Full {
             mode: FullMode::ClearAll,
         });
     }
-    one_number(name, number(a)?)
+    one_number(word, number(a)?)
 }
 
 /// A command of a name and a number.
 #[tactic(auto, unfolding(crate::specs::Reading::with_number))]
-fn one_number(name: &[u8], a: u8) -> Option<Command>
-    ensures { result ≡ with_number name.now a }
+fn one_number(word: &[u8], a: u8) -> Option<Command>
+    ensures { result ≡ with_number word.now a }
 {
     let h = Handle::new(a);
-    if name == b"dup".as_slice() {
+    if word == b"dup".as_slice() {
         return Some(Command::Dup { object: h });
     }
-    if name == b"drop".as_slice() {
+    if word == b"drop".as_slice() {
         return Some(Command::Drop { object: h });
     }
-    if name == b"deref".as_slice() {
+    if word == b"deref".as_slice() {
         return Some(Command::Deref { reference: h });
     }
-    if name == b"clear".as_slice() {
+    if word == b"clear".as_slice() {
         return Some(Command::Clear { reference: h });
     }
-    if name == b"enqueue".as_slice() {
+    if word == b"enqueue".as_slice() {
         return Some(Command::Enqueue { reference: h });
     }
-    if name == b"enqueued".as_slice() {
+    if word == b"enqueued".as_slice() {
         return Some(Command::Enqueued { reference: h });
     }
-    if name == b"poll".as_slice() {
+    if word == b"poll".as_slice() {
         return Some(Command::Poll { queue: h });
+    }
+    if word == b"remove".as_slice() {
+        return Some(Command::Remove { queue: h });
+    }
+    if word == b"clean".as_slice() {
+        return Some(Command::Clean { cleanable: h });
+    }
+    if word == b"close".as_slice() {
+        return Some(Command::Close { guard: h });
     }
     None
 }
 
 /// A command of a name and two fields.
 #[tactic(auto, unfolding(crate::specs::Reading::reading_3))]
-fn three_fields(name: &[u8], a: &[u8], b: &[u8]) -> Option<Command>
-    ensures { result ≡ reading_3 name.now a.now b.now }
+fn three_fields(word: &[u8], a: &[u8], b: &[u8]) -> Option<Command>
+    ensures { result ≡ reading_3 word.now a.now b.now }
 {
-    two_numbers(name, number(a)?, number(b)?)
+    if word == b"open".as_slice() {
+        return Some(Command::Open {
+            mode: mode(a)?,
+            path: Path::parse(b)?,
+        });
+    }
+    if word == b"bind".as_slice() {
+        return Some(Command::Bind {
+            name: name(a)?,
+            object: Handle::new(number(b)?),
+        });
+    }
+    if word == b"read".as_slice() {
+        return Some(Command::Read {
+            guard: Handle::new(number(a)?),
+            count: count(b)?,
+        });
+    }
+    if word == b"write".as_slice() {
+        return Some(Command::Write {
+            guard: Handle::new(number(a)?),
+            bytes: data(b)?,
+        });
+    }
+    two_numbers(word, number(a)?, number(b)?)
 }
 
 /// A command of a name and two numbers.
 #[tactic(auto, unfolding(crate::specs::Reading::with_two_numbers))]
-fn two_numbers(name: &[u8], a: u8, b: u8) -> Option<Command>
-    ensures { result ≡ with_two_numbers name.now a b }
+fn two_numbers(word: &[u8], a: u8, b: u8) -> Option<Command>
+    ensures { result ≡ with_two_numbers word.now a b }
 {
     let object = Handle::new(a);
-    if name == b"get".as_slice() {
+    if word == b"get".as_slice() {
         return Some(Command::Get { object, field: b });
     }
-    if name == b"int".as_slice() {
+    if word == b"int".as_slice() {
         return Some(Command::Int { object, field: b });
     }
     let (left, right) = (object, Handle::new(b));
-    if name == b"same".as_slice() {
+    if word == b"same".as_slice() {
         return Some(Command::Same { left, right });
     }
     let (referent, queue) = (left, right);
-    if name == b"soft".as_slice() {
+    if word == b"soft".as_slice() {
         return Some(Command::Soft { referent, queue });
     }
-    if name == b"weak".as_slice() {
+    if word == b"weak".as_slice() {
         return Some(Command::Weak { referent, queue });
     }
-    if name == b"phantom".as_slice() {
+    if word == b"phantom".as_slice() {
         return Some(Command::Phantom { referent, queue });
     }
     let (reference, object) = (left, right);
-    if name == b"refers".as_slice() {
+    if word == b"refers".as_slice() {
         return Some(Command::Refers { reference, object });
     }
     None
@@ -236,21 +360,28 @@ fn two_numbers(name: &[u8], a: u8, b: u8) -> Option<Command>
 
 /// A command of a name and three fields.
 #[tactic(auto, unfolding(crate::specs::Reading::reading_4))]
-fn four_fields(name: &[u8], a: &[u8], b: &[u8], c: &[u8]) -> Option<Command>
-    ensures { result ≡ reading_4 name.now a.now b.now c.now }
+fn four_fields(word: &[u8], a: &[u8], b: &[u8], c: &[u8]) -> Option<Command>
+    ensures { result ≡ reading_4 word.now a.now b.now c.now }
 {
-    if name == b"put".as_slice() {
+    if word == b"put".as_slice() {
         return Some(Command::Put {
             object: Handle::new(number(a)?),
             field: number(b)?,
             value: Handle::new(number(c)?),
         });
     }
-    if name == b"setint".as_slice() {
+    if word == b"setint".as_slice() {
         return Some(Command::SetInt {
             object: Handle::new(number(a)?),
             field: number(b)?,
             value: integer(c)?,
+        });
+    }
+    if word == b"register".as_slice() {
+        return Some(Command::Register {
+            cleaner: Handle::new(number(a)?),
+            object: Handle::new(number(b)?),
+            note: note(c)?,
         });
     }
     None
@@ -262,10 +393,10 @@ fn command_of(fields: &[&[u8]]) -> Option<Command>
     ensures { result ≡ reading (texts fields.now) }
 {
     match fields {
-        [name] => one_field(name),
-        [name, a] => two_fields(name, a),
-        [name, a, b] => three_fields(name, a, b),
-        [name, a, b, c] => four_fields(name, a, b, c),
+        [word] => one_field(word),
+        [word, a] => two_fields(word, a),
+        [word, a, b] => three_fields(word, a, b),
+        [word, a, b, c] => four_fields(word, a, b, c),
         _ => None,
     }
 }

@@ -8,8 +8,11 @@ mod cut;
 mod integer;
 mod layout;
 mod number;
+pub mod path;
 pub mod pieces;
 pub mod reply;
+pub mod spelling;
 pub mod stream;
 #[cfg(test)]
 mod tests;
+mod word;

@@ -1,25 +1,48 @@
 //! The decimal numbers of a line.
-ghost use Rattle.std.specs.Prelude.{ℕ, ◌≡◌, ◌<◌, IfSome, IfNone, decimal};
-ghost use Rattle.jlr_wire.specs.Fields.{byte_of};
+ghost use Rattle.std.specs.Prelude.{ℕ, ◌≡◌, ◌<◌, ◌^◌, IfSome, IfNone, decimal};
+ghost use Rattle.jlr_wire.specs.Fields.{byte_of, note_of};
+ghost use Rattle.jlr_wire.specs.Reading.{count_of};
 
 use itoa::Buffer;
+
+/// The most bytes of a read.
+const COUNT_LIMIT: u8 = 200;
 
 /// The number from 0 to 255 that the text spells in decimal without a leading zero, or `None`.
 pub fn number(text: &[u8]) -> Option<u8>
     ensures { result ≡ byte_of text.now }
 {
+    let number = note(text)?;
+    u8::try_from(number).ok()
+}
+
+/// The number from 1 to 200 that the text spells in decimal without a leading zero, or `None`.
+pub fn count(text: &[u8]) -> Option<u8>
+    ensures { result ≡ count_of text.now }
+{
+    let count = number(text)?;
+    if (1..=COUNT_LIMIT).contains(&count) {
+        return Some(count);
+    }
+    None
+}
+
+/// The number from 0 to 4,294,967,295 that the text spells in decimal without a leading zero, or `None`.
+pub fn note(text: &[u8]) -> Option<u32>
+    ensures { result ≡ note_of text.now }
+{
     parse_number(text)
 }
 
-/// The number from 0 to 255 whose decimal text this is, or `None`.
-fn parse_number(text: &[u8]) -> Option<u8>
+/// The number from 0 to 4,294,967,295 whose decimal text this is, or `None`.
+fn parse_number(text: &[u8]) -> Option<u32>
     ensures found { IfSome result (λ n. text.now ≡ decimal n) }
-    ensures none { IfNone result ((n : ℕ) → n < 256 → text.now ≡ decimal n → ⊥) }
+    ensures none { IfNone result ((n : ℕ) → n < 2 ^ 32 → text.now ≡ decimal n → ⊥) }
 {
     let Ok(digits) = str::from_utf8(text) else {
         return None;
     };
-    let Ok(n) = digits.parse::<u8>() else {
+    let Ok(n) = digits.parse::<u32>() else {
         return None;
     };
     let mut buffer = Buffer::new();

@@ -1,9 +1,9 @@
 -- The exit statuses.
-use Rattle.std.specs.Prelude.{◌≡◌, ℕ, Option, None, Some, Result, IsErrAnd, MatchResult}
-use Rattle.jlr_prog.specs.declared.shell.FirstEnd.{FirstEnd}
-use Rattle.jlr_prog.specs.declared.shell.FirstEnd.TheVariants.{Bye, End, Truncated, ReadFault, WriteFault}
+use Rattle.std.specs.Prelude.{◌≡◌, ◌≢◌, ℕ, Option, None, Some, Result, IsErrAnd, MatchResult}
+use Rattle.jlr_session.specs.declared.shell.SessionEnd.{SessionEnd}
+use Rattle.jlr_session.specs.declared.shell.SessionEnd.TheVariants.{Bye, End, Truncated, ReadFault, WriteFault, TooManyLines as ManyLines, NotJoined as RefusedJoin}
 use Rattle.refheap.specs.declared.fault.ProgramFault.{ProgramFault}
-use Rattle.refheap.specs.declared.fault.ProgramFault.TheVariants.{Read, Write, CommandLine, Unfinished, NoMemory}
+use Rattle.refheap.specs.declared.fault.ProgramFault.TheVariants.{Read, Write, CommandLine, Unfinished, TooManyLines, NotJoined, NoMemory}
 
 -- the status that the program ends with
 abbrev pub status_of : ProgramFault → ℕ
@@ -11,20 +11,24 @@ status_of Read = 1
 status_of Write = 1
 status_of (CommandLine error) = 2
 status_of Unfinished = 4
+status_of TooManyLines = 4
+status_of NotJoined = 5
 status_of (NoMemory error) = 5
 
 -- what the end of a session is to the program: nothing, or why it ends with a status other than 0
-abbrev pub fault_after : FirstEnd → Option ProgramFault
+abbrev pub fault_after : SessionEnd → Option ProgramFault
 fault_after Bye = None
 fault_after End = None
 fault_after Truncated = Some Unfinished
 fault_after ReadFault = Some Read
 fault_after WriteFault = Some Write
+fault_after ManyLines = Some TooManyLines
+fault_after (RefusedJoin by) = Some NotJoined
 
 -- what the program comes to where a session ended so
-abbrev pub IsOutcome : FirstEnd → Result (Unit {0}) ProgramFault → Type 0
+abbrev pub IsOutcome : SessionEnd → Result (Unit {0}) ProgramFault → Type 0
 IsOutcome end result = MatchResult result (λ _. fault_after end ≡ None) (λ fault. fault_after end ≡ Some fault)
 
 -- there was no memory for the session
 abbrev pub IsOutOfMemory : Result (Unit {0}) ProgramFault → Type 0
-IsOutOfMemory result = IsErrAnd result (λ fault. status_of fault ≡ 5)
+IsOutOfMemory result = IsErrAnd result (λ fault. (status_of fault ≡ 5) × (fault ≢ NotJoined))

@@ -34,6 +34,8 @@ pub fn words(rt: &HostRuntime) -> Result<Vec<String>, ProgramFault>
 struct Numbers {
     /// The number of cells, from 16 to 65,536.
     cells: u32,
+    /// The number of files and sockets that may be open at once, from 1 to 256.
+    resources: u32,
     /// For how many collections a soft reference keeps its referent, from 0 to 1,000.
     soft_age: u32,
 }
@@ -47,6 +49,7 @@ fn numbers_asked(alloc: Global, words: &[String]) -> Result<Numbers, ProgramFaul
     let run = matches.subcommand_matches("run");
     Ok(Numbers {
         cells: number(run, "cells").unwrap_or(DEFAULT_CELLS),
+        resources: number(run, "resources").unwrap_or(DEFAULT_RESOURCES),
         soft_age: number(run, "soft-age").unwrap_or(DEFAULT_SOFT_AGE),
     })
 }
@@ -58,14 +61,15 @@ fn number(run: Option<&ArgMatches<'_>>, option: &str) -> Option<u32> {
 
 /// The limits of the heap that the words of a `run` ask for: what they ask for, and the rest as it is usually.
 pub fn limits(alloc: Global, words: &[String]) -> Result<Limits, ProgramFault>
-    ensures usual { IfOk result (λ limits. (limits.sessions ≡ 1) × (limits.resources ≡ 16) × (limits.trace ≡ 10000) × (limits.budget ≡ 64)) }
+    ensures usual { IfOk result (λ limits. (limits.sessions ≡ 1) × (limits.trace ≡ 10000) × (limits.budget ≡ 64)) }
     ensures refused { IfErr result (λ fault. (status_of fault ≡ 2) ⊎ (status_of fault ≡ 5)) }
 {
     let asked = numbers_asked(alloc, words)?;
-    match limits_with(asked.cells, asked.soft_age) {
+    match limits_with(asked.cells, asked.resources, asked.soft_age) {
         Ok(limits) => Ok(limits),
         Err(fault) => {
             let message = match fault {
+                LimitFault::Resources => "the number of resources is from 1 to 256",
                 LimitFault::SoftAge => "the soft age is from 0 to 1000",
                 _ => "the number of cells is from 16 to 65536",
             };
@@ -74,29 +78,23 @@ pub fn limits(alloc: Global, words: &[String]) -> Result<Limits, ProgramFault>
     }
 }
 
-/// The limits of a session that is alone, with so many cells and this soft age.
-fn limits_with(cells: u32, soft_age: u32) -> Result<Limits, LimitFault>
-    ensures { IfOk result (λ limits. (limits.cells ≡ cells) × (limits.sessions ≡ 1) × (limits.resources ≡ 16) × (limits.soft_age ≡ soft_age) × (limits.trace ≡ 10000) × (limits.budget ≡ 64)) }
+/// The limits of a session that is alone, with so many cells, so many files and sockets, and this soft age.
+fn limits_with(cells: u32, resources: u32, soft_age: u32) -> Result<Limits, LimitFault>
+    ensures { IfOk result (λ limits. (limits.cells ≡ cells) × (limits.sessions ≡ 1) × (limits.resources ≡ resources) × (limits.soft_age ≡ soft_age) × (limits.trace ≡ 10000) × (limits.budget ≡ 64)) }
 {
-    Limits::checked(
-        cells,
-        1,
-        DEFAULT_RESOURCES,
-        soft_age,
-        DEFAULT_TRACE,
-        DEFAULT_BUDGET,
-    )
+    Limits::checked(cells, 1, resources, soft_age, DEFAULT_TRACE, DEFAULT_BUDGET)
 }
 
 /// The limits of a heap for which the command line has no option.
-const DEFAULT_RESOURCES: u32 = 16;
-
 const DEFAULT_TRACE: u32 = 10_000;
 
 const DEFAULT_BUDGET: u32 = 64;
 
 /// The cells of a heap where the command line gives no number.
 const DEFAULT_CELLS: u32 = 1_024;
+
+/// How many files and sockets may be open at once where the command line gives no number.
+const DEFAULT_RESOURCES: u32 = 16;
 
 /// The soft age of a heap where the command line gives none.
 const DEFAULT_SOFT_AGE: u32 = 4;
@@ -146,6 +144,12 @@ fn command<'a>(alloc: Global) -> Result<Command<'a>, AllocError> {
         .help("Number of cells of the heap, from 16 to 65536")
         .value_parser(value_parser!(u32).range(16..=65_536))
         .default_value("1024");
+    let resources = Arg::new(alloc, "resources")
+        .long("resources")
+        .value_name("N")
+        .help("Number of files and sockets that may be open at once, from 1 to 256")
+        .value_parser(value_parser!(u32).range(1..=256))
+        .default_value("16");
     let soft_age = Arg::new(alloc, "soft-age")
         .long("soft-age")
         .value_name("N")
@@ -155,6 +159,7 @@ fn command<'a>(alloc: Global) -> Result<Command<'a>, AllocError> {
     let run = Command::new(alloc, "run")
         .about("One session on standard input and output")
         .arg(cells)?
+        .arg(resources)?
         .arg(soft_age)?;
     Command::new(alloc, "refheap")
         .about("A managed object heap with reference objects")

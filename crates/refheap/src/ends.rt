@@ -2,11 +2,14 @@
 //! error, and what it answered before. The texts are those of the description of the protocol.
 use crate::report::status_after;
 use crate::session::session;
+use jlr_device::Device;
+use jlr_device::real::RealDevice;
+use jlr_device::script::ScriptDevice;
 use jlr_types::Limits;
 use std::alloc::Global;
 use std::cell::RefCell;
 use std::fmt::Display;
-use std::fs::{File, OpenOptions};
+use std::fs::{self, File, OpenOptions};
 use std::io::{self, Read, Write};
 use std::os::unix::net::UnixStream;
 use std::test::Fail;
@@ -37,17 +40,31 @@ impl Eprint for Kept<'_> {
     }
 }
 
-/// The status after a session with 16 cells, and what was said on the standard error.
+/// The status after a session with 16 cells whose files are had without a fault, and what was said on the standard error.
 fn ended<R: Read, W: Write>(
     alloc: Global,
     reader: &mut R,
     writer: &mut W,
 ) -> Result<(u8, String), Fail> {
+    let mut device = ScriptDevice::new(Vec::new(alloc), 0);
+    ended_over(alloc, reader, writer, &mut device)
+}
+
+/// The same over a device.
+fn ended_over<R: Read, W: Write, D: Device>(
+    alloc: Global,
+    reader: &mut R,
+    writer: &mut W,
+    device: &mut D,
+) -> Result<(u8, String), Fail>
+where
+    D::Res: Drop,
+{
     let limits = Limits::checked(16, 1, 16, 4, 10_000, 64)
         .ok()
         .ok_or("limits")?;
     let text = RefCell::new(String::new(alloc));
-    let outcome = session(alloc, limits, reader, writer);
+    let outcome = session(alloc, limits, reader, writer, device);
     let status = status_after(Kept { alloc, text: &text }, &outcome);
     Ok((status, text.into_inner()))
 }
@@ -70,6 +87,22 @@ fn a_session_ends_with_its_status(rt: HostRuntime) -> Result<(), Fail> {
 }
 
 #[test]
+fn a_file_whose_guard_has_died_is_read_back(rt: HostRuntime) -> Result<(), Fail> {
+    let path = "refheap_hello";
+    let _ = fs::remove_file(&rt, path);
+    let input =
+        "open w refheap_hello\nwrite 1 6869\ndrop 1\ngc\nopen r refheap_hello\nread 1 200\nread 1 200\nstat\nbye\n";
+    let answers = "= 1\nwrote 2\nok\nok\n= 1\ndata 6869\nend\nstat 3 1 1 1 0\nok\n";
+    let mut writer = Vec::new(rt.alloc());
+    let mut device = RealDevice::new(rt);
+    let (status, said) = ended_over(rt.alloc(), &mut input.as_bytes(), &mut writer, &mut device)?;
+    assert_eq!(rt; (status, said.as_str()), (0, ""));
+    assert_eq!(rt; writer.as_slice(), answers.as_bytes());
+    fs::remove_file(&rt, path)?;
+    Ok(())
+}
+
+#[test]
 fn an_input_that_is_a_directory_cannot_be_read(rt: HostRuntime) -> Result<(), Fail> {
     let mut directory = File::open(&rt, "/")?;
     let mut writer = Vec::new(rt.alloc());
@@ -77,6 +110,30 @@ fn an_input_that_is_a_directory_cannot_be_read(rt: HostRuntime) -> Result<(), Fa
     assert_eq!(rt; status, 1);
     assert_eq!(rt; said.as_str(), "refheap: read failed\n");
     assert_eq!(rt; writer.as_slice(), b"".as_slice());
+    Ok(())
+}
+
+/// Empty lines, so many.
+#[derive(Drop)]
+struct EmptyLines {
+    left: usize,
+}
+
+impl Read for EmptyLines {
+    fn read(&mut self, buf: &mut [u8]) -> io::Result<usize> {
+        let count = self.left.min(buf.len());
+        buf[..count].fill(b'\n');
+        self.left -= count;
+        Ok(count)
+    }
+}
+
+#[test]
+fn a_session_of_a_million_lines_has_too_many(rt: HostRuntime) -> Result<(), Fail> {
+    let mut lines = EmptyLines { left: 1_000_000 };
+    let (status, said) = ended(rt.alloc(), &mut lines, &mut io::sink())?;
+    assert_eq!(rt; status, 4);
+    assert_eq!(rt; said.as_str(), "refheap: too many lines\n");
     Ok(())
 }
 

@@ -17,6 +17,10 @@ pub enum ProgramFault {
     CommandLine(clap::Error),
     #[error("unfinished line")]
     Unfinished,
+    #[error("too many lines")]
+    TooManyLines,
+    #[error("not joined")]
+    NotJoined,
     #[error("no memory")]
     NoMemory(#[from(alloc)] AllocError),
 }
@@ -29,8 +33,8 @@ impl ProgramFault {
         match self {
             ProgramFault::Read | ProgramFault::Write => 1,
             ProgramFault::CommandLine(_) => 2,
-            ProgramFault::Unfinished => 4,
-            ProgramFault::NoMemory(_) => 5,
+            ProgramFault::Unfinished | ProgramFault::TooManyLines => 4,
+            ProgramFault::NoMemory(_) | ProgramFault::NotJoined => 5,
         }
     }
 }
@@ -46,6 +50,8 @@ mod tests {
             (ProgramFault::Read, 1, "read failed"),
             (ProgramFault::Write, 1, "write failed"),
             (ProgramFault::Unfinished, 4, "unfinished line"),
+            (ProgramFault::TooManyLines, 4, "too many lines"),
+            (ProgramFault::NotJoined, 5, "not joined"),
             (ProgramFault::NoMemory(AllocError), 5, "no memory"),
         ] {
             assert_eq!(rt; fault.status(), status, "of {words}");

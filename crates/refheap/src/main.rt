@@ -9,6 +9,7 @@ mod report;
 mod session;
 
 use fault::ProgramFault;
+use jlr_device::real::RealDevice;
 use report::status_after;
 use session::session;
 use std::process::ExitCode;
@@ -23,5 +24,6 @@ fn run(rt: &HostRuntime) -> Result<(), ProgramFault> {
     let limits = arguments::limits(rt.alloc(), words.as_slice())?;
     let mut reader = rt.stdin();
     let mut writer = rt.stdout();
-    session(rt.alloc(), limits, &mut reader, &mut writer)
+    let mut device = RealDevice::new(*rt);
+    session(rt.alloc(), limits, &mut reader, &mut writer, &mut device)
 }

@@ -1,14 +1,15 @@
 //! A session, and what it leaves of the program.
-ghost use Rattle.std.specs.Prelude.{◌≡◌, ◌⊎◌, List, ℕ, MatchResult, None, Some};
+ghost use Rattle.std.specs.Prelude.{◌≡◌, ◌≤◌, ◌⊎◌, List, ℕ, length, MatchResult, None, Some};
 ghost use Rattle.std.specs.Io.KnownBytes.{Appends, Consumes, IsAtEnd};
-ghost use Rattle.jlr_machine.specs.Run.{empty};
 ghost use Rattle.jlr_prog.specs.Histories.{IsSession};
-ghost use Rattle.jlr_prog.specs.declared.shell.FirstEnd.{FirstEnd};
+ghost use Rattle.jlr_session.specs.Limits.{most_bytes};
+ghost use Rattle.jlr_session.specs.declared.shell.SessionEnd.{SessionEnd};
 ghost use Rattle.refheap.specs.Status.{IsOutOfMemory, IsOutcome, fault_after};
 
 use crate::fault::ProgramFault;
-use jlr_prog::first::first_run;
-use jlr_prog::shell::FirstEnd;
+use jlr_device::Device;
+use jlr_prog::session::session as session_of_heap;
+use jlr_session::shell::SessionEnd;
 use jlr_types::Limits;
 use std::alloc::Global;
 use std::io::{Read, Write};
@@ -16,33 +17,42 @@ use std::io::{Read, Write};
 /// A session over the heap of these limits, and what its end is to the program.
 ///
 /// # Errors
-/// The fault of the session's end, or `NoMemory` where there was no room for the heap. Then nothing was read or written.
-pub fn session<R: Read, W: Write>(
+/// The fault of the session's end, or `NoMemory` where there was no room for the heap. Then nothing was read or written, and the
+/// device was not called.
+pub fn session<R: Read, W: Write, D: Device>(
     alloc: Global,
     limits: Limits,
     reader: &mut R,
     writer: &mut W,
+    device: &mut D,
 ) -> Result<(), ProgramFault>
-    ensures { (IsOutOfMemory result × (reader.new ≡ reader.old) × (writer.new ≡ writer.old))
-        ⊎ ((end : FirstEnd) × (bytes : List ℕ) × (out : List ℕ) × IsOutcome end result
+where
+    D::Res: Drop,
+    ensures { (IsOutOfMemory result × (reader.new ≡ reader.old) × (writer.new ≡ writer.old) × (device.new ≡ device.old))
+        ⊎ ((end : SessionEnd) × (bytes : List ℕ) × (out : List ℕ) × IsOutcome end result
         × Consumes (R.remaining reader.old) (R.remaining reader.new) bytes
         × Appends (W.contents writer.old) (W.contents writer.new) out
-        × IsSession (empty limits.cells limits.sessions limits.resources) (IsAtEnd (R.remaining reader.new)) end bytes out) }
+        × (length bytes ≤ most_bytes)
+        × IsSession (record { count = D.count; opens = D.may_open; connects = D.may_connect; failures = D.Res.count })
+        (record { count = D.Res.count; reads = D.Res.may_read; writes = D.Res.may_write; finishes = D.Res.may_finish })
+        limits (IsAtEnd (R.remaining reader.new)) end bytes device.old out device.new) }
 {
-    match first_run(alloc, limits, reader, writer) {
+    match session_of_heap(alloc, limits, reader, writer, device) {
         Ok(end) => outcome_of(end),
         Err(fault) => Err(ProgramFault::NoMemory(fault)),
     }
 }
 
 /// What the end of the session is to the program.
-fn outcome_of(end: FirstEnd) -> Result<(), ProgramFault>
+fn outcome_of(end: SessionEnd) -> Result<(), ProgramFault>
     ensures { IsOutcome end result }
 {
     match end {
-        FirstEnd::Bye | FirstEnd::End => Ok(()),
-        FirstEnd::Truncated => Err(ProgramFault::Unfinished),
-        FirstEnd::ReadFault => Err(ProgramFault::Read),
-        FirstEnd::WriteFault => Err(ProgramFault::Write),
+        SessionEnd::Bye | SessionEnd::End => Ok(()),
+        SessionEnd::Truncated => Err(ProgramFault::Unfinished),
+        SessionEnd::TooManyLines => Err(ProgramFault::TooManyLines),
+        SessionEnd::NotJoined(_) => Err(ProgramFault::NotJoined),
+        SessionEnd::ReadFault => Err(ProgramFault::Read),
+        SessionEnd::WriteFault => Err(ProgramFault::Write),
     }
 }

@@ -75,7 +75,7 @@ fn no_event_takes_memory(rt: HostRuntime) -> Result<(), Fail> {
         (stat(), counted(7)),
         (leave(), Got::Done),
         (full(), Got::Refused(Refusal::NoSession)),
-        (opened(Ok(1)), Got::Refused(Refusal::NoSession)),
+        (opened(Ok(1)), Got::Back(Refusal::NoSession, 1)),
     ] {
         assert_eq!(rt; seen(&core.step(event, &mut choice)), wanted);
     }

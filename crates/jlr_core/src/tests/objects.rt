@@ -149,9 +149,9 @@ fn an_outcome_hands_its_resource_back(rt: HostRuntime) -> Result<(), Fail> {
         resources.push(reply.plain().1)?;
     }
     let wanted = [
-        Got::Refused(Refusal::NoSession),
+        Got::Back(Refusal::NoSession, 5),
         Got::Done,
-        Got::Refused(Refusal::NotOut),
+        Got::Back(Refusal::NotOut, 7),
         Got::Refused(Refusal::NotOut),
     ];
     assert_eq!(rt; reasons.as_slice(), wanted.as_slice());

@@ -59,7 +59,7 @@ fn each_ask_is_refused_for_its_reasons(rt: HostRuntime) -> Result<(), Fail> {
         (deref(3), Got::Refused(Refusal::NoHandle)),
         (deref(0), Got::Refused(Refusal::Null)),
         (deref(1), Got::Refused(Refusal::WrongKind)),
-        (opened(Ok(1)), Got::Refused(Refusal::NotOut)),
+        (opened(Ok(1)), Got::Back(Refusal::NotOut, 1)),
         (get(1, 0), Got::Handle(0)),
         (same(1, 2), Got::Truth(false)),
         (leave(), Got::Done),

@@ -1,5 +1,4 @@
-use Rattle.std.proofs.Common.{◌≡◌, ◌⊎◌, ◌<◌, ℕ, Option, Some, None, sym, ◌∙◌, ap, arith, subst, length, take, add-one}
-use Rattle.std.specs.Prelude.{slice_index_or}
+use Rattle.std.proofs.Common.{◌≡◌, ◌⊎◌, ◌<◌, ℕ, Option, Some, None, sym, ◌∙◌, arith, subst, length, take}
 use Rattle.std.proofs.lemmas.List.{take_all}
 use Rattle.jlr_machine.specs.Objects.{◌∈◌}
 use Rattle.jlr_cells.specs.Links.{linked}

@@ -1,4 +1,4 @@
-use Rattle.std.proofs.Common.{rules, ◌≡◌, ◌<◌, sym, ◌∙◌, arith, Some, subst, length}
+use Rattle.std.proofs.Common.{rules, ◌<◌, sym, ◌∙◌, arith, subst, length}
 use Rattle.std.proofs.lemmas.Option.{same_Some}
 use Rattle.jlr_machine.specs.Objects.{◌∈◌}
 use Rattle.jlr_barrier.proofs.Walking.{member_in}

@@ -1,4 +1,4 @@
-use Rattle.std.proofs.Common.{◌≡◌, ℕ, ◌+◌, ◌<◌, ◌≤◌, ◌++◌, ◌∷◌, [], Some, sym, ◌∙◌, ap, arith, length, inl, inr, subst, slice_set, cond, true, false, refl, option_and_then, IsTrue, List, append_assoc}
+use Rattle.std.proofs.Common.{◌≡◌, ℕ, ◌+◌, ◌<◌, ◌++◌, ◌∷◌, [], Some, sym, ◌∙◌, ap, arith, length, inl, inr, subst, slice_set, cond, true, refl, option_and_then, append_assoc}
 use Rattle.std.proofs.lemmas.Bool.{cases_eq}
 use Rattle.std.proofs.lemmas.List.{length-set}
 use Rattle.jlr_machine.specs.declared.machine.Machine.{Machine}
@@ -75,7 +75,9 @@ loop-number-preserved c =
           ∙ ap (λ b. (c.args.heap.now.graph.pending ++ lost_below m old n) ++ only_if b n) losing
           ∙ append_assoc c.args.heap.now.graph.pending (lost_below m old n) (only_if (is_losing m old n) n)
           ∙ ap (λ l. c.args.heap.now.graph.pending ++ l) (sym (filter_more (is_losing m old) n));
+      line = ap (λ (g : Graph). g.line) after ∙ i.line;
       mutators = ap (λ (g : Graph). g.mutators) after ∙ i.mutators;
+      names = ap (λ (g : Graph). g.names) after ∙ i.names;
       clock = c.settle.ensures.clock ∙ i.clock;
       marking = c.settle.ensures.marking ∙ i.marking;
       choice =
@@ -104,6 +106,6 @@ returns-clause-flips c =
       collection = collection machine m w;
       left =
           ap (in_machine k) c.count_collection.ensures.graph
-          ∙ as_parts k c.loop-number.heap.graph _ _ _ objects i.mutators (i.pending ∙ ap (λ n. c.args.heap.now.graph.pending ++ lost_below m old n) end);
+          ∙ as_parts k c.loop-number.heap.graph _ _ _ _ _ objects i.mutators i.names (i.pending ∙ ap (λ n. c.args.heap.now.graph.pending ++ lost_below m old n) end) i.line;
       counted = ap (λ (g : Graph). occupied g.objects) c.count_collection.ensures.graph ∙ ap (λ h. occupied h) objects ∙ kept_counted m old w.long w.objects;
     }

@@ -11,7 +11,9 @@ invariant-loop-number l = record {
   settled : (x : ℕ) → x < l.number → at l.heap.graph.objects x ≡ settled l.fn.heap.marking x (at l.fn.heap.graph.objects x);
   rest : (x : ℕ) → l.number ≤ x → at l.heap.graph.objects x ≡ at l.fn.heap.graph.objects x;
   pending : l.heap.graph.pending ≡ l.fn.heap.graph.pending ++ lost_below l.fn.heap.marking l.fn.heap.graph.objects l.number;
+  line : l.heap.graph.line ≡ l.fn.heap.graph.line;
   mutators : l.heap.graph.mutators ≡ l.fn.heap.graph.mutators;
+  names : l.heap.graph.names ≡ l.fn.heap.graph.names;
   clock : l.heap.clock ≡ l.fn.heap.clock;
   marking : l.heap.marking ≡ l.fn.heap.marking;
   choice : l.choice ≡ collecting l.fn.choice (marked_below l.fn.heap.marking l.number) (lost_below l.fn.heap.marking l.fn.heap.graph.objects l.number);

@@ -1,7 +1,7 @@
-use Rattle.std.proofs.Common.{◌≡◌, ◌++◌, ◌∷◌, [], sym, ◌∙◌, ap, true, subst, option_and_then}
-use Rattle.jlr_machine.specs.Objects.{at, change_at, queue_ahead, some_and, with_members, with_reference}
+use Rattle.std.proofs.Common.{◌≡◌, ◌++◌, ◌∷◌, [], sym, ◌∙◌, ap, true, option_and_then}
+use Rattle.jlr_machine.specs.Objects.{at, queue_ahead, some_and, with_members}
 use Rattle.jlr_machine.specs.declared.object.RefState.TheVariants.{Queued}
-use Rattle.jlr_machine.specs.Refusals.{is_queue, is_reference}
+use Rattle.jlr_machine.specs.Refusals.{is_reference}
 use Rattle.jlr_cells.specs.Contents.{in_state, unregistered}
 use Rattle.jlr_barrier.specs.Graphs.{Graph}
 use Rattle.jlr_refs.proofs.Changing.{apart, change_other, still_reference}

@@ -1,5 +1,5 @@
-use Rattle.std.proofs.Common.{◌≡◌, sym, ◌∙◌, ap, true, subst, drop}
-use Rattle.jlr_machine.specs.Objects.{at, change_at, some_and, with_members}
+use Rattle.std.proofs.Common.{sym, ◌∙◌, ap, drop}
+use Rattle.jlr_machine.specs.Objects.{at, some_and, with_members}
 use Rattle.jlr_machine.specs.Refusals.{is_reference}
 use Rattle.jlr_barrier.specs.Graphs.{Graph}
 use Rattle.jlr_refs.proofs.Changing.{apart, change_other}

@@ -1,13 +1,11 @@
-use Rattle.std.proofs.Common.{◌≡◌, ◌⊎◌, ◌<◌, ℕ, Option, Some, None, false, true, sym, ◌∙◌, ap, subst, length, inl, inr}
+use Rattle.std.proofs.Common.{◌≡◌, ◌<◌, ℕ, Option, Some, None, false, true, sym, ◌∙◌, subst, length, inl, inr}
 use Rattle.jlr_machine.specs.declared.object.Object.{Object}
 use Rattle.jlr_machine.specs.declared.object.Object.TheVariants.{Plain, Reference, Queue, Cleaner, Cleanable, Guard}
 use Rattle.jlr_types.specs.declared.RefKind.TheVariants.{Soft}
-use Rattle.jlr_machine.specs.Objects.{◌∈◌, at, some_and}
+use Rattle.jlr_machine.specs.Objects.{at, some_and}
 use Rattle.jlr_machine.specs.Refusals.{is_plain}
-use Rattle.jlr_machine.specs.Edges.{edges_from, referent}
+use Rattle.jlr_machine.specs.Edges.{referent}
 use Rattle.std.specs.Prelude.{option_and_then}
-use Rattle.jlr_machine.specs.Edges.Chain.{Strong}
-use Rattle.jlr_laws.specs.Laws.{followed}
 use Rattle.jlr_barrier.specs.Graphs.{Clock, Graph}
 use Rattle.jlr_barrier.specs.Marking.{Shaded}
 use Rattle.jlr_barrier.proofs.Shading.{shaded_same, shaded_then}

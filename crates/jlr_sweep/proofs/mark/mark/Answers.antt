@@ -1,4 +1,4 @@
-use Rattle.std.proofs.Common.{◌≡◌, false, ◌+◌, ◌∷◌, ◌<◌, [], ℕ, Bool, List, sym, ◌∙◌, ap, arith, length, add-one, refl, get_or, subst, IsTrue, is_some}
+use Rattle.std.proofs.Common.{◌≡◌, false, ◌+◌, ◌∷◌, ◌<◌, [], ℕ, sym, ◌∙◌, ap, arith, length, add-one, refl, get_or, subst, IsTrue, is_some}
 use Rattle.std.specs.Prelude.{IsPermutation, nat_eq}
 use Rattle.std.proofs.lemmas.List.Sums.{count_by-le-length}
 use Rattle.std.proofs.lemmas.List.Sorted.{length_permutation, list_any-IsPermutation}
@@ -8,7 +8,7 @@ use Rattle.jlr_machine.specs.Edges.Chain.{UpToSoft}
 use Rattle.jlr_laws.specs.Laws.{followed}
 use Rattle.jlr_laws.proofs.Sets.{in_front}
 use Rattle.jlr_barrier.specs.Graphs.{Clock, Graph, held}
-use Rattle.jlr_barrier.specs.Marking.{Marking, Shaded, marked}
+use Rattle.jlr_barrier.specs.Marking.{Shaded, marked}
 use Rattle.jlr_sweep.specs.Marking.{keeps}
 use Rattle.jlr_sweep.proofs.Following.{marking_begins, marking_goes_on, marking_ends, followed_objects, followed_is_soft, none_counted, object_within}
 use Rattle.jlr_sweep.proofs.mark.mark.Goals as goal

@@ -1,4 +1,4 @@
-use Rattle.std.proofs.Common.{refl, sym, subst, ap}
+use Rattle.std.proofs.Common.{refl, sym, subst, ap, arith}
 use Rattle.jlr_machine.specs.declared.machine.Machine.{Machine}
 use Rattle.jlr_barrier.specs.Graphs.{Graph}
 use Rattle.jlr_core.specs.Machines.{machine_of}
@@ -8,8 +8,8 @@ use Rattle.jlr_core.proofs.Rooms.{finds_no_room}
 use Rattle.jlr_core.proofs.state.State.allocate.Goals as goal
 
 pub returns-in_default-clause-full : goal.returns-in_default-clause-full
-returns-in_default-clause-full c = (
+returns-in_default-clause-full g c = (
   refl,
-  subst (λ (g : Graph). FindsNoRoom (machine_of c.args.self.now) c.make_room.new.choice (machine_with g c.make_room.new.self.resource_limit c.make_room.new.self.cycle_open)) (sym c.in_default.ensures.none.0)
-      (finds_no_room (machine_of c.args.self.now) c.args.choice.now c.make_room.new.choice (machine_of c.make_room.new.self) c.make_room.ensures.made (c.in_default.ensures.full.0 refl)),
+  subst (λ (h : Graph). FindsNoRoom (machine_of c.args.self.now) 1 c.make_room.new.choice (machine_with c.make_room.new.self.cleaner h c.make_room.new.self.cycle_open)) (sym c.in_default.ensures.none.0)
+      (finds_no_room (machine_of c.args.self.now) 1 c.args.choice.now c.make_room.new.choice (machine_of c.make_room.new.self) c.make_room.ensures.made (omega (arith, c.in_default.ensures.full.0 refl))),
 )

@@ -8,7 +8,7 @@ use Rattle.jlr_core.proofs.Named.{named_object, of_another_kind}
 use Rattle.jlr_core.proofs.state.State.check_queue_or_null.Goals as goal
 
 pub returns-in-Some-2 : goal.returns-in-Some-2
-returns-in-Some-2 c =
+returns-in-Some-2 g c =
     let m = machine_of c.args.self.now in
     let slot = c.in-Some-2.field-0 in
     let named : slot_named m c.args.by c.args.queue ≡ Some slot = sym c.lookup.ensures ∙ c.in-Some-2.is in

@@ -5,7 +5,7 @@ use Rattle.jlr_core.proofs.Named.{named_object}
 use Rattle.jlr_core.proofs.state.State.check_slot.Goals as goal
 
 pub returns-in-Some-clause-object : goal.returns-in-Some-clause-object
-returns-in-Some-clause-object c =
+returns-in-Some-clause-object g c =
     let m = machine_of c.args.self.now in
     let e = sym c.lookup.ensures ∙ c.in-Some.is in
     subst (λ o. IsTrue (is_some (option_and_then (at m.objects) o))) (sym e) (named_object m c.args.by c.args.handle c.in-Some.slot c.requires.fit e)

@@ -9,14 +9,14 @@ use Rattle.jlr_core.proofs.Clearings.{same_policy}
 use Rattle.jlr_core.proofs.state.State.collect.Goals as goal
 
 pub full-requires-clause-fit : goal.full-requires-clause-fit
-full-requires-clause-fit c =
+full-requires-clause-fit g c =
     let s = c.args.self.now in
-    (frame_of s, rooted s.heap.graph s.resource_limit s.cycle_open c.kinds_are_known.ensures c.no_calls.ensures c.requires.fit)
+    (frame_of s, rooted s.cleaner s.heap.graph s.cycle_open c.requires.fit)
 
 pub returns-clause-collects : goal.returns-clause-collects
-returns-clause-collects c =
+returns-clause-collects g c =
     let s = c.args.self.now in
-    let n = machine_with c.full.new.heap.graph s.resource_limit false in
+    let n = machine_with s.cleaner c.full.new.heap.graph false in
     subst (λ (p : Policy). Collects (keeps p s.heap.clock) (machine_of s) c.args.choice.now c.full.new.choice n)
     (same_policy c.new-policy.result (record { soft_age = s.soft_age; mode = c.args.mode }) c.new-policy.ensures.soft_age c.new-policy.ensures.mode)
-    (c.full.ensures.collects (frame_of s) (rooted s.heap.graph s.resource_limit s.cycle_open c.kinds_are_known.ensures c.no_calls.ensures c.requires.fit))
+    (c.full.ensures.collects (frame_of s) (rooted s.cleaner s.heap.graph s.cycle_open c.requires.fit))

@@ -4,7 +4,7 @@ use Rattle.jlr_core.proofs.Clearings.{meets_collect}
 use Rattle.jlr_core.proofs.state.State.collect_cycle.Goals as goal
 
 pub returns-clause-meets : goal.returns-clause-meets
-returns-clause-meets c =
+returns-clause-meets g c =
     let s = c.args.self.now in
     let open_now : s.cycle_open ≡ true = search rules in
     meets_collect (machine_of s) (machine_of c.collect.new.self) s.soft_age s.heap.clock c.args.choice.now c.collect.new.choice c.requires.fit open_now c.requires.nothing c.collect.ensures.collects

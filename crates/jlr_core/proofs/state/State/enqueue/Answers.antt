@@ -8,9 +8,9 @@ use Rattle.jlr_core.proofs.Queues.{enqueue_after, enqueue_reply, enqueued_long}
 use Rattle.jlr_core.proofs.state.State.enqueue.Goals as goal
 
 pub returns-in-Ok-clause-meets : goal.returns-in-Ok-clause-meets
-returns-in-Ok-clause-meets c =
+returns-in-Ok-clause-meets g c =
     let m = machine_of c.args.self.now in
-    let n = machine_with c.enqueue.new.heap.graph c.args.self.now.resource_limit c.args.self.now.cycle_open in
+    let n = machine_with c.args.self.now.cleaner c.enqueue.new.heap.graph c.args.self.now.cycle_open in
     let slot = c.in_ok-slot.slot in
     let named = c.in_ok-slot.ensures.1 in
     meets_plain m n (Enqueue c.args.by c.args.reference) (Truth c.in-Ok.added) tt c.in_ok-slot.ensures.0
@@ -18,4 +18,4 @@ returns-in-Ok-clause-meets c =
     (c.in-Ok.ensures.enqueued (frame_of c.args.self.now) ∙ enqueue_after m c.args.by c.args.reference slot named)
 
 pub returns-in-Ok-clause-cells : goal.returns-in-Ok-clause-cells
-returns-in-Ok-clause-cells c = enqueued_long (machine_of c.args.self.now) (machine_with c.enqueue.new.heap.graph c.args.self.now.resource_limit c.args.self.now.cycle_open) c.in_ok-slot.slot (c.in-Ok.ensures.enqueued (frame_of c.args.self.now))
+returns-in-Ok-clause-cells g c = enqueued_long (machine_of c.args.self.now) (machine_with c.args.self.now.cleaner c.enqueue.new.heap.graph c.args.self.now.cycle_open) c.in_ok-slot.slot (c.in-Ok.ensures.enqueued (frame_of c.args.self.now))

@@ -11,7 +11,7 @@ use Rattle.jlr_core.proofs.Entries.{allowed_full, meets_collection}
 use Rattle.jlr_core.proofs.state.State.full.Goals as goal
 
 pub returns-clause-meets : goal.returns-clause-meets
-returns-clause-meets c =
+returns-clause-meets g c =
     let m = machine_of c.args.self.now in
     let n = machine_of c.collect.new.self in
     let age = c.args.self.now.soft_age in
@@ -20,11 +20,11 @@ returns-clause-meets c =
     subst (λ (k : Mode). Collects (keeps (record { soft_age = age; mode = k }) clock) m c.args.choice.now c.collect.new.choice n) c.mode_of.ensures c.collect.ensures.collects in
     let chosen : c.collect.new.choice.chosen ≡ record { collected = Some (record { kept = x.kept; pending = x.pending }); fresh = [] } =
     ap (λ (k : Choosing). k.chosen) (x.chosen ∙ ap (λ (k : Choosing). collecting k x.kept x.pending) c.requires.nothing) in
-    meets_collection m c.args.by c.args.mode (record { kept = x.kept; pending = x.pending }) c.collect.new.choice n (allowed_full m c.args.by c.args.mode c.in_ok-check_session.ensures c.no_call.ensures) chosen
+    meets_collection m c.args.by c.args.mode (record { kept = x.kept; pending = x.pending }) c.collect.new.choice n (allowed_full m c.args.by c.args.mode c.in_ok-check_session.ensures c.in_ok-check_no_call.ensures) chosen
     (may_collect m c.args.by c.args.mode age clock c.args.choice.now c.collect.new.choice n c.requires.fit x) x.left
 
 pub returns-clause-policy : goal.returns-clause-policy
-returns-clause-policy c =
+returns-clause-policy g c =
     let m = machine_of c.args.self.now in
     let n = machine_of c.collect.new.self in
     let age = c.args.self.now.soft_age in

@@ -8,13 +8,13 @@ use Rattle.jlr_core.proofs.Queues.{handed_over_long}
 use Rattle.jlr_core.proofs.state.State.hand_over.Goals as goal
 
 pub returns-in-Ok-clause-meets : goal.returns-in-Ok-clause-meets
-returns-in-Ok-clause-meets c =
+returns-in-Ok-clause-meets g c =
     let m = machine_of c.args.self.now in
-    let n = machine_with c.hand_over.new.heap.graph c.args.self.now.resource_limit c.args.self.now.cycle_open in
+    let n = machine_with c.args.self.now.cleaner c.hand_over.new.heap.graph c.args.self.now.cycle_open in
     let h = c.in-Ok.ensures.handed (frame_of c.args.self.now) in
     meets_plain m n HandOver (Handed c.in-Ok.handed) tt refl h.0 h.1
 
 pub returns-in-Ok-clause-cells : goal.returns-in-Ok-clause-cells
-returns-in-Ok-clause-cells c =
+returns-in-Ok-clause-cells g c =
     let h = c.in-Ok.ensures.handed (frame_of c.args.self.now) in
-    handed_over_long (machine_of c.args.self.now) (machine_with c.hand_over.new.heap.graph c.args.self.now.resource_limit c.args.self.now.cycle_open) h.1
+    handed_over_long (machine_of c.args.self.now) (machine_with c.args.self.now.cleaner c.hand_over.new.heap.graph c.args.self.now.cycle_open) h.1

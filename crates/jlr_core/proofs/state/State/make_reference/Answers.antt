@@ -7,16 +7,16 @@ use Rattle.jlr_core.proofs.Entries.{meets_full, meets_new_reference, allowed_ref
 use Rattle.jlr_core.proofs.state.State.make_reference.Goals as goal
 
 pub returns-in-Err-clause-meets : goal.returns-in-Err-clause-meets
-returns-in-Err-clause-meets c =
+returns-in-Err-clause-meets g c =
     let m = machine_of c.args.self.now in
     let n = machine_of c.allocate.new.self in
     let ask = MakeRef c.args.by c.args.kind c.args.referent c.args.queue in
-    let allowed = allowed_reference m c.args.by c.args.kind c.args.referent c.args.queue c.in_ok-check_session.ensures c.in_ok-check_handle.ensures c.in_ok-check_handle-2.ensures c.in_ok-target.ensures.slot.1 c.in_ok-queue.ensures.1 c.no_call.ensures c.in_ok-check_free_handle.ensures in
-    subst (λ r. Meets m ask (Refused r) c.allocate.new.choice.chosen n) (sym c.in-Err.ensures.full.0) (meets_full m ask c.allocate.new.choice n allowed refl c.in-Err.ensures.full.1)
+    let allowed = allowed_reference m c.args.by c.args.kind c.args.referent c.args.queue c.in_ok-check_session.ensures c.in_ok-check_handle.ensures c.in_ok-check_handle-2.ensures c.in_ok-target.ensures.slot.1 c.in_ok-queue.ensures.1 c.in_ok-check_no_call.ensures c.in_ok-check_free_handle.ensures in
+    subst (λ r. Meets m ask (Refused r) c.allocate.new.choice.chosen n) (sym c.in-Err.ensures.full.0) (meets_full m 1 ask c.allocate.new.choice n allowed refl c.in-Err.ensures.full.1)
 
 pub returns-in-Ok-clause-meets : goal.returns-in-Ok-clause-meets
-returns-in-Ok-clause-meets c =
+returns-in-Ok-clause-meets g c =
     let m = machine_of c.args.self.now in
-    let allowed = allowed_reference m c.args.by c.args.kind c.args.referent c.args.queue c.in_ok-check_session.ensures c.in_ok-check_handle.ensures c.in_ok-check_handle-2.ensures c.in_ok-target.ensures.slot.1 c.in_ok-queue.ensures.1 c.no_call.ensures c.in_ok-check_free_handle.ensures in
+    let allowed = allowed_reference m c.args.by c.args.kind c.args.referent c.args.queue c.in_ok-check_session.ensures c.in_ok-check_handle.ensures c.in_ok-check_handle-2.ensures c.in_ok-target.ensures.slot.1 c.in_ok-queue.ensures.1 c.in_ok-check_no_call.ensures c.in_ok-check_free_handle.ensures in
     meets_new_reference m (machine_of c.allocate.new.self) (machine_of c.give.new.self) c.args.by c.in-Ok.slot c.args.kind c.args.referent c.args.queue c.in_ok-target.target c.in_ok-queue.queue c.allocate.new.choice c.give.result allowed
     c.in_ok-target.ensures.slot.0 c.in_ok-queue.ensures.0 c.in-Ok.ensures.allocates c.give.ensures.answer c.give.ensures.held

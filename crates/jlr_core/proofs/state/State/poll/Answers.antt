@@ -8,24 +8,21 @@ use Rattle.jlr_core.proofs.Queues.{fronts_first, poll_answered, polled_long, pol
 use Rattle.jlr_core.proofs.state.State.poll.Goals as goal
 
 pub give_known-requires : goal.give_known-requires
-give_known-requires c =
+give_known-requires g c =
     let m = machine_of c.args.self.now in
-    let limit = c.args.self.now.resource_limit in
-    let mid = machine_with c.poll-front.new.heap.graph limit c.args.self.now.cycle_open in
+    let mid = machine_with c.args.self.now.cleaner c.poll-front.new.heap.graph c.args.self.now.cycle_open in
     let first = c.poll-front.ensures.front ∙ fronts_first (option_and_then as_members (at m.objects c.in_ok-slot.slot)) in
     same_room m mid c.args.by c.poll-front.result (polled_mutators m mid c.in_ok-slot.slot c.poll-front.result (c.poll-front.ensures.polled (frame_of c.args.self.now)))
     (ap (λ o. is_some o && not (has_free_handle m c.args.by)) first ∙ c.in_ok-slot.ensures.3)
 
 pub returns-clause-answered : goal.returns-clause-answered
-returns-clause-answered c =
+returns-clause-answered g c =
     let m = machine_of c.args.self.now in
-    let limit = c.args.self.now.resource_limit in
-    let mid = machine_with c.poll-front.new.heap.graph limit c.args.self.now.cycle_open in
+    let mid = machine_with c.args.self.now.cleaner c.poll-front.new.heap.graph c.args.self.now.cycle_open in
     poll_answered m mid (machine_of c.give_known.new.self) c.args.by c.args.queue c.in_ok-slot.slot c.poll-front.result c.give_known.result
     c.in_ok-slot.ensures.0 c.in_ok-slot.ensures.1 c.poll-front.ensures.front (c.poll-front.ensures.polled (frame_of c.args.self.now)) c.give_known.ensures.answer c.give_known.ensures.held
 
 pub returns-clause-cells : goal.returns-clause-cells
-returns-clause-cells c =
+returns-clause-cells g c =
     let m = machine_of c.args.self.now in
-    let limit = c.args.self.now.resource_limit in
-    ap (λ (h : Heap). length h) c.give_known.ensures.objects ∙ polled_long m (machine_with c.poll-front.new.heap.graph limit c.args.self.now.cycle_open) c.in_ok-slot.slot c.poll-front.result (c.poll-front.ensures.polled (frame_of c.args.self.now))
+    ap (λ (h : Heap). length h) c.give_known.ensures.objects ∙ polled_long m (machine_with c.args.self.now.cleaner c.poll-front.new.heap.graph c.args.self.now.cycle_open) c.in_ok-slot.slot c.poll-front.result (c.poll-front.ensures.polled (frame_of c.args.self.now))

@@ -6,7 +6,7 @@ use Rattle.jlr_core.proofs.state.State.put.Goals as goal
 
 -- a handle stands for an object, which lies within the heap
 pub store-requires-clause-within : goal.store-requires-clause-within
-store-requires-clause-within c =
+store-requires-clause-within g c =
     λ s e.
     let target : c.lookup-target.result ≡ Some s = cc in
     object_within c.args.self.now.heap.graph.objects s (named_object (machine_of c.args.self.now) c.args.by c.args.value s c.requires (sym c.lookup-target.ensures ∙ target))

@@ -1,0 +1,43 @@
+//! New guards, each with the cleanable that finishes what it stands for.
+ghost use Rattle.std.specs.Prelude.{◌≡◌, ◌+◌, ◌<◌, ◌↔◌, IfNone, IfSome, IsNone, IsTrue, length};
+ghost use Rattle.jlr_machine.specs.Objects.{at, change_at, occupied, some_and, with_cleanable};
+ghost use Rattle.jlr_machine.specs.Refusals.{is_cleanable};
+ghost use Rattle.jlr_cells.specs.Contents.{watching};
+ghost use Rattle.jlr_barrier.specs.Graphs.{used_now, with_objects};
+ghost use Rattle.jlr_barrier.specs.Guards.{AreFree, with_guard};
+
+use crate::heap::Heap;
+use jlr_cells::Shape;
+use jlr_types::{ActionNo, Rid, Slot, Work};
+
+impl Heap {
+    /// A new guard and its cleanable, which waits for it to finish a resource, in two free cells, if there are two. Both were made now.
+    pub fn allocate_guard(&mut self, rid: Rid, action: ActionNo) -> Option<(Slot, Slot)>
+        ensures full { IsNone result ↔ (length self.old.graph.objects < occupied self.old.graph.objects + 2) }
+        ensures none { IfNone result ((self.new.graph ≡ self.old.graph) × (self.new.clock ≡ self.old.clock)) }
+        ensures free { IfSome result (λ made. AreFree self.old.graph.objects made.0 made.1) }
+        ensures made { IfSome result (λ made. self.new.graph ≡ with_objects self.old.graph (with_guard self.old.graph.objects made.0 made.1 rid action)) }
+        ensures clock { IfSome result (λ made. self.new.clock ≡ used_now (used_now self.old.clock made.0) made.1) }
+    {
+        if self.free_count() < 2 {
+            return None;
+        }
+        let cleanable = self.allocate(Shape::Cleanable {
+            referent: None,
+            action,
+            work: Work::Resource(rid),
+        })?;
+        let guard = self.allocate(Shape::Guard { rid, cleanable })?;
+        self.watch(cleanable, guard);
+        Some((guard, cleanable))
+    }
+
+    /// The cleanable at a slot waits for an object from now on.
+    fn watch(&mut self, slot: Slot, referent: Slot)
+        requires { IsTrue (some_and is_cleanable (at self.old.graph.objects slot)) }
+        ensures graph { self.new.graph ≡ with_objects self.old.graph (change_at self.old.graph.objects slot (with_cleanable (watching referent))) }
+        ensures clock { self.new.clock ≡ self.old.clock }
+    {
+        self.cells.watch(slot, referent);
+    }
+}

@@ -1,0 +1,70 @@
+//! The names of objects.
+ghost use Rattle.std.specs.Prelude.{◌≡◌, IfOk, IsOk, IsTrue, OnErr, OnOk, is_some, length};
+ghost use Rattle.jlr_machine.specs.Lookups.{bound, slot_bound, unbound};
+ghost use Rattle.jlr_roots.specs.Naming.{names_of};
+ghost use Rattle.jlr_barrier.specs.Graphs.{with_names};
+
+use crate::heap::Heap;
+use jlr_machine::items::Items;
+use jlr_machine::machine::Binding;
+use jlr_machine::text::Name;
+use jlr_types::Slot;
+use std::alloc::{AllocError, Global};
+
+impl Heap {
+    /// How many names there are.
+    pub fn name_count(&self) -> usize
+        ensures { result ≡ length self.now.graph.names }
+    {
+        self.names.len()
+    }
+
+    /// The slot that a name stands for, if it is bound.
+    pub fn find(&self, name: &Name) -> Option<Slot>
+        ensures { result ≡ slot_bound self.now.graph.names name.now }
+    {
+        self.names.find(name)
+    }
+
+    /// From now on a name stands for this slot, which is a root as long, so this is one of the calls that make edges. An old name
+    /// keeps its place and takes no memory, a new one comes last.
+    ///
+    /// # Errors
+    /// `AllocError` where there is no memory for a new name. Nothing has changed then.
+    pub fn bind(&mut self, name: &Name, slot: Slot) -> Result<(), AllocError>
+        ensures bound { OnOk result (self.new.graph ≡ with_names self.old.graph (bound self.old.graph.names name.now slot)) }
+        ensures err { OnErr result (self.new ≡ self.old) }
+        ensures old { IsTrue (is_some (slot_bound self.old.graph.names name.now)) → IsOk result }
+        ensures clock { self.new.clock ≡ self.old.clock }
+    {
+        self.names.bind(name, slot)
+    }
+
+    /// A name stands for nothing any more. Where it is not bound, nothing changes.
+    pub fn unbind(&mut self, name: &Name)
+        ensures graph { self.new.graph ≡ with_names self.old.graph (unbound self.old.graph.names name.now) }
+        ensures clock { self.new.clock ≡ self.old.clock }
+    {
+        self.names.unbind(name);
+    }
+
+    /// The names alone, in order of binding.
+    ///
+    /// # Errors
+    /// `AllocError` where there is no memory for them.
+    pub fn names(&self, alloc: Global) -> Result<Items<Name>, AllocError>
+        ensures { IfOk result (λ names. names ≡ names_of self.now.graph.names) }
+    {
+        self.names.names(alloc)
+    }
+
+    /// The bindings as plain data.
+    ///
+    /// # Errors
+    /// `AllocError` where there is no memory for them.
+    pub fn names_image(&self, alloc: Global) -> Result<Items<Binding>, AllocError>
+        ensures { IfOk result (λ names. names ≡ self.now.graph.names) }
+    {
+        self.names.image(alloc)
+    }
+}

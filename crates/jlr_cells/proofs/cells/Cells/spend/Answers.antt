@@ -1,0 +1,19 @@
+use Rattle.std.proofs.Common.{◌≡◌, ◌<◌, true, length}
+use Rattle.std.specs.Prelude.{is_some}
+use Rattle.jlr_machine.specs.Objects.{at, with_cleanable}
+use Rattle.jlr_machine.specs.Calls.{spent}
+use Rattle.jlr_cells.specs.Contents.{objects_in}
+use Rattle.jlr_cells.proofs.Slots.{object_of_cleanable, change_at-objects_in, within_cells}
+use Rattle.jlr_cells.proofs.ByKind.{kept_cleanable}
+use Rattle.jlr_cells.proofs.cells.Cells.spend.Goals as goal
+
+holds : (c : goal.After-self-1) → is_some (at (objects_in c.self.inside.cells.items) c.number.result) ≡ true
+holds c = rw (c.number.ensures, c.self.view_is) (object_of_cleanable _ c.requires)
+
+pub invariant_of-self : goal.invariant_of-self
+invariant_of-self c = kept_cleanable _ _ _ _ _ _ c.index_mut-cell.result.now _ spent c.self.invariant (holds c) c.index_mut-cell.ensures.value c.spend.ensures.new c.spend.ensures.kind
+
+pub returns : goal.returns
+returns c =
+    let within : c.number.result < length c.self.inside.cells.items = within_cells _ _ (holds c) in
+    rw (← c.self.view_is, ← c.number.ensures) (change_at-objects_in _ _ c.index_mut-cell.result.now _ (with_cleanable spent) within c.index_mut-cell.ensures.value c.spend.ensures.new)

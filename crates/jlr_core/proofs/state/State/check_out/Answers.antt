@@ -1,0 +1,32 @@
+use Rattle.std.proofs.Common.{Some, ap, ◌∙◌}
+use Rattle.jlr_machine.specs.declared.machine.Machine.{Machine}
+use Rattle.jlr_machine.specs.declared.machine.Call.TheVariants.{Out as CallOut}
+use Rattle.jlr_machine.specs.declared.ask.Ask.TheVariants.{CheckOut}
+use Rattle.jlr_machine.specs.declared.ask.Answer.TheVariants.{Out}
+use Rattle.jlr_machine.specs.Lookups.{with_call}
+use Rattle.jlr_barrier.specs.Graphs.{Graph}
+use Rattle.jlr_core.specs.Machines.{machine_of}
+use Rattle.jlr_core.specs.State.{machine_with}
+use Rattle.jlr_core.proofs.Entries.{meets_plain}
+use Rattle.jlr_core.proofs.Guards.{checked_out_is, out_reply}
+use Rattle.jlr_machine.specs.declared.machine.ResourceState.TheVariants.{Out as IsOut}
+use Rattle.jlr_core.proofs.Moving.{taken_out}
+use Rattle.jlr_core.proofs.state.State.check_out.Goals as goal
+
+pub returns-clause-entry : goal.returns-clause-entry
+returns-clause-entry g c =
+    let s = c.args.self.now in
+    let m = machine_of s in
+    let k = c.args.by in
+    let held = c.in-Ok.held in
+    let n = machine_with c.check_out-resource.new.self c.begin_call.new.self.graph s.cycle_open in
+    meets_plain m n (CheckOut k c.args.guard) (Out held.guard.rid) tt c.in-Ok.ensures.0 (out_reply m k c.args.guard held c.in-Ok.ensures.1)
+    (ap (λ (h : Graph). machine_with c.check_out-resource.new.self h s.cycle_open) c.begin_call.ensures.graph
+    ∙ ap (λ (x : Machine). with_call x k (Some held.slot) (CallOut held.guard.rid)) (c.check_out-resource.ensures.machine m)
+    ∙ checked_out_is m k c.args.guard held (Out held.guard.rid) c.in-Ok.ensures.1)
+
+pub returns-clause-moves : goal.returns-clause-moves
+returns-clause-moves g c =
+    let rid = c.in-Ok.held.guard.rid in
+    let called = c.check_out-resource.ensures in
+    taken_out c.args.self.now.cleaner.table c.check_out-resource.new.self.table rid IsOut c.check_out-resource.result called.put_in_last called.state (λ e. absurd (cc e)) called.others

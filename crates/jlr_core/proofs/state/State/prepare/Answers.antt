@@ -1,0 +1,18 @@
+use Rattle.std.proofs.Common.{◌≡◌, ap, subst, ◌∙◌}
+use Rattle.jlr_machine.specs.declared.machine.Machine.{Machine}
+use Rattle.jlr_resource.specs.Resources.{Resources}
+use Rattle.jlr_cleaner.specs.Cleanings.{Cleanings}
+use Rattle.jlr_core.specs.Machines.{machine_of}
+use Rattle.jlr_core.specs.State.{machine_with}
+use Rattle.jlr_core.specs.Collecting.{MakesRoom}
+use Rattle.jlr_core.proofs.Entries.{meets_prepared}
+use Rattle.jlr_core.proofs.state.State.prepare.Goals as goal
+
+pub returns-clause-meets : goal.returns-clause-meets
+returns-clause-meets g c =
+    let s = c.args.self.now in
+    let kept : c.reserve.new.self ≡ record s.cleaner { table = record s.cleaner.table { room = c.reserve.new.self.table.room } } =
+    c.in_ok-reserve.ensures.rest ∙ ap {A = Resources g.row.R.Denot} {B = Cleanings g.row.R.Denot} (λ t. record s.cleaner { table = t }) c.in_ok-reserve.ensures.table in
+    let same : machine_with c.reserve.new.self s.heap.graph s.cycle_open ≡ machine_of s = ap {A = Cleanings g.row.R.Denot} {B = Machine} (λ k. machine_with k s.heap.graph s.cycle_open) kept in
+    let made = subst (λ (m : Machine). MakesRoom m 2 c.args.choice.now c.make_room.new.choice (machine_of c.make_room.new.self)) same c.make_room.ensures.made in
+    meets_prepared (machine_of s) (machine_of c.make_room.new.self) (machine_of c.place_guard.new.self) c.args.by c.place_guard.result c.make_room.new.choice c.place_guard.new.choice c.args.choice.now c.in_ok-check_prepare.ensures.0 made c.place_guard.ensures.placed

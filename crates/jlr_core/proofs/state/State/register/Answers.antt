@@ -1,0 +1,49 @@
+use Rattle.std.proofs.Common.{◌≡◌, ◌-◌, ◌^◌, ℕ, nat_le, false, Some, refl, sym, ap, subst, ◌∙◌}
+use Rattle.jlr_types.specs.declared.Refusal.{Refusal}
+use Rattle.jlr_types.specs.declared.Refusal.TheVariants.{NoMemory}
+use Rattle.jlr_types.specs.declared.Work.TheVariants.{Note}
+use Rattle.jlr_machine.specs.declared.object.Object.TheVariants.{Cleanable}
+use Rattle.jlr_machine.specs.declared.object.CleanState.TheVariants.{Armed}
+use Rattle.jlr_machine.specs.declared.ask.Ask.TheVariants.{Register}
+use Rattle.jlr_machine.specs.declared.ask.Answer.TheVariants.{Refused}
+use Rattle.jlr_machine.specs.declared.entry.Chosen.{Chosen}
+use Rattle.jlr_machine.specs.Choices.{Choosing}
+use Rattle.jlr_machine.specs.Lookups.{with_handle}
+use Rattle.jlr_cleaner.specs.Cleanings.{Cleanings}
+use Rattle.jlr_core.specs.Machines.{machine_of}
+use Rattle.jlr_core.specs.State.{Meets, machine_with}
+use Rattle.jlr_core.specs.Collecting.{Allocates}
+use Rattle.jlr_core.proofs.Entries.{meets_full, meets_refused, meets_registered, never_memory}
+use Rattle.jlr_core.proofs.TakeUps.{numbered}
+use Rattle.jlr_core.proofs.state.State.register.Goals as goal
+
+pub returns-in-Err-clause-meets : goal.returns-in-Err-clause-meets
+returns-in-Err-clause-meets g c =
+    let m = machine_of c.args.self.now in
+    let ask = Register c.args.by c.args.cleaner c.args.object c.args.note in
+    subst (λ (x : Chosen). Meets m ask (Refused c.in-Err.refusal) x m) (sym (ap (λ (x : Choosing). x.chosen) c.requires.nothing)) (meets_refused m ask c.in-Err.refusal (c.in-Err.ensures c.args.note))
+
+pub returns-in-Err-clause-memory : goal.returns-in-Err-clause-memory
+returns-in-Err-clause-memory g c =
+    λ e.
+    let wanting : c.in-Err.refusal ≡ NoMemory = cc e in
+    never_memory (machine_of c.args.self.now) (Register c.args.by c.args.cleaner c.args.object c.args.note) c.in-Err.refusal refl (c.in-Err.ensures c.args.note) wanting
+
+pub returns-in-Err-allocate-clause-meets : goal.returns-in-Err-allocate-clause-meets
+returns-in-Err-allocate-clause-meets g c =
+    let m = machine_of c.args.self.now in
+    let n = machine_of c.allocate.new.self in
+    let ask = Register c.args.by c.args.cleaner c.args.object c.args.note in
+    subst (λ (r : Refusal). Meets m ask (Refused r) c.allocate.new.choice.chosen n) (sym c.in-Err-allocate.ensures.full.0) (meets_full m 1 ask c.allocate.new.choice n (c.in-Ok.ensures.0 c.args.note) refl c.in-Err-allocate.ensures.full.1)
+
+pub returns-in-Ok-allocate-clause-meets : goal.returns-in-Ok-allocate-clause-meets
+returns-in-Ok-allocate-clause-meets g c =
+    let s = c.args.self.now in
+    let m = machine_of s in
+    let mid = machine_of c.allocate.new.self in
+    let same = c.in-Ok-allocate.ensures.cleaner in
+    let left = subst (λ (k : Cleanings g.row.R.Denot). nat_le (2 ^ 64 - 1) k.next_action ≡ false) (sym same) c.in-Ok.ensures.3 in
+    let number = numbered c.take_number-number.result c.allocate.new.self.cleaner c.take_number-number.new.self left c.take_number-number.ensures.given c.take_number-number.ensures.none in
+    let made = subst (λ (k : ℕ). Allocates m (Cleanable (record { referent = Some c.in-Ok.target; action = k; work = Note c.args.note; state = Armed })) c.allocate.new.choice c.in-Ok-allocate.slot mid) (c.new.ensures ∙ c.next_action.ensures) c.in-Ok-allocate.ensures.allocates in
+    meets_registered m mid (machine_of c.give.new.self) c.args.by c.in-Ok-allocate.slot c.args.cleaner c.args.object c.args.note c.in-Ok.target c.allocate.new.choice c.give.result (c.in-Ok.ensures.0 c.args.note) c.in-Ok.ensures.1 made c.give.ensures.answer
+    (c.give.ensures.held ∙ ap (λ (k : Cleanings g.row.R.Denot). with_handle (machine_with k c.allocate.new.self.heap.graph c.allocate.new.self.cycle_open) c.args.by c.in-Ok-allocate.slot) number)

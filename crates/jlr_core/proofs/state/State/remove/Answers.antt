@@ -1,0 +1,28 @@
+use Rattle.std.proofs.Common.{◌≡◌, ◌&&◌, not, is_some, false, sym, ◌∙◌, ap, length}
+use Rattle.jlr_machine.specs.Lookups.{has_free_handle}
+use Rattle.jlr_machine.specs.Objects.{as_members, at, Heap}
+use Rattle.std.specs.Prelude.{option_and_then}
+use Rattle.jlr_core.specs.Machines.{frame_of, machine_of}
+use Rattle.jlr_core.specs.State.{machine_with}
+use Rattle.jlr_core.proofs.Queues.{fronts_first, remove_answered, polled_long, polled_mutators, same_room}
+use Rattle.jlr_core.proofs.state.State.remove.Goals as goal
+
+pub give_known-requires : goal.give_known-requires
+give_known-requires g c =
+    let m = machine_of c.args.self.now in
+    let mid = machine_with c.args.self.now.cleaner c.poll-member.new.heap.graph c.args.self.now.cycle_open in
+    let first = c.poll-member.ensures.front ∙ fronts_first (option_and_then as_members (at m.objects c.in_ok-slot.slot)) in
+    same_room m mid c.args.by c.poll-member.result (polled_mutators m mid c.in_ok-slot.slot c.poll-member.result (c.poll-member.ensures.polled (frame_of c.args.self.now)))
+    (ap (λ o. is_some o && not (has_free_handle m c.args.by)) first ∙ c.in_ok-slot.ensures.3)
+
+pub returns-clause-answered : goal.returns-clause-answered
+returns-clause-answered g c =
+    let m = machine_of c.args.self.now in
+    let mid = machine_with c.args.self.now.cleaner c.poll-member.new.heap.graph c.args.self.now.cycle_open in
+    remove_answered m mid (machine_of c.give_known.new.self) c.args.by c.args.queue c.in_ok-slot.slot c.poll-member.result c.give_known.result
+    c.in_ok-slot.ensures.0 c.in_ok-slot.ensures.1 c.poll-member.ensures.front (c.poll-member.ensures.polled (frame_of c.args.self.now)) c.give_known.ensures.answer c.give_known.ensures.held
+
+pub returns-clause-cells : goal.returns-clause-cells
+returns-clause-cells g c =
+    let m = machine_of c.args.self.now in
+    ap (λ (h : Heap). length h) c.give_known.ensures.objects ∙ polled_long m (machine_with c.args.self.now.cleaner c.poll-member.new.heap.graph c.args.self.now.cycle_open) c.in_ok-slot.slot c.poll-member.result (c.poll-member.ensures.polled (frame_of c.args.self.now))

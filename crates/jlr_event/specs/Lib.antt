@@ -1,0 +1,3 @@
+-- What events and replies are without their resources.
+pub mod Events
+pub mod Topics

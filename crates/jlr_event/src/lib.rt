@@ -1,0 +1,8 @@
+//! What comes to the core and what goes back, with the resources that they carry, and the asks and answers that they are without
+//! them.
+#![tactic(auto)]
+
+mod asks;
+pub mod event;
+#[cfg(test)]
+mod tests;

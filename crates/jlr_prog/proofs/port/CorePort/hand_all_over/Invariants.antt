@@ -1,0 +1,11 @@
+use Rattle.std.proofs.Common.{List, length}
+use Rattle.jlr_core.specs.Cores.{Kept}
+use Rattle.jlr_prog.specs.Settling.{HandsOver, Turns}
+use Rattle.jlr_prog.specs.Ports.{Steps}
+use Rattle.jlr_prog.proofs.port.CorePort.hand_all_over.Given as goal
+
+abbrev pub invariant-loop : goal.invariant-loop
+invariant-loop g l = (states : List (Kept g.row.R.Denot)) × Turns (HandsOver (Steps {R = g.row.R.Denot})) states l.fn.self l.self
+
+abbrev pub decreases-loop : goal.decreases-loop
+decreases-loop g l = length l.self.machine.pending

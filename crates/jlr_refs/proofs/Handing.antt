@@ -1,0 +1,130 @@
+-- The handler's step, as the machine has it.
+use Rattle.std.proofs.Common.{◌≡◌, ℕ, true, List, drop, Option, Some, None, option_and_then, refl, sym, ◌∙◌, ap, subst}
+use Rattle.std.specs.Prelude.{option_map, slice_get}
+use Rattle.jlr_machine.specs.declared.machine.Machine.{Machine}
+use Rattle.jlr_machine.specs.declared.object.Object.{Object}
+use Rattle.jlr_machine.specs.declared.object.Object.TheVariants.{Plain, Reference, Queue, Cleaner, Cleanable, Guard}
+use Rattle.jlr_machine.specs.declared.object.Reference.{Reference as ReferenceOf}
+use Rattle.jlr_machine.specs.declared.object.Cleanable.{Cleanable as CleanableOf}
+use Rattle.jlr_machine.specs.declared.object.RefState.{RefState}
+use Rattle.jlr_machine.specs.declared.object.RefState.TheVariants.{Fresh, Pending, Queued, Removed}
+use Rattle.jlr_machine.specs.declared.object.CleanState.{CleanState}
+use Rattle.jlr_machine.specs.declared.object.CleanState.TheVariants.{Armed, Pending as PendingClean, Lined, Spent}
+use Rattle.jlr_machine.specs.declared.ask.Handed.{Handed}
+use Rattle.jlr_machine.specs.declared.ask.Handed.TheVariants.{Queued as HandedQueued, Lined as HandedLined, Skipped, Nothing}
+use Rattle.jlr_machine.specs.declared.ask.Answer.TheVariants.{Handed as HandedAnswer}
+use Rattle.jlr_machine.specs.Objects.{◌∈◌, as_cleanable, as_reference, at, queue_ahead, some_and, with_reference}
+use Rattle.jlr_machine.specs.Refusals.{is_reference}
+use Rattle.jlr_machine.specs.Lookups.{with_object}
+use Rattle.jlr_machine.specs.Calls.{delivered, hand_over_answer, handed, handed_cleanable, handed_over, handed_reference, to_queue, unreferred}
+use Rattle.jlr_laws.proofs.Frames.{is_cleanable_there, is_reference_there, no_some}
+use Rattle.jlr_laws.proofs.Sets.{in_front}
+use Rattle.jlr_barrier.specs.Graphs.{Graph, in_machine, with_pending}
+use Rattle.jlr_refs.specs.Parts.{Delivers, HandsOver, IsFit, handed_there}
+use Rattle.jlr_refs.proofs.Lining.{split}
+use Rattle.jlr_refs.proofs.Room.{pending_there}
+
+-- ---- What the handler does with an object
+
+pub reference_there : (o : Option Object) (r : ReferenceOf) → option_and_then as_reference o ≡ Some r → handed_reference r.state ≡ handed_there o
+reference_there o r e = sym (ap handed_there (is_reference_there o r e))
+
+pub cleanable_there : (o : Option Object) (c : CleanableOf) → option_and_then as_cleanable o ≡ Some c → handed_cleanable c.state ≡ handed_there o
+cleanable_there o c e = sym (ap handed_there (is_cleanable_there o c e))
+
+pub neither_there : (o : Option Object) → option_and_then as_reference o ≡ None → option_and_then as_cleanable o ≡ None → Skipped ≡ handed_there o
+neither_there None no_reference no_cleanable = refl
+neither_there (Some (Plain fields)) no_reference no_cleanable = refl
+neither_there (Some (Reference r)) no_reference no_cleanable = no_some r (sym no_reference)
+neither_there (Some (Queue members)) no_reference no_cleanable = refl
+neither_there (Some Cleaner) no_reference no_cleanable = refl
+neither_there (Some (Cleanable c)) no_reference no_cleanable = no_some c (sym no_cleanable)
+neither_there (Some (Guard g)) no_reference no_cleanable = refl
+
+queued_no_cleanable : (state : CleanState) → handed_cleanable state ≡ HandedQueued → ⊥
+queued_no_cleanable Armed e = absurd (cc e)
+queued_no_cleanable PendingClean e = absurd (cc e)
+queued_no_cleanable Lined e = absurd (cc e)
+queued_no_cleanable Spent e = absurd (cc e)
+
+pub queued_is_reference : (o : Option Object) → handed_there o ≡ HandedQueued → some_and is_reference o ≡ true
+queued_is_reference None e = absurd (cc e)
+queued_is_reference (Some (Plain fields)) e = absurd (cc e)
+queued_is_reference (Some (Reference r)) e = refl
+queued_is_reference (Some (Queue members)) e = absurd (cc e)
+queued_is_reference (Some Cleaner) e = absurd (cc e)
+queued_is_reference (Some (Cleanable c)) e = absurd (queued_no_cleanable c.state e)
+queued_is_reference (Some (Guard g)) e = absurd (cc e)
+
+queued_is_pending : (state : RefState) → handed_reference state ≡ HandedQueued → state ≡ Pending
+queued_is_pending Fresh e = absurd (cc e)
+queued_is_pending Pending e = refl
+queued_is_pending Queued e = absurd (cc e)
+queued_is_pending Removed e = absurd (cc e)
+
+lined_no_reference : (state : RefState) → handed_reference state ≡ HandedLined → ⊥
+lined_no_reference Fresh e = absurd (cc e)
+lined_no_reference Pending e = absurd (cc e)
+lined_no_reference Queued e = absurd (cc e)
+lined_no_reference Removed e = absurd (cc e)
+
+lined_was_pending : (state : CleanState) → handed_cleanable state ≡ HandedLined → state ≡ PendingClean
+lined_was_pending Armed e = absurd (cc e)
+lined_was_pending PendingClean e = refl
+lined_was_pending Lined e = absurd (cc e)
+lined_was_pending Spent e = absurd (cc e)
+
+pub lined_is_cleanable : (o : Option Object) → handed_there o ≡ HandedLined → (c : CleanableOf) × (o ≡ Some (Cleanable c)) × (c.state ≡ PendingClean)
+lined_is_cleanable None e = absurd (cc e)
+lined_is_cleanable (Some (Plain fields)) e = absurd (cc e)
+lined_is_cleanable (Some (Reference r)) e = absurd (lined_no_reference r.state e)
+lined_is_cleanable (Some (Queue members)) e = absurd (cc e)
+lined_is_cleanable (Some Cleaner) e = absurd (cc e)
+lined_is_cleanable (Some (Cleanable c)) e = (c, refl, lined_was_pending c.state e)
+lined_is_cleanable (Some (Guard g)) e = absurd (cc e)
+
+-- ---- The pending list meanwhile
+
+queue_pending : (m : Machine) (s : ℕ) (q : Option ℕ) → (to_queue m s q).pending ≡ m.pending
+queue_pending m s None = refl
+queue_pending m s (Some q) = refl
+
+queue_apart : (m : Machine) (s : ℕ) (q : Option ℕ) (l : List ℕ) → to_queue (record m { pending = l }) s q ≡ record (to_queue m s q) { pending = l }
+queue_apart m s None l = refl
+queue_apart m s (Some q) l = refl
+
+-- what is delivered is no part of the pending list
+delivered_pending : (m : Machine) (s : ℕ) (handed : Handed) → (delivered m s handed).pending ≡ m.pending
+delivered_pending m s HandedQueued = queue_pending (with_object m s (with_reference unreferred)) s (option_and_then queue_ahead (option_and_then as_reference (at m.objects s)))
+delivered_pending m s HandedLined = refl
+delivered_pending m s Skipped = refl
+delivered_pending m s Nothing = refl
+
+delivered_apart : (m : Machine) (s : ℕ) (handed : Handed) (l : List ℕ) → delivered (record m { pending = l }) s handed ≡ record (delivered m s handed) { pending = l }
+delivered_apart m s HandedQueued l = queue_apart (with_object m s (with_reference unreferred)) s (option_and_then queue_ahead (option_and_then as_reference (at m.objects s))) l
+delivered_apart m s HandedLined l = refl
+delivered_apart m s Skipped l = refl
+delivered_apart m s Nothing l = refl
+
+-- ---- The step
+
+pub hands_over_front :
+    (g h k : Graph) (s : ℕ) (did : Handed) → IsFit g → slice_get g.pending 0 ≡ Some s → did ≡ handed_there (at g.objects s) → Delivers g s did h → k ≡ with_pending h (drop 1 h.pending) → HandsOver g did k
+hands_over_front g h k s did fit first what delivers taken =
+    let list = split g.pending s first in
+    let there = pending_there (in_machine fit.0 g) s fit.1 (subst (λ l. s ∈ l) (sym list) (in_front s s (drop 1 g.pending) refl)) in
+    let o : Object = there.0 in
+    let is : did ≡ handed o = what ∙ ap handed_there there.1 in
+    λ m.
+    let M : Machine = in_machine m g in
+    let rest : List ℕ = drop 1 g.pending in
+    let on_pending : h.pending ≡ g.pending = ap (λ (x : Machine). x.pending) (delivers m) ∙ delivered_pending M s did in (
+      ap (hand_over_answer M) list ∙ ap (option_map (λ o. HandedAnswer (handed o))) there.1 ∙ ap (λ x. Some (HandedAnswer x)) (sym is),
+      ap (in_machine m) taken
+          ∙ ap (λ l. record (in_machine m h) { pending = drop 1 l }) on_pending
+          ∙ ap (λ (x : Machine). record x { pending = rest }) (delivers m)
+          ∙ sym (delivered_apart M s did rest)
+          ∙ ap (λ x. delivered (record M { pending = rest }) s x) is
+          ∙ ap (λ o. elim o [ None ↦ record M { pending = rest } | Some p ↦ delivered (record M { pending = rest }) s (handed p) ]) (sym there.1)
+          ∙ ap (handed_over M) (sym list),
+    )

@@ -1,0 +1,246 @@
+//! The names of objects.
+ghost use Rattle.std.specs.Prelude.{◌≡◌, ◌++◌, ◌∷◌, [], IfOk, IsOk, IsTrue, OnErr, OnOk, filter, is_some, length, map, not, position, slice_get};
+ghost use Rattle.jlr_machine.specs.Lookups.{bound, same_name, slot_bound, unbound};
+ghost use Rattle.jlr_roots.specs.Naming.{names_of, named};
+
+use jlr_machine::items::Items;
+use jlr_machine::machine::Binding;
+use jlr_machine::text::Name;
+use jlr_types::Slot;
+use std::alloc::{AllocError, Global};
+use std::marker::Model;
+
+/// Names and the slots that they stand for, in order of binding. Each slot is a root.
+#[derive(Drop)]
+pub struct Names {
+    bindings: Vec<Binding>,
+}
+
+impl Model for Names {
+    ghost use Rattle.std.specs.Prelude.{List};
+    ghost use Rattle.jlr_machine.specs.declared.machine.Binding.{Binding};
+
+    ghost Value = { List Binding };
+
+    ghost view = { λ a. a.bindings.items };
+}
+
+impl Names {
+    /// No name. It takes no memory.
+    pub fn new(alloc: Global) -> Self
+        ensures { result ≡ [] }
+    {
+        Names {
+            bindings: Vec::new(alloc),
+        }
+    }
+
+    /// How many names there are.
+    pub fn len(&self) -> usize
+        ensures { result ≡ length self.now }
+    {
+        self.bindings.len()
+    }
+
+    /// The slot that a name stands for, if it is bound.
+    pub fn find(&self, name: &Name) -> Option<Slot>
+        ensures { result ≡ slot_bound self.now name.now }
+    {
+        slot_bound(&self.bindings, name)
+    }
+
+    /// From now on a name stands for this slot. An old name keeps its place and takes no memory, a new one comes last.
+    ///
+    /// # Errors
+    /// `AllocError` where there is no memory for a new name. Nothing has changed then.
+    pub fn bind(&mut self, name: &Name, slot: Slot) -> Result<(), AllocError>
+        ensures bound { OnOk result (self.new ≡ bound self.old name.now slot) }
+        ensures err { OnErr result (self.new ≡ self.old) }
+        ensures old { IsTrue (is_some (slot_bound self.old name.now)) → IsOk result }
+    {
+        bind(&mut self.bindings, name, slot)
+    }
+
+    /// A name stands for nothing any more. Where it is not bound, nothing changes.
+    pub fn unbind(&mut self, name: &Name)
+        ensures { self.new ≡ unbound self.old name.now }
+    {
+        unbind(&mut self.bindings, name);
+    }
+
+    /// The slot that the name at a place stands for, if there are more names than that.
+    pub fn slot_at(&self, place: usize) -> Option<Slot>
+        ensures { result ≡ slice_get (named self.now) place }
+    {
+        slot_at(&self.bindings, place)
+    }
+
+    /// The bindings as plain data.
+    ///
+    /// # Errors
+    /// `AllocError` where there is no memory for them.
+    pub fn image(&self, alloc: Global) -> Result<Items<Binding>, AllocError>
+        ensures { IfOk result (λ names. names ≡ self.now) }
+    {
+        Ok(Items::from_vec(copy_bindings(alloc, &self.bindings)?))
+    }
+
+    /// The names alone, in order of binding.
+    ///
+    /// # Errors
+    /// `AllocError` where there is no memory for them.
+    pub fn names(&self, alloc: Global) -> Result<Items<Name>, AllocError>
+        ensures { IfOk result (λ names. names ≡ names_of self.now) }
+    {
+        Ok(Items::from_vec(copy_names(alloc, &self.bindings)?))
+    }
+}
+
+fn is_named(binding: &Binding, name: &Name) -> bool
+    ensures { result ≡ same_name binding.now.name name.now }
+{
+    binding.name.as_slice() == name.as_slice()
+}
+
+/// The place of a name, if it is bound.
+fn place_of(bindings: &[Binding], name: &Name) -> Option<usize>
+    ensures { result ≡ position (λ b. same_name b.name name.now) bindings.now }
+{
+    bindings.iter().position(|binding| is_named(binding, name))
+}
+
+fn slot_bound(bindings: &[Binding], name: &Name) -> Option<Slot>
+    ensures { result ≡ slot_bound bindings.now name.now }
+{
+    slot_at(bindings, place_of(bindings, name)?)
+}
+
+fn bind(bindings: &mut Vec<Binding>, name: &Name, slot: Slot) -> Result<(), AllocError>
+    ensures bound { OnOk result (bindings.new.items ≡ bound bindings.old.items name.now slot) }
+    ensures err { OnErr result (bindings.new.items ≡ bindings.old.items) }
+    ensures old { IsTrue (is_some (slot_bound bindings.old.items name.now)) → IsOk result }
+{
+    let binding = Binding {
+        name: name.copy(),
+        slot,
+    };
+    if let Some(place) = place_of(bindings, name) {
+        bindings[place] = binding;
+        return Ok(());
+    }
+    bindings.push(binding)?;
+    Ok(())
+}
+
+fn unbind(bindings: &mut Vec<Binding>, name: &Name)
+    ensures { bindings.new.items ≡ unbound bindings.old.items name.now }
+{
+    bindings.retain(|binding| !is_named(binding, name));
+}
+
+fn slot_at(bindings: &[Binding], place: usize) -> Option<Slot>
+    ensures { result ≡ slice_get (named bindings.now) place }
+{
+    match bindings.get(place) {
+        Some(binding) => Some(binding.slot),
+        None => None,
+    }
+}
+
+fn copy_bindings(alloc: Global, bindings: &[Binding]) -> Result<Vec<Binding>, AllocError>
+    ensures { IfOk result (λ copies. copies.items ≡ bindings.now) }
+{
+    let mut copies = Vec::with_capacity(alloc, bindings.len())?;
+    for binding in bindings {
+        copies.push(binding.copy())?;
+    }
+    Ok(copies)
+}
+
+fn copy_names(alloc: Global, bindings: &[Binding]) -> Result<Vec<Name>, AllocError>
+    ensures { IfOk result (λ names. names.items ≡ names_of bindings.now) }
+{
+    let mut names = Vec::with_capacity(alloc, bindings.len())?;
+    for binding in bindings {
+        names.push(binding.name.copy())?;
+    }
+    Ok(names)
+}
+
+#[cfg(test)]
+mod tests {
+    use super::*;
+    use std::test::Fail;
+
+    fn name(bytes: &[u8]) -> Result<Name, Fail> {
+        Ok(Name::from_slice(bytes).ok_or("too long a name")?)
+    }
+
+    #[test]
+    fn a_name_is_bound_found_and_unbound(rt: HostRuntime) -> Result<(), Fail> {
+        let mut names = Names::new(rt.alloc());
+        let (left, right) = (name(b"left")?, name(b"right")?);
+        assert_eq!(rt; (names.len(), names.find(&left)), (0, None));
+        names.bind(&left, Slot::new(3))?;
+        names.bind(&right, Slot::new(5))?;
+        assert_eq!(rt; names.len(), 2);
+        assert_eq!(rt;
+            (names.find(&left), names.find(&right)),
+            (Some(Slot::new(3)), Some(Slot::new(5)))
+        );
+        assert_eq!(rt; names.find(&name(b"lef")?), None);
+        names.unbind(&left);
+        assert_eq!(rt;
+            (names.find(&left), names.find(&right)),
+            (None, Some(Slot::new(5)))
+        );
+        names.unbind(&left);
+        assert_eq!(rt; names.len(), 1);
+        Ok(())
+    }
+
+    #[test]
+    fn an_old_name_keeps_its_place(rt: HostRuntime) -> Result<(), Fail> {
+        let mut names = Names::new(rt.alloc());
+        for (bytes, slot) in [(97, 3), (98, 5), (97, 7)] {
+            names.bind(&name(&[bytes])?, Slot::new(slot))?;
+        }
+        assert_eq!(rt;
+            (names.slot_at(0), names.slot_at(1), names.slot_at(2)),
+            (Some(Slot::new(7)), Some(Slot::new(5)), None)
+        );
+        Ok(())
+    }
+
+    #[test]
+    fn a_name_that_was_unbound_comes_last(rt: HostRuntime) -> Result<(), Fail> {
+        let mut names = Names::new(rt.alloc());
+        for bytes in [97, 98, 99] {
+            names.bind(&name(&[bytes])?, Slot::new(bytes as u32))?;
+        }
+        names.unbind(&name(&[97])?);
+        names.bind(&name(&[97])?, Slot::new(1))?;
+        let (all, image) = (names.names(rt.alloc())?, names.image(rt.alloc())?);
+        assert_eq!(rt; (all.len(), image.len()), (3, 3));
+        for (place, byte) in [(0usize, 98u8), (1, 99), (2, 97)] {
+            assert!(rt;
+                all.as_slice()
+                    .get(place)
+                    .is_some_and(|name| name.as_slice() == [byte].as_slice())
+            );
+            assert!(rt;
+                image
+                    .as_slice()
+                    .get(place)
+                    .is_some_and(|binding| binding.name.as_slice() == [byte].as_slice())
+            );
+        }
+        assert!(rt;
+            image
+                .as_slice()
+                .get(2)
+                .is_some_and(|binding| binding.slot == Slot::new(1))
+        );
+        Ok(())
+    }
+}

@@ -1,0 +1,9 @@
+pub mod Sent
+pub mod Going
+pub mod Ending
+pub mod Taking
+pub mod Standing
+pub mod Following
+pub mod Calling
+pub mod Once
+pub mod Joining

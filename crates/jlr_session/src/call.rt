@@ -1,0 +1,92 @@
+//! Calls of devices and of resources, and the events that tell their outcomes.
+ghost use Rattle.std.specs.Prelude.{◌≡◌, ◌≤◌, length, IfOk, Result};
+ghost use Rattle.jlr_types.specs.declared.Fault.{Fault};
+ghost use Rattle.jlr_session.specs.Asks.{TellsOpened, TellsConnected, TellsRead, TellsWritten};
+ghost use Rattle.jlr_session.specs.Calls.{Reads, Writes};
+
+use jlr_device::guarded::{guarded_connect, guarded_open, guarded_read, guarded_write};
+use jlr_device::{Device, Mode, Resource};
+use jlr_event::event::Event;
+use jlr_machine::ask::CallOutcome;
+use jlr_machine::text::Data;
+use jlr_types::Mutator;
+
+/// The most bytes that one call reads.
+const CALL_LIMIT: usize = 200;
+
+/// Opens a file, and gives the event that tells its outcome.
+pub(crate) fn opened<D: Device>(
+    device: &mut D,
+    mutator: Mutator,
+    mode: Mode,
+    path: &str,
+) -> Event<D::Res>
+    ensures { TellsOpened (record { count = D.count; opens = D.may_open; connects = D.may_connect; failures = D.Res.count })
+        mutator mode path.now device.old device.new result }
+{
+    Event::Opened {
+        mutator,
+        outcome: guarded_open(device, mode, path),
+    }
+}
+
+/// Joins a socket, and gives the event that tells its outcome.
+pub(crate) fn connected<D: Device>(device: &mut D, mutator: Mutator, path: &str) -> Event<D::Res>
+    ensures { TellsConnected (record { count = D.count; opens = D.may_open; connects = D.may_connect; failures = D.Res.count })
+        mutator path.now device.old device.new result }
+{
+    Event::Opened {
+        mutator,
+        outcome: guarded_connect(device, path),
+    }
+}
+
+/// Reads at most so many bytes of a resource, 200 at most, and gives the event that tells them and hands it back.
+pub(crate) fn read_back<R: Resource>(mutator: Mutator, resource: R, count: u8) -> Event<R>
+    ensures { TellsRead (record { count = R.count; reads = R.may_read; writes = R.may_write; finishes = R.may_finish })
+        mutator count resource result }
+{
+    let mut resource = resource;
+    Event::CheckIn {
+        mutator,
+        outcome: read_of(&mut resource, count),
+        resource,
+    }
+}
+
+fn read_of<R: Resource>(resource: &mut R, count: u8) -> CallOutcome
+    ensures { Reads (record { count = R.count; reads = R.may_read; writes = R.may_write; finishes = R.may_finish })
+        count resource.old result resource.new }
+{
+    let mut buffer = [0u8; CALL_LIMIT];
+    let room = &mut buffer[..CALL_LIMIT.min(usize::from(count))];
+    match guarded_read(resource, room) {
+        Ok(n) => CallOutcome::Data(Data::from_slice(&room[..n]).unwrap()),
+        Err(fault) => CallOutcome::Failed(fault),
+    }
+}
+
+/// Writes bytes to a resource, at most 200, and gives the event that tells how many it took and hands it back.
+pub(crate) fn written_back<R: Resource>(mutator: Mutator, resource: R, bytes: &[u8]) -> Event<R>
+    requires { length bytes.now ≤ 200 }
+    ensures { TellsWritten (record { count = R.count; reads = R.may_read; writes = R.may_write; finishes = R.may_finish })
+        mutator bytes.now resource result }
+{
+    let mut resource = resource;
+    Event::CheckIn {
+        mutator,
+        outcome: write_of(&mut resource, bytes),
+        resource,
+    }
+}
+
+fn write_of<R: Resource>(resource: &mut R, bytes: &[u8]) -> CallOutcome
+    requires { length bytes.now ≤ 200 }
+    ensures { Writes (record { count = R.count; reads = R.may_read; writes = R.may_write; finishes = R.may_finish })
+        bytes.now resource.old result resource.new }
+{
+    match guarded_write(resource, bytes) {
+        Ok(n) => CallOutcome::Wrote(n as u8),
+        Err(fault) => CallOutcome::Failed(fault),
+    }
+}

@@ -1,0 +1,29 @@
+-- The texts in a line: paths, names, and bytes in hexadecimal digits.
+use Rattle.std.specs.Prelude.{ℕ, ◌<◌, ◌≤◌, ◌≡◌, Bool, eqb, ◌||◌, List, length, Ok}
+use Rattle.std.specs.List.{AllPass}
+use Rattle.std.specs.Char.{is_ascii_graphic, is_ascii_lowercase, is_ascii_digit}
+use Rattle.hex.specs.Hex.{decode_of}
+
+-- 1 to so many bytes, each of a kind
+pub record IsWord (limit : ℕ) (kind : ℕ → Bool) (text : List ℕ) : Type 0 where
+  pub some : 0 < length text
+  pub few : length text ≤ limit
+  pub each : AllPass kind text
+
+-- a path: visible characters of ASCII, 21 to 7E in hexadecimal
+abbrev pub IsPath : List ℕ → Type 0
+IsPath = IsWord 255 is_ascii_graphic
+
+-- a small letter, a digit or an underscore
+abbrev pub is_name_byte : ℕ → Bool
+is_name_byte b = is_ascii_lowercase b || is_ascii_digit b || eqb b 95
+
+-- the name of an object
+abbrev pub IsName : List ℕ → Type 0
+IsName = IsWord 32 is_name_byte
+
+-- The bytes of a write, and their hexadecimal digits in either case.
+pub record AreDigits (digits bytes : List ℕ) : Type 0 where
+  pub some : 0 < length bytes
+  pub few : length bytes ≤ 200
+  pub decoded : decode_of digits ≡ Ok bytes

@@ -1,0 +1,54 @@
+//! The paths of files and sockets.
+ghost use Rattle.std.specs.Prelude.{◌≡◌};
+ghost use Rattle.std.specs.List.{list_all};
+ghost use Rattle.std.specs.Char.{is_ascii_graphic};
+ghost use Rattle.jlr_wire.specs.Fields.{path_of};
+
+use jlr_machine::text::Text;
+use std::marker::Model;
+
+/// A path of 1 to 255 bytes, each of them a visible character of ASCII and no space.
+#[derive(Drop)]
+pub struct Path {
+    text: Text<255>,
+}
+
+impl Model for Path {
+    ghost use Rattle.std.specs.Prelude.{List, ℕ};
+    ghost use Rattle.jlr_wire.specs.Texts.{IsPath};
+
+    ghost Value = { List ℕ };
+
+    ghost view = { λ a. a.text };
+
+    ghost invariant = { λ a. IsPath a.text };
+}
+
+impl Path {
+    /// The path that the text spells, or `None`.
+    #[tactic(auto, unfolding(crate::specs::Fields::word_of))]
+    pub(crate) fn parse(text: &[u8]) -> Option<Path>
+        ensures { result ≡ path_of text.now }
+    {
+        if text.is_empty() || !has_path_bytes(text) {
+            return None;
+        }
+        Some(Path {
+            text: Text::from_slice(text)?,
+        })
+    }
+
+    /// The bytes, as a text.
+    pub fn as_str(&self) -> &str
+        ensures { result.now ≡ self.now }
+    {
+        str::from_utf8(self.text.as_slice()).unwrap()
+    }
+}
+
+/// Whether each byte may stand in a path.
+fn has_path_bytes(text: &[u8]) -> bool
+    ensures { result ≡ list_all is_ascii_graphic text.now }
+{
+    text.iter().all(|byte| byte.is_ascii_graphic())
+}

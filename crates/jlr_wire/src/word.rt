@@ -1,0 +1,58 @@
+//! The words of a line that are no numbers: modes, names and bytes in hexadecimal digits.
+ghost use Rattle.std.specs.Prelude.{◌≡◌};
+ghost use Rattle.std.specs.List.{list_all};
+ghost use Rattle.jlr_wire.specs.Texts.{is_name_byte};
+ghost use Rattle.jlr_wire.specs.Fields.{mode_of, name_of, data_of};
+
+use jlr_device::Mode;
+use jlr_machine::text::{Data, Name};
+
+/// The most bytes of a write.
+const DATA_LIMIT: usize = 200;
+
+/// What a file is opened for: `r` or `w`.
+#[tactic(auto, unfolding(crate::specs::Fields::mode_of))]
+pub fn mode(text: &[u8]) -> Option<Mode>
+    ensures { result ≡ mode_of text.now }
+{
+    if text == b"r".as_slice() {
+        return Some(Mode::Read);
+    }
+    if text == b"w".as_slice() {
+        return Some(Mode::Write);
+    }
+    None
+}
+
+/// The name of an object: 1 to 32 small letters, digits and underscores.
+#[tactic(auto, unfolding(crate::specs::Fields::word_of))]
+pub fn name(text: &[u8]) -> Option<Name>
+    ensures { result ≡ name_of text.now }
+{
+    if text.is_empty() || !has_name_bytes(text) {
+        return None;
+    }
+    Name::from_slice(text)
+}
+
+/// Whether each byte may stand in a name.
+fn has_name_bytes(text: &[u8]) -> bool
+    ensures { result ≡ list_all is_name_byte text.now }
+{
+    text.iter().all(|byte| byte.is_ascii_lowercase() || byte.is_ascii_digit() || *byte == b'_')
+}
+
+/// The 1 to 200 bytes that these hexadecimal digits spell.
+#[tactic(auto, unfolding(crate::specs::Fields::data_of))]
+pub fn data(digits: &[u8]) -> Option<Data>
+    ensures { result ≡ data_of digits.now }
+{
+    let count = digits.len() / 2;
+    if count == 0 || count > DATA_LIMIT {
+        return None;
+    }
+    let mut room = [0u8; DATA_LIMIT];
+    let bytes = &mut room[..count];
+    hex::decode_to_slice(digits, bytes).ok()?;
+    Data::from_slice(bytes)
+}
