@@ -9,3 +9,4 @@ pub mod Queues
 pub mod TakeUps
 pub mod Rest
 pub mod Guards
+pub mod Moving

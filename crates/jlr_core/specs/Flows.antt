@@ -1,11 +1,11 @@
 -- The files and sockets that events hand in and replies hand out.
-use Rattle.std.specs.Prelude.{◌≡◌, ◌++◌, Option, Some, None}
+use Rattle.std.specs.Prelude.{◌≡◌, ◌≢◌, ◌⊎◌, ◌++◌, ℕ, Option, Some, None, option_and_then}
 use Rattle.std.specs.Option.{option_to_list}
 use Rattle.std.specs.List.Sorted.{IsPermutation}
 use Rattle.jlr_types.specs.declared.Work.TheVariants.{Resource as WorkOn}
 use Rattle.jlr_machine.specs.declared.ask.Answer.{Answer}
 use Rattle.jlr_machine.specs.declared.ask.Answer.TheVariants.{Job, Out, Refused}
-use Rattle.jlr_resource.specs.Resources.{Resources, values}
+use Rattle.jlr_resource.specs.Resources.{Resources, kept_at, value_of, values}
 use Rattle.jlr_cleaner.specs.Cleanings.{HandsOut}
 
 module _ {R : Type 0} where
@@ -19,3 +19,23 @@ module _ {R : Type 0} where
   GoesOut t came (Some (Job action work)) out = HandsOut t work out
   GoesOut t came (Some (Out rid)) out = HandsOut t (WorkOn rid) out
   GoesOut t came answer out = out ≡ None
+
+  -- ---- What lies at each Rid
+
+  -- the value that lies in the table at a Rid, if one does
+  abbrev pub lies_at : Resources R → ℕ → Option R
+  lies_at t rid = option_and_then value_of (kept_at t rid)
+
+  -- at every Rid lies what lay there
+  abbrev pub LieAsBefore : Resources R → Resources R → Type 0
+  LieAsBefore old new = (rid : ℕ) → lies_at new rid ≡ lies_at old rid
+
+  -- what lay at this Rid went out, what came in lies there now, and at every other lies what lay there
+  pub record MovesAt (rid : ℕ) (came : Option R) (old : Resources R) (out : Option R) (new : Resources R) : Type 0 where
+    pub lay : lies_at old rid ≡ out
+    pub lies : lies_at new rid ≡ came
+    pub others : (other : ℕ) → other ≢ rid → lies_at new other ≡ lies_at old other
+
+  -- a table changes at one Rid at most. Where it changes at none, what came in goes back
+  abbrev pub Moves : Option R → Resources R → Option R → Resources R → Type 0
+  Moves came old out new = ((out ≡ came) × LieAsBefore old new) ⊎ ((rid : ℕ) × MovesAt rid came old out new)

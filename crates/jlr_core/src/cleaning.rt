@@ -17,7 +17,7 @@ ghost use Rattle.jlr_cleaner.specs.Cleanings.{HandsOut, HasWork};
 ghost use Rattle.jlr_cleaner.specs.Outcomes.{outcome_of};
 ghost use Rattle.jlr_core.specs.Collecting.{after_choice};
 ghost use Rattle.jlr_core.specs.State.{Answered, Meets, answer_of};
-ghost use Rattle.jlr_core.specs.Flows.{Conserves, GoesOut};
+ghost use Rattle.jlr_core.specs.Flows.{Conserves, GoesOut, LieAsBefore, Moves};
 ghost use Rattle.jlr_core.specs.Guards.{IsIdleAt};
 ghost use Rattle.jlr_core.specs.TakeUps.{IsFreeMutator, clean_answer, handed_out, job_resource, started_answer, take_up_answered};
 
@@ -177,6 +177,7 @@ impl<R> State<R> {
         ensures meets { Meets (machine_of self.old) (Ask.Clean by cleanable) (clean_answer result) no_choice (machine_of self.new) }
         ensures memory { clean_answer result ≡ Answer.Refused Refusal.NoMemory → ⊥ }
         ensures flow { Conserves None self.old.cleaner.table (handed_out result) self.new.cleaner.table }
+        ensures moves { Moves None self.old.cleaner.table (handed_out result) self.new.cleaner.table }
         ensures goes_out { GoesOut self.old.cleaner.table None (Some (clean_answer result)) (handed_out result) }
         ensures cells { length self.new.heap.graph.objects ≡ length self.old.heap.graph.objects }
         ensures age { self.new.soft_age ≡ self.old.soft_age }
@@ -195,6 +196,7 @@ impl<R> State<R> {
         ensures cleaned { machine_of self.new ≡ cleaned (machine_of self.old) by slot (cleanable_at (machine_of self.old) slot) }
         ensures answer { (c : Cleanable) → at self.old.heap.graph.objects slot ≡ Some (object.Cleanable c) → take_up_answer c ≡ started_answer result }
         ensures flow { Conserves None self.old.cleaner.table (job_resource result) self.new.cleaner.table }
+        ensures moves { Moves None self.old.cleaner.table (job_resource result) self.new.cleaner.table }
         ensures goes_out { GoesOut self.old.cleaner.table None (Some (started_answer result)) (job_resource result) }
         ensures cells { length self.new.heap.graph.objects ≡ length self.old.heap.graph.objects }
         ensures age { self.new.soft_age ≡ self.old.soft_age }
@@ -220,6 +222,7 @@ impl<R> State<R> {
         ensures taken_up { machine_of self.new ≡ taken_up (machine_of self.old) by slot cleanable }
         ensures put_in_last { HandsOut self.old.cleaner.table cleanable.work result.resource }
         ensures flow { Conserves None self.old.cleaner.table result.resource self.new.cleaner.table }
+        ensures moves { Moves None self.old.cleaner.table result.resource self.new.cleaner.table }
         ensures age { self.new.soft_age ≡ self.old.soft_age }
         ensures clock { self.new.heap.clock ≡ self.old.heap.clock }
     {
@@ -237,6 +240,7 @@ impl<R> State<R> {
         ensures meets { Meets (machine_of self.old) Ask.TakeUp (take_up_answered result) no_choice (machine_of self.new) }
         ensures memory { take_up_answered result ≡ Answer.Refused Refusal.NoMemory → ⊥ }
         ensures flow { Conserves None self.old.cleaner.table (handed_out result) self.new.cleaner.table }
+        ensures moves { Moves None self.old.cleaner.table (handed_out result) self.new.cleaner.table }
         ensures goes_out { GoesOut self.old.cleaner.table None (Some (take_up_answered result)) (handed_out result) }
         ensures cells { length self.new.heap.graph.objects ≡ length self.old.heap.graph.objects }
         ensures age { self.new.soft_age ≡ self.old.soft_age }
@@ -276,6 +280,7 @@ impl<R> State<R> {
         ensures answered { Answered (machine_of self.old) (Ask.Finish by action (outcome_of outcome)) result (machine_of self.new) }
         ensures memory { answer_of result ≡ Answer.Refused Refusal.NoMemory → ⊥ }
         ensures values { values self.new.cleaner.table ≡ values self.old.cleaner.table }
+        ensures lies { LieAsBefore self.old.cleaner.table self.new.cleaner.table }
         ensures cells { length self.new.heap.graph.objects ≡ length self.old.heap.graph.objects }
         ensures age { self.new.soft_age ≡ self.old.soft_age }
         ensures clock { self.new.heap.clock ≡ self.old.heap.clock }
@@ -301,6 +306,7 @@ impl<R> State<R> {
             (λ answer. (is_job_of (machine_of self.old).jobs by action ≡ true) × (outcome_answer (outcome_of outcome) (Some Answer.Done) ≡ Some answer) × (machine_of self.new ≡ on (job_of (machine_of self.old) action) (λ job. finished (machine_of self.old) job (outcome_of outcome)) (machine_of self.old)))
             (λ r. (r ≡ Refusal.NotOut) × (is_job_of (machine_of self.old).jobs by action ≡ false) × (machine_of self.new ≡ machine_of self.old)) }
         ensures values { values self.new.cleaner.table ≡ values self.old.cleaner.table }
+        ensures lies { LieAsBefore self.old.cleaner.table self.new.cleaner.table }
         ensures heap { self.new.heap ≡ self.old.heap }
         ensures age { self.new.soft_age ≡ self.old.soft_age }
     {

@@ -5,7 +5,7 @@ ghost use Rattle.jlr_machine.specs.WellFormed.{IsWellFormed};
 ghost use Rattle.jlr_core.specs.State.{answer_of};
 ghost use Rattle.jlr_event.specs.Events.{ask_of, answer_in, given, handed};
 ghost use Rattle.jlr_core.specs.Events.{progress_in, StepsBy, WantsMemory};
-ghost use Rattle.jlr_core.specs.Flows.{Conserves, GoesOut};
+ghost use Rattle.jlr_core.specs.Flows.{Conserves, GoesOut, Moves};
 ghost use Rattle.jlr_core.specs.TakeUps.{clean_answer, handed_out, take_up_answered};
 ghost use Rattle.jlr_core.specs.Policy.{KeepsByPolicy, clock_after};
 
@@ -26,6 +26,7 @@ impl<R> State<R> {
         requires room { length self.old.heap.graph.objects ≤ choice.old.cells }
         ensures entry { StepsBy (machine_of self.old) (ask_of event) (answer_in result) choice.new.chosen (machine_of self.new) }
         ensures flow { Conserves (given event) self.old.cleaner.table (handed result) self.new.cleaner.table }
+        ensures moves { Moves (given event) self.old.cleaner.table (handed result) self.new.cleaner.table }
         ensures goes_out { GoesOut self.old.cleaner.table (given event) (answer_in result) (handed result) }
         ensures memory { WantsMemory event result }
         ensures marking { ask_of event ≡ None → result ≡ Reply.Marked (progress_in (machine_of self.old)) }

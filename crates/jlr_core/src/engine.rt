@@ -2,11 +2,11 @@
 ghost use Rattle.std.specs.Prelude.{◌≡◌, ◌≤◌, [], length, IfOk, IsTrue, None, Some};
 ghost use Rattle.jlr_machine.specs.declared.machine.Machine.{Machine};
 ghost use Rattle.jlr_machine.specs.Run.{empty, empty_from};
-ghost use Rattle.jlr_resource.specs.Resources.{values};
+ghost use Rattle.jlr_resource.specs.Resources.{resources, values};
 ghost use Rattle.jlr_barrier.specs.Graphs.{empty_known};
 ghost use Rattle.jlr_event.specs.Events.{ask_of, answer_in, given, handed};
 ghost use Rattle.jlr_core.specs.Events.{progress_in, Enters, WantsMemory};
-ghost use Rattle.jlr_core.specs.Flows.{Conserves, GoesOut};
+ghost use Rattle.jlr_core.specs.Flows.{Conserves, GoesOut, Moves};
 ghost use Rattle.jlr_core.specs.Policy.{KeepsByPolicy, clock_after};
 
 use crate::state::State;
@@ -49,6 +49,7 @@ impl<R> Core<R> {
         ensures age { IfOk result (λ core. core.soft_age ≡ limits.soft_age) }
         ensures clock { IfOk result (λ core. core.clock ≡ (empty_known limits.cells limits.sessions).clock) }
         ensures none_held { IfOk result (λ core. values core.table ≡ []) }
+        ensures listed { IfOk result (λ core. resources core.table ≡ core.machine.resources) }
     {
         Core::new_from(alloc, limits, 1)
     }
@@ -63,6 +64,7 @@ impl<R> Core<R> {
         ensures age { IfOk result (λ core. core.soft_age ≡ limits.soft_age) }
         ensures clock { IfOk result (λ core. core.clock ≡ (empty_known limits.cells limits.sessions).clock) }
         ensures none_held { IfOk result (λ core. values core.table ≡ []) }
+        ensures listed { IfOk result (λ core. resources core.table ≡ core.machine.resources) }
     {
         Ok(Core {
             state: State::new(alloc, limits, next_action)?,
@@ -78,7 +80,9 @@ impl<R> Core<R> {
         ensures entry { (m : Machine) → StandsIn self.old m →
             (n : Machine) × Enters m (ask_of event) (answer_in result) choice.new.chosen n × StandsIn self.new n }
         ensures flow { Conserves (given event) self.old.table (handed result) self.new.table }
+        ensures moves { Moves (given event) self.old.table (handed result) self.new.table }
         ensures goes_out { GoesOut self.old.table (given event) (answer_in result) (handed result) }
+        ensures listed { resources self.new.table ≡ self.new.machine.resources }
         ensures memory { WantsMemory event result }
         ensures marking { ask_of event ≡ None → result ≡ Reply.Marked (progress_in self.old.machine) }
         ensures collects { ask_of event ≡ Some Ask.Collect → answer_in result ≡ Some (Answer.Truth self.old.machine.cycle_open) }
@@ -98,6 +102,7 @@ impl<R> Core<R> {
         ensures exact { result ≡ is_at_rest self.now.machine }
         ensures handler { IsTrue result → FindsNothing self.now Ask.HandOver }
         ensures cleaner { IsTrue result → FindsNothing self.now Ask.TakeUp }
+        ensures listed { resources self.now.table ≡ self.now.machine.resources }
     {
         self.state.is_at_rest()
     }

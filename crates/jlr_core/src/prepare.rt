@@ -6,6 +6,7 @@ ghost use Rattle.jlr_machine.specs.WellFormed.{IsWellFormed};
 ghost use Rattle.jlr_resource.specs.Resources.{resources, values};
 ghost use Rattle.jlr_core.specs.Collecting.{after_choice, after_fresh};
 ghost use Rattle.jlr_core.specs.State.{Meets, answer_of};
+ghost use Rattle.jlr_core.specs.Flows.{LieAsBefore};
 ghost use Rattle.jlr_core.specs.Preparing.{HasPlaces, Places};
 
 use crate::state::State;
@@ -42,6 +43,7 @@ impl<R> State<R> {
         requires room { length self.old.heap.graph.objects ≤ choice.old.cells }
         ensures meets { Meets (machine_of self.old) (Ask.Prepare by) (answer_of result) choice.new.chosen (machine_of self.new) }
         ensures values { values self.new.cleaner.table ≡ values self.old.cleaner.table }
+        ensures lies { LieAsBefore self.old.cleaner.table self.new.cleaner.table }
         ensures room { choice.new.cells ≡ choice.old.cells }
         ensures cells { length self.new.heap.graph.objects ≡ length self.old.heap.graph.objects }
         ensures age { self.new.soft_age ≡ self.old.soft_age }
@@ -63,6 +65,7 @@ impl<R> State<R> {
         requires room { length self.old.heap.graph.objects ≤ choice.old.cells }
         ensures placed { Places (machine_of self.old) by choice.old choice.new result (machine_of self.new) }
         ensures values { values self.new.cleaner.table ≡ values self.old.cleaner.table }
+        ensures lies { LieAsBefore self.old.cleaner.table self.new.cleaner.table }
         ensures cells { length self.new.heap.graph.objects ≡ length self.old.heap.graph.objects }
         ensures age { self.new.soft_age ≡ self.old.soft_age }
         ensures clock { self.new.heap.clock ≡ after_fresh choice.new.chosen.fresh self.old.heap.clock }

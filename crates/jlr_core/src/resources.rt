@@ -14,7 +14,7 @@ ghost use Rattle.jlr_machine.specs.WellFormed.{IsWellFormed};
 ghost use Rattle.jlr_resource.specs.Resources.{state_at};
 ghost use Rattle.jlr_event.specs.Events.{answer_in, handed, outcome_of, resource_of};
 ghost use Rattle.jlr_core.specs.Events.{StepsBy};
-ghost use Rattle.jlr_core.specs.Flows.{Conserves, GoesOut};
+ghost use Rattle.jlr_core.specs.Flows.{Conserves, GoesOut, Moves};
 ghost use Rattle.jlr_core.specs.Guards.{HoldsGuard, IsGuardNamed, IsIdleAt, fenced_guard, is_spent_at};
 ghost use Rattle.jlr_core.specs.TakeUps.{IsFreeMutator, clean_answer, handed_out};
 ghost use Rattle.jlr_core.specs.State.{Meets};
@@ -90,6 +90,7 @@ impl<R> State<R> {
         ensures entry { StepsBy (machine_of self.old) (Some (Ask.Opened by (outcome_of outcome))) (answer_in result) no_choice (machine_of self.new) }
         ensures memory { answer_in result ≡ Some (Answer.Refused Refusal.NoMemory) → ⊥ }
         ensures flow { Conserves (resource_of outcome) self.old.cleaner.table (handed result) self.new.cleaner.table }
+        ensures moves { Moves (resource_of outcome) self.old.cleaner.table (handed result) self.new.cleaner.table }
         ensures goes_out { GoesOut self.old.cleaner.table (resource_of outcome) (answer_in result) (handed result) }
         ensures cells { length self.new.heap.graph.objects ≡ length self.old.heap.graph.objects }
         ensures age { self.new.soft_age ≡ self.old.soft_age }
@@ -118,6 +119,7 @@ impl<R> State<R> {
         ensures meets { Meets (machine_of self.old) (Ask.Opened by (outcome_of outcome)) result no_choice (machine_of self.new) }
         ensures memory { result ≡ Answer.Refused Refusal.NoMemory → ⊥ }
         ensures flow { Conserves (resource_of outcome) self.old.cleaner.table None self.new.cleaner.table }
+        ensures moves { Moves (resource_of outcome) self.old.cleaner.table None self.new.cleaner.table }
         ensures goes_out { GoesOut self.old.cleaner.table (resource_of outcome) (Some result) None }
         ensures cells { length self.new.heap.graph.objects ≡ length self.old.heap.graph.objects }
         ensures age { self.new.soft_age ≡ self.old.soft_age }
@@ -136,6 +138,7 @@ impl<R> State<R> {
         ensures answer { new_handle (machine_of self.old) by ≡ Some result }
         ensures opened { machine_of self.new ≡ opened (machine_of self.old) by held.guard ended.Ok }
         ensures flow { Conserves (Some resource) self.old.cleaner.table None self.new.cleaner.table }
+        ensures moves { Moves (Some resource) self.old.cleaner.table None self.new.cleaner.table }
         ensures cells { length self.new.heap.graph.objects ≡ length self.old.heap.graph.objects }
         ensures age { self.new.soft_age ≡ self.old.soft_age }
         ensures clock { self.new.heap.clock ≡ self.old.heap.clock }
@@ -151,6 +154,7 @@ impl<R> State<R> {
         ensures answer { result ≡ Answer.Faulted fault }
         ensures opened { machine_of self.new ≡ opened (machine_of self.old) by held.guard (ended.Failed fault) }
         ensures flow { Conserves None self.old.cleaner.table None self.new.cleaner.table }
+        ensures moves { Moves None self.old.cleaner.table None self.new.cleaner.table }
         ensures cells { length self.new.heap.graph.objects ≡ length self.old.heap.graph.objects }
         ensures age { self.new.soft_age ≡ self.old.soft_age }
         ensures clock { self.new.heap.clock ≡ self.old.heap.clock }
@@ -233,6 +237,7 @@ impl<R> State<R> {
         ensures entry { StepsBy (machine_of self.old) (Some (Ask.CheckOut by guard)) (answer_in result) no_choice (machine_of self.new) }
         ensures memory { answer_in result ≡ Some (Answer.Refused Refusal.NoMemory) → ⊥ }
         ensures flow { Conserves None self.old.cleaner.table (handed result) self.new.cleaner.table }
+        ensures moves { Moves None self.old.cleaner.table (handed result) self.new.cleaner.table }
         ensures goes_out { GoesOut self.old.cleaner.table None (answer_in result) (handed result) }
         ensures cells { length self.new.heap.graph.objects ≡ length self.old.heap.graph.objects }
         ensures age { self.new.soft_age ≡ self.old.soft_age }
@@ -264,6 +269,7 @@ impl<R> State<R> {
         ensures entry { StepsBy (machine_of self.old) (Some (Ask.CheckIn by outcome)) (answer_in result) no_choice (machine_of self.new) }
         ensures memory { answer_in result ≡ Some (Answer.Refused Refusal.NoMemory) → ⊥ }
         ensures flow { Conserves (Some resource) self.old.cleaner.table (handed result) self.new.cleaner.table }
+        ensures moves { Moves (Some resource) self.old.cleaner.table (handed result) self.new.cleaner.table }
         ensures goes_out { GoesOut self.old.cleaner.table (Some resource) (answer_in result) (handed result) }
         ensures cells { length self.new.heap.graph.objects ≡ length self.old.heap.graph.objects }
         ensures age { self.new.soft_age ≡ self.old.soft_age }
@@ -312,6 +318,7 @@ impl<R> State<R> {
         ensures meets { Meets (machine_of self.old) (Ask.Close by guard) (clean_answer result) no_choice (machine_of self.new) }
         ensures memory { clean_answer result ≡ Answer.Refused Refusal.NoMemory → ⊥ }
         ensures flow { Conserves None self.old.cleaner.table (handed_out result) self.new.cleaner.table }
+        ensures moves { Moves None self.old.cleaner.table (handed_out result) self.new.cleaner.table }
         ensures goes_out { GoesOut self.old.cleaner.table None (Some (clean_answer result)) (handed_out result) }
         ensures cells { length self.new.heap.graph.objects ≡ length self.old.heap.graph.objects }
         ensures age { self.new.soft_age ≡ self.old.soft_age }

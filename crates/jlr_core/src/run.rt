@@ -14,8 +14,9 @@ use jlr_types::Limits;
 use std::alloc::{AllocError, Global};
 
 /// Runs the events in order from the empty machine of the limits. There are choices with which the replies and the core that is
-/// left are a run of the machine of java.lang.ref; memory is said to be wanting only where a queue may grow or a list is copied; and no
-/// resource is made or lost: those handed in were handed out, or lie in the core, each as often.
+/// left are a run of the machine of java.lang.ref. Along it what is put in for a Rid lies there until it goes out, and a job or a call hands
+/// out what lies at its Rid. Memory is said to be wanting only where a queue, the table of resources or the names may grow or a list is
+/// copied. No resource is made or lost: those handed in were handed out, or lie in the core, each as often.
 ///
 /// # Errors
 /// `AllocError` where there is no room for the core, for a choice or for the replies.

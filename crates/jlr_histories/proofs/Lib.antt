@@ -8,4 +8,10 @@ pub mod Forward
 pub mod Enqueued
 pub mod Takes
 pub mod TakenOnce
+pub mod Standing
+pub mod Moving
+pub mod ResourceAsks
+pub mod OtherAsks
+pub mod ResourceSteps
+pub mod ResourceLaws
 pub mod Histories

@@ -68,7 +68,7 @@ carried_over : (P : ℕ → Type 0) (m : Machine) (ask : Ask) (a : Answer) (fres
 carried_over P m ask (Refused by) fresh h = quiet_over P m m (quiet m)
 carried_over P m ask a fresh h = h a fresh
 
-carried_is : (m : Machine) (ask : Ask) (a : Answer) (fresh : List ℕ) → is_refusal a ≡ false → carried m ask a fresh ≡ after m ask a fresh
+pub carried_is : (m : Machine) (ask : Ask) (a : Answer) (fresh : List ℕ) → is_refusal a ≡ false → carried m ask a fresh ≡ after m ask a fresh
 carried_is m ask (Refused by) fresh h = absurd (both_ways true h refl)
 carried_is m ask a fresh h = refl
 

@@ -165,7 +165,7 @@ named_cleanable : (m : Machine) (o : Option ℕ) → option_and_then as_cleanabl
 named_cleanable m None = refl
 named_cleanable m (Some s) = refl
 
-first_lined : (m : Machine) (line : List ℕ) (s : ℕ) (rest : List ℕ) → from_lined m line ≡ s ∷ rest → some_and (λ c. is_lined c.state) (cleanable_at m s) ≡ true
+pub first_lined : (m : Machine) (line : List ℕ) (s : ℕ) (rest : List ℕ) → from_lined m line ≡ s ∷ rest → some_and (λ c. is_lined c.state) (cleanable_at m s) ≡ true
 first_lined m [] s rest e = absurd (cc e)
 first_lined m (x ∷ line) s rest e =
     elim (some_and (λ c. is_lined c.state) (cleanable_at m x)) as (λ b. some_and (λ c. is_lined c.state) (cleanable_at m x) ≡ b → cond b (x ∷ line) (from_lined m line) ≡ s ∷ rest → some_and (λ c. is_lined c.state) (cleanable_at m s) ≡ true) [
@@ -173,7 +173,7 @@ first_lined m (x ∷ line) s rest e =
       | false ↦ λ h f. first_lined m line s rest f
     ] refl e
 
-lined_unspent : (state : CleanState) → is_lined state ≡ true → is_spent state ≡ false
+pub lined_unspent : (state : CleanState) → is_lined state ≡ true → is_spent state ≡ false
 lined_unspent Armed h = absurd (both_ways false refl h)
 lined_unspent PendingClean h = absurd (both_ways false refl h)
 lined_unspent Lined h = refl

@@ -6,12 +6,17 @@ use Rattle.jlr_machine.specs.declared.object.Cleanable.{Cleanable as CleanableOf
 use Rattle.jlr_machine.specs.declared.object.RefState.TheVariants.{Fresh, Queued}
 use Rattle.jlr_machine.specs.declared.object.CleanState.TheVariants.{Armed, Pending as PendingClean, Lined}
 use Rattle.jlr_machine.specs.declared.machine.Machine.{Machine}
-use Rattle.jlr_machine.specs.declared.machine.ResourceState.TheVariants.{Idle}
+use Rattle.jlr_machine.specs.declared.machine.Call.TheVariants.{Opening as CallOpening, Out as CallOut}
+use Rattle.jlr_machine.specs.declared.machine.ResourceState.{ResourceState}
+use Rattle.jlr_machine.specs.declared.machine.ResourceState.TheVariants.{Opening, Idle, Out}
+use Rattle.jlr_machine.specs.declared.ask.Answer.TheVariants.{Out as OutAnswer, Job}
 use Rattle.jlr_machine.specs.declared.entry.Entry.{Entry}
 use Rattle.jlr_machine.specs.Objects.{◌∈◌, is_unqueued}
-use Rattle.jlr_machine.specs.Run.{IsLegal, Run, apply, empty}
+use Rattle.jlr_machine.specs.Run.{IsLegal, Run, apply, empty, empty_from}
 use Rattle.jlr_machine.specs.WellFormed.{IsWellFormed, IsReferenceAt, IsCleanableAt, HasResource}
 use Rattle.jlr_histories.specs.Lives.{LivesOn, IsReferenceOn, IsReferenceLater, IsCleanableOn, IsCleanableLater, enqueueings, slot_cleared, take_ups, all_take_ups}
+use Rattle.jlr_histories.specs.ResourceLives.{IsInCall, GoesOn, IsLife, phase, deed, deeds}
+use Rattle.jlr_histories.specs.ResourceLives.Phase.{In, Over}
 
 -- ---- References and cleanables only go forward
 
@@ -109,3 +114,50 @@ TakenUpAtMostOnceInRuns =
 abbrev pub TakeUpsEndOrRun : Type 0
 TakeUpsEndOrRun =
     (cells sessions resources : ℕ) (n : Machine) (entries : List Entry) → cells ≤ 65536 → sessions ≤ 64 → Run (empty cells sessions resources) entries n → all_take_ups entries ≡ n.ok + n.failed + length n.jobs
+
+-- ---- Resources
+
+-- a resource that is opening or out is in a call
+abbrev pub ResourcesInCallsAreFenced : Type 0
+ResourcesInCallsAreFenced =
+    (m : Machine) (rid action : ℕ) → IsWellFormed m
+    → (HasResource m rid action Opening → IsInCall m rid action (CallOpening rid)) × (HasResource m rid action Out → IsInCall m rid action (CallOut rid))
+
+-- an action finishes at most one resource
+abbrev pub OneResourceAnAction : Type 0
+OneResourceAnAction =
+    (m : Machine) (r q action : ℕ) (s t : ResourceState) → IsWellFormed m → HasResource m r action s → HasResource m q action t → (r ≡ q) × (s ≡ t)
+
+-- and the phase under the action is that resource's state
+abbrev pub PhaseIsItsState : Type 0
+PhaseIsItsState = (m : Machine) (rid action : ℕ) (s : ResourceState) → IsWellFormed m → HasResource m rid action s → phase m action ≡ In s
+
+-- from the open to its end it has one Rid
+abbrev pub ResourceKeepsItsRid : Type 0
+ResourceKeepsItsRid =
+    (m n : Machine) (entries : List Entry) (action r q : ℕ) (s t : ResourceState) → IsWellFormed m → Run m entries n → HasResource m r action s → HasResource n q action t → r ≡ q
+
+-- whoever asks, a resource is handed out only where it is idle: to a call, and with a job to finish it
+abbrev pub CallsFindTheirResourcesIdle : Type 0
+CallsFindTheirResourcesIdle = (m : Machine) (e : Entry) (rid : ℕ) → IsWellFormed m → IsLegal m e → e.answer ≡ OutAnswer rid → (action : ℕ) × HasResource m rid action Idle
+
+abbrev pub JobsFindTheirResourcesIdle : Type 0
+JobsFindTheirResourcesIdle = (m : Machine) (e : Entry) (action rid : ℕ) → IsWellFormed m → IsLegal m e → e.answer ≡ Job action (WorkOn rid) → HasResource m rid action Idle
+
+-- one entry moves a resource by what it does to it, and else not
+abbrev pub ResourceGoesOn : Type 0
+ResourceGoesOn = (m : Machine) (e : Entry) (action : ℕ) → IsWellFormed m → IsLegal m e → GoesOn (phase m action) (deed m e action) (phase (apply m e) action)
+
+-- a resource that has ended never comes back under its action, and nothing is done to it
+abbrev pub OverIsOver : Type 0
+OverIsOver = (m n : Machine) (entries : List Entry) (action : ℕ) → IsWellFormed m → Run m entries n → phase m action ≡ Over → (phase n action ≡ Over) × (deeds m entries action ≡ [])
+
+-- the resource of an action whose number is not given yet sees one open, then reads and writes, then at most one finish, then nothing
+abbrev pub ResourceLivesInOrder : Type 0
+ResourceLivesInOrder = (m n : Machine) (entries : List Entry) (action : ℕ) → IsWellFormed m → Run m entries n → m.next_action ≤ action → IsLife (deeds m entries action)
+
+-- in a run from an empty machine each resource does
+abbrev pub ResourceLivesInOrderInRuns : Type 0
+ResourceLivesInOrderInRuns =
+    (cells sessions resources next_action : ℕ) (n : Machine) (entries : List Entry) (action : ℕ) → 1 ≤ next_action → cells ≤ 65536 → sessions ≤ 64
+    → Run (empty_from cells sessions resources next_action) entries n → IsLife (deeds (empty_from cells sessions resources next_action) entries action)

@@ -1,6 +1,6 @@
 //! Laws of whole runs. Each function's contract is the law, and its body is empty.
 
-ghost use Rattle.jlr_histories.specs.Laws.{ReferenceGoesForward, CleanableGoesForward, ReferenceLifeGoesForward, CleanableLifeGoesForward, EnqueuedAtMostOnce, EnqueuedOnItsWay, EnqueuedIsCleared, NewIsFresh, NewIsArmed, OnlyTheyClear, TakenUpAtMostOnce, TakeUpsAreCounted, WaitingResourcesAreIdle, ReferencesGoForwardInHistories, CleanablesGoForwardInHistories, EnqueuedAtMostOnceInHistories, TakenUpAtMostOnceInRuns, TakeUpsEndOrRun};
+ghost use Rattle.jlr_histories.specs.Laws.{ReferenceGoesForward, CleanableGoesForward, ReferenceLifeGoesForward, CleanableLifeGoesForward, EnqueuedAtMostOnce, EnqueuedOnItsWay, EnqueuedIsCleared, NewIsFresh, NewIsArmed, OnlyTheyClear, TakenUpAtMostOnce, TakeUpsAreCounted, WaitingResourcesAreIdle, ReferencesGoForwardInHistories, CleanablesGoForwardInHistories, EnqueuedAtMostOnceInHistories, TakenUpAtMostOnceInRuns, TakeUpsEndOrRun, ResourcesInCallsAreFenced, OneResourceAnAction, PhaseIsItsState, ResourceKeepsItsRid, CallsFindTheirResourcesIdle, JobsFindTheirResourcesIdle, ResourceGoesOn, OverIsOver, ResourceLivesInOrder, ResourceLivesInOrderInRuns};
 
 /// One entry makes of a reference what it may: its kind stays, its referent and its queue stay or go, and its state stays or becomes the
 /// next.
@@ -71,4 +71,43 @@ pub fn lives_from_an_empty_machine_only_go_forward()
 pub fn take_ups_from_an_empty_machine_end_or_run()
     ensures at_most_once { TakenUpAtMostOnceInRuns }
     ensures accounted { TakeUpsEndOrRun }
+{}
+
+/// A resource that is opening or out is what a mutator's call is on, with the call's fence on its guard: so no call loses its file or
+/// socket.
+pub fn resources_in_calls_are_fenced()
+    ensures { ResourcesInCallsAreFenced }
+{}
+
+/// An action finishes at most one resource, so its number names the resource; the phase under that name is the resource's state.
+pub fn each_action_has_one_resource()
+    ensures one { OneResourceAnAction }
+    ensures phase { PhaseIsItsState }
+{}
+
+/// Under one Rid it lies from its open to its end.
+pub fn a_resource_keeps_its_rid()
+    ensures { ResourceKeepsItsRid }
+{}
+
+/// A resource is handed out only where it is idle: to a call, and with a job to finish it, be it to the cleaner or to a mutator.
+pub fn resources_are_handed_out_idle()
+    ensures calls { CallsFindTheirResourcesIdle }
+    ensures jobs { JobsFindTheirResourcesIdle }
+{}
+
+/// One entry makes of a resource what it may: from not yet there over Opening, Idle and Out in turns, and Closing, until it is over.
+pub fn a_resource_goes_on()
+    ensures { ResourceGoesOn }
+{}
+
+/// What is over never comes back.
+pub fn a_resource_ends_for_good()
+    ensures { OverIsOver }
+{}
+
+/// Each resource sees one open, then reads and writes, each ended before the next, then at most one finish, then nothing.
+pub fn resources_live_in_order()
+    ensures runs { ResourceLivesInOrder }
+    ensures from_empty { ResourceLivesInOrderInRuns }
 {}

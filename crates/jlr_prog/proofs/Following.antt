@@ -1,149 +1,157 @@
--- What a session does over one port it does over another as well, along a relation between the two.
-use Rattle.std.proofs.Common.{◌≡◌, ℕ, List, Option, Some, None, Result, Ok, Err, inl, inr, refl, sym, ◌∙◌, ap, subst}
+-- What a session does over a core it does over a core with its history as well, and mutator 0 stays joined.
+use Rattle.std.proofs.Common.{◌≡◌, ℕ, List, Option, Some, None, Result, Ok, Err, refl, sym, ◌∙◌, ap, subst, option_and_then}
 use Rattle.std.specs.Prelude.{MatchResult, ⊤}
-use Rattle.jlr_types.specs.declared.Refusal.{Refusal}
+use Rattle.jlr_types.specs.declared.RefKind.TheVariants as kind
+use Rattle.jlr_machine.specs.declared.machine.Machine.{Machine}
+use Rattle.jlr_machine.specs.declared.machine.Call.TheVariants.{Free}
+use Rattle.jlr_machine.specs.declared.ask.Ask.{Ask}
+use Rattle.jlr_machine.specs.declared.ask.Ask.TheVariants as ask
 use Rattle.jlr_machine.specs.declared.ask.Answer.{Answer}
-use Rattle.jlr_machine.specs.declared.ask.Answer.TheVariants as answer
+use Rattle.jlr_machine.specs.Lookups.{slot_named}
+use Rattle.jlr_machine.specs.Refusals.{given}
+use Rattle.jlr_laws.proofs.Frames.{no_some}
 use Rattle.jlr_event.specs.declared.event.Event.{Event}
-use Rattle.jlr_event.specs.declared.event.Event.TheVariants.{Prepare, CheckOut, Clean as CleanEvent, Close as CloseEvent, Leave, Join}
+use Rattle.jlr_event.specs.declared.event.Event.TheVariants as event
 use Rattle.jlr_event.specs.declared.event.Reply.{Reply}
+use Rattle.jlr_event.specs.Events.{ask_of}
 use Rattle.jlr_wire.specs.declared.command.Command.{Command}
-use Rattle.jlr_wire.specs.declared.command.Command.TheVariants.{New, Put, Get, SetInt, Int, Dup, Drop, Same, Soft, Weak, Phantom, Deref, Refers, Clear, Enqueue, Enqueued, Queue, Poll, Remove, Cleaner, Register, Clean, Open, Connect, Read, Write, Close, Bind, Find, Unbind, Names, Full, Stat, Notes, Faults, Bye}
+use Rattle.jlr_wire.specs.declared.command.Command.TheVariants.{New, Put, Get, SetInt, Int, Dup, Drop, Same, Soft, Weak, Phantom, Deref, Refers, Clear, Enqueue, Enqueued, Queue, Poll, Remove, Cleaner, Register, Clean, Open, Connect, Read, Write, Close, Bind, Find, Unbind, Names, Full, Stat, Notes, Faults}
+use Rattle.jlr_cleaner.specs.declared.job.Job.{Job as JobOf}
 use Rattle.jlr_session.specs.Calls.{Opening, Handling}
-use Rattle.jlr_session.specs.Asks.{Asking, AsksOnce, AsksTwice, CarriesOut, by_asks, event_of, said_by, prepared_by, out_by, job_by, TellsOpened, TellsConnected, TellsRead, TellsWritten, TellsFinished}
+use Rattle.jlr_session.specs.Asks.{AsksOnce, AsksTwice, CarriesOut, by_asks, event_of, said_by, prepared_by, out_by, job_by, TellsOpened, TellsConnected, TellsRead, TellsWritten, TellsFinished}
 use Rattle.jlr_session.specs.Sessions.{Ended}
-use Rattle.jlr_session.specs.Serving.{IsTurnedAway, Follows, Serves}
 use Rattle.jlr_session.specs.declared.shell.SessionEnd.{SessionEnd}
 use Rattle.jlr_session.proofs.Following.{IsFollowed, ended_along}
-use Rattle.jlr_prog.proofs.Turning.{IsAskAlong, IsTurnAlong}
+use Rattle.jlr_core.specs.Cores.{Kept}
+use Rattle.jlr_prog.specs.Ports.{Steps, by_core}
+use Rattle.jlr_prog.specs.Histories.{Recorded, Records, by_records}
+use Rattle.jlr_prog.proofs.Staying.{Stays, changed, given_stays, made_stays, put_stays, asked_enqueue_stays, asked_poll_stays, bound_stays}
+use Rattle.jlr_prog.proofs.Calls.{IsHere, clean_begins, close_begins}
+use Rattle.jlr_prog.proofs.Asked.{IsRecorded, IsAskFrom, IsCallAlong, stays_along, settled_along, opens_along, calls_along, works_along}
+use Rattle.jlr_prog.proofs.Turning.{settles_along}
 
--- Both ask in the name of mutator 0, and what the one does the other does as well.
-pub record IsPortAlong {H X R : Type 0} (port : Asking H R) (other : Asking X R) (S : H → X → Type 0) : Type 0 where
-  pub here : (h : H) → port.mutator h ≡ 0
-  pub there : (x : X) → other.mutator x ≡ 0
-  pub asks : IsAskAlong port.asks other.asks S
-  pub settlings : IsTurnAlong port.settling other.settling S
+-- ---- Commands that ask once
 
-module _ {H X R : Type 0} (port : Asking H R) (other : Asking X R) (S : H → X → Type 0) (f : IsPortAlong port other S) where
-  once_along : (first : Option (Event R)) (h k : H) (said : Answer) (x : X) → AsksOnce port first h said k → S h x → (y : X) × AsksOnce other first x said y × S k y
-  once_along None h k said x a s = (x, (a.0, refl), subst (λ l. S l x) (sym a.1) s)
-  once_along (Some first) h k said x a s = let d = f.asks h k x first a.0 a.1 s in (d.0, (a.0, d.1, a.2), d.2)
+-- there is an ask, and it leaves mutator 0 alone
+abbrev StaysIn : Option Ask → Type 0
+StaysIn (Some asked) = Stays Free asked
+StaysIn None = ⊥
 
-  rest_along : {Y : Type 0} (comes_to : Y → Event R → Type 0) (rests : Type 0) (led : Result Y Answer) (h k : H) (said : Answer) (x : X)
-      → MatchResult led (λ w. (second : Event R) × (last : Reply R) × comes_to w second × port.asks h second last k × (said ≡ said_by last)) (λ answer. (said ≡ answer) × (k ≡ h) × rests)
-      → S h x → (y : X) × MatchResult led (λ w. (second : Event R) × (last : Reply R) × comes_to w second × other.asks x second last y × (said ≡ said_by last)) (λ answer. (said ≡ answer) × (y ≡ x) × rests) × S k y
-  rest_along comes_to rests (Ok w) h k said x a s = let d = f.asks h k x a.0 a.1 a.3 s in (d.0, (a.0, a.1, a.2, d.1, a.4), d.2)
-  rest_along comes_to rests (Err answer) h k said x a s = (x, (a.0, refl, a.2), subst (λ l. S l x) (sym a.1) s)
+abbrev AsksQuietly : {R : Type 0} → Option (Event R) → Type 0
+AsksQuietly {R} o = (e : Event R) → o ≡ Some e → StaysIn (ask_of e)
 
-  twice_along : {Y : Type 0} (first : Event R) (leads : Reply R → Result Y Answer) (comes_to : Y → Event R → Type 0) (rests : Type 0) (h k : H) (said : Answer) (x : X)
-      → AsksTwice port first leads comes_to rests h said k → S h x → (y : X) × AsksTwice other first leads comes_to rests x said y × S k y
-  twice_along first leads comes_to rests h k said x a s =
-      let d = f.asks h a.1 x first a.0 a.2 s in
-      let e = rest_along comes_to rests (leads a.0) a.1 k said d.0 a.3 d.2 in
-      (e.0, (a.0, d.0, d.1, e.1), e.2)
+quietly : {R : Type 0} (e : Event R) → StaysIn (ask_of e) → AsksQuietly (Some e)
+quietly e stays d is = subst (λ o. StaysIn (option_and_then ask_of o)) is stays
+
+asks_quietly : {R : Type 0} (c : Command) → AsksQuietly {R = R} (event_of 0 c)
+asks_quietly (New layout) = quietly (event.New 0 layout) (λ m a fresh x. made_stays Free m _ fresh x)
+asks_quietly (Put h f v) = quietly (event.Put 0 h f v) (λ m a fresh x. put_stays Free m _ (slot_named m 0 h) x)
+asks_quietly (Get h f) = quietly (event.Get 0 h f) (λ m a fresh x. given_stays Free m (given m (ask.Get 0 h f)) x)
+asks_quietly (SetInt h f n) = quietly (event.SetInt 0 h f n) (λ m a fresh x. put_stays Free m _ (slot_named m 0 h) x)
+asks_quietly (Int h f) = quietly (event.Int 0 h f) (λ m a fresh x. x)
+asks_quietly (Dup h) = quietly (event.Dup 0 h) (λ m a fresh x. given_stays Free m (given m (ask.Dup 0 h)) x)
+asks_quietly (Drop h) = quietly (event.Drop 0 h) (λ m a fresh x. changed Free m _ (λ s. refl) x)
+asks_quietly (Same a b) = quietly (event.Same 0 a b) (λ m a fresh x. x)
+asks_quietly (Soft h q) = quietly (event.MakeRef 0 kind.Soft h q) (λ m a fresh x. made_stays Free m _ fresh x)
+asks_quietly (Weak h q) = quietly (event.MakeRef 0 kind.Weak h q) (λ m a fresh x. made_stays Free m _ fresh x)
+asks_quietly (Phantom h q) = quietly (event.MakeRef 0 kind.Phantom h q) (λ m a fresh x. made_stays Free m _ fresh x)
+asks_quietly (Deref r) = quietly (event.Deref 0 r) (λ m a fresh x. given_stays Free m (given m (ask.Deref 0 r)) x)
+asks_quietly (Refers r h) = quietly (event.Refers 0 r h) (λ m a fresh x. x)
+asks_quietly (Clear r) = quietly (event.Clear 0 r) (λ m a fresh x. put_stays Free m _ (slot_named m 0 r) x)
+asks_quietly (Enqueue r) = quietly (event.Enqueue 0 r) (λ m a fresh x. asked_enqueue_stays Free m (slot_named m 0 r) x)
+asks_quietly (Enqueued r) = quietly (event.Enqueued 0 r) (λ m a fresh x. x)
+asks_quietly Queue = quietly (event.MakeQueue 0) (λ m a fresh x. made_stays Free m _ fresh x)
+asks_quietly (Poll q) = quietly (event.Poll 0 q) (λ m a fresh x. asked_poll_stays Free m (slot_named m 0 q) (given m (ask.Poll 0 q)) x)
+asks_quietly (Remove q) = quietly (event.Remove 0 q) (λ m a fresh x. asked_poll_stays Free m (slot_named m 0 q) (given m (ask.Remove 0 q)) x)
+asks_quietly Cleaner = quietly (event.MakeCleaner 0) (λ m a fresh x. made_stays Free m _ fresh x)
+asks_quietly (Register c h note) = quietly (event.Register 0 c h note) (λ m a fresh x. made_stays Free m _ fresh x)
+asks_quietly (Bind name h) = quietly (event.Bind 0 name h) (λ m a fresh x. bound_stays Free m _ (slot_named m 0 h) (λ s y. y) x)
+asks_quietly (Find name) = quietly (event.Find 0 name) (λ m a fresh x. given_stays Free m (given m (ask.Find 0 name)) x)
+asks_quietly (Unbind name) = quietly (event.Unbind 0 name) (λ m a fresh x. x)
+asks_quietly Names = quietly (event.Names 0) (λ m a fresh x. x)
+asks_quietly (Full mode) = quietly (event.Full 0 mode) (λ m a fresh x. x)
+asks_quietly Stat = quietly (event.Stat 0) (λ m a fresh x. x)
+asks_quietly Notes = quietly (event.Notes 0) (λ m a fresh x. x)
+asks_quietly Faults = quietly (event.Faults 0) (λ m a fresh x. x)
+asks_quietly c = λ e is. no_some e is
+
+module _ {R : Type 0} (m : Machine) where
+  quiet_along : (e : Event R) (o : Option Ask) → ask_of e ≡ o → StaysIn o → IsAskFrom m IsHere IsHere e
+  quiet_along e (Some asked) is stays = stays_along m e asked is stays
+  quiet_along e None is stays = absurd stays
 
   module _ {D : Type 0} (device : Opening D R) (resource : Handling R) where
-    carried_along : (m : ℕ) (c : Command) (h k : H) (d d' : D) (said : Answer) (x : X) → CarriesOut port device resource m c h d said k d' → S h x
-        → (y : X) × CarriesOut other device resource m c x d said y d' × S k y
-    carried_along m (Open mode path) h k d d' said x a s = twice_along (Prepare m) prepared_by (λ u. TellsOpened device m mode path d d') (d' ≡ d) h k said x a s
-    carried_along m (Connect path) h k d d' said x a s = twice_along (Prepare m) prepared_by (λ u. TellsConnected device m path d d') (d' ≡ d) h k said x a s
-    carried_along m (Read g count) h k d d' said x a s = let t = twice_along (CheckOut m g) out_by (TellsRead resource m count) ⊤ h k said x a.0 s in (t.0, (t.1, a.1), t.2)
-    carried_along m (Write g bytes) h k d d' said x a s = let t = twice_along (CheckOut m g) out_by (TellsWritten resource m bytes) ⊤ h k said x a.0 s in (t.0, (t.1, a.1), t.2)
-    carried_along m (Clean c) h k d d' said x a s = let t = twice_along (CleanEvent m c) job_by (TellsFinished resource m) ⊤ h k said x a.0 s in (t.0, (t.1, a.1), t.2)
-    carried_along m (Close g) h k d d' said x a s = let t = twice_along (CloseEvent m g) job_by (TellsFinished resource m) ⊤ h k said x a.0 s in (t.0, (t.1, a.1), t.2)
-    carried_along m (New layout) h k d d' said x a s = let t = once_along (event_of m (New layout)) h k said x a.0 s in (t.0, (t.1, a.1), t.2)
-    carried_along m (Put o i v) h k d d' said x a s = let t = once_along (event_of m (Put o i v)) h k said x a.0 s in (t.0, (t.1, a.1), t.2)
-    carried_along m (Get o i) h k d d' said x a s = let t = once_along (event_of m (Get o i)) h k said x a.0 s in (t.0, (t.1, a.1), t.2)
-    carried_along m (SetInt o i n) h k d d' said x a s = let t = once_along (event_of m (SetInt o i n)) h k said x a.0 s in (t.0, (t.1, a.1), t.2)
-    carried_along m (Int o i) h k d d' said x a s = let t = once_along (event_of m (Int o i)) h k said x a.0 s in (t.0, (t.1, a.1), t.2)
-    carried_along m (Dup o) h k d d' said x a s = let t = once_along (event_of m (Dup o)) h k said x a.0 s in (t.0, (t.1, a.1), t.2)
-    carried_along m (Drop o) h k d d' said x a s = let t = once_along (event_of m (Drop o)) h k said x a.0 s in (t.0, (t.1, a.1), t.2)
-    carried_along m (Same l r) h k d d' said x a s = let t = once_along (event_of m (Same l r)) h k said x a.0 s in (t.0, (t.1, a.1), t.2)
-    carried_along m (Soft o q) h k d d' said x a s = let t = once_along (event_of m (Soft o q)) h k said x a.0 s in (t.0, (t.1, a.1), t.2)
-    carried_along m (Weak o q) h k d d' said x a s = let t = once_along (event_of m (Weak o q)) h k said x a.0 s in (t.0, (t.1, a.1), t.2)
-    carried_along m (Phantom o q) h k d d' said x a s = let t = once_along (event_of m (Phantom o q)) h k said x a.0 s in (t.0, (t.1, a.1), t.2)
-    carried_along m (Deref r) h k d d' said x a s = let t = once_along (event_of m (Deref r)) h k said x a.0 s in (t.0, (t.1, a.1), t.2)
-    carried_along m (Refers r o) h k d d' said x a s = let t = once_along (event_of m (Refers r o)) h k said x a.0 s in (t.0, (t.1, a.1), t.2)
-    carried_along m (Clear r) h k d d' said x a s = let t = once_along (event_of m (Clear r)) h k said x a.0 s in (t.0, (t.1, a.1), t.2)
-    carried_along m (Enqueue r) h k d d' said x a s = let t = once_along (event_of m (Enqueue r)) h k said x a.0 s in (t.0, (t.1, a.1), t.2)
-    carried_along m (Enqueued r) h k d d' said x a s = let t = once_along (event_of m (Enqueued r)) h k said x a.0 s in (t.0, (t.1, a.1), t.2)
-    carried_along m Queue h k d d' said x a s = let t = once_along (event_of m Queue) h k said x a.0 s in (t.0, (t.1, a.1), t.2)
-    carried_along m (Poll q) h k d d' said x a s = let t = once_along (event_of m (Poll q)) h k said x a.0 s in (t.0, (t.1, a.1), t.2)
-    carried_along m (Remove q) h k d d' said x a s = let t = once_along (event_of m (Remove q)) h k said x a.0 s in (t.0, (t.1, a.1), t.2)
-    carried_along m Cleaner h k d d' said x a s = let t = once_along (event_of m Cleaner) h k said x a.0 s in (t.0, (t.1, a.1), t.2)
-    carried_along m (Register c o note) h k d d' said x a s = let t = once_along (event_of m (Register c o note)) h k said x a.0 s in (t.0, (t.1, a.1), t.2)
-    carried_along m (Bind name o) h k d d' said x a s = let t = once_along (event_of m (Bind name o)) h k said x a.0 s in (t.0, (t.1, a.1), t.2)
-    carried_along m (Find name) h k d d' said x a s = let t = once_along (event_of m (Find name)) h k said x a.0 s in (t.0, (t.1, a.1), t.2)
-    carried_along m (Unbind name) h k d d' said x a s = let t = once_along (event_of m (Unbind name)) h k said x a.0 s in (t.0, (t.1, a.1), t.2)
-    carried_along m Names h k d d' said x a s = let t = once_along (event_of m Names) h k said x a.0 s in (t.0, (t.1, a.1), t.2)
-    carried_along m (Full mode) h k d d' said x a s = let t = once_along (event_of m (Full mode)) h k said x a.0 s in (t.0, (t.1, a.1), t.2)
-    carried_along m Stat h k d d' said x a s = let t = once_along (event_of m Stat) h k said x a.0 s in (t.0, (t.1, a.1), t.2)
-    carried_along m Notes h k d d' said x a s = let t = once_along (event_of m Notes) h k said x a.0 s in (t.0, (t.1, a.1), t.2)
-    carried_along m Faults h k d d' said x a s = let t = once_along (event_of m Faults) h k said x a.0 s in (t.0, (t.1, a.1), t.2)
-    carried_along m Bye h k d d' said x a s = let t = once_along (event_of m Bye) h k said x a.0 s in (t.0, (t.1, a.1), t.2)
+    once_along : (first : Option (Event R)) → AsksQuietly first → (h k : Kept R) (said : Answer) (x : Recorded R) → AsksOnce (by_core resource) first h said k → IsRecorded m IsHere h x
+        → (y : Recorded R) × AsksOnce (by_records resource) first x said y × IsRecorded m IsHere k y
+    once_along None quiet h k said x a s = (x, (a.0, refl), subst (λ l. IsRecorded m IsHere l x) (sym a.1) s)
+    once_along (Some first) quiet h k said x a s = let d = quiet_along first (ask_of first) refl (quiet first refl) h k x a.0 a.1 s in (d.0, (a.0, d.1, a.2), d.2)
+
+    -- ---- Commands that ask twice
+
+    second_along : {Y : Type 0} (first : Event R) (leads : Reply R → Result Y Answer) (comes_to : Y → Event R → Type 0) (T : Y → Machine → Type 0) → IsCallAlong m first leads comes_to T
+        → (rests : Type 0) (led : Result Y Answer) (h k : Kept R) (said : Answer) (x : Recorded R)
+        → MatchResult led (λ w. (second : Event R) × (last : Reply R) × comes_to w second × Steps h second last k × (said ≡ said_by last)) (λ answer. (said ≡ answer) × (k ≡ h) × rests)
+        → IsRecorded m (λ n. MatchResult led (λ w. T w n) (λ _. IsHere n)) h x
+        → (y : Recorded R) × MatchResult led (λ w. (second : Event R) × (last : Reply R) × comes_to w second × Records x second last y × (said ≡ said_by last)) (λ answer. (said ≡ answer) × (y ≡ x) × rests)
+        × IsRecorded m IsHere k y
+    second_along first leads comes_to T f rests (Ok w) h k said x a s = let d = f.ends w a.0 a.2 h k x a.1 a.3 s in (d.0, (a.0, a.1, a.2, d.1, a.4), d.2)
+    second_along first leads comes_to T f rests (Err answer) h k said x a s = (x, (a.0, refl, a.2), subst (λ l. IsRecorded m IsHere l x) (sym a.1) s)
+
+    twice_along : {Y : Type 0} (first : Event R) (leads : Reply R → Result Y Answer) (comes_to : Y → Event R → Type 0) (T : Y → Machine → Type 0) → IsCallAlong m first leads comes_to T
+        → (rests : Type 0) (h k : Kept R) (said : Answer) (x : Recorded R) → AsksTwice (by_core resource) first leads comes_to rests h said k → IsRecorded m IsHere h x
+        → (y : Recorded R) × AsksTwice (by_records resource) first leads comes_to rests x said y × IsRecorded m IsHere k y
+    twice_along first leads comes_to T f rests h k said x a s =
+        let d = f.begins h a.1 x a.0 a.2 s in
+        let e = second_along first leads comes_to T f rests (leads a.0) a.1 k said d.0 a.3 d.2 in
+        (e.0, (a.0, d.0, d.1, e.1), e.2)
+
+    -- ---- Commands
+
+    carried_along : (c : Command) (h k : Kept R) (d d' : D) (said : Answer) (x : Recorded R) → CarriesOut (by_core resource) device resource 0 c h d said k d' → IsRecorded m IsHere h x
+        → (y : Recorded R) × CarriesOut (by_records resource) device resource 0 c x d said y d' × IsRecorded m IsHere k y
+    carried_along (Open mode path) h k d d' said x a s =
+        let comes_to : Unit {0} → Event R → Type 0 = λ u. TellsOpened device 0 mode path d d' in
+        twice_along (event.Prepare 0) prepared_by comes_to _ (opens_along m comes_to (λ u e t. (t.0, t.2))) (d' ≡ d) h k said x a s
+    carried_along (Connect path) h k d d' said x a s =
+        let comes_to : Unit {0} → Event R → Type 0 = λ u. TellsConnected device 0 path d d' in
+        twice_along (event.Prepare 0) prepared_by comes_to _ (opens_along m comes_to (λ u e t. (t.0, t.2))) (d' ≡ d) h k said x a s
+    carried_along (Read g count) h k d d' said x a s =
+        let comes_to : R → Event R → Type 0 = TellsRead resource 0 count in
+        let t = twice_along (event.CheckOut 0 g) out_by comes_to _ (calls_along m g comes_to (λ value e t. (t.0, t.1, t.3))) ⊤ h k said x a.0 s in
+        (t.0, (t.1, a.1), t.2)
+    carried_along (Write g bytes) h k d d' said x a s =
+        let comes_to : R → Event R → Type 0 = TellsWritten resource 0 bytes in
+        let t = twice_along (event.CheckOut 0 g) out_by comes_to _ (calls_along m g comes_to (λ value e t. (t.0, t.1, t.3))) ⊤ h k said x a.0 s in
+        (t.0, (t.1, a.1), t.2)
+    carried_along (Clean c) h k d d' said x a s =
+        let comes_to : JobOf R → Event R → Type 0 = TellsFinished resource 0 in
+        let t = twice_along (event.Clean 0 c) job_by comes_to _ (works_along m (event.Clean 0 c) (ask.Clean 0 c) refl (λ n answer chosen. clean_begins n c answer chosen) comes_to (λ job e t. (t.0, t.2))) ⊤ h k said x a.0 s in
+        (t.0, (t.1, a.1), t.2)
+    carried_along (Close g) h k d d' said x a s =
+        let comes_to : JobOf R → Event R → Type 0 = TellsFinished resource 0 in
+        let t = twice_along (event.Close 0 g) job_by comes_to _ (works_along m (event.Close 0 g) (ask.Close 0 g) refl (λ n answer chosen. close_begins n g answer chosen) comes_to (λ job e t. (t.0, t.2))) ⊤ h k said x a.0 s in
+        (t.0, (t.1, a.1), t.2)
+    carried_along c h k d d' said x a s = let t = once_along (event_of 0 c) (asks_quietly c) h k said x a.0 s in (t.0, (t.1, a.1), t.2)
 
     -- a device is the same in both
-    abbrev Along : H × D → X × D → Type 0
-    Along h x = S h.0 x.0 × (h.1 ≡ x.1)
+    abbrev pub Along : Kept R × D → Recorded R × D → Type 0
+    Along h x = IsRecorded m IsHere h.0 x.0 × (h.1 ≡ x.1)
 
-    in_name_of : (h k : H) (d d' : D) (c : Command) (said : Answer) → CarriesOut port device resource (port.mutator h) c h d said k d' → CarriesOut port device resource 0 c h d said k d'
-    in_name_of h k d d' c said a = subst (λ m. CarriesOut port device resource m c h d said k d') (f.here h) a
-
-    in_name_there : (x y : X) (d d' : D) (c : Command) (said : Answer) → CarriesOut other device resource 0 c x d said y d' → CarriesOut other device resource (other.mutator x) c x d said y d'
-    in_name_there x y d d' c said a = subst (λ m. CarriesOut other device resource m c x d said y d') (sym (f.there x)) a
-
-    followed : IsFollowed (by_asks port device resource) (by_asks other device resource) Along
+    pub followed : IsFollowed (by_asks (by_core resource) device resource) (by_asks (by_records resource) device resource) Along
     followed = record {
       commands = λ old new history c said n a r.
-          let d = carried_along 0 c old.0 new.0 old.1 new.1 said history.0 (in_name_of old.0 new.0 old.1 new.1 c said a) r.0 in
-          let there = in_name_there history.0 d.0 old.1 new.1 c said d.1 in
-          ((d.0, new.1), subst (λ (e : D). CarriesOut other device resource (other.mutator history.0) c history.0 e said d.0 new.1) r.1 there, (d.2, refl));
+          let d = carried_along c old.0 new.0 old.1 new.1 said history.0 a r.0 in
+          ((d.0, new.1), subst (λ (e : D). CarriesOut (by_records resource) device resource 0 c history.0 e said d.0 new.1) r.1 d.1, (d.2, refl));
       settlings = λ old new history a r.
-          let d = f.settlings old.0 new.0 history.0 a.0 r.0 in
+          let d = settles_along Steps Records (IsRecorded m IsHere) (settled_along m) resource old.0 new.0 history.0 a.0 r.0 in
           ((d.0, history.1), (d.1, refl), (d.2, a.1 ∙ r.1));
     }
 
-    abbrev Comes : Answer → Type 0 → SessionEnd → List ℕ → H → D → List ℕ → H → D → X → Type 0
-    Comes said at_end end bytes h d out k d' x = Follows port device resource said at_end end bytes h d out k d' → S h x → (y : X) × Follows other device resource said at_end end bytes x d out y d' × S k y
-
-    -- the lines are carried out, and the mutator leaves
-    lines_along : (at_end : Type 0) (end : SessionEnd) (bytes : List ℕ) (h k : H) (d d' : D) (out : List ℕ) (x : X)
-        → ((left : H) × (last : Reply R) × Ended (by_asks port device resource) at_end end bytes (h, d) out (left, d') × port.asks left (Leave (port.mutator left)) last k) → S h x
-        → (y : X) × ((left : X) × (last : Reply R) × Ended (by_asks other device resource) at_end end bytes (x, d) out (left, d') × other.asks left (Leave (other.mutator left)) last y) × S k y
+    -- what the lines come to
+    pub lines_along : (at_end : Type 0) (end : SessionEnd) (bytes : List ℕ) (h k : Kept R) (d d' : D) (out : List ℕ) (x : Recorded R)
+        → Ended (by_asks (by_core resource) device resource) at_end end bytes (h, d) out (k, d') → IsRecorded m IsHere h x
+        → (y : Recorded R) × Ended (by_asks (by_records resource) device resource) at_end end bytes (x, d) out (y, d') × IsRecorded m IsHere k y
     lines_along at_end end bytes h k d d' out x a s =
-        let e = ended_along (by_asks port device resource) (by_asks other device resource) Along followed at_end end bytes (h, d) (a.0, d') out (x, d) a.2 (s, refl) in
-        let left = subst (λ m. port.asks a.0 (Leave m) a.1 k) (f.here a.0) a.3 in
-        let l = f.asks a.0 k e.0.0 (Leave 0) a.1 left e.2.0 in
+        let e = ended_along (by_asks (by_core resource) device resource) (by_asks (by_records resource) device resource) Along followed at_end end bytes (h, d) (k, d') out (x, d) a (s, refl) in
         let same : e.0 ≡ (e.0.0, d') = ap (λ (c : D). (e.0.0, c)) (sym e.2.1) in
-        (l.0, (e.0.0, a.1, subst (λ q. Ended (by_asks other device resource) at_end end bytes (x, d) out q) same e.1, subst (λ m. other.asks e.0.0 (Leave m) a.1 l.0) (sym (f.there e.0.0)) l.1), l.2)
-
-    turned_away_along : (by : Refusal) (end : SessionEnd) (h k : H) (out : List ℕ) (x : X) → IsTurnedAway port by end h out k → S h x → (y : X) × IsTurnedAway other by end x out y × S k y
-    turned_away_along by end h k out x (inl a) s = let d = f.settlings h k x a.2 s in (d.0, inl (a.0, a.1, d.1), d.2)
-    turned_away_along by end h k out x (inr a) s = (x, inr (a.0, a.1, a.2, refl), subst (λ l. S l x) (sym a.3) s)
-
-    follows_along : (said : Answer) (at_end : Type 0) (end : SessionEnd) (bytes : List ℕ) (h k : H) (d d' : D) (out : List ℕ) (x : X) → Comes said at_end end bytes h d out k d' x
-    follows_along (answer.Refused by) at_end end bytes h k d d' out x a s = let t = turned_away_along by end h k out x a.0 s in (t.0, (t.1, a.1, a.2), t.2)
-    follows_along answer.Done at_end end bytes h k d d' out x a s = lines_along at_end end bytes h k d d' out x a s
-    follows_along (answer.Handle v) at_end end bytes h k d d' out x a s = lines_along at_end end bytes h k d d' out x a s
-    follows_along (answer.Truth v) at_end end bytes h k d d' out x a s = lines_along at_end end bytes h k d d' out x a s
-    follows_along (answer.Int v) at_end end bytes h k d d' out x a s = lines_along at_end end bytes h k d d' out x a s
-    follows_along (answer.Data v) at_end end bytes h k d d' out x a s = lines_along at_end end bytes h k d d' out x a s
-    follows_along (answer.Wrote v) at_end end bytes h k d d' out x a s = lines_along at_end end bytes h k d d' out x a s
-    follows_along (answer.Faulted v) at_end end bytes h k d d' out x a s = lines_along at_end end bytes h k d d' out x a s
-    follows_along (answer.Names v) at_end end bytes h k d d' out x a s = lines_along at_end end bytes h k d d' out x a s
-    follows_along (answer.Notes v) at_end end bytes h k d d' out x a s = lines_along at_end end bytes h k d d' out x a s
-    follows_along (answer.Faults v) at_end end bytes h k d d' out x a s = lines_along at_end end bytes h k d d' out x a s
-    follows_along (answer.Stat v) at_end end bytes h k d d' out x a s = lines_along at_end end bytes h k d d' out x a s
-    follows_along (answer.Job v w) at_end end bytes h k d d' out x a s = lines_along at_end end bytes h k d d' out x a s
-    follows_along answer.AlreadyDone at_end end bytes h k d d' out x a s = lines_along at_end end bytes h k d d' out x a s
-    follows_along (answer.Prepared v) at_end end bytes h k d d' out x a s = lines_along at_end end bytes h k d d' out x a s
-    follows_along (answer.Out v) at_end end bytes h k d d' out x a s = lines_along at_end end bytes h k d d' out x a s
-    follows_along (answer.Handed v) at_end end bytes h k d d' out x a s = lines_along at_end end bytes h k d d' out x a s
-
-    pub serves_along : (at_end : Type 0) (end : SessionEnd) (bytes : List ℕ) (h k : H) (d d' : D) (out : List ℕ) (x : X) → Serves port device resource at_end end bytes h d out k d' → S h x
-        → (y : X) × Serves other device resource at_end end bytes x d out y d' × S k y
-    serves_along at_end end bytes h k d d' out x a s =
-        let join = subst (λ m. port.asks h (Join m) a.0 a.1) (f.here h) a.2 in
-        let j = f.asks h a.1 x (Join 0) a.0 join s in
-        let e = follows_along (said_by a.0) at_end end bytes a.1 k d d' out j.0 a.3 j.2 in
-        (e.0, (a.0, j.0, subst (λ m. other.asks x (Join m) a.0 j.0) (sym (f.there x)) j.1, e.1), e.2)
+        (e.0.0, subst (λ q. Ended (by_asks (by_records resource) device resource) at_end end bytes (x, d) out q) same e.1, e.2.0)

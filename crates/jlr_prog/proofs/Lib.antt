@@ -2,5 +2,8 @@ pub mod Turning
 pub mod HandingOver
 pub mod TakingUp
 pub mod Resting
+pub mod Staying
+pub mod Calls
+pub mod Asked
 pub mod Following
 pub mod Histories

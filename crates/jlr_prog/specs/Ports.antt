@@ -5,7 +5,7 @@ use Rattle.jlr_machine.specs.declared.ask.Ask.TheVariants.{Collect}
 use Rattle.jlr_machine.specs.declared.ask.Answer.TheVariants.{Truth}
 use Rattle.jlr_machine.specs.declared.entry.Chosen.{Chosen}
 use Rattle.jlr_machine.specs.Run.{empty}
-use Rattle.jlr_resource.specs.Resources.{values}
+use Rattle.jlr_resource.specs.Resources.{resources, values}
 use Rattle.jlr_barrier.specs.Graphs.{empty_known}
 use Rattle.jlr_event.specs.declared.event.Event.{Event}
 use Rattle.jlr_event.specs.declared.event.Reply.{Reply}
@@ -13,7 +13,7 @@ use Rattle.jlr_event.specs.declared.event.Reply.TheVariants.{Marked}
 use Rattle.jlr_event.specs.Events.{ask_of, answer_in, given, handed}
 use Rattle.jlr_core.specs.Cores.{Kept, StandsIn}
 use Rattle.jlr_core.specs.Events.{Enters, WantsMemory, progress_in}
-use Rattle.jlr_core.specs.Flows.{Conserves, GoesOut}
+use Rattle.jlr_core.specs.Flows.{Conserves, GoesOut, Moves}
 use Rattle.jlr_core.specs.Policy.{KeepsByPolicy, clock_after}
 use Rattle.jlr_session.specs.Calls.{Handling}
 use Rattle.jlr_session.specs.Asks.{Asking}
@@ -28,8 +28,11 @@ Stands core = (m : Machine) × StandsIn core m
 pub record Steps {R : Type 0} (old : Kept R) (event : Event R) (reply : Reply R) (new : Kept R) : Type 0 where
   pub chosen : Chosen
   pub entry : (m : Machine) → StandsIn old m → (n : Machine) × Enters m (ask_of event) (answer_in reply) chosen n × StandsIn new n
-  -- no file or socket is made or lost, and what goes out is what lay at its Rid
+  -- no file or socket is made or lost; at one Rid at most lies something else then, and what goes out is what lay there. The table is that
+  -- of the machine's resources, so what comes in lies at the Rid that the machine says
   pub flow : Conserves (given event) old.table (handed reply) new.table
+  pub moves : Moves (given event) old.table (handed reply) new.table
+  pub listed : resources new.table ≡ new.machine.resources
   pub goes_out : GoesOut old.table (given event) (answer_in reply) (handed reply)
   pub memory : WantsMemory event reply
   pub marking : ask_of event ≡ None → reply ≡ Marked (progress_in old.machine)

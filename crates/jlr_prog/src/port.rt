@@ -5,18 +5,16 @@ ghost use Rattle.jlr_resource.specs.Resources.{values};
 ghost use Rattle.jlr_barrier.specs.Graphs.{empty_known};
 ghost use Rattle.jlr_event.specs.declared.event.Event.TheVariants.{HandOver};
 ghost use Rattle.jlr_event.specs.declared.event.Reply.{Reply};
-ghost use Rattle.jlr_session.specs.Asks.{job_by};
 ghost use Rattle.jlr_prog.specs.Settling.{Cleans, HandsAllOver, HandsOver, Works};
 ghost use Rattle.jlr_prog.specs.Ports.{Steps, by_core};
 ghost use Rattle.jlr_prog.specs.OneTurn.{IsLeftBy, IsTurn, turn_by};
 
-use jlr_cleaner::Job;
 use jlr_core::engine::Core;
 use jlr_device::Resource;
 use jlr_event::event::{Event, Reply};
 use jlr_machine::ask::{Answer, Handed};
 use jlr_machine::choice::Choice;
-use jlr_session::job::carry_out;
+use jlr_session::job::{carry_out, job_of};
 use jlr_session::port::Port;
 use jlr_types::{Limits, Mutator};
 use std::alloc::{AllocError, Global};
@@ -164,25 +162,5 @@ fn turn_after(answer: &Answer) -> Turn
         Answer::Refused(_) => Turn::Refused,
         Answer::Handed(handed) if *handed == Handed::Nothing => Turn::FoundNothing,
         _ => Turn::Worked,
-    }
-}
-
-/// The job that a reply hands out.
-///
-/// # Errors
-/// The answer, where it hands none out.
-fn job_of<R: Drop>(reply: Reply<R>) -> Result<Job<R>, Answer>
-    ensures { result ≡ job_by reply }
-{
-    match reply {
-        Reply::Answered { answer, resource } => match answer {
-            Answer::Job { action, work } => Ok(Job {
-                action,
-                work,
-                resource,
-            }),
-            answer => Err(answer),
-        },
-        Reply::Marked(_) => Err(Answer::Handed(Handed::Nothing)),
     }
 }

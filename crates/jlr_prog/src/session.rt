@@ -1,11 +1,7 @@
 //! A whole session over a heap of its own.
 ghost use Rattle.std.specs.Prelude.{◌≡◌, ◌≤◌, ℕ, List, IfErr, IfOk, length};
 ghost use Rattle.std.specs.Io.KnownBytes.{Appends, Consumes, IsAtEnd};
-ghost use Rattle.jlr_machine.specs.Run.{empty};
-ghost use Rattle.jlr_core.specs.Cores.{Kept};
 ghost use Rattle.jlr_session.specs.Limits.{most_bytes};
-ghost use Rattle.jlr_session.specs.Serving.{Serves};
-ghost use Rattle.jlr_prog.specs.Ports.{IsEmpty, by_core};
 ghost use Rattle.jlr_prog.specs.Histories.{IsSession};
 
 use crate::port::CorePort;
@@ -20,8 +16,9 @@ use std::io::{Read, Write};
 /// the other with the device's help, and it leaves at the end. Each line is answered by one reply line, which is flushed; after it the
 /// handler hands over all that is pending, and the cleaner carries out all that is Lined.
 ///
-/// What was asked and answered is a run of the machine of java.lang.ref, and belongs to the bytes that came in and went out. Each ask
-/// is a step of a core, which starts empty, and in which no file or socket is made or lost.
+/// Each ask is a step of a core, which starts empty, and in which no file or socket is made or lost; and it is an entry of a run of the
+/// machine of java.lang.ref. The first entry is the join and the last the leave, which are both answered `ok`: this session never ends
+/// as `NotJoined`. What lies between belongs to the bytes that came in and went out.
 ///
 /// # Errors
 /// `AllocError` where there is no room for the heap. Then nothing was read or written, and the device was not called.
@@ -34,18 +31,13 @@ pub fn session<D: Device, R: Read, W: Write>(
 ) -> Result<SessionEnd, AllocError>
 where
     D::Res: Drop,
-    ensures session { IfOk result (λ end. (bytes : List ℕ) × (out : List ℕ) × (start : Kept D.Res) × (last : Kept D.Res)
+    ensures session { IfOk result (λ end. (bytes : List ℕ) × (out : List ℕ)
         × Consumes (R.remaining reader.old) (R.remaining reader.new) bytes
         × Appends (W.contents writer.old) (W.contents writer.new) out
         × (length bytes ≤ most_bytes)
-        × IsEmpty limits.cells limits.sessions limits.resources limits.soft_age start
-        × Serves (by_core (record { count = D.Res.count; reads = D.Res.may_read; writes = D.Res.may_write; finishes = D.Res.may_finish }))
-        (record { count = D.count; opens = D.may_open; connects = D.may_connect; failures = D.Res.count })
-        (record { count = D.Res.count; reads = D.Res.may_read; writes = D.Res.may_write; finishes = D.Res.may_finish })
-        (IsAtEnd (R.remaining reader.new)) end bytes start device.old out last device.new
         × IsSession (record { count = D.count; opens = D.may_open; connects = D.may_connect; failures = D.Res.count })
         (record { count = D.Res.count; reads = D.Res.may_read; writes = D.Res.may_write; finishes = D.Res.may_finish })
-        (empty limits.cells limits.sessions limits.resources) (IsAtEnd (R.remaining reader.new)) end bytes device.old out device.new) }
+        limits (IsAtEnd (R.remaining reader.new)) end bytes device.old out device.new) }
     ensures untouched { IfErr result (λ _. (reader.new ≡ reader.old) × (writer.new ≡ writer.old) × (device.new ≡ device.old)) }
 {
     let mut port = CorePort::new(alloc, limits)?;

@@ -6,9 +6,9 @@ ghost use Rattle.jlr_session.specs.Asks.{AsksOnce, AsksTwice, TellsOpened, Tells
 use crate::call::{connected, opened, read_back, written_back};
 use crate::carry::CarryOut;
 use crate::event::event_for;
-use crate::job::carry_out;
+use crate::job::{carry_out, job_of};
 use crate::port::Port;
-use crate::reply::{handed_out, job_of, prepared, said};
+use crate::reply::{handed_out, prepared, said};
 use jlr_device::{Device, Mode, Resource};
 use jlr_event::event::Event;
 use jlr_machine::ask::Answer;

@@ -1,12 +1,35 @@
-//! The work of a cleaning action.
-ghost use Rattle.jlr_session.specs.Asks.{TellsFinished};
+//! Cleaning actions that were taken up, and their work.
+ghost use Rattle.std.specs.Prelude.{◌≡◌};
+ghost use Rattle.jlr_session.specs.Asks.{TellsFinished, job_by};
 ghost use Rattle.jlr_session.specs.Calls.{Finishes};
 
+use crate::reply::none;
 use jlr_cleaner::Job;
 use jlr_device::Resource;
 use jlr_device::guarded::guarded_finish;
-use jlr_event::event::Event;
+use jlr_event::event::{Event, Reply};
+use jlr_machine::ask::Answer;
 use jlr_types::Fault;
+
+/// The job of a cleaning action that was taken up.
+///
+/// # Errors
+/// The answer, where none was. A resource that comes with it is dropped.
+pub fn job_of<R: Drop>(reply: Reply<R>) -> Result<Job<R>, Answer>
+    ensures { result ≡ job_by reply }
+{
+    match reply {
+        Reply::Answered { answer, resource } => match answer {
+            Answer::Job { action, work } => Ok(Job {
+                action,
+                work,
+                resource,
+            }),
+            answer => Err(answer),
+        },
+        Reply::Marked(_) => Err(none()),
+    }
+}
 
 /// Does the work of a job that `by` took up, a mutator or 255 for the cleaner, and gives the event that tells its outcome.
 ///

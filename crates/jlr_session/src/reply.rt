@@ -1,13 +1,12 @@
 //! What replies say, and what they lead on to.
 ghost use Rattle.std.specs.Prelude.{◌≡◌};
-ghost use Rattle.jlr_session.specs.Asks.{no_answer, said_by, prepared_by, out_by, out_with, job_by};
+ghost use Rattle.jlr_session.specs.Asks.{no_answer, said_by, prepared_by, out_by, out_with};
 
-use jlr_cleaner::Job;
 use jlr_event::event::Reply;
 use jlr_machine::ask::{Answer, Handed};
 
 /// What stands for the answer of a piece of marking, which has none. It has no line, so that a session ends by it.
-fn none() -> Answer
+pub(crate) fn none() -> Answer
     ensures { result ≡ no_answer }
 {
     Answer::Handed(Handed::Nothing)
@@ -55,25 +54,5 @@ fn handed_out_with<R: Drop>(answer: Answer, resource: Option<R>) -> Result<R, An
     match answer {
         Answer::Out(rid) => resource.ok_or(Answer::Out(rid)),
         answer => Err(answer),
-    }
-}
-
-/// The job of a cleaning action that was taken up.
-///
-/// # Errors
-/// The answer, where none was. A resource that comes with it is dropped.
-pub(crate) fn job_of<R: Drop>(reply: Reply<R>) -> Result<Job<R>, Answer>
-    ensures { result ≡ job_by reply }
-{
-    match reply {
-        Reply::Answered { answer, resource } => match answer {
-            Answer::Job { action, work } => Ok(Job {
-                action,
-                work,
-                resource,
-            }),
-            answer => Err(answer),
-        },
-        Reply::Marked(_) => Err(none()),
     }
 }

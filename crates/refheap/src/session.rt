@@ -1,7 +1,6 @@
 //! A session, and what it leaves of the program.
 ghost use Rattle.std.specs.Prelude.{◌≡◌, ◌≤◌, ◌⊎◌, List, ℕ, length, MatchResult, None, Some};
 ghost use Rattle.std.specs.Io.KnownBytes.{Appends, Consumes, IsAtEnd};
-ghost use Rattle.jlr_machine.specs.Run.{empty};
 ghost use Rattle.jlr_prog.specs.Histories.{IsSession};
 ghost use Rattle.jlr_session.specs.Limits.{most_bytes};
 ghost use Rattle.jlr_session.specs.declared.shell.SessionEnd.{SessionEnd};
@@ -36,7 +35,7 @@ where
         × (length bytes ≤ most_bytes)
         × IsSession (record { count = D.count; opens = D.may_open; connects = D.may_connect; failures = D.Res.count })
         (record { count = D.Res.count; reads = D.Res.may_read; writes = D.Res.may_write; finishes = D.Res.may_finish })
-        (empty limits.cells limits.sessions limits.resources) (IsAtEnd (R.remaining reader.new)) end bytes device.old out device.new) }
+        limits (IsAtEnd (R.remaining reader.new)) end bytes device.old out device.new) }
 {
     match session_of_heap(alloc, limits, reader, writer, device) {
         Ok(end) => outcome_of(end),

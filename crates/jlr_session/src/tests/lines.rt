@@ -167,6 +167,7 @@ fn a_failed_write_or_flush_is_a_fault(rt: HostRuntime) {
         let mut writer = Narrow {
             taken: Vec::new(rt.alloc()),
             room,
+            fails: false,
             flushes,
         };
         let end = talk(&mut reader, &mut writer, &mut NoHeap);
@@ -219,6 +220,7 @@ fn each_reply_that_went_out_is_settled(rt: HostRuntime) {
         let mut writer = Narrow {
             taken: Vec::new(rt.alloc()),
             room,
+            fails: false,
             flushes: 9,
         };
         let mut heap = Counting {

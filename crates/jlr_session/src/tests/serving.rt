@@ -77,33 +77,32 @@ fn a_read_may_fail_at_each_place(rt: HostRuntime) {
 #[test]
 fn a_write_may_fail_at_each_place(rt: HostRuntime) {
     for room in 0..REPLIES.len() {
-        let mut reader = Pieced {
-            bytes: LINES,
-            first: 0,
-            step: 4_096,
-            fails: false,
-        };
-        let mut writer = Narrow {
-            taken: Vec::new(rt.alloc()),
-            room,
-            flushes: 99,
-        };
-        let mut seat = Seat::new(rt.alloc());
-        let end = serve(
-            &mut reader,
-            &mut writer,
-            &mut seat,
-            &mut obliging(rt.alloc()),
-        );
-        assert_eq!(rt; end, SessionEnd::WriteFault, "at {room}");
-        assert_eq!(rt;
-            writer.taken.as_slice(),
-            REPLIES.split_at(room).0,
-            "at {room}"
-        );
-        assert!(rt; seat.asked.as_str().ends_with("Leave; "), "at {room}");
-        let replies = writer.taken.iter().filter(|byte| **byte == b'\n').count();
-        assert_eq!(rt; usize::from(seat.settlings), replies, "at {room}");
+        for fails in [false, true] {
+            let mut reader = Pieced {
+                bytes: LINES,
+                first: 0,
+                step: 4_096,
+                fails: false,
+            };
+            let mut writer = Narrow {
+                taken: Vec::new(rt.alloc()),
+                room,
+                fails,
+                flushes: 99,
+            };
+            let mut seat = Seat::new(rt.alloc());
+            let mut device = obliging(rt.alloc());
+            let end = serve(&mut reader, &mut writer, &mut seat, &mut device);
+            assert_eq!(rt; end, SessionEnd::WriteFault, "at {room}");
+            assert_eq!(rt;
+                writer.taken.as_slice(),
+                REPLIES.split_at(room).0,
+                "at {room}"
+            );
+            assert!(rt; seat.asked.as_str().ends_with("Leave; "), "at {room}");
+            let replies = writer.taken.iter().filter(|byte| **byte == b'\n').count();
+            assert_eq!(rt; usize::from(seat.settlings), replies, "at {room}");
+        }
     }
 }
 
@@ -113,6 +112,7 @@ fn a_command_whose_reply_fails_stands(rt: HostRuntime) {
     let mut writer = Narrow {
         taken: Vec::new(rt.alloc()),
         room: 7,
+        fails: false,
         flushes: 99,
     };
     let mut seat = Seat::new(rt.alloc());
@@ -134,6 +134,7 @@ fn a_failed_flush_ends_a_session(rt: HostRuntime) {
     let mut writer = Narrow {
         taken: Vec::new(rt.alloc()),
         room: 99,
+        fails: false,
         flushes: 1,
     };
     let mut seat = Seat::new(rt.alloc());
@@ -160,6 +161,7 @@ fn a_refused_join_is_told(rt: HostRuntime) {
         let mut writer = Narrow {
             taken: Vec::new(rt.alloc()),
             room,
+            fails: false,
             flushes: 99,
         };
         let mut seat = Seat::new(rt.alloc());

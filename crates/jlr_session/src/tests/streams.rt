@@ -31,16 +31,20 @@ impl Read for Pieced<'_> {
     }
 }
 
-/// Takes so many bytes, and then nothing; flushes so many times, and then fails.
+/// Takes so many bytes, and then fails, or takes nothing; flushes so many times, and then fails.
 #[derive(Drop)]
 pub struct Narrow {
     pub taken: Vec<u8>,
     pub room: usize,
+    pub fails: bool,
     pub flushes: usize,
 }
 
 impl Write for Narrow {
     fn write(&mut self, buf: &[u8]) -> io::Result<usize> {
+        if self.room == 0 && self.fails {
+            return Err(io::Error::from(ErrorKind::Other));
+        }
         let count = self.room.min(buf.len()).min(1);
         let _ = self.taken.extend_from_slice(buf.split_at(count).0);
         self.room -= count;

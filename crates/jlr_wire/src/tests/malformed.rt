@@ -64,9 +64,14 @@ fn refuses_other_separators_than_one_space(rt: HostRuntime) {
 #[test]
 fn refuses_too_few_fields(rt: HostRuntime) {
     let lines = [
+        "put",
         "put 1",
         "put 1 0",
+        "get",
+        "get 1",
         "dup",
+        "drop",
+        "same",
         "same 1",
         "new",
         "soft",
@@ -74,6 +79,7 @@ fn refuses_too_few_fields(rt: HostRuntime) {
         "weak 1",
         "phantom 1",
         "deref",
+        "refers",
         "refers 1",
         "clear",
         "enqueue",
@@ -81,6 +87,8 @@ fn refuses_too_few_fields(rt: HostRuntime) {
         "poll",
         "int",
         "int 1",
+        "setint",
+        "setint 1",
         "setint 1 0",
         "register",
         "register 1",
@@ -93,10 +101,17 @@ fn refuses_too_few_fields(rt: HostRuntime) {
 #[test]
 fn refuses_too_many_fields(rt: HostRuntime) {
     let lines = [
+        "new r r",
         "put 1 0 2 3",
+        "get 1 0 2",
+        "dup 1 2",
         "drop 1 2",
+        "same 1 2 3",
         "gc soft soft",
         "soft 1 0 0",
+        "weak 1 0 0",
+        "phantom 1 0 0",
+        "deref 1 2",
         "refers 1 2 3",
         "clear 1 2",
         "enqueue 1 2",
@@ -179,6 +194,45 @@ fn refuses_other_handles_and_field_numbers(rt: HostRuntime) {
         "clean 256",
         "clean 01",
         "clean -1",
+    ];
+    malformed(&rt, &lines);
+}
+
+#[test]
+fn refuses_other_numbers_in_each_place(rt: HostRuntime) {
+    let lines = [
+        "put 01 0 2",
+        "put 256 0 2",
+        "put 1 00 2",
+        "put 1 256 2",
+        "put 1 0 -1",
+        "put 1 0 256",
+        "get 256 0",
+        "drop 01",
+        "drop 256",
+        "same 01 1",
+        "same 256 1",
+        "same 1 01",
+        "same 1 256",
+        "weak 256 0",
+        "weak 01 0",
+        "weak 1 256",
+        "phantom 01 0",
+        "phantom 256 0",
+        "phantom 1 256",
+        "deref 256",
+        "deref 01",
+        "refers 01 1",
+        "refers 256 1",
+        "refers 1 256",
+        "clear 256",
+        "enqueued 256",
+        "poll 01",
+        "int 256 0",
+        "int 1 00",
+        "setint 01 0 5",
+        "setint 1 256 5",
+        "register 1 01 7",
     ];
     malformed(&rt, &lines);
 }

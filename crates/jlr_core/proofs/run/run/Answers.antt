@@ -16,7 +16,7 @@ pub loop-event-init : goal.loop-event-init
 loop-event-init g c =
     let l = c.args.limits in
     record {
-      run = start_run c.in_ok-core.core l.cells l.sessions l.resources c.in_ok-replies.replies.items c.in_ok-core.ensures.machine c.in_ok-replies.ensures.items;
+      run = start_run c.in_ok-core.core l.cells l.sessions l.resources c.in_ok-replies.replies.items c.in_ok-core.ensures.machine c.in_ok-core.ensures.listed c.in_ok-replies.ensures.items;
       flow = start_flow c.in_ok-replies.replies.items c.in_ok-core.core.table c.in_ok-replies.ensures.items c.in_ok-core.ensures.none_held;
       memory = start_memory c.in_ok-replies.replies.items c.in_ok-replies.ensures.items;
       age = c.in_ok-core.ensures.age;
@@ -29,10 +29,11 @@ loop-event-preserved g c =
     let i = c.loop-event.invariant in
     let l = c.args.limits in
     let m = empty l.cells l.sessions l.resources in
+    let e = c.step.ensures in
     record {
       run =
           subst (λ (replies : List (Reply g.row.R.Denot)). IsRunOf m (c.loop-event.yielded ++ c.in-Some.event ∷ []) replies c.step.new.self) (sym pushed)
-          (run_more m c.loop-event.yielded c.loop-event.replies.items c.loop-event.core c.step.new.self c.in-Some.event c.step.result c.step.new.choice.chosen i.run c.step.ensures.entry);
+          (run_more m c.loop-event.yielded c.loop-event.replies.items c.loop-event.core c.step.new.self c.in-Some.event c.step.result c.step.new.choice.chosen i.run (record { entry = e.entry; moves = e.moves; goes_out = e.goes_out; listed = e.listed }));
       flow =
           subst (λ (replies : List (Reply g.row.R.Denot)). IsPermutation (all_given (c.loop-event.yielded ++ c.in-Some.event ∷ [])) (all_handed replies ++ values c.step.new.self.table)) (sym pushed)
           (flow_more c.loop-event.yielded c.loop-event.replies.items c.loop-event.core.table c.step.new.self.table c.in-Some.event c.step.result i.flow c.step.ensures.flow);

@@ -10,6 +10,7 @@ use Rattle.jlr_core.specs.Machines.{machine_of}
 use Rattle.jlr_core.specs.State.{machine_with}
 use Rattle.jlr_core.proofs.Entries.{meets_plain, meets_refused, never_memory}
 use Rattle.jlr_core.proofs.Guards.{checked_in_is}
+use Rattle.jlr_core.proofs.Moving.{put_in}
 use Rattle.jlr_core.proofs.state.State.check_in.Goals as goal
 
 pub returns-in-Err-clause-entry : goal.returns-in-Err-clause-entry
@@ -32,3 +33,8 @@ returns-clause-entry g c =
     (ap (λ (h : Graph). machine_with c.check_in.new.self h s.cycle_open) c.end_call.ensures.graph
     ∙ ap (λ (x : Machine). with_call x k None Free) (c.check_in.ensures.machine m)
     ∙ checked_in_is m k c.in-Ok.held Out c.args.outcome c.ended.result c.in-Ok.ensures.1)
+
+pub returns-clause-moves : goal.returns-clause-moves
+returns-clause-moves g c =
+    let rid = c.in-Ok.held.guard.rid in
+    put_in c.args.self.now.cleaner.table c.check_in.new.self.table rid Out c.args.resource c.in-Ok.ensures.1.resource (λ e. absurd (cc e)) c.check_in.ensures.lies_here c.check_in.ensures.others

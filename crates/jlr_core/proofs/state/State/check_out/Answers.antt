@@ -9,6 +9,8 @@ use Rattle.jlr_core.specs.Machines.{machine_of}
 use Rattle.jlr_core.specs.State.{machine_with}
 use Rattle.jlr_core.proofs.Entries.{meets_plain}
 use Rattle.jlr_core.proofs.Guards.{checked_out_is, out_reply}
+use Rattle.jlr_machine.specs.declared.machine.ResourceState.TheVariants.{Out as IsOut}
+use Rattle.jlr_core.proofs.Moving.{taken_out}
 use Rattle.jlr_core.proofs.state.State.check_out.Goals as goal
 
 pub returns-clause-entry : goal.returns-clause-entry
@@ -22,3 +24,9 @@ returns-clause-entry g c =
     (ap (λ (h : Graph). machine_with c.check_out-resource.new.self h s.cycle_open) c.begin_call.ensures.graph
     ∙ ap (λ (x : Machine). with_call x k (Some held.slot) (CallOut held.guard.rid)) (c.check_out-resource.ensures.machine m)
     ∙ checked_out_is m k c.args.guard held (Out held.guard.rid) c.in-Ok.ensures.1)
+
+pub returns-clause-moves : goal.returns-clause-moves
+returns-clause-moves g c =
+    let rid = c.in-Ok.held.guard.rid in
+    let called = c.check_out-resource.ensures in
+    taken_out c.args.self.now.cleaner.table c.check_out-resource.new.self.table rid IsOut c.check_out-resource.result called.put_in_last called.state (λ e. absurd (cc e)) called.others

@@ -1,4 +1,7 @@
-use Rattle.std.proofs.Common.{◌≡◌, None, Some, ap, ◌∙◌, sym}
+use Rattle.std.proofs.Common.{◌≡◌, None, Some, ap, ◌∙◌, subst, sym}
+use Rattle.jlr_resource.specs.Resources.{Resources}
+use Rattle.jlr_cleaner.specs.Cleanings.{Cleanings}
+use Rattle.jlr_core.specs.Flows.{Moves}
 use Rattle.jlr_machine.specs.declared.machine.Machine.{Machine}
 use Rattle.jlr_machine.specs.declared.machine.Call.TheVariants.{Free}
 use Rattle.jlr_machine.specs.declared.machine.ResourceState.TheVariants.{Idle}
@@ -7,6 +10,8 @@ use Rattle.jlr_machine.specs.Lookups.{with_call, with_handle, with_state}
 use Rattle.jlr_barrier.specs.Graphs.{Graph}
 use Rattle.jlr_core.specs.Machines.{machine_of}
 use Rattle.jlr_core.specs.State.{machine_with}
+use Rattle.jlr_machine.specs.declared.machine.ResourceState.TheVariants.{Opening}
+use Rattle.jlr_core.proofs.Moving.{put_in}
 use Rattle.jlr_core.proofs.state.State.open_done.Goals as goal
 
 pub returns-clause-opened : goal.returns-clause-opened
@@ -17,3 +22,11 @@ returns-clause-opened g c =
     c.give.ensures.held
     ∙ ap (λ (m : Machine). with_handle m c.args.by c.args.held.slot) ended
     ∙ ap (with_given (with_call (with_state (machine_of s) c.args.held.guard.rid Idle) c.args.by None Free) c.args.by) (sym c.requires.held.fence)
+
+pub returns-clause-moves : goal.returns-clause-moves
+returns-clause-moves g c =
+    let old = c.args.self.now.cleaner.table in
+    let rid = c.args.held.guard.rid in
+    let given : c.opened.new.self.table ≡ c.give.new.self.cleaner.table = ap {A = Cleanings g.row.R.Denot} {B = Resources g.row.R.Denot} (λ x. x.table) (sym c.give.ensures.cleaner) in
+    subst (λ (t : Resources g.row.R.Denot). Moves (Some c.args.resource) old None t) given
+    (put_in old c.opened.new.self.table rid Opening c.args.resource c.requires.held.resource (λ e. absurd (cc e)) c.opened.ensures.lies_here c.opened.ensures.others)

@@ -7,6 +7,8 @@ use Rattle.jlr_machine.specs.Lookups.{with_call, with_object}
 use Rattle.jlr_barrier.specs.Graphs.{Graph}
 use Rattle.jlr_core.specs.Machines.{machine_of}
 use Rattle.jlr_core.specs.State.{machine_with}
+use Rattle.jlr_machine.specs.declared.machine.ResourceState.TheVariants.{Opening}
+use Rattle.jlr_core.proofs.Moving.{none_lies, none_moved, none_there, without_value}
 use Rattle.jlr_core.proofs.state.State.open_failed.Goals as goal
 
 pub returns-clause-opened : goal.returns-clause-opened
@@ -15,3 +17,10 @@ returns-clause-opened g c =
     ap (λ (h : Graph). machine_with c.open_failed.new.self h s.cycle_open) c.end_call.ensures.graph
     ∙ ap (λ (h : Graph). with_call (machine_with c.open_failed.new.self h s.cycle_open) c.args.by None Free) c.spend.ensures.graph
     ∙ ap (λ (m : Machine). with_call (with_object m c.args.held.guard.cleanable (with_cleanable spent)) c.args.by None Free) (c.open_failed.ensures.machine (machine_of s))
+
+pub returns-clause-moves : goal.returns-clause-moves
+returns-clause-moves g c =
+    let old = c.args.self.now.cleaner.table in
+    let new = c.open_failed.new.self.table in
+    let rid = c.args.held.guard.rid in
+    none_moved old new (without_value old new rid (none_lies old rid Opening c.requires.held.resource (λ e. absurd (cc e))) (none_there new rid c.open_failed.ensures.state) c.open_failed.ensures.others)

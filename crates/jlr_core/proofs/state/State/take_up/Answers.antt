@@ -1,4 +1,4 @@
-use Rattle.std.proofs.Common.{◌≡◌, ℕ, [], Some, refl, sym, ap, ◌∙◌}
+use Rattle.std.proofs.Common.{◌≡◌, ℕ, [], None, Some, refl, sym, subst, ap, ◌∙◌}
 use Rattle.jlr_machine.specs.declared.ask.Ask.TheVariants.{TakeUp}
 use Rattle.jlr_machine.specs.declared.ask.Answer.TheVariants.{Handed, Job}
 use Rattle.jlr_machine.specs.declared.ask.Handed.TheVariants.{Nothing}
@@ -8,6 +8,10 @@ use Rattle.jlr_core.specs.Machines.{frame_of, machine_of}
 use Rattle.jlr_core.specs.State.{machine_with}
 use Rattle.jlr_core.proofs.Entries.{meets_plain}
 use Rattle.jlr_core.proofs.TakeUps.{below_numbers, front_long, line_allowed, line_answer_is, line_taken_is, lined_is_idle, lined_taken, lined_there, none_lined, runs_in_none, unspent_when_lined}
+use Rattle.jlr_cleaner.specs.Cleanings.{Cleanings}
+use Rattle.jlr_resource.specs.Resources.{Resources}
+use Rattle.jlr_core.specs.Flows.{Moves}
+use Rattle.jlr_core.proofs.Moving.{job_moved}
 use Rattle.jlr_core.proofs.state.State.take_up.Goals as goal
 
 pub returns-in_default-clause-meets : goal.returns-in_default-clause-meets
@@ -59,3 +63,9 @@ returns-clause-cells g c =
     let s = c.args.self.now in
     let m = machine_of s in
     front_long m (machine_with s.cleaner c.take_lined.new.heap.graph s.cycle_open) (from_lined m m.line) (c.in-Some.ensures.taken (frame_of s)).1
+
+pub returns-clause-moves : goal.returns-clause-moves
+returns-clause-moves g c =
+    let old = c.args.self.now.cleaner in
+    let taken = c.take_up-job in
+    subst (λ (t : Resources g.row.R.Denot). Moves None old.table taken.result.resource t) (ap {A = Cleanings g.row.R.Denot} {B = Resources g.row.R.Denot} (λ x. x.table) (sym taken.ensures.taken)) (job_moved old.table c.in-Some.cleanable.work taken.result.resource taken.ensures.put_in_last)

@@ -1,10 +1,14 @@
-use Rattle.std.proofs.Common.{◌≡◌, ◌==◌, ℕ, false, refl, sym, subst, ap, ◌∙◌}
+use Rattle.std.proofs.Common.{◌≡◌, ◌==◌, ℕ, None, false, refl, sym, subst, ap, ◌∙◌}
 use Rattle.std.specs.List.{list_any}
 use Rattle.jlr_machine.specs.Calls.{taken_up}
 use Rattle.jlr_barrier.specs.Graphs.{Graph}
 use Rattle.jlr_core.specs.Machines.{machine_of}
 use Rattle.jlr_core.specs.State.{machine_with}
 use Rattle.jlr_core.proofs.TakeUps.{free_taker}
+use Rattle.jlr_cleaner.specs.Cleanings.{Cleanings}
+use Rattle.jlr_resource.specs.Resources.{Resources}
+use Rattle.jlr_core.specs.Flows.{Moves}
+use Rattle.jlr_core.proofs.Moving.{job_moved}
 use Rattle.jlr_core.proofs.state.State.take_up_at.Goals as goal
 
 pub take_up-requires-clause-free : goal.take_up-requires-clause-free
@@ -17,3 +21,8 @@ returns-clause-taken_up g c =
     ap (λ (h : Graph). machine_with c.take_up.new.self h s.cycle_open) c.spend.ensures.graph
     ∙ c.take_up.ensures.machine (machine_of s) c.args.slot c.args.cleanable refl refl
     ∙ ap (λ (k : ℕ). taken_up (machine_of s) k c.args.slot c.args.cleanable) c.number.ensures
+
+pub returns-clause-moves : goal.returns-clause-moves
+returns-clause-moves g c =
+    let old = c.args.self.now.cleaner in
+    subst (λ (t : Resources g.row.R.Denot). Moves None old.table c.take_up.result.resource t) (ap {A = Cleanings g.row.R.Denot} {B = Resources g.row.R.Denot} (λ x. x.table) (sym c.take_up.ensures.taken)) (job_moved old.table c.args.cleanable.work c.take_up.result.resource c.take_up.ensures.put_in_last)
