@@ -65,8 +65,8 @@ struct Counting {
 
 impl Write for Counting {
     fn write(&mut self, buf: &[u8]) -> io::Result<usize> {
-        self.writes += 1;
-        self.bytes += buf.len();
+        self.writes = self.writes.saturating_add(1);
+        self.bytes = self.bytes.saturating_add(buf.len());
         Ok(buf.len())
     }
 
