@@ -1,9 +1,11 @@
 //! Lists of events and their replies. What is expected comes from the description of the asks.
 use crate::run::run;
 use jlr_event::event::{Event, Reply};
-use jlr_machine::ask::{Answer, FullMode, Handed, Stat};
+use jlr_machine::ask::{Answer, CallOutcome, FullMode, Handed, Stat};
+use jlr_machine::text::Name;
 use jlr_types::{
-    Fault, FieldKind, Handle, Layout, LimitFault, Limits, Mutator, Progress, RefKind, Refusal,
+    ActionNo, Fault, FieldKind, Handle, Layout, LimitFault, Limits, Mutator, Progress, RefKind,
+    Refusal,
 };
 use std::alloc::Global;
 use std::test::Fail;
@@ -371,4 +373,109 @@ fn counted(objects: u64) -> Got {
 
 fn mark() -> Event<u32> {
     Event::Mark { budget: 64 }
+}
+
+// ---- Cleaners, files and sockets, and names
+
+fn cleaner() -> Event<u32> {
+    Event::MakeCleaner { mutator: me() }
+}
+
+fn register(cleaner: u8, object: u8, note: u32) -> Event<u32> {
+    Event::Register {
+        mutator: me(),
+        cleaner: Handle::new(cleaner),
+        object: Handle::new(object),
+        note,
+    }
+}
+
+fn clean(cleanable: u8) -> Event<u32> {
+    Event::Clean {
+        mutator: me(),
+        cleanable: Handle::new(cleanable),
+    }
+}
+
+fn finish(by: u8, action: u64, outcome: Result<(), Fault>) -> Event<u32> {
+    Event::Finish {
+        by,
+        action: ActionNo::new(action),
+        outcome,
+    }
+}
+
+fn notes() -> Event<u32> {
+    Event::Notes { mutator: me() }
+}
+
+fn faults() -> Event<u32> {
+    Event::Faults { mutator: me() }
+}
+
+fn prepare() -> Event<u32> {
+    Event::Prepare { mutator: me() }
+}
+
+fn check_out(guard: u8) -> Event<u32> {
+    Event::CheckOut {
+        mutator: me(),
+        guard: Handle::new(guard),
+    }
+}
+
+fn check_in(count: u8, resource: u32) -> Event<u32> {
+    Event::CheckIn {
+        mutator: me(),
+        outcome: CallOutcome::Wrote(count),
+        resource,
+    }
+}
+
+fn close(guard: u8) -> Event<u32> {
+    Event::Close {
+        mutator: me(),
+        guard: Handle::new(guard),
+    }
+}
+
+// The empty name in place of one that is too long.
+fn name(text: &str) -> Name {
+    match Name::from_slice(text.as_bytes()) {
+        Some(name) => name,
+        None => Name::new(),
+    }
+}
+
+fn bind(text: &str, object: u8) -> Event<u32> {
+    Event::Bind {
+        mutator: me(),
+        name: name(text),
+        object: Handle::new(object),
+    }
+}
+
+fn find(text: &str) -> Event<u32> {
+    Event::Find {
+        mutator: me(),
+        name: name(text),
+    }
+}
+
+fn unbind(text: &str) -> Event<u32> {
+    Event::Unbind {
+        mutator: me(),
+        name: name(text),
+    }
+}
+
+fn all_names() -> Event<u32> {
+    Event::Names { mutator: me() }
+}
+
+fn remove(queue: u8) -> Event<u32> {
+    Event::Remove {
+        mutator: me(),
+        queue: Handle::new(queue),
+    }
 }

@@ -4,43 +4,6 @@ ghost use Rattle.std.specs.Prelude.{IfOk, length, ◌≤◌};
 use super::*;
 use crate::engine::Core;
 use jlr_machine::choice::Choice;
-use jlr_types::ActionNo;
-
-fn cleaner() -> Event<u32> {
-    Event::MakeCleaner { mutator: me() }
-}
-
-fn register(cleaner: u8, object: u8, note: u32) -> Event<u32> {
-    Event::Register {
-        mutator: me(),
-        cleaner: Handle::new(cleaner),
-        object: Handle::new(object),
-        note,
-    }
-}
-
-fn clean(cleanable: u8) -> Event<u32> {
-    Event::Clean {
-        mutator: me(),
-        cleanable: Handle::new(cleanable),
-    }
-}
-
-fn finish(by: u8, action: u64, outcome: Result<(), Fault>) -> Event<u32> {
-    Event::Finish {
-        by,
-        action: ActionNo::new(action),
-        outcome,
-    }
-}
-
-fn notes() -> Event<u32> {
-    Event::Notes { mutator: me() }
-}
-
-fn faults() -> Event<u32> {
-    Event::Faults { mutator: me() }
-}
 
 // A job of a note.
 fn job(action: u64) -> Got {
@@ -116,6 +79,31 @@ fn the_cleaner_runs_one_job_at_a_time(rt: HostRuntime) -> Result<(), Fail> {
     Ok(())
 }
 
+#[test]
+fn the_cleaner_goes_on_after_a_job_that_ended_well(rt: HostRuntime) -> Result<(), Fail> {
+    let cases = vec![in rt.alloc();
+        (join(), Got::Done),
+        (cleaner(), Got::Handle(1)),
+        (bare(), Got::Handle(2)),
+        (register(1, 2, 7), Got::Handle(3)),
+        (register(1, 2, 8), Got::Handle(4)),
+        (drop_handle(2), Got::Done),
+        (full(), Got::Done),
+        (hand_over(), Got::Handed(Handed::Lined)),
+        (hand_over(), Got::Handed(Handed::Lined)),
+        (Event::TakeUp, job(1)),
+        (Event::TakeUp, Got::Refused(Refusal::Busy)),
+        (finish(255, 1, Ok(())), Got::Done),
+        (Event::TakeUp, job(2)),
+        (finish(255, 2, Ok(())), Got::Done),
+        (notes(), Got::Notes(2, Some(8))),
+        (stat(), tallied(3, 2, 2, 0)),
+    ]?;
+    let (answers, wanted) = play(rt.alloc(), 0, cases)?;
+    assert_eq!(rt; answers.as_slice(), wanted.as_slice());
+    Ok(())
+}
+
 // What is done by hand is not done again, whenever that was.
 #[test]
 fn an_action_by_hand_is_not_run_again(rt: HostRuntime) -> Result<(), Fail> {
@@ -128,6 +116,18 @@ fn an_action_by_hand_is_not_run_again(rt: HostRuntime) -> Result<(), Fail> {
         (finish(0, 1, Ok(())), Got::Done),
         (clean(3), Got::AlreadyDone),
         (drop_handle(2), Got::Done),
+        (full(), Got::Done),
+        (hand_over(), Got::Handed(Handed::Nothing)),
+        (Event::TakeUp, Got::Handed(Handed::Nothing)),
+    ]?;
+    let dropped = vec![in rt.alloc();
+        (join(), Got::Done),
+        (cleaner(), Got::Handle(1)),
+        (bare(), Got::Handle(2)),
+        (register(1, 2, 7), Got::Handle(3)),
+        (drop_handle(2), Got::Done),
+        (clean(3), job(1)),
+        (finish(0, 1, Ok(())), Got::Done),
         (full(), Got::Done),
         (hand_over(), Got::Handed(Handed::Nothing)),
         (Event::TakeUp, Got::Handed(Handed::Nothing)),
@@ -161,7 +161,7 @@ fn an_action_by_hand_is_not_run_again(rt: HostRuntime) -> Result<(), Fail> {
         (Event::TakeUp, Got::Handed(Handed::Nothing)),
         (notes(), Got::Notes(2, Some(8))),
     ]?;
-    for cases in [before, pending, lined] {
+    for cases in [before, dropped, pending, lined] {
         let (answers, wanted) = play(rt.alloc(), 0, cases)?;
         assert_eq!(rt; answers.as_slice(), wanted.as_slice());
     }
@@ -291,7 +291,6 @@ fn ask(core: &mut Core<u32>, choice: &mut Choice, event: Event<u32>) -> Got
 #[test]
 fn no_action_number_is_left_at_the_end(rt: HostRuntime) -> Result<(), Fail> {
     let (mut core, mut choice) = starting_at(rt.alloc(), u64::MAX - 1)?;
-    let prepare = Event::Prepare { mutator: me() };
     let last = job(u64::MAX - 1);
     assert_eq!(rt; ask(&mut core, &mut choice, join()), Got::Done);
     assert_eq!(rt; ask(&mut core, &mut choice, cleaner()), Got::Handle(1));
@@ -304,7 +303,7 @@ fn no_action_number_is_left_at_the_end(rt: HostRuntime) -> Result<(), Fail> {
         Got::Refused(Refusal::Exhausted)
     );
     assert_eq!(rt;
-        ask(&mut core, &mut choice, prepare),
+        ask(&mut core, &mut choice, prepare()),
         Got::Refused(Refusal::Exhausted)
     );
     assert_eq!(rt; ask(&mut core, &mut choice, clean(2)), last);
@@ -341,5 +340,22 @@ fn a_core_rests_until_there_is_something_to_hand_over_or_to_clean(
         "taken up"
     );
     assert!(rt; rests_after(&mut core, &mut choice, finish(255, 1, Ok(()))));
+    Ok(())
+}
+
+// The last number, 2^64 - 1, is never given.
+#[test]
+fn no_action_is_registered_without_a_number(rt: HostRuntime) -> Result<(), Fail> {
+    let (mut core, mut choice) = starting_at(rt.alloc(), u64::MAX)?;
+    assert_eq!(rt; ask(&mut core, &mut choice, join()), Got::Done);
+    assert_eq!(rt; ask(&mut core, &mut choice, cleaner()), Got::Handle(1));
+    assert_eq!(rt;
+        ask(&mut core, &mut choice, register(1, 1, 5)),
+        Got::Refused(Refusal::Exhausted)
+    );
+    assert_eq!(rt;
+        ask(&mut core, &mut choice, prepare()),
+        Got::Refused(Refusal::Exhausted)
+    );
     Ok(())
 }

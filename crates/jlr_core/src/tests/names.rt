@@ -1,67 +1,29 @@
 //! Names, and the front of a queue that is waited for.
 use super::*;
-use jlr_machine::text::Name;
-
-fn name(text: &str) -> Result<Name, Fail> {
-    Ok(Name::from_slice(text.as_bytes()).ok_or("name")?)
-}
-
-fn bind(text: &str, object: u8) -> Result<Event<u32>, Fail> {
-    Ok(Event::Bind {
-        mutator: me(),
-        name: name(text)?,
-        object: Handle::new(object),
-    })
-}
-
-fn find(text: &str) -> Result<Event<u32>, Fail> {
-    Ok(Event::Find {
-        mutator: me(),
-        name: name(text)?,
-    })
-}
-
-fn unbind(text: &str) -> Result<Event<u32>, Fail> {
-    Ok(Event::Unbind {
-        mutator: me(),
-        name: name(text)?,
-    })
-}
-
-fn names() -> Event<u32> {
-    Event::Names { mutator: me() }
-}
-
-fn remove(queue: u8) -> Event<u32> {
-    Event::Remove {
-        mutator: me(),
-        queue: Handle::new(queue),
-    }
-}
 
 #[test]
 fn names_keep_their_places_and_their_objects(rt: HostRuntime) -> Result<(), Fail> {
     let cases = vec![in rt.alloc();
         (join(), Got::Done),
         (bare(), Got::Handle(1)),
-        (find("x")?, Got::Refused(Refusal::NoName)),
-        (unbind("x")?, Got::Refused(Refusal::NoName)),
-        (bind("b", 2)?, Got::Refused(Refusal::NoHandle)),
-        (bind("b", 0)?, Got::Refused(Refusal::Null)),
-        (bind("b", 1)?, Got::Done),
-        (bind("a", 1)?, Got::Done),
-        (bind("b", 1)?, Got::Done),
-        (names(), Got::Names(2, Some(b'b'))),
+        (find("x"), Got::Refused(Refusal::NoName)),
+        (unbind("x"), Got::Refused(Refusal::NoName)),
+        (bind("b", 2), Got::Refused(Refusal::NoHandle)),
+        (bind("b", 0), Got::Refused(Refusal::Null)),
+        (bind("b", 1), Got::Done),
+        (bind("a", 1), Got::Done),
+        (bind("b", 1), Got::Done),
+        (all_names(), Got::Names(2, Some(b'b'))),
         (drop_handle(1), Got::Done),
         (full(), Got::Done),
-        (find("a")?, Got::Handle(1)),
-        (unbind("b")?, Got::Done),
-        (names(), Got::Names(1, Some(b'a'))),
+        (find("a"), Got::Handle(1)),
+        (unbind("b"), Got::Done),
+        (all_names(), Got::Names(1, Some(b'a'))),
         (drop_handle(1), Got::Done),
-        (unbind("a")?, Got::Done),
+        (unbind("a"), Got::Done),
         (full(), Got::Done),
         (stat(), counted(0)),
-        (names(), Got::Names(0, None)),
+        (all_names(), Got::Names(0, None)),
     ]?;
     let (answers, wanted) = play(rt.alloc(), 0, cases)?;
     assert_eq!(rt; answers.as_slice(), wanted.as_slice());
@@ -83,8 +45,8 @@ fn there_are_at_most_256_names(rt: HostRuntime) -> Result<(), Fail> {
             Got::Done,
         ))?;
     }
-    cases.push((bind("x", 1)?, Got::Refused(Refusal::NamesFull)))?;
-    cases.push((bind("ab", 1)?, Got::Done))?;
+    cases.push((bind("x", 1), Got::Refused(Refusal::NamesFull)))?;
+    cases.push((bind("ab", 1), Got::Done))?;
     let (answers, wanted) = play(rt.alloc(), 0, cases)?;
     assert_eq!(rt; answers.as_slice(), wanted.as_slice());
     Ok(())

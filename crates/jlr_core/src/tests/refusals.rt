@@ -239,3 +239,201 @@ fn queues_and_references_need_a_free_cell(rt: HostRuntime) -> Result<(), Fail> {
     assert_eq!(rt; got.as_slice(), wanted.as_slice());
     Ok(())
 }
+
+// ---- Integers, cleaners, files and sockets, and names
+
+#[test]
+fn nobody_asks_for_files_cleaners_or_names_before_joining(rt: HostRuntime) -> Result<(), Fail> {
+    let none = Got::Refused(Refusal::NoSession);
+    let cases = vec![in rt.alloc();
+        (set_int(1, 1, 4), none),
+        (int(1, 1), none),
+        (remove(1), none),
+        (cleaner(), none),
+        (register(1, 1, 5), none),
+        (clean(1), none),
+        (finish(0, 1, Ok(())), none),
+        (prepare(), none),
+        (opened(Ok(8)), Got::Back(Refusal::NoSession, 8)),
+        (check_out(1), none),
+        (check_in(2, 9), Got::Back(Refusal::NoSession, 9)),
+        (close(1), none),
+        (bind("x", 1), none),
+        (find("x"), none),
+        (unbind("x"), none),
+        (all_names(), none),
+        (stat(), none),
+        (notes(), none),
+        (faults(), none),
+        (Event::TakeUp, Got::Handed(Handed::Nothing)),
+    ]?;
+    let (got, wanted) = play(rt.alloc(), 0, cases)?;
+    assert_eq!(rt; got.as_slice(), wanted.as_slice());
+    Ok(())
+}
+
+#[test]
+fn what_is_asked_for_has_to_be_named(rt: HostRuntime) -> Result<(), Fail> {
+    let cases = vec![in rt.alloc();
+        (join(), Got::Done),
+        (new(), Got::Handle(1)),
+        (set_int(9, 1, 4), Got::Refused(Refusal::NoHandle)),
+        (int(9, 1), Got::Refused(Refusal::NoHandle)),
+        (remove(9), Got::Refused(Refusal::NoHandle)),
+        (remove(0), Got::Refused(Refusal::Null)),
+        (register(9, 1, 5), Got::Refused(Refusal::NoHandle)),
+        (clean(9), Got::Refused(Refusal::NoHandle)),
+        (check_out(9), Got::Refused(Refusal::NoHandle)),
+        (close(9), Got::Refused(Refusal::NoHandle)),
+        (close(0), Got::Refused(Refusal::Null)),
+        (bind("x", 9), Got::Refused(Refusal::NoHandle)),
+    ]?;
+    let (got, wanted) = play(rt.alloc(), 0, cases)?;
+    assert_eq!(rt; got.as_slice(), wanted.as_slice());
+    Ok(())
+}
+
+#[test]
+fn cleaners_files_and_names_need_a_free_handle(rt: HostRuntime) -> Result<(), Fail> {
+    let full = Got::Refused(Refusal::HandlesFull);
+    let mut cases = vec![in rt.alloc();
+        (join(), Got::Done),
+        (queue(), Got::Handle(1)),
+        (bare(), Got::Handle(2)),
+        (weak_with_queue(2, 1), Got::Handle(3)),
+        (enqueue(3), Got::Truth(true)),
+        (cleaner(), Got::Handle(4)),
+        (bind("x", 2), Got::Done),
+    ]?;
+    for number in 5u8..251 {
+        cases.push((dup(2), Got::Handle(number)))?;
+    }
+    for case in [
+        (remove(1), full),
+        (cleaner(), full),
+        (register(4, 2, 5), full),
+        (prepare(), full),
+        (find("x"), full),
+        (find("y"), Got::Refused(Refusal::NoName)),
+        (drop_handle(77), Got::Done),
+        (remove(1), Got::Handle(77)),
+        (same(77, 3), Got::Truth(true)),
+        (remove(1), Got::Refused(Refusal::WouldWait)),
+        (drop_handle(78), Got::Done),
+        (find("x"), Got::Handle(78)),
+    ] {
+        cases.push(case)?;
+    }
+    let (got, wanted) = play(rt.alloc(), 0, cases)?;
+    assert_eq!(rt; got.as_slice(), wanted.as_slice());
+    Ok(())
+}
+
+#[test]
+fn cleaners_and_actions_need_a_free_cell(rt: HostRuntime) -> Result<(), Fail> {
+    let mut cases = vec![in rt.alloc(); (join(), Got::Done), (cleaner(), Got::Handle(1))]?;
+    for number in 2u8..17 {
+        cases.push((bare(), Got::Handle(number)))?;
+    }
+    for case in [
+        (cleaner(), Got::Refused(Refusal::HeapFull)),
+        (register(1, 2, 5), Got::Refused(Refusal::HeapFull)),
+        (drop_handle(16), Got::Done),
+        (register(1, 2, 5), Got::Handle(16)),
+        (stat(), counted(16)),
+    ] {
+        cases.push(case)?;
+    }
+    let (got, wanted) = play(rt.alloc(), 0, cases)?;
+    assert_eq!(rt; got.as_slice(), wanted.as_slice());
+    Ok(())
+}
+
+// Two guards, of which the first is closed, and one of each other kind of object; then an open is under way.
+fn under_way() -> [(Event<u32>, Got); 14] {
+    [
+        (join(), Got::Done),
+        (new(), Got::Handle(1)),
+        (queue(), Got::Handle(2)),
+        (weak_with_queue(1, 2), Got::Handle(3)),
+        (cleaner(), Got::Handle(4)),
+        (register(4, 1, 7), Got::Handle(5)),
+        (prepare(), Got::Prepared),
+        (opened(Ok(6)), Got::Handle(6)),
+        (close(6), Got::Job(2, Some(6))),
+        (finish(0, 2, Ok(())), Got::Done),
+        (prepare(), Got::Prepared),
+        (opened(Ok(7)), Got::Handle(7)),
+        (bind("x", 1), Got::Done),
+        (prepare(), Got::Prepared),
+    ]
+}
+
+// A mutator whose call is in flight may only end it, unless a refusal that comes first in the order holds.
+#[test]
+fn a_mutator_in_a_call_may_only_end_it(rt: HostRuntime) -> Result<(), Fail> {
+    let busy = Got::Refused(Refusal::Busy);
+    let mut cases = Vec::new(rt.alloc());
+    for case in under_way() {
+        cases.push(case)?;
+    }
+    for event in [
+        leave(),
+        bare(),
+        put(1, 0, 2),
+        get(1, 0),
+        set_int(1, 1, 4),
+        int(1, 1),
+        dup(1),
+        drop_handle(1),
+        same(1, 2),
+        weak_with_queue(1, 2),
+        deref(3),
+        refers(3, 1),
+        clear(3),
+        enqueue(3),
+        enqueued(3),
+        queue(),
+        poll(2),
+        remove(2),
+        cleaner(),
+        register(4, 1, 8),
+        clean(5),
+        prepare(),
+        check_out(7),
+        close(7),
+        close(6),
+        bind("y", 1),
+        find("x"),
+        unbind("x"),
+        all_names(),
+        full(),
+        full_clearing(),
+        stat(),
+        notes(),
+        faults(),
+    ] {
+        cases.push((event, busy))?;
+    }
+    for case in [
+        (join(), Got::Refused(Refusal::NoSession)),
+        (drop_handle(9), Got::Refused(Refusal::NoHandle)),
+        (dup(0), Got::Refused(Refusal::Null)),
+        (poll(1), Got::Refused(Refusal::WrongKind)),
+        (get(1, 2), Got::Refused(Refusal::NoField)),
+        (get(1, 1), Got::Refused(Refusal::WrongType)),
+        (find("y"), Got::Refused(Refusal::NoName)),
+        (check_out(6), Got::Refused(Refusal::Closed)),
+        (check_in(2, 9), Got::Back(Refusal::NotOut, 9)),
+        (finish(0, 1, Ok(())), Got::Refused(Refusal::NotOut)),
+        (opened(Ok(8)), Got::Handle(8)),
+        (get(1, 0), Got::Handle(0)),
+        (refers(3, 1), Got::Truth(true)),
+        (clean(5), Got::Job(1, None)),
+    ] {
+        cases.push(case)?;
+    }
+    let (got, wanted) = play_with(rt.alloc(), Limits::checked(16, 1, 4, 0, 64, 1), cases)?;
+    assert_eq!(rt; got.as_slice(), wanted.as_slice());
+    Ok(())
+}

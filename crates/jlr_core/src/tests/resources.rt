@@ -1,41 +1,11 @@
 //! Files and sockets: opened, used, closed by hand or by the cleaner, each value handed out as it was put in.
 use super::*;
-use jlr_machine::ask::CallOutcome;
-use jlr_types::ActionNo;
 
-fn prepare(by: u8) -> Event<u32> {
-    Event::Prepare {
-        mutator: Mutator::new(by),
-    }
-}
-
-fn check_out(guard: u8) -> Event<u32> {
-    Event::CheckOut {
-        mutator: me(),
-        guard: Handle::new(guard),
-    }
-}
-
-fn check_in(count: u8, resource: u32) -> Event<u32> {
-    Event::CheckIn {
-        mutator: me(),
-        outcome: CallOutcome::Wrote(count),
-        resource,
-    }
-}
-
-fn close(guard: u8) -> Event<u32> {
-    Event::Close {
-        mutator: me(),
-        guard: Handle::new(guard),
-    }
-}
-
-fn finish(by: u8, action: u64) -> Event<u32> {
-    Event::Finish {
-        by,
-        action: ActionNo::new(action),
-        outcome: Ok(()),
+// A mutator gives up its handle 1.
+fn drop_by(mutator: Mutator) -> Event<u32> {
+    Event::Drop {
+        mutator,
+        object: Handle::new(1),
     }
 }
 
@@ -55,7 +25,7 @@ fn a_resource_is_used_and_closed(rt: HostRuntime) -> Result<(), Fail> {
         (join(), Got::Done),
         (check_in(2, 9), Got::Back(Refusal::NotOut, 9)),
         (opened(Ok(8)), Got::Back(Refusal::NotOut, 8)),
-        (prepare(0), Got::Prepared),
+        (prepare(), Got::Prepared),
         (stat(), Got::Refused(Refusal::Busy)),
         (opened(Ok(5)), Got::Handle(1)),
         (stat(), tallied(2, 1, 0, 0)),
@@ -66,7 +36,7 @@ fn a_resource_is_used_and_closed(rt: HostRuntime) -> Result<(), Fail> {
         (check_out(1), Got::Out(6)),
         (check_in(0, 6), Got::Wrote(0)),
         (close(1), Got::Job(1, Some(6))),
-        (finish(0, 1), Got::Done),
+        (finish(0, 1, Ok(())), Got::Done),
         (close(1), Got::AlreadyDone),
         (check_out(1), Got::Refused(Refusal::Closed)),
         (stat(), tallied(2, 0, 1, 1)),
@@ -85,7 +55,7 @@ fn a_resource_is_used_and_closed(rt: HostRuntime) -> Result<(), Fail> {
 fn what_an_open_gave_is_finished_once_its_guard_is_gone(rt: HostRuntime) -> Result<(), Fail> {
     let cases = vec![in rt.alloc();
         (join(), Got::Done),
-        (prepare(0), Got::Prepared),
+        (prepare(), Got::Prepared),
         (opened(Ok(5)), Got::Handle(1)),
         (full(), Got::Done),
         (hand_over(), Got::Handed(Handed::Nothing)),
@@ -94,7 +64,7 @@ fn what_an_open_gave_is_finished_once_its_guard_is_gone(rt: HostRuntime) -> Resu
         (stat(), tallied(1, 1, 0, 0)),
         (hand_over(), Got::Handed(Handed::Lined)),
         (Event::TakeUp, Got::Job(1, Some(5))),
-        (finish(255, 1), Got::Done),
+        (finish(255, 1, Ok(())), Got::Done),
         (Event::TakeUp, Got::Handed(Handed::Nothing)),
         (full(), Got::Done),
         (stat(), tallied(0, 0, 1, 1)),
@@ -108,7 +78,7 @@ fn what_an_open_gave_is_finished_once_its_guard_is_gone(rt: HostRuntime) -> Resu
 fn a_failed_open_leaves_nothing_to_clean(rt: HostRuntime) -> Result<(), Fail> {
     let cases = vec![in rt.alloc();
         (join(), Got::Done),
-        (prepare(0), Got::Prepared),
+        (prepare(), Got::Prepared),
         (opened(Err(Fault::NotFound)), Got::Faulted(Fault::NotFound)),
         (stat(), tallied(2, 0, 0, 0)),
         (opened(Ok(4)), Got::Back(Refusal::NotOut, 4)),
@@ -127,12 +97,12 @@ fn a_failed_open_leaves_nothing_to_clean(rt: HostRuntime) -> Result<(), Fail> {
 fn an_old_guard_does_not_reach_a_new_resource(rt: HostRuntime) -> Result<(), Fail> {
     let cases = vec![in rt.alloc();
         (join(), Got::Done),
-        (prepare(0), Got::Prepared),
+        (prepare(), Got::Prepared),
         (opened(Ok(5)), Got::Handle(1)),
-        (prepare(0), Got::Refused(Refusal::ResourcesFull)),
+        (prepare(), Got::Refused(Refusal::ResourcesFull)),
         (close(1), Got::Job(1, Some(5))),
-        (finish(0, 1), Got::Done),
-        (prepare(0), Got::Prepared),
+        (finish(0, 1, Ok(())), Got::Done),
+        (prepare(), Got::Prepared),
         (opened(Ok(6)), Got::Handle(2)),
         (check_out(1), Got::Refused(Refusal::Closed)),
         (close(1), Got::AlreadyDone),
@@ -149,10 +119,10 @@ fn an_open_wants_two_cells(rt: HostRuntime) -> Result<(), Fail> {
     for handle in 1u8..16 {
         cases.push((bare(), Got::Handle(handle)))?;
     }
-    cases.push((prepare(0), Got::Refused(Refusal::HeapFull)))?;
+    cases.push((prepare(), Got::Refused(Refusal::HeapFull)))?;
     cases.push((stat(), tallied(15, 0, 0, 0)))?;
     cases.push((drop_handle(15), Got::Done))?;
-    cases.push((prepare(0), Got::Prepared))?;
+    cases.push((prepare(), Got::Prepared))?;
     cases.push((opened(Ok(5)), Got::Handle(15)))?;
     let (answers, wanted) = play(rt.alloc(), 0, cases)?;
     assert_eq!(rt; answers.as_slice(), wanted.as_slice());
@@ -166,7 +136,7 @@ fn a_guard_under_way_is_not_collected(rt: HostRuntime) -> Result<(), Fail> {
     let cases = vec![in rt.alloc();
         (join(), Got::Done),
         (Event::Join { mutator: other }, Got::Done),
-        (prepare(0), Got::Prepared),
+        (prepare(), Got::Prepared),
         (
             Event::Full {
                 mutator: other,
@@ -186,6 +156,57 @@ fn a_guard_under_way_is_not_collected(rt: HostRuntime) -> Result<(), Fail> {
         ),
         (hand_over(), Got::Handed(Handed::Lined)),
         (Event::TakeUp, Got::Job(1, Some(5))),
+    ]?;
+    let (answers, wanted) = play_with(rt.alloc(), Limits::checked(16, 2, 4, 0, 64, 1), cases)?;
+    assert_eq!(rt; answers.as_slice(), wanted.as_slice());
+    Ok(())
+}
+
+// A mutator's call is in flight while the other gives up its handle and the name: the guard is held until the call ends, by its fence
+// and by the caller's handle, which the caller cannot give up before.
+#[test]
+fn a_guard_is_not_collected_while_its_resource_is_out(rt: HostRuntime) -> Result<(), Fail> {
+    let other = Mutator::new(1);
+    let cases = vec![in rt.alloc();
+        (join(), Got::Done),
+        (Event::Join { mutator: other }, Got::Done),
+        (prepare(), Got::Prepared),
+        (opened(Ok(5)), Got::Handle(1)),
+        (bind("f", 1), Got::Done),
+        (
+            Event::Find {
+                mutator: other,
+                name: name("f")
+            },
+            Got::Handle(1)
+        ),
+        (
+            Event::CheckOut {
+                mutator: other,
+                guard: Handle::new(1)
+            },
+            Got::Out(5)
+        ),
+        (check_out(1), Got::Refused(Refusal::Busy)),
+        (close(1), Got::Refused(Refusal::Busy)),
+        (unbind("f"), Got::Done),
+        (drop_handle(1), Got::Done),
+        (full(), Got::Done),
+        (hand_over(), Got::Handed(Handed::Nothing)),
+        (drop_by(other), Got::Refused(Refusal::Busy)),
+        (
+            Event::CheckIn {
+                mutator: other,
+                outcome: CallOutcome::Wrote(2),
+                resource: 6
+            },
+            Got::Wrote(2)
+        ),
+        (drop_by(other), Got::Done),
+        (full(), Got::Done),
+        (hand_over(), Got::Handed(Handed::Lined)),
+        (Event::TakeUp, Got::Job(1, Some(6))),
+        (finish(255, 1, Ok(())), Got::Done),
     ]?;
     let (answers, wanted) = play_with(rt.alloc(), Limits::checked(16, 2, 4, 0, 64, 1), cases)?;
     assert_eq!(rt; answers.as_slice(), wanted.as_slice());
