@@ -8,6 +8,9 @@ pub mod Forward
 pub mod Enqueued
 pub mod Takes
 pub mod TakenOnce
+pub mod Accounts
+pub mod Works
+pub mod Outcomes
 pub mod Standing
 pub mod Moving
 pub mod ResourceAsks
@@ -15,3 +18,4 @@ pub mod OtherAsks
 pub mod ResourceSteps
 pub mod ResourceLaws
 pub mod Histories
+pub mod Promises

@@ -62,7 +62,7 @@ gone_stays m e action w l g =
 
 -- ---- One entry
 
-a_job : (action : ℕ) (a : Answer) → is_job a ≡ false → is_job_of action a ≡ false
+pub a_job : (action : ℕ) (a : Answer) → is_job a ≡ false → is_job_of action a ≡ false
 a_job action (Job x work) h = absurd (both_ways true h refl)
 a_job action a h = refl
 

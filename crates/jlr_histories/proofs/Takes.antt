@@ -161,7 +161,7 @@ taking_on m k (Some s) a h =
     ] refl h
 
 -- the cleanable that a handle names, in two words
-named_cleanable : (m : Machine) (o : Option ℕ) → option_and_then as_cleanable (option_and_then (at m.objects) o) ≡ option_and_then (cleanable_at m) o
+pub named_cleanable : (m : Machine) (o : Option ℕ) → option_and_then as_cleanable (option_and_then (at m.objects) o) ≡ option_and_then (cleanable_at m) o
 named_cleanable m None = refl
 named_cleanable m (Some s) = refl
 

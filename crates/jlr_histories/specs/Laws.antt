@@ -1,20 +1,26 @@
 -- Statements of the laws of whole runs. Each is the contract of a function of its own, with an empty body.
-use Rattle.std.specs.Prelude.{◌≡◌, ◌≢◌, ℕ, ◌+◌, ◌≤◌, ◌⊎◌, IsTrue, cond, List, [], ◌∷◌, Some, None, is_some, length}
+use Rattle.std.specs.Prelude.{◌≡◌, ◌≢◌, ℕ, ◌+◌, ◌≤◌, ◌⊎◌, false, IsTrue, cond, List, [], ◌∷◌, Some, None, is_some, unwrap_or, length}
+use Rattle.jlr_types.specs.declared.Work.{Work}
 use Rattle.jlr_types.specs.declared.Work.TheVariants.{Resource as WorkOn}
 use Rattle.jlr_machine.specs.declared.object.Reference.{Reference as ReferenceOf}
 use Rattle.jlr_machine.specs.declared.object.Cleanable.{Cleanable as CleanableOf}
 use Rattle.jlr_machine.specs.declared.object.RefState.TheVariants.{Fresh, Queued}
 use Rattle.jlr_machine.specs.declared.object.CleanState.TheVariants.{Armed, Pending as PendingClean, Lined}
 use Rattle.jlr_machine.specs.declared.machine.Machine.{Machine}
+use Rattle.jlr_machine.specs.declared.machine.Job.{Job as JobOf}
 use Rattle.jlr_machine.specs.declared.machine.Call.TheVariants.{Opening as CallOpening, Out as CallOut}
 use Rattle.jlr_machine.specs.declared.machine.ResourceState.{ResourceState}
 use Rattle.jlr_machine.specs.declared.machine.ResourceState.TheVariants.{Opening, Idle, Out}
+use Rattle.jlr_machine.specs.declared.ask.Outcome.{Outcome}
+use Rattle.jlr_machine.specs.declared.ask.Ask.TheVariants.{Finish}
 use Rattle.jlr_machine.specs.declared.ask.Answer.TheVariants.{Out as OutAnswer, Job}
 use Rattle.jlr_machine.specs.declared.entry.Entry.{Entry}
 use Rattle.jlr_machine.specs.Objects.{◌∈◌, is_unqueued}
-use Rattle.jlr_machine.specs.Run.{IsLegal, Run, apply, empty, empty_from}
+use Rattle.jlr_machine.specs.Lookups.{job_of}
+use Rattle.jlr_machine.specs.Refusals.{asker}
+use Rattle.jlr_machine.specs.Run.{IsLegal, Run, apply, empty_from}
 use Rattle.jlr_machine.specs.WellFormed.{IsWellFormed, IsReferenceAt, IsCleanableAt, HasResource}
-use Rattle.jlr_histories.specs.Lives.{LivesOn, IsReferenceOn, IsReferenceLater, IsCleanableOn, IsCleanableLater, enqueueings, slot_cleared, take_ups, all_take_ups}
+use Rattle.jlr_histories.specs.Lives.{LivesOn, IsReferenceOn, IsReferenceLater, IsCleanableOn, IsCleanableLater, enqueueings, slot_cleared, take_ups, all_take_ups, records, outcomes, running, IsRecorded}
 use Rattle.jlr_histories.specs.ResourceLives.{IsInCall, GoesOn, IsLife, phase, deed, deeds}
 use Rattle.jlr_histories.specs.ResourceLives.Phase.{In, Over}
 
@@ -77,6 +83,43 @@ TakenUpAtMostOnce = (m n : Machine) (entries : List Entry) (action : ℕ) → Is
 abbrev pub TakeUpsAreCounted : Type 0
 TakeUpsAreCounted = (m n : Machine) (entries : List Entry) → Run m entries n → n.taken ≡ m.taken + all_take_ups entries
 
+-- a take-up begins the job that it hands out, the asker's or else the cleaner's; none of that action ran
+abbrev pub TakeUpBeginsItsJob : Type 0
+TakeUpBeginsItsJob =
+    (m : Machine) (e : Entry) (action : ℕ) (work : Work) → IsWellFormed m → IsLegal m e → e.answer ≡ Job action work
+    → (job_of m action ≡ None) × (job_of (apply m e) action ≡ Some (record { action = action; work = work; by = unwrap_or (asker e.ask) 255 }))
+
+-- it runs, of the same taker and with the same work, until its outcome is recorded
+abbrev pub JobRunsUntilItsOutcome : Type 0
+JobRunsUntilItsOutcome =
+    (m : Machine) (e : Entry) (action : ℕ) (job : JobOf) → IsWellFormed m → IsLegal m e → job_of m action ≡ Some job → records action e ≡ false → job_of (apply m e) action ≡ Some job
+
+-- so it does in a run, however long
+abbrev pub JobRunsOnUntilItsOutcome : Type 0
+JobRunsOnUntilItsOutcome =
+    (m n : Machine) (entries : List Entry) (action : ℕ) (job : JobOf) → IsWellFormed m → Run m entries n → job_of m action ≡ Some job → outcomes action entries ≡ 0 → job_of n action ≡ Some job
+
+-- its taker tells the outcome, which is recorded, and the job runs no more
+abbrev pub FinishRecordsTheOutcome : Type 0
+FinishRecordsTheOutcome =
+    (m : Machine) (e : Entry) (by action : ℕ) (outcome : Outcome) → IsWellFormed m → IsLegal m e → e.ask ≡ Finish by action outcome → IsTrue (records action e)
+    → (job : JobOf) × (job_of m action ≡ Some job) × (job.by ≡ by) × (job_of (apply m e) action ≡ None) × IsRecorded m (apply m e) action job.work outcome
+
+-- what its taker tells is never refused
+abbrev pub TakersFinishIsRecorded : Type 0
+TakersFinishIsRecorded =
+    (m : Machine) (e : Entry) (action : ℕ) (job : JobOf) (outcome : Outcome) → IsWellFormed m → IsLegal m e → job_of m action ≡ Some job → e.ask ≡ Finish job.by action outcome → IsTrue (records action e)
+
+-- nothing else is recorded
+abbrev pub OnlyOutcomesAreRecorded : Type 0
+OnlyOutcomesAreRecorded =
+    (m : Machine) (e : Entry) → IsWellFormed m → IsLegal m e → ((action : ℕ) → records action e ≡ false)
+    → ((apply m e).ok ≡ m.ok) × ((apply m e).failed ≡ m.failed) × ((apply m e).notes ≡ m.notes) × ((apply m e).faults ≡ m.faults)
+
+-- of an action that ran or was taken up one outcome was recorded, or it runs
+abbrev pub OutcomesAreRecorded : Type 0
+OutcomesAreRecorded = (m n : Machine) (entries : List Entry) (action : ℕ) → IsWellFormed m → Run m entries n → running m action + take_ups action entries ≡ outcomes action entries + running n action
+
 -- a resource whose cleanable waits for the handler or the cleaner is in no call
 abbrev pub WaitingResourcesAreIdle : Type 0
 WaitingResourcesAreIdle = (m : Machine) (s rid : ℕ) (c : CleanableOf) → IsWellFormed m → IsCleanableAt m s c → c.work ≡ WorkOn rid → (c.state ≡ PendingClean) ⊎ (c.state ≡ Lined) → HasResource m rid c.action Idle
@@ -88,10 +131,12 @@ pub record IsHistory (m : Machine) (entries : List Entry) (n : Machine) : Type 0
   pub cells : ℕ
   pub sessions : ℕ
   pub resources : ℕ
+  pub next_action : ℕ
   pub before : List Entry
+  pub started : 1 ≤ next_action
   pub few_cells : cells ≤ 65536
   pub few_sessions : sessions ≤ 64
-  pub past : Run (empty cells sessions resources) before m
+  pub past : Run (empty_from cells sessions resources next_action) before m
   pub run : Run m entries n
 
 abbrev pub ReferencesGoForwardInHistories : Type 0
@@ -108,12 +153,20 @@ EnqueuedAtMostOnceInHistories = (m n : Machine) (entries : List Entry) (s : ℕ)
 -- in a run from an empty machine each action is taken up at most once
 abbrev pub TakenUpAtMostOnceInRuns : Type 0
 TakenUpAtMostOnceInRuns =
-    (cells sessions resources : ℕ) (n : Machine) (entries : List Entry) (action : ℕ) → cells ≤ 65536 → sessions ≤ 64 → Run (empty cells sessions resources) entries n → take_ups action entries ≤ 1
+    (cells sessions resources next_action : ℕ) (n : Machine) (entries : List Entry) (action : ℕ) → 1 ≤ next_action → cells ≤ 65536 → sessions ≤ 64
+    → Run (empty_from cells sessions resources next_action) entries n → take_ups action entries ≤ 1
 
 -- and all that were taken up ended well, failed, or run
 abbrev pub TakeUpsEndOrRun : Type 0
 TakeUpsEndOrRun =
-    (cells sessions resources : ℕ) (n : Machine) (entries : List Entry) → cells ≤ 65536 → sessions ≤ 64 → Run (empty cells sessions resources) entries n → all_take_ups entries ≡ n.ok + n.failed + length n.jobs
+    (cells sessions resources next_action : ℕ) (n : Machine) (entries : List Entry) → 1 ≤ next_action → cells ≤ 65536 → sessions ≤ 64
+    → Run (empty_from cells sessions resources next_action) entries n → all_take_ups entries ≡ n.ok + n.failed + length n.jobs
+
+-- each take-up of an action has one outcome, or its job runs, and no action has two
+abbrev pub TakeUpHasOneOutcomeOrRunsInRuns : Type 0
+TakeUpHasOneOutcomeOrRunsInRuns =
+    (cells sessions resources next_action : ℕ) (n : Machine) (entries : List Entry) (action : ℕ) → 1 ≤ next_action → cells ≤ 65536 → sessions ≤ 64
+    → Run (empty_from cells sessions resources next_action) entries n → (take_ups action entries ≡ outcomes action entries + running n action) × (outcomes action entries ≤ 1)
 
 -- ---- Resources
 

@@ -1,3 +1,4 @@
 pub mod Lives
 pub mod ResourceLives
 pub mod Laws
+pub mod Promises

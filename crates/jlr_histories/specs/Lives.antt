@@ -1,5 +1,6 @@
 -- How an object lives through the entries of a run: what may become of it, and what is counted.
-use Rattle.std.specs.Prelude.{◌≡◌, ℕ, ◌+◌, ◌≤◌, ◌⊎◌, Bool, true, false, cond, not, ◌&&◌, IsTrue, List, [], ◌∷◌, Option, None, count_by, nat_eq}
+use Rattle.std.specs.Prelude.{◌≡◌, ℕ, ◌+◌, ◌≤◌, ◌⊎◌, Bool, true, false, cond, not, ◌&&◌, IsTrue, List, [], ◌∷◌, ◌++◌, Option, None, is_some, count_by, nat_eq}
+use Rattle.jlr_types.specs.declared.Work.{Work}
 use Rattle.jlr_machine.specs.declared.object.Reference.{Reference as ReferenceOf}
 use Rattle.jlr_machine.specs.declared.object.Cleanable.{Cleanable as CleanableOf}
 use Rattle.jlr_machine.specs.declared.object.RefState.{RefState}
@@ -7,13 +8,16 @@ use Rattle.jlr_machine.specs.declared.object.RefState.TheVariants.{Fresh, Pendin
 use Rattle.jlr_machine.specs.declared.object.CleanState.{CleanState}
 use Rattle.jlr_machine.specs.declared.object.CleanState.TheVariants.{Armed, Pending as PendingClean, Lined, Spent}
 use Rattle.jlr_machine.specs.declared.machine.Machine.{Machine}
+use Rattle.jlr_machine.specs.declared.ask.Outcome.{Outcome}
+use Rattle.jlr_machine.specs.declared.ask.Outcome.TheVariants.{Ok as OutcomeOk, Failed}
 use Rattle.jlr_machine.specs.declared.ask.Ask.{Ask}
-use Rattle.jlr_machine.specs.declared.ask.Ask.TheVariants.{Clear, Enqueue}
+use Rattle.jlr_machine.specs.declared.ask.Ask.TheVariants.{Clear, Enqueue, Finish}
 use Rattle.jlr_machine.specs.declared.ask.Answer.{Answer}
-use Rattle.jlr_machine.specs.declared.ask.Answer.TheVariants.{Job}
+use Rattle.jlr_machine.specs.declared.ask.Answer.TheVariants.{Job, Refused}
 use Rattle.jlr_machine.specs.declared.entry.Entry.{Entry}
 use Rattle.jlr_machine.specs.Objects.{◌∋◌, some_and, is_queued}
-use Rattle.jlr_machine.specs.Lookups.{slot_named}
+use Rattle.jlr_machine.specs.Lookups.{slot_named, job_of, last_256}
+use Rattle.jlr_machine.specs.Calls.{noted}
 use Rattle.jlr_machine.specs.Run.{apply}
 use Rattle.jlr_machine.specs.WellFormed.{IsObjectAt, state_at}
 
@@ -131,3 +135,31 @@ all_take_ups entries = count_by (λ e. is_job e.answer) entries
 
 abbrev pub take_ups : ℕ → List Entry → ℕ
 take_ups action entries = count_by (λ e. is_job_of action e.answer) entries
+
+-- ---- Outcomes
+
+-- an ask that tells the outcome of this action, and an entry that records it: one that tells it and is not refused
+abbrev pub tells : ℕ → Ask → Bool
+tells action (Finish by a outcome) = nat_eq a action
+tells action _ = false
+
+abbrev pub is_refused : Answer → Bool
+is_refused (Refused by) = true
+is_refused _ = false
+
+abbrev pub records : ℕ → Entry → Bool
+records action e = tells action e.ask && not (is_refused e.answer)
+
+-- how many entries record an outcome of this action
+abbrev pub outcomes : ℕ → List Entry → ℕ
+outcomes action entries = count_by (λ e. records action e) entries
+
+-- 1 where a job of this action runs, else 0
+abbrev pub running : Machine → ℕ → ℕ
+running m action = cond (is_some (job_of m action)) 1 0
+
+-- what recording the outcome of this action and work makes of m: one more went well, and its note is kept; or one more failed, and its
+-- fault is kept
+abbrev pub IsRecorded : Machine → Machine → ℕ → Work → Outcome → Type 0
+IsRecorded m n action work OutcomeOk = (n.ok ≡ m.ok + 1) × (n.failed ≡ m.failed) × (n.notes ≡ noted m.notes work) × (n.faults ≡ m.faults)
+IsRecorded m n action work (Failed fault) = (n.ok ≡ m.ok) × (n.failed ≡ m.failed + 1) × (n.notes ≡ m.notes) × (n.faults ≡ last_256 (m.faults ++ record { action = action; fault = fault } ∷ []))

@@ -1,6 +1,7 @@
 //! Laws of whole runs. Each function's contract is the law, and its body is empty.
 
-ghost use Rattle.jlr_histories.specs.Laws.{ReferenceGoesForward, CleanableGoesForward, ReferenceLifeGoesForward, CleanableLifeGoesForward, EnqueuedAtMostOnce, EnqueuedOnItsWay, EnqueuedIsCleared, NewIsFresh, NewIsArmed, OnlyTheyClear, TakenUpAtMostOnce, TakeUpsAreCounted, WaitingResourcesAreIdle, ReferencesGoForwardInHistories, CleanablesGoForwardInHistories, EnqueuedAtMostOnceInHistories, TakenUpAtMostOnceInRuns, TakeUpsEndOrRun, ResourcesInCallsAreFenced, OneResourceAnAction, PhaseIsItsState, ResourceKeepsItsRid, CallsFindTheirResourcesIdle, JobsFindTheirResourcesIdle, ResourceGoesOn, OverIsOver, ResourceLivesInOrder, ResourceLivesInOrderInRuns};
+ghost use Rattle.jlr_histories.specs.Laws.{ReferenceGoesForward, CleanableGoesForward, ReferenceLifeGoesForward, CleanableLifeGoesForward, EnqueuedAtMostOnce, EnqueuedOnItsWay, EnqueuedIsCleared, NewIsFresh, NewIsArmed, OnlyTheyClear, TakenUpAtMostOnce, TakeUpsAreCounted, TakeUpBeginsItsJob, JobRunsUntilItsOutcome, JobRunsOnUntilItsOutcome, FinishRecordsTheOutcome, TakersFinishIsRecorded, OnlyOutcomesAreRecorded, OutcomesAreRecorded, WaitingResourcesAreIdle, ReferencesGoForwardInHistories, CleanablesGoForwardInHistories, EnqueuedAtMostOnceInHistories, TakenUpAtMostOnceInRuns, TakeUpsEndOrRun, TakeUpHasOneOutcomeOrRunsInRuns, ResourcesInCallsAreFenced, OneResourceAnAction, PhaseIsItsState, ResourceKeepsItsRid, CallsFindTheirResourcesIdle, JobsFindTheirResourcesIdle, ResourceGoesOn, OverIsOver, ResourceLivesInOrder, ResourceLivesInOrderInRuns};
+ghost use Rattle.jlr_histories.specs.Promises.{RunsKeepThePromises};
 
 /// One entry makes of a reference what it may: its kind stays, its referent and its queue stay or go, and its state stays or becomes the
 /// next.
@@ -55,6 +56,30 @@ pub fn take_ups_are_counted()
     ensures { TakeUpsAreCounted }
 {}
 
+/// A take-up begins the job that it hands out, with that work, of the mutator that asked or else of the cleaner.
+pub fn a_take_up_begins_its_job()
+    ensures { TakeUpBeginsItsJob }
+{}
+
+/// A job runs, of the same taker and with the same work, until its outcome is recorded: nothing else ends it.
+pub fn a_job_runs_until_its_outcome()
+    ensures entry { JobRunsUntilItsOutcome }
+    ensures run { JobRunsOnUntilItsOutcome }
+{}
+
+/// A finish that is not refused ends a job of the one who asks, and records its outcome: one more went well, and its note is kept, or
+/// one more failed, and its fault is kept. A finish by the taker of a running job is never refused, and no other entry records anything.
+pub fn a_finish_records_the_outcome()
+    ensures recorded { FinishRecordsTheOutcome }
+    ensures never_refused { TakersFinishIsRecorded }
+    ensures only_so { OnlyOutcomesAreRecorded }
+{}
+
+/// In a run each job of an action, one that ran at the start or was taken up since, has had its outcome recorded or still runs.
+pub fn outcomes_are_recorded()
+    ensures { OutcomesAreRecorded }
+{}
+
 /// A resource whose cleanable waits for the handler or the cleaner is idle: no call is under way on it.
 pub fn waiting_resources_are_idle()
     ensures { WaitingResourcesAreIdle }
@@ -71,6 +96,11 @@ pub fn lives_from_an_empty_machine_only_go_forward()
 pub fn take_ups_from_an_empty_machine_end_or_run()
     ensures at_most_once { TakenUpAtMostOnceInRuns }
     ensures accounted { TakeUpsEndOrRun }
+{}
+
+/// In a run from an empty machine each take-up of an action has one outcome recorded, or its job runs; and no action has two outcomes.
+pub fn each_take_up_has_one_outcome_or_runs()
+    ensures { TakeUpHasOneOutcomeOrRunsInRuns }
 {}
 
 /// A resource that is opening or out is what a mutator's call is on, with the call's fence on its guard: so no call loses its file or
@@ -110,4 +140,10 @@ pub fn a_resource_ends_for_good()
 pub fn resources_live_in_order()
     ensures runs { ResourceLivesInOrder }
     ensures from_empty { ResourceLivesInOrderInRuns }
+{}
+
+/// A run keeps what the package promises: references are cleared only in sets that its specification allows, or by the program; each is
+/// enqueued at most once, and only when cleared; each cleaning action is taken up at most once, and its outcome recorded once, or it runs.
+pub fn a_run_keeps_the_promises()
+    ensures { RunsKeepThePromises }
 {}
