@@ -1,5 +1,5 @@
 //! The cleaner.
-ghost use Rattle.std.specs.Prelude.{◌≡◌, ◌≢◌, ℕ, ◌+◌, ◌-◌, ◌^◌, ◌<◌, ◌≤◌, ◌∷◌, ◌++◌, ◌↔◌, ◌⊎◌, None, Some, Err, true, false, length, nat_le, IfErr, IfNone, IfOk, IfSome, OnErr, OnOk};
+ghost use Rattle.std.specs.Prelude.{◌≡◌, ◌≢◌, ℕ, ◌+◌, ◌-◌, ◌^◌, ◌<◌, ◌≤◌, ◌∷◌, ◌++◌, ◌↔◌, ◌⊎◌, None, Some, Err, true, false, length, nat_le, IfErr, IfNone, IfOk, IfSome, IsOk, OnErr, OnOk};
 ghost use Rattle.std.specs.Option.{option_to_list};
 ghost use Rattle.std.specs.List.Sorted.{IsPermutation};
 ghost use Rattle.jlr_machine.specs.declared.machine.Job.{Job as RunningJob};
@@ -261,11 +261,13 @@ impl<R> Cleaner<R> {
     /// Makes room for one resource more: then a `prepare` finds memory.
     ///
     /// # Errors
-    /// `NoMemory` where there is none, also where the next place has no number below 2^32. Nothing has changed then but the room.
+    /// `NoMemory` where there is no room and none can be made, also where the next place has no number below 2^32. Nothing has changed then but
+    /// the room.
     pub fn reserve(&mut self) -> Result<(), Refusal>
         ensures room { OnOk result (length (resources self.new.table) < self.new.table.room) }
         ensures next { OnOk result (self.new.table.next < 2 ^ 32) }
         ensures refused { IfErr result (λ r. r ≡ Refusal.NoMemory) }
+        ensures succeeds { length (resources self.old.table) < self.old.table.room → self.old.table.next < 2 ^ 32 → IsOk result }
         ensures grows { self.old.table.room ≤ self.new.table.room }
         ensures table { self.new.table ≡ record self.old.table { room = self.new.table.room } }
         ensures rest { self.new ≡ record self.old { table = self.new.table } }

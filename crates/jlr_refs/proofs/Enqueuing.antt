@@ -83,8 +83,3 @@ enqueued_in_queue m g a b c d s q is_ref is_q ahead ea eb ec ed =
     ∙ ap put (change_apart g.objects q s push last ne)
     ∙ ap (λ h. put (change_at h q push)) (sym (change_twice g.objects s (with_reference unreferred) (with_reference (λ r. record r { state = Queued; queue = None }))))
     ∙ ap (to_queue (put (change_at g.objects s (with_reference unreferred))) s) (sym ahead)
-
-pub enqueued_nowhere :
-    (m : Machine) (g d : Graph) (s : ℕ) → option_and_then queue_ahead (reference_at g.objects s) ≡ None → d ≡ with_objects g (change_at g.objects s (with_reference unreferred)) → in_machine m d ≡ enqueued (in_machine m g) s
-enqueued_nowhere m g d s none ed =
-    ap (in_machine m) ed ∙ ap (to_queue (in_machine m (with_objects g (change_at g.objects s (with_reference unreferred)))) s) (sym none)

@@ -1,5 +1,5 @@
 -- The handler's step, as the machine has it.
-use Rattle.std.proofs.Common.{◌≡◌, ℕ, true, List, drop, Option, Some, None, option_and_then, refl, sym, ◌∙◌, ap, subst}
+use Rattle.std.proofs.Common.{◌≡◌, ℕ, List, drop, Option, Some, None, option_and_then, refl, sym, ◌∙◌, ap, subst}
 use Rattle.std.specs.Prelude.{option_map, slice_get}
 use Rattle.jlr_machine.specs.declared.machine.Machine.{Machine}
 use Rattle.jlr_machine.specs.declared.object.Object.{Object}
@@ -13,11 +13,10 @@ use Rattle.jlr_machine.specs.declared.object.CleanState.TheVariants.{Armed, Pend
 use Rattle.jlr_machine.specs.declared.ask.Handed.{Handed}
 use Rattle.jlr_machine.specs.declared.ask.Handed.TheVariants.{Queued as HandedQueued, Lined as HandedLined, Skipped, Nothing}
 use Rattle.jlr_machine.specs.declared.ask.Answer.TheVariants.{Handed as HandedAnswer}
-use Rattle.jlr_machine.specs.Objects.{◌∈◌, as_cleanable, as_reference, at, queue_ahead, some_and, with_reference}
-use Rattle.jlr_machine.specs.Refusals.{is_reference}
+use Rattle.jlr_machine.specs.Objects.{◌∈◌, as_cleanable, as_reference, at, queue_ahead, with_reference}
 use Rattle.jlr_machine.specs.Lookups.{with_object}
 use Rattle.jlr_machine.specs.Calls.{delivered, hand_over_answer, handed, handed_cleanable, handed_over, handed_reference, to_queue, unreferred}
-use Rattle.jlr_laws.proofs.Frames.{is_cleanable_there, is_reference_there, no_some}
+use Rattle.jlr_laws.proofs.Frames.{is_cleanable_there, is_reference_there}
 use Rattle.jlr_laws.proofs.Sets.{in_front}
 use Rattle.jlr_barrier.specs.Graphs.{Graph, in_machine, with_pending}
 use Rattle.jlr_refs.specs.Parts.{Delivers, HandsOver, IsFit, handed_there}
@@ -31,36 +30,6 @@ reference_there o r e = sym (ap handed_there (is_reference_there o r e))
 
 pub cleanable_there : (o : Option Object) (c : CleanableOf) → option_and_then as_cleanable o ≡ Some c → handed_cleanable c.state ≡ handed_there o
 cleanable_there o c e = sym (ap handed_there (is_cleanable_there o c e))
-
-pub neither_there : (o : Option Object) → option_and_then as_reference o ≡ None → option_and_then as_cleanable o ≡ None → Skipped ≡ handed_there o
-neither_there None no_reference no_cleanable = refl
-neither_there (Some (Plain fields)) no_reference no_cleanable = refl
-neither_there (Some (Reference r)) no_reference no_cleanable = no_some r (sym no_reference)
-neither_there (Some (Queue members)) no_reference no_cleanable = refl
-neither_there (Some Cleaner) no_reference no_cleanable = refl
-neither_there (Some (Cleanable c)) no_reference no_cleanable = no_some c (sym no_cleanable)
-neither_there (Some (Guard g)) no_reference no_cleanable = refl
-
-queued_no_cleanable : (state : CleanState) → handed_cleanable state ≡ HandedQueued → ⊥
-queued_no_cleanable Armed e = absurd (cc e)
-queued_no_cleanable PendingClean e = absurd (cc e)
-queued_no_cleanable Lined e = absurd (cc e)
-queued_no_cleanable Spent e = absurd (cc e)
-
-pub queued_is_reference : (o : Option Object) → handed_there o ≡ HandedQueued → some_and is_reference o ≡ true
-queued_is_reference None e = absurd (cc e)
-queued_is_reference (Some (Plain fields)) e = absurd (cc e)
-queued_is_reference (Some (Reference r)) e = refl
-queued_is_reference (Some (Queue members)) e = absurd (cc e)
-queued_is_reference (Some Cleaner) e = absurd (cc e)
-queued_is_reference (Some (Cleanable c)) e = absurd (queued_no_cleanable c.state e)
-queued_is_reference (Some (Guard g)) e = absurd (cc e)
-
-queued_is_pending : (state : RefState) → handed_reference state ≡ HandedQueued → state ≡ Pending
-queued_is_pending Fresh e = absurd (cc e)
-queued_is_pending Pending e = refl
-queued_is_pending Queued e = absurd (cc e)
-queued_is_pending Removed e = absurd (cc e)
 
 lined_no_reference : (state : RefState) → handed_reference state ≡ HandedLined → ⊥
 lined_no_reference Fresh e = absurd (cc e)

@@ -1,5 +1,5 @@
 -- The line without what stands before its first Lined cleanable.
-use Rattle.std.proofs.Common.{◌≡◌, ℕ, Bool, true, false, cond, List, [], ◌∷◌, drop, Option, Some, None, option_and_then, refl, sym, ◌∙◌, ap, subst, inl, inr}
+use Rattle.std.proofs.Common.{◌≡◌, ℕ, true, false, cond, List, [], ◌∷◌, drop, Option, Some, None, option_and_then, refl, sym, ◌∙◌, ap, subst, inl, inr}
 use Rattle.std.specs.Prelude.{slice_get}
 use Rattle.std.proofs.lemmas.Bool.{cond-true, cond-false}
 use Rattle.jlr_machine.specs.declared.machine.Machine.{Machine}
@@ -28,10 +28,6 @@ unlined_gives (Some x) e =
       | true ↦ λ e. no_some x (sym e)
       | false ↦ λ e. refl
     ] e
-
-unlined_from : (o : Option CleanableOf) → some_and (λ c. is_lined c.state) o ≡ false → option_and_then (λ c. cond (is_lined c.state) (Some c) None) o ≡ None
-unlined_from None e = refl
-unlined_from (Some x) e = ap {A = Bool} {B = Option CleanableOf} (λ b. cond b (Some x) None) e
 
 -- the cleanable at s is the one, and is Lined
 pub lined_here : (m : Machine) (s : ℕ) (c : CleanableOf) → lined_in (at m.objects s) ≡ Some c → (cleanable_at m s ≡ Some c) × (is_lined c.state ≡ true)

@@ -6,7 +6,7 @@ ghost use Rattle.jlr_machine.specs.Refusals.{is_cleanable};
 ghost use Rattle.jlr_machine.specs.Calls.{handed_cleanable, handed_reference};
 ghost use Rattle.jlr_cells.specs.Contents.{in_clean_state};
 ghost use Rattle.jlr_barrier.specs.Graphs.{with_line, with_objects};
-ghost use Rattle.jlr_refs.specs.Parts.{Delivers, HandsOver, IsFit, handed_there};
+ghost use Rattle.jlr_refs.specs.Parts.{Delivers, HandsOver, IsFit, QueuesNext, handed_there};
 
 use crate::references::enqueue;
 use jlr_barrier::Heap;
@@ -20,11 +20,12 @@ use std::alloc::AllocError;
 /// that it cleaned. Nothing is handed over where the list is empty.
 ///
 /// # Errors
-/// `AllocError` where the queue cannot grow. Nothing has changed then.
+/// `AllocError` where a reference goes to its queue, and the queue cannot grow. Nothing has changed then.
 pub fn hand_over(heap: &mut Heap) -> Result<Handed, AllocError>
     requires fit { IsFit heap.old.graph }
     ensures handed { IfOk result (λ handed. HandsOver heap.old.graph handed heap.new.graph) }
     ensures err { OnErr result (heap.new.graph ≡ heap.old.graph) }
+    ensures grows { OnErr result (QueuesNext heap.old.graph) }
     ensures clock { heap.new.clock ≡ heap.old.clock }
 {
     let Some(slot) = heap.first_pending() else {
@@ -73,6 +74,7 @@ fn deliver(heap: &mut Heap, slot: Slot, handed: Handed) -> Result<(), AllocError
     requires handed { handed ≡ handed_there (at heap.old.graph.objects slot) }
     ensures delivered { IfOk result (λ _. Delivers heap.old.graph slot handed heap.new.graph) }
     ensures err { OnErr result (heap.new.graph ≡ heap.old.graph) }
+    ensures grows { OnErr result (handed ≡ Handed.Queued) }
     ensures clock { heap.new.clock ≡ heap.old.clock }
 {
     match handed {

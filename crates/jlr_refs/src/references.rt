@@ -86,13 +86,14 @@ pub fn clear(heap: &mut Heap, reference: Slot)
 /// (`Reference.enqueue`). Whether it went there.
 ///
 /// # Errors
-/// `AllocError` where the queue cannot grow. Nothing has changed then.
+/// `AllocError` where the reference goes to its queue, and the queue cannot grow. Nothing has changed then.
 pub fn enqueue(heap: &mut Heap, reference: Slot) -> Result<bool, AllocError>
     requires fit { IsFit heap.old.graph }
     requires reference { IsTrue (some_and is_reference (at heap.old.graph.objects reference)) }
     ensures answer { IfOk result (λ added. Some added ≡ option_and_then (λ r. Some (may_enqueue r)) (reference_at heap.old.graph.objects reference)) }
     ensures enqueued { IfOk result (λ _. Enqueues heap.old.graph reference heap.new.graph) }
     ensures err { OnErr result (heap.new.graph ≡ heap.old.graph) }
+    ensures grows { OnErr result (IsTrue (some_and may_enqueue (reference_at heap.old.graph.objects reference))) }
     ensures clock { heap.new.clock ≡ heap.old.clock }
 {
     let Some(queue) = queue_ahead(heap.reference(reference)) else {

@@ -1,5 +1,5 @@
 //! The table of resources.
-ghost use Rattle.std.specs.Prelude.{◌≡◌, ◌≢◌, ℕ, ◌≤◌, ◌<◌, ◌+◌, ◌^◌, ◌∷◌, ◌++◌, ◌↔◌, ◌⊎◌, [], length, nat_le, Some, None, Err, IfOk, IfErr, OnErr, OnOk, IsSome};
+ghost use Rattle.std.specs.Prelude.{◌≡◌, ◌≢◌, ℕ, ◌≤◌, ◌<◌, ◌+◌, ◌^◌, ◌∷◌, ◌++◌, ◌↔◌, ◌⊎◌, [], length, nat_le, Some, None, Err, IfOk, IfErr, OnErr, OnOk, IsOk, IsSome};
 ghost use Rattle.std.specs.Option.{option_to_list};
 ghost use Rattle.std.specs.List.Sorted.{IsPermutation};
 ghost use Rattle.jlr_machine.specs.Lookups.{with_resource};
@@ -77,11 +77,13 @@ impl<R> Table<R> {
     /// Makes room for one resource more: then a `prepare` finds memory.
     ///
     /// # Errors
-    /// `NoMemory` where there is none, also where the next place has no number below 2^32. Nothing has changed then but the room.
+    /// `NoMemory` where there is no room and none can be made, also where the next place has no number below 2^32. Nothing has changed then but
+    /// the room.
     pub fn reserve(&mut self) -> Result<(), Refusal>
         ensures room { OnOk result (length (resources self.new) < self.new.room) }
         ensures next { OnOk result (self.new.next < 2 ^ 32) }
         ensures refused { IfErr result (λ r. r ≡ Refusal.NoMemory) }
+        ensures succeeds { length (resources self.old) < self.old.room → self.old.next < 2 ^ 32 → IsOk result }
         ensures grows { self.old.room ≤ self.new.room }
         ensures rest { self.new ≡ record self.old { room = self.new.room } }
     {
@@ -241,11 +243,16 @@ fn make_room<R>(places: &mut Slab<Place<R>>) -> Result<(), Refusal>
     ensures room { OnOk result (length (resources_in (held_by places.new)) < places.new.capacity) }
     ensures next { OnOk result (places.new.vacant_key < 2 ^ 32) }
     ensures refused { IfErr result (λ r. r ≡ Refusal.NoMemory) }
+    ensures succeeds { length (resources_in (held_by places.old)) < places.old.capacity → places.old.vacant_key < 2 ^ 32 → IsOk result }
     ensures grows { places.old.capacity ≤ places.new.capacity }
     ensures held { held_by places.new ≡ held_by places.old }
     ensures same_next { places.new.vacant_key ≡ places.old.vacant_key }
 {
-    if places.reserve(1).is_err() || places.vacant_key() > u32::MAX as usize {
+    let reserved = places.reserve(1);
+    if reserved.is_err() {
+        return Err(Refusal::NoMemory);
+    }
+    if places.vacant_key() > u32::MAX as usize {
         return Err(Refusal::NoMemory);
     }
     Ok(())

@@ -1,5 +1,5 @@
 //! Marking: what the roots reach by strong edges, and by the soft edges that the policy keeps.
-ghost use Rattle.std.specs.Prelude.{◌≡◌, ℕ, ◌+◌, ◌^◌, ◌<◌, ◌≤◌, ◌↔◌, [], IsTrue, Some, is_some, length, true};
+ghost use Rattle.std.specs.Prelude.{◌≡◌, ℕ, ◌+◌, ◌^◌, ◌<◌, ◌≤◌, ◌↔◌, [], IsTrue, Some, count_by, is_some, length, true};
 ghost use Rattle.jlr_machine.specs.Objects.{at, ◌∈◌};
 ghost use Rattle.jlr_laws.specs.Laws.{followed};
 ghost use Rattle.jlr_machine.specs.Edges.{edges_from};
@@ -43,8 +43,8 @@ fn follow(heap: &mut Heap, policy: &Policy, slot: Slot, meter: &mut Meter)
     follow_soft(heap, policy, slot);
 }
 
-/// Marks just what the roots reach by strong edges, and by the soft edges of those references that the policy keeps. It ticks at
-/// most as often as there are cells.
+/// Marks just what the roots reach by strong edges, and by the soft edges of those references that the policy keeps. It ticks once
+/// for each slot that it marks, so at most as often as there are cells.
 pub(crate) fn mark(heap: &mut Heap, policy: &Policy, meter: &mut Meter)
     requires few { length heap.old.graph.objects ≤ 65536 }
     requires ticks { meter.old + 65536 < 2 ^ 64 }
@@ -56,6 +56,7 @@ pub(crate) fn mark(heap: &mut Heap, policy: &Policy, meter: &mut Meter)
     ensures objects { (x : ℕ) → IsMarked heap.new.marking x → IsTrue (is_some (at heap.old.graph.objects x)) }
     ensures no_grey { heap.new.marking.grey ≡ [] }
     ensures long { length heap.new.marking.bits ≡ length heap.old.graph.objects }
+    ensures once { meter.new ≡ meter.old + count_by (λ b. b) heap.new.marking.bits }
     ensures ticks { meter.new ≤ meter.old + length heap.old.graph.objects }
 {
     heap.unmark_all();

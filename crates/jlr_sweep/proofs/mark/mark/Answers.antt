@@ -111,6 +111,13 @@ returns-clause-objects c =
     followed_objects kept heap base c.requires.roots (λ x y h. c.requires.edges x y (followed_is_soft kept heap x y h)) x
     (c.loop-slot.invariant.marking.sound x (sym (ap (λ l. get_or l x false) c.next_grey.ensures.bits) ∙ h))
 
+pub returns-clause-once : goal.returns-clause-once
+returns-clause-once c =
+    let i = c.loop-slot.invariant in
+    let none : length c.loop-slot.heap.marking.grey ≡ 0 = ap length c.in_default.ensures.none.0 in
+    let same : marked c.next_grey.new.self.marking ≡ marked c.loop-slot.heap.marking = ap (λ l. marked (record { bits = l; grey = [] })) c.next_grey.ensures.bits in
+    omega (arith, i.ticks, none, same)
+
 pub returns-clause-ticks : goal.returns-clause-ticks
 returns-clause-ticks c =
     let i = c.loop-slot.invariant in
