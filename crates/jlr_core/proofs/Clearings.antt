@@ -1,6 +1,6 @@
 -- Collections that asks make, from what a full collection is.
-use Rattle.std.proofs.Common.{◌≡◌, ◌<◌, ◌+◌, not, ℕ, Option, Some, None, IsTrue, refl, sym, ◌∙◌, ap, subst, arith, length, false, List, [], ◌∷◌, true, Bool, is_some, inl, inr}
-use Rattle.std.proofs.lemmas.Bool.{both_ways, lt-leb}
+use Rattle.std.proofs.Common.{◌≡◌, ◌<◌, ◌+◌, not, ℕ, Some, IsTrue, refl, sym, ◌∙◌, ap, subst, length, false, List, [], ◌∷◌, true, Bool, is_some, inl, inr}
+use Rattle.std.proofs.lemmas.Bool.{lt-leb}
 use Rattle.jlr_machine.specs.declared.machine.Machine.{Machine}
 use Rattle.jlr_soft.specs.declared.policy.Policy.{Policy}
 use Rattle.jlr_soft.specs.declared.policy.Mode.{Mode}
@@ -12,29 +12,29 @@ use Rattle.jlr_machine.specs.declared.ask.FullMode.TheVariants.{Policy as AskedP
 use Rattle.jlr_machine.specs.declared.entry.Chosen.{Chosen}
 use Rattle.jlr_machine.specs.declared.entry.Collected.{Collected}
 use Rattle.jlr_machine.specs.Objects.{at, ◌∈◌, occupied}
-use Rattle.jlr_machine.specs.Edges.{edges_from, roots}
-use Rattle.jlr_machine.specs.Edges.Chain.{Strong, UpToSoft, UpToPhantom}
+use Rattle.jlr_machine.specs.Edges.{roots}
+use Rattle.jlr_machine.specs.Edges.Chain.{UpToSoft, UpToPhantom}
 use Rattle.jlr_machine.specs.Reachable.{IsReached}
-use Rattle.jlr_machine.specs.Run.{MayCollect, has_room, with_collection, no_choice, now_seen}
+use Rattle.jlr_machine.specs.Run.{MayCollect, has_room, with_collection, now_seen}
 use Rattle.jlr_machine.specs.Run.IsLegal.{carried_out}
 use Rattle.jlr_machine.specs.Choices.{Choosing, collecting, nothing_chosen}
 use Rattle.jlr_machine.specs.Collection.{IsBackground, IsFullClearing, after_collection}
 use Rattle.jlr_machine.specs.WellFormed.{IsWellFormed}
 use Rattle.jlr_laws.specs.Laws.{IsMarked, IsPathFollowed, followed}
-use Rattle.jlr_laws.proofs.Frames.{no_some, some_same}
+use Rattle.jlr_laws.proofs.Frames.{some_same}
 use Rattle.jlr_laws.proofs.SeenKept.{now_seen_within}
 use Rattle.jlr_laws.proofs.Agree.{at_base, one_edge_more}
 use Rattle.jlr_laws.proofs.Clearing.{HasEdge, edge_gives, edge_from}
 use Rattle.jlr_laws.proofs.Empty.{well_formed_within}
 use Rattle.jlr_laws.proofs.LawProofs.{background_comes_down}
 use Rattle.jlr_cycles.specs.Laws.{with_seen}
-use Rattle.jlr_cycles.proofs.Seen.{now_seen_gives, reached_is_seen}
+use Rattle.jlr_cycles.proofs.Seen.{reached_is_seen}
 use Rattle.jlr_barrier.specs.Graphs.{Clock}
 use Rattle.jlr_sweep.specs.Marking.{keeps}
 use Rattle.jlr_sweep.specs.Collecting.{Collects}
 use Rattle.jlr_sweep.proofs.Kept.{clears_all as clears_all_by}
 use Rattle.jlr_sweep.proofs.Following.{followed_is_soft, strong_is_followed}
-use Rattle.jlr_core.specs.State.{MeetsSeen, entry_of}
+use Rattle.jlr_core.specs.State.{MeetsSeen}
 use Rattle.jlr_core.specs.Collecting.{MakesRoom, MayMakeRoom, mode_of}
 use Rattle.jlr_core.specs.Policy.{KeepsIn}
 use Rattle.jlr_core.proofs.Entries.{none_fresh}
@@ -81,10 +81,6 @@ keeps_in mode age clock m old new n nothing c =
     λ k e.
     subst (λ (x : Collected). IsMarked kept_soft m.objects (roots m) x.kept x.pending) (some_same (record { kept = c.kept; pending = c.pending }) k (sym collected ∙ e)) c.marked
 
--- where nothing is chosen, nothing was kept
-pub none_kept : (mode : Mode) (age : ℕ) (clock : Clock) (m : Machine) (new : Choosing) → new ≡ nothing_chosen new.cells → KeepsIn mode age clock m new.chosen
-none_kept mode age clock m new nothing = λ k e. no_some k (sym (ap (λ (x : Choosing). x.chosen.collected) nothing) ∙ e)
-
 -- ---- The collection of a cycle
 
 module _ (kept_soft : ℕ → Bool) (m : Machine) (w : IsWellFormed m) where
@@ -129,7 +125,3 @@ meets_collect m n age clock old new w open_now nothing c =
       });
       applied = c.left;
     })
-
--- outside a cycle nothing is collected
-pub meets_no_collect : (m n : Machine) → n ≡ with_seen m [] → MeetsSeen m Collect (Truth false) no_choice n
-meets_no_collect m n same = record { legal = carried_out (record { allowed = refl; collection = tt; fresh = none_fresh m.objects; answers = refl }); applied = same }

@@ -1,5 +1,5 @@
 -- Legal entries, from what an ask did.
-use Rattle.std.proofs.Common.{◌≡◌, ◌+◌, ◌&&◌, ◌||◌, ◌==◌, zero, suc, ℕ, ◌<◌, Bool, true, false, not, List, [], ◌∷◌, length, Option, Some, None, IsTrue, is_some, is_none, refl, sym, ◌∙◌, ap, subst, Result, Ok, Err, arith, find, cond, option_and_then}
+use Rattle.std.proofs.Common.{◌≡◌, ◌+◌, ◌&&◌, ◌||◌, ◌==◌, zero, suc, ℕ, ◌<◌, Bool, true, false, not, List, [], ◌∷◌, length, Option, Some, None, IsTrue, is_some, is_none, refl, sym, ◌∙◌, ap, subst, arith, find, cond, option_and_then}
 use Rattle.std.proofs.lemmas.Bool.{both_ways, le-leb, ne_eqb}
 use Rattle.std.proofs.lemmas.List.Sums.{count_by-le-length}
 use Rattle.jlr_types.specs.declared.RefKind.{RefKind}
@@ -22,15 +22,15 @@ use Rattle.jlr_machine.specs.declared.entry.Chosen.{Chosen}
 use Rattle.jlr_machine.specs.declared.entry.Collected.{Collected}
 use Rattle.jlr_machine.specs.Objects.{Heap, at, occupied, some_and, Table}
 use Rattle.jlr_machine.specs.Lookups.{with_handle, with_new, resource_at, slot_named, has_free_handle, object_named}
-use Rattle.jlr_machine.specs.Refusals.{refusal, cells_needed, is_end, is_joined, has_call, is_any, applies, is_of_wrong_kind, listed, object_or_null, is_queue}
+use Rattle.jlr_machine.specs.Refusals.{refusal, cells_needed, is_joined, has_call, is_any, applies, is_of_wrong_kind, listed, object_or_null, is_queue}
 use Rattle.jlr_machine.specs.Calls.{reply, after, new_handle}
 use Rattle.jlr_machine.specs.Choices.{Choosing}
 use Rattle.jlr_machine.specs.Collection.{after_collection}
-use Rattle.jlr_machine.specs.Run.{has_room, MayCollect, with_collection, Answers, is_free, IsFresh, carried, done, no_choice}
-use Rattle.jlr_machine.specs.Run.IsLegal.{carried_out, refused, heap_full, out_of_memory}
+use Rattle.jlr_machine.specs.Run.{has_room, MayCollect, with_collection, Answers, is_free, IsFresh, carried, no_choice}
+use Rattle.jlr_machine.specs.Run.IsLegal.{carried_out, refused, heap_full}
 use Rattle.jlr_laws.proofs.Frames.{no_some, some_same}
 use Rattle.jlr_laws.proofs.Refused.{is_refusal, gives_no_refusal}
-use Rattle.jlr_core.specs.State.{answer_of, Meets, Answered}
+use Rattle.jlr_core.specs.State.{Meets}
 use Rattle.jlr_machine.specs.Calls.{prepared}
 use Rattle.jlr_barrier.specs.Guards.{AreFree}
 use Rattle.jlr_core.specs.Preparing.{Places}
@@ -156,14 +156,6 @@ plainly m n _ a p e r l = absurd p
 
 pub meets_plain : (m n : Machine) (ask : Ask) (a : Answer) → IsPlain ask → refusal m ask ≡ None → reply m ask ≡ Some a → n ≡ after m ask a [] → Meets m ask a no_choice n
 meets_plain m n ask a p e r l = plainly m n ask a p e r l
-
--- a growth was refused, and nothing has changed
-pub meets_no_memory : (m n : Machine) (ask : Ask) → is_end ask ≡ false → n ≡ m → Meets m ask (Refused NoMemory) no_choice n
-meets_no_memory m n ask no_end same = record { legal = out_of_memory (record { no_end = ap not no_end; answers = refl; nothing = refl }); applied = same }
-
-pub meets_answered : (m n : Machine) (ask : Ask) (result : Result Answer Refusal) → IsPlain ask → Answered m ask result n → Meets m ask (answer_of result) no_choice n
-meets_answered m n ask (Ok a) p x = plainly m n ask a p x.0 x.1 x.2
-meets_answered m n ask (Err r) p x = subst (λ n. Meets m ask (Refused r) no_choice n) (sym x.1) (meets_refused m ask r x.0)
 
 -- ---- No refusal of the list is for want of memory
 

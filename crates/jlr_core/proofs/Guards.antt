@@ -1,5 +1,5 @@
 -- The guards that calls hold, and those that they name.
-use Rattle.std.proofs.Common.{◌≡◌, ◌==◌, ◌&&◌, ◌||◌, ℕ, ◌≤◌, ◌⊎◌, inl, inr, Bool, true, false, not, List, [], ◌∷◌, Option, Some, None, is_none, is_some, IsTrue, refl, sym, ◌∙◌, ap, subst, arith, nat_lt, option_and_then, option_map}
+use Rattle.std.proofs.Common.{◌≡◌, ◌==◌, ◌&&◌, ◌||◌, ℕ, ◌≤◌, inl, inr, Bool, true, false, not, [], ◌∷◌, Option, Some, None, is_none, is_some, IsTrue, refl, sym, ◌∙◌, ap, subst, arith, nat_lt, option_and_then, option_map}
 use Rattle.std.proofs.lemmas.Bool.{both_ways, lt-ltb}
 use Rattle.jlr_types.specs.declared.Refusal.TheVariants.{Busy, Closed, NoHandle, NoSession, NotOut, Null, WrongKind}
 use Rattle.jlr_types.specs.declared.Work.TheVariants.{Resource as WorkOn}
@@ -18,16 +18,15 @@ use Rattle.jlr_machine.specs.declared.object.CleanState.{CleanState}
 use Rattle.jlr_machine.specs.declared.object.CleanState.TheVariants.{Armed, Lined, Pending, Spent}
 use Rattle.jlr_machine.specs.declared.ask.Ask.TheVariants.{CheckIn, CheckOut, Close, Opened}
 use Rattle.jlr_machine.specs.declared.ask.Answer.{Answer}
-use Rattle.jlr_machine.specs.declared.ask.Answer.TheVariants.{Handle, Out as OutAnswer}
+use Rattle.jlr_machine.specs.declared.ask.Answer.TheVariants.{Out as OutAnswer}
 use Rattle.jlr_machine.specs.declared.ask.Outcome.{Outcome}
 use Rattle.jlr_machine.specs.declared.ask.CallOutcome.{CallOutcome}
 use Rattle.jlr_machine.specs.Objects.{as_cleanable, as_guard, at, is_spent, occupied, some_and}
-use Rattle.jlr_machine.specs.Lookups.{cleanable_at, cleanable_of_guard, free_handle, guard_named, has_free_handle, object_named, on, resource_at, slot_named, with_call, with_state}
+use Rattle.jlr_machine.specs.Lookups.{cleanable_at, cleanable_of_guard, guard_named, has_free_handle, object_named, on, resource_at, slot_named, with_call, with_state}
 use Rattle.jlr_machine.specs.Refusals.{applies, has_call, is_cleanable, is_closed, is_guard, is_joined, is_opening, is_out, is_out_call, is_out_state, refusal}
-use Rattle.jlr_machine.specs.Calls.{after, checked_in, checked_out, fence_of, guard_at, guard_fenced, new_handle, opened, reply}
+use Rattle.jlr_machine.specs.Calls.{after, checked_in, checked_out, fence_of, guard_at, guard_fenced, opened, reply}
 use Rattle.jlr_machine.specs.WellFormed.{FitsItsCall, HasResource, IsCleanableAt, IsFencing, IsGuardAt, IsOwnGuard, IsSessionAt, IsWellFormed, OpeningHasRoom}
-use Rattle.jlr_laws.proofs.Allowed.{named_of_slot, some_there}
-use Rattle.jlr_laws.proofs.Changes.{change_here}
+use Rattle.jlr_laws.proofs.Allowed.{named_of_slot}
 use Rattle.jlr_laws.proofs.Frames.{no_some, some_same}
 use Rattle.jlr_resource.specs.Resources.{state_in}
 use Rattle.jlr_core.specs.declared.resources.Guarded.{Guarded}
@@ -68,18 +67,6 @@ opening_has_room m k rid s w there e =
     ap (some_and (λ (z : Session). nat_lt (occupied z.handles) 250)) there ∙ lt-ltb (occupied s.handles) 250 (omega (arith, few))
 
 -- ---- A call that begins or ends leaves the handles
-
-pub free_after_call : (m : Machine) (k : ℕ) (fence : Option ℕ) (call : Call) → IsTrue (is_some (at m.mutators k)) → has_free_handle (with_call m k fence call) k ≡ has_free_handle m k
-free_after_call m k fence call joined =
-    let s = some_there (at m.mutators k) joined in
-    ap (some_and (λ (z : Session). nat_lt (occupied z.handles) 250)) (change_here m.mutators k (λ (z : Session). record z { fence = fence; call = call }) s.0 s.1)
-    ∙ sym (ap (some_and (λ (z : Session). nat_lt (occupied z.handles) 250)) s.1)
-
-pub new_after_call : (m : Machine) (k : ℕ) (fence : Option ℕ) (call : Call) → IsTrue (is_some (at m.mutators k)) → new_handle (with_call m k fence call) k ≡ new_handle m k
-new_after_call m k fence call joined =
-    let s = some_there (at m.mutators k) joined in
-    ap (option_map (λ (z : Session). Handle (free_handle z))) (change_here m.mutators k (λ (z : Session). record z { fence = fence; call = call }) s.0 s.1)
-    ∙ sym (ap (option_map (λ (z : Session). Handle (free_handle z))) s.1)
 
 -- ---- The call of a mutator
 

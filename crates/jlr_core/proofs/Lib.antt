@@ -4,6 +4,7 @@ pub mod Clearings
 pub mod Rooms
 pub mod Entries
 pub mod Stepping
+pub mod Ranges
 pub mod RunLaws
 pub mod Queues
 pub mod TakeUps

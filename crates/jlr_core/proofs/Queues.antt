@@ -1,8 +1,7 @@
 -- Enqueueing, polling and handing over, as entries.
-use Rattle.std.proofs.Common.{◌≡◌, ◌&&◌, ℕ, Bool, true, false, not, List, [], ◌∷◌, ◌++◌, drop, length, Option, Some, None, is_some, option_and_then, option_map, nat_lt, slice_get, Result, Ok, Err, refl, sym, ◌∙◌, ap, subst}
+use Rattle.std.proofs.Common.{◌≡◌, ◌&&◌, ℕ, Bool, true, false, not, List, [], ◌∷◌, ◌++◌, drop, length, Option, Some, None, is_some, option_and_then, option_map, nat_lt, slice_get, Ok, refl, sym, ◌∙◌, ap, subst}
 use Rattle.jlr_machine.specs.declared.machine.Machine.{Machine}
 use Rattle.jlr_machine.specs.declared.machine.Session.{Session}
-use Rattle.jlr_machine.specs.declared.object.Object.{Object}
 use Rattle.jlr_machine.specs.declared.object.Reference.{Reference as ReferenceOf}
 use Rattle.jlr_machine.specs.declared.object.RefState.TheVariants.{Queued as IsQueued}
 use Rattle.jlr_machine.specs.declared.ask.Handed.{Handed}
@@ -10,11 +9,10 @@ use Rattle.jlr_machine.specs.declared.ask.Handed.TheVariants.{Queued, Lined, Ski
 use Rattle.jlr_machine.specs.declared.ask.Ask.TheVariants.{Enqueue, Poll, Remove}
 use Rattle.jlr_machine.specs.declared.ask.Answer.{Answer}
 use Rattle.jlr_machine.specs.declared.ask.Answer.TheVariants.{Handle, Truth}
-use Rattle.jlr_machine.specs.Objects.{Heap, Table, as_members, as_reference, at, change_at, occupied, some_and, with_members, with_reference}
+use Rattle.jlr_machine.specs.Objects.{Table, as_members, as_reference, at, change_at, occupied, some_and, with_members, with_reference}
 use Rattle.jlr_machine.specs.Lookups.{free_handle, has_free_handle, on, slot_named, with_object}
 use Rattle.jlr_machine.specs.Refusals.{front, given, refusal}
 use Rattle.jlr_machine.specs.Calls.{after, delivered, enqueued, handed, handed_over, handle_given, may_enqueue, new_handle, polled, reply, to_queue, unreferred, with_given}
-use Rattle.jlr_cells.specs.Contents.{member_in}
 use Rattle.jlr_laws.proofs.Frames.{change_as_long, no_some, some_same}
 use Rattle.jlr_core.specs.State.{Answered}
 

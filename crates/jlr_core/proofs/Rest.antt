@@ -1,5 +1,5 @@
 -- Where nothing is left to the helpers, what they ask finds nothing and leaves the machine.
-use Rattle.std.proofs.Common.{◌≡◌, ℕ, true, false, not, ◌&&◌, ◌==◌, List, [], ◌∷◌, Some, Bool, refl, sym, ap, ◌∙◌, is_none}
+use Rattle.std.proofs.Common.{◌≡◌, ℕ, true, false, not, ◌&&◌, ◌==◌, List, [], ◌∷◌, Bool, refl, sym, ap, ◌∙◌, is_none}
 use Rattle.std.specs.Prelude.{slice_get}
 use Rattle.std.specs.List.{list_any}
 use Rattle.std.proofs.lemmas.Bool.{and_parts}

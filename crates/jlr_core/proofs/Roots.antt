@@ -1,9 +1,8 @@
 -- The roots of a core's machine are what its heap holds.
-use Rattle.std.proofs.Common.{◌≡◌, ◌++◌, ℕ, Bool, List, [], Some, refl, sym, subst, filter_map}
+use Rattle.std.proofs.Common.{◌++◌, ℕ, Bool, List, [], refl, sym, subst, filter_map}
 use Rattle.std.specs.Option.{option_to_list}
 use Rattle.jlr_machine.specs.declared.machine.Machine.{Machine}
-use Rattle.jlr_machine.specs.declared.machine.Session.{Session}
-use Rattle.jlr_machine.specs.Objects.{at, ◌∈◌}
+use Rattle.jlr_machine.specs.Objects.{◌∈◌}
 use Rattle.jlr_machine.specs.Edges.{active_cleanables}
 use Rattle.jlr_machine.specs.WellFormed.{IsWellFormed}
 use Rattle.jlr_roots.specs.Naming.{named}

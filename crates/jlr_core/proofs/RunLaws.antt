@@ -1,11 +1,12 @@
 -- A run goes on by one step.
-use Rattle.std.proofs.Common.{◌≡◌, ℕ, List, [], ◌∷◌, ◌++◌, Option, Some, None, is_some, refl, sym, ◌∙◌, ap, subst, append_assoc, append-nil, true, length, ◌≤◌, arith}
+use Rattle.std.proofs.Common.{◌≡◌, ℕ, List, [], ◌∷◌, ◌++◌, Option, Some, None, is_some, refl, sym, ◌∙◌, ap, subst, append_assoc, append-nil, true, length}
 use Rattle.std.proofs.lemmas.Bool.{both_ways}
 use Rattle.std.proofs.lemmas.List.{length-replicate}
 use Rattle.std.specs.List.Sorted.{IsPermutation}
 use Rattle.std.proofs.lemmas.List.Sorted.{IsPermutation-append_comm, IsPermutation-append_left, IsPermutation-append_right, IsPermutation-refl, IsPermutation-trans}
-use Rattle.jlr_resource.specs.Resources.{Resources, resources, values}
-use Rattle.jlr_core.specs.Flows.{Conserves, GoesOut, Moves}
+use Rattle.jlr_types.specs.declared.limits.Limits.{Limits}
+use Rattle.jlr_resource.specs.Resources.{Resources, values}
+use Rattle.jlr_core.specs.Flows.{Conserves}
 use Rattle.jlr_machine.specs.declared.object.Object.{Object}
 use Rattle.std.specs.Option.{option_to_list}
 use Rattle.jlr_machine.specs.declared.machine.Machine.{Machine}
@@ -13,15 +14,16 @@ use Rattle.jlr_machine.specs.declared.ask.Ask.{Ask}
 use Rattle.jlr_machine.specs.declared.ask.Answer.{Answer}
 use Rattle.jlr_machine.specs.declared.entry.Chosen.{Chosen}
 use Rattle.jlr_machine.specs.declared.entry.Entry.{Entry}
-use Rattle.jlr_machine.specs.declared.machine.Resource.{Resource}
-use Rattle.jlr_machine.specs.Lookups.{on}
 use Rattle.jlr_machine.specs.Run.{Run, apply, empty}
+use Rattle.jlr_machine.specs.WellFormed.{IsWellFormed}
+use Rattle.jlr_histories.proofs.Promises.{runs_keep_the_promises}
 use Rattle.jlr_event.specs.declared.event.Event.{Event}
 use Rattle.jlr_event.specs.declared.event.Reply.{Reply}
 use Rattle.jlr_event.specs.Events.{ask_of, answer_in, given, handed}
-use Rattle.jlr_core.specs.Events.{entry_with, Enters, WantsMemory}
+use Rattle.jlr_core.specs.Events.{entry_with, Enters}
 use Rattle.jlr_core.specs.Cores.{Kept, StandsIn}
-use Rattle.jlr_core.specs.Runs.{entries_of, AreAnswered, AreTables, AreWanting, IsRunOf, IsTableAfter, all_given, all_handed, machine_after}
+use Rattle.jlr_core.specs.Steps.{IsEmpty, Steps}
+use Rattle.jlr_core.specs.Runs.{entries_of, AreAnswered, AreSteps, IsRunOf, all_given, all_handed}
 
 -- ---- Lists with one more
 
@@ -60,63 +62,44 @@ entered m (Some ask) None chosen n e = absurd e
 entered m None (Some answer) chosen n e = absurd e
 entered m None None chosen n e = (e.1, refl)
 
--- ---- The tables along the way
+-- ---- The steps along the way
 
-after_entry : (m : Machine) (ask : Option Ask) (answer : Option Answer) (chosen : Chosen) (n : Machine) → Enters m ask answer chosen n → on (entry_with ask answer chosen) (apply m) m ≡ n
-after_entry m (Some ask) (Some answer) chosen n e = sym e.1
-after_entry m (Some ask) None chosen n e = absurd e
-after_entry m None (Some answer) chosen n e = absurd e
-after_entry m None None chosen n e = sym e.1
+steps_more :
+    {R : Type 0} (core : Kept R) (events : List (Event R)) (replies : List (Reply R)) (choices : List Chosen) (last next : Kept R) (e : Event R) (r : Reply R) (step : Steps last e r next)
+    → AreSteps core events replies choices last → AreSteps core (events ++ e ∷ []) (replies ++ r ∷ []) (choices ++ step.chosen ∷ []) next
+steps_more {R} core [] [] [] last next e r step a =
+    subst (λ (c : Kept R). AreSteps c (e ∷ []) (r ∷ []) (step.chosen ∷ []) next) a (next, step, refl, refl)
+steps_more core (x ∷ events) (y ∷ replies) (c ∷ choices) last next e r step a = (a.0, a.1, a.2, steps_more a.0 events replies choices last next e r step a.3)
+steps_more core [] [] (z ∷ choices) last next e r step a = absurd a
+steps_more core [] (y ∷ replies) [] last next e r step a = absurd a
+steps_more core [] (y ∷ replies) (z ∷ choices) last next e r step a = absurd a
+steps_more core (x ∷ events) [] [] last next e r step a = absurd a
+steps_more core (x ∷ events) [] (z ∷ choices) last next e r step a = absurd a
+steps_more core (x ∷ events) (y ∷ replies) [] last next e r step a = absurd a
 
-tables_more :
-    {R : Type 0} (m : Machine) (t : Resources R) (events : List (Event R)) (replies : List (Reply R)) (choices : List Chosen) (last : Machine) (end next : Resources R) (e : Event R) (r : Reply R) (c : Chosen) → AreTables m t events replies choices last end
-    → IsTableAfter e r end (machine_after last e r c) next → AreTables m t (events ++ e ∷ []) (replies ++ r ∷ []) (choices ++ c ∷ []) (machine_after last e r c) next
-tables_more {R} m t [] [] [] last end next e r c a x =
-    let here : IsTableAfter e r t (machine_after m e r c) next = subst (λ (u : Resources R). IsTableAfter e r u (machine_after m e r c) next) a.1 (subst (λ (k : Machine). IsTableAfter e r end (machine_after k e r c) next) a.0 x) in
-    (next, here, (ap {A = Machine} {B = Machine} (λ k. machine_after k e r c) a.0, refl))
-tables_more m t (y ∷ events) (z ∷ replies) (d ∷ choices) last end next e r c a x = (a.0, a.1, tables_more (machine_after m y z d) a.0 events replies choices last end next e r c a.2 x)
-tables_more m t [] [] (z ∷ choices) last end next e r c a x = absurd a
-tables_more m t [] (y ∷ replies) [] last end next e r c a x = absurd a
-tables_more m t [] (y ∷ replies) (z ∷ choices) last end next e r c a x = absurd a
-tables_more m t (y ∷ events) [] [] last end next e r c a x = absurd a
-tables_more m t (y ∷ events) [] (z ∷ choices) last end next e r c a x = absurd a
-tables_more m t (y ∷ events) (z ∷ replies) [] last end next e r c a x = absurd a
+abbrev start_of : Limits → Machine
+start_of limits = empty limits.cells limits.sessions limits.resources
 
--- what an event and its reply do to a core
-pub record IsCoreStep {R : Type 0} (old new : Kept R) (e : Event R) (r : Reply R) (chosen : Chosen) : Type 0 where
-  pub entry : (k : Machine) → StandsIn old k → (n : Machine) × Enters k (ask_of e) (answer_in r) chosen n × StandsIn new n
-  pub moves : Moves (given e) old.table (handed r) new.table
-  pub goes_out : GoesOut old.table (given e) (answer_in r) (handed r)
-  pub listed : resources new.table ≡ new.machine.resources
-
-table_after : {R : Type 0} (m n : Machine) (old new : Kept R) (e : Event R) (r : Reply R) (chosen : Chosen) → IsCoreStep old new e r chosen → machine_after m e r chosen ≡ n → StandsIn new n → IsTableAfter e r old.table (machine_after m e r chosen) new.table
-table_after m n old new e r chosen x is stands =
-    record {
-      moves = x.moves;
-      goes_out = x.goes_out;
-      listed = x.listed ∙ ap {A = Machine} {B = List Resource} (λ k. k.resources) stands.same ∙ ap {A = Machine} {B = List Resource} (λ k. k.resources) (sym is);
-    }
-
-pub run_more : {R : Type 0} (m : Machine) (events : List (Event R)) (replies : List (Reply R)) (old new : Kept R) (e : Event R) (r : Reply R) (chosen : Chosen)
-    → IsRunOf m events replies old → IsCoreStep old new e r chosen → IsRunOf m (events ++ e ∷ []) (replies ++ r ∷ []) new
-run_more {R} m events replies old new e r chosen x step =
+pub run_more : {R : Type 0} (limits : Limits) (events : List (Event R)) (replies : List (Reply R)) (old new : Kept R) (e : Event R) (r : Reply R)
+    → IsWellFormed (start_of limits) → IsRunOf limits events replies old → Steps old e r new → IsRunOf limits (events ++ e ∷ []) (replies ++ r ∷ []) new
+run_more {R} limits events replies old new e r formed x step =
+    let m = start_of limits in
     let s = step.entry x.last x.stands in
-    let d = entered x.last (ask_of e) (answer_in r) chosen s.0 s.1 in
-    let is : machine_after x.last e r chosen ≡ s.0 = after_entry x.last (ask_of e) (answer_in r) chosen s.0 s.1 in
-    let more = tables_more m x.first events replies x.choices x.last old.table new.table e r chosen x.tables (table_after x.last s.0 old new e r chosen step is s.2) in
+    let d = entered x.last (ask_of e) (answer_in r) step.chosen s.0 s.1 in
+    let run : Run m (entries_of (events ++ e ∷ []) (replies ++ r ∷ []) (x.choices ++ step.chosen ∷ [])) s.0 =
+    subst (λ l. Run m l s.0) (sym (entries_more events replies x.choices e r step.chosen x.answered))
+    (run_joins m x.last s.0 (entries_of events replies x.choices) (option_to_list (entry_with (ask_of e) (answer_in r) step.chosen)) x.run d.0) in
     record {
-      choices = x.choices ++ chosen ∷ [];
+      choices = x.choices ++ step.chosen ∷ [];
       last = s.0;
-      run = subst (λ l. Run m l s.0) (sym (entries_more events replies x.choices e r chosen x.answered)) (run_joins m x.last s.0 (entries_of events replies x.choices) (option_to_list (entry_with (ask_of e) (answer_in r) chosen)) x.run d.0);
+      run = run;
       stands = s.2;
-      answered = answered_more events replies x.choices e r chosen x.answered d.1;
-      first = x.first;
-      listed = x.listed;
-      tables = subst (λ (k : Machine). AreTables m x.first (events ++ e ∷ []) (replies ++ r ∷ []) (x.choices ++ chosen ∷ []) k new.table) is more;
+      promises = runs_keep_the_promises m s.0 _ formed run;
+      answered = answered_more events replies x.choices e r step.chosen x.answered d.1;
+      start = x.start;
+      begins = x.begins;
+      steps = steps_more x.start events replies x.choices old new e r step x.steps;
     }
-
-pub run_none : {R : Type 0} (m : Machine) (core : Kept R) → StandsIn core m → resources core.table ≡ m.resources → IsRunOf {R = R} m [] [] core
-run_none m core s listed = record { choices = []; last = m; run = refl; stands = s; answered = tt; first = core.table; listed = listed; tables = (refl, refl) }
 
 -- ---- Resources
 
@@ -147,33 +130,33 @@ flow_more {R} events replies old new e r before step =
     subst (λ l. IsPermutation l (all_handed (replies ++ r ∷ []) ++ lies)) (sym (given_more events e))
     (subst (λ l. IsPermutation (before_in ++ came) (l ++ lies)) (sym (handed_more replies r)) (subst (λ l. IsPermutation (before_in ++ came) l) (sym (append_assoc before_out went lies)) whole))
 
--- ---- Memory
-
-pub wanting_more : {R : Type 0} (events : List (Event R)) (replies : List (Reply R)) (e : Event R) (r : Reply R) → AreWanting events replies → WantsMemory e r → AreWanting (events ++ e ∷ []) (replies ++ r ∷ [])
-wanting_more [] [] e r a h = (h, tt)
-wanting_more (x ∷ events) (y ∷ replies) e r a h = (a.0, wanting_more events replies e r a.1 h)
-wanting_more [] (y ∷ replies) e r a h = absurd a
-wanting_more (x ∷ events) [] e r a h = absurd a
-
-pub start_memory : {R : Type 0} (replies : List (Reply R)) → replies ≡ [] → AreWanting [] replies
-start_memory {R} replies n = let none : List (Event R) = [] in subst (λ l. AreWanting none l) (sym n) tt
-
 -- ---- The start
 
 pub stands_at_start : {R : Type 0} (core : Kept R) (cells sessions resources : ℕ) → core.machine ≡ empty cells sessions resources → StandsIn core (empty cells sessions resources)
 stands_at_start core cells sessions resources e = record { same = e; seen = λ h. absurd (both_ways true (sym h) refl); outside = λ _. refl }
 
-pub start_run : {R : Type 0} (core : Kept R) (cells sessions limit : ℕ) (replies : List (Reply R)) → core.machine ≡ empty cells sessions limit → resources core.table ≡ core.machine.resources → replies ≡ [] → IsRunOf (empty cells sessions limit) [] replies core
-start_run {R} core cells sessions limit replies e listed n =
-    let none : List (Event R) = [] in
-    subst (λ l. IsRunOf (empty cells sessions limit) none l core) (sym n) (run_none (empty cells sessions limit) core (stands_at_start core cells sessions limit e) (listed ∙ ap {A = Machine} {B = List Resource} (λ k. k.resources) e))
+pub start_run : {R : Type 0} (core : Kept R) (limits : Limits) (replies : List (Reply R)) → IsWellFormed (start_of limits) → IsEmpty limits.cells limits.sessions limits.resources limits.soft_age core → replies ≡ [] → IsRunOf limits [] replies core
+start_run {R} core limits replies formed begins none =
+    let nothing : List (Event R) = [] in
+    subst (λ l. IsRunOf limits nothing l core) (sym none)
+    (record {
+      choices = [];
+      last = start_of limits;
+      run = refl;
+      stands = stands_at_start core limits.cells limits.sessions limits.resources begins.machine;
+      promises = runs_keep_the_promises (start_of limits) (start_of limits) [] formed refl;
+      answered = tt;
+      start = core;
+      begins = begins;
+      steps = refl;
+    })
 
 pub start_flow : {R : Type 0} (replies : List (Reply R)) (table : Resources R) → replies ≡ [] → values table ≡ [] → IsPermutation (all_given {R = R} []) (all_handed replies ++ values table)
 start_flow {R} replies table none empty_table =
     let nothing : List R = [] in
     subst (λ l. IsPermutation nothing (all_handed l ++ values table)) (sym none) (subst (λ l. IsPermutation nothing l) (sym empty_table) (IsPermutation-refl nothing))
 
-pub start_room : {R : Type 0} (core : Kept R) (cells sessions resources room : ℕ) → core.machine ≡ empty cells sessions resources → room ≡ cells → length core.machine.objects ≤ room
-start_room core cells sessions resources room e r =
+pub start_cells : {R : Type 0} (core : Kept R) (cells sessions resources : ℕ) → core.machine ≡ empty cells sessions resources → length core.machine.objects ≡ cells
+start_cells core cells sessions resources e =
     let none : Option Object = None in
-    omega (arith, ap (λ (x : Machine). length x.objects) e, length-replicate cells none, r)
+    ap (λ (x : Machine). length x.objects) e ∙ length-replicate cells none

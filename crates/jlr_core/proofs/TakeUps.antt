@@ -1,5 +1,5 @@
 -- What take-ups need, in a well-formed machine, and what they leave.
-use Rattle.std.proofs.Common.{◌≡◌, ◌+◌, ◌<◌, ℕ, Bool, true, false, not, ◌==◌, ◌||◌, List, [], ◌∷◌, length, Option, Some, None, is_some, IsTrue, refl, sym, ◌∙◌, ap, subst, arith, cond, find, map, nat_le, nat_lt, option_and_then, option_map, ◌-◌, ◌^◌, IfNone, IfSome}
+use Rattle.std.proofs.Common.{◌≡◌, ◌+◌, ◌<◌, ℕ, Bool, true, false, not, ◌==◌, ◌||◌, List, [], ◌∷◌, length, Option, Some, None, is_some, refl, sym, ◌∙◌, ap, arith, cond, find, map, nat_le, nat_lt, option_and_then, option_map, ◌-◌, ◌^◌, IfNone, IfSome}
 use Rattle.std.specs.List.{list_any, AllByRecursion}
 use Rattle.std.proofs.lemmas.Bool.{and_parts, leb-false, cond-false, cond_both, cond-true, eq-eqb, ltb-true, ne_eqb}
 use Rattle.jlr_types.specs.declared.Work.TheVariants.{Note, Resource as WorkOn}
@@ -16,8 +16,7 @@ use Rattle.jlr_machine.specs.declared.ask.Answer.TheVariants.{AlreadyDone, Job a
 use Rattle.jlr_machine.specs.Objects.{as_cleanable, at, is_above, is_lined, is_rising, is_spent, some_and, with_cleanable}
 use Rattle.jlr_machine.specs.Lookups.{cleanable_at, cleanable_of_guard, job_of, on, slot_named, with_object}
 use Rattle.jlr_machine.specs.Calls.{after, cleaned, from_lined, line_answer, line_taken, reply, spent, take_up_answer, taken_up}
-use Rattle.jlr_machine.specs.WellFormed.{HasResource, IsCleanableAt, IsUnspent, IsWellFormed}
-use Rattle.jlr_types.specs.declared.Refusal.{Refusal}
+use Rattle.jlr_machine.specs.WellFormed.{HasResource, IsCleanableAt, IsWellFormed}
 use Rattle.jlr_types.specs.declared.Refusal.TheVariants.{Busy}
 use Rattle.jlr_machine.specs.declared.ask.Ask.TheVariants.{Clean, Close, TakeUp}
 use Rattle.jlr_machine.specs.declared.ask.Answer.{Answer}

@@ -1,5 +1,5 @@
 -- What collections do to the machine that an ask finds, and to its clock.
-use Rattle.std.specs.Prelude.{◌≡◌, ℕ, cond, is_some, ◌+◌, ◌<◌, not, IsTrue, List, [], ◌∷◌, length, Bool, Option, Some, None}
+use Rattle.std.specs.Prelude.{◌≡◌, ℕ, cond, is_some, ◌+◌, ◌<◌, not, IsTrue, List, [], ◌∷◌, length, Option, Some, None}
 use Rattle.jlr_machine.specs.declared.machine.Machine.{Machine}
 use Rattle.jlr_machine.specs.declared.object.Object.{Object}
 use Rattle.jlr_soft.specs.declared.policy.Mode.{Mode}

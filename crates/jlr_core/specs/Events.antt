@@ -1,35 +1,44 @@
 -- What an event and its reply are to the machine.
-use Rattle.std.specs.Prelude.{◌≡◌, Bool, true, false, cond, IsTrue, Option, Some, None}
+use Rattle.std.specs.Prelude.{◌≡◌, ◌<◌, ◌^◌, cond, IsTrue, Option, Some, None, length}
 use Rattle.jlr_types.specs.declared.Progress.{Progress}
 use Rattle.jlr_types.specs.declared.Progress.TheVariants.{Done, Idle}
 use Rattle.jlr_types.specs.declared.Refusal.TheVariants.{NoMemory}
 use Rattle.jlr_machine.specs.declared.machine.Machine.{Machine}
 use Rattle.jlr_machine.specs.declared.ask.Ask.{Ask}
+use Rattle.jlr_machine.specs.declared.ask.Ask.TheVariants.{Enqueue, Prepare, Bind, Names, Notes, Faults, HandOver}
 use Rattle.jlr_machine.specs.declared.ask.Answer.{Answer}
-use Rattle.jlr_machine.specs.declared.ask.Answer.TheVariants.{Refused}
+use Rattle.jlr_machine.specs.declared.ask.Answer.TheVariants.{Handed as HandedAnswer, Refused}
+use Rattle.jlr_machine.specs.declared.ask.Handed.TheVariants.{Queued as HandedQueued}
 use Rattle.jlr_machine.specs.declared.entry.Chosen.{Chosen}
 use Rattle.jlr_machine.specs.declared.entry.Entry.{Entry}
+use Rattle.jlr_machine.specs.Objects.{some_and}
+use Rattle.jlr_machine.specs.Lookups.{reference_named, slot_bound}
+use Rattle.jlr_machine.specs.Refusals.{refusal}
+use Rattle.jlr_machine.specs.Calls.{hand_over_answer, may_enqueue}
 use Rattle.jlr_machine.specs.Run.{no_choice, IsLegal, apply}
-use Rattle.jlr_event.specs.declared.event.Event.{Event}
-use Rattle.jlr_event.specs.declared.event.Event.TheVariants.{Enqueue, Prepare, Bind, Names, Notes, Faults, HandOver}
-use Rattle.jlr_event.specs.declared.event.Reply.{Reply}
-use Rattle.jlr_event.specs.Events.{answer_in}
+use Rattle.jlr_resource.specs.Resources.{Resources, resources}
 use Rattle.jlr_core.specs.State.{MeetsAsk, entry_of}
 
--- the events that may find no memory: a queue grows with its members, the table with its resources, the list of names, and lists are copied
-abbrev pub may_grow : {R : Type 0} → Event R → Bool
-may_grow (Enqueue k r) = true
-may_grow (Notes k) = true
-may_grow (Prepare k) = true
-may_grow (Bind k name h) = true
-may_grow (Names k) = true
-may_grow (Faults k) = true
-may_grow HandOver = true
-may_grow _ = false
+-- the table has room for one resource more, in a place that has a number
+abbrev pub HasRoom : {R : Type 0} → Resources R → Type 0
+HasRoom t = (length (resources t) < t.room) × (t.next < 2 ^ 32)
+
+-- The asks that may find no memory in a machine with this table, each where no refusal of its list holds: a reference goes to its queue, the
+-- table has no room for one resource more, a name is new, and a list is copied
+abbrev pub MayWantMemory : {R : Type 0} → Machine → Resources R → Ask → Type 0
+MayWantMemory m t (Enqueue k r) = (refusal m (Enqueue k r) ≡ None) × IsTrue (some_and may_enqueue (reference_named m k r))
+MayWantMemory m t HandOver = hand_over_answer m m.pending ≡ Some (HandedAnswer HandedQueued)
+MayWantMemory m t (Prepare k) = (refusal m (Prepare k) ≡ None) × ¬ (HasRoom t)
+MayWantMemory m t (Bind k name h) = (refusal m (Bind k name h) ≡ None) × (slot_bound m.names name ≡ None)
+MayWantMemory m t (Names k) = refusal m (Names k) ≡ None
+MayWantMemory m t (Notes k) = refusal m (Notes k) ≡ None
+MayWantMemory m t (Faults k) = refusal m (Faults k) ≡ None
+MayWantMemory m t _ = ⊥
 
 -- memory is said to be wanting only there
-abbrev pub WantsMemory : {R : Type 0} → Event R → Reply R → Type 0
-WantsMemory event reply = answer_in reply ≡ Some (Refused NoMemory) → IsTrue (may_grow event)
+abbrev pub WantsMemory : {R : Type 0} → Machine → Resources R → Option Ask → Option Answer → Type 0
+WantsMemory m t (Some ask) answer = answer ≡ Some (Refused NoMemory) → MayWantMemory m t ask
+WantsMemory m t None answer = Unit {0}
 
 -- what a piece of marking is answered: it is done in an open cycle, since a Collect marks whole, and idle without one
 abbrev pub progress_in : Machine → Progress

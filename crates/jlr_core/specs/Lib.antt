@@ -9,5 +9,6 @@ pub mod Preparing
 pub mod Policy
 pub mod Events
 pub mod Cores
+pub mod Steps
 pub mod Rest
 pub mod Runs

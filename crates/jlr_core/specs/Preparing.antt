@@ -1,7 +1,6 @@
 -- What the start of an open needs, and what it leaves.
-use Rattle.std.specs.Prelude.{◌≡◌, ◌<◌, ◌≤◌, ◌+◌, ◌^◌, ℕ, true, IsTrue, is_some, is_none, None, [], ◌∷◌, length}
+use Rattle.std.specs.Prelude.{◌≡◌, ◌<◌, ◌≤◌, ◌+◌, ◌^◌, ℕ, IsTrue, is_some, is_none, [], ◌∷◌, length}
 use Rattle.jlr_machine.specs.declared.machine.Machine.{Machine}
-use Rattle.jlr_machine.specs.declared.entry.Chosen.{Chosen}
 use Rattle.jlr_machine.specs.Objects.{at, occupied}
 use Rattle.jlr_machine.specs.Lookups.{resource_at}
 use Rattle.jlr_machine.specs.Calls.{prepared}

@@ -1,18 +1,18 @@
 -- Runs: a list of events with their replies is a run of the machine, with some choices.
 use Rattle.std.specs.Prelude.{◌≡◌, List, [], ◌∷◌, ◌++◌, is_some}
 use Rattle.std.specs.Option.{option_to_list}
+use Rattle.jlr_types.specs.declared.limits.Limits.{Limits}
 use Rattle.jlr_machine.specs.declared.machine.Machine.{Machine}
 use Rattle.jlr_machine.specs.declared.entry.Chosen.{Chosen}
 use Rattle.jlr_machine.specs.declared.entry.Entry.{Entry}
-use Rattle.jlr_machine.specs.Lookups.{on}
-use Rattle.jlr_machine.specs.Run.{Run, apply}
-use Rattle.jlr_resource.specs.Resources.{Resources, resources}
+use Rattle.jlr_machine.specs.Run.{Run, empty}
+use Rattle.jlr_histories.specs.Promises.{KeepsPromises}
 use Rattle.jlr_event.specs.declared.event.Event.{Event}
 use Rattle.jlr_event.specs.declared.event.Reply.{Reply}
 use Rattle.jlr_event.specs.Events.{ask_of, answer_in, given, handed}
-use Rattle.jlr_core.specs.Events.{entry_with, WantsMemory}
 use Rattle.jlr_core.specs.Cores.{Kept, StandsIn}
-use Rattle.jlr_core.specs.Flows.{GoesOut, Moves}
+use Rattle.jlr_core.specs.Events.{entry_with}
+use Rattle.jlr_core.specs.Steps.{IsEmpty, Steps}
 
 -- the entries of events with their replies and choices, in order. A piece of marking is none
 abbrev pub entries_of : {R : Type 0} → List (Event R) → List (Reply R) → List Chosen → List Entry
@@ -27,44 +27,27 @@ AreAnswered [] [] [] = Unit {0}
 AreAnswered (e ∷ events) (r ∷ replies) (c ∷ choices) = (is_some (answer_in r) ≡ is_some (ask_of e)) × AreAnswered events replies choices
 AreAnswered _ _ _ = ⊥
 
--- ---- The tables along a run
+-- ---- The steps of a run
 
--- the machine after an event with its reply and choice. A piece of marking leaves it
-abbrev pub machine_after : {R : Type 0} → Machine → Event R → Reply R → Chosen → Machine
-machine_after m e r c = on (entry_with (ask_of e) (answer_in r) c) (apply m) m
+-- from this core on each event with its reply and its choice is a step, and the last of them leads to that core
+abbrev pub AreSteps : {R : Type 0} → Kept R → List (Event R) → List (Reply R) → List Chosen → Kept R → Type 0
+AreSteps core [] [] [] last = last ≡ core
+AreSteps {R} core (e ∷ events) (r ∷ replies) (c ∷ choices) last = (next : Kept R) × (step : Steps core e r next) × (step.chosen ≡ c) × AreSteps next events replies choices last
+AreSteps _ _ _ _ _ = ⊥
 
--- an event and its reply lead from a table to one that lists the resources of this machine: at one Rid at most lies something else then, and what
--- goes out is what lay there
-pub record IsTableAfter {R : Type 0} (e : Event R) (r : Reply R) (old : Resources R) (m : Machine) (new : Resources R) : Type 0 where
-  pub moves : Moves (given e) old (handed r) new
-  pub goes_out : GoesOut old (given e) (answer_in r) (handed r)
-  pub listed : resources new ≡ m.resources
-
--- from a machine and a table, each event with its reply and choice leads to a next table, the last of which is this one
-abbrev pub AreTables : {R : Type 0} → Machine → Resources R → List (Event R) → List (Reply R) → List Chosen → Machine → Resources R → Type 0
-AreTables m t [] [] [] last end = (last ≡ m) × (end ≡ t)
-AreTables {R} m t (e ∷ events) (r ∷ replies) (c ∷ choices) last end =
-    (next : Resources R) × IsTableAfter e r t (machine_after m e r c) next × AreTables (machine_after m e r c) next events replies choices last end
-AreTables _ _ _ _ _ _ _ = ⊥
-
--- There are choices, one for each event, with which the entries are a run from m to a machine for which the core stands; and
--- there are as many replies as events, where just a piece of marking has no answer. With the same choices and machines there are tables, from one
--- that lists the resources of m to the core's, which the events change one after the other
-pub record IsRunOf {R : Type 0} (m : Machine) (events : List (Event R)) (replies : List (Reply R)) (core : Kept R) : Type 0 where
+-- There are choices, one for each event, with which the entries are a run from the empty machine of the limits to one for which the core stands, and
+-- keep what the package promises. There are as many replies as events, where just a piece of marking has no answer. With the same choices
+-- each event is a step of the core, from an empty one on
+pub record IsRunOf {R : Type 0} (limits : Limits) (events : List (Event R)) (replies : List (Reply R)) (core : Kept R) : Type 0 where
   pub choices : List Chosen
   pub last : Machine
-  pub run : Run m (entries_of events replies choices) last
+  pub run : Run (empty limits.cells limits.sessions limits.resources) (entries_of events replies choices) last
   pub stands : StandsIn core last
+  pub promises : KeepsPromises (empty limits.cells limits.sessions limits.resources) (entries_of events replies choices)
   pub answered : AreAnswered events replies choices
-  pub first : Resources R
-  pub listed : resources first ≡ m.resources
-  pub tables : AreTables m first events replies choices last core.table
-
--- memory is said to be wanting only by events that may grow
-abbrev pub AreWanting : {R : Type 0} → List (Event R) → List (Reply R) → Type 0
-AreWanting [] [] = Unit {0}
-AreWanting (e ∷ events) (r ∷ replies) = WantsMemory e r × AreWanting events replies
-AreWanting _ _ = ⊥
+  pub start : Kept R
+  pub begins : IsEmpty limits.cells limits.sessions limits.resources limits.soft_age start
+  pub steps : AreSteps start events replies choices core
 
 -- the resources that events hand in, and those that replies hand out, in order
 abbrev pub all_given : {R : Type 0} → List (Event R) → List R

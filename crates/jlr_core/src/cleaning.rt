@@ -15,6 +15,7 @@ ghost use Rattle.jlr_machine.specs.WellFormed.{IsWellFormed};
 ghost use Rattle.jlr_resource.specs.Resources.{values};
 ghost use Rattle.jlr_cleaner.specs.Cleanings.{HandsOut, HasWork};
 ghost use Rattle.jlr_cleaner.specs.Outcomes.{outcome_of};
+ghost use Rattle.jlr_core.specs.Events.{MayWantMemory};
 ghost use Rattle.jlr_core.specs.Collecting.{after_choice};
 ghost use Rattle.jlr_core.specs.State.{Answered, Meets, answer_of};
 ghost use Rattle.jlr_core.specs.Flows.{Conserves, GoesOut, LieAsBefore, Moves};
@@ -319,6 +320,7 @@ impl<R> State<R> {
     /// The last notes, the oldest first.
     pub(crate) fn notes(&self, by: Mutator) -> Result<Answer, Refusal>
         ensures meets { Meets (machine_of self.now) (Ask.Notes by) (answer_of result) no_choice (machine_of self.now) }
+        ensures memory { answer_of result ≡ Answer.Refused Refusal.NoMemory → MayWantMemory (machine_of self.now) self.now.cleaner.table (Ask.Notes by) }
     {
         self.check_session(by)?;
         self.check_no_call(by)?;
@@ -331,6 +333,7 @@ impl<R> State<R> {
     /// The last actions that failed, and why, the oldest first.
     pub(crate) fn faults(&self, by: Mutator) -> Result<Answer, Refusal>
         ensures meets { Meets (machine_of self.now) (Ask.Faults by) (answer_of result) no_choice (machine_of self.now) }
+        ensures memory { answer_of result ≡ Answer.Refused Refusal.NoMemory → MayWantMemory (machine_of self.now) self.now.cleaner.table (Ask.Faults by) }
     {
         self.check_session(by)?;
         self.check_no_call(by)?;

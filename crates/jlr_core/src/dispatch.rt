@@ -28,7 +28,7 @@ impl<R> State<R> {
         ensures flow { Conserves (given event) self.old.cleaner.table (handed result) self.new.cleaner.table }
         ensures moves { Moves (given event) self.old.cleaner.table (handed result) self.new.cleaner.table }
         ensures goes_out { GoesOut self.old.cleaner.table (given event) (answer_in result) (handed result) }
-        ensures memory { WantsMemory event result }
+        ensures memory { WantsMemory (machine_of self.old) self.old.cleaner.table (ask_of event) (answer_in result) }
         ensures marking { ask_of event ≡ None → result ≡ Reply.Marked (progress_in (machine_of self.old)) }
         ensures collects { ask_of event ≡ Some Ask.Collect → answer_in result ≡ Some (Answer.Truth self.old.cycle_open) }
         ensures policy { KeepsByPolicy self.old.soft_age self.old.heap.clock (machine_of self.old) (ask_of event) choice.new.chosen }

@@ -71,9 +71,9 @@ impl<R> Core<R> {
         })
     }
 
-    /// One event. The choice says what was chosen; it has room for every cell. Only `Enqueue` and `HandOver`, by which a queue grows,
-    /// `Prepare`, by which the table of resources grows, `Bind` of a new name, and `Names`, `Notes` and `Faults`, which copy a list, may find
-    /// no memory. A piece of marking is answered Done in an open cycle and Idle without one, and changes nothing: a `Collect` marks
+    /// One event. The choice says what was chosen; it has room for every cell. Only `Enqueue` and `HandOver` of a reference that goes to its
+    /// queue, `Prepare` where the table of resources has no room, `Bind` of a new name, and `Names`, `Notes` and `Faults`, which copy a list,
+    /// may find no memory, and only where they are not refused. A piece of marking is answered Done in an open cycle and Idle without one, and changes nothing: a `Collect` marks
     /// whole, by the soft policy, and is answered yes exactly where a cycle is open.
     pub fn step(&mut self, event: Event<R>, choice: &mut Choice) -> Reply<R>
         requires room { length self.old.machine.objects ≤ choice.old.cells }
@@ -83,7 +83,7 @@ impl<R> Core<R> {
         ensures moves { Moves (given event) self.old.table (handed result) self.new.table }
         ensures goes_out { GoesOut self.old.table (given event) (answer_in result) (handed result) }
         ensures listed { resources self.new.table ≡ self.new.machine.resources }
-        ensures memory { WantsMemory event result }
+        ensures memory { WantsMemory self.old.machine self.old.table (ask_of event) (answer_in result) }
         ensures marking { ask_of event ≡ None → result ≡ Reply.Marked (progress_in self.old.machine) }
         ensures collects { ask_of event ≡ Some Ask.Collect → answer_in result ≡ Some (Answer.Truth self.old.machine.cycle_open) }
         ensures policy { KeepsByPolicy self.old.soft_age self.old.clock self.old.machine (ask_of event) choice.new.chosen }
@@ -98,6 +98,7 @@ impl<R> Core<R> {
 
     /// Whether the helpers have nothing to do: nothing is pending, nothing stands in the cleaner's line, and the cleaner runs no job.
     /// A step of the handler and one of the cleaner would find nothing then, and leave the core as it is.
+    /// That the table lists the machine's resources (`listed`) holds of every core, and is said here for a caller that takes no step.
     pub fn is_at_rest(&self) -> bool
         ensures exact { result ≡ is_at_rest self.now.machine }
         ensures handler { IsTrue result → FindsNothing self.now Ask.HandOver }

@@ -4,6 +4,7 @@ ghost use Rattle.jlr_machine.specs.Lookups.{slot_bound, slot_named};
 ghost use Rattle.jlr_machine.specs.Refusals.{refusal};
 ghost use Rattle.jlr_machine.specs.Run.{no_choice};
 ghost use Rattle.jlr_machine.specs.WellFormed.{IsWellFormed};
+ghost use Rattle.jlr_core.specs.Events.{MayWantMemory};
 ghost use Rattle.jlr_core.specs.State.{Answered, Meets, answer_of};
 
 use crate::state::State;
@@ -63,6 +64,7 @@ impl<R> State<R> {
     ) -> Result<Answer, Refusal>
         requires { IsWellFormed (machine_of self.old) }
         ensures meets { Meets (machine_of self.old) (Ask.Bind by name.now object) (answer_of result) no_choice (machine_of self.new) }
+        ensures memory { answer_of result ≡ Answer.Refused Refusal.NoMemory → MayWantMemory (machine_of self.old) self.old.cleaner.table (Ask.Bind by name.now object) }
         ensures cells { length self.new.heap.graph.objects ≡ length self.old.heap.graph.objects }
         ensures age { self.new.soft_age ≡ self.old.soft_age }
         ensures cleaner { self.new.cleaner ≡ self.old.cleaner }
@@ -109,6 +111,7 @@ impl<R> State<R> {
     /// The names, in order of binding.
     pub(crate) fn names(&self, by: Mutator) -> Result<Answer, Refusal>
         ensures meets { Meets (machine_of self.now) (Ask.Names by) (answer_of result) no_choice (machine_of self.now) }
+        ensures memory { answer_of result ≡ Answer.Refused Refusal.NoMemory → MayWantMemory (machine_of self.now) self.now.cleaner.table (Ask.Names by) }
     {
         self.check_session(by)?;
         self.check_no_call(by)?;

@@ -4,6 +4,7 @@ ghost use Rattle.jlr_machine.specs.Refusals.{is_joined, refusal};
 ghost use Rattle.jlr_machine.specs.Choices.{nothing_chosen};
 ghost use Rattle.jlr_machine.specs.WellFormed.{IsWellFormed};
 ghost use Rattle.jlr_resource.specs.Resources.{resources, values};
+ghost use Rattle.jlr_core.specs.Events.{MayWantMemory};
 ghost use Rattle.jlr_core.specs.Collecting.{after_choice, after_fresh};
 ghost use Rattle.jlr_core.specs.State.{Meets, answer_of};
 ghost use Rattle.jlr_core.specs.Flows.{LieAsBefore};
@@ -42,6 +43,7 @@ impl<R> State<R> {
         requires nothing { choice.old ≡ nothing_chosen choice.old.cells }
         requires room { length self.old.heap.graph.objects ≤ choice.old.cells }
         ensures meets { Meets (machine_of self.old) (Ask.Prepare by) (answer_of result) choice.new.chosen (machine_of self.new) }
+        ensures memory { answer_of result ≡ Answer.Refused Refusal.NoMemory → MayWantMemory (machine_of self.old) self.old.cleaner.table (Ask.Prepare by) }
         ensures values { values self.new.cleaner.table ≡ values self.old.cleaner.table }
         ensures lies { LieAsBefore self.old.cleaner.table self.new.cleaner.table }
         ensures room { choice.new.cells ≡ choice.old.cells }

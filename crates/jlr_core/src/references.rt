@@ -7,6 +7,7 @@ ghost use Rattle.jlr_machine.specs.Refusals.{refusal, is_of_wrong_kind, is_queue
 ghost use Rattle.jlr_machine.specs.Run.{no_choice};
 ghost use Rattle.jlr_machine.specs.Choices.{nothing_chosen};
 ghost use Rattle.jlr_machine.specs.WellFormed.{IsWellFormed};
+ghost use Rattle.jlr_core.specs.Events.{MayWantMemory};
 ghost use Rattle.jlr_core.specs.Collecting.{after_choice};
 ghost use Rattle.jlr_core.specs.State.{Answered, Meets, answer_of, clock_after_deref};
 
@@ -134,6 +135,7 @@ impl<R> State<R> {
     pub(crate) fn enqueue(&mut self, by: Mutator, reference: Handle) -> Result<Answer, Refusal>
         requires { IsWellFormed (machine_of self.old) }
         ensures meets { Meets (machine_of self.old) (Ask.Enqueue by reference) (answer_of result) no_choice (machine_of self.new) }
+        ensures memory { answer_of result ≡ Answer.Refused Refusal.NoMemory → MayWantMemory (machine_of self.old) self.old.cleaner.table (Ask.Enqueue by reference) }
         ensures cells { length self.new.heap.graph.objects ≡ length self.old.heap.graph.objects }
         ensures age { self.new.soft_age ≡ self.old.soft_age }
         ensures cleaner { self.new.cleaner ≡ self.old.cleaner }
@@ -225,6 +227,7 @@ impl<R> State<R> {
     pub(crate) fn hand_over(&mut self) -> Result<Answer, Refusal>
         requires { IsWellFormed (machine_of self.old) }
         ensures meets { Meets (machine_of self.old) Ask.HandOver (answer_of result) no_choice (machine_of self.new) }
+        ensures memory { answer_of result ≡ Answer.Refused Refusal.NoMemory → MayWantMemory (machine_of self.old) self.old.cleaner.table Ask.HandOver }
         ensures cells { length self.new.heap.graph.objects ≡ length self.old.heap.graph.objects }
         ensures age { self.new.soft_age ≡ self.old.soft_age }
         ensures cleaner { self.new.cleaner ≡ self.old.cleaner }

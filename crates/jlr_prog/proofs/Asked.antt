@@ -26,7 +26,7 @@ use Rattle.jlr_core.specs.Flows.{GoesOut}
 use Rattle.jlr_core.specs.State.{entry_of}
 use Rattle.jlr_core.specs.Cores.{Kept, StandsIn}
 use Rattle.jlr_session.specs.Asks.{prepared_in, prepared_by, out_with, out_by, job_with, job_by}
-use Rattle.jlr_prog.specs.Ports.{Steps}
+use Rattle.jlr_core.specs.Steps.{Steps}
 use Rattle.jlr_prog.specs.Histories.{Recorded, Records}
 use Rattle.jlr_prog.proofs.Staying.{Stays, entry_stays, hand_over_stays, take_up_stays, finish_stays}
 use Rattle.jlr_prog.proofs.Calls.{IsHere, WasRefused, BeginsToOpen, BeginsToCall, BeginsToWork, prepare_begins, check_out_begins, opened_ends, check_in_ends, finish_ends}

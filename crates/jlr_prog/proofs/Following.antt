@@ -23,7 +23,8 @@ use Rattle.jlr_session.specs.Sessions.{Ended}
 use Rattle.jlr_session.specs.declared.shell.SessionEnd.{SessionEnd}
 use Rattle.jlr_session.proofs.Following.{IsFollowed, ended_along}
 use Rattle.jlr_core.specs.Cores.{Kept}
-use Rattle.jlr_prog.specs.Ports.{Steps, by_core}
+use Rattle.jlr_core.specs.Steps.{Steps}
+use Rattle.jlr_prog.specs.Ports.{by_core}
 use Rattle.jlr_prog.specs.Histories.{Recorded, Records, by_records}
 use Rattle.jlr_prog.proofs.Staying.{Stays, changed, given_stays, made_stays, put_stays, asked_enqueue_stays, asked_poll_stays, bound_stays}
 use Rattle.jlr_prog.proofs.Calls.{IsHere, clean_begins, close_begins}

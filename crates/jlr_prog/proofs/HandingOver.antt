@@ -31,7 +31,8 @@ use Rattle.jlr_event.specs.Events.{ask_of, answer_in}
 use Rattle.jlr_core.specs.State.{entry_of}
 use Rattle.jlr_core.specs.Cores.{Kept, StandsIn}
 use Rattle.jlr_prog.specs.Settling.{HandsOver}
-use Rattle.jlr_prog.specs.Ports.{Stands, Steps}
+use Rattle.jlr_core.specs.Steps.{Steps}
+use Rattle.jlr_prog.specs.Ports.{Stands}
 use Rattle.jlr_prog.specs.OneTurn.{IsTurn, turn_by}
 use Rattle.jlr_prog.specs.declared.port.Turn.{Turn}
 use Rattle.jlr_prog.specs.declared.port.Turn.TheVariants as turn
@@ -153,9 +154,6 @@ took_turn HandedQueued some = refl
 took_turn HandedLined some = refl
 took_turn Skipped some = refl
 took_turn Nothing some = absurd (some refl)
-
-never_worked : {P : Type 0} (t : Turn) → t ≢ turn.Worked → t ≡ turn.Worked → P
-never_worked t other e = absurd (other e)
 
 nothing_worked : {P : Type 0} → turn.FoundNothing ≡ turn.Worked → P
 nothing_worked e = cc e

@@ -1,6 +1,6 @@
 -- A session over a core is a session of which the history is told: the join and the leave are answered ok.
 use Rattle.std.proofs.Common.{◌≡◌, ℕ, zero, suc, ◌≤◌, Bool, true, false, cond, nat_le, List, [], Option, None, Some, replicate, length, refl, sym, ◌∙◌, ap, subst, arith}
-use Rattle.std.proofs.lemmas.Bool.{and_parts, both_ways, leb-true, lt-ltb}
+use Rattle.std.proofs.lemmas.Bool.{lt-ltb}
 use Rattle.jlr_types.specs.declared.Refusal.TheVariants.{NoMemory}
 use Rattle.jlr_types.specs.declared.limits.Limits.{Limits}
 use Rattle.jlr_types.specs.declared.limits.LimitFault.{LimitFault}
@@ -16,6 +16,7 @@ use Rattle.jlr_machine.specs.Run.{empty}
 use Rattle.jlr_machine.specs.WellFormed.{IsWellFormed}
 use Rattle.jlr_laws.proofs.Frames.{no_some}
 use Rattle.jlr_laws.proofs.Empty.{empty_is_well_formed}
+use Rattle.jlr_histories.proofs.Promises.{runs_keep_the_promises}
 use Rattle.jlr_event.specs.declared.event.Event.{Event}
 use Rattle.jlr_event.specs.declared.event.Event.TheVariants.{Join, Leave}
 use Rattle.jlr_event.specs.declared.event.Reply.{Reply}
@@ -23,12 +24,14 @@ use Rattle.jlr_event.specs.declared.event.Reply.TheVariants.{Answered}
 use Rattle.jlr_event.specs.Events.{answer_in, given, handed}
 use Rattle.jlr_core.specs.Flows.{GoesOut}
 use Rattle.jlr_core.specs.Cores.{Kept, StandsIn}
+use Rattle.jlr_core.proofs.Ranges.{limits_hold}
 use Rattle.jlr_core.proofs.RunLaws.{stands_at_start}
 use Rattle.jlr_session.specs.Calls.{Opening, Handling}
 use Rattle.jlr_session.specs.Asks.{said_by}
 use Rattle.jlr_session.specs.Serving.{Follows, Serves}
 use Rattle.jlr_session.specs.declared.shell.SessionEnd.{SessionEnd}
-use Rattle.jlr_prog.specs.Ports.{Steps, IsEmpty, by_core}
+use Rattle.jlr_core.specs.Steps.{Steps, IsEmpty}
+use Rattle.jlr_prog.specs.Ports.{by_core}
 use Rattle.jlr_prog.specs.Histories.{Recorded, Records, IsSession, answered_ok}
 use Rattle.jlr_prog.proofs.Calls.{IsHere, joins, leaves}
 use Rattle.jlr_prog.proofs.Asked.{IsRecorded, recorded}
@@ -49,7 +52,7 @@ module _ {R : Type 0} (m : Machine) where
   joined start now reply stands well free s =
       recorded m (λ n. refusal n (ask.Join 0) ≡ None) (λ n. (reply ≡ answered_ok) × IsHere n) (Join 0) (ask.Join 0) refl start now (record { core = start; entries = [] }) reply s
       (λ n answer resource is w free l.
-      let memory : answer ≡ Refused NoMemory → ⊥ = λ e. both_ways false refl (s.memory (ap answer_in is ∙ ap (λ a. Some a) e)) in
+      let memory : answer ≡ Refused NoMemory → ⊥ = λ e. s.memory (ap answer_in is ∙ ap (λ a. Some a) e) in
       let j = joins n answer s.chosen free memory l in
       (only_ok start now (Join 0) reply answer resource s is j.0, j.1))
       (refl, (m, refl, stands, well, free))
@@ -61,23 +64,7 @@ module _ {R : Type 0} (m : Machine) where
       recorded m IsHere (λ n. reply ≡ answered_ok) (Leave 0) (ask.Leave 0) refl before over x reply s
       (λ n answer resource is w here l. only_ok before over (Leave 0) reply answer resource s is (leaves n answer s.chosen here l)) a
 
--- ---- What limits allow
-
-passes : (b : Bool) (rest : Option LimitFault) (fault : LimitFault) → cond b rest (Some fault) ≡ None → (b ≡ true) × (rest ≡ None)
-passes true rest fault e = (refl, e)
-passes false rest fault e = no_some fault (sym e)
-
-lies_within : (low high n : ℕ) → is_within low high n ≡ true → (low ≤ n) × (n ≤ high)
-lies_within low high n e =
-    let both = and_parts (nat_le low n) (nat_le n high) e in
-    (leb-true low n both.0, leb-true n high both.1)
-
-limits_hold : (limits : Limits) → (limits.cells ≤ 65536) × (1 ≤ limits.sessions) × (limits.sessions ≤ 64)
-limits_hold limits =
-    let cells = passes (is_within 16 65536 limits.cells) _ Cells limits.in_range in
-    let sessions = passes (is_within 1 64 limits.sessions) _ Sessions cells.1 in
-    let many = lies_within 1 64 limits.sessions sessions.0 in
-    ((lies_within 16 65536 limits.cells cells.0).1, many.0, many.1)
+-- ---- The join
 
 may_join : (cells sessions resources : ℕ) → 1 ≤ sessions → refusal (empty cells sessions resources) (ask.Join 0) ≡ None
 may_join cells zero resources one = absurd (omega (arith, one))
@@ -89,7 +76,8 @@ pub is_session : {D R : Type 0} (device : Opening D R) (resource : Handling R) (
 is_session device resource limits start over at_end end bytes d out d' begins serves =
     let fit = limits_hold limits in
     let m = empty limits.cells limits.sessions limits.resources in
-    let j = joined m start serves.1 serves.0 (stands_at_start start limits.cells limits.sessions limits.resources begins.machine) (empty_is_well_formed limits.cells limits.sessions limits.resources fit.0 fit.2)
+    let formed = empty_is_well_formed limits.cells limits.sessions limits.resources fit.0 fit.2 in
+    let j = joined m start serves.1 serves.0 (stands_at_start start limits.cells limits.sessions limits.resources begins.machine) formed
     (may_join limits.cells limits.sessions limits.resources fit.1) serves.2 in
     let ok = j.2.1.4.0 in
     let follows = subst (λ q. Follows (by_core resource) device resource (said_by q) at_end end bytes serves.1 d out over d') ok serves.3 in
@@ -106,4 +94,6 @@ is_session device resource limits start over at_end end bytes d out d' begins se
       tells = t.1;
       leaves = subst (λ q. Records t.0 (Leave 0) q l.0) l.2.1.4 l.1;
       run = l.2.1.1;
+      stands = subst (λ core. StandsIn core l.2.1.0) (sym l.2.0) l.2.1.2;
+      promises = runs_keep_the_promises m l.2.1.0 l.0.entries formed l.2.1.1;
     }

@@ -13,7 +13,7 @@ use Rattle.jlr_core.specs.Cores.{Kept}
 use Rattle.jlr_core.specs.Rest.{FindsNothing}
 use Rattle.jlr_session.specs.Calls.{Handling}
 use Rattle.jlr_prog.specs.Settling.{HandsAllOver, TurnsUntil, Works, Settles}
-use Rattle.jlr_prog.specs.Ports.{Steps}
+use Rattle.jlr_core.specs.Steps.{Steps}
 
 abbrev pub nothing : {R : Type 0} → Reply R
 nothing = Answered (Handed Nothing) None
@@ -27,7 +27,7 @@ handler_rests core listed finds =
       moves = inl (refl, λ rid. refl);
       listed = listed;
       goes_out = refl;
-      memory = λ _. refl;
+      memory = λ e. absurd (cc e);
       marking = λ e. cc e;
       collects = λ e. cc e;
       policy = tt;
@@ -44,7 +44,7 @@ cleaner_rests core listed finds =
       moves = inl (refl, λ rid. refl);
       listed = listed;
       goes_out = refl;
-      memory = λ e. cc e;
+      memory = λ e. absurd (cc e);
       marking = λ e. cc e;
       collects = λ e. cc e;
       policy = tt;

@@ -35,7 +35,8 @@ use Rattle.jlr_core.specs.Cores.{Kept}
 use Rattle.jlr_session.specs.Calls.{Handling}
 use Rattle.jlr_session.specs.Asks.{job_by, job_with, TellsFinished}
 use Rattle.jlr_prog.specs.Settling.{Works}
-use Rattle.jlr_prog.specs.Ports.{Stands, Steps}
+use Rattle.jlr_core.specs.Steps.{Steps}
+use Rattle.jlr_prog.specs.Ports.{Stands}
 use Rattle.jlr_prog.specs.OneTurn.{IsTurn, turn_by}
 use Rattle.jlr_prog.specs.declared.port.Turn.{Turn}
 use Rattle.jlr_prog.specs.declared.port.Turn.TheVariants as turn

@@ -11,14 +11,15 @@ use Rattle.jlr_event.specs.declared.event.Event.TheVariants.{Join, Leave}
 use Rattle.jlr_event.specs.declared.event.Reply.{Reply}
 use Rattle.jlr_event.specs.declared.event.Reply.TheVariants.{Answered}
 use Rattle.jlr_event.specs.Events.{ask_of, answer_in}
-use Rattle.jlr_core.specs.Cores.{Kept}
+use Rattle.jlr_histories.specs.Promises.{KeepsPromises}
+use Rattle.jlr_core.specs.Cores.{Kept, StandsIn}
 use Rattle.jlr_core.specs.Events.{entry_with}
 use Rattle.jlr_session.specs.Calls.{Opening, Handling}
 use Rattle.jlr_session.specs.Asks.{Asking, by_asks}
 use Rattle.jlr_session.specs.Sessions.{Ended}
 use Rattle.jlr_session.specs.declared.shell.SessionEnd.{SessionEnd}
 use Rattle.jlr_prog.specs.Settling.{Settles}
-use Rattle.jlr_prog.specs.Ports.{Steps, IsEmpty}
+use Rattle.jlr_core.specs.Steps.{Steps, IsEmpty}
 
 -- a core, and the entries of what it was asked, in order
 pub record Recorded (R : Type 0) : Type 0 where
@@ -40,7 +41,7 @@ answered_ok = Answered Done None
 
 -- A session over the empty heap of these limits: mutator 0 joins, which is the first entry, and is answered ok; the bytes that came in, those that
 -- went out and the calls of the device belong to what is asked then; and mutator 0 leaves, which is the last entry, and is answered ok. The entries, in
--- order, are a run of the machine. at_end says that the input is at its end
+-- order, are a run of the machine to one for which the core stands then, and keep what the package promises. at_end says that the input is at its end
 pub record IsSession {D R : Type 0} (device : Opening D R) (resource : Handling R) (limits : Limits) (at_end : Type 0) (end : SessionEnd) (bytes : List ℕ) (d : D) (out : List ℕ) (d' : D) : Type 0 where
   pub start : Kept R
   pub joined : Recorded R
@@ -52,3 +53,5 @@ pub record IsSession {D R : Type 0} (device : Opening D R) (resource : Handling 
   pub tells : Ended (by_asks (by_records resource) device resource) at_end end bytes (joined, d) out (before, d')
   pub leaves : Records before (Leave 0) answered_ok over
   pub run : Run (empty limits.cells limits.sessions limits.resources) over.entries last
+  pub stands : StandsIn over.core last
+  pub promises : KeepsPromises (empty limits.cells limits.sessions limits.resources) over.entries

@@ -1,12 +1,13 @@
 //! The heap of one session, as what its asks go to.
 ghost use Rattle.std.specs.Prelude.{◌≡◌, ◌<◌, [], IfOk, length};
 ghost use Rattle.jlr_machine.specs.Run.{empty};
-ghost use Rattle.jlr_resource.specs.Resources.{values};
+ghost use Rattle.jlr_resource.specs.Resources.{resources, values};
 ghost use Rattle.jlr_barrier.specs.Graphs.{empty_known};
 ghost use Rattle.jlr_event.specs.declared.event.Event.TheVariants.{HandOver};
 ghost use Rattle.jlr_event.specs.declared.event.Reply.{Reply};
 ghost use Rattle.jlr_prog.specs.Settling.{Cleans, HandsAllOver, HandsOver, Works};
-ghost use Rattle.jlr_prog.specs.Ports.{Steps, by_core};
+ghost use Rattle.jlr_core.specs.Steps.{Steps};
+ghost use Rattle.jlr_prog.specs.Ports.{by_core};
 ghost use Rattle.jlr_prog.specs.OneTurn.{IsLeftBy, IsTurn, turn_by};
 
 use jlr_core::engine::Core;
@@ -63,6 +64,7 @@ impl<R> CorePort<R> {
         ensures age { IfOk result (λ port. port.soft_age ≡ limits.soft_age) }
         ensures clock { IfOk result (λ port. port.clock ≡ (empty_known limits.cells limits.sessions).clock) }
         ensures none_held { IfOk result (λ port. values port.table ≡ []) }
+        ensures listed { IfOk result (λ port. resources port.table ≡ port.machine.resources) }
     {
         let choice = Choice::new(alloc, limits.cells)?;
         let core = Core::new(alloc, limits)?;

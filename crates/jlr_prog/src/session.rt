@@ -17,8 +17,10 @@ use std::io::{Read, Write};
 /// handler hands over all that is pending, and the cleaner carries out all that is Lined.
 ///
 /// Each ask is a step of a core, which starts empty, and in which no file or socket is made or lost; and it is an entry of a run of the
-/// machine of java.lang.ref. The first entry is the join and the last the leave, which are both answered `ok`: this session never ends
-/// as `NotJoined`. What lies between belongs to the bytes that came in and went out.
+/// machine of java.lang.ref, which keeps the promises of its package. The first entry is the join and the last the leave, which are both
+/// answered `ok`: this session never ends as `NotJoined`. What lies between belongs to the bytes that came in and went out. Where the core is
+/// at rest after a reply, a step of the handler and one of the cleaner are known to find nothing: they are entries of the run, and not
+/// asked for. What is still open at the end is dropped with the heap.
 ///
 /// # Errors
 /// `AllocError` where there is no room for the heap. Then nothing was read or written, and the device was not called.

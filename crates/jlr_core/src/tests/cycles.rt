@@ -146,3 +146,54 @@ fn integers_are_set_and_read(rt: HostRuntime) -> Result<(), Fail> {
     assert_eq!(rt; got.as_slice(), wanted.as_slice());
     Ok(())
 }
+
+// What was polled in a cycle is held by its handle alone, and no more by its queue.
+#[test]
+fn what_a_poll_gave_in_a_cycle_is_kept(rt: HostRuntime) -> Result<(), Fail> {
+    let cases = vec![in rt.alloc();
+        (join(), Got::Done),
+        (queue(), Got::Handle(1)),
+        (bare(), Got::Handle(2)),
+        (weak_with_queue(2, 1), Got::Handle(3)),
+        (enqueue(3), Got::Truth(true)),
+        (drop_handle(3), Got::Done),
+        (drop_handle(2), Got::Done),
+        (Event::Begin, Got::Truth(true)),
+        (poll(1), Got::Handle(2)),
+        (mark(), Got::Marked(Progress::Done)),
+        (Event::Collect, Got::Truth(true)),
+        (enqueued(2), Got::Truth(false)),
+        (stat(), counted(2)),
+    ]?;
+    let (got, wanted) = play(rt.alloc(), 4, cases)?;
+    assert_eq!(rt; got.as_slice(), wanted.as_slice());
+    Ok(())
+}
+
+// The cells of what a cycle left over are free at once.
+#[test]
+fn a_cycle_gives_its_cells_back(rt: HostRuntime) -> Result<(), Fail> {
+    let mut cases = vec![in rt.alloc(); (join(), Got::Done)]?;
+    for number in 1u8..17 {
+        cases.push((bare(), Got::Handle(number)))?;
+    }
+    for number in 1u8..9 {
+        cases.push((drop_handle(number), Got::Done))?;
+    }
+    for case in [
+        (Event::Begin, Got::Truth(true)),
+        (mark(), Got::Marked(Progress::Done)),
+        (Event::Collect, Got::Truth(true)),
+        (stat(), counted(8)),
+        (mark(), Got::Marked(Progress::Idle)),
+    ] {
+        cases.push(case)?;
+    }
+    for number in 1u8..9 {
+        cases.push((bare(), Got::Handle(number)))?;
+    }
+    cases.push((stat(), counted(16)))?;
+    let (got, wanted) = play(rt.alloc(), 4, cases)?;
+    assert_eq!(rt; got.as_slice(), wanted.as_slice());
+    Ok(())
+}

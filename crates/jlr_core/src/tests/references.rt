@@ -256,9 +256,8 @@ fn half_of_a_cycle_through_weak_references_dies(rt: HostRuntime) -> Result<(), F
     Ok(())
 }
 
-// The soft age would keep a soft reference; but nothing reaches it.
 #[test]
-fn cycles_of_references_and_objects_die(rt: HostRuntime) -> Result<(), Fail> {
+fn cycles_of_weak_references_and_objects_die(rt: HostRuntime) -> Result<(), Fail> {
     let events = vec![in rt.alloc();
         join(),
         new(),
@@ -299,6 +298,12 @@ fn cycles_of_references_and_objects_die(rt: HostRuntime) -> Result<(), Fail> {
         full(),
     ]?;
     assert_eq!(rt; objects_left(rt.alloc(), 4, events)?, 0);
+    Ok(())
+}
+
+// The soft age would keep a soft reference; but nothing reaches it.
+#[test]
+fn cycles_through_soft_and_phantom_references_die(rt: HostRuntime) -> Result<(), Fail> {
     let events = vec![in rt.alloc();
         join(),
         new(),

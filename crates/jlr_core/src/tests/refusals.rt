@@ -369,15 +369,9 @@ fn under_way() -> [(Event<u32>, Got); 14] {
     ]
 }
 
-// A mutator whose call is in flight may only end it, unless a refusal that comes first in the order holds.
-#[test]
-fn a_mutator_in_a_call_may_only_end_it(rt: HostRuntime) -> Result<(), Fail> {
-    let busy = Got::Refused(Refusal::Busy);
-    let mut cases = Vec::new(rt.alloc());
-    for case in under_way() {
-        cases.push(case)?;
-    }
-    for event in [
+// What is refused as busy then, one of each ask of a mutator that does not end a call.
+fn others_of_each_kind() -> [Event<u32>; 34] {
+    [
         leave(),
         bare(),
         put(1, 0, 2),
@@ -412,10 +406,12 @@ fn a_mutator_in_a_call_may_only_end_it(rt: HostRuntime) -> Result<(), Fail> {
         stat(),
         notes(),
         faults(),
-    ] {
-        cases.push((event, busy))?;
-    }
-    for case in [
+    ]
+}
+
+// What is answered in a call all the same: by a refusal that comes before Busy in the order, and then by the end of the call.
+fn answered_in_a_call() -> [(Event<u32>, Got); 14] {
+    [
         (join(), Got::Refused(Refusal::NoSession)),
         (drop_handle(9), Got::Refused(Refusal::NoHandle)),
         (dup(0), Got::Refused(Refusal::Null)),
@@ -430,7 +426,20 @@ fn a_mutator_in_a_call_may_only_end_it(rt: HostRuntime) -> Result<(), Fail> {
         (get(1, 0), Got::Handle(0)),
         (refers(3, 1), Got::Truth(true)),
         (clean(5), Got::Job(1, None)),
-    ] {
+    ]
+}
+
+// A mutator whose call is in flight may only end it, unless a refusal that comes first in the order holds.
+#[test]
+fn a_mutator_in_a_call_may_only_end_it(rt: HostRuntime) -> Result<(), Fail> {
+    let mut cases = Vec::new(rt.alloc());
+    for case in under_way() {
+        cases.push(case)?;
+    }
+    for event in others_of_each_kind() {
+        cases.push((event, Got::Refused(Refusal::Busy)))?;
+    }
+    for case in answered_in_a_call() {
         cases.push(case)?;
     }
     let (got, wanted) = play_with(rt.alloc(), Limits::checked(16, 1, 4, 0, 64, 1), cases)?;

@@ -92,6 +92,20 @@ fn a_failed_open_leaves_nothing_to_clean(rt: HostRuntime) -> Result<(), Fail> {
     Ok(())
 }
 
+#[test]
+fn a_mutator_leaves_only_after_its_open(rt: HostRuntime) -> Result<(), Fail> {
+    let cases = vec![in rt.alloc();
+        (join(), Got::Done),
+        (prepare(), Got::Prepared),
+        (leave(), Got::Refused(Refusal::Busy)),
+        (opened(Err(Fault::Denied)), Got::Faulted(Fault::Denied)),
+        (leave(), Got::Done),
+    ]?;
+    let (answers, wanted) = play(rt.alloc(), 0, cases)?;
+    assert_eq!(rt; answers.as_slice(), wanted.as_slice());
+    Ok(())
+}
+
 // The place of a closed resource is used again, and its old guard stays closed.
 #[test]
 fn an_old_guard_does_not_reach_a_new_resource(rt: HostRuntime) -> Result<(), Fail> {

@@ -1,15 +1,14 @@
-use Rattle.std.proofs.Common.{◌≡◌, ◌≤◌, ◌++◌, length}
+use Rattle.std.proofs.Common.{◌≡◌, ◌++◌, length}
 use Rattle.std.specs.List.Sorted.{IsPermutation}
-use Rattle.jlr_machine.specs.Run.{empty}
 use Rattle.jlr_resource.specs.Resources.{values}
-use Rattle.jlr_core.specs.Runs.{AreWanting, IsRunOf, all_given, all_handed}
+use Rattle.jlr_core.specs.Runs.{IsRunOf, all_given, all_handed}
 use Rattle.jlr_core.proofs.run.run.Given as goal
 
 abbrev pub invariant-loop-event : goal.invariant-loop-event
 invariant-loop-event g l = record {
-  run : IsRunOf (empty l.fn.limits.cells l.fn.limits.sessions l.fn.limits.resources) l.yielded l.replies.items l.core;
+  run : IsRunOf l.fn.limits l.yielded l.replies.items l.core;
   flow : IsPermutation (all_given l.yielded) (all_handed l.replies.items ++ values l.core.table);
-  memory : AreWanting l.yielded l.replies.items;
   age : l.core.soft_age ≡ l.fn.limits.soft_age;
-  room : length l.core.machine.objects ≤ l.choice.cells;
+  cells : length l.core.machine.objects ≡ l.fn.limits.cells;
+  room : l.choice.cells ≡ l.fn.limits.cells;
 }

@@ -1,6 +1,7 @@
 use Rattle.std.proofs.Common.{◌≡◌, refl, sym, subst}
 use Rattle.jlr_core.specs.Machines.{machine_of}
 use Rattle.jlr_event.specs.Events.{ask_of, answer_in}
+use Rattle.jlr_core.specs.Events.{WantsMemory}
 use Rattle.jlr_core.specs.Cores.{Kept, StandsIn}
 use Rattle.jlr_core.specs.Policy.{KeepsByPolicy, clock_after}
 use Rattle.jlr_core.proofs.Stepping.{well_formed_after, enters}
@@ -23,3 +24,7 @@ returns-clause-policy g c =
 pub returns-clause-clock : goal.returns-clause-clock
 returns-clause-clock g c =
     subst (λ (k : Kept g.row.R.Denot). c.step.new.self.heap.clock ≡ clock_after k.machine k.clock (ask_of c.args.event) (answer_in c.step.result) c.step.new.choice.chosen) c.self.view_is c.step.ensures.clock
+
+pub returns-clause-memory : goal.returns-clause-memory
+returns-clause-memory g c =
+    subst (λ (k : Kept g.row.R.Denot). WantsMemory k.machine k.table (ask_of c.args.event) (answer_in c.step.result)) c.self.view_is c.step.ensures.memory

@@ -1,5 +1,4 @@
-use Rattle.std.proofs.Common.{refl, sym, subst, ap, arith}
-use Rattle.jlr_machine.specs.declared.machine.Machine.{Machine}
+use Rattle.std.proofs.Common.{refl, sym, subst, arith}
 use Rattle.jlr_barrier.specs.Graphs.{Graph}
 use Rattle.jlr_core.specs.Machines.{machine_of}
 use Rattle.jlr_core.specs.Collecting.{FindsNoRoom}

@@ -1,5 +1,4 @@
 use Rattle.std.proofs.Common.{◌≡◌, Some, sym, subst, ap, ◌∙◌}
-use Rattle.jlr_machine.specs.declared.machine.Call.{Call}
 use Rattle.jlr_machine.specs.declared.machine.Call.TheVariants.{Opening as CallOpening}
 use Rattle.jlr_machine.specs.declared.machine.ResourceState.TheVariants.{Opening}
 use Rattle.jlr_laws.proofs.Frames.{no_some, some_same}

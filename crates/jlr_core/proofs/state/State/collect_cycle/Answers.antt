@@ -1,4 +1,4 @@
-use Rattle.std.proofs.Common.{rules, ◌≡◌, true, false, not, Bool}
+use Rattle.std.proofs.Common.{rules, ◌≡◌, true}
 use Rattle.jlr_core.specs.Machines.{machine_of}
 use Rattle.jlr_core.proofs.Clearings.{meets_collect}
 use Rattle.jlr_core.proofs.state.State.collect_cycle.Goals as goal

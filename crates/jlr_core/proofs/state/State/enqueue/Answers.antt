@@ -1,4 +1,4 @@
-use Rattle.std.proofs.Common.{◌≡◌, Some, sym, ◌∙◌, ap, option_and_then}
+use Rattle.std.proofs.Common.{◌∙◌}
 use Rattle.jlr_machine.specs.declared.ask.Ask.TheVariants.{Enqueue}
 use Rattle.jlr_machine.specs.declared.ask.Answer.TheVariants.{Truth}
 use Rattle.jlr_core.specs.Machines.{frame_of, machine_of}

@@ -1,6 +1,5 @@
-use Rattle.std.proofs.Common.{◌≡◌, [], Some, sym, ◌∙◌, ap, subst}
+use Rattle.std.proofs.Common.{◌≡◌, [], Some, ◌∙◌, ap, subst}
 use Rattle.jlr_soft.specs.declared.policy.Mode.{Mode}
-use Rattle.jlr_machine.specs.declared.entry.Chosen.{Chosen}
 use Rattle.jlr_machine.specs.Choices.{Choosing, collecting}
 use Rattle.jlr_sweep.specs.Collecting.{Collects}
 use Rattle.jlr_core.specs.Collecting.{mode_of}

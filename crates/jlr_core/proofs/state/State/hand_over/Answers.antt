@@ -18,3 +18,6 @@ pub returns-in-Ok-clause-cells : goal.returns-in-Ok-clause-cells
 returns-in-Ok-clause-cells g c =
     let h = c.in-Ok.ensures.handed (frame_of c.args.self.now) in
     handed_over_long (machine_of c.args.self.now) (machine_with c.args.self.now.cleaner c.hand_over.new.heap.graph c.args.self.now.cycle_open) h.1
+
+pub returns-in-Err-clause-memory : goal.returns-in-Err-clause-memory
+returns-in-Err-clause-memory g c = λ _. c.in-Err.ensures.grows (frame_of c.args.self.now)

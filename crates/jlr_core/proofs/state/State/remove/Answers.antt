@@ -1,4 +1,4 @@
-use Rattle.std.proofs.Common.{◌≡◌, ◌&&◌, not, is_some, false, sym, ◌∙◌, ap, length}
+use Rattle.std.proofs.Common.{◌&&◌, not, is_some, ◌∙◌, ap, length}
 use Rattle.jlr_machine.specs.Lookups.{has_free_handle}
 use Rattle.jlr_machine.specs.Objects.{as_members, at, Heap}
 use Rattle.std.specs.Prelude.{option_and_then}

@@ -2,7 +2,7 @@ use Rattle.std.proofs.Common.{[], ◌∷◌, ◌++◌}
 use Rattle.jlr_event.specs.declared.event.Event.TheVariants.{TakeUp}
 use Rattle.jlr_session.specs.Calls.{Handling}
 use Rattle.jlr_prog.specs.Settling.{Works}
-use Rattle.jlr_prog.specs.Ports.{Steps}
+use Rattle.jlr_core.specs.Steps.{Steps}
 use Rattle.jlr_prog.proofs.Turning.{turns_more}
 use Rattle.jlr_prog.proofs.HandingOver.{worked}
 use Rattle.jlr_prog.proofs.port.CorePort.clean_all.Goals as goal

@@ -1,7 +1,7 @@
 use Rattle.std.proofs.Common.{List, length}
 use Rattle.jlr_core.specs.Cores.{Kept}
 use Rattle.jlr_prog.specs.Settling.{Works, Turns}
-use Rattle.jlr_prog.specs.Ports.{Steps}
+use Rattle.jlr_core.specs.Steps.{Steps}
 use Rattle.jlr_prog.proofs.port.CorePort.clean_all.Given as goal
 
 abbrev pub invariant-loop : goal.invariant-loop

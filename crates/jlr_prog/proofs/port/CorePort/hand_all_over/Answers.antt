@@ -1,7 +1,7 @@
 use Rattle.std.proofs.Common.{[], ◌∷◌, ◌++◌}
 use Rattle.jlr_event.specs.declared.event.Event.TheVariants.{HandOver}
 use Rattle.jlr_prog.specs.Settling.{HandsOver}
-use Rattle.jlr_prog.specs.Ports.{Steps}
+use Rattle.jlr_core.specs.Steps.{Steps}
 use Rattle.jlr_prog.proofs.Turning.{turns_more}
 use Rattle.jlr_prog.proofs.HandingOver.{worked}
 use Rattle.jlr_prog.proofs.port.CorePort.hand_all_over.Goals as goal

@@ -1,7 +1,7 @@
 use Rattle.std.proofs.Common.{subst}
 use Rattle.jlr_session.specs.Calls.{Handling}
 use Rattle.jlr_prog.specs.Settling.{Settles}
-use Rattle.jlr_prog.specs.Ports.{Steps}
+use Rattle.jlr_core.specs.Steps.{Steps}
 use Rattle.jlr_prog.proofs.Resting.{settled}
 use Rattle.jlr_prog.proofs.port.CorePortPort.settle.Goals as goal
 
