@@ -210,7 +210,7 @@ fn rows_of_cycles_are_runs(rt: HostRuntime) -> Result<(), Fail> {
 }
 
 #[test]
-fn wrong_entries_are_refused(rt: HostRuntime) -> Result<(), Fail> {
+fn wrong_collections_are_refused(rt: HostRuntime) -> Result<(), Fail> {
     let alloc = rt.alloc();
     assert!(rt;
         goes_wrong(
@@ -248,6 +248,12 @@ fn wrong_entries_are_refused(rt: HostRuntime) -> Result<(), Fail> {
         )?,
         "held_soft_gives_null"
     );
+    Ok(())
+}
+
+#[test]
+fn wrong_enqueueings_are_refused(rt: HostRuntime) -> Result<(), Fail> {
+    let alloc = rt.alloc();
     assert!(rt;
         goes_wrong(
             alloc,
@@ -266,6 +272,12 @@ fn wrong_entries_are_refused(rt: HostRuntime) -> Result<(), Fail> {
         )?,
         "handler_appends_again"
     );
+    Ok(())
+}
+
+#[test]
+fn wrong_take_ups_are_refused(rt: HostRuntime) -> Result<(), Fail> {
+    let alloc = rt.alloc();
     assert!(rt;
         goes_wrong(
             alloc,
@@ -284,6 +296,12 @@ fn wrong_entries_are_refused(rt: HostRuntime) -> Result<(), Fail> {
         )?,
         "closed_is_out"
     );
+    Ok(())
+}
+
+#[test]
+fn wrong_full_heaps_are_refused(rt: HostRuntime) -> Result<(), Fail> {
+    let alloc = rt.alloc();
     assert!(rt;
         goes_wrong(
             alloc,

@@ -1,6 +1,7 @@
 //! The command line.
-ghost use Rattle.std.specs.Prelude.{◌≡◌, ◌≢◌, ◌⊎◌, IfOk, IfErr};
+ghost use Rattle.std.specs.Prelude.{◌≡◌, ◌≢◌, ◌⊎◌, IfOk, IfErr, Some};
 ghost use Rattle.clap.specs.Values.{kind_of};
+ghost use Rattle.jlr_types.specs.Ranges.{first_fault};
 ghost use Rattle.refheap.specs.Status.{status_of};
 
 use crate::fault::ProgramFault;
@@ -80,7 +81,8 @@ pub fn limits(alloc: Global, words: &[String]) -> Result<Limits, ProgramFault>
 
 /// The limits of a session that is alone, with so many cells, so many files and sockets, and this soft age.
 fn limits_with(cells: u32, resources: u32, soft_age: u32) -> Result<Limits, LimitFault>
-    ensures { IfOk result (λ limits. (limits.cells ≡ cells) × (limits.sessions ≡ 1) × (limits.resources ≡ resources) × (limits.soft_age ≡ soft_age) × (limits.trace ≡ 10000) × (limits.budget ≡ 64)) }
+    ensures limits { IfOk result (λ limits. (limits.cells ≡ cells) × (limits.sessions ≡ 1) × (limits.resources ≡ resources) × (limits.soft_age ≡ soft_age) × (limits.trace ≡ 10000) × (limits.budget ≡ 64)) }
+    ensures fault { IfErr result (λ fault. first_fault cells 1 resources soft_age 10000 64 ≡ Some fault) }
 {
     Limits::checked(cells, 1, resources, soft_age, DEFAULT_TRACE, DEFAULT_BUDGET)
 }
@@ -165,4 +167,73 @@ fn command<'a>(alloc: Global) -> Result<Command<'a>, AllocError> {
         .about("A managed object heap with reference objects")
         .subcommand_required(true)
         .subcommand(run)
+}
+
+#[cfg(test)]
+mod tests {
+    use super::*;
+    use std::test::Fail;
+
+    /// The limits that a command line asks for, whose words are parted by spaces, or the status of its fault.
+    fn asked(alloc: Global, line: &str) -> Result<Result<Limits, u8>, Fail> {
+        let mut words = Vec::new(alloc);
+        for word in line.split(' ') {
+            let mut text = String::new(alloc);
+            text.push_str(word)?;
+            words.push(text)?;
+        }
+        Ok(limits(alloc, words.as_slice()).map_err(|fault| fault.status()))
+    }
+
+    #[test]
+    fn each_option_is_its_own_limit(rt: HostRuntime) -> Result<(), Fail> {
+        for (line, cells, resources, soft_age) in [
+            ("refheap run", 1_024, 16, 4),
+            (
+                "refheap run --cells 17 --resources 18 --soft-age 19",
+                17,
+                18,
+                19,
+            ),
+            (
+                "refheap run --soft-age 0 --resources 1 --cells 16",
+                16,
+                1,
+                0,
+            ),
+            (
+                "refheap run --cells 65536 --resources 256 --soft-age 1000",
+                65_536,
+                256,
+                1_000,
+            ),
+        ] {
+            let limits = asked(rt.alloc(), line)?.ok().ok_or("limits")?;
+            assert_eq!(rt;
+                (limits.cells, limits.resources, limits.soft_age),
+                (cells, resources, soft_age),
+                "at {line}"
+            );
+        }
+        Ok(())
+    }
+
+    #[test]
+    fn a_bad_command_line_has_status_2(rt: HostRuntime) -> Result<(), Fail> {
+        for line in [
+            "refheap",
+            "refheap walk",
+            "refheap --help",
+            "refheap run --cells",
+            "refheap run --cells 15",
+            "refheap run --cells 65537",
+            "refheap run --resources 0",
+            "refheap run --resources 257",
+            "refheap run --soft-age 1001",
+            "refheap run --soft-age x",
+        ] {
+            assert_eq!(rt; asked(rt.alloc(), line)?.err(), Some(2), "at {line}");
+        }
+        Ok(())
+    }
 }

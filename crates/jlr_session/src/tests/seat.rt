@@ -1,4 +1,6 @@
 //! A port that plays a heap with one file.
+ghost use Rattle.std.specs.Prelude.{◌≡◌};
+
 use crate::port::Port;
 use jlr_device::script::ScriptResource;
 use jlr_event::event::{Event, Reply};
@@ -47,7 +49,9 @@ impl Seat {
         plain(Answer::Prepared(Rid::new(0)))
     }
 
-    fn opened(&mut self, outcome: Result<ScriptResource, Fault>) -> Reply<ScriptResource> {
+    fn opened(&mut self, outcome: Result<ScriptResource, Fault>) -> Reply<ScriptResource>
+        ensures { self.new ≡ record self.old { file = self.new.file } }
+    {
         let file = match outcome {
             Ok(file) => file,
             Err(fault) => return plain(Answer::Faulted(fault)),
@@ -62,7 +66,9 @@ impl Seat {
         plain(Answer::Handle(Handle::new(1)))
     }
 
-    fn checked_out(&mut self) -> Reply<ScriptResource> {
+    fn checked_out(&mut self) -> Reply<ScriptResource>
+        ensures { self.new ≡ record self.old { file = self.new.file } }
+    {
         match self.file.take() {
             Some(file) => Reply::Answered {
                 answer: Answer::Out(Rid::new(0)),
@@ -76,7 +82,9 @@ impl Seat {
         }
     }
 
-    fn closed(&mut self) -> Reply<ScriptResource> {
+    fn closed(&mut self) -> Reply<ScriptResource>
+        ensures { self.new ≡ record self.old { file = self.new.file } }
+    {
         match self.file.take() {
             Some(file) => Reply::Answered {
                 answer: Answer::Job {
@@ -98,7 +106,7 @@ impl Port<ScriptResource> for Seat {
     }
 
     fn ask(&mut self, event: Event<ScriptResource>) -> Reply<ScriptResource>
-        ensures { Unit {0} }
+        ensures { self.new ≡ record self.old { asked = self.new.asked; file = self.new.file } }
     {
         let _ = self.asked.push_str(name_of(&event));
         let _ = self.asked.push_str("; ");
