@@ -49,4 +49,10 @@ if [ -s "$errors" ]; then
     echo "told" >"$errors"
 fi
 check "too high a soft age, with the text of the command line" 2 "told" $status
+"$program" run --cells $'\xff' </dev/null >/dev/null 2>"$errors"
+status=$?
+if [ -s "$errors" ]; then
+    echo "told" >"$errors"
+fi
+check "a word that is no text, with the text of the command line" 2 "told" $status
 exit $failed

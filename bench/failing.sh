@@ -21,27 +21,7 @@ step=${4:-1}
 work=$(mktemp -d)
 trap 'rm -rf "$work"' EXIT
 
-# Refuses one allocation of the process: the one whose number stands in REFUSED.
-cat >"$work/refuse.c" <<'C'
-#include <stdlib.h>
-#include <unistd.h>
-extern void *__libc_malloc(size_t);
-extern void *__libc_realloc(void *, size_t);
-static unsigned long made, refused;
-__attribute__((constructor)) static void start(void) {
-    const char *text = getenv("REFUSED");
-    refused = text ? strtoul(text, 0, 10) : 0;
-    made = 0;
-}
-static int is_refused(void) {
-    if (++made != refused) return 0;
-    const char said[] = "one allocation was refused\n";
-    return write(2, said, sizeof said - 1) > 0;
-}
-void *malloc(size_t size) { return is_refused() ? 0 : __libc_malloc(size); }
-void *realloc(void *old, size_t size) { return is_refused() ? 0 : __libc_realloc(old, size); }
-C
-"${CC:-cc}" -shared -fPIC -O1 -o "$work/refuse.so" "$work/refuse.c" || exit 2
+"${CC:-cc}" -shared -fPIC -O1 -o "$work/refuse.so" "$here/refuse.c" || exit 2
 
 runs=0
 passed=0

@@ -174,40 +174,44 @@ impl Heap {
         Ok(Reply::Handle(handle as u8))
     }
 
-    fn put(&mut self, handle: u8, field: u8, value: u8) -> Answer {
-        self.named(handle)?;
-        let target = self.named(value)?;
+    fn field_of(&mut self, handle: u8, field: u8) -> Result<&mut Field, Refusal> {
         let slot = self.object(handle)?;
-        match self.plain(slot)?.field(field)? {
-            Field::Ref(place) => *place = target,
-            Field::Int(_) => return Err(Refusal::WrongType),
-        }
-        Ok(Reply::Done)
+        self.plain(slot)?.field(field)
     }
 
-    fn get(&mut self, handle: u8, field: u8) -> Answer {
-        let slot = self.object(handle)?;
-        match *self.plain(slot)?.field(field)? {
-            Field::Ref(target) => self.give(target),
+    fn ref_field(&mut self, handle: u8, field: u8) -> Result<&mut Option<Slot>, Refusal> {
+        match self.field_of(handle, field)? {
+            Field::Ref(target) => Ok(target),
             Field::Int(_) => Err(Refusal::WrongType),
         }
     }
 
-    fn set_int(&mut self, handle: u8, field: u8, value: i64) -> Answer {
-        let slot = self.object(handle)?;
-        match self.plain(slot)?.field(field)? {
-            Field::Int(place) => *place = value,
-            Field::Ref(_) => return Err(Refusal::WrongType),
+    fn int_field(&mut self, handle: u8, field: u8) -> Result<&mut i64, Refusal> {
+        match self.field_of(handle, field)? {
+            Field::Int(value) => Ok(value),
+            Field::Ref(_) => Err(Refusal::WrongType),
         }
+    }
+
+    fn put(&mut self, handle: u8, field: u8, value: u8) -> Answer {
+        self.named(handle)?;
+        let target = self.named(value)?;
+        *self.ref_field(handle, field)? = target;
+        Ok(Reply::Done)
+    }
+
+    fn get(&mut self, handle: u8, field: u8) -> Answer {
+        let target = *self.ref_field(handle, field)?;
+        self.give(target)
+    }
+
+    fn set_int(&mut self, handle: u8, field: u8, value: i64) -> Answer {
+        *self.int_field(handle, field)? = value;
         Ok(Reply::Done)
     }
 
     fn int(&mut self, handle: u8, field: u8) -> Answer {
-        let slot = self.object(handle)?;
-        match *self.plain(slot)?.field(field)? {
-            Field::Int(value) => Ok(Reply::Int(value)),
-            Field::Ref(_) => Err(Refusal::WrongType),
-        }
+        Ok(Reply::Int(*self.int_field(handle, field)?))
     }
 
     fn dup(&mut self, handle: u8) -> Answer {
