@@ -73,8 +73,8 @@ impl<R> Core<R> {
 
     /// One event. The choice says what was chosen; it has room for every cell. Only `Enqueue` and `HandOver` of a reference that goes to its
     /// queue, `Prepare` where the table of resources has no room, `Bind` of a new name, and `Names`, `Notes` and `Faults`, which copy a list,
-    /// may find no memory, and only where they are not refused. A piece of marking is answered Done in an open cycle and Idle without one, and changes nothing: a `Collect` marks
-    /// whole, by the soft policy, and is answered yes exactly where a cycle is open.
+    /// may find no memory, and only where they are not refused. A piece of marking is answered Done in an open cycle and Idle without one, and
+    /// changes nothing: a `Collect` marks whole, by the soft policy, and is answered yes exactly where a cycle is open.
     pub fn step(&mut self, event: Event<R>, choice: &mut Choice) -> Reply<R>
         requires room { length self.old.machine.objects ≤ choice.old.cells }
         ensures entry { (m : Machine) → StandsIn self.old m →

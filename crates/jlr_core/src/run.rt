@@ -12,8 +12,8 @@ use std::alloc::{AllocError, Global};
 
 /// Runs the events in order from the empty machine of the limits. There are choices with which the replies and the core that is
 /// left are a run of the machine of java.lang.ref, which keeps the promises of its package: references are cleared only in allowed sets,
-/// each is enqueued at most once and only when cleared, each cleaning action is taken up at most once. Each event is a step of the core. No
-/// resource is made or lost: those handed in were handed out, or lie in the core, each as often.
+/// each is enqueued at most once and only when cleared, each cleaning action is taken up at most once, and its outcome recorded once or its
+/// job runs. Each event is a step of the core. No resource is made or lost: those handed in were handed out, or lie in the core, each as often.
 ///
 /// # Errors
 /// `AllocError` where there is no room for the core, for a choice or for the replies.
