@@ -51,8 +51,8 @@ fi
 check "too high a soft age, with the text of the command line" 2 "told" $status
 "$program" run --cells $'\xff' </dev/null >/dev/null 2>"$errors"
 status=$?
-if [ -s "$errors" ]; then
+if grep -q "a word of the command line is not UTF-8 text" "$errors"; then
     echo "told" >"$errors"
 fi
-check "a word that is no text, with the text of the command line" 2 "told" $status
+check "a word that is no text, with what is wrong" 2 "told" $status
 exit $failed

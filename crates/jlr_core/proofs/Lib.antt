@@ -1,3 +1,4 @@
+pub mod Frames
 pub mod Named
 pub mod Roots
 pub mod Clearings

@@ -19,11 +19,11 @@ use Rattle.jlr_machine.specs.WellFormed.{IsWellFormed}
 use Rattle.jlr_histories.proofs.Promises.{runs_keep_the_promises}
 use Rattle.jlr_event.specs.declared.event.Event.{Event}
 use Rattle.jlr_event.specs.declared.event.Reply.{Reply}
-use Rattle.jlr_event.specs.Events.{ask_of, answer_in, given, handed}
+use Rattle.jlr_event.specs.Events.{ask_of, answer_in, resource_of_event, resource_of_reply}
 use Rattle.jlr_core.specs.Events.{entry_with, Enters}
 use Rattle.jlr_core.specs.Cores.{Kept, StandsIn}
 use Rattle.jlr_core.specs.Steps.{IsEmpty, Steps}
-use Rattle.jlr_core.specs.Runs.{entries_of, AreAnswered, AreSteps, IsRunOf, all_given, all_handed}
+use Rattle.jlr_core.specs.Runs.{entries_of, AreAnswered, AreSteps, IsRunOf, resources_of_events, resources_of_replies}
 
 -- ---- Lists with one more
 
@@ -103,22 +103,22 @@ run_more {R} limits events replies old new e r formed x step =
 
 -- ---- Resources
 
-pub given_more : {R : Type 0} (events : List (Event R)) (e : Event R) → all_given (events ++ e ∷ []) ≡ all_given events ++ option_to_list (given e)
-given_more [] e = append-nil (option_to_list (given e))
-given_more (x ∷ events) e = ap (λ l. option_to_list (given x) ++ l) (given_more events e) ∙ sym (append_assoc (option_to_list (given x)) (all_given events) (option_to_list (given e)))
+pub events_more : {R : Type 0} (events : List (Event R)) (e : Event R) → resources_of_events (events ++ e ∷ []) ≡ resources_of_events events ++ option_to_list (resource_of_event e)
+events_more [] e = append-nil (option_to_list (resource_of_event e))
+events_more (x ∷ events) e = ap (λ l. option_to_list (resource_of_event x) ++ l) (events_more events e) ∙ sym (append_assoc (option_to_list (resource_of_event x)) (resources_of_events events) (option_to_list (resource_of_event e)))
 
-pub handed_more : {R : Type 0} (replies : List (Reply R)) (r : Reply R) → all_handed (replies ++ r ∷ []) ≡ all_handed replies ++ option_to_list (handed r)
-handed_more [] r = append-nil (option_to_list (handed r))
-handed_more (x ∷ replies) r = ap (λ l. option_to_list (handed x) ++ l) (handed_more replies r) ∙ sym (append_assoc (option_to_list (handed x)) (all_handed replies) (option_to_list (handed r)))
+pub replies_more : {R : Type 0} (replies : List (Reply R)) (r : Reply R) → resources_of_replies (replies ++ r ∷ []) ≡ resources_of_replies replies ++ option_to_list (resource_of_reply r)
+replies_more [] r = append-nil (option_to_list (resource_of_reply r))
+replies_more (x ∷ replies) r = ap (λ l. option_to_list (resource_of_reply x) ++ l) (replies_more replies r) ∙ sym (append_assoc (option_to_list (resource_of_reply x)) (resources_of_replies replies) (option_to_list (resource_of_reply r)))
 
 -- what came in and what lay there is what went out and what lies there
 pub flow_more : {R : Type 0} (events : List (Event R)) (replies : List (Reply R)) (old new : Resources R) (e : Event R) (r : Reply R)
-    → IsPermutation (all_given events) (all_handed replies ++ values old) → Conserves (given e) old (handed r) new → IsPermutation (all_given (events ++ e ∷ [])) (all_handed (replies ++ r ∷ []) ++ values new)
+    → IsPermutation (resources_of_events events) (resources_of_replies replies ++ values old) → Conserves (resource_of_event e) old (resource_of_reply r) new → IsPermutation (resources_of_events (events ++ e ∷ [])) (resources_of_replies (replies ++ r ∷ []) ++ values new)
 flow_more {R} events replies old new e r before step =
-    let before_in : List R = all_given events in
-    let before_out : List R = all_handed replies in
-    let came : List R = option_to_list (given e) in
-    let went : List R = option_to_list (handed r) in
+    let before_in : List R = resources_of_events events in
+    let before_out : List R = resources_of_replies replies in
+    let came : List R = option_to_list (resource_of_event e) in
+    let went : List R = option_to_list (resource_of_reply r) in
     let lay : List R = values old in
     let lies : List R = values new in
     let moved : IsPermutation ((before_out ++ lay) ++ came) (before_out ++ (came ++ lay)) =
@@ -127,8 +127,8 @@ flow_more {R} events replies old new e r before step =
     let whole : IsPermutation (before_in ++ came) (before_out ++ (went ++ lies)) =
     IsPermutation-trans (before_in ++ came) ((before_out ++ lay) ++ came) (before_out ++ (went ++ lies)) (IsPermutation-append_left came before_in (before_out ++ lay) before)
     (IsPermutation-trans ((before_out ++ lay) ++ came) (before_out ++ (came ++ lay)) (before_out ++ (went ++ lies)) moved stepped) in
-    subst (λ l. IsPermutation l (all_handed (replies ++ r ∷ []) ++ lies)) (sym (given_more events e))
-    (subst (λ l. IsPermutation (before_in ++ came) (l ++ lies)) (sym (handed_more replies r)) (subst (λ l. IsPermutation (before_in ++ came) l) (sym (append_assoc before_out went lies)) whole))
+    subst (λ l. IsPermutation l (resources_of_replies (replies ++ r ∷ []) ++ lies)) (sym (events_more events e))
+    (subst (λ l. IsPermutation (before_in ++ came) (l ++ lies)) (sym (replies_more replies r)) (subst (λ l. IsPermutation (before_in ++ came) l) (sym (append_assoc before_out went lies)) whole))
 
 -- ---- The start
 
@@ -151,10 +151,10 @@ start_run {R} core limits replies formed begins none =
       steps = refl;
     })
 
-pub start_flow : {R : Type 0} (replies : List (Reply R)) (table : Resources R) → replies ≡ [] → values table ≡ [] → IsPermutation (all_given {R = R} []) (all_handed replies ++ values table)
+pub start_flow : {R : Type 0} (replies : List (Reply R)) (table : Resources R) → replies ≡ [] → values table ≡ [] → IsPermutation (resources_of_events {R = R} []) (resources_of_replies replies ++ values table)
 start_flow {R} replies table none empty_table =
     let nothing : List R = [] in
-    subst (λ l. IsPermutation nothing (all_handed l ++ values table)) (sym none) (subst (λ l. IsPermutation nothing l) (sym empty_table) (IsPermutation-refl nothing))
+    subst (λ l. IsPermutation nothing (resources_of_replies l ++ values table)) (sym none) (subst (λ l. IsPermutation nothing l) (sym empty_table) (IsPermutation-refl nothing))
 
 pub start_cells : {R : Type 0} (core : Kept R) (cells sessions resources : ℕ) → core.machine ≡ empty cells sessions resources → length core.machine.objects ≡ cells
 start_cells core cells sessions resources e =

@@ -1,11 +1,7 @@
 -- The machine that a core's state is.
 use Rattle.jlr_machine.specs.declared.machine.Machine.{Machine}
 use Rattle.jlr_core.specs.declared.state.State.{State}
-use Rattle.jlr_core.specs.State.{frame, machine_with}
+use Rattle.jlr_core.specs.State.{machine_with}
 
 abbrev pub machine_of : {R : Type 0} → State R → Machine
 machine_of s = machine_with s.cleaner s.heap.graph s.cycle_open
-
--- and what it keeps beside its heap
-abbrev pub frame_of : {R : Type 0} → State R → Machine
-frame_of s = frame s.cleaner s.cycle_open

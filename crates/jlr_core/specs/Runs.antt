@@ -9,7 +9,7 @@ use Rattle.jlr_machine.specs.Run.{Run, empty}
 use Rattle.jlr_histories.specs.Promises.{KeepsPromises}
 use Rattle.jlr_event.specs.declared.event.Event.{Event}
 use Rattle.jlr_event.specs.declared.event.Reply.{Reply}
-use Rattle.jlr_event.specs.Events.{ask_of, answer_in, given, handed}
+use Rattle.jlr_event.specs.Events.{ask_of, answer_in, resource_of_event, resource_of_reply}
 use Rattle.jlr_core.specs.Cores.{Kept, StandsIn}
 use Rattle.jlr_core.specs.Events.{entry_with}
 use Rattle.jlr_core.specs.Steps.{IsEmpty, Steps}
@@ -50,10 +50,10 @@ pub record IsRunOf {R : Type 0} (limits : Limits) (events : List (Event R)) (rep
   pub steps : AreSteps start events replies choices core
 
 -- the resources that events hand in, and those that replies hand out, in order
-abbrev pub all_given : {R : Type 0} → List (Event R) → List R
-all_given [] = []
-all_given (e ∷ events) = option_to_list (given e) ++ all_given events
+abbrev pub resources_of_events : {R : Type 0} → List (Event R) → List R
+resources_of_events [] = []
+resources_of_events (e ∷ events) = option_to_list (resource_of_event e) ++ resources_of_events events
 
-abbrev pub all_handed : {R : Type 0} → List (Reply R) → List R
-all_handed [] = []
-all_handed (r ∷ replies) = option_to_list (handed r) ++ all_handed replies
+abbrev pub resources_of_replies : {R : Type 0} → List (Reply R) → List R
+resources_of_replies [] = []
+resources_of_replies (r ∷ replies) = option_to_list (resource_of_reply r) ++ resources_of_replies replies

@@ -10,7 +10,7 @@ use Rattle.jlr_barrier.specs.Graphs.{empty_known}
 use Rattle.jlr_event.specs.declared.event.Event.{Event}
 use Rattle.jlr_event.specs.declared.event.Reply.{Reply}
 use Rattle.jlr_event.specs.declared.event.Reply.TheVariants.{Marked}
-use Rattle.jlr_event.specs.Events.{ask_of, answer_in, given, handed}
+use Rattle.jlr_event.specs.Events.{ask_of, answer_in, resource_of_event, resource_of_reply}
 use Rattle.jlr_core.specs.Cores.{Kept, StandsIn}
 use Rattle.jlr_core.specs.Events.{Enters, WantsMemory, progress_in}
 use Rattle.jlr_core.specs.Flows.{Conserves, GoesOut, Moves}
@@ -31,10 +31,10 @@ pub record Steps {R : Type 0} (old : Kept R) (event : Event R) (reply : Reply R)
   pub entry : (m : Machine) → StandsIn old m → (n : Machine) × Enters m (ask_of event) (answer_in reply) chosen n × StandsIn new n
   -- no file or socket is made or lost; at one Rid at most lies something else then, and what goes out is what lay there. The table is that
   -- of the machine's resources, so what comes in lies at the Rid that the machine says
-  pub flow : Conserves (given event) old.table (handed reply) new.table
-  pub moves : Moves (given event) old.table (handed reply) new.table
+  pub flow : Conserves (resource_of_event event) old.table (resource_of_reply reply) new.table
+  pub moves : Moves (resource_of_event event) old.table (resource_of_reply reply) new.table
   pub listed : resources new.table ≡ new.machine.resources
-  pub goes_out : GoesOut old.table (given event) (answer_in reply) (handed reply)
+  pub goes_out : GoesOut old.table (resource_of_event event) (answer_in reply) (resource_of_reply reply)
   pub memory : WantsMemory old.machine old.table (ask_of event) (answer_in reply)
   pub marking : ask_of event ≡ None → reply ≡ Marked (progress_in old.machine)
   pub collects : ask_of event ≡ Some Collect → answer_in reply ≡ Some (Truth old.machine.cycle_open)

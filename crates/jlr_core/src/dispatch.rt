@@ -3,7 +3,7 @@ ghost use Rattle.std.specs.Prelude.{◌≡◌, ◌≤◌, length, None, Some};
 ghost use Rattle.jlr_machine.specs.Choices.{nothing_chosen};
 ghost use Rattle.jlr_machine.specs.WellFormed.{IsWellFormed};
 ghost use Rattle.jlr_core.specs.State.{answer_of};
-ghost use Rattle.jlr_event.specs.Events.{ask_of, answer_in, given, handed};
+ghost use Rattle.jlr_event.specs.Events.{ask_of, answer_in, resource_of_event, resource_of_reply};
 ghost use Rattle.jlr_core.specs.Events.{progress_in, StepsBy, WantsMemory};
 ghost use Rattle.jlr_core.specs.Flows.{Conserves, GoesOut, Moves};
 ghost use Rattle.jlr_core.specs.TakeUps.{clean_answer, handed_out, take_up_answered};
@@ -25,9 +25,9 @@ impl<R> State<R> {
         requires nothing { choice.old ≡ nothing_chosen choice.old.cells }
         requires room { length self.old.heap.graph.objects ≤ choice.old.cells }
         ensures entry { StepsBy (machine_of self.old) (ask_of event) (answer_in result) choice.new.chosen (machine_of self.new) }
-        ensures flow { Conserves (given event) self.old.cleaner.table (handed result) self.new.cleaner.table }
-        ensures moves { Moves (given event) self.old.cleaner.table (handed result) self.new.cleaner.table }
-        ensures goes_out { GoesOut self.old.cleaner.table (given event) (answer_in result) (handed result) }
+        ensures flow { Conserves (resource_of_event event) self.old.cleaner.table (resource_of_reply result) self.new.cleaner.table }
+        ensures moves { Moves (resource_of_event event) self.old.cleaner.table (resource_of_reply result) self.new.cleaner.table }
+        ensures goes_out { GoesOut self.old.cleaner.table (resource_of_event event) (answer_in result) (resource_of_reply result) }
         ensures memory { WantsMemory (machine_of self.old) self.old.cleaner.table (ask_of event) (answer_in result) }
         ensures marking { ask_of event ≡ None → result ≡ Reply.Marked (progress_in (machine_of self.old)) }
         ensures collects { ask_of event ≡ Some Ask.Collect → answer_in result ≡ Some (Answer.Truth self.old.cycle_open) }

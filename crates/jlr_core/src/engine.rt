@@ -4,7 +4,7 @@ ghost use Rattle.jlr_machine.specs.declared.machine.Machine.{Machine};
 ghost use Rattle.jlr_machine.specs.Run.{empty, empty_from};
 ghost use Rattle.jlr_resource.specs.Resources.{resources, values};
 ghost use Rattle.jlr_barrier.specs.Graphs.{empty_known};
-ghost use Rattle.jlr_event.specs.Events.{ask_of, answer_in, given, handed};
+ghost use Rattle.jlr_event.specs.Events.{ask_of, answer_in, resource_of_event, resource_of_reply};
 ghost use Rattle.jlr_core.specs.Events.{progress_in, Enters, WantsMemory};
 ghost use Rattle.jlr_core.specs.Flows.{Conserves, GoesOut, Moves};
 ghost use Rattle.jlr_core.specs.Policy.{KeepsByPolicy, clock_after};
@@ -79,9 +79,9 @@ impl<R> Core<R> {
         requires room { length self.old.machine.objects ≤ choice.old.cells }
         ensures entry { (m : Machine) → StandsIn self.old m →
             (n : Machine) × Enters m (ask_of event) (answer_in result) choice.new.chosen n × StandsIn self.new n }
-        ensures flow { Conserves (given event) self.old.table (handed result) self.new.table }
-        ensures moves { Moves (given event) self.old.table (handed result) self.new.table }
-        ensures goes_out { GoesOut self.old.table (given event) (answer_in result) (handed result) }
+        ensures flow { Conserves (resource_of_event event) self.old.table (resource_of_reply result) self.new.table }
+        ensures moves { Moves (resource_of_event event) self.old.table (resource_of_reply result) self.new.table }
+        ensures goes_out { GoesOut self.old.table (resource_of_event event) (answer_in result) (resource_of_reply result) }
         ensures listed { resources self.new.table ≡ self.new.machine.resources }
         ensures memory { WantsMemory self.old.machine self.old.table (ask_of event) (answer_in result) }
         ensures marking { ask_of event ≡ None → result ≡ Reply.Marked (progress_in self.old.machine) }

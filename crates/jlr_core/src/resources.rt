@@ -12,7 +12,7 @@ ghost use Rattle.jlr_machine.specs.Calls.{call_answer, new_handle, opened};
 ghost use Rattle.jlr_machine.specs.Run.{no_choice};
 ghost use Rattle.jlr_machine.specs.WellFormed.{IsWellFormed};
 ghost use Rattle.jlr_resource.specs.Resources.{state_at};
-ghost use Rattle.jlr_event.specs.Events.{answer_in, handed, outcome_of, resource_of};
+ghost use Rattle.jlr_event.specs.Events.{answer_in, resource_of_reply, outcome_of, resource_of};
 ghost use Rattle.jlr_core.specs.Events.{StepsBy};
 ghost use Rattle.jlr_core.specs.Flows.{Conserves, GoesOut, Moves};
 ghost use Rattle.jlr_core.specs.Guards.{HoldsGuard, IsGuardNamed, IsIdleAt, fenced_guard, is_spent_at};
@@ -89,9 +89,9 @@ impl<R> State<R> {
         requires { IsWellFormed (machine_of self.old) }
         ensures entry { StepsBy (machine_of self.old) (Some (Ask.Opened by (outcome_of outcome))) (answer_in result) no_choice (machine_of self.new) }
         ensures memory { answer_in result ≡ Some (Answer.Refused Refusal.NoMemory) → ⊥ }
-        ensures flow { Conserves (resource_of outcome) self.old.cleaner.table (handed result) self.new.cleaner.table }
-        ensures moves { Moves (resource_of outcome) self.old.cleaner.table (handed result) self.new.cleaner.table }
-        ensures goes_out { GoesOut self.old.cleaner.table (resource_of outcome) (answer_in result) (handed result) }
+        ensures flow { Conserves (resource_of outcome) self.old.cleaner.table (resource_of_reply result) self.new.cleaner.table }
+        ensures moves { Moves (resource_of outcome) self.old.cleaner.table (resource_of_reply result) self.new.cleaner.table }
+        ensures goes_out { GoesOut self.old.cleaner.table (resource_of outcome) (answer_in result) (resource_of_reply result) }
         ensures cells { length self.new.heap.graph.objects ≡ length self.old.heap.graph.objects }
         ensures age { self.new.soft_age ≡ self.old.soft_age }
         ensures clock { self.new.heap.clock ≡ self.old.heap.clock }
@@ -236,9 +236,9 @@ impl<R> State<R> {
         requires { IsWellFormed (machine_of self.old) }
         ensures entry { StepsBy (machine_of self.old) (Some (Ask.CheckOut by guard)) (answer_in result) no_choice (machine_of self.new) }
         ensures memory { answer_in result ≡ Some (Answer.Refused Refusal.NoMemory) → ⊥ }
-        ensures flow { Conserves None self.old.cleaner.table (handed result) self.new.cleaner.table }
-        ensures moves { Moves None self.old.cleaner.table (handed result) self.new.cleaner.table }
-        ensures goes_out { GoesOut self.old.cleaner.table None (answer_in result) (handed result) }
+        ensures flow { Conserves None self.old.cleaner.table (resource_of_reply result) self.new.cleaner.table }
+        ensures moves { Moves None self.old.cleaner.table (resource_of_reply result) self.new.cleaner.table }
+        ensures goes_out { GoesOut self.old.cleaner.table None (answer_in result) (resource_of_reply result) }
         ensures cells { length self.new.heap.graph.objects ≡ length self.old.heap.graph.objects }
         ensures age { self.new.soft_age ≡ self.old.soft_age }
         ensures clock { self.new.heap.clock ≡ self.old.heap.clock }
@@ -268,9 +268,9 @@ impl<R> State<R> {
         requires { IsWellFormed (machine_of self.old) }
         ensures entry { StepsBy (machine_of self.old) (Some (Ask.CheckIn by outcome)) (answer_in result) no_choice (machine_of self.new) }
         ensures memory { answer_in result ≡ Some (Answer.Refused Refusal.NoMemory) → ⊥ }
-        ensures flow { Conserves (Some resource) self.old.cleaner.table (handed result) self.new.cleaner.table }
-        ensures moves { Moves (Some resource) self.old.cleaner.table (handed result) self.new.cleaner.table }
-        ensures goes_out { GoesOut self.old.cleaner.table (Some resource) (answer_in result) (handed result) }
+        ensures flow { Conserves (Some resource) self.old.cleaner.table (resource_of_reply result) self.new.cleaner.table }
+        ensures moves { Moves (Some resource) self.old.cleaner.table (resource_of_reply result) self.new.cleaner.table }
+        ensures goes_out { GoesOut self.old.cleaner.table (Some resource) (answer_in result) (resource_of_reply result) }
         ensures cells { length self.new.heap.graph.objects ≡ length self.old.heap.graph.objects }
         ensures age { self.new.soft_age ≡ self.old.soft_age }
         ensures clock { self.new.heap.clock ≡ self.old.heap.clock }

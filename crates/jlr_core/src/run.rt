@@ -2,7 +2,7 @@
 ghost use Rattle.std.specs.Prelude.{◌≡◌, ◌++◌, IfOk, length};
 ghost use Rattle.std.specs.List.Sorted.{IsPermutation};
 ghost use Rattle.jlr_resource.specs.Resources.{values};
-ghost use Rattle.jlr_core.specs.Runs.{IsRunOf, all_given, all_handed};
+ghost use Rattle.jlr_core.specs.Runs.{IsRunOf, resources_of_events, resources_of_replies};
 
 use crate::engine::Core;
 use jlr_event::event::{Event, Reply};
@@ -25,7 +25,7 @@ pub fn run<R: Drop>(
     ensures run { IfOk result (λ out. IsRunOf limits events.items out.0.items out.1) }
     ensures cells { IfOk result (λ out. length out.1.machine.objects ≡ limits.cells) }
     ensures age { IfOk result (λ out. out.1.soft_age ≡ limits.soft_age) }
-    ensures flow { IfOk result (λ out. IsPermutation (all_given events.items) (all_handed out.0.items ++ values out.1.table)) }
+    ensures flow { IfOk result (λ out. IsPermutation (resources_of_events events.items) (resources_of_replies out.0.items ++ values out.1.table)) }
 {
     let mut core = Core::new(alloc, limits)?;
     let mut choice = Choice::new(alloc, limits.cells)?;

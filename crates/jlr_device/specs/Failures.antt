@@ -10,5 +10,5 @@ abbrev pub Fits : ℕ → Type 0
 Fits count = count + 1 < 2 ^ 64
 
 -- the count is at its last value
-abbrev pub IsFull : ℕ → Type 0
-IsFull count = count + 1 ≡ 2 ^ 64
+abbrev pub IsHighest : ℕ → Type 0
+IsHighest count = count + 1 ≡ 2 ^ 64

@@ -2,7 +2,7 @@
 //! its last value, 2^64 - 1, no call is made, and the answer is `Other`.
 ghost use Rattle.std.specs.Prelude.{◌≡◌, ◌+◌, ◌^◌, ◌<◌, ◌≤◌, ◌⊎◌, Err, length, IfOk};
 ghost use Rattle.jlr_types.specs.declared.Fault.TheVariants as fault;
-ghost use Rattle.jlr_device.specs.Failures.{Counts, Fits, IsFull};
+ghost use Rattle.jlr_device.specs.Failures.{Counts, Fits, IsHighest};
 
 use crate::device::{Device, Mode};
 use crate::resource::{Finished, Resource};
@@ -11,10 +11,10 @@ use jlr_types::Fault;
 /// Opens a file.
 pub fn guarded_open<D: Device>(device: &mut D, mode: Mode, path: &str) -> Result<D::Res, Fault>
     ensures fresh { IfOk result (λ resource. D.Res.count resource ≡ 0) }
-    ensures either { Fits (D.count device.old) ⊎ IsFull (D.count device.old) }
+    ensures either { Fits (D.count device.old) ⊎ IsHighest (D.count device.old) }
     ensures counted { Fits (D.count device.old) → Counts (D.count device.old) result (D.count device.new) }
     ensures told { Fits (D.count device.old) → D.may_open device.old mode path.now result device.new }
-    ensures uncalled { IsFull (D.count device.old) → (result ≡ Err fault.Other) × (device.new ≡ device.old) }
+    ensures uncalled { IsHighest (D.count device.old) → (result ≡ Err fault.Other) × (device.new ≡ device.old) }
 {
     if device.failures() == u64::MAX {
         return Err(Fault::Other);
@@ -25,10 +25,10 @@ pub fn guarded_open<D: Device>(device: &mut D, mode: Mode, path: &str) -> Result
 /// Joins a socket.
 pub fn guarded_connect<D: Device>(device: &mut D, path: &str) -> Result<D::Res, Fault>
     ensures fresh { IfOk result (λ resource. D.Res.count resource ≡ 0) }
-    ensures either { Fits (D.count device.old) ⊎ IsFull (D.count device.old) }
+    ensures either { Fits (D.count device.old) ⊎ IsHighest (D.count device.old) }
     ensures counted { Fits (D.count device.old) → Counts (D.count device.old) result (D.count device.new) }
     ensures told { Fits (D.count device.old) → D.may_connect device.old path.now result device.new }
-    ensures uncalled { IsFull (D.count device.old) → (result ≡ Err fault.Other) × (device.new ≡ device.old) }
+    ensures uncalled { IsHighest (D.count device.old) → (result ≡ Err fault.Other) × (device.new ≡ device.old) }
 {
     if device.failures() == u64::MAX {
         return Err(Fault::Other);
@@ -39,10 +39,10 @@ pub fn guarded_connect<D: Device>(device: &mut D, path: &str) -> Result<D::Res, 
 /// Reads bytes to the front of `buf`, and answers how many; 0 at the end.
 pub fn guarded_read<R: Resource>(resource: &mut R, buf: &mut [u8]) -> Result<usize, Fault>
     ensures bound { IfOk result (λ n. n ≤ length buf.old) }
-    ensures either { Fits (R.count resource.old) ⊎ IsFull (R.count resource.old) }
+    ensures either { Fits (R.count resource.old) ⊎ IsHighest (R.count resource.old) }
     ensures counted { Fits (R.count resource.old) → Counts (R.count resource.old) result (R.count resource.new) }
     ensures told { Fits (R.count resource.old) → R.may_read resource.old buf.old result buf.new resource.new }
-    ensures uncalled { IsFull (R.count resource.old) → (result ≡ Err fault.Other) × (buf.new ≡ buf.old) × (resource.new ≡ resource.old) }
+    ensures uncalled { IsHighest (R.count resource.old) → (result ≡ Err fault.Other) × (buf.new ≡ buf.old) × (resource.new ≡ resource.old) }
 {
     if resource.failures() == u64::MAX {
         return Err(Fault::Other);
@@ -53,10 +53,10 @@ pub fn guarded_read<R: Resource>(resource: &mut R, buf: &mut [u8]) -> Result<usi
 /// Writes bytes of the front of `bytes`, and answers how many, which may be fewer than there are.
 pub fn guarded_write<R: Resource>(resource: &mut R, bytes: &[u8]) -> Result<usize, Fault>
     ensures bound { IfOk result (λ n. n ≤ length bytes.now) }
-    ensures either { Fits (R.count resource.old) ⊎ IsFull (R.count resource.old) }
+    ensures either { Fits (R.count resource.old) ⊎ IsHighest (R.count resource.old) }
     ensures counted { Fits (R.count resource.old) → Counts (R.count resource.old) result (R.count resource.new) }
     ensures told { Fits (R.count resource.old) → R.may_write resource.old bytes.now result resource.new }
-    ensures uncalled { IsFull (R.count resource.old) → (result ≡ Err fault.Other) × (resource.new ≡ resource.old) }
+    ensures uncalled { IsHighest (R.count resource.old) → (result ≡ Err fault.Other) × (resource.new ≡ resource.old) }
 {
     if resource.failures() == u64::MAX {
         return Err(Fault::Other);
@@ -66,10 +66,10 @@ pub fn guarded_write<R: Resource>(resource: &mut R, bytes: &[u8]) -> Result<usiz
 
 /// Ends a resource. Where its count is at its last value it is dropped without its `finish`.
 pub fn guarded_finish<R: Resource + Drop>(resource: R) -> Finished
-    ensures either { Fits (R.count resource) ⊎ IsFull (R.count resource) }
+    ensures either { Fits (R.count resource) ⊎ IsHighest (R.count resource) }
     ensures counted { Fits (R.count resource) → Counts (R.count resource) result.outcome result.failures }
     ensures told { Fits (R.count resource) → R.may_finish resource result }
-    ensures uncalled { IsFull (R.count resource) → (result.outcome ≡ Err fault.Other) × (result.failures ≡ R.count resource) }
+    ensures uncalled { IsHighest (R.count resource) → (result.outcome ≡ Err fault.Other) × (result.failures ≡ R.count resource) }
 {
     let failures = resource.failures();
     if failures == u64::MAX {

@@ -66,10 +66,10 @@ ask_of Abandon = Some ask.Abandon
 ask_of (Mark budget) = None
 
 -- the resource that an event hands in
-abbrev pub given : {R : Type 0} → Event R → Option R
-given (Opened k outcome) = resource_of outcome
-given (CheckIn k outcome resource) = Some resource
-given _ = None
+abbrev pub resource_of_event : {R : Type 0} → Event R → Option R
+resource_of_event (Opened k outcome) = resource_of outcome
+resource_of_event (CheckIn k outcome resource) = Some resource
+resource_of_event _ = None
 
 -- the answer of a reply; none for a piece of marking
 abbrev pub answer_in : {R : Type 0} → Reply R → Option Answer
@@ -77,6 +77,6 @@ answer_in (Answered answer resource) = Some answer
 answer_in (Marked progress) = None
 
 -- the resource that a reply hands out
-abbrev pub handed : {R : Type 0} → Reply R → Option R
-handed (Answered answer resource) = resource
-handed (Marked progress) = None
+abbrev pub resource_of_reply : {R : Type 0} → Reply R → Option R
+resource_of_reply (Answered answer resource) = resource
+resource_of_reply (Marked progress) = None

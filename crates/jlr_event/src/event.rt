@@ -1,6 +1,6 @@
 //! What comes to the core, and what goes back: an ask or an answer with the resource that it carries.
 ghost use Rattle.std.specs.Prelude.{◌≡◌};
-ghost use Rattle.jlr_event.specs.Events.{ask_of, answer_in, handed};
+ghost use Rattle.jlr_event.specs.Events.{ask_of, answer_in, resource_of_reply};
 
 use crate::asks::{
     cleaner_ask, field_ask, heap_ask, name_ask, object_ask, queue_ask, reference_ask, resource_ask,
@@ -256,7 +256,7 @@ impl<R> Event<R> {
 impl<R> Reply<R> {
     /// The answer, and the resource that goes with it. There are none for `Mark`. Takes no memory.
     pub fn plain(self) -> (Option<Answer>, Option<R>)
-        ensures { result ≡ (answer_in self, handed self) }
+        ensures { result ≡ (answer_in self, resource_of_reply self) }
     {
         match self {
             Reply::Answered { answer, resource } => (Some(answer), resource),

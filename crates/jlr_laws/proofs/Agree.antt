@@ -317,11 +317,6 @@ module _ (heap : Heap) (B kept pending : List ℕ) (c : IsCollection heap B kept
   soft_edge_back x y (inl e) = inl (strong_back Soft Dropped heap c.soft_left c.soft.1 dropped x y e)
   soft_edge_back x y (inr e) = inr (e.0, e.1, referent_back Soft Dropped heap c.soft_left c.soft.1 dropped e.0 x y e.2)
 
-  -- so nothing is kept that B does not reach strongly or softly
-  pub kept_is_softly : (s : ℕ) → s ∈ kept → IsReached UpToSoft heap B s
-  kept_is_softly s m =
-      carried UpToSoft c.soft_left B (IsReached UpToSoft heap B) (λ x y p e. one_edge_more UpToSoft heap B x y p (soft_edge_back x y e)) (at_base UpToSoft heap B) s (kept_is_live s m)
-
   -- a strong or soft edge that the soft clearing left stays to the end
   pub soft_to_last : (x y : ℕ) → HasEdge UpToSoft c.soft_left x y → HasEdge UpToPhantom c.phantom_left x y
   soft_to_last x y (inl e) =

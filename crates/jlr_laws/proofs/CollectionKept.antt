@@ -250,9 +250,6 @@ module _ (m : Machine) (B kept pending : List ℕ) (w : IsWellFormed m) (l : IsL
   abbrev n : Machine
   n = after_collection m kept pending
 
-  abbrev handed_now : ℕ → Bool
-  handed_now s = pending ∋ s
-
   at_new : (s : ℕ) → at heap s ≡ cond (kept ∋ s) (option_map (left_of kept (pending ∋ s)) (at m.objects s)) None
   at_new s = at-places_left kept pending 0 m.objects s s (omega arith)
 

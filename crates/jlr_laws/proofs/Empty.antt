@@ -181,6 +181,3 @@ module _ (cells session_count limit next_action : ℕ) where
 
 pub empty_is_well_formed : (cells session_count limit : ℕ) → cells ≤ 65536 → session_count ≤ 64 → IsWellFormed (empty cells session_count limit)
 empty_is_well_formed cells session_count limit = empty_from_is_well_formed cells session_count limit 1 (omega arith)
-
-pub empty_is_an_image : (cells session_count limit : ℕ) → cells ≤ 65536 → session_count ≤ 64 → IsImage (empty cells session_count limit)
-empty_is_an_image cells session_count limit = empty_from_is_an_image cells session_count limit 1 (omega arith)

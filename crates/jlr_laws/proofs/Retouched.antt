@@ -5,7 +5,7 @@ use Rattle.std.proofs.lemmas.Bool.{cases_eq, both_ways}
 use Rattle.jlr_machine.specs.declared.object.Object.{Object}
 use Rattle.jlr_machine.specs.declared.object.Object.TheVariants.{Reference, Queue, Cleanable, Guard}
 use Rattle.jlr_machine.specs.declared.object.Cleanable.{Cleanable as CleanableOf}
-use Rattle.jlr_machine.specs.declared.object.CleanState.TheVariants.{Armed, Pending as PendingClean}
+use Rattle.jlr_machine.specs.declared.object.CleanState.TheVariants.{Armed}
 use Rattle.jlr_machine.specs.declared.machine.Machine.{Machine}
 use Rattle.jlr_machine.specs.declared.machine.ResourceState.TheVariants.{Opening}
 use Rattle.jlr_machine.specs.Objects.{Heap, at, ◌∈◌, as_reference, as_cleanable}
@@ -31,9 +31,6 @@ module _ (m : Machine) (heap : Heap) (s : ℕ) (old new : CleanableOf) (x : IsRe
 
   pub not_armed : new.state ≡ Armed → ⊥
   not_armed e = absurd (cc (ap is_active e, x.passive))
-
-  pub not_pending : new.state ≡ PendingClean → ⊥
-  not_pending e = absurd (cc (ap is_active e, x.passive))
 
   -- what is no cleanable is as it was
   pub back : (t : ℕ) (o : Object) → as_cleanable o ≡ None → at heap t ≡ Some o → at m.objects t ≡ Some o

@@ -1,5 +1,5 @@
 -- Runs found legal by a test that computes, and the worked rows by it.
-use Rattle.std.proofs.Common.{◌≡◌, ℕ, ◌≤◌, Bool, true, false, ◌&&◌, List, [], ◌∷◌, length, refl}
+use Rattle.std.proofs.Common.{◌≡◌, ℕ, ◌≤◌, Bool, true, false, ◌&&◌, List, [], ◌∷◌, length, refl, arith}
 use Rattle.std.proofs.lemmas.Bool.{both_ways, and_parts}
 use Rattle.jlr_machine.specs.declared.machine.Machine.{Machine}
 use Rattle.jlr_machine.specs.declared.entry.Entry.{Entry}
@@ -36,5 +36,5 @@ pub never_legal : (cells sessions resources : ℕ) (entries : List Entry) (e : E
     → is_legal (after_all (empty cells sessions resources) entries) e ≡ false → ¬ (IsLegal (after_all (empty cells sessions resources) entries) e)
 never_legal cells sessions resources entries e small few h wrong legal =
     let m = after_all (empty cells sessions resources) entries in
-    let w = runs_are_well_formed cells sessions resources m entries small few (run_by_test (empty cells sessions resources) entries h) in
+    let w = runs_are_well_formed cells sessions resources 1 m entries (omega arith) small few (run_by_test (empty cells sessions resources) entries h) in
     both_ways (is_legal m e) wrong ((legality_is_decided m e w).1 legal)

@@ -7,19 +7,19 @@ use Rattle.jlr_machine.specs.declared.machine.Machine.{Machine}
 use Rattle.jlr_machine.specs.declared.machine.Resource.{Resource}
 use Rattle.jlr_machine.specs.declared.machine.ResourceState.{ResourceState}
 use Rattle.jlr_machine.specs.declared.machine.ResourceState.TheVariants.{Opening, Idle, Out}
-use Rattle.jlr_machine.specs.Run.{empty}
+use Rattle.jlr_machine.specs.Run.{empty_from}
 use Rattle.jlr_machine.specs.WellFormed.{IsWellFormed, IsUnspent, HasResource}
 use Rattle.jlr_laws.specs.Laws.{RunsAreWellFormed, TakenUpIsAccountedFor, HasArmed, ResourcesInCallsAreArmed}
 use Rattle.jlr_laws.proofs.Frames.{some_same}
-use Rattle.jlr_laws.proofs.Empty.{empty_is_well_formed}
+use Rattle.jlr_laws.proofs.Empty.{empty_from_is_well_formed}
 use Rattle.jlr_laws.proofs.Law.{run_kept}
 
 pub runs_are_well_formed : RunsAreWellFormed
-runs_are_well_formed cells sessions resources n entries small few r =
-    run_kept (empty cells sessions resources) n entries (empty_is_well_formed cells sessions resources small few) r
+runs_are_well_formed cells sessions resources next_action n entries started small few r =
+    run_kept (empty_from cells sessions resources next_action) n entries (empty_from_is_well_formed cells sessions resources next_action started small few) r
 
 pub taken_up_is_accounted_for : TakenUpIsAccountedFor
-taken_up_is_accounted_for cells sessions resources n entries small few r = (runs_are_well_formed cells sessions resources n entries small few r).actions.taken
+taken_up_is_accounted_for cells sessions resources next_action n entries started small few r = (runs_are_well_formed cells sessions resources next_action n entries started small few r).actions.taken
 
 one_state : (m : Machine) (rid action : ℕ) (a b : ResourceState) → HasResource m rid action a → HasResource m rid action b → a ≡ b
 one_state m rid action a b e f = ap (λ (r : Resource). r.state) (some_same (record { rid = rid; action = action; state = a }) (record { rid = rid; action = action; state = b }) (sym e ∙ f))

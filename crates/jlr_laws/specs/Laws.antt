@@ -21,7 +21,7 @@ use Rattle.jlr_machine.specs.Reachable.{IsReached, HasStrength, Reaches, chain_b
 use Rattle.jlr_machine.specs.Collection.{is_ready, without_referent, IsCollection, places_left, made_pending, IsBackground, IsFull, IsFullClearing, after_collection}
 use Rattle.jlr_machine.specs.ReachSet.{reach_set}
 use Rattle.jlr_machine.specs.Refusals.{listed, is_end}
-use Rattle.jlr_machine.specs.Run.{IsLegal, Run, apply, now_seen, empty, empty_from}
+use Rattle.jlr_machine.specs.Run.{IsLegal, Run, apply, now_seen, empty_from}
 use Rattle.jlr_machine.specs.WellFormed.{IsWellFormed, IsCleanableAt, HasResource}
 use Rattle.jlr_machine.specs.Edges.Chain.{Strong, UpToSoft, UpToPhantom}
 
@@ -222,11 +222,11 @@ RunKeepsWellFormed = (m n : Machine) (entries : List Entry) → IsWellFormed m �
 
 -- so each machine that a run from an empty one leads to is well formed
 abbrev pub RunsAreWellFormed : Type 0
-RunsAreWellFormed = (cells sessions resources : ℕ) (n : Machine) (entries : List Entry) → cells ≤ 65536 → sessions ≤ 64 → Run (empty cells sessions resources) entries n → IsWellFormed n
+RunsAreWellFormed = (cells sessions resources next_action : ℕ) (n : Machine) (entries : List Entry) → 1 ≤ next_action → cells ≤ 65536 → sessions ≤ 64 → Run (empty_from cells sessions resources next_action) entries n → IsWellFormed n
 
 -- in which what was taken up ended well, failed, or runs
 abbrev pub TakenUpIsAccountedFor : Type 0
-TakenUpIsAccountedFor = (cells sessions resources : ℕ) (n : Machine) (entries : List Entry) → cells ≤ 65536 → sessions ≤ 64 → Run (empty cells sessions resources) entries n → n.taken ≡ n.ok + n.failed + length n.jobs
+TakenUpIsAccountedFor = (cells sessions resources next_action : ℕ) (n : Machine) (entries : List Entry) → 1 ≤ next_action → cells ≤ 65536 → sessions ≤ 64 → Run (empty_from cells sessions resources next_action) entries n → n.taken ≡ n.ok + n.failed + length n.jobs
 
 -- an Armed cleanable with this action and resource
 abbrev pub HasArmed : Machine → ℕ → ℕ → Type 0

@@ -262,56 +262,50 @@ pub fn is_reply(machine: &Machine, ask: &Ask, answer: &Answer) -> bool
     ensures { result ≡ some_and (same_answer answer.now) (reply machine.now ask.now) }
 {
     match ask {
-        Ask::Join { .. } => is_done(answer),
-        Ask::Leave { .. } => is_done(answer),
-        Ask::New { mutator, .. } => gives_new_handle(machine, *mutator, answer),
-        Ask::Put { .. } => is_done(answer),
-        Ask::Get { mutator, .. } => gives_handle(machine, *mutator, given_by(machine, ask), answer),
-        Ask::SetInt { .. } => is_done(answer),
+        Ask::Join { .. }
+        | Ask::Leave { .. }
+        | Ask::Put { .. }
+        | Ask::SetInt { .. }
+        | Ask::Drop { .. }
+        | Ask::Clear { .. }
+        | Ask::Bind { .. }
+        | Ask::Unbind { .. }
+        | Ask::Full { .. } => is_done(answer),
+        Ask::New { mutator, .. }
+        | Ask::MakeRef { mutator, .. }
+        | Ask::MakeQueue { mutator }
+        | Ask::MakeCleaner { mutator }
+        | Ask::Register { mutator, .. }
+        | Ask::Find { mutator, .. } => gives_new_handle(machine, *mutator, answer),
+        Ask::Get { mutator, .. }
+        | Ask::Dup { mutator, .. }
+        | Ask::Deref { mutator, .. }
+        | Ask::Poll { mutator, .. }
+        | Ask::Remove { mutator, .. } => gives_handle(
+            machine,
+            *mutator,
+            given_by(machine, ask),
+            answer,
+        ),
         Ask::Int {
             mutator,
             object,
             field,
         } => gives_field(machine, *mutator, *object, *field, answer),
-        Ask::Dup { mutator, .. } => gives_handle(machine, *mutator, given_by(machine, ask), answer),
-        Ask::Drop { .. } => is_done(answer),
         Ask::Same {
             mutator,
             left,
             right,
         } => says_same(machine, *mutator, *left, *right, answer),
-        Ask::MakeRef { mutator, .. } => gives_new_handle(machine, *mutator, answer),
-        Ask::Deref { mutator, .. } => gives_handle(
-            machine,
-            *mutator,
-            given_by(machine, ask),
-            answer,
-        ),
         Ask::Refers {
             mutator,
             reference,
             object,
         } => says_refers(machine, *mutator, *reference, *object, answer),
-        Ask::Clear { .. } => is_done(answer),
         Ask::Enqueue { mutator, reference } => says_enqueue(machine, *mutator, *reference, answer),
         Ask::Enqueued { mutator, reference } => says_enqueued(
             machine, *mutator, *reference, answer,
         ),
-        Ask::MakeQueue { mutator } => gives_new_handle(machine, *mutator, answer),
-        Ask::Poll { mutator, .. } => gives_handle(
-            machine,
-            *mutator,
-            given_by(machine, ask),
-            answer,
-        ),
-        Ask::Remove { mutator, .. } => gives_handle(
-            machine,
-            *mutator,
-            given_by(machine, ask),
-            answer,
-        ),
-        Ask::MakeCleaner { mutator } => gives_new_handle(machine, *mutator, answer),
-        Ask::Register { mutator, .. } => gives_new_handle(machine, *mutator, answer),
         Ask::Clean { mutator, cleanable } => gives_clean(machine, *mutator, *cleanable, answer),
         Ask::Prepare { .. } => false,
         Ask::Opened { mutator, outcome } => gives_opened(machine, *mutator, *outcome, answer),
@@ -319,11 +313,7 @@ pub fn is_reply(machine: &Machine, ask: &Ask, answer: &Answer) -> bool
         Ask::CheckIn { outcome, .. } => is_outcome(answer, outcome),
         Ask::Close { mutator, guard } => gives_close(machine, *mutator, *guard, answer),
         Ask::Finish { outcome, .. } => gives_finished(*outcome, answer),
-        Ask::Bind { .. } => is_done(answer),
-        Ask::Find { mutator, .. } => gives_new_handle(machine, *mutator, answer),
-        Ask::Unbind { .. } => is_done(answer),
         Ask::Names { .. } => is_names(answer, machine.names.as_slice()),
-        Ask::Full { .. } => is_done(answer),
         Ask::Stat { .. } => is_stat(answer, counts_of(machine)),
         Ask::Notes { .. } => is_notes(answer, machine.notes.as_slice()),
         Ask::Faults { .. } => is_faults(answer, machine.faults.as_slice()),

@@ -11,14 +11,19 @@ pub fn listed_for(ask: &Ask) -> &'static [Refusal]
 {
     match ask {
         Ask::Join { .. } => &[Refusal::NoSession],
-        Ask::Leave { .. } => &[Refusal::NoSession, Refusal::Busy],
-        Ask::New { .. } => &[
+        Ask::Leave { .. }
+        | Ask::Names { .. }
+        | Ask::Full { .. }
+        | Ask::Stat { .. }
+        | Ask::Notes { .. }
+        | Ask::Faults { .. } => &[Refusal::NoSession, Refusal::Busy],
+        Ask::New { .. } | Ask::MakeQueue { .. } | Ask::MakeCleaner { .. } => &[
             Refusal::NoSession,
             Refusal::Busy,
             Refusal::HandlesFull,
             Refusal::HeapFull,
         ],
-        Ask::Put { .. } => &[
+        Ask::Put { .. } | Ask::SetInt { .. } | Ask::Int { .. } => &[
             Refusal::NoSession,
             Refusal::NoHandle,
             Refusal::Null,
@@ -36,24 +41,6 @@ pub fn listed_for(ask: &Ask) -> &'static [Refusal]
             Refusal::WrongType,
             Refusal::Busy,
             Refusal::HandlesFull,
-        ],
-        Ask::SetInt { .. } => &[
-            Refusal::NoSession,
-            Refusal::NoHandle,
-            Refusal::Null,
-            Refusal::WrongKind,
-            Refusal::NoField,
-            Refusal::WrongType,
-            Refusal::Busy,
-        ],
-        Ask::Int { .. } => &[
-            Refusal::NoSession,
-            Refusal::NoHandle,
-            Refusal::Null,
-            Refusal::WrongKind,
-            Refusal::NoField,
-            Refusal::WrongType,
-            Refusal::Busy,
         ],
         Ask::Dup { .. } => &[
             Refusal::NoSession,
@@ -78,7 +65,7 @@ pub fn listed_for(ask: &Ask) -> &'static [Refusal]
             Refusal::HandlesFull,
             Refusal::HeapFull,
         ],
-        Ask::Deref { .. } => &[
+        Ask::Deref { .. } | Ask::Poll { .. } => &[
             Refusal::NoSession,
             Refusal::NoHandle,
             Refusal::Null,
@@ -86,47 +73,17 @@ pub fn listed_for(ask: &Ask) -> &'static [Refusal]
             Refusal::Busy,
             Refusal::HandlesFull,
         ],
-        Ask::Refers { .. } => &[
+        Ask::Refers { .. }
+        | Ask::Clear { .. }
+        | Ask::Enqueue { .. }
+        | Ask::Enqueued { .. }
+        | Ask::Clean { .. }
+        | Ask::Close { .. } => &[
             Refusal::NoSession,
             Refusal::NoHandle,
             Refusal::Null,
             Refusal::WrongKind,
             Refusal::Busy,
-        ],
-        Ask::Clear { .. } => &[
-            Refusal::NoSession,
-            Refusal::NoHandle,
-            Refusal::Null,
-            Refusal::WrongKind,
-            Refusal::Busy,
-        ],
-        Ask::Enqueue { .. } => &[
-            Refusal::NoSession,
-            Refusal::NoHandle,
-            Refusal::Null,
-            Refusal::WrongKind,
-            Refusal::Busy,
-        ],
-        Ask::Enqueued { .. } => &[
-            Refusal::NoSession,
-            Refusal::NoHandle,
-            Refusal::Null,
-            Refusal::WrongKind,
-            Refusal::Busy,
-        ],
-        Ask::MakeQueue { .. } => &[
-            Refusal::NoSession,
-            Refusal::Busy,
-            Refusal::HandlesFull,
-            Refusal::HeapFull,
-        ],
-        Ask::Poll { .. } => &[
-            Refusal::NoSession,
-            Refusal::NoHandle,
-            Refusal::Null,
-            Refusal::WrongKind,
-            Refusal::Busy,
-            Refusal::HandlesFull,
         ],
         Ask::Remove { .. } => &[
             Refusal::NoSession,
@@ -136,12 +93,6 @@ pub fn listed_for(ask: &Ask) -> &'static [Refusal]
             Refusal::Busy,
             Refusal::WouldWait,
             Refusal::HandlesFull,
-        ],
-        Ask::MakeCleaner { .. } => &[
-            Refusal::NoSession,
-            Refusal::Busy,
-            Refusal::HandlesFull,
-            Refusal::HeapFull,
         ],
         Ask::Register { .. } => &[
             Refusal::NoSession,
@@ -153,13 +104,6 @@ pub fn listed_for(ask: &Ask) -> &'static [Refusal]
             Refusal::Exhausted,
             Refusal::HeapFull,
         ],
-        Ask::Clean { .. } => &[
-            Refusal::NoSession,
-            Refusal::NoHandle,
-            Refusal::Null,
-            Refusal::WrongKind,
-            Refusal::Busy,
-        ],
         Ask::Prepare { .. } => &[
             Refusal::NoSession,
             Refusal::Busy,
@@ -168,7 +112,10 @@ pub fn listed_for(ask: &Ask) -> &'static [Refusal]
             Refusal::Exhausted,
             Refusal::HeapFull,
         ],
-        Ask::Opened { .. } => &[Refusal::NoSession, Refusal::NotOut],
+        Ask::Opened { .. } | Ask::CheckIn { .. } | Ask::Finish { .. } => &[
+            Refusal::NoSession,
+            Refusal::NotOut,
+        ],
         Ask::CheckOut { .. } => &[
             Refusal::NoSession,
             Refusal::NoHandle,
@@ -177,15 +124,6 @@ pub fn listed_for(ask: &Ask) -> &'static [Refusal]
             Refusal::Closed,
             Refusal::Busy,
         ],
-        Ask::CheckIn { .. } => &[Refusal::NoSession, Refusal::NotOut],
-        Ask::Close { .. } => &[
-            Refusal::NoSession,
-            Refusal::NoHandle,
-            Refusal::Null,
-            Refusal::WrongKind,
-            Refusal::Busy,
-        ],
-        Ask::Finish { .. } => &[Refusal::NoSession, Refusal::NotOut],
         Ask::Bind { .. } => &[
             Refusal::NoSession,
             Refusal::NoHandle,
@@ -200,15 +138,7 @@ pub fn listed_for(ask: &Ask) -> &'static [Refusal]
             Refusal::HandlesFull,
         ],
         Ask::Unbind { .. } => &[Refusal::NoSession, Refusal::NoName, Refusal::Busy],
-        Ask::Names { .. } => &[Refusal::NoSession, Refusal::Busy],
-        Ask::Full { .. } => &[Refusal::NoSession, Refusal::Busy],
-        Ask::Stat { .. } => &[Refusal::NoSession, Refusal::Busy],
-        Ask::Notes { .. } => &[Refusal::NoSession, Refusal::Busy],
-        Ask::Faults { .. } => &[Refusal::NoSession, Refusal::Busy],
-        Ask::HandOver => &[],
+        Ask::HandOver | Ask::Begin | Ask::Collect | Ask::Abandon => &[],
         Ask::TakeUp => &[Refusal::Busy],
-        Ask::Begin => &[],
-        Ask::Collect => &[],
-        Ask::Abandon => &[],
     }
 }

@@ -9,13 +9,20 @@ use Rattle.jlr_machine.specs.Edges.{Chain, edges, edges_from}
 use Rattle.jlr_machine.specs.Reachable.{IsReached}
 use Rattle.jlr_machine.specs.ReachSet.{reach_set}
 use Rattle.jlr_laws.specs.Laws.{IsWithinHeap, only}
-use Rattle.jlr_plain_collections.specs.Marks.{is_marked, IsMarked, marked, Marks, Passes, LedTo, Marking}
+use Rattle.jlr_plain_collections.specs.Marks.{is_marked, IsMarked, marked, Marks, Passes, LedTo}
 use Rattle.jlr_laws.proofs.Sets.{nothing, in_front, in_rest, in_cons}
 use Rattle.jlr_plain_collections.proofs.Slow.{same_bools}
 use Rattle.jlr_laws.proofs.Clearing.{edge_gives, edge_from, in_append, in_left, in_right}
 use Rattle.jlr_laws.proofs.Agree.{one_edge_more, carried, at_base}
 use Rattle.jlr_laws.proofs.Only.{at-only}
 use Rattle.jlr_laws.proofs.Decided.{Decides-inside}
+
+-- marked is only what the chain reaches from B, and once nothing changes, all of that
+pub record MarksReached (chain : Chain) (heap : Heap) (B : List ℕ) (marks : List Bool) (changed : Bool) : Type 0 where
+  pub long : length marks ≡ length heap
+  pub sound : (s : ℕ) → IsMarked marks s → IsReached chain heap B s
+  pub base : (s : ℕ) → s ∈ B → IsMarked marks s
+  pub closed : changed ≡ false → (x s : ℕ) → IsMarked marks x → s ∈ edges_from chain heap x → IsMarked marks s
 
 -- one more is marked
 count_marks : (marks : List Bool) (s : ℕ) → s < length marks → is_marked marks s ≡ false → marked (set marks s true) ≡ marked marks + 1
@@ -211,7 +218,7 @@ unmarked_at zero s = refl
 unmarked_at (suc n) zero = refl
 unmarked_at (suc n) (suc s) = unmarked_at n s
 
-pub marking_begins : (chain : Chain) (heap : Heap) (B : List ℕ) (marks : List Bool) (n : ℕ) (c : Bool) → n ≡ length heap → Marks (λ s. s ∈ B) (replicate n false) marks c → Marking chain heap B marks true
+pub marking_begins : (chain : Chain) (heap : Heap) (B : List ℕ) (marks : List Bool) (n : ℕ) (c : Bool) → n ≡ length heap → Marks (λ s. s ∈ B) (replicate n false) marks c → MarksReached chain heap B marks true
 marking_begins chain heap B marks n c e m =
     record {
       long = m.long ∙ length-replicate n false ∙ e;
@@ -225,7 +232,7 @@ marked_below [] s m = absurd (both_ways false refl m)
 marked_below (b ∷ marks) zero m = omega arith
 marked_below (b ∷ marks) (suc s) m = let h = marked_below marks s m in omega (arith, h)
 
-pub marking_goes_on : (chain : Chain) (heap : Heap) (B : List ℕ) (n : ℕ) (marks new : List Bool) (ch c : Bool) → n ≡ length heap → Marking chain heap B marks ch → Passes chain heap n marks new c → Marking chain heap B new c
+pub marking_goes_on : (chain : Chain) (heap : Heap) (B : List ℕ) (n : ℕ) (marks new : List Bool) (ch c : Bool) → n ≡ length heap → MarksReached chain heap B marks ch → Passes chain heap n marks new c → MarksReached chain heap B new c
 marking_goes_on chain heap B n marks new ch c e k p =
     record {
       long = p.long ∙ k.long;
@@ -246,7 +253,7 @@ fewer_left n marks new false long more same =
     let e = ap marked (same refl) in
     omega (arith, e)
 
-pub marking_ends : (chain : Chain) (heap : Heap) (kept B : List ℕ) (marks : List Bool) → IsWithinHeap heap B → Marking chain (only kept heap) B marks false → (s : ℕ) → is_marked marks s ≡ (reach_set chain (only kept heap) B ∋ s)
+pub marking_ends : (chain : Chain) (heap : Heap) (kept B : List ℕ) (marks : List Bool) → IsWithinHeap heap B → MarksReached chain (only kept heap) B marks false → (s : ℕ) → is_marked marks s ≡ (reach_set chain (only kept heap) B ∋ s)
 marking_ends chain heap kept B marks w k s =
     let d = Decides-inside chain heap kept B w s in
     same_bools (is_marked marks s) (reach_set chain (only kept heap) B ∋ s) (λ m. d.1 (k.sound s m))

@@ -36,13 +36,6 @@ pub record Passes (chain : Chain) (heap : Heap) (n : ℕ) (old new : List Bool) 
 abbrev pub LedTo : Chain → Heap → List Bool → ℕ → ℕ → Type 0
 LedTo chain heap marks x s = IsMarked marks x × (s ∈ edges_from chain heap x)
 
--- marked is only what the chain reaches from B, and once nothing changes, all of that
-pub record Marking (chain : Chain) (heap : Heap) (B : List ℕ) (marks : List Bool) (changed : Bool) : Type 0 where
-  pub long : length marks ≡ length heap
-  pub sound : (s : ℕ) → IsMarked marks s → IsReached chain heap B s
-  pub base : (s : ℕ) → s ∈ B → IsMarked marks s
-  pub closed : changed ≡ false → (x s : ℕ) → IsMarked marks x → s ∈ edges_from chain heap x → IsMarked marks s
-
 -- strong and soft edges, or strong ones alone
 abbrev pub chain_of : Bool → Chain
 chain_of softly = cond softly UpToSoft Strong

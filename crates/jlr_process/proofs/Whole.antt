@@ -20,9 +20,13 @@ use Rattle.jlr_machine.specs.Choices.{Choosing, collecting}
 use Rattle.jlr_barrier.specs.Graphs.{Graph, in_machine}
 use Rattle.jlr_barrier.specs.Marking.{Marking, IsMarked, is_marked}
 use Rattle.jlr_barrier.proofs.Shading.{marked_within}
-use Rattle.jlr_process.specs.Settling.{is_losing, loses, lost_below, marked_below, marked_referent, only_if, settled, settled_object}
+use Rattle.jlr_process.specs.Settling.{is_losing, loses, marked_below, marked_referent, only_if, settled, settled_object}
 
 -- ---- Slots that pass a test, so far
+
+-- the slots below n of what becomes pending, rising
+abbrev pub lost_below : Marking → Heap → ℕ → List ℕ
+lost_below m heap n = filter (is_losing m heap) (up_to 0 n)
 
 up_to_more : (from n : ℕ) → up_to from (suc n) ≡ up_to from n ++ (from + n) ∷ []
 up_to_more from zero = ap (λ k. k ∷ []) (omega arith)

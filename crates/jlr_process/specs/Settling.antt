@@ -40,16 +40,12 @@ with_settled m g s o = record g { objects = slice_set g.objects s (Some (settled
 abbrev pub is_losing : Marking → Heap → ℕ → Bool
 is_losing m heap s = is_marked m s && some_and (loses m) (at heap s)
 
-abbrev pub handed : Marking → Heap → ℕ → List ℕ
-handed m heap s = only_if (is_losing m heap s) s
-
--- the slots below n of what becomes pending, rising
-abbrev pub lost_below : Marking → Heap → ℕ → List ℕ
-lost_below m heap n = filter (is_losing m heap) (up_to 0 n)
+abbrev pub newly_pending : Marking → Heap → ℕ → List ℕ
+newly_pending m heap s = only_if (is_losing m heap s) s
 
 abbrev pub settled_graph : Marking → Graph → ℕ → Graph
-settled_graph m g s = record g { objects = slice_set g.objects s (settled m s (at g.objects s)); pending = g.pending ++ handed m g.objects s }
+settled_graph m g s = record g { objects = slice_set g.objects s (settled m s (at g.objects s)); pending = g.pending ++ newly_pending m g.objects s }
 
 -- the choice says what was kept and what became pending
 abbrev pub settled_choice : Marking → Heap → ℕ → Choosing → Choosing
-settled_choice m heap s c = cond (is_marked m s) (collecting c (kept_by c ++ s ∷ []) (pended_by c ++ handed m heap s)) c
+settled_choice m heap s c = cond (is_marked m s) (collecting c (kept_by c ++ s ∷ []) (pended_by c ++ newly_pending m heap s)) c

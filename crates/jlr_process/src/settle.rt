@@ -6,7 +6,7 @@ ghost use Rattle.jlr_cells.specs.Contents.{kind_of};
 ghost use Rattle.jlr_machine.specs.Collection.{is_ready};
 ghost use Rattle.jlr_machine.specs.Choices.{collecting, kept_by, pended_by};
 ghost use Rattle.jlr_barrier.specs.Marking.{IsMarked};
-ghost use Rattle.jlr_process.specs.Settling.{handed, is_losing, loses, only_if, settled_choice, settled_graph, with_settled};
+ghost use Rattle.jlr_process.specs.Settling.{newly_pending, is_losing, loses, only_if, settled_choice, settled_graph, with_settled};
 
 use jlr_barrier::Heap;
 use jlr_cells::Kind;

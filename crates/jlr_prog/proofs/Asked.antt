@@ -20,7 +20,7 @@ use Rattle.jlr_event.specs.declared.event.Event.{Event}
 use Rattle.jlr_event.specs.declared.event.Event.TheVariants as event
 use Rattle.jlr_event.specs.declared.event.Reply.{Reply}
 use Rattle.jlr_event.specs.declared.event.Reply.TheVariants.{Answered, Marked}
-use Rattle.jlr_event.specs.Events.{ask_of, answer_in, handed, outcome_of}
+use Rattle.jlr_event.specs.Events.{ask_of, answer_in, resource_of_reply, outcome_of}
 use Rattle.jlr_core.specs.Events.{Enters, entry_with}
 use Rattle.jlr_core.specs.Flows.{GoesOut}
 use Rattle.jlr_core.specs.State.{entry_of}
@@ -158,7 +158,7 @@ module _ {R : Type 0} (m : Machine) where
         recorded IsHere Q (event.CheckOut 0 guard) (ask.CheckOut 0 guard) refl h k x reply s
         (λ n answer resource r w here l.
         let o : Machine = apply n (entry_of (ask.CheckOut 0 guard) answer s.chosen) in
-        let goes = subst (λ q. GoesOut h.table None (answer_in q) (handed q)) r s.goes_out in
+        let goes = subst (λ q. GoesOut h.table None (answer_in q) (resource_of_reply q)) r s.goes_out in
         subst (λ q. MatchResult (out_by q) (λ _. IsOut o) (λ _. IsHere o)) (sym r) (out_leads h.table answer resource o goes (check_out_begins n guard answer s.chosen here l))) a;
     ends = λ value e c. let o = second value e c in subst (IsAskFrom IsOut IsHere) (sym o.2) (checked_in_along o.0 o.1);
   }

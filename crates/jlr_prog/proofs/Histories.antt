@@ -21,7 +21,7 @@ use Rattle.jlr_event.specs.declared.event.Event.{Event}
 use Rattle.jlr_event.specs.declared.event.Event.TheVariants.{Join, Leave}
 use Rattle.jlr_event.specs.declared.event.Reply.{Reply}
 use Rattle.jlr_event.specs.declared.event.Reply.TheVariants.{Answered}
-use Rattle.jlr_event.specs.Events.{answer_in, given, handed}
+use Rattle.jlr_event.specs.Events.{answer_in, resource_of_event, resource_of_reply}
 use Rattle.jlr_core.specs.Flows.{GoesOut}
 use Rattle.jlr_core.specs.Cores.{Kept, StandsIn}
 use Rattle.jlr_core.proofs.Ranges.{limits_hold}
@@ -42,7 +42,7 @@ only_ok : {R : Type 0} (h k : Kept R) (event : Event R) (reply : Reply R) (answe
     → reply ≡ answered_ok
 only_ok {R} h k event reply answer resource s is done =
     let ok : reply ≡ Answered Done resource = is ∙ ap {A = Answer} {B = Reply R} (λ a. Answered a resource) done in
-    let goes : resource ≡ None = subst (λ (q : Reply R). GoesOut h.table (given event) (answer_in q) (handed q)) ok s.goes_out in
+    let goes : resource ≡ None = subst (λ (q : Reply R). GoesOut h.table (resource_of_event event) (answer_in q) (resource_of_reply q)) ok s.goes_out in
     ok ∙ ap {A = Option R} {B = Reply R} (λ r. Answered Done r) goes
 
 module _ {R : Type 0} (m : Machine) where

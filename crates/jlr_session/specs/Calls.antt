@@ -6,7 +6,7 @@ use Rattle.jlr_machine.specs.declared.ask.CallOutcome.{CallOutcome}
 use Rattle.jlr_machine.specs.declared.ask.CallOutcome.TheVariants.{Data, Wrote, Failed}
 use Rattle.jlr_device.specs.declared.device.Mode.{Mode}
 use Rattle.jlr_device.specs.declared.resource.Finished.{Finished}
-use Rattle.jlr_device.specs.Failures.{Counts, Fits, IsFull}
+use Rattle.jlr_device.specs.Failures.{Counts, Fits, IsHighest}
 
 -- What the calls of a device may do, its count of failures, and those of its resources.
 pub record Opening (D R : Type 0) : Type 1 where
@@ -25,7 +25,7 @@ pub record Handling (R : Type 0) : Type 1 where
 -- a call was made, told its outcome, and raised the count by one if that is a fault; or the count was at its last value, and none was made
 abbrev pub Calls : {T : Type 0} → ℕ → Result T Fault → ℕ → Type 0 → Type 0 → Type 0
 Calls before outcome after made unmade =
-    (Fits before × Counts before outcome after × made) ⊎ (IsFull before × (outcome ≡ Err Other) × unmade)
+    (Fits before × Counts before outcome after × made) ⊎ (IsHighest before × (outcome ≡ Err Other) × unmade)
 
 -- a file is opened, and no call of it has failed yet
 abbrev pub Opens : {D R : Type 0} → Opening D R → Mode → List ℕ → D → Result R Fault → D → Type 0

@@ -12,9 +12,16 @@ use Rattle.jlr_laws.proofs.Clearing.{HasReferent, edge_from, edge_gives, takes}
 use Rattle.jlr_laws.proofs.Frames.{no_some, place_within}
 use Rattle.jlr_laws.specs.Laws.{followed, IsPathFollowed}
 use Rattle.jlr_barrier.specs.Marking.{Marking, IsMarked, Shaded}
-use Rattle.jlr_sweep.specs.Marking.{IsFollowed, IsMarking, soft_at}
+use Rattle.jlr_sweep.specs.Marking.{IsFollowed, soft_at}
 use Rattle.jlr_laws.proofs.Sets.{nothing, in_front, in_cons}
 use Rattle.jlr_laws.proofs.Clearing.{in_right}
+
+-- While edges are followed from B: what is marked is followed, and a marked slot whose edges were not all followed is grey
+pub record IsMarking (kept : ℕ → Bool) (heap : Heap) (B : List ℕ) (m : Marking) : Type 0 where
+  pub sound : (x : ℕ) → IsMarked m x → IsFollowed kept heap B x
+  pub grey : (x : ℕ) → x ∈ m.grey → IsMarked m x
+  pub traced : (x y : ℕ) → IsMarked m x → y ∈ followed kept heap x → (x ∈ m.grey) ⊎ IsMarked m y
+  pub base : (x : ℕ) → x ∈ B → IsMarked m x
 
 module _ (keeps : ℕ → Bool) (heap : Heap) (B : List ℕ) where
   -- ---- Paths

@@ -1,13 +1,12 @@
--- What is known while a collector follows edges, and which soft references it follows.
-use Rattle.std.specs.Prelude.{ℕ, ◌⊎◌, Bool, List, Option, option_and_then, slice_index_or}
+-- Which soft references a collector follows, and where that leads.
+use Rattle.std.specs.Prelude.{ℕ, Bool, List, Option, option_and_then, slice_index_or}
 use Rattle.jlr_machine.specs.Objects.{Heap, at, ◌∈◌}
 use Rattle.jlr_types.specs.declared.RefKind.TheVariants.{Soft}
 use Rattle.jlr_machine.specs.Edges.{referent}
-use Rattle.jlr_laws.specs.Laws.{followed, IsPathFollowed}
+use Rattle.jlr_laws.specs.Laws.{IsPathFollowed}
 use Rattle.jlr_soft.specs.Keeping.{is_kept_in}
 use Rattle.jlr_soft.specs.declared.policy.Policy.{Policy}
 use Rattle.jlr_barrier.specs.Graphs.{Clock}
-use Rattle.jlr_barrier.specs.Marking.{IsMarked, Marking}
 
 -- whether the policy keeps the soft reference at a slot
 abbrev pub keeps : Policy → Clock → ℕ → Bool
@@ -20,10 +19,3 @@ soft_at heap s = option_and_then (referent Soft) (at heap s)
 -- s is in B, or the edges that a marker follows lead to it from there
 abbrev pub IsFollowed : (ℕ → Bool) → Heap → List ℕ → ℕ → Type 0
 IsFollowed kept heap B s = (x : ℕ) × (x ∈ B) × (path : List ℕ) × IsPathFollowed kept heap x path s
-
--- While edges are followed from B: what is marked is followed, and a marked slot whose edges were not all followed is grey
-pub record IsMarking (kept : ℕ → Bool) (heap : Heap) (B : List ℕ) (m : Marking) : Type 0 where
-  pub sound : (x : ℕ) → IsMarked m x → IsFollowed kept heap B x
-  pub grey : (x : ℕ) → x ∈ m.grey → IsMarked m x
-  pub traced : (x y : ℕ) → IsMarked m x → y ∈ followed kept heap x → (x ∈ m.grey) ⊎ IsMarked m y
-  pub base : (x : ℕ) → x ∈ B → IsMarked m x

@@ -6,7 +6,7 @@ use Rattle.std.proofs.lemmas.Grind.{flat_map-append}
 use Rattle.std.proofs.lemmas.Bool.{cases_lt, le-ltb, lt-ltb}
 use Rattle.jlr_wire.specs.Lines.{Held, begun, nothing_held, AreLines, IsInLine, ended_lines}
 use Rattle.jlr_wire.specs.Feeding.{Continues, Ends, Feeds}
-use Rattle.jlr_wire.specs.Stream.{Call, Follow, Reads, Shown, shown, given_by, given, used_bytes, held_after}
+use Rattle.jlr_wire.specs.Stream.{Call, Follow, Reads, Shown, shown, shown_by_call, shown_by_calls, used_bytes, held_after}
 use Rattle.jlr_wire.specs.declared.pieces.Got.{Got}
 use Rattle.jlr_wire.specs.declared.pieces.Got.TheVariants.{More, Line, TooLong}
 
@@ -119,7 +119,7 @@ is_long begun_bytes last front e lt =
 
 -- one call more
 pub reads_more : (done : List ℕ) (seen : List Shown) (old : Held) (bytes : List ℕ) (used : ℕ) (got : Got) (new : Held)
-    → Reads done seen old → Feeds old bytes used got new → Reads (done ++ take used bytes) (seen ++ given_by got new) new
+    → Reads done seen old → Feeds old bytes used got new → Reads (done ++ take used bytes) (seen ++ shown_by_call got new) new
 reads_more done seen old bytes used More new r h = reads_on done seen old bytes used new r h
 reads_more done seen old bytes used Line new r h =
     reads_line false (λ n. n ≤ 512) done seen old bytes used new r h (is_short (begun old) r.last h.front r.holds h.size)
@@ -128,9 +128,9 @@ reads_more done seen old bytes used TooLong new r h =
 
 -- all calls
 pub reads_calls : (calls : List Call) (done : List ℕ) (seen : List Shown) (held : Held) → Reads done seen held → Follow held calls
-    → Reads (done ++ used_bytes calls) (seen ++ given calls) (held_after held calls)
+    → Reads (done ++ used_bytes calls) (seen ++ shown_by_calls calls) (held_after held calls)
 reads_calls [] done seen held r f = rw (append-nil done, append-nil seen) r
 reads_calls (call ∷ calls) done seen held r f =
     let one = reads_more done seen held call.offered call.used call.got call.after r f.0 in
-    let all = reads_calls calls (done ++ take call.used call.offered) (seen ++ given_by call.got call.after) call.after one f.1 in
-    rw (← append_assoc done (take call.used call.offered) (used_bytes calls), ← append_assoc seen (given_by call.got call.after) (given calls)) all
+    let all = reads_calls calls (done ++ take call.used call.offered) (seen ++ shown_by_call call.got call.after) call.after one f.1 in
+    rw (← append_assoc done (take call.used call.offered) (used_bytes calls), ← append_assoc seen (shown_by_call call.got call.after) (shown_by_calls calls)) all

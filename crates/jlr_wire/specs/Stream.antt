@@ -32,14 +32,14 @@ abbrev pub shown : List ℕ → Shown
 shown line = record { bytes = take 513 line; too_long = nat_lt 512 (length line) }
 
 -- what a call shows of the line that it ended, if it ended one
-abbrev pub given_by : Got → Held → List Shown
-given_by More after = []
-given_by Line after = record { bytes = after.bytes; too_long = false } ∷ []
-given_by TooLong after = record { bytes = after.bytes; too_long = true } ∷ []
+abbrev pub shown_by_call : Got → Held → List Shown
+shown_by_call More after = []
+shown_by_call Line after = record { bytes = after.bytes; too_long = false } ∷ []
+shown_by_call TooLong after = record { bytes = after.bytes; too_long = true } ∷ []
 
 -- what the calls show, one line after the other
-abbrev pub given : List Call → List Shown
-given calls = flat_map (λ call. given_by call.got call.after) calls
+abbrev pub shown_by_calls : List Call → List Shown
+shown_by_calls calls = flat_map (λ call. shown_by_call call.got call.after) calls
 
 -- what is held after the calls
 abbrev pub held_after : Held → List Call → Held
@@ -57,7 +57,7 @@ pub record Reads (bytes : List ℕ) (seen : List Shown) (held : Held) : Type 0 w
 -- the lines of a stream do not depend on the pieces in which it comes
 abbrev pub CutsDoNotMatter : Type 0
 CutsDoNotMatter = (calls : List Call) → Follow nothing_held calls
-    → Reads (used_bytes calls) (given calls) (held_after nothing_held calls)
+    → Reads (used_bytes calls) (shown_by_calls calls) (held_after nothing_held calls)
 
 -- bytes have no second list of lines
 abbrev pub LinesAreUnique : Type 0

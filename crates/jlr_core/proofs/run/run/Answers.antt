@@ -9,7 +9,7 @@ use Rattle.jlr_laws.proofs.Empty.{empty_is_well_formed}
 use Rattle.jlr_event.specs.declared.event.Event.{Event}
 use Rattle.jlr_event.specs.declared.event.Reply.{Reply}
 use Rattle.jlr_core.specs.Steps.{Steps}
-use Rattle.jlr_core.specs.Runs.{IsRunOf, all_given, all_handed}
+use Rattle.jlr_core.specs.Runs.{IsRunOf, resources_of_events, resources_of_replies}
 use Rattle.jlr_core.proofs.Ranges.{limits_hold}
 use Rattle.jlr_core.proofs.RunLaws.{run_more, flow_more, start_run, start_flow, start_cells}
 use Rattle.jlr_core.proofs.run.run.Goals as goal
@@ -59,7 +59,7 @@ loop-event-preserved g c =
           subst (λ (replies : List (Reply g.row.R.Denot)). IsRunOf l (c.loop-event.yielded ++ c.in-Some.event ∷ []) replies c.step.new.self) (sym pushed)
           (run_more l c.loop-event.yielded c.loop-event.replies.items c.loop-event.core c.step.new.self c.in-Some.event c.step.result (empty_is_well_formed l.cells l.sessions l.resources fit.0 fit.2) i.run step);
       flow =
-          subst (λ (replies : List (Reply g.row.R.Denot)). IsPermutation (all_given (c.loop-event.yielded ++ c.in-Some.event ∷ [])) (all_handed replies ++ values c.step.new.self.table)) (sym pushed)
+          subst (λ (replies : List (Reply g.row.R.Denot)). IsPermutation (resources_of_events (c.loop-event.yielded ++ c.in-Some.event ∷ [])) (resources_of_replies replies ++ values c.step.new.self.table)) (sym pushed)
           (flow_more c.loop-event.yielded c.loop-event.replies.items c.loop-event.core.table c.step.new.self.table c.in-Some.event c.step.result i.flow e.flow);
       age = e.age ∙ i.age;
       cells = e.cells ∙ i.cells;
@@ -80,4 +80,4 @@ returns-clause-flow g c =
     let length_is : c.into_iter-event-iterator.result.rest.len ≡ length c.args.events.items = omega arith in
     let end = YieldsList-end (YieldsList-from_vec c.args.events.items from.0 length_is) c.loop-event.yielded c.loop-event.event-iterator c.loop-event.yielded_by c.next.result c.next.new.self c.in-None.is c.next.ensures.steps in
     let all : c.loop-event.yielded ≡ c.args.events.items = sym (map-id c.loop-event.yielded) ∙ end.0 in
-    subst (λ (events : List (Event g.row.R.Denot)). IsPermutation (all_given events) (all_handed c.loop-event.replies.items ++ values c.loop-event.core.table)) all c.loop-event.invariant.flow
+    subst (λ (events : List (Event g.row.R.Denot)). IsPermutation (resources_of_events events) (resources_of_replies c.loop-event.replies.items ++ values c.loop-event.core.table)) all c.loop-event.invariant.flow

@@ -7,8 +7,8 @@ use Rattle.jlr_machine.specs.Choices.{Choosing, collecting, kept_by, pended_by}
 use Rattle.jlr_laws.proofs.Frames.{set_same, set_other}
 use Rattle.jlr_barrier.specs.Graphs.{Graph, in_machine}
 use Rattle.jlr_barrier.specs.Marking.{Marking, is_marked}
-use Rattle.jlr_process.specs.Settling.{handed, is_losing, lost_below, marked_below, only_if, settled, settled_choice, settled_graph}
-use Rattle.jlr_process.proofs.Whole.{all_settled, below_short, filter_more, kept_counted, losing_alike, as_parts, choice_more, unmarked_loses_not}
+use Rattle.jlr_process.specs.Settling.{newly_pending, is_losing, marked_below, only_if, settled, settled_choice, settled_graph}
+use Rattle.jlr_process.proofs.Whole.{lost_below, all_settled, below_short, filter_more, kept_counted, losing_alike, as_parts, choice_more, unmarked_loses_not}
 use Rattle.jlr_process.proofs.Gone.{collection, referent_within, room_for_one}
 use Rattle.jlr_process.proofs.collection.flip.Goals as goal
 
@@ -71,7 +71,7 @@ loop-number-preserved c =
       rest = λ x l. beside x (λ e. omega (arith, e, l)) ∙ i.rest x (omega (arith, l));
       pending =
           ap (λ (g : Graph). g.pending) after
-          ∙ ap (λ l. l ++ handed m cur n) i.pending
+          ∙ ap (λ l. l ++ newly_pending m cur n) i.pending
           ∙ ap (λ b. (c.args.heap.now.graph.pending ++ lost_below m old n) ++ only_if b n) losing
           ∙ append_assoc c.args.heap.now.graph.pending (lost_below m old n) (only_if (is_losing m old n) n)
           ∙ ap (λ l. c.args.heap.now.graph.pending ++ l) (sym (filter_more (is_losing m old) n));

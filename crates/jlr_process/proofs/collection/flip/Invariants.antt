@@ -1,7 +1,8 @@
 use Rattle.std.proofs.Common.{◌≡◌, ℕ, ◌<◌, ◌≤◌, ◌++◌, length}
 use Rattle.jlr_machine.specs.Objects.{at}
 use Rattle.jlr_machine.specs.Choices.{collecting}
-use Rattle.jlr_process.specs.Settling.{lost_below, marked_below, settled}
+use Rattle.jlr_process.specs.Settling.{marked_below, settled}
+use Rattle.jlr_process.proofs.Whole.{lost_below}
 use Rattle.jlr_process.proofs.collection.flip.Given as goal
 
 -- the places below number are settled, the others as they were

@@ -30,7 +30,7 @@ abbrev end : Machine
 end = after_all start entries
 
 well_formed : IsWellFormed end
-well_formed = runs_are_well_formed 16 1 16 end entries (omega arith) (omega arith) (run_by_test start entries refl)
+well_formed = runs_are_well_formed 16 1 16 1 end entries (omega arith) (omega arith) (omega arith) (run_by_test start entries refl)
 
 pub hand_over-requires : goal.hand_over-requires
 hand_over-requires g c = record { fit = (end, subst (λ (g : Graph). IsWellFormed (in_machine end g)) (sym c.in_ok-heap.ensures) well_formed) }

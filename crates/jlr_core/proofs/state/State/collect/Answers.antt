@@ -2,7 +2,8 @@ use Rattle.std.proofs.Common.{false, subst}
 use Rattle.jlr_soft.specs.declared.policy.Policy.{Policy}
 use Rattle.jlr_sweep.specs.Collecting.{Collects}
 use Rattle.jlr_sweep.specs.Marking.{keeps}
-use Rattle.jlr_core.specs.Machines.{frame_of, machine_of}
+use Rattle.jlr_core.specs.Machines.{machine_of}
+use Rattle.jlr_core.proofs.Frames.{frame_of}
 use Rattle.jlr_core.specs.State.{machine_with}
 use Rattle.jlr_core.proofs.Roots.{rooted}
 use Rattle.jlr_core.proofs.Clearings.{same_policy}

@@ -1,7 +1,8 @@
 use Rattle.std.proofs.Common.{◌∙◌}
 use Rattle.jlr_machine.specs.declared.ask.Ask.TheVariants.{Enqueue}
 use Rattle.jlr_machine.specs.declared.ask.Answer.TheVariants.{Truth}
-use Rattle.jlr_core.specs.Machines.{frame_of, machine_of}
+use Rattle.jlr_core.specs.Machines.{machine_of}
+use Rattle.jlr_core.proofs.Frames.{frame_of}
 use Rattle.jlr_core.specs.State.{machine_with}
 use Rattle.jlr_core.proofs.Entries.{meets_plain}
 use Rattle.jlr_core.proofs.Queues.{enqueue_after, enqueue_reply, enqueued_long}

@@ -2,7 +2,8 @@ use Rattle.std.proofs.Common.{◌&&◌, not, is_some, ◌∙◌, ap, length}
 use Rattle.jlr_machine.specs.Lookups.{has_free_handle}
 use Rattle.jlr_machine.specs.Objects.{as_members, at, Heap}
 use Rattle.std.specs.Prelude.{option_and_then}
-use Rattle.jlr_core.specs.Machines.{frame_of, machine_of}
+use Rattle.jlr_core.specs.Machines.{machine_of}
+use Rattle.jlr_core.proofs.Frames.{frame_of}
 use Rattle.jlr_core.specs.State.{machine_with}
 use Rattle.jlr_core.proofs.Queues.{fronts_first, remove_answered, polled_long, polled_mutators, same_room}
 use Rattle.jlr_core.proofs.state.State.remove.Goals as goal

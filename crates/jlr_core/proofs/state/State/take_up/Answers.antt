@@ -4,7 +4,8 @@ use Rattle.jlr_machine.specs.declared.ask.Answer.TheVariants.{Handed, Job}
 use Rattle.jlr_machine.specs.declared.ask.Handed.TheVariants.{Nothing}
 use Rattle.jlr_machine.specs.Calls.{from_lined, line_answer, line_taken}
 use Rattle.jlr_refs.specs.Parts.{front_spent}
-use Rattle.jlr_core.specs.Machines.{frame_of, machine_of}
+use Rattle.jlr_core.specs.Machines.{machine_of}
+use Rattle.jlr_core.proofs.Frames.{frame_of}
 use Rattle.jlr_core.specs.State.{machine_with}
 use Rattle.jlr_core.proofs.Entries.{meets_plain}
 use Rattle.jlr_core.proofs.TakeUps.{below_numbers, front_long, line_allowed, line_answer_is, line_taken_is, lined_is_idle, lined_taken, lined_there, none_lined, runs_in_none, unspent_when_lined}
