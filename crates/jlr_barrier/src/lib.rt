@@ -21,7 +21,5 @@ mod pending;
 mod queues;
 mod sessions;
 mod shade;
-#[cfg(test)]
-mod tests;
 
 pub use heap::Heap;

@@ -15,5 +15,3 @@ mod references;
 mod resources;
 pub mod run;
 mod state;
-#[cfg(test)]
-mod tests;

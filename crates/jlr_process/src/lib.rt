@@ -8,7 +8,5 @@
 
 mod collection;
 mod settle;
-#[cfg(test)]
-mod tests;
 
 pub use collection::flip;

@@ -51,7 +51,7 @@ fn lined_at(heap: &Heap, slot: Slot) -> Option<Cleanable>
 
 /// A cleanable has done what it was for (`Cleanable.clean`): it is Spent, and has no referent any more. A list in which it stands
 /// keeps it.
-pub fn spend(heap: &mut Heap, slot: Slot)
+fn spend(heap: &mut Heap, slot: Slot)
     requires { IsTrue (some_and is_cleanable (at heap.old.graph.objects slot)) }
     ensures graph { heap.new.graph ≡ with_objects heap.old.graph (change_at heap.old.graph.objects slot (with_cleanable spent)) }
     ensures clock { heap.new.clock ≡ heap.old.clock }

@@ -19,42 +19,9 @@ ghost use Rattle.jlr_barrier.specs.Graphs.{gotten_at, used_now, with_objects};
 ghost use Rattle.jlr_refs.specs.Parts.{Enqueues, IsFit, Polls, reference_at};
 
 use jlr_barrier::Heap;
-use jlr_cells::Shape;
 use jlr_machine::object::{RefState, Reference};
-use jlr_types::{RefKind, Slot};
+use jlr_types::Slot;
 use std::alloc::AllocError;
-
-/// A new reference to an object, registered with a queue or with none, in a free cell, if there is one. It is Fresh, and was made
-/// now.
-pub fn new_reference(
-    heap: &mut Heap,
-    kind: RefKind,
-    referent: Slot,
-    queue: Option<Slot>,
-) -> Option<Slot>
-    ensures full { IsNone result ↔ (occupied heap.old.graph.objects ≡ length heap.old.graph.objects) }
-    ensures none { IfNone result ((heap.new.graph ≡ heap.old.graph) × (heap.new.clock ≡ heap.old.clock)) }
-    ensures free { IfSome result (λ slot. (slot < length heap.old.graph.objects) × (at heap.old.graph.objects slot ≡ None)) }
-    ensures made { IfSome result (λ slot. heap.new.graph ≡ with_objects heap.old.graph (set_at heap.old.graph.objects slot (object_of (shape.Reference kind (Some referent) queue)))) }
-    ensures clock { IfSome result (λ slot. heap.new.clock ≡ used_now heap.old.clock slot) }
-{
-    heap.allocate(Shape::Reference {
-        kind,
-        referent: Some(referent),
-        queue,
-    })
-}
-
-/// A new queue without members in a free cell, if there is one.
-pub fn new_queue(heap: &mut Heap) -> Option<Slot>
-    ensures full { IsNone result ↔ (occupied heap.old.graph.objects ≡ length heap.old.graph.objects) }
-    ensures none { IfNone result ((heap.new.graph ≡ heap.old.graph) × (heap.new.clock ≡ heap.old.clock)) }
-    ensures free { IfSome result (λ slot. (slot < length heap.old.graph.objects) × (at heap.old.graph.objects slot ≡ None)) }
-    ensures made { IfSome result (λ slot. heap.new.graph ≡ with_objects heap.old.graph (set_at heap.old.graph.objects slot (object_of shape.Queue))) }
-    ensures clock { IfSome result (λ slot. heap.new.clock ≡ used_now heap.old.clock slot) }
-{
-    heap.allocate(Shape::Queue)
-}
 
 /// What a reference gives (`Reference.get`): its referent, or nothing where it was cleared or is a phantom reference. A soft
 /// reference that gives its referent was used now.
