@@ -1,15 +1,20 @@
 //! Lists of events and their replies. What is expected comes from the description of the asks.
+ghost use Rattle.std.specs.Prelude.{length, ◌≤◌};
+
+use jlr_core::engine::Core;
 use jlr_core::run::run;
 use jlr_event::event::{Event, Reply};
 use jlr_machine::ask::{Answer, CallOutcome, FullMode, Handed, Stat};
+use jlr_machine::choice::Choice;
+use jlr_machine::machine::Machine;
 use jlr_machine::text::Name;
 use jlr_types::{
-    ActionNo, Fault, FieldKind, Handle, Layout, LimitFault, Limits, Mutator, Progress, RefKind,
-    Refusal,
+    ActionNo, Fault, FieldKind, Handle, Layout, Limits, Mutator, Progress, RefKind, Refusal,
 };
 use std::alloc::Global;
 use std::test::Fail;
 
+mod answers;
 mod cleaning;
 mod cycles;
 mod memory;
@@ -19,87 +24,11 @@ mod queues;
 mod references;
 mod refusals;
 mod resources;
+mod script;
 mod soft_references;
 
-// An answer, as far as these tests look at it.
-#[derive(Clone, Copy, PartialEq, Eq, Debug)]
-enum Got {
-    Done,
-    Handle(u8),
-    Truth(bool),
-    Handed(Handed),
-    Int(i64),
-    Stat(Stat),
-    Marked(Progress),
-    Refused(Refusal),
-    // A refusal that hands a resource back.
-    Back(Refusal, u32),
-    Faulted(Fault),
-    Wrote(u8),
-    // The number of an action, and its resource.
-    Job(u64, Option<u32>),
-    AlreadyDone,
-    Prepared,
-    Out(u32),
-    // How many there are, and the last one, or of names the first byte of the first.
-    Notes(usize, Option<u32>),
-    Faults(usize, Option<(u64, Fault)>),
-    Names(usize, Option<u8>),
-    Other,
-}
-
-fn seen(reply: &Reply<u32>) -> Got {
-    match reply {
-        Reply::Answered { answer, resource } => answered(answer, *resource),
-        Reply::Marked(progress) => Got::Marked(*progress),
-    }
-}
-
-fn answered(answer: &Answer, resource: Option<u32>) -> Got {
-    match answer {
-        Answer::Done => Got::Done,
-        Answer::Handle(handle) => Got::Handle(handle.number()),
-        Answer::Truth(truth) => Got::Truth(*truth),
-        Answer::Handed(handed) => Got::Handed(*handed),
-        Answer::Int(number) => Got::Int(*number),
-        Answer::Stat(stat) => Got::Stat(*stat),
-        Answer::Faulted(fault) => Got::Faulted(*fault),
-        Answer::Wrote(count) => Got::Wrote(*count),
-        Answer::AlreadyDone => Got::AlreadyDone,
-        Answer::Prepared(_) => Got::Prepared,
-        Answer::Refused(refusal) => match resource {
-            Some(resource) => Got::Back(*refusal, resource),
-            None => Got::Refused(*refusal),
-        },
-        Answer::Out(_) => match resource {
-            Some(resource) => Got::Out(resource),
-            None => Got::Other,
-        },
-        Answer::Job { action, .. } => Got::Job(action.number(), resource),
-        _ => listed(answer),
-    }
-}
-
-fn listed(answer: &Answer) -> Got {
-    match answer {
-        Answer::Notes(notes) => Got::Notes(notes.len(), notes.as_slice().last().copied()),
-        Answer::Faults(faults) => {
-            let last = match faults.as_slice().last() {
-                Some(failure) => Some((failure.action.number(), failure.fault)),
-                None => None,
-            };
-            Got::Faults(faults.len(), last)
-        }
-        Answer::Names(names) => {
-            let first = match names.as_slice().first() {
-                Some(name) => name.as_slice().first().copied(),
-                None => None,
-            };
-            Got::Names(names.len(), first)
-        }
-        _ => Got::Other,
-    }
-}
+use answers::{Got, seen};
+use script::{events_of, parsed, play, played};
 
 // A heap with 16 cells and one session, that keeps soft references for so many collections.
 fn limits(soft_age: u32) -> Result<Limits, Fail> {
@@ -110,58 +39,49 @@ fn limits(soft_age: u32) -> Result<Limits, Fail> {
     )
 }
 
-// What the events are answered under other limits, and what is wanted.
-fn play_with(
-    alloc: Global,
-    limits: Result<Limits, LimitFault>,
-    cases: Vec<(Event<u32>, Got)>,
-) -> Result<(Vec<Got>, Vec<Got>), Fail> {
-    let mut events = Vec::new(alloc);
-    let mut wanted = Vec::new(alloc);
-    for (event, answer) in cases {
-        events.push(event)?;
-        wanted.push(answer)?;
-    }
-    let mut answers = Vec::new(alloc);
-    let (replies, _) = run(alloc, limits.ok().ok_or("limits")?, events)?;
-    for reply in &replies {
-        answers.push(seen(reply))?;
-    }
-    Ok((answers, wanted))
+// The same with so many sessions and resources, which keeps nothing by a soft reference alone.
+fn limits_for(sessions: u32, resources: u32) -> Result<Limits, Fail> {
+    Ok(
+        Limits::checked(16, sessions, resources, 0, 64, 1)
+            .ok()
+            .ok_or("limits")?,
+    )
 }
 
-fn replies(alloc: Global, soft_age: u32, events: Vec<Event<u32>>) -> Result<Vec<Reply<u32>>, Fail> {
-    let (replies, _) = run(alloc, limits(soft_age)?, events)?;
-    Ok(replies)
+// What an event is answered.
+fn ask(core: &mut Core<u32>, choice: &mut Choice, event: Event<u32>) -> Got
+    requires { length core.old.machine.objects ≤ choice.old.cells }
+    ensures { length core.new.machine.objects ≤ choice.new.cells }
+{
+    seen(&core.step(event, choice))
 }
 
-fn answers(alloc: Global, soft_age: u32, events: Vec<Event<u32>>) -> Result<Vec<Got>, Fail> {
+fn all_seen(alloc: Global, replies: &Vec<Reply<u32>>) -> Result<Vec<Got>, Fail> {
     let mut answers = Vec::new(alloc);
-    for reply in &replies(alloc, soft_age, events)? {
+    for reply in replies {
         answers.push(seen(reply))?;
     }
     Ok(answers)
 }
 
-// What the events are answered, and what is wanted.
-fn play(
+fn replies(
     alloc: Global,
-    soft_age: u32,
-    cases: Vec<(Event<u32>, Got)>,
-) -> Result<(Vec<Got>, Vec<Got>), Fail> {
-    let mut events = Vec::new(alloc);
-    let mut wanted = Vec::new(alloc);
-    for (event, answer) in cases {
-        events.push(event)?;
-        wanted.push(answer)?;
-    }
-    Ok((answers(alloc, soft_age, events)?, wanted))
+    limits: Limits,
+    events: Vec<Event<u32>>,
+) -> Result<Vec<Reply<u32>>, Fail> {
+    let (replies, _) = run(alloc, limits, events)?;
+    Ok(replies)
 }
 
-// How many objects there are after the events.
-fn objects_left(alloc: Global, soft_age: u32, events: Vec<Event<u32>>) -> Result<usize, Fail> {
-    let (_, core) = run(alloc, limits(soft_age)?, events)?;
-    let image = core.image(alloc)?;
+// What the core shows after the asks.
+fn image_after(alloc: Global, limits: Limits, asks: &str) -> Result<Machine, Fail> {
+    let (_, core) = run(alloc, limits, events_of(alloc, asks)?)?;
+    Ok(core.image(alloc)?)
+}
+
+// How many objects there are after the asks.
+fn objects_left(alloc: Global, soft_age: u32, asks: &str) -> Result<usize, Fail> {
+    let image = image_after(alloc, limits(soft_age)?, asks)?;
     Ok(
         image
             .objects
@@ -249,22 +169,6 @@ fn make(kind: RefKind, referent: u8, queue: u8) -> Event<u32> {
         referent: Handle::new(referent),
         queue: Handle::new(queue),
     }
-}
-
-fn weak(referent: u8) -> Event<u32> {
-    make(RefKind::Weak, referent, 0)
-}
-
-fn weak_with_queue(referent: u8, queue: u8) -> Event<u32> {
-    make(RefKind::Weak, referent, queue)
-}
-
-fn soft(referent: u8) -> Event<u32> {
-    make(RefKind::Soft, referent, 0)
-}
-
-fn phantom(referent: u8) -> Event<u32> {
-    make(RefKind::Phantom, referent, 0)
 }
 
 fn deref(reference: u8) -> Event<u32> {
@@ -358,17 +262,6 @@ fn int(object: u8, field: u8) -> Event<u32> {
 
 fn stat() -> Event<u32> {
     Event::Stat { mutator: me() }
-}
-
-// The counts of a heap without resources and cleaning actions.
-fn counted(objects: u64) -> Got {
-    Got::Stat(Stat {
-        objects,
-        resources: 0,
-        taken: 0,
-        ok: 0,
-        failed: 0,
-    })
 }
 
 fn mark() -> Event<u32> {

@@ -1,0 +1,241 @@
+//! Rows of words: an ask, an arrow, and what it is answered.
+//!
+//! `weak 2 1 -> handle 3` asks for a weak reference to what handle 2 holds, on the queue that handle 1 holds, and wants handle 3 for an
+//! answer. The asks are those of mutator 0; those of mutator 1 begin with `other`. A row whose answer is `handle 2 up to 16` stands for
+//! fifteen rows, with handles from 2 to 16.
+use super::answers::answer_of;
+use super::*;
+use std::str::SplitWhitespace;
+
+const ARROW: &str = " -> ";
+
+// The events of the rows are answered as they want it.
+pub(super) fn play(alloc: Global, limits: Limits, rows: &str) -> Result<(), Fail> {
+    let (got, wanted) = played(alloc, limits, rows)?;
+    for (number, (got, wanted)) in got.iter().zip(&wanted).enumerate() {
+        if got != wanted {
+            return Err(Fail::new(format!(in alloc;
+                "row {number} is answered {got:?}, and not {wanted:?}"
+            )?));
+        }
+    }
+    Ok(())
+}
+
+// What the events of the rows are answered, and what is wanted.
+pub(super) fn played(
+    alloc: Global,
+    limits: Limits,
+    rows: &str,
+) -> Result<(Vec<Got>, Vec<Got>), Fail> {
+    let mut events = Vec::new(alloc);
+    let mut wanted = Vec::new(alloc);
+    for row in rows.lines() {
+        if !row.trim().is_empty() {
+            add(&mut events, &mut wanted, row)?;
+        }
+    }
+    let replies = replies(alloc, limits, events)?;
+    Ok((all_seen(alloc, &replies)?, wanted))
+}
+
+// The event and the answer of a row. It takes no memory.
+pub(super) fn parsed(row: &str) -> Option<(Event<u32>, Got)> {
+    let (ask, answer) = row.split_once(ARROW)?;
+    Some((event_of(ask)?, answer_of(answer)?))
+}
+
+fn add(events: &mut Vec<Event<u32>>, wanted: &mut Vec<Got>, row: &str) -> Result<(), Fail> {
+    let Some((front, last)) = row.split_once(" up to ") else {
+        let (event, answer) = parsed(row).ok_or("no row")?;
+        events.push(event)?;
+        wanted.push(answer)?;
+        return Ok(());
+    };
+    let last: u8 = last.parse().ok().ok_or("no last handle")?;
+    let Some((_, Got::Handle(first))) = parsed(front) else {
+        return Err(Fail::from("no first handle"));
+    };
+    for number in first..=last {
+        let (event, _) = parsed(front).ok_or("no row")?;
+        events.push(event)?;
+        wanted.push(Got::Handle(number))?;
+    }
+    Ok(())
+}
+
+// The events of rows that are asks alone.
+pub(super) fn events_of(alloc: Global, asks: &str) -> Result<Vec<Event<u32>>, Fail> {
+    let mut events = Vec::new(alloc);
+    for ask in asks.lines() {
+        if !ask.trim().is_empty() {
+            events.push(event_of(ask).ok_or("no ask")?)?;
+        }
+    }
+    Ok(events)
+}
+
+fn byte(words: &mut SplitWhitespace<'_>) -> Option<u8> {
+    words.next()?.parse().ok()
+}
+
+fn event_of(ask: &str) -> Option<Event<u32>> {
+    let mut words = ask.split_whitespace();
+    let event = named(words.next()?, &mut words)?;
+    if words.next().is_some() {
+        return None;
+    }
+    Some(event)
+}
+
+fn named(name: &str, words: &mut SplitWhitespace<'_>) -> Option<Event<u32>> {
+    match name {
+        "put" => Some(put(byte(words)?, byte(words)?, byte(words)?)),
+        "set_int" => long_set_int(words),
+        "register" => long_register(words),
+        "finish" => long_finish(words),
+        "opened" => Some(opened(opening(words.next()?)?)),
+        "bind" => Some(bind(words.next()?, byte(words)?)),
+        "find" => Some(find(words.next()?)),
+        "unbind" => Some(unbind(words.next()?)),
+        "other" => of_another(words),
+        _ => short(name, words),
+    }
+}
+
+fn long_set_int(words: &mut SplitWhitespace<'_>) -> Option<Event<u32>> {
+    let (object, field) = (byte(words)?, byte(words)?);
+    Some(set_int(object, field, words.next()?.parse().ok()?))
+}
+
+fn long_register(words: &mut SplitWhitespace<'_>) -> Option<Event<u32>> {
+    let (cleaner, object) = (byte(words)?, byte(words)?);
+    Some(register(cleaner, object, words.next()?.parse().ok()?))
+}
+
+fn long_finish(words: &mut SplitWhitespace<'_>) -> Option<Event<u32>> {
+    let by = byte(words)?;
+    let action = words.next()?.parse().ok()?;
+    let outcome = match words.next()? {
+        "ok" => Ok(()),
+        fault => Err(fault_of(fault)?),
+    };
+    Some(finish(by, action, outcome))
+}
+
+fn opening(outcome: &str) -> Option<Result<u32, Fault>> {
+    match outcome.parse() {
+        Ok(resource) => Some(Ok(resource)),
+        Err(_) => Some(Err(fault_of(outcome)?)),
+    }
+}
+
+fn short(name: &str, words: &mut SplitWhitespace<'_>) -> Option<Event<u32>> {
+    let Some(first) = words.next() else {
+        return alone(name);
+    };
+    let first = first.parse().ok()?;
+    match words.next() {
+        None => with_one(name, first),
+        Some(second) => with_two(name, first, second.parse().ok()?),
+    }
+}
+
+fn alone(name: &str) -> Option<Event<u32>> {
+    let event = match name {
+        "join" => join(),
+        "leave" => leave(),
+        "bare" => bare(),
+        "new" => new(),
+        "queue" => queue(),
+        "cleaner" => cleaner(),
+        "prepare" => prepare(),
+        "names" => all_names(),
+        "full" => full(),
+        "full_clearing" => full_clearing(),
+        "stat" => stat(),
+        "notes" => notes(),
+        "faults" => faults(),
+        "hand_over" => hand_over(),
+        "take_up" => Event::TakeUp,
+        "begin" => Event::Begin,
+        "collect" => Event::Collect,
+        "abandon" => Event::Abandon,
+        "mark" => mark(),
+        _ => return None,
+    };
+    Some(event)
+}
+
+fn with_one(name: &str, handle: u8) -> Option<Event<u32>> {
+    let event = match name {
+        "dup" => dup(handle),
+        "drop" => drop_handle(handle),
+        "deref" => deref(handle),
+        "clear" => clear(handle),
+        "enqueue" => enqueue(handle),
+        "enqueued" => enqueued(handle),
+        "poll" => poll(handle),
+        "remove" => remove(handle),
+        "clean" => clean(handle),
+        "check_out" => check_out(handle),
+        "close" => close(handle),
+        _ => return None,
+    };
+    Some(event)
+}
+
+fn with_two(name: &str, first: u8, second: u8) -> Option<Event<u32>> {
+    let event = match name {
+        "get" => get(first, second),
+        "int" => int(first, second),
+        "same" => same(first, second),
+        "soft" => make(RefKind::Soft, first, second),
+        "weak" => make(RefKind::Weak, first, second),
+        "phantom" => make(RefKind::Phantom, first, second),
+        "refers" => refers(first, second),
+        "check_in" => check_in(first, u32::from(second)),
+        _ => return None,
+    };
+    Some(event)
+}
+
+fn of_another(words: &mut SplitWhitespace<'_>) -> Option<Event<u32>> {
+    let mutator = Mutator::new(1);
+    let event = match words.next()? {
+        "join" => Event::Join { mutator },
+        "full" => Event::Full {
+            mutator,
+            mode: FullMode::Policy,
+        },
+        "stat" => Event::Stat { mutator },
+        "find" => Event::Find {
+            mutator,
+            name: name(words.next()?),
+        },
+        "drop" => Event::Drop {
+            mutator,
+            object: Handle::new(byte(words)?),
+        },
+        "check_out" => Event::CheckOut {
+            mutator,
+            guard: Handle::new(byte(words)?),
+        },
+        "check_in" => Event::CheckIn {
+            mutator,
+            outcome: CallOutcome::Wrote(byte(words)?),
+            resource: u32::from(byte(words)?),
+        },
+        _ => return None,
+    };
+    Some(event)
+}
+
+pub(super) fn fault_of(name: &str) -> Option<Fault> {
+    match name {
+        "NotFound" => Some(Fault::NotFound),
+        "Denied" => Some(Fault::Denied),
+        "Other" => Some(Fault::Other),
+        _ => None,
+    }
+}
