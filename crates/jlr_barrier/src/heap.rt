@@ -52,7 +52,7 @@ impl Model for Heap {
 }
 
 impl Heap {
-    /// A heap without objects or names, whose mutators are not joined. All room but that of names is made at once.
+    /// A heap without objects or names, whose mutators are not joined. All room but that of queues is made at once.
     ///
     /// # Errors
     /// `AllocError` where the room cannot be had.
@@ -63,7 +63,7 @@ impl Heap {
         Ok(Heap {
             cells: Cells::new(alloc, cells)?,
             roots: Roots::new(alloc, session_count(limits))?,
-            names: Names::new(alloc),
+            names: Names::new(alloc)?,
             waiting: VecDeque::with_capacity(alloc, cells as usize)?,
             lined: VecDeque::with_capacity(alloc, cells as usize)?,
             marks: Marks::new(alloc, cells)?,

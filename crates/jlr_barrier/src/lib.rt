@@ -6,7 +6,7 @@
 //! the fence of its call, and the names. A collector that marks in steps will have its barriers in these calls, and the contracts, which speak
 //! of objects, roots and lists alone, stay as they are.
 //!
-//! No call but `Heap::new`, `Heap::link`, `Heap::bind` of a new name, `Heap::names` and the images takes memory.
+//! No call but `Heap::new`, `Heap::link`, `Heap::names` and the images takes memory.
 #![tactic(auto)]
 
 mod cleanables;

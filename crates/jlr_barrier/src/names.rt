@@ -1,5 +1,5 @@
 //! The names of objects.
-ghost use Rattle.std.specs.Prelude.{◌≡◌, IfOk, IsOk, IsTrue, OnErr, OnOk, is_some, length};
+ghost use Rattle.std.specs.Prelude.{◌≡◌, ◌≤◌, ◌<◌, IfOk, None, OnErr, length};
 ghost use Rattle.jlr_machine.specs.Lookups.{bound, slot_bound, unbound};
 ghost use Rattle.jlr_roots.specs.Naming.{names_of};
 ghost use Rattle.jlr_barrier.specs.Graphs.{with_names};
@@ -27,17 +27,13 @@ impl Heap {
     }
 
     /// From now on a name stands for this slot, which is a root as long, so this is one of the calls that make edges. An old name
-    /// keeps its place and takes no memory, a new one comes last.
-    ///
-    /// # Errors
-    /// `AllocError` where there is no memory for a new name. Nothing has changed then.
-    pub fn bind(&mut self, name: &Name, slot: Slot) -> Result<(), AllocError>
-        ensures bound { OnOk result (self.new.graph ≡ with_names self.old.graph (bound self.old.graph.names name.now slot)) }
-        ensures err { OnErr result (self.new ≡ self.old) }
-        ensures old { IsTrue (is_some (slot_bound self.old.graph.names name.now)) → IsOk result }
+    /// keeps its place, a new one comes last.
+    pub fn bind(&mut self, name: &Name, slot: Slot)
+        requires { slot_bound self.old.graph.names name.now ≡ None → length self.old.graph.names < 256 }
+        ensures graph { self.new.graph ≡ with_names self.old.graph (bound self.old.graph.names name.now slot) }
         ensures clock { self.new.clock ≡ self.old.clock }
     {
-        self.names.bind(name, slot)
+        self.names.bind(name, slot);
     }
 
     /// A name stands for nothing any more. Where it is not bound, nothing changes.
@@ -51,9 +47,10 @@ impl Heap {
     /// The names alone, in order of binding.
     ///
     /// # Errors
-    /// `AllocError` where there is no memory for them.
+    /// `AllocError` where there are names and no memory for a copy of them.
     pub fn names(&self, alloc: Global) -> Result<Items<Name>, AllocError>
-        ensures { IfOk result (λ names. names ≡ names_of self.now.graph.names) }
+        ensures names { IfOk result (λ names. names ≡ names_of self.now.graph.names) }
+        ensures some { OnErr result (1 ≤ length self.now.graph.names) }
     {
         self.names.names(alloc)
     }

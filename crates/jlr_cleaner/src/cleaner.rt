@@ -201,9 +201,10 @@ impl<R> Cleaner<R> {
     /// The last 256 actions that failed, and why, the oldest first.
     ///
     /// # Errors
-    /// `AllocError` where there is no memory.
+    /// `AllocError` where there are some and no memory for a copy of them.
     pub fn faults(&self, alloc: Global) -> Result<Items<Failure>, AllocError>
-        ensures { IfOk result (λ items. items ≡ self.now.faults) }
+        ensures items { IfOk result (λ items. items ≡ self.now.faults) }
+        ensures some { OnErr result (1 ≤ length self.now.faults) }
     {
         self.outcomes.faults.image(alloc)
     }
@@ -211,9 +212,10 @@ impl<R> Cleaner<R> {
     /// The last 256 notes, the oldest first.
     ///
     /// # Errors
-    /// `AllocError` where there is no memory.
+    /// `AllocError` where there are some and no memory for a copy of them.
     pub fn notes(&self, alloc: Global) -> Result<Items<u32>, AllocError>
-        ensures { IfOk result (λ items. items ≡ self.now.notes) }
+        ensures items { IfOk result (λ items. items ≡ self.now.notes) }
+        ensures some { OnErr result (1 ≤ length self.now.notes) }
     {
         self.outcomes.notes.image(alloc)
     }

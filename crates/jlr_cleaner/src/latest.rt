@@ -1,5 +1,5 @@
 //! What happened last.
-ghost use Rattle.std.specs.Prelude.{◌≡◌, [], ◌∷◌, ◌++◌, IfOk};
+ghost use Rattle.std.specs.Prelude.{◌≡◌, ◌≤◌, [], ◌∷◌, ◌++◌, IfOk, OnErr, length};
 ghost use Rattle.jlr_machine.specs.Lookups.{last_256};
 
 use circular_buffer::HeapCircularBuffer;
@@ -42,9 +42,14 @@ impl<T: Copy> Latest<T> {
         let _oldest = self.items.push_back(item);
     }
 
+    /// A copy. Without an item it takes no memory.
     pub(crate) fn image(&self, alloc: Global) -> Result<Items<T>, AllocError>
-        ensures { IfOk result (λ items. items ≡ self.now) }
+        ensures items { IfOk result (λ items. items ≡ self.now) }
+        ensures some { OnErr result (1 ≤ length self.now) }
     {
+        if self.items.is_empty() {
+            return Ok(Items::new(alloc));
+        }
         Ok(Items::from_vec(self.items.to_vec(alloc)?))
     }
 }

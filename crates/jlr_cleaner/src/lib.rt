@@ -14,8 +14,6 @@ mod job;
 mod latest;
 mod outcomes;
 mod running;
-#[cfg(test)]
-mod tests;
 
 pub use cleaner::{Cleaner, Totals};
 pub use job::Job;

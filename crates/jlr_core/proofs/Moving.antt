@@ -196,6 +196,21 @@ module _ {R : Type 0} where
       let left : new.table ≡ table_closed old.table job.0.work = ap {A = Cleanings R} {B = Resources R} (λ c. c.table) (finished job.0 job.1 (eqb-true job.0.by by job.2)) ∙ finished_table old job.0 outcome in
       subst (λ (t : Resources R). LieAsBefore old.table t) (sym left) (closed_lie old.table job.0.work (sym (ap {A = Resources R} {B = List R} (λ t. values t) left) ∙ same))
 
+  closed_room : (t : Resources R) (work : Work) → (table_closed t work).room ≡ t.room
+  closed_room t (Note n) = refl
+  closed_room t (WorkOn rid) = refl
+
+  pub finished_room : (old new : Cleanings R) (by action : ℕ) (outcome : Outcome) → is_job_of old.jobs by action ≡ true
+      → ((job : Job) → job_in old.jobs action ≡ Some job → job.by ≡ by → new ≡ after_finish old job outcome) → new.table.room ≡ old.table.room
+  finished_room old new by action outcome runs finished =
+      let job = some_and_gives (λ job. job.by == by) (job_in old.jobs action) runs in
+      let left : new.table ≡ table_closed old.table job.0.work = ap {A = Cleanings R} {B = Resources R} (λ c. c.table) (finished job.0 job.1 (eqb-true job.0.by by job.2)) ∙ finished_table old job.0 outcome in
+      ap {A = Resources R} {B = ℕ} (λ t. t.room) left ∙ closed_room old.table job.0.work
+
+  pub closing_room : (t : Resources R) (work : Work) → (table_closing t work).room ≡ t.room
+  closing_room t (Note n) = refl
+  closing_room t (WorkOn rid) = refl
+
   -- a number that is taken leaves the table
   pub numbered_table : (o : Option ℕ) (old new : Cleanings R) → IfSome o (λ _. new ≡ record old { next_action = old.next_action + 1 }) → IfNone o ((old.next_action ≡ 2 ^ 64 - 1) × (new ≡ old)) → old.table ≡ new.table
   numbered_table None old new given none = ap {A = Cleanings R} {B = Resources R} (λ c. c.table) (sym none.1)

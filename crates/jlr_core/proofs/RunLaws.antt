@@ -22,7 +22,7 @@ use Rattle.jlr_event.specs.declared.event.Reply.{Reply}
 use Rattle.jlr_event.specs.Events.{ask_of, answer_in, resource_of_event, resource_of_reply}
 use Rattle.jlr_core.specs.Events.{entry_with, Enters}
 use Rattle.jlr_core.specs.Cores.{Kept, StandsIn}
-use Rattle.jlr_core.specs.Steps.{IsEmpty, Steps}
+use Rattle.jlr_core.specs.Steps.{IsEmpty, IsStep}
 use Rattle.jlr_core.specs.Runs.{entries_of, AreAnswered, AreSteps, IsRunOf, resources_of_events, resources_of_replies}
 
 -- ---- Lists with one more
@@ -65,40 +65,40 @@ entered m None None chosen n e = (e.1, refl)
 -- ---- The steps along the way
 
 steps_more :
-    {R : Type 0} (core : Kept R) (events : List (Event R)) (replies : List (Reply R)) (choices : List Chosen) (last next : Kept R) (e : Event R) (r : Reply R) (step : Steps last e r next)
-    → AreSteps core events replies choices last → AreSteps core (events ++ e ∷ []) (replies ++ r ∷ []) (choices ++ step.chosen ∷ []) next
-steps_more {R} core [] [] [] last next e r step a =
-    subst (λ (c : Kept R). AreSteps c (e ∷ []) (r ∷ []) (step.chosen ∷ []) next) a (next, step, refl, refl)
-steps_more core (x ∷ events) (y ∷ replies) (c ∷ choices) last next e r step a = (a.0, a.1, a.2, steps_more a.0 events replies choices last next e r step a.3)
-steps_more core [] [] (z ∷ choices) last next e r step a = absurd a
-steps_more core [] (y ∷ replies) [] last next e r step a = absurd a
-steps_more core [] (y ∷ replies) (z ∷ choices) last next e r step a = absurd a
-steps_more core (x ∷ events) [] [] last next e r step a = absurd a
-steps_more core (x ∷ events) [] (z ∷ choices) last next e r step a = absurd a
-steps_more core (x ∷ events) (y ∷ replies) [] last next e r step a = absurd a
+    {R : Type 0} (core : Kept R) (events : List (Event R)) (replies : List (Reply R)) (choices : List Chosen) (last next : Kept R) (e : Event R) (r : Reply R) (d : Chosen) (step : IsStep last e r d next)
+    → AreSteps core events replies choices last → AreSteps core (events ++ e ∷ []) (replies ++ r ∷ []) (choices ++ d ∷ []) next
+steps_more {R} core [] [] [] last next e r d step a =
+    subst (λ (c : Kept R). AreSteps c (e ∷ []) (r ∷ []) (d ∷ []) next) a (next, step, refl)
+steps_more core (x ∷ events) (y ∷ replies) (c ∷ choices) last next e r d step a = (a.0, a.1, steps_more a.0 events replies choices last next e r d step a.2)
+steps_more core [] [] (z ∷ choices) last next e r d step a = absurd a
+steps_more core [] (y ∷ replies) [] last next e r d step a = absurd a
+steps_more core [] (y ∷ replies) (z ∷ choices) last next e r d step a = absurd a
+steps_more core (x ∷ events) [] [] last next e r d step a = absurd a
+steps_more core (x ∷ events) [] (z ∷ choices) last next e r d step a = absurd a
+steps_more core (x ∷ events) (y ∷ replies) [] last next e r d step a = absurd a
 
 abbrev start_of : Limits → Machine
 start_of limits = empty limits.cells limits.sessions limits.resources
 
-pub run_more : {R : Type 0} (limits : Limits) (events : List (Event R)) (replies : List (Reply R)) (old new : Kept R) (e : Event R) (r : Reply R)
-    → IsWellFormed (start_of limits) → IsRunOf limits events replies old → Steps old e r new → IsRunOf limits (events ++ e ∷ []) (replies ++ r ∷ []) new
-run_more {R} limits events replies old new e r formed x step =
+pub run_more : {R : Type 0} (limits : Limits) (events : List (Event R)) (replies : List (Reply R)) (old new : Kept R) (e : Event R) (r : Reply R) (chosen : Chosen)
+    → IsWellFormed (start_of limits) → IsRunOf limits events replies old → IsStep old e r chosen new → IsRunOf limits (events ++ e ∷ []) (replies ++ r ∷ []) new
+run_more {R} limits events replies old new e r chosen formed x step =
     let m = start_of limits in
     let s = step.entry x.last x.stands in
-    let d = entered x.last (ask_of e) (answer_in r) step.chosen s.0 s.1 in
-    let run : Run m (entries_of (events ++ e ∷ []) (replies ++ r ∷ []) (x.choices ++ step.chosen ∷ [])) s.0 =
-    subst (λ l. Run m l s.0) (sym (entries_more events replies x.choices e r step.chosen x.answered))
-    (run_joins m x.last s.0 (entries_of events replies x.choices) (option_to_list (entry_with (ask_of e) (answer_in r) step.chosen)) x.run d.0) in
+    let d = entered x.last (ask_of e) (answer_in r) chosen s.0 s.1 in
+    let run : Run m (entries_of (events ++ e ∷ []) (replies ++ r ∷ []) (x.choices ++ chosen ∷ [])) s.0 =
+    subst (λ l. Run m l s.0) (sym (entries_more events replies x.choices e r chosen x.answered))
+    (run_joins m x.last s.0 (entries_of events replies x.choices) (option_to_list (entry_with (ask_of e) (answer_in r) chosen)) x.run d.0) in
     record {
-      choices = x.choices ++ step.chosen ∷ [];
+      choices = x.choices ++ chosen ∷ [];
       last = s.0;
       run = run;
       stands = s.2;
       promises = runs_keep_the_promises m s.0 _ formed run;
-      answered = answered_more events replies x.choices e r step.chosen x.answered d.1;
+      answered = answered_more events replies x.choices e r chosen x.answered d.1;
       start = x.start;
       begins = x.begins;
-      steps = steps_more x.start events replies x.choices old new e r step x.steps;
+      steps = steps_more x.start events replies x.choices old new e r chosen step x.steps;
     }
 
 -- ---- Resources
@@ -135,7 +135,7 @@ flow_more {R} events replies old new e r before step =
 pub stands_at_start : {R : Type 0} (core : Kept R) (cells sessions resources : ℕ) → core.machine ≡ empty cells sessions resources → StandsIn core (empty cells sessions resources)
 stands_at_start core cells sessions resources e = record { same = e; seen = λ h. absurd (both_ways true (sym h) refl); outside = λ _. refl }
 
-pub start_run : {R : Type 0} (core : Kept R) (limits : Limits) (replies : List (Reply R)) → IsWellFormed (start_of limits) → IsEmpty limits.cells limits.sessions limits.resources limits.soft_age core → replies ≡ [] → IsRunOf limits [] replies core
+pub start_run : {R : Type 0} (core : Kept R) (limits : Limits) (replies : List (Reply R)) → IsWellFormed (start_of limits) → IsEmpty limits.cells limits.sessions limits.resources limits.soft_age 1 core → replies ≡ [] → IsRunOf limits [] replies core
 start_run {R} core limits replies formed begins none =
     let nothing : List (Event R) = [] in
     subst (λ l. IsRunOf limits nothing l core) (sym none)

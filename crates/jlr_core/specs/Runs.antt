@@ -12,7 +12,7 @@ use Rattle.jlr_event.specs.declared.event.Reply.{Reply}
 use Rattle.jlr_event.specs.Events.{ask_of, answer_in, resource_of_event, resource_of_reply}
 use Rattle.jlr_core.specs.Cores.{Kept, StandsIn}
 use Rattle.jlr_core.specs.Events.{entry_with}
-use Rattle.jlr_core.specs.Steps.{IsEmpty, Steps}
+use Rattle.jlr_core.specs.Steps.{IsEmpty, IsStep}
 
 -- the entries of events with their replies and choices, in order. A piece of marking is none
 abbrev pub entries_of : {R : Type 0} → List (Event R) → List (Reply R) → List Chosen → List Entry
@@ -32,7 +32,7 @@ AreAnswered _ _ _ = ⊥
 -- from this core on each event with its reply and its choice is a step, and the last of them leads to that core
 abbrev pub AreSteps : {R : Type 0} → Kept R → List (Event R) → List (Reply R) → List Chosen → Kept R → Type 0
 AreSteps core [] [] [] last = last ≡ core
-AreSteps {R} core (e ∷ events) (r ∷ replies) (c ∷ choices) last = (next : Kept R) × (step : Steps core e r next) × (step.chosen ≡ c) × AreSteps next events replies choices last
+AreSteps {R} core (e ∷ events) (r ∷ replies) (c ∷ choices) last = (next : Kept R) × IsStep core e r c next × AreSteps next events replies choices last
 AreSteps _ _ _ _ _ = ⊥
 
 -- There are choices, one for each event, with which the entries are a run from the empty machine of the limits to one for which the core stands, and
@@ -46,7 +46,7 @@ pub record IsRunOf {R : Type 0} (limits : Limits) (events : List (Event R)) (rep
   pub promises : KeepsPromises (empty limits.cells limits.sessions limits.resources) (entries_of events replies choices)
   pub answered : AreAnswered events replies choices
   pub start : Kept R
-  pub begins : IsEmpty limits.cells limits.sessions limits.resources limits.soft_age start
+  pub begins : IsEmpty limits.cells limits.sessions limits.resources limits.soft_age 1 start
   pub steps : AreSteps start events replies choices core
 
 -- the resources that events hand in, and those that replies hand out, in order

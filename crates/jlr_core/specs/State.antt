@@ -1,5 +1,5 @@
 -- The machine that a core's state is, and what an ask did to it.
-use Rattle.std.specs.Prelude.{◌≡◌, ℕ, Bool, true, false, cond, is_some, [], Option, Some, None, Result, Ok, Err}
+use Rattle.std.specs.Prelude.{◌≡◌, ℕ, Bool, true, false, cond, is_some, [], Option, Some, None, Result, Ok, Err, MatchResult}
 use Rattle.jlr_types.specs.declared.FieldValue.{FieldValue}
 use Rattle.jlr_types.specs.declared.FieldValue.TheVariants.{Int, Ref}
 use Rattle.jlr_types.specs.declared.Refusal.{Refusal}
@@ -35,6 +35,10 @@ entry_of ask answer chosen = record { seat = 0; ask = ask; answer = answer; choi
 abbrev pub answer_of : Result Answer Refusal → Answer
 answer_of (Ok a) = a
 answer_of (Err r) = Refused r
+
+-- a check of one refusal: it passes just where this does not hold
+abbrev pub Checks : {A : Type 0} → Result A Refusal → Refusal → Bool → Type 0
+Checks result by holds = MatchResult result (λ _. holds ≡ false) (λ r. (r ≡ by) × (holds ≡ true))
 
 -- what an ask did is a legal entry of the machine, which leads from m to n
 pub record Meets (m : Machine) (ask : Ask) (answer : Answer) (chosen : Chosen) (n : Machine) : Type 0 where

@@ -17,7 +17,7 @@ ghost use Rattle.jlr_cleaner.specs.Cleanings.{HandsOut, HasWork};
 ghost use Rattle.jlr_cleaner.specs.Outcomes.{outcome_of};
 ghost use Rattle.jlr_core.specs.Events.{MayWantMemory};
 ghost use Rattle.jlr_core.specs.Collecting.{after_choice};
-ghost use Rattle.jlr_core.specs.State.{Answered, Meets, answer_of};
+ghost use Rattle.jlr_core.specs.State.{Checks, Answered, Meets, answer_of};
 ghost use Rattle.jlr_core.specs.Flows.{Conserves, GoesOut, LieAsBefore, Moves};
 ghost use Rattle.jlr_core.specs.Guards.{IsIdleAt};
 ghost use Rattle.jlr_core.specs.TakeUps.{IsFreeMutator, clean_answer, handed_out, job_resource, started_answer, take_up_answered};
@@ -64,7 +64,7 @@ impl<R> State<R> {
     /// There is a cleaner at a slot.
     fn check_cleaner(&self, slot: Slot) -> Result<(), Refusal>
         requires { IsTrue (is_some (at self.now.heap.graph.objects slot)) }
-        ensures { MatchResult result (λ _. some_and (λ o. not (is_cleaner o)) (at self.now.heap.graph.objects slot) ≡ false) (λ r. (r ≡ Refusal.WrongKind) × (some_and (λ o. not (is_cleaner o)) (at self.now.heap.graph.objects slot) ≡ true)) }
+        ensures { Checks result Refusal.WrongKind (some_and (λ o. not (is_cleaner o)) (at self.now.heap.graph.objects slot)) }
     {
         if self.heap.is_cleaner(slot) {
             Ok(())
@@ -76,7 +76,7 @@ impl<R> State<R> {
     /// There is a cleanable at a slot.
     fn check_cleanable(&self, slot: Slot) -> Result<(), Refusal>
         requires { IsTrue (is_some (at self.now.heap.graph.objects slot)) }
-        ensures { MatchResult result (λ _. some_and (λ o. not (is_cleanable o)) (at self.now.heap.graph.objects slot) ≡ false) (λ r. (r ≡ Refusal.WrongKind) × (some_and (λ o. not (is_cleanable o)) (at self.now.heap.graph.objects slot) ≡ true)) }
+        ensures { Checks result Refusal.WrongKind (some_and (λ o. not (is_cleanable o)) (at self.now.heap.graph.objects slot)) }
     {
         if self.heap.is_cleanable(slot) {
             Ok(())
@@ -87,7 +87,7 @@ impl<R> State<R> {
 
     /// An action number is left.
     pub(crate) fn check_numbers(&self) -> Result<(), Refusal>
-        ensures { MatchResult result (λ _. nat_le (2 ^ 64 - 1) self.now.cleaner.next_action ≡ false) (λ r. (r ≡ Refusal.Exhausted) × (nat_le (2 ^ 64 - 1) self.now.cleaner.next_action ≡ true)) }
+        ensures { Checks result Refusal.Exhausted (nat_le (2 ^ 64 - 1) self.now.cleaner.next_action) }
     {
         if self.cleaner.is_exhausted() {
             Err(Refusal::Exhausted)
@@ -182,6 +182,7 @@ impl<R> State<R> {
         ensures goes_out { GoesOut self.old.cleaner.table None (Some (clean_answer result)) (handed_out result) }
         ensures cells { length self.new.heap.graph.objects ≡ length self.old.heap.graph.objects }
         ensures age { self.new.soft_age ≡ self.old.soft_age }
+        ensures table_room { self.new.cleaner.table.room ≡ self.old.cleaner.table.room }
         ensures clock { self.new.heap.clock ≡ self.old.heap.clock }
     {
         let slot = self.check_clean(by, cleanable)?;
@@ -201,6 +202,7 @@ impl<R> State<R> {
         ensures goes_out { GoesOut self.old.cleaner.table None (Some (started_answer result)) (job_resource result) }
         ensures cells { length self.new.heap.graph.objects ≡ length self.old.heap.graph.objects }
         ensures age { self.new.soft_age ≡ self.old.soft_age }
+        ensures table_room { self.new.cleaner.table.room ≡ self.old.cleaner.table.room }
         ensures clock { self.new.heap.clock ≡ self.old.heap.clock }
     {
         let cleanable = self.heap.cleanable(slot)?;
@@ -225,6 +227,7 @@ impl<R> State<R> {
         ensures flow { Conserves None self.old.cleaner.table result.resource self.new.cleaner.table }
         ensures moves { Moves None self.old.cleaner.table result.resource self.new.cleaner.table }
         ensures age { self.new.soft_age ≡ self.old.soft_age }
+        ensures table_room { self.new.cleaner.table.room ≡ self.old.cleaner.table.room }
         ensures clock { self.new.heap.clock ≡ self.old.heap.clock }
     {
         self.heap.spend(slot);
@@ -245,6 +248,7 @@ impl<R> State<R> {
         ensures goes_out { GoesOut self.old.cleaner.table None (Some (take_up_answered result)) (handed_out result) }
         ensures cells { length self.new.heap.graph.objects ≡ length self.old.heap.graph.objects }
         ensures age { self.new.soft_age ≡ self.old.soft_age }
+        ensures table_room { self.new.cleaner.table.room ≡ self.old.cleaner.table.room }
         ensures clock { self.new.heap.clock ≡ self.old.heap.clock }
     {
         if self.cleaner.runs_job(CLEANER) {
@@ -284,6 +288,7 @@ impl<R> State<R> {
         ensures lies { LieAsBefore self.old.cleaner.table self.new.cleaner.table }
         ensures cells { length self.new.heap.graph.objects ≡ length self.old.heap.graph.objects }
         ensures age { self.new.soft_age ≡ self.old.soft_age }
+        ensures table_room { self.new.cleaner.table.room ≡ self.old.cleaner.table.room }
         ensures clock { self.new.heap.clock ≡ self.old.heap.clock }
     {
         if by == CLEANER {
@@ -310,6 +315,7 @@ impl<R> State<R> {
         ensures lies { LieAsBefore self.old.cleaner.table self.new.cleaner.table }
         ensures heap { self.new.heap ≡ self.old.heap }
         ensures age { self.new.soft_age ≡ self.old.soft_age }
+        ensures table_room { self.new.cleaner.table.room ≡ self.old.cleaner.table.room }
     {
         if !self.cleaner.finish(by, action, outcome) {
             return Err(Refusal::NotOut);

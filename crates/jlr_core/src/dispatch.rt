@@ -6,6 +6,7 @@ ghost use Rattle.jlr_core.specs.State.{answer_of};
 ghost use Rattle.jlr_event.specs.Events.{ask_of, answer_in, resource_of_event, resource_of_reply};
 ghost use Rattle.jlr_core.specs.Events.{progress_in, StepsBy, WantsMemory};
 ghost use Rattle.jlr_core.specs.Flows.{Conserves, GoesOut, Moves};
+ghost use Rattle.jlr_core.specs.Steps.{LeavesRoom};
 ghost use Rattle.jlr_core.specs.TakeUps.{clean_answer, handed_out, take_up_answered};
 ghost use Rattle.jlr_core.specs.Policy.{KeepsByPolicy, clock_after};
 
@@ -29,6 +30,7 @@ impl<R> State<R> {
         ensures moves { Moves (resource_of_event event) self.old.cleaner.table (resource_of_reply result) self.new.cleaner.table }
         ensures goes_out { GoesOut self.old.cleaner.table (resource_of_event event) (answer_in result) (resource_of_reply result) }
         ensures memory { WantsMemory (machine_of self.old) self.old.cleaner.table (ask_of event) (answer_in result) }
+        ensures table_room { LeavesRoom (ask_of event) self.old.cleaner.table self.new.cleaner.table }
         ensures marking { ask_of event ≡ None → result ≡ Reply.Marked (progress_in (machine_of self.old)) }
         ensures collects { ask_of event ≡ Some Ask.Collect → answer_in result ≡ Some (Answer.Truth self.old.cycle_open) }
         ensures policy { KeepsByPolicy self.old.soft_age self.old.heap.clock (machine_of self.old) (ask_of event) choice.new.chosen }

@@ -1,17 +1,12 @@
 //! The core: one event at a time.
-ghost use Rattle.std.specs.Prelude.{◌≡◌, ◌≤◌, [], length, IfOk, IsTrue, None, Some};
+ghost use Rattle.std.specs.Prelude.{◌≡◌, ◌≤◌, [], length, IfOk, IsTrue};
 ghost use Rattle.jlr_machine.specs.declared.machine.Machine.{Machine};
-ghost use Rattle.jlr_machine.specs.Run.{empty, empty_from};
-ghost use Rattle.jlr_resource.specs.Resources.{resources, values};
-ghost use Rattle.jlr_barrier.specs.Graphs.{empty_known};
-ghost use Rattle.jlr_event.specs.Events.{ask_of, answer_in, resource_of_event, resource_of_reply};
-ghost use Rattle.jlr_core.specs.Events.{progress_in, Enters, WantsMemory};
-ghost use Rattle.jlr_core.specs.Flows.{Conserves, GoesOut, Moves};
-ghost use Rattle.jlr_core.specs.Policy.{KeepsByPolicy, clock_after};
+ghost use Rattle.jlr_resource.specs.Resources.{resources};
+ghost use Rattle.jlr_core.specs.Steps.{IsEmpty, IsStep};
 
 use crate::state::State;
 use jlr_event::event::{Event, Reply};
-use jlr_machine::ask::{Answer, Ask};
+use jlr_machine::ask::Ask;
 use jlr_machine::choice::Choice;
 use jlr_machine::machine::Machine;
 use jlr_types::Limits;
@@ -45,11 +40,7 @@ impl<R> Core<R> {
     /// # Errors
     /// `AllocError` where the room cannot be had.
     pub fn new(alloc: Global, limits: Limits) -> Result<Self, AllocError>
-        ensures machine { IfOk result (λ core. core.machine ≡ empty limits.cells limits.sessions limits.resources) }
-        ensures age { IfOk result (λ core. core.soft_age ≡ limits.soft_age) }
-        ensures clock { IfOk result (λ core. core.clock ≡ (empty_known limits.cells limits.sessions).clock) }
-        ensures none_held { IfOk result (λ core. values core.table ≡ []) }
-        ensures listed { IfOk result (λ core. resources core.table ≡ core.machine.resources) }
+        ensures empty { IfOk result (λ core. IsEmpty limits.cells limits.sessions limits.resources limits.soft_age 1 core) }
     {
         Core::new_from(alloc, limits, 1)
     }
@@ -60,11 +51,7 @@ impl<R> Core<R> {
     /// `AllocError` where the room cannot be had.
     pub fn new_from(alloc: Global, limits: Limits, next_action: u64) -> Result<Self, AllocError>
         requires { 1 ≤ next_action }
-        ensures machine { IfOk result (λ core. core.machine ≡ empty_from limits.cells limits.sessions limits.resources next_action) }
-        ensures age { IfOk result (λ core. core.soft_age ≡ limits.soft_age) }
-        ensures clock { IfOk result (λ core. core.clock ≡ (empty_known limits.cells limits.sessions).clock) }
-        ensures none_held { IfOk result (λ core. values core.table ≡ []) }
-        ensures listed { IfOk result (λ core. resources core.table ≡ core.machine.resources) }
+        ensures empty { IfOk result (λ core. IsEmpty limits.cells limits.sessions limits.resources limits.soft_age next_action core) }
     {
         Ok(Core {
             state: State::new(alloc, limits, next_action)?,
@@ -77,18 +64,7 @@ impl<R> Core<R> {
     /// changes nothing: a `Collect` marks whole, by the soft policy, and is answered yes exactly where a cycle is open.
     pub fn step(&mut self, event: Event<R>, choice: &mut Choice) -> Reply<R>
         requires room { length self.old.machine.objects ≤ choice.old.cells }
-        ensures entry { (m : Machine) → StandsIn self.old m →
-            (n : Machine) × Enters m (ask_of event) (answer_in result) choice.new.chosen n × StandsIn self.new n }
-        ensures flow { Conserves (resource_of_event event) self.old.table (resource_of_reply result) self.new.table }
-        ensures moves { Moves (resource_of_event event) self.old.table (resource_of_reply result) self.new.table }
-        ensures goes_out { GoesOut self.old.table (resource_of_event event) (answer_in result) (resource_of_reply result) }
-        ensures listed { resources self.new.table ≡ self.new.machine.resources }
-        ensures memory { WantsMemory self.old.machine self.old.table (ask_of event) (answer_in result) }
-        ensures marking { ask_of event ≡ None → result ≡ Reply.Marked (progress_in self.old.machine) }
-        ensures collects { ask_of event ≡ Some Ask.Collect → answer_in result ≡ Some (Answer.Truth self.old.machine.cycle_open) }
-        ensures policy { KeepsByPolicy self.old.soft_age self.old.clock self.old.machine (ask_of event) choice.new.chosen }
-        ensures age { self.new.soft_age ≡ self.old.soft_age }
-        ensures clock { self.new.clock ≡ clock_after self.old.machine self.old.clock (ask_of event) (answer_in result) choice.new.chosen }
+        ensures step { IsStep self.old event result choice.new.chosen self.new }
         ensures room { choice.new.cells ≡ choice.old.cells }
         ensures cells { length self.new.machine.objects ≡ length self.old.machine.objects }
     {

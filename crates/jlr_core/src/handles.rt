@@ -3,7 +3,7 @@ ghost use Rattle.std.specs.Prelude.{◌≡◌, length, ◌&&◌, not, true, fals
 ghost use Rattle.jlr_machine.specs.Lookups.{has_free_handle, with_handle};
 ghost use Rattle.jlr_machine.specs.Calls.{new_handle, handle_given, with_given};
 ghost use Rattle.jlr_machine.specs.WellFormed.{IsWellFormed};
-ghost use Rattle.jlr_core.specs.State.{Answered};
+ghost use Rattle.jlr_core.specs.State.{Checks, Answered};
 
 use crate::state::State;
 use jlr_machine::ask::{Answer, Ask};
@@ -98,9 +98,7 @@ impl<R> State<R> {
 
     /// There is a free handle, if one is needed.
     pub(crate) fn check_room_for(&self, by: Mutator, target: Option<Slot>) -> Result<(), Refusal>
-        ensures { MatchResult result
-            (λ _. (is_some target && not (has_free_handle (machine_of self.now) by)) ≡ false)
-            (λ r. (r ≡ Refusal.HandlesFull) × ((is_some target && not (has_free_handle (machine_of self.now) by)) ≡ true)) }
+        ensures { Checks result Refusal.HandlesFull (is_some target && not (has_free_handle (machine_of self.now) by)) }
     {
         if target.is_some() {
             self.check_free_handle(by)?;

@@ -5,15 +5,13 @@ ghost use Rattle.jlr_machine.specs.Refusals.{refusal};
 ghost use Rattle.jlr_machine.specs.Run.{no_choice};
 ghost use Rattle.jlr_machine.specs.WellFormed.{IsWellFormed};
 ghost use Rattle.jlr_core.specs.Events.{MayWantMemory};
-ghost use Rattle.jlr_core.specs.State.{Answered, Meets, answer_of};
+ghost use Rattle.jlr_core.specs.State.{Checks, Answered, Meets, answer_of};
 
 use crate::state::State;
 use jlr_machine::ask::{Answer, Ask};
 use jlr_machine::text::Name;
+use jlr_roots::NAME_LIMIT;
 use jlr_types::{Handle, Mutator, Refusal, Slot};
-
-/// The most names that may be bound.
-const NAME_LIMIT: usize = 256;
 
 impl<R> State<R> {
     ghost use Rattle.jlr_core.specs.Machines.{machine_of};
@@ -30,9 +28,7 @@ impl<R> State<R> {
 
     /// A name is bound, or one more may be.
     fn check_room_for_name(&self, name: &Name) -> Result<(), Refusal>
-        ensures { MatchResult result
-            (λ _. (is_none (slot_bound (machine_of self.now).names name.now) && nat_le 256 (length (machine_of self.now).names)) ≡ false)
-            (λ r. (r ≡ Refusal.NamesFull) × ((is_none (slot_bound (machine_of self.now).names name.now) && nat_le 256 (length (machine_of self.now).names)) ≡ true)) }
+        ensures { Checks result Refusal.NamesFull (is_none (slot_bound (machine_of self.now).names name.now) && nat_le 256 (length (machine_of self.now).names)) }
     {
         if self.heap.find(name).is_none() && self.heap.name_count() >= NAME_LIMIT {
             Err(Refusal::NamesFull)
@@ -45,7 +41,7 @@ impl<R> State<R> {
     fn check_bind(&self, by: Mutator, name: &Name, object: Handle) -> Result<Slot, Refusal>
         requires { IsWellFormed (machine_of self.now) }
         ensures { MatchResult result
-            (λ slot. (refusal (machine_of self.now) (Ask.Bind by name.now object) ≡ None) × (slot_named (machine_of self.now) by object ≡ Some slot))
+            (λ slot. (refusal (machine_of self.now) (Ask.Bind by name.now object) ≡ None) × (slot_named (machine_of self.now) by object ≡ Some slot) × ((is_none (slot_bound (machine_of self.now).names name.now) && nat_le 256 (length (machine_of self.now).names)) ≡ false))
             (λ r. refusal (machine_of self.now) (Ask.Bind by name.now object) ≡ Some r) }
     {
         self.check_session(by)?;
@@ -63,18 +59,16 @@ impl<R> State<R> {
         object: Handle,
     ) -> Result<Answer, Refusal>
         requires { IsWellFormed (machine_of self.old) }
-        ensures meets { Meets (machine_of self.old) (Ask.Bind by name.now object) (answer_of result) no_choice (machine_of self.new) }
-        ensures memory { answer_of result ≡ Answer.Refused Refusal.NoMemory → MayWantMemory (machine_of self.old) self.old.cleaner.table (Ask.Bind by name.now object) }
+        ensures answered { Answered (machine_of self.old) (Ask.Bind by name.now object) result (machine_of self.new) }
+        ensures memory { answer_of result ≡ Answer.Refused Refusal.NoMemory → ⊥ }
         ensures cells { length self.new.heap.graph.objects ≡ length self.old.heap.graph.objects }
         ensures age { self.new.soft_age ≡ self.old.soft_age }
         ensures cleaner { self.new.cleaner ≡ self.old.cleaner }
         ensures clock { self.new.heap.clock ≡ self.old.heap.clock }
     {
         let slot = self.check_bind(by, name, object)?;
-        match self.heap.bind(name, slot) {
-            Ok(()) => Ok(Answer::Done),
-            Err(_) => Err(Refusal::NoMemory),
-        }
+        self.heap.bind(name, slot);
+        Ok(Answer::Done)
     }
 
     /// A handle for what a name stands for.

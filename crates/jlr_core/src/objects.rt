@@ -6,7 +6,7 @@ ghost use Rattle.jlr_machine.specs.Refusals.{is_plain, is_reference, is_queue, g
 ghost use Rattle.jlr_machine.specs.Choices.{nothing_chosen};
 ghost use Rattle.jlr_machine.specs.WellFormed.{IsWellFormed};
 ghost use Rattle.jlr_core.specs.Collecting.{after_choice};
-ghost use Rattle.jlr_core.specs.State.{Answered, FieldRefused, IntRefused, Meets, answer_of};
+ghost use Rattle.jlr_core.specs.State.{Checks, Answered, FieldRefused, IntRefused, Meets, answer_of};
 
 use crate::state::State;
 use jlr_cells::Shape;
@@ -20,7 +20,7 @@ impl<R> State<R> {
     /// A plain object.
     fn check_plain(&self, slot: Slot) -> Result<(), Refusal>
         requires { IsTrue (is_some (at self.now.heap.graph.objects slot)) }
-        ensures { MatchResult result (λ _. some_and (λ o. not (is_plain o)) (at self.now.heap.graph.objects slot) ≡ false) (λ r. (r ≡ Refusal.WrongKind) × (some_and (λ o. not (is_plain o)) (at self.now.heap.graph.objects slot) ≡ true)) }
+        ensures { Checks result Refusal.WrongKind (some_and (λ o. not (is_plain o)) (at self.now.heap.graph.objects slot)) }
     {
         if self.heap.field_count(slot).is_some() {
             Ok(())

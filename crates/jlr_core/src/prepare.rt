@@ -49,6 +49,7 @@ impl<R> State<R> {
         ensures room { choice.new.cells ≡ choice.old.cells }
         ensures cells { length self.new.heap.graph.objects ≡ length self.old.heap.graph.objects }
         ensures age { self.new.soft_age ≡ self.old.soft_age }
+        ensures table_room { self.old.cleaner.table.room ≤ self.new.cleaner.table.room }
         ensures clock { self.new.heap.clock ≡ after_choice choice.new.chosen self.old.heap.clock }
     {
         self.check_prepare(by)?;
@@ -70,6 +71,7 @@ impl<R> State<R> {
         ensures lies { LieAsBefore self.old.cleaner.table self.new.cleaner.table }
         ensures cells { length self.new.heap.graph.objects ≡ length self.old.heap.graph.objects }
         ensures age { self.new.soft_age ≡ self.old.soft_age }
+        ensures table_room { self.old.cleaner.table.room ≤ self.new.cleaner.table.room }
         ensures clock { self.new.heap.clock ≡ after_fresh choice.new.chosen.fresh self.old.heap.clock }
     {
         let action = ActionNo::new(self.cleaner.next_action());

@@ -9,7 +9,7 @@ ghost use Rattle.jlr_machine.specs.Choices.{nothing_chosen};
 ghost use Rattle.jlr_machine.specs.WellFormed.{IsWellFormed};
 ghost use Rattle.jlr_core.specs.Events.{MayWantMemory};
 ghost use Rattle.jlr_core.specs.Collecting.{after_choice};
-ghost use Rattle.jlr_core.specs.State.{Answered, Meets, answer_of, clock_after_deref};
+ghost use Rattle.jlr_core.specs.State.{Checks, Answered, Meets, answer_of, clock_after_deref};
 
 use crate::state::State;
 use jlr_cells::Shape;
@@ -18,12 +18,12 @@ use jlr_machine::choice::Choice;
 use jlr_types::{Handle, Mutator, RefKind, Refusal, Slot};
 
 impl<R> State<R> {
-    ghost use Rattle.jlr_core.specs.Machines.{machine_of};
+    ghost use Rattle.jlr_core.specs.Machines.{LeavesRest, machine_of};
 
     /// There is a reference at a slot.
     fn check_reference(&self, slot: Slot) -> Result<(), Refusal>
         requires { IsTrue (is_some (at self.now.heap.graph.objects slot)) }
-        ensures { MatchResult result (λ _. some_and (λ o. not (is_reference o)) (at self.now.heap.graph.objects slot) ≡ false) (λ r. (r ≡ Refusal.WrongKind) × (some_and (λ o. not (is_reference o)) (at self.now.heap.graph.objects slot) ≡ true)) }
+        ensures { Checks result Refusal.WrongKind (some_and (λ o. not (is_reference o)) (at self.now.heap.graph.objects slot)) }
     {
         if self.heap.is_reference(slot) {
             Ok(())
@@ -35,7 +35,7 @@ impl<R> State<R> {
     /// There is a queue at a slot.
     fn check_queue(&self, slot: Slot) -> Result<(), Refusal>
         requires { IsTrue (is_some (at self.now.heap.graph.objects slot)) }
-        ensures { MatchResult result (λ _. some_and (λ o. not (is_queue o)) (at self.now.heap.graph.objects slot) ≡ false) (λ r. (r ≡ Refusal.WrongKind) × (some_and (λ o. not (is_queue o)) (at self.now.heap.graph.objects slot) ≡ true)) }
+        ensures { Checks result Refusal.WrongKind (some_and (λ o. not (is_queue o)) (at self.now.heap.graph.objects slot)) }
     {
         if self.heap.is_queue(slot) {
             Ok(())
@@ -103,10 +103,7 @@ impl<R> State<R> {
     pub(crate) fn clear(&mut self, by: Mutator, reference: Handle) -> Result<Answer, Refusal>
         requires { IsWellFormed (machine_of self.old) }
         ensures answered { Answered (machine_of self.old) (Ask.Clear by reference) result (machine_of self.new) }
-        ensures cells { length self.new.heap.graph.objects ≡ length self.old.heap.graph.objects }
-        ensures age { self.new.soft_age ≡ self.old.soft_age }
-        ensures cleaner { self.new.cleaner ≡ self.old.cleaner }
-        ensures clock { self.new.heap.clock ≡ self.old.heap.clock }
+        ensures rest { LeavesRest self.old self.new }
     {
         self.check_session(by)?;
         self.check_handle(by, reference)?;
@@ -136,10 +133,7 @@ impl<R> State<R> {
         requires { IsWellFormed (machine_of self.old) }
         ensures meets { Meets (machine_of self.old) (Ask.Enqueue by reference) (answer_of result) no_choice (machine_of self.new) }
         ensures memory { answer_of result ≡ Answer.Refused Refusal.NoMemory → MayWantMemory (machine_of self.old) self.old.cleaner.table (Ask.Enqueue by reference) }
-        ensures cells { length self.new.heap.graph.objects ≡ length self.old.heap.graph.objects }
-        ensures age { self.new.soft_age ≡ self.old.soft_age }
-        ensures cleaner { self.new.cleaner ≡ self.old.cleaner }
-        ensures clock { self.new.heap.clock ≡ self.old.heap.clock }
+        ensures rest { LeavesRest self.old self.new }
     {
         let slot = self.check_enqueue(by, reference)?;
         match jlr_refs::enqueue(&mut self.heap, slot) {
@@ -179,10 +173,7 @@ impl<R> State<R> {
     pub(crate) fn poll(&mut self, by: Mutator, queue: Handle) -> Result<Answer, Refusal>
         requires { IsWellFormed (machine_of self.old) }
         ensures answered { Answered (machine_of self.old) (Ask.Poll by queue) result (machine_of self.new) }
-        ensures cells { length self.new.heap.graph.objects ≡ length self.old.heap.graph.objects }
-        ensures age { self.new.soft_age ≡ self.old.soft_age }
-        ensures cleaner { self.new.cleaner ≡ self.old.cleaner }
-        ensures clock { self.new.heap.clock ≡ self.old.heap.clock }
+        ensures rest { LeavesRest self.old self.new }
     {
         let slot = self.check_poll(by, queue)?;
         let front = jlr_refs::poll(&mut self.heap, slot);
@@ -213,10 +204,7 @@ impl<R> State<R> {
     pub(crate) fn remove(&mut self, by: Mutator, queue: Handle) -> Result<Answer, Refusal>
         requires { IsWellFormed (machine_of self.old) }
         ensures answered { Answered (machine_of self.old) (Ask.Remove by queue) result (machine_of self.new) }
-        ensures cells { length self.new.heap.graph.objects ≡ length self.old.heap.graph.objects }
-        ensures age { self.new.soft_age ≡ self.old.soft_age }
-        ensures cleaner { self.new.cleaner ≡ self.old.cleaner }
-        ensures clock { self.new.heap.clock ≡ self.old.heap.clock }
+        ensures rest { LeavesRest self.old self.new }
     {
         let slot = self.check_remove(by, queue)?;
         let member = jlr_refs::poll(&mut self.heap, slot);
@@ -228,10 +216,7 @@ impl<R> State<R> {
         requires { IsWellFormed (machine_of self.old) }
         ensures meets { Meets (machine_of self.old) Ask.HandOver (answer_of result) no_choice (machine_of self.new) }
         ensures memory { answer_of result ≡ Answer.Refused Refusal.NoMemory → MayWantMemory (machine_of self.old) self.old.cleaner.table Ask.HandOver }
-        ensures cells { length self.new.heap.graph.objects ≡ length self.old.heap.graph.objects }
-        ensures age { self.new.soft_age ≡ self.old.soft_age }
-        ensures cleaner { self.new.cleaner ≡ self.old.cleaner }
-        ensures clock { self.new.heap.clock ≡ self.old.heap.clock }
+        ensures rest { LeavesRest self.old self.new }
     {
         match jlr_refs::hand_over(&mut self.heap) {
             Ok(handed) => Ok(Answer::Handed(handed)),

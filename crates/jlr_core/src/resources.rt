@@ -94,6 +94,7 @@ impl<R> State<R> {
         ensures goes_out { GoesOut self.old.cleaner.table (resource_of outcome) (answer_in result) (resource_of_reply result) }
         ensures cells { length self.new.heap.graph.objects ≡ length self.old.heap.graph.objects }
         ensures age { self.new.soft_age ≡ self.old.soft_age }
+        ensures table_room { self.new.cleaner.table.room ≡ self.old.cleaner.table.room }
         ensures clock { self.new.heap.clock ≡ self.old.heap.clock }
     {
         let held = match self.check_opened(by) {
@@ -123,6 +124,7 @@ impl<R> State<R> {
         ensures goes_out { GoesOut self.old.cleaner.table (resource_of outcome) (Some result) None }
         ensures cells { length self.new.heap.graph.objects ≡ length self.old.heap.graph.objects }
         ensures age { self.new.soft_age ≡ self.old.soft_age }
+        ensures table_room { self.new.cleaner.table.room ≡ self.old.cleaner.table.room }
         ensures clock { self.new.heap.clock ≡ self.old.heap.clock }
     {
         match outcome {
@@ -141,6 +143,7 @@ impl<R> State<R> {
         ensures moves { Moves (Some resource) self.old.cleaner.table None self.new.cleaner.table }
         ensures cells { length self.new.heap.graph.objects ≡ length self.old.heap.graph.objects }
         ensures age { self.new.soft_age ≡ self.old.soft_age }
+        ensures table_room { self.new.cleaner.table.room ≡ self.old.cleaner.table.room }
         ensures clock { self.new.heap.clock ≡ self.old.heap.clock }
     {
         self.cleaner.opened(held.guard.rid, resource);
@@ -157,6 +160,7 @@ impl<R> State<R> {
         ensures moves { Moves None self.old.cleaner.table None self.new.cleaner.table }
         ensures cells { length self.new.heap.graph.objects ≡ length self.old.heap.graph.objects }
         ensures age { self.new.soft_age ≡ self.old.soft_age }
+        ensures table_room { self.new.cleaner.table.room ≡ self.old.cleaner.table.room }
         ensures clock { self.new.heap.clock ≡ self.old.heap.clock }
     {
         self.cleaner.open_failed(held.guard.rid);
@@ -241,6 +245,7 @@ impl<R> State<R> {
         ensures goes_out { GoesOut self.old.cleaner.table None (answer_in result) (resource_of_reply result) }
         ensures cells { length self.new.heap.graph.objects ≡ length self.old.heap.graph.objects }
         ensures age { self.new.soft_age ≡ self.old.soft_age }
+        ensures table_room { self.new.cleaner.table.room ≡ self.old.cleaner.table.room }
         ensures clock { self.new.heap.clock ≡ self.old.heap.clock }
     {
         let held = match self.check_use(by, guard) {
@@ -273,6 +278,7 @@ impl<R> State<R> {
         ensures goes_out { GoesOut self.old.cleaner.table (Some resource) (answer_in result) (resource_of_reply result) }
         ensures cells { length self.new.heap.graph.objects ≡ length self.old.heap.graph.objects }
         ensures age { self.new.soft_age ≡ self.old.soft_age }
+        ensures table_room { self.new.cleaner.table.room ≡ self.old.cleaner.table.room }
         ensures clock { self.new.heap.clock ≡ self.old.heap.clock }
     {
         let held = match self.check_out_call(by) {
@@ -322,6 +328,7 @@ impl<R> State<R> {
         ensures goes_out { GoesOut self.old.cleaner.table None (Some (clean_answer result)) (handed_out result) }
         ensures cells { length self.new.heap.graph.objects ≡ length self.old.heap.graph.objects }
         ensures age { self.new.soft_age ≡ self.old.soft_age }
+        ensures table_room { self.new.cleaner.table.room ≡ self.old.cleaner.table.room }
         ensures clock { self.new.heap.clock ≡ self.old.heap.clock }
     {
         let slot = self.check_close(by, guard)?;

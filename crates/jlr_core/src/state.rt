@@ -1,4 +1,5 @@
 //! What the core keeps, as the machine has it, and the checks of refusals that many asks share.
+ghost use Rattle.jlr_core.specs.State.{Checks};
 ghost use Rattle.std.specs.Prelude.{◌≡◌, ◌≤◌, [], None, Some, Ok, Err, MatchResult, IfOk, true, false, not, is_none, is_some, ◌&&◌, ◌==◌, OnOk, IsTrue};
 ghost use Rattle.jlr_machine.specs.WellFormed.{IsWellFormed};
 ghost use Rattle.jlr_machine.specs.Objects.{at};
@@ -84,7 +85,7 @@ impl<R> State<R> {
 
     /// A handle is null or in use.
     pub(crate) fn check_handle(&self, by: Mutator, handle: Handle) -> Result<(), Refusal>
-        ensures { MatchResult result (λ _. (not (handle == 0) && is_none (slot_named (machine_of self.now) by handle)) ≡ false) (λ r. (r ≡ Refusal.NoHandle) × ((not (handle == 0) && is_none (slot_named (machine_of self.now) by handle)) ≡ true)) }
+        ensures { Checks result Refusal.NoHandle (not (handle == 0) && is_none (slot_named (machine_of self.now) by handle)) }
     {
         if handle.number() == 0 || self.heap.lookup(by, handle).is_some() {
             Ok(())
@@ -122,7 +123,7 @@ impl<R> State<R> {
 
     /// The mutator has no call in flight.
     pub(crate) fn check_no_call(&self, by: Mutator) -> Result<(), Refusal>
-        ensures { MatchResult result (λ _. has_call (machine_of self.now) by ≡ false) (λ r. (r ≡ Refusal.Busy) × (has_call (machine_of self.now) by ≡ true)) }
+        ensures { Checks result Refusal.Busy (has_call (machine_of self.now) by) }
     {
         if self.heap.has_call(by) {
             Err(Refusal::Busy)

@@ -28,7 +28,7 @@ mod script;
 mod soft_references;
 
 use answers::{Got, seen};
-use script::{events_of, parsed, play, played};
+use script::{count_all, events_of, is_row, parsed, play_all, played, titled};
 
 // A heap with 16 cells and one session, that keeps soft references for so many collections.
 fn limits(soft_age: u32) -> Result<Limits, Fail> {
@@ -80,8 +80,8 @@ fn image_after(alloc: Global, limits: Limits, asks: &str) -> Result<Machine, Fai
 }
 
 // How many objects there are after the asks.
-fn objects_left(alloc: Global, soft_age: u32, asks: &str) -> Result<usize, Fail> {
-    let image = image_after(alloc, limits(soft_age)?, asks)?;
+fn objects_left(alloc: Global, limits: Limits, asks: &str) -> Result<usize, Fail> {
+    let image = image_after(alloc, limits, asks)?;
     Ok(
         image
             .objects

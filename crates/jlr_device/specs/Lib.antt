@@ -1,5 +1,6 @@
 -- Counts of failures, and what a script makes of calls.
 pub mod Failures
+pub mod Handling
 pub mod Faults
 pub mod Scripts
 pub mod Queues

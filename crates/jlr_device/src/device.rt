@@ -38,13 +38,13 @@ pub trait Device {
     fn open(&mut self, mode: Mode, path: &str) -> Result<Self::Res, Fault>
         requires { count self.old + 1 < 2 ^ 64 }
         ensures counted { Counts (count self.old) result (count self.new) }
-        ensures fresh { IfOk result (λ resource. Self.Res.count resource ≡ 0) }
+        ensures fresh { IfOk result (λ resource. Self.Res.handling.count resource ≡ 0) }
         ensures told { may_open self.old mode path.now result self.new };
 
     /// Joins a socket. No call of the resource has failed yet.
     fn connect(&mut self, path: &str) -> Result<Self::Res, Fault>
         requires { count self.old + 1 < 2 ^ 64 }
         ensures counted { Counts (count self.old) result (count self.new) }
-        ensures fresh { IfOk result (λ resource. Self.Res.count resource ≡ 0) }
+        ensures fresh { IfOk result (λ resource. Self.Res.handling.count resource ≡ 0) }
         ensures told { may_connect self.old path.now result self.new };
 }

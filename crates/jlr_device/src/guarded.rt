@@ -10,7 +10,7 @@ use jlr_types::Fault;
 
 /// Opens a file.
 pub fn guarded_open<D: Device>(device: &mut D, mode: Mode, path: &str) -> Result<D::Res, Fault>
-    ensures fresh { IfOk result (λ resource. D.Res.count resource ≡ 0) }
+    ensures fresh { IfOk result (λ resource. D.Res.handling.count resource ≡ 0) }
     ensures either { Fits (D.count device.old) ⊎ IsHighest (D.count device.old) }
     ensures counted { Fits (D.count device.old) → Counts (D.count device.old) result (D.count device.new) }
     ensures told { Fits (D.count device.old) → D.may_open device.old mode path.now result device.new }
@@ -24,7 +24,7 @@ pub fn guarded_open<D: Device>(device: &mut D, mode: Mode, path: &str) -> Result
 
 /// Joins a socket.
 pub fn guarded_connect<D: Device>(device: &mut D, path: &str) -> Result<D::Res, Fault>
-    ensures fresh { IfOk result (λ resource. D.Res.count resource ≡ 0) }
+    ensures fresh { IfOk result (λ resource. D.Res.handling.count resource ≡ 0) }
     ensures either { Fits (D.count device.old) ⊎ IsHighest (D.count device.old) }
     ensures counted { Fits (D.count device.old) → Counts (D.count device.old) result (D.count device.new) }
     ensures told { Fits (D.count device.old) → D.may_connect device.old path.now result device.new }
@@ -39,10 +39,10 @@ pub fn guarded_connect<D: Device>(device: &mut D, path: &str) -> Result<D::Res, 
 /// Reads bytes to the front of `buf`, and answers how many; 0 at the end.
 pub fn guarded_read<R: Resource>(resource: &mut R, buf: &mut [u8]) -> Result<usize, Fault>
     ensures bound { IfOk result (λ n. n ≤ length buf.old) }
-    ensures either { Fits (R.count resource.old) ⊎ IsHighest (R.count resource.old) }
-    ensures counted { Fits (R.count resource.old) → Counts (R.count resource.old) result (R.count resource.new) }
-    ensures told { Fits (R.count resource.old) → R.may_read resource.old buf.old result buf.new resource.new }
-    ensures uncalled { IsHighest (R.count resource.old) → (result ≡ Err fault.Other) × (buf.new ≡ buf.old) × (resource.new ≡ resource.old) }
+    ensures either { Fits (R.handling.count resource.old) ⊎ IsHighest (R.handling.count resource.old) }
+    ensures counted { Fits (R.handling.count resource.old) → Counts (R.handling.count resource.old) result (R.handling.count resource.new) }
+    ensures told { Fits (R.handling.count resource.old) → R.handling.reads resource.old buf.old result buf.new resource.new }
+    ensures uncalled { IsHighest (R.handling.count resource.old) → (result ≡ Err fault.Other) × (buf.new ≡ buf.old) × (resource.new ≡ resource.old) }
 {
     if resource.failures() == u64::MAX {
         return Err(Fault::Other);
@@ -53,10 +53,10 @@ pub fn guarded_read<R: Resource>(resource: &mut R, buf: &mut [u8]) -> Result<usi
 /// Writes bytes of the front of `bytes`, and answers how many, which may be fewer than there are.
 pub fn guarded_write<R: Resource>(resource: &mut R, bytes: &[u8]) -> Result<usize, Fault>
     ensures bound { IfOk result (λ n. n ≤ length bytes.now) }
-    ensures either { Fits (R.count resource.old) ⊎ IsHighest (R.count resource.old) }
-    ensures counted { Fits (R.count resource.old) → Counts (R.count resource.old) result (R.count resource.new) }
-    ensures told { Fits (R.count resource.old) → R.may_write resource.old bytes.now result resource.new }
-    ensures uncalled { IsHighest (R.count resource.old) → (result ≡ Err fault.Other) × (resource.new ≡ resource.old) }
+    ensures either { Fits (R.handling.count resource.old) ⊎ IsHighest (R.handling.count resource.old) }
+    ensures counted { Fits (R.handling.count resource.old) → Counts (R.handling.count resource.old) result (R.handling.count resource.new) }
+    ensures told { Fits (R.handling.count resource.old) → R.handling.writes resource.old bytes.now result resource.new }
+    ensures uncalled { IsHighest (R.handling.count resource.old) → (result ≡ Err fault.Other) × (resource.new ≡ resource.old) }
 {
     if resource.failures() == u64::MAX {
         return Err(Fault::Other);
@@ -66,10 +66,10 @@ pub fn guarded_write<R: Resource>(resource: &mut R, bytes: &[u8]) -> Result<usiz
 
 /// Ends a resource. Where its count is at its last value it is dropped without its `finish`.
 pub fn guarded_finish<R: Resource + Drop>(resource: R) -> Finished
-    ensures either { Fits (R.count resource) ⊎ IsHighest (R.count resource) }
-    ensures counted { Fits (R.count resource) → Counts (R.count resource) result.outcome result.failures }
-    ensures told { Fits (R.count resource) → R.may_finish resource result }
-    ensures uncalled { IsHighest (R.count resource) → (result.outcome ≡ Err fault.Other) × (result.failures ≡ R.count resource) }
+    ensures either { Fits (R.handling.count resource) ⊎ IsHighest (R.handling.count resource) }
+    ensures counted { Fits (R.handling.count resource) → Counts (R.handling.count resource) result.outcome result.failures }
+    ensures told { Fits (R.handling.count resource) → R.handling.finishes resource result }
+    ensures uncalled { IsHighest (R.handling.count resource) → (result.outcome ≡ Err fault.Other) × (result.failures ≡ R.handling.count resource) }
 {
     let failures = resource.failures();
     if failures == u64::MAX {

@@ -13,6 +13,7 @@ mod device;
 pub mod guarded;
 pub mod real;
 mod resource;
+pub mod retry;
 pub mod script;
 #[cfg(test)]
 mod tests;

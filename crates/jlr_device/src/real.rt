@@ -6,9 +6,10 @@ ghost use Rattle.jlr_device.specs.Faults.{fault_of_kind};
 
 use crate::device::{Device, Mode};
 use crate::resource::{Finished, Resource};
+use crate::retry;
 use jlr_types::Fault;
 use std::fs::{File, OpenOptions};
-use std::io::{Error, ErrorKind, Read, Write};
+use std::io::{Error, ErrorKind};
 use std::net::Shutdown;
 use std::os::unix::net::UnixStream;
 
@@ -80,7 +81,7 @@ impl RealResource {
 }
 
 impl Resource for RealResource {
-    ghost count = { λ r. r.failures };
+    ghost handling = { record { count = λ r. r.failures; reads = λ _ _ _ _ _. Unit {0}; writes = λ _ _ _ _. Unit {0}; finishes = λ _ _. Unit {0} } };
 
     fn failures(&self) -> u64 {
         self.failures
@@ -88,16 +89,16 @@ impl Resource for RealResource {
 
     fn read(&mut self, buf: &mut [u8]) -> Result<usize, Fault> {
         let done = match &mut self.handle {
-            Handle::File(file) => file.read(buf),
-            Handle::Socket(stream) => stream.read(buf),
+            Handle::File(file) => retry::read(file, buf),
+            Handle::Socket(stream) => retry::read(stream, buf),
         };
         counted(done, &mut self.failures)
     }
 
     fn write(&mut self, bytes: &[u8]) -> Result<usize, Fault> {
         let done = match &mut self.handle {
-            Handle::File(file) => file.write(bytes),
-            Handle::Socket(stream) => stream.write(bytes),
+            Handle::File(file) => retry::write(file, bytes),
+            Handle::Socket(stream) => retry::write(stream, bytes),
         };
         counted(done, &mut self.failures)
     }

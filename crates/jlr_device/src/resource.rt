@@ -16,41 +16,32 @@ pub trait Resource {
     ghost use Rattle.std.specs.Prelude.{◌≡◌, ℕ, ◌+◌, ◌^◌, ◌<◌, ◌≤◌, List, Result, length, IfOk};
     ghost use Rattle.jlr_types.specs.declared.Fault.{Fault};
     ghost use Rattle.jlr_device.specs.Failures.{Counts};
-    ghost use Rattle.jlr_device.specs.declared.resource.Finished.{Finished};
+    ghost use Rattle.jlr_device.specs.Handling.{Handling};
 
-    // how many calls failed
-    ghost count: { Self → ℕ };
-
-    // what a read may do: the resource and the buffer before, the answer, the buffer and the resource after
-    ghost may_read: { Self → List ℕ → Result ℕ Fault → List ℕ → Self → Type 0 } = { λ _ _ _ _ _. Unit {0} };
-
-    // what a write may do: the resource before, the bytes, the answer, and the resource after
-    ghost may_write: { Self → List ℕ → Result ℕ Fault → Self → Type 0 } = { λ _ _ _ _. Unit {0} };
-
-    // how a resource may end
-    ghost may_finish: { Self → Finished → Type 0 } = { λ _ _. Unit {0} };
+    // how many of its calls failed, and what they may do
+    ghost handling: { Handling Self };
 
     /// How many calls failed.
     fn failures(&self) -> u64
-        ensures { result ≡ count self.now };
+        ensures { result ≡ handling.count self.now };
 
     /// Reads bytes to the front of `buf`, and answers how many; 0 at the end.
     fn read(&mut self, buf: &mut [u8]) -> Result<usize, Fault>
-        requires { count self.old + 1 < 2 ^ 64 }
+        requires { handling.count self.old + 1 < 2 ^ 64 }
         ensures bound { IfOk result (λ n. n ≤ length buf.old) }
-        ensures counted { Counts (count self.old) result (count self.new) }
-        ensures told { may_read self.old buf.old result buf.new self.new };
+        ensures counted { Counts (handling.count self.old) result (handling.count self.new) }
+        ensures told { handling.reads self.old buf.old result buf.new self.new };
 
     /// Writes bytes of the front of `bytes`, and answers how many, which may be fewer than there are.
     fn write(&mut self, bytes: &[u8]) -> Result<usize, Fault>
-        requires { count self.old + 1 < 2 ^ 64 }
+        requires { handling.count self.old + 1 < 2 ^ 64 }
         ensures bound { IfOk result (λ n. n ≤ length bytes.now) }
-        ensures counted { Counts (count self.old) result (count self.new) }
-        ensures told { may_write self.old bytes.now result self.new };
+        ensures counted { Counts (handling.count self.old) result (handling.count self.new) }
+        ensures told { handling.writes self.old bytes.now result self.new };
 
     /// Ends the resource: a file's bytes go to the disk, a socket is shut down both ways, and then it is gone.
     fn finish(self) -> Finished
-        requires { count self + 1 < 2 ^ 64 }
-        ensures counted { Counts (count self) result.outcome result.failures }
-        ensures told { may_finish self result };
+        requires { handling.count self + 1 < 2 ^ 64 }
+        ensures counted { Counts (handling.count self) result.outcome result.failures }
+        ensures told { handling.finishes self result };
 }

@@ -158,13 +158,7 @@ impl ScriptResource {
 impl Resource for ScriptResource {
     ghost use Rattle.jlr_device.specs.Scripts.{Reads, Writes, Finishes};
 
-    ghost count = { λ r. r.failures };
-
-    ghost may_read = { Reads };
-
-    ghost may_write = { Writes };
-
-    ghost may_finish = { Finishes };
+    ghost handling = { record { count = λ r. r.failures; reads = Reads; writes = Writes; finishes = Finishes } };
 
     fn failures(&self) -> u64 {
         self.failures

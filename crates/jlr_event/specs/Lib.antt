@@ -1,3 +1,2 @@
 -- What events and replies are without their resources.
 pub mod Events
-pub mod Topics

@@ -1,11 +1,8 @@
 //! What comes to the core, and what goes back: an ask or an answer with the resource that it carries.
 ghost use Rattle.std.specs.Prelude.{◌≡◌};
-ghost use Rattle.jlr_event.specs.Events.{ask_of, answer_in, resource_of_reply};
+ghost use Rattle.jlr_event.specs.Events.{ask_of, answer_in, outcome_of, resource_of_reply};
 
-use crate::asks::{
-    cleaner_ask, field_ask, heap_ask, name_ask, object_ask, queue_ask, reference_ask, resource_ask,
-};
-use jlr_machine::ask::{Answer, Ask, CallOutcome, FullMode};
+use jlr_machine::ask::{Answer, Ask, CallOutcome, FullMode, Outcome};
 use jlr_machine::text::Name;
 use jlr_types::{ActionNo, Fault, Handle, Layout, Mutator, Progress, RefKind};
 
@@ -228,28 +225,163 @@ impl<R> Event<R> {
     pub fn plain(&self) -> Option<Ask>
         ensures { result ≡ ask_of self.now }
     {
-        if let Some(ask) = object_ask(self) {
-            return Some(ask);
-        }
-        if let Some(ask) = field_ask(self) {
-            return Some(ask);
-        }
-        if let Some(ask) = reference_ask(self) {
-            return Some(ask);
-        }
-        if let Some(ask) = queue_ask(self) {
-            return Some(ask);
-        }
-        if let Some(ask) = cleaner_ask(self) {
-            return Some(ask);
-        }
-        if let Some(ask) = resource_ask(self) {
-            return Some(ask);
-        }
-        if let Some(ask) = name_ask(self) {
-            return Some(ask);
-        }
-        heap_ask(self)
+        Some(match *self {
+            Event::Join { mutator } => Ask::Join { mutator },
+            Event::Leave { mutator } => Ask::Leave { mutator },
+            Event::New {
+                mutator,
+                ref layout,
+            } => Ask::New {
+                mutator,
+                layout: layout.copy(),
+            },
+            Event::Dup { mutator, object } => Ask::Dup { mutator, object },
+            Event::Drop { mutator, object } => Ask::Drop { mutator, object },
+            Event::Same {
+                mutator,
+                left,
+                right,
+            } => Ask::Same {
+                mutator,
+                left,
+                right,
+            },
+            Event::Put {
+                mutator,
+                object,
+                field,
+                value,
+            } => Ask::Put {
+                mutator,
+                object,
+                field,
+                value,
+            },
+            Event::Get {
+                mutator,
+                object,
+                field,
+            } => Ask::Get {
+                mutator,
+                object,
+                field,
+            },
+            Event::SetInt {
+                mutator,
+                object,
+                field,
+                value,
+            } => Ask::SetInt {
+                mutator,
+                object,
+                field,
+                value,
+            },
+            Event::Int {
+                mutator,
+                object,
+                field,
+            } => Ask::Int {
+                mutator,
+                object,
+                field,
+            },
+            Event::MakeRef {
+                mutator,
+                kind,
+                referent,
+                queue,
+            } => Ask::MakeRef {
+                mutator,
+                kind,
+                referent,
+                queue,
+            },
+            Event::Deref { mutator, reference } => Ask::Deref { mutator, reference },
+            Event::Refers {
+                mutator,
+                reference,
+                object,
+            } => Ask::Refers {
+                mutator,
+                reference,
+                object,
+            },
+            Event::Clear { mutator, reference } => Ask::Clear { mutator, reference },
+            Event::Enqueue { mutator, reference } => Ask::Enqueue { mutator, reference },
+            Event::Enqueued { mutator, reference } => Ask::Enqueued { mutator, reference },
+            Event::MakeQueue { mutator } => Ask::MakeQueue { mutator },
+            Event::Poll { mutator, queue } => Ask::Poll { mutator, queue },
+            Event::Remove { mutator, queue } => Ask::Remove { mutator, queue },
+            Event::MakeCleaner { mutator } => Ask::MakeCleaner { mutator },
+            Event::Register {
+                mutator,
+                cleaner,
+                object,
+                note,
+            } => Ask::Register {
+                mutator,
+                cleaner,
+                object,
+                note,
+            },
+            Event::Clean { mutator, cleanable } => Ask::Clean { mutator, cleanable },
+            Event::Finish {
+                by,
+                action,
+                ref outcome,
+            } => Ask::Finish {
+                by,
+                action,
+                outcome: ended(outcome),
+            },
+            Event::Prepare { mutator } => Ask::Prepare { mutator },
+            Event::Opened {
+                mutator,
+                ref outcome,
+            } => Ask::Opened {
+                mutator,
+                outcome: ended(outcome),
+            },
+            Event::CheckOut { mutator, guard } => Ask::CheckOut { mutator, guard },
+            Event::CheckIn {
+                mutator,
+                ref outcome,
+                ..
+            } => Ask::CheckIn {
+                mutator,
+                outcome: outcome.copy(),
+            },
+            Event::Close { mutator, guard } => Ask::Close { mutator, guard },
+            Event::Bind {
+                mutator,
+                ref name,
+                object,
+            } => Ask::Bind {
+                mutator,
+                name: name.copy(),
+                object,
+            },
+            Event::Find { mutator, ref name } => Ask::Find {
+                mutator,
+                name: name.copy(),
+            },
+            Event::Unbind { mutator, ref name } => Ask::Unbind {
+                mutator,
+                name: name.copy(),
+            },
+            Event::Names { mutator } => Ask::Names { mutator },
+            Event::Full { mutator, mode } => Ask::Full { mutator, mode },
+            Event::Stat { mutator } => Ask::Stat { mutator },
+            Event::Notes { mutator } => Ask::Notes { mutator },
+            Event::Faults { mutator } => Ask::Faults { mutator },
+            Event::HandOver => Ask::HandOver,
+            Event::TakeUp => Ask::TakeUp,
+            Event::Begin => Ask::Begin,
+            Event::Collect => Ask::Collect,
+            Event::Abandon => Ask::Abandon,
+            Event::Mark { .. } => return None,
+        })
     }
 }
 
@@ -262,5 +394,15 @@ impl<R> Reply<R> {
             Reply::Answered { answer, resource } => (Some(answer), resource),
             Reply::Marked(_) => (None, None),
         }
+    }
+}
+
+/// How it ended, without what it gave.
+fn ended<T>(outcome: &Result<T, Fault>) -> Outcome
+    ensures { result ≡ outcome_of outcome.now }
+{
+    match outcome {
+        Ok(_) => Outcome::Ok,
+        Err(fault) => Outcome::Failed(*fault),
     }
 }

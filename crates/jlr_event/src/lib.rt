@@ -2,7 +2,6 @@
 //! them.
 #![tactic(auto)]
 
-mod asks;
 pub mod event;
 #[cfg(test)]
 mod tests;

@@ -19,14 +19,18 @@ use Rattle.jlr_laws.proofs.Clearing.{in_append}
 use Rattle.jlr_laws.proofs.Frames.{no_some, some_same}
 use Rattle.jlr_laws.proofs.Empty.{place_of, well_formed_within}
 use Rattle.jlr_laws.proofs.Law.{legal_kept}
-use Rattle.jlr_laws.proofs.LawProofs.{each_clearing_is_as_specified}
+use Rattle.jlr_laws.proofs.LawProofs.{each_clearing_is_as_specified, leaves_what_its_steps_leave}
+use Rattle.jlr_machine.specs.Objects.{at, ◌∋◌}
+use Rattle.jlr_machine.specs.Collection.{made_pending, after_collection}
+use Rattle.std.specs.Prelude.{cond, option_map, None, Option}
+use Rattle.jlr_machine.specs.Run.{with_collection}
 use Rattle.jlr_laws.proofs.LegalKept.{no_need}
 use Rattle.jlr_histories.specs.Lives.{LivesOn, enqueueings}
-use Rattle.jlr_histories.specs.Promises.{AtEach, ClearsAllowedSets, ClearsNothingElse, QueuesWhatIsCleared, RunsKeepThePromises, base_of}
+use Rattle.jlr_histories.specs.Promises.{AtEach, ClearsAllowedSets, ClearsNothingElse, QueuesWhatIsCleared, RecordsWhatIsTold, RunsKeepThePromises, base_of}
 use Rattle.jlr_histories.proofs.Enqueued.{enqueued_at_most_once}
 use Rattle.jlr_histories.proofs.Forward.{enqueued_is_cleared, only_they_clear}
 use Rattle.jlr_histories.proofs.TakenOnce.{taken_up_at_most_once}
-use Rattle.jlr_histories.proofs.Outcomes.{outcomes_are_recorded}
+use Rattle.jlr_histories.proofs.Outcomes.{outcomes_are_recorded, finish_records_the_outcome}
 
 -- ---- Each entry
 
@@ -51,10 +55,21 @@ within_base m Collect c w may =
     }
 within_base m ask c w may = well_formed_within m w
 
-specified : (m : Machine) (ask : Ask) (c : Collected) → IsWellFormed m → MayCollect m ask (Some c) → (is : IsCollection m.objects (base_of m ask c.kept) c.kept c.pending) × AsSpecified m.objects (base_of m ask c.kept) c.kept c.pending is
+abbrev Told : Machine → Ask → Collected → Type 0
+Told m ask c = (is : IsCollection m.objects (base_of m ask c.kept) c.kept c.pending) × AsSpecified m.objects (base_of m ask c.kept) c.kept c.pending is
+    × ((s : ℕ) → at (after_collection m c.kept c.pending).objects s ≡ cond (c.kept ∋ s) (option_map (made_pending (c.pending ∋ s)) (at is.phantom_left s)) None)
+
+specified : (m : Machine) (ask : Ask) (c : Collected) → IsWellFormed m → MayCollect m ask (Some c) → Told m ask c
 specified m ask c w may =
     let is = collection_of m ask c may in
-    (is, each_clearing_is_as_specified m.objects (base_of m ask c.kept) c.kept c.pending (within_base m ask c w may) is)
+    (is, each_clearing_is_as_specified m.objects (base_of m ask c.kept) c.kept c.pending (within_base m ask c w may) is, leaves_what_its_steps_leave m.objects (base_of m ask c.kept) c.kept c.pending (within_base m ask c w may) is)
+
+abbrev LeftBy : Machine → Ask → Collected → Option Collected → Type 0
+LeftBy m ask c o = (is : IsCollection m.objects (base_of m ask c.kept) c.kept c.pending) × AsSpecified m.objects (base_of m ask c.kept) c.kept c.pending is
+    × ((s : ℕ) → at (with_collection m o).objects s ≡ cond (c.kept ∋ s) (option_map (made_pending (c.pending ∋ s)) (at is.phantom_left s)) None)
+
+told : (m : Machine) (ask : Ask) (c : Collected) (o : Option Collected) → o ≡ Some c → Told m ask c → LeftBy m ask c o
+told m ask c o is t = subst (LeftBy m ask c) (sym is) t
 
 -- that of a full heap comes with an ask that wants cells
 full_heap_may : (m : Machine) (ask : Ask) (c : Collected) → IsTrue (not (has_room m (cells_needed ask))) → IsFullClearing m c.kept c.pending → MayCollect m ask (Some c)
@@ -67,12 +82,12 @@ none_collected : {P : Type 0} (e : Entry) (c : Collected) → e.choice ≡ no_ch
 none_collected e c nothing is = no_some c (sym (ap (λ (x : Chosen). x.collected) nothing) ∙ is)
 
 allowed_sets : (m : Machine) (e : Entry) → IsWellFormed m → IsLegal m e → ClearsAllowedSets m e
-allowed_sets m e w (carried_out x) = λ c is. specified m e.ask c w (subst (λ o. MayCollect m e.ask o) is x.collection)
+allowed_sets m e w (carried_out x) = λ c is. told m e.ask c e.choice.collected is (specified m e.ask c w (subst (λ o. MayCollect m e.ask o) is x.collection))
 allowed_sets m e w (refused x) = λ c is. none_collected e c x.nothing is
 allowed_sets m e w (heap_full x) =
     λ c is.
     let same : x.clearing ≡ c = some_same x.clearing c (sym (ap (λ (y : Chosen). y.collected) x.collects) ∙ is) in
-    specified m e.ask c w (full_heap_may m e.ask c x.no_room (subst (λ (d : Collected). IsFullClearing m d.kept d.pending) same x.full))
+    told m e.ask c e.choice.collected is (specified m e.ask c w (full_heap_may m e.ask c x.no_room (subst (λ (d : Collected). IsFullClearing m d.kept d.pending) same x.full)))
 allowed_sets m e w (out_of_memory x) = λ c is. none_collected e c x.nothing is
 
 -- ---- Parts of a run
@@ -107,4 +122,5 @@ runs_keep_the_promises m n entries w run =
       cleared_first = at_each QueuesWhatIsCleared (λ k e x l s r a q. enqueued_is_cleared k e s r x l a q) m n entries w run;
       taken_up = λ action. taken_up_at_most_once m n entries action w run;
       recorded = λ action. outcomes_are_recorded m (after_all m entries) entries action w (whole m n entries run);
+      told = at_each RecordsWhatIsTold (λ k e x l by action outcome asked r. finish_records_the_outcome k e by action outcome x l asked r) m n entries w run;
     }

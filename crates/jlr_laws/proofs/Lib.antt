@@ -43,3 +43,4 @@ pub mod Law
 pub mod RunLaws
 pub mod RowTest
 pub mod Refused
+pub mod Seats

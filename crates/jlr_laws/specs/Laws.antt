@@ -235,3 +235,11 @@ HasArmed m rid action = (s : ℕ) × (c : CleanableOf) × IsCleanableAt m s c ×
 -- and a resource in a call has an Armed cleanable
 abbrev pub ResourcesInCallsAreArmed : Type 0
 ResourcesInCallsAreArmed = (m : Machine) (rid action : ℕ) → IsWellFormed m → HasResource m rid action Opening ⊎ HasResource m rid action Out → HasArmed m rid action
+
+-- ---- The seat of an entry says who asked, and nothing of the machine
+
+abbrev pub LegalityLooksAtNoSeat : Type 0
+LegalityLooksAtNoSeat = (m : Machine) (e : Entry) (seat : ℕ) → IsLegal m e → IsLegal m (record e { seat = seat })
+
+abbrev pub AnySeatLeavesTheSame : Type 0
+AnySeatLeavesTheSame = (m : Machine) (e : Entry) (seat : ℕ) → apply m (record e { seat = seat }) ≡ apply m e

@@ -5,7 +5,7 @@ ghost use Rattle.jlr_machine.specs.Run.{Run, IsLegal, empty_from};
 ghost use Rattle.jlr_machine.specs.WellFormed.{IsWellFormed, IsImage};
 ghost use Rattle.std.specs.Prelude.{ℕ, ◌≤◌};
 ghost use Rattle.jlr_machine.specs.declared.machine.Machine.{Machine};
-ghost use Rattle.jlr_laws.specs.Laws.{IsWithinHeap, RoundsFindWhatPathsReach, EachClearingIsAsSpecified, LeavesWhatItsStepsLeave, ComesDownToCuttingOff, SoftReferencesGoBeforeAFullHeap, ListsAreInOrder, RefusalsAreListed, RefusalChangesNothing, FullHeapLeavesItsCollection, SeenStaysUpToDate, LegalKeepsWellFormed, RunKeepsWellFormed, RunsAreWellFormed, TakenUpIsAccountedFor, ResourcesInCallsAreArmed, BackgroundComesDownToCuttingOff, PolicyMakesFull, KeepingNoneMakesClearing};
+ghost use Rattle.jlr_laws.specs.Laws.{IsWithinHeap, RoundsFindWhatPathsReach, EachClearingIsAsSpecified, LeavesWhatItsStepsLeave, ComesDownToCuttingOff, SoftReferencesGoBeforeAFullHeap, ListsAreInOrder, RefusalsAreListed, RefusalChangesNothing, FullHeapLeavesItsCollection, SeenStaysUpToDate, LegalKeepsWellFormed, RunKeepsWellFormed, RunsAreWellFormed, TakenUpIsAccountedFor, ResourcesInCallsAreArmed, BackgroundComesDownToCuttingOff, PolicyMakesFull, KeepingNoneMakesClearing, LegalityLooksAtNoSeat, AnySeatLeavesTheSame};
 ghost use Rattle.jlr_laws.specs.Deciding.{CollectionsAreDecided, BackgroundIsDecided, ClearingIsDecided, LegalityIsDecided, SeenIsWithin};
 
 /// The finite set that rounds find is what paths reach.
@@ -131,4 +131,14 @@ pub fn a_refusal_changes_nothing()
 /// After a refusal for a full heap just the full collection stands.
 pub fn a_full_heap_leaves_its_collection()
     ensures { FullHeapLeavesItsCollection }
+{}
+
+/// An entry is legal whoever asked.
+pub fn legality_looks_at_no_seat()
+    ensures { LegalityLooksAtNoSeat }
+{}
+
+/// And leaves the same.
+pub fn any_seat_leaves_the_same()
+    ensures { AnySeatLeavesTheSame }
 {}

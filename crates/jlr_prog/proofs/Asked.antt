@@ -62,27 +62,27 @@ prepared_leads answer n (inr r) = subst (λ a. MatchResult (prepared_in a) (λ _
 
 module _ {R : Type 0} (m : Machine) where
   told : (P Q : Machine → Type 0) (e : Event R) (asked : Ask) → ask_of e ≡ Some asked → (h k : Kept R) (entries : List Entry) (reply : Reply R) (s : Steps h e reply k)
-      → Leads P Q asked reply s.chosen → IsAfter m P h entries → IsAfter m Q k (entries ++ option_to_list (entry_with (ask_of e) (answer_in reply) s.chosen))
+      → Leads P Q asked reply s.0 → IsAfter m P h entries → IsAfter m Q k (entries ++ option_to_list (entry_with (ask_of e) (answer_in reply) s.0))
   told P Q e asked is h k entries (Answered answer resource) s leads a =
-      let x = s.entry a.0 a.2 in
-      let entry = entry_of asked answer s.chosen in
-      let enters : Enters a.0 (Some asked) (Some answer) s.chosen x.0 = subst (λ q. Enters a.0 q (Some answer) s.chosen x.0) is x.1 in
+      let x = s.1.entry a.0 a.2 in
+      let entry = entry_of asked answer s.0 in
+      let enters : Enters a.0 (Some asked) (Some answer) s.0 x.0 = subst (λ q. Enters a.0 q (Some answer) s.0 x.0) is x.1 in
       let applied : x.0 ≡ apply a.0 entry = enters.1 in
-      subst (λ q. IsAfter m Q k (entries ++ option_to_list (entry_with q (Some answer) s.chosen))) (sym is) (
+      subst (λ q. IsAfter m Q k (entries ++ option_to_list (entry_with q (Some answer) s.0))) (sym is) (
         x.0,
         subst (Run m (entries ++ entry ∷ [])) (sym applied) (run_snoc m a.0 entries entry a.1 enters.0),
         x.2,
         subst IsWellFormed (sym applied) (legal_kept a.0 entry a.3 enters.0),
         subst Q (sym applied) (leads a.0 answer resource refl a.3 a.4 enters.0),
       )
-  told P Q e asked is h k entries (Marked progress) s leads a = (let x = s.entry a.0 a.2 in absurd (subst (λ q. Enters a.0 q None s.chosen x.0) is x.1))
+  told P Q e asked is h k entries (Marked progress) s leads a = (let x = s.1.entry a.0 a.2 in absurd (subst (λ q. Enters a.0 q None s.0 x.0) is x.1))
 
   pub recorded : (P Q : Machine → Type 0) (e : Event R) (asked : Ask) → ask_of e ≡ Some asked → (h k : Kept R) (x : Recorded R) (reply : Reply R) (s : Steps h e reply k)
-      → Leads P Q asked reply s.chosen → IsRecorded m P h x → (y : Recorded R) × Records x e reply y × IsRecorded m Q k y
+      → Leads P Q asked reply s.0 → IsRecorded m P h x → (y : Recorded R) × Records x e reply y × IsRecorded m Q k y
   recorded P Q e asked is h k x reply s leads a =
       subst (λ core. (y : Recorded R) × Records (record { core = core; entries = x.entries }) e reply y × IsRecorded m Q k y) (sym a.0) (
-        record { core = k; entries = x.entries ++ option_to_list (entry_with (ask_of e) (answer_in reply) s.chosen) },
-        record { steps = s; adds = refl },
+        record { core = k; entries = x.entries ++ option_to_list (entry_with (ask_of e) (answer_in reply) s.0) },
+        record { chosen = s.0; step = s.1; adds = refl },
         (refl, told P Q e asked is h k x.entries reply s leads a.1),
       )
 
@@ -93,7 +93,7 @@ module _ {R : Type 0} (m : Machine) where
 
   pub stays_along : (e : Event R) (asked : Ask) → ask_of e ≡ Some asked → Stays Free asked → IsAskFrom IsHere IsHere e
   stays_along e asked is stays h k x reply s a =
-      recorded IsHere IsHere e asked is h k x reply s (λ n answer resource r w here l. entry_stays Free n (entry_of asked answer s.chosen) stays here) a
+      recorded IsHere IsHere e asked is h k x reply s (λ n answer resource r w here l. entry_stays Free n (entry_of asked answer s.0) stays here) a
 
   pub settled_along : IsSettledAlong {R = R} Steps Records (IsRecorded m IsHere)
   settled_along = record {
@@ -114,7 +114,7 @@ module _ {R : Type 0} (m : Machine) where
   opened_along : (outcome : Result R Fault) → IsAskFrom IsOpening IsHere (event.Opened 0 outcome)
   opened_along outcome h k x reply s a =
       recorded IsOpening IsHere (event.Opened 0 outcome) (ask.Opened 0 (outcome_of outcome)) refl h k x reply s
-      (λ n answer resource r w busy l. opened_ends n (outcome_of outcome) answer s.chosen busy.0 w busy.1 l) a
+      (λ n answer resource r w busy l. opened_ends n (outcome_of outcome) answer s.0 busy.0 w busy.1 l) a
 
   pub opens_along : (comes_to : Unit {0} → Event R → Type 0) → ((u : Unit {0}) (e : Event R) → comes_to u e → (outcome : Result R Fault) × (e ≡ event.Opened 0 outcome))
       → IsCallAlong (event.Prepare 0) prepared_by comes_to (λ u. IsOpening)
@@ -123,8 +123,8 @@ module _ {R : Type 0} (m : Machine) where
         let Q : Machine → Type 0 = λ n. MatchResult (prepared_by reply) (λ _. IsOpening n) (λ _. IsHere n) in
         recorded IsHere Q (event.Prepare 0) (ask.Prepare 0) refl h k x reply s
         (λ n answer resource r w here l.
-        let o : Machine = apply n (entry_of (ask.Prepare 0) answer s.chosen) in
-        subst (λ q. MatchResult (prepared_by q) (λ _. IsOpening o) (λ _. IsHere o)) (sym r) (prepared_leads answer o (prepare_begins n answer s.chosen here l))) a;
+        let o : Machine = apply n (entry_of (ask.Prepare 0) answer s.0) in
+        subst (λ q. MatchResult (prepared_by q) (λ _. IsOpening o) (λ _. IsHere o)) (sym r) (prepared_leads answer o (prepare_begins n answer s.0 here l))) a;
     ends = λ u e c. let o = second u e c in subst (IsAskFrom IsOpening IsHere) (sym o.1) (opened_along o.0);
   }
 
@@ -148,7 +148,7 @@ module _ {R : Type 0} (m : Machine) where
 
   checked_in_along : (outcome : CallOutcome) (value : R) → IsAskFrom IsOut IsHere (event.CheckIn 0 outcome value)
   checked_in_along outcome value h k x reply s a =
-      recorded IsOut IsHere (event.CheckIn 0 outcome value) (ask.CheckIn 0 outcome) refl h k x reply s (λ n answer resource r w busy l. check_in_ends n outcome answer s.chosen busy.0 w busy.1 l) a
+      recorded IsOut IsHere (event.CheckIn 0 outcome value) (ask.CheckIn 0 outcome) refl h k x reply s (λ n answer resource r w busy l. check_in_ends n outcome answer s.0 busy.0 w busy.1 l) a
 
   pub calls_along : (guard : ℕ) (comes_to : R → Event R → Type 0) → ((value : R) (e : Event R) → comes_to value e → (outcome : CallOutcome) × (back : R) × (e ≡ event.CheckIn 0 outcome back))
       → IsCallAlong (event.CheckOut 0 guard) out_by comes_to (λ value. IsOut)
@@ -157,9 +157,9 @@ module _ {R : Type 0} (m : Machine) where
         let Q : Machine → Type 0 = λ n. MatchResult (out_by reply) (λ _. IsOut n) (λ _. IsHere n) in
         recorded IsHere Q (event.CheckOut 0 guard) (ask.CheckOut 0 guard) refl h k x reply s
         (λ n answer resource r w here l.
-        let o : Machine = apply n (entry_of (ask.CheckOut 0 guard) answer s.chosen) in
-        let goes = subst (λ q. GoesOut h.table None (answer_in q) (resource_of_reply q)) r s.goes_out in
-        subst (λ q. MatchResult (out_by q) (λ _. IsOut o) (λ _. IsHere o)) (sym r) (out_leads h.table answer resource o goes (check_out_begins n guard answer s.chosen here l))) a;
+        let o : Machine = apply n (entry_of (ask.CheckOut 0 guard) answer s.0) in
+        let goes = subst (λ q. GoesOut h.table None (answer_in q) (resource_of_reply q)) r s.1.goes_out in
+        subst (λ q. MatchResult (out_by q) (λ _. IsOut o) (λ _. IsHere o)) (sym r) (out_leads h.table answer resource o goes (check_out_begins n guard answer s.0 here l))) a;
     ends = λ value e c. let o = second value e c in subst (IsAskFrom IsOut IsHere) (sym o.2) (checked_in_along o.0 o.1);
   }
 
@@ -178,7 +178,7 @@ module _ {R : Type 0} (m : Machine) where
   finished_along : (job : JobOf R) (outcome : Result (Unit {0}) Fault) → IsAskFrom (IsAtWork job) IsHere (event.Finish 0 job.action outcome)
   finished_along job outcome h k x reply s a =
       recorded (IsAtWork job) IsHere (event.Finish 0 job.action outcome) (ask.Finish 0 job.action (outcome_of outcome)) refl h k x reply s
-      (λ n answer resource r w busy l. finish_ends n job.action (outcome_of outcome) answer s.chosen w busy l) a
+      (λ n answer resource r w busy l. finish_ends n job.action (outcome_of outcome) answer s.0 w busy l) a
 
   pub works_along : (first : Event R) (asked : Ask) → ask_of first ≡ Some asked
       → ((n : Machine) (answer : Answer) (chosen : Chosen) → IsHere n → IsLegal n (entry_of asked answer chosen) → BeginsToWork answer (apply n (entry_of asked answer chosen)))
@@ -189,7 +189,7 @@ module _ {R : Type 0} (m : Machine) where
         let Q : Machine → Type 0 = λ n. MatchResult (job_by reply) (λ job. IsAtWork job n) (λ _. IsHere n) in
         recorded IsHere Q first asked is h k x reply s
         (λ n answer resource r w here l.
-        let o : Machine = apply n (entry_of asked answer s.chosen) in
-        subst (λ q. MatchResult (job_by q) (λ job. IsAtWork job o) (λ _. IsHere o)) (sym r) (job_leads answer resource o (starts n answer s.chosen here l))) a;
+        let o : Machine = apply n (entry_of asked answer s.0) in
+        subst (λ q. MatchResult (job_by q) (λ job. IsAtWork job o) (λ _. IsHere o)) (sym r) (job_leads answer resource o (starts n answer s.0 here l))) a;
     ends = λ job e c. let o = second job e c in subst (IsAskFrom (IsAtWork job) IsHere) (sym o.1) (finished_along job o.0);
   }

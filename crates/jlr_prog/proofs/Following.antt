@@ -17,7 +17,8 @@ use Rattle.jlr_event.specs.Events.{ask_of}
 use Rattle.jlr_wire.specs.declared.command.Command.{Command}
 use Rattle.jlr_wire.specs.declared.command.Command.TheVariants.{New, Put, Get, SetInt, Int, Dup, Drop, Same, Soft, Weak, Phantom, Deref, Refers, Clear, Enqueue, Enqueued, Queue, Poll, Remove, Cleaner, Register, Clean, Open, Connect, Read, Write, Close, Bind, Find, Unbind, Names, Full, Stat, Notes, Faults}
 use Rattle.jlr_cleaner.specs.declared.job.Job.{Job as JobOf}
-use Rattle.jlr_session.specs.Calls.{Opening, Handling}
+use Rattle.jlr_device.specs.Handling.{Handling}
+use Rattle.jlr_session.specs.Calls.{Opening}
 use Rattle.jlr_session.specs.Asks.{AsksOnce, AsksTwice, CarriesOut, by_asks, event_of, said_by, prepared_by, out_by, job_by, TellsOpened, TellsConnected, TellsRead, TellsWritten, TellsFinished}
 use Rattle.jlr_session.specs.Sessions.{Ended}
 use Rattle.jlr_session.specs.declared.shell.SessionEnd.{SessionEnd}

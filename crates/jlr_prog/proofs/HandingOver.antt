@@ -41,7 +41,7 @@ use Rattle.jlr_prog.specs.declared.port.Turn.TheVariants as turn
 
 -- there still is a machine for which the core stands
 pub still_stands : {R : Type 0} (old new : Kept R) (e : Event R) (reply : Reply R) → Steps old e reply new → Stands old → Stands new
-still_stands old new e reply s stands = let x = s.entry stands.0 stands.1 in (x.0, x.2)
+still_stands old new e reply s stands = let x = s.1.entry stands.0 stands.1 in (x.0, x.2)
 
 -- the pending list or the line of the machine is that of the core
 pub same_part : {R A : Type 0} (core : Kept R) (m : Machine) (part : Machine → A) → ((m : Machine) → part (record m { seen = [] }) ≡ part m) → StandsIn core m → part core.machine ≡ part m
@@ -54,12 +54,12 @@ Entered old new ask answer = (m : Machine) × (n : Machine) × (chosen : Chosen)
 pub entered : {R : Type 0} (old new : Kept R) (e : Event R) (reply : Reply R) (ask : Ask) → ask_of e ≡ Some ask → Stands old → Steps old e reply new
     → (answer : Answer) × (answer_in reply ≡ Some answer) × Entered old new ask answer
 entered old new e (Answered answer resource) ask is stands s =
-    let x = s.entry stands.0 stands.1 in
-    let l = subst (λ a. Rattle.jlr_core.specs.Events.Enters stands.0 a (Some answer) s.chosen x.0) is x.1 in
-    (answer, refl, (stands.0, x.0, s.chosen, stands.1, x.2, l.0, l.1))
+    let x = s.1.entry stands.0 stands.1 in
+    let l = subst (λ a. Rattle.jlr_core.specs.Events.Enters stands.0 a (Some answer) s.0 x.0) is x.1 in
+    (answer, refl, (stands.0, x.0, s.0, stands.1, x.2, l.0, l.1))
 entered old new e (Marked progress) ask is stands s =
-    let x = s.entry stands.0 stands.1 in
-    absurd (subst (λ a. Rattle.jlr_core.specs.Events.Enters stands.0 a None s.chosen x.0) is x.1)
+    let x = s.1.entry stands.0 stands.1 in
+    absurd (subst (λ a. Rattle.jlr_core.specs.Events.Enters stands.0 a None s.0 x.0) is x.1)
 
 -- what an answer comes to: work, or none
 abbrev pub ComesTo : Type 0 → Answer → Type 0

@@ -26,7 +26,8 @@ use Rattle.jlr_core.specs.Flows.{GoesOut}
 use Rattle.jlr_core.specs.Cores.{Kept, StandsIn}
 use Rattle.jlr_core.proofs.Ranges.{limits_hold}
 use Rattle.jlr_core.proofs.RunLaws.{stands_at_start}
-use Rattle.jlr_session.specs.Calls.{Opening, Handling}
+use Rattle.jlr_device.specs.Handling.{Handling}
+use Rattle.jlr_session.specs.Calls.{Opening}
 use Rattle.jlr_session.specs.Asks.{said_by}
 use Rattle.jlr_session.specs.Serving.{Follows, Serves}
 use Rattle.jlr_session.specs.declared.shell.SessionEnd.{SessionEnd}
@@ -42,7 +43,7 @@ only_ok : {R : Type 0} (h k : Kept R) (event : Event R) (reply : Reply R) (answe
     → reply ≡ answered_ok
 only_ok {R} h k event reply answer resource s is done =
     let ok : reply ≡ Answered Done resource = is ∙ ap {A = Answer} {B = Reply R} (λ a. Answered a resource) done in
-    let goes : resource ≡ None = subst (λ (q : Reply R). GoesOut h.table (resource_of_event event) (answer_in q) (resource_of_reply q)) ok s.goes_out in
+    let goes : resource ≡ None = subst (λ (q : Reply R). GoesOut h.table (resource_of_event event) (answer_in q) (resource_of_reply q)) ok s.1.goes_out in
     ok ∙ ap {A = Option R} {B = Reply R} (λ r. Answered Done r) goes
 
 module _ {R : Type 0} (m : Machine) where
@@ -52,8 +53,8 @@ module _ {R : Type 0} (m : Machine) where
   joined start now reply stands well free s =
       recorded m (λ n. refusal n (ask.Join 0) ≡ None) (λ n. (reply ≡ answered_ok) × IsHere n) (Join 0) (ask.Join 0) refl start now (record { core = start; entries = [] }) reply s
       (λ n answer resource is w free l.
-      let memory : answer ≡ Refused NoMemory → ⊥ = λ e. s.memory (ap answer_in is ∙ ap (λ a. Some a) e) in
-      let j = joins n answer s.chosen free memory l in
+      let memory : answer ≡ Refused NoMemory → ⊥ = λ e. s.1.memory (ap answer_in is ∙ ap (λ a. Some a) e) in
+      let j = joins n answer s.0 free memory l in
       (only_ok start now (Join 0) reply answer resource s is j.0, j.1))
       (refl, (m, refl, stands, well, free))
 
@@ -62,7 +63,7 @@ module _ {R : Type 0} (m : Machine) where
       → (y : Recorded R) × Records x (Leave 0) reply y × IsRecorded m (λ n. reply ≡ answered_ok) over y
   left before over x reply s a =
       recorded m IsHere (λ n. reply ≡ answered_ok) (Leave 0) (ask.Leave 0) refl before over x reply s
-      (λ n answer resource is w here l. only_ok before over (Leave 0) reply answer resource s is (leaves n answer s.chosen here l)) a
+      (λ n answer resource is w here l. only_ok before over (Leave 0) reply answer resource s is (leaves n answer s.0 here l)) a
 
 -- ---- The join
 
@@ -71,7 +72,7 @@ may_join cells zero resources one = absurd (omega (arith, one))
 may_join cells (suc n) resources one = rw (lt-ltb 0 (suc (length (replicate {A = Option Session} n None))) (omega arith)) refl
 
 pub is_session : {D R : Type 0} (device : Opening D R) (resource : Handling R) (limits : Limits) (start over : Kept R) (at_end : Type 0) (end : SessionEnd) (bytes : List ℕ) (d : D) (out : List ℕ) (d' : D)
-    → IsEmpty limits.cells limits.sessions limits.resources limits.soft_age start
+    → IsEmpty limits.cells limits.sessions limits.resources limits.soft_age 1 start
     → Serves (by_core resource) device resource at_end end bytes start d out over d' → IsSession device resource limits at_end end bytes d out d'
 is_session device resource limits start over at_end end bytes d out d' begins serves =
     let fit = limits_hold limits in

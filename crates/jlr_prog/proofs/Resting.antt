@@ -11,7 +11,7 @@ use Rattle.jlr_event.specs.declared.event.Reply.{Reply}
 use Rattle.jlr_event.specs.declared.event.Reply.TheVariants.{Answered}
 use Rattle.jlr_core.specs.Cores.{Kept}
 use Rattle.jlr_core.specs.Rest.{FindsNothing}
-use Rattle.jlr_session.specs.Calls.{Handling}
+use Rattle.jlr_device.specs.Handling.{Handling}
 use Rattle.jlr_prog.specs.Settling.{HandsAllOver, TurnsUntil, Works, Settles}
 use Rattle.jlr_core.specs.Steps.{Steps}
 
@@ -19,38 +19,42 @@ abbrev pub nothing : {R : Type 0} → Reply R
 nothing = Answered (Handed Nothing) None
 
 handler_rests : {R : Type 0} (core : Kept R) → resources core.table ≡ core.machine.resources → FindsNothing core ask.HandOver → Steps core HandOver nothing core
-handler_rests core listed finds =
-    record {
-      chosen = no_choice;
-      entry = finds;
-      flow = IsPermutation-refl (values core.table);
-      moves = inl (refl, λ rid. refl);
-      listed = listed;
-      goes_out = refl;
-      memory = λ e. absurd (cc e);
-      marking = λ e. cc e;
-      collects = λ e. cc e;
-      policy = tt;
-      age = refl;
-      clock = refl;
-    }
+handler_rests core listed finds = (
+  no_choice,
+  record {
+    entry = finds;
+    flow = IsPermutation-refl (values core.table);
+    moves = inl (refl, λ rid. refl);
+    listed = listed;
+    goes_out = refl;
+    memory = λ e. absurd (cc e);
+    table_room = refl;
+    marking = λ e. cc e;
+    collects = λ e. cc e;
+    policy = tt;
+    age = refl;
+    clock = refl;
+  },
+)
 
 cleaner_rests : {R : Type 0} (core : Kept R) → resources core.table ≡ core.machine.resources → FindsNothing core ask.TakeUp → Steps core TakeUp nothing core
-cleaner_rests core listed finds =
-    record {
-      chosen = no_choice;
-      entry = finds;
-      flow = IsPermutation-refl (values core.table);
-      moves = inl (refl, λ rid. refl);
-      listed = listed;
-      goes_out = refl;
-      memory = λ e. absurd (cc e);
-      marking = λ e. cc e;
-      collects = λ e. cc e;
-      policy = tt;
-      age = refl;
-      clock = refl;
-    }
+cleaner_rests core listed finds = (
+  no_choice,
+  record {
+    entry = finds;
+    flow = IsPermutation-refl (values core.table);
+    moves = inl (refl, λ rid. refl);
+    listed = listed;
+    goes_out = refl;
+    memory = λ e. absurd (cc e);
+    table_room = refl;
+    marking = λ e. cc e;
+    collects = λ e. cc e;
+    policy = tt;
+    age = refl;
+    clock = refl;
+  },
+)
 
 pub settled : {R : Type 0} (resource : Handling R) (core : Kept R) → resources core.table ≡ core.machine.resources → FindsNothing core ask.HandOver → FindsNothing core ask.TakeUp
     → Settles Steps resource core core

@@ -32,7 +32,7 @@ use Rattle.jlr_event.specs.declared.event.Reply.TheVariants.{Answered, Marked}
 use Rattle.jlr_event.specs.Events.{answer_in, ask_of, outcome_of}
 use Rattle.jlr_core.specs.State.{entry_of}
 use Rattle.jlr_core.specs.Cores.{Kept}
-use Rattle.jlr_session.specs.Calls.{Handling}
+use Rattle.jlr_device.specs.Handling.{Handling}
 use Rattle.jlr_session.specs.Asks.{job_by, job_with, TellsFinished}
 use Rattle.jlr_prog.specs.Settling.{Works}
 use Rattle.jlr_core.specs.Steps.{Steps}

@@ -4,7 +4,7 @@ use Rattle.jlr_types.specs.declared.Fault.{Fault}
 use Rattle.jlr_event.specs.declared.event.Event.{Event}
 use Rattle.jlr_event.specs.declared.event.Event.TheVariants.{Finish, HandOver, TakeUp}
 use Rattle.jlr_event.specs.declared.event.Reply.{Reply}
-use Rattle.jlr_session.specs.Calls.{Handling}
+use Rattle.jlr_device.specs.Handling.{Handling}
 use Rattle.jlr_prog.specs.Settling.{Turns, TurnsUntil, HandsOver, Works, Cleans, Settles}
 
 -- one turn more

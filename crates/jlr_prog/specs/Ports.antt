@@ -2,7 +2,7 @@
 use Rattle.jlr_machine.specs.declared.machine.Machine.{Machine}
 use Rattle.jlr_core.specs.Cores.{Kept, StandsIn}
 use Rattle.jlr_core.specs.Steps.{Steps}
-use Rattle.jlr_session.specs.Calls.{Handling}
+use Rattle.jlr_device.specs.Handling.{Handling}
 use Rattle.jlr_session.specs.Asks.{Asking}
 use Rattle.jlr_prog.specs.Settling.{Settles}
 

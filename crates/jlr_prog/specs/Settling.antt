@@ -9,7 +9,7 @@ use Rattle.jlr_event.specs.declared.event.Event.{Event}
 use Rattle.jlr_event.specs.declared.event.Event.TheVariants.{HandOver, TakeUp}
 use Rattle.jlr_event.specs.declared.event.Reply.{Reply}
 use Rattle.jlr_event.specs.Events.{answer_in}
-use Rattle.jlr_session.specs.Calls.{Handling}
+use Rattle.jlr_device.specs.Handling.{Handling}
 use Rattle.jlr_session.specs.Asks.{job_by, TellsFinished}
 
 -- ---- What the handler and the cleaner are answered

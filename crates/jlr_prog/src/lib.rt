@@ -5,5 +5,3 @@
 
 pub mod port;
 pub mod session;
-#[cfg(test)]
-mod tests;

@@ -6,7 +6,7 @@ ghost use Rattle.jlr_barrier.specs.Graphs.{empty_known};
 ghost use Rattle.jlr_event.specs.declared.event.Event.TheVariants.{HandOver};
 ghost use Rattle.jlr_event.specs.declared.event.Reply.{Reply};
 ghost use Rattle.jlr_prog.specs.Settling.{Cleans, HandsAllOver, HandsOver, Works};
-ghost use Rattle.jlr_core.specs.Steps.{Steps};
+ghost use Rattle.jlr_core.specs.Steps.{IsEmpty, Steps};
 ghost use Rattle.jlr_prog.specs.Ports.{by_core};
 ghost use Rattle.jlr_prog.specs.OneTurn.{IsLeftBy, IsTurn, turn_by};
 
@@ -60,11 +60,7 @@ impl<R> CorePort<R> {
     /// # Errors
     /// `AllocError` where the room cannot be had.
     pub fn new(alloc: Global, limits: Limits) -> Result<Self, AllocError>
-        ensures machine { IfOk result (λ port. port.machine ≡ empty limits.cells limits.sessions limits.resources) }
-        ensures age { IfOk result (λ port. port.soft_age ≡ limits.soft_age) }
-        ensures clock { IfOk result (λ port. port.clock ≡ (empty_known limits.cells limits.sessions).clock) }
-        ensures none_held { IfOk result (λ port. values port.table ≡ []) }
-        ensures listed { IfOk result (λ port. resources port.table ≡ port.machine.resources) }
+        ensures { IfOk result (λ port. IsEmpty limits.cells limits.sessions limits.resources limits.soft_age 1 port) }
     {
         let choice = Choice::new(alloc, limits.cells)?;
         let core = Core::new(alloc, limits)?;
@@ -107,7 +103,7 @@ impl<R: Resource + Drop> CorePort<R> {
 
     /// Jobs that the cleaner takes up and carries out, until it finds none that is Lined or is refused.
     fn clean_all(&mut self)
-        ensures { Cleans Steps (record { count = R.count; reads = R.may_read; writes = R.may_write; finishes = R.may_finish }) self.old self.new }
+        ensures { Cleans Steps R.handling self.old self.new }
     {
         loop {
             match self.clean() {
@@ -119,7 +115,7 @@ impl<R: Resource + Drop> CorePort<R> {
 
     /// One job, if one is Lined.
     fn clean(&mut self) -> Turn
-        ensures turn { IsTurn Steps (Works Steps (record { count = R.count; reads = R.may_read; writes = R.may_write; finishes = R.may_finish })) Event.TakeUp result self.old self.new }
+        ensures turn { IsTurn Steps (Works Steps R.handling) Event.TakeUp result self.old self.new }
         ensures shorter { result ≡ Turn.Worked → length self.new.machine.line < length self.old.machine.line }
     {
         let _core = &self.core;
@@ -134,14 +130,15 @@ impl<R: Resource + Drop> CorePort<R> {
 }
 
 impl<R: Resource + Drop> Port<R> for CorePort<R> {
-    ghost asking = { by_core (record { count = R.count; reads = R.may_read; writes = R.may_write; finishes = R.may_finish }) };
+    ghost asking = { by_core R.handling };
 
     fn mutator(&self) -> Mutator {
         Mutator::new(0)
     }
 
     fn ask(&mut self, event: Event<R>) -> Reply<R>
-        ensures { Steps self.old event result self.new }
+        ensures asked { Steps self.old event result self.new }
+        ensures named { (by_core R.handling).mutator self.new ≡ (by_core R.handling).mutator self.old }
     {
         self.step(event)
     }

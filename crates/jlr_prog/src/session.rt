@@ -1,7 +1,7 @@
 //! A whole session over a heap of its own.
 ghost use Rattle.std.specs.Prelude.{◌≡◌, ◌≤◌, ℕ, List, IfErr, IfOk, length};
-ghost use Rattle.std.specs.Io.KnownBytes.{Appends, Consumes, IsAtEnd};
-ghost use Rattle.jlr_session.specs.Limits.{most_bytes};
+ghost use Rattle.std.specs.Io.KnownBytes.{Appends, Consumes};
+ghost use Rattle.jlr_session.specs.Limits.{FindsEnd, most_bytes};
 ghost use Rattle.jlr_prog.specs.Histories.{IsSession};
 
 use crate::port::CorePort;
@@ -37,9 +37,9 @@ where
         × Consumes (R.remaining reader.old) (R.remaining reader.new) bytes
         × Appends (W.contents writer.old) (W.contents writer.new) out
         × (length bytes ≤ most_bytes)
-        × IsSession (record { count = D.count; opens = D.may_open; connects = D.may_connect; failures = D.Res.count })
-        (record { count = D.Res.count; reads = D.Res.may_read; writes = D.Res.may_write; finishes = D.Res.may_finish })
-        limits (IsAtEnd (R.remaining reader.new)) end bytes device.old out device.new) }
+        × IsSession (record { count = D.count; opens = D.may_open; connects = D.may_connect; failures = D.Res.handling.count })
+        D.Res.handling
+        limits (FindsEnd (R.remaining reader.new) bytes) end bytes device.old out device.new) }
     ensures untouched { IfErr result (λ _. (reader.new ≡ reader.old) × (writer.new ≡ writer.old) × (device.new ≡ device.old)) }
 {
     let mut port = CorePort::new(alloc, limits)?;

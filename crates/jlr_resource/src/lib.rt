@@ -10,8 +10,6 @@
 
 mod place;
 mod table;
-#[cfg(test)]
-mod tests;
 
 pub use jlr_machine::machine::ResourceState as State;
 pub use table::Table;

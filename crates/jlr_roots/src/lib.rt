@@ -5,8 +5,8 @@
 //! nothing. All tables are made by `Roots::new`, so that joining takes no memory and leaving gives none back. A collector walks
 //! the places of all members in one pass, member by member: each one's handles, and last its fence.
 //!
-//! Contracts see the roots as the machine's table of mutators, and the names as its list of bindings. No call but `Roots::new`,
-//! `Names::bind` of a new name and the copies (`image`, `names`) takes memory.
+//! Contracts see the roots as the machine's table of mutators, and the names as its list of bindings. No call but `Roots::new`, `Names::new`
+//! and the copies (`image`, `names`) takes memory.
 #![tactic(auto)]
 
 mod handles;
@@ -14,5 +14,5 @@ mod member;
 mod names;
 mod roots;
 
-pub use names::Names;
+pub use names::{NAME_LIMIT, Names};
 pub use roots::Roots;

@@ -1,5 +1,5 @@
 //! The names of objects.
-ghost use Rattle.std.specs.Prelude.{◌≡◌, ◌++◌, ◌∷◌, [], IfOk, IsOk, IsTrue, OnErr, OnOk, filter, is_some, length, map, not, position, slice_get};
+ghost use Rattle.std.specs.Prelude.{◌≡◌, ◌≤◌, ◌<◌, ◌++◌, ◌∷◌, [], IfOk, None, OnErr, filter, length, map, not, position, slice_get, vec_capacity};
 ghost use Rattle.jlr_machine.specs.Lookups.{bound, same_name, slot_bound, unbound};
 ghost use Rattle.jlr_roots.specs.Naming.{names_of, named};
 
@@ -10,6 +10,9 @@ use jlr_types::Slot;
 use std::alloc::{AllocError, Global};
 use std::marker::Model;
 
+/// The most names that may be bound.
+pub const NAME_LIMIT: usize = 256;
+
 /// Names and the slots that they stand for, in order of binding. Each slot is a root.
 #[derive(Drop)]
 pub struct Names {
@@ -17,22 +20,27 @@ pub struct Names {
 }
 
 impl Model for Names {
-    ghost use Rattle.std.specs.Prelude.{List};
+    ghost use Rattle.std.specs.Prelude.{◌≤◌, List, vec_capacity};
     ghost use Rattle.jlr_machine.specs.declared.machine.Binding.{Binding};
 
     ghost Value = { List Binding };
 
     ghost view = { λ a. a.bindings.items };
+
+    ghost invariant = { λ a. 256 ≤ vec_capacity a.bindings };
 }
 
 impl Names {
-    /// No name. It takes no memory.
-    pub fn new(alloc: Global) -> Self
-        ensures { result ≡ [] }
+    /// No name. The room for all that may be bound is made at once.
+    ///
+    /// # Errors
+    /// `AllocError` where the room cannot be had.
+    pub fn new(alloc: Global) -> Result<Self, AllocError>
+        ensures { IfOk result (λ names. names ≡ []) }
     {
-        Names {
-            bindings: Vec::new(alloc),
-        }
+        Ok(Names {
+            bindings: Vec::with_capacity(alloc, NAME_LIMIT)?,
+        })
     }
 
     /// How many names there are.
@@ -49,16 +57,12 @@ impl Names {
         slot_bound(&self.bindings, name)
     }
 
-    /// From now on a name stands for this slot. An old name keeps its place and takes no memory, a new one comes last.
-    ///
-    /// # Errors
-    /// `AllocError` where there is no memory for a new name. Nothing has changed then.
-    pub fn bind(&mut self, name: &Name, slot: Slot) -> Result<(), AllocError>
-        ensures bound { OnOk result (self.new ≡ bound self.old name.now slot) }
-        ensures err { OnErr result (self.new ≡ self.old) }
-        ensures old { IsTrue (is_some (slot_bound self.old name.now)) → IsOk result }
+    /// From now on a name stands for this slot. An old name keeps its place, a new one comes last. It takes no memory.
+    pub fn bind(&mut self, name: &Name, slot: Slot)
+        requires { slot_bound self.old name.now ≡ None → length self.old < 256 }
+        ensures { self.new ≡ bound self.old name.now slot }
     {
-        bind(&mut self.bindings, name, slot)
+        bind(&mut self.bindings, name, slot);
     }
 
     /// A name stands for nothing any more. Where it is not bound, nothing changes.
@@ -88,9 +92,10 @@ impl Names {
     /// The names alone, in order of binding.
     ///
     /// # Errors
-    /// `AllocError` where there is no memory for them.
+    /// `AllocError` where there are names and no memory for a copy of them.
     pub fn names(&self, alloc: Global) -> Result<Items<Name>, AllocError>
-        ensures { IfOk result (λ names. names ≡ names_of self.now) }
+        ensures names { IfOk result (λ names. names ≡ names_of self.now) }
+        ensures some { OnErr result (1 ≤ length self.now) }
     {
         Ok(Items::from_vec(copy_names(alloc, &self.bindings)?))
     }
@@ -115,25 +120,25 @@ fn slot_bound(bindings: &[Binding], name: &Name) -> Option<Slot>
     slot_at(bindings, place_of(bindings, name)?)
 }
 
-fn bind(bindings: &mut Vec<Binding>, name: &Name, slot: Slot) -> Result<(), AllocError>
-    ensures bound { OnOk result (bindings.new.items ≡ bound bindings.old.items name.now slot) }
-    ensures err { OnErr result (bindings.new.items ≡ bindings.old.items) }
-    ensures old { IsTrue (is_some (slot_bound bindings.old.items name.now)) → IsOk result }
+fn bind(bindings: &mut Vec<Binding>, name: &Name, slot: Slot)
+    requires room { 256 ≤ vec_capacity bindings.old }
+    requires fits { slot_bound bindings.old.items name.now ≡ None → length bindings.old.items < 256 }
+    ensures bound { bindings.new.items ≡ bound bindings.old.items name.now slot }
+    ensures room { vec_capacity bindings.new ≡ vec_capacity bindings.old }
 {
     let binding = Binding {
         name: name.copy(),
         slot,
     };
-    if let Some(place) = place_of(bindings, name) {
-        bindings[place] = binding;
-        return Ok(());
+    match place_of(bindings, name) {
+        Some(place) => bindings[place] = binding,
+        None => bindings.push_reserved(binding),
     }
-    bindings.push(binding)?;
-    Ok(())
 }
 
 fn unbind(bindings: &mut Vec<Binding>, name: &Name)
-    ensures { bindings.new.items ≡ unbound bindings.old.items name.now }
+    ensures bound { bindings.new.items ≡ unbound bindings.old.items name.now }
+    ensures room { vec_capacity bindings.new ≡ vec_capacity bindings.old }
 {
     bindings.retain(|binding| !is_named(binding, name));
 }
@@ -158,8 +163,12 @@ fn copy_bindings(alloc: Global, bindings: &[Binding]) -> Result<Vec<Binding>, Al
 }
 
 fn copy_names(alloc: Global, bindings: &[Binding]) -> Result<Vec<Name>, AllocError>
-    ensures { IfOk result (λ names. names.items ≡ names_of bindings.now) }
+    ensures names { IfOk result (λ names. names.items ≡ names_of bindings.now) }
+    ensures some { OnErr result (1 ≤ length bindings.now) }
 {
+    if bindings.is_empty() {
+        return Ok(Vec::new(alloc));
+    }
     let mut names = Vec::with_capacity(alloc, bindings.len())?;
     for binding in bindings {
         names.push(binding.name.copy())?;

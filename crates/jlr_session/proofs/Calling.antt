@@ -6,7 +6,8 @@ use Rattle.jlr_types.specs.declared.Fault.{Fault}
 use Rattle.jlr_types.specs.declared.Fault.TheVariants.{Other}
 use Rattle.jlr_machine.specs.declared.ask.CallOutcome.{CallOutcome}
 use Rattle.jlr_device.specs.Failures.{Counts, Fits, IsHighest}
-use Rattle.jlr_session.specs.Calls.{Handling, Calls, Reads, read_outcome, room_for}
+use Rattle.jlr_device.specs.Handling.{Handling}
+use Rattle.jlr_session.specs.Calls.{Calls, Reads, read_outcome, room_for}
 
 pub called : {T : Type 0} (before after : ℕ) (outcome : Result T Fault) (made unmade : Type 0)
     → Fits before ⊎ IsHighest before → (Fits before → Counts before outcome after) → (Fits before → made) → (IsHighest before → (outcome ≡ Err Other) × unmade)

@@ -5,7 +5,8 @@ use Rattle.jlr_machine.specs.declared.ask.Answer.{Answer}
 use Rattle.jlr_machine.specs.declared.ask.Answer.TheVariants.{Done, Handle, Truth, Int, Data, Wrote, Faulted, Names, Notes, Faults, Stat, Job, AlreadyDone, Prepared, Out, Handed, Refused}
 use Rattle.jlr_event.specs.declared.event.Event.TheVariants.{Leave}
 use Rattle.jlr_event.specs.declared.event.Reply.{Reply}
-use Rattle.jlr_session.specs.Calls.{Opening, Handling}
+use Rattle.jlr_device.specs.Handling.{Handling}
+use Rattle.jlr_session.specs.Calls.{Opening}
 use Rattle.jlr_session.specs.Asks.{Asking, by_asks}
 use Rattle.jlr_session.specs.Sessions.{Ended}
 use Rattle.jlr_session.specs.Serving.{Follows}

@@ -4,7 +4,8 @@ use Rattle.jlr_device.specs.declared.device.Mode.{Mode}
 use Rattle.jlr_machine.specs.declared.ask.Answer.{Answer}
 use Rattle.jlr_wire.specs.declared.command.Command.{Command}
 use Rattle.jlr_wire.specs.declared.command.Command.TheVariants.{New, Put, Get, SetInt, Int, Dup, Drop, Same, Soft, Weak, Phantom, Deref, Refers, Clear, Enqueue, Enqueued, Queue, Poll, Remove, Cleaner, Register, Clean, Open, Connect, Read, Write, Close, Bind, Find, Unbind, Names, Full, Stat, Notes, Faults, Bye}
-use Rattle.jlr_session.specs.Calls.{Opening, Handling}
+use Rattle.jlr_device.specs.Handling.{Handling}
+use Rattle.jlr_session.specs.Calls.{Opening}
 use Rattle.jlr_session.specs.Asks.{Asking, AsksOnce, CarriesOut, event_of}
 
 -- a command that is none of those that may ask twice

@@ -6,7 +6,7 @@ use Rattle.jlr_machine.specs.declared.ask.Answer.TheVariants.{Refused}
 use Rattle.jlr_wire.specs.Lines.{Held, begun, nothing_held}
 use Rattle.jlr_wire.proofs.Sending.{Appends-none, Appends-then}
 use Rattle.jlr_session.specs.Carrying.{Carrying}
-use Rattle.jlr_session.specs.Limits.{most_lines, most_bytes}
+use Rattle.jlr_session.specs.Limits.{FindsEnd, most_lines, most_bytes}
 use Rattle.jlr_session.specs.Turns.{reply_line, refusal_of}
 use Rattle.jlr_session.specs.Sessions.{Ended}
 use Rattle.jlr_session.specs.Chunks.{SoFar, TakesChunk, Closes}
@@ -24,7 +24,7 @@ Stands {H} carries r0 w0 old r w held n heap left = (bytes : List ℕ) × (out :
 -- what was read came to this end
 abbrev pub Ends : {H : Type 0} → Carrying H → Option (List ℕ) → Option (List ℕ) → H → Option (List ℕ) → Option (List ℕ) → SessionEnd → H → Type 0
 Ends {H} carries r0 w0 old r w end heap = (bytes : List ℕ) × (out : List ℕ) × Consumes r0 r bytes × Appends w0 w out
-    × (length bytes ≤ most_bytes) × Ended carries (IsAtEnd r) end bytes old out heap
+    × (length bytes ≤ most_bytes) × Ended carries (FindsEnd r bytes) end bytes old out heap
 
 pub stands_first : {H : Type 0} (carries : Carrying H) (r0 w0 : Option (List ℕ)) (old : H) (held : Held) → held ≡ nothing_held
     → Stands carries r0 w0 old r0 w0 held 0 old most_bytes
@@ -33,6 +33,9 @@ stands_first carries r0 w0 old held e = ([], [], Consumes-none r0, Appends-none 
 -- so many bytes more were read, and there was room for them
 taken_more : (bytes read : List ℕ) (left left' : ℕ) → length bytes + left ≡ most_bytes → length read + left' ≡ left → length (bytes ++ read) + left' ≡ most_bytes
 taken_more bytes read left left' e f = omega (arith, e, f, length-append bytes read)
+
+below : (bytes : List ℕ) (left : ℕ) → length bytes + left ≡ most_bytes → 0 < left → length bytes < most_bytes
+below bytes left e some = omega (arith, e, some)
 
 few_bytes : (bytes : List ℕ) (left : ℕ) → length bytes + left ≡ most_bytes → length bytes ≤ most_bytes
 few_bytes bytes left e = omega (arith, e)
@@ -56,14 +59,14 @@ ends_in_chunk carries r0 w0 r r' w w' old held held' n n' heap heap' read left l
   Consumes-then r0 r r' s.0 read s.2 c,
   Appends-then w0 w w' s.1 u.0 s.3 u.1,
   few_bytes (s.0 ++ read) left' (taken_more s.0 read left left' s.4 l),
-  ended_anyhow carries (IsAtEnd r') end (s.0 ++ read) old (s.1 ++ u.0) heap' (u.2 s.0 old s.1 s.5),
+  ended_anyhow carries (FindsEnd r' (s.0 ++ read)) end (s.0 ++ read) old (s.1 ++ u.0) heap' (u.2 s.0 old s.1 s.5),
 )
 
 -- a read failed, or none may follow
 pub ends_by_fault : {H : Type 0} (carries : Carrying H) (r0 w0 r r' w : Option (List ℕ)) (old : H) (held : Held) (n : ℕ) (heap : H) (left : ℕ)
     → n < most_lines → Stands carries r0 w0 old r w held n heap left → Keeps r r' → Ends carries r0 w0 old r' w ReadFault heap
 ends_by_fault carries r0 w0 r r' w old held n heap left lt s k =
-    (s.0, s.1, Consumes-keeps r0 r r' s.0 s.2 k, s.3, few_bytes s.0 left s.4, ended_fault carries s.0 held n old s.1 heap (IsAtEnd r') lt s.5)
+    (s.0, s.1, Consumes-keeps r0 r r' s.0 s.2 k, s.3, few_bytes s.0 left s.4, ended_fault carries s.0 held n old s.1 heap (FindsEnd r' s.0) lt s.5)
 
 -- what closing adds
 closes : {H : Type 0} (carries : Carrying H) (w0 w w' : Option (List ℕ)) (old : H) (held : Held) (n : ℕ) (heap heap' : H) (bytes out : List ℕ) (end : SessionEnd)
@@ -85,11 +88,11 @@ closes carries w0 w w' old held n heap heap' bytes out TooManyLines at_end is lt
 closes carries w0 w w' old held n heap heap' bytes out (NotJoined by) at_end is lt a s k = absurd k
 
 pub ends_at_end : {H : Type 0} (carries : Carrying H) (r0 w0 r r' w w' : Option (List ℕ)) (old : H) (held : Held) (n : ℕ) (heap heap' : H) (read : List ℕ) (left : ℕ) (end : SessionEnd)
-    → n < most_lines → Stands carries r0 w0 old r w held n heap left → Consumes r r' read → read ≡ [] → IsAtEnd r' → Closes carries end held heap w heap' w'
+    → n < most_lines → Stands carries r0 w0 old r w held n heap left → Consumes r r' read → read ≡ [] → IsAtEnd r' → 0 < left → Closes carries end held heap w heap' w'
     → Ends carries r0 w0 old r' w' end heap'
-ends_at_end {H} carries r0 w0 r r' w w' old held n heap heap' read left end lt s c e is k =
+ends_at_end {H} carries r0 w0 r r' w w' old held n heap heap' read left end lt s c e is some k =
     let P : List ℕ → Type 0 = λ x. Consumes r r' x in
     let Q : List ℕ → Type 0 = λ x. Consumes r0 r' x in
     let all : Consumes r0 r' s.0 = subst Q (append-nil s.0) (Consumes-then r0 r r' s.0 [] s.2 (subst P e c)) in
-    let closed = closes carries w0 w w' old held n heap heap' s.0 s.1 end (IsAtEnd r') is lt s.3 s.5 k in
+    let closed = closes carries w0 w w' old held n heap heap' s.0 s.1 end (FindsEnd r' s.0) (is, below s.0 left s.4 some) lt s.3 s.5 k in
     (s.0, closed.0, all, closed.1, few_bytes s.0 left s.4, closed.2)

@@ -7,6 +7,7 @@ use Rattle.jlr_machine.specs.declared.ask.CallOutcome.TheVariants.{Data, Wrote, 
 use Rattle.jlr_device.specs.declared.device.Mode.{Mode}
 use Rattle.jlr_device.specs.declared.resource.Finished.{Finished}
 use Rattle.jlr_device.specs.Failures.{Counts, Fits, IsHighest}
+use Rattle.jlr_device.specs.Handling.{Handling}
 
 -- What the calls of a device may do, its count of failures, and those of its resources.
 pub record Opening (D R : Type 0) : Type 1 where
@@ -14,13 +15,6 @@ pub record Opening (D R : Type 0) : Type 1 where
   pub failures : R → ℕ
   pub opens : D → Mode → List ℕ → Result R Fault → D → Type 0
   pub connects : D → List ℕ → Result R Fault → D → Type 0
-
--- What the calls of a resource may do, and its count of failures.
-pub record Handling (R : Type 0) : Type 1 where
-  pub count : R → ℕ
-  pub reads : R → List ℕ → Result ℕ Fault → List ℕ → R → Type 0
-  pub writes : R → List ℕ → Result ℕ Fault → R → Type 0
-  pub finishes : R → Finished → Type 0
 
 -- a call was made, told its outcome, and raised the count by one if that is a fault; or the count was at its last value, and none was made
 abbrev pub Calls : {T : Type 0} → ℕ → Result T Fault → ℕ → Type 0 → Type 0 → Type 0

@@ -8,4 +8,3 @@ pub mod Asks
 pub mod Serving
 -- What the parts of a session do, which no public clause names.
 pub mod Chunks
-pub mod Topics

@@ -24,8 +24,8 @@ where
 {
     ghost use Rattle.jlr_session.specs.Asks.{by_asks};
 
-    ghost carries = { by_asks P.asking (record { count = D.count; opens = D.may_open; connects = D.may_connect; failures = D.Res.count })
-        (record { count = D.Res.count; reads = D.Res.may_read; writes = D.Res.may_write; finishes = D.Res.may_finish }) };
+    ghost carries = { by_asks P.asking (record { count = D.count; opens = D.may_open; connects = D.may_connect; failures = D.Res.handling.count })
+        D.Res.handling };
 
     fn carry_out(heap: &mut P, device: &mut D, command: Command) -> Answer {
         let mutator = heap.mutator();
@@ -40,7 +40,7 @@ where
                 Event::Clean { mutator, cleanable },
             ),
             Command::Close { guard } => work(heap, mutator, Event::Close { mutator, guard }),
-            command => ask_once(heap, mutator, &command),
+            command => ask_once(heap, mutator, command),
         }
     }
 
@@ -50,8 +50,8 @@ where
 }
 
 /// Carries out a command that asks once.
-fn ask_once<P: Port<R>, R: Drop>(port: &mut P, mutator: Mutator, command: &Command) -> Answer
-    ensures { AsksOnce P.asking (event_of mutator command.now) port.old result port.new }
+fn ask_once<P: Port<R>, R: Drop>(port: &mut P, mutator: Mutator, command: Command) -> Answer
+    ensures { AsksOnce P.asking (event_of mutator command) port.old result port.new }
 {
     match event_for(mutator, command) {
         Some(event) => said(port.ask(event)),
@@ -70,7 +70,7 @@ fn open<P: Port<D::Res>, D: Device>(
 where
     D::Res: Drop,
     ensures { AsksTwice P.asking (event.Prepare mutator) prepared_by
-        (λ _. TellsOpened (record { count = D.count; opens = D.may_open; connects = D.may_connect; failures = D.Res.count }) mutator mode path.now device.old device.new)
+        (λ _. TellsOpened (record { count = D.count; opens = D.may_open; connects = D.may_connect; failures = D.Res.handling.count }) mutator mode path.now device.old device.new)
         (device.new ≡ device.old) port.old result port.new }
 {
     match prepared(port.ask(Event::Prepare { mutator })) {
@@ -89,7 +89,7 @@ fn connect<P: Port<D::Res>, D: Device>(
 where
     D::Res: Drop,
     ensures { AsksTwice P.asking (event.Prepare mutator) prepared_by
-        (λ _. TellsConnected (record { count = D.count; opens = D.may_open; connects = D.may_connect; failures = D.Res.count }) mutator path.now device.old device.new)
+        (λ _. TellsConnected (record { count = D.count; opens = D.may_open; connects = D.may_connect; failures = D.Res.handling.count }) mutator path.now device.old device.new)
         (device.new ≡ device.old) port.old result port.new }
 {
     match prepared(port.ask(Event::Prepare { mutator })) {
@@ -106,7 +106,7 @@ fn read<P: Port<R>, R: Resource + Drop>(
     count: u8,
 ) -> Answer
     ensures { AsksTwice P.asking (event.CheckOut mutator guard) out_by
-        (TellsRead (record { count = R.count; reads = R.may_read; writes = R.may_write; finishes = R.may_finish }) mutator count)
+        (TellsRead R.handling mutator count)
         ⊤ port.old result port.new }
 {
     match handed_out(port.ask(Event::CheckOut { mutator, guard })) {
@@ -124,7 +124,7 @@ fn write<P: Port<R>, R: Resource + Drop>(
 ) -> Answer
     requires { length bytes.now ≤ 200 }
     ensures { AsksTwice P.asking (event.CheckOut mutator guard) out_by
-        (TellsWritten (record { count = R.count; reads = R.may_read; writes = R.may_write; finishes = R.may_finish }) mutator bytes.now)
+        (TellsWritten R.handling mutator bytes.now)
         ⊤ port.old result port.new }
 {
     match handed_out(port.ask(Event::CheckOut { mutator, guard })) {
@@ -136,7 +136,7 @@ fn write<P: Port<R>, R: Resource + Drop>(
 /// Takes up a cleaning action and does its work.
 fn work<P: Port<R>, R: Resource + Drop>(port: &mut P, mutator: Mutator, event: Event<R>) -> Answer
     ensures { AsksTwice P.asking event job_by
-        (TellsFinished (record { count = R.count; reads = R.may_read; writes = R.may_write; finishes = R.may_finish }) mutator)
+        (TellsFinished R.handling mutator)
         ⊤ port.old result port.new }
 {
     match job_of(port.ask(event)) {

@@ -21,7 +21,7 @@ pub(crate) fn opened<D: Device>(
     mode: Mode,
     path: &str,
 ) -> Event<D::Res>
-    ensures { TellsOpened (record { count = D.count; opens = D.may_open; connects = D.may_connect; failures = D.Res.count })
+    ensures { TellsOpened (record { count = D.count; opens = D.may_open; connects = D.may_connect; failures = D.Res.handling.count })
         mutator mode path.now device.old device.new result }
 {
     Event::Opened {
@@ -32,7 +32,7 @@ pub(crate) fn opened<D: Device>(
 
 /// Joins a socket, and gives the event that tells its outcome.
 pub(crate) fn connected<D: Device>(device: &mut D, mutator: Mutator, path: &str) -> Event<D::Res>
-    ensures { TellsConnected (record { count = D.count; opens = D.may_open; connects = D.may_connect; failures = D.Res.count })
+    ensures { TellsConnected (record { count = D.count; opens = D.may_open; connects = D.may_connect; failures = D.Res.handling.count })
         mutator path.now device.old device.new result }
 {
     Event::Opened {
@@ -43,7 +43,7 @@ pub(crate) fn connected<D: Device>(device: &mut D, mutator: Mutator, path: &str)
 
 /// Reads at most so many bytes of a resource, 200 at most, and gives the event that tells them and hands it back.
 pub(crate) fn read_back<R: Resource>(mutator: Mutator, resource: R, count: u8) -> Event<R>
-    ensures { TellsRead (record { count = R.count; reads = R.may_read; writes = R.may_write; finishes = R.may_finish })
+    ensures { TellsRead R.handling
         mutator count resource result }
 {
     let mut resource = resource;
@@ -55,7 +55,7 @@ pub(crate) fn read_back<R: Resource>(mutator: Mutator, resource: R, count: u8) -
 }
 
 fn read_of<R: Resource>(resource: &mut R, count: u8) -> CallOutcome
-    ensures { Reads (record { count = R.count; reads = R.may_read; writes = R.may_write; finishes = R.may_finish })
+    ensures { Reads R.handling
         count resource.old result resource.new }
 {
     let mut buffer = [0u8; CALL_LIMIT];
@@ -69,7 +69,7 @@ fn read_of<R: Resource>(resource: &mut R, count: u8) -> CallOutcome
 /// Writes bytes to a resource, at most 200, and gives the event that tells how many it took and hands it back.
 pub(crate) fn written_back<R: Resource>(mutator: Mutator, resource: R, bytes: &[u8]) -> Event<R>
     requires { length bytes.now ≤ 200 }
-    ensures { TellsWritten (record { count = R.count; reads = R.may_read; writes = R.may_write; finishes = R.may_finish })
+    ensures { TellsWritten R.handling
         mutator bytes.now resource result }
 {
     let mut resource = resource;
@@ -82,7 +82,7 @@ pub(crate) fn written_back<R: Resource>(mutator: Mutator, resource: R, bytes: &[
 
 fn write_of<R: Resource>(resource: &mut R, bytes: &[u8]) -> CallOutcome
     requires { length bytes.now ≤ 200 }
-    ensures { Writes (record { count = R.count; reads = R.may_read; writes = R.may_write; finishes = R.may_finish })
+    ensures { Writes R.handling
         bytes.now resource.old result resource.new }
 {
     match guarded_write(resource, bytes) {

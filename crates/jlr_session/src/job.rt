@@ -36,7 +36,7 @@ pub fn job_of<R: Drop>(reply: Reply<R>) -> Result<Job<R>, Answer>
 /// A resource is finished, once, and its outcome told; where its count of failures is at its last value it is dropped, and the
 /// outcome is `other`. A job without one, a note, ends well.
 pub fn carry_out<R: Resource + Drop>(by: u8, job: Job<R>) -> Event<R>
-    ensures { TellsFinished (record { count = R.count; reads = R.may_read; writes = R.may_write; finishes = R.may_finish }) by job result }
+    ensures { TellsFinished R.handling by job result }
 {
     let Job {
         action,
@@ -52,7 +52,7 @@ pub fn carry_out<R: Resource + Drop>(by: u8, job: Job<R>) -> Event<R>
 
 /// Finishes a resource where there is one.
 fn finish<R: Resource + Drop>(resource: Option<R>) -> Result<(), Fault>
-    ensures { Finishes (record { count = R.count; reads = R.may_read; writes = R.may_write; finishes = R.may_finish }) resource result }
+    ensures { Finishes R.handling resource result }
 {
     match resource {
         Some(resource) => guarded_finish(resource).outcome,

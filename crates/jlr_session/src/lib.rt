@@ -13,6 +13,4 @@ pub mod port;
 mod reply;
 pub mod serve;
 pub mod shell;
-#[cfg(test)]
-mod tests;
 mod turn;

@@ -10,15 +10,17 @@ pub trait Port<R> {
     // in whose name it asks, what an ask and its reply do, and what a settling does
     ghost asking: { Asking Self R };
 
-    /// The mutator in whose name it asks.
+    /// The mutator in whose name it asks. It is the same as long as there is the port.
     fn mutator(&self) -> Mutator
         ensures { result ≡ asking.mutator self.now };
 
     /// Asks, and gives the reply.
     fn ask(&mut self, event: Event<R>) -> Reply<R>
-        ensures { asking.asks self.old event result self.new };
+        ensures asked { asking.asks self.old event result self.new }
+        ensures named { asking.mutator self.new ≡ asking.mutator self.old };
 
     /// Does what is left to do after a reply went out.
     fn settle(&mut self)
-        ensures { asking.settling self.old self.new };
+        ensures settled { asking.settling self.old self.new }
+        ensures named { asking.mutator self.new ≡ asking.mutator self.old };
 }

@@ -1,10 +1,10 @@
 //! A whole session over a port and a device.
 ghost use Rattle.std.specs.Prelude.{◌≡◌, ◌≤◌, ℕ, List, [], length};
-ghost use Rattle.std.specs.Io.KnownBytes.{Appends, Consumes, IsAtEnd};
+ghost use Rattle.std.specs.Io.KnownBytes.{Appends, Consumes};
 ghost use Rattle.jlr_event.specs.declared.event.Event.TheVariants.{Join, Leave};
 ghost use Rattle.jlr_event.specs.declared.event.Reply.{Reply};
 ghost use Rattle.jlr_session.specs.Asks.{said_by};
-ghost use Rattle.jlr_session.specs.Limits.{most_bytes};
+ghost use Rattle.jlr_session.specs.Limits.{FindsEnd, most_bytes};
 ghost use Rattle.jlr_session.specs.Serving.{IsTurnedAway, Serves};
 
 use crate::asks::ByAsks;
@@ -40,9 +40,9 @@ where
         × Consumes (R.remaining reader.old) (R.remaining reader.new) bytes
         × Appends (W.contents writer.old) (W.contents writer.new) out
         × (length bytes ≤ most_bytes)
-        × Serves P.asking (record { count = D.count; opens = D.may_open; connects = D.may_connect; failures = D.Res.count })
-        (record { count = D.Res.count; reads = D.Res.may_read; writes = D.Res.may_write; finishes = D.Res.may_finish })
-        (IsAtEnd (R.remaining reader.new)) result bytes port.old device.old out port.new device.new }
+        × Serves P.asking (record { count = D.count; opens = D.may_open; connects = D.may_connect; failures = D.Res.handling.count })
+        D.Res.handling
+        (FindsEnd (R.remaining reader.new) bytes) result bytes port.old device.old out port.new device.new }
 {
     if let Answer::Refused(refusal) = join(port) {
         return turn_away(writer, port, refusal);

@@ -1,12 +1,13 @@
 //! The lines of a session, from the first one to the end.
 ghost use Rattle.std.specs.Prelude.{ℕ, List, ◌≡◌, ◌≤◌, ◌<◌, IfNone, length};
-ghost use Rattle.std.specs.Io.KnownBytes.{Appends, Consumes, IsAtEnd};
-ghost use Rattle.jlr_session.specs.Limits.{most_lines, most_bytes};
+ghost use Rattle.std.specs.Io.KnownBytes.{Appends, Consumes};
+ghost use Rattle.jlr_session.specs.Limits.{FindsEnd, most_lines, most_bytes};
 ghost use Rattle.jlr_session.specs.Sessions.{Ended};
 ghost use Rattle.jlr_session.specs.Chunks.{TakesChunk, Closes};
 
 use crate::carry::CarryOut;
 use crate::turn::{answer_line, reply};
+use jlr_device::retry;
 use jlr_machine::ask::Answer;
 use jlr_types::Refusal;
 use jlr_wire::pieces::{Got, LINE_LIMIT, Pieces};
@@ -44,7 +45,7 @@ pub enum SessionEnd {
 /// `bye`, the input ends, or a read or a write fails. After each reply that went out the heap settles.
 ///
 /// `bye` is answered `ok`. Bytes without the end of their line are answered `! 15`, or `! 16` if
-/// there are more than 512. A failed read or write is not tried again. At most 67,108,864 bytes are
+/// there are more than 512. A failed read or write is not tried again, an interrupted one is. At most 67,108,864 bytes are
 /// taken: in place of the read after them the session ends with `ReadFault`. At most 1,000,000
 /// lines are answered: the session ends with `TooManyLines` after the last of them, unless that is `bye`.
 pub fn converse<C: CarryOut<H, D>, H, D, R: Read, W: Write>(
@@ -57,7 +58,7 @@ pub fn converse<C: CarryOut<H, D>, H, D, R: Read, W: Write>(
         × Consumes (R.remaining reader.old) (R.remaining reader.new) bytes
         × Appends (W.contents writer.old) (W.contents writer.new) out
         × (length bytes ≤ most_bytes)
-        × Ended C.carries (IsAtEnd (R.remaining reader.new)) result bytes (heap.old, device.old) out (heap.new, device.new) }
+        × Ended C.carries (FindsEnd (R.remaining reader.new) bytes) result bytes (heap.old, device.old) out (heap.new, device.new) }
 {
     let mut pieces = Pieces::new();
     let mut buffer = [0u8; CHUNK_SIZE];
@@ -65,7 +66,7 @@ pub fn converse<C: CarryOut<H, D>, H, D, R: Read, W: Write>(
     let mut left = MOST_BYTES;
     while left > 0 {
         let room = &mut buffer[..left.min(CHUNK_SIZE)];
-        let Ok(count) = reader.read(room) else {
+        let Ok(count) = retry::read(reader, room) else {
             return SessionEnd::ReadFault;
         };
         if count == 0 {

@@ -6,6 +6,7 @@ ghost use Rattle.hex.specs.Hex.{encode_lower};
 
 use arrayvec::ArrayVec;
 use itoa::Buffer;
+use jlr_device::retry;
 use jlr_machine::ask::{Answer, Stat};
 use jlr_machine::machine::Failure;
 use jlr_machine::text::Name;
@@ -22,13 +23,13 @@ const GATHERED_LIMIT: usize = 512;
 #[derive(Clone, Copy, Debug, PartialEq, Eq)]
 pub struct WriteFault;
 
-/// Writes the bytes, or after a fault a front of them. A failed write is not tried again.
+/// Writes the bytes, or after a fault a front of them. A failed write is not tried again, an interrupted one is.
 fn send<W: Write>(bytes: &[u8], writer: &mut W) -> Result<(), WriteFault>
     ensures { Sends (W.contents writer.old) (W.contents writer.new) result bytes.now }
 {
     let mut rest = bytes;
     while !rest.is_empty() {
-        match writer.write(rest) {
+        match retry::write(writer, rest) {
             Ok(n) if n > 0 => rest = rest.split_at(n).1,
             _ => return Err(WriteFault),
         }

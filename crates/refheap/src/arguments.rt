@@ -48,6 +48,11 @@ fn numbers_asked(alloc: Global, words: &[String]) -> Result<Numbers, ProgramFaul
     let command = command(alloc).map_err(ProgramFault::NoMemory)?;
     let matches = parsed(command, words)?;
     let run = matches.subcommand_matches("run");
+    for option in ["cells", "resources", "soft-age"] {
+        if !is_spelled_plainly(run, option) {
+            return Err(refused(alloc, "a number has no sign and no leading zero"));
+        }
+    }
     Ok(Numbers {
         cells: number(run, "cells").unwrap_or(DEFAULT_CELLS),
         resources: number(run, "resources").unwrap_or(DEFAULT_RESOURCES),
@@ -58,6 +63,14 @@ fn numbers_asked(alloc: Global, words: &[String]) -> Result<Numbers, ProgramFaul
 /// The number that is given for an option of a `run`, if there is one.
 fn number(run: Option<&ArgMatches<'_>>, option: &str) -> Option<u32> {
     run.and_then(|run| run.get_one::<u32>(option))
+}
+
+/// Whether the number that is given for an option, if there is one, has its one spelling: no sign and no leading zero.
+fn is_spelled_plainly(run: Option<&ArgMatches<'_>>, option: &str) -> bool {
+    match run.and_then(|run| run.get_str(option)) {
+        Some(text) => text == "0" || !(text.starts_with('0') || text.starts_with('+')),
+        None => true,
+    }
 }
 
 /// The limits of the heap that the words of a `run` ask for: what they ask for, and the rest as it is usually.
@@ -174,66 +187,73 @@ mod tests {
     use super::*;
     use std::test::Fail;
 
-    /// The limits that a command line asks for, whose words are parted by spaces, or the status of its fault.
-    fn asked(alloc: Global, line: &str) -> Result<Result<Limits, u8>, Fail> {
+    /// What a command line asks for, whose words are parted by spaces: the cells, the files and sockets and the soft age, or the status
+    /// of its fault.
+    fn asked(alloc: Global, line: &str) -> Result<String, Fail> {
         let mut words = Vec::new(alloc);
         for word in line.split(' ') {
             let mut text = String::new(alloc);
             text.push_str(word)?;
             words.push(text)?;
         }
-        Ok(limits(alloc, words.as_slice()).map_err(|fault| fault.status()))
+        match limits(alloc, words.as_slice()) {
+            Ok(limits) => {
+                let (cells, resources, age) = (limits.cells, limits.resources, limits.soft_age);
+                Ok(format!(in alloc; "{cells} {resources} {age}")?)
+            }
+            Err(fault) => {
+                let status = fault.status();
+                Ok(format!(in alloc; "status {status}")?)
+            }
+        }
     }
 
-    #[test]
-    fn each_option_is_its_own_limit(rt: HostRuntime) -> Result<(), Fail> {
-        for (line, cells, resources, soft_age) in [
-            ("refheap run", 1_024, 16, 4),
-            (
-                "refheap run --cells 17 --resources 18 --soft-age 19",
-                17,
-                18,
-                19,
-            ),
-            (
-                "refheap run --soft-age 0 --resources 1 --cells 16",
-                16,
-                1,
-                0,
-            ),
-            (
-                "refheap run --cells 65536 --resources 256 --soft-age 1000",
-                65_536,
-                256,
-                1_000,
-            ),
-        ] {
-            let limits = asked(rt.alloc(), line)?.ok().ok_or("limits")?;
-            assert_eq!(rt;
-                (limits.cells, limits.resources, limits.soft_age),
-                (cells, resources, soft_age),
-                "at {line}"
-            );
+    /// Each row is a command line, an arrow, and what it asks for.
+    fn play(alloc: Global, label: &str, rows: &str) -> Result<(), Fail> {
+        for row in rows.lines() {
+            let row = row.trim();
+            if row.is_empty() {
+                continue;
+            }
+            let (line, wanted) = row.split_once(" -> ").ok_or("no row")?;
+            let got = asked(alloc, line)?;
+            if got.as_str() != wanted {
+                return Err(Fail::new(format!(in alloc; "{label}, at {row}: {got}")?));
+            }
         }
         Ok(())
     }
 
     #[test]
-    fn a_bad_command_line_has_status_2(rt: HostRuntime) -> Result<(), Fail> {
-        for line in [
-            "refheap",
-            "refheap walk",
-            "refheap --help",
-            "refheap run --cells",
-            "refheap run --cells 15",
-            "refheap run --cells 65537",
-            "refheap run --resources 0",
-            "refheap run --resources 257",
-            "refheap run --soft-age 1001",
-            "refheap run --soft-age x",
-        ] {
-            assert_eq!(rt; asked(rt.alloc(), line)?.err(), Some(2), "at {line}");
-        }
-        Ok(())
+    fn command_lines(rt: HostRuntime) -> Result<(), Fail> {
+        play(
+            rt.alloc(),
+            "each option is its own limit",
+            "
+            refheap run -> 1024 16 4
+            refheap run --cells 17 --resources 18 --soft-age 19 -> 17 18 19
+            refheap run --soft-age 0 --resources 1 --cells 16 -> 16 1 0
+            refheap run --cells 65536 --resources 256 --soft-age 1000 -> 65536 256 1000
+            ",
+        )?;
+        play(
+            rt.alloc(),
+            "a bad command line has status 2",
+            "
+            refheap -> status 2
+            refheap walk -> status 2
+            refheap --help -> status 2
+            refheap run --cells -> status 2
+            refheap run --cells 15 -> status 2
+            refheap run --cells 65537 -> status 2
+            refheap run --resources 0 -> status 2
+            refheap run --resources 257 -> status 2
+            refheap run --soft-age 1001 -> status 2
+            refheap run --soft-age x -> status 2
+            refheap run --cells +16 -> status 2
+            refheap run --cells 016 -> status 2
+            refheap run --soft-age 00 -> status 2
+            ",
+        )
     }
 }

@@ -1,18 +1,47 @@
-//! Each way in which a session ends, over real files where it takes one: the status of the program, what it says on the standard
-//! error, and what it answered before. The texts are those of the description of the protocol.
+//! Each way in which a session ends: the status of the program, what it says on the standard error, and what it answered before. The
+//! texts are those of the description of the protocol.
+//!
+//! Lists are parted by empty lines. The first line of a list, which ends with a colon, says what its rows show, and one that begins with `#`
+//! is a remark. A row is what is read, an arrow, and, parted by bars, the status, what is said, and what is answered. A `;` ends a line.
+//! After ` to ` stands where the answers go, if they are not kept.
 use crate::report::status_after;
 use crate::session::session;
-use jlr_device::Device;
 use jlr_device::real::RealDevice;
-use jlr_device::script::ScriptDevice;
 use jlr_types::Limits;
-use std::alloc::Global;
+use std::alloc::{AllocError, Global};
 use std::cell::RefCell;
 use std::fmt::Display;
 use std::fs::{self, File, OpenOptions};
-use std::io::{self, Read, Write};
+use std::io::{self, PipeWriter, Read, Write};
 use std::os::unix::net::UnixStream;
+use std::str;
 use std::test::Fail;
+
+const ROWS: &str = "
+    a session ends with its status:
+    nothing -> 0||
+    bye;gc; -> 0||ok;
+    new -; -> 0||= 1;
+    new -;bye -> 4|refheap: unfinished line;|= 1;! 15;
+
+    a file whose guard has died is read back:
+    open w refheap_hello;write 1 6869;drop 1;gc;open r refheap_hello;read 1 200;read 1 200;stat;bye; -> 0||= 1;wrote 2;ok;ok;= 1;data 6869;end;stat 3 1 1 1 0;ok;
+
+    an input that is a directory cannot be read:
+    directory -> 1|refheap: read failed;|
+
+    a session of a million lines has too many:
+    million to nowhere -> 4|refheap: too many lines;|
+
+    an output that is full, closed or gone cannot be written:
+    new -; to full -> 1|refheap: write failed;|
+    # The system refuses a write here as it does at a closed descriptor: it is no descriptor for writing.
+    new -; to closed -> 1|refheap: write failed;|
+    # A pipe that nobody reads.
+    new -; to pipe -> 1|refheap: write failed;|
+    # A stream whose peer is gone.
+    new -; to stream -> 1|refheap: write failed;|
+";
 
 /// A standard error that keeps what is written.
 #[derive(Clone, Copy)]
@@ -40,133 +69,166 @@ impl Eprint for Kept<'_> {
     }
 }
 
-/// The status after a session with 16 cells whose files are had without a fault, and what was said on the standard error.
-fn ended<R: Read, W: Write>(
-    alloc: Global,
-    reader: &mut R,
-    writer: &mut W,
-) -> Result<(u8, String), Fail> {
-    let mut device = ScriptDevice::new(Vec::new(alloc), 0);
-    ended_over(alloc, reader, writer, &mut device)
+/// What a session reads.
+#[derive(Drop)]
+enum Input<'a> {
+    Text(&'a [u8]),
+    File(File),
+    /// Empty lines, so many.
+    EmptyLines(usize),
 }
 
-/// The same over a device.
-fn ended_over<R: Read, W: Write, D: Device>(
-    alloc: Global,
-    reader: &mut R,
-    writer: &mut W,
-    device: &mut D,
-) -> Result<(u8, String), Fail>
-where
-    D::Res: Drop,
-{
+impl Read for Input<'_> {
+    fn read(&mut self, buf: &mut [u8]) -> io::Result<usize> {
+        match self {
+            Input::Text(text) => text.read(buf),
+            Input::File(file) => file.read(buf),
+            Input::EmptyLines(left) => {
+                let count = buf.len().min(*left);
+                buf[..count].fill(b'\n');
+                *left -= count;
+                Ok(count)
+            }
+        }
+    }
+}
+
+/// Where the answers go.
+#[derive(Drop)]
+enum Output {
+    Kept(Vec<u8>),
+    Nowhere,
+    File(File),
+    Pipe(PipeWriter),
+    Stream(UnixStream),
+}
+
+impl Write for Output {
+    fn write(&mut self, buf: &[u8]) -> io::Result<usize> {
+        match self {
+            Output::Kept(kept) => kept.write(buf),
+            Output::Nowhere => Ok(buf.len()),
+            Output::File(file) => file.write(buf),
+            Output::Pipe(pipe) => pipe.write(buf),
+            Output::Stream(stream) => stream.write(buf),
+        }
+    }
+
+    fn flush(&mut self) -> io::Result<()> {
+        Ok(())
+    }
+}
+
+impl Output {
+    /// The answers, if they are kept.
+    fn text(&self) -> &str {
+        match self {
+            Output::Kept(kept) => str::from_utf8(kept).unwrap_or("what was answered is no text"),
+            _ => "",
+        }
+    }
+}
+
+/// The input that a word names, or that has these bytes.
+fn input_of<'a>(rt: HostRuntime, word: &str, bytes: &'a [u8]) -> io::Result<Input<'a>> {
+    match word {
+        "nothing" => Ok(Input::EmptyLines(0)),
+        "directory" => Ok(Input::File(File::open(&rt, "/")?)),
+        "million" => Ok(Input::EmptyLines(1_000_000)),
+        _ => Ok(Input::Text(bytes)),
+    }
+}
+
+/// The output that a word names.
+fn output_of(rt: HostRuntime, word: &str) -> Result<Output, Fail> {
+    match word {
+        "kept" => Ok(Output::Kept(Vec::new(rt.alloc()))),
+        "nowhere" => Ok(Output::Nowhere),
+        "full" => Ok(Output::File(OpenOptions::new().write(true).open(&rt, "/dev/full")?)),
+        "closed" => Ok(Output::File(File::open(&rt, "/dev/null")?)),
+        "pipe" => {
+            let (_, pipe) = io::pipe(&rt)?;
+            Ok(Output::Pipe(pipe))
+        }
+        "stream" => {
+            let (_, stream) = UnixStream::pair(&rt)?;
+            Ok(Output::Stream(stream))
+        }
+        _ => Err(Fail::from("no output")),
+    }
+}
+
+/// The bytes of lines, each of which ends with `;`.
+fn lines(alloc: Global, text: &str) -> Result<Vec<u8>, AllocError> {
+    let mut bytes = Vec::new(alloc);
+    for byte in text.as_bytes() {
+        bytes.push(if *byte == b';' { b'\n' } else { *byte })?;
+    }
+    Ok(bytes)
+}
+
+/// The status after a session with 16 cells over real files, and what was said on the standard error.
+fn ended(
+    rt: HostRuntime,
+    reader: &mut Input<'_>,
+    writer: &mut Output,
+) -> Result<(u8, String), Fail> {
     let limits = Limits::checked(16, 1, 16, 4, 10_000, 64)
         .ok()
         .ok_or("limits")?;
-    let text = RefCell::new(String::new(alloc));
-    let outcome = session(alloc, limits, reader, writer, device);
-    let status = status_after(Kept { alloc, text: &text }, &outcome);
+    let mut device = RealDevice::new(rt);
+    let text = RefCell::new(String::new(rt.alloc()));
+    let outcome = session(rt.alloc(), limits, reader, writer, &mut device);
+    let status = status_after(
+        Kept {
+            alloc: rt.alloc(),
+            text: &text,
+        },
+        &outcome,
+    );
     Ok((status, text.into_inner()))
 }
 
-#[test]
-fn a_session_ends_with_its_status(rt: HostRuntime) -> Result<(), Fail> {
-    for (input, answers, status, line) in [
-        ("", "", 0, ""),
-        ("bye\ngc\n", "ok\n", 0, ""),
-        ("new -\n", "= 1\n", 0, ""),
-        ("new -\nbye", "= 1\n! 15\n", 4, "refheap: unfinished line\n"),
-    ] {
-        let mut writer = Vec::new(rt.alloc());
-        let (ended, said) = ended(rt.alloc(), &mut input.as_bytes(), &mut writer)?;
-        assert_eq!(rt; ended, status, "after {input:?}");
-        assert_eq!(rt; said.as_str(), line, "after {input:?}");
-        assert_eq!(rt; writer.as_slice(), answers.as_bytes(), "after {input:?}");
+/// How the session of a row ends: the status, what is said, and what is answered.
+fn ending(rt: HostRuntime, asked: &str) -> Result<String, Fail> {
+    let (input, output) = asked.split_once(" to ").unwrap_or((asked, "kept"));
+    let bytes = lines(rt.alloc(), input)?;
+    let mut reader = input_of(rt, input, bytes.as_slice())?;
+    let mut writer = output_of(rt, output)?;
+    let (status, said) = ended(rt, &mut reader, &mut writer)?;
+    let answers = writer.text();
+    Ok(format!(in rt.alloc(); "{status}|{said}|{answers}")?)
+}
+
+/// The session of a row ends as it has to.
+fn played(rt: HostRuntime, label: &str, row: &str) -> Result<(), Fail> {
+    let (asked, wanted) = row.split_once(" -> ").ok_or("no row")?;
+    let got = ending(rt, asked)?;
+    if got.as_bytes() != lines(rt.alloc(), wanted)?.as_slice() {
+        let text = format!(in rt.alloc(); "{label}, at {row}: {got}")?;
+        return Err(Fail::new(text));
+    }
+    Ok(())
+}
+
+/// Each row of a list does so.
+fn play_list(rt: HostRuntime, label: &str, rows: &str) -> Result<(), Fail> {
+    for row in rows.lines() {
+        let row = row.trim();
+        if !row.is_empty() && !row.starts_with("#") {
+            played(rt, label, row)?;
+        }
     }
     Ok(())
 }
 
 #[test]
-fn a_file_whose_guard_has_died_is_read_back(rt: HostRuntime) -> Result<(), Fail> {
-    let path = "refheap_hello";
-    let _ = fs::remove_file(&rt, path);
-    let input =
-        "open w refheap_hello\nwrite 1 6869\ndrop 1\ngc\nopen r refheap_hello\nread 1 200\nread 1 200\nstat\nbye\n";
-    let answers = "= 1\nwrote 2\nok\nok\n= 1\ndata 6869\nend\nstat 3 1 1 1 0\nok\n";
-    let mut writer = Vec::new(rt.alloc());
-    let mut device = RealDevice::new(rt);
-    let (status, said) = ended_over(rt.alloc(), &mut input.as_bytes(), &mut writer, &mut device)?;
-    assert_eq!(rt; (status, said.as_str()), (0, ""));
-    assert_eq!(rt; writer.as_slice(), answers.as_bytes());
-    fs::remove_file(&rt, path)?;
-    Ok(())
-}
-
-#[test]
-fn an_input_that_is_a_directory_cannot_be_read(rt: HostRuntime) -> Result<(), Fail> {
-    let mut directory = File::open(&rt, "/")?;
-    let mut writer = Vec::new(rt.alloc());
-    let (status, said) = ended(rt.alloc(), &mut directory, &mut writer)?;
-    assert_eq!(rt; status, 1);
-    assert_eq!(rt; said.as_str(), "refheap: read failed\n");
-    assert_eq!(rt; writer.as_slice(), b"".as_slice());
-    Ok(())
-}
-
-/// Empty lines, so many.
-#[derive(Drop)]
-struct EmptyLines {
-    left: usize,
-}
-
-impl Read for EmptyLines {
-    fn read(&mut self, buf: &mut [u8]) -> io::Result<usize> {
-        let count = self.left.min(buf.len());
-        buf[..count].fill(b'\n');
-        self.left -= count;
-        Ok(count)
+fn sessions_end_with_their_status(rt: HostRuntime) -> Result<(), Fail> {
+    let _ = fs::remove_file(&rt, "refheap_hello");
+    for list in ROWS.split("\n\n") {
+        let (label, rows) = list.split_once(":\n").ok_or("a list without a label")?;
+        play_list(rt, label.trim(), rows)?;
     }
-}
-
-#[test]
-fn a_session_of_a_million_lines_has_too_many(rt: HostRuntime) -> Result<(), Fail> {
-    let mut lines = EmptyLines { left: 1_000_000 };
-    let (status, said) = ended(rt.alloc(), &mut lines, &mut io::sink())?;
-    assert_eq!(rt; status, 4);
-    assert_eq!(rt; said.as_str(), "refheap: too many lines\n");
-    Ok(())
-}
-
-/// A session whose first reply cannot be written.
-fn unheard<W: Write>(alloc: Global, writer: &mut W) -> Result<(u8, String), Fail> {
-    ended(alloc, &mut b"new -\n".as_slice(), writer)
-}
-
-#[test]
-fn an_output_that_is_full_closed_or_gone_cannot_be_written(rt: HostRuntime) -> Result<(), Fail> {
-    let failed = "refheap: write failed\n";
-    let mut full = OpenOptions::new().write(true).open(&rt, "/dev/full")?;
-    let (status, said) = unheard(rt.alloc(), &mut full)?;
-    assert_eq!(rt; (status, said.as_str()), (1, failed), "full");
-    // The system refuses a write here as it does at a closed descriptor: it is no descriptor for writing.
-    let mut closed = File::open(&rt, "/dev/null")?;
-    let (status, said) = unheard(rt.alloc(), &mut closed)?;
-    assert_eq!(rt; (status, said.as_str()), (1, failed), "closed");
-    let (peer, mut pipe) = io::pipe(&rt)?;
-    drop(peer);
-    let (status, said) = unheard(rt.alloc(), &mut pipe)?;
-    assert_eq!(rt;
-        (status, said.as_str()),
-        (1, failed),
-        "a pipe that nobody reads"
-    );
-    let (peer, mut stream) = UnixStream::pair(&rt)?;
-    drop(peer);
-    let (status, said) = unheard(rt.alloc(), &mut stream)?;
-    assert_eq!(rt;
-        (status, said.as_str()),
-        (1, failed),
-        "a stream whose peer is gone"
-    );
+    fs::remove_file(&rt, "refheap_hello")?;
     Ok(())
 }

@@ -5,16 +5,19 @@ mod arguments;
 #[cfg(test)]
 mod ends;
 mod fault;
+mod places;
 mod report;
 mod session;
 
 use fault::ProgramFault;
 use jlr_device::real::RealDevice;
+use places::StandardPlaces;
 use report::status_after;
 use session::session;
 use std::process::ExitCode;
 
 fn main(rt: HostRuntime) -> ExitCode {
+    let _places = StandardPlaces::filled(&rt);
     ExitCode::from(status_after(rt, &run(&rt)))
 }
 

@@ -1,8 +1,8 @@
 //! A session, and what it leaves of the program.
 ghost use Rattle.std.specs.Prelude.{◌≡◌, ◌≤◌, ◌⊎◌, List, ℕ, length, MatchResult, None, Some};
-ghost use Rattle.std.specs.Io.KnownBytes.{Appends, Consumes, IsAtEnd};
+ghost use Rattle.std.specs.Io.KnownBytes.{Appends, Consumes};
 ghost use Rattle.jlr_prog.specs.Histories.{IsSession};
-ghost use Rattle.jlr_session.specs.Limits.{most_bytes};
+ghost use Rattle.jlr_session.specs.Limits.{FindsEnd, most_bytes};
 ghost use Rattle.jlr_session.specs.declared.shell.SessionEnd.{SessionEnd};
 ghost use Rattle.refheap.specs.Status.{IsOutOfMemory, IsOutcome, fault_after};
 
@@ -33,9 +33,9 @@ where
         × Consumes (R.remaining reader.old) (R.remaining reader.new) bytes
         × Appends (W.contents writer.old) (W.contents writer.new) out
         × (length bytes ≤ most_bytes)
-        × IsSession (record { count = D.count; opens = D.may_open; connects = D.may_connect; failures = D.Res.count })
-        (record { count = D.Res.count; reads = D.Res.may_read; writes = D.Res.may_write; finishes = D.Res.may_finish })
-        limits (IsAtEnd (R.remaining reader.new)) end bytes device.old out device.new) }
+        × IsSession (record { count = D.count; opens = D.may_open; connects = D.may_connect; failures = D.Res.handling.count })
+        D.Res.handling
+        limits (FindsEnd (R.remaining reader.new) bytes) end bytes device.old out device.new) }
 {
     match session_of_heap(alloc, limits, reader, writer, device) {
         Ok(end) => outcome_of(end),

@@ -31,193 +31,150 @@ fn marked(row: &str) -> (bool, &str) {
     }
 }
 
-// The core is made again where memory was refused once, and no event is: an event that took memory would be answered otherwise in the
-// run in which it is refused. The seven events by which something may grow stand in the tests below. `bench/failing.sh` runs this test
-// once for each of its allocations.
-#[test]
-fn no_event_takes_memory(rt: HostRuntime) -> Result<(), Fail> {
-    let rows = "
-        join -> done
-        new -> handle 1
-        weak 1 0 -> handle 2
-        weak 1 0 -> handle 3
-        put 1 0 1 -> done
-        get 1 0 -> handle 4
-        same 1 4 -> yes
-        drop 4 -> done
-        full -> done
-        deref 2 -> handle 4
-        dup 4 -> handle 5
-        drop 5 -> done
-        drop 4 -> done
-        drop 1 -> done
-        full -> done
-        deref 2 -> handle 0
-        deref 3 -> handle 0
-        put 9 0 1 -> refused NoHandle
-        queue -> handle 1
-        bare -> handle 4
-        weak 4 1 -> handle 5
-        refers 5 4 -> yes
-        enqueued 5 -> no
-        soft 4 0 -> handle 6
-        phantom 4 0 -> handle 7
-        deref 7 -> handle 0
-        clear 6 -> done
-        drop 4 -> done
-        full_clearing -> done
-        refers 5 0 -> yes
-        refers 7 0 -> yes
-        poll 1 -> handle 0
-        new -> handle 4
-        set_int 4 1 7 -> done
-        int 4 1 -> int 7
-        begin -> yes
-        abandon -> yes
-        begin -> yes
-        mark -> marked done
-        collect -> yes
-        stat -> stat 7 0 0 0 0
-        leave -> done
-        full -> refused NoSession
-        opened 1 -> refused NoSession 1
-    ";
-    let (mut core, mut choice) = ready_again(rt.alloc(), limits(0)?)?;
-    for row in rows.lines() {
-        if !row.trim().is_empty() {
-            let (may_be_refused, row) = marked(row.trim());
-            let (event, wanted) = parsed(row).ok_or("no row")?;
-            let mut got = ask(&mut core, &mut choice, event);
-            if may_be_refused && got == Got::Refused(Refusal::NoMemory) {
-                let (event, _) = parsed(row).ok_or("no row")?;
-                got = ask(&mut core, &mut choice, event);
-            }
-            assert_eq!(rt; got, wanted, "{row}");
-        }
+// Where memory is refused once, no other event is answered so than those whose rows begin with `again`.
+const LISTS: &str = "
+== no event takes memory
+    join -> done
+    new -> handle 1
+    weak 1 0 -> handle 2
+    weak 1 0 -> handle 3
+    put 1 0 1 -> done
+    get 1 0 -> handle 4
+    same 1 4 -> yes
+    drop 4 -> done
+    full -> done
+    deref 2 -> handle 4
+    dup 4 -> handle 5
+    drop 5 -> done
+    drop 4 -> done
+    drop 1 -> done
+    full -> done
+    deref 2 -> handle 0
+    deref 3 -> handle 0
+    put 9 0 1 -> refused NoHandle
+    queue -> handle 1
+    bare -> handle 4
+    weak 4 1 -> handle 5
+    refers 5 4 -> yes
+    enqueued 5 -> no
+    soft 4 0 -> handle 6
+    phantom 4 0 -> handle 7
+    deref 7 -> handle 0
+    clear 6 -> done
+    drop 4 -> done
+    full_clearing -> done
+    refers 5 0 -> yes
+    refers 7 0 -> yes
+    poll 1 -> handle 0
+    new -> handle 4
+    set_int 4 1 7 -> done
+    int 4 1 -> int 7
+    begin -> yes
+    abandon -> yes
+    begin -> yes
+    mark -> marked done
+    collect -> yes
+    stat -> stat 7 0 0 0 0
+    leave -> done
+    full -> refused NoSession
+    opened 1 -> refused NoSession 1
+
+-- The handler's step lines up a cleanable, and takes no memory for that.
+== no event of a cleaner takes memory
+    join -> done
+    cleaner -> handle 1
+    bare -> handle 2
+    register 1 2 7 -> handle 3
+    register 1 2 8 -> handle 4
+    clean 3 -> job 1
+    finish 0 1 ok -> done
+    clean 3 -> already_done
+    drop 2 -> done
+    full -> done
+    hand_over -> lined
+    take_up -> job 2
+    take_up -> refused Busy
+    finish 255 2 Denied -> fault Denied
+    take_up -> nothing
+    queue -> handle 2
+    remove 2 -> refused WouldWait
+
+-- Those events that let a queue grow may be refused, and are asked again then: nothing has changed.
+== a queue that cannot grow is left as it was
+    join -> done
+    queue -> handle 1
+    queue -> handle 2
+    bare -> handle 3
+    weak 3 1 -> handle 4
+    weak 3 2 -> handle 5
+    again enqueue 4 -> yes
+    refers 5 3 -> yes
+    drop 3 -> done
+    full -> done
+    again hand_over -> queued
+    hand_over -> nothing
+    poll 1 -> handle 3
+    same 3 4 -> yes
+    poll 2 -> handle 6
+    same 6 5 -> yes
+    poll 1 -> handle 0
+    poll 2 -> handle 0
+    enqueue 4 -> no
+
+-- So may those for which the table grows, and those that copy a list that is not empty. A name takes no memory.
+== a table that cannot grow is left as it was
+    join -> done
+    bare -> handle 1
+    again prepare -> prepared
+    opened 5 -> handle 2
+    check_out 2 -> out 5
+    check_in 3 6 -> wrote 3
+    close 2 -> job 1 6
+    finish 0 1 Other -> fault Other
+    again faults -> faults 1 1 Other
+    notes -> notes 0
+    again prepare -> prepared
+    opened NotFound -> fault NotFound
+    bind x 1 -> done
+    bind x 2 -> done
+    find x -> handle 3
+    same 2 3 -> yes
+    again names -> names 1 x
+    unbind x -> done
+    find x -> refused NoName
+    queue -> handle 4
+    weak 1 4 -> handle 5
+    again enqueue 5 -> yes
+    remove 4 -> handle 6
+";
+
+// Makes the ask of a row, and where it may find no memory and does, makes it again.
+fn asked_again(core: &mut Core<u32>, choice: &mut Choice, row: &str) -> Result<(Got, Got), Fail>
+    requires { length core.old.machine.objects ≤ choice.old.cells }
+    ensures { length core.new.machine.objects ≤ choice.new.cells }
+{
+    let (may_be_refused, row) = marked(row.trim());
+    let (event, wanted) = parsed(row).ok_or("no row")?;
+    let got = ask(core, choice, event);
+    if !may_be_refused || got != Got::Refused(Refusal::NoMemory) {
+        return Ok((got, wanted));
     }
-    Ok(())
+    let (event, _) = parsed(row).ok_or("no row")?;
+    Ok((ask(core, choice, event), wanted))
 }
 
-// As above, of cleaners. The handler's step lines up a cleanable, and takes no memory for that.
+// The core is made again where memory was refused once, and no event is but those that say so: an event that took memory would be answered
+// otherwise in the run in which it is refused. `checks/failing.sh` runs this test once for each of its allocations.
 #[test]
-fn no_event_of_a_cleaner_takes_memory(rt: HostRuntime) -> Result<(), Fail> {
-    let rows = "
-        join -> done
-        cleaner -> handle 1
-        bare -> handle 2
-        register 1 2 7 -> handle 3
-        register 1 2 8 -> handle 4
-        clean 3 -> job 1
-        finish 0 1 ok -> done
-        clean 3 -> already_done
-        drop 2 -> done
-        full -> done
-        hand_over -> lined
-        take_up -> job 2
-        take_up -> refused Busy
-        finish 255 2 Denied -> fault Denied
-        take_up -> nothing
-        queue -> handle 2
-        remove 2 -> refused WouldWait
-    ";
-    let (mut core, mut choice) = ready_again(rt.alloc(), limits(0)?)?;
-    for row in rows.lines() {
-        if !row.trim().is_empty() {
-            let (may_be_refused, row) = marked(row.trim());
-            let (event, wanted) = parsed(row).ok_or("no row")?;
-            let mut got = ask(&mut core, &mut choice, event);
-            if may_be_refused && got == Got::Refused(Refusal::NoMemory) {
-                let (event, _) = parsed(row).ok_or("no row")?;
-                got = ask(&mut core, &mut choice, event);
+fn a_refused_growth_changes_nothing(rt: HostRuntime) -> Result<(), Fail> {
+    for list in LISTS.split("== ").skip(1) {
+        let (name, shape, rows) = titled(list)?;
+        let (mut core, mut choice) = ready_again(rt.alloc(), shape.limits)?;
+        for row in rows.lines() {
+            if is_row(row) {
+                let (got, wanted) = asked_again(&mut core, &mut choice, row)?;
+                assert_eq!(rt; got, wanted, "{name}: {row}");
             }
-            assert_eq!(rt; got, wanted, "{row}");
-        }
-    }
-    Ok(())
-}
-
-// Those events that let a queue grow may be refused for want of memory, and are asked again then: nothing has changed. No other
-// event is. `bench/failing.sh` runs this test once for each of its allocations.
-#[test]
-fn a_queue_that_cannot_grow_is_left_as_it_was(rt: HostRuntime) -> Result<(), Fail> {
-    let rows = "
-        join -> done
-        queue -> handle 1
-        queue -> handle 2
-        bare -> handle 3
-        weak 3 1 -> handle 4
-        weak 3 2 -> handle 5
-        again enqueue 4 -> yes
-        refers 5 3 -> yes
-        drop 3 -> done
-        full -> done
-        again hand_over -> queued
-        hand_over -> nothing
-        poll 1 -> handle 3
-        same 3 4 -> yes
-        poll 2 -> handle 6
-        same 6 5 -> yes
-        poll 1 -> handle 0
-        poll 2 -> handle 0
-        enqueue 4 -> no
-    ";
-    let (mut core, mut choice) = ready_again(rt.alloc(), limits(0)?)?;
-    for row in rows.lines() {
-        if !row.trim().is_empty() {
-            let (may_be_refused, row) = marked(row.trim());
-            let (event, wanted) = parsed(row).ok_or("no row")?;
-            let mut got = ask(&mut core, &mut choice, event);
-            if may_be_refused && got == Got::Refused(Refusal::NoMemory) {
-                let (event, _) = parsed(row).ok_or("no row")?;
-                got = ask(&mut core, &mut choice, event);
-            }
-            assert_eq!(rt; got, wanted, "{row}");
-        }
-    }
-    Ok(())
-}
-
-// The table, the names and the lists that are copied may be refused memory, and are asked for again then: nothing has changed. No other
-// event on files, sockets and names is, nor is a name bound again that stands. `bench/failing.sh` runs this test once for each of its
-// allocations.
-#[test]
-fn a_table_that_cannot_grow_is_left_as_it_was(rt: HostRuntime) -> Result<(), Fail> {
-    let rows = "
-        join -> done
-        bare -> handle 1
-        again prepare -> prepared
-        opened 5 -> handle 2
-        check_out 2 -> out 5
-        check_in 3 6 -> wrote 3
-        close 2 -> job 1 6
-        finish 0 1 Other -> fault Other
-        again faults -> faults 1 1 Other
-        again notes -> notes 0
-        again prepare -> prepared
-        opened NotFound -> fault NotFound
-        again bind x 1 -> done
-        bind x 2 -> done
-        find x -> handle 3
-        same 2 3 -> yes
-        again names -> names 1 x
-        unbind x -> done
-        find x -> refused NoName
-        queue -> handle 4
-        weak 1 4 -> handle 5
-        again enqueue 5 -> yes
-        remove 4 -> handle 6
-    ";
-    let (mut core, mut choice) = ready_again(rt.alloc(), limits(0)?)?;
-    for row in rows.lines() {
-        if !row.trim().is_empty() {
-            let (may_be_refused, row) = marked(row.trim());
-            let (event, wanted) = parsed(row).ok_or("no row")?;
-            let mut got = ask(&mut core, &mut choice, event);
-            if may_be_refused && got == Got::Refused(Refusal::NoMemory) {
-                let (event, _) = parsed(row).ok_or("no row")?;
-                got = ask(&mut core, &mut choice, event);
-            }
-            assert_eq!(rt; got, wanted, "{row}");
         }
     }
     Ok(())

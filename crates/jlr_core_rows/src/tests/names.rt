@@ -1,31 +1,45 @@
 //! Names, and the front of a queue that is waited for.
 use super::*;
 
+const LISTS: &str = "
+== names keep their places and their objects
+    join -> done
+    bare -> handle 1
+    find x -> refused NoName
+    unbind x -> refused NoName
+    bind b 2 -> refused NoHandle
+    bind b 0 -> refused Null
+    bind b 1 -> done
+    bind a 1 -> done
+    bind b 1 -> done
+    names -> names 2 b
+    drop 1 -> done
+    full -> done
+    find a -> handle 1
+    unbind b -> done
+    names -> names 1 a
+    drop 1 -> done
+    unbind a -> done
+    full -> done
+    stat -> stat 0 0 0 0 0
+    names -> names 0
+
+== an empty queue would wait
+    join -> done
+    queue -> handle 1
+    remove 1 -> refused WouldWait
+    bare -> handle 2
+    remove 2 -> refused WrongKind
+    weak 2 1 -> handle 3
+    enqueue 3 -> yes
+    remove 1 -> handle 4
+    same 3 4 -> yes
+    remove 1 -> refused WouldWait
+";
+
 #[test]
-fn names_keep_their_places_and_their_objects(rt: HostRuntime) -> Result<(), Fail> {
-    let rows = "
-        join -> done
-        bare -> handle 1
-        find x -> refused NoName
-        unbind x -> refused NoName
-        bind b 2 -> refused NoHandle
-        bind b 0 -> refused Null
-        bind b 1 -> done
-        bind a 1 -> done
-        bind b 1 -> done
-        names -> names 2 b
-        drop 1 -> done
-        full -> done
-        find a -> handle 1
-        unbind b -> done
-        names -> names 1 a
-        drop 1 -> done
-        unbind a -> done
-        full -> done
-        stat -> stat 0 0 0 0 0
-        names -> names 0
-    ";
-    play(rt.alloc(), limits(0)?, rows)
+fn lists_of_names(rt: HostRuntime) -> Result<(), Fail> {
+    play_all(rt.alloc(), LISTS)
 }
 
 #[test]
@@ -56,21 +70,4 @@ fn there_are_at_most_256_names(rt: HostRuntime) -> Result<(), Fail> {
         [Got::Refused(Refusal::NamesFull), Got::Done].as_slice()
     );
     Ok(())
-}
-
-#[test]
-fn an_empty_queue_would_wait(rt: HostRuntime) -> Result<(), Fail> {
-    let rows = "
-        join -> done
-        queue -> handle 1
-        remove 1 -> refused WouldWait
-        bare -> handle 2
-        remove 2 -> refused WrongKind
-        weak 2 1 -> handle 3
-        enqueue 3 -> yes
-        remove 1 -> handle 4
-        same 3 4 -> yes
-        remove 1 -> refused WouldWait
-    ";
-    play(rt.alloc(), limits(0)?, rows)
 }

@@ -3,51 +3,47 @@ use super::*;
 use jlr_machine::object::{Object, RefState, Reference};
 use jlr_types::{FieldValue, Slot};
 
-#[test]
-fn objects_are_made_and_read(rt: HostRuntime) -> Result<(), Fail> {
-    let rows = "
-        join -> done
-        new -> handle 1
-        new -> handle 2
-        put 1 0 2 -> done
-        get 1 0 -> handle 3
-        same 2 3 -> yes
-        same 1 2 -> no
-        dup 1 -> handle 4
-        same 1 4 -> yes
-        drop 1 -> done
-        get 4 0 -> handle 1
-        same 1 2 -> yes
-        new -> handle 5
-        get 5 0 -> handle 0
-    ";
-    play(rt.alloc(), limits(0)?, rows)
-}
+const LISTS: &str = "
+== objects are made and read
+    join -> done
+    new -> handle 1
+    new -> handle 2
+    put 1 0 2 -> done
+    get 1 0 -> handle 3
+    same 2 3 -> yes
+    same 1 2 -> no
+    dup 1 -> handle 4
+    same 1 4 -> yes
+    drop 1 -> done
+    get 4 0 -> handle 1
+    same 1 2 -> yes
+    new -> handle 5
+    get 5 0 -> handle 0
+
+== sixteen objects fill the heap
+    join -> done
+    bare -> handle 1 up to 16
+    bare -> refused HeapFull
+    drop 1 -> done
+    bare -> handle 1
+
+== two hundred and fifty handles are all
+    join -> done
+    bare -> handle 1
+    dup 1 -> handle 2 up to 250
+    dup 1 -> refused HandlesFull
+    bare -> refused HandlesFull
+    weak 1 0 -> refused HandlesFull
+    same 1 250 -> yes
+
+== marking is idle without a cycle
+    join -> done
+    mark -> marked idle
+";
 
 #[test]
-fn sixteen_objects_fill_the_heap(rt: HostRuntime) -> Result<(), Fail> {
-    let rows = "
-        join -> done
-        bare -> handle 1 up to 16
-        bare -> refused HeapFull
-        drop 1 -> done
-        bare -> handle 1
-    ";
-    play(rt.alloc(), limits(0)?, rows)
-}
-
-#[test]
-fn two_hundred_and_fifty_handles_are_all(rt: HostRuntime) -> Result<(), Fail> {
-    let rows = "
-        join -> done
-        bare -> handle 1
-        dup 1 -> handle 2 up to 250
-        dup 1 -> refused HandlesFull
-        bare -> refused HandlesFull
-        weak 1 0 -> refused HandlesFull
-        same 1 250 -> yes
-    ";
-    play(rt.alloc(), limits(0)?, rows)
+fn lists_of_objects(rt: HostRuntime) -> Result<(), Fail> {
+    play_all(rt.alloc(), LISTS)
 }
 
 #[test]
@@ -117,15 +113,6 @@ fn an_image_shows_each_kind_of_object(rt: HostRuntime) -> Result<(), Fail> {
     assert_eq!(rt; guards, 1);
     assert_eq!(rt; (image.names.len(), image.resources.len()), (1, 1));
     Ok(())
-}
-
-#[test]
-fn marking_is_idle_without_a_cycle(rt: HostRuntime) -> Result<(), Fail> {
-    let rows = "
-        join -> done
-        mark -> marked idle
-    ";
-    play(rt.alloc(), limits(0)?, rows)
 }
 
 #[test]

@@ -1,21 +1,103 @@
-//! Rows of words: an ask, an arrow, and what it is answered.
+//! Lists of rows of words: an ask, an arrow, and what it is answered.
 //!
 //! `weak 2 1 -> handle 3` asks for a weak reference to what handle 2 holds, on the queue that handle 1 holds, and wants handle 3 for an
 //! answer. The asks are those of mutator 0; those of mutator 1 begin with `other`. A row whose answer is `handle 2 up to 16` stands for
 //! fifteen rows, with handles from 2 to 16.
+//!
+//! A text has several lists. Each begins with `== ` and its name, and has a heap of its own, with 16 cells. Behind a colon its name says what that heap has
+//! beside: `sessions 2, resources 4, soft_age 1, first_action 9` where it is not 1, 1, 0 and 1. A line that begins with `-- ` is a comment.
 use super::answers::answer_of;
 use super::*;
 use std::str::SplitWhitespace;
 
 const ARROW: &str = " -> ";
 
-// The events of the rows are answered as they want it.
-pub(super) fn play(alloc: Global, limits: Limits, rows: &str) -> Result<(), Fail> {
+const TITLE: &str = "== ";
+
+// ---- Lists
+
+// The heap of a list.
+#[derive(Clone, Copy)]
+pub(super) struct Shape {
+    pub(super) limits: Limits,
+    pub(super) first_action: u64,
+}
+
+// The name of a list with its heap, and its rows.
+pub(super) fn titled(list: &str) -> Result<(&str, Shape, &str), Fail> {
+    let (title, rows) = list.split_once('\n').ok_or("a list without rows")?;
+    let (name, options) = title.split_once(": ").unwrap_or((title, ""));
+    Ok((name, shape_of(options)?, rows))
+}
+
+fn shape_of(options: &str) -> Result<Shape, Fail> {
+    let (mut sessions, mut resources, mut soft_age, mut first_action) = (1, 1, 0, 1);
+    for option in options.split_terminator(", ") {
+        let (name, number) = option.split_once(' ').ok_or("no option")?;
+        match name {
+            "sessions" => sessions = number.parse().ok().ok_or("no number")?,
+            "resources" => resources = number.parse().ok().ok_or("no number")?,
+            "soft_age" => soft_age = number.parse().ok().ok_or("no number")?,
+            "first_action" => first_action = number.parse().ok().ok_or("no number")?,
+            _ => return Err(Fail::from("no option")),
+        }
+    }
+    let limits = Limits::checked(16, sessions, resources, soft_age, 64, 1);
+    Ok(Shape {
+        limits: limits.ok().ok_or("limits")?,
+        first_action,
+    })
+}
+
+// Whether a line is a row, and no comment and not empty.
+pub(super) fn is_row(line: &str) -> bool {
+    let line = line.trim();
+    !line.is_empty() && !line.starts_with("-- ")
+}
+
+// The asks of all lists are answered as they want it.
+pub(super) fn play_all(alloc: Global, lists: &str) -> Result<(), Fail> {
+    for list in lists.split(TITLE).skip(1) {
+        let (name, shape, rows) = titled(list)?;
+        play(alloc, name, shape.limits, rows)?;
+    }
+    Ok(())
+}
+
+// The asks of all lists leave so many objects as their last row says.
+pub(super) fn count_all(alloc: Global, lists: &str) -> Result<(), Fail> {
+    for list in lists.split(TITLE).skip(1) {
+        let (name, shape, rows) = titled(list)?;
+        let (asks, last) = rows.split_once("objects ").ok_or("no count of objects")?;
+        let wanted: usize = last
+            .lines()
+            .next()
+            .ok_or("no count")?
+            .parse()
+            .ok()
+            .ok_or("no count")?;
+        let left = objects_left(alloc, shape.limits, asks)?;
+        if left != wanted {
+            return Err(Fail::new(format!(in alloc;
+                "{name}: {left} objects are left, and not {wanted}"
+            )?));
+        }
+    }
+    Ok(())
+}
+
+// ---- Rows
+
+// The asks of a list are answered as it wants it.
+fn play(alloc: Global, name: &str, limits: Limits, rows: &str) -> Result<(), Fail> {
     let (got, wanted) = played(alloc, limits, rows)?;
+    if got.is_empty() {
+        return Err(Fail::from("a list without rows"));
+    }
     for (number, (got, wanted)) in got.iter().zip(&wanted).enumerate() {
         if got != wanted {
             return Err(Fail::new(format!(in alloc;
-                "row {number} is answered {got:?}, and not {wanted:?}"
+                "{name}: row {number} is answered {got:?}, and not {wanted:?}"
             )?));
         }
     }
@@ -31,7 +113,7 @@ pub(super) fn played(
     let mut events = Vec::new(alloc);
     let mut wanted = Vec::new(alloc);
     for row in rows.lines() {
-        if !row.trim().is_empty() {
+        if is_row(row) {
             add(&mut events, &mut wanted, row)?;
         }
     }
@@ -68,7 +150,7 @@ fn add(events: &mut Vec<Event<u32>>, wanted: &mut Vec<Got>, row: &str) -> Result
 pub(super) fn events_of(alloc: Global, asks: &str) -> Result<Vec<Event<u32>>, Fail> {
     let mut events = Vec::new(alloc);
     for ask in asks.lines() {
-        if !ask.trim().is_empty() {
+        if is_row(ask) {
             events.push(event_of(ask).ok_or("no ask")?)?;
         }
     }

@@ -11,7 +11,7 @@ struct Worn {
 }
 
 impl Resource for Worn {
-    ghost count = { λ w. w.failures };
+    ghost handling = { record { count = λ w. w.failures; reads = λ _ _ _ _ _. Unit {0}; writes = λ _ _ _ _. Unit {0}; finishes = λ _ _. Unit {0} } };
 
     fn failures(&self) -> u64 {
         self.failures

@@ -8,7 +8,6 @@ use Rattle.jlr_machine.specs.Choices.{Choosing}
 use Rattle.jlr_laws.proofs.Empty.{empty_is_well_formed}
 use Rattle.jlr_event.specs.declared.event.Event.{Event}
 use Rattle.jlr_event.specs.declared.event.Reply.{Reply}
-use Rattle.jlr_core.specs.Steps.{Steps}
 use Rattle.jlr_core.specs.Runs.{IsRunOf, resources_of_events, resources_of_replies}
 use Rattle.jlr_core.proofs.Ranges.{limits_hold}
 use Rattle.jlr_core.proofs.RunLaws.{run_more, flow_more, start_run, start_flow, start_cells}
@@ -17,12 +16,11 @@ use Rattle.jlr_core.proofs.run.run.Goals as goal
 pub loop-event-init : goal.loop-event-init
 loop-event-init g c =
     let l = c.args.limits in
-    let e = c.in_ok-core.ensures in
+    let e = c.in_ok-core.ensures.empty in
     let fit = limits_hold l in
     record {
       run =
-          start_run c.in_ok-core.core l c.in_ok-replies.replies.items (empty_is_well_formed l.cells l.sessions l.resources fit.0 fit.2)
-          (record { machine = e.machine; age = e.age; clock = e.clock; none_held = e.none_held; listed = e.listed }) c.in_ok-replies.ensures.items;
+          start_run c.in_ok-core.core l c.in_ok-replies.replies.items (empty_is_well_formed l.cells l.sessions l.resources fit.0 fit.2) e c.in_ok-replies.ensures.items;
       flow = start_flow c.in_ok-replies.replies.items c.in_ok-core.core.table c.in_ok-replies.ensures.items e.none_held;
       age = e.age;
       cells = start_cells c.in_ok-core.core l.cells l.sessions l.resources e.machine;
@@ -38,32 +36,17 @@ loop-event-preserved g c =
     let i = c.loop-event.invariant in
     let l = c.args.limits in
     let fit = limits_hold l in
-    let e = c.step.ensures in
-    let step : Steps c.loop-event.core c.in-Some.event c.step.result c.step.new.self =
-    record {
-      chosen = c.step.new.choice.chosen;
-      entry = e.entry;
-      flow = e.flow;
-      moves = e.moves;
-      listed = e.listed;
-      goes_out = e.goes_out;
-      memory = e.memory;
-      marking = e.marking;
-      collects = e.collects;
-      policy = e.policy;
-      age = e.age;
-      clock = e.clock;
-    } in
+    let e = c.step.ensures.step in
     record {
       run =
           subst (λ (replies : List (Reply g.row.R.Denot)). IsRunOf l (c.loop-event.yielded ++ c.in-Some.event ∷ []) replies c.step.new.self) (sym pushed)
-          (run_more l c.loop-event.yielded c.loop-event.replies.items c.loop-event.core c.step.new.self c.in-Some.event c.step.result (empty_is_well_formed l.cells l.sessions l.resources fit.0 fit.2) i.run step);
+          (run_more l c.loop-event.yielded c.loop-event.replies.items c.loop-event.core c.step.new.self c.in-Some.event c.step.result c.step.new.choice.chosen (empty_is_well_formed l.cells l.sessions l.resources fit.0 fit.2) i.run e);
       flow =
           subst (λ (replies : List (Reply g.row.R.Denot)). IsPermutation (resources_of_events (c.loop-event.yielded ++ c.in-Some.event ∷ [])) (resources_of_replies replies ++ values c.step.new.self.table)) (sym pushed)
           (flow_more c.loop-event.yielded c.loop-event.replies.items c.loop-event.core.table c.step.new.self.table c.in-Some.event c.step.result i.flow e.flow);
       age = e.age ∙ i.age;
-      cells = e.cells ∙ i.cells;
-      room = e.room ∙ i.room;
+      cells = c.step.ensures.cells ∙ i.cells;
+      room = c.step.ensures.room ∙ i.room;
     }
 
 pub returns-clause-run : goal.returns-clause-run

@@ -9,10 +9,10 @@ returns-in-Ok g c =
     let e = c.guarded_read.ensures in
     let text : c.unwrap.result ≡ take c.in-Ok.n c.guarded_read.new.buf = search rules in
     let is : Data c.unwrap.result ≡ read_outcome c.guarded_read.result c.guarded_read.new.buf = rw c.in-Ok.is (ap Data text) in
-    reads (record { count = g.R.Resource.count; reads = g.R.Resource.may_read; writes = g.R.Resource.may_write; finishes = g.R.Resource.may_finish }) c.args.count _ _ c.guarded_read.result _ c.guarded_read.new.buf _ (search rules) e.either e.counted e.told e.uncalled e.bound is
+    reads g.R.Resource.handling c.args.count _ _ c.guarded_read.result _ c.guarded_read.new.buf _ (search rules) e.either e.counted e.told e.uncalled e.bound is
 
 pub returns-in-Err : goal.returns-in-Err
 returns-in-Err g c =
     let e = c.guarded_read.ensures in
     let is : Failed c.in-Err.fault ≡ read_outcome c.guarded_read.result c.guarded_read.new.buf = rw c.in-Err.is refl in
-    reads (record { count = g.R.Resource.count; reads = g.R.Resource.may_read; writes = g.R.Resource.may_write; finishes = g.R.Resource.may_finish }) c.args.count _ _ c.guarded_read.result _ c.guarded_read.new.buf _ (search rules) e.either e.counted e.told e.uncalled e.bound is
+    reads g.R.Resource.handling c.args.count _ _ c.guarded_read.result _ c.guarded_read.new.buf _ (search rules) e.either e.counted e.told e.uncalled e.bound is

@@ -25,4 +25,4 @@ pub returns-then-count-eq0 : goal.returns-then-count-eq0
 returns-then-count-eq0 g c =
     let none : take c.in-Ok.count c.read.new.buf ≡ [] = ap (λ n. take n c.read.new.buf) c.if-count-eq0.true in
     ends_at_end _ _ _ _ _ _ _ _ _ _ _ _ (take c.in-Ok.count c.read.new.buf) _ c.close.result c.loop-left.invariant.0 c.loop-left.invariant.1 c.in-Ok.ensures.bytes.0 none
-    (c.in-Ok.ensures.bytes.1 c.if-count-eq0.true (search rules)) (c.close.ensures c.loop-left.device)
+    (c.in-Ok.ensures.bytes.1 c.if-count-eq0.true (search rules)) (search rules) (c.close.ensures c.loop-left.device)

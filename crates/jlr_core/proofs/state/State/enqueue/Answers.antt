@@ -1,4 +1,4 @@
-use Rattle.std.proofs.Common.{◌∙◌}
+use Rattle.std.proofs.Common.{rules, ◌∙◌}
 use Rattle.jlr_machine.specs.declared.ask.Ask.TheVariants.{Enqueue}
 use Rattle.jlr_machine.specs.declared.ask.Answer.TheVariants.{Truth}
 use Rattle.jlr_core.specs.Machines.{machine_of}
@@ -18,5 +18,5 @@ returns-in-Ok-clause-meets g c =
     (enqueue_reply m c.args.by c.args.reference slot c.in-Ok.added named c.in-Ok.ensures.answer)
     (c.in-Ok.ensures.enqueued (frame_of c.args.self.now) ∙ enqueue_after m c.args.by c.args.reference slot named)
 
-pub returns-in-Ok-clause-cells : goal.returns-in-Ok-clause-cells
-returns-in-Ok-clause-cells g c = enqueued_long (machine_of c.args.self.now) (machine_with c.args.self.now.cleaner c.enqueue.new.heap.graph c.args.self.now.cycle_open) c.in_ok-slot.slot (c.in-Ok.ensures.enqueued (frame_of c.args.self.now))
+pub returns-in-Ok-clause-rest : goal.returns-in-Ok-clause-rest
+returns-in-Ok-clause-rest g c = record { age = search rules; cleaner = search rules; clock = search rules; cells = enqueued_long (machine_of c.args.self.now) (machine_with c.args.self.now.cleaner c.enqueue.new.heap.graph c.args.self.now.cycle_open) c.in_ok-slot.slot (c.in-Ok.ensures.enqueued (frame_of c.args.self.now)) }

@@ -1,4 +1,4 @@
-use Rattle.std.proofs.Common.{refl}
+use Rattle.std.proofs.Common.{rules, refl}
 use Rattle.jlr_machine.specs.declared.ask.Ask.TheVariants.{HandOver}
 use Rattle.jlr_machine.specs.declared.ask.Answer.TheVariants.{Handed}
 use Rattle.jlr_core.specs.Machines.{machine_of}
@@ -15,10 +15,15 @@ returns-in-Ok-clause-meets g c =
     let h = c.in-Ok.ensures.handed (frame_of c.args.self.now) in
     meets_plain m n HandOver (Handed c.in-Ok.handed) tt refl h.0 h.1
 
-pub returns-in-Ok-clause-cells : goal.returns-in-Ok-clause-cells
-returns-in-Ok-clause-cells g c =
+pub returns-in-Ok-clause-rest : goal.returns-in-Ok-clause-rest
+returns-in-Ok-clause-rest g c =
     let h = c.in-Ok.ensures.handed (frame_of c.args.self.now) in
-    handed_over_long (machine_of c.args.self.now) (machine_with c.args.self.now.cleaner c.hand_over.new.heap.graph c.args.self.now.cycle_open) h.1
+    record {
+      cells = handed_over_long (machine_of c.args.self.now) (machine_with c.args.self.now.cleaner c.hand_over.new.heap.graph c.args.self.now.cycle_open) h.1;
+      age = search rules;
+      cleaner = search rules;
+      clock = search rules;
+    }
 
 pub returns-in-Err-clause-memory : goal.returns-in-Err-clause-memory
 returns-in-Err-clause-memory g c = λ _. c.in-Err.ensures.grows (frame_of c.args.self.now)

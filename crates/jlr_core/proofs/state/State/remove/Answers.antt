@@ -1,4 +1,4 @@
-use Rattle.std.proofs.Common.{◌&&◌, not, is_some, ◌∙◌, ap, length}
+use Rattle.std.proofs.Common.{rules, ◌&&◌, not, is_some, ◌∙◌, ap, length}
 use Rattle.jlr_machine.specs.Lookups.{has_free_handle}
 use Rattle.jlr_machine.specs.Objects.{as_members, at, Heap}
 use Rattle.std.specs.Prelude.{option_and_then}
@@ -23,7 +23,11 @@ returns-clause-answered g c =
     remove_answered m mid (machine_of c.give_known.new.self) c.args.by c.args.queue c.in_ok-slot.slot c.poll-member.result c.give_known.result
     c.in_ok-slot.ensures.0 c.in_ok-slot.ensures.1 c.poll-member.ensures.front (c.poll-member.ensures.polled (frame_of c.args.self.now)) c.give_known.ensures.answer c.give_known.ensures.held
 
-pub returns-clause-cells : goal.returns-clause-cells
-returns-clause-cells g c =
-    let m = machine_of c.args.self.now in
-    ap (λ (h : Heap). length h) c.give_known.ensures.objects ∙ polled_long m (machine_with c.args.self.now.cleaner c.poll-member.new.heap.graph c.args.self.now.cycle_open) c.in_ok-slot.slot c.poll-member.result (c.poll-member.ensures.polled (frame_of c.args.self.now))
+pub returns-clause-rest : goal.returns-clause-rest
+returns-clause-rest g c =
+    let m = machine_of c.args.self.now in record {
+      cells = ap (λ (h : Heap). length h) c.give_known.ensures.objects ∙ polled_long m (machine_with c.args.self.now.cleaner c.poll-member.new.heap.graph c.args.self.now.cycle_open) c.in_ok-slot.slot c.poll-member.result (c.poll-member.ensures.polled (frame_of c.args.self.now));
+      age = search rules;
+      cleaner = search rules;
+      clock = search rules;
+    }

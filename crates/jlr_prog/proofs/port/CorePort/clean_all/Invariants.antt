@@ -5,7 +5,7 @@ use Rattle.jlr_core.specs.Steps.{Steps}
 use Rattle.jlr_prog.proofs.port.CorePort.clean_all.Given as goal
 
 abbrev pub invariant-loop : goal.invariant-loop
-invariant-loop g l = (states : List (Kept g.row.R.Denot)) × Turns (Works (Steps {R = g.row.R.Denot}) (record { count = g.R.Resource.count; reads = g.R.Resource.may_read; writes = g.R.Resource.may_write; finishes = g.R.Resource.may_finish })) states l.fn.self l.self
+invariant-loop g l = (states : List (Kept g.row.R.Denot)) × Turns (Works (Steps {R = g.row.R.Denot}) g.R.Resource.handling) states l.fn.self l.self
 
 abbrev pub decreases-loop : goal.decreases-loop
 decreases-loop g l = length l.self.machine.line

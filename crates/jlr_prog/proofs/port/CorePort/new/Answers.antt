@@ -6,7 +6,7 @@ use Rattle.jlr_prog.proofs.port.CorePort.new.Goals as goal
 pub invariant_of-result : goal.invariant_of-result
 invariant_of-result g c =
     let l = c.args.limits in
-    let start = c.in_ok-core.ensures.machine in
+    let start = c.in_ok-core.ensures.empty.machine in
     let room : c.in_ok-choice.choice.cells ≡ l.cells = search rules in (
       omega (arith, start_cells c.in_ok-core.core l.cells l.sessions l.resources start, room),
       (empty l.cells l.sessions l.resources, stands_at_start c.in_ok-core.core l.cells l.sessions l.resources start),

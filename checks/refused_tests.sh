@@ -1,0 +1,21 @@
+#!/usr/bin/env bash
+# Runs the tests on want of memory once for each of their allocations, with that one refused (failing.sh). They are the proved tests that
+# `rt test` builds; a crate whose tests were not built is built first, which takes minutes.
+# checks/refused_tests.sh
+set -u
+here=$(cd "$(dirname "$0")" && pwd)
+
+# tests CRATE [OPTION] TEST..: these tests of a crate
+tests() {
+    local crate=$1
+    shift
+    if [ ! -x "$here/../crates/$crate/out/${crate}_tests" ]; then
+        (cd "$here/../crates/$crate" && rt test >/dev/null) || return 1
+    fi
+    for test in "$@"; do
+        "$here/failing.sh" "$crate" "$test" || return 1
+    done
+}
+
+tests jlr_plain_rows memory::a_want_of_memory_leaves_the_machine || exit 1
+tests jlr_core_rows tests::memory::a_refused_growth_changes_nothing || exit 1

@@ -1,0 +1,375 @@
+//! The cleaner, whose files and sockets are numbers here.
+ghost use Rattle.std.specs.Prelude.{◌≡◌, ◌+◌, ◌<◌, IfOk, Some, false, true};
+ghost use Rattle.jlr_machine.specs.declared.machine.ResourceState.TheVariants as state;
+ghost use Rattle.jlr_resource.specs.Resources.{resource_in, state_at};
+ghost use Rattle.jlr_cleaner.specs.Cleanings.{HasWork, fresh};
+ghost use Rattle.jlr_cleaner.specs.Jobs.{is_running, runs_job};
+
+use super::*;
+use jlr_cleaner::{Cleaner, Job};
+use jlr_machine::machine::Resource;
+use jlr_types::{Limits, Work};
+
+// The cleaner's own number as a taker.
+const ITSELF: u8 = 255;
+
+// ---- Jobs
+
+// Whether this taker may take up this action, as far as jobs and numbers go.
+fn may_take_up(cleaner: &Cleaner<u64>, by: u8, action: ActionNo) -> bool
+    ensures not_running { result ≡ true → is_running cleaner.now.jobs action ≡ false }
+    ensures free { result ≡ true → runs_job cleaner.now.jobs by ≡ false }
+    ensures numbered { result ≡ true → cleaner.now.taken + 1 < cleaner.now.next_action }
+{
+    let next = cleaner.next_action();
+    let taken = cleaner.totals().taken;
+    !cleaner.is_running(action) && !cleaner.runs_job(by) && taken + 1 < next
+}
+
+// Takes up a note, where that may be, and gives its number.
+fn note(cleaner: &mut Cleaner<u64>, by: u8, number: u32) -> Option<u64> {
+    let action = cleaner.take_number()?;
+    if !may_take_up(cleaner, by, action) {
+        return None;
+    }
+    let job = cleaner.take_up(by, action, Work::Note(number));
+    Some(job.action.number())
+}
+
+// So many notes, each taken up by the cleaner and over before the next. Gives the number of the last.
+fn many(cleaner: &mut Cleaner<u64>, count: u32, outcome: Result<(), Fault>) -> Option<u64> {
+    let mut last = 0;
+    for number in 0..count {
+        last = note(cleaner, ITSELF, number)?;
+        if !cleaner.finish(ITSELF, ActionNo::new(last), outcome) {
+            return None;
+        }
+    }
+    Some(last)
+}
+
+// ---- Files and sockets
+
+// A resource that is opened, called once and closed by the cleaner. It can be neither dropped nor copied.
+fn open_call_close<R>(cleaner: &mut Cleaner<R>, action: ActionNo, rid: Rid, resource: R) -> Job<R>
+    requires opening { HasWork cleaner.old.table action state.Opening (Work.Resource rid) }
+    requires not_running { is_running cleaner.old.jobs action ≡ false }
+    requires free { runs_job cleaner.old.jobs 255 ≡ false }
+    requires numbered { cleaner.old.taken + 1 < cleaner.old.next_action }
+    ensures same { result.resource ≡ Some resource }
+{
+    cleaner.opened(rid, resource);
+    let resource = cleaner.check_out(rid);
+    cleaner.check_in(rid, resource);
+    cleaner.take_up(ITSELF, action, Work::Resource(rid))
+}
+
+fn resource_at(resources: &[Resource], rid: Rid) -> Option<Resource>
+    ensures { result ≡ resource_in resources.now rid }
+{
+    for resource in resources {
+        if resource.rid.number() == rid.number() {
+            return Some(*resource);
+        }
+    }
+    None
+}
+
+// Whether there is this resource.
+fn is_there(resources: &[Resource], wanted: Resource) -> bool
+    ensures { result ≡ true → resource_in resources.now wanted.rid ≡ Some wanted }
+{
+    match resource_at(resources, wanted.rid) {
+        Some(resource) => resource == wanted,
+        None => false,
+    }
+}
+
+// Gives what the job hands out.
+fn life(
+    cleaner: &mut Cleaner<u64>,
+    alloc: Global,
+    action: ActionNo,
+    rid: Rid,
+    resource: u64,
+) -> Option<u64> {
+    let opening = Resource {
+        rid,
+        action,
+        state: State::Opening,
+    };
+    let resources = cleaner.resources(alloc).ok()?;
+    if is_there(resources.as_slice(), opening) && may_take_up(cleaner, ITSELF, action) {
+        open_call_close(cleaner, action, rid, resource).resource
+    } else {
+        None
+    }
+}
+
+// Asked again where there is no memory.
+fn prepare(cleaner: &mut Cleaner<u64>, action: ActionNo) -> Result<Rid, Refusal> {
+    match cleaner.prepare(action) {
+        Err(Refusal::NoMemory) => cleaner.prepare(action),
+        answer => answer,
+    }
+}
+
+fn opened(cleaner: &mut Cleaner<u64>, rid: Rid, resource: u64) -> bool {
+    let is_opening = matches!(cleaner.state(rid), Some(State::Opening));
+    if is_opening {
+        cleaner.opened(rid, resource);
+    }
+    is_opening
+}
+
+fn open_failed(cleaner: &mut Cleaner<u64>, rid: Rid) -> bool {
+    let is_opening = matches!(cleaner.state(rid), Some(State::Opening));
+    if is_opening {
+        cleaner.open_failed(rid);
+    }
+    is_opening
+}
+
+fn check_out(cleaner: &mut Cleaner<u64>, rid: Rid) -> Option<u64> {
+    match cleaner.state(rid) {
+        Some(State::Idle) => Some(cleaner.check_out(rid)),
+        _ => None,
+    }
+}
+
+fn check_in(cleaner: &mut Cleaner<u64>, rid: Rid, resource: u64) -> bool {
+    let is_out = matches!(cleaner.state(rid), Some(State::Out));
+    if is_out {
+        cleaner.check_in(rid, resource);
+    }
+    is_out
+}
+
+fn take_number(cleaner: &mut Cleaner<u64>) -> Option<u64> {
+    Some(cleaner.take_number()?.number())
+}
+
+// ---- Rows
+
+#[derive(Drop)]
+struct Cleanings {
+    alloc: Global,
+    cleaner: Cleaner<u64>,
+}
+
+impl Stage for Cleanings {
+    fn answered(&mut self, name: &str, words: &mut SplitWhitespace<'_>) -> Option<Got> {
+        match name {
+            "new" => Some(Got::Truth(renewed(self, parsed(words)?))),
+            "open_call_close" => {
+                let (action, rid, resource) = (action(words)?, rid(words)?, parsed(words)?);
+                let given = life(&mut self.cleaner, self.alloc, action, rid, resource);
+                Some(Got::Given(given))
+            }
+            _ => match looked(&self.cleaner, name) {
+                Some(got) => Some(got),
+                None => on_job(&mut self.cleaner, name, words),
+            },
+        }
+    }
+
+    fn listed(&self, alloc: Global, name: &str) -> Result<Option<String>, AllocError> {
+        match name {
+            "jobs" => list(alloc, self.cleaner.jobs(alloc)?.as_slice()),
+            "resources" => list(alloc, self.cleaner.resources(alloc)?.as_slice()),
+            "notes" => ends(alloc, self.cleaner.notes(alloc)?.as_slice()),
+            "faults" => ends(alloc, self.cleaner.faults(alloc)?.as_slice()),
+            _ => Ok(None),
+        }
+    }
+}
+
+// One resource at most, and the first action number.
+fn renewed(stage: &mut Cleanings, next: u64) -> bool {
+    let Ok(limits) = Limits::checked(16, 2, 1, 0, 64, 1) else {
+        return false;
+    };
+    if next == 0 {
+        return false;
+    }
+    match Cleaner::starting_at(stage.alloc, limits, next) {
+        Ok(cleaner) => stage.cleaner = cleaner,
+        Err(_) => return false,
+    }
+    true
+}
+
+fn list<T: Debug>(alloc: Global, items: &[T]) -> Result<Option<String>, AllocError> {
+    Ok(Some(format!(in alloc; "{items:?}")?))
+}
+
+// How many there are, and the first and the last.
+fn ends<T: Debug>(alloc: Global, items: &[T]) -> Result<Option<String>, AllocError> {
+    let (count, first, last) = (items.len(), items.first(), items.last());
+    Ok(Some(format!(in alloc; "{count} {first:?} {last:?}")?))
+}
+
+fn looked(cleaner: &Cleaner<u64>, name: &str) -> Option<Got> {
+    match name {
+        "next_action" => Some(Got::Number(cleaner.next_action())),
+        "is_exhausted" => Some(Got::Truth(cleaner.is_exhausted())),
+        "totals" => {
+            let totals = cleaner.totals();
+            Some(Got::Totals(totals.taken, totals.ok, totals.failed))
+        }
+        "count" => Some(Got::Number(u64::try_from(cleaner.count()).ok()?)),
+        "limit" => Some(Got::Number(u64::from(cleaner.resource_limit()))),
+        "is_full" => Some(Got::Truth(cleaner.is_full())),
+        _ => None,
+    }
+}
+
+fn finish(cleaner: &mut Cleaner<u64>, words: &mut SplitWhitespace<'_>) -> Option<Got> {
+    let by = parsed(words)?;
+    let action = action(words)?;
+    let outcome = outcome(words)?;
+    Some(Got::Truth(cleaner.finish(by, action, outcome)))
+}
+
+fn on_job(
+    cleaner: &mut Cleaner<u64>,
+    name: &str,
+    words: &mut SplitWhitespace<'_>,
+) -> Option<Got> {
+    match name {
+        "take_number" => Some(Got::Given(take_number(cleaner))),
+        "note" => Some(Got::Given(note(cleaner, parsed(words)?, parsed(words)?))),
+        "many" => Some(Got::Given(many(cleaner, parsed(words)?, outcome(words)?))),
+        "finish" => finish(cleaner, words),
+        "runs_job" => Some(Got::Truth(cleaner.runs_job(parsed(words)?))),
+        "is_running" => Some(Got::Truth(cleaner.is_running(action(words)?))),
+        _ => on_resource(cleaner, name, words),
+    }
+}
+
+fn on_resource(
+    cleaner: &mut Cleaner<u64>,
+    name: &str,
+    words: &mut SplitWhitespace<'_>,
+) -> Option<Got> {
+    match name {
+        "reserve" => Some(Got::Room(cleaner.reserve())),
+        "prepare" => Some(Got::Place(prepare(cleaner, action(words)?))),
+        _ => at_place(cleaner, name, rid(words)?, words),
+    }
+}
+
+fn at_place(
+    cleaner: &mut Cleaner<u64>,
+    name: &str,
+    rid: Rid,
+    words: &mut SplitWhitespace<'_>,
+) -> Option<Got> {
+    match name {
+        "state" => Some(Got::State(cleaner.state(rid))),
+        "open_failed" => Some(Got::Truth(open_failed(cleaner, rid))),
+        "check_out" => Some(Got::Given(check_out(cleaner, rid))),
+        "opened" => Some(Got::Truth(opened(cleaner, rid, parsed(words)?))),
+        "check_in" => Some(Got::Truth(check_in(cleaner, rid, parsed(words)?))),
+        _ => None,
+    }
+}
+
+// `new` makes a cleaner for one resource, with its first action number. Of notes and faults an answer is how many there are, the first and
+// the last.
+const LISTS: &str = "
+    # the last 256 notes are kept
+    new 1 -> true
+    many 257 ok -> Some(257)
+    notes -> 256 Some(1) Some(256)
+    faults -> 0 None None
+
+    # the last 256 faults are kept
+    new 1 -> true
+    many 258 Denied -> Some(258)
+    faults -> 256 Some(Failure { action: ActionNo(3), fault: Denied }) Some(Failure { action: ActionNo(258), fault: Denied })
+    notes -> 0 None None
+
+    # only the taker ends its job
+    new 1 -> true
+    note 0 7 -> Some(1)
+    note 1 8 -> Some(2)
+    note 0 9 -> None
+    finish 0 2 ok -> false
+    finish 0 9 ok -> false
+    finish 255 1 ok -> false
+    jobs -> [Job { action: ActionNo(1), work: Note(7), by: 0 }, Job { action: ActionNo(2), work: Note(8), by: 1 }]
+
+    # a job is over once
+    new 1 -> true
+    note 0 7 -> Some(1)
+    note 1 8 -> Some(2)
+    finish 0 1 ok -> true
+    finish 0 1 ok -> false
+    is_running 1 -> false
+    is_running 2 -> true
+    runs_job 0 -> false
+    runs_job 1 -> true
+
+    # outcomes are counted
+    new 1 -> true
+    many 1 Other -> Some(1)
+    many 1 ok -> Some(2)
+    note 255 9 -> Some(3)
+    totals -> (3, 1, 1)
+
+    # a job hands out what was put in last
+    new 1 -> true
+    take_number -> Some(1)
+    prepare 1 -> Ok(Rid(0))
+    open_call_close 1 0 97 -> Some(97)
+    state 0 -> Some(Closing)
+    resources -> [Resource { rid: Rid(0), action: ActionNo(1), state: Closing }]
+    finish 255 1 ok -> true
+    state 0 -> None
+
+    # a call gives what the call before gave back
+    new 1 -> true
+    prepare 1 -> Ok(Rid(0))
+    opened 0 7 -> true
+    check_out 0 -> Some(7)
+    state 0 -> Some(Out)
+    check_out 0 -> None
+    check_in 0 8 -> true
+    check_out 0 -> Some(8)
+
+    # an open that failed leaves no resource
+    new 1 -> true
+    prepare 1 -> Ok(Rid(0))
+    is_full -> true
+    state 0 -> Some(Opening)
+    open_failed 0 -> true
+    count -> 0
+
+    # a full table refuses
+    new 1 -> true
+    limit -> 1
+    prepare 1 -> Ok(Rid(0))
+    prepare 2 -> Err(ResourcesFull)
+
+    # room is made beforehand
+    new 1 -> true
+    reserve -> Ok(())
+    count -> 0
+    prepare 1 -> Ok(Rid(0))
+
+    # action numbers end
+    new 18446744073709551614 -> true
+    take_number -> Some(18446744073709551614)
+    is_exhausted -> true
+    take_number -> None
+    next_action -> 18446744073709551615
+";
+
+#[test]
+fn the_cleaner_answers_as_the_rows_say(rt: HostRuntime) -> Result<(), Fail> {
+    let alloc = rt.alloc();
+    let limits = Limits::checked(16, 2, 1, 0, 64, 1).ok().ok_or("limits")?;
+    let cleaner = Cleaner::new(alloc, limits)?;
+    play(&mut Cleanings { alloc, cleaner }, alloc, LISTS)
+}

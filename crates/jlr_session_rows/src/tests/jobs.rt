@@ -1,0 +1,51 @@
+//! Jobs without a session: what the work of one that was taken up comes to.
+use super::script::{Plan, WELL, device_of};
+use jlr_cleaner::Job;
+use jlr_device::Mode;
+use jlr_device::guarded::guarded_open;
+use jlr_device::script::ScriptResource;
+use jlr_event::event::Event;
+use jlr_session::job::carry_out;
+use jlr_types::{ActionNo, Fault, Work};
+use std::alloc::Global;
+use std::test::Fail;
+
+/// Whether a note or a resource is told to have ended so, by whom its job was done and by its number.
+fn tells(
+    by: u8,
+    action: u64,
+    resource: Option<ScriptResource>,
+    outcome: Result<(), Fault>,
+) -> bool {
+    let job = Job {
+        action: ActionNo::new(action),
+        work: Work::Note(5),
+        resource,
+    };
+    match carry_out(by, job) {
+        Event::Finish {
+            by: teller,
+            action: number,
+            outcome: end,
+        } => teller == by && number.number() == action && end == outcome,
+        _ => false,
+    }
+}
+
+fn opened(alloc: Global, plan: &Plan) -> Option<ScriptResource> {
+    guarded_open(&mut device_of(alloc, plan)?, Mode::Write, "a").ok()
+}
+
+// Not in rows of sessions, where no job is done by the cleaner.
+#[test]
+fn a_job_tells_how_its_resource_ended(rt: HostRuntime) -> Result<(), Fail> {
+    let plan = Plan {
+        finished: Err(Fault::Denied),
+        ..WELL
+    };
+    let resource = opened(rt.alloc(), &plan).ok_or("nothing was opened")?;
+    if !tells(255, 8, None, Ok(())) || !tells(2, 9, Some(resource), Err(Fault::Denied)) {
+        return Err(Fail::from("a job is told otherwise"));
+    }
+    Ok(())
+}

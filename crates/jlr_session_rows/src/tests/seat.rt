@@ -1,0 +1,213 @@
+//! A port that plays a heap with one file.
+use jlr_device::script::ScriptResource;
+use jlr_event::event::{Event, Reply};
+use jlr_machine::ask::{Answer, CallOutcome, Handed};
+use jlr_session::port::Port;
+use jlr_types::{ActionNo, Fault, Handle, Mutator, Progress, Refusal, Rid, Work};
+use std::alloc::Global;
+
+/// What a seat does otherwise than a heap with room would.
+#[derive(Clone, Copy)]
+pub(super) enum Manner {
+    Obliging,
+    RefusesToJoin,
+    RefusesToPrepare,
+    /// A resource that comes with `Opened` goes back with a refusal.
+    RefusesOpened,
+    /// What is handed out for a call has no resource with it.
+    ForgetsTheFile,
+}
+
+/// Answers the asks of mutator 3 as a heap with one file would, and keeps the file. Writes down what was asked, and counts its settlings.
+///
+/// `gc` is answered as a piece of marking would be, `stat` by an answer that has no line, and each other command by `ok`.
+#[derive(Drop)]
+pub(super) struct Seat {
+    pub asked: String,
+    pub settlings: usize,
+    manner: Manner,
+    file: Option<ScriptResource>,
+}
+
+impl Seat {
+    pub(super) fn new(alloc: Global, manner: Manner) -> Seat {
+        Seat {
+            asked: String::new(alloc),
+            settlings: 0,
+            manner,
+            file: None,
+        }
+    }
+
+    fn joined(&self) -> Answer {
+        match self.manner {
+            Manner::RefusesToJoin => Answer::Refused(Refusal::NoSession),
+            _ => Answer::Done,
+        }
+    }
+
+    fn prepared(&self) -> Answer {
+        match self.manner {
+            Manner::RefusesToPrepare => Answer::Refused(Refusal::ResourcesFull),
+            _ => Answer::Prepared(Rid::new(0)),
+        }
+    }
+
+    fn opened(&mut self, outcome: Result<ScriptResource, Fault>) -> Reply<ScriptResource> {
+        let file = match outcome {
+            Ok(file) => file,
+            Err(fault) => return plain(Answer::Faulted(fault)),
+        };
+        if let Manner::RefusesOpened = self.manner {
+            return Reply::Answered {
+                answer: Answer::Refused(Refusal::NotOut),
+                resource: Some(file),
+            };
+        }
+        self.file = Some(file);
+        plain(Answer::Handle(Handle::new(1)))
+    }
+
+    fn checked_out(&mut self) -> Reply<ScriptResource> {
+        let Some(file) = self.file.take() else {
+            return plain(Answer::Refused(Refusal::Closed));
+        };
+        Reply::Answered {
+            answer: Answer::Out(Rid::new(0)),
+            resource: match self.manner {
+                Manner::ForgetsTheFile => None,
+                _ => Some(file),
+            },
+        }
+    }
+
+    fn closed(&mut self) -> Reply<ScriptResource> {
+        match self.file.take() {
+            Some(file) => Reply::Answered {
+                answer: Answer::Job {
+                    action: ActionNo::new(1),
+                    work: Work::Resource(Rid::new(0)),
+                },
+                resource: Some(file),
+            },
+            None => plain(Answer::AlreadyDone),
+        }
+    }
+
+    fn write_down(&mut self, name: &str) {
+        if !self.asked.is_empty() {
+            let _ = self.asked.push_str("; ");
+        }
+        let _ = self.asked.push_str(name);
+    }
+}
+
+impl Port<ScriptResource> for Seat {
+    ghost asking = { record { mutator = λ _. 3; asks = λ _ _ _ _. Unit {0}; settling = λ _ _. Unit {0} } };
+
+    fn mutator(&self) -> Mutator {
+        Mutator::new(3)
+    }
+
+    fn ask(&mut self, event: Event<ScriptResource>) -> Reply<ScriptResource>
+        ensures { Unit {0} }
+    {
+        self.write_down(name_of(&event));
+        match event {
+            Event::Join { .. } => plain(self.joined()),
+            Event::Prepare { .. } => plain(self.prepared()),
+            Event::Opened { outcome, .. } => self.opened(outcome),
+            Event::CheckOut { .. } => self.checked_out(),
+            Event::CheckIn {
+                outcome,
+                resource,
+                ..
+            } => {
+                self.file = Some(resource);
+                plain(answer_of(outcome))
+            }
+            Event::Close { .. } => self.closed(),
+            Event::Clean { .. } => plain(Answer::Job {
+                action: ActionNo::new(2),
+                work: Work::Note(7),
+            }),
+            Event::Finish { outcome, .. } => plain(ended(outcome)),
+            Event::Full { .. } => Reply::Marked(Progress::Done),
+            Event::Stat { .. } => plain(Answer::Handed(Handed::Nothing)),
+            _ => plain(Answer::Done),
+        }
+    }
+
+    fn settle(&mut self) {
+        self.settlings = self.settlings.saturating_add(1);
+    }
+}
+
+/// A reply without a resource.
+fn plain(answer: Answer) -> Reply<ScriptResource> {
+    Reply::Answered {
+        answer,
+        resource: None,
+    }
+}
+
+/// What the end of a call is answered.
+fn answer_of(outcome: CallOutcome) -> Answer {
+    match outcome {
+        CallOutcome::Data(bytes) => Answer::Data(bytes),
+        CallOutcome::Wrote(count) => Answer::Wrote(count),
+        CallOutcome::Failed(fault) => Answer::Faulted(fault),
+    }
+}
+
+/// What the end of a job is answered.
+fn ended(outcome: Result<(), Fault>) -> Answer {
+    match outcome {
+        Ok(()) => Answer::Done,
+        Err(fault) => Answer::Faulted(fault),
+    }
+}
+
+/// How an event is written down.
+fn name_of(event: &Event<ScriptResource>) -> &'static str {
+    match event {
+        Event::Join { .. } => "Join",
+        Event::Leave { .. } => "Leave",
+        Event::Prepare { .. } => "Prepare",
+        Event::Opened { outcome, .. } => opened_name(outcome),
+        Event::CheckOut { .. } => "Out",
+        Event::CheckIn { outcome, .. } => call_name(outcome),
+        Event::Close { .. } => "Close",
+        Event::Clean { .. } => "Clean",
+        Event::Finish { outcome, .. } => finish_name(outcome),
+        Event::Full { .. } => "Full",
+        Event::Stat { .. } => "Stat",
+        Event::MakeQueue { .. } => "MakeQueue",
+        Event::Names { .. } => "Names",
+        _ => "other",
+    }
+}
+
+fn opened_name(outcome: &Result<ScriptResource, Fault>) -> &'static str {
+    match outcome {
+        Ok(_) => "Opened ok",
+        Err(Fault::NotFound) => "Opened notfound",
+        Err(_) => "Opened other",
+    }
+}
+
+fn call_name(outcome: &CallOutcome) -> &'static str {
+    match outcome {
+        CallOutcome::Data(_) => "In data",
+        CallOutcome::Wrote(_) => "In wrote",
+        CallOutcome::Failed(Fault::Denied) => "In denied",
+        CallOutcome::Failed(_) => "In other",
+    }
+}
+
+fn finish_name(outcome: &Result<(), Fault>) -> &'static str {
+    match outcome {
+        Ok(()) => "Finish ok",
+        Err(_) => "Finish other",
+    }
+}
