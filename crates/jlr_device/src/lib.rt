@@ -15,8 +15,6 @@ pub mod real;
 mod resource;
 pub mod retry;
 pub mod script;
-#[cfg(test)]
-mod tests;
 
 pub use device::{Device, Mode};
 pub use resource::{Finished, Resource};

@@ -13,6 +13,4 @@ pub mod pieces;
 pub mod reply;
 pub mod spelling;
 pub mod stream;
-#[cfg(test)]
-mod tests;
 mod word;

@@ -1,12 +1,10 @@
-//! Commands told apart by a text, for the tests of lines that are commands.
-use crate::command::{Command, read_command};
+//! Commands told apart by a text.
 use jlr_types::{FieldKind, Handle, Layout};
+use jlr_wire::command::Command;
 use std::alloc::{AllocError, Global};
-use std::process::Abort;
-use std::test::Fail;
 
 /// The case of a command and its parts: here those about objects.
-fn case_of(alloc: Global, command: Command) -> Result<String, AllocError> {
+pub(super) fn case_of(alloc: Global, command: Command) -> Result<String, AllocError> {
     match command {
         Command::New { layout } => {
             let letters = letters_of(alloc, &layout)?;
@@ -43,7 +41,7 @@ fn case_of(alloc: Global, command: Command) -> Result<String, AllocError> {
     }
 }
 
-/// The case of a command about references or queues, and its parts.
+// The case of a command about references or queues, and its parts.
 fn reference_case_of(alloc: Global, command: Command) -> Result<String, AllocError> {
     match command {
         Command::Soft { referent, queue } => with_two(alloc, "Soft", referent, queue),
@@ -61,7 +59,7 @@ fn reference_case_of(alloc: Global, command: Command) -> Result<String, AllocErr
     }
 }
 
-/// The case of a command about cleaners, and its parts.
+// The case of a command about cleaners, and its parts.
 fn cleaning_case_of(alloc: Global, command: Command) -> Result<String, AllocError> {
     match command {
         Command::Cleaner => format!(in alloc; "Cleaner"),
@@ -80,7 +78,7 @@ fn cleaning_case_of(alloc: Global, command: Command) -> Result<String, AllocErro
     }
 }
 
-/// The case of a command about files and sockets, and its parts.
+// The case of a command about files and sockets, and its parts.
 fn resource_case_of(alloc: Global, command: Command) -> Result<String, AllocError> {
     match command {
         Command::Open { mode, path } => {
@@ -105,7 +103,7 @@ fn resource_case_of(alloc: Global, command: Command) -> Result<String, AllocErro
     }
 }
 
-/// The case of a command about names, and its parts.
+// The case of a command about names, and its parts.
 fn name_case_of(alloc: Global, command: Command) -> Result<String, AllocError> {
     match command {
         Command::Bind { name, object } => {
@@ -126,7 +124,7 @@ fn name_case_of(alloc: Global, command: Command) -> Result<String, AllocError> {
     }
 }
 
-/// The case of a command about no single object, and its parts.
+// The case of a command about no single object, and its parts.
 fn whole_case_of(alloc: Global, command: Command) -> Result<String, AllocError> {
     match command {
         Command::Full { mode } => format!(in alloc; "Full {mode:?}"),
@@ -136,7 +134,7 @@ fn whole_case_of(alloc: Global, command: Command) -> Result<String, AllocError> 
     }
 }
 
-/// The bytes as decimal numbers, each after a space.
+// The bytes as decimal numbers, each after a space.
 fn numbers_of(alloc: Global, bytes: &[u8]) -> Result<String, AllocError> {
     let mut numbers = String::new(alloc);
     for byte in bytes {
@@ -146,7 +144,7 @@ fn numbers_of(alloc: Global, bytes: &[u8]) -> Result<String, AllocError> {
     Ok(numbers)
 }
 
-/// The letters of a layout.
+// The letters of a layout.
 fn letters_of(alloc: Global, layout: &Layout) -> Result<String, AllocError> {
     let mut letters = String::new(alloc);
     for field in 0..layout.len() {
@@ -159,41 +157,14 @@ fn letters_of(alloc: Global, layout: &Layout) -> Result<String, AllocError> {
     Ok(letters)
 }
 
-/// The name of a case and the number of a handle.
+// The name of a case and the number of a handle.
 fn with_one(alloc: Global, case: &str, handle: Handle) -> Result<String, AllocError> {
     let h = handle.number();
     format!(in alloc; "{case} {h}")
 }
 
-/// The name of a case and the numbers of two handles.
+// The name of a case and the numbers of two handles.
 fn with_two(alloc: Global, case: &str, left: Handle, right: Handle) -> Result<String, AllocError> {
     let (a, b) = (left.number(), right.number());
     format!(in alloc; "{case} {a} {b}")
-}
-
-/// Reads each line as a command, which must be the case beside it.
-pub fn read_as(alloc: Global, rt: &impl Abort, rows: &[(&str, &str)]) -> Result<(), Fail> {
-    for (line, case) in rows {
-        let Ok(command) = read_command(line.as_bytes()) else {
-            return Err(Fail::from(*line));
-        };
-        let text = case_of(alloc, command)?;
-        assert_eq!(rt; text.as_str(), *case);
-    }
-    Ok(())
-}
-
-/// A front, and then one letter so many times.
-pub fn padded(
-    alloc: Global,
-    front: &str,
-    letter: char,
-    count: usize,
-) -> Result<String, AllocError> {
-    let mut text = String::new(alloc);
-    text.push_str(front)?;
-    for _ in 0..count {
-        text.push(letter)?;
-    }
-    Ok(text)
 }

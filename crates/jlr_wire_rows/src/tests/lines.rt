@@ -1,9 +1,9 @@
 //! Lines out of a stream, however it is cut.
-use crate::command::read_command;
-use crate::pieces::{Got, Pieces};
-use crate::reply::{WriteFault, write_reply};
 use jlr_machine::ask::Answer;
 use jlr_types::Refusal;
+use jlr_wire::command::read_command;
+use jlr_wire::pieces::{Got, Pieces};
+use jlr_wire::reply::{WriteFault, write_reply};
 use std::alloc::{AllocError, Global};
 use std::process::Abort;
 use std::test::Fail;
@@ -38,13 +38,12 @@ fn refuse(pieces: &mut Pieces, piece: &[u8], out: &mut Vec<u8>) -> Result<(), Wr
     Ok(())
 }
 
-#[test]
-fn each_cut_into_two_gives_the_same_lines(rt: HostRuntime) -> Result<(), Fail> {
-    let bytes = stream(rt.alloc())?;
+fn each_cut_into_two_gives_the_same_lines(rt: &impl Abort, alloc: Global) -> Result<(), Fail> {
+    let bytes = stream(alloc)?;
     for cut in 0..=bytes.len() {
         let (front, back) = bytes.as_slice().split_at(cut);
         let mut pieces = Pieces::new();
-        let mut out = Vec::new(rt.alloc());
+        let mut out = Vec::new(alloc);
         refuse(&mut pieces, front, &mut out)?;
         refuse(&mut pieces, back, &mut out)?;
         assert_eq!(rt; out.as_slice(), ANSWERS.as_bytes(), "at {cut}");
@@ -54,11 +53,10 @@ fn each_cut_into_two_gives_the_same_lines(rt: HostRuntime) -> Result<(), Fail> {
     Ok(())
 }
 
-#[test]
-fn byte_by_byte_gives_the_same_lines(rt: HostRuntime) -> Result<(), Fail> {
-    let bytes = stream(rt.alloc())?;
+fn byte_by_byte_gives_the_same_lines(rt: &impl Abort, alloc: Global) -> Result<(), Fail> {
+    let bytes = stream(alloc)?;
     let mut pieces = Pieces::new();
-    let mut out = Vec::new(rt.alloc());
+    let mut out = Vec::new(alloc);
     for byte in bytes.as_slice() {
         refuse(&mut pieces, &[*byte], &mut out)?;
     }
@@ -67,8 +65,7 @@ fn byte_by_byte_gives_the_same_lines(rt: HostRuntime) -> Result<(), Fail> {
     Ok(())
 }
 
-#[test]
-fn no_byte_alone_is_a_command(rt: HostRuntime) {
+fn no_byte_alone_is_a_command(rt: &impl Abort) {
     for byte in 0..=255u8 {
         let refused = matches!(read_command(&[byte]), Err(Refusal::Malformed));
         assert!(rt; refused, "at {byte}");
@@ -103,12 +100,20 @@ fn end_of_line_of(rt: &impl Abort, count: usize) -> Pieces {
     pieces
 }
 
-#[test]
-fn a_line_has_at_most_512_bytes(rt: HostRuntime) {
+fn a_line_has_at_most_512_bytes(rt: &impl Abort) {
     for (count, kept) in [(511, 511), (512, 512), (513, 513), (514, 513), (2000, 513)] {
-        let pieces = end_of_line_of(&rt, count);
+        let pieces = end_of_line_of(rt, count);
         assert_eq!(rt; pieces.line().len(), kept, "at {count}");
         let too_long = matches!(read_command(pieces.line()), Err(Refusal::TooLong));
         assert_eq!(rt; too_long, 512 < count, "at {count}");
     }
+}
+
+#[test]
+fn lines_come_out_of_a_stream(rt: HostRuntime) -> Result<(), Fail> {
+    each_cut_into_two_gives_the_same_lines(&rt, rt.alloc())?;
+    byte_by_byte_gives_the_same_lines(&rt, rt.alloc())?;
+    no_byte_alone_is_a_command(&rt);
+    a_line_has_at_most_512_bytes(&rt);
+    Ok(())
 }
