@@ -1,5 +1,3 @@
-pub mod Counting
-pub mod Shading
 pub mod Places
 pub mod Walking
 pub mod OwnRoots

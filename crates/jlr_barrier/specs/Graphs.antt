@@ -8,7 +8,7 @@ use Rattle.jlr_machine.specs.Edges.{active_cleanables}
 use Rattle.jlr_machine.specs.Refusals.{gotten}
 use Rattle.jlr_roots.specs.Walk.{slots_held}
 use Rattle.jlr_roots.specs.Naming.{named}
-use Rattle.jlr_barrier.specs.Marking.{Marking}
+use Rattle.jlr_marks.specs.Marking.{Marking}
 
 -- the part of a machine that the heap keeps
 pub record Graph : Type 0 where
@@ -43,7 +43,7 @@ empty_known cells sessions =
     record {
       graph = empty_graph cells sessions;
       clock = record { last_gets = replicate cells 0; collections = 0 };
-      marking = record { bits = replicate cells false; grey = [] };
+      marking = record { bits = replicate cells false; grey = []; discovered = [] };
     }
 
 -- ---- Changes

@@ -1,4 +1,3 @@
 -- Reading order.
-pub mod Marking
 pub mod Graphs
 pub mod Guards

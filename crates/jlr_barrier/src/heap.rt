@@ -5,10 +5,10 @@ ghost use Rattle.jlr_machine.specs.Refusals.{is_plain, is_queue, is_reference};
 ghost use Rattle.jlr_cells.specs.Contents.{field_at, kind_of, object_of, referent_in};
 ghost use Rattle.jlr_barrier.specs.Graphs.{empty_known, used_now, with_objects};
 
-use crate::marks::Marks;
 use jlr_cells::{Cells, Kind, Shape};
 use jlr_machine::object::{Object, Reference};
 use jlr_machine::table::Table;
+use jlr_marks::Marks;
 use jlr_roots::{Names, Roots};
 use jlr_types::{FieldValue, Limits, Slot};
 use std::alloc::{AllocError, Global};

@@ -15,7 +15,6 @@ mod guards;
 mod heap;
 mod line;
 mod marking;
-mod marks;
 mod names;
 mod pending;
 mod queues;

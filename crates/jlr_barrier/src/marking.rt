@@ -6,7 +6,7 @@ ghost use Rattle.jlr_machine.specs.Refusals.{is_plain};
 ghost use Rattle.jlr_machine.specs.Edges.{edges_from, referent};
 ghost use Rattle.jlr_machine.specs.Edges.Chain.{Strong};
 ghost use Rattle.jlr_barrier.specs.Graphs.{held};
-ghost use Rattle.jlr_barrier.specs.Marking.{IsMarked, Shaded, is_marked};
+ghost use Rattle.jlr_marks.specs.Marking.{IsMarked, Shaded, is_marked};
 
 use crate::heap::Heap;
 use crate::shade::{follow, shade_cleanables, shade_list, shade_names, shade_roots, shade_target};

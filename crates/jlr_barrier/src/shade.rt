@@ -8,11 +8,11 @@ ghost use Rattle.jlr_roots.specs.Naming.{named};
 ghost use Rattle.jlr_roots.specs.Walk.{slots_held};
 ghost use Rattle.jlr_cells.specs.Contents.{members_in};
 ghost use Rattle.jlr_cells.specs.Links.{linked};
-ghost use Rattle.jlr_barrier.specs.Marking.{Shaded};
+ghost use Rattle.jlr_marks.specs.Marking.{Shaded};
 
-use crate::marks::Marks;
 use jlr_cells::{Cells, Links, Visited};
 use jlr_machine::object::CleanState;
+use jlr_marks::Marks;
 use jlr_roots::{Names, Roots};
 use jlr_types::{Meter, Slot};
 use std::collections::VecDeque;

@@ -22,12 +22,12 @@ use Rattle.jlr_cycles.proofs.Cells.{same_cells}
 use Rattle.jlr_cycles.proofs.Seen.{seen_is_seen}
 
 -- the cycle of m goes on in n: what was seen is kept, and so are the places that it names
-record GoesOnIn (m n : Machine) : Type 0 where
-  seen : n.seen ≡ m.seen
-  cells : length n.objects ≡ length m.objects
+pub record GoesOnIn (m n : Machine) : Type 0 where
+  pub seen : n.seen ≡ m.seen
+  pub cells : length n.objects ≡ length m.objects
 
 -- where the cycle is open afterwards
-abbrev StillOpen : Machine → Machine → Type 0
+abbrev pub StillOpen : Machine → Machine → Type 0
 StillOpen m n = n.cycle_open ≡ true → GoesOnIn m n
 
 -- ---- An ask that is carried out
@@ -51,12 +51,12 @@ carried_on : (m : Machine) (ask : Ask) (a : Answer) (fresh : List ℕ) → Still
 carried_on m ask (Refused by) fresh = λ _. record { seen = refl; cells = refl }
 carried_on m ask a fresh = λ e. record { seen = seen_kept m ask a fresh e; cells = same_cells m ask a fresh }
 
-carried_shut : (m : Machine) (ask : Ask) (a : Answer) (fresh : List ℕ) → (ask ≡ Begin → ⊥) → m.cycle_open ≡ false → (carried m ask a fresh).cycle_open ≡ false
+pub carried_shut : (m : Machine) (ask : Ask) (a : Answer) (fresh : List ℕ) → (ask ≡ Begin → ⊥) → m.cycle_open ≡ false → (carried m ask a fresh).cycle_open ≡ false
 carried_shut m ask (Refused by) fresh other shut = shut
 carried_shut m ask a fresh other shut = stays_shut m ask a fresh other shut
 
 -- no collection comes with a Begin
-collects_for_no_begin : (m : Machine) (ask : Ask) (c : Collected) → MayCollect m ask (Some c) → ask ≡ Begin → ⊥
+pub collects_for_no_begin : (m : Machine) (ask : Ask) (c : Collected) → MayCollect m ask (Some c) → ask ≡ Begin → ⊥
 collects_for_no_begin m ask c may begins = no_need m (subst (λ ask. MayCollect m ask (Some c)) begins may).0
 
 done_on : (m : Machine) (o : Option Collected) (ask : Ask) (a : Answer) (fresh : List ℕ) → MayCollect m ask o → StillOpen m (carried (with_collection m o) ask a fresh)
@@ -70,11 +70,11 @@ unchanged_on m e by answers nothing =
     let same : done m e ≡ m = ap (λ (c : Chosen). carried (with_collection m c.collected) e.ask e.answer c.fresh) nothing ∙ ap (λ a. carried m e.ask a []) answers in
     subst (StillOpen m) (sym same) (λ _. record { seen = refl; cells = refl })
 
-collected_shut : (m : Machine) (e : Entry) (c : Collected) (by : Refusal) → e.answer ≡ Refused by → e.choice ≡ record { collected = Some c; fresh = [] } → (done m e).cycle_open ≡ false
+pub collected_shut : (m : Machine) (e : Entry) (c : Collected) (by : Refusal) → e.answer ≡ Refused by → e.choice ≡ record { collected = Some c; fresh = [] } → (done m e).cycle_open ≡ false
 collected_shut m e c by answers collects =
     ap (λ (x : Chosen). (carried (with_collection m x.collected) e.ask e.answer x.fresh).cycle_open) collects ∙ ap (λ a. (carried (after_collection m c.kept c.pending) e.ask a []).cycle_open) answers
 
-goes_on_in : (m : Machine) (e : Entry) → IsLegal m e → StillOpen m (done m e)
+pub goes_on_in : (m : Machine) (e : Entry) → IsLegal m e → StillOpen m (done m e)
 goes_on_in m e (carried_out c) = done_on m e.choice.collected e.ask e.answer e.choice.fresh c.collection
 goes_on_in m e (refused c) = unchanged_on m e c.by c.answers c.nothing
 goes_on_in m e (heap_full c) = λ still. absurd (both_ways (done m e).cycle_open (collected_shut m e c.clearing _ c.answers c.collects) still)

@@ -5,3 +5,5 @@ pub mod Seen
 pub mod Standing
 pub mod Cells
 pub mod Growing
+pub mod Added
+pub mod Marking

@@ -1,6 +1,6 @@
 //! Laws of open cycles. Each function's contract is the law, and its body is empty.
 
-ghost use Rattle.jlr_cycles.specs.Laws.{LegalWhenMoreWasSeen, LeavesTheSameWhateverWasSeen, SeenStaysSeen, StandsForItself, GoesOnStanding, LegalInAllForWhichItStands, CoreStaysWellFormed};
+ghost use Rattle.jlr_cycles.specs.Laws.{LegalWhenMoreWasSeen, LeavesTheSameWhateverWasSeen, SeenStaysSeen, StandsForItself, GoesOnStanding, LegalInAllForWhichItStands, CoreStaysWellFormed, AddsEdgesToRootsAlone, GoesOnMarking};
 
 /// What was seen matters to nothing but what a background collection may keep: where more was seen, at least the same entries are legal.
 pub fn an_entry_stays_legal_when_more_was_seen()
@@ -35,4 +35,14 @@ pub fn a_legal_entry_of_a_core_is_legal_in_all_for_which_it_stands()
 /// And the machine that the core keeps stays well formed.
 pub fn the_machine_of_a_core_stays_well_formed()
     ensures { CoreStaysWellFormed }
+{}
+
+/// Each strong or soft edge that an ask adds leads to a root.
+pub fn an_ask_adds_edges_to_roots_alone()
+    ensures { AddsEdgesToRootsAlone }
+{}
+
+/// An entry that is legal where only marked objects were seen is legal in each machine for which a core stands that has marked them, and the core goes on standing for it.
+pub fn a_marking_core_goes_on_standing()
+    ensures { GoesOnMarking }
 {}

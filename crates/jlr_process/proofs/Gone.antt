@@ -24,7 +24,7 @@ use Rattle.jlr_laws.proofs.Frames.{no_some, place_within, root_from, some_same}
 use Rattle.jlr_laws.proofs.Frames.IsRoot.{waiting}
 use Rattle.jlr_laws.proofs.LawProofs.{background_comes_down}
 use Rattle.jlr_laws.proofs.SeenKept.{rising_filter}
-use Rattle.jlr_barrier.specs.Marking.{Marking, is_marked}
+use Rattle.jlr_marks.specs.Marking.{Marking, is_marked}
 use Rattle.jlr_process.specs.Settling.{is_losing, loses, marked_below, only_if}
 use Rattle.jlr_process.specs.Flipping.{IsMarkedWhole}
 use Rattle.jlr_process.proofs.Whole.{lost_below, distinct_below, filter_more, losing_loses, pended, same}

@@ -13,7 +13,7 @@ use Rattle.jlr_machine.specs.Collection.{is_ready}
 use Rattle.jlr_cells.specs.Contents.{in_clean_state, in_state, without_referent}
 use Rattle.jlr_laws.proofs.Frames.{set_same, place_within}
 use Rattle.jlr_barrier.specs.Graphs.{Graph, with_objects, with_pending}
-use Rattle.jlr_barrier.specs.Marking.{Marking, is_marked}
+use Rattle.jlr_marks.specs.Marking.{Marking, is_marked}
 use Rattle.jlr_process.specs.Settling.{loses, marked_referent, only_if, settled_object, with_settled}
 
 set_twice : {A : Type 0} (table : Table A) (n : ℕ) (v w : Option A) → slice_set (slice_set table n v) n w ≡ slice_set table n w

@@ -18,8 +18,8 @@ use Rattle.jlr_machine.specs.declared.machine.Session.{Session}
 use Rattle.jlr_machine.specs.declared.machine.Binding.{Binding}
 use Rattle.jlr_machine.specs.Choices.{Choosing, collecting}
 use Rattle.jlr_barrier.specs.Graphs.{Graph, in_machine}
-use Rattle.jlr_barrier.specs.Marking.{Marking, IsMarked, is_marked}
-use Rattle.jlr_barrier.proofs.Shading.{marked_within}
+use Rattle.jlr_marks.specs.Marking.{Marking, IsMarked, is_marked}
+use Rattle.jlr_marks.proofs.Shading.{marked_within}
 use Rattle.jlr_process.specs.Settling.{is_losing, loses, marked_below, marked_referent, only_if, settled, settled_object}
 
 -- ---- Slots that pass a test, so far

@@ -7,7 +7,7 @@ use Rattle.jlr_machine.specs.Edges.Chain.{Strong}
 use Rattle.jlr_machine.specs.Collection.{IsCollection, places_left}
 use Rattle.jlr_machine.specs.Choices.{Choosing, collecting}
 use Rattle.jlr_machine.specs.WellFormed.{IsWellFormed}
-use Rattle.jlr_barrier.specs.Marking.{IsMarked, Marking}
+use Rattle.jlr_marks.specs.Marking.{IsMarked, Marking}
 use Rattle.jlr_process.specs.Settling.{marked_below}
 
 -- Objects of a well-formed machine are marked, with a bit for each cell, among them all roots, and with an object all that it leads to by strong edges

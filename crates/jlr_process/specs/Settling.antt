@@ -6,7 +6,7 @@ use Rattle.jlr_machine.specs.Objects.{Heap, any_referent, at, some_and, with_cle
 use Rattle.jlr_machine.specs.Collection.{is_ready, made_pending}
 use Rattle.jlr_machine.specs.Choices.{Choosing, collecting, kept_by, pended_by}
 use Rattle.jlr_barrier.specs.Graphs.{Graph}
-use Rattle.jlr_barrier.specs.Marking.{Marking, is_marked}
+use Rattle.jlr_marks.specs.Marking.{Marking, is_marked}
 
 -- the marked slots below n, rising
 abbrev pub marked_below : Marking → ℕ → List ℕ

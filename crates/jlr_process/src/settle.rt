@@ -5,7 +5,7 @@ ghost use Rattle.jlr_machine.specs.Objects.{any_referent, as_cleanable, as_refer
 ghost use Rattle.jlr_cells.specs.Contents.{kind_of};
 ghost use Rattle.jlr_machine.specs.Collection.{is_ready};
 ghost use Rattle.jlr_machine.specs.Choices.{collecting, kept_by, pended_by};
-ghost use Rattle.jlr_barrier.specs.Marking.{IsMarked};
+ghost use Rattle.jlr_marks.specs.Marking.{IsMarked};
 ghost use Rattle.jlr_process.specs.Settling.{newly_pending, is_losing, loses, only_if, settled_choice, settled_graph, with_settled};
 
 use jlr_barrier::Heap;

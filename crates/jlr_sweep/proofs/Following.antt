@@ -11,7 +11,7 @@ use Rattle.jlr_machine.specs.Edges.Chain.{Strong, UpToSoft}
 use Rattle.jlr_laws.proofs.Clearing.{HasReferent, edge_from, edge_gives, takes}
 use Rattle.jlr_laws.proofs.Frames.{no_some, place_within}
 use Rattle.jlr_laws.specs.Laws.{followed, IsPathFollowed}
-use Rattle.jlr_barrier.specs.Marking.{Marking, IsMarked, Shaded}
+use Rattle.jlr_marks.specs.Marking.{Marking, IsMarked, Shaded}
 use Rattle.jlr_sweep.specs.Marking.{IsFollowed, soft_at}
 use Rattle.jlr_laws.proofs.Sets.{nothing, in_front, in_cons}
 use Rattle.jlr_laws.proofs.Clearing.{in_right}

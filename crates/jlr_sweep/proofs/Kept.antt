@@ -20,7 +20,7 @@ use Rattle.jlr_laws.proofs.Empty.{well_formed_within}
 use Rattle.jlr_laws.proofs.LawProofs.{comes_down_to_cutting_off, keeping_none_makes_clearing, policy_makes_full}
 use Rattle.std.proofs.Common.{filter_map, option_to_list}
 use Rattle.jlr_barrier.specs.Graphs.{Clock, Graph, held, in_machine}
-use Rattle.jlr_barrier.specs.Marking.{Marking, IsMarked, is_marked}
+use Rattle.jlr_marks.specs.Marking.{Marking, IsMarked, is_marked}
 use Rattle.jlr_process.specs.Settling.{marked_below}
 use Rattle.jlr_process.specs.Flipping.{Flips, IsMarkedWhole}
 use Rattle.jlr_process.proofs.Whole.{kept_is_marked}

@@ -5,7 +5,7 @@ ghost use Rattle.jlr_laws.specs.Laws.{followed};
 ghost use Rattle.jlr_machine.specs.Edges.{edges_from};
 ghost use Rattle.jlr_machine.specs.Edges.Chain.{UpToSoft};
 ghost use Rattle.jlr_barrier.specs.Graphs.{held};
-ghost use Rattle.jlr_barrier.specs.Marking.{IsMarked, Shaded};
+ghost use Rattle.jlr_marks.specs.Marking.{IsMarked, Shaded};
 ghost use Rattle.jlr_sweep.specs.Marking.{IsFollowed, keeps, soft_at};
 
 use jlr_barrier::Heap;

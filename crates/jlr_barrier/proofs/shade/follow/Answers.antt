@@ -7,8 +7,8 @@ use Rattle.jlr_cells.specs.Contents.{members_in}
 use Rattle.jlr_cells.specs.Links.{linked}
 use Rattle.jlr_cells.specs.Visits.{edges_told}
 use Rattle.jlr_laws.proofs.Clearing.{in_left, in_right, option_in}
-use Rattle.jlr_barrier.specs.Marking.{Shaded}
-use Rattle.jlr_barrier.proofs.Shading.{shaded_in_both, shaded_target, shaded_then}
+use Rattle.jlr_marks.specs.Marking.{Shaded}
+use Rattle.jlr_marks.proofs.Shading.{shaded_in_both, shaded_target, shaded_then}
 use Rattle.jlr_barrier.proofs.shade.follow.Goals as goal
 
 pub shade_links-requires : goal.shade_links-requires

@@ -2,9 +2,9 @@ use Rattle.std.proofs.Common.{◌≡◌, ◌+◌, ◌<◌, inl, inr, ℕ, IsTrue
 use Rattle.std.proofs.lemmas.Bool.{cases_eq}
 use Rattle.jlr_machine.specs.Objects.{Heap, at, ◌∈◌}
 use Rattle.jlr_machine.specs.Edges.{active_cleanables, is_own_root}
-use Rattle.jlr_barrier.specs.Marking.{Marking, Shaded}
+use Rattle.jlr_marks.specs.Marking.{Marking, Shaded}
 use Rattle.jlr_barrier.proofs.OwnRoots.{active_from, active_gives, active_within}
-use Rattle.jlr_barrier.proofs.Shading.{shaded_none, shaded_same, shaded_then}
+use Rattle.jlr_marks.proofs.Shading.{shaded_none, shaded_same, shaded_then}
 use Rattle.jlr_barrier.proofs.shade.shade_cleanables.Goals as goal
 
 -- the own roots below a slot

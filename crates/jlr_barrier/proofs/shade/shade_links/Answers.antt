@@ -2,8 +2,8 @@ use Rattle.std.proofs.Common.{◌≡◌, ◌⊎◌, ◌<◌, ℕ, Option, Some, 
 use Rattle.std.proofs.lemmas.List.{take_all}
 use Rattle.jlr_machine.specs.Objects.{◌∈◌}
 use Rattle.jlr_cells.specs.Links.{linked}
-use Rattle.jlr_barrier.specs.Marking.{Shaded}
-use Rattle.jlr_barrier.proofs.Shading.{shaded_same, shaded_then}
+use Rattle.jlr_marks.specs.Marking.{Shaded}
+use Rattle.jlr_marks.proofs.Shading.{shaded_same, shaded_then}
 use Rattle.jlr_barrier.proofs.Walking.{walk_gives, walk_from, item_in}
 use Rattle.jlr_barrier.proofs.shade.shade_links.Goals as goal
 

@@ -1,7 +1,7 @@
 use Rattle.std.proofs.Common.{take}
 use Rattle.jlr_machine.specs.Objects.{◌∈◌}
 use Rattle.jlr_cells.specs.Links.{linked}
-use Rattle.jlr_barrier.specs.Marking.{Shaded}
+use Rattle.jlr_marks.specs.Marking.{Shaded}
 use Rattle.jlr_barrier.proofs.shade.shade_links.Given as goal
 
 -- what the links so far refer to is shaded

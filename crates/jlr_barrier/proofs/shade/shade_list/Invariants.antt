@@ -1,6 +1,6 @@
 use Rattle.std.proofs.Common.{◌≤◌, ◌-◌, take, length}
 use Rattle.jlr_machine.specs.Objects.{◌∈◌}
-use Rattle.jlr_barrier.specs.Marking.{Shaded}
+use Rattle.jlr_marks.specs.Marking.{Shaded}
 use Rattle.jlr_barrier.proofs.shade.shade_list.Given as goal
 
 -- the slots so far are shaded

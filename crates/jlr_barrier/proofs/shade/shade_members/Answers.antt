@@ -3,8 +3,8 @@ use Rattle.std.specs.Prelude.{slice_get}
 use Rattle.std.proofs.lemmas.Option.{slice_get_within, get_or_from_slice_get}
 use Rattle.jlr_machine.specs.Objects.{◌∈◌, at}
 use Rattle.jlr_cells.specs.Contents.{members_in}
-use Rattle.jlr_barrier.specs.Marking.{Shaded}
-use Rattle.jlr_barrier.proofs.Shading.{shaded_same, shaded_then}
+use Rattle.jlr_marks.specs.Marking.{Shaded}
+use Rattle.jlr_marks.proofs.Shading.{shaded_same, shaded_then}
 use Rattle.jlr_barrier.proofs.Walking.{took_gives, took_from, member_in_list, member_listed, took_all}
 use Rattle.jlr_barrier.proofs.shade.shade_members.Goals as goal
 

@@ -1,7 +1,7 @@
 use Rattle.std.proofs.Common.{◌≤◌, ◌-◌, take, length}
 use Rattle.jlr_machine.specs.Objects.{◌∈◌, at}
 use Rattle.jlr_cells.specs.Contents.{members_in}
-use Rattle.jlr_barrier.specs.Marking.{Shaded}
+use Rattle.jlr_marks.specs.Marking.{Shaded}
 use Rattle.jlr_barrier.proofs.shade.shade_members.Given as goal
 
 -- the members so far are shaded

@@ -1,7 +1,7 @@
 use Rattle.std.proofs.Common.{take}
 use Rattle.jlr_machine.specs.Objects.{◌∈◌}
 use Rattle.jlr_roots.specs.Naming.{named}
-use Rattle.jlr_barrier.specs.Marking.{Shaded}
+use Rattle.jlr_marks.specs.Marking.{Shaded}
 use Rattle.jlr_barrier.proofs.shade.shade_names.Given as goal
 
 -- what the names at the places so far stand for is shaded

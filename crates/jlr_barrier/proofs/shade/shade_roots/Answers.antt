@@ -1,8 +1,8 @@
 use Rattle.std.proofs.Common.{◌≡◌, ◌⊎◌, sym, ◌∙◌, ap, arith, Some, subst}
 use Rattle.jlr_machine.specs.Objects.{◌∈◌}
 use Rattle.jlr_roots.specs.Walk.{walked}
-use Rattle.jlr_barrier.specs.Marking.{Shaded}
-use Rattle.jlr_barrier.proofs.Shading.{shaded_none, shaded_same, shaded_then}
+use Rattle.jlr_marks.specs.Marking.{Shaded}
+use Rattle.jlr_marks.proofs.Shading.{shaded_none, shaded_same, shaded_then}
 use Rattle.jlr_barrier.proofs.Places.{no_place, place_gives, place_from, place_in}
 use Rattle.jlr_barrier.proofs.shade.shade_roots.Goals as goal
 

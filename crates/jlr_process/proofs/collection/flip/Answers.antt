@@ -6,7 +6,7 @@ use Rattle.jlr_machine.specs.Objects.{any_referent, at, Heap, occupied}
 use Rattle.jlr_machine.specs.Choices.{Choosing, collecting, kept_by, pended_by}
 use Rattle.jlr_laws.proofs.Frames.{set_same, set_other}
 use Rattle.jlr_barrier.specs.Graphs.{Graph, in_machine}
-use Rattle.jlr_barrier.specs.Marking.{Marking, is_marked}
+use Rattle.jlr_marks.specs.Marking.{Marking, is_marked}
 use Rattle.jlr_process.specs.Settling.{newly_pending, is_losing, marked_below, only_if, settled, settled_choice, settled_graph}
 use Rattle.jlr_process.proofs.Whole.{lost_below, all_settled, below_short, filter_more, kept_counted, losing_alike, as_parts, choice_more, unmarked_loses_not}
 use Rattle.jlr_process.proofs.Gone.{collection, referent_within, room_for_one}

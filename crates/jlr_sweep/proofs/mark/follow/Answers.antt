@@ -7,8 +7,8 @@ use Rattle.jlr_machine.specs.Refusals.{is_plain}
 use Rattle.jlr_machine.specs.Edges.{referent}
 use Rattle.std.specs.Prelude.{option_and_then}
 use Rattle.jlr_barrier.specs.Graphs.{Clock, Graph}
-use Rattle.jlr_barrier.specs.Marking.{Shaded}
-use Rattle.jlr_barrier.proofs.Shading.{shaded_same, shaded_then}
+use Rattle.jlr_marks.specs.Marking.{Shaded}
+use Rattle.jlr_marks.proofs.Shading.{shaded_same, shaded_then}
 use Rattle.jlr_sweep.specs.Marking.{keeps, soft_at}
 use Rattle.jlr_sweep.proofs.Following.{followed_from, followed_gives, followed_is_soft, soft_edge}
 use Rattle.jlr_sweep.proofs.mark.follow.Goals as goal

@@ -1,4 +1,4 @@
-use Rattle.std.proofs.Common.{◌≡◌, false, ◌+◌, ◌∷◌, ◌<◌, [], ℕ, sym, ◌∙◌, ap, arith, length, add-one, refl, get_or, subst, IsTrue, is_some}
+use Rattle.std.proofs.Common.{◌≡◌, false, ◌+◌, ◌∷◌, ◌<◌, [], ℕ, count_by, sym, ◌∙◌, ap, arith, length, add-one, refl, get_or, subst, IsTrue, is_some}
 use Rattle.std.specs.Prelude.{IsPermutation, nat_eq}
 use Rattle.std.proofs.lemmas.List.Sums.{count_by-le-length}
 use Rattle.std.proofs.lemmas.List.Sorted.{length_permutation, list_any-IsPermutation}
@@ -8,7 +8,7 @@ use Rattle.jlr_machine.specs.Edges.Chain.{UpToSoft}
 use Rattle.jlr_laws.specs.Laws.{followed}
 use Rattle.jlr_laws.proofs.Sets.{in_front}
 use Rattle.jlr_barrier.specs.Graphs.{Clock, Graph, held}
-use Rattle.jlr_barrier.specs.Marking.{Shaded, marked}
+use Rattle.jlr_marks.specs.Marking.{Shaded, marked}
 use Rattle.jlr_sweep.specs.Marking.{keeps}
 use Rattle.jlr_sweep.proofs.Following.{marking_begins, marking_goes_on, marking_ends, followed_objects, followed_is_soft, none_counted, object_within}
 use Rattle.jlr_sweep.proofs.mark.mark.Goals as goal
@@ -64,7 +64,7 @@ loop-slot-smaller c =
     let i = c.loop-slot.invariant in
     let off : IsPermutation c.loop-slot.heap.marking.grey (c.in-Some.slot ∷ c.next_grey.new.self.marking.grey) = c.in-Some.ensures.grey in
     let shorter : length c.next_grey.new.self.marking.grey + 1 ≡ length c.loop-slot.heap.marking.grey = add-one (length c.next_grey.new.self.marking.grey) ∙ length_permutation c.loop-slot.heap.marking.grey (c.in-Some.slot ∷ c.next_grey.new.self.marking.grey) off in
-    let same : marked c.next_grey.new.self.marking ≡ marked c.loop-slot.heap.marking = ap (λ l. marked (record { bits = l; grey = [] })) c.next_grey.ensures.bits in
+    let same : marked c.next_grey.new.self.marking ≡ marked c.loop-slot.heap.marking = ap (count_by (λ b. b)) c.next_grey.ensures.bits in
     let long : length c.follow.new.heap.marking.bits ≡ length c.loop-slot.heap.marking.bits = s.long ∙ ap length c.next_grey.ensures.bits in
     omega (arith, s.black_same, i.room, shorter, same, long, count_by-le-length (λ b. b) c.follow.new.heap.marking.bits)
 
@@ -81,7 +81,7 @@ loop-slot-preserved c =
     (subst (λ (g : Graph). Shaded (λ y. y ∈ followed (keeps c.args.policy.now c.next_grey.new.self.clock) g.objects c.in-Some.slot) c.next_grey.new.self.marking c.follow.new.heap.marking) graph c.follow.ensures.shaded) in
     let off : IsPermutation c.loop-slot.heap.marking.grey (c.in-Some.slot ∷ c.next_grey.new.self.marking.grey) = c.in-Some.ensures.grey in
     let shorter : length c.next_grey.new.self.marking.grey + 1 ≡ length c.loop-slot.heap.marking.grey = add-one (length c.next_grey.new.self.marking.grey) ∙ length_permutation c.loop-slot.heap.marking.grey (c.in-Some.slot ∷ c.next_grey.new.self.marking.grey) off in
-    let same : marked c.next_grey.new.self.marking ≡ marked c.loop-slot.heap.marking = ap (λ l. marked (record { bits = l; grey = [] })) c.next_grey.ensures.bits in
+    let same : marked c.next_grey.new.self.marking ≡ marked c.loop-slot.heap.marking = ap (count_by (λ b. b)) c.next_grey.ensures.bits in
     record {
       marking = marking_goes_on kept heap base c.loop-slot.heap.marking c.next_grey.new.self.marking c.follow.new.heap.marking c.in-Some.slot i.marking c.next_grey.ensures.bits off s;
       graph = c.follow.ensures.graph ∙ graph;
@@ -115,7 +115,7 @@ pub returns-clause-once : goal.returns-clause-once
 returns-clause-once c =
     let i = c.loop-slot.invariant in
     let none : length c.loop-slot.heap.marking.grey ≡ 0 = ap length c.in_default.ensures.none.0 in
-    let same : marked c.next_grey.new.self.marking ≡ marked c.loop-slot.heap.marking = ap (λ l. marked (record { bits = l; grey = [] })) c.next_grey.ensures.bits in
+    let same : marked c.next_grey.new.self.marking ≡ marked c.loop-slot.heap.marking = ap (count_by (λ b. b)) c.next_grey.ensures.bits in
     omega (arith, i.ticks, none, same)
 
 pub returns-clause-ticks : goal.returns-clause-ticks

@@ -5,10 +5,10 @@ use Rattle.jlr_machine.specs.declared.machine.Binding.{Binding}
 use Rattle.jlr_machine.specs.Edges.{active_cleanables}
 use Rattle.jlr_roots.specs.Walk.{slots_held}
 use Rattle.jlr_roots.specs.Naming.{named}
-use Rattle.jlr_barrier.specs.Marking.{Shaded}
+use Rattle.jlr_marks.specs.Marking.{Shaded}
 use Rattle.jlr_barrier.specs.Graphs.{Graph, Known, held}
 use Rattle.jlr_barrier.proofs.Held.{by_session, by_name, by_pending, by_line}
-use Rattle.jlr_barrier.proofs.Shading.{shaded_in_five}
+use Rattle.jlr_marks.proofs.Shading.{shaded_in_five}
 use Rattle.jlr_barrier.proofs.heap.Heap.shade_roots.Goals as goal
 
 abbrev graph_of : Heap → Table Session → List Binding → List ℕ → List ℕ → Graph

@@ -1,5 +1,5 @@
 -- Counts of marked slots.
-use Rattle.std.proofs.Common.{ℕ, ◌≡◌, ◌<◌, ◌≤◌, ◌+◌, Bool, true, false, cond, List, length, get_or, set, arith, count_by, length-set}
+use Rattle.std.proofs.Common.{ℕ, zero, suc, ◌≡◌, ◌<◌, ◌≤◌, ◌+◌, Bool, true, false, cond, List, length, get_or, set, replicate, refl, arith, count_by, length-set}
 use Rattle.std.proofs.lemmas.List.Sums.{sum_by-set, count_by-le-length}
 
 -- one more is marked
@@ -14,3 +14,9 @@ count_marks bits s h e =
 pub room_left : (bits : List Bool) (s : ℕ) → s < length bits → get_or bits s false ≡ false → count_by (λ b. b) bits + 1 ≤ length bits
 room_left bits s h e =
     omega (arith, count_marks bits s h e, count_by-le-length (λ b. b) (set bits s true), length-set bits s true)
+
+-- where no bit is set, none is marked
+pub none_set : (n x : ℕ) → get_or (replicate n false) x false ≡ false
+none_set zero x = refl
+none_set (suc n) zero = refl
+none_set (suc n) (suc x) = none_set n x

@@ -1,16 +1,13 @@
 -- What shading does, one slot after another.
-use Rattle.std.proofs.Common.{ℕ, Option, Some, None, filter_map, ◌≡◌, zero, suc, ◌<◌, ◌⊎◌, Bool, true, false, cond, List, [], ◌∷◌, ◌++◌, length, get_or, set, arith, length-set, length-append, refl, sym, ◌∙◌, ap, subst, inl, inr, get_or-set_same, get_or-set_other}
+use Rattle.std.proofs.Common.{ℕ, Option, Some, ◌≡◌, zero, suc, ◌<◌, ◌⊎◌, Bool, true, false, cond, List, [], ◌∷◌, ◌++◌, length, get_or, set, arith, length-set, length-append, refl, sym, ◌∙◌, ap, subst, inl, inr, get_or-set_same, get_or-set_other}
 use Rattle.std.specs.Option.{option_to_list}
-use Rattle.std.specs.List.{flat_map}
-use Rattle.jlr_types.specs.declared.FieldValue.{FieldValue}
-use Rattle.jlr_machine.specs.Edges.{slot_in}
 use Rattle.std.proofs.lemmas.List.{set-get_or}
-use Rattle.std.proofs.lemmas.Bool.{cases_eq}
+use Rattle.std.proofs.lemmas.Bool.{both_ways, cases_eq}
 use Rattle.jlr_machine.specs.Objects.{◌∈◌}
-use Rattle.jlr_barrier.specs.Marking.{Marking, is_marked, IsMarked, Shaded}
+use Rattle.jlr_marks.specs.Marking.{Marking, is_marked, IsMarked, Shaded}
 use Rattle.jlr_laws.proofs.Sets.{nothing, in_front, in_cons}
 use Rattle.jlr_laws.proofs.Clearing.{in_append, in_left, in_right, option_in, in_option}
-use Rattle.jlr_barrier.proofs.Counting.{count_marks}
+use Rattle.jlr_marks.proofs.Counting.{count_marks}
 
 -- ---- Bits
 
@@ -38,8 +35,10 @@ shaded_none T none m =
       added = λ x h. inl h;
       grey_kept = λ x h. h;
       grey_marked = λ x h. inl h;
+      fresh = λ x h. inl h;
       all = λ x t. absurd (none x t);
       black_same = refl;
+      discovered_same = refl;
     }
 
 pub shaded_same : (T U : ℕ → Type 0) → ((x : ℕ) → T x → U x) → ((x : ℕ) → U x → T x) → (m n : Marking) → Shaded T m n → Shaded U m n
@@ -50,8 +49,10 @@ shaded_same T U to from m n s =
       added = λ x h. elim (s.added x h) [ inl o ↦ inl o | inr a ↦ inr (to x a.0, a.1) ];
       grey_kept = s.grey_kept;
       grey_marked = s.grey_marked;
+      fresh = s.fresh;
       all = λ x u. s.all x (from x u);
       black_same = s.black_same;
+      discovered_same = s.discovered_same;
     }
 
 pub shaded_then : (T U : ℕ → Type 0) (a b c : Marking) → Shaded T a b → Shaded U b c → Shaded (λ x. T x ⊎ U x) a c
@@ -68,8 +69,10 @@ shaded_then T U a b c s t =
         | inl o ↦ elim (s.grey_marked x o) [ inl z ↦ inl z | inr z ↦ inr (t.kept x z) ]
         | inr z ↦ inr z
       ];
+      fresh = λ x h. elim (t.fresh x h) [ inl o ↦ s.fresh x o | inr white ↦ inr (λ on. white (s.kept x on)) ];
       all = λ x h. elim h [ inl u ↦ t.kept x (s.all x u) | inr u ↦ t.all x u ];
       black_same = omega (arith, s.black_same, t.black_same);
+      discovered_same = t.discovered_same ∙ s.discovered_same;
     }
 
 -- ---- Shading one slot
@@ -77,11 +80,12 @@ shaded_then T U a b c s t =
 set_same : (bits : List Bool) (y : ℕ) → get_or bits y false ≡ true → set bits y true ≡ bits
 set_same bits y k = subst (λ b. set bits y b ≡ bits) k (set-get_or bits y false)
 
-same_marking : (m n : Marking) → m.bits ≡ n.bits → m.grey ≡ n.grey → m ≡ n
-same_marking m n eb eg =
-    let with_bits : List Bool → Marking = λ b. record { bits = b; grey = m.grey } in
-    let with_grey : List ℕ → Marking = λ g. record { bits = n.bits; grey = g } in
-    ap with_bits eb ∙ ap with_grey eg
+same_marking : (m n : Marking) → m.bits ≡ n.bits → m.grey ≡ n.grey → m.discovered ≡ n.discovered → m ≡ n
+same_marking m n eb eg ed =
+    let with_bits : List Bool → Marking = λ b. record { bits = b; grey = m.grey; discovered = m.discovered } in
+    let with_grey : List ℕ → Marking = λ g. record { bits = n.bits; grey = g; discovered = m.discovered } in
+    let with_discovered : List ℕ → Marking = λ d. record { bits = n.bits; grey = n.grey; discovered = d } in
+    ap with_bits eb ∙ ap with_grey eg ∙ ap with_discovered ed
 
 shaded_already : (y : ℕ) (m : Marking) → is_marked m y ≡ true → Shaded (λ x. x ≡ y) m m
 shaded_already y m k =
@@ -91,12 +95,14 @@ shaded_already y m k =
       added = λ x h. inl h;
       grey_kept = λ x h. h;
       grey_marked = λ x h. inl h;
+      fresh = λ x h. inl h;
       all = λ x e. ap (is_marked m) e ∙ k;
       black_same = refl;
+      discovered_same = refl;
     }
 
 abbrev shade_new : Marking → ℕ → Marking
-shade_new m y = record { bits = set m.bits y true; grey = m.grey ++ y ∷ [] }
+shade_new m y = record { bits = set m.bits y true; grey = m.grey ++ y ∷ []; discovered = m.discovered }
 
 shaded_new : (y : ℕ) (m : Marking) → y < length m.bits → is_marked m y ≡ false → Shaded (λ x. x ≡ y) m (shade_new m y)
 shaded_new y m h k =
@@ -111,18 +117,23 @@ shaded_new y m h k =
         | inl o ↦ inl o
         | inr o ↦ elim (in_cons x y [] o) [ inl e ↦ inr (ap (is_marked (shade_new m y)) e ∙ top) | inr n ↦ nothing x n ]
       ];
+      fresh = λ x q. elim (in_append x m.grey (y ∷ []) q) [
+        | inl o ↦ inl o
+        | inr o ↦ elim (in_cons x y [] o) [ inl e ↦ inr (λ on. both_ways (is_marked m y) k (sym (ap (is_marked m) e) ∙ on)) | inr n ↦ nothing x n ]
+      ];
       all = λ x e. ap (is_marked (shade_new m y)) e ∙ top;
       black_same = omega (arith, count_marks m.bits y h k, length-append m.grey (y ∷ []));
+      discovered_same = refl;
     }
 
-shaded_case : (y : ℕ) (m : Marking) (b : Bool) → is_marked m y ≡ b → y < length m.bits → Shaded (λ x. x ≡ y) m (record { bits = set m.bits y true; grey = cond b m.grey (m.grey ++ y ∷ []) })
-shaded_case y m true k h = subst (λ l. Shaded (λ x. x ≡ y) m (record { bits = l; grey = m.grey })) (sym (set_same m.bits y k)) (shaded_already y m k)
+shaded_case : (y : ℕ) (m : Marking) (b : Bool) → is_marked m y ≡ b → y < length m.bits → Shaded (λ x. x ≡ y) m (record { bits = set m.bits y true; grey = cond b m.grey (m.grey ++ y ∷ []); discovered = m.discovered })
+shaded_case y m true k h = subst (λ l. Shaded (λ x. x ≡ y) m (record { bits = l; grey = m.grey; discovered = m.discovered })) (sym (set_same m.bits y k)) (shaded_already y m k)
 shaded_case y m false k h = shaded_new y m h k
 
-pub shaded_one : (y : ℕ) (m n : Marking) → y < length m.bits → n.bits ≡ set m.bits y true → n.grey ≡ cond (is_marked m y) m.grey (m.grey ++ y ∷ []) → Shaded (λ x. x ≡ y) m n
-shaded_one y m n h eb eg =
-    let after : Marking = record { bits = set m.bits y true; grey = cond (is_marked m y) m.grey (m.grey ++ y ∷ []) } in
-    subst (Shaded (λ x. x ≡ y) m) (sym (same_marking n after eb eg)) (shaded_case y m (is_marked m y) refl h)
+pub shaded_one : (y : ℕ) (m n : Marking) → y < length m.bits → n.bits ≡ set m.bits y true → n.grey ≡ cond (is_marked m y) m.grey (m.grey ++ y ∷ []) → n.discovered ≡ m.discovered → Shaded (λ x. x ≡ y) m n
+shaded_one y m n h eb eg ed =
+    let after : Marking = record { bits = set m.bits y true; grey = cond (is_marked m y) m.grey (m.grey ++ y ∷ []); discovered = m.discovered } in
+    subst (Shaded (λ x. x ≡ y) m) (sym (same_marking n after eb eg ed)) (shaded_case y m (is_marked m y) refl h)
 
 -- ---- Shading the members of two lists
 
@@ -132,18 +143,6 @@ shaded_in_both xs ys m n s =
 
 pub shaded_target : (o : Option ℕ) (m n : Marking) → Shaded (λ x. o ≡ Some x) m n → Shaded (λ x. x ∈ option_to_list o) m n
 shaded_target o m n s = shaded_same _ _ (λ x e. option_in x o e) (λ x h. in_option x o h) m n s
-
--- the fields of an object, where it is a plain one
-abbrev pub led_by : Option (List FieldValue) → List ℕ
-led_by o = flat_map (filter_map slot_in) (option_to_list o)
-
-pub shaded_fields : (o : Option (List FieldValue)) (fields : List FieldValue) (m n : Marking) → o ≡ Some fields → Shaded (λ x. x ∈ filter_map slot_in fields) m n → Shaded (λ x. x ∈ led_by o) m n
-shaded_fields o fields m n e s =
-    subst (λ l. Shaded (λ x. x ∈ led_by l) m n) (sym e)
-    (shaded_same _ _ (λ x h. in_left x (filter_map slot_in fields) [] h) (λ x h. elim (in_append x (filter_map slot_in fields) [] h) [ inl a ↦ a | inr none ↦ nothing x none ]) m n s)
-
-pub shaded_no_fields : (o : Option (List FieldValue)) (m : Marking) → o ≡ None → Shaded (λ x. x ∈ led_by o) m m
-shaded_no_fields o m e = shaded_none _ (λ x h. nothing x (subst (λ l. x ∈ led_by l) e h)) m
 
 -- ---- Shading the members of five lists
 

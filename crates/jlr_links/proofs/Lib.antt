@@ -1,0 +1,5 @@
+pub mod Rooms
+pub mod Walking
+pub mod Appending
+pub mod Leaving
+pub mod Standing

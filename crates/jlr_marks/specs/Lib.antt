@@ -1,0 +1,2 @@
+-- Reading order.
+pub mod Marking

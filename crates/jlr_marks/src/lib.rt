@@ -1,0 +1,11 @@
+//! Which cells of a heap a collector has found: white, grey and black cells, and the list of those that it has to look at again.
+//!
+//! A cell that is not marked is white. A marked cell is grey while its edges were not yet followed, and black from then on. The marker notes
+//! the black references and cleanables whose referent was white when it came by: they are discovered.
+//!
+//! No call but `Marks::new` takes memory: only marked cells are grey or discovered, and none is both, so no list is ever full.
+#![tactic(auto)]
+
+mod marks;
+
+pub use marks::Marks;

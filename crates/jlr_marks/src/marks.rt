@@ -1,0 +1,116 @@
+//! Marks.
+ghost use Rattle.std.specs.Prelude.{◌≡◌, ℕ, ◌+◌, ◌<◌, ◌++◌, ◌∷◌, [], false, true, cond, length, IfOk, slice_set, IfNone, IfSome, IsPermutation, replicate};
+ghost use Rattle.jlr_marks.specs.Marking.{is_marked, marked};
+
+use jlr_types::Slot;
+use std::alloc::{AllocError, Global};
+use std::marker::Model;
+
+/// From how far below the top of the stack a grey cell is taken. The cells above it come soon after, so that the processor
+/// can fetch them while it still waits for this one; from the top, each would be known only once the one before it is there.
+const AHEAD: usize = 4;
+
+/// A mark for each cell, a stack of the marked cells that are grey, and a list of those that are discovered.
+#[derive(Drop)]
+pub struct Marks {
+    bits: Vec<bool>,
+    grey: Vec<Slot>,
+    discovered: Vec<Slot>,
+}
+
+impl Model for Marks {
+    ghost use Rattle.std.specs.Prelude.{◌+◌, ◌≤◌, count_by, length, vec_capacity};
+    ghost use Rattle.jlr_marks.specs.Marking.{Marking};
+
+    ghost Value = { Marking };
+
+    ghost view = { λ m. record { bits = m.bits.items; grey = m.grey.items; discovered = m.discovered.items } };
+
+    ghost invariant = { λ m. (length m.grey.items + length m.discovered.items ≤ count_by (λ b. b) m.bits.items) × (length m.bits.items ≤ vec_capacity m.grey) × (length m.bits.items ≤ vec_capacity m.discovered) };
+}
+
+impl Marks {
+    /// All cells are white. All room is made at once.
+    ///
+    /// # Errors
+    /// `AllocError` where the room cannot be had.
+    pub fn new(alloc: Global, cells: u32) -> Result<Self, AllocError>
+        ensures bits { IfOk result (λ m. m.bits ≡ replicate cells false) }
+        ensures grey { IfOk result (λ m. m.grey ≡ []) }
+        ensures discovered { IfOk result (λ m. m.discovered ≡ []) }
+    {
+        Ok(Marks {
+            bits: vec![in alloc; false; cells as usize]?,
+            grey: Vec::with_capacity(alloc, cells as usize)?,
+            discovered: Vec::with_capacity(alloc, cells as usize)?,
+        })
+    }
+
+    /// Whether a cell is marked: it is grey or black.
+    pub fn is_marked(&self, slot: Slot) -> bool
+        requires { slot < length self.now.bits }
+        ensures { result ≡ is_marked self.now slot }
+    {
+        self.bits[slot.number() as usize]
+    }
+
+    /// Marks a cell. If it was white before, it is grey then.
+    pub fn shade(&mut self, slot: Slot)
+        requires { slot < length self.old.bits }
+        ensures bits { self.new.bits ≡ slice_set self.old.bits slot true }
+        ensures grey { self.new.grey ≡ cond (is_marked self.old slot) self.old.grey (self.old.grey ++ slot ∷ []) }
+        ensures discovered { self.new.discovered ≡ self.old.discovered }
+    {
+        let place = slot.number() as usize;
+        if !self.bits[place] {
+            self.bits[place] = true;
+            let _ = self.grey.push(slot);
+        }
+    }
+
+    /// Marks a cell. If it was white before, it is black then: nobody follows its edges.
+    pub fn blacken(&mut self, slot: Slot)
+        requires { slot < length self.old.bits }
+        ensures bits { self.new.bits ≡ slice_set self.old.bits slot true }
+        ensures grey { self.new.grey ≡ self.old.grey }
+        ensures discovered { self.new.discovered ≡ self.old.discovered }
+    {
+        self.bits[slot.number() as usize] = true;
+    }
+
+    /// A cell is discovered: the last of them. There is room where a marked cell is neither grey nor discovered, as one that was just taken off the grey ones.
+    pub fn discover(&mut self, slot: Slot)
+        requires { length self.old.grey + length self.old.discovered < marked self.old }
+        ensures bits { self.new.bits ≡ self.old.bits }
+        ensures grey { self.new.grey ≡ self.old.grey }
+        ensures discovered { self.new.discovered ≡ self.old.discovered ++ slot ∷ [] }
+    {
+        let _ = self.discovered.push(slot);
+    }
+
+    /// Takes a grey cell off the stack, if there is one: the fourth from the top, in whose place the top then lies. It is black then.
+    pub fn next_grey(&mut self) -> Option<Slot>
+        ensures bits { self.new.bits ≡ self.old.bits }
+        ensures grey { IfSome result (λ slot. IsPermutation self.old.grey (slot ∷ self.new.grey)) }
+        ensures none { IfNone result ((self.old.grey ≡ []) × (self.new.grey ≡ [])) }
+        ensures discovered { self.new.discovered ≡ self.old.discovered }
+        ensures room { IfSome result (λ _. length self.new.grey + length self.new.discovered < marked self.new) }
+    {
+        let count = self.grey.len();
+        if count == 0 {
+            return None;
+        }
+        Some(self.grey.swap_remove(count.saturating_sub(AHEAD)))
+    }
+
+    /// Every cell is white.
+    pub fn reset(&mut self)
+        ensures bits { self.new.bits ≡ replicate (length self.old.bits) false }
+        ensures grey { self.new.grey ≡ [] }
+        ensures discovered { self.new.discovered ≡ [] }
+    {
+        self.bits.fill(false);
+        self.grey.clear();
+        self.discovered.clear();
+    }
+}
