@@ -11,4 +11,5 @@ pub mod Events
 pub mod Cores
 pub mod Steps
 pub mod Rest
+pub mod Looks
 pub mod Runs

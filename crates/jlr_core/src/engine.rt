@@ -1,7 +1,10 @@
 //! The core: one event at a time.
-ghost use Rattle.std.specs.Prelude.{◌≡◌, ◌≤◌, [], length, IfOk, IsTrue};
+ghost use Rattle.std.specs.Prelude.{◌≡◌, ◌≤◌, ◌↔◌, [], length, IfOk, IsTrue, Some};
 ghost use Rattle.jlr_machine.specs.declared.machine.Machine.{Machine};
+ghost use Rattle.jlr_machine.specs.Refusals.{refusal};
 ghost use Rattle.jlr_resource.specs.Resources.{resources};
+ghost use Rattle.jlr_event.specs.Events.{ask_of};
+ghost use Rattle.jlr_histories.specs.Collecting.{may_collect};
 ghost use Rattle.jlr_core.specs.Steps.{IsEmpty, IsStep};
 
 use crate::state::State;
@@ -9,7 +12,7 @@ use jlr_event::event::{Event, Reply};
 use jlr_machine::ask::Ask;
 use jlr_machine::choice::Choice;
 use jlr_machine::machine::Machine;
-use jlr_types::Limits;
+use jlr_types::{Handle, Limits, Mutator, Refusal};
 use std::alloc::{AllocError, Global};
 use std::marker::Model;
 
@@ -82,6 +85,35 @@ impl<R> Core<R> {
         ensures listed { resources self.now.table ≡ self.now.machine.resources }
     {
         self.state.is_at_rest()
+    }
+
+    /// Whether an event may come with a collection: a full collection, a `Collect` in an open cycle, and an ask whose objects find no room.
+    /// It looks at no refusal. A step of an event for which it answers no chooses no collection.
+    pub fn will_collect(&self, event: &Event<R>) -> bool
+        ensures { result ≡ may_collect self.now.machine (ask_of event.now) }
+    {
+        self.state.will_collect(event)
+    }
+
+    /// Whether a `Remove` of a mutator on a queue would be refused `WouldWait`.
+    pub fn would_wait(&self, by: Mutator, queue: Handle) -> bool
+        ensures { IsTrue result ↔ (refusal self.now.machine (Ask.Remove by queue) ≡ Some Refusal.WouldWait) }
+    {
+        self.state.would_wait(by, queue)
+    }
+
+    /// Whether nothing is pending, so that a step of the handler would find nothing.
+    pub fn pending_empty(&self) -> bool
+        ensures { IsTrue result ↔ (self.now.machine.pending ≡ []) }
+    {
+        self.state.pending_empty()
+    }
+
+    /// Whether nothing stands in the cleaner's line, so that a step of the cleaner would find nothing.
+    pub fn line_empty(&self) -> bool
+        ensures { IsTrue result ↔ (self.now.machine.line ≡ []) }
+    {
+        self.state.line_empty()
     }
 
     /// The machine that the core stands for, as plain data, with nothing seen.

@@ -8,6 +8,7 @@ mod cycles;
 mod dispatch;
 pub mod engine;
 mod handles;
+mod looks;
 mod names;
 mod objects;
 mod prepare;

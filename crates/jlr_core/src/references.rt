@@ -181,7 +181,7 @@ impl<R> State<R> {
     }
 
     /// The queue whose front is removed, with a free handle for it.
-    fn check_remove(&self, by: Mutator, queue: Handle) -> Result<Slot, Refusal>
+    pub(crate) fn check_remove(&self, by: Mutator, queue: Handle) -> Result<Slot, Refusal>
         requires { IsWellFormed (machine_of self.now) }
         ensures { MatchResult result
             (λ slot. (refusal (machine_of self.now) (Ask.Remove by queue) ≡ None) × (slot_named (machine_of self.now) by queue ≡ Some slot) × IsTrue (some_and is_queue (at self.now.heap.graph.objects slot)) × ((is_some (member_in (at self.now.heap.graph.objects slot) 0) && not (has_free_handle (machine_of self.now) by)) ≡ false))

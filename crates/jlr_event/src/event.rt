@@ -1,6 +1,6 @@
 //! What comes to the core, and what goes back: an ask or an answer with the resource that it carries.
 ghost use Rattle.std.specs.Prelude.{◌≡◌};
-ghost use Rattle.jlr_event.specs.Events.{ask_of, answer_in, outcome_of, resource_of_reply};
+ghost use Rattle.jlr_event.specs.Events.{ask_of, answer_in, outcome_of, resource_of_event, resource_of_reply};
 
 use jlr_machine::ask::{Answer, Ask, CallOutcome, FullMode, Outcome};
 use jlr_machine::text::Name;
@@ -382,6 +382,56 @@ impl<R> Event<R> {
             Event::Abandon => Ask::Abandon,
             Event::Mark { .. } => return None,
         })
+    }
+
+    /// The resource that an event hands in, if one is.
+    pub fn into_resource(self) -> Option<R>
+        ensures { result ≡ resource_of_event self }
+    {
+        match self {
+            Event::Opened { outcome, .. } => outcome.ok(),
+            Event::CheckIn { resource, .. } => Some(resource),
+            Event::Join { .. }
+            | Event::Leave { .. }
+            | Event::New { .. }
+            | Event::Put { .. }
+            | Event::Get { .. }
+            | Event::SetInt { .. }
+            | Event::Int { .. }
+            | Event::Dup { .. }
+            | Event::Drop { .. }
+            | Event::Same { .. }
+            | Event::MakeRef { .. }
+            | Event::Deref { .. }
+            | Event::Refers { .. }
+            | Event::Clear { .. }
+            | Event::Enqueue { .. }
+            | Event::Enqueued { .. }
+            | Event::MakeQueue { .. }
+            | Event::Poll { .. }
+            | Event::Remove { .. }
+            | Event::MakeCleaner { .. }
+            | Event::Register { .. }
+            | Event::Clean { .. }
+            | Event::Prepare { .. }
+            | Event::CheckOut { .. }
+            | Event::Close { .. }
+            | Event::Finish { .. }
+            | Event::Bind { .. }
+            | Event::Find { .. }
+            | Event::Unbind { .. }
+            | Event::Names { .. }
+            | Event::Full { .. }
+            | Event::Stat { .. }
+            | Event::Notes { .. }
+            | Event::Faults { .. }
+            | Event::HandOver
+            | Event::TakeUp
+            | Event::Begin
+            | Event::Collect
+            | Event::Abandon
+            | Event::Mark { .. } => None,
+        }
     }
 }
 

@@ -19,3 +19,6 @@ pub mod ResourceSteps
 pub mod ResourceLaws
 pub mod Histories
 pub mod Promises
+pub mod Owing
+pub mod Fitting
+pub mod Collecting

@@ -2,3 +2,6 @@ pub mod Lives
 pub mod ResourceLives
 pub mod Laws
 pub mod Promises
+pub mod Owing
+pub mod Rooms
+pub mod Collecting

@@ -1,0 +1,7 @@
+-- Reading order.
+pub mod Histories
+pub mod Rules
+-- What no public clause names: the room of an entry, the invariant of a book, and its parts' steps.
+pub mod Making
+pub mod Keeping
+pub mod Writing

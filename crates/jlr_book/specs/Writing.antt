@@ -1,0 +1,48 @@
+-- Steps of the core that are written down, without the rest of the book.
+use Rattle.std.specs.Prelude.{◌≡◌, ◌≢◌, ◌⊎◌, ℕ, Bool, true, false, ◌++◌, List, Option, Some}
+use Rattle.std.specs.Option.{option_to_list}
+use Rattle.jlr_types.specs.declared.Refusal.{Refusal}
+use Rattle.jlr_machine.specs.declared.machine.Machine.{Machine}
+use Rattle.jlr_machine.specs.declared.ask.Answer.{Answer}
+use Rattle.jlr_machine.specs.declared.ask.Answer.TheVariants.{Refused}
+use Rattle.jlr_machine.specs.declared.entry.Chosen.{Chosen}
+use Rattle.jlr_machine.specs.declared.entry.Entry.{Entry}
+use Rattle.jlr_machine.specs.WellFormed.{IsWellFormed}
+use Rattle.jlr_event.specs.declared.event.Event.{Event}
+use Rattle.jlr_event.specs.declared.event.Reply.{Reply}
+use Rattle.jlr_event.specs.Events.{ask_of, answer_in}
+use Rattle.jlr_core.specs.Cores.{Kept, StandsIn}
+use Rattle.jlr_core.specs.Steps.{IsStep, Steps}
+use Rattle.jlr_book.specs.Histories.{History, seated}
+
+-- the core stands for some well-formed machine
+abbrev pub Stands : {R : Type 0} → Kept R → Type 0
+Stands core = (m : Machine) × StandsIn core m × IsWellFormed m
+
+-- a step of the core, and its entry behind the others
+pub record Writes {R : Type 0} (seat : ℕ) (old : Kept R) (entries : List Entry) (event : Event R) (reply : Reply R) (new : Kept R) (entries' : List Entry) : Type 0 where
+  pub chosen : Chosen
+  pub step : IsStep old event reply chosen new
+  pub adds : entries' ≡ entries ++ option_to_list (seated seat (ask_of event) (answer_in reply) chosen)
+
+-- a step of the core that refused an end, and no entry
+pub record Refuses {R : Type 0} (old : Kept R) (entries : List Entry) (event : Event R) (reply : Reply R) (new : Kept R) (entries' : List Entry) : Type 0 where
+  pub steps : Steps old event reply new
+  pub by : Refusal
+  pub refused : answer_in reply ≡ Some (Refused by)
+  pub stays : entries' ≡ entries
+
+-- an end: one of the two, as its answer says
+abbrev pub WritesEnd : {R : Type 0} → ℕ → Kept R → List Entry → Event R → Reply R → Kept R → List Entry → Type 0
+WritesEnd seat old entries event reply new entries' =
+    (Writes seat old entries event reply new entries' × ((by : Refusal) → answer_in reply ≢ Some (Refused by))) ⊎ Refuses old entries event reply new entries'
+
+-- a piece of marking: a step of the core alone
+pub record Pieces {R : Type 0} (old : History R) (event : Event R) (reply : Reply R) (new : History R) : Type 0 where
+  pub chosen : Chosen
+  pub step : IsStep old.core event reply chosen new.core
+  pub stays : new ≡ record old { core = new.core }
+
+abbrev pub refuses : Answer → Bool
+refuses (Refused by) = true
+refuses answer = false

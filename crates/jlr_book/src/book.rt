@@ -1,0 +1,264 @@
+//! The book: the core, and the history that led to it.
+ghost use Rattle.std.specs.Prelude.{◌≡◌, ◌≤◌, ◌+◌, ◌^◌, ◌↔◌, true, false, [], IfOk, IsErr, IsTrue, MatchBool, OnOk, OnErr, None, Some};
+ghost use Rattle.jlr_machine.specs.Refusals.{is_end, refusal};
+ghost use Rattle.jlr_event.specs.Events.{ask_of};
+ghost use Rattle.jlr_book.specs.Histories.{last, HasNumbers, IsHistory, IsNewBook};
+ghost use Rattle.jlr_book.specs.Rules.{AsksBy, BookSteps, Cuts, EndsBy, MarksBy};
+ghost use Rattle.jlr_book.specs.Writing.{Pieces};
+
+use crate::cut::{close_cycle, cut_trace};
+use crate::entry::{record, record_end};
+use crate::event::{is_end, refuse};
+use crate::room::EntryRoom;
+use jlr_core::engine::Core;
+use jlr_event::event::{Event, Reply};
+use jlr_machine::ask::Ask;
+use jlr_machine::choice::Choice;
+use jlr_machine::entry::Entry;
+use jlr_machine::machine::Machine;
+use jlr_types::{Handle, Limits, Mutator, Progress, Refusal};
+use std::alloc::{AllocError, Global};
+use std::marker::Model;
+
+/// So many entry numbers stay free for ends.
+const SPARE_NUMBERS: u64 = 1_024;
+
+/// The places that an entry asks for: its own, and one for each end that may be owed then.
+const PLACES: usize = 130;
+
+/// A core with its history. Contracts see what it tells: a machine, the entries since, and the core that stands where they end.
+#[derive(Drop)]
+pub struct Book<R> {
+    alloc: Global,
+    limits: Limits,
+    core: Core<R>,
+    choice: Choice,
+    image: Machine,
+    base: u64,
+    trace: Vec<Entry>,
+}
+
+impl<R> Model for Book<R> {
+    ghost use Rattle.jlr_book.specs.Histories.{History};
+    ghost use Rattle.jlr_book.specs.Keeping.{Keeps};
+
+    ghost Value = { History R };
+
+    ghost view = { λ b. record { limits = b.limits; base = b.base; image = b.image; entries = b.trace.items; core = b.core } };
+
+    ghost invariant = { λ b. Keeps b.limits b.base b.image b.trace b.core b.choice.cells };
+}
+
+impl<R: Drop> Book<R> {
+    /// The book of an empty machine: no entry, and none before.
+    ///
+    /// # Errors
+    /// `AllocError` where the room cannot be had.
+    pub fn new(alloc: Global, limits: Limits) -> Result<Self, AllocError>
+        ensures { IfOk result (λ book. IsNewBook limits book) }
+    {
+        let core = Core::new(alloc, limits)?;
+        let choice = Choice::new(alloc, limits.cells)?;
+        let image = core.image(alloc)?;
+        Ok(Book {
+            alloc,
+            limits,
+            core,
+            choice,
+            image,
+            base: 0,
+            trace: Vec::new(alloc),
+        })
+    }
+
+    /// What is true of each book, for callers: the entries are a run from the image, which is a well-formed machine with no open cycle and at
+    /// base 0 the empty one; and the core stands for the machine where they end.
+    pub fn is_history(&self)
+        ensures { IsHistory self.now }
+    {
+        let _base = &self.base;
+    }
+
+    /// The number of the last entry since opening, 0 where there was none.
+    pub fn last(&self) -> u64
+        ensures { result ≡ last self.now }
+    {
+        self.base + self.trace.len() as u64
+    }
+
+    /// The number of the last entry before the trace.
+    pub fn base(&self) -> u64
+        ensures { result ≡ self.now.base }
+    {
+        self.base
+    }
+
+    /// The machine from which the trace leads on.
+    pub fn image(&self) -> &Machine
+        ensures { result.now ≡ self.now.image }
+    {
+        &self.image
+    }
+
+    /// The trace.
+    pub fn entries(&self) -> &[Entry]
+        ensures { result.now ≡ self.now.entries }
+    {
+        self.trace.as_slice()
+    }
+
+    /// Whether a `Remove` of a mutator on a queue would be refused `WouldWait`.
+    pub fn would_wait(&self, by: Mutator, queue: Handle) -> bool
+        ensures { IsTrue result ↔ (refusal self.now.core.machine (Ask.Remove by queue) ≡ Some Refusal.WouldWait) }
+    {
+        self.core.would_wait(by, queue)
+    }
+
+    /// Whether nothing is pending, so that the handler would find nothing.
+    pub fn pending_empty(&self) -> bool
+        ensures { IsTrue result ↔ (self.now.core.machine.pending ≡ []) }
+    {
+        self.core.pending_empty()
+    }
+
+    /// Whether nothing stands in the cleaner's line, so that the cleaner would find nothing.
+    pub fn line_empty(&self) -> bool
+        ensures { IsTrue result ↔ (self.now.core.machine.line ≡ []) }
+    {
+        self.core.line_empty()
+    }
+}
+
+impl<R: Drop> Book<R> {
+    /// One event of a seat. An ask that is no end is exactly one entry, perhaps after a cut, or the book refuses it and nothing has changed:
+    /// with `Exhausted` just where fewer than 1,024 numbers are left, with `NoMemory` where a place or an image cannot be had. An end is
+    /// one entry, and finds its place always; where the core refuses it, it is none. A piece of marking is none.
+    pub fn step(&mut self, seat: u8, event: Event<R>) -> Reply<R>
+        ensures { BookSteps seat self.old event result self.new }
+    {
+        let Some(ask) = event.plain() else {
+            return self.mark_piece(event);
+        };
+        if is_end(&ask) {
+            self.end(seat, ask, event)
+        } else {
+            self.enter(seat, ask, event)
+        }
+    }
+
+    /// A piece of marking of at most so many cells, which is no entry. Takes no memory.
+    pub fn mark(&mut self, budget: u32) -> Progress
+        ensures { MarksBy self.old budget result self.new }
+    {
+        match self.mark_piece(Event::Mark { budget }) {
+            Reply::Marked(progress) => progress,
+            Reply::Answered { .. } => unreachable!(),
+        }
+    }
+
+    /// The core's machine becomes the image, and the trace is let go. An open cycle is given up before, which takes a number.
+    ///
+    /// # Errors
+    /// `AllocError` where there is no memory for the image, and where fewer than 1,024 numbers are left. Nothing has changed then.
+    pub fn cut(&mut self) -> Result<(), AllocError>
+        ensures few { 2 ^ 64 ≤ last self.old + 1024 → IsErr result }
+        ensures ok { OnOk result (Cuts self.old self.new) }
+        ensures err { OnErr result (self.new ≡ self.old) }
+    {
+        if !self.has_numbers() {
+            return Err(AllocError);
+        }
+        let image = self.core.image(self.alloc)?;
+        self.base += cut_trace(
+            &mut self.core,
+            &mut self.choice,
+            &mut self.trace,
+            image.cycle_open,
+        );
+        self.image = close_cycle(image);
+        Ok(())
+    }
+}
+
+impl<R: Drop> Book<R> {
+    /// Whether at least 1,024 entry numbers are left.
+    fn has_numbers(&self) -> bool
+        ensures { MatchBool result (HasNumbers self.now) (2 ^ 64 ≤ last self.now + 1024) }
+    {
+        u64::MAX - self.last() >= SPARE_NUMBERS
+    }
+
+    /// A piece of marking, which is no entry.
+    fn mark_piece(&mut self, event: Event<R>) -> Reply<R>
+        requires { ask_of event ≡ None }
+        ensures { Pieces self.old event result self.new }
+    {
+        self.core.step(event, &mut self.choice)
+    }
+
+    /// An end has its place and its number, or is refused by the core.
+    fn end(&mut self, seat: u8, ask: Ask, event: Event<R>) -> Reply<R>
+        requires ask { ask_of event ≡ Some ask }
+        requires end { is_end ask ≡ true }
+        ensures { EndsBy seat self.old event result self.new }
+    {
+        record_end(
+            self.alloc,
+            &mut self.core,
+            &mut self.choice,
+            &mut self.trace,
+            seat,
+            ask,
+            event,
+        )
+    }
+
+    /// The room of its entry, its place, and one for each end that may be owed then are made before anything changes.
+    fn enter(&mut self, seat: u8, ask: Ask, event: Event<R>) -> Reply<R>
+        requires ask { ask_of event ≡ Some ask }
+        requires end { is_end ask ≡ false }
+        ensures { AsksBy seat self.old event result self.new }
+    {
+        if !self.has_numbers() {
+            return refuse(event, Refusal::Exhausted);
+        }
+        let Ok(room) =
+            EntryRoom::for_event(self.alloc, &self.core, self.limits.cells, &ask, &event)
+        else {
+            return refuse(event, Refusal::NoMemory);
+        };
+        if self.trace.reserve(PLACES).is_err() {
+            return refuse(event, Refusal::NoMemory);
+        }
+        if self.trace.len() < self.limits.trace as usize {
+            return record(
+                &mut self.core,
+                &mut self.choice,
+                room,
+                &mut self.trace,
+                seat,
+                ask,
+                event,
+            );
+        }
+        let Ok(image) = self.core.image(self.alloc) else {
+            return refuse(event, Refusal::NoMemory);
+        };
+        self.base += cut_trace(
+            &mut self.core,
+            &mut self.choice,
+            &mut self.trace,
+            image.cycle_open,
+        );
+        self.image = close_cycle(image);
+        record(
+            &mut self.core,
+            &mut self.choice,
+            room,
+            &mut self.trace,
+            seat,
+            ask,
+            event,
+        )
+    }
+}

@@ -1,0 +1,98 @@
+//! One step of the core, and its entry behind the others.
+ghost use Rattle.std.specs.Prelude.{◌≡◌, ◌≤◌, ◌<◌, ◌+◌, true, length, vec_len, vec_capacity, Some};
+ghost use Rattle.jlr_machine.specs.Refusals.{is_end};
+ghost use Rattle.jlr_event.specs.Events.{ask_of};
+ghost use Rattle.jlr_histories.specs.Owing.{owed};
+ghost use Rattle.jlr_book.specs.Making.{SuitsEntry};
+ghost use Rattle.jlr_book.specs.Writing.{refuses, Stands, Writes, WritesEnd};
+
+use crate::room::{EntryRoom, ListRoom};
+use jlr_core::engine::Core;
+use jlr_event::event::{Event, Reply};
+use jlr_machine::ask::{Answer, Ask};
+use jlr_machine::choice::Choice;
+use jlr_machine::entry::{Chosen, Entry};
+use jlr_machine::items::Items;
+use std::alloc::Global;
+
+/// An ask that is no end: one entry, in a place that is there.
+pub(crate) fn record<R>(
+    core: &mut Core<R>,
+    choice: &mut Choice,
+    room: EntryRoom,
+    trace: &mut Vec<Entry>,
+    seat: u8,
+    ask: Ask,
+    event: Event<R>,
+) -> Reply<R>
+    requires ask { ask_of event ≡ Some ask }
+    requires place { vec_len trace.old < vec_capacity trace.old }
+    requires stands { Stands core.old }
+    requires choice { length core.old.machine.objects ≤ choice.old.cells }
+    requires room { SuitsEntry core.old.machine ask room }
+    ensures writes { Writes seat core.old trace.old.items event result core.new trace.new.items }
+    ensures cells { length core.new.machine.objects ≡ length core.old.machine.objects }
+    ensures room { vec_capacity trace.new ≡ vec_capacity trace.old }
+    ensures choice { choice.new.cells ≡ choice.old.cells }
+{
+    let EntryRoom { choice: own, list } = room;
+    let (reply, chosen) = own.step(core, choice, event);
+    match reply {
+        Reply::Answered { answer, resource } => {
+            trace.push_reserved(Entry {
+                seat,
+                ask,
+                answer: list.copy(&answer),
+                choice: chosen,
+            });
+            Reply::Answered { answer, resource }
+        }
+        Reply::Marked(progress) => Reply::Marked(progress),
+    }
+}
+
+/// An end: one entry, in the place that was kept for it, unless the core refuses it.
+pub(crate) fn record_end<R>(
+    alloc: Global,
+    core: &mut Core<R>,
+    choice: &mut Choice,
+    trace: &mut Vec<Entry>,
+    seat: u8,
+    ask: Ask,
+    event: Event<R>,
+) -> Reply<R>
+    requires ask { ask_of event ≡ Some ask }
+    requires end { is_end ask ≡ true }
+    requires places { vec_len trace.old + owed core.old.machine ≤ vec_capacity trace.old }
+    requires stands { Stands core.old }
+    requires choice { length core.old.machine.objects ≤ choice.old.cells }
+    ensures writes { WritesEnd seat core.old trace.old.items event result core.new trace.new.items }
+    ensures cells { length core.new.machine.objects ≡ length core.old.machine.objects }
+    ensures room { vec_capacity trace.new ≡ vec_capacity trace.old }
+    ensures choice { choice.new.cells ≡ choice.old.cells }
+{
+    match core.step(event, choice) {
+        Reply::Answered { answer, resource } => {
+            if is_refused(&answer) {
+                return Reply::Answered { answer, resource };
+            }
+            trace.push_reserved(Entry {
+                seat,
+                ask,
+                answer: ListRoom::none(alloc).copy(&answer),
+                choice: Chosen {
+                    collected: None,
+                    fresh: Items::new(alloc),
+                },
+            });
+            Reply::Answered { answer, resource }
+        }
+        Reply::Marked(progress) => Reply::Marked(progress),
+    }
+}
+
+fn is_refused(answer: &Answer) -> bool
+    ensures { result ≡ refuses answer.now }
+{
+    matches!(answer, Answer::Refused(_))
+}

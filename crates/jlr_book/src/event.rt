@@ -1,0 +1,45 @@
+//! What a book has to know of an ask, and how it refuses one by itself.
+ghost use Rattle.std.specs.Prelude.{◌≡◌};
+ghost use Rattle.jlr_machine.specs.Refusals.{cells_needed, is_end};
+ghost use Rattle.jlr_event.specs.Events.{resource_of_event};
+ghost use Rattle.jlr_event.specs.declared.event.Reply.TheVariants.{Answered};
+ghost use Rattle.jlr_machine.specs.declared.ask.Answer.TheVariants.{Refused};
+
+use jlr_event::event::{Event, Reply};
+use jlr_machine::ask::{Answer, Ask};
+use jlr_types::Refusal;
+
+/// Whether an ask ends a call or a session.
+pub(crate) fn is_end(ask: &Ask) -> bool
+    ensures { result ≡ is_end ask.now }
+{
+    match ask {
+        Ask::Leave { .. } | Ask::Opened { .. } | Ask::CheckIn { .. } | Ask::Finish { .. } => true,
+        _ => false,
+    }
+}
+
+/// How many objects an ask makes.
+pub(crate) fn new_objects(ask: &Ask) -> usize
+    ensures { result ≡ cells_needed ask.now }
+{
+    match ask {
+        Ask::New { .. }
+        | Ask::MakeRef { .. }
+        | Ask::MakeQueue { .. }
+        | Ask::MakeCleaner { .. }
+        | Ask::Register { .. } => 1,
+        Ask::Prepare { .. } => 2,
+        _ => 0,
+    }
+}
+
+/// A refusal by the book itself. What the event carries goes back with it.
+pub(crate) fn refuse<R>(event: Event<R>, by: Refusal) -> Reply<R>
+    ensures { result ≡ Answered (Refused by) (resource_of_event event) }
+{
+    Reply::Answered {
+        answer: Answer::Refused(by),
+        resource: event.into_resource(),
+    }
+}

@@ -1,0 +1,8 @@
+//! The history of a heap, beside the core that answers: each event is an entry of one legal run.
+#![tactic(auto)]
+
+pub mod book;
+mod cut;
+mod entry;
+mod event;
+pub mod room;

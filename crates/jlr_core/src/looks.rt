@@ -1,0 +1,75 @@
+//! What a caller may look at before it asks: whether an ask may collect, or would wait, and whether anything is left to the helpers.
+ghost use Rattle.std.specs.Prelude.{◌≡◌, ◌↔◌, IsTrue, Some, [], not};
+ghost use Rattle.jlr_machine.specs.Refusals.{refusal};
+ghost use Rattle.jlr_machine.specs.Run.{has_room};
+ghost use Rattle.jlr_machine.specs.WellFormed.{IsWellFormed};
+ghost use Rattle.jlr_event.specs.Events.{ask_of};
+ghost use Rattle.jlr_histories.specs.Collecting.{may_collect};
+ghost use Rattle.jlr_core.specs.Looks.{cells_for};
+
+use crate::state::State;
+use jlr_event::event::Event;
+use jlr_machine::ask::Ask;
+use jlr_types::{Handle, Mutator, Refusal};
+
+impl<R> State<R> {
+    ghost use Rattle.jlr_core.specs.Machines.{machine_of};
+
+    /// Whether an event may come with a collection, whatever it is refused by.
+    pub(crate) fn will_collect(&self, event: &Event<R>) -> bool
+        ensures { result ≡ may_collect (machine_of self.now) (ask_of event.now) }
+    {
+        match event {
+            Event::Full { .. } => true,
+            Event::Collect => self.cycle_open,
+            _ => self.lacks_room(cells_for(event)),
+        }
+    }
+
+    /// Whether fewer cells are free.
+    fn lacks_room(&self, cells: u32) -> bool
+        ensures { result ≡ not (has_room (machine_of self.now) cells) }
+    {
+        self.heap.free_count() < cells
+    }
+
+    /// Whether a `Remove` would be refused because its queue is empty, and nothing that comes before it in the order of refusals.
+    pub(crate) fn would_wait(&self, by: Mutator, queue: Handle) -> bool
+        requires { IsWellFormed (machine_of self.now) }
+        ensures { IsTrue result ↔ (refusal (machine_of self.now) (Ask.Remove by queue) ≡ Some Refusal.WouldWait) }
+    {
+        match self.check_remove(by, queue) {
+            Ok(_) => false,
+            Err(refusal) => refusal == Refusal::WouldWait,
+        }
+    }
+
+    /// Whether nothing is pending.
+    pub(crate) fn pending_empty(&self) -> bool
+        ensures { IsTrue result ↔ ((machine_of self.now).pending ≡ []) }
+    {
+        self.heap.first_pending().is_none()
+    }
+
+    /// Whether nothing stands in the cleaner's line.
+    pub(crate) fn line_empty(&self) -> bool
+        ensures { IsTrue result ↔ ((machine_of self.now).line ≡ []) }
+    {
+        self.heap.first_lined().is_none()
+    }
+}
+
+/// How many cells the objects of an event take.
+fn cells_for<R>(event: &Event<R>) -> u32
+    ensures { result ≡ cells_for (ask_of event.now) }
+{
+    match event {
+        Event::New { .. }
+        | Event::MakeRef { .. }
+        | Event::MakeQueue { .. }
+        | Event::MakeCleaner { .. }
+        | Event::Register { .. } => 1,
+        Event::Prepare { .. } => 2,
+        _ => 0,
+    }
+}
