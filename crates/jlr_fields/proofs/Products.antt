@@ -83,3 +83,12 @@ four_again {A} {B} {C} {D} {X} {a} {sa} {Fa} {b} {sb} {Fb} {c} {sc} {Fc} {d} {sd
     let inner : ((sa v ++ sb w) ++ sc x) ++ sd y ≡ sa v ++ ((sb w ++ sc x) ++ sd y) = ap (λ (t : List ℕ). t ++ sd y) (append_assoc (sa v) (sb w) (sc x)) ∙ append_assoc (sa v) (sb w ++ sc x) (sd y) in
     let parted : (((sa v ++ sb w) ++ sc x) ++ sd y) ++ rest ≡ sa v ++ (((sb w ++ sc x) ++ sd y) ++ rest) = ap (λ (t : List ℕ). t ++ rest) inner ∙ append_assoc (sa v) ((sb w ++ sc x) ++ sd y) rest in
     then_again field v f (λ z. three_fields b c d (make z)) ((((sa v ++ sb w) ++ sc x) ++ sd y) ++ rest) (((sb w ++ sc x) ++ sd y) ++ rest) (make v w x y) rest parted (three_again second third fourth (make v) w x y g h i rest)
+
+pub five_again : {A B C D E X : Type 0} {a : Reader A} {sa : A → List ℕ} {Fa : A → Type 0} {b : Reader B} {sb : B → List ℕ} {Fb : B → Type 0} {c : Reader C} {sc : C → List ℕ} {Fc : C → Type 0} {d : Reader D} {sd : D → List ℕ} {Fd : D → Type 0} {e : Reader E} {se : E → List ℕ} {Fe : E → Type 0}
+    → IsField a sa Fa → IsField b sb Fb → IsField c sc Fc → IsField d sd Fd → IsField e se Fe
+    → (make : A → B → C → D → E → X) (v : A) (w : B) (x : C) (y : D) (z : E) → Fa v → Fb w → Fc x → Fd y → Fe z → (rest : List ℕ) → five_fields a b c d e make (sa v ++ sb w ++ sc x ++ sd y ++ se z ++ rest) ≡ Ok (make v w x y z, rest)
+five_again {A} {B} {C} {D} {E} {X} {a} {sa} {Fa} {b} {sb} {Fb} {c} {sc} {Fc} {d} {sd} {Fd} {e} {se} {Fe} field second third fourth fifth make v w x y z f g h i j rest =
+    let first : ((sa v ++ sb w) ++ sc x) ++ sd y ≡ sa v ++ ((sb w ++ sc x) ++ sd y) = ap (λ (t : List ℕ). t ++ sd y) (append_assoc (sa v) (sb w) (sc x)) ∙ append_assoc (sa v) (sb w ++ sc x) (sd y) in
+    let inner : (((sa v ++ sb w) ++ sc x) ++ sd y) ++ se z ≡ sa v ++ (((sb w ++ sc x) ++ sd y) ++ se z) = ap (λ (t : List ℕ). t ++ se z) first ∙ append_assoc (sa v) ((sb w ++ sc x) ++ sd y) (se z) in
+    let parted : ((((sa v ++ sb w) ++ sc x) ++ sd y) ++ se z) ++ rest ≡ sa v ++ ((((sb w ++ sc x) ++ sd y) ++ se z) ++ rest) = ap (λ (t : List ℕ). t ++ rest) inner ∙ append_assoc (sa v) (((sb w ++ sc x) ++ sd y) ++ se z) rest in
+    then_again field v f (λ p. four_fields b c d e (make p)) (((((sa v ++ sb w) ++ sc x) ++ sd y) ++ se z) ++ rest) ((((sb w ++ sc x) ++ sd y) ++ se z) ++ rest) (make v w x y z) rest parted (four_again second third fourth fifth (make v) w x y z g h i j rest)

@@ -1,7 +1,7 @@
 //! Numbers, and what is spelled as one number.
 ghost use Rattle.std.specs.Prelude.{◌≡◌, ◌≤◌, ◌++◌, IfOk, OnOk};
 ghost use Rattle.std.specs.Int.{w16, w32, w64};
-ghost use Rattle.jlr_fields.specs.Spelling.{spelled_8, spelled_16, spelled_32, spelled_64, spelled_signed, spelled_option};
+ghost use Rattle.jlr_fields.specs.Spelling.{spelled_8, spelled_16, spelled_32, spelled_64, spelled_signed, spelled_flag, spelled_option};
 ghost use Rattle.jlr_fields.specs.Reading.{Gives, byte_at, number_at, signed_at, byte_within_at, flag_at, option_at, picked_at};
 
 use crate::fault::{Fault, ReadError};
@@ -126,6 +126,16 @@ pub fn put_u8(out: &mut Vec<u8>, number: u8) -> Result<(), AllocError>
 {
     out.push(number)?;
     Ok(())
+}
+
+/// Writes a byte 0 for no, 1 for yes.
+pub fn put_flag(out: &mut Vec<u8>, flag: bool) -> Result<(), AllocError>
+    ensures { OnOk result (out.new.items ≡ out.old.items ++ spelled_flag flag) }
+{
+    match flag {
+        false => put_u8(out, 0),
+        true => put_u8(out, 1),
+    }
 }
 
 /// Writes a number of two bytes.
