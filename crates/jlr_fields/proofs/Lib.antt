@@ -6,3 +6,4 @@ pub mod Lists
 pub mod Rising
 pub mod Loop
 pub mod RisingLoop
+pub mod Writing
