@@ -1,0 +1,150 @@
+//! Reads answers.
+ghost use Rattle.std.specs.Prelude.{◌≡◌};
+ghost use Rattle.jlr_fields.specs.Reading.{Reads};
+ghost use Rattle.jlr_answers.specs.declared.tag.Tag.TheVariants.{Handle as TagHandle, Truth as TagTruth, Int as TagInt, Data as TagData, Wrote as TagWrote, Faulted as TagFaulted, Names as TagNames, Notes as TagNotes, Faults as TagFaults, Stat as TagStat, Job as TagJob, Prepared as TagPrepared, Out as TagOut, Handed as TagHanded, Refused as TagRefused};
+ghost use Rattle.jlr_answers.specs.Answers.{answer_read, body_of};
+
+use crate::detail::{handed_at, refusal_at, stat_at};
+use crate::tag::{Tag, tag_at};
+use jlr_fields::cursor::{
+    take_action, take_data, take_flag, take_handle, take_i64, take_rid, take_within,
+};
+use jlr_fields::fault::ReadError;
+use jlr_machine::ask::Answer;
+use jlr_parts::items::take_list;
+use jlr_parts::object::take_work;
+use jlr_parts::tables::take_fault;
+use std::alloc::Global;
+
+fn handle_answer(bytes: &mut &[u8]) -> Result<Answer, ReadError>
+    ensures { Reads (λ x. x) result bytes.new.now (body_of TagHandle bytes.old.now) }
+{
+    let body = take_handle(bytes)?;
+    Ok(Answer::Handle(body))
+}
+
+fn truth_answer(bytes: &mut &[u8]) -> Result<Answer, ReadError>
+    ensures { Reads (λ x. x) result bytes.new.now (body_of TagTruth bytes.old.now) }
+{
+    let body = take_flag(bytes)?;
+    Ok(Answer::Truth(body))
+}
+
+fn int_answer(bytes: &mut &[u8]) -> Result<Answer, ReadError>
+    ensures { Reads (λ x. x) result bytes.new.now (body_of TagInt bytes.old.now) }
+{
+    let body = take_i64(bytes)?;
+    Ok(Answer::Int(body))
+}
+
+fn data_answer(bytes: &mut &[u8]) -> Result<Answer, ReadError>
+    ensures { Reads (λ x. x) result bytes.new.now (body_of TagData bytes.old.now) }
+{
+    let body = take_data(bytes)?;
+    Ok(Answer::Data(body))
+}
+
+fn wrote_answer(bytes: &mut &[u8]) -> Result<Answer, ReadError>
+    ensures { Reads (λ x. x) result bytes.new.now (body_of TagWrote bytes.old.now) }
+{
+    let body = take_within(0, 200, bytes)?;
+    Ok(Answer::Wrote(body))
+}
+
+fn faulted_answer(bytes: &mut &[u8]) -> Result<Answer, ReadError>
+    ensures { Reads (λ x. x) result bytes.new.now (body_of TagFaulted bytes.old.now) }
+{
+    let body = take_fault(bytes)?;
+    Ok(Answer::Faulted(body))
+}
+
+fn names_answer(alloc: Global, bytes: &mut &[u8]) -> Result<Answer, ReadError>
+    ensures { Reads (λ x. x) result bytes.new.now (body_of TagNames bytes.old.now) }
+{
+    let body = take_list(alloc, bytes)?;
+    Ok(Answer::Names(body))
+}
+
+fn notes_answer(alloc: Global, bytes: &mut &[u8]) -> Result<Answer, ReadError>
+    ensures { Reads (λ x. x) result bytes.new.now (body_of TagNotes bytes.old.now) }
+{
+    let body = take_list(alloc, bytes)?;
+    Ok(Answer::Notes(body))
+}
+
+fn faults_answer(alloc: Global, bytes: &mut &[u8]) -> Result<Answer, ReadError>
+    ensures { Reads (λ x. x) result bytes.new.now (body_of TagFaults bytes.old.now) }
+{
+    let body = take_list(alloc, bytes)?;
+    Ok(Answer::Faults(body))
+}
+
+fn stat_answer(bytes: &mut &[u8]) -> Result<Answer, ReadError>
+    ensures { Reads (λ x. x) result bytes.new.now (body_of TagStat bytes.old.now) }
+{
+    let body = stat_at(bytes)?;
+    Ok(Answer::Stat(body))
+}
+
+fn job_answer(bytes: &mut &[u8]) -> Result<Answer, ReadError>
+    ensures { Reads (λ x. x) result bytes.new.now (body_of TagJob bytes.old.now) }
+{
+    let action = take_action(bytes)?;
+    let work = take_work(bytes)?;
+    Ok(Answer::Job { action, work })
+}
+
+fn prepared_answer(bytes: &mut &[u8]) -> Result<Answer, ReadError>
+    ensures { Reads (λ x. x) result bytes.new.now (body_of TagPrepared bytes.old.now) }
+{
+    let body = take_rid(bytes)?;
+    Ok(Answer::Prepared(body))
+}
+
+fn out_answer(bytes: &mut &[u8]) -> Result<Answer, ReadError>
+    ensures { Reads (λ x. x) result bytes.new.now (body_of TagOut bytes.old.now) }
+{
+    let body = take_rid(bytes)?;
+    Ok(Answer::Out(body))
+}
+
+fn handed_answer(bytes: &mut &[u8]) -> Result<Answer, ReadError>
+    ensures { Reads (λ x. x) result bytes.new.now (body_of TagHanded bytes.old.now) }
+{
+    let body = handed_at(bytes)?;
+    Ok(Answer::Handed(body))
+}
+
+fn refused_answer(bytes: &mut &[u8]) -> Result<Answer, ReadError>
+    ensures { Reads (λ x. x) result bytes.new.now (body_of TagRefused bytes.old.now) }
+{
+    let body = refusal_at(bytes)?;
+    Ok(Answer::Refused(body))
+}
+
+/// An answer from the front: its number, and its fields.
+#[tactic(auto, unfolding(crate::specs::Answers::answer_read))]
+pub fn take_answer(alloc: Global, bytes: &mut &[u8]) -> Result<Answer, ReadError>
+    ensures { Reads (λ x. x) result bytes.new.now (answer_read bytes.old.now) }
+{
+    let tag = tag_at(bytes)?;
+    match tag {
+        Tag::Done => Ok(Answer::Done),
+        Tag::Handle => handle_answer(bytes),
+        Tag::Truth => truth_answer(bytes),
+        Tag::Int => int_answer(bytes),
+        Tag::Data => data_answer(bytes),
+        Tag::Wrote => wrote_answer(bytes),
+        Tag::Faulted => faulted_answer(bytes),
+        Tag::Names => names_answer(alloc, bytes),
+        Tag::Notes => notes_answer(alloc, bytes),
+        Tag::Faults => faults_answer(alloc, bytes),
+        Tag::Stat => stat_answer(bytes),
+        Tag::Job => job_answer(bytes),
+        Tag::AlreadyDone => Ok(Answer::AlreadyDone),
+        Tag::Prepared => prepared_answer(bytes),
+        Tag::Out => out_answer(bytes),
+        Tag::Handed => handed_answer(bytes),
+        Tag::Refused => refused_answer(bytes),
+    }
+}

@@ -1,0 +1,274 @@
+-- Asks: what is read is what was written, and what was written is read again.
+use Rattle.std.proofs.Common.{◌≡◌, ℕ, zero, suc, ◌<◌, ◌≤◌, Bool, true, false, cond, eqb, List, [], ◌∷◌, ◌++◌, length, Result, Ok, Err, refl, sym, ap, subst, ◌∙◌, arith}
+use Rattle.std.specs.Prelude.{nat_eq}
+use Rattle.std.specs.List.{flat_map, AllByRecursion}
+use Rattle.std.proofs.lemmas.Bool.{eqb-true}
+use Rattle.jlr_types.specs.declared.FieldKind.{FieldKind}
+use Rattle.jlr_types.specs.declared.FieldKind.TheVariants.{Int as IntField, Ref as RefField}
+use Rattle.jlr_types.specs.declared.Fault.TheVariants.{NotFound, Denied, Other}
+use Rattle.jlr_machine.specs.declared.ask.Outcome.{Outcome}
+use Rattle.jlr_machine.specs.declared.ask.Outcome.TheVariants.{Ok as OutcomeOk, Failed}
+use Rattle.jlr_machine.specs.declared.ask.FullMode.{FullMode}
+use Rattle.jlr_machine.specs.declared.ask.FullMode.TheVariants.{Policy, ClearAll}
+use Rattle.jlr_machine.specs.declared.ask.CallOutcome.{CallOutcome}
+use Rattle.jlr_machine.specs.declared.ask.CallOutcome.TheVariants.{Data as GotData, Wrote as GotWrote, Failed as GotFailed}
+use Rattle.jlr_machine.specs.declared.ask.Ask.{Ask}
+use Rattle.jlr_machine.specs.declared.ask.Ask.TheVariants.{Join, Leave, New, Put, Get, SetInt, Int, Dup, Drop, Same, MakeRef, Deref, Refers, Clear, Enqueue, Enqueued, MakeQueue, Poll, Remove, MakeCleaner, Register, Clean, Prepare, Opened, CheckOut, CheckIn, Close, Finish, Bind, Find, Unbind, Names, Full, Stat, Notes, Faults, HandOver, TakeUp, Begin, Collect, Abandon}
+use Rattle.jlr_fields.specs.declared.fault.Fault.{Fault}
+use Rattle.jlr_fields.specs.declared.fault.Fault.TheVariants.{Range}
+use Rattle.jlr_fields.specs.Reading.{Reader, ◌>>=◌, byte_at, byte_within_at, picked_at, one_field}
+use Rattle.jlr_fields.specs.Spelling.{spelled_8, IsBytes}
+use Rattle.jlr_fields.specs.Items.{items_at}
+use Rattle.jlr_fields.specs.Laws.{Takes, TakesBehind, TakesSpelled, ReadsAgain, IsField}
+use Rattle.jlr_fields.proofs.Steps.{bind_ok, ok_is}
+use Rattle.jlr_fields.proofs.Numbers.{four_bytes, eight_bytes}
+use Rattle.jlr_fields.proofs.Basics.{byte, within, signed, bytes, picked, picked_takes}
+use Rattle.jlr_fields.proofs.Lists.{items_take, items_again}
+use Rattle.jlr_fields.proofs.Products.{then_takes, made_takes, one_takes, two_takes, three_takes, four_takes, then_again, one_again, two_again, three_again, four_again}
+use Rattle.jlr_parts.proofs.TableLaws.{ref_kind, fault}
+use Rattle.jlr_parts.proofs.Records.{name}
+use Rattle.jlr_asks.specs.declared.tag.Tag.{Tag}
+use Rattle.jlr_asks.specs.declared.tag.Tag.TheVariants.{Join as TagJoin, Leave as TagLeave, New as TagNew, Put as TagPut, Get as TagGet, SetInt as TagSetInt, Int as TagInt, Dup as TagDup, Drop as TagDrop, Same as TagSame, MakeRef as TagMakeRef, Deref as TagDeref, Refers as TagRefers, Clear as TagClear, Enqueue as TagEnqueue, Enqueued as TagEnqueued, MakeQueue as TagMakeQueue, Poll as TagPoll, Remove as TagRemove, MakeCleaner as TagMakeCleaner, Register as TagRegister, Clean as TagClean, Prepare as TagPrepare, Opened as TagOpened, CheckOut as TagCheckOut, CheckIn as TagCheckIn, Close as TagClose, Finish as TagFinish, Bind as TagBind, Find as TagFind, Unbind as TagUnbind, Names as TagNames, Full as TagFull, Stat as TagStat, Notes as TagNotes, Faults as TagFaults, HandOver as TagHandOver, TakeUp as TagTakeUp, Begin as TagBegin, Collect as TagCollect, Abandon as TagAbandon}
+use Rattle.jlr_asks.specs.Asks.{outcomes, outcome_number, modes, mode_number, spelled_kind, spelled_layout, kind_read, layout_read, spelled_call_outcome, CallOutcomeFits, call_outcome_behind, call_outcome_read, spelled_ask, AskFits, tags, body_of, ask_read}
+
+-- ---- Tables
+
+outcome_again : (x : Outcome) (rest : List ℕ) → picked_at 0 outcomes (outcome_number x ∷ rest) ≡ Ok (x, rest)
+unfolding picked_at
+outcome_again OutcomeOk rest = refl
+outcome_again (Failed NotFound) rest = refl
+outcome_again (Failed Denied) rest = refl
+outcome_again (Failed Other) rest = refl
+
+outcome : IsField (picked_at 0 outcomes) (λ x. spelled_8 (outcome_number x)) (λ _. Unit {0})
+outcome = picked 0 outcomes outcome_number refl outcome_again
+
+mode_again : (x : FullMode) (rest : List ℕ) → picked_at 0 modes (mode_number x ∷ rest) ≡ Ok (x, rest)
+unfolding picked_at
+mode_again Policy rest = refl
+mode_again ClearAll rest = refl
+
+mode : IsField (picked_at 0 modes) (λ x. spelled_8 (mode_number x)) (λ _. Unit {0})
+mode = picked 0 modes mode_number refl mode_again
+
+-- ---- Layouts
+
+-- the kind of a letter
+abbrev kind_of : ℕ → List ℕ → Result (FieldKind × List ℕ) Fault
+kind_of b rest = cond (nat_eq b 114) (Ok (RefField, rest)) (cond (nat_eq b 105) (Ok (IntField, rest)) (Err Range))
+
+kind_letter : (b : ℕ) (bytes : List ℕ) (k : FieldKind) (rest : List ℕ) (r i : Bool) → nat_eq b 114 ≡ r → nat_eq b 105 ≡ i → IsBytes bytes
+    → cond {A = Result (FieldKind × List ℕ) Fault} r (Ok (RefField, bytes)) (cond {A = Result (FieldKind × List ℕ) Fault} i (Ok (IntField, bytes)) (Err Range)) ≡ Ok (k, rest) → Takes (b ∷ bytes) (spelled_kind k) rest
+kind_letter b bytes k rest true i is other fits e =
+    let made : FieldKind × List ℕ = (RefField, bytes) in
+    let same : b ≡ 114 = eqb-true b 114 is in
+    subst (λ (y : FieldKind × List ℕ). Takes (b ∷ bytes) (spelled_kind y.0) y.1) (ok_is made (k, rest) e) (record { parts = ap (λ n. n ∷ bytes) same; rest_fits = fits })
+kind_letter b bytes k rest false true other is fits e =
+    let made : FieldKind × List ℕ = (IntField, bytes) in
+    let same : b ≡ 105 = eqb-true b 105 is in
+    subst (λ (y : FieldKind × List ℕ). Takes (b ∷ bytes) (spelled_kind y.0) y.1) (ok_is made (k, rest) e) (record { parts = ap (λ n. n ∷ bytes) same; rest_fits = fits })
+kind_letter b bytes k rest false false p q fits e = absurd cc
+
+kind_takes : TakesSpelled kind_read spelled_kind (λ _. Unit {0})
+unfolding kind_read
+kind_takes [] k rest fits e = absurd cc
+kind_takes (b ∷ bytes) k rest fits e = (kind_letter b bytes k rest (nat_eq b 114) (nat_eq b 105) refl refl (λ i. fits (suc i)) e, tt)
+
+kind_again : ReadsAgain kind_read spelled_kind (λ _. Unit {0})
+unfolding kind_read
+kind_again RefField rest fits = refl
+kind_again IntField rest fits = refl
+
+all_kinds : (layout : List FieldKind) → AllByRecursion (λ _. Unit {0}) layout
+all_kinds [] = tt
+all_kinds (k ∷ layout) = (tt, all_kinds layout)
+
+kinds : (count : ℕ) → IsField (items_at kind_read count) (flat_map spelled_kind) (λ layout. length layout ≡ count)
+kinds count = record {
+  takes = λ bs xs rest fits e. let t = items_take kind_read spelled_kind (λ _. Unit {0}) kind_takes count bs xs rest fits e in (t.0, t.1);
+  again = λ xs rest fits. ap (λ n. items_at kind_read n (flat_map spelled_kind xs ++ rest)) (sym fits) ∙ items_again kind_read spelled_kind (λ _. Unit {0}) kind_again xs rest (all_kinds xs);
+}
+
+-- layouts of at most eight fields
+abbrev LayoutFits : List FieldKind → Type 0
+LayoutFits layout = length layout ≤ 8
+
+kinds_behind : (count : ℕ) → count ≤ 8 → TakesBehind (count ∷ []) (items_at kind_read count) spelled_layout LayoutFits
+kinds_behind count few bs xs rest fits e =
+    let t = (kinds count).takes bs xs rest fits e in
+    (record { parts = ap (λ (b : List ℕ). count ∷ b) t.0.parts ∙ ap (λ n. n ∷ (flat_map spelled_kind xs ++ rest)) (sym t.1); rest_fits = t.0.rest_fits }, omega (arith, t.1))
+
+layout_takes : TakesSpelled layout_read spelled_layout LayoutFits
+unfolding layout_read
+layout_takes = then_takes (within 0 8) [] (items_at kind_read) spelled_layout LayoutFits (λ count f. kinds_behind count f.1)
+
+layout_again : ReadsAgain layout_read spelled_layout LayoutFits
+unfolding layout_read
+layout_again xs rest fits = then_again (within 0 8) (length xs) (omega arith, fits) (items_at kind_read) (spelled_layout xs ++ rest) (flat_map spelled_kind xs ++ rest) xs rest refl ((kinds (length xs)).again xs rest refl)
+
+layout : IsField layout_read spelled_layout LayoutFits
+layout = record { takes = layout_takes; again = layout_again }
+
+-- ---- How a call ended
+
+call_outcome_behind_takes : (kind : ℕ) → TakesBehind (kind ∷ []) (call_outcome_behind kind) spelled_call_outcome CallOutcomeFits
+call_outcome_behind_takes zero = one_takes (bytes 0 200) (0 ∷ []) GotData spelled_call_outcome CallOutcomeFits (λ t. refl) (λ t f. f)
+call_outcome_behind_takes (suc zero) = one_takes (within 0 200) (1 ∷ []) GotWrote spelled_call_outcome CallOutcomeFits (λ n. refl) (λ n f. f)
+call_outcome_behind_takes (suc (suc zero)) = one_takes fault (2 ∷ []) GotFailed spelled_call_outcome CallOutcomeFits (λ x. refl) (λ x f. tt)
+call_outcome_behind_takes (suc (suc (suc n))) = λ bs x rest fits e. absurd cc
+
+call_outcome_takes : TakesSpelled call_outcome_read spelled_call_outcome CallOutcomeFits
+unfolding call_outcome_read
+call_outcome_takes = then_takes byte [] call_outcome_behind spelled_call_outcome CallOutcomeFits (λ kind f. call_outcome_behind_takes kind)
+
+call_outcome_again : ReadsAgain call_outcome_read spelled_call_outcome CallOutcomeFits
+unfolding call_outcome_read
+call_outcome_again (GotData text) rest fits = one_again (bytes 0 200) GotData text fits rest
+call_outcome_again (GotWrote count) rest fits = one_again (within 0 200) GotWrote count fits rest
+call_outcome_again (GotFailed x) rest fits = one_again fault GotFailed x tt rest
+
+call_outcome : IsField call_outcome_read spelled_call_outcome CallOutcomeFits
+call_outcome = record { takes = call_outcome_takes; again = call_outcome_again }
+
+-- ---- Asks
+
+abbrev tag_number : Tag → ℕ
+tag_number TagJoin = 0
+tag_number TagLeave = 1
+tag_number TagNew = 2
+tag_number TagPut = 3
+tag_number TagGet = 4
+tag_number TagSetInt = 5
+tag_number TagInt = 6
+tag_number TagDup = 7
+tag_number TagDrop = 8
+tag_number TagSame = 9
+tag_number TagMakeRef = 10
+tag_number TagDeref = 11
+tag_number TagRefers = 12
+tag_number TagClear = 13
+tag_number TagEnqueue = 14
+tag_number TagEnqueued = 15
+tag_number TagMakeQueue = 16
+tag_number TagPoll = 17
+tag_number TagRemove = 18
+tag_number TagMakeCleaner = 19
+tag_number TagRegister = 20
+tag_number TagClean = 21
+tag_number TagPrepare = 22
+tag_number TagOpened = 23
+tag_number TagCheckOut = 24
+tag_number TagCheckIn = 25
+tag_number TagClose = 26
+tag_number TagFinish = 27
+tag_number TagBind = 28
+tag_number TagFind = 29
+tag_number TagUnbind = 30
+tag_number TagNames = 31
+tag_number TagFull = 32
+tag_number TagStat = 33
+tag_number TagNotes = 34
+tag_number TagFaults = 35
+tag_number TagHandOver = 36
+tag_number TagTakeUp = 37
+tag_number TagBegin = 38
+tag_number TagCollect = 39
+tag_number TagAbandon = 40
+
+body_takes : (tag : Tag) → TakesBehind (tag_number tag ∷ []) (body_of tag) spelled_ask AskFits
+body_takes TagJoin = one_takes byte (0 ∷ []) Join spelled_ask AskFits (λ a. refl) (λ a p. p)
+body_takes TagLeave = one_takes byte (1 ∷ []) Leave spelled_ask AskFits (λ a. refl) (λ a p. p)
+body_takes TagNew = two_takes byte layout (2 ∷ []) New spelled_ask AskFits (λ a b. refl) (λ a b p q. (p, q))
+body_takes TagPut = four_takes byte byte byte byte (3 ∷ []) Put spelled_ask AskFits (λ a b c d. refl) (λ a b c d p q r s. (p, q, r, s))
+body_takes TagGet = three_takes byte byte byte (4 ∷ []) Get spelled_ask AskFits (λ a b c. refl) (λ a b c p q r. (p, q, r))
+body_takes TagSetInt = four_takes byte byte byte signed (5 ∷ []) SetInt spelled_ask AskFits (λ a b c d. refl) (λ a b c d p q r s. (p, q, r, s))
+body_takes TagInt = three_takes byte byte byte (6 ∷ []) Int spelled_ask AskFits (λ a b c. refl) (λ a b c p q r. (p, q, r))
+body_takes TagDup = two_takes byte byte (7 ∷ []) Dup spelled_ask AskFits (λ a b. refl) (λ a b p q. (p, q))
+body_takes TagDrop = two_takes byte byte (8 ∷ []) Drop spelled_ask AskFits (λ a b. refl) (λ a b p q. (p, q))
+body_takes TagSame = three_takes byte byte byte (9 ∷ []) Same spelled_ask AskFits (λ a b c. refl) (λ a b c p q r. (p, q, r))
+body_takes TagMakeRef = four_takes byte ref_kind byte byte (10 ∷ []) MakeRef spelled_ask AskFits (λ a b c d. refl) (λ a b c d p q r s. (p, r, s))
+body_takes TagDeref = two_takes byte byte (11 ∷ []) Deref spelled_ask AskFits (λ a b. refl) (λ a b p q. (p, q))
+body_takes TagRefers = three_takes byte byte byte (12 ∷ []) Refers spelled_ask AskFits (λ a b c. refl) (λ a b c p q r. (p, q, r))
+body_takes TagClear = two_takes byte byte (13 ∷ []) Clear spelled_ask AskFits (λ a b. refl) (λ a b p q. (p, q))
+body_takes TagEnqueue = two_takes byte byte (14 ∷ []) Enqueue spelled_ask AskFits (λ a b. refl) (λ a b p q. (p, q))
+body_takes TagEnqueued = two_takes byte byte (15 ∷ []) Enqueued spelled_ask AskFits (λ a b. refl) (λ a b p q. (p, q))
+body_takes TagMakeQueue = one_takes byte (16 ∷ []) MakeQueue spelled_ask AskFits (λ a. refl) (λ a p. p)
+body_takes TagPoll = two_takes byte byte (17 ∷ []) Poll spelled_ask AskFits (λ a b. refl) (λ a b p q. (p, q))
+body_takes TagRemove = two_takes byte byte (18 ∷ []) Remove spelled_ask AskFits (λ a b. refl) (λ a b p q. (p, q))
+body_takes TagMakeCleaner = one_takes byte (19 ∷ []) MakeCleaner spelled_ask AskFits (λ a. refl) (λ a p. p)
+body_takes TagRegister = four_takes byte byte byte four_bytes (20 ∷ []) Register spelled_ask AskFits (λ a b c d. refl) (λ a b c d p q r s. (p, q, r, s))
+body_takes TagClean = two_takes byte byte (21 ∷ []) Clean spelled_ask AskFits (λ a b. refl) (λ a b p q. (p, q))
+body_takes TagPrepare = one_takes byte (22 ∷ []) Prepare spelled_ask AskFits (λ a. refl) (λ a p. p)
+body_takes TagOpened = two_takes byte outcome (23 ∷ []) Opened spelled_ask AskFits (λ a b. refl) (λ a b p q. p)
+body_takes TagCheckOut = two_takes byte byte (24 ∷ []) CheckOut spelled_ask AskFits (λ a b. refl) (λ a b p q. (p, q))
+body_takes TagCheckIn = two_takes byte call_outcome (25 ∷ []) CheckIn spelled_ask AskFits (λ a b. refl) (λ a b p q. (p, q))
+body_takes TagClose = two_takes byte byte (26 ∷ []) Close spelled_ask AskFits (λ a b. refl) (λ a b p q. (p, q))
+body_takes TagFinish = three_takes byte eight_bytes outcome (27 ∷ []) Finish spelled_ask AskFits (λ a b c. refl) (λ a b c p q r. (p, q))
+body_takes TagBind = three_takes byte name byte (28 ∷ []) Bind spelled_ask AskFits (λ a b c. refl) (λ a b c p q r. (p, q, r))
+body_takes TagFind = two_takes byte name (29 ∷ []) Find spelled_ask AskFits (λ a b. refl) (λ a b p q. (p, q))
+body_takes TagUnbind = two_takes byte name (30 ∷ []) Unbind spelled_ask AskFits (λ a b. refl) (λ a b p q. (p, q))
+body_takes TagNames = one_takes byte (31 ∷ []) Names spelled_ask AskFits (λ a. refl) (λ a p. p)
+body_takes TagFull = two_takes byte mode (32 ∷ []) Full spelled_ask AskFits (λ a b. refl) (λ a b p q. p)
+body_takes TagStat = one_takes byte (33 ∷ []) Stat spelled_ask AskFits (λ a. refl) (λ a p. p)
+body_takes TagNotes = one_takes byte (34 ∷ []) Notes spelled_ask AskFits (λ a. refl) (λ a p. p)
+body_takes TagFaults = one_takes byte (35 ∷ []) Faults spelled_ask AskFits (λ a. refl) (λ a p. p)
+body_takes TagHandOver = made_takes (36 ∷ []) HandOver spelled_ask AskFits refl tt
+body_takes TagTakeUp = made_takes (37 ∷ []) TakeUp spelled_ask AskFits refl tt
+body_takes TagBegin = made_takes (38 ∷ []) Begin spelled_ask AskFits refl tt
+body_takes TagCollect = made_takes (39 ∷ []) Collect spelled_ask AskFits refl tt
+body_takes TagAbandon = made_takes (40 ∷ []) Abandon spelled_ask AskFits refl tt
+
+ask_takes : TakesSpelled ask_read spelled_ask AskFits
+unfolding ask_read
+ask_takes bs x rest fits e =
+    let a = bind_ok (picked_at 0 tags bs) (λ tag. body_of tag.0 tag.1) (x, rest) e in
+    let t = picked_takes 0 tags tag_number refl bs a.0.0 a.0.1 fits a.1 in
+    let r = body_takes a.0.0 a.0.1 x rest t.rest_fits a.2 in
+    (record { parts = t.parts ∙ r.0.parts; rest_fits = r.0.rest_fits }, r.1)
+
+ask_again : ReadsAgain ask_read spelled_ask AskFits
+unfolding ask_read picked_at
+ask_again (Join mutator) rest fits = refl
+ask_again (Leave mutator) rest fits = refl
+ask_again (New a b) rest fits = two_again byte layout New a b fits.0 fits.1 rest
+ask_again (Put mutator object field value) rest fits = refl
+ask_again (Get mutator object field) rest fits = refl
+ask_again (SetInt a b c d) rest fits = four_again byte byte byte signed SetInt a b c d fits.0 fits.1 fits.2 fits.3 rest
+ask_again (Int mutator object field) rest fits = refl
+ask_again (Dup mutator object) rest fits = refl
+ask_again (Drop mutator object) rest fits = refl
+ask_again (Same mutator left right) rest fits = refl
+ask_again (MakeRef a b c d) rest fits = four_again byte ref_kind byte byte MakeRef a b c d fits.0 tt fits.1 fits.2 rest
+ask_again (Deref mutator reference) rest fits = refl
+ask_again (Refers mutator reference object) rest fits = refl
+ask_again (Clear mutator reference) rest fits = refl
+ask_again (Enqueue mutator reference) rest fits = refl
+ask_again (Enqueued mutator reference) rest fits = refl
+ask_again (MakeQueue mutator) rest fits = refl
+ask_again (Poll mutator queue) rest fits = refl
+ask_again (Remove mutator queue) rest fits = refl
+ask_again (MakeCleaner mutator) rest fits = refl
+ask_again (Register a b c d) rest fits = four_again byte byte byte four_bytes Register a b c d fits.0 fits.1 fits.2 fits.3 rest
+ask_again (Clean mutator cleanable) rest fits = refl
+ask_again (Prepare mutator) rest fits = refl
+ask_again (Opened a b) rest fits = two_again byte outcome Opened a b fits tt rest
+ask_again (CheckOut mutator guard) rest fits = refl
+ask_again (CheckIn a b) rest fits = two_again byte call_outcome CheckIn a b fits.0 fits.1 rest
+ask_again (Close mutator guard) rest fits = refl
+ask_again (Finish a b c) rest fits = three_again byte eight_bytes outcome Finish a b c fits.0 fits.1 tt rest
+ask_again (Bind a b c) rest fits = three_again byte name byte Bind a b c fits.0 fits.1 fits.2 rest
+ask_again (Find a b) rest fits = two_again byte name Find a b fits.0 fits.1 rest
+ask_again (Unbind a b) rest fits = two_again byte name Unbind a b fits.0 fits.1 rest
+ask_again (Names mutator) rest fits = refl
+ask_again (Full a b) rest fits = two_again byte mode Full a b fits tt rest
+ask_again (Stat mutator) rest fits = refl
+ask_again (Notes mutator) rest fits = refl
+ask_again (Faults mutator) rest fits = refl
+ask_again HandOver rest fits = refl
+ask_again TakeUp rest fits = refl
+ask_again Begin rest fits = refl
+ask_again Collect rest fits = refl
+ask_again Abandon rest fits = refl
+
+pub ask : IsField ask_read spelled_ask AskFits
+ask = record { takes = ask_takes; again = ask_again }

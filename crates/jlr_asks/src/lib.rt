@@ -1,0 +1,8 @@
+//! Asks of a trace file: how they are spelled, written and read.
+#![tactic(auto)]
+
+mod layout;
+mod outcome;
+pub mod reading;
+mod tag;
+pub mod writing;

@@ -1,0 +1,77 @@
+//! Texts: a byte of length, and that many bytes.
+ghost use Rattle.std.specs.Prelude.{◌≡◌, ◌≤◌, ◌<◌, ◌++◌, take, length, OnOk};
+ghost use Rattle.std.specs.List.{list_all};
+ghost use Rattle.jlr_fields.specs.Spelling.{spelled_text};
+ghost use Rattle.jlr_fields.specs.Reading.{Gives, is_name_byte, taken_at, bytes_at, text_at};
+
+use crate::fault::{Fault, ReadError};
+use crate::number::byte_within;
+use jlr_machine::text::{Data, Name, Text};
+use std::alloc::AllocError;
+
+fn is_good(byte: u8) -> bool
+    ensures { result ≡ is_name_byte byte }
+{
+    (97 <= byte && byte <= 122) || (48 <= byte && byte <= 57) || byte == 95
+}
+
+fn all_good(bytes: &[u8]) -> bool
+    ensures { result ≡ list_all is_name_byte bytes.now }
+{
+    bytes.iter().all(|&byte| is_good(byte))
+}
+
+/// So many bytes, or those that there are.
+fn front(bytes: &[u8], count: usize) -> &[u8]
+    ensures { result.now ≡ take count bytes.now }
+{
+    if bytes.len() < count {
+        bytes
+    } else {
+        &bytes[..count]
+    }
+}
+
+#[tactic(auto, unfolding(crate::specs::Reading::taken_at))]
+fn taken<const N: usize>(bytes: &[u8], count: usize) -> Result<(Text<N>, &[u8]), ReadError>
+    requires { count ≤ N }
+    ensures { Gives (λ x. (x.0, x.1.now)) result (taken_at count bytes.now) }
+{
+    if bytes.len() < count {
+        return Err(ReadError::Fault(Fault::Short));
+    }
+    let (text, rest) = bytes.split_at(count);
+    Ok((Text::from_slice(text).unwrap(), rest))
+}
+
+/// What one call read: at most 200 bytes.
+#[tactic(auto, unfolding(crate::specs::Reading::bytes_at))]
+pub(crate) fn data_at(bytes: &[u8]) -> Result<(Data, &[u8]), ReadError>
+    ensures { Gives (λ x. (x.0, x.1.now)) result (bytes_at 0 200 bytes.now) }
+{
+    let (count, rest) = byte_within(0, 200, bytes)?;
+    taken::<200>(rest, count as usize)
+}
+
+/// A name. A wrong byte is met before the end of the bytes.
+#[tactic(auto, unfolding(crate::specs::Reading::text_at))]
+pub(crate) fn name_at(bytes: &[u8]) -> Result<(Name, &[u8]), ReadError>
+    ensures { Gives (λ x. (x.0, x.1.now)) result (text_at 1 32 is_name_byte bytes.now) }
+{
+    let (count, rest) = byte_within(1, 32, bytes)?;
+    let count = count as usize;
+    if !all_good(front(rest, count)) {
+        return Err(ReadError::Fault(Fault::Range));
+    }
+    taken::<32>(rest, count)
+}
+
+/// Writes a text of at most 255 bytes.
+pub fn put_text(out: &mut Vec<u8>, text: &[u8]) -> Result<(), AllocError>
+    requires { length text.now < 256 }
+    ensures { OnOk result (out.new.items ≡ out.old.items ++ spelled_text text.now) }
+{
+    out.push(text.len() as u8)?;
+    out.extend_from_slice(text)?;
+    Ok(())
+}
