@@ -1,11 +1,9 @@
 -- What a book tells after an entry more, a refused end, and a cut.
-use Rattle.std.proofs.Common.{nat_lt, replicate, zero, ◌≡◌, ◌≢◌, ◌⊎◌, inl, inr, append-nil, ℕ, suc, ◌+◌, ◌≤◌, ◌<◌, ◌^◌, Bool, true, false, cond, List, [], ◌∷◌, ◌++◌, length, Option, Some, None, refl, sym, ◌∙◌, ap, subst, arith, option_to_list, length-append}
+use Rattle.std.proofs.Common.{nat_lt, replicate, zero, ◌≡◌, inl, inr, append-nil, ℕ, suc, ◌+◌, ◌≤◌, ◌<◌, ◌^◌, Bool, true, false, cond, List, [], ◌∷◌, ◌++◌, length, Option, Some, None, refl, sym, ◌∙◌, ap, subst, arith, option_to_list, length-append}
 use Rattle.std.proofs.lemmas.Bool.{both_ways, lt-ltb, ltb-true}
 use Rattle.jlr_types.specs.declared.limits.Limits.{Limits}
-use Rattle.jlr_types.specs.declared.Refusal.{Refusal}
 use Rattle.jlr_machine.specs.declared.machine.Machine.{Machine}
 use Rattle.jlr_machine.specs.declared.ask.Ask.{Ask}
-use Rattle.jlr_machine.specs.declared.ask.Answer.TheVariants.{Refused}
 use Rattle.jlr_machine.specs.declared.entry.Chosen.{Chosen}
 use Rattle.jlr_machine.specs.declared.entry.Entry.{Entry}
 use Rattle.jlr_machine.specs.Refusals.{is_end}
@@ -16,14 +14,14 @@ use Rattle.jlr_event.specs.declared.event.Event.{Event}
 use Rattle.jlr_event.specs.declared.event.Reply.{Reply}
 use Rattle.jlr_event.specs.Events.{ask_of, answer_in}
 use Rattle.jlr_core.specs.Cores.{Kept}
-use Rattle.jlr_core.specs.Steps.{IsEmpty, IsStep}
-use Rattle.jlr_book.specs.Histories.{Ends, HasNumbers, History, IsHistory, last, seated, spare}
+use Rattle.jlr_core.specs.Steps.{IsStep}
+use Rattle.jlr_book.specs.Histories.{Ends, HasNumbers, History, IsHistory, seated, spare}
 use Rattle.jlr_laws.proofs.Empty.{empty_is_well_formed}
 use Rattle.jlr_histories.specs.Owing.{owed, owed_by, most_owed}
 use Rattle.jlr_histories.proofs.Owing.{owed_bounded}
 use Rattle.jlr_core.proofs.Ranges.{limits_hold}
 use Rattle.jlr_core.proofs.RunLaws.{stands_at_start, start_cells}
-use Rattle.jlr_book.specs.Rules.{AsksBy, BookSteps, Cuts, EndsBy, Enters, GivesUp, MarksBy, Readies, StepsBy}
+use Rattle.jlr_book.specs.Rules.{AsksBy, BookSteps, Cuts, EndsBy, Enters, GivesUp, Readies, StepsBy}
 use Rattle.jlr_book.specs.Writing.{Pieces, Stands, Writes, WritesEnd}
 use Rattle.jlr_book.proofs.Entering.{closed, ends_more, owed_less_by, refused_stays, stands_for_its_own, stands_there}
 

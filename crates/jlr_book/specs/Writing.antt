@@ -1,5 +1,5 @@
 -- Steps of the core that are written down, without the rest of the book.
-use Rattle.std.specs.Prelude.{◌≡◌, ◌≢◌, ◌⊎◌, ℕ, Bool, true, false, ◌++◌, List, Option, Some}
+use Rattle.std.specs.Prelude.{◌≡◌, ◌≢◌, ◌⊎◌, ℕ, Bool, true, false, ◌++◌, List, Some}
 use Rattle.std.specs.Option.{option_to_list}
 use Rattle.jlr_types.specs.declared.Refusal.{Refusal}
 use Rattle.jlr_machine.specs.declared.machine.Machine.{Machine}

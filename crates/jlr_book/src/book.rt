@@ -222,8 +222,7 @@ impl<R: Drop> Book<R> {
         if !self.has_numbers() {
             return refuse(event, Refusal::Exhausted);
         }
-        let Ok(room) =
-            EntryRoom::for_event(self.alloc, &self.core, self.limits.cells, &ask, &event)
+        let Ok(room) = EntryRoom::for_event(self.alloc, &self.core, self.limits.cells, &ask, &event)
         else {
             return refuse(event, Refusal::NoMemory);
         };

@@ -169,10 +169,7 @@ impl ChoiceRoom {
         if core.will_collect(event) {
             return Ok(ChoiceRoom::Collecting(Choice::new(alloc, cells)?));
         }
-        Ok(ChoiceRoom::Plain(Vec::with_capacity(
-            alloc,
-            new_objects(ask),
-        )?))
+        Ok(ChoiceRoom::Plain(Vec::with_capacity(alloc, new_objects(ask))?))
     }
 
     /// One step of the core, and what it chose. Where no collection comes, the core is lent a choice.

@@ -1,0 +1,134 @@
+//! What is an entry, and what a cut leaves.
+use super::play::play_all;
+use std::test::Fail;
+
+const LISTS: &str = "
+== an ask at the limit cuts
+    trace 0 0
+    join -> done
+    63 times stat -> stat 0
+    trace 0 64
+    stat -> stat 0
+    trace 64 1
+    6 times stat -> stat 0
+    leave 0 -> done
+    trace 64 8
+    last 72
+
+== an ask at the limit gives an open cycle up
+    join -> done
+    62 times stat -> stat 0
+    begin -> yes
+    trace 0 64
+    stat -> stat 0
+    trace 65 1
+    collect -> no
+    trace 65 2
+
+== an end is written behind the limit, and a refused end is no entry
+    join -> done
+    62 times stat -> stat 0
+    prepare -> prepared
+    trace 0 64
+    opened 5 -> handle 1
+    trace 0 65
+    stat -> stat 2
+    trace 65 1
+    image 2
+    leave 1 -> refused 13
+    trace 65 1
+    opened 6 -> refused 17 6
+    trace 65 1
+    last 66
+
+-- The list answers are copied into the trace, and so are new objects and what a collection did.
+== lists, new objects and collections are entries
+    join -> done
+    cleaner -> handle 1
+    new -> handle 2
+    new -> handle 3
+    bind a 1 -> done
+    names -> items 1
+    register 1 2 -> handle 4
+    register 1 3 -> handle 5
+    drop 2 -> done
+    drop 3 -> done
+    pending no
+    full -> done
+    pending yes
+    line no
+    seat 2 hand_over -> lined
+    seat 2 hand_over -> lined
+    pending no
+    line yes
+    seat 3 take_up -> job 1
+    seat 3 finish 1 ok -> done
+    seat 3 take_up -> job 2
+    seat 3 finish 2 failed -> faulted
+    line no
+    notes -> items 1
+    faults -> items 1
+    trace 0 19
+    drop 4 -> done
+    drop 5 -> done
+    begin -> yes
+    collect -> yes
+    stat -> stat 1
+    trace 0 24
+
+== a new object that finds no room collects
+    join -> done
+    queue -> handle 1
+    new -> handle 2
+    weak 2 1 -> handle 3
+    new -> handle 4
+    new -> handle 5
+    new -> handle 6
+    new -> handle 7
+    new -> handle 8
+    new -> handle 9
+    new -> handle 10
+    new -> handle 11
+    new -> handle 12
+    new -> handle 13
+    new -> handle 14
+    new -> handle 15
+    new -> handle 16
+    new -> refused 2
+    waits 1 yes
+    drop 2 -> done
+    new -> handle 2
+    pending yes
+    seat 2 hand_over -> queued
+    waits 1 no
+    drop 16 -> done
+    poll 1 -> handle 16
+    waits 1 yes
+    waits 2 no
+    trace 0 23
+
+== a cut by hand gives an open cycle up, and marking is no entry
+    join -> done
+    new -> handle 1
+    mark idle
+    mark -> idle
+    begin -> yes
+    mark done
+    mark -> marked
+    trace 0 3
+    cut
+    trace 4 0
+    image 1
+    abandon -> no
+    trace 4 1
+    cut
+    trace 5 0
+    cut
+    trace 5 0
+    last 5
+";
+
+#[test]
+fn entries_are_numbered_through_cuts(rt: HostRuntime) -> Result<(), Fail> {
+    play_all(rt.alloc(), LISTS)
+}
