@@ -1,0 +1,15 @@
+use Rattle.std.proofs.Common.{◌≡◌, ◌-◌, ◌<◌, ◌≤◌, ◌++◌, length, None}
+use Rattle.jlr_fields.specs.Items.{rising_items_at}
+use Rattle.jlr_fields.proofs.Loop.{with_front}
+use Rattle.jlr_parts.specs.Records.{placed_after}
+use Rattle.jlr_trace.specs.Images.{listed_from, placed}
+use Rattle.jlr_trace.proofs.Placing.{next_of}
+use Rattle.jlr_trace.proofs.places.placed_at.Given as goal
+
+abbrev pub invariant-loop : goal.invariant-loop
+invariant-loop l = record {
+  read : with_front (listed_from placed 0 l.places.items ++ l.strays.items) (rising_items_at placed_after (λ p. p.slot) (l.count - l.counter) l.before l.bytes.now) ≡ rising_items_at placed_after (λ p. p.slot) l.count None l.fn.bytes.now;
+  below : length l.places.items ≤ next_of l.before;
+  few : length l.places.items ≤ l.cells;
+  apart : 0 < length l.strays.items → l.cells < next_of l.before;
+}

@@ -1,0 +1,43 @@
+//! Entries, and the loop over them.
+ghost use Rattle.std.specs.Prelude.{◌≡◌, ◌++◌, OnOk};
+ghost use Rattle.jlr_fields.specs.Reading.{Reads};
+ghost use Rattle.jlr_trace.specs.Entries.{entry_read, spelled_entry, EntryCounts};
+
+use crate::choice::{choice_at, put_choice};
+use jlr_answers::reading::take_answer;
+use jlr_answers::writing::put_answer;
+use jlr_asks::reading::take_ask;
+use jlr_asks::writing::put_ask;
+use jlr_fields::cursor::take_u8;
+use jlr_fields::fault::ReadError;
+use jlr_fields::number::put_u8;
+use jlr_machine::entry::Entry;
+use std::alloc::{AllocError, Global};
+
+/// An entry.
+#[tactic(auto, unfolding(crate::specs::Entries::entry_read))]
+pub(crate) fn entry_at(alloc: Global, bytes: &mut &[u8]) -> Result<Entry, ReadError>
+    ensures { Reads (λ x. x) result bytes.new.now (entry_read bytes.old.now) }
+{
+    let seat = take_u8(bytes)?;
+    let ask = take_ask(bytes)?;
+    let answer = take_answer(alloc, bytes)?;
+    let choice = choice_at(alloc, bytes)?;
+    Ok(Entry {
+        seat,
+        ask,
+        answer,
+        choice,
+    })
+}
+
+/// Writes an entry.
+pub(crate) fn put_entry(out: &mut Vec<u8>, entry: &Entry) -> Result<(), AllocError>
+    requires { EntryCounts entry.now }
+    ensures { OnOk result (out.new.items ≡ out.old.items ++ spelled_entry entry.now) }
+{
+    put_u8(out, entry.seat)?;
+    put_ask(out, &entry.ask)?;
+    put_answer(out, &entry.answer)?;
+    put_choice(out, &entry.choice)
+}

@@ -1,0 +1,186 @@
+//! Reading a trace file.
+ghost use Rattle.std.specs.Prelude.{◌≡◌, ℕ, [], ◌++◌, List, Ok, IfOk};
+ghost use Rattle.std.specs.Int.{w64};
+ghost use Rattle.jlr_fields.specs.Reading.{number_at};
+ghost use Rattle.jlr_trace.specs.declared.file.TraceFault.TheVariants.{NoMemory};
+ghost use Rattle.jlr_trace.specs.Images.{image_text, image_read, HasShape};
+ghost use Rattle.jlr_trace.specs.Files.{FileText, image_of, file_text, spelled_file, FileFits, told, expected, mark_read, in_entry, entries_read, file_read, FileGives, FileReads};
+
+use crate::entry::entry_at;
+use crate::image::{Image, image_at};
+use jlr_fields::cursor::take_u64;
+use jlr_fields::fault::{Fault, ReadError};
+use jlr_machine::entry::Entry;
+use jlr_machine::items::Items;
+use jlr_machine::machine::Machine;
+use jlr_parts::record::Placed;
+use std::alloc::{AllocError, AllocFailed, Global};
+
+/// A history: what is at its head, and what happened from there on.
+#[derive(Drop)]
+pub struct TraceFile {
+    /// How many entries there were before.
+    pub base: u64,
+    /// The machine from which the entries go on, with its limits.
+    pub image: Machine,
+    /// Objects in slots that are no cells of the image, with rising slots. An image that has any is not well formed.
+    pub strays: Items<Placed>,
+    /// What happened, in order.
+    pub entries: Items<Entry>,
+}
+
+/// Why bytes are no trace file: the first fault from the front.
+#[derive(Clone, Copy, PartialEq, Eq, Debug)]
+pub enum TraceFault {
+    /// The bytes end before the file does.
+    Truncated,
+    /// The bytes do not begin with the mark.
+    BadMark,
+    /// The version is not known.
+    BadVersion,
+    /// A value is out of its range or order: in this entry, or 0 before the entries, or one more than there are after them.
+    BadEntry(u64),
+    /// There is no memory.
+    NoMemory,
+}
+
+impl From<AllocError> for TraceFault {
+    ghost from_gives = { λ _ e. e ≡ NoMemory };
+
+    fn from(_e: AllocError) -> TraceFault {
+        TraceFault::NoMemory
+    }
+}
+
+impl<T: Drop> From<AllocFailed<T>> for TraceFault {
+    ghost from_gives = { λ _ e. e ≡ NoMemory };
+
+    fn from(_e: AllocFailed<T>) -> TraceFault {
+        TraceFault::NoMemory
+    }
+}
+
+/// The fault of a field in this entry.
+fn fault_of(error: ReadError, number: u64) -> TraceFault
+    ensures { result ≡ told number error }
+{
+    match error {
+        ReadError::Memory => TraceFault::NoMemory,
+        ReadError::Fault(Fault::Short) => TraceFault::Truncated,
+        ReadError::Fault(Fault::Range) => TraceFault::BadEntry(number),
+    }
+}
+
+fn expect_byte(byte: u8, fault: TraceFault, bytes: &[u8]) -> Result<&[u8], TraceFault>
+    ensures { FileGives (λ x. x.now) result (expected byte fault bytes.now) }
+{
+    match bytes {
+        [] => Err(TraceFault::Truncated),
+        [first, rest @ ..] => {
+            if *first == byte {
+                return Ok(rest);
+            }
+            Err(fault)
+        }
+    }
+}
+
+/// What stands behind the mark, which is compared byte by byte, and the version.
+#[tactic(auto, unfolding(crate::specs::Files::mark_read))]
+fn mark_at(bytes: &[u8]) -> Result<&[u8], TraceFault>
+    ensures { FileGives (λ x. x.now) result (mark_read bytes.now) }
+{
+    let rest = expect_byte(b'J', TraceFault::BadMark, bytes)?;
+    let rest = expect_byte(b'L', TraceFault::BadMark, rest)?;
+    let rest = expect_byte(b'R', TraceFault::BadMark, rest)?;
+    let rest = expect_byte(b'T', TraceFault::BadMark, rest)?;
+    expect_byte(1, TraceFault::BadVersion, rest)
+}
+
+fn image_in(alloc: Global, bytes: &mut &[u8]) -> Result<Image, TraceFault>
+    ensures reads { FileReads image_text result bytes.new.now (in_entry 0 (image_read bytes.old.now)) }
+    ensures shape { IfOk result HasShape }
+{
+    match image_at(alloc, bytes) {
+        Ok(image) => Ok(image),
+        Err(error) => Err(fault_of(error, 0)),
+    }
+}
+
+fn count_in(bytes: &mut &[u8]) -> Result<u64, TraceFault>
+    ensures { FileReads (λ x. x) result bytes.new.now (in_entry 0 (number_at w64 bytes.old.now)) }
+{
+    match take_u64(bytes) {
+        Ok(count) => Ok(count),
+        Err(error) => Err(fault_of(error, 0)),
+    }
+}
+
+/// So many entries, counted from 1.
+fn entries_at(alloc: Global, count: u64, bytes: &mut &[u8]) -> Result<Vec<Entry>, TraceFault>
+    ensures { FileReads (λ x. x.items) result bytes.new.now (entries_read 1 count bytes.old.now) }
+{
+    let mut entries: Vec<Entry> = Vec::new(alloc);
+    for number in 0..count {
+        match entry_at(alloc, bytes) {
+            Ok(entry) => entries.push(entry)?,
+            Err(error) => return Err(fault_of(error, number + 1)),
+        }
+    }
+    Ok(entries)
+}
+
+fn file_of(image: Image, entries: Vec<Entry>) -> TraceFile
+    requires { HasShape image }
+    ensures text { file_text result ≡ record { image = image_text image; entries = entries.items } }
+    ensures shape { HasShape (image_of result) }
+{
+    let Image {
+        base,
+        machine,
+        strays,
+    } = image;
+    TraceFile {
+        base,
+        image: machine,
+        strays,
+        entries: Items::from_vec(entries),
+    }
+}
+
+#[tactic(auto, unfolding(crate::specs::Files::front_read, crate::specs::Files::file_read))]
+fn all_of(alloc: Global, bytes: &[u8]) -> Result<TraceFile, TraceFault>
+    ensures exact { FileGives file_text result (file_read bytes.now) }
+    ensures shape { IfOk result (λ f. HasShape (image_of f)) }
+{
+    let mut rest = mark_at(bytes)?;
+    let image = image_in(alloc, &mut rest)?;
+    let count = count_in(&mut rest)?;
+    let entries = entries_at(alloc, count, &mut rest)?;
+    if !rest.is_empty() {
+        return Err(TraceFault::BadEntry(entries.len() as u64 + 1));
+    }
+    Ok(file_of(image, entries))
+}
+
+/// The history that the bytes spell, all of the bytes.
+///
+/// # Errors
+/// The first fault from the front, or `NoMemory`. A count takes no memory beforehand: memory is taken as the items come.
+pub fn read_trace(alloc: Global, bytes: &[u8]) -> Result<TraceFile, TraceFault>
+    // What is read is spelled so.
+    ensures found { IfOk result (λ f. FileFits (file_text f) × (bytes.now ≡ spelled_file (file_text f))) }
+    // What is spelled so is read, unless memory runs out.
+    ensures only { (t : FileText) → FileFits t → bytes.now ≡ spelled_file t → FileGives file_text result (Ok t) }
+    // Which fault it is.
+    ensures exact { FileGives file_text result (file_read bytes.now) }
+    // What its text does not say: no cycle is open, and nothing was seen.
+    ensures shape { IfOk result (λ f. HasShape (image_of f)) }
+{
+    all_of(alloc, bytes)
+}
+
+/// A file that begins with another is that other: what was written is read back, and never as a part of something longer.
+pub fn no_file_begins_another()
+    ensures { (t u : FileText) (rest : List ℕ) → FileFits t → FileFits u → spelled_file t ++ rest ≡ spelled_file u → (rest ≡ []) × (t ≡ u) }
+{}
