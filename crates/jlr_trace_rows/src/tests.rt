@@ -1,0 +1,2 @@
+//! Trace files spelled out, from the description of the format.
+mod reading;

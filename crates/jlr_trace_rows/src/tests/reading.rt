@@ -1,0 +1,111 @@
+//! The history of a session without a command, its fronts, and what a byte that is changed makes of it.
+use jlr_trace::file::read_trace;
+use std::alloc::{AllocError, Global};
+use std::test::Fail;
+
+// The head; no objects; no session; seven empty lists; the next action and three counts; two entries: mutator 0 joins and leaves.
+const FILE: &str = "
+    4a4c5254 01 00000010 01 0010 0000000000000000
+    00000000 00
+    00000000 00000000 00000000 00000000 00000000 00000000 00000000
+    0000000000000001 0000000000000000 0000000000000000 0000000000000000
+    0000000000000002
+    00 00 00 00 00
+    00 01 00 00 00
+";
+
+// `byte 5 2` is the file with 2 in its fifth byte, `behind 0` the file with a byte more, `front 20` its first twenty bytes.
+const ROWS: &str = "
+    front 103 -> 2 entries behind 0
+    byte 20 7 -> 2 entries behind 7
+    byte 101 1 -> 2 entries behind 0
+    byte 1 0 -> BadMark
+    byte 4 83 -> BadMark
+    byte 5 0 -> BadVersion
+    byte 5 2 -> BadVersion
+    byte 21 255 -> Truncated
+    byte 25 2 -> BadEntry(0)
+    byte 26 255 -> Truncated
+    byte 86 1 -> Truncated
+    byte 93 3 -> Truncated
+    byte 93 1 -> BadEntry(2)
+    byte 93 0 -> BadEntry(1)
+    byte 95 41 -> BadEntry(1)
+    byte 97 17 -> BadEntry(1)
+    byte 98 4 -> BadEntry(1)
+    byte 100 255 -> BadEntry(2)
+    byte 102 17 -> BadEntry(2)
+    behind 0 -> BadEntry(3)
+    behind 255 -> BadEntry(3)
+    front 0 -> Truncated
+    front 4 -> Truncated
+    front 102 -> Truncated
+";
+
+fn decoded(alloc: Global, text: &str) -> Result<Vec<u8>, Fail> {
+    let mut bytes = Vec::new(alloc);
+    for word in text.split_whitespace() {
+        for at in (0..word.len()).step_by(2) {
+            let Some(digits) = word.get(at..at + 2) else {
+                return Err(Fail::new(format_args!("no bytes: {word}")));
+            };
+            bytes.push(u8::from_str_radix(digits, 16)?)?;
+        }
+    }
+    Ok(bytes)
+}
+
+// What the bytes are read as.
+fn told(alloc: Global, bytes: &[u8]) -> Result<String, AllocError> {
+    match read_trace(alloc, bytes) {
+        Ok(file) => {
+            let (count, base) = (file.entries.len(), file.base);
+            format!(in alloc; "{count} entries behind {base}")
+        }
+        Err(fault) => format!(in alloc; "{fault:?}"),
+    }
+}
+
+// The file with the change that the words say.
+fn changed(alloc: Global, change: &str) -> Result<Vec<u8>, Fail> {
+    let mut bytes = decoded(alloc, FILE)?;
+    let mut words = change.split_whitespace();
+    let sort = words.next().unwrap_or("");
+    let number: usize = words.next().unwrap_or("").parse()?;
+    match sort {
+        "front" => bytes.truncate(number),
+        "behind" => bytes.push(number as u8)?,
+        _ => {
+            let value: u8 = words.next().unwrap_or("").parse()?;
+            if let Some(byte) = bytes.get_mut(number.saturating_sub(1)) {
+                *byte = value;
+            }
+        }
+    }
+    Ok(bytes)
+}
+
+fn is_read_as(alloc: Global, change: &str, wanted: &str) -> Result<(), Fail> {
+    let bytes = changed(alloc, change)?;
+    let told = told(alloc, bytes.as_slice())?;
+    if told.as_str() == wanted {
+        return Ok(());
+    }
+    Err(Fail::new(format_args!("{change} -> {wanted}, and not {told}")))
+}
+
+#[test]
+fn files_are_read_as_the_rows_say(rt: HostRuntime) -> Result<(), Fail> {
+    let alloc = rt.alloc();
+    for row in ROWS.trim().lines() {
+        let Some((change, wanted)) = row.trim().split_once(" -> ") else {
+            return Err(Fail::new(format_args!("no row: {row}")));
+        };
+        is_read_as(alloc, change, wanted)?;
+    }
+    for length in 0..103usize {
+        let front = format!(in alloc; "front {length}")?;
+        is_read_as(alloc, front.as_str(), "Truncated")?;
+    }
+    Ok(())
+}
