@@ -1,17 +1,15 @@
 -- Answers: what is read is what was written, and what was written is read again.
-use Rattle.std.proofs.Common.{◌≡◌, ℕ, List, [], ◌∷◌, ◌++◌, Ok, refl, ◌∙◌}
-use Rattle.std.specs.Int.{w64}
+use Rattle.std.proofs.Common.{◌≡◌, ℕ, List, [], ◌∷◌, Ok, refl, ◌∙◌}
 use Rattle.jlr_types.specs.Numbers.{number_of}
 use Rattle.jlr_types.specs.declared.Refusal.{Refusal}
 use Rattle.jlr_types.specs.declared.Refusal.TheVariants.{NoMemory, HeapFull, NoHandle, HandlesFull, WrongKind, NoField, WrongType, Null, NoName, NamesFull, Busy, Closed, NoSession, Exhausted, Malformed, TooLong, NotOut, WouldWait, ResourcesFull}
 use Rattle.jlr_machine.specs.declared.ask.Handed.{Handed as HandedOf}
 use Rattle.jlr_machine.specs.declared.ask.Handed.TheVariants.{Queued, Lined, Skipped, Nothing}
 use Rattle.jlr_machine.specs.declared.ask.Stat.{Stat as StatOf}
-use Rattle.jlr_machine.specs.declared.ask.Answer.{Answer}
 use Rattle.jlr_machine.specs.declared.ask.Answer.TheVariants.{Done, Handle, Truth, Int, Data, Wrote, Faulted, Names, Notes, Faults, Stat, Job, AlreadyDone, Prepared, Out, Handed, Refused}
-use Rattle.jlr_fields.specs.Reading.{◌>>=◌, number_at, picked_at, five_fields, four_fields}
-use Rattle.jlr_fields.specs.Spelling.{spelled_8, spelled_64}
-use Rattle.jlr_fields.specs.Laws.{Takes, TakesBehind, TakesSpelled, ReadsAgain, IsField}
+use Rattle.jlr_fields.specs.Reading.{picked_at}
+use Rattle.jlr_fields.specs.Spelling.{spelled_8}
+use Rattle.jlr_fields.specs.Laws.{TakesBehind, TakesSpelled, ReadsAgain, IsField}
 use Rattle.jlr_fields.proofs.Steps.{bind_ok}
 use Rattle.jlr_fields.proofs.Numbers.{four_bytes, eight_bytes, four_least}
 use Rattle.jlr_fields.proofs.Basics.{byte, within, flag, signed, bytes, picked, picked_takes}

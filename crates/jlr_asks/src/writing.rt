@@ -21,12 +21,7 @@ fn put_alone(out: &mut Vec<u8>, tag: u8, mutator: Mutator) -> Result<(), AllocEr
 }
 
 /// The number of an ask, its mutator, and a handle.
-fn put_one(
-    out: &mut Vec<u8>,
-    tag: u8,
-    mutator: Mutator,
-    handle: Handle,
-) -> Result<(), AllocError>
+fn put_one(out: &mut Vec<u8>, tag: u8, mutator: Mutator, handle: Handle) -> Result<(), AllocError>
     ensures { OnOk result (out.new.items ≡ out.old.items ++ tag ∷ mutator ∷ handle ∷ []) }
 {
     out.extend_from_slice(&[tag, mutator.number(), handle.number()])?;
@@ -85,29 +80,55 @@ pub fn put_ask(out: &mut Vec<u8>, ask: &Ask) -> Result<(), AllocError>
             put_alone(out, 2, *mutator)?;
             put_layout(out, layout)
         }
-        Ask::Put { mutator, object, field, value } => {
+        Ask::Put {
+            mutator,
+            object,
+            field,
+            value,
+        } => {
             put_two(out, 3, *mutator, *object, *field)?;
             put_u8(out, value.number())
         }
-        Ask::Get { mutator, object, field } => put_two(out, 4, *mutator, *object, *field),
+        Ask::Get {
+            mutator,
+            object,
+            field,
+        } => put_two(out, 4, *mutator, *object, *field),
         Ask::SetInt {
             mutator,
             object,
             field,
             value,
         } => put_set_int(out, *mutator, *object, *field, *value),
-        Ask::Int { mutator, object, field } => put_two(out, 6, *mutator, *object, *field),
+        Ask::Int {
+            mutator,
+            object,
+            field,
+        } => put_two(out, 6, *mutator, *object, *field),
         Ask::Dup { mutator, object } => put_one(out, 7, *mutator, *object),
         Ask::Drop { mutator, object } => put_one(out, 8, *mutator, *object),
-        Ask::Same { mutator, left, right } => put_two(out, 9, *mutator, *left, right.number()),
-        Ask::MakeRef { mutator, kind, referent, queue } => {
+        Ask::Same {
+            mutator,
+            left,
+            right,
+        } => put_two(out, 9, *mutator, *left, right.number()),
+        Ask::MakeRef {
+            mutator,
+            kind,
+            referent,
+            queue,
+        } => {
             put_alone(out, 10, *mutator)?;
             put_ref_kind(out, *kind)?;
             put_u8(out, referent.number())?;
             put_u8(out, queue.number())
         }
         Ask::Deref { mutator, reference } => put_one(out, 11, *mutator, *reference),
-        Ask::Refers { mutator, reference, object } => put_two(out, 12, *mutator, *reference, object.number()),
+        Ask::Refers {
+            mutator,
+            reference,
+            object,
+        } => put_two(out, 12, *mutator, *reference, object.number()),
         Ask::Clear { mutator, reference } => put_one(out, 13, *mutator, *reference),
         Ask::Enqueue { mutator, reference } => put_one(out, 14, *mutator, *reference),
         Ask::Enqueued { mutator, reference } => put_one(out, 15, *mutator, *reference),
@@ -115,7 +136,12 @@ pub fn put_ask(out: &mut Vec<u8>, ask: &Ask) -> Result<(), AllocError>
         Ask::Poll { mutator, queue } => put_one(out, 17, *mutator, *queue),
         Ask::Remove { mutator, queue } => put_one(out, 18, *mutator, *queue),
         Ask::MakeCleaner { mutator } => put_alone(out, 19, *mutator),
-        Ask::Register { mutator, cleaner, object, note } => {
+        Ask::Register {
+            mutator,
+            cleaner,
+            object,
+            note,
+        } => {
             put_two(out, 20, *mutator, *cleaner, object.number())?;
             put_u32(out, *note)
         }
@@ -136,7 +162,11 @@ pub fn put_ask(out: &mut Vec<u8>, ask: &Ask) -> Result<(), AllocError>
             action,
             outcome,
         } => put_finish(out, *by, *action, *outcome),
-        Ask::Bind { mutator, name, object } => {
+        Ask::Bind {
+            mutator,
+            name,
+            object,
+        } => {
             put_alone(out, 28, *mutator)?;
             put_text(out, name.as_slice())?;
             put_u8(out, object.number())

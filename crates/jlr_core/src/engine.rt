@@ -62,8 +62,8 @@ impl<R> Core<R> {
     }
 
     /// One event. The choice says what was chosen; it has room for every cell. Only `Enqueue` and `HandOver` of a reference that goes to its
-    /// queue, `Prepare` where the table of resources has no room, `Bind` of a new name, and `Names`, `Notes` and `Faults`, which copy a list,
-    /// may find no memory, and only where they are not refused. A piece of marking is answered Done in an open cycle and Idle without one, and
+    /// queue, `Prepare` where the table of resources has no room, and `Names`, `Notes` and `Faults`, which copy a list, may find no memory, and
+    /// only where they are not refused. A piece of marking is answered Done in an open cycle and Idle without one, and
     /// changes nothing: a `Collect` marks whole, by the soft policy, and is answered yes exactly where a cycle is open.
     pub fn step(&mut self, event: Event<R>, choice: &mut Choice) -> Reply<R>
         requires room { length self.old.machine.objects ≤ choice.old.cells }
@@ -109,7 +109,7 @@ impl<R> Core<R> {
         self.state.pending_empty()
     }
 
-    /// Whether nothing stands in the cleaner's line, so that a step of the cleaner would find nothing.
+    /// Whether nothing stands in the cleaner's line, so that the cleaner would find nothing to take up.
     pub fn line_empty(&self) -> bool
         ensures { IsTrue result ↔ (self.now.machine.line ≡ []) }
     {

@@ -56,11 +56,7 @@ where
     Ok(())
 }
 
-fn connect<D: Device>(
-    device: &mut D,
-    opened: &mut Option<D::Res>,
-    path: &str,
-) -> Result<(), Fault>
+fn connect<D: Device>(device: &mut D, opened: &mut Option<D::Res>, path: &str) -> Result<(), Fault>
 where
     D::Res: Drop,
 {

@@ -1,14 +1,14 @@
 -- Bytes, flags, slots, values of a table and texts: what is read is what was written, and what was written is read again.
-use Rattle.std.proofs.Common.{◌≡◌, ℕ, ℤ, zero, suc, ◌+◌, ◌-◌, ◌^◌, ◌<◌, ◌≤◌, Bool, true, false, cond, eqb, ltb, ◌||◌, IsTrue, List, [], ◌∷◌, ◌++◌, length, take, drop, Option, Some, None, Result, Ok, Err, refl, sym, ap, subst, ◌∙◌, arith, inl, inr, ◌⊎◌}
+use Rattle.std.proofs.Common.{◌≡◌, ℕ, ℤ, zero, suc, ◌+◌, ◌-◌, ◌^◌, ◌<◌, ◌≤◌, Bool, true, false, cond, ltb, ◌||◌, List, [], ◌∷◌, ◌++◌, length, take, drop, Option, Some, None, Result, Ok, Err, refl, sym, ap, subst, ◌∙◌, arith}
 use Rattle.std.specs.Prelude.{slice_get, nat_eq, ◌&&◌}
 use Rattle.std.specs.List.{list_all}
-use Rattle.std.specs.Int.{w32, w64, to_be_bytes, from_be_bytes, cast_signed, cast_unsigned}
+use Rattle.std.specs.Int.{w32, w64, to_be_bytes, cast_signed, cast_unsigned}
 use Rattle.std.proofs.lemmas.Bool.{ltb-false, le-ltb, eqb-true}
 use Rattle.std.proofs.lemmas.Int.{ints, to_z-of_z, of_z-to_z}
 use Rattle.std.proofs.lemmas.List.{take_at, drop_at, take-append-drop, length-append, length-take}
 use Rattle.jlr_fields.specs.declared.fault.Fault.{Fault}
 use Rattle.jlr_fields.specs.declared.fault.Fault.TheVariants.{Short, Range}
-use Rattle.jlr_fields.specs.Reading.{Reader, ◌>>=◌, byte_at, byte_within_at, flag_at, option_at, number_at, picked_at, value_at, text_at, bytes_at, taken_at, signed_at}
+use Rattle.jlr_fields.specs.Reading.{byte_at, byte_within_at, flag_at, option_at, number_at, picked_at, value_at, text_at, bytes_at, taken_at, signed_at}
 use Rattle.jlr_fields.specs.Spelling.{spelled_8, spelled_32, spelled_flag, spelled_option, spelled_signed, spelled_text, no_slot, IsBytes, IsWithin, IsSigned, SlotFits, IsText, IsTextOf}
 use Rattle.jlr_fields.specs.Laws.{Takes, TakesSpelled, ReadsAgain, IsField}
 use Rattle.jlr_fields.proofs.Steps.{IsBytes-drop, IsBytes-take, bind_ok, ok_is, guard_ok}
@@ -186,7 +186,7 @@ taken_takes count bytes text rest fits e =
     let g = guard_ok (ltb (length bytes) count) Short (take count bytes, drop count bytes) (text, rest) e in
     let long : count ≤ length bytes = ltb-false _ _ g.0 in
     subst (λ (y : List ℕ × List ℕ). Takes bytes y.0 y.1 × (length y.0 ≡ count) × IsBytes y.0) g.1
-        (record { parts = sym (take-append-drop count bytes); rest_fits = IsBytes-drop count bytes fits }, omega (arith, length-take count bytes), IsBytes-take count bytes fits)
+    (record { parts = sym (take-append-drop count bytes); rest_fits = IsBytes-drop count bytes fits }, omega (arith, length-take count bytes), IsBytes-take count bytes fits)
 
 taken_again : (text rest : List ℕ) → taken_at (length text) (text ++ rest) ≡ Ok (text, rest)
 unfolding taken_at

@@ -1,15 +1,14 @@
 -- A list whose keys rise that is read is the list that was written, and what was written is read again.
-use Rattle.std.proofs.Common.{◌≡◌, ℕ, zero, suc, ◌*◌, ◌+◌, ◌^◌, ◌<◌, ◌≤◌, ltb, Bool, true, false, cond, List, [], ◌∷◌, ◌++◌, length, Option, Some, None, Ok, Err, Result, refl, sym, ap, subst, ◌∙◌, append_assoc, arith}
+use Rattle.std.proofs.Common.{◌≡◌, ℕ, zero, suc, ◌*◌, ltb, false, cond, List, [], ◌∷◌, ◌++◌, length, Option, Some, None, Ok, Err, refl, sym, ap, subst, ◌∙◌, append_assoc, arith}
 use Rattle.std.specs.List.{flat_map, AllByRecursion}
 use Rattle.std.specs.Int.{w32}
 use Rattle.std.proofs.lemmas.Bool.{le-ltb}
 use Rattle.std.proofs.lemmas.List.{length-append}
 use Rattle.std.proofs.lemmas.List.Concat.{flat_map-cons}
-use Rattle.jlr_fields.specs.declared.fault.Fault.{Fault}
 use Rattle.jlr_fields.specs.declared.fault.Fault.TheVariants.{Short}
 use Rattle.jlr_fields.specs.Reading.{Reader, ◌>>=◌, number_at}
 use Rattle.jlr_fields.specs.Spelling.{spelled_32, IsBytes}
-use Rattle.jlr_fields.specs.Items.{rising_items_at, rising_at, spelled_list, Rises, IsListed, IsRising}
+use Rattle.jlr_fields.specs.Items.{rising_items_at, rising_at, spelled_list, Rises, IsRising}
 use Rattle.jlr_fields.specs.Laws.{Takes, TakesSpelled, ReadsAgain, IsField, IsRisingField, IsLeast}
 use Rattle.jlr_fields.proofs.Steps.{bind_ok, ok_is, Takes-then}
 use Rattle.jlr_fields.proofs.Numbers.{four_bytes}
@@ -29,7 +28,7 @@ rising_items_take {A} read spelled Fits key law (suc n) before bytes xs rest fit
     let both = Takes-then bytes (spelled a.0.0) a.0.1 (flat_map spelled b.0.0) b.0.1 first.0 second.0 in
     let made : List A × List ℕ = (a.0.0 ∷ b.0.0, b.0.1) in
     subst (λ (y : List A × List ℕ). Takes bytes (flat_map spelled y.0) y.1 × (length y.0 ≡ suc n) × AllByRecursion Fits y.0 × Rises key before y.0) (ok_is made (xs, rest) b.2)
-        (rw flat_map-cons both, ap suc second.1, (first.1.0, second.2), (first.1.1, second.3))
+    (rw flat_map-cons both, ap suc second.1, (first.1.0, second.2), (first.1.1, second.3))
 
 pub rising_items_again : {A : Type 0} (read : Option ℕ → Reader A) (spelled : A → List ℕ) (Fits : A → Type 0) (key : A → ℕ) → IsRisingField read spelled Fits key
     → (xs : List A) (before : Option ℕ) (rest : List ℕ) → AllByRecursion Fits xs → Rises key before xs → rising_items_at read key (length xs) before (flat_map spelled xs ++ rest) ≡ Ok (xs, rest)

@@ -1,8 +1,7 @@
 -- Lists: a count, and that many items; of some the keys rise.
-use Rattle.std.specs.Prelude.{◌≡◌, ℕ, zero, suc, ◌+◌, ◌*◌, ◌<◌, ◌^◌, Bool, true, IsTrue, List, [], ◌∷◌, ◌++◌, length, Option, Some, None, Result, Ok, Err, nat_lt, if◌then◌else◌}
+use Rattle.std.specs.Prelude.{ℕ, zero, suc, ◌*◌, ◌<◌, ◌^◌, Bool, true, IsTrue, List, [], ◌∷◌, ◌++◌, length, Option, Some, None, Ok, Err, nat_lt, if◌then◌else◌}
 use Rattle.std.specs.Int.{w32}
 use Rattle.std.specs.List.{flat_map, AllByRecursion}
-use Rattle.jlr_fields.specs.declared.fault.Fault.{Fault}
 use Rattle.jlr_fields.specs.declared.fault.Fault.TheVariants.{Short}
 use Rattle.jlr_fields.specs.Spelling.{spelled_32}
 use Rattle.jlr_fields.specs.Reading.{Reader, ◌>>=◌, number_at}

@@ -1,5 +1,5 @@
 -- What the laws of a field say: what is read is what was written, and what was written is read again.
-use Rattle.std.specs.Prelude.{◌≡◌, ℕ, ◌*◌, ◌≤◌, IsTrue, List, ◌++◌, length, Option, Ok}
+use Rattle.std.specs.Prelude.{◌≡◌, ℕ, ◌≤◌, IsTrue, List, ◌++◌, length, Option, Ok}
 use Rattle.jlr_fields.specs.Reading.{Reader}
 use Rattle.jlr_fields.specs.Items.{may_follow}
 use Rattle.jlr_fields.specs.Spelling.{IsBytes}

@@ -1,18 +1,14 @@
 -- Objects: what is read is what was written, and what was written is read again.
-use Rattle.std.proofs.Common.{◌≡◌, ℕ, zero, suc, ◌+◌, ◌^◌, ◌<◌, ◌≤◌, Bool, true, false, List, [], ◌∷◌, ◌++◌, length, Option, Some, None, Result, Ok, Err, refl, sym, ap, subst, ◌∙◌, append_assoc, arith}
+use Rattle.std.proofs.Common.{◌≡◌, ℕ, zero, suc, ◌≤◌, Bool, true, false, List, [], ◌∷◌, ◌++◌, length, Ok, refl, sym, ap, ◌∙◌, arith}
 use Rattle.std.specs.List.{flat_map, AllByRecursion}
-use Rattle.std.specs.Int.{w32, w64}
 use Rattle.jlr_types.specs.declared.FieldValue.{FieldValue}
 use Rattle.jlr_types.specs.declared.FieldValue.TheVariants.{Int, Ref}
-use Rattle.jlr_types.specs.declared.Work.{Work}
 use Rattle.jlr_types.specs.declared.Work.TheVariants.{Note, Resource as WorkOn}
-use Rattle.jlr_machine.specs.declared.object.Object.{Object}
 use Rattle.jlr_machine.specs.declared.object.Object.TheVariants.{Plain, Reference, Queue, Cleaner, Cleanable, Guard}
-use Rattle.jlr_fields.specs.Reading.{Reader, ◌>>=◌, one_field, byte_at, byte_within_at, number_at, flag_at, picked_at}
-use Rattle.jlr_fields.specs.Spelling.{spelled_8, spelled_32, spelled_flag, IsBytes}
-use Rattle.jlr_fields.specs.Items.{items_at, spelled_list}
-use Rattle.jlr_fields.specs.Laws.{Takes, TakesBehind, TakesSpelled, ReadsAgain, IsField, IsLeast}
-use Rattle.jlr_fields.proofs.Steps.{bind_ok}
+use Rattle.jlr_fields.specs.Reading.{one_field}
+use Rattle.jlr_fields.specs.Spelling.{spelled_flag}
+use Rattle.jlr_fields.specs.Items.{items_at}
+use Rattle.jlr_fields.specs.Laws.{TakesBehind, TakesSpelled, ReadsAgain, IsField}
 use Rattle.jlr_fields.proofs.Numbers.{four_bytes, eight_bytes, four_least}
 use Rattle.jlr_fields.proofs.Basics.{byte, within, flag, option, signed}
 use Rattle.jlr_fields.proofs.Lists.{items_take, items_again, list_field}
@@ -75,7 +71,7 @@ plain_text count xs e = ap (λ n. 1 ∷ n ∷ flat_map spelled_value xs) e
 plain_fields : (count : ℕ) → count ≤ 8 → TakesBehind (1 ∷ count ∷ []) (one_field (items_at value_read count) Plain) spelled_object ObjectFits
 plain_fields count few =
     then_takes (fields count) (1 ∷ count ∷ []) (λ xs bytes. Ok (Plain xs, bytes)) spelled_object ObjectFits
-        (λ xs f. made_takes ((1 ∷ count ∷ []) ++ flat_map spelled_value xs) (Plain xs) spelled_object ObjectFits (plain_text count xs f.0) (omega (arith, f.0), f.1))
+    (λ xs f. made_takes ((1 ∷ count ∷ []) ++ flat_map spelled_value xs) (Plain xs) spelled_object ObjectFits (plain_text count xs f.0) (omega (arith, f.0), f.1))
 
 plain_takes : TakesBehind (1 ∷ []) plain_read spelled_object ObjectFits
 unfolding plain_read

@@ -1,6 +1,5 @@
 -- The records of an image: what is read is what was written, and what was written is read again.
-use Rattle.std.proofs.Common.{◌≡◌, ℕ, zero, suc, ◌+◌, ◌^◌, ◌<◌, ◌≤◌, Bool, true, false, cond, IsTrue, List, [], ◌∷◌, ◌++◌, length, Option, Result, Ok, Err, refl, sym, ap, subst, ◌∙◌, append_assoc, arith}
-use Rattle.std.specs.Int.{w32, w64}
+use Rattle.std.proofs.Common.{◌≡◌, ℕ, zero, suc, ◌^◌, ◌<◌, ◌≤◌, Bool, true, false, cond, IsTrue, List, [], ◌∷◌, ◌++◌, length, Option, Ok, Err, refl, sym, ap, subst, ◌∙◌, append_assoc, arith}
 use Rattle.std.proofs.lemmas.List.{length-append}
 use Rattle.jlr_types.specs.declared.Fault.{Fault as DeviceFault}
 use Rattle.jlr_types.specs.declared.Work.{Work}
@@ -12,20 +11,19 @@ use Rattle.jlr_machine.specs.declared.machine.Failure.{Failure}
 use Rattle.jlr_machine.specs.declared.machine.Job.{Job}
 use Rattle.jlr_machine.specs.declared.machine.Resource.{Resource}
 use Rattle.jlr_machine.specs.declared.machine.ResourceState.{ResourceState}
-use Rattle.jlr_machine.specs.declared.machine.Call.{Call}
 use Rattle.jlr_machine.specs.declared.machine.Call.TheVariants.{Free, Opening as CallOpening, Out as CallOut, Job as CallJob}
 use Rattle.jlr_fields.specs.declared.fault.Fault.TheVariants.{Range}
-use Rattle.jlr_fields.specs.Reading.{Reader, ◌>>=◌, byte_at, number_at, picked_at, text_at, is_name_byte}
+use Rattle.jlr_fields.specs.Reading.{Reader, ◌>>=◌, text_at, is_name_byte}
 use Rattle.jlr_fields.specs.Spelling.{spelled_8, spelled_32, spelled_64, spelled_text}
 use Rattle.jlr_fields.specs.Items.{may_follow}
-use Rattle.jlr_fields.specs.Laws.{Takes, TakesBehind, TakesSpelled, ReadsAgain, IsField, IsLeast, FollowsWith, IsRisingField}
+use Rattle.jlr_fields.specs.Laws.{TakesBehind, TakesSpelled, ReadsAgain, IsField, IsLeast, FollowsWith, IsRisingField}
 use Rattle.jlr_fields.proofs.Numbers.{four_bytes, eight_bytes}
 use Rattle.jlr_fields.proofs.Basics.{byte, text}
 use Rattle.jlr_fields.proofs.Products.{then_takes, made_takes, one_takes, two_takes, then_again, one_again, two_again}
 use Rattle.jlr_parts.specs.declared.record.Placed.{Placed}
 use Rattle.jlr_parts.specs.declared.record.Held.{Held}
-use Rattle.jlr_parts.specs.Tables.{faults, fault_number, resource_states, resource_state_number}
-use Rattle.jlr_parts.specs.Objects.{spelled_object, ObjectFits, object_read, spelled_work, WorkFits, work_read}
+use Rattle.jlr_parts.specs.Tables.{resource_state_number}
+use Rattle.jlr_parts.specs.Objects.{spelled_object, spelled_work}
 use Rattle.jlr_parts.specs.Records.{NameFits, spelled_binding, BindingFits, binding_read, spelled_failure, FailureFits, failure_read, spelled_call, CallFits, call_behind, call_read, slot_after, spelled_job, JobFits, job_behind, job_after, spelled_resource, ResourceFits, resource_behind, resource_after, spelled_placed, PlacedFits, placed_behind, placed_after, spelled_held, HeldFits, held_behind, held_after}
 use Rattle.jlr_parts.proofs.TableLaws.{resource_state, fault}
 use Rattle.jlr_parts.proofs.Objects.{work, object}
@@ -116,7 +114,7 @@ keyed_takes : {X : Type 0} {key : Reader ℕ} {sk : ℕ → List ℕ} {Fk : ℕ 
     → ((k : ℕ) → Fk k → TakesBehind (sk k) (behind k) spelled (HasKey Fits key_of k)) → TakesSpelled (keyed key behind before) spelled (FollowsWith Fits key_of before)
 keyed_takes {X} {key} {sk} {Fk} field behind spelled Fits key_of before law =
     then_takes field [] (λ k bytes. cond (may_follow before k) (behind k bytes) (Err Range)) spelled (FollowsWith Fits key_of before)
-        (λ k f. tested_takes (sk k) (behind k) spelled Fits key_of before k (may_follow before k) refl (law k f))
+    (λ k f. tested_takes (sk k) (behind k) spelled Fits key_of before k (may_follow before k) refl (law k f))
 
 keyed_again : {X : Type 0} {key : Reader ℕ} {sk : ℕ → List ℕ} {Fk : ℕ → Type 0} → IsField key sk Fk → (behind : ℕ → Reader X) (before : Option ℕ) (k : ℕ) → Fk k → IsTrue (may_follow before k)
     → (bytes text : List ℕ) (x : X) (rest : List ℕ) → bytes ≡ sk k ++ text → behind k text ≡ Ok (x, rest) → keyed key behind before bytes ≡ Ok (x, rest)

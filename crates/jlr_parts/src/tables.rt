@@ -41,7 +41,12 @@ pub fn put_ref_kind(out: &mut Vec<u8>, ref_kind: RefKind) -> Result<(), AllocErr
 pub fn take_ref_state(bytes: &mut &[u8]) -> Result<RefState, ReadError>
     ensures { Reads (λ x. x) result bytes.new.now (picked_at 0 ref_states bytes.old.now) }
 {
-    let table = [RefState::Fresh, RefState::Pending, RefState::Queued, RefState::Removed];
+    let table = [
+        RefState::Fresh,
+        RefState::Pending,
+        RefState::Queued,
+        RefState::Removed,
+    ];
     take_picked(0, &table, bytes)
 }
 
@@ -67,7 +72,12 @@ pub fn put_ref_state(out: &mut Vec<u8>, ref_state: RefState) -> Result<(), Alloc
 pub fn take_clean_state(bytes: &mut &[u8]) -> Result<CleanState, ReadError>
     ensures { Reads (λ x. x) result bytes.new.now (picked_at 0 clean_states bytes.old.now) }
 {
-    let table = [CleanState::Armed, CleanState::Pending, CleanState::Lined, CleanState::Spent];
+    let table = [
+        CleanState::Armed,
+        CleanState::Pending,
+        CleanState::Lined,
+        CleanState::Spent,
+    ];
     take_picked(0, &table, bytes)
 }
 
@@ -93,7 +103,12 @@ pub fn put_clean_state(out: &mut Vec<u8>, clean_state: CleanState) -> Result<(),
 pub fn take_resource_state(bytes: &mut &[u8]) -> Result<ResourceState, ReadError>
     ensures { Reads (λ x. x) result bytes.new.now (picked_at 0 resource_states bytes.old.now) }
 {
-    let table = [ResourceState::Opening, ResourceState::Idle, ResourceState::Out, ResourceState::Closing];
+    let table = [
+        ResourceState::Opening,
+        ResourceState::Idle,
+        ResourceState::Out,
+        ResourceState::Closing,
+    ];
     take_picked(0, &table, bytes)
 }
 
@@ -109,7 +124,10 @@ fn resource_state_number(resource_state: ResourceState) -> u8
 }
 
 /// Writes where a resource is.
-pub fn put_resource_state(out: &mut Vec<u8>, resource_state: ResourceState) -> Result<(), AllocError>
+pub fn put_resource_state(
+    out: &mut Vec<u8>,
+    resource_state: ResourceState,
+) -> Result<(), AllocError>
     ensures { OnOk result (out.new.items ≡ out.old.items ++ spelled_8 (number_of_resource_state resource_state)) }
 {
     put_u8(out, resource_state_number(resource_state))

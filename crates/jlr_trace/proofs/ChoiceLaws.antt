@@ -1,14 +1,14 @@
 -- Choices: what is read is what was written, and what was written is read again.
-use Rattle.std.proofs.Common.{◌≡◌, ℕ, zero, suc, ◌+◌, ◌^◌, ◌<◌, ◌≤◌, Bool, true, false, List, [], ◌∷◌, ◌++◌, length, Option, Some, None, Ok, refl, sym, ap, ◌∙◌, arith}
-use Rattle.std.specs.List.{flat_map, AllByRecursion}
+use Rattle.std.proofs.Common.{◌≡◌, ℕ, zero, suc, Bool, true, false, List, [], ◌∷◌, ◌++◌, length, Option, Some, None, Ok, refl, sym, ap, ◌∙◌, arith}
+use Rattle.std.specs.List.{flat_map}
 use Rattle.std.specs.Int.{w32}
 use Rattle.std.specs.Prelude.{◌%◌, nat_eq, nat_le}
 use Rattle.jlr_machine.specs.declared.entry.Collected.{Collected}
 use Rattle.jlr_machine.specs.declared.entry.Chosen.{Chosen}
-use Rattle.jlr_fields.specs.Spelling.{spelled_32, IsBytes, IsWithin}
-use Rattle.jlr_fields.specs.Reading.{Reader, ◌>>=◌, one_field, two_fields, number_at, byte_within_at}
+use Rattle.jlr_fields.specs.Spelling.{spelled_32, IsWithin}
+use Rattle.jlr_fields.specs.Reading.{Reader, one_field, two_fields, number_at, byte_within_at}
 use Rattle.jlr_fields.specs.Items.{items_at}
-use Rattle.jlr_fields.specs.Laws.{Takes, TakesBehind, TakesSpelled, ReadsAgain, IsField}
+use Rattle.jlr_fields.specs.Laws.{TakesBehind, TakesSpelled, ReadsAgain, IsField}
 use Rattle.jlr_fields.proofs.Numbers.{four_bytes, four_least}
 use Rattle.jlr_fields.proofs.Basics.{within}
 use Rattle.jlr_fields.proofs.Lists.{list_field, items_take, items_again}
@@ -76,7 +76,7 @@ fresh_again false (s ∷ slots) rest fits = absurd fits
 fresh_again true [] rest fits = absurd fits
 fresh_again true (s ∷ slots) rest fits =
     then_again (within 1 2) (length (s ∷ slots)) (omega arith, fits.few) (items_at (number_at w32)) (spelled_fresh (s ∷ slots) ++ rest) (flat_map spelled_32 (s ∷ slots) ++ rest) (s ∷ slots) rest refl
-        (items_again (number_at w32) spelled_32 SlotIs four_bytes.again (s ∷ slots) rest fits.each)
+    (items_again (number_at w32) spelled_32 SlotIs four_bytes.again (s ∷ slots) rest fits.each)
 
 fresh : (b : Bool) → IsField (fresh_read b) spelled_fresh (FreshIs b)
 fresh b = record { takes = fresh_takes b; again = fresh_again b }
@@ -120,9 +120,9 @@ parts_take : (ran made : Bool) → TakesBehind (number ran made ∷ []) (two_fie
 parts_take ran made =
     let n : ℕ = number ran made in
     then_takes (collection ran) (n ∷ []) (λ c. one_field (fresh_read made) (made_choice c)) spelled_choice ChoiceFits
-        (λ c p. then_takes (fresh made) ((n ∷ []) ++ spelled_collection c) (λ x bytes. Ok (made_choice c x, bytes)) spelled_choice ChoiceFits
-            (λ x q. made_takes (((n ∷ []) ++ spelled_collection c) ++ spelled_fresh x) (made_choice c x) spelled_choice ChoiceFits
-                (ap (λ k. k ∷ spelled_collection c ++ spelled_fresh x) (flags_are ran made c x p q)) (record { collected = collection_fits ran c p; fresh = fresh_fits made x q })))
+    (λ c p. then_takes (fresh made) ((n ∷ []) ++ spelled_collection c) (λ x bytes. Ok (made_choice c x, bytes)) spelled_choice ChoiceFits
+    (λ x q. made_takes (((n ∷ []) ++ spelled_collection c) ++ spelled_fresh x) (made_choice c x) spelled_choice ChoiceFits
+    (ap (λ k. k ∷ spelled_collection c ++ spelled_fresh x) (flags_are ran made c x p q)) (record { collected = collection_fits ran c p; fresh = fresh_fits made x q })))
 
 abbrev choice_behind : ℕ → Reader Chosen
 choice_behind flags = two_fields (collection_read (nat_eq (flags % 2) 1)) (fresh_read (nat_le 2 flags)) made_choice

@@ -2,7 +2,6 @@
 use Rattle.std.proofs.Common.{◌≡◌, ℕ, suc, ◌-◌, ◌+◌, ◌≤◌, ◌<◌, List, [], ◌∷◌, ◌++◌, Result, Ok, Err, refl, sym, ap, ◌∙◌, append_assoc, arith}
 use Rattle.std.proofs.lemmas.List.{append-nil}
 use Rattle.jlr_machine.specs.declared.entry.Entry.{Entry}
-use Rattle.jlr_fields.specs.declared.fault.Fault.{Fault}
 use Rattle.jlr_fields.specs.declared.fault.Fault.TheVariants.{Short, Range}
 use Rattle.jlr_fields.specs.declared.fault.ReadError.{ReadError}
 use Rattle.jlr_fields.specs.declared.fault.ReadError.TheVariants as errors

@@ -1,5 +1,5 @@
 -- Entries: what is read is what was written, and what was written is read again.
-use Rattle.std.proofs.Common.{◌≡◌, ℕ, List, [], ◌∷◌, refl}
+use Rattle.std.proofs.Common.{[], refl}
 use Rattle.jlr_fields.specs.Laws.{TakesSpelled, ReadsAgain, IsField}
 use Rattle.jlr_fields.proofs.Basics.{byte}
 use Rattle.jlr_fields.proofs.Products.{four_takes, four_again}

@@ -1,8 +1,8 @@
 -- Whole files: what is read is what was written, and what was written is read again.
-use Rattle.std.proofs.Common.{◌≡◌, ℕ, zero, suc, ◌+◌, ◌^◌, ◌<◌, ◌≤◌, Bool, true, false, cond, eqb, List, [], ◌∷◌, ◌++◌, length, Result, Ok, Err, refl, sym, ap, subst, ◌∙◌, append_assoc, arith}
+use Rattle.std.proofs.Common.{◌≡◌, ℕ, zero, suc, ◌+◌, Bool, true, false, cond, List, [], ◌∷◌, ◌++◌, length, Result, Ok, Err, refl, sym, ap, subst, ◌∙◌, append_assoc, arith}
 use Rattle.std.specs.Prelude.{IfOk, nat_eq}
 use Rattle.std.specs.List.{flat_map, AllByRecursion}
-use Rattle.std.specs.Int.{w64, to_be_bytes}
+use Rattle.std.specs.Int.{w64}
 use Rattle.std.proofs.lemmas.Bool.{eqb-true}
 use Rattle.std.proofs.lemmas.List.{append-nil, nil_from_length}
 use Rattle.std.proofs.lemmas.List.Concat.{flat_map-cons}
@@ -15,9 +15,9 @@ use Rattle.jlr_fields.proofs.Steps.{Takes-then}
 use Rattle.jlr_fields.proofs.Numbers.{eight_bytes}
 use Rattle.jlr_trace.specs.declared.file.TraceFile.{TraceFile}
 use Rattle.jlr_trace.specs.declared.file.TraceFault.{TraceFault}
-use Rattle.jlr_trace.specs.declared.file.TraceFault.TheVariants.{Truncated, BadMark, BadVersion, BadEntry, NoMemory}
+use Rattle.jlr_trace.specs.declared.file.TraceFault.TheVariants.{BadMark, BadVersion, BadEntry}
 use Rattle.jlr_trace.specs.Entries.{spelled_entry, EntryFits, entry_read}
-use Rattle.jlr_trace.specs.Images.{ImageText, spelled_image, ImageFits, image_read}
+use Rattle.jlr_trace.specs.Images.{ImageText, spelled_image, image_read}
 use Rattle.jlr_trace.specs.Files.{FileText, file_text, mark, spelled_file, FileFits, ◌>>>◌, in_entry, expected, mark_read, entries_read, front_read, file_read, FileGives}
 use Rattle.jlr_trace.proofs.EntryLaws.{entry}
 use Rattle.jlr_trace.proofs.ImageLaws.{image}
@@ -86,7 +86,7 @@ entries_take number (suc n) bytes xs rest fits e =
     let both = Takes-then bytes (spelled_entry a.0.0) a.0.1 (flat_map spelled_entry b.0.0) b.0.1 first.0 second.0 in
     let made : List Entry × List ℕ = (a.0.0 ∷ b.0.0, b.0.1) in
     subst (λ (y : List Entry × List ℕ). Takes bytes (flat_map spelled_entry y.0) y.1 × (length y.0 ≡ suc n) × AllByRecursion EntryFits y.0) (good_is made (xs, rest) b.2)
-        (subst (λ (t : List ℕ). Takes bytes t b.0.1) (sym (flat_map-cons spelled_entry a.0.0 b.0.0)) both, ap suc second.1, (first.1, second.2))
+    (subst (λ (t : List ℕ). Takes bytes t b.0.1) (sym (flat_map-cons spelled_entry a.0.0 b.0.0)) both, ap suc second.1, (first.1, second.2))
 
 entries_again : (number : ℕ) (xs : List Entry) (rest : List ℕ) → AllByRecursion EntryFits xs → entries_read number (length xs) (flat_map spelled_entry xs ++ rest) ≡ Ok (xs, rest)
 unfolding entries_read
@@ -120,7 +120,7 @@ front_takes bytes t rest fits e =
     let parts = whole mark (spelled_image b.0.0) (spelled_64 c.0.0) (flat_map spelled_entry d.0.0) d.0.1 bytes a.0 b.0.1 c.0.1 start i.0.parts n.0.parts counted in
     let made : FileText × List ℕ = (made_file b.0.0 d.0.0, d.0.1) in
     subst (λ (y : FileText × List ℕ). (bytes ≡ spelled_file y.0 ++ y.1) × FileFits y.0) (good_is made (t, rest) d.2)
-        (parts ∙ ap (λ k. (((mark ++ spelled_image b.0.0) ++ spelled_64 k) ++ flat_map spelled_entry d.0.0) ++ d.0.1) (sym x.1), record { image = i.1; count = omega (arith, x.1, n.1); entries = x.2 })
+    (parts ∙ ap (λ k. (((mark ++ spelled_image b.0.0) ++ spelled_64 k) ++ flat_map spelled_entry d.0.0) ++ d.0.1) (sym x.1), record { image = i.1; count = omega (arith, x.1, n.1); entries = x.2 })
 
 regrouped : (m i c e rest : List ℕ) → (((m ++ i) ++ c) ++ e) ++ rest ≡ m ++ (i ++ (c ++ (e ++ rest)))
 regrouped m i c e rest = simp append_assoc

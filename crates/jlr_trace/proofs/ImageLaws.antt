@@ -1,7 +1,7 @@
 -- The image: what is read is what was written, and what was written is read again.
-use Rattle.std.proofs.Common.{◌≡◌, ℕ, ◌^◌, ◌<◌, ◌≤◌, Bool, true, false, cond, ltb, ◌||◌, List, [], ◌∷◌, ◌++◌, length, Option, Some, None, Ok, Err, refl, sym, ap, subst, ◌∙◌, append_assoc, arith}
+use Rattle.std.proofs.Common.{◌≡◌, ℕ, ◌^◌, ◌<◌, Bool, true, false, cond, ltb, ◌||◌, List, [], ◌∷◌, ◌++◌, length, Option, Some, None, Ok, Err, refl, sym, ap, subst, ◌∙◌, append_assoc, arith}
 use Rattle.std.specs.List.{flat_map, AllByRecursion}
-use Rattle.std.specs.Int.{Width, w16, w32, w64, to_be_bytes}
+use Rattle.std.specs.Int.{Width, w16, w32, to_be_bytes}
 use Rattle.std.proofs.lemmas.Bool.{ltb-false, le-ltb}
 use Rattle.jlr_machine.specs.declared.machine.Binding.{Binding}
 use Rattle.jlr_machine.specs.declared.machine.Failure.{Failure}
@@ -9,7 +9,7 @@ use Rattle.jlr_machine.specs.declared.machine.Job.{Job}
 use Rattle.jlr_machine.specs.declared.machine.Resource.{Resource}
 use Rattle.jlr_fields.specs.declared.fault.Fault.TheVariants.{Range}
 use Rattle.jlr_fields.specs.Spelling.{spelled_flag, IsWithin}
-use Rattle.jlr_fields.specs.Reading.{Reader, ◌>>=◌, number_at}
+use Rattle.jlr_fields.specs.Reading.{Reader, number_at}
 use Rattle.jlr_fields.specs.Items.{items_at, spelled_list}
 use Rattle.jlr_fields.specs.Laws.{Takes, TakesBehind, TakesSpelled, ReadsAgain, IsField}
 use Rattle.jlr_fields.proofs.Steps.{bind_ok, guard_ok}
@@ -24,7 +24,7 @@ use Rattle.jlr_trace.specs.declared.image.Head.{Head}
 use Rattle.jlr_trace.specs.declared.image.Waiting.{Waiting}
 use Rattle.jlr_trace.specs.declared.image.Records.{Records}
 use Rattle.jlr_trace.specs.declared.image.Counts.{Counts}
-use Rattle.jlr_trace.specs.Images.{spelled_head, HeadFits, number_within_at, made_head, head_read, SessionText, spelled_session, JoinedFits, SessionFits, made_session, joined_read, session_read, spelled_waiting, WaitingFits, waiting_read, spelled_records, RecordsFit, records_read, spelled_counts, CountsFit, counts_read, ImageText, spelled_image, ImageFits, made_image, image_behind, image_read}
+use Rattle.jlr_trace.specs.Images.{spelled_head, HeadFits, number_within_at, made_head, head_read, SessionText, spelled_session, JoinedFits, SessionFits, made_session, joined_read, session_read, spelled_waiting, WaitingFits, waiting_read, spelled_records, RecordsFit, records_read, spelled_counts, CountsFit, counts_read, spelled_image, ImageFits, made_image, image_behind, image_read}
 
 neither : (a b : Bool) → (a || b) ≡ false → (a ≡ false) × (b ≡ false)
 neither true b e = absurd cc
@@ -169,7 +169,7 @@ image_again : ReadsAgain image_read spelled_image ImageFits
 unfolding image_read
 image_again t rest fits =
     then_again head t.head fits.head image_behind (spelled_image t ++ rest) (spelled_list spelled_placed t.objects ++ flat_map spelled_session t.mutators ++ spelled_waiting t.waiting ++ spelled_records t.records ++ spelled_counts t.counts ++ rest) t rest (parted (spelled_head t.head) (spelled_list spelled_placed t.objects) (flat_map spelled_session t.mutators) (spelled_waiting t.waiting) (spelled_records t.records) (spelled_counts t.counts) rest)
-        (five_again (rising_field rising_placed placed_least) (sessions t.head.sessions) waiting records counts (made_image t.head) t.objects t.mutators t.waiting t.records t.counts fits.objects (fits.sessions, fits.mutators) fits.waiting fits.records fits.counts rest)
+    (five_again (rising_field rising_placed placed_least) (sessions t.head.sessions) waiting records counts (made_image t.head) t.objects t.mutators t.waiting t.records t.counts fits.objects (fits.sessions, fits.mutators) fits.waiting fits.records fits.counts rest)
 
 pub image : IsField image_read spelled_image ImageFits
 image = record { takes = image_takes; again = image_again }

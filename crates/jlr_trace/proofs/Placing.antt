@@ -113,7 +113,7 @@ held_rises (suc n) before bytes xs rest e =
     let b = bind_ok (rising_items_at held_after (λ h. h.handle) n (Some a.0.0.handle) a.0.1) (λ others. Ok (a.0.0 ∷ others.0, others.1)) (xs, rest) a.2 in
     let made : List Held × List ℕ = (a.0.0 ∷ b.0.0, b.0.1) in
     subst (λ (y : List Held × List ℕ). Rises (λ h. h.handle) before y.0) (ok_is made (xs, rest) b.2)
-        (held_follows before bytes a.0.0 a.0.1 a.1, held_rises n (Some a.0.0.handle) a.0.1 b.0.0 b.0.1 b.1)
+    (held_follows before bytes a.0.0 a.0.1 a.1, held_rises n (Some a.0.0.handle) a.0.1 b.0.0 b.0.1 b.1)
 
 -- handles that are read rise
 pub held_list_rises : (bytes : List ℕ) (xs : List Held) (rest : List ℕ) → rising_at 5 held_after (λ h. h.handle) bytes ≡ Ok (xs, rest) → Rises (λ h. h.handle) None xs

@@ -14,7 +14,7 @@ use Rattle.jlr_trace.specs.declared.file.TraceFault.{TraceFault}
 use Rattle.jlr_trace.specs.declared.file.TraceFault.TheVariants.{Truncated, BadMark, BadVersion, BadEntry, NoMemory}
 use Rattle.jlr_trace.specs.declared.image.Image.{Image}
 use Rattle.jlr_trace.specs.Entries.{spelled_entry, EntryFits, entry_read}
-use Rattle.jlr_trace.specs.Images.{ImageText, image_text, spelled_image, ImageFits, image_read, HasShape}
+use Rattle.jlr_trace.specs.Images.{ImageText, image_text, spelled_image, ImageFits, image_read}
 
 -- ---- What a file says
 

@@ -1,20 +1,18 @@
 -- How the image at the head of a trace file is spelled and read, and which has a spelling.
-use Rattle.std.specs.Prelude.{ℕ, suc, false, ◌<◌, ◌≤◌, ◌≡◌, ◌^◌, ◌||◌, List, [], ◌∷◌, ◌++◌, length, Option, Some, None, Ok, Err, nat_lt, if◌then◌else◌, option_map, map}
+use Rattle.std.specs.Prelude.{ℕ, suc, false, ◌<◌, ◌≡◌, ◌^◌, ◌||◌, List, [], ◌∷◌, ◌++◌, length, Option, Some, None, Ok, Err, nat_lt, if◌then◌else◌, option_map, map}
 use Rattle.std.specs.List.{flat_map, AllByRecursion}
 use Rattle.std.specs.Int.{Width, w16, w32, w64}
 use Rattle.jlr_machine.specs.declared.object.Object.{Object}
 use Rattle.jlr_machine.specs.declared.machine.Call.{Call}
-use Rattle.jlr_machine.specs.declared.machine.Job.{Job}
-use Rattle.jlr_machine.specs.declared.machine.Resource.{Resource}
 use Rattle.jlr_machine.specs.declared.machine.Session.{Session}
 use Rattle.jlr_machine.specs.declared.machine.Machine.{Machine}
 use Rattle.jlr_fields.specs.declared.fault.Fault.TheVariants.{Range}
-use Rattle.jlr_fields.specs.Spelling.{spelled_8, spelled_16, spelled_32, spelled_64, spelled_option, spelled_text, IsWithin, SlotFits}
-use Rattle.jlr_fields.specs.Reading.{Reader, ◌>>=◌, one_field, three_fields, four_fields, five_fields, byte_within_at, number_at, flag_at, option_at}
+use Rattle.jlr_fields.specs.Spelling.{spelled_8, spelled_16, spelled_32, spelled_64, spelled_option, IsWithin, SlotFits}
+use Rattle.jlr_fields.specs.Reading.{Reader, ◌>>=◌, three_fields, four_fields, five_fields, byte_within_at, number_at, flag_at, option_at}
 use Rattle.jlr_fields.specs.Items.{items_at, list_at, rising_at, spelled_list, IsListed, IsRising}
 use Rattle.jlr_parts.specs.declared.record.Placed.{Placed}
 use Rattle.jlr_parts.specs.declared.record.Held.{Held}
-use Rattle.jlr_parts.specs.Records.{spelled_binding, BindingFits, binding_read, spelled_failure, FailureFits, failure_read, spelled_call, CallFits, call_read, spelled_job, JobFits, job_after, spelled_resource, ResourceFits, resource_after, spelled_placed, PlacedFits, PlacedCounts, placed_after, spelled_held, HeldFits, held_after}
+use Rattle.jlr_parts.specs.Records.{spelled_binding, BindingFits, binding_read, spelled_failure, FailureFits, failure_read, spelled_call, CallFits, call_read, spelled_job, JobFits, job_after, spelled_resource, ResourceFits, resource_after, spelled_placed, PlacedFits, placed_after, spelled_held, HeldFits, held_after}
 use Rattle.jlr_trace.specs.declared.image.Head.{Head}
 use Rattle.jlr_trace.specs.declared.image.Waiting.{Waiting}
 use Rattle.jlr_trace.specs.declared.image.Records.{Records}

@@ -257,9 +257,7 @@ fn body_at(alloc: Global, head: Head, bytes: &mut &[u8]) -> Result<Image, ReadEr
     let waiting = waiting_at(alloc, bytes)?;
     let records = records_at(alloc, bytes)?;
     let counts = counts_at(bytes)?;
-    Ok(image_of(
-        alloc, head, objects, mutators, waiting, records, counts,
-    ))
+    Ok(image_of(alloc, head, objects, mutators, waiting, records, counts))
 }
 
 /// The image at the front of the bytes.

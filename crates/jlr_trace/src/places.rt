@@ -42,10 +42,7 @@ fn pad<T: Drop>(places: &mut Vec<Option<T>>, upto: usize) -> Result<(), AllocErr
 }
 
 /// The places of the handles: 251, and 256 where a handle is above 250.
-pub(crate) fn held_places(
-    alloc: Global,
-    items: &[Held],
-) -> Result<Vec<Option<Slot>>, AllocError>
+pub(crate) fn held_places(alloc: Global, items: &[Held]) -> Result<Vec<Option<Slot>>, AllocError>
     requires { Rises (λ h. h.handle) None items.now }
     ensures { IfOk result (λ v. listed_from held 0 v.items ≡ items.now) }
 {
@@ -116,11 +113,7 @@ fn placed_at(
 
 /// The objects of an image with so many cells. A list that cannot fit in the bytes that are left is short, and takes no memory.
 #[tactic(auto, unfolding(jlr_fields::specs::Items::rising_at))]
-pub(crate) fn objects_at(
-    alloc: Global,
-    cells: u32,
-    bytes: &mut &[u8],
-) -> Result<Objects, ReadError>
+pub(crate) fn objects_at(alloc: Global, cells: u32, bytes: &mut &[u8]) -> Result<Objects, ReadError>
     ensures reads { Reads (λ x. listed_from placed 0 x.table ++ x.strays) result bytes.new.now (rising_at 5 placed_after (λ p. p.slot) bytes.old.now) }
     ensures sized { IfOk result (λ x. length x.table ≡ cells) }
 {

@@ -231,11 +231,7 @@ fn finish(cleaner: &mut Cleaner<u64>, words: &mut SplitWhitespace<'_>) -> Option
     Some(Got::Truth(cleaner.finish(by, action, outcome)))
 }
 
-fn on_job(
-    cleaner: &mut Cleaner<u64>,
-    name: &str,
-    words: &mut SplitWhitespace<'_>,
-) -> Option<Got> {
+fn on_job(cleaner: &mut Cleaner<u64>, name: &str, words: &mut SplitWhitespace<'_>) -> Option<Got> {
     match name {
         "take_number" => Some(Got::Given(take_number(cleaner))),
         "note" => Some(Got::Given(note(cleaner, parsed(words)?, parsed(words)?))),

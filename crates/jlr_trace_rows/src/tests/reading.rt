@@ -1,6 +1,7 @@
 //! The history of a session without a command, its fronts, and what a byte that is changed makes of it.
 use jlr_trace::file::read_trace;
 use std::alloc::{AllocError, Global};
+use std::str::{FromStr, SplitWhitespace};
 use std::test::Fail;
 
 // The head; no objects; no session; seven empty lists; the next action and three counts; two entries: mutator 0 joins and leaves.
@@ -66,19 +67,24 @@ fn told(alloc: Global, bytes: &[u8]) -> Result<String, AllocError> {
     }
 }
 
+fn parsed<T: FromStr>(words: &mut SplitWhitespace<'_>) -> Option<T>
+where
+    T::Err: Drop,
+{
+    words.next()?.parse().ok()
+}
+
 // The file with the change that the words say.
 fn changed(alloc: Global, change: &str) -> Result<Vec<u8>, Fail> {
     let mut bytes = decoded(alloc, FILE)?;
     let mut words = change.split_whitespace();
-    let sort = words.next().unwrap_or("");
-    let number: usize = words.next().unwrap_or("").parse()?;
-    match sort {
-        "front" => bytes.truncate(number),
-        "behind" => bytes.push(number as u8)?,
+    match words.next() {
+        Some("front") => bytes.truncate(parsed(&mut words).ok_or("no length")?),
+        Some("behind") => bytes.push(parsed(&mut words).ok_or("no byte")?)?,
         _ => {
-            let value: u8 = words.next().unwrap_or("").parse()?;
-            if let Some(byte) = bytes.get_mut(number.saturating_sub(1)) {
-                *byte = value;
+            let place: usize = parsed(&mut words).ok_or("no place")?;
+            if let Some(byte) = bytes.get_mut(place.saturating_sub(1)) {
+                *byte = parsed(&mut words).ok_or("no value")?;
             }
         }
     }

@@ -1,5 +1,5 @@
-use Rattle.std.proofs.Common.{◌-◌, length, refl, subst}
-use Rattle.jlr_trace.proofs.Placing.{HeldSoFar, held_step, held_end}
+use Rattle.std.proofs.Common.{refl}
+use Rattle.jlr_trace.proofs.Placing.{held_step, held_end}
 use Rattle.jlr_trace.proofs.places.held_places.Goals as goal
 
 pub loop-item-init : goal.loop-item-init

@@ -1,4 +1,4 @@
-use Rattle.std.proofs.Common.{◌≡◌, ℕ, length, ◌+◌, ◌-◌, ◌≤◌, List, ◌++◌, Option, Some, None, Ok, subst, sym, ap, ◌∙◌, arith}
+use Rattle.std.proofs.Common.{◌≡◌, ℕ, length, ◌+◌, ◌-◌, List, ◌++◌, Option, Some, None, Ok, subst, sym, ap, ◌∙◌, arith}
 use Rattle.std.proofs.lemmas.Result.{err_from_is_err_and}
 use Rattle.std.specs.Prelude.{replicate}
 use Rattle.jlr_machine.specs.declared.object.Object.{Object}
@@ -8,7 +8,7 @@ use Rattle.jlr_fields.proofs.RisingLoop.{goes_on, ends, is_done}
 use Rattle.jlr_parts.specs.declared.record.Placed.{Placed}
 use Rattle.jlr_parts.specs.Records.{placed_after}
 use Rattle.jlr_trace.specs.Images.{listed_from, placed}
-use Rattle.jlr_trace.proofs.Placing.{next_of, above-next, placed_follows, padded}
+use Rattle.jlr_trace.proofs.Placing.{above-next, placed_follows, padded}
 use Rattle.jlr_trace.proofs.places.placed_at.Goals as goal
 
 pub returns-in_err-item-clause-reads : goal.returns-in_err-item-clause-reads
@@ -44,5 +44,5 @@ placed_list places padded_places table strays listed_strays n p q r =
 pub returns-clause-reads : goal.returns-clause-reads
 returns-clause-reads c =
     subst (λ (xs : List Placed). rising_items_at placed_after (λ p. p.slot) c.args.count None c.args.bytes.now.now ≡ Ok (xs, c.loop.bytes.now))
-        (sym (placed_list c.loop.places.items c.pad.new.places.items c.from_vec.result c.loop.strays.items c.from_vec-2.result (c.args.cells - length c.loop.places.items) c.in_ok-pad.ensures c.from_vec.ensures c.from_vec-2.ensures))
-        (is_done placed_after (λ p. p.slot) (listed_from placed 0 c.loop.places.items ++ c.loop.strays.items) c.args.count c.loop.counter c.loop.before c.loop.bytes.now (rising_items_at placed_after (λ p. p.slot) c.args.count None c.args.bytes.now.now) c.loop-test.false c.loop.invariant.read)
+    (sym (placed_list c.loop.places.items c.pad.new.places.items c.from_vec.result c.loop.strays.items c.from_vec-2.result (c.args.cells - length c.loop.places.items) c.in_ok-pad.ensures c.from_vec.ensures c.from_vec-2.ensures))
+    (is_done placed_after (λ p. p.slot) (listed_from placed 0 c.loop.places.items ++ c.loop.strays.items) c.args.count c.loop.counter c.loop.before c.loop.bytes.now (rising_items_at placed_after (λ p. p.slot) c.args.count None c.args.bytes.now.now) c.loop-test.false c.loop.invariant.read)
