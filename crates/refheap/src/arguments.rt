@@ -92,6 +92,19 @@ pub fn limits(alloc: Global, words: &[String]) -> Result<Limits, ProgramFault>
     }
 }
 
+/// The file that the words of an `audit` name; none where they ask for something else.
+pub fn audited<'a>(alloc: Global, words: &'a [String]) -> Result<Option<&'a str>, ProgramFault>
+    ensures { IfErr result (λ fault. (status_of fault ≡ 2) ⊎ (status_of fault ≡ 5)) }
+{
+    let command = command(alloc).map_err(ProgramFault::NoMemory)?;
+    let matches = parsed(command, words)?;
+    Ok(
+        matches
+            .subcommand_matches("audit")
+            .and_then(|audit| audit.get_str("file")),
+    )
+}
+
 /// The limits of a session that is alone, with so many cells, so many files and sockets, and this soft age.
 fn limits_with(cells: u32, resources: u32, soft_age: u32) -> Result<Limits, LimitFault>
     ensures limits { IfOk result (λ limits. (limits.cells ≡ cells) × (limits.sessions ≡ 1) × (limits.resources ≡ resources) × (limits.soft_age ≡ soft_age) × (limits.trace ≡ 10000) × (limits.budget ≡ 64)) }
@@ -176,10 +189,18 @@ fn command<'a>(alloc: Global) -> Result<Command<'a>, AllocError> {
         .arg(cells)?
         .arg(resources)?
         .arg(soft_age)?;
+    let file = Arg::new(alloc, "file")
+        .value_name("FILE")
+        .help("A saved history")
+        .required(true);
+    let audit = Command::new(alloc, "audit")
+        .about("The verdict on a saved history")
+        .arg(file)?;
     Command::new(alloc, "refheap")
         .about("A managed object heap with reference objects")
         .subcommand_required(true)
-        .subcommand(run)
+        .subcommand(run)?
+        .subcommand(audit)
 }
 
 #[cfg(test)]
