@@ -208,14 +208,17 @@ mod tests {
     use super::*;
     use std::test::Fail;
 
-    /// What a command line asks for, whose words are parted by spaces: the cells, the files and sockets and the soft age, or the status
-    /// of its fault.
+    /// What a command line asks for, whose words are parted by spaces: the cells, the files and sockets and the soft age, the file of an audit, or
+    /// the status of its fault.
     fn asked(alloc: Global, line: &str) -> Result<String, Fail> {
         let mut words = Vec::new(alloc);
         for word in line.split(' ') {
             let mut text = String::new(alloc);
             text.push_str(word)?;
             words.push(text)?;
+        }
+        if let Ok(Some(file)) = audited(alloc, words.as_slice()) {
+            return Ok(format!(in alloc; "audit of {file}")?);
         }
         match limits(alloc, words.as_slice()) {
             Ok(limits) => {
@@ -255,6 +258,7 @@ mod tests {
             refheap run --cells 17 --resources 18 --soft-age 19 -> 17 18 19
             refheap run --soft-age 0 --resources 1 --cells 16 -> 16 1 0
             refheap run --cells 65536 --resources 256 --soft-age 1000 -> 65536 256 1000
+            refheap audit history -> audit of history
             ",
         )?;
         play(
@@ -263,6 +267,8 @@ mod tests {
             "
             refheap -> status 2
             refheap walk -> status 2
+            refheap audit -> status 2
+            refheap audit a b -> status 2
             refheap --help -> status 2
             refheap run --cells -> status 2
             refheap run --cells 15 -> status 2

@@ -45,9 +45,9 @@ const ROWS: &str = "
 
 /// A standard error that keeps what is written.
 #[derive(Clone, Copy)]
-struct Kept<'a> {
-    alloc: Global,
-    text: &'a RefCell<String>,
+pub(crate) struct Kept<'a> {
+    pub(crate) alloc: Global,
+    pub(crate) text: &'a RefCell<String>,
 }
 
 impl Kept<'_> {

@@ -67,6 +67,11 @@ mod tests {
             (ProgramFault::Write, 1, "write failed"),
             (ProgramFault::Unfinished, 4, "unfinished line"),
             (ProgramFault::TooManyLines, 4, "too many lines"),
+            (ProgramFault::Illegal, 3, "illegal"),
+            (ProgramFault::TraceTruncated, 4, "trace truncated"),
+            (ProgramFault::BadMark, 4, "bad mark"),
+            (ProgramFault::BadVersion, 4, "bad version"),
+            (ProgramFault::BadEntry(7), 4, "bad entry 7"),
             (ProgramFault::NotJoined, 5, "not joined"),
             (ProgramFault::NoMemory(AllocError), 5, "no memory"),
         ] {

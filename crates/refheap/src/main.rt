@@ -9,6 +9,8 @@ mod fault;
 mod places;
 mod report;
 mod session;
+#[cfg(test)]
+mod verdicts;
 
 use fault::ProgramFault;
 use jlr_device::real::RealDevice;

@@ -1,0 +1,106 @@
+//! Each end of an audit: the status of the program, what it says on the standard error, and what it writes.
+use crate::audit::audit;
+use crate::ends::Kept;
+use crate::report::status_after;
+use std::alloc::{AllocError, Global};
+use std::cell::RefCell;
+use std::fs;
+use std::test::Fail;
+
+/// The history of a session without a command, 103 bytes.
+const FILE: &str = "
+    4a4c5254 01 00000010 01 0010 0000000000000000
+    00000000 00
+    00000000 00000000 00000000 00000000 00000000 00000000 00000000
+    0000000000000001 0000000000000000 0000000000000000 0000000000000000
+    0000000000000002
+    00 00 00 00 00
+    00 01 00 00 00
+";
+
+/// Each row says how many bytes of the file stand at the front, what stands behind them in place of as many, an arrow, and how the audit ends: the status, what is said, and
+/// what is written. Without bytes there is no file.
+const ROWS: &str = "
+    103 -> 0||legal 2
+    100 01 -> 3||illegal 2
+    60 00 -> 3||illegal 0
+    102 -> 4|refheap: trace truncated|
+    1 58 -> 4|refheap: bad mark|
+    4 09 -> 4|refheap: bad version|
+    103 00 -> 4|refheap: bad entry 3|
+    94 29 -> 4|refheap: bad entry 1|
+    24 02 -> 4|refheap: bad entry 0|
+    0 -> 1|refheap: cannot read refheap_history|
+";
+
+/// Where the tests write a history.
+const PATH: &str = "refheap_history";
+
+fn push_decoded(bytes: &mut Vec<u8>, text: &str) -> Result<(), Fail> {
+    for word in text.split_whitespace() {
+        for at in (0..word.len()).step_by(2) {
+            bytes.push(u8::from_str_radix(word.get(at..at + 2).ok_or("no bytes")?, 16)?)?;
+        }
+    }
+    Ok(())
+}
+
+/// The file that a row asks for: whole, but for what stands in place of some bytes, or cut where nothing does.
+fn changed(alloc: Global, front: usize, behind: &str) -> Result<Vec<u8>, Fail> {
+    let mut file = Vec::new(alloc);
+    push_decoded(&mut file, FILE)?;
+    let mut bytes = Vec::new(alloc);
+    bytes.extend_from_slice(file.get(..front).ok_or("no front")?)?;
+    push_decoded(&mut bytes, behind)?;
+    if !behind.is_empty() && bytes.len() < file.len() {
+        bytes.extend_from_slice(file.get(bytes.len()..).ok_or("no rest")?)?;
+    }
+    Ok(bytes)
+}
+
+/// A text with its line ends as spaces, without the last.
+fn in_one_line(alloc: Global, text: &str) -> Result<String, AllocError> {
+    let mut line = String::new(alloc);
+    for part in text.lines() {
+        if !line.is_empty() {
+            line.push_str(" ")?;
+        }
+        line.push_str(part)?;
+    }
+    Ok(line)
+}
+
+fn ending(rt: HostRuntime) -> Result<String, Fail> {
+    let alloc = rt.alloc();
+    let mut written = Vec::new(alloc);
+    let outcome = audit(&rt, PATH, &mut written);
+    let said = RefCell::new(String::new(alloc));
+    let status = status_after(Kept { alloc, text: &said }, &outcome);
+    let said = in_one_line(alloc, said.into_inner().as_str())?;
+    let written = in_one_line(alloc, str::from_utf8(&written)?)?;
+    Ok(format!(in alloc; "{status}|{said}|{written}")?)
+}
+
+fn played(rt: HostRuntime, row: &str) -> Result<(), Fail> {
+    let (change, wanted) = row.split_once(" -> ").ok_or("no row")?;
+    let (front, behind) = change.split_once(" ").unwrap_or((change, ""));
+    let bytes = changed(rt.alloc(), front.parse()?, behind)?;
+    if !bytes.is_empty() {
+        fs::write(&rt, PATH, bytes.as_slice())?;
+    }
+    let got = ending(rt)?;
+    let _ = fs::remove_file(&rt, PATH);
+    if got.as_str() != wanted {
+        return Err(Fail::new(format_args!("at {row}: {got}")));
+    }
+    Ok(())
+}
+
+#[test]
+fn audits_end_with_their_status(rt: HostRuntime) -> Result<(), Fail> {
+    let _ = fs::remove_file(&rt, PATH);
+    for row in ROWS.trim().lines() {
+        played(rt, row.trim())?;
+    }
+    Ok(())
+}
