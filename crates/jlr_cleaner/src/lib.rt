@@ -14,6 +14,7 @@ mod job;
 mod latest;
 mod outcomes;
 mod running;
+mod waiting;
 
 pub use cleaner::{Cleaner, Totals};
 pub use job::Job;

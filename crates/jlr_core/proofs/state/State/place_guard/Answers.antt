@@ -14,4 +14,4 @@ returns-clause-lies g c =
     let rid = c.in-Ok.rid in
     let was : state_at old rid ≡ None = ap {A = Option Resource} {B = Option ResourceState} (option_map (λ r. r.state)) c.in-Ok.ensures.free in
     let placed : LieAsBefore old new = without_value old new rid (none_there old rid was) (none_lies new rid Opening c.in-Ok.ensures.state (λ e. absurd (cc e))) c.in-Ok.ensures.others in
-    subst (λ (t : Resources g.row.R.Denot). LieAsBefore old t) (numbered_table c.take_number-number.result c.prepare.new.self c.take_number-number.new.self c.take_number-number.ensures.given c.take_number-number.ensures.none) placed
+    subst (λ (t : Resources g.row.R.Denot). LieAsBefore old t) (numbered_table c.register-action.result c.in-Some.cleanable c.prepare.new.self c.register-action.new.self c.register-action.ensures.registered c.register-action.ensures.none) placed

@@ -43,7 +43,7 @@ returns-in-Ok-allocate-clause-meets g c =
     let mid = machine_of c.allocate.new.self in
     let same = c.in-Ok-allocate.ensures.cleaner in
     let left = subst (λ (k : Cleanings g.row.R.Denot). nat_le (2 ^ 64 - 1) k.next_action ≡ false) (sym same) c.in-Ok.ensures.3 in
-    let number = numbered c.take_number-number.result c.allocate.new.self.cleaner c.take_number-number.new.self left c.take_number-number.ensures.given c.take_number-number.ensures.none in
+    let number = numbered c.register-action.result c.in-Ok-allocate.slot c.allocate.new.self.cleaner c.register-action.new.self left c.register-action.ensures.registered c.register-action.ensures.none in
     let made = subst (λ (k : ℕ). Allocates m (Cleanable (record { referent = Some c.in-Ok.target; action = k; work = Note c.args.note; state = Armed })) c.allocate.new.choice c.in-Ok-allocate.slot mid) (c.new.ensures ∙ c.next_action.ensures) c.in-Ok-allocate.ensures.allocates in
     meets_registered m mid (machine_of c.give.new.self) c.args.by c.in-Ok-allocate.slot c.args.cleaner c.args.object c.args.note c.in-Ok.target c.allocate.new.choice c.give.result (c.in-Ok.ensures.0 c.args.note) c.in-Ok.ensures.1 made c.give.ensures.answer
     (c.give.ensures.held ∙ ap (λ (k : Cleanings g.row.R.Denot). with_handle (machine_with k c.allocate.new.self.heap.graph c.allocate.new.self.cycle_open) c.args.by c.in-Ok-allocate.slot) number)

@@ -27,20 +27,20 @@ returns-in_default-clause-meets g c =
 pub take_up-job-requires-clause-not_running : goal.take_up-job-requires-clause-not_running
 take_up-job-requires-clause-not_running g c =
     let s = c.args.self.now in
-    let there = lined_there (machine_of s) c.in-Some.cleanable (c.in-Some.ensures.taken (frame_of s)).0 in
-    runs_in_none (machine_of s) there.0 c.in-Some.cleanable c.requires there.3 (unspent_when_lined c.in-Some.cleanable.state c.in-Some.ensures.lined)
+    let there = lined_there (machine_of s) c.in-Some.slot c.in-Some.cleanable (c.in-Some.ensures.taken (frame_of s)).0 in
+    runs_in_none (machine_of s) c.in-Some.slot c.in-Some.cleanable c.requires.fit there.2 (unspent_when_lined c.in-Some.cleanable.state c.in-Some.ensures.lined)
 
 pub take_up-job-requires-clause-idle : goal.take_up-job-requires-clause-idle
 take_up-job-requires-clause-idle g c =
     let s = c.args.self.now in
-    let there = lined_there (machine_of s) c.in-Some.cleanable (c.in-Some.ensures.taken (frame_of s)).0 in
-    lined_is_idle s.cleaner s.heap.graph s.cycle_open there.0 c.in-Some.cleanable c.requires there.3 c.in-Some.ensures.lined
+    let there = lined_there (machine_of s) c.in-Some.slot c.in-Some.cleanable (c.in-Some.ensures.taken (frame_of s)).0 in
+    lined_is_idle s.cleaner s.heap.graph s.cycle_open c.in-Some.slot c.in-Some.cleanable c.requires.fit there.2 c.in-Some.ensures.lined
 
 pub take_up-job-requires-clause-numbered : goal.take_up-job-requires-clause-numbered
 take_up-job-requires-clause-numbered g c =
     let s = c.args.self.now in
-    let there = lined_there (machine_of s) c.in-Some.cleanable (c.in-Some.ensures.taken (frame_of s)).0 in
-    below_numbers (machine_of s) there.0 c.in-Some.cleanable c.requires there.3 (unspent_when_lined c.in-Some.cleanable.state c.in-Some.ensures.lined)
+    let there = lined_there (machine_of s) c.in-Some.slot c.in-Some.cleanable (c.in-Some.ensures.taken (frame_of s)).0 in
+    below_numbers (machine_of s) c.in-Some.slot c.in-Some.cleanable c.requires.fit there.2 (unspent_when_lined c.in-Some.cleanable.state c.in-Some.ensures.lined)
 
 pub returns-clause-meets : goal.returns-clause-meets
 returns-clause-meets g c =
@@ -49,12 +49,13 @@ returns-clause-meets g c =
     let n = machine_with c.take_up-job.new.self c.take_lined.new.heap.graph s.cycle_open in
     let x = c.in-Some.cleanable in
     let t = c.in-Some.ensures.taken (frame_of s) in
-    let there = lined_there m x t.0 in
+    let at_slot = c.in-Some.slot in
+    let there = lined_there m at_slot x t.0 in
     let left : n ≡ line_taken m (from_lined m m.line) =
-    lined_taken s.cleaner c.take_up-job.new.self s.heap.graph c.take_lined.new.heap.graph s.cycle_open there.0 there.1 x (from_lined m m.line) there.2 t.1 (λ y. c.take_up-job.ensures.machine y there.0 x refl refl)
-    ∙ sym (line_taken_is m there.0 there.1 x there.2 there.3) in
+    lined_taken s.cleaner c.take_up-job.new.self s.heap.graph c.take_lined.new.heap.graph s.cycle_open at_slot there.0 x (from_lined m m.line) there.1 t.1 (λ y. c.take_up-job.ensures.machine y at_slot x refl refl)
+    ∙ sym (line_taken_is m at_slot there.0 x there.1 there.2) in
     let told : line_answer m (from_lined m m.line) ≡ Some (Job c.take_up-job.result.action c.take_up-job.result.work) =
-    line_answer_is m there.0 there.1 x there.2 there.3 c.in-Some.ensures.lined
+    line_answer_is m at_slot there.0 x there.1 there.2 c.in-Some.ensures.lined
     ∙ ap (λ (k : ℕ). Some (Job k x.work)) (sym c.take_up-job.ensures.action)
     ∙ ap (λ work. Some (Job c.take_up-job.result.action work)) (sym c.take_up-job.ensures.work) in
     meets_plain m n TakeUp (Job c.take_up-job.result.action c.take_up-job.result.work) tt (line_allowed m (sym c.runs_job.ensures ∙ c.if-runs_job.false)) told left
