@@ -88,7 +88,7 @@ impl<R> Cleaner<R> {
         })
     }
 
-    // ---- Action numbers
+    // ---- Actions that wait
 
     /// The action number that is given next, 1 to 2^64 - 1. The last one is never given.
     pub fn next_action(&self) -> u64
@@ -102,6 +102,20 @@ impl<R> Cleaner<R> {
         ensures { result ≡ nat_le (2 ^ 64 - 1) self.now.next_action }
     {
         self.next_action == u64::MAX
+    }
+
+    /// How many places there are at which actions wait: one for each cell.
+    pub fn places(&self) -> usize
+        ensures { result ≡ length self.now.waiting }
+    {
+        self.waiting.len()
+    }
+
+    /// The action that was registered at a place and not yet taken up, if there is one.
+    pub fn waits(&self, place: Slot) -> Option<ActionNo>
+        ensures { result ≡ at self.now.waiting place }
+    {
+        self.waiting.at(place)
     }
 
     /// Registers an action at the place of its cleanable, if a number is left: 1 to 2^64 - 2, and not given before. It waits there to be

@@ -1,6 +1,6 @@
 //! The actions that wait to be taken up, by the places of their cleanables.
 ghost use Rattle.std.specs.Prelude.{◌≡◌, ◌<◌, IfOk, None, length, replicate};
-ghost use Rattle.jlr_machine.specs.Objects.{empty_at, set_at};
+ghost use Rattle.jlr_machine.specs.Objects.{at, empty_at, set_at};
 
 use jlr_types::{ActionNo, Slot};
 use std::alloc::{AllocError, Global};
@@ -28,6 +28,20 @@ impl Waiting {
         let mut actions = Vec::new(alloc);
         actions.resize(cells as usize, None)?;
         Ok(Waiting { actions })
+    }
+
+    /// How many places there are.
+    pub(crate) fn len(&self) -> usize
+        ensures { result ≡ length self.now }
+    {
+        self.actions.len()
+    }
+
+    /// The action that waits at a place, if one does.
+    pub(crate) fn at(&self, place: Slot) -> Option<ActionNo>
+        ensures { result ≡ at self.now place }
+    {
+        self.actions.get(place.number() as usize).copied().flatten()
     }
 
     /// From now on this action waits at a place.

@@ -1,10 +1,15 @@
 -- The actions of all unspent cleanables wait, from event to event.
-use Rattle.std.proofs.Common.{◌≡◌, ◌≢◌, ◌⊎◌, ◌+◌, ◌-◌, ◌^◌, ◌<◌, ℕ, List, [], Option, Some, None, IfNone, IfSome, inl, inr, refl, sym, ◌∙◌, ap, subst, arith, length, option_map, replicate, slice_set}
-use Rattle.std.proofs.lemmas.Bool.{cases_eq, cases_lt}
+use Rattle.std.proofs.Common.{◌≡◌, ◌≢◌, ◌==◌, true, ◌⊎◌, ◌+◌, ◌-◌, ◌^◌, ◌<◌, ℕ, List, [], Option, Some, None, IfNone, IfSome, inl, inr, refl, sym, ◌∙◌, ap, subst, arith, length, option_map, replicate, slice_set}
+use Rattle.std.proofs.lemmas.Bool.{cases_eq, cases_lt, eqb-true}
 use Rattle.std.proofs.lemmas.List.{length-set, length-replicate}
 use Rattle.jlr_machine.specs.declared.machine.Machine.{Machine}
 use Rattle.jlr_machine.specs.declared.object.Object.{Object}
-use Rattle.jlr_machine.specs.declared.object.Object.TheVariants.{Cleanable}
+use Rattle.jlr_machine.specs.declared.object.Object.TheVariants.{Cleanable, Guard}
+use Rattle.jlr_machine.specs.declared.machine.Job.{Job as JobOf}
+use Rattle.jlr_machine.specs.declared.ask.Outcome.{Outcome}
+use Rattle.jlr_machine.specs.declared.ask.Outcome.TheVariants.{Ok as OutcomeOk, Failed}
+use Rattle.jlr_types.specs.declared.Work.TheVariants.{Resource as WorkOn}
+use Rattle.jlr_barrier.specs.Guards.{AreFree, with_guard}
 use Rattle.jlr_machine.specs.declared.object.Cleanable.{Cleanable as CleanableOf}
 use Rattle.jlr_machine.specs.declared.object.CleanState.{CleanState}
 use Rattle.jlr_machine.specs.declared.object.CleanState.TheVariants.{Armed, Spent}
@@ -23,12 +28,14 @@ use Rattle.jlr_laws.proofs.SeenKept.{keeps_seen}
 use Rattle.jlr_histories.proofs.TakenOnce.{unspent_back}
 use Rattle.jlr_cycles.specs.Laws.{with_seen}
 use Rattle.jlr_cycles.proofs.Left.{leaves_the_same}
-use Rattle.jlr_cleaner.specs.Cleanings.{Cleanings, after_register}
+use Rattle.jlr_laws.proofs.Allowed.{some_and_gives}
+use Rattle.jlr_cleaner.specs.Jobs.{is_job_of, job_in}
+use Rattle.jlr_cleaner.specs.Cleanings.{Cleanings, after_finish, after_register, after_take_up}
 use Rattle.jlr_cleaner.proofs.Registering.{nothing_there}
 use Rattle.jlr_core.specs.State.{MeetsAsk, entry_of}
 use Rattle.jlr_core.specs.Events.{StepsBy}
 use Rattle.jlr_core.specs.Collecting.{Allocates}
-use Rattle.jlr_core.specs.Waiting.{AllWait, Registers, Releases, WaitsOn}
+use Rattle.jlr_core.specs.Waiting.{AllWait, Registers, Releases, WaitAsBefore, WaitsOn}
 use Rattle.jlr_core.proofs.Stepping.{IsLegalSome, IsUnseen, Left, met}
 
 -- in an empty machine nothing is to wait
@@ -130,7 +137,7 @@ made_there m mid o new slot a =
       ap (λ (h : Heap). at h slot) is ∙ set_same heap slot (Some o) a.inside,
     )
 
-armed_unspent : (state : CleanState) → state ≡ Armed → state ≢ Spent
+pub armed_unspent : (state : CleanState) → state ≡ Armed → state ≢ Spent
 armed_unspent state armed spent_too = absurd (cc (armed, spent_too))
 
 -- an action is registered for a new cleanable that is Armed
@@ -142,6 +149,33 @@ registers {R} n old new place c inside there armed action is =
       cleanable = c;
       unspent = record { there = there; unspent = armed_unspent c.state armed };
       action = action;
+      waits = ap {A = Cleanings R} {B = Table ℕ} (λ k. k.waiting) is;
+      next = ap {A = Cleanings R} {B = ℕ} (λ k. k.next_action) is;
+    }
+
+-- an outcome that is recorded registers nothing
+finished_waits_as : {R : Type 0} (old : Cleanings R) (job : JobOf) (outcome : Outcome) → WaitAsBefore old (after_finish old job outcome)
+finished_waits_as old job OutcomeOk = (refl, refl)
+finished_waits_as old job (Failed fault) = (refl, refl)
+
+pub finished_waits : {R : Type 0} (old new : Cleanings R) (by action : ℕ) (outcome : Outcome) → is_job_of old.jobs by action ≡ true
+    → ((job : JobOf) → job_in old.jobs action ≡ Some job → job.by ≡ by → new ≡ after_finish old job outcome) → WaitAsBefore old new
+finished_waits old new by action outcome runs finished =
+    let job = some_and_gives (λ job. job.by == by) (job_in old.jobs action) runs in
+    subst (WaitAsBefore old) (sym (finished job.0 job.1 (eqb-true job.0.by by job.2))) (finished_waits_as old job.0 outcome)
+
+-- the cleanable of a new guard is there
+pub guarded_there : (heap : Heap) (guard place rid action : ℕ) → AreFree heap guard place → at (with_guard heap guard place rid action) place ≡ Some (Cleanable (record { referent = Some guard; action = action; work = WorkOn rid; state = Armed }))
+guarded_there heap guard place rid action free =
+    let first : Object = Guard (record { rid = rid; cleanable = place }) in
+    set_same (set_at heap guard first) place (Some (Cleanable (record { referent = Some guard; action = action; work = WorkOn rid; state = Armed }))) (subst (λ k. place < k) (sym (length-set heap guard (Some first))) free.second_within)
+
+-- what is taken up waits no more
+pub releases : {R : Type 0} (n : Machine) (old new : Cleanings R) (place : ℕ) (job : JobOf) → ((c : CleanableOf) → IsUnspent n place c → ⊥) → new ≡ after_take_up old place job → Releases n old new
+releases {R} n old new place job none is =
+    record {
+      place = place;
+      spent = none;
       waits = ap {A = Cleanings R} {B = Table ℕ} (λ k. k.waiting) is;
       next = ap {A = Cleanings R} {B = ℕ} (λ k. k.next_action) is;
     }

@@ -71,19 +71,19 @@ free_taker m k w free =
 
 -- ---- The cleaner's line
 
-front_is : (s t : ℕ) (c : CleanableOf) (o : Option CleanableOf) → Some (t, c) ≡ option_map (λ (x : CleanableOf). (s, x)) o → (s ≡ t) × (o ≡ Some c)
+front_is : (s t : ℕ) (c : CleanableOf) (o : Option CleanableOf) → ◌≡◌ {A = Option (ℕ × CleanableOf)} (Some (t, c)) (option_map (λ (x : CleanableOf). (s, x)) o) → (s ≡ t) × (o ≡ Some c)
 front_is s t c None e = no_some (t, c) (sym e)
 front_is s t c (Some x) e =
-    let both = some_same (t, c) (s, x) e in
-    (ap (λ (p : ℕ × CleanableOf). p.0) (sym both), ap (λ (p : ℕ × CleanableOf). Some p.1) (sym both))
+    let both : ◌≡◌ {A = ℕ × CleanableOf} (t, c) (s, x) = some_same (t, c) (s, x) e in
+    (ap {A = ℕ × CleanableOf} {B = ℕ} (λ p. p.0) (sym both), ap {A = ℕ × CleanableOf} {B = Option CleanableOf} (λ p. Some p.1) (sym both))
 
-front_there : (m : Machine) (line : List ℕ) (t : ℕ) (c : CleanableOf) → Some (t, c) ≡ front_of m line → (rest : List ℕ) × (line ≡ t ∷ rest) × IsCleanableAt m t c
+front_there : (m : Machine) (line : List ℕ) (t : ℕ) (c : CleanableOf) → ◌≡◌ {A = Option (ℕ × CleanableOf)} (Some (t, c)) (front_of m line) → (rest : List ℕ) × (line ≡ t ∷ rest) × IsCleanableAt m t c
 front_there m [] t c e = no_some (t, c) (sym e)
 front_there m (s ∷ rest) t c e =
     let is = front_is s t c (cleanable_at m s) e in
     (rest, ap (λ (x : ℕ). x ∷ rest) is.0, subst (λ x. IsCleanableAt m x c) is.0 (is_cleanable_there (at m.objects s) c is.1))
 
-pub lined_there : (m : Machine) (t : ℕ) (c : CleanableOf) → Some (t, c) ≡ front_of m (from_lined m m.line) → (rest : List ℕ) × (from_lined m m.line ≡ t ∷ rest) × IsCleanableAt m t c
+pub lined_there : (m : Machine) (t : ℕ) (c : CleanableOf) → ◌≡◌ {A = Option (ℕ × CleanableOf)} (Some (t, c)) (front_of m (from_lined m m.line)) → (rest : List ℕ) × (from_lined m m.line ≡ t ∷ rest) × IsCleanableAt m t c
 lined_there m t c e = front_there m (from_lined m m.line) t c e
 
 -- its resource lies here, if its work is one

@@ -265,9 +265,10 @@ impl<R> State<R> {
         if self.cleaner.runs_job(CLEANER) {
             return Err(Refusal::Busy);
         }
-        let Some((slot, cleanable)) = jlr_refs::take_lined(&mut self.heap) else {
+        let Some(taken) = jlr_refs::take_lined(&mut self.heap) else {
             return Ok(None);
         };
+        let (slot, cleanable) = taken;
         let job = self
             .cleaner
             .take_up(CLEANER, slot, cleanable.action, cleanable.work);

@@ -83,9 +83,10 @@ impl<R> State<R> {
         let Ok(rid) = self.cleaner.prepare(action) else {
             unreachable!()
         };
-        let Some((guard, cleanable)) = self.heap.allocate_guard(rid, action) else {
+        let Some(made) = self.heap.allocate_guard(rid, action) else {
             unreachable!()
         };
+        let (guard, cleanable) = made;
         let _action = self.cleaner.register(cleanable);
         choice.add_fresh(guard);
         choice.add_fresh(cleanable);

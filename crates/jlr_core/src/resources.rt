@@ -171,8 +171,9 @@ impl<R> State<R> {
         ensures clock { self.new.heap.clock ≡ self.old.heap.clock }
         ensures waits { Releases (machine_of self.new) self.old.cleaner self.new.cleaner }
     {
-        self.cleaner.open_failed(held.guard.cleanable, held.guard.rid);
-        self.heap.spend(held.guard.cleanable);
+        let Guard { rid, cleanable } = held.guard;
+        self.cleaner.open_failed(cleanable, rid);
+        self.heap.spend(cleanable);
         self.heap.end_call(by);
         Answer::Faulted(fault)
     }
