@@ -15,6 +15,8 @@ use Rattle.jlr_core.specs.State.{Meets, machine_with}
 use Rattle.jlr_core.specs.Collecting.{Allocates}
 use Rattle.jlr_core.proofs.Entries.{meets_full, meets_refused, meets_registered, never_memory}
 use Rattle.jlr_core.proofs.TakeUps.{numbered}
+use Rattle.jlr_laws.proofs.Clearing.{in_option}
+use Rattle.jlr_core.proofs.Hands.{named_held}
 use Rattle.jlr_core.proofs.state.State.register.Goals as goal
 
 pub returns-in-Err-clause-meets : goal.returns-in-Err-clause-meets
@@ -47,3 +49,7 @@ returns-in-Ok-allocate-clause-meets g c =
     let made = subst (λ (k : ℕ). Allocates m (Cleanable (record { referent = Some c.in-Ok.target; action = k; work = Note c.args.note; state = Armed })) c.allocate.new.choice c.in-Ok-allocate.slot mid) (c.new.ensures ∙ c.next_action.ensures) c.in-Ok-allocate.ensures.allocates in
     meets_registered m mid (machine_of c.give.new.self) c.args.by c.in-Ok-allocate.slot c.args.cleaner c.args.object c.args.note c.in-Ok.target c.allocate.new.choice c.give.result (c.in-Ok.ensures.0 c.args.note) c.in-Ok.ensures.1 made c.give.ensures.answer
     (c.give.ensures.held ∙ ap (λ (k : Cleanings g.row.R.Denot). with_handle (machine_with k c.allocate.new.self.heap.graph c.allocate.new.self.cycle_open) c.args.by c.in-Ok-allocate.slot) number)
+
+-- a handle names what it is registered for
+pub allocate-requires-clause-held : goal.allocate-requires-clause-held
+allocate-requires-clause-held g c = λ s h. named_held (machine_of c.args.self.now) c.args.by c.args.object s (c.in-Ok.ensures.1 ∙ in_option s (Some c.in-Ok.target) h)
