@@ -1,4 +1,4 @@
-use Rattle.std.proofs.Common.{◌≡◌, ◌++◌, ◌∷◌, [], ℕ, Option, Some, sym, ◌∙◌, ap, subst, true, is_some, option_and_then}
+use Rattle.std.proofs.Common.{◌≡◌, ◌++◌, ◌∷◌, [], Option, Some, sym, ◌∙◌, ap, subst, true, is_some, option_and_then}
 use Rattle.std.specs.Prelude.{option_map}
 use Rattle.jlr_machine.specs.declared.object.Object.{Object}
 use Rattle.jlr_machine.specs.Objects.{at, queue_ahead, some_and, with_members, with_reference}

@@ -10,8 +10,8 @@ use Rattle.jlr_refs.proofs.Changing.{apart, change_other}
 use Rattle.jlr_refs.proofs.Enqueuing.{member_is_reference, none_ahead_of_member, reference_is_object}
 use Rattle.jlr_refs.proofs.references.poll.Goals as goal
 
-pub unlink-member-requires-clause-object : goal.unlink-member-requires-clause-object
-unlink-member-requires-clause-object c =
+pub unlink-requires-clause-object : goal.unlink-requires-clause-object
+unlink-requires-clause-object c =
     let g = c.args.heap.now.graph in
     λ s first. reference_is_object (at g.objects s) (member_is_reference g c.args.queue s c.requires.fit c.requires.queue first)
 
