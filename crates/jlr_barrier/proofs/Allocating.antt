@@ -1,16 +1,16 @@
 -- A new object keeps a heap together.
-use Rattle.std.proofs.Common.{◌≡◌, ◌≤◌, ◌<◌, ◌+◌, ℕ, zero, suc, ◌⊎◌, inl, inr, Bool, true, false, IsTrue, List, [], ◌∷◌, ◌++◌, Option, Some, None, is_some, length, option_and_then, slice_set, refl, sym, subst, arith, ap, ◌∙◌, length-set, get_or, get_or-set_same, get_or-set_other}
+use Rattle.std.proofs.Common.{◌≡◌, ◌≤◌, ◌<◌, ℕ, ◌⊎◌, inl, inr, true, false, IsTrue, List, [], ◌++◌, Some, None, is_some, length, option_and_then, slice_set, refl, sym, subst, arith, ap, ◌∙◌, length-set, get_or, get_or-set_same, get_or-set_other}
 use Rattle.std.specs.List.{flat_map}
 use Rattle.std.specs.Option.{option_to_list}
-use Rattle.std.proofs.lemmas.Bool.{both_ways, cases_eq}
+use Rattle.std.proofs.lemmas.Bool.{cases_eq}
 use Rattle.jlr_machine.specs.declared.object.Object.{Object}
-use Rattle.jlr_machine.specs.Objects.{Table, Heap, any_referent, at, set_at, ◌∈◌}
+use Rattle.jlr_machine.specs.Objects.{Heap, any_referent, at, set_at, ◌∈◌}
 use Rattle.jlr_machine.specs.Edges.{edges_from, strong_edges, is_own_root, active_cleanables}
 use Rattle.jlr_machine.specs.Edges.Chain.{Strong}
 use Rattle.jlr_laws.proofs.Sets.{nothing}
 use Rattle.jlr_laws.proofs.Clearing.{in_append, in_left, in_right, option_in}
 use Rattle.jlr_laws.proofs.Frames.{set_same, set_other}
-use Rattle.jlr_marks.specs.Marking.{Blackened, Marking, IsMarked, is_marked}
+use Rattle.jlr_marks.specs.Marking.{Blackened, Marking, IsMarked}
 use Rattle.jlr_barrier.specs.Graphs.{Graph, Known, held, with_objects}
 use Rattle.jlr_barrier.specs.Snapshots.{IsEdge, IsObject, RefersTo, IsSafe, IsSnapshot, IsInHand, cycle_of, FitsTogether}
 use Rattle.jlr_barrier.proofs.Held.{by_session, by_name, by_pending, by_line, by_itself, held_cases}

@@ -1,16 +1,13 @@
 -- More marks, and another object at a slot, keep a heap together.
-use Rattle.std.proofs.Common.{◌≡◌, ◌≤◌, ◌<◌, ℕ, zero, suc, ◌⊎◌, inl, inr, Bool, true, false, IsTrue, List, [], ◌∷◌, ◌++◌, Option, Some, None, length, filter_map, slice_set, slice_get, is_some, option_and_then, option_map, refl, sym, subst, arith, ap, ◌∙◌, length-set}
+use Rattle.std.proofs.Common.{◌≡◌, ◌≤◌, ℕ, ◌⊎◌, inl, inr, Bool, false, IsTrue, [], Option, Some, None, length, slice_set, is_some, option_and_then, option_map, refl, sym, subst, ap, ◌∙◌, length-set}
 use Rattle.std.specs.List.{flat_map}
 use Rattle.std.specs.Option.{option_to_list}
 use Rattle.std.proofs.lemmas.Bool.{both_ways, cases_eq}
-use Rattle.jlr_types.specs.declared.FieldValue.{FieldValue}
-use Rattle.jlr_types.specs.declared.FieldValue.TheVariants.{Int, Ref}
 use Rattle.jlr_machine.specs.declared.object.Object.{Object}
-use Rattle.jlr_machine.specs.Objects.{Table, Heap, any_referent, at, change_at, some_and, ◌∈◌}
-use Rattle.jlr_machine.specs.Edges.{edges_from, strong_edges, is_own_root, active_cleanables, slot_in}
-use Rattle.jlr_machine.specs.Edges.Chain.{Strong}
-use Rattle.jlr_laws.proofs.Sets.{nothing, in_front, in_rest, in_cons}
-use Rattle.jlr_laws.proofs.Clearing.{in_append, in_left, in_right}
+use Rattle.jlr_machine.specs.Objects.{Heap, any_referent, at, change_at, some_and, ◌∈◌}
+use Rattle.jlr_machine.specs.Edges.{strong_edges, is_own_root, active_cleanables}
+use Rattle.jlr_laws.proofs.Sets.{nothing}
+use Rattle.jlr_laws.proofs.Clearing.{in_append, in_left}
 use Rattle.jlr_laws.proofs.Frames.{set_same, set_other, place_within}
 use Rattle.jlr_marks.specs.Marking.{Marking, IsMarked, Shaded}
 use Rattle.jlr_barrier.specs.Graphs.{Graph, Known, held, with_objects}

@@ -1,5 +1,5 @@
 -- With no grey slot left, what is marked holds the roots and is closed; and a marking that begins is a snapshot.
-use Rattle.std.proofs.Common.{◌≡◌, ◌≤◌, ℕ, zero, suc, ◌⊎◌, inl, inr, Bool, false, List, [], None, replicate, get_or, refl, subst, length, sym, ap, ◌∙◌}
+use Rattle.std.proofs.Common.{◌≡◌, ◌≤◌, ℕ, zero, suc, inl, inr, false, List, [], None, replicate, refl, subst, length, sym, ap, ◌∙◌}
 use Rattle.std.proofs.lemmas.Bool.{both_ways}
 use Rattle.std.proofs.lemmas.List.{length-replicate}
 use Rattle.jlr_machine.specs.declared.machine.Session.{Session}
@@ -14,7 +14,7 @@ use Rattle.jlr_roots.specs.Walk.{slots_held}
 use Rattle.jlr_barrier.specs.Graphs.{Graph, Known, empty_graph, empty_known, held}
 use Rattle.jlr_barrier.proofs.Held.{held_cases}
 use Rattle.jlr_barrier.proofs.Fitting.{other_clock}
-use Rattle.jlr_barrier.specs.Snapshots.{FitsTogether, HoldsWhole, IsEdge, IsObject, IsSafe, IsSnapshot, cycle_of}
+use Rattle.jlr_barrier.specs.Snapshots.{FitsTogether, HoldsWhole, IsObject, IsSafe, IsSnapshot, cycle_of}
 
 pub none_marked : {P : Type 0} (n x : ℕ) → IsMarked (unmarked n) x → P
 none_marked n x h = absurd (both_ways (is_marked (unmarked n) x) (none_set n x) h)

@@ -1,10 +1,10 @@
 -- What mutators and names hold after a change of one of them.
-use Rattle.std.proofs.Common.{◌≡◌, ℕ, ◌⊎◌, inl, inr, Bool, true, false, cond, not, List, [], ◌∷◌, ◌++◌, Option, Some, None, filter, filter_map, option_map, slice_set, refl, sym, subst, ap, ◌∙◌}
+use Rattle.std.proofs.Common.{◌≡◌, ℕ, ◌⊎◌, inl, inr, true, false, cond, not, List, [], ◌∷◌, Option, Some, None, filter_map, option_map, slice_set, refl, sym, subst}
 use Rattle.std.specs.Option.{option_to_list}
 use Rattle.jlr_machine.specs.declared.machine.Session.{Session}
 use Rattle.jlr_machine.specs.declared.machine.Binding.{Binding}
 use Rattle.jlr_machine.specs.declared.machine.Call.{Call}
-use Rattle.jlr_machine.specs.Objects.{Table, at, set_at, empty_at, ◌∈◌}
+use Rattle.jlr_machine.specs.Objects.{Table, at, ◌∈◌}
 use Rattle.jlr_machine.specs.Lookups.{same_name, bound, unbound}
 use Rattle.jlr_machine.specs.Calls.{fresh_session}
 use Rattle.jlr_roots.specs.Walk.{slots_held, slots_of}

@@ -6,13 +6,13 @@ use Rattle.jlr_types.specs.declared.FieldValue.{FieldValue}
 use Rattle.jlr_types.specs.declared.FieldValue.TheVariants.{Int, Ref}
 use Rattle.jlr_machine.specs.declared.object.Object.{Object}
 use Rattle.jlr_machine.specs.declared.object.Object.TheVariants.{Plain, Reference, Queue, Cleaner, Cleanable, Guard}
-use Rattle.jlr_machine.specs.Objects.{Table, Heap, any_referent, at, change_at, with_field, ◌∈◌}
+use Rattle.jlr_machine.specs.Objects.{any_referent, at, change_at, with_field, ◌∈◌}
 use Rattle.jlr_machine.specs.Edges.{strong_edges, is_own_root, slot_in}
 use Rattle.jlr_cells.specs.Contents.{field_at, field_in}
 use Rattle.jlr_laws.proofs.Sets.{nothing, in_front, in_rest, in_cons}
-use Rattle.jlr_marks.specs.Marking.{Marking, IsMarked, Shaded}
-use Rattle.jlr_barrier.specs.Graphs.{Graph, Known, with_objects}
-use Rattle.jlr_barrier.specs.Snapshots.{IsInHand, IsObject, IsSafe, cycle_of, FitsTogether}
+use Rattle.jlr_marks.specs.Marking.{Marking, Shaded}
+use Rattle.jlr_barrier.specs.Graphs.{Known, with_objects}
+use Rattle.jlr_barrier.specs.Snapshots.{IsInHand, IsObject, FitsTogether}
 use Rattle.jlr_barrier.proofs.Fitting.{in_hand_safe}
 use Rattle.jlr_barrier.proofs.Changing.{changed_object, more_marks}
 use Rattle.jlr_marks.proofs.Shading.{shaded_same}

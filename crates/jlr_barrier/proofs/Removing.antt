@@ -1,16 +1,16 @@
 -- An object that is not marked is removed, where nothing is grey.
-use Rattle.std.proofs.Common.{◌≡◌, ◌≤◌, ◌<◌, ℕ, ◌⊎◌, inl, inr, IsTrue, List, [], Option, Some, None, is_some, option_and_then, length, slice_set, refl, sym, subst, ap, ◌∙◌, length-set}
+use Rattle.std.proofs.Common.{◌≡◌, ◌≤◌, ℕ, inl, inr, IsTrue, [], Option, Some, None, is_some, option_and_then, length, refl, sym, subst, ◌∙◌, length-set}
 use Rattle.std.specs.List.{flat_map}
 use Rattle.std.specs.Option.{option_to_list}
-use Rattle.std.proofs.lemmas.Bool.{both_ways, cases_eq}
+use Rattle.std.proofs.lemmas.Bool.{both_ways}
 use Rattle.jlr_machine.specs.declared.object.Object.{Object}
 use Rattle.jlr_machine.specs.Objects.{Heap, any_referent, at, empty_at, ◌∈◌}
-use Rattle.jlr_machine.specs.Edges.{active_cleanables, is_own_root, strong_edges}
+use Rattle.jlr_machine.specs.Edges.{is_own_root, strong_edges}
 use Rattle.jlr_laws.proofs.Sets.{nothing}
 use Rattle.jlr_laws.proofs.Frames.{no_some, set_cases, set_other}
-use Rattle.jlr_marks.specs.Marking.{Marking, IsMarked}
+use Rattle.jlr_marks.specs.Marking.{IsMarked}
 use Rattle.jlr_barrier.specs.Graphs.{Graph, Known, held, with_objects}
-use Rattle.jlr_barrier.specs.Snapshots.{FitsTogether, IsEdge, IsObject, RefersTo, cycle_of}
+use Rattle.jlr_barrier.specs.Snapshots.{FitsTogether, IsEdge, RefersTo, cycle_of}
 use Rattle.jlr_barrier.proofs.Held.{by_session, by_name, by_pending, by_line, by_itself, held_cases}
 use Rattle.jlr_barrier.proofs.OwnRoots.{active_gives, active_from}
 use Rattle.jlr_barrier.proofs.Keeping.{snapshot_of_left}

@@ -1,5 +1,5 @@
 -- What changes of one object do to its strong edges, its referent, and whether it is a root by itself.
-use Rattle.std.proofs.Common.{◌≡◌, ℕ, suc, ◌⊎◌, inl, inr, Bool, true, false, cond, IsTrue, List, [], ◌∷◌, ◌++◌, Option, Some, None, drop, slice_get, option_and_then, option_map, refl, sym, subst, ap, ◌∙◌}
+use Rattle.std.proofs.Common.{◌≡◌, ℕ, ◌⊎◌, inl, inr, true, false, cond, IsTrue, List, [], ◌∷◌, ◌++◌, Some, None, drop, option_map, refl, sym, subst, ap, ◌∙◌}
 use Rattle.std.specs.Option.{option_to_list}
 use Rattle.std.proofs.lemmas.Bool.{both_ways}
 use Rattle.jlr_machine.specs.declared.object.Object.{Object}
@@ -8,7 +8,7 @@ use Rattle.jlr_machine.specs.declared.object.Reference.{Reference as ReferenceOf
 use Rattle.jlr_machine.specs.declared.object.Cleanable.{Cleanable as CleanableOf}
 use Rattle.jlr_machine.specs.declared.object.CleanState.{CleanState}
 use Rattle.jlr_machine.specs.declared.object.RefState.{RefState}
-use Rattle.jlr_machine.specs.Objects.{Heap, any_referent, at, change_at, is_unqueued, queue_ahead, some_and, with_cleanable, with_members, with_reference, ◌∈◌}
+use Rattle.jlr_machine.specs.Objects.{any_referent, at, change_at, is_unqueued, queue_ahead, some_and, with_cleanable, with_members, with_reference, ◌∈◌}
 use Rattle.jlr_machine.specs.Edges.{strong_edges, is_active, is_own_root}
 use Rattle.jlr_machine.specs.Calls.{spent, unreferred}
 use Rattle.jlr_machine.specs.Refusals.{is_cleanable, is_queue, is_reference}
@@ -20,7 +20,7 @@ use Rattle.jlr_marks.specs.Marking.{IsMarked}
 use Rattle.jlr_barrier.specs.Graphs.{Known, with_objects}
 use Rattle.jlr_barrier.specs.Snapshots.{FitsTogether, IsInHand, IsSafe, cycle_of}
 use Rattle.jlr_barrier.proofs.Fitting.{in_hand_safe}
-use Rattle.jlr_barrier.proofs.Changing.{Keeps, Retouches, changed_object, there_is}
+use Rattle.jlr_barrier.proofs.Changing.{Retouches, changed_object, there_is}
 
 -- ---- A reference or a cleanable of which only that changes
 

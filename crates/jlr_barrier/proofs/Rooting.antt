@@ -1,5 +1,5 @@
 -- Calls on mutators, names and queues keep a heap together.
-use Rattle.std.proofs.Common.{◌≡◌, ◌≤◌, ℕ, ◌⊎◌, inl, inr, IsTrue, List, [], ◌∷◌, ◌++◌, Option, Some, None, Result, Ok, Err, drop, length, option_map, refl, sym, subst, ap, ◌∙◌}
+use Rattle.std.proofs.Common.{◌≡◌, ℕ, inl, inr, IsTrue, List, [], ◌∷◌, ◌++◌, Option, Some, None, Result, Ok, Err, drop, length, sym, subst, ◌∙◌}
 use Rattle.std.specs.Prelude.{IfNone, IfSome, OnErr, OnOk}
 use Rattle.jlr_machine.specs.declared.machine.Session.{Session}
 use Rattle.jlr_machine.specs.declared.machine.Binding.{Binding}
@@ -14,9 +14,8 @@ use Rattle.jlr_roots.specs.Sessions.{with_call, with_slot, without_handle}
 use Rattle.jlr_roots.specs.Walk.{slots_held, slots_of}
 use Rattle.jlr_roots.specs.Naming.{named}
 use Rattle.jlr_laws.proofs.Frames.{no_some, some_same}
-use Rattle.jlr_marks.specs.Marking.{Marking, IsMarked, Shaded}
-use Rattle.jlr_marks.proofs.Shading.{shaded_same}
-use Rattle.jlr_barrier.specs.Graphs.{Clock, Known, fence_at, with_objects}
+use Rattle.jlr_marks.specs.Marking.{Marking, Shaded}
+use Rattle.jlr_barrier.specs.Graphs.{Known, fence_at, with_objects}
 use Rattle.jlr_barrier.specs.Snapshots.{FitsTogether, IsInHand, IsObject, IsSafe, cycle_of}
 use Rattle.jlr_barrier.proofs.Fitting.{in_hand_safe, or_safe, other_clock, other_mutators, other_names}
 use Rattle.jlr_barrier.proofs.Changing.{more_marks}

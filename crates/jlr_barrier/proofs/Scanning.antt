@@ -1,16 +1,16 @@
 -- A grey slot is taken, and its edges are followed.
-use Rattle.std.proofs.Common.{◌≡◌, ◌<◌, ℕ, ◌⊎◌, inl, inr, Bool, true, false, cond, not, IsTrue, List, [], ◌∷◌, ◌++◌, Option, Some, None, is_some, option_and_then, length, get_or, refl, sym, subst, ap, ◌∙◌}
-use Rattle.std.specs.Prelude.{IsPermutation, nat_eq}
+use Rattle.std.proofs.Common.{◌≡◌, ℕ, ◌⊎◌, inl, inr, Bool, true, false, cond, not, List, [], ◌∷◌, Option, Some, None, option_and_then, length, get_or, refl, sym, subst, ap, ◌∙◌}
+use Rattle.std.specs.Prelude.{nat_eq}
 use Rattle.std.proofs.lemmas.List.Sorted.{list_any-IsPermutation}
 use Rattle.std.proofs.lemmas.Bool.{false_from_ne_true, not_from_false}
 use Rattle.jlr_machine.specs.declared.object.Object.{Object}
 use Rattle.jlr_machine.specs.Objects.{any_referent, at, some_and, ◌∈◌}
 use Rattle.jlr_laws.proofs.Sets.{in_cons, in_front, in_rest}
 use Rattle.jlr_laws.proofs.Clearing.{in_left, in_right}
-use Rattle.jlr_laws.proofs.Frames.{no_some, some_same}
+use Rattle.jlr_laws.proofs.Frames.{no_some}
 use Rattle.jlr_marks.specs.Marking.{Marking, IsMarked, Shaded, is_marked}
 use Rattle.jlr_barrier.specs.Graphs.{Known}
-use Rattle.jlr_barrier.specs.Snapshots.{FitsTogether, IsEdge, IsObject, IsSnapshot, RefersTo, cycle_of}
+use Rattle.jlr_barrier.specs.Snapshots.{FitsTogether, IsEdge, IsObject, RefersTo, cycle_of}
 use Rattle.jlr_barrier.specs.Scans.{Scanned, awaits}
 use Rattle.jlr_barrier.proofs.Keeping.{snapshot_of_shaded}
 use Rattle.jlr_barrier.proofs.Fitting.{marked_or_not}

@@ -1,5 +1,5 @@
 -- What a heap is seen as: an object graph with its roots, a clock of collections, and a mark set.
-use Rattle.std.specs.Prelude.{◌+◌, ◌^◌, ℕ, false, cond, nat_lt, Option, List, [], ◌++◌, None, length, replicate, slice_set, option_and_then}
+use Rattle.std.specs.Prelude.{◌+◌, ◌^◌, ℕ, false, cond, nat_lt, Option, List, [], ◌++◌, None, replicate, slice_set, option_and_then}
 use Rattle.jlr_machine.specs.declared.machine.Machine.{Machine}
 use Rattle.jlr_machine.specs.declared.machine.Session.{Session}
 use Rattle.jlr_machine.specs.declared.machine.Binding.{Binding}

@@ -3,7 +3,7 @@ use Rattle.std.proofs.Common.{◌≡◌, ◌++◌, ℕ, zero, suc, cond, inl, in
 use Rattle.std.specs.List.{flat_map, cons_option}
 use Rattle.std.specs.Option.{option_to_list}
 use Rattle.jlr_types.specs.declared.FieldValue.{FieldValue}
-use Rattle.jlr_types.specs.declared.FieldValue.TheVariants.{Int, Ref}
+use Rattle.jlr_types.specs.declared.FieldValue.TheVariants.{Ref}
 use Rattle.jlr_types.specs.declared.FieldKind.{FieldKind}
 use Rattle.jlr_types.specs.declared.FieldKind.TheVariants.{Int as IntField, Ref as RefField}
 use Rattle.jlr_machine.specs.declared.object.Object.{Object}
@@ -12,7 +12,7 @@ use Rattle.jlr_machine.specs.declared.object.Reference.{Reference as ReferenceOf
 use Rattle.jlr_machine.specs.declared.machine.Session.{Session}
 use Rattle.jlr_machine.specs.declared.machine.Binding.{Binding}
 use Rattle.jlr_machine.specs.declared.machine.Machine.{Machine}
-use Rattle.jlr_machine.specs.Objects.{Heap, at, ◌∈◌, change_at, any_referent, as_fields, as_reference}
+use Rattle.jlr_machine.specs.Objects.{Heap, at, ◌∈◌, change_at, as_fields, as_reference}
 use Rattle.jlr_machine.specs.Edges.{edges_from, strong_edges, slot_in, is_kind}
 use Rattle.jlr_machine.specs.Edges.Chain.{Strong}
 use Rattle.jlr_machine.specs.Lookups.{blank, same_name, slot_bound, slot_named}
@@ -22,8 +22,8 @@ use Rattle.jlr_machine.specs.WellFormed.{IsWellFormed, IsObjectAt}
 use Rattle.jlr_types.specs.declared.RefKind.TheVariants.{Phantom}
 use Rattle.jlr_roots.specs.Walk.{slots_held, slots_of}
 use Rattle.jlr_roots.specs.Naming.{named}
-use Rattle.jlr_laws.proofs.Sets.{nothing, in_front, in_rest, in_cons}
-use Rattle.jlr_laws.proofs.Clearing.{in_append, in_left, in_option}
+use Rattle.jlr_laws.proofs.Sets.{nothing, in_front, in_rest}
+use Rattle.jlr_laws.proofs.Clearing.{in_append, in_left}
 use Rattle.jlr_laws.proofs.Fits.{referent_object, strong_object}
 use Rattle.jlr_laws.proofs.Frames.{no_some, some_same, root_from, is_plain_there, is_reference_there, from_places, from_sessions}
 use Rattle.jlr_laws.proofs.Frames.IsRoot.{fencing}

@@ -69,7 +69,7 @@ ahead_in (Some (Guard g)) h = absurd (both_ways false refl h)
 pub none_ahead_of_member : (g : Graph) (q s : ℕ) → IsFit g → some_and is_queue (at g.objects q) ≡ true → member_in (at g.objects q) 0 ≡ Some s → next_in (option_map (with_reference (in_state Removed)) (at g.objects s)) ≡ next_in (at g.objects s)
 none_ahead_of_member g q s fit is_q first =
     elim (option_and_then as_members (at g.objects q)) as (λ o. option_and_then as_members (at g.objects q) ≡ o → option_and_then (λ members. slice_get members 0) o ≡ Some s
-        → next_in (option_map (with_reference (in_state Removed)) (at g.objects s)) ≡ next_in (at g.objects s)) [
+    → next_in (option_map (with_reference (in_state Removed)) (at g.objects s)) ≡ next_in (at g.objects s)) [
       | None ↦ λ e h. no_some s h
       | Some members ↦ λ e h.
           let there = is_queue_there (at g.objects q) members e in

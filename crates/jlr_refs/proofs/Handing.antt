@@ -1,5 +1,5 @@
 -- The handler's step, as the machine has it.
-use Rattle.std.proofs.Common.{◌≡◌, ℕ, true, inr, List, [], ◌∷◌, ◌++◌, drop, Option, Some, None, option_and_then, refl, sym, ◌∙◌, ap, subst}
+use Rattle.std.proofs.Common.{◌≡◌, ℕ, true, inr, List, [], drop, Option, Some, None, option_and_then, refl, sym, ◌∙◌, ap, subst}
 use Rattle.std.specs.Prelude.{option_map, slice_get}
 use Rattle.jlr_machine.specs.declared.machine.Machine.{Machine}
 use Rattle.jlr_machine.specs.declared.object.Object.{Object}
@@ -13,18 +13,17 @@ use Rattle.jlr_machine.specs.declared.object.CleanState.TheVariants.{Armed, Pend
 use Rattle.jlr_machine.specs.declared.ask.Handed.{Handed}
 use Rattle.jlr_machine.specs.declared.ask.Handed.TheVariants.{Queued as HandedQueued, Lined as HandedLined, Skipped, Nothing}
 use Rattle.jlr_machine.specs.declared.ask.Answer.TheVariants.{Handed as HandedAnswer}
-use Rattle.jlr_machine.specs.Objects.{◌∈◌, as_cleanable, as_reference, at, change_at, queue_ahead, with_cleanable, with_reference}
+use Rattle.jlr_machine.specs.Objects.{◌∈◌, as_cleanable, as_reference, at, queue_ahead, with_reference}
 use Rattle.jlr_machine.specs.Edges.{is_own_root}
-use Rattle.jlr_cells.specs.Contents.{in_clean_state}
 use Rattle.jlr_machine.specs.Lookups.{with_object}
 use Rattle.jlr_machine.specs.Calls.{delivered, hand_over_answer, handed, handed_cleanable, handed_over, handed_reference, to_queue, unreferred}
 use Rattle.jlr_laws.proofs.Frames.{is_cleanable_there, is_reference_there}
 use Rattle.jlr_laws.proofs.Sets.{in_front}
-use Rattle.jlr_barrier.specs.Graphs.{Graph, Known, in_machine, with_line, with_objects, with_pending}
+use Rattle.jlr_barrier.specs.Graphs.{Graph, Known, in_machine}
 use Rattle.jlr_barrier.specs.Snapshots.{IsInHand}
 use Rattle.jlr_barrier.proofs.Held.{by_itself, by_pending}
 use Rattle.jlr_barrier.proofs.OwnRoots.{active_from}
-use Rattle.jlr_refs.specs.Parts.{DeliversFront, Enqueues, HandsOver, IsFit, handed_there}
+use Rattle.jlr_refs.specs.Parts.{DeliversFront, HandsOver, IsFit, handed_there}
 use Rattle.jlr_refs.proofs.Lining.{split}
 use Rattle.jlr_refs.proofs.Room.{pending_there}
 
@@ -59,31 +58,11 @@ lined_is_cleanable (Some (Guard g)) e = absurd (cc e)
 
 -- ---- The pending list meanwhile
 
-queue_pending : (m : Machine) (s : ℕ) (q : Option ℕ) → (to_queue m s q).pending ≡ m.pending
-queue_pending m s None = refl
-queue_pending m s (Some q) = refl
-
 queue_apart : (m : Machine) (s : ℕ) (q : Option ℕ) (l : List ℕ) → to_queue (record m { pending = l }) s q ≡ record (to_queue m s q) { pending = l }
 queue_apart m s None l = refl
 queue_apart m s (Some q) l = refl
 
 -- what is delivered is no part of the pending list
-delivered_pending : (m : Machine) (s : ℕ) (handed : Handed) → (delivered m s handed).pending ≡ m.pending
-delivered_pending m s HandedQueued = queue_pending (with_object m s (with_reference unreferred)) s (option_and_then queue_ahead (option_and_then as_reference (at m.objects s)))
-delivered_pending m s HandedLined = refl
-delivered_pending m s Skipped = refl
-delivered_pending m s Nothing = refl
-
-pub queued_from_front : (g h k : Graph) (s : ℕ) → Enqueues g s h → k ≡ with_pending h (drop 1 h.pending) → DeliversFront g s HandedQueued k
-queued_from_front g h k s queued taken =
-    λ m.
-    let on_pending : h.pending ≡ g.pending = ap (λ (x : Machine). x.pending) (queued m) ∙ delivered_pending (in_machine m g) s HandedQueued in
-    ap (in_machine m) taken ∙ ap (λ l. record (in_machine m h) { pending = drop 1 l }) on_pending ∙ ap (λ (x : Machine). record x { pending = drop 1 g.pending }) (queued m)
-
-pub lined_from_front : (g h k : Graph) (s : ℕ) → h ≡ with_pending g (drop 1 g.pending) → k ≡ with_line (with_objects h (change_at h.objects s (with_cleanable (in_clean_state Lined)))) (h.line ++ s ∷ []) → DeliversFront g s HandedLined k
-lined_from_front g h k s taken lined =
-    λ m. ap (in_machine m) (lined ∙ ap (λ (x : Graph). with_line (with_objects x (change_at x.objects s (with_cleanable (in_clean_state Lined)))) (x.line ++ s ∷ [])) taken)
-
 delivered_apart : (m : Machine) (s : ℕ) (handed : Handed) (l : List ℕ) → delivered (record m { pending = l }) s handed ≡ record (delivered m s handed) { pending = l }
 delivered_apart m s HandedQueued l = queue_apart (with_object m s (with_reference unreferred)) s (option_and_then queue_ahead (option_and_then as_reference (at m.objects s))) l
 delivered_apart m s HandedLined l = refl

@@ -1,4 +1,4 @@
-use Rattle.std.proofs.Common.{◌≡◌, inl, sym, subst, ◌∙◌}
+use Rattle.std.proofs.Common.{inl, sym, subst, ◌∙◌}
 use Rattle.jlr_marks.specs.Marking.{Marking, IsMarked}
 use Rattle.jlr_process.proofs.Settled.{cleanable_handed_over}
 use Rattle.jlr_process.proofs.settle.settle_cleanable.Goals as goal

@@ -1,5 +1,4 @@
-use Rattle.std.proofs.Common.{◌≡◌, inl, sym, subst, ap, ◌∙◌}
-use Rattle.jlr_machine.specs.Objects.{at}
+use Rattle.std.proofs.Common.{inl, sym, subst, ap, ◌∙◌}
 use Rattle.jlr_marks.specs.Marking.{Marking, IsMarked}
 use Rattle.jlr_barrier.specs.Graphs.{Graph}
 use Rattle.jlr_process.proofs.Settled.{handed_over, same_queue_ahead}

@@ -1,4 +1,4 @@
-use Rattle.std.proofs.Common.{◌≡◌, ◌++◌, arith}
+use Rattle.std.proofs.Common.{arith}
 use Rattle.jlr_barrier.proofs.Fitting.{pushed_line}
 use Rattle.jlr_barrier.proofs.heap.Heap.add_lined.Goals as goal
 

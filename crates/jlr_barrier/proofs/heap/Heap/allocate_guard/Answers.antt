@@ -1,6 +1,4 @@
-use Rattle.std.proofs.Common.{◌≡◌, inl, inr, [], sym, subst, ◌∙◌, ap}
-use Rattle.jlr_laws.proofs.Sets.{nothing, in_cons}
-use Rattle.jlr_barrier.specs.Snapshots.{IsInHand}
+use Rattle.std.proofs.Common.{◌≡◌, sym, ◌∙◌, ap}
 use Rattle.jlr_machine.specs.declared.object.Object.{Object}
 use Rattle.jlr_machine.specs.declared.object.Object.TheVariants.{Guard}
 use Rattle.jlr_machine.specs.Objects.{at, change_at, set_at, with_cleanable}

@@ -1,4 +1,4 @@
-use Rattle.std.proofs.Common.{◌≡◌, arith}
+use Rattle.std.proofs.Common.{arith}
 use Rattle.jlr_barrier.proofs.Fitting.{object_within}
 use Rattle.jlr_barrier.proofs.Rooting.{cut_fits}
 use Rattle.jlr_barrier.proofs.heap.Heap.cut_queue_edge.Goals as goal

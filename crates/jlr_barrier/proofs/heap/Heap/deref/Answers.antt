@@ -1,4 +1,4 @@
-use Rattle.std.proofs.Common.{◌≡◌, ◌∙◌, Some, arith, length-set, slice_set, sym}
+use Rattle.std.proofs.Common.{◌∙◌, arith, length-set, slice_set, sym}
 use Rattle.jlr_barrier.specs.Graphs.{gotten_at}
 use Rattle.jlr_barrier.proofs.Fitting.{object_within}
 use Rattle.jlr_barrier.proofs.Rooting.{given_referent_fits}

@@ -1,4 +1,4 @@
-use Rattle.std.proofs.Common.{◌≡◌, ◌∙◌, arith, sym}
+use Rattle.std.proofs.Common.{◌∙◌, arith, sym}
 use Rattle.jlr_barrier.proofs.Fitting.{object_within}
 use Rattle.jlr_barrier.proofs.Rooting.{ended_fits}
 use Rattle.jlr_barrier.proofs.heap.Heap.end_call.Goals as goal

@@ -1,4 +1,4 @@
-use Rattle.std.proofs.Common.{◌≡◌, ◌∙◌, ◌≤◌, arith}
+use Rattle.std.proofs.Common.{arith}
 use Rattle.jlr_barrier.proofs.Ending.{new_fits}
 use Rattle.jlr_barrier.proofs.heap.Heap.new.Goals as goal
 

@@ -1,4 +1,4 @@
-use Rattle.std.proofs.Common.{◌≡◌, ◌<◌, ◌∙◌, false, sym, ap, arith, replicate, subst, length, ℕ, List}
+use Rattle.std.proofs.Common.{◌≡◌, ◌∙◌, false, sym, ap, arith, replicate, subst, length, ℕ, List}
 use Rattle.std.proofs.lemmas.List.{length-replicate}
 use Rattle.jlr_machine.specs.Objects.{Heap, Table, ◌∈◌}
 use Rattle.jlr_machine.specs.declared.machine.Session.{Session}

@@ -1,4 +1,4 @@
-use Rattle.std.proofs.Common.{◌≡◌, ◌∷◌, ◌∙◌, ◌-◌, Option, Some, length, refl, subst}
+use Rattle.std.proofs.Common.{◌∷◌, ◌∙◌, ◌-◌, length, refl, subst}
 use Rattle.std.specs.Prelude.{IfSome, IsPermutation}
 use Rattle.jlr_barrier.proofs.Walking.{member_in_list}
 use Rattle.jlr_barrier.proofs.Scanning.{scanned_fits}

@@ -1,4 +1,4 @@
-use Rattle.std.proofs.Common.{◌≡◌, ◌∙◌, Some, ap, arith}
+use Rattle.std.proofs.Common.{◌∙◌, Some, ap, arith}
 use Rattle.jlr_types.specs.declared.FieldValue.{FieldValue}
 use Rattle.jlr_cells.specs.Contents.{field_at}
 use Rattle.jlr_barrier.proofs.Fitting.{object_within}

@@ -1,4 +1,4 @@
-use Rattle.std.proofs.Common.{◌≡◌, inl, arith}
+use Rattle.std.proofs.Common.{inl, arith}
 use Rattle.jlr_barrier.proofs.Fitting.{other_line, in_shorter}
 use Rattle.jlr_barrier.proofs.heap.Heap.take_lined_front.Goals as goal
 

@@ -5,7 +5,6 @@ use Rattle.jlr_machine.specs.declared.ask.Answer.TheVariants.{Refused}
 use Rattle.jlr_core.specs.Machines.{machine_of}
 use Rattle.jlr_core.specs.State.{Meets}
 use Rattle.jlr_core.proofs.Entries.{meets_full, meets_new_reference, allowed_reference}
-use Rattle.jlr_machine.specs.Objects.{◌∈◌}
 use Rattle.jlr_laws.proofs.Clearing.{in_append, in_option}
 use Rattle.jlr_core.proofs.Hands.{named_held}
 use Rattle.jlr_core.proofs.state.State.make_reference.Goals as goal

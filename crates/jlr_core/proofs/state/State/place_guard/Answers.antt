@@ -20,4 +20,4 @@ returns-clause-lies g c =
 
 -- a new guard is black
 pub begin_call-requires-clause-held : goal.begin_call-requires-clause-held
-begin_call-requires-clause-held g c = λ s e. inl (subst (λ x. IsMarked c.allocate_guard.new.self.marking x) (some_same c.in-Some.guard s e) c.in-Some.ensures.black.2.marked)
+begin_call-requires-clause-held g c = λ s e. inl (subst (λ x. IsMarked c.allocate_guard.new.self.marking x) (some_same _ s e) c.in-Some.ensures.black.2.marked)
