@@ -1,5 +1,6 @@
 pub mod Frames
 pub mod Named
+pub mod Hands
 pub mod Roots
 pub mod Clearings
 pub mod Rooms

@@ -294,6 +294,7 @@ impl<R> State<R> {
         action: ActionNo,
         outcome: Result<(), Fault>,
     ) -> Result<Answer, Refusal>
+        requires { IsWellFormed (machine_of self.old) }
         ensures answered { Answered (machine_of self.old) (Ask.Finish by action (outcome_of outcome)) result (machine_of self.new) }
         ensures memory { answer_of result ≡ Answer.Refused Refusal.NoMemory → ⊥ }
         ensures values { values self.new.cleaner.table ≡ values self.old.cleaner.table }

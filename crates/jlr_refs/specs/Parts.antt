@@ -1,5 +1,5 @@
 -- What the calls on references need, and what they leave, in any machine of which the heap keeps its part.
-use Rattle.std.specs.Prelude.{◌≡◌, ℕ, cond, List, [], ◌∷◌, Option, Some, None, option_and_then, option_map}
+use Rattle.std.specs.Prelude.{◌≡◌, ℕ, cond, List, [], ◌∷◌, drop, Option, Some, None, option_and_then, option_map, slice_get}
 use Rattle.jlr_machine.specs.declared.machine.Machine.{Machine}
 use Rattle.jlr_machine.specs.declared.object.Object.{Object}
 use Rattle.jlr_machine.specs.declared.object.Reference.{Reference as ReferenceOf}
@@ -11,6 +11,7 @@ use Rattle.jlr_machine.specs.Objects.{Heap, ◌∈◌, as_cleanable, as_referenc
 use Rattle.jlr_machine.specs.Calls.{delivered, enqueued, from_lined, hand_over_answer, handed, handed_over, polled, spent}
 use Rattle.jlr_machine.specs.Lookups.{cleanable_at, with_object}
 use Rattle.jlr_machine.specs.WellFormed.{IsWellFormed}
+use Rattle.jlr_cells.specs.Contents.{next_in}
 use Rattle.jlr_barrier.specs.Graphs.{Graph, in_machine}
 
 -- the heap keeps its part of some well-formed machine
@@ -35,9 +36,13 @@ abbrev pub handed_there : Option Object → Handed
 handed_there None = Skipped
 handed_there (Some o) = handed o
 
--- the object at s is delivered, a reference to its queue, a cleanable to the line
-abbrev pub Delivers : Graph → ℕ → Handed → Graph → Type 0
-Delivers g s handed h = (m : Machine) → in_machine m h ≡ delivered (in_machine m g) s handed
+-- the object at s, the front of the pending list, leaves it and is delivered, a reference to its queue, a cleanable to the line
+abbrev pub DeliversFront : Graph → ℕ → Handed → Graph → Type 0
+DeliversFront g s handed h = (m : Machine) → in_machine m h ≡ record (delivered (in_machine m g) s handed) { pending = drop 1 g.pending }
+
+-- the queue that is ahead of what is at the front of the pending list
+abbrev pub queue_in_front : Graph → Option ℕ
+queue_in_front g = option_and_then (λ s. next_in (at g.objects s)) (slice_get g.pending 0)
 
 abbrev pub HandsOver : Graph → Handed → Graph → Type 0
 HandsOver g handed h = (m : Machine) → (hand_over_answer (in_machine m g) g.pending ≡ Some (HandedAnswer handed)) × (in_machine m h ≡ handed_over (in_machine m g) g.pending)

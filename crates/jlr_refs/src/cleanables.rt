@@ -28,6 +28,7 @@ pub fn take_lined(heap: &mut Heap) -> Option<(Slot, Cleanable)>
     ensures lined { IfSome result (λ taken. taken.1.state ≡ state.Lined) }
     ensures taken { TakesLined heap.old.graph result heap.new.graph }
     ensures clock { heap.new.clock ≡ heap.old.clock }
+    ensures marking { heap.new.marking ≡ heap.old.marking }
 {
     while let Some(slot) = heap.take_lined_front() {
         if let Some(cleanable) = lined_at(heap, slot) {
@@ -55,6 +56,7 @@ fn spend(heap: &mut Heap, slot: Slot)
     requires { IsTrue (some_and is_cleanable (at heap.old.graph.objects slot)) }
     ensures graph { heap.new.graph ≡ with_objects heap.old.graph (change_at heap.old.graph.objects slot (with_cleanable spent)) }
     ensures clock { heap.new.clock ≡ heap.old.clock }
+    ensures marking { heap.new.marking ≡ heap.old.marking }
 {
     heap.spend(slot);
 }

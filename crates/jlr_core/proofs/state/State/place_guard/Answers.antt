@@ -1,4 +1,4 @@
-use Rattle.std.proofs.Common.{◌≡◌, ◌+◌, ◌<◌, ℕ, None, Some, Option, length, arith, ap, option_map, refl, subst, sym, ◌∙◌}
+use Rattle.std.proofs.Common.{◌≡◌, ◌+◌, ◌<◌, ℕ, None, Some, Option, inl, length, arith, ap, option_map, refl, subst, sym, ◌∙◌}
 use Rattle.jlr_types.specs.declared.Work.TheVariants.{Resource as WorkOn}
 use Rattle.jlr_machine.specs.declared.object.Object.{Object}
 use Rattle.jlr_machine.specs.declared.object.Object.TheVariants.{Cleanable}
@@ -15,6 +15,8 @@ use Rattle.jlr_resource.specs.Resources.{Resources, state_at}
 use Rattle.jlr_core.specs.Flows.{LieAsBefore}
 use Rattle.jlr_machine.specs.declared.machine.ResourceState.TheVariants.{Opening}
 use Rattle.jlr_core.proofs.Moving.{none_lies, none_there, numbered_table, without_value}
+use Rattle.jlr_marks.specs.Marking.{IsMarked}
+use Rattle.jlr_laws.proofs.Frames.{some_same}
 use Rattle.jlr_core.proofs.state.State.place_guard.Goals as goal
 
 pub register-action-requires : goal.register-action-requires
@@ -59,3 +61,7 @@ returns-clause-lies g c =
     let was : state_at old rid ≡ None = ap {A = Option Resource} {B = Option ResourceState} (option_map (λ r. r.state)) c.in-Ok.ensures.free in
     let placed : LieAsBefore old new = without_value old new rid (none_there old rid was) (none_lies new rid Opening c.in-Ok.ensures.state (λ e. absurd (cc e))) c.in-Ok.ensures.others in
     subst (λ (t : Resources g.row.R.Denot). LieAsBefore old t) (numbered_table c.register-action.result c.in-Some.made.1 c.prepare.new.self c.register-action.new.self c.register-action.ensures.registered c.register-action.ensures.none) placed
+
+-- a new guard is black
+pub begin_call-requires-clause-held : goal.begin_call-requires-clause-held
+begin_call-requires-clause-held g c = λ s e. inl (subst (λ x. IsMarked c.allocate_guard.new.self.marking x) (some_same _ s e) c.in-Some.ensures.black.2.marked)

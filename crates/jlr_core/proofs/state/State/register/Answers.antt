@@ -19,6 +19,8 @@ use Rattle.jlr_core.proofs.Entries.{meets_full, meets_refused, meets_registered,
 use Rattle.jlr_core.specs.Waiting.{Registers}
 use Rattle.jlr_core.proofs.Awaiting.{made_there, registers}
 use Rattle.jlr_core.proofs.TakeUps.{numbered}
+use Rattle.jlr_laws.proofs.Clearing.{in_option}
+use Rattle.jlr_core.proofs.Hands.{named_held}
 use Rattle.jlr_core.proofs.state.State.register.Goals as goal
 
 pub returns-in-Err-clause-meets : goal.returns-in-Err-clause-meets
@@ -69,3 +71,7 @@ returns-in-Ok-allocate-clause-waits g c =
     let inside : slot < length mid.cleaner.waiting = omega (arith, made.0, long, c.requires.waits.places, c.in-Ok-allocate.ensures.cells) in
     let registered = registers n mid.cleaner c.give.new.self.cleaner slot armed inside there refl action (c.give.ensures.cleaner ∙ number) in
     inr (inl (subst (λ (k : Cleanings g.row.R.Denot). Registers n k c.give.new.self.cleaner) same registered))
+
+-- a handle names what it is registered for
+pub allocate-requires-clause-held : goal.allocate-requires-clause-held
+allocate-requires-clause-held g c = λ s h. named_held (machine_of c.args.self.now) c.args.by c.args.object s (c.in-Ok.ensures.1 ∙ in_option s (Some c.in-Ok.target) h)

@@ -2,7 +2,7 @@ use Rattle.std.proofs.Common.{◌∷◌, ◌<◌, length, subst, sym, rules}
 use Rattle.std.specs.Prelude.{IsPermutation}
 use Rattle.std.proofs.lemmas.List.Sorted.{IsPermutation-swap_remove}
 use Rattle.jlr_marks.specs.Marking.{Marking}
-use Rattle.jlr_marks.proofs.marks.Marks.next_grey.Goals as goal
+use Rattle.jlr_marks.proofs.marks.Marks.take_grey.Goals as goal
 
 pub returns-clause-grey : goal.returns-clause-grey
 returns-clause-grey c =
