@@ -74,7 +74,7 @@ impl Setting {
             "failures" if value == "most" => self.failures = u64::MAX,
             "lines" => self.lines = number(value)?,
             "ends" => self.end = end_of(value)?,
-            "book" => self.book = Some(shown(value)?),
+            "book" => self.book = Some(book_of(value)?),
             _ => return None,
         }
         Some(())
@@ -121,7 +121,7 @@ fn end_of(word: &str) -> Option<SessionEnd> {
 }
 
 /// What two numbers say of a book.
-fn shown(words: &str) -> Option<Shown> {
+fn book_of(words: &str) -> Option<Shown> {
     let (base, entries) = words.split_once(" ")?;
     Some(Shown {
         base: base.parse().ok()?,
