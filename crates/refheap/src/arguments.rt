@@ -96,6 +96,19 @@ pub fn limits(alloc: Global, words: &[String]) -> Result<Limits, ProgramFault>
     }
 }
 
+/// The file that the words of an `audit` name; none where they ask for something else.
+pub fn audited<'a>(alloc: Global, words: &'a [String]) -> Result<Option<&'a str>, ProgramFault>
+    ensures { IfErr result (λ fault. (status_of fault ≡ 2) ⊎ (status_of fault ≡ 5)) }
+{
+    let command = command(alloc).map_err(ProgramFault::NoMemory)?;
+    let matches = parsed(command, words)?;
+    Ok(
+        matches
+            .subcommand_matches("audit")
+            .and_then(|audit| audit.get_str("file")),
+    )
+}
+
 /// The limits of a session that is alone, with so many cells, so many files and sockets, this soft age, and a trace of this length.
 fn limits_with(
     cells: u32,
@@ -193,10 +206,18 @@ fn command<'a>(alloc: Global) -> Result<Command<'a>, AllocError> {
         .arg(resources)?
         .arg(soft_age)?
         .arg(trace)?;
+    let file = Arg::new(alloc, "file")
+        .value_name("FILE")
+        .help("A saved history")
+        .required(true);
+    let audit = Command::new(alloc, "audit")
+        .about("The verdict on a saved history")
+        .arg(file)?;
     Command::new(alloc, "refheap")
         .about("A managed object heap with reference objects")
         .subcommand_required(true)
-        .subcommand(run)
+        .subcommand(run)?
+        .subcommand(audit)
 }
 
 #[cfg(test)]
