@@ -3,3 +3,14 @@ pub mod Walking
 pub mod OwnRoots
 pub mod Pairs
 pub mod Held
+pub mod Holding
+pub mod Keeping
+pub mod Fitting
+pub mod Changing
+pub mod Retouching
+pub mod Overwriting
+pub mod Scanning
+pub mod Allocating
+pub mod Removing
+pub mod Ending
+pub mod Rooting

@@ -1,5 +1,5 @@
 -- What a heap is seen as: an object graph with its roots, a clock of collections, and a mark set.
-use Rattle.std.specs.Prelude.{◌≡◌, ◌≤◌, ◌+◌, ◌^◌, ℕ, false, cond, nat_lt, Option, List, [], ◌++◌, None, length, replicate, slice_set, option_and_then}
+use Rattle.std.specs.Prelude.{◌+◌, ◌^◌, ℕ, false, cond, nat_lt, Option, List, [], ◌++◌, None, replicate, slice_set, option_and_then}
 use Rattle.jlr_machine.specs.declared.machine.Machine.{Machine}
 use Rattle.jlr_machine.specs.declared.machine.Session.{Session}
 use Rattle.jlr_machine.specs.declared.machine.Binding.{Binding}
@@ -77,17 +77,11 @@ gotten_at heap s = option_and_then gotten (option_and_then as_reference (at heap
 
 -- ---- Roots
 
+-- the slot that the call of a mutator holds
+abbrev pub fence_at : Table Session → ℕ → Option ℕ
+fence_at mutators k = option_and_then (λ s. s.fence) (at mutators k)
+
 -- what the mutators' handles and fences hold, what the names stand for, the pending list and the line, and the cleanables that are
 -- Armed or Pending
 abbrev pub held : Graph → List ℕ
 held g = slots_held g.mutators ++ named g.names ++ g.pending ++ g.line ++ active_cleanables 0 g.objects
-
--- ---- What fits together in a heap
-
--- each list has room for every cell
-pub record FitsTogether (known : Known) (pending_room line_room : ℕ) : Type 0 where
-  pub few : length known.graph.objects ≤ 65536
-  pub bits : length known.marking.bits ≡ length known.graph.objects
-  pub ages : length known.clock.last_gets ≡ length known.graph.objects
-  pub has_room : length known.graph.objects ≤ pending_room
-  pub line_has_room : length known.graph.objects ≤ line_room

@@ -1,3 +1,5 @@
 -- Reading order.
 pub mod Graphs
+pub mod Snapshots
+pub mod Scans
 pub mod Guards

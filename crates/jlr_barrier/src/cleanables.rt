@@ -4,7 +4,9 @@ ghost use Rattle.jlr_machine.specs.Objects.{as_cleanable, as_guard, at, change_a
 ghost use Rattle.jlr_machine.specs.Refusals.{is_cleanable, is_guard};
 ghost use Rattle.jlr_machine.specs.Calls.{spent};
 ghost use Rattle.jlr_cells.specs.Contents.{in_clean_state, without_referent};
+ghost use Rattle.jlr_machine.specs.Edges.{is_active};
 ghost use Rattle.jlr_barrier.specs.Graphs.{with_objects};
+ghost use Rattle.jlr_barrier.specs.Snapshots.{IsInHand};
 
 use crate::heap::Heap;
 use jlr_machine::object::{CleanState, Cleanable, Guard};
@@ -48,7 +50,8 @@ impl Heap {
 
     /// The cleanable at a slot comes into another state. While it is Armed or Pending it is a root by itself.
     pub fn set_clean_state(&mut self, slot: Slot, state: CleanState)
-        requires { IsTrue (some_and is_cleanable (at self.old.graph.objects slot)) }
+        requires cleanable { IsTrue (some_and is_cleanable (at self.old.graph.objects slot)) }
+        requires root { IsTrue (is_active state) → IsInHand self.old slot }
         ensures graph { self.new.graph ≡ with_objects self.old.graph (change_at self.old.graph.objects slot (with_cleanable (in_clean_state state))) }
         ensures clock { self.new.clock ≡ self.old.clock }
         ensures marking { self.new.marking ≡ self.old.marking }
@@ -71,6 +74,7 @@ impl Heap {
         requires { IsTrue (some_and is_cleanable (at self.old.graph.objects slot)) }
         ensures graph { self.new.graph ≡ with_objects self.old.graph (change_at self.old.graph.objects slot (with_cleanable spent)) }
         ensures clock { self.new.clock ≡ self.old.clock }
+        ensures marking { self.new.marking ≡ self.old.marking }
     {
         self.cells.spend(slot);
     }

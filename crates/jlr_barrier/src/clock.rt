@@ -1,9 +1,12 @@
 //! What the soft policy asks: how many collections have finished, and when a reference was made or last gave its referent.
-ghost use Rattle.std.specs.Prelude.{◌≡◌, ◌<◌, cond, is_some, slice_index_or, length};
+ghost use Rattle.std.specs.Prelude.{◌≡◌, ◌<◌, ℕ, Some, cond, is_some, slice_index_or, length};
 ghost use Rattle.jlr_barrier.specs.Graphs.{counted, gotten_at, used_now};
+ghost use Rattle.jlr_barrier.specs.Snapshots.{IsObject};
+ghost use Rattle.jlr_marks.specs.Marking.{Shaded};
 ghost use Rattle.jlr_machine.specs.Refusals.{gotten};
 
 use crate::heap::Heap;
+use crate::shade::shade_target;
 use jlr_machine::object::Reference;
 use jlr_types::{RefKind, Slot};
 
@@ -39,16 +42,18 @@ impl Heap {
         gotten(self.cells.reference(slot)?)
     }
 
-    /// The reference at a slot gives its referent, if it has one and is no phantom reference. It was used now, then.
+    /// The reference at a slot gives its referent, if it has one and is no phantom reference. It was used now, then, and what it gave is
+    /// shaded: nothing else might lead to it.
     pub fn deref(&mut self, slot: Slot) -> Option<Slot>
+        requires { (s : ℕ) → gotten_at self.old.graph.objects slot ≡ Some s → IsObject self.old.graph.objects s }
         ensures given { result ≡ gotten_at self.old.graph.objects slot }
         ensures graph { self.new.graph ≡ self.old.graph }
         ensures clock { self.new.clock ≡ cond (is_some result) (used_now self.old.clock slot) self.old.clock }
+        ensures shaded { Shaded (λ s. gotten_at self.old.graph.objects slot ≡ Some s) self.old.marking self.new.marking }
     {
         let referent = self.gotten(slot)?;
-        if let Some(last_get) = self.last_gets.get_mut(slot.number() as usize) {
-            *last_get = self.collections;
-        }
+        shade_target(Some(referent), &mut self.marks);
+        self.last_gets[slot.number() as usize] = self.collections;
         Some(referent)
     }
 }

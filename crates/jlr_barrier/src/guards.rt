@@ -5,19 +5,23 @@ ghost use Rattle.jlr_machine.specs.Refusals.{is_cleanable};
 ghost use Rattle.jlr_cells.specs.Contents.{watching};
 ghost use Rattle.jlr_barrier.specs.Graphs.{used_now, with_objects};
 ghost use Rattle.jlr_barrier.specs.Guards.{AreFree, with_guard};
+ghost use Rattle.jlr_barrier.specs.Snapshots.{IsInHand};
+ghost use Rattle.jlr_marks.specs.Marking.{Blackened, Marking};
 
 use crate::heap::Heap;
 use jlr_cells::Shape;
 use jlr_types::{ActionNo, Rid, Slot, Work};
 
 impl Heap {
-    /// A new guard and its cleanable, which waits for it to finish a resource, in two free cells, if there are two. Both were made now.
+    /// A new guard and its cleanable, which waits for it to finish a resource, in two free cells, if there are two. Both were made now, and
+    /// are black.
     pub fn allocate_guard(&mut self, rid: Rid, action: ActionNo) -> Option<(Slot, Slot)>
         ensures full { IsNone result ↔ (length self.old.graph.objects < occupied self.old.graph.objects + 2) }
-        ensures none { IfNone result ((self.new.graph ≡ self.old.graph) × (self.new.clock ≡ self.old.clock)) }
+        ensures none { IfNone result ((self.new.graph ≡ self.old.graph) × (self.new.clock ≡ self.old.clock) × (self.new.marking ≡ self.old.marking)) }
         ensures free { IfSome result (λ made. AreFree self.old.graph.objects made.0 made.1) }
         ensures made { IfSome result (λ made. self.new.graph ≡ with_objects self.old.graph (with_guard self.old.graph.objects made.0 made.1 rid action)) }
         ensures clock { IfSome result (λ made. self.new.clock ≡ used_now (used_now self.old.clock made.0) made.1) }
+        ensures black { IfSome result (λ made. (m : Marking) × Blackened made.1 self.old.marking m × Blackened made.0 m self.new.marking) }
     {
         if self.free_count() < 2 {
             return None;
@@ -34,9 +38,11 @@ impl Heap {
 
     /// The cleanable at a slot waits for an object from now on.
     fn watch(&mut self, slot: Slot, referent: Slot)
-        requires { IsTrue (some_and is_cleanable (at self.old.graph.objects slot)) }
+        requires cleanable { IsTrue (some_and is_cleanable (at self.old.graph.objects slot)) }
+        requires held { IsInHand self.old referent }
         ensures graph { self.new.graph ≡ with_objects self.old.graph (change_at self.old.graph.objects slot (with_cleanable (watching referent))) }
         ensures clock { self.new.clock ≡ self.old.clock }
+        ensures marking { self.new.marking ≡ self.old.marking }
     {
         self.cells.watch(slot, referent);
     }

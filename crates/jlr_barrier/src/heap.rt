@@ -1,10 +1,14 @@
 //! The heap, its objects and their fields.
-ghost use Rattle.std.specs.Prelude.{◌≡◌, ℕ, ◌+◌, ◌<◌, ◌≤◌, ◌↔◌, IfNone, IfOk, IfSome, IsNone, IsTrue, None, Some, is_some, length, option_and_then, option_map};
-ghost use Rattle.jlr_machine.specs.Objects.{as_fields, as_reference, at, change_at, empty_at, occupied, set_at, some_and, with_field};
+ghost use Rattle.std.specs.Prelude.{◌≡◌, ℕ, ◌+◌, ◌++◌, ◌<◌, ◌≤◌, ◌↔◌, [], option_to_list, IfNone, IfOk, IfSome, IsNone, IsTrue, None, Some, is_some, length, option_and_then, option_map};
+ghost use Rattle.jlr_machine.specs.Objects.{◌∈◌, any_referent, as_fields, as_reference, at, change_at, empty_at, occupied, set_at, some_and, with_field};
 ghost use Rattle.jlr_machine.specs.Refusals.{is_plain, is_queue, is_reference};
 ghost use Rattle.jlr_cells.specs.Contents.{field_at, kind_of, object_of, referent_in};
+ghost use Rattle.jlr_machine.specs.Edges.{strong_edges};
+ghost use Rattle.jlr_marks.specs.Marking.{Blackened, IsMarked, Shaded};
 ghost use Rattle.jlr_barrier.specs.Graphs.{empty_known, used_now, with_objects};
+ghost use Rattle.jlr_barrier.specs.Snapshots.{IsInHand, IsObject};
 
+use crate::shade::shade_value;
 use jlr_cells::{Cells, Kind, Shape};
 use jlr_machine::object::{Object, Reference};
 use jlr_machine::table::Table;
@@ -34,7 +38,8 @@ pub struct Heap {
 
 impl Model for Heap {
     ghost use Rattle.std.specs.VecDeque.{deque_capacity};
-    ghost use Rattle.jlr_barrier.specs.Graphs.{FitsTogether, Known};
+    ghost use Rattle.jlr_barrier.specs.Graphs.{Known};
+    ghost use Rattle.jlr_barrier.specs.Snapshots.{FitsTogether};
 
     ghost Value = { Known };
 
@@ -138,32 +143,41 @@ impl Heap {
         self.cells.field(slot, field)
     }
 
-    /// Sets a field.
+    /// Sets a field. What it held is shaded: who read it before may still lead to it.
     pub fn store(&mut self, slot: Slot, field: usize, value: FieldValue)
         requires field { IsTrue (is_some (field_at self.old.graph.objects slot field)) }
         requires within { (s : ℕ) → value ≡ FieldValue.Ref (Some s) → s < length self.old.graph.objects }
+        requires held { (s : ℕ) → value ≡ FieldValue.Ref (Some s) → IsInHand self.old s }
+        requires object { (s : ℕ) → field_at self.old.graph.objects slot field ≡ Some (FieldValue.Ref (Some s)) → IsObject self.old.graph.objects s }
         ensures graph { self.new.graph ≡ with_objects self.old.graph (change_at self.old.graph.objects slot (with_field field value)) }
         ensures clock { self.new.clock ≡ self.old.clock }
+        ensures shaded { Shaded (λ s. field_at self.old.graph.objects slot field ≡ Some (FieldValue.Ref (Some s))) self.old.marking self.new.marking }
     {
-        let _old = self.cells.set_field(slot, field, value);
+        let old = self.cells.set_field(slot, field, value);
+        shade_value(old, &mut self.marks);
     }
 
-    /// A new object in a free cell, if there is one. It was made now.
+    /// A new object in a free cell, if there is one. It was made now, and is black.
     pub fn allocate(&mut self, shape: Shape) -> Option<Slot>
+        requires { (s : ℕ) → s ∈ (strong_edges (object_of shape) ++ option_to_list (any_referent (object_of shape))) → IsInHand self.old s }
         ensures full { IsNone result ↔ (occupied self.old.graph.objects ≡ length self.old.graph.objects) }
-        ensures none { IfNone result ((self.new.graph ≡ self.old.graph) × (self.new.clock ≡ self.old.clock)) }
+        ensures none { IfNone result ((self.new.graph ≡ self.old.graph) × (self.new.clock ≡ self.old.clock) × (self.new.marking ≡ self.old.marking)) }
         ensures free { IfSome result (λ slot. (slot < length self.old.graph.objects) × (at self.old.graph.objects slot ≡ None)) }
         ensures made { IfSome result (λ slot. self.new.graph ≡ with_objects self.old.graph (set_at self.old.graph.objects slot (object_of shape))) }
         ensures clock { IfSome result (λ slot. self.new.clock ≡ used_now self.old.clock slot) }
+        ensures black { IfSome result (λ slot. Blackened slot self.old.marking self.new.marking) }
     {
         let slot = self.cells.take(shape)?;
+        self.marks.blacken(slot);
         self.last_gets[slot.number() as usize] = self.collections;
         Some(slot)
     }
 
-    /// The object at a slot is no more.
+    /// The object at a slot, which is not marked, is no more. No cell is grey.
     pub fn remove(&mut self, slot: Slot)
-        requires { IsTrue (is_some (at self.old.graph.objects slot)) }
+        requires object { IsTrue (is_some (at self.old.graph.objects slot)) }
+        requires unmarked { ¬ (IsMarked self.old.marking slot) }
+        requires no_grey { self.old.marking.grey ≡ [] }
         ensures graph { self.new.graph ≡ with_objects self.old.graph (empty_at self.old.graph.objects slot) }
         ensures clock { self.new.clock ≡ self.old.clock }
         ensures marking { self.new.marking ≡ self.old.marking }

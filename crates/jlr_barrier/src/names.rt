@@ -3,6 +3,7 @@ ghost use Rattle.std.specs.Prelude.{◌≡◌, ◌≤◌, ◌<◌, IfOk, None, O
 ghost use Rattle.jlr_machine.specs.Lookups.{bound, slot_bound, unbound};
 ghost use Rattle.jlr_roots.specs.Naming.{names_of};
 ghost use Rattle.jlr_barrier.specs.Graphs.{with_names};
+ghost use Rattle.jlr_barrier.specs.Snapshots.{IsInHand};
 
 use crate::heap::Heap;
 use jlr_machine::items::Items;
@@ -29,9 +30,11 @@ impl Heap {
     /// From now on a name stands for this slot, which is a root as long, so this is one of the calls that make edges. An old name
     /// keeps its place, a new one comes last.
     pub fn bind(&mut self, name: &Name, slot: Slot)
-        requires { slot_bound self.old.graph.names name.now ≡ None → length self.old.graph.names < 256 }
+        requires room { slot_bound self.old.graph.names name.now ≡ None → length self.old.graph.names < 256 }
+        requires held { IsInHand self.old slot }
         ensures graph { self.new.graph ≡ with_names self.old.graph (bound self.old.graph.names name.now slot) }
         ensures clock { self.new.clock ≡ self.old.clock }
+        ensures marking { self.new.marking ≡ self.old.marking }
     {
         self.names.bind(name, slot);
     }
@@ -40,6 +43,7 @@ impl Heap {
     pub fn unbind(&mut self, name: &Name)
         ensures graph { self.new.graph ≡ with_names self.old.graph (unbound self.old.graph.names name.now) }
         ensures clock { self.new.clock ≡ self.old.clock }
+        ensures marking { self.new.marking ≡ self.old.marking }
     {
         self.names.unbind(name);
     }

@@ -1,6 +1,7 @@
 //! The pending list: what the collector cleared and the handler has still to hand over.
 ghost use Rattle.std.specs.Prelude.{◌≡◌, ◌++◌, ◌∷◌, [], ◌<◌, IfOk, drop, length, slice_get};
 ghost use Rattle.jlr_barrier.specs.Graphs.{with_pending};
+ghost use Rattle.jlr_barrier.specs.Snapshots.{IsInHand};
 
 use crate::heap::Heap;
 use jlr_machine::items::Items;
@@ -21,13 +22,15 @@ impl Heap {
         ensures front { result ≡ slice_get self.old.graph.pending 0 }
         ensures graph { self.new.graph ≡ with_pending self.old.graph (drop 1 self.old.graph.pending) }
         ensures clock { self.new.clock ≡ self.old.clock }
+        ensures marking { self.new.marking ≡ self.old.marking }
     {
         self.waiting.pop_front()
     }
 
     /// A slot goes to the end of the pending list. There is room for every cell, and takes no memory.
     pub fn add_pending(&mut self, slot: Slot)
-        requires { length self.old.graph.pending < length self.old.graph.objects }
+        requires room { length self.old.graph.pending < length self.old.graph.objects }
+        requires held { IsInHand self.old slot }
         ensures graph { self.new.graph ≡ with_pending self.old.graph (self.old.graph.pending ++ slot ∷ []) }
         ensures clock { self.new.clock ≡ self.old.clock }
         ensures marking { self.new.marking ≡ self.old.marking }

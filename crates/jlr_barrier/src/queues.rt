@@ -1,12 +1,15 @@
 //! The calls that change references and the members of queues.
-ghost use Rattle.std.specs.Prelude.{◌≡◌, ◌++◌, ◌∷◌, [], IsTrue, OnErr, OnOk, drop};
+ghost use Rattle.std.specs.Prelude.{◌≡◌, ◌++◌, ◌∷◌, ℕ, [], IsTrue, OnErr, OnOk, Some, drop, option_map};
 ghost use Rattle.jlr_machine.specs.Objects.{at, change_at, some_and, with_members, with_reference};
 ghost use Rattle.jlr_machine.specs.Refusals.{is_queue, is_reference};
 ghost use Rattle.jlr_machine.specs.Calls.{unreferred};
-ghost use Rattle.jlr_cells.specs.Contents.{in_state, member_in, unregistered};
+ghost use Rattle.jlr_cells.specs.Contents.{in_state, member_in, next_in, unregistered};
+ghost use Rattle.jlr_marks.specs.Marking.{Shaded};
 ghost use Rattle.jlr_barrier.specs.Graphs.{with_objects};
+ghost use Rattle.jlr_barrier.specs.Snapshots.{IsInHand, IsObject};
 
 use crate::heap::Heap;
+use crate::shade::{shade_ahead, shade_target};
 use jlr_machine::object::RefState;
 use jlr_types::Slot;
 use std::alloc::AllocError;
@@ -22,9 +25,10 @@ impl Heap {
         self.cells.clear_referent(slot);
     }
 
-    /// The reference at a slot comes into another state.
+    /// The reference at a slot comes into another state, in which the same queue is ahead of it, or none.
     pub fn set_state(&mut self, slot: Slot, state: RefState)
-        requires { IsTrue (some_and is_reference (at self.old.graph.objects slot)) }
+        requires reference { IsTrue (some_and is_reference (at self.old.graph.objects slot)) }
+        requires edge { next_in (option_map (with_reference (in_state state)) (at self.old.graph.objects slot)) ≡ next_in (at self.old.graph.objects slot) }
         ensures graph { self.new.graph ≡ with_objects self.old.graph (change_at self.old.graph.objects slot (with_reference (in_state state))) }
         ensures clock { self.new.clock ≡ self.old.clock }
         ensures marking { self.new.marking ≡ self.old.marking }
@@ -32,12 +36,15 @@ impl Heap {
         self.cells.set_state(slot, state);
     }
 
-    /// The reference at a slot is registered with no queue any more, and its edge to it is gone.
+    /// The reference at a slot is registered with no queue any more, and its edge to it is gone. The queue that was ahead is shaded.
     pub fn cut_queue_edge(&mut self, slot: Slot)
-        requires { IsTrue (some_and is_reference (at self.old.graph.objects slot)) }
+        requires reference { IsTrue (some_and is_reference (at self.old.graph.objects slot)) }
+        requires object { (s : ℕ) → next_in (at self.old.graph.objects slot) ≡ Some s → IsObject self.old.graph.objects s }
         ensures graph { self.new.graph ≡ with_objects self.old.graph (change_at self.old.graph.objects slot (with_reference unregistered)) }
         ensures clock { self.new.clock ≡ self.old.clock }
+        ensures shaded { Shaded (λ s. next_in (at self.old.graph.objects slot) ≡ Some s) self.old.marking self.new.marking }
     {
+        shade_ahead(&self.cells, slot, &mut self.marks);
         self.cells.cut_queue(slot);
     }
 
@@ -53,21 +60,27 @@ impl Heap {
     /// # Errors
     /// `AllocError` where there is no memory for one member more. Nothing has changed then.
     pub fn link(&mut self, queue: Slot, member: Slot) -> Result<(), AllocError>
-        requires { IsTrue (some_and is_queue (at self.old.graph.objects queue)) }
+        requires queue { IsTrue (some_and is_queue (at self.old.graph.objects queue)) }
+        requires held { IsInHand self.old member }
         ensures linked { OnOk result (self.new.graph ≡ with_objects self.old.graph (change_at self.old.graph.objects queue (with_members (λ members. members ++ member ∷ [])))) }
         ensures err { OnErr result (self.new ≡ self.old) }
         ensures clock { self.new.clock ≡ self.old.clock }
+        ensures marking { self.new.marking ≡ self.old.marking }
     {
         self.cells.push_member(queue, member)
     }
 
-    /// The member at the front of the queue at a slot leaves it, if there is one.
+    /// The member at the front of the queue at a slot leaves it, if there is one, and is shaded.
     pub fn unlink(&mut self, queue: Slot) -> Option<Slot>
-        requires { IsTrue (some_and is_queue (at self.old.graph.objects queue)) }
+        requires queue { IsTrue (some_and is_queue (at self.old.graph.objects queue)) }
+        requires object { (s : ℕ) → member_in (at self.old.graph.objects queue) 0 ≡ Some s → IsObject self.old.graph.objects s }
         ensures front { result ≡ member_in (at self.old.graph.objects queue) 0 }
         ensures graph { self.new.graph ≡ with_objects self.old.graph (change_at self.old.graph.objects queue (with_members (drop 1))) }
         ensures clock { self.new.clock ≡ self.old.clock }
+        ensures shaded { Shaded (λ s. result ≡ Some s) self.old.marking self.new.marking }
     {
-        self.cells.pop_member(queue)
+        let member = self.cells.pop_member(queue)?;
+        shade_target(Some(member), &mut self.marks);
+        Some(member)
     }
 }

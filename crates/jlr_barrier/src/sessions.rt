@@ -1,12 +1,15 @@
 //! The mutators, their handles, and their calls in flight with the fences of those calls.
-ghost use Rattle.std.specs.Prelude.{◌≡◌, ◌<◌, IfNone, IfOk, IfSome, IsTrue, None, is_some, length, option_and_then, option_map};
+ghost use Rattle.std.specs.Prelude.{◌≡◌, ◌<◌, ℕ, Some, IfNone, IfOk, IfSome, IsTrue, None, is_some, length, option_and_then, option_map};
 ghost use Rattle.jlr_machine.specs.declared.machine.Call.TheVariants.{Free};
 ghost use Rattle.jlr_machine.specs.Objects.{at, change_at, empty_at, set_at};
 ghost use Rattle.jlr_machine.specs.Calls.{fresh_session};
 ghost use Rattle.jlr_roots.specs.Sessions.{free_handle, has_call, has_free_handle, slot_held, with_call, with_slot, without_handle};
-ghost use Rattle.jlr_barrier.specs.Graphs.{with_mutators};
+ghost use Rattle.jlr_marks.specs.Marking.{Shaded};
+ghost use Rattle.jlr_barrier.specs.Graphs.{fence_at, with_mutators};
+ghost use Rattle.jlr_barrier.specs.Snapshots.{IsInHand, IsObject};
 
 use crate::heap::Heap;
+use crate::shade::shade_target;
 use jlr_machine::machine::{Call, Session};
 use jlr_machine::table::Table;
 use jlr_types::{Handle, Mutator, Slot};
@@ -33,6 +36,7 @@ impl Heap {
         requires absent { at self.old.graph.mutators mutator ≡ None }
         ensures graph { self.new.graph ≡ with_mutators self.old.graph (set_at self.old.graph.mutators mutator fresh_session) }
         ensures clock { self.new.clock ≡ self.old.clock }
+        ensures marking { self.new.marking ≡ self.old.marking }
     {
         self.roots.join(mutator);
     }
@@ -42,6 +46,7 @@ impl Heap {
         requires { IsTrue (is_some (at self.old.graph.mutators mutator)) }
         ensures graph { self.new.graph ≡ with_mutators self.old.graph (empty_at self.old.graph.mutators mutator) }
         ensures clock { self.new.clock ≡ self.old.clock }
+        ensures marking { self.new.marking ≡ self.old.marking }
     {
         self.roots.leave(mutator);
     }
@@ -55,12 +60,14 @@ impl Heap {
 
     /// The mutator holds a slot by its lowest free handle, if it has one.
     pub fn put_handle(&mut self, mutator: Mutator, slot: Slot) -> Option<Handle>
-        requires { IsTrue (is_some (at self.old.graph.mutators mutator)) }
+        requires joined { IsTrue (is_some (at self.old.graph.mutators mutator)) }
+        requires held { IsInHand self.old slot }
         ensures room { is_some result ≡ has_free_handle self.old.graph.mutators mutator }
         ensures none { IfNone result (self.new.graph ≡ self.old.graph) }
         ensures lowest { IfSome result (λ handle. handle ≡ free_handle self.old.graph.mutators mutator) }
         ensures held { IfSome result (λ handle. self.new.graph ≡ with_mutators self.old.graph (change_at self.old.graph.mutators mutator (with_slot handle slot))) }
         ensures clock { self.new.clock ≡ self.old.clock }
+        ensures marking { self.new.marking ≡ self.old.marking }
     {
         self.roots.put_handle(mutator, slot)
     }
@@ -70,6 +77,7 @@ impl Heap {
         requires { IsTrue (is_some (slot_held self.old.graph.mutators mutator handle)) }
         ensures graph { self.new.graph ≡ with_mutators self.old.graph (change_at self.old.graph.mutators mutator (without_handle handle)) }
         ensures clock { self.new.clock ≡ self.old.clock }
+        ensures marking { self.new.marking ≡ self.old.marking }
     {
         self.roots.drop_handle(mutator, handle);
     }
@@ -104,19 +112,24 @@ impl Heap {
 
     /// A mutator begins a call. Its fence is a root from now on, so this is one of the calls that make edges.
     pub fn begin_call(&mut self, mutator: Mutator, fence: Option<Slot>, call: Call)
-        requires { IsTrue (is_some (at self.old.graph.mutators mutator)) }
+        requires joined { IsTrue (is_some (at self.old.graph.mutators mutator)) }
+        requires held { (s : ℕ) → fence ≡ Some s → IsInHand self.old s }
         ensures graph { self.new.graph ≡ with_mutators self.old.graph (change_at self.old.graph.mutators mutator (with_call fence call)) }
         ensures clock { self.new.clock ≡ self.old.clock }
+        ensures marking { self.new.marking ≡ self.old.marking }
     {
         self.roots.begin_call(mutator, fence, call);
     }
 
-    /// A mutator's call ends, and its fence with it.
+    /// A mutator's call ends, and its fence with it. What the fence held is shaded: who ends a call may hold on to it by a handle.
     pub fn end_call(&mut self, mutator: Mutator)
-        requires { IsTrue (is_some (at self.old.graph.mutators mutator)) }
+        requires joined { IsTrue (is_some (at self.old.graph.mutators mutator)) }
+        requires object { (s : ℕ) → fence_at self.old.graph.mutators mutator ≡ Some s → IsObject self.old.graph.objects s }
         ensures graph { self.new.graph ≡ with_mutators self.old.graph (change_at self.old.graph.mutators mutator (with_call None Free)) }
         ensures clock { self.new.clock ≡ self.old.clock }
+        ensures shaded { Shaded (λ s. fence_at self.old.graph.mutators mutator ≡ Some s) self.old.marking self.new.marking }
     {
+        shade_target(self.roots.fence(mutator), &mut self.marks);
         self.roots.end_call(mutator);
     }
 

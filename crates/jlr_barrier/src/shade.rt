@@ -1,20 +1,22 @@
 //! Shading: what links, queues, roots, names and lists lead to is marked, and grey if it was not marked before.
-ghost use Rattle.std.specs.Prelude.{◌≡◌, ℕ, ◌+◌, ◌^◌, ◌<◌, ◌≤◌, IsTrue, Some, is_some, length};
-ghost use Rattle.jlr_machine.specs.Objects.{at, some_and, ◌∈◌};
-ghost use Rattle.jlr_machine.specs.Refusals.{is_plain};
+ghost use Rattle.std.specs.Prelude.{◌≡◌, ℕ, ◌+◌, ◌^◌, ◌<◌, ◌≤◌, ◌++◌, ◌∷◌, [], IsTrue, Some, cond, is_some, length, option_and_then};
+ghost use Rattle.jlr_machine.specs.Objects.{any_referent, at, queue_ahead, some_and, ◌∈◌};
+ghost use Rattle.jlr_machine.specs.Refusals.{is_plain, is_reference};
 ghost use Rattle.jlr_machine.specs.Edges.{active_cleanables, edges_from, is_active, is_own_root};
 ghost use Rattle.jlr_machine.specs.Edges.Chain.{Strong};
 ghost use Rattle.jlr_roots.specs.Naming.{named};
 ghost use Rattle.jlr_roots.specs.Walk.{slots_held};
-ghost use Rattle.jlr_cells.specs.Contents.{members_in};
+ghost use Rattle.jlr_cells.specs.Contents.{members_in, next_in};
 ghost use Rattle.jlr_cells.specs.Links.{linked};
-ghost use Rattle.jlr_marks.specs.Marking.{Shaded};
+ghost use Rattle.jlr_marks.specs.Marking.{Shaded, marked};
+ghost use Rattle.jlr_barrier.specs.Snapshots.{RefersTo};
+ghost use Rattle.jlr_barrier.specs.Scans.{awaits};
 
 use jlr_cells::{Cells, Links, Visited};
-use jlr_machine::object::CleanState;
+use jlr_machine::object::{CleanState, RefState, Reference};
 use jlr_marks::Marks;
 use jlr_roots::{Names, Roots};
-use jlr_types::{Meter, Slot};
+use jlr_types::{FieldValue, Meter, Slot};
 use std::collections::VecDeque;
 
 pub(crate) fn shade_target(target: Option<Slot>, marks: &mut Marks)
@@ -23,6 +25,37 @@ pub(crate) fn shade_target(target: Option<Slot>, marks: &mut Marks)
 {
     if let Some(slot) = target {
         marks.shade(slot);
+    }
+}
+
+/// Shades what the value of a field refers to.
+pub(crate) fn shade_value(value: FieldValue, marks: &mut Marks)
+    requires { (x : ℕ) → value ≡ FieldValue.Ref (Some x) → x < length marks.old.bits }
+    ensures { Shaded (λ x. value ≡ FieldValue.Ref (Some x)) marks.old marks.new }
+{
+    match value {
+        FieldValue::Int(_) => {}
+        FieldValue::Ref(target) => shade_target(target, marks),
+    }
+}
+
+/// Shades the queue that the reference at a slot may still be added to.
+pub(crate) fn shade_ahead(cells: &Cells, slot: Slot, marks: &mut Marks)
+    requires reference { IsTrue (some_and is_reference (at cells.now slot)) }
+    requires within { (x : ℕ) → next_in (at cells.now slot) ≡ Some x → x < length marks.old.bits }
+    ensures { Shaded (λ x. next_in (at cells.now slot) ≡ Some x) marks.old marks.new }
+{
+    shade_target(queue_ahead(cells.reference(slot)), marks);
+}
+
+/// The queue that a reference may still be added to.
+fn queue_ahead(reference: Option<Reference>) -> Option<Slot>
+    ensures { result ≡ option_and_then queue_ahead reference }
+{
+    let reference = reference?;
+    match reference.state {
+        RefState::Fresh | RefState::Pending => reference.queue,
+        RefState::Queued | RefState::Removed => None,
     }
 }
 
@@ -55,6 +88,35 @@ pub(crate) fn follow(cells: &Cells, slot: Slot, meter: &mut Meter, marks: &mut M
             shade_members(cells, slot, marks);
             false
         }
+    }
+}
+
+/// A reference or a cleanable at a slot is discovered, if what it refers to is not marked.
+pub(crate) fn note(cells: &Cells, slot: Slot, marks: &mut Marks)
+    requires room { length marks.old.grey + length marks.old.discovered < marked marks.old }
+    requires within { (x : ℕ) → RefersTo cells.now slot x → x < length marks.old.bits }
+    ensures bits { marks.new.bits ≡ marks.old.bits }
+    ensures grey { marks.new.grey ≡ marks.old.grey }
+    ensures discovered { marks.new.discovered ≡ marks.old.discovered ++ cond (some_and (awaits marks.old) (at cells.now slot)) (slot ∷ []) [] }
+{
+    let Some(referent) = any_referent(cells, slot) else {
+        return;
+    };
+    if !marks.is_marked(referent) {
+        marks.discover(slot);
+    }
+}
+
+/// What the reference or the cleanable at a slot refers to, if there is one and it was not cleared.
+fn any_referent(cells: &Cells, slot: Slot) -> Option<Slot>
+    ensures { result ≡ option_and_then any_referent (at cells.now slot) }
+{
+    if let Some(reference) = cells.reference(slot) {
+        return reference.referent;
+    }
+    match cells.cleanable(slot) {
+        Some(cleanable) => cleanable.referent,
+        None => None,
     }
 }
 

@@ -1,5 +1,6 @@
 pub mod Frames
 pub mod Named
+pub mod Hands
 pub mod Roots
 pub mod Clearings
 pub mod Rooms
@@ -9,6 +10,7 @@ pub mod Ranges
 pub mod RunLaws
 pub mod Queues
 pub mod TakeUps
+pub mod Awaiting
 pub mod Rest
 pub mod Guards
 pub mod Moving

@@ -32,3 +32,8 @@ finds_no_room m cells old new n r few =
             left = l;
           }
     ] refl r.asked r.left
+
+-- a collection leaves the mutators as they are
+pub mutators_stay : (m : Machine) (x : Option Collected) (n : Machine) → n ≡ with_collection m x → n.mutators ≡ m.mutators
+mutators_stay m None n e = ap (λ (k : Machine). k.mutators) e
+mutators_stay m (Some c) n e = ap (λ (k : Machine). k.mutators) e

@@ -1,5 +1,9 @@
 //! The full collections that an ask makes: one that is asked for, and one that makes room for a new object.
-ghost use Rattle.std.specs.Prelude.{◌≡◌, ◌≤◌, length, IfOk, IfErr};
+ghost use Rattle.std.specs.Prelude.{◌≡◌, ◌≤◌, ◌++◌, ℕ, length, option_to_list, IfOk, IfErr};
+ghost use Rattle.jlr_machine.specs.Objects.{◌∈◌, any_referent};
+ghost use Rattle.jlr_machine.specs.Edges.{strong_edges};
+ghost use Rattle.jlr_roots.specs.Walk.{slots_held};
+ghost use Rattle.jlr_marks.specs.Marking.{IsMarked};
 ghost use Rattle.jlr_cells.specs.Contents.{object_of};
 ghost use Rattle.jlr_soft.specs.declared.policy.Policy.{Policy};
 ghost use Rattle.jlr_machine.specs.WellFormed.{IsWellFormed};
@@ -55,13 +59,16 @@ impl<R> State<R> {
         }
     }
 
-    /// A new object in a free cell, after a full collection where none is free; refused where that leaves none free.
+    /// A new object in a free cell, after a full collection where none is free; refused where that leaves none free. What it refers to is
+    /// held by a mutator.
     pub(crate) fn allocate(&mut self, shape: Shape, choice: &mut Choice) -> Result<Slot, Refusal>
         requires fit { IsWellFormed (machine_of self.old) }
         requires nothing { choice.old ≡ nothing_chosen choice.old.cells }
         requires room { length self.old.heap.graph.objects ≤ choice.old.cells }
+        requires held { (s : ℕ) → s ∈ (strong_edges (object_of shape) ++ option_to_list (any_referent (object_of shape))) → s ∈ slots_held self.old.heap.graph.mutators }
         ensures allocates { IfOk result (λ slot. Allocates (machine_of self.old) (object_of shape) choice.new slot (machine_of self.new)) }
         ensures clock { self.new.heap.clock ≡ after_choice choice.new.chosen self.old.heap.clock }
+        ensures black { IfOk result (λ slot. IsMarked self.new.heap.marking slot) }
         ensures full { IfErr result (λ r. (r ≡ Refusal.HeapFull) × FindsNoRoom (machine_of self.old) 1 choice.new (machine_of self.new)) }
         ensures room { choice.new.cells ≡ choice.old.cells }
         ensures cells { length self.new.heap.graph.objects ≡ length self.old.heap.graph.objects }

@@ -1,8 +1,9 @@
 //! The asks on sessions and handles.
-ghost use Rattle.std.specs.Prelude.{◌≡◌, length, ◌&&◌, not, true, false, Some, is_some, MatchResult};
+ghost use Rattle.std.specs.Prelude.{◌≡◌, ℕ, length, ◌&&◌, not, true, false, Some, is_some, MatchResult};
 ghost use Rattle.jlr_machine.specs.Lookups.{has_free_handle, with_handle};
 ghost use Rattle.jlr_machine.specs.Calls.{new_handle, handle_given, with_given};
 ghost use Rattle.jlr_machine.specs.WellFormed.{IsWellFormed};
+ghost use Rattle.jlr_barrier.specs.Snapshots.{IsInHand};
 ghost use Rattle.jlr_core.specs.State.{Checks, Answered};
 
 use crate::state::State;
@@ -82,7 +83,8 @@ impl<R> State<R> {
 
     /// The mutator holds a slot by its lowest free handle.
     pub(crate) fn give(&mut self, by: Mutator, slot: Slot) -> Answer
-        requires { has_free_handle (machine_of self.old) by ≡ true }
+        requires room { has_free_handle (machine_of self.old) by ≡ true }
+        requires held { IsInHand self.old.heap slot }
         ensures answer { new_handle (machine_of self.old) by ≡ Some result }
         ensures held { machine_of self.new ≡ with_handle (machine_of self.old) by slot }
         ensures objects { self.new.heap.graph.objects ≡ self.old.heap.graph.objects }
@@ -108,7 +110,8 @@ impl<R> State<R> {
 
     /// The handle for what may be null, where a handle is free if one is needed.
     pub(crate) fn give_known(&mut self, by: Mutator, target: Option<Slot>) -> Answer
-        requires { (is_some target && not (has_free_handle (machine_of self.old) by)) ≡ false }
+        requires room { (is_some target && not (has_free_handle (machine_of self.old) by)) ≡ false }
+        requires held { (s : ℕ) → target ≡ Some s → IsInHand self.old.heap s }
         ensures answer { handle_given (machine_of self.old) by target ≡ Some result }
         ensures held { machine_of self.new ≡ with_given (machine_of self.old) by target }
         ensures objects { self.new.heap.graph.objects ≡ self.old.heap.graph.objects }
@@ -128,6 +131,7 @@ impl<R> State<R> {
         by: Mutator,
         target: Option<Slot>,
     ) -> Result<Answer, Refusal>
+        requires { (s : ℕ) → target ≡ Some s → IsInHand self.old.heap s }
         ensures given { MatchResult result
             (λ a. (handle_given (machine_of self.old) by target ≡ Some a) × ((is_some target && not (has_free_handle (machine_of self.old) by)) ≡ false) × (machine_of self.new ≡ with_given (machine_of self.old) by target))
             (λ r. (r ≡ Refusal.HandlesFull) × ((is_some target && not (has_free_handle (machine_of self.old) by)) ≡ true) × (machine_of self.new ≡ machine_of self.old)) }

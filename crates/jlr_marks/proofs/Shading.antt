@@ -80,7 +80,7 @@ shaded_then T U a b c s t =
 set_same : (bits : List Bool) (y : ℕ) → get_or bits y false ≡ true → set bits y true ≡ bits
 set_same bits y k = subst (λ b. set bits y b ≡ bits) k (set-get_or bits y false)
 
-same_marking : (m n : Marking) → m.bits ≡ n.bits → m.grey ≡ n.grey → m.discovered ≡ n.discovered → m ≡ n
+pub same_marking : (m n : Marking) → m.bits ≡ n.bits → m.grey ≡ n.grey → m.discovered ≡ n.discovered → m ≡ n
 same_marking m n eb eg ed =
     let with_bits : List Bool → Marking = λ b. record { bits = b; grey = m.grey; discovered = m.discovered } in
     let with_grey : List ℕ → Marking = λ g. record { bits = n.bits; grey = g; discovered = m.discovered } in

@@ -1,6 +1,6 @@
 //! Marks.
-ghost use Rattle.std.specs.Prelude.{◌≡◌, ℕ, ◌+◌, ◌<◌, ◌++◌, ◌∷◌, [], false, true, cond, length, IfOk, slice_set, IfNone, IfSome, IsPermutation, replicate};
-ghost use Rattle.jlr_marks.specs.Marking.{is_marked, marked};
+ghost use Rattle.std.specs.Prelude.{◌≡◌, ◌↔◌, ℕ, ◌+◌, ◌<◌, ◌++◌, ◌∷◌, [], false, true, cond, length, IfOk, slice_set, IfNone, IfSome, IsPermutation, replicate};
+ghost use Rattle.jlr_marks.specs.Marking.{is_marked, marked, upcoming};
 
 use jlr_types::Slot;
 use std::alloc::{AllocError, Global};
@@ -88,8 +88,25 @@ impl Marks {
         let _ = self.discovered.push(slot);
     }
 
-    /// Takes a grey cell off the stack, if there is one: the fourth from the top, in whose place the top then lies. It is black then.
-    pub fn next_grey(&mut self) -> Option<Slot>
+    /// Whether a cell is grey.
+    pub fn has_grey(&self) -> bool
+        ensures { result ≡ false ↔ (self.now.grey ≡ []) }
+    {
+        !self.grey.is_empty()
+    }
+
+    /// The grey cell that comes next, if there is one: the fourth from the top of the stack.
+    pub fn next_grey(&self) -> Option<Slot>
+        ensures { result ≡ upcoming self.now.grey }
+    {
+        self.grey
+            .get(self.grey.len().saturating_sub(AHEAD))
+            .copied()
+    }
+
+    /// The grey cell that comes next leaves the stack, if there is one, and is black then. The top of the stack comes in its place.
+    pub fn take_grey(&mut self) -> Option<Slot>
+        ensures taken { result ≡ upcoming self.old.grey }
         ensures bits { self.new.bits ≡ self.old.bits }
         ensures grey { IfSome result (λ slot. IsPermutation self.old.grey (slot ∷ self.new.grey)) }
         ensures none { IfNone result ((self.old.grey ≡ []) × (self.new.grey ≡ [])) }

@@ -1,5 +1,5 @@
 -- What settling one place leaves.
-use Rattle.std.proofs.Common.{◌≡◌, ◌&&◌, ℕ, zero, suc, Bool, true, false, cond, not, List, [], ◌∷◌, ◌++◌, Option, Some, None, slice_set, refl, sym, ap, ◌∙◌}
+use Rattle.std.proofs.Common.{◌≡◌, ◌&&◌, ℕ, zero, suc, Bool, true, false, cond, not, List, [], ◌∷◌, ◌++◌, Option, Some, None, slice_set, is_some, refl, sym, subst, ap, ◌∙◌}
 use Rattle.std.specs.Prelude.{option_map}
 use Rattle.jlr_machine.specs.declared.object.Object.{Object}
 use Rattle.jlr_machine.specs.declared.object.Object.TheVariants.{Reference, Cleanable}
@@ -7,11 +7,12 @@ use Rattle.jlr_machine.specs.declared.object.Reference.{Reference as ReferenceOf
 use Rattle.jlr_machine.specs.declared.object.Cleanable.{Cleanable as CleanableOf}
 use Rattle.jlr_machine.specs.declared.object.CleanState.TheVariants.{Pending as PendingClean}
 use Rattle.jlr_machine.specs.declared.object.RefState.TheVariants.{Pending}
-use Rattle.jlr_machine.specs.Objects.{Table, Heap, any_referent, at, change_at, with_cleanable, with_reference, some_and}
+use Rattle.jlr_machine.specs.Objects.{Table, Heap, any_referent, at, change_at, is_fresh, is_unqueued, with_cleanable, with_reference, some_and}
 use Rattle.jlr_machine.specs.Calls.{unreferred}
 use Rattle.jlr_machine.specs.Collection.{is_ready}
-use Rattle.jlr_cells.specs.Contents.{in_clean_state, in_state, without_referent}
-use Rattle.jlr_laws.proofs.Frames.{set_same, place_within}
+use Rattle.jlr_cells.specs.Contents.{in_clean_state, in_state, next_in, without_referent}
+use Rattle.std.proofs.lemmas.Bool.{and_parts}
+use Rattle.jlr_laws.proofs.Frames.{fresh_unqueued, set_same, place_within}
 use Rattle.jlr_barrier.specs.Graphs.{Graph, with_objects, with_pending}
 use Rattle.jlr_marks.specs.Marking.{Marking, is_marked}
 use Rattle.jlr_process.specs.Settling.{loses, marked_referent, only_if, settled_object, with_settled}
@@ -73,3 +74,12 @@ cleanable_handed_over m g a b d s x c here refers unmarked ready ea eb ed =
     ∙ ap (λ h. put h (g.pending ++ s ∷ [])) (changed_twice g.objects s (Cleanable c) (with_cleanable without_referent) (with_cleanable (in_clean_state PendingClean)) here)
     ∙ ap (λ o. put (slice_set g.objects s (Some o)) (g.pending ++ s ∷ [])) (sym (settled_cleanable m c x refers unmarked ready))
     ∙ ap (λ l. put (slice_set g.objects s (Some (settled_object m (Cleanable c)))) (g.pending ++ only_if l s)) (sym (is_lost m (Cleanable c) x refers unmarked ready))
+
+-- what is ahead of a ready reference that lost its referent stays ahead of it once it is Pending
+pub same_queue_ahead : (heap other : Heap) (s : ℕ) (r : ReferenceOf) → at heap s ≡ Some (Reference r) → other ≡ change_at heap s (with_reference unreferred) → is_ready (Reference r) ≡ true
+    → next_in (option_map (with_reference (in_state Pending)) (at other s)) ≡ next_in (at other s)
+same_queue_ahead heap other s r here e ready =
+    let there : at other s ≡ Some (Reference (unreferred r)) =
+    ap (λ h. at h s) e ∙ set_same heap s (option_map (with_reference unreferred) (at heap s)) (place_within heap s (Reference r) here) ∙ ap (option_map (with_reference unreferred)) here in
+    let unqueued : is_unqueued r.state ≡ true = fresh_unqueued r.state (and_parts (is_fresh r.state) (is_some r.queue) ready).0 in
+    subst (λ o. next_in (option_map (with_reference (in_state Pending)) o) ≡ next_in o) (sym there) (ap (λ b. cond b r.queue None) (sym unqueued))

@@ -1,5 +1,5 @@
 //! A collection.
-ghost use Rattle.std.specs.Prelude.{◌≡◌, ◌≤◌, length};
+ghost use Rattle.std.specs.Prelude.{◌≡◌, ◌≤◌, [], length};
 ghost use Rattle.jlr_machine.specs.declared.machine.Machine.{Machine};
 ghost use Rattle.jlr_machine.specs.Choices.{nothing_chosen};
 ghost use Rattle.jlr_barrier.specs.Graphs.{counted, in_machine};
@@ -17,6 +17,7 @@ use jlr_types::Slot;
 /// become Pending, and go on the pending list. Then all that is not marked is removed, and the collection is counted.
 pub fn flip(heap: &mut Heap, choice: &mut Choice)
     requires whole { (m : Machine) × IsMarkedWhole (in_machine m heap.old.graph) heap.old.marking }
+    requires no_grey { heap.old.marking.grey ≡ [] }
     requires nothing { choice.old ≡ nothing_chosen choice.old.cells }
     requires room { length heap.old.graph.objects ≤ choice.old.cells }
     ensures flips { (m : Machine) → IsMarkedWhole (in_machine m heap.old.graph) heap.old.marking →

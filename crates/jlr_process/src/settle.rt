@@ -1,5 +1,5 @@
 //! One place of the heap.
-ghost use Rattle.std.specs.Prelude.{◌≡◌, ℕ, ◌<◌, ◌++◌, IsTrue, Some, is_some, length, option_and_then, option_map};
+ghost use Rattle.std.specs.Prelude.{◌≡◌, ℕ, ◌<◌, ◌++◌, [], IsTrue, Some, is_some, length, option_and_then, option_map};
 ghost use Rattle.jlr_machine.specs.declared.object.Object.TheVariants as object;
 ghost use Rattle.jlr_machine.specs.Objects.{any_referent, as_cleanable, as_reference, at};
 ghost use Rattle.jlr_cells.specs.Contents.{kind_of};
@@ -24,6 +24,7 @@ fn is_ready(reference: Reference) -> bool
 /// A reference loses a referent that is not marked. If it was ready, it is put on the pending list.
 fn settle_reference(heap: &mut Heap, slot: Slot, reference: Reference, choice: &mut Choice)
     requires here { at heap.old.graph.objects slot ≡ Some (object.Reference reference) }
+    requires marked { IsMarked heap.old.marking slot }
     requires within { (x : ℕ) → reference.referent ≡ Some x → x < length heap.old.graph.objects }
     requires pending { IsTrue (loses heap.old.marking (object.Reference reference)) → length heap.old.graph.pending < length heap.old.graph.objects }
     requires pended { length (pended_by choice.old) < choice.old.cells }
@@ -57,6 +58,7 @@ fn is_armed(cleanable: Cleanable) -> bool
 /// A cleanable loses a referent that is not marked. If it was Armed, it is put on the pending list.
 fn settle_cleanable(heap: &mut Heap, slot: Slot, cleanable: Cleanable, choice: &mut Choice)
     requires here { at heap.old.graph.objects slot ≡ Some (object.Cleanable cleanable) }
+    requires marked { IsMarked heap.old.marking slot }
     requires within { (x : ℕ) → cleanable.referent ≡ Some x → x < length heap.old.graph.objects }
     requires pending { IsTrue (loses heap.old.marking (object.Cleanable cleanable)) → length heap.old.graph.pending < length heap.old.graph.objects }
     requires pended { length (pended_by choice.old) < choice.old.cells }
@@ -83,6 +85,7 @@ fn settle_cleanable(heap: &mut Heap, slot: Slot, cleanable: Cleanable, choice: &
 /// Keeps what is at a slot, if it is marked, and tells the choice; else removes it.
 pub(crate) fn settle(heap: &mut Heap, slot: Slot, choice: &mut Choice)
     requires inside { slot < length heap.old.graph.objects }
+    requires no_grey { heap.old.marking.grey ≡ [] }
     requires object { IsMarked heap.old.marking slot → IsTrue (is_some (at heap.old.graph.objects slot)) }
     requires within { (x : ℕ) → option_and_then any_referent (at heap.old.graph.objects slot) ≡ Some x → x < length heap.old.graph.objects }
     requires pending { IsTrue (is_losing heap.old.marking heap.old.graph.objects slot) → length heap.old.graph.pending < length heap.old.graph.objects }

@@ -1,5 +1,5 @@
 -- Changes at one place of a table, and at two.
-use Rattle.std.proofs.Common.{◌≡◌, ◌≢◌, ℕ, zero, suc, [], ◌∷◌, Option, Some, None, refl, sym, ap, ◌∙◌, true, false}
+use Rattle.std.proofs.Common.{◌≡◌, ◌≢◌, ℕ, zero, suc, [], ◌∷◌, Option, Some, None, is_some, refl, sym, ap, ◌∙◌, true, false}
 use Rattle.std.specs.Prelude.{option_map}
 use Rattle.std.proofs.lemmas.Bool.{both_ways}
 use Rattle.jlr_machine.specs.declared.object.Object.{Object}
@@ -67,3 +67,22 @@ pub still_reference : (heap : Heap) (s : ℕ) (f : ReferenceOf → ReferenceOf) 
 still_reference [] s f h = h
 still_reference (o ∷ heap) zero f h = still f o h
 still_reference (o ∷ heap) (suc s) f h = still_reference heap s f h
+
+-- ---- What is at the place that is changed
+
+pub change_here : {A : Type 0} (table : Table A) (n : ℕ) (f : A → A) → at (change_at table n f) n ≡ option_map f (at table n)
+change_here [] n f = refl
+change_here (o ∷ table) zero f = refl
+change_here (o ∷ table) (suc n) f = change_here table n f
+
+changed_there : {A : Type 0} (o : Option A) (f : A → A) → is_some o ≡ true → is_some (option_map f o) ≡ true
+changed_there None f h = h
+changed_there (Some x) f h = refl
+
+-- there still is something at each place
+pub still_there : {A : Type 0} (table : Table A) (n k : ℕ) (f : A → A) → is_some (at table k) ≡ true → is_some (at (change_at table n f) k) ≡ true
+still_there [] n k f h = h
+still_there (o ∷ table) zero zero f h = changed_there o f h
+still_there (o ∷ table) zero (suc k) f h = h
+still_there (o ∷ table) (suc n) zero f h = h
+still_there (o ∷ table) (suc n) (suc k) f h = still_there table n k f h

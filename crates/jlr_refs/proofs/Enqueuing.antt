@@ -1,16 +1,16 @@
 -- Enqueueing and polling, as the machine has them.
-use Rattle.std.proofs.Common.{◌≡◌, ◌≢◌, ℕ, true, false, cond, List, [], ◌∷◌, ◌++◌, Option, Some, None, option_and_then, refl, sym, ap, ◌∙◌}
-use Rattle.std.specs.Prelude.{slice_get}
+use Rattle.std.proofs.Common.{◌≡◌, ◌≢◌, ℕ, true, false, cond, List, [], ◌∷◌, ◌++◌, Option, Some, None, option_and_then, is_some, refl, sym, subst, ap, ◌∙◌}
+use Rattle.std.specs.Prelude.{slice_get, option_map}
 use Rattle.std.proofs.lemmas.Bool.{both_ways}
 use Rattle.jlr_machine.specs.declared.machine.Machine.{Machine}
 use Rattle.jlr_machine.specs.declared.object.Object.{Object}
 use Rattle.jlr_machine.specs.declared.object.Object.TheVariants.{Plain, Reference, Queue, Cleaner, Cleanable, Guard}
 use Rattle.jlr_machine.specs.declared.object.Reference.{Reference as ReferenceOf}
-use Rattle.jlr_machine.specs.declared.object.RefState.TheVariants.{Queued}
+use Rattle.jlr_machine.specs.declared.object.RefState.TheVariants.{Queued, Removed}
 use Rattle.jlr_machine.specs.Objects.{◌∈◌, Heap, at, as_members, as_reference, change_at, queue_ahead, some_and, with_members, with_reference, is_unqueued}
 use Rattle.jlr_machine.specs.Refusals.{is_queue, is_reference}
 use Rattle.jlr_machine.specs.Calls.{enqueued, to_queue, unreferred}
-use Rattle.jlr_cells.specs.Contents.{in_state, member_in, unregistered}
+use Rattle.jlr_cells.specs.Contents.{in_state, member_in, next_in, unregistered}
 use Rattle.jlr_laws.proofs.Frames.{is_queue_there, is_reference_there, no_some, some_same}
 use Rattle.jlr_laws.proofs.Sets.{in_front}
 use Rattle.jlr_barrier.specs.Graphs.{Graph, in_machine, with_objects}
@@ -53,6 +53,50 @@ member_is_reference g q s fit is_q first =
           let listed = fit.1.references.members q s members there (front_listed members s h) in
           ap (some_and is_reference) listed.1
     ] refl first
+
+-- ---- What is ahead of a reference
+
+pub ahead_in : (o : Option Object) → some_and is_reference o ≡ true → next_in o ≡ option_and_then queue_ahead (option_and_then as_reference o)
+ahead_in None h = refl
+ahead_in (Some (Plain fields)) h = refl
+ahead_in (Some (Reference r)) h = refl
+ahead_in (Some (Queue members)) h = refl
+ahead_in (Some Cleaner) h = refl
+ahead_in (Some (Cleanable c)) h = refl
+ahead_in (Some (Guard g)) h = absurd (both_ways false refl h)
+
+-- nothing is ahead of a member of a queue, in whichever state it comes after it
+pub none_ahead_of_member : (g : Graph) (q s : ℕ) → IsFit g → some_and is_queue (at g.objects q) ≡ true → member_in (at g.objects q) 0 ≡ Some s → next_in (option_map (with_reference (in_state Removed)) (at g.objects s)) ≡ next_in (at g.objects s)
+none_ahead_of_member g q s fit is_q first =
+    elim (option_and_then as_members (at g.objects q)) as (λ o. option_and_then as_members (at g.objects q) ≡ o → option_and_then (λ members. slice_get members 0) o ≡ Some s
+    → next_in (option_map (with_reference (in_state Removed)) (at g.objects s)) ≡ next_in (at g.objects s)) [
+      | None ↦ λ e h. no_some s h
+      | Some members ↦ λ e h.
+          let there = is_queue_there (at g.objects q) members e in
+          let listed = fit.1.references.members q s members there (front_listed members s h) in
+          subst (λ o. next_in (option_map (with_reference (in_state Removed)) o) ≡ next_in o) (sym listed.1) (ap (λ b. cond b listed.0.queue None) (ap is_unqueued (sym listed.2)))
+    ] refl first
+
+-- nothing is ahead of a reference that is registered with no queue, in one state or another
+unregistered_alone : (r : ReferenceOf) → queue_ahead (in_state Queued (unregistered r)) ≡ queue_ahead (unregistered r)
+unregistered_alone r = elim (is_unqueued r.state) as (λ b. ◌≡◌ {A = Option ℕ} None (cond b None None)) [ true ↦ refl | false ↦ refl ]
+
+pub none_ahead_of_unregistered : (o : Option Object) → next_in (option_map (with_reference (in_state Queued)) (option_map (with_reference unregistered) o)) ≡ next_in (option_map (with_reference unregistered) o)
+none_ahead_of_unregistered None = refl
+none_ahead_of_unregistered (Some (Plain fields)) = refl
+none_ahead_of_unregistered (Some (Reference r)) = unregistered_alone r
+none_ahead_of_unregistered (Some (Queue members)) = refl
+none_ahead_of_unregistered (Some Cleaner) = refl
+none_ahead_of_unregistered (Some (Cleanable c)) = refl
+none_ahead_of_unregistered (Some (Guard g)) = refl
+
+pub reference_is_object : (o : Option Object) → some_and is_reference o ≡ true → is_some o ≡ true
+reference_is_object None h = h
+reference_is_object (Some o) h = refl
+
+pub queue_is_object : (o : Option Object) → some_and is_queue o ≡ true → is_some o ≡ true
+queue_is_object None h = h
+queue_is_object (Some o) h = refl
 
 -- ---- Enqueueing
 

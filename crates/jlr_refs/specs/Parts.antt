@@ -1,5 +1,5 @@
 -- What the calls on references need, and what they leave, in any machine of which the heap keeps its part.
-use Rattle.std.specs.Prelude.{◌≡◌, ℕ, cond, List, [], ◌∷◌, Option, Some, None, option_and_then}
+use Rattle.std.specs.Prelude.{◌≡◌, ℕ, cond, List, [], ◌∷◌, drop, Option, Some, None, option_and_then, option_map, slice_get}
 use Rattle.jlr_machine.specs.declared.machine.Machine.{Machine}
 use Rattle.jlr_machine.specs.declared.object.Object.{Object}
 use Rattle.jlr_machine.specs.declared.object.Reference.{Reference as ReferenceOf}
@@ -11,6 +11,7 @@ use Rattle.jlr_machine.specs.Objects.{Heap, ◌∈◌, as_cleanable, as_referenc
 use Rattle.jlr_machine.specs.Calls.{delivered, enqueued, from_lined, hand_over_answer, handed, handed_over, polled, spent}
 use Rattle.jlr_machine.specs.Lookups.{cleanable_at, with_object}
 use Rattle.jlr_machine.specs.WellFormed.{IsWellFormed}
+use Rattle.jlr_cells.specs.Contents.{next_in}
 use Rattle.jlr_barrier.specs.Graphs.{Graph, in_machine}
 
 -- the heap keeps its part of some well-formed machine
@@ -35,9 +36,13 @@ abbrev pub handed_there : Option Object → Handed
 handed_there None = Skipped
 handed_there (Some o) = handed o
 
--- the object at s is delivered, a reference to its queue, a cleanable to the line
-abbrev pub Delivers : Graph → ℕ → Handed → Graph → Type 0
-Delivers g s handed h = (m : Machine) → in_machine m h ≡ delivered (in_machine m g) s handed
+-- the object at s, the front of the pending list, leaves it and is delivered, a reference to its queue, a cleanable to the line
+abbrev pub DeliversFront : Graph → ℕ → Handed → Graph → Type 0
+DeliversFront g s handed h = (m : Machine) → in_machine m h ≡ record (delivered (in_machine m g) s handed) { pending = drop 1 g.pending }
+
+-- the queue that is ahead of what is at the front of the pending list
+abbrev pub queue_in_front : Graph → Option ℕ
+queue_in_front g = option_and_then (λ s. next_in (at g.objects s)) (slice_get g.pending 0)
 
 abbrev pub HandsOver : Graph → Handed → Graph → Type 0
 HandsOver g handed h = (m : Machine) → (hand_over_answer (in_machine m g) g.pending ≡ Some (HandedAnswer handed)) × (in_machine m h ≡ handed_over (in_machine m g) g.pending)
@@ -55,16 +60,16 @@ lined_in o = option_and_then (λ c. cond (is_lined c.state) (Some c) None) (opti
 abbrev pub HasNoneLined : Heap → List ℕ → Type 0
 HasNoneLined heap line = (s : ℕ) → s ∈ line → lined_in (at heap s) ≡ None
 
--- the cleanable at the front of a line
-abbrev pub front_of : Machine → List ℕ → Option CleanableOf
+-- the slot at the front of a line, and the cleanable there
+abbrev pub front_of : Machine → List ℕ → Option (ℕ × CleanableOf)
 front_of m [] = None
-front_of m (s ∷ rest) = cleanable_at m s
+front_of m (s ∷ rest) = option_map (λ c. (s, c)) (cleanable_at m s)
 
 -- which leaves the line, and is Spent
 abbrev pub front_spent : Machine → List ℕ → Machine
 front_spent m [] = record m { line = [] }
 front_spent m (s ∷ rest) = record (with_object m s (with_cleanable spent)) { line = rest }
 
--- the line up to its first Lined cleanable goes, and that one with it, which is told and becomes Spent
-abbrev pub TakesLined : Graph → Option CleanableOf → Graph → Type 0
+-- the line up to its first Lined cleanable goes, and that one with it, which is told with its slot and becomes Spent
+abbrev pub TakesLined : Graph → Option (ℕ × CleanableOf) → Graph → Type 0
 TakesLined g taken h = (m : Machine) → (taken ≡ front_of (in_machine m g) (from_lined (in_machine m g) g.line)) × (in_machine m h ≡ front_spent (in_machine m g) (from_lined (in_machine m g) g.line))

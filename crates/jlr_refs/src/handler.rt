@@ -1,12 +1,14 @@
 //! The handler's step: what is pending is handed over, a reference to its queue, and a cleanable to the line.
-ghost use Rattle.std.specs.Prelude.{◌≡◌, ◌++◌, ◌∷◌, ◌<◌, [], IfOk, IsTrue, OnErr, length};
+ghost use Rattle.std.specs.Prelude.{◌≡◌, ◌++◌, ◌∷◌, ◌<◌, [], IfOk, IsTrue, OnErr, Some, length, slice_get};
 ghost use Rattle.jlr_machine.specs.declared.object.CleanState.TheVariants as state;
 ghost use Rattle.jlr_machine.specs.Objects.{at, change_at, some_and, with_cleanable};
 ghost use Rattle.jlr_machine.specs.Refusals.{is_cleanable};
 ghost use Rattle.jlr_machine.specs.Calls.{handed_cleanable, handed_reference};
+ghost use Rattle.jlr_machine.specs.Edges.{is_own_root};
 ghost use Rattle.jlr_cells.specs.Contents.{in_clean_state};
+ghost use Rattle.jlr_marks.specs.Marking.{Shaded};
 ghost use Rattle.jlr_barrier.specs.Graphs.{with_line, with_objects};
-ghost use Rattle.jlr_refs.specs.Parts.{Delivers, HandsOver, IsFit, QueuesNext, handed_there};
+ghost use Rattle.jlr_refs.specs.Parts.{DeliversFront, HandsOver, IsFit, QueuesNext, handed_there, queue_in_front};
 
 use crate::references::enqueue;
 use jlr_barrier::Heap;
@@ -17,14 +19,16 @@ use std::alloc::AllocError;
 
 /// The front of the pending list leaves it. A Pending reference goes to the end of its queue, and a Pending cleanable, which is
 /// Lined then, to the end of the line. A reference that the program enqueued in the meantime is skipped, and so is a cleanable
-/// that it cleaned. Nothing is handed over where the list is empty.
+/// that it cleaned. Nothing is handed over where the list is empty. The queue that a reference goes to is shaded.
 ///
 /// # Errors
 /// `AllocError` where a reference goes to its queue, and the queue cannot grow. Nothing has changed then.
 pub fn hand_over(heap: &mut Heap) -> Result<Handed, AllocError>
     requires fit { IsFit heap.old.graph }
     ensures handed { IfOk result (λ handed. HandsOver heap.old.graph handed heap.new.graph) }
+    ensures shaded { IfOk result (λ handed. Shaded (λ s. (handed ≡ Handed.Queued) × (queue_in_front heap.old.graph ≡ Some s)) heap.old.marking heap.new.marking) }
     ensures err { OnErr result (heap.new.graph ≡ heap.old.graph) }
+    ensures unshaded { OnErr result (heap.new.marking ≡ heap.old.marking) }
     ensures grows { OnErr result (QueuesNext heap.old.graph) }
     ensures clock { heap.new.clock ≡ heap.old.clock }
 {
@@ -33,7 +37,6 @@ pub fn hand_over(heap: &mut Heap) -> Result<Handed, AllocError>
     };
     let handed = handed_at(heap, slot);
     deliver(heap, slot, handed)?;
-    heap.take_pending();
     Ok(handed)
 }
 
@@ -68,32 +71,43 @@ fn handed_cleanable(state: CleanState) -> Handed
     }
 }
 
-/// Takes what is at a slot there.
+/// Takes what is at the front of the pending list there. It leaves the list.
 fn deliver(heap: &mut Heap, slot: Slot, handed: Handed) -> Result<(), AllocError>
     requires fit { IsFit heap.old.graph }
+    requires front { slice_get heap.old.graph.pending 0 ≡ Some slot }
     requires handed { handed ≡ handed_there (at heap.old.graph.objects slot) }
-    ensures delivered { IfOk result (λ _. Delivers heap.old.graph slot handed heap.new.graph) }
+    ensures delivered { IfOk result (λ _. DeliversFront heap.old.graph slot handed heap.new.graph) }
+    ensures shaded { IfOk result (λ _. Shaded (λ s. (handed ≡ Handed.Queued) × (queue_in_front heap.old.graph ≡ Some s)) heap.old.marking heap.new.marking) }
     ensures err { OnErr result (heap.new.graph ≡ heap.old.graph) }
+    ensures unshaded { OnErr result (heap.new.marking ≡ heap.old.marking) }
     ensures grows { OnErr result (handed ≡ Handed.Queued) }
     ensures clock { heap.new.clock ≡ heap.old.clock }
 {
     match handed {
         Handed::Queued => {
             let _added = enqueue(heap, slot)?;
+            heap.take_pending();
         }
-        Handed::Lined => line_up(heap, slot),
-        Handed::Skipped | Handed::Nothing => {}
+        Handed::Lined => {
+            heap.take_pending();
+            line_up(heap, slot);
+        }
+        Handed::Skipped | Handed::Nothing => {
+            heap.take_pending();
+        }
     }
     Ok(())
 }
 
-/// A cleanable is Lined, and goes to the end of the line.
+/// A Pending cleanable is Lined, and goes to the end of the line.
 pub(crate) fn line_up(heap: &mut Heap, slot: Slot)
     requires cleanable { IsTrue (some_and is_cleanable (at heap.old.graph.objects slot)) }
+    requires root { IsTrue (is_own_root (at heap.old.graph.objects slot)) }
     requires room { length heap.old.graph.line < length heap.old.graph.objects }
     ensures graph { heap.new.graph ≡ with_line (with_objects heap.old.graph (change_at heap.old.graph.objects slot (with_cleanable (in_clean_state state.Lined)))) (heap.old.graph.line ++ slot ∷ []) }
     ensures clock { heap.new.clock ≡ heap.old.clock }
+    ensures marking { heap.new.marking ≡ heap.old.marking }
 {
-    heap.set_clean_state(slot, CleanState::Lined);
     heap.add_lined(slot);
+    heap.set_clean_state(slot, CleanState::Lined);
 }

@@ -8,14 +8,16 @@
 //! | Pending | none | its own | the pending list | null | as it is | Queued, true; it stays on the pending list | | as it is | Queued |
 //! | Queued | none | none | its queue, perhaps still the pending list | null | as it is | false | Removed, from the front | as it is | skipped |
 //! | Removed | none | none | perhaps still the pending list | null | as it is | false | | as it is | skipped |
-ghost use Rattle.std.specs.Prelude.{◌≡◌, ◌<◌, ◌↔◌, IfNone, IfOk, IfSome, IsNone, IsTrue, None, OnErr, Some, cond, is_some, length, nat_eq, option_and_then};
+ghost use Rattle.std.specs.Prelude.{◌≡◌, ℕ, ◌<◌, ◌↔◌, IfNone, IfOk, IfSome, IsNone, IsTrue, None, OnErr, Some, cond, is_some, length, nat_eq, option_and_then};
 ghost use Rattle.std.specs.Option.{option_eq};
 ghost use Rattle.jlr_machine.specs.Objects.{as_members, at, change_at, is_queued, occupied, queue_ahead, set_at, some_and, with_reference};
 ghost use Rattle.jlr_machine.specs.Refusals.{front, is_queue, is_reference};
 ghost use Rattle.jlr_machine.specs.Calls.{may_enqueue, unreferred};
-ghost use Rattle.jlr_cells.specs.Contents.{object_of, referent_in};
+ghost use Rattle.jlr_cells.specs.Contents.{next_in, object_of, referent_in};
 ghost use Rattle.jlr_cells.specs.declared.shape.Shape.TheVariants as shape;
+ghost use Rattle.jlr_marks.specs.Marking.{Shaded};
 ghost use Rattle.jlr_barrier.specs.Graphs.{gotten_at, used_now, with_objects};
+ghost use Rattle.jlr_barrier.specs.Snapshots.{IsInHand, IsObject};
 ghost use Rattle.jlr_refs.specs.Parts.{Enqueues, IsFit, Polls, reference_at};
 
 use jlr_barrier::Heap;
@@ -24,11 +26,13 @@ use jlr_types::Slot;
 use std::alloc::AllocError;
 
 /// What a reference gives (`Reference.get`): its referent, or nothing where it was cleared or is a phantom reference. A soft
-/// reference that gives its referent was used now.
+/// reference that gives its referent was used now. What is given is shaded.
 pub fn get(heap: &mut Heap, reference: Slot) -> Option<Slot>
+    requires { (s : ℕ) → gotten_at heap.old.graph.objects reference ≡ Some s → IsObject heap.old.graph.objects s }
     ensures given { result ≡ gotten_at heap.old.graph.objects reference }
     ensures graph { heap.new.graph ≡ heap.old.graph }
     ensures clock { heap.new.clock ≡ cond (is_some result) (used_now heap.old.clock reference) heap.old.clock }
+    ensures shaded { Shaded (λ s. gotten_at heap.old.graph.objects reference ≡ Some s) heap.old.marking heap.new.marking }
 {
     heap.deref(reference)
 }
@@ -45,21 +49,25 @@ pub fn clear(heap: &mut Heap, reference: Slot)
     requires { IsTrue (some_and is_reference (at heap.old.graph.objects reference)) }
     ensures graph { heap.new.graph ≡ with_objects heap.old.graph (change_at heap.old.graph.objects reference (with_reference unreferred)) }
     ensures clock { heap.new.clock ≡ heap.old.clock }
+    ensures marking { heap.new.marking ≡ heap.old.marking }
 {
     heap.lose_referent(reference);
 }
 
 /// A reference loses its referent, and goes to the end of its queue, if it has one and was not enqueued before
-/// (`Reference.enqueue`). Whether it went there.
+/// (`Reference.enqueue`). Whether it went there. That queue is shaded.
 ///
 /// # Errors
 /// `AllocError` where the reference goes to its queue, and the queue cannot grow. Nothing has changed then.
 pub fn enqueue(heap: &mut Heap, reference: Slot) -> Result<bool, AllocError>
     requires fit { IsFit heap.old.graph }
     requires reference { IsTrue (some_and is_reference (at heap.old.graph.objects reference)) }
+    requires held { IsInHand heap.old reference }
     ensures answer { IfOk result (λ added. Some added ≡ option_and_then (λ r. Some (may_enqueue r)) (reference_at heap.old.graph.objects reference)) }
     ensures enqueued { IfOk result (λ _. Enqueues heap.old.graph reference heap.new.graph) }
+    ensures shaded { IfOk result (λ _. Shaded (λ s. next_in (at heap.old.graph.objects reference) ≡ Some s) heap.old.marking heap.new.marking) }
     ensures err { OnErr result (heap.new.graph ≡ heap.old.graph) }
+    ensures unshaded { OnErr result (heap.new.marking ≡ heap.old.marking) }
     ensures grows { OnErr result (IsTrue (some_and may_enqueue (reference_at heap.old.graph.objects reference))) }
     ensures clock { heap.new.clock ≡ heap.old.clock }
 {
@@ -95,13 +103,14 @@ pub fn is_enqueued(heap: &Heap, reference: Slot) -> bool
     }
 }
 
-/// The reference at the front of a queue leaves it, if there is one, and is Removed (`ReferenceQueue.poll`).
+/// The reference at the front of a queue leaves it, if there is one, and is Removed (`ReferenceQueue.poll`). It is shaded.
 pub fn poll(heap: &mut Heap, queue: Slot) -> Option<Slot>
     requires fit { IsFit heap.old.graph }
     requires queue { IsTrue (some_and is_queue (at heap.old.graph.objects queue)) }
     ensures front { result ≡ option_and_then front (option_and_then as_members (at heap.old.graph.objects queue)) }
     ensures polled { Polls heap.old.graph queue result heap.new.graph }
     ensures clock { heap.new.clock ≡ heap.old.clock }
+    ensures shaded { Shaded (λ s. result ≡ Some s) heap.old.marking heap.new.marking }
 {
     let member = heap.unlink(queue)?;
     heap.set_state(member, RefState::Removed);

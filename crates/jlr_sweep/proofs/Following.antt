@@ -1,5 +1,5 @@
 -- Following edges from a base: how it begins, a step, and its end.
-use Rattle.std.proofs.Common.{ℕ, suc, length, ◌<◌, ◌≡◌, ◌↔◌, ◌⊎◌, Some, None, option_and_then, ap, cond, Bool, true, false, IsTrue, is_some, get_or, count_by, List, [], ◌∷◌, ◌++◌, refl, sym, ◌∙◌, subst, inl, inr}
+use Rattle.std.proofs.Common.{ℕ, suc, length, arith, ◌-◌, ◌<◌, ◌≡◌, ◌↔◌, ◌⊎◌, Some, None, option_and_then, ap, cond, Bool, true, false, IsTrue, is_some, get_or, count_by, List, [], ◌∷◌, ◌++◌, refl, sym, ◌∙◌, subst, inl, inr}
 use Rattle.std.specs.Prelude.{IsPermutation, nat_eq}
 use Rattle.std.proofs.lemmas.List.Sorted.{list_any-IsPermutation}
 use Rattle.std.proofs.lemmas.Bool.{both_ways}
@@ -11,8 +11,12 @@ use Rattle.jlr_machine.specs.Edges.Chain.{Strong, UpToSoft}
 use Rattle.jlr_laws.proofs.Clearing.{HasReferent, edge_from, edge_gives, takes}
 use Rattle.jlr_laws.proofs.Frames.{no_some, place_within}
 use Rattle.jlr_laws.specs.Laws.{followed, IsPathFollowed}
-use Rattle.jlr_marks.specs.Marking.{Marking, IsMarked, Shaded}
-use Rattle.jlr_sweep.specs.Marking.{IsFollowed, soft_at}
+use Rattle.std.proofs.lemmas.Option.{slice_get-get_or}
+use Rattle.jlr_marks.specs.Marking.{Marking, IsMarked, Shaded, unmarked, upcoming}
+use Rattle.jlr_barrier.specs.Snapshots.{IsEdge}
+use Rattle.jlr_barrier.specs.Scans.{Scanned}
+use Rattle.jlr_barrier.proofs.Ending.{none_marked}
+use Rattle.jlr_sweep.specs.Marking.{Follows, IsFollowed, soft_at}
 use Rattle.jlr_laws.proofs.Sets.{nothing, in_front, in_cons}
 use Rattle.jlr_laws.proofs.Clearing.{in_right}
 
@@ -143,3 +147,42 @@ followed_gives keeps heap s t h =
 -- an object lies within the heap
 pub object_within : (heap : Heap) (s : ℕ) → IsTrue (is_some (at heap s)) → s < length heap
 object_within heap s h = elim (at heap s) as (λ o. at heap s ≡ o → IsTrue (is_some o) → s < length heap) [ None ↦ λ e h. absurd (both_ways false refl h) | Some o ↦ λ e h. place_within heap s o e ] refl h
+
+-- ---- A grey slot is scanned
+
+abbrev without : Marking → Marking → Marking
+without off new = record { bits = off.bits; grey = off.grey; discovered = new.discovered }
+
+pub scanned_follows : (heap : Heap) (slot : ℕ) (old new : Marking) → Scanned heap slot old new → Follows (IsEdge heap slot) slot old new
+scanned_follows heap slot old new scan =
+    let shade = scan.shaded in
+    let on_new : (x : ℕ) → IsMarked scan.on x → IsMarked new x = λ x h. subst (λ v. get_or v x false ≡ true) (sym scan.bits) h in
+    let new_on : (x : ℕ) → IsMarked new x → IsMarked scan.on x = λ x h. subst (λ v. get_or v x false ≡ true) scan.bits h in
+    let grey_on : (x : ℕ) → x ∈ scan.on.grey → x ∈ new.grey = λ x h. subst (λ l. x ∈ l) (sym scan.grey) h in
+    let on_grey : (x : ℕ) → x ∈ new.grey → x ∈ scan.on.grey = λ x h. subst (λ l. x ∈ l) scan.grey h in
+    record {
+      off = without scan.off new;
+      same_bits = scan.same_bits;
+      taken = scan.taken;
+      shaded = record {
+        long = ap length scan.bits ∙ shade.long;
+        kept = λ x h. on_new x (shade.kept x h);
+        added = λ x h. elim (shade.added x (new_on x h)) [ inl o ↦ inl o | inr n ↦ inr (n.0, grey_on x n.1) ];
+        grey_kept = λ x h. grey_on x (shade.grey_kept x h);
+        grey_marked = λ x h. elim (shade.grey_marked x (on_grey x h)) [ inl o ↦ inl o | inr on ↦ inr (on_new x on) ];
+        fresh = λ x h. shade.fresh x (on_grey x h);
+        all = λ x e. on_new x (shade.all x e);
+        black_same = omega (arith, shade.black_same, ap (count_by (λ b. b)) scan.bits, ap length scan.grey);
+        discovered_same = refl;
+      };
+    }
+
+-- where none comes next, none is grey
+pub none_upcoming : (grey : List ℕ) → upcoming grey ≡ None → grey ≡ []
+none_upcoming [] e = refl
+none_upcoming (x ∷ grey) e =
+    let i = length (x ∷ grey) - 4 in
+    no_some (get_or (x ∷ grey) i 0) (sym e ∙ slice_get-get_or (x ∷ grey) i 0 (omega arith))
+
+pub none_in_unmarked : (n x : ℕ) → ¬ (IsMarked (unmarked n) x)
+none_in_unmarked n x h = none_marked n x h

@@ -1,7 +1,9 @@
 -- What the marked objects are: what a full collection under the policy keeps.
 use Rattle.std.proofs.Common.{◌≡◌, ◌++◌, ℕ, ◌↔◌, Bool, List, [], length, IsTrue, is_some, refl, sym, ◌∙◌, ap, subst, inl, inr, arith}
 use Rattle.jlr_machine.specs.declared.machine.Machine.{Machine}
-use Rattle.jlr_machine.specs.Objects.{at, ◌∈◌, ◌∋◌}
+use Rattle.jlr_machine.specs.Objects.{any_referent, at, ◌∈◌, ◌∋◌}
+use Rattle.jlr_barrier.specs.Snapshots.{RefersTo}
+use Rattle.jlr_laws.proofs.Fits.{referent_object}
 use Rattle.jlr_machine.specs.Edges.{edges_from, roots}
 use Rattle.jlr_machine.specs.Edges.Chain.{UpToSoft, UpToPhantom}
 use Rattle.jlr_soft.specs.declared.policy.Policy.{Policy}
@@ -12,13 +14,13 @@ use Rattle.jlr_machine.specs.WellFormed.{IsWellFormed}
 use Rattle.jlr_roots.specs.Walk.{slots_held, slots_of}
 use Rattle.jlr_laws.specs.Laws.{IsLeast, IsMarked as IsMarkedBy, IsWithinHeap}
 use Rattle.jlr_laws.proofs.Clearing.{edge_gives, edge_from, in_append, in_option}
-use Rattle.jlr_laws.proofs.Frames.{in_sessions, in_places, root_from}
+use Rattle.jlr_laws.proofs.Frames.{in_sessions, in_places, no_some, root_from}
 use Rattle.jlr_barrier.proofs.Held.{held_cases}
 use Rattle.jlr_barrier.proofs.OwnRoots.{active_gives}
 use Rattle.jlr_laws.proofs.Frames.IsRoot.{lining, active, held as by_handle, fencing, named as by_name, waiting}
 use Rattle.jlr_laws.proofs.Empty.{well_formed_within}
 use Rattle.jlr_laws.proofs.LawProofs.{comes_down_to_cutting_off, keeping_none_makes_clearing, policy_makes_full}
-use Rattle.std.proofs.Common.{filter_map, option_to_list}
+use Rattle.std.proofs.Common.{◌<◌, Some, None, filter_map, option_and_then, option_to_list}
 use Rattle.jlr_barrier.specs.Graphs.{Clock, Graph, held, in_machine}
 use Rattle.jlr_marks.specs.Marking.{Marking, IsMarked, is_marked}
 use Rattle.jlr_process.specs.Settling.{marked_below}
@@ -54,6 +56,12 @@ module _ (f : Machine) (g : Graph) (rooted : IsRooted f g) where
 
   pub edge_object : (x y : ℕ) → y ∈ edges_from UpToSoft g.objects x → IsTrue (is_some (at g.objects y))
   edge_object x y h = rooted.fit.slots.edges x y (elim (edge_gives UpToSoft g.objects x y h) [ inl s ↦ edge_from UpToPhantom g.objects x y (inl s) | inr r ↦ edge_from UpToPhantom g.objects x y (inr (r.0, refl, r.2)) ])
+
+  pub referent_inside : (x y : ℕ) → RefersTo g.objects x y → y < length g.objects
+  referent_inside x y e = elim (at g.objects x) as (λ o. at g.objects x ≡ o → option_and_then any_referent o ≡ Some y → y < length g.objects) [
+    | None ↦ λ f e. no_some y e
+    | Some o ↦ λ f e. object_within g.objects y (referent_object (in_machine m g) rooted.fit x y o f e)
+  ] refl e
 
   -- ---- What was kept
 

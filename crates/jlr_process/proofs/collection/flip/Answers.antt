@@ -12,6 +12,9 @@ use Rattle.jlr_process.proofs.Whole.{lost_below, all_settled, below_short, filte
 use Rattle.jlr_process.proofs.Gone.{collection, referent_within, room_for_one}
 use Rattle.jlr_process.proofs.collection.flip.Goals as goal
 
+pub settle-requires-clause-no_grey : goal.settle-requires-clause-no_grey
+settle-requires-clause-no_grey c = ap (λ (m : Marking). m.grey) c.loop-number.invariant.marking ∙ c.requires.no_grey
+
 pub settle-requires-clause-within : goal.settle-requires-clause-within
 settle-requires-clause-within c =
     λ x e.

@@ -6,6 +6,7 @@ abbrev pub invariant-loop-slot : goal.invariant-loop-slot
 invariant-loop-slot l = record {
   shorter : IsShorter l.fn.heap.graph l.heap.graph;
   clock : l.heap.clock ≡ l.fn.heap.clock;
+  marking : l.heap.marking ≡ l.fn.heap.marking;
 }
 
 -- what still stands in the line

@@ -1,15 +1,20 @@
-use Rattle.std.proofs.Common.{◌≡◌, ◌++◌, ◌∷◌, [], sym, ◌∙◌, ap, true, option_and_then}
-use Rattle.jlr_machine.specs.Objects.{at, queue_ahead, some_and, with_members}
+use Rattle.std.proofs.Common.{◌≡◌, ◌++◌, ◌∷◌, [], Option, Some, sym, ◌∙◌, ap, subst, true, is_some, option_and_then}
+use Rattle.std.specs.Prelude.{option_map}
+use Rattle.jlr_machine.specs.declared.object.Object.{Object}
+use Rattle.jlr_machine.specs.Objects.{at, queue_ahead, some_and, with_members, with_reference}
 use Rattle.jlr_machine.specs.declared.object.RefState.TheVariants.{Queued}
 use Rattle.jlr_machine.specs.Refusals.{is_reference}
-use Rattle.jlr_cells.specs.Contents.{in_state, unregistered}
+use Rattle.jlr_cells.specs.Contents.{in_state, next_in, unregistered}
+use Rattle.jlr_marks.specs.Marking.{Marking, Shaded}
+use Rattle.jlr_marks.proofs.Shading.{shaded_none}
+use Rattle.jlr_laws.proofs.Frames.{no_some}
 use Rattle.jlr_barrier.specs.Graphs.{Graph}
-use Rattle.jlr_refs.proofs.Changing.{apart, change_other, still_reference}
-use Rattle.jlr_refs.proofs.Enqueuing.{ahead_is_queue, enqueued_in_queue}
+use Rattle.jlr_refs.proofs.Changing.{apart, change_here, change_other, still_reference, still_there}
+use Rattle.jlr_refs.proofs.Enqueuing.{ahead_in, ahead_is_queue, enqueued_in_queue, none_ahead_of_unregistered, queue_is_object}
 use Rattle.jlr_refs.proofs.references.enqueue.Goals as goal
 
-pub link-requires : goal.link-requires
-link-requires c = ahead_is_queue c.args.heap.now.graph c.args.reference c.in-Some.queue c.requires.fit c.requires.reference (ap (option_and_then queue_ahead) (sym c.reference.ensures) ∙ sym c.queue_ahead.ensures ∙ c.in-Some.is)
+pub link-requires-clause-queue : goal.link-requires-clause-queue
+link-requires-clause-queue c = ahead_is_queue c.args.heap.now.graph c.args.reference c.in-Some.queue c.requires.fit c.requires.reference (ap (option_and_then queue_ahead) (sym c.reference.ensures) ∙ sym c.queue_ahead.ensures ∙ c.in-Some.is)
 
 pub clear-requires-2 : goal.clear-requires-2
 clear-requires-2 c =
@@ -32,3 +37,45 @@ returns-clause-enqueued c =
     let is_q = ahead_is_queue c.args.heap.now.graph c.args.reference c.in-Some.queue c.requires.fit c.requires.reference ahead in
     enqueued_in_queue m c.args.heap.now.graph _ _ _ _ c.args.reference c.in-Some.queue c.requires.reference is_q ahead
     c.in_ok-link.ensures.linked c.cut_queue_edge.ensures.graph c.set_state.ensures.graph c.clear-2.ensures.graph
+
+-- the queue ahead is an object before the member is linked and after
+pub cut_queue_edge-requires-clause-object : goal.cut_queue_edge-requires-clause-object
+cut_queue_edge-requires-clause-object c =
+    let g = c.args.heap.now.graph in
+    let s = c.args.reference in
+    let ahead = ap (option_and_then queue_ahead) (sym c.reference.ensures) ∙ sym c.queue_ahead.ensures ∙ c.in-Some.is in
+    let is_q = ahead_is_queue g s c.in-Some.queue c.requires.fit c.requires.reference ahead in
+    let same : at c.link.new.self.graph.objects s ≡ at g.objects s =
+    ap (λ (k : Graph). at k.objects s) c.in_ok-link.ensures.linked ∙ change_other g.objects c.in-Some.queue s (with_members (λ members. members ++ s ∷ [])) (apart g.objects s c.in-Some.queue c.requires.reference is_q) in
+    λ x e.
+    let x_ahead = sym (ahead_in (at g.objects s) c.requires.reference) ∙ ap (λ (o : Option Object). next_in o) (sym same) ∙ e in
+    let x_is_q = ahead_is_queue g s x c.requires.fit c.requires.reference x_ahead in
+    ap (λ (k : Graph). is_some (at k.objects x)) c.in_ok-link.ensures.linked ∙ still_there g.objects c.in-Some.queue x (with_members (λ members. members ++ s ∷ [])) (queue_is_object (at g.objects x) x_is_q)
+
+-- and nothing is ahead once its edge is cut
+pub set_state-requires-clause-edge : goal.set_state-requires-clause-edge
+set_state-requires-clause-edge c =
+    let s = c.args.reference in
+    let here : at c.cut_queue_edge.new.self.graph.objects s ≡ option_map (with_reference unregistered) (at c.link.new.self.graph.objects s) =
+    ap (λ (k : Graph). at k.objects s) c.cut_queue_edge.ensures.graph ∙ change_here c.link.new.self.graph.objects s (with_reference unregistered) in
+    subst (λ (o : Option Object). next_in (option_map (with_reference (in_state Queued)) o) ≡ next_in o) (sym here) (none_ahead_of_unregistered (at c.link.new.self.graph.objects s))
+
+pub returns-clause-shaded : goal.returns-clause-shaded
+returns-clause-shaded c =
+    let g = c.args.heap.now.graph in
+    let s = c.args.reference in
+    let ahead = ap (option_and_then queue_ahead) (sym c.reference.ensures) ∙ sym c.queue_ahead.ensures ∙ c.in-Some.is in
+    let is_q = ahead_is_queue g s c.in-Some.queue c.requires.fit c.requires.reference ahead in
+    let same : at c.link.new.self.graph.objects s ≡ at g.objects s =
+    ap (λ (k : Graph). at k.objects s) c.in_ok-link.ensures.linked ∙ change_other g.objects c.in-Some.queue s (with_members (λ members. members ++ s ∷ [])) (apart g.objects s c.in-Some.queue c.requires.reference is_q) in
+    let before = subst (λ (o : Option Object). Shaded (λ x. next_in o ≡ Some x) c.link.new.self.marking c.cut_queue_edge.new.self.marking) same c.cut_queue_edge.ensures.shaded in
+    let from = subst (λ (m : Marking). Shaded (λ x. next_in (at g.objects s) ≡ Some x) m c.cut_queue_edge.new.self.marking) c.link.ensures.marking before in
+    subst (λ (m : Marking). Shaded (λ x. next_in (at g.objects s) ≡ Some x) c.args.heap.now.marking m) (sym (c.clear-2.ensures.marking ∙ c.set_state.ensures.marking)) from
+
+-- without a queue ahead nothing is shaded
+pub returns-in_default-clause-shaded : goal.returns-in_default-clause-shaded
+returns-in_default-clause-shaded c =
+    let o = at c.args.heap.now.graph.objects c.args.reference in
+    let none = ap (option_and_then queue_ahead) (sym c.reference.ensures) ∙ sym c.queue_ahead.ensures ∙ c.in_default.is in
+    subst (λ (m : Marking). Shaded (λ x. next_in o ≡ Some x) c.args.heap.now.marking m) (sym c.clear.ensures.marking)
+    (shaded_none _ (λ x e. no_some x (sym none ∙ sym (ahead_in o c.requires.reference) ∙ e)) c.args.heap.now.marking)

@@ -6,7 +6,7 @@ use Rattle.jlr_barrier.specs.Graphs.{Graph, in_machine}
 use Rattle.jlr_process.specs.Flipping.{Flips, IsMarkedWhole}
 use Rattle.jlr_sweep.specs.Collecting.{Collects, IsRooted, closed}
 use Rattle.jlr_sweep.specs.Marking.{keeps}
-use Rattle.jlr_sweep.proofs.Kept.{clears_told, collects, edge_object, held_object, whole}
+use Rattle.jlr_sweep.proofs.Kept.{clears_told, collects, edge_object, held_object, referent_inside, whole}
 use Rattle.jlr_sweep.proofs.collection.full.Goals as goal
 
 pub mark-requires-clause-roots : goal.mark-requires-clause-roots
@@ -14,6 +14,9 @@ mark-requires-clause-roots c = held_object c.requires.fit.0 c.args.heap.now.grap
 
 pub mark-requires-clause-edges : goal.mark-requires-clause-edges
 mark-requires-clause-edges c = edge_object c.requires.fit.0 c.args.heap.now.graph c.requires.fit.1
+
+pub mark-requires-clause-within : goal.mark-requires-clause-within
+mark-requires-clause-within c = referent_inside c.requires.fit.0 c.args.heap.now.graph c.requires.fit.1
 
 pub flip-requires-clause-whole : goal.flip-requires-clause-whole
 flip-requires-clause-whole c =

@@ -1,4 +1,4 @@
-use Rattle.std.proofs.Common.{◌≡◌, ◌<◌, ℕ, Option, Some, None, false, true, sym, ◌∙◌, subst, length, inl, inr}
+use Rattle.std.proofs.Common.{◌≡◌, ℕ, Option, Some, None, false, true, sym, ◌∙◌, subst, inl, inr}
 use Rattle.jlr_machine.specs.declared.object.Object.{Object}
 use Rattle.jlr_machine.specs.declared.object.Object.TheVariants.{Plain, Reference, Queue, Cleaner, Cleanable, Guard}
 use Rattle.jlr_types.specs.declared.RefKind.TheVariants.{Soft}
@@ -10,16 +10,17 @@ use Rattle.jlr_barrier.specs.Graphs.{Clock, Graph}
 use Rattle.jlr_marks.specs.Marking.{Shaded}
 use Rattle.jlr_marks.proofs.Shading.{shaded_same, shaded_then}
 use Rattle.jlr_sweep.specs.Marking.{keeps, soft_at}
-use Rattle.jlr_sweep.proofs.Following.{followed_from, followed_gives, followed_is_soft, soft_edge}
+use Rattle.jlr_barrier.specs.Snapshots.{IsObject}
+use Rattle.jlr_sweep.proofs.Following.{followed_from, followed_gives, followed_is_soft, scanned_follows, soft_edge}
 use Rattle.jlr_sweep.proofs.mark.follow.Goals as goal
 
-pub scan-requires-clause-within : goal.scan-requires-clause-within
-scan-requires-clause-within c = λ x h. c.requires.within x (followed_is_soft (λ _. false) c.args.heap.now.graph.objects c.args.slot x h)
+pub scan-requires-clause-objects : goal.scan-requires-clause-objects
+scan-requires-clause-objects c = λ x h. c.requires.objects x (followed_is_soft (λ _. false) c.args.heap.now.graph.objects c.args.slot x h)
 
-pub follow_soft-requires-clause-within : goal.follow_soft-requires-clause-within
-follow_soft-requires-clause-within c =
-    subst (λ (g : Graph). (x : ℕ) → soft_at g.objects c.args.slot ≡ Some x → x < length g.objects) (sym c.scan.ensures.graph)
-    (λ x e. c.requires.within x (soft_edge c.args.heap.now.graph.objects c.args.slot x e))
+pub follow_soft-requires-clause-object : goal.follow_soft-requires-clause-object
+follow_soft-requires-clause-object c =
+    subst (λ (g : Graph). (x : ℕ) → soft_at g.objects c.args.slot ≡ Some x → IsObject g.objects x) (sym c.scan.ensures.graph)
+    (λ x e. c.requires.objects x (soft_edge c.args.heap.now.graph.objects c.args.slot x e))
 
 -- a plain object has no soft referent
 no_soft : {P : Type 0} (o : Option Object) (x : ℕ) → some_and is_plain o ≡ true → option_and_then (referent Soft) o ≡ Some x → P
@@ -31,20 +32,32 @@ no_soft (Some Cleaner) x plain soft = cc
 no_soft (Some (Cleanable c)) x plain soft = cc
 no_soft (Some (Guard g)) x plain soft = cc
 
-pub returns-then-scan-clause-shaded : goal.returns-then-scan-clause-shaded
-returns-then-scan-clause-shaded c =
+pub returns-then-scan-clause-follows : goal.returns-then-scan-clause-follows
+returns-then-scan-clause-follows c =
     let heap = c.args.heap.now.graph.objects in
     let s = c.args.slot in
     let kept = keeps c.args.policy.now c.args.heap.now.clock in
     let plain : some_and is_plain (at heap s) ≡ true = sym c.scan.ensures.plain ∙ c.if-scan.true in
-    shaded_same _ _ (λ x h. followed_from kept heap s x (inl h)) (λ x h. elim (followed_gives kept heap s x h) [ inl strong ↦ strong | inr soft ↦ no_soft (at heap s) x plain soft.1 ]) _ _ c.scan.ensures.shaded
+    let f = scanned_follows heap s c.args.heap.now.marking c.scan.new.self.marking c.scan.ensures.scanned in
+    record {
+      off = f.off;
+      same_bits = f.same_bits;
+      taken = f.taken;
+      shaded = shaded_same _ _ (λ x h. followed_from kept heap s x (inl h)) (λ x h. elim (followed_gives kept heap s x h) [ inl strong ↦ strong | inr soft ↦ no_soft (at heap s) x plain soft.1 ]) _ _ f.shaded;
+    }
 
-pub returns-clause-shaded : goal.returns-clause-shaded
-returns-clause-shaded c =
+pub returns-clause-follows : goal.returns-clause-follows
+returns-clause-follows c =
     let heap = c.args.heap.now.graph.objects in
     let s = c.args.slot in
     let kept = keeps c.args.policy.now c.args.heap.now.clock in
     let soft : Shaded (λ x. (kept s ≡ true) × (soft_at heap s ≡ Some x)) c.scan.new.self.marking c.follow_soft.new.heap.marking =
     subst (λ (k : Clock). Shaded (λ x. (keeps c.args.policy.now k s ≡ true) × (soft_at heap s ≡ Some x)) c.scan.new.self.marking c.follow_soft.new.heap.marking) c.scan.ensures.clock
     (subst (λ (g : Graph). Shaded (λ x. (keeps c.args.policy.now c.scan.new.self.clock s ≡ true) × (soft_at g.objects s ≡ Some x)) c.scan.new.self.marking c.follow_soft.new.heap.marking) c.scan.ensures.graph c.follow_soft.ensures.shaded) in
-    shaded_same _ _ (λ x h. followed_from kept heap s x h) (λ x h. followed_gives kept heap s x h) _ _ (shaded_then _ _ _ _ _ c.scan.ensures.shaded soft)
+    let f = scanned_follows heap s c.args.heap.now.marking c.scan.new.self.marking c.scan.ensures.scanned in
+    record {
+      off = f.off;
+      same_bits = f.same_bits;
+      taken = f.taken;
+      shaded = shaded_same _ _ (λ x h. followed_from kept heap s x h) (λ x h. followed_gives kept heap s x h) _ _ (shaded_then _ _ _ _ _ f.shaded soft);
+    }

@@ -1,4 +1,5 @@
-use Rattle.std.proofs.Common.{◌≡◌, None, Some, refl, sym, ap, ◌∙◌}
+use Rattle.std.proofs.Common.{◌≡◌, None, Some, is_some, refl, sym, subst, ap, ◌∙◌}
+use Rattle.jlr_machine.specs.WellFormed.{IsObjectAt}
 use Rattle.jlr_types.specs.declared.Refusal.TheVariants.{NoMemory}
 use Rattle.jlr_machine.specs.declared.machine.Machine.{Machine}
 use Rattle.jlr_machine.specs.declared.machine.Call.TheVariants.{Free}
@@ -11,6 +12,7 @@ use Rattle.jlr_core.specs.State.{machine_with}
 use Rattle.jlr_core.proofs.Entries.{meets_plain, meets_refused, never_memory}
 use Rattle.jlr_core.proofs.Guards.{checked_in_is}
 use Rattle.jlr_core.proofs.Moving.{put_in}
+use Rattle.jlr_laws.proofs.Frames.{some_same}
 use Rattle.jlr_core.proofs.state.State.check_in.Goals as goal
 
 pub returns-in-Err-clause-entry : goal.returns-in-Err-clause-entry
@@ -38,3 +40,10 @@ pub returns-clause-moves : goal.returns-clause-moves
 returns-clause-moves g c =
     let rid = c.in-Ok.held.guard.rid in
     put_in c.args.self.now.cleaner.table c.check_in.new.self.table rid Out c.args.resource c.in-Ok.ensures.1.resource (λ e. absurd (cc e)) c.check_in.ensures.lies_here c.check_in.ensures.others
+
+-- a call holds its guard
+pub end_call-requires-clause-object : goal.end_call-requires-clause-object
+end_call-requires-clause-object g c =
+    let m = machine_of c.args.self.now in
+    let held = c.in-Ok.ensures.1 in
+    λ s e. subst (λ x. IsObjectAt m x) (some_same c.in-Ok.held.slot s (sym held.fence ∙ e)) (ap is_some held.guard)

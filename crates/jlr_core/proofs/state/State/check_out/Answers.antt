@@ -1,4 +1,6 @@
-use Rattle.std.proofs.Common.{Some, ap, ◌∙◌}
+use Rattle.std.proofs.Common.{Some, subst, ap, ◌∙◌}
+use Rattle.jlr_machine.specs.Objects.{◌∈◌}
+use Rattle.jlr_roots.specs.Walk.{slots_held}
 use Rattle.jlr_machine.specs.declared.machine.Machine.{Machine}
 use Rattle.jlr_machine.specs.declared.machine.Call.TheVariants.{Out as CallOut}
 use Rattle.jlr_machine.specs.declared.ask.Ask.TheVariants.{CheckOut}
@@ -11,6 +13,8 @@ use Rattle.jlr_core.proofs.Entries.{meets_plain}
 use Rattle.jlr_core.proofs.Guards.{checked_out_is, out_reply}
 use Rattle.jlr_machine.specs.declared.machine.ResourceState.TheVariants.{Out as IsOut}
 use Rattle.jlr_core.proofs.Moving.{taken_out}
+use Rattle.jlr_laws.proofs.Frames.{some_same}
+use Rattle.jlr_core.proofs.Hands.{held_in_hand, named_held}
 use Rattle.jlr_core.proofs.state.State.check_out.Goals as goal
 
 pub returns-clause-entry : goal.returns-clause-entry
@@ -30,3 +34,9 @@ returns-clause-moves g c =
     let rid = c.in-Ok.held.guard.rid in
     let called = c.check_out-resource.ensures in
     taken_out c.args.self.now.cleaner.table c.check_out-resource.new.self.table rid IsOut c.check_out-resource.result called.put_in_last called.state (λ e. absurd (cc e)) called.others
+
+-- what a handle names is in hand
+pub begin_call-requires-clause-held : goal.begin_call-requires-clause-held
+begin_call-requires-clause-held g c =
+    let m = c.args.self.now in
+    λ s e. held_in_hand m.heap s (subst (λ x. x ∈ slots_held m.heap.graph.mutators) (some_same c.in-Ok.held.slot s e) (named_held (machine_of m) c.args.by c.args.guard c.in-Ok.held.slot c.in-Ok.ensures.1.named))

@@ -6,6 +6,7 @@ use Rattle.jlr_core.proofs.Frames.{frame_of}
 use Rattle.jlr_core.specs.State.{machine_with}
 use Rattle.jlr_core.proofs.Entries.{meets_plain}
 use Rattle.jlr_core.proofs.Queues.{enqueue_after, enqueue_reply, enqueued_long}
+use Rattle.jlr_core.proofs.Hands.{held_in_hand, named_held}
 use Rattle.jlr_core.proofs.state.State.enqueue.Goals as goal
 
 pub returns-in-Ok-clause-meets : goal.returns-in-Ok-clause-meets
@@ -20,3 +21,9 @@ returns-in-Ok-clause-meets g c =
 
 pub returns-in-Ok-clause-rest : goal.returns-in-Ok-clause-rest
 returns-in-Ok-clause-rest g c = record { age = search rules; cleaner = search rules; clock = search rules; cells = enqueued_long (machine_of c.args.self.now) (machine_with c.args.self.now.cleaner c.enqueue.new.heap.graph c.args.self.now.cycle_open) c.in_ok-slot.slot (c.in-Ok.ensures.enqueued (frame_of c.args.self.now)) }
+
+-- what a handle names is in hand
+pub enqueue-requires-clause-held : goal.enqueue-requires-clause-held
+enqueue-requires-clause-held g c =
+    let s = c.args.self.now in
+    held_in_hand s.heap c.in_ok-slot.slot (named_held (machine_of s) c.args.by c.args.reference c.in_ok-slot.slot c.in_ok-slot.ensures.1)

@@ -1,9 +1,12 @@
-use Rattle.std.proofs.Common.{sym, subst, refl}
+use Rattle.std.proofs.Common.{Some, inl, inr, sym, subst, refl, ◌∙◌}
+use Rattle.std.specs.Option.{option_to_list}
 use Rattle.jlr_machine.specs.declared.ask.Ask.TheVariants.{MakeRef}
 use Rattle.jlr_machine.specs.declared.ask.Answer.TheVariants.{Refused}
 use Rattle.jlr_core.specs.Machines.{machine_of}
 use Rattle.jlr_core.specs.State.{Meets}
 use Rattle.jlr_core.proofs.Entries.{meets_full, meets_new_reference, allowed_reference}
+use Rattle.jlr_laws.proofs.Clearing.{in_append, in_option}
+use Rattle.jlr_core.proofs.Hands.{named_held}
 use Rattle.jlr_core.proofs.state.State.make_reference.Goals as goal
 
 pub returns-in-Err-clause-meets : goal.returns-in-Err-clause-meets
@@ -20,3 +23,12 @@ returns-in-Ok-clause-meets g c =
     let allowed = allowed_reference m c.args.by c.args.kind c.args.referent c.args.queue c.in_ok-check_session.ensures c.in_ok-check_handle.ensures c.in_ok-check_handle-2.ensures c.in_ok-target.ensures.slot.1 c.in_ok-queue.ensures.1 c.in_ok-check_no_call.ensures c.in_ok-check_free_handle.ensures in
     meets_new_reference m (machine_of c.allocate.new.self) (machine_of c.give.new.self) c.args.by c.in-Ok.slot c.args.kind c.args.referent c.args.queue c.in_ok-target.target c.in_ok-queue.queue c.allocate.new.choice c.give.result allowed
     c.in_ok-target.ensures.slot.0 c.in_ok-queue.ensures.0 c.in-Ok.ensures.allocates c.give.ensures.answer c.give.ensures.held
+
+-- handles name its queue and its referent
+pub allocate-requires-clause-held : goal.allocate-requires-clause-held
+allocate-requires-clause-held g c =
+    let m = machine_of c.args.self.now in
+    λ s h. elim (in_append s (option_to_list c.in_ok-queue.queue) (option_to_list (Some c.in_ok-target.target)) h) [
+      | inl q ↦ named_held m c.args.by c.args.queue s (c.in_ok-queue.ensures.0 ∙ in_option s c.in_ok-queue.queue q)
+      | inr r ↦ named_held m c.args.by c.args.referent s (c.in_ok-target.ensures.slot.0 ∙ in_option s (Some c.in_ok-target.target) r)
+    ]

@@ -1,4 +1,5 @@
-use Rattle.std.proofs.Common.{◌≡◌, None, Some, ap, ◌∙◌, subst, sym}
+use Rattle.std.proofs.Common.{◌≡◌, None, Some, is_some, inl, ap, ◌∙◌, subst, sym}
+use Rattle.jlr_machine.specs.WellFormed.{IsObjectAt}
 use Rattle.jlr_resource.specs.Resources.{Resources}
 use Rattle.jlr_cleaner.specs.Cleanings.{Cleanings}
 use Rattle.jlr_core.specs.Flows.{Moves}
@@ -12,6 +13,7 @@ use Rattle.jlr_core.specs.Machines.{machine_of}
 use Rattle.jlr_core.specs.State.{machine_with}
 use Rattle.jlr_machine.specs.declared.machine.ResourceState.TheVariants.{Opening}
 use Rattle.jlr_core.proofs.Moving.{put_in}
+use Rattle.jlr_laws.proofs.Frames.{some_same}
 use Rattle.jlr_core.proofs.state.State.open_done.Goals as goal
 
 pub returns-clause-opened : goal.returns-clause-opened
@@ -30,3 +32,13 @@ returns-clause-moves g c =
     let given : c.opened.new.self.table ≡ c.give.new.self.cleaner.table = ap {A = Cleanings g.row.R.Denot} {B = Resources g.row.R.Denot} (λ x. x.table) (sym c.give.ensures.cleaner) in
     subst (λ (t : Resources g.row.R.Denot). Moves (Some c.args.resource) old None t) given
     (put_in old c.opened.new.self.table rid Opening c.args.resource c.requires.held.resource (λ e. absurd (cc e)) c.opened.ensures.lies_here c.opened.ensures.others)
+
+-- a call holds its guard
+pub end_call-requires-clause-object : goal.end_call-requires-clause-object
+end_call-requires-clause-object g c =
+    let m = machine_of c.args.self.now in
+    λ s e. subst (λ x. IsObjectAt m x) (some_same c.args.held.slot s (sym c.requires.held.fence ∙ e)) (ap is_some c.requires.held.guard)
+
+-- which is shaded once the call has ended
+pub give-requires-clause-held : goal.give-requires-clause-held
+give-requires-clause-held g c = inl (c.end_call.ensures.shaded.all c.args.held.slot c.requires.held.fence)

@@ -1,14 +1,17 @@
-use Rattle.std.proofs.Common.{None, ap, ◌∙◌}
+use Rattle.std.proofs.Common.{None, is_some, sym, subst, ap, ◌∙◌}
+use Rattle.jlr_machine.specs.WellFormed.{IsObjectAt}
 use Rattle.jlr_machine.specs.declared.machine.Machine.{Machine}
 use Rattle.jlr_machine.specs.declared.machine.Call.TheVariants.{Free}
 use Rattle.jlr_machine.specs.Objects.{with_cleanable}
 use Rattle.jlr_machine.specs.Calls.{spent}
 use Rattle.jlr_machine.specs.Lookups.{with_call, with_object}
-use Rattle.jlr_barrier.specs.Graphs.{Graph}
+use Rattle.jlr_barrier.specs.Graphs.{Graph, fence_at}
 use Rattle.jlr_core.specs.Machines.{machine_of}
 use Rattle.jlr_core.specs.State.{machine_with}
 use Rattle.jlr_machine.specs.declared.machine.ResourceState.TheVariants.{Opening}
 use Rattle.jlr_core.proofs.Moving.{none_lies, none_moved, none_there, without_value}
+use Rattle.jlr_laws.proofs.Frames.{some_same}
+use Rattle.jlr_core.proofs.Hands.{still_object}
 use Rattle.jlr_core.proofs.state.State.open_failed.Goals as goal
 
 pub returns-clause-opened : goal.returns-clause-opened
@@ -24,3 +27,10 @@ returns-clause-moves g c =
     let new = c.open_failed.new.self.table in
     let rid = c.args.held.guard.rid in
     none_moved old new (without_value old new rid (none_lies old rid Opening c.requires.held.resource (λ e. absurd (cc e))) (none_there new rid c.open_failed.ensures.state) c.open_failed.ensures.others)
+
+-- a call holds its guard
+pub end_call-requires-clause-object : goal.end_call-requires-clause-object
+end_call-requires-clause-object g c =
+    let m = machine_of c.args.self.now in
+    λ s e. still_object m.objects c.spend.new.self.graph.objects c.args.held.guard.cleanable s (with_cleanable spent) (ap (λ (h : Graph). h.objects) c.spend.ensures.graph)
+    (subst (λ x. IsObjectAt m x) (some_same c.args.held.slot s (sym c.requires.held.fence ∙ ap (λ (h : Graph). fence_at h.mutators c.args.by) (sym c.spend.ensures.graph) ∙ e)) (ap is_some c.requires.held.guard))

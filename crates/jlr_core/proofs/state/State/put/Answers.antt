@@ -2,6 +2,7 @@ use Rattle.std.proofs.Common.{◌≡◌, Some, sym, ◌∙◌}
 use Rattle.jlr_core.specs.Machines.{machine_of}
 use Rattle.jlr_sweep.proofs.Following.{object_within}
 use Rattle.jlr_core.proofs.Named.{named_object}
+use Rattle.jlr_core.proofs.Hands.{field_object, held_in_hand, named_held}
 use Rattle.jlr_core.proofs.state.State.put.Goals as goal
 
 -- a handle stands for an object, which lies within the heap
@@ -10,3 +11,15 @@ store-requires-clause-within g c =
     λ s e.
     let target : c.lookup-target.result ≡ Some s = cc in
     object_within c.args.self.now.heap.graph.objects s (named_object (machine_of c.args.self.now) c.args.by c.args.value s c.requires (sym c.lookup-target.ensures ∙ target))
+
+-- and is in hand
+pub store-requires-clause-held : goal.store-requires-clause-held
+store-requires-clause-held g c =
+    λ s e.
+    let target : c.lookup-target.result ≡ Some s = cc in
+    let m = c.args.self.now in
+    held_in_hand m.heap s (named_held (machine_of m) c.args.by c.args.value s (sym c.lookup-target.ensures ∙ target))
+
+-- a field held an object before
+pub store-requires-clause-object : goal.store-requires-clause-object
+store-requires-clause-object g c = λ s e. field_object (machine_of c.args.self.now) c.requires c.in_ok-slot.slot c.args.field s e

@@ -1,4 +1,4 @@
-use Rattle.std.proofs.Common.{rules, ◌&&◌, not, is_some, ◌∙◌, ap, length}
+use Rattle.std.proofs.Common.{rules, inl, ◌&&◌, not, is_some, ◌∙◌, ap, length}
 use Rattle.jlr_machine.specs.Lookups.{has_free_handle}
 use Rattle.jlr_machine.specs.Objects.{as_members, at, Heap}
 use Rattle.std.specs.Prelude.{option_and_then}
@@ -8,8 +8,8 @@ use Rattle.jlr_core.specs.State.{machine_with}
 use Rattle.jlr_core.proofs.Queues.{fronts_first, remove_answered, polled_long, polled_mutators, same_room}
 use Rattle.jlr_core.proofs.state.State.remove.Goals as goal
 
-pub give_known-requires : goal.give_known-requires
-give_known-requires g c =
+pub give_known-requires-clause-room : goal.give_known-requires-clause-room
+give_known-requires-clause-room g c =
     let m = machine_of c.args.self.now in
     let mid = machine_with c.args.self.now.cleaner c.poll-member.new.heap.graph c.args.self.now.cycle_open in
     let first = c.poll-member.ensures.front ∙ fronts_first (option_and_then as_members (at m.objects c.in_ok-slot.slot)) in
@@ -31,3 +31,7 @@ returns-clause-rest g c =
       cleaner = search rules;
       clock = search rules;
     }
+
+-- what leaves a queue is shaded
+pub give_known-requires-clause-held : goal.give_known-requires-clause-held
+give_known-requires-clause-held g c = λ s e. inl (c.poll-member.ensures.shaded.all s e)

@@ -1,0 +1,117 @@
+-- With no grey slot left, what is marked holds the roots and is closed; and a marking that begins is a snapshot.
+use Rattle.std.proofs.Common.{◌≡◌, ◌≤◌, ℕ, zero, suc, inl, inr, false, List, [], None, replicate, refl, subst, length, sym, ap, ◌∙◌}
+use Rattle.std.proofs.lemmas.Bool.{both_ways}
+use Rattle.std.proofs.lemmas.List.{length-replicate}
+use Rattle.jlr_machine.specs.declared.machine.Session.{Session}
+use Rattle.jlr_machine.specs.declared.machine.Binding.{Binding}
+use Rattle.jlr_machine.specs.Objects.{Heap, Table, ◌∈◌}
+use Rattle.jlr_laws.proofs.Sets.{nothing}
+use Rattle.jlr_marks.specs.Marking.{Marking, IsMarked, Shaded, is_marked, unmarked}
+use Rattle.jlr_marks.proofs.Counting.{none_set}
+use Rattle.jlr_marks.proofs.Shading.{same_marking}
+use Rattle.jlr_machine.specs.Edges.{active_cleanables}
+use Rattle.jlr_roots.specs.Walk.{slots_held}
+use Rattle.jlr_barrier.specs.Graphs.{Graph, Known, empty_graph, empty_known, held}
+use Rattle.jlr_barrier.proofs.Held.{held_cases}
+use Rattle.jlr_barrier.proofs.Fitting.{other_clock}
+use Rattle.jlr_barrier.specs.Snapshots.{FitsTogether, HoldsWhole, IsObject, IsSafe, IsSnapshot, cycle_of}
+
+pub none_marked : {P : Type 0} (n x : ℕ) → IsMarked (unmarked n) x → P
+none_marked n x h = absurd (both_ways (is_marked (unmarked n) x) (none_set n x) h)
+
+-- ---- No grey slot
+
+module _ (k : Known) (a b : ℕ) (f : FitsTogether k a b) (none : k.marking.grey ≡ []) where
+  not_grey : {P : Type 0} (x : ℕ) → x ∈ k.marking.grey → P
+  not_grey x h = nothing x (subst (λ l. x ∈ l) none h)
+
+  safe_is_marked : (y : ℕ) → IsSafe (cycle_of k.graph k.marking) y → IsMarked k.marking y
+  safe_is_marked y (inl on) = on
+  safe_is_marked y (inr p) = not_grey p.0 p.1
+
+  pub holds_whole : HoldsWhole k
+  holds_whole = record {
+    long = f.bits;
+    objects = f.objects;
+    roots = λ y h. safe_is_marked y (f.snapshot.roots y h);
+    closed = λ x y on e. elim (f.snapshot.strong x y on e) [ inl g ↦ not_grey x g.0 | inr s ↦ safe_is_marked y s ];
+    referents = λ x y on q. elim (f.snapshot.referents x y on q) [
+      | inl g ↦ not_grey x g
+      | inr r ↦ elim r [ inl s ↦ inl (safe_is_marked y s) | inr d ↦ inr d ]
+    ];
+  }
+
+-- ---- All marks go, and the roots are shaded
+
+begun : (g : Graph) (n : Marking) (long : ℕ) → Shaded (λ x. x ∈ held g) (unmarked long) n → IsSnapshot (cycle_of g n)
+begun g n long s = record {
+  grey = λ x h. elim (s.grey_marked x h) [ inl o ↦ nothing x o | inr on ↦ on ];
+  roots = λ y h. inl (s.all y h);
+  strong = λ x y on e. elim (s.added x on) [ inl o ↦ none_marked long x o | inr new ↦ inl (new.1, e) ];
+  whole = λ x y e. inr e;
+  referents = λ x y on q. elim (s.added x on) [ inl o ↦ none_marked long x o | inr new ↦ inl new.1 ];
+}
+
+pub opened : (k : Known) (a b : ℕ) (n : Marking) → FitsTogether k a b → ((x : ℕ) → x ∈ held k.graph → IsObject k.graph.objects x) → Shaded (λ x. x ∈ held k.graph) (unmarked (length k.graph.objects)) n → FitsTogether (record k { marking = n }) a b
+opened k a b n f objects s =
+    record {
+      few = f.few;
+      bits = s.long ∙ length-replicate (length k.graph.objects) false;
+      ages = f.ages;
+      has_room = f.has_room;
+      line_has_room = f.line_has_room;
+      objects = λ x on. elim (s.added x on) [ inl o ↦ none_marked (length k.graph.objects) x o | inr new ↦ objects x new.0 ];
+      snapshot = begun k.graph n (length k.graph.objects) s;
+    }
+
+-- ---- A heap without objects
+
+none_held : (n : ℕ) → slots_held (replicate n None) ≡ []
+none_held zero = refl
+none_held (suc n) = none_held n
+
+none_active : (from n : ℕ) → active_cleanables from (replicate n None) ≡ []
+none_active from zero = refl
+none_active from (suc n) = none_active (suc from) n
+
+no_roots_in : {P : Type 0} (cells sessions x : ℕ) → x ∈ held (empty_graph cells sessions) → P
+no_roots_in cells sessions x h =
+    held_cases (empty_graph cells sessions) x h
+    (λ i. nothing x (subst (λ l. x ∈ l) (none_held sessions) i))
+    (λ i. nothing x i)
+    (λ i. nothing x i)
+    (λ i. nothing x i)
+    (λ i. nothing x (subst (λ l. x ∈ l) (none_active 0 cells) i))
+
+pub empty_fits : (cells sessions a b : ℕ) → cells ≤ 65536 → cells ≤ a → cells ≤ b → FitsTogether (empty_known cells sessions) a b
+empty_fits cells sessions a b few ra rb =
+    let long : length (empty_graph cells sessions).objects ≡ cells = length-replicate cells None in
+    record {
+      few = subst (λ n. n ≤ 65536) (sym long) few;
+      bits = length-replicate cells false ∙ sym long;
+      ages = length-replicate cells 0 ∙ sym long;
+      has_room = subst (λ n. n ≤ a) (sym long) ra;
+      line_has_room = subst (λ n. n ≤ b) (sym long) rb;
+      objects = λ x on. none_marked cells x on;
+      snapshot = record {
+        grey = λ x h. nothing x h;
+        roots = λ y h. no_roots_in cells sessions y h;
+        strong = λ x y on e. none_marked cells x on;
+        whole = λ x y e. inr e;
+        referents = λ x y on q. none_marked cells x on;
+      };
+    }
+
+pub new_fits : (cells sessions a b : ℕ) (objects : Heap) (mutators : Table Session) (names : List Binding) (pending line ages : List ℕ) (m : Marking) → cells ≤ 65536 → cells ≤ a → cells ≤ b
+    → objects ≡ replicate cells None → mutators ≡ replicate sessions None → names ≡ [] → pending ≡ [] → line ≡ [] → length ages ≡ cells → m.bits ≡ replicate cells false → m.grey ≡ [] → m.discovered ≡ []
+    → FitsTogether (record { graph = record { objects = objects; mutators = mutators; names = names; pending = pending; line = line }; clock = record { last_gets = ages; collections = 0 }; marking = m }) a b
+new_fits cells sessions a b objects mutators names pending line ages m few ra rb eo em en ep el ea bits grey discovered =
+    let start = empty_fits cells sessions a b few ra rb in
+    let graph_with : Heap → Table Session → List Binding → List ℕ → List ℕ → Graph = λ o m n p l. record { objects = o; mutators = m; names = n; pending = p; line = l } in
+    let same_graph : empty_graph cells sessions ≡ graph_with objects mutators names pending line =
+    ap (λ o. graph_with o (replicate sessions None) [] [] []) (sym eo) ∙ ap (λ u. graph_with objects u [] [] []) (sym em) ∙ ap (λ n. graph_with objects mutators n [] []) (sym en) ∙ ap (λ p. graph_with objects mutators names p []) (sym ep) ∙ ap (λ l. graph_with objects mutators names pending l) (sym el) in
+    let same_marks : unmarked cells ≡ m = sym (same_marking m (unmarked cells) bits grey discovered) in
+    let known_with : Graph → Marking → Known = λ g m. record { graph = g; clock = (empty_known cells sessions).clock; marking = m } in
+    let fits : FitsTogether (known_with (graph_with objects mutators names pending line) m) a b =
+    subst (λ (k : Known). FitsTogether k a b) (ap (λ g. known_with g (unmarked cells)) same_graph ∙ ap (known_with (graph_with objects mutators names pending line)) same_marks) start in
+    other_clock (known_with (graph_with objects mutators names pending line) m) (record { last_gets = ages; collections = 0 }) a b fits (ea ∙ sym (length-replicate cells 0))

@@ -1,0 +1,8 @@
+use Rattle.std.proofs.Common.{arith}
+use Rattle.jlr_barrier.proofs.Fitting.{pushed_pending}
+use Rattle.jlr_barrier.proofs.heap.Heap.add_pending.Goals as goal
+
+pub invariant_of-self : goal.invariant_of-self
+invariant_of-self c =
+    rw c.push_back_reserved.ensures.items
+    (pushed_pending _ c.args.slot _ _ _ c.self.invariant (rw (← c.self.view_is) at c.requires.held) (omega (arith, c.self.invariant.has_room, c.push_back_reserved.ensures.capacity)))

@@ -1,0 +1,8 @@
+use Rattle.std.proofs.Common.{◌≡◌, [], subst}
+use Rattle.jlr_barrier.specs.Graphs.{Known}
+use Rattle.jlr_barrier.specs.Snapshots.{HoldsWhole}
+use Rattle.jlr_barrier.proofs.Ending.{holds_whole}
+use Rattle.jlr_barrier.proofs.heap.Heap.has_grey.Goals as goal
+
+pub returns-clause-whole : goal.returns-clause-whole
+returns-clause-whole c = subst (λ (k : Known). k.marking.grey ≡ [] → HoldsWhole k) c.self.view_is (holds_whole _ _ _ c.self.invariant)
