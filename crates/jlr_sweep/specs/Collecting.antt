@@ -9,11 +9,6 @@ use Rattle.jlr_machine.specs.WellFormed.{IsWellFormed}
 use Rattle.jlr_laws.specs.Laws.{IsMarked}
 use Rattle.jlr_barrier.specs.Graphs.{Graph, held, in_machine}
 
--- The machine of which a heap keeps this part is well formed, and has no roots but those that the heap holds
-pub record IsRooted (m : Machine) (g : Graph) : Type 0 where
-  pub fit : IsWellFormed (in_machine m g)
-  pub all_held : (s : ℕ) → s ∈ roots (in_machine m g) → s ∈ held g
-
 -- the machine with its cycle closed
 abbrev pub closed : Machine → Machine
 closed m = record m { cycle_open = false; seen = [] }
