@@ -209,7 +209,7 @@ end_has_room a room is = absurd (both_ways false refl is)
 
 -- ---- A cycle that is given up
 
-abandon_answers : (m : Machine) (answer : Answer) (chosen : Chosen) → (answer ≡ Refused NoMemory → ⊥) → IsLegal m (entry_of ask.Abandon answer chosen) → (answer ≡ Truth m.cycle_open) × (chosen ≡ no_choice)
+pub abandon_answers : (m : Machine) (answer : Answer) (chosen : Chosen) → (answer ≡ Refused NoMemory → ⊥) → IsLegal m (entry_of ask.Abandon answer chosen) → (answer ≡ Truth m.cycle_open) × (chosen ≡ no_choice)
 abandon_answers m answer chosen memory (carried_out c) =
     let none = alone m ask.Abandon chosen.collected (λ x g. no_need m g.0) c.collection in
     let says : Answers (with_collection m None) ask.Abandon None answer = subst (λ o. Answers (with_collection m o) ask.Abandon o answer) none c.answers in

@@ -1,2 +1,5 @@
 pub mod Entering
 pub mod Histories
+pub mod HandingOver
+pub mod TakingUp
+pub mod Turning

@@ -1,7 +1,10 @@
 -- Reading order.
 pub mod Histories
 pub mod Rules
--- What no public clause names: the room of an entry, the invariant of a book, and its parts' steps.
+pub mod Settling
+pub mod Solos
+-- What no public clause names: the room of an entry, the invariant of a book, its parts' steps, and single turns of a settling.
 pub mod Making
 pub mod Keeping
 pub mod Writing
+pub mod OneTurn

@@ -79,6 +79,13 @@ impl<R: Drop> Book<R> {
         let _base = &self.base;
     }
 
+    /// The limits that it was made with.
+    pub fn limits(&self) -> Limits
+        ensures { result ≡ self.now.limits }
+    {
+        self.limits
+    }
+
     /// The number of the last entry since opening, 0 where there was none.
     pub fn last(&self) -> u64
         ensures { result ≡ last self.now }

@@ -6,3 +6,4 @@ mod cut;
 mod entry;
 mod event;
 pub mod room;
+pub mod solo;

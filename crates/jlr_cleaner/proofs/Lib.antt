@@ -2,3 +2,4 @@ pub mod Apart
 pub mod Listing
 pub mod Closing
 pub mod Stepping
+pub mod Registering

@@ -53,12 +53,12 @@ one_outcome o action work OutcomeOk = omega arith
 one_outcome o action work (Failed fault) = omega arith
 
 module _ {R : Type 0} where
-  taken_work : (c : Cleanings R) (m : Machine) (s by action : ℕ) (work : Work) → machine_with (after_take_up c (record { action = action; work = work; by = by })) (with_object m s (with_cleanable spent)) ≡ with_work_state (record (with_object (machine_with c m) s (with_cleanable spent)) { jobs = with_job c.jobs (record { action = action; work = work; by = by }); taken = c.taken + 1 }) (rid_of work) Closing
-  taken_work c m s by action (Note n) = refl
-  taken_work c m s by action (WorkOn rid) = rw (resources_changed c.table.held rid kept.Closing) refl
+  taken_work : (c : Cleanings R) (m : Machine) (place s by action : ℕ) (work : Work) → machine_with (after_take_up c place (record { action = action; work = work; by = by })) (with_object m s (with_cleanable spent)) ≡ with_work_state (record (with_object (machine_with c m) s (with_cleanable spent)) { jobs = with_job c.jobs (record { action = action; work = work; by = by }); taken = c.taken + 1 }) (rid_of work) Closing
+  taken_work c m place s by action (Note n) = refl
+  taken_work c m place s by action (WorkOn rid) = rw (resources_changed c.table.held rid kept.Closing) refl
 
-  pub machine_taken : (c : Cleanings R) (by action : ℕ) (work : Work) (m : Machine) (s : ℕ) (d : Cleanable) → d.action ≡ action → d.work ≡ work → machine_with (after_take_up c (record { action = action; work = work; by = by })) (with_object m s (with_cleanable spent)) ≡ taken_up (machine_with c m) by s d
-  machine_taken c by action work m s d a w = rw (← a, ← w) (taken_work c m s by d.action d.work)
+  pub machine_taken : (c : Cleanings R) (place by action : ℕ) (work : Work) (m : Machine) (s : ℕ) (d : Cleanable) → d.action ≡ action → d.work ≡ work → machine_with (after_take_up c place (record { action = action; work = work; by = by })) (with_object m s (with_cleanable spent)) ≡ taken_up (machine_with c m) by s d
+  machine_taken c place by action work m s d a w = rw (← a, ← w) (taken_work c m place s by d.action d.work)
 
   finished_work : (c : Cleanings R) (m : Machine) (action by : ℕ) (work : Work) (outcome : Outcome) → machine_with (after_finish c (record { action = action; work = work; by = by }) outcome) m ≡ finished (machine_with c m) (record { action = action; work = work; by = by }) outcome
   finished_work c m action by (Note n) OutcomeOk = refl

@@ -7,21 +7,22 @@ ghost use Rattle.jlr_machine.specs.declared.machine.Machine.{Machine};
 ghost use Rattle.jlr_machine.specs.declared.machine.ResourceState.TheVariants as state;
 ghost use Rattle.jlr_machine.specs.declared.object.Cleanable.{Cleanable};
 ghost use Rattle.jlr_machine.specs.Lookups.{with_object, with_resource, with_state, without_resource};
-ghost use Rattle.jlr_machine.specs.Objects.{with_cleanable};
+ghost use Rattle.jlr_machine.specs.Objects.{at, empty_at, with_cleanable};
 ghost use Rattle.jlr_machine.specs.Calls.{finished, spent, taken_up};
 ghost use Rattle.jlr_resource.specs.declared.place.Kept.TheVariants as kept;
 ghost use Rattle.jlr_resource.specs.Resources.{changed, kept_at, opening, removed, resource_in, resources, state_at, values};
 ghost use Rattle.jlr_cleaner.specs.Jobs.{is_job_of, is_running, job_in, runs_job};
 ghost use Rattle.jlr_cleaner.specs.Outcomes.{outcome_of};
-ghost use Rattle.jlr_cleaner.specs.Cleanings.{HandsOut, HasWork, IsInState, after_finish, after_take_up, fresh, machine_with, table_closed, table_closing};
+ghost use Rattle.jlr_cleaner.specs.Cleanings.{HandsOut, HasWork, IsInState, after_finish, after_register, after_take_up, fresh, machine_with, table_closed, table_closing};
 
 use crate::job::Job;
 use crate::outcomes::Outcomes;
 use crate::running::Running;
+use crate::waiting::Waiting;
 use jlr_machine::items::Items;
 use jlr_machine::machine::{Failure, Job as RunningJob, Resource};
 use jlr_resource::{State, Table};
-use jlr_types::{ActionNo, Fault, Limits, Refusal, Rid, Work};
+use jlr_types::{ActionNo, Fault, Limits, Refusal, Rid, Slot, Work};
 use std::alloc::{AllocError, Global};
 use std::marker::Model;
 
@@ -36,9 +37,10 @@ pub struct Totals {
     pub failed: u64,
 }
 
-/// The jobs that run, what became of the others, and the files and sockets. `R` need not be `Drop`: none of them is lost here.
+/// The actions that wait, the jobs that run, what became of the others, and the files and sockets. `R` need not be `Drop`: none of them is lost here.
 #[derive(Drop)]
 pub struct Cleaner<R> {
+    waiting: Waiting,
     running: Running,
     outcomes: Outcomes,
     table: Table<R>,
@@ -51,19 +53,19 @@ impl<R> Model for Cleaner<R> {
 
     ghost Value = { Cleanings R };
 
-    ghost view = { λ a. record { jobs = a.running; table = a.table; faults = a.outcomes.faults; notes = a.outcomes.notes; next_action = a.next_action; taken = a.taken; ok = a.outcomes.ok; failed = a.outcomes.failed } };
+    ghost view = { λ a. record { waiting = a.waiting; jobs = a.running; table = a.table; faults = a.outcomes.faults; notes = a.outcomes.notes; next_action = a.next_action; taken = a.taken; ok = a.outcomes.ok; failed = a.outcomes.failed } };
 
-    ghost invariant = { λ a. IsCleanings a.table a.running a.next_action a.taken a.outcomes.ok a.outcomes.failed };
+    ghost invariant = { λ a. IsCleanings a.waiting a.table a.running a.next_action a.taken a.outcomes.ok a.outcomes.failed };
 }
 
 impl<R> Cleaner<R> {
-    /// Nothing was taken up, and the first action number is 1. It reserves room for a job of each taker, and for the last
-    /// notes and faults.
+    /// Nothing was registered or taken up, and the first action number is 1. It reserves a place for each cell, and room for a job of
+    /// each taker and for the last notes and faults.
     ///
     /// # Errors
     /// `AllocError` where there is no memory.
     pub fn new(alloc: Global, limits: Limits) -> Result<Self, AllocError>
-        ensures { IfOk result (λ cleaner. cleaner ≡ fresh limits.resources 1) }
+        ensures { IfOk result (λ cleaner. cleaner ≡ fresh limits.cells limits.resources 1) }
     {
         Cleaner::starting_at(alloc, limits, 1)
     }
@@ -74,9 +76,10 @@ impl<R> Cleaner<R> {
     /// `AllocError` where there is no memory.
     pub fn starting_at(alloc: Global, limits: Limits, next_action: u64) -> Result<Self, AllocError>
         requires { 1 ≤ next_action }
-        ensures { IfOk result (λ cleaner. cleaner ≡ fresh limits.resources next_action) }
+        ensures { IfOk result (λ cleaner. cleaner ≡ fresh limits.cells limits.resources next_action) }
     {
         Ok(Cleaner {
+            waiting: Waiting::new(alloc, limits.cells)?,
             running: Running::new(alloc)?,
             outcomes: Outcomes::new(alloc)?,
             table: Table::new(alloc, limits.resources),
@@ -85,7 +88,7 @@ impl<R> Cleaner<R> {
         })
     }
 
-    // ---- Action numbers
+    // ---- Actions that wait
 
     /// The action number that is given next, 1 to 2^64 - 1. The last one is never given.
     pub fn next_action(&self) -> u64
@@ -101,10 +104,26 @@ impl<R> Cleaner<R> {
         self.next_action == u64::MAX
     }
 
-    /// Gives an action number that was not given before, 1 to 2^64 - 2, if one is left.
-    pub fn take_number(&mut self) -> Option<ActionNo>
+    /// How many places there are at which actions wait: one for each cell.
+    pub fn places(&self) -> usize
+        ensures { result ≡ length self.now.waiting }
+    {
+        self.waiting.len()
+    }
+
+    /// The action that was registered at a place and not yet taken up, if there is one.
+    pub fn waits(&self, place: Slot) -> Option<ActionNo>
+        ensures { result ≡ at self.now.waiting place }
+    {
+        self.waiting.at(place)
+    }
+
+    /// Registers an action at the place of its cleanable, if a number is left: 1 to 2^64 - 2, and not given before. It waits there to be
+    /// taken up.
+    pub fn register(&mut self, place: Slot) -> Option<ActionNo>
+        requires { place < length self.old.waiting }
         ensures number { IfSome result (λ action. (action ≡ self.old.next_action) × (1 ≤ action) × (action ≤ 2 ^ 64 - 2)) }
-        ensures given { IfSome result (λ action. self.new ≡ record self.old { next_action = self.old.next_action + 1 }) }
+        ensures registered { IfSome result (λ _. self.new ≡ after_register self.old place) }
         ensures none { IfNone result ((self.old.next_action ≡ 2 ^ 64 - 1) × (self.new ≡ self.old)) }
     {
         if self.is_exhausted() {
@@ -112,6 +131,7 @@ impl<R> Cleaner<R> {
         }
         let action = ActionNo::new(self.next_action);
         self.next_action += 1;
+        self.waiting.put(place, action);
         Some(action)
     }
 
@@ -131,9 +151,10 @@ impl<R> Cleaner<R> {
         self.running.runs_job(by)
     }
 
-    /// Takes up an action that was not taken up before, for a taker that runs no job. Where its work is to finish a resource,
-    /// that resource is Idle; it is then Closing, and goes out with the job.
-    pub fn take_up(&mut self, by: u8, action: ActionNo, work: Work) -> Job<R>
+    /// Takes up the action that waits at a place, where it waits no more, for a taker that runs no job. Where its work is to finish a
+    /// resource, that resource is Idle; it is then Closing, and goes out with the job.
+    pub fn take_up(&mut self, by: u8, place: Slot, action: ActionNo, work: Work) -> Job<R>
+        requires waits { at self.old.waiting place ≡ Some action }
         requires not_running { is_running self.old.jobs action ≡ false }
         requires free { runs_job self.old.jobs by ≡ false }
         requires idle { HasWork self.old.table action state.Idle work }
@@ -141,13 +162,15 @@ impl<R> Cleaner<R> {
         ensures action { result.action ≡ action }
         ensures work { result.work ≡ work }
         ensures put_in_last { HandsOut self.old.table work result.resource }
-        ensures taken { self.new ≡ after_take_up self.old (record { action = action; work = work; by = by }) }
+        ensures taken { self.new ≡ after_take_up self.old place (record { action = action; work = work; by = by }) }
+        ensures waits_no_more { (other : ℕ) → at self.new.waiting other ≢ Some action }
         ensures running { job_in self.new.jobs action ≡ Some (record { action = action; work = work; by = by }) }
         ensures machine { (m : Machine) (s : ℕ) (c : Cleanable) → c.action ≡ action → c.work ≡ work → machine_with self.new (with_object m s (with_cleanable spent)) ≡ taken_up (machine_with self.old m) by s c }
         ensures values { IsPermutation (values self.old.table) (option_to_list result.resource ++ values self.new.table) }
     {
         // The work can be passed on only once, since its type holds one with a model: the helper is lent it, and the job told a copy.
         let told = work;
+        self.waiting.clear(place);
         let resource = take_out(&mut self.table, &work);
         self.running.start(RunningJob { action, work, by });
         self.taken += 1;
@@ -316,16 +339,19 @@ impl<R> Cleaner<R> {
         self.table.opened(rid, resource);
     }
 
-    /// The open failed: there is no such resource any more, and its Rid is free.
-    pub fn open_failed(&mut self, rid: Rid)
-        requires { state_at self.old.table rid ≡ Some state.Opening }
-        ensures gone { self.new ≡ record self.old { table = removed self.old.table rid } }
+    /// The open failed: there is no such resource any more, and its Rid is free. The action that waits at a place, which was to finish it,
+    /// waits no more.
+    pub fn open_failed(&mut self, place: Slot, rid: Rid)
+        requires place { place < length self.old.waiting }
+        requires opening { state_at self.old.table rid ≡ Some state.Opening }
+        ensures gone { self.new ≡ record self.old { waiting = empty_at self.old.waiting place; table = removed self.old.table rid } }
         ensures state { state_at self.new.table rid ≡ None }
         ensures others { (other : ℕ) → other ≢ rid → kept_at self.new.table other ≡ kept_at self.old.table other }
         ensures machine { (m : Machine) → machine_with self.new m ≡ without_resource (machine_with self.old m) rid }
         ensures values { values self.new.table ≡ values self.old.table }
         ensures room { length (resources self.new.table) < self.new.table.room }
     {
+        self.waiting.clear(place);
         self.table.closed(rid);
     }
 

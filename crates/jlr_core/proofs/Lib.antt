@@ -10,6 +10,7 @@ pub mod Ranges
 pub mod RunLaws
 pub mod Queues
 pub mod TakeUps
+pub mod Awaiting
 pub mod Rest
 pub mod Guards
 pub mod Moving

@@ -14,7 +14,7 @@ use Rattle.jlr_resource.specs.declared.place.Kept.{Kept}
 use Rattle.jlr_resource.specs.declared.place.Kept.TheVariants as kept
 use Rattle.jlr_resource.specs.Resources.{Held, Resources, kept_at, kept_in, removed, state_at, state_of, value_of, values, values_in, with_kept, without_held}
 use Rattle.jlr_resource.proofs.Listed.{state_found, values-cons}
-use Rattle.jlr_cleaner.specs.Cleanings.{Cleanings, HandsOut, after_finish, table_closed, table_closing}
+use Rattle.jlr_cleaner.specs.Cleanings.{Cleanings, HandsOut, after_finish, after_register, table_closed, table_closing}
 use Rattle.jlr_cleaner.specs.Jobs.{is_job_of, job_in}
 use Rattle.jlr_core.specs.Flows.{LieAsBefore, Moves, lies_at}
 
@@ -212,6 +212,6 @@ module _ {R : Type 0} where
   closing_room t (WorkOn rid) = refl
 
   -- a number that is taken leaves the table
-  pub numbered_table : (o : Option ℕ) (old new : Cleanings R) → IfSome o (λ _. new ≡ record old { next_action = old.next_action + 1 }) → IfNone o ((old.next_action ≡ 2 ^ 64 - 1) × (new ≡ old)) → old.table ≡ new.table
-  numbered_table None old new given none = ap {A = Cleanings R} {B = Resources R} (λ c. c.table) (sym none.1)
-  numbered_table (Some action) old new given none = ap {A = Cleanings R} {B = Resources R} (λ c. c.table) (sym given)
+  pub numbered_table : (o : Option ℕ) (place : ℕ) (old new : Cleanings R) → IfSome o (λ _. new ≡ after_register old place) → IfNone o ((old.next_action ≡ 2 ^ 64 - 1) × (new ≡ old)) → old.table ≡ new.table
+  numbered_table None place old new given none = ap {A = Cleanings R} {B = Resources R} (λ c. c.table) (sym none.1)
+  numbered_table (Some action) place old new given none = ap {A = Cleanings R} {B = Resources R} (λ c. c.table) (sym given)

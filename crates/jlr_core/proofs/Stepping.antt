@@ -13,21 +13,21 @@ use Rattle.jlr_core.specs.State.{Meets, MeetsAsk, MeetsSeen, entry_of, is_collec
 use Rattle.jlr_core.specs.Events.{StepsBy, Enters}
 
 -- a core's machine has nothing seen
-abbrev IsUnseen : Machine → Type 0
+abbrev pub IsUnseen : Machine → Type 0
 IsUnseen m = with_seen m [] ≡ m
 
 -- an ask is legal where nothing was seen, or, a Collect, where just what the roots now reach was
-abbrev IsLegalSome : Machine → Ask → Answer → Chosen → Type 0
+abbrev pub IsLegalSome : Machine → Ask → Answer → Chosen → Type 0
 IsLegalSome m ask answer chosen = IsLegal m (entry_of ask answer chosen) ⊎ IsLegal (with_seen m (now_seen m)) (entry_of ask answer chosen)
 
-abbrev Left : Machine → Ask → Answer → Chosen → Machine → Type 0
+abbrev pub Left : Machine → Ask → Answer → Chosen → Machine → Type 0
 Left m ask answer chosen n = n ≡ with_seen (done m (entry_of ask answer chosen)) []
 
 when_met : (b : Bool) (m : Machine) (ask : Ask) (answer : Answer) (chosen : Chosen) (n : Machine) → IsUnseen n → (elim b as (λ _. Type 0) [ true ↦ MeetsSeen m ask answer chosen n | false ↦ Meets m ask answer chosen n ]) → IsLegalSome m ask answer chosen × Left m ask answer chosen n
 when_met true m ask answer chosen n unseen s = (inr s.legal, s.applied)
 when_met false m ask answer chosen n unseen s = (inl s.legal, sym unseen ∙ ap {A = Machine} {B = Machine} (λ x. with_seen x []) s.applied)
 
-met : (m : Machine) (ask : Ask) (answer : Answer) (chosen : Chosen) (n : Machine) → IsUnseen n → MeetsAsk m ask answer chosen n → IsLegalSome m ask answer chosen × Left m ask answer chosen n
+pub met : (m : Machine) (ask : Ask) (answer : Answer) (chosen : Chosen) (n : Machine) → IsUnseen n → MeetsAsk m ask answer chosen n → IsLegalSome m ask answer chosen × Left m ask answer chosen n
 met m ask answer chosen n unseen s = when_met (is_collect ask) m ask answer chosen n unseen s
 
 -- ---- Well-formedness

@@ -1,5 +1,5 @@
 -- What take-ups need, in a well-formed machine, and what they leave.
-use Rattle.std.proofs.Common.{◌≡◌, ◌+◌, ◌<◌, ℕ, Bool, true, false, not, ◌==◌, ◌||◌, List, [], ◌∷◌, length, Option, Some, None, is_some, refl, sym, ◌∙◌, ap, arith, cond, find, map, nat_le, nat_lt, option_and_then, option_map, ◌-◌, ◌^◌, IfNone, IfSome}
+use Rattle.std.proofs.Common.{◌≡◌, ◌+◌, ◌<◌, ℕ, Bool, true, false, not, ◌==◌, ◌||◌, List, [], ◌∷◌, length, Option, Some, None, is_some, refl, sym, ◌∙◌, ap, subst, arith, cond, find, map, nat_le, nat_lt, option_and_then, option_map, ◌-◌, ◌^◌, IfNone, IfSome}
 use Rattle.std.specs.List.{list_any, AllByRecursion}
 use Rattle.std.proofs.lemmas.Bool.{and_parts, leb-false, cond-false, cond_both, cond-true, eq-eqb, ltb-true, ne_eqb}
 use Rattle.jlr_types.specs.declared.Work.TheVariants.{Note, Resource as WorkOn}
@@ -27,7 +27,7 @@ use Rattle.jlr_laws.proofs.Keyed.{all_found}
 use Rattle.jlr_laws.proofs.KeepsTakeUps.{one_less}
 use Rattle.jlr_barrier.specs.Graphs.{Graph, in_machine}
 use Rattle.jlr_refs.specs.Parts.{front_of, front_spent}
-use Rattle.jlr_cleaner.specs.Cleanings.{Cleanings, HasWork, machine_with as with_cleanings}
+use Rattle.jlr_cleaner.specs.Cleanings.{Cleanings, HasWork, after_register, machine_with as with_cleanings}
 use Rattle.jlr_core.specs.State.{frame, machine_with}
 use Rattle.jlr_core.specs.TakeUps.{IsFreeMutator}
 
@@ -71,12 +71,20 @@ free_taker m k w free =
 
 -- ---- The cleaner's line
 
-front_there : (m : Machine) (line : List ℕ) (c : CleanableOf) → Some c ≡ front_of m line → (s : ℕ) × (rest : List ℕ) × (line ≡ s ∷ rest) × IsCleanableAt m s c
-front_there m [] c e = no_some c (sym e)
-front_there m (s ∷ rest) c e = (s, rest, refl, is_cleanable_there (at m.objects s) c (sym e))
+front_is : (s t : ℕ) (c : CleanableOf) (o : Option CleanableOf) → ◌≡◌ {A = Option (ℕ × CleanableOf)} (Some (t, c)) (option_map (λ (x : CleanableOf). (s, x)) o) → (s ≡ t) × (o ≡ Some c)
+front_is s t c None e = no_some (t, c) (sym e)
+front_is s t c (Some x) e =
+    let both : ◌≡◌ {A = ℕ × CleanableOf} (t, c) (s, x) = some_same (t, c) (s, x) e in
+    (ap {A = ℕ × CleanableOf} {B = ℕ} (λ p. p.0) (sym both), ap {A = ℕ × CleanableOf} {B = Option CleanableOf} (λ p. Some p.1) (sym both))
 
-pub lined_there : (m : Machine) (c : CleanableOf) → Some c ≡ front_of m (from_lined m m.line) → (s : ℕ) × (rest : List ℕ) × (from_lined m m.line ≡ s ∷ rest) × IsCleanableAt m s c
-lined_there m c e = front_there m (from_lined m m.line) c e
+front_there : (m : Machine) (line : List ℕ) (t : ℕ) (c : CleanableOf) → ◌≡◌ {A = Option (ℕ × CleanableOf)} (Some (t, c)) (front_of m line) → (rest : List ℕ) × (line ≡ t ∷ rest) × IsCleanableAt m t c
+front_there m [] t c e = no_some (t, c) (sym e)
+front_there m (s ∷ rest) t c e =
+    let is = front_is s t c (cleanable_at m s) e in
+    (rest, ap (λ (x : ℕ). x ∷ rest) is.0, subst (λ x. IsCleanableAt m x c) is.0 (is_cleanable_there (at m.objects s) c is.1))
+
+pub lined_there : (m : Machine) (t : ℕ) (c : CleanableOf) → ◌≡◌ {A = Option (ℕ × CleanableOf)} (Some (t, c)) (front_of m (from_lined m m.line)) → (rest : List ℕ) × (from_lined m m.line ≡ t ∷ rest) × IsCleanableAt m t c
+lined_there m t c e = front_there m (from_lined m m.line) t c e
 
 -- its resource lies here, if its work is one
 idle_of : (m : Machine) (s : ℕ) (c : CleanableOf) → IsWellFormed m → IsCleanableAt m s c → c.state ≡ Lined → (rid : ℕ) → c.work ≡ WorkOn rid → HasResource m rid c.action Idle
@@ -91,7 +99,7 @@ none_lined_in : (m : Machine) (line : List ℕ) → None ≡ front_of m (from_li
 none_lined_in m [] e = refl
 none_lined_in m (s ∷ line) e =
     cond_both (some_and (λ c. is_lined c.state) (cleanable_at m s)) (s ∷ line) (from_lined m line) (λ l. None ≡ front_of m l → l ≡ [])
-    (λ test f. let lined = some_and_gives (λ c. is_lined c.state) (cleanable_at m s) test in no_some lined.0 (f ∙ lined.1))
+    (λ test f. let lined = some_and_gives (λ c. is_lined c.state) (cleanable_at m s) test in no_some (s, lined.0) (f ∙ ap (option_map (λ (c : CleanableOf). (s, c))) lined.1))
     (λ _ f. none_lined_in m line f) e
 
 pub none_lined : (m : Machine) → None ≡ front_of m (from_lined m m.line) → from_lined m m.line ≡ []
@@ -156,6 +164,6 @@ close_after m k h s a named = ap (λ (o : Option ℕ). on o (λ x. cleaned m k x
 
 -- ---- A number is taken, where one is left
 
-pub numbered : {R : Type 0} (o : Option ℕ) (old new : Cleanings R) → nat_le (2 ^ 64 - 1) old.next_action ≡ false → IfSome o (λ _. new ≡ record old { next_action = old.next_action + 1 }) → IfNone o ((old.next_action ≡ 2 ^ 64 - 1) × (new ≡ old)) → new ≡ record old { next_action = old.next_action + 1 }
-numbered None old new left given none = absurd (omega (arith, none.0, leb-false (2 ^ 64 - 1) old.next_action left))
-numbered (Some action) old new left given none = given
+pub numbered : {R : Type 0} (o : Option ℕ) (place : ℕ) (old new : Cleanings R) → nat_le (2 ^ 64 - 1) old.next_action ≡ false → IfSome o (λ _. new ≡ after_register old place) → IfNone o ((old.next_action ≡ 2 ^ 64 - 1) × (new ≡ old)) → new ≡ after_register old place
+numbered None place old new left given none = absurd (omega (arith, none.0, leb-false (2 ^ 64 - 1) old.next_action left))
+numbered (Some action) place old new left given none = given

@@ -4,6 +4,7 @@ pub mod Machines
 pub mod Collecting
 pub mod Flows
 pub mod TakeUps
+pub mod Waiting
 pub mod Guards
 pub mod Preparing
 pub mod Policy

@@ -20,6 +20,7 @@ ghost use Rattle.jlr_core.specs.Collecting.{after_choice};
 ghost use Rattle.jlr_core.specs.State.{Checks, Answered, Meets, answer_of};
 ghost use Rattle.jlr_core.specs.Flows.{Conserves, GoesOut, LieAsBefore, Moves};
 ghost use Rattle.jlr_core.specs.Guards.{IsIdleAt};
+ghost use Rattle.jlr_core.specs.Waiting.{AllWait, Releases, WaitAsBefore, WaitsOn};
 ghost use Rattle.jlr_core.specs.TakeUps.{IsFreeMutator, clean_answer, handed_out, job_resource, started_answer, take_up_answered};
 
 use crate::state::State;
@@ -127,6 +128,7 @@ impl<R> State<R> {
         requires fit { IsWellFormed (machine_of self.old) }
         requires nothing { choice.old ≡ nothing_chosen choice.old.cells }
         requires room { length self.old.heap.graph.objects ≤ choice.old.cells }
+        requires waits { AllWait (machine_of self.old) self.old.cleaner.waiting }
         ensures meets { Meets (machine_of self.old) (Ask.Register by cleaner object note) (answer_of result) choice.new.chosen (machine_of self.new) }
         ensures memory { answer_of result ≡ Answer.Refused Refusal.NoMemory → ⊥ }
         ensures room { choice.new.cells ≡ choice.old.cells }
@@ -134,6 +136,7 @@ impl<R> State<R> {
         ensures age { self.new.soft_age ≡ self.old.soft_age }
         ensures table { self.new.cleaner.table ≡ self.old.cleaner.table }
         ensures clock { self.new.heap.clock ≡ after_choice choice.new.chosen self.old.heap.clock }
+        ensures waits { WaitsOn (machine_of self.new) self.old.cleaner self.new.cleaner }
     {
         let target = match self.check_register(by, cleaner, object) {
             Ok(target) => target,
@@ -146,7 +149,7 @@ impl<R> State<R> {
         };
         match self.allocate(shape, choice) {
             Ok(slot) => {
-                let _number = self.cleaner.take_number();
+                let _action = self.cleaner.register(slot);
                 Ok(self.give(by, slot))
             }
             Err(refusal) => Err(refusal),
@@ -174,7 +177,8 @@ impl<R> State<R> {
         by: Mutator,
         cleanable: Handle,
     ) -> Result<Option<Job<R>>, Refusal>
-        requires { IsWellFormed (machine_of self.old) }
+        requires fit { IsWellFormed (machine_of self.old) }
+        requires waits { AllWait (machine_of self.old) self.old.cleaner.waiting }
         ensures meets { Meets (machine_of self.old) (Ask.Clean by cleanable) (clean_answer result) no_choice (machine_of self.new) }
         ensures memory { clean_answer result ≡ Answer.Refused Refusal.NoMemory → ⊥ }
         ensures flow { Conserves None self.old.cleaner.table (handed_out result) self.new.cleaner.table }
@@ -184,6 +188,7 @@ impl<R> State<R> {
         ensures age { self.new.soft_age ≡ self.old.soft_age }
         ensures table_room { self.new.cleaner.table.room ≡ self.old.cleaner.table.room }
         ensures clock { self.new.heap.clock ≡ self.old.heap.clock }
+        ensures waits { WaitsOn (machine_of self.new) self.old.cleaner self.new.cleaner }
     {
         let slot = self.check_clean(by, cleanable)?;
         Ok(self.start_job(by, slot))
@@ -195,6 +200,7 @@ impl<R> State<R> {
         requires fit { IsWellFormed (machine_of self.old) }
         requires free { IsFreeMutator (machine_of self.old) by }
         requires idle { IsIdleAt (machine_of self.old) slot }
+        requires waits { AllWait (machine_of self.old) self.old.cleaner.waiting }
         ensures cleaned { machine_of self.new ≡ cleaned (machine_of self.old) by slot (cleanable_at (machine_of self.old) slot) }
         ensures answer { (c : Cleanable) → at self.old.heap.graph.objects slot ≡ Some (object.Cleanable c) → take_up_answer c ≡ started_answer result }
         ensures flow { Conserves None self.old.cleaner.table (job_resource result) self.new.cleaner.table }
@@ -204,6 +210,7 @@ impl<R> State<R> {
         ensures age { self.new.soft_age ≡ self.old.soft_age }
         ensures table_room { self.new.cleaner.table.room ≡ self.old.cleaner.table.room }
         ensures clock { self.new.heap.clock ≡ self.old.heap.clock }
+        ensures waits { WaitsOn (machine_of self.new) self.old.cleaner self.new.cleaner }
     {
         let cleanable = self.heap.cleanable(slot)?;
         if cleanable.state == CleanState::Spent {
@@ -221,6 +228,7 @@ impl<R> State<R> {
         requires unspent { cleanable.state ≢ state.Spent }
         requires free { IsFreeMutator (machine_of self.old) by }
         requires idle { HasWork self.old.cleaner.table cleanable.action Idle cleanable.work }
+        requires waits { AllWait (machine_of self.old) self.old.cleaner.waiting }
         ensures job { (result.action ≡ cleanable.action) × (result.work ≡ cleanable.work) }
         ensures taken_up { machine_of self.new ≡ taken_up (machine_of self.old) by slot cleanable }
         ensures put_in_last { HandsOut self.old.cleaner.table cleanable.work result.resource }
@@ -229,10 +237,11 @@ impl<R> State<R> {
         ensures age { self.new.soft_age ≡ self.old.soft_age }
         ensures table_room { self.new.cleaner.table.room ≡ self.old.cleaner.table.room }
         ensures clock { self.new.heap.clock ≡ self.old.heap.clock }
+        ensures waits { Releases (machine_of self.new) self.old.cleaner self.new.cleaner }
     {
         self.heap.spend(slot);
         self.cleaner
-            .take_up(by.number(), cleanable.action, cleanable.work)
+            .take_up(by.number(), slot, cleanable.action, cleanable.work)
     }
 
     /// The cleaner takes up the action of the first Lined cleanable of its line, if there is one. What was Spent before it leaves the line.
@@ -240,7 +249,8 @@ impl<R> State<R> {
     /// # Errors
     /// `Busy` where the cleaner has a job that has not ended.
     pub(crate) fn take_up(&mut self) -> Result<Option<Job<R>>, Refusal>
-        requires { IsWellFormed (machine_of self.old) }
+        requires fit { IsWellFormed (machine_of self.old) }
+        requires waits { AllWait (machine_of self.old) self.old.cleaner.waiting }
         ensures meets { Meets (machine_of self.old) Ask.TakeUp (take_up_answered result) no_choice (machine_of self.new) }
         ensures memory { take_up_answered result ≡ Answer.Refused Refusal.NoMemory → ⊥ }
         ensures flow { Conserves None self.old.cleaner.table (handed_out result) self.new.cleaner.table }
@@ -250,16 +260,18 @@ impl<R> State<R> {
         ensures age { self.new.soft_age ≡ self.old.soft_age }
         ensures table_room { self.new.cleaner.table.room ≡ self.old.cleaner.table.room }
         ensures clock { self.new.heap.clock ≡ self.old.heap.clock }
+        ensures waits { WaitsOn (machine_of self.new) self.old.cleaner self.new.cleaner }
     {
         if self.cleaner.runs_job(CLEANER) {
             return Err(Refusal::Busy);
         }
-        let Some(cleanable) = jlr_refs::take_lined(&mut self.heap) else {
+        let Some(taken) = jlr_refs::take_lined(&mut self.heap) else {
             return Ok(None);
         };
+        let (slot, cleanable) = taken;
         let job = self
             .cleaner
-            .take_up(CLEANER, cleanable.action, cleanable.work);
+            .take_up(CLEANER, slot, cleanable.action, cleanable.work);
         Ok(Some(job))
     }
 
@@ -291,6 +303,7 @@ impl<R> State<R> {
         ensures age { self.new.soft_age ≡ self.old.soft_age }
         ensures table_room { self.new.cleaner.table.room ≡ self.old.cleaner.table.room }
         ensures clock { self.new.heap.clock ≡ self.old.heap.clock }
+        ensures waits { WaitAsBefore self.old.cleaner self.new.cleaner }
     {
         if by == CLEANER {
             return self.end_job(by, action, outcome);
@@ -317,6 +330,7 @@ impl<R> State<R> {
         ensures heap { self.new.heap ≡ self.old.heap }
         ensures age { self.new.soft_age ≡ self.old.soft_age }
         ensures table_room { self.new.cleaner.table.room ≡ self.old.cleaner.table.room }
+        ensures waits { WaitAsBefore self.old.cleaner self.new.cleaner }
     {
         if !self.cleaner.finish(by, action, outcome) {
             return Err(Refusal::NotOut);

@@ -9,6 +9,7 @@ ghost use Rattle.jlr_core.specs.Flows.{Conserves, GoesOut, Moves};
 ghost use Rattle.jlr_core.specs.Steps.{LeavesRoom};
 ghost use Rattle.jlr_core.specs.TakeUps.{clean_answer, handed_out, take_up_answered};
 ghost use Rattle.jlr_core.specs.Policy.{KeepsByPolicy, clock_after};
+ghost use Rattle.jlr_core.specs.Waiting.{AllWait, WaitsOn};
 
 use crate::state::State;
 use jlr_cleaner::Job;
@@ -23,6 +24,7 @@ impl<R> State<R> {
     /// One event.
     pub(crate) fn step(&mut self, event: Event<R>, choice: &mut Choice) -> Reply<R>
         requires fit { IsWellFormed (machine_of self.old) }
+        requires waits { AllWait (machine_of self.old) self.old.cleaner.waiting }
         requires nothing { choice.old ≡ nothing_chosen choice.old.cells }
         requires room { length self.old.heap.graph.objects ≤ choice.old.cells }
         ensures entry { StepsBy (machine_of self.old) (ask_of event) (answer_in result) choice.new.chosen (machine_of self.new) }
@@ -38,6 +40,7 @@ impl<R> State<R> {
         ensures clock { self.new.heap.clock ≡ clock_after (machine_of self.old) self.old.heap.clock (ask_of event) (answer_in result) choice.new.chosen }
         ensures room { choice.new.cells ≡ choice.old.cells }
         ensures cells { length self.new.heap.graph.objects ≡ length self.old.heap.graph.objects }
+        ensures waits { WaitsOn (machine_of self.new) self.old.cleaner self.new.cleaner }
     {
         match event {
             Event::Join { mutator } => answered(self.join(mutator)),

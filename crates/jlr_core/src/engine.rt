@@ -26,12 +26,13 @@ impl<R> Model for Core<R> {
     ghost use Rattle.jlr_machine.specs.WellFormed.{IsWellFormed};
     ghost use Rattle.jlr_core.specs.State.{machine_with};
     ghost use Rattle.jlr_core.specs.Cores.{Kept, kept_with};
+    ghost use Rattle.jlr_core.specs.Waiting.{AllWait};
 
     ghost Value = { Kept R };
 
     ghost view = { λ c. kept_with c.state.cleaner c.state.heap.graph c.state.heap.clock c.state.soft_age c.state.cycle_open };
 
-    ghost invariant = { λ c. IsWellFormed (machine_with c.state.cleaner c.state.heap.graph c.state.cycle_open) };
+    ghost invariant = { λ c. IsWellFormed (machine_with c.state.cleaner c.state.heap.graph c.state.cycle_open) × AllWait (machine_with c.state.cleaner c.state.heap.graph c.state.cycle_open) c.state.cleaner.waiting };
 }
 
 impl<R> Core<R> {

@@ -8,6 +8,7 @@ ghost use Rattle.jlr_core.specs.Events.{MayWantMemory};
 ghost use Rattle.jlr_core.specs.Collecting.{after_choice, after_fresh};
 ghost use Rattle.jlr_core.specs.State.{Meets, answer_of};
 ghost use Rattle.jlr_core.specs.Flows.{LieAsBefore};
+ghost use Rattle.jlr_core.specs.Waiting.{AllWait, Registers, WaitsOn};
 ghost use Rattle.jlr_core.specs.Preparing.{HasPlaces, Places};
 
 use crate::state::State;
@@ -42,6 +43,7 @@ impl<R> State<R> {
         requires fit { IsWellFormed (machine_of self.old) }
         requires nothing { choice.old ≡ nothing_chosen choice.old.cells }
         requires room { length self.old.heap.graph.objects ≤ choice.old.cells }
+        requires waits { AllWait (machine_of self.old) self.old.cleaner.waiting }
         ensures meets { Meets (machine_of self.old) (Ask.Prepare by) (answer_of result) choice.new.chosen (machine_of self.new) }
         ensures memory { answer_of result ≡ Answer.Refused Refusal.NoMemory → MayWantMemory (machine_of self.old) self.old.cleaner.table (Ask.Prepare by) }
         ensures values { values self.new.cleaner.table ≡ values self.old.cleaner.table }
@@ -51,6 +53,7 @@ impl<R> State<R> {
         ensures age { self.new.soft_age ≡ self.old.soft_age }
         ensures table_room { self.old.cleaner.table.room ≤ self.new.cleaner.table.room }
         ensures clock { self.new.heap.clock ≡ after_choice choice.new.chosen self.old.heap.clock }
+        ensures waits { WaitsOn (machine_of self.new) self.old.cleaner self.new.cleaner }
     {
         self.check_prepare(by)?;
         self.cleaner.reserve()?;
@@ -66,6 +69,7 @@ impl<R> State<R> {
         requires places { HasPlaces self.old.cleaner (machine_of self.old) by }
         requires fresh { choice.old.chosen.fresh ≡ [] }
         requires room { length self.old.heap.graph.objects ≤ choice.old.cells }
+        requires waits { length self.old.cleaner.waiting ≡ length self.old.heap.graph.objects }
         ensures placed { Places (machine_of self.old) by choice.old choice.new result (machine_of self.new) }
         ensures values { values self.new.cleaner.table ≡ values self.old.cleaner.table }
         ensures lies { LieAsBefore self.old.cleaner.table self.new.cleaner.table }
@@ -73,15 +77,17 @@ impl<R> State<R> {
         ensures age { self.new.soft_age ≡ self.old.soft_age }
         ensures table_room { self.old.cleaner.table.room ≤ self.new.cleaner.table.room }
         ensures clock { self.new.heap.clock ≡ after_fresh choice.new.chosen.fresh self.old.heap.clock }
+        ensures waits { Registers (machine_of self.new) self.old.cleaner self.new.cleaner }
     {
         let action = ActionNo::new(self.cleaner.next_action());
         let Ok(rid) = self.cleaner.prepare(action) else {
             unreachable!()
         };
-        let Some((guard, cleanable)) = self.heap.allocate_guard(rid, action) else {
+        let Some(made) = self.heap.allocate_guard(rid, action) else {
             unreachable!()
         };
-        let _number = self.cleaner.take_number();
+        let (guard, cleanable) = made;
+        let _action = self.cleaner.register(cleanable);
         choice.add_fresh(guard);
         choice.add_fresh(cleanable);
         self.heap.begin_call(by, Some(guard), Call::Opening(rid));

@@ -18,6 +18,7 @@ ghost use Rattle.jlr_core.specs.Flows.{Conserves, GoesOut, Moves};
 ghost use Rattle.jlr_core.specs.Guards.{HoldsGuard, IsGuardNamed, IsIdleAt, fenced_guard, is_spent_at};
 ghost use Rattle.jlr_core.specs.TakeUps.{IsFreeMutator, clean_answer, handed_out};
 ghost use Rattle.jlr_core.specs.State.{Meets};
+ghost use Rattle.jlr_core.specs.Waiting.{AllWait, Releases, WaitAsBefore, WaitsOn};
 
 use crate::state::State;
 use jlr_cleaner::Job;
@@ -86,7 +87,8 @@ impl<R> State<R> {
 
     /// An open has ended. With a fault the resource is over, and its cleanable Spent.
     pub(crate) fn opened(&mut self, by: Mutator, outcome: Result<R, Fault>) -> Reply<R>
-        requires { IsWellFormed (machine_of self.old) }
+        requires fit { IsWellFormed (machine_of self.old) }
+        requires waits { AllWait (machine_of self.old) self.old.cleaner.waiting }
         ensures entry { StepsBy (machine_of self.old) (Some (Ask.Opened by (outcome_of outcome))) (answer_in result) no_choice (machine_of self.new) }
         ensures memory { answer_in result ≡ Some (Answer.Refused Refusal.NoMemory) → ⊥ }
         ensures flow { Conserves (resource_of outcome) self.old.cleaner.table (resource_of_reply result) self.new.cleaner.table }
@@ -96,6 +98,7 @@ impl<R> State<R> {
         ensures age { self.new.soft_age ≡ self.old.soft_age }
         ensures table_room { self.new.cleaner.table.room ≡ self.old.cleaner.table.room }
         ensures clock { self.new.heap.clock ≡ self.old.heap.clock }
+        ensures waits { WaitsOn (machine_of self.new) self.old.cleaner self.new.cleaner }
     {
         let held = match self.check_opened(by) {
             Ok(held) => held,
@@ -117,6 +120,7 @@ impl<R> State<R> {
         requires allowed { refusal (machine_of self.old) (Ask.Opened by (outcome_of outcome)) ≡ None }
         requires held { HoldsGuard (machine_of self.old) by held state.Opening }
         requires room { has_free_handle (machine_of self.old) by ≡ true }
+        requires waits { AllWait (machine_of self.old) self.old.cleaner.waiting }
         ensures meets { Meets (machine_of self.old) (Ask.Opened by (outcome_of outcome)) result no_choice (machine_of self.new) }
         ensures memory { result ≡ Answer.Refused Refusal.NoMemory → ⊥ }
         ensures flow { Conserves (resource_of outcome) self.old.cleaner.table None self.new.cleaner.table }
@@ -126,6 +130,7 @@ impl<R> State<R> {
         ensures age { self.new.soft_age ≡ self.old.soft_age }
         ensures table_room { self.new.cleaner.table.room ≡ self.old.cleaner.table.room }
         ensures clock { self.new.heap.clock ≡ self.old.heap.clock }
+        ensures waits { WaitsOn (machine_of self.new) self.old.cleaner self.new.cleaner }
     {
         match outcome {
             Ok(resource) => self.open_done(by, held, resource),
@@ -145,6 +150,7 @@ impl<R> State<R> {
         ensures age { self.new.soft_age ≡ self.old.soft_age }
         ensures table_room { self.new.cleaner.table.room ≡ self.old.cleaner.table.room }
         ensures clock { self.new.heap.clock ≡ self.old.heap.clock }
+        ensures waits { WaitAsBefore self.old.cleaner self.new.cleaner }
     {
         self.cleaner.opened(held.guard.rid, resource);
         self.heap.end_call(by);
@@ -154,6 +160,7 @@ impl<R> State<R> {
     /// An open has failed: there is no such file or socket, and nothing is left to be cleaned.
     fn open_failed(&mut self, by: Mutator, held: Guarded, fault: Fault) -> Answer
         requires held { HoldsGuard (machine_of self.old) by held state.Opening }
+        requires waits { AllWait (machine_of self.old) self.old.cleaner.waiting }
         ensures answer { result ≡ Answer.Faulted fault }
         ensures opened { machine_of self.new ≡ opened (machine_of self.old) by held.guard (ended.Failed fault) }
         ensures flow { Conserves None self.old.cleaner.table None self.new.cleaner.table }
@@ -162,9 +169,11 @@ impl<R> State<R> {
         ensures age { self.new.soft_age ≡ self.old.soft_age }
         ensures table_room { self.new.cleaner.table.room ≡ self.old.cleaner.table.room }
         ensures clock { self.new.heap.clock ≡ self.old.heap.clock }
+        ensures waits { Releases (machine_of self.new) self.old.cleaner self.new.cleaner }
     {
-        self.cleaner.open_failed(held.guard.rid);
-        self.heap.spend(held.guard.cleanable);
+        let Guard { rid, cleanable } = held.guard;
+        self.cleaner.open_failed(cleanable, rid);
+        self.heap.spend(cleanable);
         self.heap.end_call(by);
         Answer::Faulted(fault)
     }
@@ -247,6 +256,7 @@ impl<R> State<R> {
         ensures age { self.new.soft_age ≡ self.old.soft_age }
         ensures table_room { self.new.cleaner.table.room ≡ self.old.cleaner.table.room }
         ensures clock { self.new.heap.clock ≡ self.old.heap.clock }
+        ensures waits { WaitAsBefore self.old.cleaner self.new.cleaner }
     {
         let held = match self.check_use(by, guard) {
             Ok(held) => held,
@@ -280,6 +290,7 @@ impl<R> State<R> {
         ensures age { self.new.soft_age ≡ self.old.soft_age }
         ensures table_room { self.new.cleaner.table.room ≡ self.old.cleaner.table.room }
         ensures clock { self.new.heap.clock ≡ self.old.heap.clock }
+        ensures waits { WaitAsBefore self.old.cleaner self.new.cleaner }
     {
         let held = match self.check_out_call(by) {
             Ok(held) => held,
@@ -320,7 +331,8 @@ impl<R> State<R> {
 
     /// A mutator takes up the action by which the file or socket of a guard is finished, unless it was taken up before.
     pub(crate) fn close(&mut self, by: Mutator, guard: Handle) -> Result<Option<Job<R>>, Refusal>
-        requires { IsWellFormed (machine_of self.old) }
+        requires fit { IsWellFormed (machine_of self.old) }
+        requires waits { AllWait (machine_of self.old) self.old.cleaner.waiting }
         ensures meets { Meets (machine_of self.old) (Ask.Close by guard) (clean_answer result) no_choice (machine_of self.new) }
         ensures memory { clean_answer result ≡ Answer.Refused Refusal.NoMemory → ⊥ }
         ensures flow { Conserves None self.old.cleaner.table (handed_out result) self.new.cleaner.table }
@@ -330,6 +342,7 @@ impl<R> State<R> {
         ensures age { self.new.soft_age ≡ self.old.soft_age }
         ensures table_room { self.new.cleaner.table.room ≡ self.old.cleaner.table.room }
         ensures clock { self.new.heap.clock ≡ self.old.heap.clock }
+        ensures waits { WaitsOn (machine_of self.new) self.old.cleaner self.new.cleaner }
     {
         let slot = self.check_close(by, guard)?;
         Ok(self.start_job(by, slot))

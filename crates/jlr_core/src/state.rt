@@ -1,6 +1,6 @@
 //! What the core keeps, as the machine has it, and the checks of refusals that many asks share.
 ghost use Rattle.jlr_core.specs.State.{Checks};
-ghost use Rattle.std.specs.Prelude.{◌≡◌, ◌≤◌, [], None, Some, Ok, Err, MatchResult, IfOk, true, false, not, is_none, is_some, ◌&&◌, ◌==◌, OnOk, IsTrue};
+ghost use Rattle.std.specs.Prelude.{◌≡◌, ◌≤◌, [], None, Some, Ok, Err, MatchResult, IfOk, replicate, true, false, not, is_none, is_some, ◌&&◌, ◌==◌, OnOk, IsTrue};
 ghost use Rattle.jlr_machine.specs.WellFormed.{IsWellFormed};
 ghost use Rattle.jlr_machine.specs.Objects.{at};
 ghost use Rattle.jlr_machine.specs.Lookups.{slot_named, object_named, has_free_handle};
@@ -37,6 +37,7 @@ impl<R> State<R> {
         ensures age { IfOk result (λ state. state.soft_age ≡ limits.soft_age) }
         ensures clock { IfOk result (λ state. state.heap.clock ≡ (empty_known limits.cells limits.sessions).clock) }
         ensures none_held { IfOk result (λ state. values state.cleaner.table ≡ []) }
+        ensures none_waits { IfOk result (λ state. state.cleaner.waiting ≡ replicate limits.cells None) }
     {
         Ok(State {
             heap: Heap::new(alloc, limits)?,

@@ -33,7 +33,7 @@ spent_for_ever Lined h = absurd (both_ways false refl h)
 spent_for_ever Spent h = refl
 
 -- an unspent cleanable was there before with its action, unless it is new
-unspent_back : (m : Machine) (e : Entry) → IsWellFormed m → IsLegal m e → (s : ℕ) (d : CleanableOf) → IsUnspent (apply m e) s d → d.action < m.next_action → (c : CleanableOf) × IsUnspent m s c × (d.action ≡ c.action)
+pub unspent_back : (m : Machine) (e : Entry) → IsWellFormed m → IsLegal m e → (s : ℕ) (d : CleanableOf) → IsUnspent (apply m e) s d → d.action < m.next_action → (c : CleanableOf) × IsUnspent m s c × (d.action ≡ c.action)
 unspent_back m e w l s d u small =
     let step = legal_step m e w l in
     let P = Clears m e.ask e.choice s in

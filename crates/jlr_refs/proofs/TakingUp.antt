@@ -1,5 +1,5 @@
 -- The first Lined cleanable leaves the line, as the machine has it.
-use Rattle.std.proofs.Common.{◌≡◌, ℕ, List, [], ◌∷◌, drop, Some, None, refl, sym, ◌∙◌, ap}
+use Rattle.std.proofs.Common.{◌≡◌, ℕ, List, [], ◌∷◌, drop, Some, None, option_map, refl, sym, ◌∙◌, ap}
 use Rattle.std.specs.Prelude.{slice_get}
 use Rattle.jlr_machine.specs.declared.machine.Machine.{Machine}
 use Rattle.jlr_machine.specs.declared.object.Cleanable.{Cleanable as CleanableOf}
@@ -36,12 +36,12 @@ module _ (g now next : Graph) (s : ℕ) (i : IsShorter g now) (first : slice_get
   cut_here c some m = sym (i.cut m) ∙ cut_at_front (in_machine m g) now.line s c first (sym (ap (λ (k : Graph). lined_in (at k.objects s)) shorter) ∙ some)
 
   -- one that is Lined is taken
-  pub takes_front : (c : CleanableOf) (h : Graph) → lined_in (at next.objects s) ≡ Some c → h ≡ with_objects next (change_at next.objects s (with_cleanable spent)) → TakesLined g (Some c) h
+  pub takes_front : (c : CleanableOf) (h : Graph) → lined_in (at next.objects s) ≡ Some c → h ≡ with_objects next (change_at next.objects s (with_cleanable spent)) → TakesLined g (Some (s, c)) h
   takes_front c h some spends =
       let here : lined_in (at g.objects s) ≡ Some c = sym (ap (λ (k : Graph). lined_in (at k.objects s)) shorter) ∙ some in
       λ m.
       let cut = cut_here c some m in (
-        sym (lined_here (in_machine m g) s c here).0 ∙ ap (front_of (in_machine m g)) (sym cut),
+        ap (option_map (λ (x : CleanableOf). (s, x))) (sym (lined_here (in_machine m g) s c here).0) ∙ ap (front_of (in_machine m g)) (sym cut),
         ap (in_machine m) (spends ∙ ap (λ (k : Graph). with_objects k (change_at k.objects s (with_cleanable spent))) shorter) ∙ ap (front_spent (in_machine m g)) (sym cut),
       )
 

@@ -1,5 +1,5 @@
 -- What the calls on references need, and what they leave, in any machine of which the heap keeps its part.
-use Rattle.std.specs.Prelude.{◌≡◌, ℕ, cond, List, [], ◌∷◌, drop, Option, Some, None, option_and_then, slice_get}
+use Rattle.std.specs.Prelude.{◌≡◌, ℕ, cond, List, [], ◌∷◌, drop, Option, Some, None, option_and_then, option_map, slice_get}
 use Rattle.jlr_machine.specs.declared.machine.Machine.{Machine}
 use Rattle.jlr_machine.specs.declared.object.Object.{Object}
 use Rattle.jlr_machine.specs.declared.object.Reference.{Reference as ReferenceOf}
@@ -60,16 +60,16 @@ lined_in o = option_and_then (λ c. cond (is_lined c.state) (Some c) None) (opti
 abbrev pub HasNoneLined : Heap → List ℕ → Type 0
 HasNoneLined heap line = (s : ℕ) → s ∈ line → lined_in (at heap s) ≡ None
 
--- the cleanable at the front of a line
-abbrev pub front_of : Machine → List ℕ → Option CleanableOf
+-- the slot at the front of a line, and the cleanable there
+abbrev pub front_of : Machine → List ℕ → Option (ℕ × CleanableOf)
 front_of m [] = None
-front_of m (s ∷ rest) = cleanable_at m s
+front_of m (s ∷ rest) = option_map (λ c. (s, c)) (cleanable_at m s)
 
 -- which leaves the line, and is Spent
 abbrev pub front_spent : Machine → List ℕ → Machine
 front_spent m [] = record m { line = [] }
 front_spent m (s ∷ rest) = record (with_object m s (with_cleanable spent)) { line = rest }
 
--- the line up to its first Lined cleanable goes, and that one with it, which is told and becomes Spent
-abbrev pub TakesLined : Graph → Option CleanableOf → Graph → Type 0
+-- the line up to its first Lined cleanable goes, and that one with it, which is told with its slot and becomes Spent
+abbrev pub TakesLined : Graph → Option (ℕ × CleanableOf) → Graph → Type 0
 TakesLined g taken h = (m : Machine) → (taken ≡ front_of (in_machine m g) (from_lined (in_machine m g) g.line)) × (in_machine m h ≡ front_spent (in_machine m g) (from_lined (in_machine m g) g.line))

@@ -20,12 +20,12 @@ use jlr_barrier::Heap;
 use jlr_machine::object::{CleanState, Cleanable};
 use jlr_types::Slot;
 
-/// The first Lined cleanable leaves the line and is Spent, without referent. It is given as it was, if there is one. What stood
-/// before it was Spent already (`Cleanable.clean`), and leaves the line too. The time is linear in how much does.
-pub fn take_lined(heap: &mut Heap) -> Option<Cleanable>
+/// The first Lined cleanable leaves the line and is Spent, without referent. It is given as it was, with its slot, if there is one. What
+/// stood before it was Spent already (`Cleanable.clean`), and leaves the line too. The time is linear in how much does.
+pub fn take_lined(heap: &mut Heap) -> Option<(Slot, Cleanable)>
     ensures none { IsNone result ↔ HasNoneLined heap.old.graph.objects heap.old.graph.line }
     ensures emptied { IfNone result (heap.new.graph ≡ with_line heap.old.graph []) }
-    ensures lined { IfSome result (λ cleanable. cleanable.state ≡ state.Lined) }
+    ensures lined { IfSome result (λ taken. taken.1.state ≡ state.Lined) }
     ensures taken { TakesLined heap.old.graph result heap.new.graph }
     ensures clock { heap.new.clock ≡ heap.old.clock }
     ensures marking { heap.new.marking ≡ heap.old.marking }
@@ -33,7 +33,7 @@ pub fn take_lined(heap: &mut Heap) -> Option<Cleanable>
     while let Some(slot) = heap.take_lined_front() {
         if let Some(cleanable) = lined_at(heap, slot) {
             spend(heap, slot);
-            return Some(cleanable);
+            return Some((slot, cleanable));
         }
     }
     None

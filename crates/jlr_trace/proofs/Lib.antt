@@ -4,3 +4,6 @@ pub mod ChoiceLaws
 pub mod EntryLaws
 pub mod ImageLaws
 pub mod FileLaws
+pub mod WritingLaws
+pub mod Shapes
+pub mod Counting

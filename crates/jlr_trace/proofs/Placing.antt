@@ -1,7 +1,10 @@
 -- Tables that are made of lists: what is added behind a table's last place.
-use Rattle.std.proofs.Common.{◌≡◌, ℕ, zero, suc, ◌+◌, ◌-◌, ◌<◌, ◌≤◌, ◌*◌, ltb, Bool, true, false, cond, IsTrue, List, [], ◌∷◌, ◌++◌, length, take, drop, get_or, Option, Some, None, Result, Ok, Err, refl, sym, ap, subst, ◌∙◌, append_assoc, arith}
+use Rattle.std.proofs.Common.{◌≡◌, ℕ, zero, suc, ◌+◌, ◌-◌, ◌<◌, ◌≤◌, ◌*◌, ltb, ◌||◌, inl, inr, Bool, true, false, cond, IsTrue, List, [], ◌∷◌, ◌++◌, length, take, drop, get_or, Option, Some, None, Result, Ok, Err, refl, sym, ap, subst, ◌∙◌, append_assoc, arith}
 use Rattle.std.specs.Prelude.{replicate}
-use Rattle.std.proofs.lemmas.Bool.{ltb-true}
+use Rattle.std.specs.List.{list_any, AllByRecursion}
+use Rattle.std.proofs.lemmas.Bool.{ltb-true, lt-ltb, le-ltb, cases_lt}
+use Rattle.std.proofs.Math.Bool.{or-true, or-false}
+use Rattle.std.proofs.lemmas.List.Folds.{list_any_more}
 use Rattle.std.proofs.lemmas.List.{append-nil, length-append, length-replicate, nil_from_length}
 use Rattle.std.proofs.lemmas.Grind.{replicate_next}
 use Rattle.std.proofs.Math.Seq.{take-suc, drop-cons}
@@ -17,7 +20,7 @@ use Rattle.jlr_parts.specs.Objects.{object_read}
 use Rattle.jlr_parts.specs.Records.{held_behind, held_after, placed_behind, placed_after}
 use Rattle.jlr_parts.specs.declared.record.Placed.{Placed}
 use Rattle.jlr_parts.specs.declared.record.Held.{Held}
-use Rattle.jlr_trace.specs.Images.{listed_from, placed, held}
+use Rattle.jlr_trace.specs.Images.{listed_from, placed, held, places_of}
 
 -- a test that did not fail
 tested : {A : Type 0} (b : Bool) (d : Fault) (r : Result A Fault) (y : A) → cond b r (Err d) ≡ Ok y → (b ≡ true) × (r ≡ Ok y)
@@ -131,14 +134,31 @@ take_all [] (suc i) le = refl
 take_all (x ∷ xs) zero le = absurd (omega arith)
 take_all {A} (x ∷ xs) (suc i) le = ap (λ (l : List A). x ∷ l) (take_all xs i (omega arith))
 
+abbrev is_high : Held → Bool
+is_high h = ltb 250 h.handle
+
 -- what holds after one more handle
 pub record HeldSoFar (items : List Held) (i : ℕ) (places : List (Option ℕ)) : Type 0 where
   pub listed : listed_from held 0 places ≡ take i items
   pub rises : Rises (λ h. h.handle) (before_of (length places)) (drop i items)
+  -- a handle above 250 was met just where there are more than 251 places
+  pub high : list_any (λ h. ltb 250 h.handle) (take i items) ≡ ltb 251 (length places)
+  pub within : length places ≤ 256
 
-pub held_step : (items : List Held) (i : ℕ) (item : Held) (places padded_places new : List (Option ℕ)) → i < length items → item ≡ get_or items i item → HeldSoFar items i places
+high_next : (n handle : ℕ) (b : Bool) → b ≡ ltb 251 n → n ≤ handle → (b || ltb 250 handle) ≡ ltb 251 (suc handle)
+high_next n handle b e le = elim (cases_lt 250 handle) [
+  | inl above ↦
+      let more : 251 < suc handle = omega arith in
+      ap (λ t. b || t) (lt-ltb 250 handle above) ∙ or-true b ∙ sym (lt-ltb 251 (suc handle) more)
+  | inr below ↦
+      let few : n ≤ 251 = omega arith in
+      let last : suc handle ≤ 251 = omega arith in
+      ap (λ t. b || t) (le-ltb 250 handle below) ∙ or-false b ∙ e ∙ le-ltb 251 n few ∙ sym (le-ltb 251 (suc handle) last)
+]
+
+pub held_step : (items : List Held) (i : ℕ) (item : Held) (places padded_places new : List (Option ℕ)) → i < length items → item ≡ get_or items i item → item.handle < 256 → HeldSoFar items i places
     → padded_places ≡ places ++ replicate (item.handle - length places) None → new ≡ padded_places ++ Some item.slot ∷ [] → HeldSoFar items (i + 1) new
-held_step items i item places padded_places new lt is so_far p q =
+held_step items i item places padded_places new lt is byte so_far p q =
     let cut : drop i items ≡ item ∷ drop (suc i) items = drop-cons items i item lt ∙ ap (λ (x : Held). x ∷ drop (suc i) items) (sym is) in
     let rising : Rises (λ h. h.handle) (before_of (length places)) (item ∷ drop (suc i) items) = subst (λ (l : List Held). Rises (λ h. h.handle) (before_of (length places)) l) cut so_far.rises in
     let above : length places ≤ item.handle = above-before (length places) item.handle rising.0 in
@@ -150,12 +170,36 @@ held_step items i item places padded_places new lt is so_far p q =
     record {
       listed = subst (λ k. listed_from held 0 new ≡ take k items) one listed_new;
       rises = subst (λ k. Rises (λ h. h.handle) (before_of (length new)) (drop k items)) one (subst (λ k. Rises (λ h. h.handle) (before_of k) (drop (suc i) items)) (sym size) rising.1);
+      high =
+          list_any_more is_high items i item lt ∙ ap (λ (x : Held). list_any is_high (take i items) || is_high x) (sym is)
+          ∙ high_next (length places) item.handle (list_any is_high (take i items)) so_far.high above ∙ ap (ltb 251) (sym size);
+      within = omega (arith, size, byte);
     }
 
 pub held_end : (items : List Held) (i k : ℕ) (places new : List (Option ℕ)) → length items ≤ i → HeldSoFar items i places → new ≡ places ++ replicate k None → listed_from held 0 new ≡ items
 held_end items i k places new le so_far p = ap (listed_from held 0) p ∙ padded held places k ∙ so_far.listed ∙ take_all items i le
 
+places_for : (b : Bool) (n : ℕ) → b ≡ ltb 251 n → n ≤ 256 → (all : ℕ) → (n ≤ 251 → all ≡ 251) → (251 < n → all ≡ 256) → n + (all - n) ≡ cond b 256 251
+places_for b n e le all few many = elim (cases_lt 251 n) [
+  | inl above ↦ let all_is : all ≡ 256 = many above in omega (arith, above, le, all_is) ∙ ap (λ t. cond t 256 251) (sym (e ∙ lt-ltb 251 n above))
+  | inr below ↦ let all_is : all ≡ 251 = few below in omega (arith, below, all_is) ∙ ap (λ t. cond t 256 251) (sym (e ∙ le-ltb 251 n below))
+]
+
+pub held_places_are : (items : List Held) (i all : ℕ) (places new : List (Option ℕ)) → length items ≤ i → HeldSoFar items i places → (length places ≤ 251 → all ≡ 251) → (251 < length places → all ≡ 256) → new ≡ places ++ replicate (all - length places) None → length new ≡ places_of items
+held_places_are items i all places new le so_far few many p =
+    let none : Option ℕ = None in
+    let size : length new ≡ length places + (all - length places) = ap length p ∙ length-append places (replicate (all - length places) none) ∙ ap (λ k. length places + k) (length-replicate (all - length places) none) in
+    let high : list_any is_high items ≡ ltb 251 (length places) = ap (list_any is_high) (sym (take_all items i le)) ∙ so_far.high in
+    size ∙ places_for (list_any is_high items) (length places) high so_far.within all few many
+
 -- ---- Objects, one after the other
+
+pub stray_more : (cells : ℕ) (strays new : List Placed) (item : Placed) → AllByRecursion (λ p. cells ≤ p.slot) strays → cells ≤ item.slot → new ≡ strays ++ item ∷ [] → AllByRecursion (λ p. cells ≤ p.slot) new
+stray_more cells strays new item all le e = subst (λ (l : List Placed). AllByRecursion (λ p. cells ≤ p.slot) l) (sym e) (more strays all)
+  where
+    more : (xs : List Placed) → AllByRecursion (λ p. cells ≤ p.slot) xs → AllByRecursion (λ p. cells ≤ p.slot) (xs ++ item ∷ [])
+    more [] a = (le, tt)
+    more (x ∷ xs) a = (a.0, more xs a.1)
 
 pub stray-behind : (front : List Placed) (strays new : List Placed) (item : Placed) → new ≡ strays ++ item ∷ [] → front ++ new ≡ (front ++ strays) ++ item ∷ []
 stray-behind front strays new item e = ap (λ (l : List Placed). front ++ l) e ∙ sym (append_assoc front strays (item ∷ []))

@@ -14,7 +14,7 @@ use Rattle.jlr_trace.specs.declared.file.TraceFault.{TraceFault}
 use Rattle.jlr_trace.specs.declared.file.TraceFault.TheVariants.{Truncated, BadMark, BadVersion, BadEntry, NoMemory}
 use Rattle.jlr_trace.specs.declared.image.Image.{Image}
 use Rattle.jlr_trace.specs.Entries.{spelled_entry, EntryFits, entry_read}
-use Rattle.jlr_trace.specs.Images.{ImageText, image_text, spelled_image, ImageFits, image_read}
+use Rattle.jlr_trace.specs.Images.{ImageText, image_text, spelled_image, ImageFits, image_read, HasShape}
 
 -- ---- What a file says
 
@@ -40,6 +40,11 @@ pub record FileFits (t : FileText) : Type 0 where
   pub image : ImageFits t.image
   pub count : length t.entries < 2 ^ 64
   pub entries : AllByRecursion EntryFits t.entries
+
+-- a file has a spelling where its text has one and says all of it
+pub record HasSpelling (f : TraceFile) : Type 0 where
+  pub text : FileFits (file_text f)
+  pub shape : HasShape (image_of f)
 
 -- ---- Reading, with the first fault of the file
 

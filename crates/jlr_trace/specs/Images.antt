@@ -1,6 +1,6 @@
 -- How the image at the head of a trace file is spelled and read, and which has a spelling.
-use Rattle.std.specs.Prelude.{ℕ, suc, false, ◌<◌, ◌≡◌, ◌^◌, ◌||◌, List, [], ◌∷◌, ◌++◌, length, Option, Some, None, Ok, Err, nat_lt, if◌then◌else◌, option_map, map}
-use Rattle.std.specs.List.{flat_map, AllByRecursion}
+use Rattle.std.specs.Prelude.{ℕ, suc, false, ◌<◌, ◌≤◌, ◌≡◌, ◌^◌, ◌||◌, List, [], ◌∷◌, ◌++◌, length, Option, Some, None, Ok, Err, nat_lt, if◌then◌else◌, option_map, map}
+use Rattle.std.specs.List.{flat_map, list_any, AllByRecursion}
 use Rattle.std.specs.Int.{Width, w16, w32, w64}
 use Rattle.jlr_machine.specs.declared.object.Object.{Object}
 use Rattle.jlr_machine.specs.declared.machine.Call.{Call}
@@ -138,14 +138,23 @@ pub record ImageText : Type 0 where
 abbrev pub head_of : Machine → ℕ → Head
 head_of m base = made_head (length m.objects) (length m.mutators) m.resource_limit base
 
+abbrev pub waiting_of : Machine → Waiting
+waiting_of m = record { names = m.names; pending = m.pending; line = m.line }
+
+abbrev pub records_of : Machine → Records
+records_of m = record { jobs = m.jobs; resources = m.resources; faults = m.faults; notes = m.notes }
+
+abbrev pub counts_of : Machine → Counts
+counts_of m = record { next_action = m.next_action; taken = m.taken; ok = m.ok; failed = m.failed }
+
 abbrev pub image_text : Image → ImageText
 image_text i = record {
   head = head_of i.machine i.base;
   objects = listed_from placed 0 i.machine.objects ++ i.strays;
   mutators = map (option_map session_text) i.machine.mutators;
-  waiting = record { names = i.machine.names; pending = i.machine.pending; line = i.machine.line };
-  records = record { jobs = i.machine.jobs; resources = i.machine.resources; faults = i.machine.faults; notes = i.machine.notes };
-  counts = record { next_action = i.machine.next_action; taken = i.machine.taken; ok = i.machine.ok; failed = i.machine.failed };
+  waiting = waiting_of i.machine;
+  records = records_of i.machine;
+  counts = counts_of i.machine;
 }
 
 abbrev pub spelled_image : ImageText → List ℕ
@@ -170,7 +179,17 @@ image_behind head = five_fields (rising_at 5 placed_after (λ p. p.slot)) (items
 unfoldable pub image_read : Reader ImageText
 image_read bytes = head_read bytes >>= λ head. image_behind head.0 head.1
 
--- what the text of an image does not say: no cycle is open, and nothing was seen
+-- a session's handles have 251 places, and 256 where one is above 250
+abbrev pub places_of : List Held → ℕ
+places_of handles = if list_any (λ h. nat_lt 250 h.handle) handles then 256 else 251
+
+abbrev pub HasPlaces : Option Session → Type 0
+HasPlaces None = Unit {0}
+HasPlaces (Some s) = length s.handles ≡ places_of (listed_from held 0 s.handles)
+
+-- what the text of an image does not say: no cycle is open, nothing was seen, strays lie in no cells, and how many places handles have
 pub record HasShape (i : Image) : Type 0 where
   pub closed : i.machine.cycle_open ≡ false
   pub nothing_seen : i.machine.seen ≡ []
+  pub apart : AllByRecursion (λ p. length i.machine.objects ≤ p.slot) i.strays
+  pub places : AllByRecursion HasPlaces i.machine.mutators

@@ -3,8 +3,9 @@ ghost use Rattle.std.specs.Prelude.{◌≡◌, ℕ, [], ◌++◌, List, Ok, IfOk
 ghost use Rattle.std.specs.Int.{w64};
 ghost use Rattle.jlr_fields.specs.Reading.{number_at};
 ghost use Rattle.jlr_trace.specs.declared.file.TraceFault.TheVariants.{NoMemory};
+ghost use Rattle.jlr_trace.specs.declared.file.TraceFile.{TraceFile as TraceFileOf};
 ghost use Rattle.jlr_trace.specs.Images.{image_text, image_read, HasShape};
-ghost use Rattle.jlr_trace.specs.Files.{FileText, image_of, file_text, spelled_file, FileFits, told, expected, mark_read, in_entry, entries_read, file_read, FileGives, FileReads};
+ghost use Rattle.jlr_trace.specs.Files.{FileText, image_of, file_text, spelled_file, FileFits, HasSpelling, told, expected, mark_read, in_entry, entries_read, file_read, FileGives, FileReads};
 
 use crate::entry::entry_at;
 use crate::image::{Image, image_at};
@@ -174,8 +175,10 @@ pub fn read_trace(alloc: Global, bytes: &[u8]) -> Result<TraceFile, TraceFault>
     ensures only { (t : FileText) → FileFits t → bytes.now ≡ spelled_file t → FileGives file_text result (Ok t) }
     // Which fault it is.
     ensures exact { FileGives file_text result (file_read bytes.now) }
-    // What its text does not say: no cycle is open, and nothing was seen.
+    // What its text does not say: no cycle is open, nothing was seen, strays lie in no cells, and how many places handles have.
     ensures shape { IfOk result (λ f. HasShape (image_of f)) }
+    // What was written is read back as it was.
+    ensures again { (f : TraceFileOf) → HasSpelling f → bytes.now ≡ spelled_file (file_text f) → FileGives (λ x. x) result (Ok f) }
 {
     all_of(alloc, bytes)
 }

@@ -4,7 +4,8 @@ ghost use Rattle.std.specs.Int.{w16, w32};
 ghost use Rattle.jlr_fields.specs.Reading.{Reads};
 ghost use Rattle.jlr_fields.specs.Items.{items_at, rising_at};
 ghost use Rattle.jlr_parts.specs.Records.{held_after};
-ghost use Rattle.jlr_trace.specs.Images.{listed_from, placed, held, number_within_at, head_read, session_text, joined_read, session_read, waiting_read, records_read, counts_read, image_text, made_image, image_behind, image_read, HasShape};
+ghost use Rattle.jlr_trace.specs.Images.{listed_from, placed, held, number_within_at, head_read, session_text, joined_read, session_read, waiting_read, records_read, counts_read, image_text, made_image, image_behind, image_read, places_of, HasPlaces, HasShape};
+ghost use Rattle.std.specs.List.{AllByRecursion};
 
 use crate::places::{Objects, held_places, objects_at};
 use jlr_fields::cursor::{take_flag, take_option, take_u16, take_u32, take_u64, take_within};
@@ -100,7 +101,8 @@ fn head_at(bytes: &mut &[u8]) -> Result<Head, ReadError>
 }
 
 fn handles_at(alloc: Global, bytes: &mut &[u8]) -> Result<Table<Slot>, ReadError>
-    ensures { Reads (λ x. listed_from held 0 x) result bytes.new.now (rising_at 5 held_after (λ h. h.handle) bytes.old.now) }
+    ensures reads { Reads (λ x. listed_from held 0 x) result bytes.new.now (rising_at 5 held_after (λ h. h.handle) bytes.old.now) }
+    ensures places { IfOk result (λ x. length x ≡ places_of (listed_from held 0 x)) }
 {
     let held = take_rising(alloc, bytes)?;
     let places = held_places(alloc, held.as_slice())?;
@@ -109,7 +111,8 @@ fn handles_at(alloc: Global, bytes: &mut &[u8]) -> Result<Table<Slot>, ReadError
 
 #[tactic(auto, unfolding(crate::specs::Images::joined_read))]
 fn joined_at(alloc: Global, bytes: &mut &[u8]) -> Result<Session, ReadError>
-    ensures { Reads (λ x. Some (session_text x)) result bytes.new.now (joined_read bytes.old.now) }
+    ensures reads { Reads (λ x. Some (session_text x)) result bytes.new.now (joined_read bytes.old.now) }
+    ensures places { IfOk result (λ x. HasPlaces (Some x)) }
 {
     let handles = handles_at(alloc, bytes)?;
     let fence = take_option(bytes)?;
@@ -123,7 +126,8 @@ fn joined_at(alloc: Global, bytes: &mut &[u8]) -> Result<Session, ReadError>
 
 #[tactic(auto, unfolding(crate::specs::Images::session_read))]
 fn session_at(alloc: Global, bytes: &mut &[u8]) -> Result<Option<Session>, ReadError>
-    ensures { Reads (λ x. option_map session_text x) result bytes.new.now (session_read bytes.old.now) }
+    ensures reads { Reads (λ x. option_map session_text x) result bytes.new.now (session_read bytes.old.now) }
+    ensures places { IfOk result HasPlaces }
 {
     let is_joined = take_flag(bytes)?;
     if !is_joined {
@@ -140,6 +144,7 @@ fn sessions_at(
 ) -> Result<Vec<Option<Session>>, ReadError>
     ensures reads { Reads (λ x. map (option_map session_text) x.items) result bytes.new.now (items_at session_read count bytes.old.now) }
     ensures sized { IfOk result (λ x. length x.items ≡ count) }
+    ensures places { IfOk result (λ x. AllByRecursion HasPlaces x.items) }
 {
     let mut sessions: Vec<Option<Session>> = Vec::new(alloc);
     for _ in 0..count {
@@ -207,6 +212,8 @@ fn image_of(
 ) -> Image
     requires cells { length objects.table ≡ head.cells }
     requires sessions { length mutators.items ≡ head.sessions }
+    requires apart { AllByRecursion (λ p. length objects.table ≤ p.slot) objects.strays }
+    requires places { AllByRecursion HasPlaces mutators.items }
     ensures text { image_text result ≡ made_image head (listed_from placed 0 objects.table ++ objects.strays) (map (option_map session_text) mutators.items) waiting records counts }
     ensures shape { HasShape result }
 {

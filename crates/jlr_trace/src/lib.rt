@@ -6,3 +6,4 @@ mod entry;
 pub mod file;
 mod image;
 mod places;
+pub mod writing;

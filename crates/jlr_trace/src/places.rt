@@ -3,7 +3,8 @@ ghost use Rattle.std.specs.Prelude.{◌≡◌, ◌+◌, ◌-◌, ◌<◌, ◌≤
 ghost use Rattle.jlr_fields.specs.Reading.{Reads};
 ghost use Rattle.jlr_fields.specs.Items.{Rises, rising_items_at, rising_at};
 ghost use Rattle.jlr_parts.specs.Records.{placed_after};
-ghost use Rattle.jlr_trace.specs.Images.{listed_from, placed, held};
+ghost use Rattle.std.specs.List.{AllByRecursion};
+ghost use Rattle.jlr_trace.specs.Images.{listed_from, placed, held, places_of};
 
 use jlr_fields::cursor::take_u32;
 use jlr_fields::fault::{Fault, ReadError};
@@ -44,7 +45,8 @@ fn pad<T: Drop>(places: &mut Vec<Option<T>>, upto: usize) -> Result<(), AllocErr
 /// The places of the handles: 251, and 256 where a handle is above 250.
 pub(crate) fn held_places(alloc: Global, items: &[Held]) -> Result<Vec<Option<Slot>>, AllocError>
     requires { Rises (λ h. h.handle) None items.now }
-    ensures { IfOk result (λ v. listed_from held 0 v.items ≡ items.now) }
+    ensures listed { IfOk result (λ v. listed_from held 0 v.items ≡ items.now) }
+    ensures sized { IfOk result (λ v. length v.items ≡ places_of items.now) }
 {
     let mut places: Vec<Option<Slot>> = Vec::new(alloc);
     for item in items {
@@ -70,10 +72,12 @@ fn put_in(
     requires above { length places.old.items ≤ item.slot }
     requires after { 0 < length strays.old.items → cells ≤ item.slot }
     requires few { length places.old.items ≤ cells }
+    requires strays { AllByRecursion (λ p. cells ≤ p.slot) strays.old.items }
     ensures listed { OnOk result (listed_from placed 0 places.new.items ++ strays.new.items ≡ (listed_from placed 0 places.old.items ++ strays.old.items) ++ item ∷ []) }
     ensures below { OnOk result (length places.new.items ≤ item.slot + 1) }
     ensures few { OnOk result (length places.new.items ≤ cells) }
     ensures apart { OnOk result (0 < length strays.new.items → cells ≤ item.slot) }
+    ensures strays { OnOk result (AllByRecursion (λ p. cells ≤ p.slot) strays.new.items) }
 {
     let Placed { slot, object } = item;
     let number = slot.number() as usize;
@@ -95,6 +99,7 @@ fn placed_at(
 ) -> Result<Objects, ReadError>
     ensures reads { Reads (λ x. listed_from placed 0 x.table ++ x.strays) result bytes.new.now (rising_items_at placed_after (λ p. p.slot) count None bytes.old.now) }
     ensures sized { IfOk result (λ x. length x.table ≡ cells) }
+    ensures apart { IfOk result (λ x. AllByRecursion (λ p. length x.table ≤ p.slot) x.strays) }
 {
     let mut places: Vec<Option<Object>> = Vec::new(alloc);
     let mut strays: Vec<Placed> = Vec::new(alloc);
@@ -116,6 +121,7 @@ fn placed_at(
 pub(crate) fn objects_at(alloc: Global, cells: u32, bytes: &mut &[u8]) -> Result<Objects, ReadError>
     ensures reads { Reads (λ x. listed_from placed 0 x.table ++ x.strays) result bytes.new.now (rising_at 5 placed_after (λ p. p.slot) bytes.old.now) }
     ensures sized { IfOk result (λ x. length x.table ≡ cells) }
+    ensures apart { IfOk result (λ x. AllByRecursion (λ p. length x.table ≤ p.slot) x.strays) }
 {
     let count = take_u32(bytes)?;
     if bytes.len() < count as usize * LEAST_PLACED {

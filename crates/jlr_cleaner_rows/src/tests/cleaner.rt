@@ -1,14 +1,15 @@
 //! The cleaner, whose files and sockets are numbers here.
-ghost use Rattle.std.specs.Prelude.{◌≡◌, ◌+◌, ◌<◌, IfOk, Some, false, true};
+ghost use Rattle.std.specs.Prelude.{◌≡◌, ◌+◌, ◌<◌, IfSome, Some, false, true};
+ghost use Rattle.jlr_machine.specs.Objects.{at};
 ghost use Rattle.jlr_machine.specs.declared.machine.ResourceState.TheVariants as state;
 ghost use Rattle.jlr_resource.specs.Resources.{resource_in, state_at};
-ghost use Rattle.jlr_cleaner.specs.Cleanings.{HasWork, fresh};
+ghost use Rattle.jlr_cleaner.specs.Cleanings.{HasWork};
 ghost use Rattle.jlr_cleaner.specs.Jobs.{is_running, runs_job};
 
 use super::*;
 use jlr_cleaner::{Cleaner, Job};
 use jlr_machine::machine::Resource;
-use jlr_types::{Limits, Work};
+use jlr_types::{Limits, Slot, Work};
 
 // The cleaner's own number as a taker.
 const ITSELF: u8 = 255;
@@ -26,14 +27,40 @@ fn may_take_up(cleaner: &Cleaner<u64>, by: u8, action: ActionNo) -> bool
     !cleaner.is_running(action) && !cleaner.runs_job(by) && taken + 1 < next
 }
 
-// Takes up a note, where that may be, and gives its number.
-fn note(cleaner: &mut Cleaner<u64>, by: u8, number: u32) -> Option<u64> {
-    let action = cleaner.take_number()?;
+// Registers an action at a place, if there is that place.
+fn register(cleaner: &mut Cleaner<u64>, place: Slot) -> Option<ActionNo> {
+    if place.number() as usize >= cleaner.places() {
+        return None;
+    }
+    cleaner.register(place)
+}
+
+// The action that waits at a place, where this taker may take it up.
+fn ready(cleaner: &Cleaner<u64>, by: u8, place: Slot) -> Option<ActionNo>
+    ensures waits { IfSome result (λ action. at cleaner.now.waiting place ≡ Some action) }
+    ensures not_running { IfSome result (λ action. is_running cleaner.now.jobs action ≡ false) }
+    ensures free { IfSome result (λ _. runs_job cleaner.now.jobs by ≡ false) }
+    ensures numbered { IfSome result (λ _. cleaner.now.taken + 1 < cleaner.now.next_action) }
+{
+    let action = cleaner.waits(place)?;
     if !may_take_up(cleaner, by, action) {
         return None;
     }
-    let job = cleaner.take_up(by, action, Work::Note(number));
+    Some(action)
+}
+
+// Takes up what waits at a place as a note, where that may be, and gives its number.
+fn take_up(cleaner: &mut Cleaner<u64>, by: u8, place: Slot, number: u32) -> Option<u64> {
+    let action = ready(cleaner, by, place)?;
+    let job = cleaner.take_up(by, place, action, Work::Note(number));
     Some(job.action.number())
+}
+
+// Registers an action at the first place, and takes it up as a note.
+fn note(cleaner: &mut Cleaner<u64>, by: u8, number: u32) -> Option<u64> {
+    let place = Slot::new(0);
+    register(cleaner, place)?;
+    take_up(cleaner, by, place, number)
 }
 
 // So many notes, each taken up by the cleaner and over before the next. Gives the number of the last.
@@ -51,7 +78,14 @@ fn many(cleaner: &mut Cleaner<u64>, count: u32, outcome: Result<(), Fault>) -> O
 // ---- Files and sockets
 
 // A resource that is opened, called once and closed by the cleaner. It can be neither dropped nor copied.
-fn open_call_close<R>(cleaner: &mut Cleaner<R>, action: ActionNo, rid: Rid, resource: R) -> Job<R>
+fn open_call_close<R>(
+    cleaner: &mut Cleaner<R>,
+    place: Slot,
+    action: ActionNo,
+    rid: Rid,
+    resource: R,
+) -> Job<R>
+    requires waits { at cleaner.old.waiting place ≡ Some action }
     requires opening { HasWork cleaner.old.table action state.Opening (Work.Resource rid) }
     requires not_running { is_running cleaner.old.jobs action ≡ false }
     requires free { runs_job cleaner.old.jobs 255 ≡ false }
@@ -61,7 +95,7 @@ fn open_call_close<R>(cleaner: &mut Cleaner<R>, action: ActionNo, rid: Rid, reso
     cleaner.opened(rid, resource);
     let resource = cleaner.check_out(rid);
     cleaner.check_in(rid, resource);
-    cleaner.take_up(ITSELF, action, Work::Resource(rid))
+    cleaner.take_up(ITSELF, place, action, Work::Resource(rid))
 }
 
 fn resource_at(resources: &[Resource], rid: Rid) -> Option<Resource>
@@ -89,18 +123,19 @@ fn is_there(resources: &[Resource], wanted: Resource) -> bool
 fn life(
     cleaner: &mut Cleaner<u64>,
     alloc: Global,
-    action: ActionNo,
+    place: Slot,
     rid: Rid,
     resource: u64,
 ) -> Option<u64> {
+    let action = ready(cleaner, ITSELF, place)?;
     let opening = Resource {
         rid,
         action,
         state: State::Opening,
     };
     let resources = cleaner.resources(alloc).ok()?;
-    if is_there(resources.as_slice(), opening) && may_take_up(cleaner, ITSELF, action) {
-        open_call_close(cleaner, action, rid, resource).resource
+    if is_there(resources.as_slice(), opening) {
+        open_call_close(cleaner, place, action, rid, resource).resource
     } else {
         None
     }
@@ -122,12 +157,13 @@ fn opened(cleaner: &mut Cleaner<u64>, rid: Rid, resource: u64) -> bool {
     is_opening
 }
 
-fn open_failed(cleaner: &mut Cleaner<u64>, rid: Rid) -> bool {
+fn open_failed(cleaner: &mut Cleaner<u64>, rid: Rid, place: Slot) -> bool {
     let is_opening = matches!(cleaner.state(rid), Some(State::Opening));
-    if is_opening {
-        cleaner.open_failed(rid);
+    if !is_opening || place.number() as usize >= cleaner.places() {
+        return false;
     }
-    is_opening
+    cleaner.open_failed(place, rid);
+    true
 }
 
 fn check_out(cleaner: &mut Cleaner<u64>, rid: Rid) -> Option<u64> {
@@ -145,8 +181,16 @@ fn check_in(cleaner: &mut Cleaner<u64>, rid: Rid, resource: u64) -> bool {
     is_out
 }
 
-fn take_number(cleaner: &mut Cleaner<u64>) -> Option<u64> {
-    Some(cleaner.take_number()?.number())
+fn registered(cleaner: &mut Cleaner<u64>, place: Slot) -> Option<u64> {
+    Some(register(cleaner, place)?.number())
+}
+
+fn waiting(cleaner: &Cleaner<u64>, place: Slot) -> Option<u64> {
+    Some(cleaner.waits(place)?.number())
+}
+
+fn place(words: &mut SplitWhitespace<'_>) -> Option<Slot> {
+    Some(Slot::new(parsed(words)?))
 }
 
 // ---- Rows
@@ -162,8 +206,8 @@ impl Stage for Cleanings {
         match name {
             "new" => Some(Got::Truth(renewed(self, parsed(words)?))),
             "open_call_close" => {
-                let (action, rid, resource) = (action(words)?, rid(words)?, parsed(words)?);
-                let given = life(&mut self.cleaner, self.alloc, action, rid, resource);
+                let (place, rid, resource) = (place(words)?, rid(words)?, parsed(words)?);
+                let given = life(&mut self.cleaner, self.alloc, place, rid, resource);
                 Some(Got::Given(given))
             }
             _ => match looked(&self.cleaner, name) {
@@ -212,6 +256,7 @@ fn ends<T: Debug>(alloc: Global, items: &[T]) -> Result<Option<String>, AllocErr
 fn looked(cleaner: &Cleaner<u64>, name: &str) -> Option<Got> {
     match name {
         "next_action" => Some(Got::Number(cleaner.next_action())),
+        "places" => Some(Got::Number(u64::try_from(cleaner.places()).ok()?)),
         "is_exhausted" => Some(Got::Truth(cleaner.is_exhausted())),
         "totals" => {
             let totals = cleaner.totals();
@@ -233,7 +278,12 @@ fn finish(cleaner: &mut Cleaner<u64>, words: &mut SplitWhitespace<'_>) -> Option
 
 fn on_job(cleaner: &mut Cleaner<u64>, name: &str, words: &mut SplitWhitespace<'_>) -> Option<Got> {
     match name {
-        "take_number" => Some(Got::Given(take_number(cleaner))),
+        "register" => Some(Got::Given(registered(cleaner, place(words)?))),
+        "waits" => Some(Got::Given(waiting(cleaner, place(words)?))),
+        "take_up" => {
+            let (by, place, number) = (parsed(words)?, place(words)?, parsed(words)?);
+            Some(Got::Given(take_up(cleaner, by, place, number)))
+        }
         "note" => Some(Got::Given(note(cleaner, parsed(words)?, parsed(words)?))),
         "many" => Some(Got::Given(many(cleaner, parsed(words)?, outcome(words)?))),
         "finish" => finish(cleaner, words),
@@ -263,7 +313,7 @@ fn at_place(
 ) -> Option<Got> {
     match name {
         "state" => Some(Got::State(cleaner.state(rid))),
-        "open_failed" => Some(Got::Truth(open_failed(cleaner, rid))),
+        "open_failed" => Some(Got::Truth(open_failed(cleaner, rid, place(words)?))),
         "check_out" => Some(Got::Given(check_out(cleaner, rid))),
         "opened" => Some(Got::Truth(opened(cleaner, rid, parsed(words)?))),
         "check_in" => Some(Got::Truth(check_in(cleaner, rid, parsed(words)?))),
@@ -307,6 +357,21 @@ const LISTS: &str = "
     runs_job 0 -> false
     runs_job 1 -> true
 
+    # an action waits at its place until it is taken up
+    new 1 -> true
+    places -> 16
+    waits 3 -> None
+    register 3 -> Some(1)
+    register 15 -> Some(2)
+    register 16 -> None
+    waits 3 -> Some(1)
+    take_up 0 3 9 -> Some(1)
+    waits 3 -> None
+    waits 15 -> Some(2)
+    finish 0 1 ok -> true
+    take_up 0 3 9 -> None
+    take_up 0 15 9 -> Some(2)
+
     # outcomes are counted
     new 1 -> true
     many 1 Other -> Some(1)
@@ -316,9 +381,10 @@ const LISTS: &str = "
 
     # a job hands out what was put in last
     new 1 -> true
-    take_number -> Some(1)
+    register 4 -> Some(1)
     prepare 1 -> Ok(Rid(0))
-    open_call_close 1 0 97 -> Some(97)
+    open_call_close 4 0 97 -> Some(97)
+    waits 4 -> None
     state 0 -> Some(Closing)
     resources -> [Resource { rid: Rid(0), action: ActionNo(1), state: Closing }]
     finish 255 1 ok -> true
@@ -336,11 +402,13 @@ const LISTS: &str = "
 
     # an open that failed leaves no resource
     new 1 -> true
+    register 2 -> Some(1)
     prepare 1 -> Ok(Rid(0))
     is_full -> true
     state 0 -> Some(Opening)
-    open_failed 0 -> true
+    open_failed 0 2 -> true
     count -> 0
+    waits 2 -> None
 
     # a full table refuses
     new 1 -> true
@@ -356,9 +424,10 @@ const LISTS: &str = "
 
     # action numbers end
     new 18446744073709551614 -> true
-    take_number -> Some(18446744073709551614)
+    register 0 -> Some(18446744073709551614)
     is_exhausted -> true
-    take_number -> None
+    register 1 -> None
+    waits 1 -> None
     next_action -> 18446744073709551615
 ";
 

@@ -34,6 +34,7 @@ loop-preserved c = record {
   below = omega (arith, c.key.ensures, c.in_ok-put_in.ensures.below);
   few = c.in_ok-put_in.ensures.few;
   apart = λ some. omega (arith, c.key.ensures, c.in_ok-put_in.ensures.apart some);
+  strays = c.in_ok-put_in.ensures.strays;
 }
 
 placed_list : (places padded_places table : List (Option Object)) (strays listed_strays : List Placed) (n : ℕ) → padded_places ≡ places ++ replicate n None → table ≡ padded_places → listed_strays ≡ strays

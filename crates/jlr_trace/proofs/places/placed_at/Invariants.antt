@@ -1,4 +1,5 @@
 use Rattle.std.proofs.Common.{◌≡◌, ◌-◌, ◌<◌, ◌≤◌, ◌++◌, length, None}
+use Rattle.std.specs.List.{AllByRecursion}
 use Rattle.jlr_fields.specs.Items.{rising_items_at}
 use Rattle.jlr_fields.proofs.Loop.{with_front}
 use Rattle.jlr_parts.specs.Records.{placed_after}
@@ -12,4 +13,5 @@ invariant-loop l = record {
   below : length l.places.items ≤ next_of l.before;
   few : length l.places.items ≤ l.cells;
   apart : 0 < length l.strays.items → l.cells < next_of l.before;
+  strays : AllByRecursion (λ p. l.cells ≤ p.slot) l.strays.items;
 }

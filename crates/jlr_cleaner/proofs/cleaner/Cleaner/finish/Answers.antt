@@ -16,6 +16,7 @@ invariant_of-self-2 g c =
     let work = work_of_job c.self.inside.table c.self.inside.running c.args.action c.in-Some.job c.in-Some.ensures.job.0 c.self.invariant.closing in
     let counts = one_outcome c.self.inside.outcomes c.args.action c.in-Some.job.work (outcome_of c.args.outcome) in
     record {
+      registered = c.self.invariant.registered;
       closing = rw (c.in-Some.ensures.ended, c.close.ensures.closed) (closing_over c.self.inside.table c.self.inside.running c.args.action c.in-Some.job.work (rw action at work) c.self.invariant.closing);
       adds_up = rw c.record.ensures (omega (arith, counts, c.self.invariant.adds_up, c.in-Some.ensures.one_less));
       numbered = c.self.invariant.numbered;

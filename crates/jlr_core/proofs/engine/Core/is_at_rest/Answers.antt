@@ -14,7 +14,7 @@ returns-clause-handler g c =
     λ rests m stands.
     let core = machine_of c.self.inside.state in
     let nothing = nothing_to_hand_over core (sym c.is_at_rest.ensures ∙ rests) in
-    let x = enters core core (Some HandOver) (Some (Handed Nothing)) no_choice refl c.self.invariant nothing m (subst (λ k. StandsIn k m) (sym c.self.view_is) stands) in
+    let x = enters core core (Some HandOver) (Some (Handed Nothing)) no_choice refl c.self.invariant.0 nothing m (subst (λ k. StandsIn k m) (sym c.self.view_is) stands) in
     (x.0, x.1, subst (λ k. StandsIn k x.0) c.self.view_is x.2)
 
 pub returns-clause-cleaner : goal.returns-clause-cleaner
@@ -22,5 +22,5 @@ returns-clause-cleaner g c =
     λ rests m stands.
     let core = machine_of c.self.inside.state in
     let nothing = nothing_to_take_up core (sym c.is_at_rest.ensures ∙ rests) in
-    let x = enters core core (Some TakeUp) (Some (Handed Nothing)) no_choice refl c.self.invariant nothing m (subst (λ k. StandsIn k m) (sym c.self.view_is) stands) in
+    let x = enters core core (Some TakeUp) (Some (Handed Nothing)) no_choice refl c.self.invariant.0 nothing m (subst (λ k. StandsIn k m) (sym c.self.view_is) stands) in
     (x.0, x.1, subst (λ k. StandsIn k x.0) c.self.view_is x.2)

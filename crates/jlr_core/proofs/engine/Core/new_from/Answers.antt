@@ -1,5 +1,8 @@
 use Rattle.std.proofs.Common.{rules, sym, subst, ◌≤◌}
 use Rattle.jlr_machine.specs.WellFormed.{IsWellFormed}
+use Rattle.jlr_machine.specs.declared.machine.Machine.{Machine}
+use Rattle.jlr_core.specs.Waiting.{AllWait}
+use Rattle.jlr_core.proofs.Awaiting.{none_waits}
 use Rattle.jlr_laws.proofs.Empty.{empty_from_is_an_image}
 use Rattle.jlr_core.proofs.engine.Core.new_from.Goals as goal
 
@@ -8,4 +11,7 @@ invariant_of-result g c =
     let few_cells : c.args.limits.cells ≤ 65536 = search rules in
     let few_sessions : c.args.limits.sessions ≤ 64 = search rules in
     let image = empty_from_is_an_image c.args.limits.cells c.args.limits.sessions c.args.limits.resources c.args.next_action c.requires few_cells few_sessions in
-    subst IsWellFormed (sym c.in_ok-new.ensures.machine) image.well_formed
+    (
+      subst IsWellFormed (sym c.in_ok-new.ensures.machine) image.well_formed,
+      subst (λ (m : Machine). AllWait m c.in_ok-new.field-0.cleaner.waiting) (sym c.in_ok-new.ensures.machine) (none_waits c.args.limits.cells c.args.limits.sessions c.args.limits.resources c.args.next_action c.in_ok-new.field-0.cleaner.waiting c.in_ok-new.ensures.none_waits),
+    )

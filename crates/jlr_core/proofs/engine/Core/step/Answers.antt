@@ -6,11 +6,17 @@ use Rattle.jlr_core.specs.Flows.{Moves}
 use Rattle.jlr_core.specs.Cores.{Kept, StandsIn}
 use Rattle.jlr_core.specs.Policy.{KeepsByPolicy, clock_after}
 use Rattle.jlr_core.proofs.Stepping.{well_formed_after, enters}
+use Rattle.jlr_core.proofs.Awaiting.{all_wait_after}
 use Rattle.jlr_core.proofs.engine.Core.step.Goals as goal
 
 pub invariant_of-self : goal.invariant_of-self
 invariant_of-self g c =
-    well_formed_after (machine_of c.self.inside.state) (machine_of c.step.new.self) (ask_of c.args.event) (answer_in c.step.result) c.step.new.choice.chosen refl c.self.invariant c.step.ensures.entry
+    let m = machine_of c.self.inside.state in
+    let n = machine_of c.step.new.self in
+    let formed = well_formed_after m n (ask_of c.args.event) (answer_in c.step.result) c.step.new.choice.chosen refl c.self.invariant.0 c.step.ensures.entry in (
+      formed,
+      all_wait_after m n c.self.inside.state.cleaner c.step.new.self.cleaner (ask_of c.args.event) (answer_in c.step.result) c.step.new.choice.chosen refl c.self.invariant.0 formed refl refl c.step.ensures.cells c.step.ensures.entry c.self.invariant.1 c.step.ensures.waits,
+    )
 
 pub returns-clause-step : goal.returns-clause-step
 returns-clause-step g c =
@@ -20,7 +26,7 @@ returns-clause-step g c =
     record {
       entry =
           λ m stands.
-          enters (machine_of c.self.inside.state) (machine_of c.step.new.self) ask answer chosen refl c.self.invariant c.step.ensures.entry m (subst (λ k. StandsIn k m) (sym c.self.view_is) stands);
+          enters (machine_of c.self.inside.state) (machine_of c.step.new.self) ask answer chosen refl c.self.invariant.0 c.step.ensures.entry m (subst (λ k. StandsIn k m) (sym c.self.view_is) stands);
       flow = search rules;
       moves = subst (λ (k : Kept g.row.R.Denot). Moves (resource_of_event c.args.event) k.table (resource_of_reply c.step.result) c.step.new.self.cleaner.table) c.self.view_is c.step.ensures.moves;
       listed = refl;

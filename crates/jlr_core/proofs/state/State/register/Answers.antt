@@ -1,4 +1,6 @@
-use Rattle.std.proofs.Common.{◌≡◌, ◌-◌, ◌^◌, ℕ, nat_le, false, Some, refl, sym, ap, subst, ◌∙◌}
+use Rattle.std.proofs.Common.{◌≡◌, ◌-◌, ◌^◌, ◌<◌, ℕ, nat_le, false, Some, inl, inr, length, arith, refl, sym, ap, subst, ◌∙◌}
+use Rattle.jlr_machine.specs.declared.object.Cleanable.{Cleanable as CleanableOf}
+use Rattle.jlr_machine.specs.Objects.{Heap, at}
 use Rattle.jlr_types.specs.declared.Refusal.{Refusal}
 use Rattle.jlr_types.specs.declared.Refusal.TheVariants.{NoMemory}
 use Rattle.jlr_types.specs.declared.Work.TheVariants.{Note}
@@ -14,6 +16,8 @@ use Rattle.jlr_core.specs.Machines.{machine_of}
 use Rattle.jlr_core.specs.State.{Meets, machine_with}
 use Rattle.jlr_core.specs.Collecting.{Allocates}
 use Rattle.jlr_core.proofs.Entries.{meets_full, meets_refused, meets_registered, never_memory}
+use Rattle.jlr_core.specs.Waiting.{Registers}
+use Rattle.jlr_core.proofs.Awaiting.{made_there, registers}
 use Rattle.jlr_core.proofs.TakeUps.{numbered}
 use Rattle.jlr_laws.proofs.Clearing.{in_option}
 use Rattle.jlr_core.proofs.Hands.{named_held}
@@ -45,10 +49,28 @@ returns-in-Ok-allocate-clause-meets g c =
     let mid = machine_of c.allocate.new.self in
     let same = c.in-Ok-allocate.ensures.cleaner in
     let left = subst (λ (k : Cleanings g.row.R.Denot). nat_le (2 ^ 64 - 1) k.next_action ≡ false) (sym same) c.in-Ok.ensures.3 in
-    let number = numbered c.take_number-number.result c.allocate.new.self.cleaner c.take_number-number.new.self left c.take_number-number.ensures.given c.take_number-number.ensures.none in
+    let number = numbered c.register-action.result c.in-Ok-allocate.slot c.allocate.new.self.cleaner c.register-action.new.self left c.register-action.ensures.registered c.register-action.ensures.none in
     let made = subst (λ (k : ℕ). Allocates m (Cleanable (record { referent = Some c.in-Ok.target; action = k; work = Note c.args.note; state = Armed })) c.allocate.new.choice c.in-Ok-allocate.slot mid) (c.new.ensures ∙ c.next_action.ensures) c.in-Ok-allocate.ensures.allocates in
     meets_registered m mid (machine_of c.give.new.self) c.args.by c.in-Ok-allocate.slot c.args.cleaner c.args.object c.args.note c.in-Ok.target c.allocate.new.choice c.give.result (c.in-Ok.ensures.0 c.args.note) c.in-Ok.ensures.1 made c.give.ensures.answer
     (c.give.ensures.held ∙ ap (λ (k : Cleanings g.row.R.Denot). with_handle (machine_with k c.allocate.new.self.heap.graph c.allocate.new.self.cycle_open) c.args.by c.in-Ok-allocate.slot) number)
+
+pub returns-in-Ok-allocate-clause-waits : goal.returns-in-Ok-allocate-clause-waits
+returns-in-Ok-allocate-clause-waits g c =
+    let s = c.args.self.now in
+    let mid = c.allocate.new.self in
+    let slot = c.in-Ok-allocate.slot in
+    let n = machine_of c.give.new.self in
+    let same = c.in-Ok-allocate.ensures.cleaner in
+    let left = subst (λ (k : Cleanings g.row.R.Denot). nat_le (2 ^ 64 - 1) k.next_action ≡ false) (sym same) c.in-Ok.ensures.3 in
+    let number = numbered c.register-action.result slot mid.cleaner c.register-action.new.self left c.register-action.ensures.registered c.register-action.ensures.none in
+    let made = made_there (machine_of s) (machine_of mid) _ c.allocate.new.choice slot c.in-Ok-allocate.ensures.allocates in
+    let armed : CleanableOf = record { referent = Some c.in-Ok.target; action = c.new.result; work = Note c.args.note; state = Armed } in
+    let there : at n.objects slot ≡ Some (Cleanable armed) = ap (λ (h : Heap). at h slot) c.give.ensures.objects ∙ made.1 in
+    let action : c.new.result ≡ mid.cleaner.next_action = c.new.ensures ∙ c.next_action.ensures ∙ ap {A = Cleanings g.row.R.Denot} {B = ℕ} (λ k. k.next_action) (sym same) in
+    let long : length mid.cleaner.waiting ≡ length s.cleaner.waiting = ap {A = Cleanings g.row.R.Denot} {B = ℕ} (λ k. length k.waiting) same in
+    let inside : slot < length mid.cleaner.waiting = omega (arith, made.0, long, c.requires.waits.places, c.in-Ok-allocate.ensures.cells) in
+    let registered = registers n mid.cleaner c.give.new.self.cleaner slot armed inside there refl action (c.give.ensures.cleaner ∙ number) in
+    inr (inl (subst (λ (k : Cleanings g.row.R.Denot). Registers n k c.give.new.self.cleaner) same registered))
 
 -- a handle names what it is registered for
 pub allocate-requires-clause-held : goal.allocate-requires-clause-held

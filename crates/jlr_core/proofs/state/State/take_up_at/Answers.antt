@@ -1,10 +1,12 @@
 use Rattle.std.proofs.Common.{◌≡◌, ◌==◌, ℕ, None, false, refl, sym, subst, ap, ◌∙◌}
 use Rattle.std.specs.List.{list_any}
-use Rattle.jlr_machine.specs.Calls.{taken_up}
+use Rattle.jlr_machine.specs.Objects.{Heap, change_at, with_cleanable}
+use Rattle.jlr_machine.specs.Calls.{spent, taken_up}
 use Rattle.jlr_barrier.specs.Graphs.{Graph}
 use Rattle.jlr_core.specs.Machines.{machine_of}
 use Rattle.jlr_core.specs.State.{machine_with}
 use Rattle.jlr_core.proofs.TakeUps.{free_taker}
+use Rattle.jlr_core.proofs.Awaiting.{none_unspent, releases}
 use Rattle.jlr_cleaner.specs.Cleanings.{Cleanings}
 use Rattle.jlr_resource.specs.Resources.{Resources}
 use Rattle.jlr_core.specs.Flows.{Moves}
@@ -26,3 +28,10 @@ pub returns-clause-moves : goal.returns-clause-moves
 returns-clause-moves g c =
     let old = c.args.self.now.cleaner in
     subst (λ (t : Resources g.row.R.Denot). Moves None old.table c.take_up.result.resource t) (ap {A = Cleanings g.row.R.Denot} {B = Resources g.row.R.Denot} (λ x. x.table) (sym c.take_up.ensures.taken)) (job_moved old.table c.args.cleanable.work c.take_up.result.resource c.take_up.ensures.put_in_last)
+
+pub returns-clause-waits : goal.returns-clause-waits
+returns-clause-waits g c =
+    let s = c.args.self.now in
+    let n = machine_with c.take_up.new.self c.spend.new.self.graph s.cycle_open in
+    let left : n.objects ≡ change_at s.heap.graph.objects c.args.slot (with_cleanable spent) = ap {A = Graph} {B = Heap} (λ h. h.objects) c.spend.ensures.graph in
+    releases n s.cleaner c.take_up.new.self c.args.slot _ (none_unspent (machine_of s) n c.args.slot c.args.cleanable c.requires.there left) c.take_up.ensures.taken

@@ -1,0 +1,5 @@
+use Rattle.jlr_trace.proofs.Counting.{counts_of_spelling}
+use Rattle.jlr_trace.proofs.writing.write_trace.Goals as goal
+
+pub put_file-requires : goal.put_file-requires
+put_file-requires c = counts_of_spelling c.args.file.now c.requires
