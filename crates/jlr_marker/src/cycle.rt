@@ -26,7 +26,13 @@ pub fn begin(heap: &mut Heap)
 
 /// A piece of the marking of an open cycle: grey cells are followed, one tick each, until none is left or the budget is spent. It is Done
 /// where none is left, and else there is More. Without an open cycle it is Idle, and nothing is done.
-pub fn mark(heap: &mut Heap, is_open: bool, policy: &Policy, meter: &mut Meter, budget: u32) -> Progress
+pub fn mark(
+    heap: &mut Heap,
+    is_open: bool,
+    policy: &Policy,
+    meter: &mut Meter,
+    budget: u32,
+) -> Progress
     requires ticks { meter.old + budget < 2 ^ 64 }
     requires objects { (x y : ℕ) → y ∈ edges_from UpToSoft heap.old.graph.objects x → IsObject heap.old.graph.objects y }
     requires within { (x y : ℕ) → RefersTo heap.old.graph.objects x y → y < length heap.old.graph.objects }

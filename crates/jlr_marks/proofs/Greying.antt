@@ -1,11 +1,11 @@
 -- Grey cells, one more and one less.
-use Rattle.std.proofs.Common.{◌≡◌, ◌<◌, ◌∷◌, ◌++◌, ℕ, inl, inr, Bool, true, false, List, [], length, get_or, set, refl, sym, ◌∙◌, ap, subst}
+use Rattle.std.proofs.Common.{◌≡◌, ◌<◌, ◌∷◌, ◌++◌, ℕ, inl, inr, Bool, true, false, List, [], length, get_or, set, refl, sym, ◌∙◌, subst}
 use Rattle.std.specs.Prelude.{IsPermutation, nat_eq}
 use Rattle.std.specs.List.{IsDistinct, AllByRecursion}
 use Rattle.std.proofs.lemmas.Bool.{both_ways, eq-eqb, eqb-true, false_from_ne_true}
 use Rattle.std.proofs.lemmas.List.Sorted.{IsPermutation-sym, IsPermutation-to_front, list_any-IsPermutation}
 use Rattle.std.proofs.lemmas.Map.Keys.{IsDistinct-IsPermutation}
-use Rattle.jlr_machine.specs.Objects.{◌∈◌, ◌∋◌}
+use Rattle.jlr_machine.specs.Objects.{◌∈◌}
 use Rattle.jlr_laws.proofs.Sets.{nothing, in_front, in_rest, in_cons}
 use Rattle.jlr_laws.proofs.Clearing.{in_append}
 use Rattle.jlr_marks.specs.Marking.{AreGrey}

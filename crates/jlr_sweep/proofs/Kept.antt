@@ -29,7 +29,7 @@ use Rattle.jlr_process.proofs.Whole.{kept_is_marked}
 use Rattle.jlr_marker.specs.Following.{IsFollowed, keeps}
 use Rattle.jlr_sweep.specs.Collecting.{Collects, closed}
 use Rattle.jlr_process.specs.Flipping.{IsRooted}
-use Rattle.jlr_marker.proofs.Following.{follows_on, object_within, strong_is_followed}
+use Rattle.jlr_marker.proofs.Following.{follows_on, object_within}
 
 module _ (f : Machine) (g : Graph) (rooted : IsRooted f g) where
   abbrev m : Machine

@@ -1,4 +1,4 @@
-use Rattle.std.proofs.Common.{◌≡◌, ℕ, ◌<◌, length, refl, sym, ◌∙◌, subst, inl, inr, arith}
+use Rattle.std.proofs.Common.{ℕ, ◌<◌, length, refl, sym, ◌∙◌, subst, arith}
 use Rattle.jlr_machine.specs.Objects.{◌∈◌}
 use Rattle.jlr_machine.specs.Edges.{edges_from}
 use Rattle.jlr_machine.specs.Edges.Chain.{UpToSoft}
@@ -6,7 +6,6 @@ use Rattle.jlr_laws.specs.Laws.{followed}
 use Rattle.jlr_barrier.specs.Graphs.{Clock, Graph}
 use Rattle.jlr_barrier.specs.Snapshots.{IsObject, RefersTo}
 use Rattle.jlr_marker.specs.Following.{Follows, keeps}
-use Rattle.jlr_marker.proofs.Following.{none_upcoming}
 use Rattle.jlr_marker.proofs.Passing.{nothing_passed, one_passed}
 use Rattle.jlr_marker.proofs.cycle.follow_grey.Goals as goal
 

@@ -1,4 +1,4 @@
-use Rattle.std.proofs.Common.{◌≡◌, ◌+◌, ◌-◌}
+use Rattle.std.proofs.Common.{◌≡◌, ◌+◌}
 use Rattle.jlr_marker.specs.Following.{keeps}
 use Rattle.jlr_marker.specs.Marks.{Blackening}
 use Rattle.jlr_marker.proofs.cycle.follow_grey.Given as goal

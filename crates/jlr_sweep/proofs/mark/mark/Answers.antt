@@ -1,9 +1,9 @@
-use Rattle.std.proofs.Common.{◌≡◌, false, ◌+◌, ◌-◌, ◌∷◌, ◌<◌, [], ℕ, count_by, sym, ◌∙◌, ap, arith, length, add-one, refl, replicate, List, subst, IsTrue, is_some}
+use Rattle.std.proofs.Common.{◌≡◌, false, ◌+◌, ◌-◌, ◌∷◌, ◌<◌, [], ℕ, count_by, sym, ◌∙◌, ap, arith, length, add-one, refl, replicate, List, subst}
 use Rattle.std.specs.Prelude.{IsPermutation}
 use Rattle.std.proofs.lemmas.List.{length-replicate}
 use Rattle.std.proofs.lemmas.List.Sums.{count_by-le-length}
 use Rattle.std.proofs.lemmas.List.Sorted.{length_permutation}
-use Rattle.jlr_machine.specs.Objects.{◌∈◌, Heap, at}
+use Rattle.jlr_machine.specs.Objects.{◌∈◌, Heap}
 use Rattle.jlr_machine.specs.Edges.{edges_from}
 use Rattle.jlr_machine.specs.Edges.Chain.{UpToSoft}
 use Rattle.jlr_laws.specs.Laws.{followed}
