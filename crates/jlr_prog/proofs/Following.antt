@@ -1,5 +1,5 @@
--- What a session does over a core it does over a core with its history as well, and mutator 0 stays joined.
-use Rattle.std.proofs.Common.{◌≡◌, ℕ, List, Option, Some, None, Result, Ok, Err, refl, sym, ◌∙◌, ap, subst, option_and_then}
+-- What a session does over a book it does over the book with its earlier entries as well, and mutator 0 stays joined.
+use Rattle.std.proofs.Common.{◌≡◌, false, ℕ, List, Option, Some, None, Result, Ok, Err, refl, sym, ◌∙◌, ap, subst, option_and_then}
 use Rattle.std.specs.Prelude.{MatchResult, ⊤}
 use Rattle.jlr_types.specs.declared.RefKind.TheVariants as kind
 use Rattle.jlr_machine.specs.declared.machine.Machine.{Machine}
@@ -7,8 +7,9 @@ use Rattle.jlr_machine.specs.declared.machine.Call.TheVariants.{Free}
 use Rattle.jlr_machine.specs.declared.ask.Ask.{Ask}
 use Rattle.jlr_machine.specs.declared.ask.Ask.TheVariants as ask
 use Rattle.jlr_machine.specs.declared.ask.Answer.{Answer}
+use Rattle.jlr_machine.specs.declared.entry.Entry.{Entry}
 use Rattle.jlr_machine.specs.Lookups.{slot_named}
-use Rattle.jlr_machine.specs.Refusals.{given}
+use Rattle.jlr_machine.specs.Refusals.{given, is_end}
 use Rattle.jlr_laws.proofs.Frames.{no_some}
 use Rattle.jlr_event.specs.declared.event.Event.{Event}
 use Rattle.jlr_event.specs.declared.event.Event.TheVariants as event
@@ -23,20 +24,21 @@ use Rattle.jlr_session.specs.Asks.{AsksOnce, AsksTwice, CarriesOut, by_asks, eve
 use Rattle.jlr_session.specs.Sessions.{Ended}
 use Rattle.jlr_session.specs.declared.shell.SessionEnd.{SessionEnd}
 use Rattle.jlr_session.proofs.Following.{IsFollowed, ended_along}
-use Rattle.jlr_core.specs.Cores.{Kept}
-use Rattle.jlr_core.specs.Steps.{Steps}
-use Rattle.jlr_prog.specs.Ports.{by_core}
-use Rattle.jlr_prog.specs.Histories.{Recorded, Records, by_records}
+use Rattle.jlr_book.specs.Histories.{History}
+use Rattle.jlr_book.specs.Rules.{BookSteps}
+use Rattle.jlr_book.specs.Solos.{at_book, by_book}
+use Rattle.jlr_prog.specs.Wholes.{Whole, WholeSteps, at_whole, by_whole}
 use Rattle.jlr_prog.proofs.Staying.{Stays, changed, given_stays, made_stays, put_stays, asked_enqueue_stays, asked_poll_stays, bound_stays}
 use Rattle.jlr_prog.proofs.Calls.{IsHere, clean_begins, close_begins}
-use Rattle.jlr_prog.proofs.Asked.{IsRecorded, IsAskFrom, IsCallAlong, stays_along, settled_along, opens_along, calls_along, works_along}
+use Rattle.jlr_prog.proofs.Recorded.{IsWhole}
+use Rattle.jlr_prog.proofs.Asked.{IsAskFrom, IsCallAlong, stays_along, settled_along, opens_along, calls_along, works_along}
 use Rattle.jlr_prog.proofs.Turning.{settles_along}
 
 -- ---- Commands that ask once
 
--- there is an ask, and it leaves mutator 0 alone
+-- there is an ask, which is no end, and it leaves mutator 0 alone
 abbrev StaysIn : Option Ask → Type 0
-StaysIn (Some asked) = Stays Free asked
+StaysIn (Some asked) = (is_end asked ≡ false) × Stays Free asked
 StaysIn None = ⊥
 
 abbrev AsksQuietly : {R : Type 0} → Option (Event R) → Type 0
@@ -46,62 +48,62 @@ quietly : {R : Type 0} (e : Event R) → StaysIn (ask_of e) → AsksQuietly (Som
 quietly e stays d is = subst (λ o. StaysIn (option_and_then ask_of o)) is stays
 
 asks_quietly : {R : Type 0} (c : Command) → AsksQuietly {R = R} (event_of 0 c)
-asks_quietly (New layout) = quietly (event.New 0 layout) (λ m a fresh x. made_stays Free m _ fresh x)
-asks_quietly (Put h f v) = quietly (event.Put 0 h f v) (λ m a fresh x. put_stays Free m _ (slot_named m 0 h) x)
-asks_quietly (Get h f) = quietly (event.Get 0 h f) (λ m a fresh x. given_stays Free m (given m (ask.Get 0 h f)) x)
-asks_quietly (SetInt h f n) = quietly (event.SetInt 0 h f n) (λ m a fresh x. put_stays Free m _ (slot_named m 0 h) x)
-asks_quietly (Int h f) = quietly (event.Int 0 h f) (λ m a fresh x. x)
-asks_quietly (Dup h) = quietly (event.Dup 0 h) (λ m a fresh x. given_stays Free m (given m (ask.Dup 0 h)) x)
-asks_quietly (Drop h) = quietly (event.Drop 0 h) (λ m a fresh x. changed Free m _ (λ s. refl) x)
-asks_quietly (Same a b) = quietly (event.Same 0 a b) (λ m a fresh x. x)
-asks_quietly (Soft h q) = quietly (event.MakeRef 0 kind.Soft h q) (λ m a fresh x. made_stays Free m _ fresh x)
-asks_quietly (Weak h q) = quietly (event.MakeRef 0 kind.Weak h q) (λ m a fresh x. made_stays Free m _ fresh x)
-asks_quietly (Phantom h q) = quietly (event.MakeRef 0 kind.Phantom h q) (λ m a fresh x. made_stays Free m _ fresh x)
-asks_quietly (Deref r) = quietly (event.Deref 0 r) (λ m a fresh x. given_stays Free m (given m (ask.Deref 0 r)) x)
-asks_quietly (Refers r h) = quietly (event.Refers 0 r h) (λ m a fresh x. x)
-asks_quietly (Clear r) = quietly (event.Clear 0 r) (λ m a fresh x. put_stays Free m _ (slot_named m 0 r) x)
-asks_quietly (Enqueue r) = quietly (event.Enqueue 0 r) (λ m a fresh x. asked_enqueue_stays Free m (slot_named m 0 r) x)
-asks_quietly (Enqueued r) = quietly (event.Enqueued 0 r) (λ m a fresh x. x)
-asks_quietly Queue = quietly (event.MakeQueue 0) (λ m a fresh x. made_stays Free m _ fresh x)
-asks_quietly (Poll q) = quietly (event.Poll 0 q) (λ m a fresh x. asked_poll_stays Free m (slot_named m 0 q) (given m (ask.Poll 0 q)) x)
-asks_quietly (Remove q) = quietly (event.Remove 0 q) (λ m a fresh x. asked_poll_stays Free m (slot_named m 0 q) (given m (ask.Remove 0 q)) x)
-asks_quietly Cleaner = quietly (event.MakeCleaner 0) (λ m a fresh x. made_stays Free m _ fresh x)
-asks_quietly (Register c h note) = quietly (event.Register 0 c h note) (λ m a fresh x. made_stays Free m _ fresh x)
-asks_quietly (Bind name h) = quietly (event.Bind 0 name h) (λ m a fresh x. bound_stays Free m _ (slot_named m 0 h) (λ s y. y) x)
-asks_quietly (Find name) = quietly (event.Find 0 name) (λ m a fresh x. given_stays Free m (given m (ask.Find 0 name)) x)
-asks_quietly (Unbind name) = quietly (event.Unbind 0 name) (λ m a fresh x. x)
-asks_quietly Names = quietly (event.Names 0) (λ m a fresh x. x)
-asks_quietly (Full mode) = quietly (event.Full 0 mode) (λ m a fresh x. x)
-asks_quietly Stat = quietly (event.Stat 0) (λ m a fresh x. x)
-asks_quietly Notes = quietly (event.Notes 0) (λ m a fresh x. x)
-asks_quietly Faults = quietly (event.Faults 0) (λ m a fresh x. x)
+asks_quietly (New layout) = quietly (event.New 0 layout) (refl, λ m a fresh x. made_stays Free m _ fresh x)
+asks_quietly (Put h f v) = quietly (event.Put 0 h f v) (refl, λ m a fresh x. put_stays Free m _ (slot_named m 0 h) x)
+asks_quietly (Get h f) = quietly (event.Get 0 h f) (refl, λ m a fresh x. given_stays Free m (given m (ask.Get 0 h f)) x)
+asks_quietly (SetInt h f n) = quietly (event.SetInt 0 h f n) (refl, λ m a fresh x. put_stays Free m _ (slot_named m 0 h) x)
+asks_quietly (Int h f) = quietly (event.Int 0 h f) (refl, λ m a fresh x. x)
+asks_quietly (Dup h) = quietly (event.Dup 0 h) (refl, λ m a fresh x. given_stays Free m (given m (ask.Dup 0 h)) x)
+asks_quietly (Drop h) = quietly (event.Drop 0 h) (refl, λ m a fresh x. changed Free m _ (λ s. refl) x)
+asks_quietly (Same a b) = quietly (event.Same 0 a b) (refl, λ m a fresh x. x)
+asks_quietly (Soft h q) = quietly (event.MakeRef 0 kind.Soft h q) (refl, λ m a fresh x. made_stays Free m _ fresh x)
+asks_quietly (Weak h q) = quietly (event.MakeRef 0 kind.Weak h q) (refl, λ m a fresh x. made_stays Free m _ fresh x)
+asks_quietly (Phantom h q) = quietly (event.MakeRef 0 kind.Phantom h q) (refl, λ m a fresh x. made_stays Free m _ fresh x)
+asks_quietly (Deref r) = quietly (event.Deref 0 r) (refl, λ m a fresh x. given_stays Free m (given m (ask.Deref 0 r)) x)
+asks_quietly (Refers r h) = quietly (event.Refers 0 r h) (refl, λ m a fresh x. x)
+asks_quietly (Clear r) = quietly (event.Clear 0 r) (refl, λ m a fresh x. put_stays Free m _ (slot_named m 0 r) x)
+asks_quietly (Enqueue r) = quietly (event.Enqueue 0 r) (refl, λ m a fresh x. asked_enqueue_stays Free m (slot_named m 0 r) x)
+asks_quietly (Enqueued r) = quietly (event.Enqueued 0 r) (refl, λ m a fresh x. x)
+asks_quietly Queue = quietly (event.MakeQueue 0) (refl, λ m a fresh x. made_stays Free m _ fresh x)
+asks_quietly (Poll q) = quietly (event.Poll 0 q) (refl, λ m a fresh x. asked_poll_stays Free m (slot_named m 0 q) (given m (ask.Poll 0 q)) x)
+asks_quietly (Remove q) = quietly (event.Remove 0 q) (refl, λ m a fresh x. asked_poll_stays Free m (slot_named m 0 q) (given m (ask.Remove 0 q)) x)
+asks_quietly Cleaner = quietly (event.MakeCleaner 0) (refl, λ m a fresh x. made_stays Free m _ fresh x)
+asks_quietly (Register c h note) = quietly (event.Register 0 c h note) (refl, λ m a fresh x. made_stays Free m _ fresh x)
+asks_quietly (Bind name h) = quietly (event.Bind 0 name h) (refl, λ m a fresh x. bound_stays Free m _ (slot_named m 0 h) (λ s y. y) x)
+asks_quietly (Find name) = quietly (event.Find 0 name) (refl, λ m a fresh x. given_stays Free m (given m (ask.Find 0 name)) x)
+asks_quietly (Unbind name) = quietly (event.Unbind 0 name) (refl, λ m a fresh x. x)
+asks_quietly Names = quietly (event.Names 0) (refl, λ m a fresh x. x)
+asks_quietly (Full mode) = quietly (event.Full 0 mode) (refl, λ m a fresh x. x)
+asks_quietly Stat = quietly (event.Stat 0) (refl, λ m a fresh x. x)
+asks_quietly Notes = quietly (event.Notes 0) (refl, λ m a fresh x. x)
+asks_quietly Faults = quietly (event.Faults 0) (refl, λ m a fresh x. x)
 asks_quietly c = λ e is. no_some e is
 
-module _ {R : Type 0} (m : Machine) where
-  quiet_along : (e : Event R) (o : Option Ask) → ask_of e ≡ o → StaysIn o → IsAskFrom m IsHere IsHere e
-  quiet_along e (Some asked) is stays = stays_along m e asked is stays
+module _ {R : Type 0} (m : Machine) (front : List Entry) where
+  quiet_along : (e : Event R) (o : Option Ask) → ask_of e ≡ o → StaysIn o → IsAskFrom m front IsHere IsHere e
+  quiet_along e (Some asked) is stays = stays_along m front 0 e asked is stays.0 stays.1
   quiet_along e None is stays = absurd stays
 
   module _ {D : Type 0} (device : Opening D R) (resource : Handling R) where
-    once_along : (first : Option (Event R)) → AsksQuietly first → (h k : Kept R) (said : Answer) (x : Recorded R) → AsksOnce (by_core resource) first h said k → IsRecorded m IsHere h x
-        → (y : Recorded R) × AsksOnce (by_records resource) first x said y × IsRecorded m IsHere k y
-    once_along None quiet h k said x a s = (x, (a.0, refl), subst (λ l. IsRecorded m IsHere l x) (sym a.1) s)
+    once_along : (first : Option (Event R)) → AsksQuietly first → (h k : History R) (said : Answer) (x : Whole R) → AsksOnce (by_book resource) first h said k → IsWhole m front IsHere h x
+        → (y : Whole R) × AsksOnce (by_whole resource) first x said y × IsWhole m front IsHere k y
+    once_along None quiet h k said x a s = (x, (a.0, refl), subst (λ l. IsWhole m front IsHere l x) (sym a.1) s)
     once_along (Some first) quiet h k said x a s = let d = quiet_along first (ask_of first) refl (quiet first refl) h k x a.0 a.1 s in (d.0, (a.0, d.1, a.2), d.2)
 
     -- ---- Commands that ask twice
 
-    second_along : {Y : Type 0} (first : Event R) (leads : Reply R → Result Y Answer) (comes_to : Y → Event R → Type 0) (T : Y → Machine → Type 0) → IsCallAlong m first leads comes_to T
-        → (rests : Type 0) (led : Result Y Answer) (h k : Kept R) (said : Answer) (x : Recorded R)
-        → MatchResult led (λ w. (second : Event R) × (last : Reply R) × comes_to w second × Steps h second last k × (said ≡ said_by last)) (λ answer. (said ≡ answer) × (k ≡ h) × rests)
-        → IsRecorded m (λ n. MatchResult led (λ w. T w n) (λ _. IsHere n)) h x
-        → (y : Recorded R) × MatchResult led (λ w. (second : Event R) × (last : Reply R) × comes_to w second × Records x second last y × (said ≡ said_by last)) (λ answer. (said ≡ answer) × (y ≡ x) × rests)
-        × IsRecorded m IsHere k y
+    second_along : {Y : Type 0} (first : Event R) (leads : Reply R → Result Y Answer) (comes_to : Y → Event R → Type 0) (T : Y → Machine → Type 0) → IsCallAlong m front first leads comes_to T
+        → (rests : Type 0) (led : Result Y Answer) (h k : History R) (said : Answer) (x : Whole R)
+        → MatchResult led (λ w. (second : Event R) × (last : Reply R) × comes_to w second × BookSteps 0 h second last k × (said ≡ said_by last)) (λ answer. (said ≡ answer) × (k ≡ h) × rests)
+        → IsWhole m front (λ n. MatchResult led (λ w. T w n) (λ _. IsHere n)) h x
+        → (y : Whole R) × MatchResult led (λ w. (second : Event R) × (last : Reply R) × comes_to w second × WholeSteps 0 x second last y × (said ≡ said_by last)) (λ answer. (said ≡ answer) × (y ≡ x) × rests)
+        × IsWhole m front IsHere k y
     second_along first leads comes_to T f rests (Ok w) h k said x a s = let d = f.ends w a.0 a.2 h k x a.1 a.3 s in (d.0, (a.0, a.1, a.2, d.1, a.4), d.2)
-    second_along first leads comes_to T f rests (Err answer) h k said x a s = (x, (a.0, refl, a.2), subst (λ l. IsRecorded m IsHere l x) (sym a.1) s)
+    second_along first leads comes_to T f rests (Err answer) h k said x a s = (x, (a.0, refl, a.2), subst (λ l. IsWhole m front IsHere l x) (sym a.1) s)
 
-    twice_along : {Y : Type 0} (first : Event R) (leads : Reply R → Result Y Answer) (comes_to : Y → Event R → Type 0) (T : Y → Machine → Type 0) → IsCallAlong m first leads comes_to T
-        → (rests : Type 0) (h k : Kept R) (said : Answer) (x : Recorded R) → AsksTwice (by_core resource) first leads comes_to rests h said k → IsRecorded m IsHere h x
-        → (y : Recorded R) × AsksTwice (by_records resource) first leads comes_to rests x said y × IsRecorded m IsHere k y
+    twice_along : {Y : Type 0} (first : Event R) (leads : Reply R → Result Y Answer) (comes_to : Y → Event R → Type 0) (T : Y → Machine → Type 0) → IsCallAlong m front first leads comes_to T
+        → (rests : Type 0) (h k : History R) (said : Answer) (x : Whole R) → AsksTwice (by_book resource) first leads comes_to rests h said k → IsWhole m front IsHere h x
+        → (y : Whole R) × AsksTwice (by_whole resource) first leads comes_to rests x said y × IsWhole m front IsHere k y
     twice_along first leads comes_to T f rests h k said x a s =
         let d = f.begins h a.1 x a.0 a.2 s in
         let e = second_along first leads comes_to T f rests (leads a.0) a.1 k said d.0 a.3 d.2 in
@@ -109,51 +111,51 @@ module _ {R : Type 0} (m : Machine) where
 
     -- ---- Commands
 
-    carried_along : (c : Command) (h k : Kept R) (d d' : D) (said : Answer) (x : Recorded R) → CarriesOut (by_core resource) device resource 0 c h d said k d' → IsRecorded m IsHere h x
-        → (y : Recorded R) × CarriesOut (by_records resource) device resource 0 c x d said y d' × IsRecorded m IsHere k y
+    carried_along : (c : Command) (h k : History R) (d d' : D) (said : Answer) (x : Whole R) → CarriesOut (by_book resource) device resource 0 c h d said k d' → IsWhole m front IsHere h x
+        → (y : Whole R) × CarriesOut (by_whole resource) device resource 0 c x d said y d' × IsWhole m front IsHere k y
     carried_along (Open mode path) h k d d' said x a s =
         let comes_to : Unit {0} → Event R → Type 0 = λ u. TellsOpened device 0 mode path d d' in
-        twice_along (event.Prepare 0) prepared_by comes_to _ (opens_along m comes_to (λ u e t. (t.0, t.2))) (d' ≡ d) h k said x a s
+        twice_along (event.Prepare 0) prepared_by comes_to _ (opens_along m front comes_to (λ u e t. (t.0, t.2))) (d' ≡ d) h k said x a s
     carried_along (Connect path) h k d d' said x a s =
         let comes_to : Unit {0} → Event R → Type 0 = λ u. TellsConnected device 0 path d d' in
-        twice_along (event.Prepare 0) prepared_by comes_to _ (opens_along m comes_to (λ u e t. (t.0, t.2))) (d' ≡ d) h k said x a s
+        twice_along (event.Prepare 0) prepared_by comes_to _ (opens_along m front comes_to (λ u e t. (t.0, t.2))) (d' ≡ d) h k said x a s
     carried_along (Read g count) h k d d' said x a s =
         let comes_to : R → Event R → Type 0 = TellsRead resource 0 count in
-        let t = twice_along (event.CheckOut 0 g) out_by comes_to _ (calls_along m g comes_to (λ value e t. (t.0, t.1, t.3))) ⊤ h k said x a.0 s in
+        let t = twice_along (event.CheckOut 0 g) out_by comes_to _ (calls_along m front g comes_to (λ value e t. (t.0, t.1, t.3))) ⊤ h k said x a.0 s in
         (t.0, (t.1, a.1), t.2)
     carried_along (Write g bytes) h k d d' said x a s =
         let comes_to : R → Event R → Type 0 = TellsWritten resource 0 bytes in
-        let t = twice_along (event.CheckOut 0 g) out_by comes_to _ (calls_along m g comes_to (λ value e t. (t.0, t.1, t.3))) ⊤ h k said x a.0 s in
+        let t = twice_along (event.CheckOut 0 g) out_by comes_to _ (calls_along m front g comes_to (λ value e t. (t.0, t.1, t.3))) ⊤ h k said x a.0 s in
         (t.0, (t.1, a.1), t.2)
     carried_along (Clean c) h k d d' said x a s =
         let comes_to : JobOf R → Event R → Type 0 = TellsFinished resource 0 in
-        let t = twice_along (event.Clean 0 c) job_by comes_to _ (works_along m (event.Clean 0 c) (ask.Clean 0 c) refl (λ n answer chosen. clean_begins n c answer chosen) comes_to (λ job e t. (t.0, t.2))) ⊤ h k said x a.0 s in
+        let t = twice_along (event.Clean 0 c) job_by comes_to _ (works_along m front (event.Clean 0 c) (ask.Clean 0 c) refl refl (λ n answer chosen. clean_begins n c answer chosen) comes_to (λ job e t. (t.0, t.2))) ⊤ h k said x a.0 s in
         (t.0, (t.1, a.1), t.2)
     carried_along (Close g) h k d d' said x a s =
         let comes_to : JobOf R → Event R → Type 0 = TellsFinished resource 0 in
-        let t = twice_along (event.Close 0 g) job_by comes_to _ (works_along m (event.Close 0 g) (ask.Close 0 g) refl (λ n answer chosen. close_begins n g answer chosen) comes_to (λ job e t. (t.0, t.2))) ⊤ h k said x a.0 s in
+        let t = twice_along (event.Close 0 g) job_by comes_to _ (works_along m front (event.Close 0 g) (ask.Close 0 g) refl refl (λ n answer chosen. close_begins n g answer chosen) comes_to (λ job e t. (t.0, t.2))) ⊤ h k said x a.0 s in
         (t.0, (t.1, a.1), t.2)
     carried_along c h k d d' said x a s = let t = once_along (event_of 0 c) (asks_quietly c) h k said x a.0 s in (t.0, (t.1, a.1), t.2)
 
     -- a device is the same in both
-    abbrev pub Along : Kept R × D → Recorded R × D → Type 0
-    Along h x = IsRecorded m IsHere h.0 x.0 × (h.1 ≡ x.1)
+    abbrev pub Along : History R × D → Whole R × D → Type 0
+    Along h x = IsWhole m front IsHere h.0 x.0 × (h.1 ≡ x.1)
 
-    pub followed : IsFollowed (by_asks (by_core resource) device resource) (by_asks (by_records resource) device resource) Along
+    pub followed : IsFollowed (by_asks (by_book resource) device resource) (by_asks (by_whole resource) device resource) Along
     followed = record {
       commands = λ old new history c said n a r.
           let d = carried_along c old.0 new.0 old.1 new.1 said history.0 a r.0 in
-          ((d.0, new.1), subst (λ (e : D). CarriesOut (by_records resource) device resource 0 c history.0 e said d.0 new.1) r.1 d.1, (d.2, refl));
+          ((d.0, new.1), subst (λ (e : D). CarriesOut (by_whole resource) device resource 0 c history.0 e said d.0 new.1) r.1 d.1, (d.2, refl));
       settlings = λ old new history a r.
-          let d = settles_along Steps Records (IsRecorded m IsHere) (settled_along m) resource old.0 new.0 history.0 a.0 r.0 in
+          let d = settles_along at_book at_whole (IsWhole m front IsHere) (settled_along m front) resource old.0 new.0 history.0 a.0 r.0 in
           ((d.0, history.1), (d.1, refl), (d.2, a.1 ∙ r.1));
     }
 
     -- what the lines come to
-    pub lines_along : (at_end : Type 0) (end : SessionEnd) (bytes : List ℕ) (h k : Kept R) (d d' : D) (out : List ℕ) (x : Recorded R)
-        → Ended (by_asks (by_core resource) device resource) at_end end bytes (h, d) out (k, d') → IsRecorded m IsHere h x
-        → (y : Recorded R) × Ended (by_asks (by_records resource) device resource) at_end end bytes (x, d) out (y, d') × IsRecorded m IsHere k y
+    pub lines_along : (at_end : Type 0) (end : SessionEnd) (bytes : List ℕ) (h k : History R) (d d' : D) (out : List ℕ) (x : Whole R)
+        → Ended (by_asks (by_book resource) device resource) at_end end bytes (h, d) out (k, d') → IsWhole m front IsHere h x
+        → (y : Whole R) × Ended (by_asks (by_whole resource) device resource) at_end end bytes (x, d) out (y, d') × IsWhole m front IsHere k y
     lines_along at_end end bytes h k d d' out x a s =
-        let e = ended_along (by_asks (by_core resource) device resource) (by_asks (by_records resource) device resource) Along followed at_end end bytes (h, d) (k, d') out (x, d) a (s, refl) in
+        let e = ended_along (by_asks (by_book resource) device resource) (by_asks (by_whole resource) device resource) Along followed at_end end bytes (h, d) (k, d') out (x, d) a (s, refl) in
         let same : e.0 ≡ (e.0.0, d') = ap (λ (c : D). (e.0.0, c)) (sym e.2.1) in
-        (e.0.0, subst (λ q. Ended (by_asks (by_records resource) device resource) at_end end bytes (x, d) out q) same e.1, e.2.0)
+        (e.0.0, subst (λ q. Ended (by_asks (by_whole resource) device resource) at_end end bytes (x, d) out q) same e.1, e.2.0)

@@ -1,9 +1,7 @@
 pub mod Turning
-pub mod HandingOver
-pub mod TakingUp
-pub mod Resting
 pub mod Staying
 pub mod Calls
+pub mod Recorded
 pub mod Asked
 pub mod Following
 pub mod Histories

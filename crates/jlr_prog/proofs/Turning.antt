@@ -1,18 +1,11 @@
--- Turns one after the other, and what follows each reply, in one way and in another along a relation between the two.
-use Rattle.std.proofs.Common.{◌≡◌, ℕ, List, [], ◌∷◌, ◌++◌, Result, inl, inr, refl, sym, subst}
+-- What follows each reply, in one way and in another along a relation between the two.
+use Rattle.std.proofs.Common.{◌≡◌, ◌≢◌, ℕ, List, [], ◌∷◌, Result, inl, inr, refl, sym, ◌∙◌, subst}
 use Rattle.jlr_types.specs.declared.Fault.{Fault}
 use Rattle.jlr_event.specs.declared.event.Event.{Event}
 use Rattle.jlr_event.specs.declared.event.Event.TheVariants.{Finish, HandOver, TakeUp}
 use Rattle.jlr_event.specs.declared.event.Reply.{Reply}
 use Rattle.jlr_device.specs.Handling.{Handling}
-use Rattle.jlr_prog.specs.Settling.{Turns, TurnsUntil, HandsOver, Works, Cleans, Settles}
-
--- one turn more
-pub turns_more : {H : Type 0} (turn : H → H → Type 0) (states : List H) (old now new : H) → Turns turn states old now → turn now new → Turns turn (states ++ new ∷ []) old new
-turns_more turn [] old now new h t = (subst (λ x. turn x new) h t, refl)
-turns_more turn (next ∷ later) old now new h t = (h.0, turns_more turn later next now new h.1 t)
-
--- ---- Along a relation
+use Rattle.jlr_book.specs.Settling.{Helpers, Turns, TurnsToTheEnd, TurnsUntilRefused, HandsOver, DoesJob, Works, Cleans, Settles}
 
 abbrev pub IsTurnAlong : {H X : Type 0} → (H → H → Type 0) → (X → X → Type 0) → (H → X → Type 0) → Type 0
 IsTurnAlong {H} {X} turn other S = (h k : H) (x : X) → turn h k → S h x → (y : X) × other x y × S k y
@@ -21,11 +14,13 @@ IsTurnAlong {H} {X} turn other S = (h k : H) (x : X) → turn h k → S h x → 
 abbrev pub IsAskAlong : {H X R : Type 0} → (H → Event R → Reply R → H → Type 0) → (X → Event R → Reply R → X → Type 0) → (H → X → Type 0) → Event R → Type 0
 IsAskAlong {H} {X} {R} asks tells S event = (h k : H) (x : X) (reply : Reply R) → asks h event reply k → S h x → (y : X) × tells x event reply y × S k y
 
--- and so are all events of a settling
-pub record IsSettledAlong {H X R : Type 0} (asks : H → Event R → Reply R → H → Type 0) (tells : X → Event R → Reply R → X → Type 0) (S : H → X → Type 0) : Type 0 where
-  pub hands_over : IsAskAlong asks tells S HandOver
-  pub takes_up : IsAskAlong asks tells S TakeUp
-  pub finishes : (action : ℕ) (outcome : Result (Unit {0}) Fault) → IsAskAlong asks tells S (Finish 255 action outcome)
+-- and so are all events of a settling, over the same lists
+pub record IsSettledAlong {H X R : Type 0} (helpers : Helpers H R) (others : Helpers X R) (S : H → X → Type 0) : Type 0 where
+  pub hands_over : IsAskAlong helpers.hands others.hands S HandOver
+  pub takes_up : IsAskAlong helpers.cleans others.cleans S TakeUp
+  pub finishes : (action : ℕ) (outcome : Result (Unit {0}) Fault) → IsAskAlong helpers.cleans others.cleans S (Finish 255 action outcome)
+  pub same_pending : (h : H) (x : X) → S h x → others.pending x ≡ helpers.pending h
+  pub same_line : (h : H) (x : X) → S h x → others.line x ≡ helpers.line h
 
 turns_along : {H X : Type 0} (turn : H → H → Type 0) (other : X → X → Type 0) (S : H → X → Type 0) → IsTurnAlong turn other S
     → (states : List H) (h k : H) (x : X) → Turns turn states h k → S h x → (y : X) × (others : List X) × Turns other others x y × S k y
@@ -35,35 +30,60 @@ turns_along turn other S f (next ∷ later) h k x e s =
     let more = turns_along turn other S f later next k one.0 e.1 one.2 in
     (more.0, one.0 ∷ more.1, (one.1, more.2), more.3)
 
-module _ {H X R : Type 0} (asks : H → Event R → Reply R → H → Type 0) (tells : X → Event R → Reply R → X → Type 0) (S : H → X → Type 0) where
-  until_along : (turn : H → H → Type 0) (other : X → X → Type 0) (event : Event R) → IsAskAlong asks tells S event → IsTurnAlong turn other S
-      → (last : Reply R) (h k : H) (x : X) → TurnsUntil asks turn event last h k → S h x → (y : X) × TurnsUntil tells other event last x y × S k y
-  until_along turn other event f g last h k x u s =
-      let on = turns_along turn other S g u.states h u.before x u.turns s in
-      let one = f u.before k on.0 last u.asked on.3 in
-      (one.0, record { states = on.1; before = on.0; turns = on.2; asked = one.1 }, one.2)
+module _ {H X : Type 0} (turn : H → H → Type 0) (other : X → X → Type 0) (left : H → List ℕ) (remains : X → List ℕ) (S : H → X → Type 0) (f : IsTurnAlong turn other S)
+    (same : (h : H) (x : X) → S h x → remains x ≡ left h) where
+  to_the_end_along : IsTurnAlong (TurnsToTheEnd turn left) (TurnsToTheEnd other remains) S
+  to_the_end_along h k x u s =
+      let on = turns_along turn other S f u.states h k x u.turns s in
+      (on.0, record { states = on.1; turns = on.2; nothing_left = same k on.0 on.3 ∙ u.nothing_left }, on.3)
 
-  module _ (f : IsSettledAlong asks tells S) where
-    hands_over_along : IsTurnAlong (HandsOver asks) (HandsOver tells) S
-    hands_over_along h k x t s = let one = f.hands_over h k x t.0 t.1 s in (one.0, (t.0, one.1, t.2), one.2)
+  until_refused_along : {R : Type 0} (asks : H → Event R → Reply R → H → Type 0) (tells : X → Event R → Reply R → X → Type 0) (event : Event R) → IsAskAlong asks tells S event
+      → IsTurnAlong (TurnsUntilRefused asks turn event left) (TurnsUntilRefused tells other event remains) S
+  until_refused_along asks tells event g h k x u s =
+      let on = turns_along turn other S f u.states h u.before x u.turns s in
+      let one = g u.before k on.0 u.last u.asked on.3 in (
+        one.0,
+        record { states = on.1; before = on.0; last = u.last; turns = on.2; something_left = λ e. u.something_left (sym (same u.before on.0 on.3) ∙ e); asked = one.1; refused = u.refused },
+        one.2,
+      )
 
-    works_along : (resource : Handling R) → IsTurnAlong (Works asks resource) (Works tells resource) S
-    works_along resource h k x t s =
-        let taken = f.takes_up h t.2 x t.0 t.5 s in
-        let is : t.3 ≡ Finish 255 t.1.action t.7.0 = t.7.2 in
-        let finished = subst (IsAskAlong asks tells S) (sym is) (f.finishes t.1.action t.7.0) in
-        let told = finished t.2 k taken.0 t.4 t.8 taken.2 in
-        (told.0, (t.0, t.1, taken.0, t.3, t.4, taken.1, t.6, t.7, told.1), told.2)
+module _ {H X R : Type 0} (helpers : Helpers H R) (others : Helpers X R) (S : H → X → Type 0) (f : IsSettledAlong helpers others S) where
+  hands_over_along : IsTurnAlong (HandsOver helpers) (HandsOver others) S
+  hands_over_along h k x t s =
+      let one = f.hands_over h k x t.1 t.2 s in
+      (one.0, (λ e. t.0 (sym (f.same_pending h x s) ∙ e), t.1, one.1, t.3), one.2)
 
-    cleans_along : (resource : Handling R) → IsTurnAlong (Cleans asks resource) (Cleans tells resource) S
-    cleans_along resource h k x t s =
-        let d = until_along (Works asks resource) (Works tells resource) TakeUp f.takes_up (works_along resource) t.0 h k x t.1 s in
-        (d.0, (t.0, d.1, t.2), d.2)
+  job_along : (resource : Handling R) → IsTurnAlong (DoesJob helpers resource) (DoesJob others resource) S
+  job_along resource h k x t s =
+      let taken = f.takes_up h t.2 x t.0 t.5 s in
+      let is : t.3 ≡ Finish 255 t.1.action t.7.0 = t.7.2 in
+      let finished = subst (IsAskAlong helpers.cleans others.cleans S) (sym is) (f.finishes t.1.action t.7.0) in
+      let told = finished t.2 k taken.0 t.4 t.8 taken.2 in
+      (told.0, (t.0, t.1, taken.0, t.3, t.4, taken.1, t.6, t.7, told.1), told.2)
 
-    pub settles_along : (resource : Handling R) → IsTurnAlong (Settles asks resource) (Settles tells resource) S
-    settles_along resource h k x t s =
-        let d = until_along (HandsOver asks) (HandsOver tells) HandOver f.hands_over hands_over_along t.0 h t.1 x t.2 s in
-        elim t.3 [
-          | inl c ↦ let e = cleans_along resource t.1 k d.0 c.1 d.2 in (e.0, (t.0, d.0, d.1, inl (c.0, e.1)), e.2)
-          | inr r ↦ (d.0, (t.0, d.0, d.1, inr (r.0, refl)), subst (λ l. S l d.0) (sym r.1) d.2)
-        ]
+  works_along : (resource : Handling R) → IsTurnAlong (Works helpers resource) (Works others resource) S
+  works_along resource h k x t s =
+      let some : others.line x ≢ [] = λ e. t.0 (sym (f.same_line h x s) ∙ e) in
+      elim (t.1) [
+        | inl job ↦ let d = job_along resource h k x job s in (d.0, (some, inl d.1), d.2)
+        | inr none ↦ let d = f.takes_up h k x none.0 none.1 s in (d.0, (some, inr (none.0, d.1, none.2)), d.2)
+      ]
+
+  cleans_along : (resource : Handling R) → IsTurnAlong (Cleans helpers resource) (Cleans others resource) S
+  cleans_along resource h k x t s = elim t [
+    | inl u ↦ let d = to_the_end_along (Works helpers resource) (Works others resource) helpers.line others.line S (works_along resource) f.same_line h k x u s in (d.0, inl d.1, d.2)
+    | inr u ↦
+        let d = until_refused_along (Works helpers resource) (Works others resource) helpers.line others.line S (works_along resource) f.same_line helpers.cleans others.cleans TakeUp f.takes_up h k x u s in
+        (d.0, inr d.1, d.2)
+  ]
+
+  pub settles_along : (resource : Handling R) → IsTurnAlong (Settles helpers resource) (Settles others resource) S
+  settles_along resource h k x t s = elim t [
+    | inl u ↦
+        let d = to_the_end_along (HandsOver helpers) (HandsOver others) helpers.pending others.pending S hands_over_along f.same_pending h u.0 x u.1 s in
+        let e = cleans_along resource u.0 k d.0 u.2 d.2 in
+        (e.0, inl (d.0, d.1, e.1), e.2)
+    | inr u ↦
+        let d = until_refused_along (HandsOver helpers) (HandsOver others) helpers.pending others.pending S hands_over_along f.same_pending helpers.hands others.hands HandOver f.hands_over h k x u s in
+        (d.0, inr d.1, d.2)
+  ]

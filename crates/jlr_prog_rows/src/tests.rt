@@ -2,6 +2,7 @@
 mod cleaners;
 mod cuts;
 mod files;
+mod histories;
 mod integers;
 mod names;
 mod objects;

@@ -3,7 +3,7 @@ use Rattle.std.specs.Prelude.{◌≡◌, ◌≢◌, ℕ, Option, None, Some, Res
 use Rattle.jlr_session.specs.declared.shell.SessionEnd.{SessionEnd}
 use Rattle.jlr_session.specs.declared.shell.SessionEnd.TheVariants.{Bye, End, Truncated, ReadFault, WriteFault, TooManyLines as ManyLines, NotJoined as RefusedJoin}
 use Rattle.refheap.specs.declared.fault.ProgramFault.{ProgramFault}
-use Rattle.refheap.specs.declared.fault.ProgramFault.TheVariants.{Read, Write, CommandLine, Unfinished, TooManyLines, NotJoined, NoMemory}
+use Rattle.refheap.specs.declared.fault.ProgramFault.TheVariants.{Read, Write, CommandLine, Unfinished, TooManyLines, CannotRead, Illegal, TraceTruncated, BadMark, BadVersion, BadEntry, NotJoined, NoMemory}
 
 -- the status that the program ends with
 abbrev pub status_of : ProgramFault → ℕ
@@ -12,6 +12,12 @@ status_of Write = 1
 status_of (CommandLine error) = 2
 status_of Unfinished = 4
 status_of TooManyLines = 4
+status_of (CannotRead path) = 1
+status_of Illegal = 3
+status_of TraceTruncated = 4
+status_of BadMark = 4
+status_of BadVersion = 4
+status_of (BadEntry k) = 4
 status_of NotJoined = 5
 status_of (NoMemory error) = 5
 

@@ -39,6 +39,8 @@ struct Numbers {
     resources: u32,
     /// For how many collections a soft reference keeps its referent, from 0 to 1,000.
     soft_age: u32,
+    /// How many entries the trace holds before it is cut, from 64 to 1,000,000.
+    trace: u32,
 }
 
 /// The numbers that the words of a `run` ask for, each as it is usually where they ask for none.
@@ -48,7 +50,7 @@ fn numbers_asked(alloc: Global, words: &[String]) -> Result<Numbers, ProgramFaul
     let command = command(alloc).map_err(ProgramFault::NoMemory)?;
     let matches = parsed(command, words)?;
     let run = matches.subcommand_matches("run");
-    for option in ["cells", "resources", "soft-age"] {
+    for option in ["cells", "resources", "soft-age", "trace"] {
         if !is_spelled_plainly(run, option) {
             return Err(refused(alloc, "a number has no sign and no leading zero"));
         }
@@ -57,6 +59,7 @@ fn numbers_asked(alloc: Global, words: &[String]) -> Result<Numbers, ProgramFaul
         cells: number(run, "cells").unwrap_or(DEFAULT_CELLS),
         resources: number(run, "resources").unwrap_or(DEFAULT_RESOURCES),
         soft_age: number(run, "soft-age").unwrap_or(DEFAULT_SOFT_AGE),
+        trace: number(run, "trace").unwrap_or(DEFAULT_TRACE),
     })
 }
 
@@ -75,16 +78,17 @@ fn is_spelled_plainly(run: Option<&ArgMatches<'_>>, option: &str) -> bool {
 
 /// The limits of the heap that the words of a `run` ask for: what they ask for, and the rest as it is usually.
 pub fn limits(alloc: Global, words: &[String]) -> Result<Limits, ProgramFault>
-    ensures usual { IfOk result (λ limits. (limits.sessions ≡ 1) × (limits.trace ≡ 10000) × (limits.budget ≡ 64)) }
+    ensures usual { IfOk result (λ limits. (limits.sessions ≡ 1) × (limits.budget ≡ 64)) }
     ensures refused { IfErr result (λ fault. (status_of fault ≡ 2) ⊎ (status_of fault ≡ 5)) }
 {
     let asked = numbers_asked(alloc, words)?;
-    match limits_with(asked.cells, asked.resources, asked.soft_age) {
+    match limits_with(asked.cells, asked.resources, asked.soft_age, asked.trace) {
         Ok(limits) => Ok(limits),
         Err(fault) => {
             let message = match fault {
                 LimitFault::Resources => "the number of resources is from 1 to 256",
                 LimitFault::SoftAge => "the soft age is from 0 to 1000",
+                LimitFault::Trace => "the length of the trace is from 64 to 1000000",
                 _ => "the number of cells is from 16 to 65536",
             };
             Err(refused(alloc, message))
@@ -92,17 +96,33 @@ pub fn limits(alloc: Global, words: &[String]) -> Result<Limits, ProgramFault>
     }
 }
 
-/// The limits of a session that is alone, with so many cells, so many files and sockets, and this soft age.
-fn limits_with(cells: u32, resources: u32, soft_age: u32) -> Result<Limits, LimitFault>
-    ensures limits { IfOk result (λ limits. (limits.cells ≡ cells) × (limits.sessions ≡ 1) × (limits.resources ≡ resources) × (limits.soft_age ≡ soft_age) × (limits.trace ≡ 10000) × (limits.budget ≡ 64)) }
-    ensures fault { IfErr result (λ fault. first_fault cells 1 resources soft_age 10000 64 ≡ Some fault) }
+/// The file that the words of an `audit` name; none where they ask for something else.
+pub fn audited<'a>(alloc: Global, words: &'a [String]) -> Result<Option<&'a str>, ProgramFault>
+    ensures { IfErr result (λ fault. (status_of fault ≡ 2) ⊎ (status_of fault ≡ 5)) }
 {
-    Limits::checked(cells, 1, resources, soft_age, DEFAULT_TRACE, DEFAULT_BUDGET)
+    let command = command(alloc).map_err(ProgramFault::NoMemory)?;
+    let matches = parsed(command, words)?;
+    Ok(
+        matches
+            .subcommand_matches("audit")
+            .and_then(|audit| audit.get_str("file")),
+    )
 }
 
-/// The limits of a heap for which the command line has no option.
-const DEFAULT_TRACE: u32 = 10_000;
+/// The limits of a session that is alone, with so many cells, so many files and sockets, this soft age, and a trace of this length.
+fn limits_with(
+    cells: u32,
+    resources: u32,
+    soft_age: u32,
+    trace: u32,
+) -> Result<Limits, LimitFault>
+    ensures limits { IfOk result (λ limits. (limits.cells ≡ cells) × (limits.sessions ≡ 1) × (limits.resources ≡ resources) × (limits.soft_age ≡ soft_age) × (limits.trace ≡ trace) × (limits.budget ≡ 64)) }
+    ensures fault { IfErr result (λ fault. first_fault cells 1 resources soft_age trace 64 ≡ Some fault) }
+{
+    Limits::checked(cells, 1, resources, soft_age, trace, DEFAULT_BUDGET)
+}
 
+/// How many cells a piece of marking visits at most. The command line has no option for it.
 const DEFAULT_BUDGET: u32 = 64;
 
 /// The cells of a heap where the command line gives no number.
@@ -113,6 +133,9 @@ const DEFAULT_RESOURCES: u32 = 16;
 
 /// The soft age of a heap where the command line gives none.
 const DEFAULT_SOFT_AGE: u32 = 4;
+
+/// How many entries the trace holds where the command line gives no number.
+const DEFAULT_TRACE: u32 = 10_000;
 
 /// A bad command line, with what is wrong with it, or the want of memory to say so.
 fn refused(alloc: Global, message: &str) -> ProgramFault
@@ -171,15 +194,30 @@ fn command<'a>(alloc: Global) -> Result<Command<'a>, AllocError> {
         .help("Number of collections for which a soft reference keeps its referent, from 0 to 1000")
         .value_parser(value_parser!(u32).range(0..=1_000))
         .default_value("4");
+    let trace = Arg::new(alloc, "trace")
+        .long("trace")
+        .value_name("N")
+        .help("Number of entries after which the trace is cut, from 64 to 1000000")
+        .value_parser(value_parser!(u32).range(64..=1_000_000))
+        .default_value("10000");
     let run = Command::new(alloc, "run")
         .about("One session on standard input and output")
         .arg(cells)?
         .arg(resources)?
-        .arg(soft_age)?;
+        .arg(soft_age)?
+        .arg(trace)?;
+    let file = Arg::new(alloc, "file")
+        .value_name("FILE")
+        .help("A saved history")
+        .required(true);
+    let audit = Command::new(alloc, "audit")
+        .about("The verdict on a saved history")
+        .arg(file)?;
     Command::new(alloc, "refheap")
         .about("A managed object heap with reference objects")
         .subcommand_required(true)
-        .subcommand(run)
+        .subcommand(run)?
+        .subcommand(audit)
 }
 
 #[cfg(test)]
@@ -187,8 +225,8 @@ mod tests {
     use super::*;
     use std::test::Fail;
 
-    /// What a command line asks for, whose words are parted by spaces: the cells, the files and sockets and the soft age, or the status
-    /// of its fault.
+    /// What a command line asks for, whose words are parted by spaces: the cells, the files and sockets, the soft age and the length of the
+    /// trace, or the status of its fault.
     fn asked(alloc: Global, line: &str) -> Result<String, Fail> {
         let mut words = Vec::new(alloc);
         for word in line.split(' ') {
@@ -198,8 +236,9 @@ mod tests {
         }
         match limits(alloc, words.as_slice()) {
             Ok(limits) => {
-                let (cells, resources, age) = (limits.cells, limits.resources, limits.soft_age);
-                Ok(format!(in alloc; "{cells} {resources} {age}")?)
+                let (cells, resources) = (limits.cells, limits.resources);
+                let (age, trace) = (limits.soft_age, limits.trace);
+                Ok(format!(in alloc; "{cells} {resources} {age} {trace}")?)
             }
             Err(fault) => {
                 let status = fault.status();
@@ -230,10 +269,10 @@ mod tests {
             rt.alloc(),
             "each option is its own limit",
             "
-            refheap run -> 1024 16 4
-            refheap run --cells 17 --resources 18 --soft-age 19 -> 17 18 19
-            refheap run --soft-age 0 --resources 1 --cells 16 -> 16 1 0
-            refheap run --cells 65536 --resources 256 --soft-age 1000 -> 65536 256 1000
+            refheap run -> 1024 16 4 10000
+            refheap run --cells 17 --resources 18 --soft-age 19 --trace 65 -> 17 18 19 65
+            refheap run --trace 64 --soft-age 0 --resources 1 --cells 16 -> 16 1 0 64
+            refheap run --cells 65536 --resources 256 --soft-age 1000 --trace 1000000 -> 65536 256 1000 1000000
             ",
         )?;
         play(
@@ -253,6 +292,10 @@ mod tests {
             refheap run --cells +16 -> status 2
             refheap run --cells 016 -> status 2
             refheap run --soft-age 00 -> status 2
+            refheap run --trace 63 -> status 2
+            refheap run --trace 1000001 -> status 2
+            refheap run --trace 064 -> status 2
+            refheap run --trace -> status 2
             ",
         )
     }

@@ -19,6 +19,19 @@ pub enum ProgramFault {
     Unfinished,
     #[error("too many lines")]
     TooManyLines,
+    #[error("cannot read {0}")]
+    CannotRead(String),
+    /// The verdict on a history is not legal. It was written; nothing more is said.
+    #[error("illegal")]
+    Illegal,
+    #[error("trace truncated")]
+    TraceTruncated,
+    #[error("bad mark")]
+    BadMark,
+    #[error("bad version")]
+    BadVersion,
+    #[error("bad entry {0}")]
+    BadEntry(u64),
     #[error("not joined")]
     NotJoined,
     #[error("no memory")]
@@ -31,9 +44,12 @@ impl ProgramFault {
         ensures { result ≡ status_of self.now }
     {
         match self {
-            ProgramFault::Read | ProgramFault::Write => 1,
+            ProgramFault::Read | ProgramFault::Write | ProgramFault::CannotRead(_) => 1,
             ProgramFault::CommandLine(_) => 2,
+            ProgramFault::Illegal => 3,
             ProgramFault::Unfinished | ProgramFault::TooManyLines => 4,
+            ProgramFault::TraceTruncated | ProgramFault::BadMark => 4,
+            ProgramFault::BadVersion | ProgramFault::BadEntry(_) => 4,
             ProgramFault::NoMemory(_) | ProgramFault::NotJoined => 5,
         }
     }

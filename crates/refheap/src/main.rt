@@ -2,6 +2,7 @@
 #![tactic(auto)]
 
 mod arguments;
+mod audit;
 #[cfg(test)]
 mod ends;
 mod fault;
@@ -24,6 +25,9 @@ fn main(rt: HostRuntime) -> ExitCode {
 /// Runs what the words of the command line ask for.
 fn run(rt: &HostRuntime) -> Result<(), ProgramFault> {
     let words = arguments::words(rt)?;
+    if let Some(path) = arguments::audited(rt.alloc(), words.as_slice())? {
+        return audit::audit(rt, path, &mut rt.stdout());
+    }
     let limits = arguments::limits(rt.alloc(), words.as_slice())?;
     let mut reader = rt.stdin();
     let mut writer = rt.stdout();

@@ -1,6 +1,7 @@
 //! A session, and what it leaves of the program.
 ghost use Rattle.std.specs.Prelude.{◌≡◌, ◌≤◌, ◌⊎◌, List, ℕ, length, MatchResult, None, Some};
 ghost use Rattle.std.specs.Io.KnownBytes.{Appends, Consumes};
+ghost use Rattle.jlr_book.specs.Histories.{History};
 ghost use Rattle.jlr_prog.specs.Histories.{IsSession};
 ghost use Rattle.jlr_session.specs.Limits.{FindsEnd, most_bytes};
 ghost use Rattle.jlr_session.specs.declared.shell.SessionEnd.{SessionEnd};
@@ -8,13 +9,13 @@ ghost use Rattle.refheap.specs.Status.{IsOutOfMemory, IsOutcome, fault_after};
 
 use crate::fault::ProgramFault;
 use jlr_device::Device;
-use jlr_prog::session::session as session_of_heap;
+use jlr_prog::run::run_over;
 use jlr_session::shell::SessionEnd;
 use jlr_types::Limits;
 use std::alloc::Global;
 use std::io::{Read, Write};
 
-/// A session over the heap of these limits, and what its end is to the program.
+/// A session over the heap of these limits, and what its end is to the program. The book that it leaves is let go.
 ///
 /// # Errors
 /// The fault of the session's end, or `NoMemory` where there was no room for the heap. Then nothing was read or written, and the
@@ -29,16 +30,16 @@ pub fn session<R: Read, W: Write, D: Device>(
 where
     D::Res: Drop,
     ensures { (IsOutOfMemory result × (reader.new ≡ reader.old) × (writer.new ≡ writer.old) × (device.new ≡ device.old))
-        ⊎ ((end : SessionEnd) × (bytes : List ℕ) × (out : List ℕ) × IsOutcome end result
+        ⊎ ((end : SessionEnd) × (book : History D.Res) × (bytes : List ℕ) × (out : List ℕ) × IsOutcome end result
         × Consumes (R.remaining reader.old) (R.remaining reader.new) bytes
         × Appends (W.contents writer.old) (W.contents writer.new) out
         × (length bytes ≤ most_bytes)
         × IsSession (record { count = D.count; opens = D.may_open; connects = D.may_connect; failures = D.Res.handling.count })
         D.Res.handling
-        limits (FindsEnd (R.remaining reader.new) bytes) end bytes device.old out device.new) }
+        limits (FindsEnd (R.remaining reader.new) bytes) end bytes device.old out device.new book) }
 {
-    match session_of_heap(alloc, limits, reader, writer, device) {
-        Ok(end) => outcome_of(end),
+    match run_over(alloc, limits, reader, writer, device) {
+        Ok((end, _book)) => outcome_of(end),
         Err(fault) => Err(ProgramFault::NoMemory(fault)),
     }
 }

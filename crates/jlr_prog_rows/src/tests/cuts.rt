@@ -21,12 +21,12 @@ fn bytes(alloc: Global) -> Result<Vec<u8>, AllocError> {
 /// The session of bytes that come in these pieces ends and is answered as it has to.
 fn cut(alloc: Global, first: &[u8], rest: &[u8]) -> Result<(), Fail> {
     let setting = Setting::read(alloc, "").ok_or("setting")?;
-    let (end, out) = setting.played(alloc, first, rest)?;
-    if end != SessionEnd::Truncated
-        || out.as_slice() != b"! 15\n! 16\n! 15\n! 15\n! 15\n".as_slice()
+    let got = setting.played(alloc, first, rest)?;
+    if got.end != SessionEnd::Truncated
+        || got.out.as_slice() != b"! 15\n! 16\n! 15\n! 15\n! 15\n".as_slice()
     {
         let label = "each cut is answered alike";
-        return Err(told(alloc, label, text_of(first), text_of(out.as_slice())));
+        return Err(told(alloc, label, text_of(first), text_of(got.out.as_slice())));
     }
     Ok(())
 }

@@ -21,7 +21,8 @@ fn played<R: Read>(
 ) -> Result<u64, Fail> {
     let mut device = RealDevice::new(rt);
     let mut out = Vec::new(rt.alloc());
-    let end = ended(rt.alloc(), limits(16, 4)?, reader, &mut out, &mut device)?;
+    let limits = limits(16, 4, 10_000)?;
+    let (end, _book) = ended(rt.alloc(), limits, reader, &mut out, &mut device)?;
     if end != wanted || !is_answered(rt.alloc(), out.as_slice(), answers) {
         let got = text_of(out.as_slice());
         return Err(told(rt.alloc(), "real files and sockets", answers, got));

@@ -14,25 +14,26 @@
 use super::settings::Setting;
 use super::words::{lines, text_of};
 use jlr_device::Device;
-use jlr_prog::session::session;
+use jlr_book::book::Book;
+use jlr_prog::run::run_over;
 use jlr_session::shell::SessionEnd;
 use jlr_types::Limits;
 use std::alloc::{AllocError, Global};
 use std::io::{Read, Write};
 use std::test::Fail;
 
-/// The session of a heap of its own.
+/// How the session of a heap of its own ended, and its book.
 pub(super) fn ended<D: Device, R: Read, W: Write>(
     alloc: Global,
     limits: Limits,
     reader: &mut R,
     writer: &mut W,
     device: &mut D,
-) -> Result<SessionEnd, Fail>
+) -> Result<(SessionEnd, Book<D::Res>), Fail>
 where
     D::Res: Drop,
 {
-    Ok(session(alloc, limits, reader, writer, device)?)
+    Ok(run_over(alloc, limits, reader, writer, device)?)
 }
 
 /// Each session of the lists ends and is answered as it has to.
@@ -81,13 +82,16 @@ fn played(alloc: Global, label: &str, row: &str, answers: &str) -> Result<(), Fa
     let Some(input) = lines(alloc, commands.trim()) else {
         return Err(told(alloc, label, row, "its commands cannot be read"));
     };
-    let wanted = setting.end;
-    let (end, out) = setting.played(alloc, b"", input.as_slice())?;
-    if end != wanted {
+    let (wanted, book) = (setting.end, setting.book);
+    let got = setting.played(alloc, b"", input.as_slice())?;
+    if got.end != wanted {
         return Err(told(alloc, label, row, "the session ends in another way"));
     }
-    if !is_answered(alloc, out.as_slice(), answers) {
-        return Err(told(alloc, label, row, text_of(out.as_slice())));
+    if book.is_some() && book != Some(got.book) {
+        return Err(told(alloc, label, row, "the book shows something else"));
+    }
+    if !is_answered(alloc, got.out.as_slice(), answers) {
+        return Err(told(alloc, label, row, text_of(got.out.as_slice())));
     }
     Ok(())
 }

@@ -5,7 +5,9 @@
 //! - `scripts notfound; ok 00ff fails`: how the files and sockets go, as `script_of` reads each; those after the last go well.
 //! - `failures most`: as many calls of the device have failed before as it can count.
 //! - `lines 2`: how many lines can be written, before a write fails.
+//! - `trace 64`: how many entries the trace holds before it is cut; 10,000 where there is no such word.
 //! - `ends Bye`: how the session ends; `End` where there is no such word.
+//! - `book 64 8`: the book has this base and so many entries then; where there is no such word nobody looks at it.
 use super::player::ended;
 use super::words::number;
 use jlr_device::script::{Script, ScriptDevice, Step};
@@ -20,10 +22,27 @@ use std::test::Fail;
 pub(super) struct Setting {
     soft_age: u32,
     resources: u32,
+    trace: u32,
     scripts: Vec<Script>,
     failures: u64,
     lines: u32,
     pub(super) end: SessionEnd,
+    pub(super) book: Option<Shown>,
+}
+
+/// What is seen of a book: its base, and how many entries came after it.
+#[derive(Clone, Copy, PartialEq, Eq)]
+pub(super) struct Shown {
+    base: u64,
+    entries: usize,
+}
+
+/// What a session came to.
+#[derive(Drop)]
+pub(super) struct Played {
+    pub(super) end: SessionEnd,
+    pub(super) out: Vec<u8>,
+    pub(super) book: Shown,
 }
 
 impl Setting {
@@ -32,10 +51,12 @@ impl Setting {
         let mut setting = Setting {
             soft_age: 4,
             resources: 16,
+            trace: 10_000,
             scripts: Vec::new(alloc),
             failures: 0,
             lines: u32::MAX,
             end: SessionEnd::End,
+            book: None,
         };
         for word in words.split_terminator(", ") {
             setting.set(alloc, word)?;
@@ -48,37 +69,46 @@ impl Setting {
         match word {
             "soft_age" => self.soft_age = number(value)?,
             "resources" => self.resources = number(value)?,
+            "trace" => self.trace = number(value)?,
             "scripts" => self.scripts = scripts_of(alloc, value)?,
             "failures" if value == "most" => self.failures = u64::MAX,
             "lines" => self.lines = number(value)?,
             "ends" => self.end = end_of(value)?,
+            "book" => self.book = Some(book_of(value)?),
             _ => return None,
         }
         Some(())
     }
 
-    /// How a session of this setting ends, and what it answers. Its input comes in two pieces.
+    /// What a session of this setting comes to. Its input comes in two pieces.
     pub(super) fn played(
         self,
         alloc: Global,
         first: &[u8],
         rest: &[u8],
-    ) -> Result<(SessionEnd, Vec<u8>), Fail> {
-        let limits = limits(self.resources, self.soft_age)?;
+    ) -> Result<Played, Fail> {
+        let limits = limits(self.resources, self.soft_age, self.trace)?;
         let mut device = ScriptDevice::new(self.scripts, self.failures);
         let mut reader = first.chain(rest);
         let mut writer = Lines {
             taken: Vec::new(alloc),
             left: self.lines,
         };
-        let end = ended(alloc, limits, &mut reader, &mut writer, &mut device)?;
-        Ok((end, writer.taken))
+        let (end, book) = ended(alloc, limits, &mut reader, &mut writer, &mut device)?;
+        Ok(Played {
+            end,
+            out: writer.taken,
+            book: Shown {
+                base: book.base(),
+                entries: book.entries().len(),
+            },
+        })
     }
 }
 
 /// The limits of a session with 16 cells, and these.
-pub(super) fn limits(resources: u32, soft_age: u32) -> Result<Limits, Fail> {
-    let limits = Limits::checked(16, 1, resources, soft_age, 10_000, 64);
+pub(super) fn limits(resources: u32, soft_age: u32, trace: u32) -> Result<Limits, Fail> {
+    let limits = Limits::checked(16, 1, resources, soft_age, trace, 64);
     Ok(limits.ok().ok_or("limits")?)
 }
 
@@ -88,6 +118,15 @@ fn end_of(word: &str) -> Option<SessionEnd> {
         "WriteFault" => Some(SessionEnd::WriteFault),
         _ => None,
     }
+}
+
+/// What two numbers say of a book.
+fn book_of(words: &str) -> Option<Shown> {
+    let (base, entries) = words.split_once(" ")?;
+    Some(Shown {
+        base: base.parse().ok()?,
+        entries: entries.parse().ok()?,
+    })
 }
 
 /// The scripts, which are parted by `; `.

@@ -1,0 +1,2 @@
+//! The tests, a file for each topic.
+mod verdicts;

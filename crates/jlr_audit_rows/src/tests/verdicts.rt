@@ -1,0 +1,157 @@
+//! The verdicts on the history of a session without a command, and on what changes make of it.
+use jlr_audit::audit::audit;
+use jlr_audit::verdict::Verdict;
+use jlr_trace::file::{TraceFile, read_trace};
+use jlr_trace::writing::write_trace;
+use std::alloc::{AllocError, Global};
+use std::str::{FromStr, SplitWhitespace};
+use std::test::Fail;
+
+// The head; no objects; no session; seven empty lists; the next action and three counts; two entries: mutator 0 joins and leaves.
+const FILE: &str = "
+    4a4c5254 01 00000010 01 0010 0000000000000000
+    00000000 00
+    00000000 00000000 00000000 00000000 00000000 00000000 00000000
+    0000000000000001 0000000000000000 0000000000000000 0000000000000000
+    0000000000000002
+    00 00 00 00 00
+    00 01 00 00 00
+";
+
+// `front 20` is the first twenty bytes of the file, `for 21 24 ff 00` the file with these bytes in place of those from the 21st to the 24th.
+const ROWS: &str = "
+    the file as it is, and cut:
+    front 103 -> legal 2
+    front 102 -> Truncated
+
+    the mark, the version, and a byte behind the end:
+    for 2 2 58 -> BadMark
+    for 5 5 09 -> BadVersion
+    for 104 103 00 -> BadEntry(3)
+
+    another mutator leaves, and one that did not join:
+    for 101 101 01 -> illegal 2
+    for 96 96 01 -> illegal 1
+
+    a number of a next action that no image has:
+    for 61 61 00 -> illegal 0
+
+    counts that do not fit one another:
+    for 69 69 01 -> illegal 0
+    for 61 77 03 0000000000000001 0000000000000001 -> legal 2
+
+    an object in the last cell, and one in a slot that is no cell:
+    for 21 24 00000001 0000000f 0100 -> legal 2
+    for 21 24 00000001 00000010 0100 -> illegal 0
+
+    a queue with a member that is not there:
+    for 21 24 00000001 00000000 0300000001 00000001 -> illegal 0
+
+    a field that names what is not there, and one that names its own object:
+    for 21 24 00000001 00000000 0101 0100000001 -> illegal 0
+    for 21 24 00000001 00000000 0101 0100000000 -> legal 2
+
+    a mutator that has joined already:
+    for 25 25 01 00000000 ffffffff 00 -> illegal 1
+
+    and one whose handle is above 250:
+    for 21 25 00000001 00000000 0100 01 00000001 fa 00000000 ffffffff 00 -> illegal 1
+    for 21 25 00000001 00000000 0100 01 00000001 fb 00000000 ffffffff 00 -> illegal 0
+    for 21 25 00000001 00000000 0100 01 00000001 ff 00000000 ffffffff 00 -> illegal 0
+
+    an answer that no entry has, and a choice:
+    for 97 97 0c -> illegal 1
+    for 98 98 02 01 00000000 -> illegal 1
+    for 98 98 01 00000000 00000000 -> illegal 1
+
+    a history without an entry:
+    for 93 103 00 -> legal 0
+";
+
+fn parsed<T: FromStr>(words: &mut SplitWhitespace<'_>) -> Option<T>
+where
+    T::Err: Drop,
+{
+    words.next()?.parse().ok()
+}
+
+// Adds what the words say in hexadecimal digits.
+fn push_decoded(bytes: &mut Vec<u8>, words: &mut SplitWhitespace<'_>) -> Result<(), Fail> {
+    for word in words {
+        for at in (0..word.len()).step_by(2) {
+            let Some(digits) = word.get(at..at + 2) else {
+                return Err(Fail::new(format_args!("no bytes: {word}")));
+            };
+            bytes.push(u8::from_str_radix(digits, 16)?)?;
+        }
+    }
+    Ok(())
+}
+
+// The file with the change that the words say.
+fn changed(alloc: Global, change: &str) -> Result<Vec<u8>, Fail> {
+    let mut file = Vec::new(alloc);
+    push_decoded(&mut file, &mut FILE.split_whitespace())?;
+    let mut words = change.split_whitespace();
+    if words.next() == Some("front") {
+        file.truncate(parsed(&mut words).ok_or("no length")?);
+        return Ok(file);
+    }
+    let from: usize = parsed(&mut words).ok_or("no place")?;
+    let to: usize = parsed(&mut words).ok_or("no place")?;
+    let mut bytes = Vec::new(alloc);
+    bytes.extend_from_slice(file.get(..from.saturating_sub(1)).ok_or("no front")?)?;
+    push_decoded(&mut bytes, &mut words)?;
+    bytes.extend_from_slice(file.get(to..).ok_or("no rest")?)?;
+    Ok(bytes)
+}
+
+// The file is written as it was read.
+fn is_written_back(alloc: Global, bytes: &[u8]) -> Result<bool, AllocError> {
+    match read_trace(alloc, bytes) {
+        Ok(file) => Ok(write_trace(alloc, &file)?.as_slice() == bytes),
+        Err(_) => Ok(true),
+    }
+}
+
+fn verdict_text(alloc: Global, file: &TraceFile) -> Result<String, AllocError> {
+    let entries = file.entries.len();
+    match audit(alloc, file)? {
+        Verdict::Legal => format!(in alloc; "legal {entries}"),
+        Verdict::Illegal(number) => format!(in alloc; "illegal {number}"),
+    }
+}
+
+fn told(alloc: Global, bytes: &[u8]) -> Result<String, AllocError> {
+    match read_trace(alloc, bytes) {
+        Ok(file) => verdict_text(alloc, &file),
+        Err(fault) => format!(in alloc; "{fault:?}"),
+    }
+}
+
+fn is_judged(alloc: Global, change: &str, wanted: &str) -> Result<(), Fail> {
+    let bytes = changed(alloc, change)?;
+    let told = told(alloc, bytes.as_slice())?;
+    if told.as_str() != wanted {
+        return Err(Fail::new(format_args!("{change} -> {wanted}, and not {told}")));
+    }
+    if !is_written_back(alloc, bytes.as_slice())? {
+        return Err(Fail::new(format_args!("{change} is written otherwise")));
+    }
+    Ok(())
+}
+
+#[test]
+fn files_are_judged_as_the_rows_say(rt: HostRuntime) -> Result<(), Fail> {
+    for row in ROWS.lines() {
+        let row = row.trim();
+        if row.is_empty() || row.ends_with(":") {
+            continue;
+        }
+        let Some((change, wanted)) = row.split_once(" -> ") else {
+            return Err(Fail::new(format_args!("no row: {row}")));
+        };
+        is_judged(rt.alloc(), change, wanted)?;
+    }
+    Ok(())
+}

@@ -1,0 +1,30 @@
+-- What the audit of bytes comes to.
+use Rattle.std.specs.Prelude.{◌≡◌, ℕ, List, length, alloc_error}
+use Rattle.jlr_trace.specs.declared.file.TraceFile.{TraceFile}
+use Rattle.jlr_trace.specs.declared.file.TraceFault.{TraceFault}
+use Rattle.jlr_trace.specs.declared.file.TraceFault.TheVariants.{Truncated, BadMark, BadVersion, BadEntry, NoMemory}
+use Rattle.jlr_trace.specs.Files.{HasSpelling, file_text, spelled_file, file_read, FileFails}
+use Rattle.jlr_audit.specs.Verdicts.{IsFileVerdict}
+use Rattle.refheap.specs.declared.audit.Judged.{Judged}
+use Rattle.refheap.specs.declared.fault.ProgramFault.{ProgramFault}
+use Rattle.refheap.specs.declared.fault.ProgramFault.TheVariants as program
+
+-- the bytes spell a history with so many entries, and this is the verdict on it
+pub record IsJudged (bytes : List ℕ) (j : Judged) : Type 0 where
+  pub file : TraceFile
+  pub spelling : HasSpelling file
+  pub spelled : bytes ≡ spelled_file (file_text file)
+  pub verdict : IsFileVerdict file j.verdict
+  pub entries : j.entries ≡ length file.entries
+
+-- what a fault of a trace file is to the program
+abbrev pub damage : TraceFault → ProgramFault
+damage Truncated = program.TraceTruncated
+damage BadMark = program.BadMark
+damage BadVersion = program.BadVersion
+damage (BadEntry k) = program.BadEntry k
+damage NoMemory = program.NoMemory alloc_error
+
+-- the fault is the first one of the bytes, or the want of memory
+abbrev pub IsDamage : List ℕ → ProgramFault → Type 0
+IsDamage bytes fault = (first : TraceFault) × FileFails first (file_read bytes) × (fault ≡ damage first)

@@ -1,0 +1,112 @@
+//! The audit of a saved history: `refheap audit FILE`.
+ghost use Rattle.std.specs.Prelude.{◌≡◌, IfOk, IfErr, length};
+ghost use Rattle.jlr_audit.specs.Verdicts.{IsFileVerdict};
+ghost use Rattle.jlr_trace.specs.declared.file.TraceFault.TheVariants.{NoMemory};
+ghost use Rattle.refheap.specs.Audits.{IsJudged, IsDamage, damage};
+
+use crate::fault::ProgramFault;
+use jlr_audit::audit::audit as verdict_on;
+use jlr_audit::verdict::Verdict;
+use jlr_trace::file::{TraceFault, TraceFile, read_trace};
+use std::alloc::{AllocError, Global};
+use std::fs;
+use std::io::{self, Write};
+
+/// A verdict on a history, and how many entries it has.
+#[derive(Clone, Copy)]
+pub struct Judged {
+    pub verdict: Verdict,
+    pub entries: u64,
+}
+
+/// Why a file that is no trace file ends the program.
+fn damage_of(fault: TraceFault) -> ProgramFault
+    ensures { result ≡ damage fault }
+{
+    match fault {
+        TraceFault::Truncated => ProgramFault::TraceTruncated,
+        TraceFault::BadMark => ProgramFault::BadMark,
+        TraceFault::BadVersion => ProgramFault::BadVersion,
+        TraceFault::BadEntry(number) => ProgramFault::BadEntry(number),
+        TraceFault::NoMemory => ProgramFault::NoMemory(AllocError),
+    }
+}
+
+fn verdict_of_file(alloc: Global, file: &TraceFile) -> Result<Judged, ProgramFault>
+    ensures verdict { IfOk result (λ j. IsFileVerdict file.now j.verdict × (j.entries ≡ length file.now.entries)) }
+    ensures memory { IfErr result (λ e. e ≡ damage NoMemory) }
+{
+    match verdict_on(alloc, file) {
+        Ok(verdict) => Ok(Judged {
+            verdict,
+            entries: file.entries.len() as u64,
+        }),
+        Err(fault) => Err(ProgramFault::NoMemory(fault)),
+    }
+}
+
+/// The verdict on the history that the bytes spell.
+///
+/// # Errors
+/// The first fault of the bytes, where they spell none, or `NoMemory`.
+pub fn verdict_of(alloc: Global, bytes: &[u8]) -> Result<Judged, ProgramFault>
+    ensures verdict { IfOk result (λ j. IsJudged bytes.now j) }
+    ensures fault { IfErr result (λ e. IsDamage bytes.now e) }
+{
+    match read_trace(alloc, bytes) {
+        Ok(file) => verdict_of_file(alloc, &file),
+        Err(fault) => Err(damage_of(fault)),
+    }
+}
+
+/// What a file contains.
+fn contents(rt: &HostRuntime, path: &str) -> Result<Vec<u8>, ProgramFault> {
+    match fs::read(rt, path) {
+        Ok(bytes) => Ok(bytes),
+        Err(error) if error.kind() == io::ErrorKind::OutOfMemory => {
+            Err(ProgramFault::NoMemory(AllocError))
+        }
+        Err(_) => Err(unread(rt.alloc(), path)),
+    }
+}
+
+/// That a file cannot be read, or the want of memory to say so.
+fn unread(alloc: Global, path: &str) -> ProgramFault {
+    let mut name = String::new(alloc);
+    match name.push_str(path) {
+        Ok(()) => ProgramFault::CannotRead(name),
+        Err(fault) => ProgramFault::NoMemory(fault),
+    }
+}
+
+/// Writes the verdict, as one line.
+fn tell(alloc: Global, writer: &mut impl Write, judged: Judged) -> Result<(), ProgramFault> {
+    let entries = judged.entries;
+    let line = match judged.verdict {
+        Verdict::Legal => format!(in alloc; "legal {entries}\n")?,
+        Verdict::Illegal(number) => format!(in alloc; "illegal {number}\n")?,
+    };
+    if writer.write_all(line.as_bytes()).is_err() || writer.flush().is_err() {
+        return Err(ProgramFault::Write);
+    }
+    Ok(())
+}
+
+/// What a verdict is to the program.
+fn outcome_of(verdict: Verdict) -> Result<(), ProgramFault> {
+    match verdict {
+        Verdict::Legal => Ok(()),
+        Verdict::Illegal(_) => Err(ProgramFault::Illegal),
+    }
+}
+
+/// Audits a file, and writes the verdict.
+///
+/// # Errors
+/// `CannotRead` where the file cannot be read, the fault of a damaged file, `Illegal` where the verdict is not legal, `Write`, `NoMemory`.
+pub fn audit(rt: &HostRuntime, path: &str, writer: &mut impl Write) -> Result<(), ProgramFault> {
+    let bytes = contents(rt, path)?;
+    let judged = verdict_of(rt.alloc(), bytes.as_slice())?;
+    tell(rt.alloc(), writer, judged)?;
+    outcome_of(judged.verdict)
+}
