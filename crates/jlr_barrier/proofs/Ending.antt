@@ -1,18 +1,20 @@
 -- With no grey slot left, what is marked holds the roots and is closed; and a marking that begins is a snapshot.
-use Rattle.std.proofs.Common.{◌≡◌, ◌≤◌, ℕ, zero, suc, inl, inr, false, List, [], None, replicate, refl, subst, length, sym, ap, ◌∙◌}
+use Rattle.std.proofs.Common.{◌≡◌, ◌≤◌, ◌-◌, ℕ, zero, suc, inl, inr, false, List, [], Option, Some, None, replicate, refl, subst, length, sym, ap, ◌∙◌}
 use Rattle.std.proofs.lemmas.Bool.{both_ways}
 use Rattle.std.proofs.lemmas.List.{length-replicate}
 use Rattle.jlr_machine.specs.declared.machine.Session.{Session}
 use Rattle.jlr_machine.specs.declared.machine.Binding.{Binding}
 use Rattle.jlr_machine.specs.Objects.{Heap, Table, ◌∈◌}
 use Rattle.jlr_laws.proofs.Sets.{nothing}
-use Rattle.jlr_marks.specs.Marking.{Marking, IsMarked, Shaded, is_marked, unmarked}
+use Rattle.jlr_marks.specs.Marking.{Marking, IsMarked, Shaded, is_marked, unmarked, upcoming}
 use Rattle.jlr_marks.proofs.Counting.{none_set}
 use Rattle.jlr_marks.proofs.Shading.{same_marking}
 use Rattle.jlr_machine.specs.Edges.{active_cleanables}
 use Rattle.jlr_roots.specs.Walk.{slots_held}
 use Rattle.jlr_barrier.specs.Graphs.{Graph, Known, empty_graph, empty_known, held}
 use Rattle.jlr_barrier.proofs.Held.{held_cases}
+use Rattle.jlr_barrier.proofs.Walking.{member_in_list}
+use Rattle.std.specs.Prelude.{IfSome}
 use Rattle.jlr_barrier.proofs.Fitting.{other_clock}
 use Rattle.jlr_barrier.specs.Snapshots.{FitsTogether, HoldsWhole, IsObject, IsSafe, IsSnapshot, cycle_of}
 
@@ -40,6 +42,15 @@ module _ (k : Known) (a b : ℕ) (f : FitsTogether k a b) (none : k.marking.grey
       | inr r ↦ elim r [ inl s ↦ inl (safe_is_marked y s) | inr d ↦ inr d ]
     ];
   }
+
+-- ---- The grey slot that comes next
+
+pub upcoming_there : (k : Known) (a b : ℕ) → FitsTogether k a b → (o : Option ℕ) → o ≡ upcoming k.marking.grey → IfSome o (λ s. IsMarked k.marking s × IsObject k.graph.objects s)
+upcoming_there k a b f None e = tt
+upcoming_there k a b f (Some s) e =
+    let grey = k.marking.grey in
+    let on = f.snapshot.grey s (member_in_list grey (length grey - 4) s s (sym e) refl) in
+    (on, f.objects s on)
 
 -- ---- All marks go, and the roots are shaded
 

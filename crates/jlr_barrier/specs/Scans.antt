@@ -1,7 +1,7 @@
 -- What it is to follow the edges of a grey object.
 use Rattle.std.specs.Prelude.{◌≡◌, ℕ, Bool, not, cond, [], ◌∷◌, ◌++◌, IsPermutation}
 use Rattle.jlr_machine.specs.declared.object.Object.{Object}
-use Rattle.jlr_machine.specs.Objects.{Heap, any_referent, at, some_and}
+use Rattle.jlr_machine.specs.Objects.{Heap, any_referent, at, some_and, ◌∈◌}
 use Rattle.jlr_marks.specs.Marking.{Marking, Shaded, is_marked}
 use Rattle.jlr_barrier.specs.Snapshots.{IsEdge}
 
@@ -16,6 +16,7 @@ pub record Scanned (heap : Heap) (slot : ℕ) (old new : Marking) : Type 0 where
   pub on : Marking
   pub same_bits : off.bits ≡ old.bits
   pub taken : IsPermutation old.grey (slot ∷ off.grey)
+  pub gone : ¬ (slot ∈ off.grey)
   pub same_discovered : off.discovered ≡ old.discovered
   pub shaded : Shaded (IsEdge heap slot) off on
   pub bits : new.bits ≡ on.bits

@@ -1,11 +1,11 @@
 //! The mark set, as a collector uses it.
-ghost use Rattle.std.specs.Prelude.{◌≡◌, ◌↔◌, ℕ, ◌+◌, ◌^◌, ◌<◌, [], IsTrue, Some, false, is_some, length, option_and_then};
+ghost use Rattle.std.specs.Prelude.{◌≡◌, ◌↔◌, ℕ, IfSome, ◌+◌, ◌^◌, ◌<◌, [], IsTrue, Some, false, is_some, length, option_and_then};
 ghost use Rattle.jlr_types.specs.declared.RefKind.TheVariants.{Soft};
 ghost use Rattle.jlr_machine.specs.Objects.{at, some_and, ◌∈◌};
 ghost use Rattle.jlr_machine.specs.Refusals.{is_plain};
 ghost use Rattle.jlr_machine.specs.Edges.{referent};
 ghost use Rattle.jlr_barrier.specs.Graphs.{held};
-ghost use Rattle.jlr_marks.specs.Marking.{Shaded, is_marked, unmarked, upcoming};
+ghost use Rattle.jlr_marks.specs.Marking.{IsMarked, Shaded, is_marked, unmarked, upcoming};
 ghost use Rattle.jlr_barrier.specs.Snapshots.{HoldsWhole, IsEdge, IsObject, RefersTo};
 ghost use Rattle.jlr_barrier.specs.Scans.{Scanned};
 
@@ -49,9 +49,10 @@ impl Heap {
         self.marks.has_grey()
     }
 
-    /// The grey slot that comes next, if there is one.
+    /// The grey slot that comes next, if there is one. It is marked, and an object.
     pub fn next_grey(&self) -> Option<Slot>
-        ensures { result ≡ upcoming self.now.marking.grey }
+        ensures next { result ≡ upcoming self.now.marking.grey }
+        ensures there { IfSome result (λ slot. IsMarked self.now.marking slot × IsObject self.now.graph.objects slot) }
     {
         self.marks.next_grey()
     }

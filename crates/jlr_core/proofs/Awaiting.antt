@@ -1,6 +1,6 @@
 -- The actions of all unspent cleanables wait, from event to event.
-use Rattle.std.proofs.Common.{◌≡◌, ◌≢◌, ◌==◌, true, ◌⊎◌, ◌+◌, ◌-◌, ◌^◌, ◌<◌, ℕ, List, [], Option, Some, None, IfNone, IfSome, inl, inr, refl, sym, ◌∙◌, ap, subst, arith, length, option_map, replicate, slice_set}
-use Rattle.std.proofs.lemmas.Bool.{cases_eq, cases_lt, eqb-true}
+use Rattle.std.proofs.Common.{◌≡◌, ◌≢◌, ◌==◌, true, ◌+◌, ◌-◌, ◌^◌, ◌<◌, ℕ, List, [], Option, Some, None, IfNone, IfSome, inl, inr, refl, sym, ◌∙◌, ap, subst, arith, length, option_map, replicate, slice_set}
+use Rattle.std.proofs.lemmas.Bool.{cases_lt, eqb-true}
 use Rattle.std.proofs.lemmas.List.{length-set, length-replicate}
 use Rattle.jlr_machine.specs.declared.machine.Machine.{Machine}
 use Rattle.jlr_machine.specs.declared.object.Object.{Object}
@@ -17,13 +17,13 @@ use Rattle.jlr_machine.specs.declared.ask.Ask.{Ask}
 use Rattle.jlr_machine.specs.declared.ask.Answer.{Answer}
 use Rattle.jlr_machine.specs.declared.entry.Chosen.{Chosen}
 use Rattle.jlr_machine.specs.declared.entry.Entry.{Entry}
-use Rattle.jlr_machine.specs.Objects.{Heap, Table, at, change_at, empty_at, set_at, with_cleanable}
+use Rattle.jlr_machine.specs.Objects.{Heap, Table, at, change_at, set_at, with_cleanable}
 use Rattle.jlr_machine.specs.Calls.{spent}
 use Rattle.jlr_machine.specs.Choices.{Choosing}
-use Rattle.jlr_machine.specs.Run.{IsLegal, apply, done, empty_from, now_seen, with_collection}
+use Rattle.jlr_machine.specs.Run.{IsLegal, done, empty_from, now_seen, with_collection}
 use Rattle.jlr_machine.specs.WellFormed.{IsCleanableAt, IsUnspent, IsWellFormed}
 use Rattle.jlr_laws.proofs.Changes.{cleanable_same}
-use Rattle.jlr_laws.proofs.Frames.{no_some, set_cases, set_other, set_same, place_within, some_same}
+use Rattle.jlr_laws.proofs.Frames.{no_some, set_other, set_same, place_within}
 use Rattle.jlr_laws.proofs.SeenKept.{keeps_seen}
 use Rattle.jlr_histories.proofs.TakenOnce.{unspent_back}
 use Rattle.jlr_cycles.specs.Laws.{with_seen}
@@ -32,7 +32,7 @@ use Rattle.jlr_laws.proofs.Allowed.{some_and_gives}
 use Rattle.jlr_cleaner.specs.Jobs.{is_job_of, job_in}
 use Rattle.jlr_cleaner.specs.Cleanings.{Cleanings, after_finish, after_register, after_take_up}
 use Rattle.jlr_cleaner.proofs.Registering.{nothing_there}
-use Rattle.jlr_core.specs.State.{MeetsAsk, entry_of}
+use Rattle.jlr_core.specs.State.{entry_of}
 use Rattle.jlr_core.specs.Events.{StepsBy}
 use Rattle.jlr_core.specs.Collecting.{Allocates}
 use Rattle.jlr_core.specs.Waiting.{AllWait, Registers, Releases, WaitAsBefore, WaitsOn}
@@ -95,8 +95,8 @@ module _ {R : Type 0} (m n : Machine) (old new : Cleanings R) (wn : IsWellFormed
       record {
         places = ap length r.waits ∙ length-set old.waiting r.place None ∙ all.places ∙ sym long;
         actions = λ s d u.
-        let apart : s ≢ r.place = λ e. r.spent d (subst (λ x. IsUnspent n x d) e u) in
-        ap (λ (t : Table ℕ). at t s) r.waits ∙ set_other old.waiting r.place s None apart ∙ waited s d u (omega (arith, given s d u, r.next));
+            let apart : s ≢ r.place = λ e. r.spent d (subst (λ x. IsUnspent n x d) e u) in
+            ap (λ (t : Table ℕ). at t s) r.waits ∙ set_other old.waiting r.place s None apart ∙ waited s d u (omega (arith, given s d u, r.next));
       }
 
   waits_on : WaitsOn n old new → AllWait n new.waiting

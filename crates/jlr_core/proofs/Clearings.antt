@@ -30,10 +30,10 @@ use Rattle.jlr_laws.proofs.LawProofs.{background_comes_down}
 use Rattle.jlr_cycles.specs.Laws.{with_seen}
 use Rattle.jlr_cycles.proofs.Seen.{reached_is_seen}
 use Rattle.jlr_barrier.specs.Graphs.{Clock}
-use Rattle.jlr_sweep.specs.Marking.{keeps}
+use Rattle.jlr_marker.specs.Following.{keeps}
 use Rattle.jlr_sweep.specs.Collecting.{Collects}
 use Rattle.jlr_sweep.proofs.Kept.{clears_all as clears_all_by}
-use Rattle.jlr_sweep.proofs.Following.{followed_is_soft, strong_is_followed}
+use Rattle.jlr_marker.proofs.Following.{followed_is_soft, strong_is_followed}
 use Rattle.jlr_core.specs.State.{MeetsSeen}
 use Rattle.jlr_core.specs.Collecting.{MakesRoom, MayMakeRoom, mode_of}
 use Rattle.jlr_core.specs.Policy.{KeepsIn}

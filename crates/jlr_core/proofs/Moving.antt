@@ -1,5 +1,5 @@
 -- What lies at each Rid after a table was changed.
-use Rattle.std.proofs.Common.{◌≡◌, ◌≢◌, ◌≤◌, ◌<◌, ◌==◌, ℕ, true, false, cond, not, List, [], ◌∷◌, ◌++◌, inl, inr, Option, Some, None, length, find, refl, sym, ◌∙◌, ap, subst, arith, IfNone, IfSome, ◌+◌, ◌-◌, ◌^◌, option_and_then, option_map}
+use Rattle.std.proofs.Common.{◌≡◌, ◌≢◌, ◌≤◌, ◌<◌, ◌==◌, ℕ, true, false, cond, not, List, [], ◌∷◌, ◌++◌, inl, inr, Option, Some, None, length, find, refl, sym, ◌∙◌, ap, subst, arith, IfNone, IfSome, ◌-◌, ◌^◌, option_and_then, option_map}
 use Rattle.std.specs.Option.{option_to_list}
 use Rattle.std.proofs.lemmas.Bool.{both_ways, eq-eqb, eqb-true, ne_eqb}
 use Rattle.jlr_types.specs.declared.Work.{Work}

@@ -13,7 +13,7 @@ use Rattle.jlr_laws.proofs.Frames.{root_gives, from_sessions, from_places, IsRoo
 use Rattle.jlr_laws.proofs.Frames.IsRoot.{held as by_handle, fencing, named as by_binding, waiting, lining, active}
 use Rattle.jlr_barrier.specs.Graphs.{Graph, held}
 use Rattle.jlr_barrier.proofs.OwnRoots.{active_from}
-use Rattle.jlr_sweep.specs.Collecting.{IsRooted}
+use Rattle.jlr_process.specs.Flipping.{IsRooted}
 use Rattle.jlr_cleaner.specs.Cleanings.{Cleanings}
 use Rattle.jlr_core.specs.State.{frame, machine_with}
 

@@ -11,7 +11,7 @@ use Rattle.jlr_soft.specs.declared.policy.Mode.{Mode}
 use Rattle.jlr_soft.specs.declared.policy.Mode.TheVariants.{Policy}
 use Rattle.jlr_laws.specs.Laws.{IsMarked}
 use Rattle.jlr_barrier.specs.Graphs.{Clock}
-use Rattle.jlr_sweep.specs.Marking.{keeps}
+use Rattle.jlr_marker.specs.Following.{keeps}
 use Rattle.jlr_core.specs.State.{clock_after_deref}
 use Rattle.jlr_core.specs.Collecting.{after_choice, mode_of}
 

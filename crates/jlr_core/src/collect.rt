@@ -11,7 +11,7 @@ ghost use Rattle.jlr_machine.specs.Choices.{nothing_chosen};
 ghost use Rattle.jlr_sweep.specs.Collecting.{Collects};
 ghost use Rattle.jlr_core.specs.Collecting.{MakesRoom, Allocates, FindsNoRoom, after_choice, after_collected, mode_of};
 ghost use Rattle.jlr_barrier.specs.Graphs.{counted};
-ghost use Rattle.jlr_sweep.specs.Marking.{keeps};
+ghost use Rattle.jlr_marker.specs.Following.{keeps};
 ghost use Rattle.jlr_core.specs.Policy.{KeepsIn};
 ghost use Rattle.jlr_core.specs.State.{Meets, answer_of};
 

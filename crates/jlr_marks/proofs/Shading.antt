@@ -14,11 +14,14 @@ use Rattle.jlr_marks.proofs.Counting.{count_marks}
 set_marked : (bits : List Bool) (y x : ℕ) → get_or (set bits y true) x false ≡ true → (get_or bits x false ≡ true) ⊎ (x ≡ y)
 set_marked bits y x e = elim (cases_eq x y) [ inl p ↦ inr p | inr p ↦ inl (sym (get_or-set_other bits y x true false p) ∙ e) ]
 
-set_keeps : (bits : List Bool) (y x : ℕ) → y < length bits → get_or bits x false ≡ true → get_or (set bits y true) x false ≡ true
+pub set_keeps : (bits : List Bool) (y x : ℕ) → y < length bits → get_or bits x false ≡ true → get_or (set bits y true) x false ≡ true
 set_keeps bits y x h e = elim (cases_eq x y) [
   | inl p ↦ ap (λ z. get_or (set bits y true) z false) p ∙ get_or-set_same bits y true false h
   | inr p ↦ get_or-set_other bits y x true false p ∙ e
 ]
+
+pub marked_here : (bits : List Bool) (y : ℕ) → y < length bits → get_or (set bits y true) y false ≡ true
+marked_here bits y inside = get_or-set_same bits y true false inside
 
 pub marked_within : (bits : List Bool) (x : ℕ) → get_or bits x false ≡ true → x < length bits
 marked_within [] x e = absurd cc

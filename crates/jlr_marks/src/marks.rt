@@ -1,5 +1,6 @@
 //! Marks.
 ghost use Rattle.std.specs.Prelude.{◌≡◌, ◌↔◌, ℕ, ◌+◌, ◌<◌, ◌++◌, ◌∷◌, [], false, true, cond, length, IfOk, slice_set, IfNone, IfSome, IsPermutation, replicate};
+ghost use Rattle.jlr_machine.specs.Objects.{◌∈◌};
 ghost use Rattle.jlr_marks.specs.Marking.{is_marked, marked, upcoming};
 
 use jlr_types::Slot;
@@ -20,13 +21,13 @@ pub struct Marks {
 
 impl Model for Marks {
     ghost use Rattle.std.specs.Prelude.{◌+◌, ◌≤◌, count_by, length, vec_capacity};
-    ghost use Rattle.jlr_marks.specs.Marking.{Marking};
+    ghost use Rattle.jlr_marks.specs.Marking.{AreGrey, Marking};
 
     ghost Value = { Marking };
 
     ghost view = { λ m. record { bits = m.bits.items; grey = m.grey.items; discovered = m.discovered.items } };
 
-    ghost invariant = { λ m. (length m.grey.items + length m.discovered.items ≤ count_by (λ b. b) m.bits.items) × (length m.bits.items ≤ vec_capacity m.grey) × (length m.bits.items ≤ vec_capacity m.discovered) };
+    ghost invariant = { λ m. (length m.grey.items + length m.discovered.items ≤ count_by (λ b. b) m.bits.items) × (length m.bits.items ≤ vec_capacity m.grey) × (length m.bits.items ≤ vec_capacity m.discovered) × AreGrey m.bits.items m.grey.items };
 }
 
 impl Marks {
@@ -109,6 +110,7 @@ impl Marks {
         ensures taken { result ≡ upcoming self.old.grey }
         ensures bits { self.new.bits ≡ self.old.bits }
         ensures grey { IfSome result (λ slot. IsPermutation self.old.grey (slot ∷ self.new.grey)) }
+        ensures once { IfSome result (λ slot. ¬ (slot ∈ self.new.grey)) }
         ensures none { IfNone result ((self.old.grey ≡ []) × (self.new.grey ≡ [])) }
         ensures discovered { self.new.discovered ≡ self.old.discovered }
         ensures room { IfSome result (λ _. length self.new.grey + length self.new.discovered < marked self.new) }

@@ -26,7 +26,9 @@ use Rattle.jlr_laws.proofs.LawProofs.{background_comes_down}
 use Rattle.jlr_laws.proofs.SeenKept.{rising_filter}
 use Rattle.jlr_marks.specs.Marking.{Marking, is_marked}
 use Rattle.jlr_process.specs.Settling.{is_losing, loses, marked_below, only_if}
-use Rattle.jlr_process.specs.Flipping.{IsMarkedWhole}
+use Rattle.jlr_barrier.specs.Graphs.{Known, in_machine}
+use Rattle.jlr_barrier.specs.Snapshots.{HoldsWhole}
+use Rattle.jlr_process.specs.Flipping.{IsMarkedWhole, IsRooted}
 use Rattle.jlr_process.proofs.Whole.{lost_below, distinct_below, filter_more, losing_loses, pended, same}
 
 -- ---- Lists without repeats, of slots
@@ -157,3 +159,16 @@ module _ (m : Machine) (marking : Marking) (w : IsMarkedWhole m marking) where
         rising = rising_filter (is_marked marking) 0 (length m.objects);
       }) in
       b.collection
+
+-- ---- Where no cell is grey
+
+-- what is marked holds the roots of a rooted machine, and all that they lead to
+pub whole : (f : Machine) (k : Known) → IsRooted f k.graph → HoldsWhole k → IsMarkedWhole (in_machine f k.graph) k.marking
+whole f k rooted holds =
+    record {
+      fit = rooted.fit;
+      long = holds.long;
+      objects = holds.objects;
+      roots = λ s h. holds.roots s (rooted.all_held s h);
+      closed = λ s t on e. holds.closed s t on e;
+    }

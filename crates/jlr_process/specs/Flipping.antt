@@ -8,7 +8,13 @@ use Rattle.jlr_machine.specs.Collection.{IsCollection, places_left}
 use Rattle.jlr_machine.specs.Choices.{Choosing, collecting}
 use Rattle.jlr_machine.specs.WellFormed.{IsWellFormed}
 use Rattle.jlr_marks.specs.Marking.{IsMarked, Marking}
+use Rattle.jlr_barrier.specs.Graphs.{Graph, held, in_machine}
 use Rattle.jlr_process.specs.Settling.{marked_below}
+
+-- The machine of which a heap keeps this part is well formed, and has no roots but those that the heap holds
+pub record IsRooted (m : Machine) (g : Graph) : Type 0 where
+  pub fit : IsWellFormed (in_machine m g)
+  pub all_held : (s : ℕ) → s ∈ roots (in_machine m g) → s ∈ held g
 
 -- Objects of a well-formed machine are marked, with a bit for each cell, among them all roots, and with an object all that it leads to by strong edges
 pub record IsMarkedWhole (m : Machine) (marking : Marking) : Type 0 where

@@ -24,11 +24,12 @@ use Rattle.std.proofs.Common.{◌<◌, Some, None, filter_map, option_and_then, 
 use Rattle.jlr_barrier.specs.Graphs.{Clock, Graph, held, in_machine}
 use Rattle.jlr_marks.specs.Marking.{Marking, IsMarked, is_marked}
 use Rattle.jlr_process.specs.Settling.{marked_below}
-use Rattle.jlr_process.specs.Flipping.{Flips, IsMarkedWhole}
+use Rattle.jlr_process.specs.Flipping.{Flips}
 use Rattle.jlr_process.proofs.Whole.{kept_is_marked}
-use Rattle.jlr_sweep.specs.Marking.{IsFollowed, keeps}
-use Rattle.jlr_sweep.specs.Collecting.{Collects, IsRooted, closed}
-use Rattle.jlr_sweep.proofs.Following.{follows_on, object_within, strong_is_followed}
+use Rattle.jlr_marker.specs.Following.{IsFollowed, keeps}
+use Rattle.jlr_sweep.specs.Collecting.{Collects, closed}
+use Rattle.jlr_process.specs.Flipping.{IsRooted}
+use Rattle.jlr_marker.proofs.Following.{follows_on, object_within}
 
 module _ (f : Machine) (g : Graph) (rooted : IsRooted f g) where
   abbrev m : Machine
@@ -78,16 +79,6 @@ module _ (f : Machine) (g : Graph) (rooted : IsRooted f g) where
           holds_base = λ s h. same s ∙ (marked s).1 (s, rooted.all_held s h, [], refl);
           closed = λ x y h e. let f = (marked x).0 (sym (same x) ∙ h) in same y ∙ (marked y).1 (follows_on kept_soft g.objects (held g) x y f e);
           least = λ s h. let f = (marked s).0 (sym (same s) ∙ h) in (f.0, held_root f.0 f.1, f.2, f.3);
-        }
-
-    pub whole : IsMarkedWhole m marks
-    whole =
-        record {
-          fit = rooted.fit;
-          long = long;
-          objects = objects;
-          roots = λ s h. (marked s).1 (s, rooted.all_held s h, [], refl);
-          closed = λ s t h e. (marked t).1 (follows_on kept_soft g.objects (held g) s t ((marked s).0 h) (strong_is_followed kept_soft g.objects s t e));
         }
 
     pub collects : (old new : Choosing) (n : Machine) → Flips m marks old new n → Collects kept_soft m old new (closed n)

@@ -1,18 +1,11 @@
 -- What a full collection needs, and what it does to the machine and tells the choice.
 use Rattle.std.specs.Prelude.{◌≡◌, ℕ, Bool, false, List, [], length}
 use Rattle.jlr_machine.specs.declared.machine.Machine.{Machine}
-use Rattle.jlr_machine.specs.Objects.{◌∈◌, occupied}
+use Rattle.jlr_machine.specs.Objects.{occupied}
 use Rattle.jlr_machine.specs.Edges.{roots}
 use Rattle.jlr_machine.specs.Collection.{IsFull, after_collection}
 use Rattle.jlr_machine.specs.Choices.{Choosing, collecting}
-use Rattle.jlr_machine.specs.WellFormed.{IsWellFormed}
 use Rattle.jlr_laws.specs.Laws.{IsMarked}
-use Rattle.jlr_barrier.specs.Graphs.{Graph, held, in_machine}
-
--- The machine of which a heap keeps this part is well formed, and has no roots but those that the heap holds
-pub record IsRooted (m : Machine) (g : Graph) : Type 0 where
-  pub fit : IsWellFormed (in_machine m g)
-  pub all_held : (s : ℕ) → s ∈ roots (in_machine m g) → s ∈ held g
 
 -- the machine with its cycle closed
 abbrev pub closed : Machine → Machine

@@ -1,3 +1,2 @@
 -- Reading order.
-pub mod Marking
 pub mod Collecting

@@ -5,8 +5,9 @@ ghost use Rattle.jlr_machine.specs.Choices.{kept_by, nothing_chosen, pended_by};
 ghost use Rattle.jlr_machine.specs.Collection.{IsFullClearing};
 ghost use Rattle.jlr_soft.specs.declared.policy.Mode.TheVariants.{ClearAll};
 ghost use Rattle.jlr_barrier.specs.Graphs.{counted, in_machine};
-ghost use Rattle.jlr_sweep.specs.Collecting.{Collects, IsRooted, closed};
-ghost use Rattle.jlr_sweep.specs.Marking.{keeps};
+ghost use Rattle.jlr_sweep.specs.Collecting.{Collects, closed};
+ghost use Rattle.jlr_process.specs.Flipping.{IsRooted};
+ghost use Rattle.jlr_marker.specs.Following.{keeps};
 
 use crate::mark::mark;
 use jlr_barrier::Heap;

@@ -9,7 +9,7 @@ use Rattle.jlr_barrier.specs.Graphs.{Graph, in_machine}
 use Rattle.jlr_marks.specs.Marking.{Marking, is_marked}
 use Rattle.jlr_process.specs.Settling.{newly_pending, is_losing, marked_below, only_if, settled, settled_choice, settled_graph}
 use Rattle.jlr_process.proofs.Whole.{lost_below, all_settled, below_short, filter_more, kept_counted, losing_alike, as_parts, choice_more, unmarked_loses_not}
-use Rattle.jlr_process.proofs.Gone.{collection, referent_within, room_for_one}
+use Rattle.jlr_process.proofs.Gone.{collection, referent_within, room_for_one, whole}
 use Rattle.jlr_process.proofs.collection.flip.Goals as goal
 
 pub settle-requires-clause-no_grey : goal.settle-requires-clause-no_grey
@@ -21,7 +21,7 @@ settle-requires-clause-within c =
     let i = c.loop-number.invariant in
     let n = c.loop-number.number in
     let here : at c.loop-number.heap.graph.objects c.new.result ≡ at c.args.heap.now.graph.objects n = ap (at c.loop-number.heap.graph.objects) c.new.ensures ∙ i.rest n (omega arith) in
-    let inside = referent_within (in_machine c.requires.whole.0 c.args.heap.now.graph) c.args.heap.now.marking c.requires.whole.1 n x (subst (λ o. option_and_then any_referent o ≡ Some x) here e) in
+    let inside = referent_within (in_machine c.requires.fit.0 c.args.heap.now.graph) c.args.heap.now.marking (whole c.requires.fit.0 c.args.heap.now c.requires.fit.1 (c.has_grey.ensures.whole c.requires.no_grey)) n x (subst (λ o. option_and_then any_referent o ≡ Some x) here e) in
     omega (arith, inside, i.long)
 
 pub settle-requires-clause-pending : goal.settle-requires-clause-pending
@@ -33,7 +33,7 @@ settle-requires-clause-pending c =
     let here : at c.loop-number.heap.graph.objects c.new.result ≡ at c.args.heap.now.graph.objects n = ap (at c.loop-number.heap.graph.objects) c.new.ensures ∙ i.rest n (omega arith) in
     let losing : is_losing m c.args.heap.now.graph.objects n ≡ true = sym (losing_alike c.loop-number.heap.marking m c.loop-number.heap.graph.objects c.args.heap.now.graph.objects c.new.result n i.marking c.new.ensures here) ∙ h in
     let inside : n < length c.args.heap.now.graph.objects = omega (arith, c.loop-number-test.true, c.cell_count-number-end.ensures.count) in
-    let room = room_for_one (in_machine c.requires.whole.0 c.args.heap.now.graph) m c.requires.whole.1 n inside losing in
+    let room = room_for_one (in_machine c.requires.fit.0 c.args.heap.now.graph) m (whole c.requires.fit.0 c.args.heap.now c.requires.fit.1 (c.has_grey.ensures.whole c.requires.no_grey)) n inside losing in
     omega (arith, room, ap length i.pending, i.long)
 
 pub settle-requires-clause-kept : goal.settle-requires-clause-kept
@@ -96,7 +96,8 @@ loop-number-preserved c =
 
 pub returns-clause-flips : goal.returns-clause-flips
 returns-clause-flips c =
-    λ k w.
+    λ k rooted.
+    let w = whole k c.args.heap.now rooted (c.has_grey.ensures.whole c.requires.no_grey) in
     let i = c.loop-number.invariant in
     let m = c.args.heap.now.marking in
     let old : Heap = c.args.heap.now.graph.objects in

@@ -3,10 +3,11 @@ use Rattle.jlr_machine.specs.declared.machine.Machine.{Machine}
 use Rattle.jlr_machine.specs.Choices.{Choosing}
 use Rattle.jlr_laws.proofs.CollectionKept.{length_left}
 use Rattle.jlr_barrier.specs.Graphs.{Graph, in_machine}
-use Rattle.jlr_process.specs.Flipping.{Flips, IsMarkedWhole}
-use Rattle.jlr_sweep.specs.Collecting.{Collects, IsRooted, closed}
-use Rattle.jlr_sweep.specs.Marking.{keeps}
-use Rattle.jlr_sweep.proofs.Kept.{clears_told, collects, edge_object, held_object, referent_inside, whole}
+use Rattle.jlr_process.specs.Flipping.{Flips}
+use Rattle.jlr_sweep.specs.Collecting.{Collects, closed}
+use Rattle.jlr_process.specs.Flipping.{IsRooted}
+use Rattle.jlr_marker.specs.Following.{keeps}
+use Rattle.jlr_sweep.proofs.Kept.{clears_told, collects, edge_object, held_object, referent_inside}
 use Rattle.jlr_sweep.proofs.collection.full.Goals as goal
 
 pub mark-requires-clause-roots : goal.mark-requires-clause-roots
@@ -18,21 +19,13 @@ mark-requires-clause-edges c = edge_object c.requires.fit.0 c.args.heap.now.grap
 pub mark-requires-clause-within : goal.mark-requires-clause-within
 mark-requires-clause-within c = referent_inside c.requires.fit.0 c.args.heap.now.graph c.requires.fit.1
 
-pub flip-requires-clause-whole : goal.flip-requires-clause-whole
-flip-requires-clause-whole c =
-    let m = c.requires.fit.0 in (
-      m,
-      subst (λ (k : Graph). IsMarkedWhole (in_machine m k) c.mark.new.heap.marking) (sym c.mark.ensures.graph)
-          (whole m c.args.heap.now.graph c.requires.fit.1 (keeps c.args.policy.now c.args.heap.now.clock) c.mark.new.heap.marking c.mark.ensures.long c.mark.ensures.marked c.mark.ensures.objects),
-    )
+pub flip-requires-clause-fit : goal.flip-requires-clause-fit
+flip-requires-clause-fit c = (c.requires.fit.0, subst (λ (k : Graph). IsRooted c.requires.fit.0 k) (sym c.mark.ensures.graph) c.requires.fit.1)
 
 flips : (c : goal.After-flip) (m : Machine) → IsRooted m c.args.heap.now.graph → Flips (in_machine m c.args.heap.now.graph) c.mark.new.heap.marking c.args.choice.now c.flip.new.choice (in_machine m c.flip.new.heap.graph)
 flips c m rooted =
-    let w : IsMarkedWhole (in_machine m c.mark.new.heap.graph) c.mark.new.heap.marking =
-    subst (λ (k : Graph). IsMarkedWhole (in_machine m k) c.mark.new.heap.marking) (sym c.mark.ensures.graph)
-    (whole m c.args.heap.now.graph rooted (keeps c.args.policy.now c.args.heap.now.clock) c.mark.new.heap.marking c.mark.ensures.long c.mark.ensures.marked c.mark.ensures.objects) in
     subst (λ (k : Graph). Flips (in_machine m k) c.mark.new.heap.marking c.args.choice.now c.flip.new.choice (in_machine m c.flip.new.heap.graph)) c.mark.ensures.graph
-    (c.flip.ensures.flips m w)
+    (c.flip.ensures.flips m (subst (λ (k : Graph). IsRooted m k) (sym c.mark.ensures.graph) rooted))
 
 collected : (c : goal.After-flip) (m : Machine) → IsRooted m c.args.heap.now.graph → Collects (keeps c.args.policy.now c.args.heap.now.clock) (in_machine m c.args.heap.now.graph) c.args.choice.now c.flip.new.choice (closed (in_machine m c.flip.new.heap.graph))
 collected c m rooted =

@@ -1,9 +1,9 @@
-use Rattle.std.proofs.Common.{◌≡◌, false, ◌+◌, ◌-◌, ◌∷◌, ◌<◌, [], ℕ, count_by, sym, ◌∙◌, ap, arith, length, add-one, refl, replicate, List, subst, IsTrue, is_some}
+use Rattle.std.proofs.Common.{◌≡◌, false, ◌+◌, ◌-◌, ◌∷◌, ◌<◌, [], ℕ, count_by, sym, ◌∙◌, ap, arith, length, add-one, refl, replicate, List, subst}
 use Rattle.std.specs.Prelude.{IsPermutation}
 use Rattle.std.proofs.lemmas.List.{length-replicate}
 use Rattle.std.proofs.lemmas.List.Sums.{count_by-le-length}
 use Rattle.std.proofs.lemmas.List.Sorted.{length_permutation}
-use Rattle.jlr_machine.specs.Objects.{◌∈◌, Heap, at}
+use Rattle.jlr_machine.specs.Objects.{◌∈◌, Heap}
 use Rattle.jlr_machine.specs.Edges.{edges_from}
 use Rattle.jlr_machine.specs.Edges.Chain.{UpToSoft}
 use Rattle.jlr_laws.specs.Laws.{followed}
@@ -12,8 +12,8 @@ use Rattle.jlr_barrier.specs.Graphs.{Clock, Graph, held}
 use Rattle.jlr_barrier.specs.Snapshots.{IsObject, RefersTo}
 use Rattle.jlr_barrier.proofs.Walking.{member_in_list}
 use Rattle.jlr_marks.specs.Marking.{Marking, marked, unmarked}
-use Rattle.jlr_sweep.specs.Marking.{Follows, keeps}
-use Rattle.jlr_sweep.proofs.Following.{marking_begins, marking_goes_on, marking_ends, followed_objects, followed_is_soft, none_counted, none_in_unmarked, none_upcoming}
+use Rattle.jlr_marker.specs.Following.{Follows, keeps}
+use Rattle.jlr_marker.proofs.Following.{marking_begins, marking_goes_on, marking_ends, followed_objects, followed_is_soft, none_counted, none_in_unmarked, none_upcoming}
 use Rattle.jlr_sweep.proofs.mark.mark.Goals as goal
 
 some_grey : (items : List ℕ) (s : ℕ) → s ∈ items → 0 < length items
@@ -25,36 +25,28 @@ loop-slot-init c =
     let kept = keeps c.args.policy.now c.args.heap.now.clock in
     let heap = c.args.heap.now.graph.objects in
     let base = held c.args.heap.now.graph in
-    let s = c.open_marking.ensures.shaded in
+    let s = c.begin.ensures.shaded in
     let none : marked (unmarked (length heap)) ≡ 0 = none_counted (replicate (length heap) false) (none_in_unmarked (length heap)) in
     record {
-      marking = marking_begins kept heap base (unmarked (length heap)) c.open_marking.new.self.marking (none_in_unmarked (length heap)) refl s;
-      graph = c.open_marking.ensures.graph;
-      clock = c.open_marking.ensures.clock;
+      marking = marking_begins kept heap base (unmarked (length heap)) c.begin.new.heap.marking (none_in_unmarked (length heap)) refl s;
+      graph = c.begin.ensures.graph;
+      clock = c.begin.ensures.clock;
       long = s.long ∙ length-replicate (length heap) false;
       room = omega (arith, s.black_same, none);
       ticks = omega (arith, s.black_same, none);
     }
 
 pub follow-requires-clause-next : goal.follow-requires-clause-next
-follow-requires-clause-next c = sym c.in-Some.ensures
+follow-requires-clause-next c = sym c.in-Some.ensures.next
 
 pub follow-requires-clause-object : goal.follow-requires-clause-object
-follow-requires-clause-object c =
-    let i = c.loop-slot.invariant in
-    let kept = keeps c.args.policy.now c.args.heap.now.clock in
-    let heap = c.args.heap.now.graph.objects in
-    let base = held c.args.heap.now.graph in
-    let items = c.loop-slot.heap.marking.grey in
-    let grey = member_in_list items (length items - 4) c.in-Some.slot c.in-Some.slot (sym c.in-Some.ensures) refl in
-    let there = followed_objects kept heap base c.requires.roots (λ x y h. c.requires.edges x y (followed_is_soft kept heap x y h)) c.in-Some.slot (i.marking.sound c.in-Some.slot (i.marking.grey c.in-Some.slot grey)) in
-    subst (λ (g : Graph). IsTrue (is_some (at g.objects c.in-Some.slot))) (sym i.graph) there
+follow-requires-clause-object c = c.in-Some.ensures.there.1
 
 pub follow-requires-clause-ticks : goal.follow-requires-clause-ticks
 follow-requires-clause-ticks c =
     let i = c.loop-slot.invariant in
     let items = c.loop-slot.heap.marking.grey in
-    let grey = member_in_list items (length items - 4) c.in-Some.slot c.in-Some.slot (sym c.in-Some.ensures) refl in
+    let grey = member_in_list items (length items - 4) c.in-Some.slot c.in-Some.slot (sym c.in-Some.ensures.next) refl in
     omega (arith, i.ticks, i.long, some_grey items c.in-Some.slot grey, c.requires.few, c.requires.ticks, count_by-le-length (λ b. b) c.loop-slot.heap.marking.bits)
 
 pub follow-requires-clause-objects : goal.follow-requires-clause-objects
@@ -102,7 +94,7 @@ loop-slot-preserved c =
 pub returns-clause-marked : goal.returns-clause-marked
 returns-clause-marked c =
     let kept = keeps c.args.policy.now c.args.heap.now.clock in
-    λ x. marking_ends kept c.args.heap.now.graph.objects (held c.args.heap.now.graph) c.loop-slot.heap.marking c.loop-slot.invariant.marking (none_upcoming c.loop-slot.heap.marking.grey (sym c.in_default.ensures)) x
+    λ x. marking_ends kept c.args.heap.now.graph.objects (held c.args.heap.now.graph) c.loop-slot.heap.marking c.loop-slot.invariant.marking (none_upcoming c.loop-slot.heap.marking.grey (sym c.in_default.ensures.next)) x
 
 pub returns-clause-objects : goal.returns-clause-objects
 returns-clause-objects c =
@@ -112,12 +104,12 @@ returns-clause-objects c =
     λ x h. followed_objects kept heap base c.requires.roots (λ x y h. c.requires.edges x y (followed_is_soft kept heap x y h)) x (c.loop-slot.invariant.marking.sound x h)
 
 pub returns-clause-no_grey : goal.returns-clause-no_grey
-returns-clause-no_grey c = none_upcoming c.loop-slot.heap.marking.grey (sym c.in_default.ensures)
+returns-clause-no_grey c = none_upcoming c.loop-slot.heap.marking.grey (sym c.in_default.ensures.next)
 
 pub returns-clause-once : goal.returns-clause-once
 returns-clause-once c =
     let i = c.loop-slot.invariant in
-    let none : length c.loop-slot.heap.marking.grey ≡ 0 = ap length (none_upcoming c.loop-slot.heap.marking.grey (sym c.in_default.ensures)) in
+    let none : length c.loop-slot.heap.marking.grey ≡ 0 = ap length (none_upcoming c.loop-slot.heap.marking.grey (sym c.in_default.ensures.next)) in
     omega (arith, i.ticks, none)
 
 pub returns-clause-ticks : goal.returns-clause-ticks

@@ -1,7 +1,7 @@
 use Rattle.std.proofs.Common.{◌≡◌, ◌+◌, ◌-◌, ◌≤◌, length, count_by}
 use Rattle.jlr_barrier.specs.Graphs.{held}
-use Rattle.jlr_sweep.specs.Marking.{keeps}
-use Rattle.jlr_sweep.proofs.Following.{IsMarking}
+use Rattle.jlr_marker.specs.Following.{keeps}
+use Rattle.jlr_marker.proofs.Following.{IsMarking}
 use Rattle.jlr_sweep.proofs.mark.mark.Given as goal
 
 abbrev pub invariant-loop-slot : goal.invariant-loop-slot

@@ -1,5 +1,6 @@
 use Rattle.std.proofs.Common.{◌∷◌, ◌∙◌, ◌-◌, length, refl, subst}
 use Rattle.std.specs.Prelude.{IfSome, IsPermutation}
+use Rattle.jlr_machine.specs.Objects.{◌∈◌}
 use Rattle.jlr_barrier.proofs.Walking.{member_in_list}
 use Rattle.jlr_barrier.proofs.Scanning.{scanned_fits}
 use Rattle.jlr_barrier.proofs.heap.Heap.scan.Goals as goal
@@ -21,6 +22,7 @@ invariant_of-self c =
       on = c.follow-plain.new.marks;
       same_bits = c.take_grey.ensures.bits;
       taken = took;
+      gone = subst (λ o. IfSome o (λ x. ¬ (x ∈ c.take_grey.new.self.grey))) (c.take_grey.ensures.taken ∙ next) c.take_grey.ensures.once;
       same_discovered = c.take_grey.ensures.discovered;
       shaded = c.follow-plain.ensures.shaded;
       bits = c.note.ensures.bits;

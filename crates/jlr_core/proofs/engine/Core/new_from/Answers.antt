@@ -10,8 +10,7 @@ pub invariant_of-result : goal.invariant_of-result
 invariant_of-result g c =
     let few_cells : c.args.limits.cells ≤ 65536 = search rules in
     let few_sessions : c.args.limits.sessions ≤ 64 = search rules in
-    let image = empty_from_is_an_image c.args.limits.cells c.args.limits.sessions c.args.limits.resources c.args.next_action c.requires few_cells few_sessions in
-    (
+    let image = empty_from_is_an_image c.args.limits.cells c.args.limits.sessions c.args.limits.resources c.args.next_action c.requires few_cells few_sessions in (
       subst IsWellFormed (sym c.in_ok-new.ensures.machine) image.well_formed,
       subst (λ (m : Machine). AllWait m c.in_ok-new.field-0.cleaner.waiting) (sym c.in_ok-new.ensures.machine) (none_waits c.args.limits.cells c.args.limits.sessions c.args.limits.resources c.args.next_action c.in_ok-new.field-0.cleaner.waiting c.in_ok-new.ensures.none_waits),
     )

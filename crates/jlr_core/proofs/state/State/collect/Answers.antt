@@ -1,7 +1,7 @@
 use Rattle.std.proofs.Common.{false, subst}
 use Rattle.jlr_soft.specs.declared.policy.Policy.{Policy}
 use Rattle.jlr_sweep.specs.Collecting.{Collects}
-use Rattle.jlr_sweep.specs.Marking.{keeps}
+use Rattle.jlr_marker.specs.Following.{keeps}
 use Rattle.jlr_core.specs.Machines.{machine_of}
 use Rattle.jlr_core.proofs.Frames.{frame_of}
 use Rattle.jlr_core.specs.State.{machine_with}

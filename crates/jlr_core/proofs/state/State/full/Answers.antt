@@ -4,7 +4,7 @@ use Rattle.jlr_machine.specs.Choices.{Choosing, collecting}
 use Rattle.jlr_sweep.specs.Collecting.{Collects}
 use Rattle.jlr_core.specs.Collecting.{mode_of}
 use Rattle.jlr_core.specs.Machines.{machine_of}
-use Rattle.jlr_sweep.specs.Marking.{keeps}
+use Rattle.jlr_marker.specs.Following.{keeps}
 use Rattle.jlr_core.proofs.Clearings.{keeps_in, may_collect}
 use Rattle.jlr_core.proofs.Entries.{allowed_full, meets_collection}
 use Rattle.jlr_core.proofs.state.State.full.Goals as goal

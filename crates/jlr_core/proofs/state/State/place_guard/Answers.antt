@@ -1,4 +1,4 @@
-use Rattle.std.proofs.Common.{◌≡◌, ◌+◌, ◌<◌, ℕ, None, Some, Option, inl, length, arith, ap, option_map, refl, subst, sym, ◌∙◌}
+use Rattle.std.proofs.Common.{◌≡◌, ◌+◌, ℕ, None, Some, Option, inl, length, arith, ap, option_map, refl, subst, ◌∙◌}
 use Rattle.jlr_types.specs.declared.Work.TheVariants.{Resource as WorkOn}
 use Rattle.jlr_machine.specs.declared.object.Object.{Object}
 use Rattle.jlr_machine.specs.declared.object.Object.TheVariants.{Cleanable}

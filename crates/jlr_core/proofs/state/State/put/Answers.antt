@@ -1,6 +1,6 @@
 use Rattle.std.proofs.Common.{◌≡◌, Some, sym, ◌∙◌}
 use Rattle.jlr_core.specs.Machines.{machine_of}
-use Rattle.jlr_sweep.proofs.Following.{object_within}
+use Rattle.jlr_marker.proofs.Following.{object_within}
 use Rattle.jlr_core.proofs.Named.{named_object}
 use Rattle.jlr_core.proofs.Hands.{field_object, held_in_hand, named_held}
 use Rattle.jlr_core.proofs.state.State.put.Goals as goal

@@ -23,6 +23,7 @@ pub record Follows (T : ℕ → Type 0) (slot : ℕ) (old new : Marking) : Type 
   pub off : Marking
   pub same_bits : off.bits ≡ old.bits
   pub taken : IsPermutation old.grey (slot ∷ off.grey)
+  pub gone : ¬ (slot ∈ off.grey)
   pub shaded : Shaded T off new
 
 -- s is in B, or the edges that a marker follows lead to it from there

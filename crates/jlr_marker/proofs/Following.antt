@@ -16,7 +16,7 @@ use Rattle.jlr_marks.specs.Marking.{Marking, IsMarked, Shaded, unmarked, upcomin
 use Rattle.jlr_barrier.specs.Snapshots.{IsEdge}
 use Rattle.jlr_barrier.specs.Scans.{Scanned}
 use Rattle.jlr_barrier.proofs.Ending.{none_marked}
-use Rattle.jlr_sweep.specs.Marking.{Follows, IsFollowed, soft_at}
+use Rattle.jlr_marker.specs.Following.{Follows, IsFollowed, soft_at}
 use Rattle.jlr_laws.proofs.Sets.{nothing, in_front, in_cons}
 use Rattle.jlr_laws.proofs.Clearing.{in_right}
 
@@ -164,6 +164,7 @@ scanned_follows heap slot old new scan =
       off = without scan.off new;
       same_bits = scan.same_bits;
       taken = scan.taken;
+      gone = scan.gone;
       shaded = record {
         long = ap length scan.bits ∙ shade.long;
         kept = λ x h. on_new x (shade.kept x h);

@@ -9,10 +9,10 @@ use Rattle.std.specs.Prelude.{option_and_then}
 use Rattle.jlr_barrier.specs.Graphs.{Clock, Graph}
 use Rattle.jlr_marks.specs.Marking.{Shaded}
 use Rattle.jlr_marks.proofs.Shading.{shaded_same, shaded_then}
-use Rattle.jlr_sweep.specs.Marking.{keeps, soft_at}
+use Rattle.jlr_marker.specs.Following.{keeps, soft_at}
 use Rattle.jlr_barrier.specs.Snapshots.{IsObject}
-use Rattle.jlr_sweep.proofs.Following.{followed_from, followed_gives, followed_is_soft, scanned_follows, soft_edge}
-use Rattle.jlr_sweep.proofs.mark.follow.Goals as goal
+use Rattle.jlr_marker.proofs.Following.{followed_from, followed_gives, followed_is_soft, scanned_follows, soft_edge}
+use Rattle.jlr_marker.proofs.edges.follow.Goals as goal
 
 pub scan-requires-clause-objects : goal.scan-requires-clause-objects
 scan-requires-clause-objects c = λ x h. c.requires.objects x (followed_is_soft (λ _. false) c.args.heap.now.graph.objects c.args.slot x h)
@@ -43,6 +43,7 @@ returns-then-scan-clause-follows c =
       off = f.off;
       same_bits = f.same_bits;
       taken = f.taken;
+      gone = f.gone;
       shaded = shaded_same _ _ (λ x h. followed_from kept heap s x (inl h)) (λ x h. elim (followed_gives kept heap s x h) [ inl strong ↦ strong | inr soft ↦ no_soft (at heap s) x plain soft.1 ]) _ _ f.shaded;
     }
 
@@ -59,5 +60,6 @@ returns-clause-follows c =
       off = f.off;
       same_bits = f.same_bits;
       taken = f.taken;
+      gone = f.gone;
       shaded = shaded_same _ _ (λ x h. followed_from kept heap s x h) (λ x h. followed_gives kept heap s x h) _ _ (shaded_then _ _ _ _ _ f.shaded soft);
     }

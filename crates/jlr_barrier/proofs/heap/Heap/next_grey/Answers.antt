@@ -1,0 +1,12 @@
+use Rattle.std.proofs.Common.{subst}
+use Rattle.std.specs.Prelude.{IfSome}
+use Rattle.jlr_marks.specs.Marking.{IsMarked}
+use Rattle.jlr_barrier.specs.Graphs.{Known}
+use Rattle.jlr_barrier.specs.Snapshots.{IsObject}
+use Rattle.jlr_barrier.proofs.Ending.{upcoming_there}
+use Rattle.jlr_barrier.proofs.heap.Heap.next_grey.Goals as goal
+
+pub returns-clause-there : goal.returns-clause-there
+returns-clause-there c =
+    subst (λ (k : Known). IfSome c.next_grey.result (λ s. IsMarked k.marking s × IsObject k.graph.objects s)) c.self.view_is
+    (upcoming_there _ _ _ c.self.invariant c.next_grey.result c.next_grey.ensures)

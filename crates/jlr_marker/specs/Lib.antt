@@ -1,0 +1,3 @@
+-- Reading order.
+pub mod Following
+pub mod Marks

@@ -1,0 +1,67 @@
+-- Grey cells, one more and one less.
+use Rattle.std.proofs.Common.{◌≡◌, ◌<◌, ◌∷◌, ◌++◌, ℕ, inl, inr, Bool, true, false, List, [], length, get_or, set, refl, sym, ◌∙◌, subst}
+use Rattle.std.specs.Prelude.{IsPermutation, nat_eq}
+use Rattle.std.specs.List.{IsDistinct, AllByRecursion}
+use Rattle.std.proofs.lemmas.Bool.{both_ways, eq-eqb, eqb-true, false_from_ne_true}
+use Rattle.std.proofs.lemmas.List.Sorted.{IsPermutation-sym, IsPermutation-to_front, list_any-IsPermutation}
+use Rattle.std.proofs.lemmas.Map.Keys.{IsDistinct-IsPermutation}
+use Rattle.jlr_machine.specs.Objects.{◌∈◌}
+use Rattle.jlr_laws.proofs.Sets.{nothing, in_front, in_rest, in_cons}
+use Rattle.jlr_laws.proofs.Clearing.{in_append}
+use Rattle.jlr_marks.specs.Marking.{AreGrey}
+use Rattle.jlr_marks.proofs.Shading.{marked_here, set_keeps}
+
+-- ---- Lists without repeats
+
+apart : (x : ℕ) (ys : List ℕ) → (x ∈ ys → ⊥) → AllByRecursion (λ y. nat_eq x y ≡ false) ys
+apart x [] h = tt
+apart x (y ∷ ys) h = (false_from_ne_true (nat_eq x y) (λ e. h (in_front x y ys (eqb-true x y e))), apart x ys (λ i. h (in_rest x y ys i)))
+
+not_again : {P : Type 0} (x : ℕ) (ys : List ℕ) → AllByRecursion (λ y. nat_eq x y ≡ false) ys → x ∈ ys → P
+not_again x [] all h = nothing x h
+not_again x (y ∷ ys) all h = elim (in_cons x y ys h) [ inl e ↦ absurd (both_ways (nat_eq x y) all.0 (eq-eqb x y e)) | inr i ↦ not_again x ys all.1 i ]
+
+flipped : (x y : ℕ) (b : Bool) → nat_eq y x ≡ b → nat_eq x y ≡ b
+flipped x y true e = eq-eqb x y (sym (eqb-true y x e))
+flipped x y false e = false_from_ne_true (nat_eq x y) (λ t. both_ways (nat_eq y x) e (eq-eqb y x (sym (eqb-true x y t))))
+
+one_before : (x : ℕ) (xs : List ℕ) → (x ∈ xs → ⊥) → IsDistinct nat_eq xs → IsDistinct nat_eq (x ∷ xs)
+unfolding IsDistinct
+one_before x xs out once = (apart x xs out, once)
+
+front_once : {P : Type 0} (x : ℕ) (xs : List ℕ) → IsDistinct nat_eq (x ∷ xs) → x ∈ xs → P
+unfolding IsDistinct
+front_once x xs once h = not_again x xs once.0 h
+
+rest_once : (x : ℕ) (xs : List ℕ) → IsDistinct nat_eq (x ∷ xs) → IsDistinct nat_eq xs
+unfolding IsDistinct
+rest_once x xs once = once.1
+
+-- ---- Grey cells
+
+pub none_grey : (bits : List Bool) → AreGrey bits []
+unfolding IsDistinct
+none_grey bits = record { marked = λ x h. nothing x h; once = tt }
+
+-- a white cell is shaded
+pub grey_more : (bits : List Bool) (grey : List ℕ) (y : ℕ) → y < length bits → get_or bits y false ≡ false → AreGrey bits grey → AreGrey (set bits y true) (grey ++ y ∷ [])
+grey_more bits grey y inside white g =
+    let out : y ∈ grey → ⊥ = λ h. both_ways (get_or bits y false) white (g.marked y h) in
+    record {
+      marked = λ x h. elim (in_append x grey (y ∷ []) h) [
+        | inl o ↦ set_keeps bits y x inside (g.marked x o)
+        | inr n ↦ elim (in_cons x y [] n) [ inl e ↦ subst (λ z. get_or (set bits y true) z false ≡ true) (sym e) (marked_here bits y inside) | inr z ↦ nothing x z ]
+      ];
+      once = IsDistinct-IsPermutation nat_eq (λ a b. flipped a b (nat_eq b a) refl) (y ∷ grey) (grey ++ y ∷ []) (IsPermutation-sym (grey ++ y ∷ []) (y ∷ grey) (IsPermutation-to_front grey y)) (one_before y grey out g.once);
+    }
+
+module _ (bits : List Bool) (old new : List ℕ) (x : ℕ) (g : AreGrey bits old) (taken : IsPermutation old (x ∷ new)) where
+  only_once : IsDistinct nat_eq (x ∷ new)
+  only_once = IsDistinct-IsPermutation nat_eq (λ a b. flipped a b (nat_eq b a) refl) old (x ∷ new) taken g.once
+
+  -- a cell is grey no more
+  pub taken_once : x ∈ new → ⊥
+  taken_once h = front_once x new only_once h
+
+  pub grey_less : AreGrey bits new
+  grey_less = record { marked = λ z h. g.marked z (list_any-IsPermutation (nat_eq z) old (x ∷ new) taken ∙ in_rest z x new h); once = rest_once x new only_once }
