@@ -16,6 +16,7 @@ use jlr_machine::items::Items;
 use std::alloc::Global;
 
 /// An ask that is no end: one entry, in a place that is there.
+#[inline(always)]
 pub(crate) fn record<R>(
     core: &mut Core<R>,
     choice: &mut Choice,

@@ -72,6 +72,7 @@ impl ListRoom {
     }
 
     /// The same answer. Takes no memory.
+    #[inline(always)]
     pub fn copy(self, answer: &Answer) -> Answer
         requires { Fits self answer.now }
         ensures { result ≡ answer.now }
@@ -155,6 +156,7 @@ impl ChoiceRoom {
     ///
     /// # Errors
     /// `AllocError` where the room cannot be had.
+    #[inline(always)]
     fn for_event<R>(
         alloc: Global,
         core: &Core<R>,
@@ -173,6 +175,7 @@ impl ChoiceRoom {
     }
 
     /// One step of the core, and what it chose. Where no collection comes, the core is lent a choice.
+    #[inline(always)]
     pub(crate) fn step<R>(
         self,
         core: &mut Core<R>,
@@ -218,6 +221,7 @@ impl EntryRoom {
     ///
     /// # Errors
     /// `AllocError` where the room cannot be had.
+    #[inline(always)]
     pub(crate) fn for_event<R>(
         alloc: Global,
         core: &Core<R>,
