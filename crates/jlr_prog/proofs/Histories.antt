@@ -159,9 +159,11 @@ leave_is_last {R} x y steps = elim (steps.book) [
       let added : y.book.entries ≡ x.book.entries ++ ok_entry (ask.Leave 0) chosen ∷ [] = ap {A = History R} {B = List Entry} (λ b. b.entries) s.0.adds in
       let base : y.book.base ≡ x.book.base = ap {A = History R} {B = ℕ} (λ b. b.base) s.0.adds in
       let still : y.earlier ≡ x.earlier =
-      steps.earlier ∙ ap {A = List Entry} {B = List Entry} (λ l. x.earlier ++ l) (stayed x.book.base y.book.base (x.book.entries ++ given_up 0 x.book.core.machine) base) ∙ append-nil x.earlier in
-      (chosen, ap {A = List Entry} {B = List Entry} (λ l. l ++ y.book.entries) still ∙ ap {A = List Entry} {B = List Entry} (λ l. x.earlier ++ l) added
-      ∙ sym (append_assoc x.earlier x.book.entries (ok_entry (ask.Leave 0) chosen ∷ [])))
+      steps.earlier ∙ ap {A = List Entry} {B = List Entry} (λ l. x.earlier ++ l) (stayed x.book.base y.book.base (x.book.entries ++ given_up 0 x.book.core.machine) base) ∙ append-nil x.earlier in (
+        chosen,
+        ap {A = List Entry} {B = List Entry} (λ l. l ++ y.book.entries) still ∙ ap {A = List Entry} {B = List Entry} (λ l. x.earlier ++ l) added
+            ∙ sym (append_assoc x.earlier x.book.entries (ok_entry (ask.Leave 0) chosen ∷ [])),
+      )
   | inr t ↦ not_ok t.by t.refused
 ]
 

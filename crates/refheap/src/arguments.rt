@@ -110,12 +110,7 @@ pub fn audited<'a>(alloc: Global, words: &'a [String]) -> Result<Option<&'a str>
 }
 
 /// The limits of a session that is alone, with so many cells, so many files and sockets, this soft age, and a trace of this length.
-fn limits_with(
-    cells: u32,
-    resources: u32,
-    soft_age: u32,
-    trace: u32,
-) -> Result<Limits, LimitFault>
+fn limits_with(cells: u32, resources: u32, soft_age: u32, trace: u32) -> Result<Limits, LimitFault>
     ensures limits { IfOk result (λ limits. (limits.cells ≡ cells) × (limits.sessions ≡ 1) × (limits.resources ≡ resources) × (limits.soft_age ≡ soft_age) × (limits.trace ≡ trace) × (limits.budget ≡ 64)) }
     ensures fault { IfErr result (λ fault. first_fault cells 1 resources soft_age trace 64 ≡ Some fault) }
 {

@@ -11,10 +11,10 @@
 //!
 //! What stands before a bar is its setting, as `settings` reads it. Where ` or ` parts two lists of answers, each of them is right. A line that
 //! begins with `#` is a remark.
-use super::settings::Setting;
+use super::settings::{Setting, Shown};
 use super::words::{lines, text_of};
-use jlr_device::Device;
 use jlr_book::book::Book;
+use jlr_device::Device;
 use jlr_prog::run::run_over;
 use jlr_session::shell::SessionEnd;
 use jlr_types::Limits;
@@ -22,18 +22,27 @@ use std::alloc::{AllocError, Global};
 use std::io::{Read, Write};
 use std::test::Fail;
 
-/// How the session of a heap of its own ended, and its book.
+/// How the session of a heap of its own ended, and what is seen of its book.
 pub(super) fn ended<D: Device, R: Read, W: Write>(
     alloc: Global,
     limits: Limits,
     reader: &mut R,
     writer: &mut W,
     device: &mut D,
-) -> Result<(SessionEnd, Book<D::Res>), Fail>
+) -> Result<(SessionEnd, Shown), Fail>
 where
     D::Res: Drop,
 {
-    Ok(run_over(alloc, limits, reader, writer, device)?)
+    let (end, book) = run_over(alloc, limits, reader, writer, device)?;
+    Ok((end, shown(book)))
+}
+
+/// What is seen of a book, which is given up.
+fn shown<R: Drop>(book: Book<R>) -> Shown {
+    Shown {
+        base: book.base(),
+        entries: book.entries().len(),
+    }
 }
 
 /// Each session of the lists ends and is answered as it has to.

@@ -33,8 +33,8 @@ pub(super) struct Setting {
 /// What is seen of a book: its base, and how many entries came after it.
 #[derive(Clone, Copy, PartialEq, Eq)]
 pub(super) struct Shown {
-    base: u64,
-    entries: usize,
+    pub(super) base: u64,
+    pub(super) entries: usize,
 }
 
 /// What a session came to.
@@ -81,12 +81,7 @@ impl Setting {
     }
 
     /// What a session of this setting comes to. Its input comes in two pieces.
-    pub(super) fn played(
-        self,
-        alloc: Global,
-        first: &[u8],
-        rest: &[u8],
-    ) -> Result<Played, Fail> {
+    pub(super) fn played(self, alloc: Global, first: &[u8], rest: &[u8]) -> Result<Played, Fail> {
         let limits = limits(self.resources, self.soft_age, self.trace)?;
         let mut device = ScriptDevice::new(self.scripts, self.failures);
         let mut reader = first.chain(rest);
@@ -98,10 +93,7 @@ impl Setting {
         Ok(Played {
             end,
             out: writer.taken,
-            book: Shown {
-                base: book.base(),
-                entries: book.entries().len(),
-            },
+            book,
         })
     }
 }
