@@ -4,6 +4,7 @@ ghost use Rattle.jlr_machine.specs.declared.entry.Entry.{Entry as EntryOf};
 ghost use Rattle.jlr_machine.specs.WellFormed.{IsWellFormed};
 ghost use Rattle.jlr_machine.specs.Run.{IsLegal, Run};
 
+use crate::watch::Watch;
 use jlr_machine::entry::Entry;
 use jlr_machine::machine::Machine;
 use jlr_plain::run::step_plain;
@@ -19,17 +20,20 @@ pub enum Verdict {
 }
 
 /// How many of the first entries are legal, one after the other, from this machine on. It is then what they leave.
-pub(crate) fn legal_front(
+pub fn legal_front<W: Watch>(
     alloc: Global,
     machine: &mut Machine,
     entries: &[Entry],
+    watch: &mut W,
 ) -> Result<usize, AllocError>
     requires { IsWellFormed machine.old }
     ensures within { IfOk result (λ n. n ≤ length entries.now) }
     ensures run { IfOk result (λ n. Run machine.old (take n entries.now) machine.new) }
+    ensures formed { IfOk result (λ _. IsWellFormed machine.new) }
     ensures first { IfOk result (λ n. (e : EntryOf) → slice_get entries.now n ≡ Some e → ¬ (IsLegal machine.new e)) }
 {
     for (number, entry) in entries.iter().enumerate() {
+        watch.told(number);
         if !step_plain(alloc, machine, entry)? {
             return Ok(number);
         }

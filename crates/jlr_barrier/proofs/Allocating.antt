@@ -1,8 +1,8 @@
 -- A new object keeps a heap together.
-use Rattle.std.proofs.Common.{◌≡◌, ◌≤◌, ◌<◌, ℕ, ◌⊎◌, inl, inr, true, false, IsTrue, List, [], ◌++◌, Some, None, is_some, length, option_and_then, slice_set, refl, sym, subst, arith, ap, ◌∙◌, length-set, get_or, get_or-set_same, get_or-set_other}
+use Rattle.std.proofs.Common.{◌≡◌, ◌≤◌, ◌<◌, ◌+◌, ℕ, ◌⊎◌, inl, inr, true, false, IsTrue, List, [], ◌++◌, Some, None, is_some, length, option_and_then, slice_set, refl, sym, subst, arith, ap, ◌∙◌, length-set, get_or, get_or-set_same, get_or-set_other, count_by}
 use Rattle.std.specs.List.{flat_map}
 use Rattle.std.specs.Option.{option_to_list}
-use Rattle.std.proofs.lemmas.Bool.{cases_eq}
+use Rattle.std.proofs.lemmas.Bool.{both_ways, cases_eq, false_from_ne_true}
 use Rattle.jlr_machine.specs.declared.object.Object.{Object}
 use Rattle.jlr_machine.specs.Objects.{Heap, any_referent, at, set_at, ◌∈◌}
 use Rattle.jlr_machine.specs.Edges.{edges_from, strong_edges, is_own_root, active_cleanables}
@@ -10,7 +10,8 @@ use Rattle.jlr_machine.specs.Edges.Chain.{Strong}
 use Rattle.jlr_laws.proofs.Sets.{nothing}
 use Rattle.jlr_laws.proofs.Clearing.{in_append, in_left, in_right, option_in}
 use Rattle.jlr_laws.proofs.Frames.{set_same, set_other}
-use Rattle.jlr_marks.specs.Marking.{Blackened, Marking, IsMarked}
+use Rattle.jlr_marks.specs.Marking.{Blackened, Marking, IsMarked, is_marked, marked as count}
+use Rattle.jlr_marks.proofs.Counting.{count_marks}
 use Rattle.jlr_barrier.specs.Graphs.{Graph, Known, held, with_objects}
 use Rattle.jlr_barrier.specs.Snapshots.{IsEdge, IsObject, RefersTo, IsSafe, IsSnapshot, IsInHand, cycle_of, FitsTogether}
 use Rattle.jlr_barrier.proofs.Held.{by_session, by_name, by_pending, by_line, by_itself, held_cases}
@@ -135,3 +136,9 @@ blackened k a b s n f inside bits grey discovered =
       grey = grey;
       discovered = discovered;
     }
+
+-- a free cell was white, so that one more is marked
+pub one_more : (k : Known) (a b s : ℕ) (n : Marking) → FitsTogether k a b → s < length k.graph.objects → at k.graph.objects s ≡ None → n.bits ≡ slice_set k.marking.bits s true → count n ≡ count k.marking + 1
+one_more k a b s n f inside free bits =
+    let white : is_marked k.marking s ≡ false = false_from_ne_true (is_marked k.marking s) (λ on. both_ways false refl (subst (λ o. is_some o ≡ true) free (f.objects s on))) in
+    ap (λ l. count_by (λ b. b) l) bits ∙ count_marks k.marking.bits s (omega (arith, inside, f.bits)) white

@@ -6,7 +6,7 @@ ghost use Rattle.jlr_cells.specs.Contents.{watching};
 ghost use Rattle.jlr_barrier.specs.Graphs.{used_now, with_objects};
 ghost use Rattle.jlr_barrier.specs.Guards.{AreFree, with_guard};
 ghost use Rattle.jlr_barrier.specs.Snapshots.{IsInHand};
-ghost use Rattle.jlr_marks.specs.Marking.{Blackened, Marking};
+ghost use Rattle.jlr_marks.specs.Marking.{Blackened, Marking, marked};
 
 use crate::heap::Heap;
 use jlr_cells::Shape;
@@ -22,6 +22,7 @@ impl Heap {
         ensures made { IfSome result (λ made. self.new.graph ≡ with_objects self.old.graph (with_guard self.old.graph.objects made.0 made.1 rid action)) }
         ensures clock { IfSome result (λ made. self.new.clock ≡ used_now (used_now self.old.clock made.0) made.1) }
         ensures black { IfSome result (λ made. (m : Marking) × Blackened made.1 self.old.marking m × Blackened made.0 m self.new.marking) }
+        ensures count { IfSome result (λ _. marked self.new.marking ≡ marked self.old.marking + 2) }
     {
         if self.free_count() < 2 {
             return None;

@@ -4,7 +4,7 @@ ghost use Rattle.jlr_machine.specs.Objects.{◌∈◌, any_referent, as_fields, 
 ghost use Rattle.jlr_machine.specs.Refusals.{is_plain, is_queue, is_reference};
 ghost use Rattle.jlr_cells.specs.Contents.{field_at, kind_of, object_of, referent_in};
 ghost use Rattle.jlr_machine.specs.Edges.{strong_edges};
-ghost use Rattle.jlr_marks.specs.Marking.{Blackened, IsMarked, Shaded};
+ghost use Rattle.jlr_marks.specs.Marking.{Blackened, IsMarked, Shaded, marked};
 ghost use Rattle.jlr_barrier.specs.Graphs.{empty_known, used_now, with_objects};
 ghost use Rattle.jlr_barrier.specs.Snapshots.{IsInHand, IsObject};
 
@@ -166,6 +166,7 @@ impl Heap {
         ensures made { IfSome result (λ slot. self.new.graph ≡ with_objects self.old.graph (set_at self.old.graph.objects slot (object_of shape))) }
         ensures clock { IfSome result (λ slot. self.new.clock ≡ used_now self.old.clock slot) }
         ensures black { IfSome result (λ slot. Blackened slot self.old.marking self.new.marking) }
+        ensures count { IfSome result (λ _. marked self.new.marking ≡ marked self.old.marking + 1) }
     {
         let slot = self.cells.take(shape)?;
         self.marks.blacken(slot);

@@ -3,8 +3,7 @@
 //!
 //! All calls that make or remove a strong edge stand here: the fields of plain objects, the queue of a reference while it may still
 //! be added to it, the members of a queue, the pending list and the line. So do those that make or remove a root of a mutator: its handles,
-//! the fence of its call, and the names. A collector that marks in steps will have its barriers in these calls, and the contracts, which speak
-//! of objects, roots and lists alone, stay as they are.
+//! the fence of its call, and the names. The barriers of a collector that marks in steps stand in these calls: what is cut off is shaded.
 //!
 //! No call but `Heap::new`, `Heap::link`, `Heap::names` and the images takes memory.
 #![tactic(auto)]

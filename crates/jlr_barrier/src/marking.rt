@@ -45,6 +45,7 @@ impl Heap {
     pub fn has_grey(&self) -> bool
         ensures exact { result ≡ false ↔ (self.now.marking.grey ≡ []) }
         ensures whole { self.now.marking.grey ≡ [] → HoldsWhole self.now }
+        ensures bits { length self.now.marking.bits ≡ length self.now.graph.objects }
     {
         self.marks.has_grey()
     }

@@ -1,12 +1,14 @@
 -- What a book tells after an entry more, a refused end, and a cut.
 use Rattle.std.proofs.Common.{nat_lt, replicate, zero, ◌≡◌, inl, inr, append-nil, ℕ, suc, ◌+◌, ◌≤◌, ◌<◌, ◌^◌, Bool, true, false, cond, List, [], ◌∷◌, ◌++◌, length, Option, Some, None, refl, sym, ◌∙◌, ap, subst, arith, option_to_list, length-append}
 use Rattle.std.proofs.lemmas.Bool.{both_ways, lt-ltb, ltb-true}
+use Rattle.std.proofs.lemmas.List.{length-replicate}
 use Rattle.jlr_types.specs.declared.limits.Limits.{Limits}
 use Rattle.jlr_machine.specs.declared.machine.Machine.{Machine}
 use Rattle.jlr_machine.specs.declared.ask.Ask.{Ask}
 use Rattle.jlr_machine.specs.declared.entry.Chosen.{Chosen}
 use Rattle.jlr_machine.specs.declared.entry.Entry.{Entry}
 use Rattle.jlr_machine.specs.Refusals.{is_end}
+use Rattle.jlr_machine.specs.declared.object.Object.{Object}
 use Rattle.jlr_machine.specs.declared.machine.Session.{Session}
 use Rattle.jlr_machine.specs.Run.{Run, apply, empty}
 use Rattle.jlr_machine.specs.WellFormed.{IsImage, IsWellFormed}
@@ -15,10 +17,11 @@ use Rattle.jlr_event.specs.declared.event.Reply.{Reply}
 use Rattle.jlr_event.specs.Events.{ask_of, answer_in}
 use Rattle.jlr_core.specs.Cores.{Kept}
 use Rattle.jlr_core.specs.Steps.{IsStep}
-use Rattle.jlr_book.specs.Histories.{Ends, HasNumbers, History, IsHistory, seated, spare}
+use Rattle.jlr_book.specs.Histories.{Ends, HasLimits, HasNumbers, History, IsHistory, seated, spare}
 use Rattle.jlr_laws.proofs.Empty.{empty_is_well_formed}
 use Rattle.jlr_histories.specs.Owing.{owed, owed_by, most_owed}
 use Rattle.jlr_histories.proofs.Owing.{owed_bounded}
+use Rattle.jlr_book.proofs.Limits.{runs_keep_the_limits}
 use Rattle.jlr_core.proofs.Ranges.{limits_hold}
 use Rattle.jlr_core.proofs.RunLaws.{stands_at_start, start_cells}
 use Rattle.jlr_book.specs.Rules.{AsksBy, BookSteps, Cuts, EndsBy, Enters, GivesUp, Readies, StepsBy}
@@ -57,6 +60,7 @@ pub goes_on : {R : Type 0} (limits : Limits) (base : ℕ) (image : Machine) (ent
 goes_on limits base image entries entries' core core' seat e reply h w cells fits =
     record {
       image = h.image;
+      limits_are = h.limits_are;
       at_0 = h.at_0;
       ends = subst (λ l. Ends image l core') (sym w.adds) (ends_more image entries core core' seat e reply w.chosen w.step h.ends);
       fits = fits;
@@ -77,6 +81,17 @@ at_image image core i ends =
     let same : core.machine ≡ record image { seen = [] } = ends.2.same ∙ ap {A = Machine} {B = Machine} (λ n. record n { seen = [] }) ends.1 in
     ap {A = Machine} {B = Machine} closed same ∙ sym (ap {A = List ℕ} {B = Machine} (λ l. record image { seen = l }) none ∙ ap {A = Bool} {B = Machine} (λ b. record image { seen = []; cycle_open = b }) i.no_cycle)
 
+-- the machine of a core has the limits of its book, also with no cycle open
+core_limits : {R : Type 0} (limits : Limits) (base : ℕ) (image : Machine) (entries : List Entry) (core : Kept R) → IsHistory (told limits base image entries core) → HasLimits limits (closed core.machine)
+core_limits limits base image entries core h =
+    let kept = runs_keep_the_limits image h.ends.0 entries h.ends.1 in
+    let same = h.ends.2.same in
+    record {
+      cells = ap {A = Machine} {B = ℕ} (λ m. length m.objects) same ∙ kept.cells ∙ h.limits_are.cells;
+      sessions = ap {A = Machine} {B = ℕ} (λ m. length m.mutators) same ∙ kept.sessions ∙ h.limits_are.sessions;
+      resources = ap {A = Machine} {B = ℕ} (λ m. m.resource_limit) same ∙ kept.resources ∙ h.limits_are.resources;
+    }
+
 -- after a cut
 pub cut_history : {R : Type 0} (limits : Limits) (base used : ℕ) (image : Machine) (entries : List Entry) (core core' : Kept R)
     → IsHistory (told limits base image entries core) → core'.machine ≡ closed core.machine → Stands core' → used ≡ length entries + cond core.machine.cycle_open 1 0
@@ -86,6 +101,7 @@ cut_history limits base used image entries core core' h same st is fits =
     let ends : Ends (closed core.machine) [] core' = subst (λ m. Ends m [] core') same (stands_for_its_own core' st shut) in
     record {
       image = record { well_formed = subst IsWellFormed ends.1 ends.3; no_cycle = refl };
+      limits_are = core_limits limits base image entries core h;
       at_0 = λ z.
           let none : entries ≡ [] = nothing_left entries (omega (arith, z, is)) in
           let here : Ends image [] core = subst (λ l. Ends image l core) none h.ends in
@@ -123,6 +139,7 @@ end_goes_on limits base room image entries entries' core core' seat e reply aske
     let owes : owed core'.machine ≡ owed core.machine = same_owed image entries core core' h.ends ends in (
       record {
         image = h.image;
+        limits_are = h.limits_are;
         at_0 = h.at_0;
         ends = subst (λ l. Ends image l core') (sym r.stays) ends;
         fits = subst (λ l. base + length l + spare core'.machine < 2 ^ 64) (sym r.stays) (omega (arith, owes, h.fits));
@@ -257,6 +274,9 @@ none_owed (suc n) = let e = none_owed n in omega (arith, e)
 pub nothing_owed : {R : Type 0} (limits : Limits) (core : Kept R) → core.machine ≡ empty limits.cells limits.sessions limits.resources → owed core.machine ≡ 0
 nothing_owed limits core is = let none = none_owed limits.sessions in let same : owed core.machine ≡ owed (empty limits.cells limits.sessions limits.resources) = ap {A = Machine} {B = ℕ} owed is in omega (arith, same, none)
 
+abbrev none_of : (A : Type 0) → Option A
+none_of A = None
+
 pub starts : {R : Type 0} (limits : Limits) (image : Machine) (core : Kept R) → core.machine ≡ empty limits.cells limits.sessions limits.resources → image ≡ core.machine → IsHistory (told limits 0 image [] core)
 starts limits image core is copied =
     let fit = limits_hold limits in
@@ -266,6 +286,7 @@ starts limits image core is copied =
     let owes = nothing_owed limits core is in
     record {
       image = subst IsImage (sym here) (record { well_formed = formed; no_cycle = refl });
+      limits_are = subst (HasLimits limits) (sym here) (record { cells = length-replicate limits.cells (none_of Object); sessions = length-replicate limits.sessions (none_of Session); resources = refl });
       at_0 = λ _. here;
       ends = subst (λ n. Ends n [] core) (sym here) (m, refl, stands_at_start core limits.cells limits.sessions limits.resources is, formed, refl);
       fits = omega (arith, owes);

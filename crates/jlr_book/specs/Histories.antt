@@ -43,9 +43,16 @@ Ends image entries core = (m : Machine) × Run image entries m × StandsIn core 
 abbrev pub spare : Machine → ℕ
 spare m = owed m + 1
 
+-- the machine is of these limits
+pub record HasLimits (limits : Limits) (m : Machine) : Type 0 where
+  pub cells : length m.objects ≡ limits.cells
+  pub sessions : length m.mutators ≡ limits.sessions
+  pub resources : m.resource_limit ≡ limits.resources
+
 -- What is true of each book.
 pub record IsHistory {R : Type 0} (h : History R) : Type 0 where
   pub image : IsImage h.image
+  pub limits_are : HasLimits h.limits h.image
   pub at_0 : h.base ≡ 0 → h.image ≡ empty h.limits.cells h.limits.sessions h.limits.resources
   pub ends : Ends h.image h.entries h.core
   pub fits : last h + spare h.core.machine < 2 ^ 64

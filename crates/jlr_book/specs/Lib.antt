@@ -8,3 +8,4 @@ pub mod Making
 pub mod Keeping
 pub mod Writing
 pub mod OneTurn
+pub mod Limits

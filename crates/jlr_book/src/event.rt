@@ -10,7 +10,7 @@ use jlr_machine::ask::{Answer, Ask};
 use jlr_types::Refusal;
 
 /// Whether an ask ends a call or a session.
-pub(crate) fn is_end(ask: &Ask) -> bool
+pub fn is_end(ask: &Ask) -> bool
     ensures { result ≡ is_end ask.now }
 {
     match ask {
@@ -35,7 +35,7 @@ pub(crate) fn new_objects(ask: &Ask) -> usize
 }
 
 /// A refusal by the book itself. What the event carries goes back with it.
-pub(crate) fn refuse<R>(event: Event<R>, by: Refusal) -> Reply<R>
+pub fn refuse<R>(event: Event<R>, by: Refusal) -> Reply<R>
     ensures { result ≡ Answered (Refused by) (resource_of_event event) }
 {
     Reply::Answered {

@@ -4,6 +4,6 @@
 pub mod book;
 mod cut;
 mod entry;
-mod event;
+pub mod event;
 pub mod room;
 pub mod solo;

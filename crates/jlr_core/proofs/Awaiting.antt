@@ -20,15 +20,15 @@ use Rattle.jlr_machine.specs.declared.entry.Entry.{Entry}
 use Rattle.jlr_machine.specs.Objects.{Heap, Table, at, change_at, set_at, with_cleanable}
 use Rattle.jlr_machine.specs.Calls.{spent}
 use Rattle.jlr_machine.specs.Choices.{Choosing}
-use Rattle.jlr_machine.specs.Run.{IsLegal, done, empty_from, now_seen, with_collection}
+use Rattle.jlr_machine.specs.Run.{IsLegal, done, empty_from, with_collection}
 use Rattle.jlr_machine.specs.WellFormed.{IsCleanableAt, IsUnspent, IsWellFormed}
 use Rattle.jlr_laws.proofs.Changes.{cleanable_same}
 use Rattle.jlr_laws.proofs.Frames.{no_some, set_other, set_same, place_within}
-use Rattle.jlr_laws.proofs.SeenKept.{keeps_seen}
 use Rattle.jlr_histories.proofs.TakenOnce.{unspent_back}
 use Rattle.jlr_cycles.specs.Laws.{with_seen}
 use Rattle.jlr_cycles.proofs.Left.{leaves_the_same}
 use Rattle.jlr_laws.proofs.Allowed.{some_and_gives}
+use Rattle.jlr_marks.specs.Marking.{Marking}
 use Rattle.jlr_cleaner.specs.Jobs.{is_job_of, job_in}
 use Rattle.jlr_cleaner.specs.Cleanings.{Cleanings, after_finish, after_register, after_take_up}
 use Rattle.jlr_cleaner.proofs.Registering.{nothing_there}
@@ -36,7 +36,7 @@ use Rattle.jlr_core.specs.State.{entry_of}
 use Rattle.jlr_core.specs.Events.{StepsBy}
 use Rattle.jlr_core.specs.Collecting.{Allocates}
 use Rattle.jlr_core.specs.Waiting.{AllWait, Registers, Releases, WaitAsBefore, WaitsOn}
-use Rattle.jlr_core.proofs.Stepping.{IsLegalSome, IsUnseen, Left, met}
+use Rattle.jlr_core.proofs.Stepping.{IsLegalSome, IsUnseen, Left, met, picked_fit}
 
 -- in an empty machine nothing is to wait
 pub none_waits : (cells sessions limit next : ℕ) (waiting : Table ℕ) → waiting ≡ replicate cells None → AllWait (empty_from cells sessions limit next) waiting
@@ -56,15 +56,14 @@ back_by m slots e w l s d u small =
     let b = unspent_back (with_seen m slots) e w l s d (record { there = v.there; unspent = v.unspent }) small in
     (b.0, record { there = b.1.there; unspent = b.1.unspent }, b.2)
 
-back_legal : (m n : Machine) (ask : Ask) (answer : Answer) (chosen : Chosen) → IsWellFormed m → IsLegalSome m ask answer chosen → Left m ask answer chosen n → Back m n
-back_legal m n ask answer chosen w (inl l) left = subst (Back m) (sym left) (back_by m m.seen (entry_of ask answer chosen) w l)
-back_legal m n ask answer chosen w (inr l) left = subst (Back m) (sym left) (back_by m (now_seen m) (entry_of ask answer chosen) (keeps_seen m w) l)
+back_legal : (m n : Machine) (marking : Marking) (ask : Ask) (answer : Answer) (chosen : Chosen) → IsWellFormed m → IsLegalSome m marking ask answer chosen → Left m ask answer chosen n → Back m n
+back_legal m n marking ask answer chosen w l left = subst (Back m) (sym left) (back_by m l.0 (entry_of ask answer chosen) (picked_fit m marking l.0 w l.1) l.2)
 
-back_from : (m n : Machine) (ask : Option Ask) (answer : Option Answer) (chosen : Chosen) → IsUnseen n → IsWellFormed m → StepsBy m ask answer chosen n → Back m n
-back_from m n (Some ask) (Some answer) chosen unseen w s = let l = met m ask answer chosen n unseen s in back_legal m n ask answer chosen w l.0 l.1
-back_from m n (Some ask) None chosen unseen w s = absurd s
-back_from m n None (Some answer) chosen unseen w s = absurd s
-back_from m n None None chosen unseen w s = subst (Back m) (sym s.1) (λ x d u small. (d, u, refl))
+back_from : (m n : Machine) (marking : Marking) (ask : Option Ask) (answer : Option Answer) (chosen : Chosen) → IsUnseen m → IsUnseen n → IsWellFormed m → StepsBy m marking ask answer chosen n → Back m n
+back_from m n marking (Some ask) (Some answer) chosen before unseen w s = let l = met m marking ask answer chosen n before unseen s in back_legal m n marking ask answer chosen w l.0 l.1
+back_from m n marking (Some ask) None chosen before unseen w s = absurd s
+back_from m n marking None (Some answer) chosen before unseen w s = absurd s
+back_from m n marking None None chosen before unseen w s = subst (Back m) (sym s.1) (λ x d u small. (d, u, refl))
 
 module _ {R : Type 0} (m n : Machine) (old new : Cleanings R) (wn : IsWellFormed n) (back : Back m n) (number : m.next_action ≡ old.next_action) (number' : n.next_action ≡ new.next_action) (long : length n.objects ≡ length m.objects) (all : AllWait m old.waiting) where
   waited : (s : ℕ) (d : CleanableOf) → IsUnspent n s d → d.action < old.next_action → at old.waiting s ≡ Some d.action
@@ -109,9 +108,9 @@ module _ {R : Type 0} (m n : Machine) (old new : Cleanings R) (wn : IsWellFormed
   waits_on (inr (inr r)) = released r
 
 pub all_wait_after :
-    {R : Type 0} (m n : Machine) (old new : Cleanings R) (ask : Option Ask) (answer : Option Answer) (chosen : Chosen) → IsUnseen n → IsWellFormed m → IsWellFormed n → m.next_action ≡ old.next_action → n.next_action ≡ new.next_action
-    → length n.objects ≡ length m.objects → StepsBy m ask answer chosen n → AllWait m old.waiting → WaitsOn n old new → AllWait n new.waiting
-all_wait_after m n old new ask answer chosen unseen w wn number number' long s all on = waits_on m n old new wn (back_from m n ask answer chosen unseen w s) number number' long all on
+    {R : Type 0} (m n : Machine) (marking : Marking) (old new : Cleanings R) (ask : Option Ask) (answer : Option Answer) (chosen : Chosen) → IsUnseen m → IsUnseen n → IsWellFormed m → IsWellFormed n → m.next_action ≡ old.next_action → n.next_action ≡ new.next_action
+    → length n.objects ≡ length m.objects → StepsBy m marking ask answer chosen n → AllWait m old.waiting → WaitsOn n old new → AllWait n new.waiting
+all_wait_after m n marking old new ask answer chosen before unseen w wn number number' long s all on = waits_on m n old new wn (back_from m n marking ask answer chosen before unseen w s) number number' long all on
 
 -- ---- Where an action is registered, and where one waits no more
 

@@ -1,10 +1,11 @@
 -- Collections that asks make, from what a full collection is.
-use Rattle.std.proofs.Common.{◌≡◌, ◌<◌, ◌+◌, not, ℕ, Some, IsTrue, refl, sym, ◌∙◌, ap, subst, length, false, List, [], ◌∷◌, true, Bool, is_some, inl, inr}
+use Rattle.std.proofs.Common.{◌≡◌, ◌<◌, ◌+◌, not, ℕ, None, Some, IsTrue, refl, sym, ◌∙◌, ap, subst, length, false, List, [], ◌∷◌, true, Bool, is_some, suc, cond, filter, get_or, count_by, arith}
 use Rattle.std.proofs.lemmas.Bool.{lt-leb}
+use Rattle.std.proofs.lemmas.List.Sums.{sum_by-cons}
 use Rattle.jlr_machine.specs.declared.machine.Machine.{Machine}
 use Rattle.jlr_soft.specs.declared.policy.Policy.{Policy}
 use Rattle.jlr_soft.specs.declared.policy.Mode.{Mode}
-use Rattle.jlr_soft.specs.declared.policy.Mode.TheVariants.{ClearAll, Policy as PolicyMode}
+use Rattle.jlr_soft.specs.declared.policy.Mode.TheVariants.{ClearAll}
 use Rattle.jlr_machine.specs.declared.ask.Ask.TheVariants.{Collect, Full}
 use Rattle.jlr_machine.specs.declared.ask.Answer.TheVariants.{Truth}
 use Rattle.jlr_machine.specs.declared.ask.FullMode.{FullMode}
@@ -13,30 +14,27 @@ use Rattle.jlr_machine.specs.declared.entry.Chosen.{Chosen}
 use Rattle.jlr_machine.specs.declared.entry.Collected.{Collected}
 use Rattle.jlr_machine.specs.Objects.{at, ◌∈◌, occupied}
 use Rattle.jlr_machine.specs.Edges.{roots}
-use Rattle.jlr_machine.specs.Edges.Chain.{UpToSoft, UpToPhantom}
-use Rattle.jlr_machine.specs.Reachable.{IsReached}
-use Rattle.jlr_machine.specs.Run.{MayCollect, has_room, with_collection, now_seen}
+use Rattle.jlr_machine.specs.ReachSet.{up_to}
+use Rattle.jlr_machine.specs.Run.{MayCollect, has_room, with_collection}
 use Rattle.jlr_machine.specs.Run.IsLegal.{carried_out}
 use Rattle.jlr_machine.specs.Choices.{Choosing, collecting, nothing_chosen}
 use Rattle.jlr_machine.specs.Collection.{IsBackground, IsFullClearing, after_collection}
 use Rattle.jlr_machine.specs.WellFormed.{IsWellFormed}
-use Rattle.jlr_laws.specs.Laws.{IsMarked, IsPathFollowed, followed}
-use Rattle.jlr_laws.proofs.Frames.{some_same}
-use Rattle.jlr_laws.proofs.SeenKept.{now_seen_within}
-use Rattle.jlr_laws.proofs.Agree.{at_base, one_edge_more}
-use Rattle.jlr_laws.proofs.Clearing.{HasEdge, edge_gives, edge_from}
-use Rattle.jlr_laws.proofs.Empty.{well_formed_within}
-use Rattle.jlr_laws.proofs.LawProofs.{background_comes_down}
+use Rattle.jlr_laws.specs.Laws.{IsMarked as IsMarkedBy}
+use Rattle.jlr_laws.proofs.Frames.{no_some, some_same}
+use Rattle.jlr_laws.proofs.Sets.{in_filter}
 use Rattle.jlr_cycles.specs.Laws.{with_seen}
-use Rattle.jlr_cycles.proofs.Seen.{reached_is_seen}
-use Rattle.jlr_barrier.specs.Graphs.{Clock}
+use Rattle.jlr_barrier.specs.Graphs.{Clock, counted}
 use Rattle.jlr_marker.specs.Following.{keeps}
 use Rattle.jlr_sweep.specs.Collecting.{Collects}
 use Rattle.jlr_sweep.proofs.Kept.{clears_all as clears_all_by}
-use Rattle.jlr_marker.proofs.Following.{followed_is_soft, strong_is_followed}
-use Rattle.jlr_core.specs.State.{MeetsSeen}
-use Rattle.jlr_core.specs.Collecting.{MakesRoom, MayMakeRoom, mode_of}
-use Rattle.jlr_core.specs.Policy.{KeepsIn}
+use Rattle.jlr_marks.specs.Marking.{Marking, IsMarked, is_marked, marked}
+use Rattle.jlr_process.specs.Settling.{marked_below}
+use Rattle.jlr_process.specs.Flipping.{Flips}
+use Rattle.jlr_core.specs.State.{MeetsSeen, marked_in}
+use Rattle.jlr_core.specs.Collecting.{MakesRoom, MayMakeRoom, after_choice, mode_of}
+use Rattle.jlr_laws.proofs.CollectionKept.{length_left}
+use Rattle.jlr_core.specs.Policy.{KeepsIn, KeepsMarked}
 use Rattle.jlr_core.proofs.Entries.{none_fresh}
 
 -- ---- By mode
@@ -79,49 +77,74 @@ keeps_in mode age clock m old new n nothing c =
     let kept_soft = keeps (record { soft_age = age; mode = mode }) clock in
     let collected : new.chosen.collected ≡ Some (record { kept = c.kept; pending = c.pending }) = ap (λ (x : Chosen). x.collected) (told kept_soft m old new n nothing c) in
     λ k e.
-    subst (λ (x : Collected). IsMarked kept_soft m.objects (roots m) x.kept x.pending) (some_same (record { kept = c.kept; pending = c.pending }) k (sym collected ∙ e)) c.marked
+    subst (λ (x : Collected). IsMarkedBy kept_soft m.objects (roots m) x.kept x.pending) (some_same (record { kept = c.kept; pending = c.pending }) k (sym collected ∙ e)) c.marked
+
+-- ---- How many are marked
+
+marks_counted : (p : ℕ → Bool) (start : ℕ) (bits : List Bool) → ((i : ℕ) → i < length bits → p (start + i) ≡ get_or bits i false) → length (filter p (up_to start (length bits))) ≡ count_by (λ b. b) bits
+marks_counted p start [] h = refl
+marks_counted p start (b ∷ bits) h =
+    let rest = marks_counted p (suc start) bits (λ i l. let e : suc start + i ≡ start + suc i = omega arith in ap p e ∙ h (suc i) (omega (arith, l))) in
+    let zeroth : start ≡ start + 0 = omega arith in
+    let here : p start ≡ b = ap p zeroth ∙ h 0 (omega arith) in
+    let others = filter p (up_to (suc start) (length bits)) in
+    ap (λ c. length (cond c (start ∷ others) others)) here
+    ∙ elim b as (λ c. length (cond c (start ∷ others) others) ≡ count_by (λ b. b) (c ∷ bits)) [
+      | true ↦ omega (arith, rest, sum_by-cons (λ b. cond b 1 0) true bits)
+      | false ↦ rest
+    ]
+
+kept_counted : (k : Marking) (cells : ℕ) → length k.bits ≡ cells → length (marked_below k cells) ≡ marked k
+kept_counted k cells long = ap (λ n. length (marked_below k n)) (sym long) ∙ marks_counted (is_marked k) 0 k.bits (λ i l. let e : 0 + i ≡ i = omega arith in ap (is_marked k) e)
 
 -- ---- The collection of a cycle
 
-module _ (kept_soft : ℕ → Bool) (m : Machine) (w : IsWellFormed m) where
-  step_is_soft : (x z : ℕ) → z ∈ followed kept_soft m.objects x → HasEdge UpToSoft m.objects x z
-  step_is_soft x z h = edge_gives UpToSoft m.objects x z (followed_is_soft kept_soft m.objects x z h)
+chosen_by : (old new : Choosing) (kept pending : List ℕ) → old ≡ nothing_chosen old.cells → new ≡ collecting old kept pending → new.chosen ≡ record { collected = Some (record { kept = kept; pending = pending }); fresh = [] }
+chosen_by old new kept pending nothing c = ap (λ (k : Choosing). k.chosen) (c ∙ ap (λ (k : Choosing). collecting k kept pending) nothing)
 
-  reached_along : (x : ℕ) (path : List ℕ) (y : ℕ) → IsReached UpToSoft m.objects (roots m) x → IsPathFollowed kept_soft m.objects x path y → IsReached UpToSoft m.objects (roots m) y
-  reached_along x [] y r e = subst (IsReached UpToSoft m.objects (roots m)) e r
-  reached_along x (z ∷ path) y r h = reached_along z path y (one_edge_more UpToSoft m.objects (roots m) x z r (step_is_soft x z h.0)) h.1
+module _ (m : Machine) (k : Marking) (old new : Choosing) (flipped : Machine) (f : Flips m k old new flipped) (nothing : old ≡ nothing_chosen old.cells) where
+  abbrev kept : List ℕ
+  kept = marked_below k (length m.objects)
 
-  object_along : (x : ℕ) (path : List ℕ) (y : ℕ) → IsTrue (is_some (at m.objects x)) → IsPathFollowed kept_soft m.objects x path y → IsTrue (is_some (at m.objects y))
-  object_along x [] y o e = subst (λ s. IsTrue (is_some (at m.objects s))) e o
-  object_along x (z ∷ path) y o h =
-      let there = w.slots.edges x z (elim (step_is_soft x z h.0) [ inl s ↦ edge_from UpToPhantom m.objects x z (inl s) | inr r ↦ edge_from UpToPhantom m.objects x z (inr (r.0, refl, r.2)) ]) in
-      object_along z path y there h.1
+  chosen : new.chosen ≡ record { collected = Some (record { kept = kept; pending = f.pending }); fresh = [] }
+  chosen = chosen_by old new kept f.pending nothing f.chosen
 
-  pub background : (kept pending : List ℕ) → m.cycle_open ≡ true → IsMarked kept_soft m.objects (roots m) kept pending → IsBackground (with_seen m (now_seen m)) kept pending
-  background kept pending open_now c =
-      let within = well_formed_within m w in
-      (background_comes_down (with_seen m (now_seen m)) kept pending within (λ s h. now_seen_within m s h)).1
+  pub keeps_marked : length k.bits ≡ length m.objects → KeepsMarked m k new.chosen
+  keeps_marked long = λ c e.
+      let same = some_same (record { kept = kept; pending = f.pending }) c (sym (ap (λ (x : Chosen). x.collected) chosen) ∙ e) in
+      let is : c.kept ≡ kept = ap (λ (x : Collected). x.kept) (sym same) in
+      (is, ap (λ (l : List ℕ). length l) is ∙ kept_counted k (length m.objects) long)
+
+  background : m.cycle_open ≡ true → ((s : ℕ) → IsMarked k s → IsTrue (is_some (at m.objects s))) → IsBackground (with_seen m (marked_in m k)) kept f.pending
+  background still objects = record {
+    seen = λ s h. subst (λ b. s ∈ cond b kept []) (sym still) h;
+    objects = λ s h. objects s (in_filter (is_marked k) (up_to 0 (length m.objects)) s h).0;
+    collection = f.collection;
+  }
+
+  pub meets_collect : (n : Machine) → m.cycle_open ≡ true → ((s : ℕ) → IsMarked k s → IsTrue (is_some (at m.objects s))) → n ≡ record flipped { cycle_open = false; seen = [] } → MeetsSeen m k Collect (Truth true) new.chosen n
+  meets_collect n still objects left =
+      subst (λ x. MeetsSeen m k Collect (Truth true) x n) (sym chosen)
       (record {
-        seen = λ s h. let r = c.marked.least s h in reached_is_seen m within s open_now (reached_along r.0 r.2 s (at_base UpToSoft m.objects (roots m) r.0 r.1) r.3);
-        objects = λ s h. let r = c.marked.least s h in object_along r.0 r.2 s (w.slots.roots r.0 r.1) r.3;
-        holds_roots = c.marked.holds_base;
-        closed = λ x y h e. c.marked.closed x y h (strong_is_followed kept_soft m.objects x y e);
-        pended = c.pended;
-        once = c.once;
-        rising = c.rising;
+        legal = carried_out (record {
+          allowed = refl;
+          collection = (still, background still objects);
+          fresh = none_fresh (after_collection m kept f.pending).objects;
+          answers = refl;
+        });
+        applied = left ∙ ap (λ (x : Machine). record x { cycle_open = false; seen = [] }) f.left;
       })
 
-pub meets_collect : (m n : Machine) (age : ℕ) (clock : Clock) (old new : Choosing) → IsWellFormed m → m.cycle_open ≡ true → old ≡ nothing_chosen old.cells → Collects (keeps (record { soft_age = age; mode = PolicyMode }) clock) m old new n → MeetsSeen m Collect (Truth true) new.chosen n
-meets_collect m n age clock old new w open_now nothing c =
-    let kept_soft = keeps (record { soft_age = age; mode = PolicyMode }) clock in
-    let chosen_there : Chosen = record { collected = Some (record { kept = c.kept; pending = c.pending }); fresh = [] } in
-    subst (λ x. MeetsSeen m Collect (Truth true) x n) (sym (told kept_soft m old new n nothing c))
-    (record {
-      legal = carried_out (record {
-        allowed = refl;
-        collection = (open_now, background kept_soft m w c.kept c.pending open_now c.marked);
-        fresh = none_fresh (after_collection m c.kept c.pending).objects;
-        answers = refl;
-      });
-      applied = c.left;
-    })
+  pub tells_cells : new.cells ≡ old.cells
+  tells_cells = ap (λ (x : Choosing). x.cells) f.chosen
+
+  pub leaves_cells : length flipped.objects ≡ length m.objects
+  leaves_cells = ap (λ (x : Machine). length x.objects) f.left ∙ length_left kept f.pending 0 m.objects
+
+  pub counts_collection : (clock : Clock) → counted clock ≡ after_choice new.chosen clock
+  counts_collection clock = sym (ap (λ x. after_choice x clock) chosen)
+
+-- a collection is told
+pub none_chosen : {P : Type 0} (kept_soft : ℕ → Bool) (m : Machine) (old new : Choosing) (n : Machine) → old ≡ nothing_chosen old.cells → Collects kept_soft m old new n → new.chosen.collected ≡ None → P
+none_chosen kept_soft m old new n nothing c none =
+    no_some (record { kept = c.kept; pending = c.pending }) (sym none ∙ ap (λ (x : Chosen). x.collected) (told kept_soft m old new n nothing c))

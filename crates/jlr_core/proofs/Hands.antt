@@ -34,7 +34,7 @@ use Rattle.jlr_barrier.proofs.Held.{by_name, by_session}
 
 -- ---- What handles and names hold
 
-has_session : (o : Option Session) (f : Session → Option ℕ) (y : ℕ) → option_and_then f o ≡ Some y → (s : Session) × (o ≡ Some s) × (f s ≡ Some y)
+pub has_session : (o : Option Session) (f : Session → Option ℕ) (y : ℕ) → option_and_then f o ≡ Some y → (s : Session) × (o ≡ Some s) × (f s ≡ Some y)
 has_session None f y e = no_some y e
 has_session (Some s) f y e = (s, refl, e)
 
@@ -66,7 +66,7 @@ has_fields : (o : Option (List FieldValue)) (f y : ℕ) → option_and_then (λ 
 has_fields None f y e = no_some (Ref (Some y)) e
 has_fields (Some fields) f y e = (fields, refl, e)
 
-loads : (heap : Heap) (x f y : ℕ) → field_at heap x f ≡ Some (Ref (Some y)) → y ∈ edges_from Strong heap x
+pub loads : (heap : Heap) (x f y : ℕ) → field_at heap x f ≡ Some (Ref (Some y)) → y ∈ edges_from Strong heap x
 loads heap x f y e =
     let s = has_fields (option_and_then as_fields (at heap x)) f y e in
     subst (λ o. y ∈ flat_map strong_edges (option_to_list o)) (sym (is_plain_there (at heap x) s.0 s.1)) (in_left y (filter_map slot_in s.0) [] (in_fields s.0 f y s.2))

@@ -4,6 +4,8 @@ pub mod Hands
 pub mod Roots
 pub mod Clearings
 pub mod Rooms
+pub mod Shading
+pub mod Beginning
 pub mod Entries
 pub mod Stepping
 pub mod Ranges
@@ -14,3 +16,4 @@ pub mod Awaiting
 pub mod Rest
 pub mod Guards
 pub mod Moving
+pub mod Ticks

@@ -1,17 +1,19 @@
 -- What a core is seen as: the machine that it keeps, what it marked, its soft policy, and its files and sockets; and the machines for which
 -- it stands.
-use Rattle.std.specs.Prelude.{ℕ, Bool, List, []}
+use Rattle.std.specs.Prelude.{ℕ, Bool, List}
 use Rattle.jlr_machine.specs.declared.machine.Machine.{Machine}
 use Rattle.jlr_resource.specs.Resources.{Resources}
 use Rattle.jlr_cleaner.specs.Cleanings.{Cleanings}
 use Rattle.jlr_barrier.specs.Graphs.{Clock, Graph}
 use Rattle.jlr_machine.specs.StandsFor.{StandsFor}
-use Rattle.jlr_core.specs.State.{machine_with}
+use Rattle.jlr_marks.specs.Marking.{Marking}
+use Rattle.jlr_core.specs.State.{machine_with, marked_in}
 
 pub record Kept (R : Type 0) : Type 0 where
   -- with nothing seen
   pub machine : Machine
-  -- the objects marked in an open cycle. Marking is whole, and done by the collection itself, so there are none between events
+  -- the marks, and the objects that are marked in an open cycle
+  pub marking : Marking
   pub marked : List ℕ
   -- the soft policy: its age, in collections, and its time
   pub soft_age : ℕ
@@ -19,8 +21,16 @@ pub record Kept (R : Type 0) : Type 0 where
   -- the table of the machine's resources, with the values of those that lie in it
   pub table : Resources R
 
-abbrev pub kept_with : {R : Type 0} → Cleanings R → Graph → Clock → ℕ → Bool → Kept R
-kept_with c g clock soft_age cycle_open = record { machine = machine_with c g cycle_open; marked = []; soft_age = soft_age; clock = clock; table = c.table }
+abbrev pub kept_with : {R : Type 0} → Cleanings R → Graph → Clock → Marking → ℕ → Bool → Kept R
+kept_with c g clock marking soft_age cycle_open =
+    record {
+      machine = machine_with c g cycle_open;
+      marking = marking;
+      marked = marked_in (machine_with c g cycle_open) marking;
+      soft_age = soft_age;
+      clock = clock;
+      table = c.table;
+    }
 
 abbrev pub StandsIn : {R : Type 0} → Kept R → Machine → Type 0
 StandsIn core m = StandsFor core.machine core.marked m

@@ -1,7 +1,5 @@
 -- What an event and its reply are to the machine.
-use Rattle.std.specs.Prelude.{◌≡◌, ◌<◌, ◌≤◌, ◌^◌, cond, IsTrue, Option, Some, None, length}
-use Rattle.jlr_types.specs.declared.Progress.{Progress}
-use Rattle.jlr_types.specs.declared.Progress.TheVariants.{Done, Idle}
+use Rattle.std.specs.Prelude.{◌≡◌, ◌<◌, ◌≤◌, ◌^◌, IsTrue, Option, Some, None, length}
 use Rattle.jlr_types.specs.declared.Refusal.TheVariants.{NoMemory}
 use Rattle.jlr_machine.specs.declared.machine.Machine.{Machine}
 use Rattle.jlr_machine.specs.declared.ask.Ask.{Ask}
@@ -16,6 +14,7 @@ use Rattle.jlr_machine.specs.Lookups.{reference_named}
 use Rattle.jlr_machine.specs.Refusals.{refusal}
 use Rattle.jlr_machine.specs.Calls.{hand_over_answer, may_enqueue}
 use Rattle.jlr_machine.specs.Run.{no_choice, IsLegal, apply}
+use Rattle.jlr_marks.specs.Marking.{Marking}
 use Rattle.jlr_resource.specs.Resources.{Resources, resources}
 use Rattle.jlr_core.specs.State.{MeetsAsk, entry_of}
 
@@ -39,18 +38,14 @@ abbrev pub WantsMemory : {R : Type 0} → Machine → Resources R → Option Ask
 WantsMemory m t (Some ask) answer = answer ≡ Some (Refused NoMemory) → MayWantMemory m t ask
 WantsMemory m t None answer = Unit {0}
 
--- what a piece of marking is answered: it is done in an open cycle, since a Collect marks whole, and idle without one
-abbrev pub progress_in : Machine → Progress
-progress_in m = cond m.cycle_open Done Idle
-
 -- ---- What an event and its reply are to the machine
 
 -- an ask met as its answer says; a piece of marking chooses nothing and leaves m
-abbrev pub StepsBy : Machine → Option Ask → Option Answer → Chosen → Machine → Type 0
-StepsBy m (Some ask) (Some answer) chosen n = MeetsAsk m ask answer chosen n
-StepsBy m (Some ask) None chosen n = ⊥
-StepsBy m None (Some answer) chosen n = ⊥
-StepsBy m None None chosen n = (chosen ≡ no_choice) × (n ≡ m)
+abbrev pub StepsBy : Machine → Marking → Option Ask → Option Answer → Chosen → Machine → Type 0
+StepsBy m marking (Some ask) (Some answer) chosen n = MeetsAsk m marking ask answer chosen n
+StepsBy m marking (Some ask) None chosen n = ⊥
+StepsBy m marking None (Some answer) chosen n = ⊥
+StepsBy m marking None None chosen n = (chosen ≡ no_choice) × (n ≡ m)
 
 -- ---- Entries
 

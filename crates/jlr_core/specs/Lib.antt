@@ -8,9 +8,11 @@ pub mod Waiting
 pub mod Guards
 pub mod Preparing
 pub mod Policy
+pub mod Marks
 pub mod Events
 pub mod Cores
 pub mod Steps
 pub mod Rest
 pub mod Looks
 pub mod Runs
+pub mod Cycles

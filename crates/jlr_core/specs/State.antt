@@ -1,5 +1,5 @@
 -- The machine that a core's state is, and what an ask did to it.
-use Rattle.std.specs.Prelude.{◌≡◌, ℕ, Bool, true, false, cond, is_some, [], Option, Some, None, Result, Ok, Err, MatchResult}
+use Rattle.std.specs.Prelude.{◌≡◌, ℕ, Bool, true, false, cond, is_some, List, [], length, Option, Some, None, Result, Ok, Err, MatchResult}
 use Rattle.jlr_types.specs.declared.FieldValue.{FieldValue}
 use Rattle.jlr_types.specs.declared.FieldValue.TheVariants.{Int, Ref}
 use Rattle.jlr_types.specs.declared.Refusal.{Refusal}
@@ -13,9 +13,11 @@ use Rattle.jlr_machine.specs.declared.entry.Entry.{Entry}
 use Rattle.jlr_machine.specs.declared.ask.Ask.TheVariants.{Collect, Deref}
 use Rattle.jlr_machine.specs.Lookups.{slot_named}
 use Rattle.jlr_barrier.specs.Graphs.{Clock, Graph, in_machine, used_now}
+use Rattle.jlr_marks.specs.Marking.{Marking}
+use Rattle.jlr_process.specs.Settling.{marked_below}
 use Rattle.jlr_machine.specs.Refusals.{given, refusal}
 use Rattle.jlr_machine.specs.Calls.{reply, after}
-use Rattle.jlr_machine.specs.Run.{IsLegal, done, empty, now_seen}
+use Rattle.jlr_machine.specs.Run.{IsLegal, done, empty}
 use Rattle.jlr_cycles.specs.Laws.{with_seen}
 use Rattle.jlr_cleaner.specs.Cleanings.{Cleanings, machine_with as with_cleanings}
 
@@ -45,18 +47,22 @@ pub record Meets (m : Machine) (ask : Ask) (answer : Answer) (chosen : Chosen) (
   pub legal : IsLegal m (entry_of ask answer chosen)
   pub applied : n ≡ done m (entry_of ask answer chosen)
 
--- a Collect: a legal entry of the machine in which just what the roots now reach was seen. A law says that it is legal, then, in each machine
--- for which the core stands
-pub record MeetsSeen (m : Machine) (ask : Ask) (answer : Answer) (chosen : Chosen) (n : Machine) : Type 0 where
-  pub legal : IsLegal (with_seen m (now_seen m)) (entry_of ask answer chosen)
+-- the objects marked in an open cycle. Outside of one the marks say nothing
+abbrev pub marked_in : Machine → Marking → List ℕ
+marked_in m marking = cond m.cycle_open (marked_below marking (length m.objects)) []
+
+-- a Collect: a legal entry of the machine in which just what is marked was seen. A law says that it is legal, then, in each machine for which
+-- the core stands
+pub record MeetsSeen (m : Machine) (marking : Marking) (ask : Ask) (answer : Answer) (chosen : Chosen) (n : Machine) : Type 0 where
+  pub legal : IsLegal (with_seen m (marked_in m marking)) (entry_of ask answer chosen)
   pub applied : n ≡ with_seen (done m (entry_of ask answer chosen)) []
 
 abbrev pub is_collect : Ask → Bool
 is_collect Collect = true
 is_collect _ = false
 
-abbrev pub MeetsAsk : Machine → Ask → Answer → Chosen → Machine → Type 0
-MeetsAsk m ask answer chosen n = elim (is_collect ask) [ true ↦ MeetsSeen m ask answer chosen n | false ↦ Meets m ask answer chosen n ]
+abbrev pub MeetsAsk : Machine → Marking → Ask → Answer → Chosen → Machine → Type 0
+MeetsAsk m marking ask answer chosen n = elim (is_collect ask) [ true ↦ MeetsSeen m marking ask answer chosen n | false ↦ Meets m ask answer chosen n ]
 
 -- an ask that chooses nothing: it was carried out, or refused by the first refusal whose condition holds
 abbrev pub Answered : Machine → Ask → Result Answer Refusal → Machine → Type 0

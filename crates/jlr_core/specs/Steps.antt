@@ -1,5 +1,5 @@
 -- A step of the core, whole: one event with its reply.
-use Rattle.std.specs.Prelude.{◌≡◌, ◌≤◌, ℕ, [], Option, None, Some}
+use Rattle.std.specs.Prelude.{◌≡◌, ◌≤◌, ◌&&◌, ℕ, length, not, [], Option, Some}
 use Rattle.jlr_machine.specs.declared.machine.Machine.{Machine}
 use Rattle.jlr_machine.specs.declared.ask.Ask.{Ask}
 use Rattle.jlr_machine.specs.declared.ask.Ask.TheVariants.{Collect, Prepare}
@@ -10,12 +10,12 @@ use Rattle.jlr_resource.specs.Resources.{Resources, resources, values}
 use Rattle.jlr_barrier.specs.Graphs.{empty_known}
 use Rattle.jlr_event.specs.declared.event.Event.{Event}
 use Rattle.jlr_event.specs.declared.event.Reply.{Reply}
-use Rattle.jlr_event.specs.declared.event.Reply.TheVariants.{Marked}
 use Rattle.jlr_event.specs.Events.{ask_of, answer_in, resource_of_event, resource_of_reply}
 use Rattle.jlr_core.specs.Cores.{Kept, StandsIn}
-use Rattle.jlr_core.specs.Events.{Enters, WantsMemory, progress_in}
+use Rattle.jlr_core.specs.Events.{Enters, WantsMemory}
 use Rattle.jlr_core.specs.Flows.{Conserves, GoesOut, Moves}
 use Rattle.jlr_core.specs.Policy.{KeepsByPolicy, clock_after}
+use Rattle.jlr_core.specs.Marks.{Begins, BlackensNew, MarksBy, budget_of, has_grey}
 
 -- The core of the empty machine of these limits, whose first action number is this one, with no file or socket.
 pub record IsEmpty {R : Type 0} (cells sessions limit soft_age first : ℕ) (core : Kept R) : Type 0 where
@@ -34,6 +34,7 @@ LeavesRoom ask old new = new.room ≡ old.room
 -- machine after it.
 pub record IsStep {R : Type 0} (old : Kept R) (event : Event R) (reply : Reply R) (chosen : Chosen) (new : Kept R) : Type 0 where
   pub entry : (m : Machine) → StandsIn old m → (n : Machine) × Enters m (ask_of event) (answer_in reply) chosen n × StandsIn new n
+  pub cells : length new.machine.objects ≡ length old.machine.objects
   -- no file or socket is made or lost; at one Rid at most lies something else then, and what goes out is what lay there. The table is that
   -- of the machine's resources, so what comes in lies at the Rid that the machine says
   pub flow : Conserves (resource_of_event event) old.table (resource_of_reply reply) new.table
@@ -43,10 +44,14 @@ pub record IsStep {R : Type 0} (old : Kept R) (event : Event R) (reply : Reply R
   -- where memory may be found wanting, and what room there is from then on
   pub memory : WantsMemory old.machine old.table (ask_of event) (answer_in reply)
   pub table_room : LeavesRoom (ask_of event) old.table new.table
-  pub marking : ask_of event ≡ None → reply ≡ Marked (progress_in old.machine)
-  pub collects : ask_of event ≡ Some Collect → answer_in reply ≡ Some (Truth old.machine.cycle_open)
-  -- which soft references a collection keeps, and when they were last used
-  pub policy : KeepsByPolicy old.soft_age old.clock old.machine (ask_of event) chosen
+  -- a cycle begins with its roots; a piece of marking blackens as many cells as it ticks; any other event just the objects that it makes
+  pub begins : Begins (ask_of event) old.machine new.machine new.marking
+  pub marking : MarksBy (budget_of event) old.soft_age old.clock old.machine old.marking reply new.marking
+  pub blackens : BlackensNew event old.machine old.marking chosen new.machine new.marking
+  -- a Collect is answered yes exactly where a cycle is open and no cell is grey
+  pub collects : ask_of event ≡ Some Collect → answer_in reply ≡ Some (Truth (old.machine.cycle_open && not (has_grey old.marking)))
+  -- what a collection keeps, and when soft references were last used
+  pub policy : KeepsByPolicy old.soft_age old.clock old.machine old.marking (ask_of event) chosen
   pub age : new.soft_age ≡ old.soft_age
   pub clock : new.clock ≡ clock_after old.machine old.clock (ask_of event) (answer_in reply) chosen
 

@@ -22,6 +22,7 @@ ghost use Rattle.jlr_core.specs.Flows.{Conserves, GoesOut, LieAsBefore, Moves};
 ghost use Rattle.jlr_core.specs.Guards.{IsIdleAt};
 ghost use Rattle.jlr_core.specs.Waiting.{AllWait, Releases, WaitAsBefore, WaitsOn};
 ghost use Rattle.jlr_core.specs.TakeUps.{IsFreeMutator, clean_answer, handed_out, job_resource, started_answer, take_up_answered};
+ghost use Rattle.jlr_core.specs.Marks.{MarksNew};
 
 use crate::state::State;
 use jlr_cells::Shape;
@@ -54,6 +55,7 @@ impl<R> State<R> {
         ensures age { self.new.soft_age ≡ self.old.soft_age }
         ensures cleaner { self.new.cleaner ≡ self.old.cleaner }
         ensures clock { self.new.heap.clock ≡ after_choice choice.new.chosen self.old.heap.clock }
+        ensures marks { MarksNew (machine_of self.old) self.old.heap.marking choice.new.chosen (machine_of self.new) self.new.heap.marking }
     {
         self.check_session(by)?;
         self.check_no_call(by)?;
@@ -137,6 +139,7 @@ impl<R> State<R> {
         ensures table { self.new.cleaner.table ≡ self.old.cleaner.table }
         ensures clock { self.new.heap.clock ≡ after_choice choice.new.chosen self.old.heap.clock }
         ensures waits { WaitsOn (machine_of self.new) self.old.cleaner self.new.cleaner }
+        ensures marks { MarksNew (machine_of self.old) self.old.heap.marking choice.new.chosen (machine_of self.new) self.new.heap.marking }
     {
         let target = match self.check_register(by, cleaner, object) {
             Ok(target) => target,
@@ -189,6 +192,7 @@ impl<R> State<R> {
         ensures table_room { self.new.cleaner.table.room ≡ self.old.cleaner.table.room }
         ensures clock { self.new.heap.clock ≡ self.old.heap.clock }
         ensures waits { WaitsOn (machine_of self.new) self.old.cleaner self.new.cleaner }
+        ensures marking { self.new.heap.marking ≡ self.old.heap.marking }
     {
         let slot = self.check_clean(by, cleanable)?;
         Ok(self.start_job(by, slot))
@@ -211,6 +215,7 @@ impl<R> State<R> {
         ensures table_room { self.new.cleaner.table.room ≡ self.old.cleaner.table.room }
         ensures clock { self.new.heap.clock ≡ self.old.heap.clock }
         ensures waits { WaitsOn (machine_of self.new) self.old.cleaner self.new.cleaner }
+        ensures marking { self.new.heap.marking ≡ self.old.heap.marking }
     {
         let cleanable = self.heap.cleanable(slot)?;
         if cleanable.state == CleanState::Spent {
@@ -238,6 +243,7 @@ impl<R> State<R> {
         ensures table_room { self.new.cleaner.table.room ≡ self.old.cleaner.table.room }
         ensures clock { self.new.heap.clock ≡ self.old.heap.clock }
         ensures waits { Releases (machine_of self.new) self.old.cleaner self.new.cleaner }
+        ensures marking { self.new.heap.marking ≡ self.old.heap.marking }
     {
         self.heap.spend(slot);
         self.cleaner
@@ -261,6 +267,7 @@ impl<R> State<R> {
         ensures table_room { self.new.cleaner.table.room ≡ self.old.cleaner.table.room }
         ensures clock { self.new.heap.clock ≡ self.old.heap.clock }
         ensures waits { WaitsOn (machine_of self.new) self.old.cleaner self.new.cleaner }
+        ensures marking { self.new.heap.marking ≡ self.old.heap.marking }
     {
         if self.cleaner.runs_job(CLEANER) {
             return Err(Refusal::Busy);
@@ -304,6 +311,7 @@ impl<R> State<R> {
         ensures table_room { self.new.cleaner.table.room ≡ self.old.cleaner.table.room }
         ensures clock { self.new.heap.clock ≡ self.old.heap.clock }
         ensures waits { WaitAsBefore self.old.cleaner self.new.cleaner }
+        ensures marks { MarksNew (machine_of self.old) self.old.heap.marking no_choice (machine_of self.new) self.new.heap.marking }
     {
         if by == CLEANER {
             return self.end_job(by, action, outcome);

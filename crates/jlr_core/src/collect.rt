@@ -1,5 +1,5 @@
 //! The full collections that an ask makes: one that is asked for, and one that makes room for a new object.
-ghost use Rattle.std.specs.Prelude.{◌≡◌, ◌≤◌, ◌++◌, ℕ, length, option_to_list, IfOk, IfErr};
+ghost use Rattle.std.specs.Prelude.{◌≡◌, ◌≤◌, ◌++◌, ℕ, None, length, option_to_list, IfOk, IfErr};
 ghost use Rattle.jlr_machine.specs.Objects.{◌∈◌, any_referent};
 ghost use Rattle.jlr_machine.specs.Edges.{strong_edges};
 ghost use Rattle.jlr_roots.specs.Walk.{slots_held};
@@ -14,6 +14,7 @@ ghost use Rattle.jlr_barrier.specs.Graphs.{counted};
 ghost use Rattle.jlr_marker.specs.Following.{keeps};
 ghost use Rattle.jlr_core.specs.Policy.{KeepsIn};
 ghost use Rattle.jlr_core.specs.State.{Meets, answer_of};
+ghost use Rattle.jlr_core.specs.Marks.{BlackensMade, MarksNew};
 
 use crate::state::State;
 use jlr_cells::Shape;
@@ -53,6 +54,7 @@ impl<R> State<R> {
         ensures cells { length self.new.heap.graph.objects ≡ length self.old.heap.graph.objects }
         ensures age { self.new.soft_age ≡ self.old.soft_age }
         ensures cleaner { self.new.cleaner ≡ self.old.cleaner }
+        ensures marks { choice.new.chosen.collected ≡ None → self.new.heap.marking ≡ self.old.heap.marking }
     {
         if self.heap.free_count() < cells {
             self.collect(Mode::ClearAll, choice);
@@ -74,6 +76,7 @@ impl<R> State<R> {
         ensures cells { length self.new.heap.graph.objects ≡ length self.old.heap.graph.objects }
         ensures age { self.new.soft_age ≡ self.old.soft_age }
         ensures cleaner { self.new.cleaner ≡ self.old.cleaner }
+        ensures one { IfOk result (λ slot. BlackensMade choice.new.chosen slot self.old.heap.marking self.new.heap.marking) }
     {
         self.make_room(1, choice);
         let Some(slot) = self.heap.allocate(shape) else {
@@ -101,6 +104,7 @@ impl<R> State<R> {
         ensures cleaner { self.new.cleaner ≡ self.old.cleaner }
         ensures clock { self.new.heap.clock ≡ after_choice choice.new.chosen self.old.heap.clock }
         ensures policy { KeepsIn (mode_of mode) self.old.soft_age self.old.heap.clock (machine_of self.old) choice.new.chosen }
+        ensures marks { MarksNew (machine_of self.old) self.old.heap.marking choice.new.chosen (machine_of self.new) self.new.heap.marking }
     {
         self.check_session(by)?;
         self.check_no_call(by)?;

@@ -1,10 +1,11 @@
 //! Which ask an event is.
-ghost use Rattle.std.specs.Prelude.{◌≡◌, ◌≤◌, length, None, Some};
+ghost use Rattle.std.specs.Prelude.{◌≡◌, ◌≤◌, ◌&&◌, length, not, None, Some};
 ghost use Rattle.jlr_machine.specs.Choices.{nothing_chosen};
 ghost use Rattle.jlr_machine.specs.WellFormed.{IsWellFormed};
 ghost use Rattle.jlr_core.specs.State.{answer_of};
 ghost use Rattle.jlr_event.specs.Events.{ask_of, answer_in, resource_of_event, resource_of_reply};
-ghost use Rattle.jlr_core.specs.Events.{progress_in, StepsBy, WantsMemory};
+ghost use Rattle.jlr_core.specs.Events.{StepsBy, WantsMemory};
+ghost use Rattle.jlr_core.specs.Marks.{Begins, BlackensNew, MarksBy, MarksReached, budget_of, has_grey};
 ghost use Rattle.jlr_core.specs.Flows.{Conserves, GoesOut, Moves};
 ghost use Rattle.jlr_core.specs.Steps.{LeavesRoom};
 ghost use Rattle.jlr_core.specs.TakeUps.{clean_answer, handed_out, take_up_answered};
@@ -27,15 +28,18 @@ impl<R> State<R> {
         requires waits { AllWait (machine_of self.old) self.old.cleaner.waiting }
         requires nothing { choice.old ≡ nothing_chosen choice.old.cells }
         requires room { length self.old.heap.graph.objects ≤ choice.old.cells }
-        ensures entry { StepsBy (machine_of self.old) (ask_of event) (answer_in result) choice.new.chosen (machine_of self.new) }
+        ensures entry { StepsBy (machine_of self.old) self.old.heap.marking (ask_of event) (answer_in result) choice.new.chosen (machine_of self.new) }
         ensures flow { Conserves (resource_of_event event) self.old.cleaner.table (resource_of_reply result) self.new.cleaner.table }
         ensures moves { Moves (resource_of_event event) self.old.cleaner.table (resource_of_reply result) self.new.cleaner.table }
         ensures goes_out { GoesOut self.old.cleaner.table (resource_of_event event) (answer_in result) (resource_of_reply result) }
         ensures memory { WantsMemory (machine_of self.old) self.old.cleaner.table (ask_of event) (answer_in result) }
         ensures table_room { LeavesRoom (ask_of event) self.old.cleaner.table self.new.cleaner.table }
-        ensures marking { ask_of event ≡ None → result ≡ Reply.Marked (progress_in (machine_of self.old)) }
-        ensures collects { ask_of event ≡ Some Ask.Collect → answer_in result ≡ Some (Answer.Truth self.old.cycle_open) }
-        ensures policy { KeepsByPolicy self.old.soft_age self.old.heap.clock (machine_of self.old) (ask_of event) choice.new.chosen }
+        ensures reached { MarksReached (machine_of self.old) self.old.heap.marking (machine_of self.new) self.new.heap.marking }
+        ensures begins { Begins (ask_of event) (machine_of self.old) (machine_of self.new) self.new.heap.marking }
+        ensures marking { MarksBy (budget_of event) self.old.soft_age self.old.heap.clock (machine_of self.old) self.old.heap.marking result self.new.heap.marking }
+        ensures blackens { BlackensNew event (machine_of self.old) self.old.heap.marking choice.new.chosen (machine_of self.new) self.new.heap.marking }
+        ensures collects { ask_of event ≡ Some Ask.Collect → answer_in result ≡ Some (Answer.Truth (self.old.cycle_open && not (has_grey self.old.heap.marking))) }
+        ensures policy { KeepsByPolicy self.old.soft_age self.old.heap.clock (machine_of self.old) self.old.heap.marking (ask_of event) choice.new.chosen }
         ensures age { self.new.soft_age ≡ self.old.soft_age }
         ensures clock { self.new.heap.clock ≡ clock_after (machine_of self.old) self.old.heap.clock (ask_of event) (answer_in result) choice.new.chosen }
         ensures room { choice.new.cells ≡ choice.old.cells }
@@ -132,7 +136,7 @@ impl<R> State<R> {
             Event::Begin => answered(Ok(Answer::Truth(self.begin()))),
             Event::Collect => answered(Ok(Answer::Truth(self.collect_cycle(choice)))),
             Event::Abandon => answered(Ok(Answer::Truth(self.abandon()))),
-            Event::Mark { .. } => Reply::Marked(self.progress()),
+            Event::Mark { budget } => Reply::Marked(self.mark(budget)),
         }
     }
 }

@@ -30,7 +30,7 @@ impl<R> Model for Core<R> {
 
     ghost Value = { Kept R };
 
-    ghost view = { λ c. kept_with c.state.cleaner c.state.heap.graph c.state.heap.clock c.state.soft_age c.state.cycle_open };
+    ghost view = { λ c. kept_with c.state.cleaner c.state.heap.graph c.state.heap.clock c.state.heap.marking c.state.soft_age c.state.cycle_open };
 
     ghost invariant = { λ c. IsWellFormed (machine_with c.state.cleaner c.state.heap.graph c.state.cycle_open) × AllWait (machine_with c.state.cleaner c.state.heap.graph c.state.cycle_open) c.state.cleaner.waiting };
 }
@@ -64,8 +64,9 @@ impl<R> Core<R> {
 
     /// One event. The choice says what was chosen; it has room for every cell. Only `Enqueue` and `HandOver` of a reference that goes to its
     /// queue, `Prepare` where the table of resources has no room, and `Names`, `Notes` and `Faults`, which copy a list, may find no memory, and
-    /// only where they are not refused. A piece of marking is answered Done in an open cycle and Idle without one, and
-    /// changes nothing: a `Collect` marks whole, by the soft policy, and is answered yes exactly where a cycle is open.
+    /// only where they are not refused. A piece of marking changes nothing but marks: in an open cycle it follows grey cells, one tick each,
+    /// by the soft policy, and is Done where none is left; without one it is Idle. A `Collect` keeps exactly what is marked, and is answered
+    /// yes exactly where a cycle is open and no cell is grey.
     pub fn step(&mut self, event: Event<R>, choice: &mut Choice) -> Reply<R>
         requires room { length self.old.machine.objects ≤ choice.old.cells }
         ensures step { IsStep self.old event result choice.new.chosen self.new }

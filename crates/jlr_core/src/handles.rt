@@ -19,6 +19,7 @@ impl<R> State<R> {
         ensures age { self.new.soft_age ≡ self.old.soft_age }
         ensures cleaner { self.new.cleaner ≡ self.old.cleaner }
         ensures clock { self.new.heap.clock ≡ self.old.heap.clock }
+        ensures marking { self.new.heap.marking ≡ self.old.heap.marking }
     {
         if by.number() as usize >= self.heap.mutator_count() || self.heap.is_joined(by) {
             return Err(Refusal::NoSession);
@@ -33,6 +34,7 @@ impl<R> State<R> {
         ensures age { self.new.soft_age ≡ self.old.soft_age }
         ensures cleaner { self.new.cleaner ≡ self.old.cleaner }
         ensures clock { self.new.heap.clock ≡ self.old.heap.clock }
+        ensures marking { self.new.heap.marking ≡ self.old.heap.marking }
     {
         self.check_session(by)?;
         self.check_no_call(by)?;
@@ -46,6 +48,7 @@ impl<R> State<R> {
         ensures age { self.new.soft_age ≡ self.old.soft_age }
         ensures cleaner { self.new.cleaner ≡ self.old.cleaner }
         ensures clock { self.new.heap.clock ≡ self.old.heap.clock }
+        ensures marking { self.new.heap.marking ≡ self.old.heap.marking }
     {
         self.check_session(by)?;
         self.check_handle(by, object)?;
@@ -72,6 +75,7 @@ impl<R> State<R> {
         ensures age { self.new.soft_age ≡ self.old.soft_age }
         ensures cleaner { self.new.cleaner ≡ self.old.cleaner }
         ensures clock { self.new.heap.clock ≡ self.old.heap.clock }
+        ensures marking { self.new.heap.marking ≡ self.old.heap.marking }
     {
         self.check_session(by)?;
         self.check_handle(by, object)?;
@@ -91,6 +95,7 @@ impl<R> State<R> {
         ensures clock { self.new.heap.clock ≡ self.old.heap.clock }
         ensures age { self.new.soft_age ≡ self.old.soft_age }
         ensures cleaner { self.new.cleaner ≡ self.old.cleaner }
+        ensures marking { self.new.heap.marking ≡ self.old.heap.marking }
     {
         match self.heap.put_handle(by, slot) {
             Some(handle) => Answer::Handle(handle),
@@ -118,6 +123,7 @@ impl<R> State<R> {
         ensures clock { self.new.heap.clock ≡ self.old.heap.clock }
         ensures age { self.new.soft_age ≡ self.old.soft_age }
         ensures cleaner { self.new.cleaner ≡ self.old.cleaner }
+        ensures marking { self.new.heap.marking ≡ self.old.heap.marking }
     {
         match target {
             Some(slot) => self.give(by, slot),
@@ -139,6 +145,7 @@ impl<R> State<R> {
         ensures clock { self.new.heap.clock ≡ self.old.heap.clock }
         ensures age { self.new.soft_age ≡ self.old.soft_age }
         ensures cleaner { self.new.cleaner ≡ self.old.cleaner }
+        ensures marking { self.new.heap.marking ≡ self.old.heap.marking }
     {
         let Some(slot) = target else {
             return Ok(Answer::Handle(Handle::new(0)));

@@ -8,6 +8,7 @@ mod cycles;
 mod dispatch;
 pub mod engine;
 mod handles;
+pub mod laws;
 mod looks;
 mod names;
 mod objects;

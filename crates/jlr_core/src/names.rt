@@ -65,6 +65,7 @@ impl<R> State<R> {
         ensures age { self.new.soft_age ≡ self.old.soft_age }
         ensures cleaner { self.new.cleaner ≡ self.old.cleaner }
         ensures clock { self.new.heap.clock ≡ self.old.heap.clock }
+        ensures marking { self.new.heap.marking ≡ self.old.heap.marking }
     {
         let slot = self.check_bind(by, name, object)?;
         self.heap.bind(name, slot);
@@ -79,6 +80,7 @@ impl<R> State<R> {
         ensures age { self.new.soft_age ≡ self.old.soft_age }
         ensures cleaner { self.new.cleaner ≡ self.old.cleaner }
         ensures clock { self.new.heap.clock ≡ self.old.heap.clock }
+        ensures marking { self.new.heap.marking ≡ self.old.heap.marking }
     {
         self.check_session(by)?;
         let slot = self.check_name(name)?;
@@ -94,6 +96,7 @@ impl<R> State<R> {
         ensures age { self.new.soft_age ≡ self.old.soft_age }
         ensures cleaner { self.new.cleaner ≡ self.old.cleaner }
         ensures clock { self.new.heap.clock ≡ self.old.heap.clock }
+        ensures marking { self.new.heap.marking ≡ self.old.heap.marking }
     {
         self.check_session(by)?;
         self.check_name(name)?;

@@ -4,9 +4,11 @@ ghost use Rattle.jlr_machine.specs.Objects.{at, some_and, as_fields, as_referenc
 ghost use Rattle.jlr_machine.specs.Lookups.{slot_named};
 ghost use Rattle.jlr_machine.specs.Refusals.{is_plain, is_reference, is_queue, gotten, is_of_wrong_kind, object_or_null};
 ghost use Rattle.jlr_machine.specs.Choices.{nothing_chosen};
+ghost use Rattle.jlr_machine.specs.Run.{no_choice};
 ghost use Rattle.jlr_machine.specs.WellFormed.{IsWellFormed};
 ghost use Rattle.jlr_core.specs.Collecting.{after_choice};
 ghost use Rattle.jlr_core.specs.State.{Checks, Answered, FieldRefused, IntRefused, Meets, answer_of};
+ghost use Rattle.jlr_core.specs.Marks.{MarksNew};
 
 use crate::state::State;
 use jlr_cells::Shape;
@@ -50,6 +52,7 @@ impl<R> State<R> {
         ensures age { self.new.soft_age ≡ self.old.soft_age }
         ensures cleaner { self.new.cleaner ≡ self.old.cleaner }
         ensures clock { self.new.heap.clock ≡ self.old.heap.clock }
+        ensures marking { self.new.heap.marking ≡ self.old.heap.marking }
     {
         self.check_session(by)?;
         self.check_handle(by, object)?;
@@ -73,6 +76,7 @@ impl<R> State<R> {
         ensures age { self.new.soft_age ≡ self.old.soft_age }
         ensures cleaner { self.new.cleaner ≡ self.old.cleaner }
         ensures clock { self.new.heap.clock ≡ self.old.heap.clock }
+        ensures marks { MarksNew (machine_of self.old) self.old.heap.marking no_choice (machine_of self.new) self.new.heap.marking }
     {
         self.check_session(by)?;
         self.check_handle(by, object)?;
@@ -129,6 +133,7 @@ impl<R> State<R> {
         ensures age { self.new.soft_age ≡ self.old.soft_age }
         ensures cleaner { self.new.cleaner ≡ self.old.cleaner }
         ensures clock { self.new.heap.clock ≡ self.old.heap.clock }
+        ensures marks { MarksNew (machine_of self.old) self.old.heap.marking no_choice (machine_of self.new) self.new.heap.marking }
     {
         self.check_session(by)?;
         self.check_handle(by, object)?;
@@ -157,6 +162,7 @@ impl<R> State<R> {
         ensures age { self.new.soft_age ≡ self.old.soft_age }
         ensures cleaner { self.new.cleaner ≡ self.old.cleaner }
         ensures clock { self.new.heap.clock ≡ after_choice choice.new.chosen self.old.heap.clock }
+        ensures marks { MarksNew (machine_of self.old) self.old.heap.marking choice.new.chosen (machine_of self.new) self.new.heap.marking }
     {
         self.check_session(by)?;
         self.check_no_call(by)?;

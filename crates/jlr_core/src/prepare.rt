@@ -10,6 +10,7 @@ ghost use Rattle.jlr_core.specs.State.{Meets, answer_of};
 ghost use Rattle.jlr_core.specs.Flows.{LieAsBefore};
 ghost use Rattle.jlr_core.specs.Waiting.{AllWait, Registers, WaitsOn};
 ghost use Rattle.jlr_core.specs.Preparing.{HasPlaces, Places};
+ghost use Rattle.jlr_core.specs.Marks.{MarksNew};
 
 use crate::state::State;
 use jlr_machine::ask::{Answer, Ask};
@@ -54,6 +55,7 @@ impl<R> State<R> {
         ensures table_room { self.old.cleaner.table.room ≤ self.new.cleaner.table.room }
         ensures clock { self.new.heap.clock ≡ after_choice choice.new.chosen self.old.heap.clock }
         ensures waits { WaitsOn (machine_of self.new) self.old.cleaner self.new.cleaner }
+        ensures marks { MarksNew (machine_of self.old) self.old.heap.marking choice.new.chosen (machine_of self.new) self.new.heap.marking }
     {
         self.check_prepare(by)?;
         self.cleaner.reserve()?;
@@ -78,6 +80,7 @@ impl<R> State<R> {
         ensures table_room { self.old.cleaner.table.room ≤ self.new.cleaner.table.room }
         ensures clock { self.new.heap.clock ≡ after_fresh choice.new.chosen.fresh self.old.heap.clock }
         ensures waits { Registers (machine_of self.new) self.old.cleaner self.new.cleaner }
+        ensures marks { MarksNew (machine_of self.old) self.old.heap.marking choice.new.chosen (machine_of self.new) self.new.heap.marking }
     {
         let action = ActionNo::new(self.cleaner.next_action());
         let Ok(rid) = self.cleaner.prepare(action) else {

@@ -10,6 +10,7 @@ ghost use Rattle.jlr_machine.specs.WellFormed.{IsWellFormed};
 ghost use Rattle.jlr_core.specs.Events.{MayWantMemory};
 ghost use Rattle.jlr_core.specs.Collecting.{after_choice};
 ghost use Rattle.jlr_core.specs.State.{Checks, Answered, Meets, answer_of, clock_after_deref};
+ghost use Rattle.jlr_core.specs.Marks.{MarksNew};
 
 use crate::state::State;
 use jlr_cells::Shape;
@@ -66,18 +67,16 @@ impl<R> State<R> {
         ensures cells { length self.new.heap.graph.objects ≡ length self.old.heap.graph.objects }
         ensures age { self.new.soft_age ≡ self.old.soft_age }
         ensures cleaner { self.new.cleaner ≡ self.old.cleaner }
+        ensures marks { MarksNew (machine_of self.old) self.old.heap.marking no_choice (machine_of self.new) self.new.heap.marking }
     {
         self.check_session(by)?;
         self.check_handle(by, reference)?;
         let slot = self.check_slot(by, reference)?;
         self.check_reference(slot)?;
         self.check_no_call(by)?;
-        let target = self.heap.gotten(slot);
-        if target.is_some() {
-            self.check_free_handle(by)?;
-        }
-        let _given = jlr_refs::get(&mut self.heap, slot);
-        self.give_or_null(by, target)
+        self.check_room_for(by, self.heap.gotten(slot))?;
+        let given = jlr_refs::get(&mut self.heap, slot);
+        Ok(self.give_known(by, given))
     }
 
     pub(crate) fn refers(
@@ -104,6 +103,7 @@ impl<R> State<R> {
         requires { IsWellFormed (machine_of self.old) }
         ensures answered { Answered (machine_of self.old) (Ask.Clear by reference) result (machine_of self.new) }
         ensures rest { LeavesRest self.old self.new }
+        ensures marking { self.new.heap.marking ≡ self.old.heap.marking }
     {
         self.check_session(by)?;
         self.check_handle(by, reference)?;
@@ -134,6 +134,7 @@ impl<R> State<R> {
         ensures meets { Meets (machine_of self.old) (Ask.Enqueue by reference) (answer_of result) no_choice (machine_of self.new) }
         ensures memory { answer_of result ≡ Answer.Refused Refusal.NoMemory → MayWantMemory (machine_of self.old) self.old.cleaner.table (Ask.Enqueue by reference) }
         ensures rest { LeavesRest self.old self.new }
+        ensures marks { MarksNew (machine_of self.old) self.old.heap.marking no_choice (machine_of self.new) self.new.heap.marking }
     {
         let slot = self.check_enqueue(by, reference)?;
         match jlr_refs::enqueue(&mut self.heap, slot) {
@@ -174,6 +175,7 @@ impl<R> State<R> {
         requires { IsWellFormed (machine_of self.old) }
         ensures answered { Answered (machine_of self.old) (Ask.Poll by queue) result (machine_of self.new) }
         ensures rest { LeavesRest self.old self.new }
+        ensures marks { MarksNew (machine_of self.old) self.old.heap.marking no_choice (machine_of self.new) self.new.heap.marking }
     {
         let slot = self.check_poll(by, queue)?;
         let front = jlr_refs::poll(&mut self.heap, slot);
@@ -205,6 +207,7 @@ impl<R> State<R> {
         requires { IsWellFormed (machine_of self.old) }
         ensures answered { Answered (machine_of self.old) (Ask.Remove by queue) result (machine_of self.new) }
         ensures rest { LeavesRest self.old self.new }
+        ensures marks { MarksNew (machine_of self.old) self.old.heap.marking no_choice (machine_of self.new) self.new.heap.marking }
     {
         let slot = self.check_remove(by, queue)?;
         let member = jlr_refs::poll(&mut self.heap, slot);
@@ -217,6 +220,7 @@ impl<R> State<R> {
         ensures meets { Meets (machine_of self.old) Ask.HandOver (answer_of result) no_choice (machine_of self.new) }
         ensures memory { answer_of result ≡ Answer.Refused Refusal.NoMemory → MayWantMemory (machine_of self.old) self.old.cleaner.table Ask.HandOver }
         ensures rest { LeavesRest self.old self.new }
+        ensures marks { MarksNew (machine_of self.old) self.old.heap.marking no_choice (machine_of self.new) self.new.heap.marking }
     {
         match jlr_refs::hand_over(&mut self.heap) {
             Ok(handed) => Ok(Answer::Handed(handed)),
@@ -235,6 +239,7 @@ impl<R> State<R> {
         ensures age { self.new.soft_age ≡ self.old.soft_age }
         ensures cleaner { self.new.cleaner ≡ self.old.cleaner }
         ensures clock { self.new.heap.clock ≡ after_choice choice.new.chosen self.old.heap.clock }
+        ensures marks { MarksNew (machine_of self.old) self.old.heap.marking choice.new.chosen (machine_of self.new) self.new.heap.marking }
     {
         self.check_session(by)?;
         self.check_no_call(by)?;
@@ -261,6 +266,7 @@ impl<R> State<R> {
         ensures age { self.new.soft_age ≡ self.old.soft_age }
         ensures cleaner { self.new.cleaner ≡ self.old.cleaner }
         ensures clock { self.new.heap.clock ≡ after_choice choice.new.chosen self.old.heap.clock }
+        ensures marks { MarksNew (machine_of self.old) self.old.heap.marking choice.new.chosen (machine_of self.new) self.new.heap.marking }
     {
         self.check_session(by)?;
         self.check_handle(by, referent)?;

@@ -19,6 +19,7 @@ ghost use Rattle.jlr_core.specs.Guards.{HoldsGuard, IsGuardNamed, IsIdleAt, fenc
 ghost use Rattle.jlr_core.specs.TakeUps.{IsFreeMutator, clean_answer, handed_out};
 ghost use Rattle.jlr_core.specs.State.{Meets};
 ghost use Rattle.jlr_core.specs.Waiting.{AllWait, Releases, WaitAsBefore, WaitsOn};
+ghost use Rattle.jlr_core.specs.Marks.{MarksNew};
 
 use crate::state::State;
 use jlr_cleaner::Job;
@@ -89,7 +90,7 @@ impl<R> State<R> {
     pub(crate) fn opened(&mut self, by: Mutator, outcome: Result<R, Fault>) -> Reply<R>
         requires fit { IsWellFormed (machine_of self.old) }
         requires waits { AllWait (machine_of self.old) self.old.cleaner.waiting }
-        ensures entry { StepsBy (machine_of self.old) (Some (Ask.Opened by (outcome_of outcome))) (answer_in result) no_choice (machine_of self.new) }
+        ensures entry { StepsBy (machine_of self.old) self.old.heap.marking (Some (Ask.Opened by (outcome_of outcome))) (answer_in result) no_choice (machine_of self.new) }
         ensures memory { answer_in result ≡ Some (Answer.Refused Refusal.NoMemory) → ⊥ }
         ensures flow { Conserves (resource_of outcome) self.old.cleaner.table (resource_of_reply result) self.new.cleaner.table }
         ensures moves { Moves (resource_of outcome) self.old.cleaner.table (resource_of_reply result) self.new.cleaner.table }
@@ -99,6 +100,7 @@ impl<R> State<R> {
         ensures table_room { self.new.cleaner.table.room ≡ self.old.cleaner.table.room }
         ensures clock { self.new.heap.clock ≡ self.old.heap.clock }
         ensures waits { WaitsOn (machine_of self.new) self.old.cleaner self.new.cleaner }
+        ensures marks { MarksNew (machine_of self.old) self.old.heap.marking no_choice (machine_of self.new) self.new.heap.marking }
     {
         let held = match self.check_opened(by) {
             Ok(held) => held,
@@ -131,6 +133,7 @@ impl<R> State<R> {
         ensures table_room { self.new.cleaner.table.room ≡ self.old.cleaner.table.room }
         ensures clock { self.new.heap.clock ≡ self.old.heap.clock }
         ensures waits { WaitsOn (machine_of self.new) self.old.cleaner self.new.cleaner }
+        ensures marks { MarksNew (machine_of self.old) self.old.heap.marking no_choice (machine_of self.new) self.new.heap.marking }
     {
         match outcome {
             Ok(resource) => self.open_done(by, held, resource),
@@ -151,6 +154,7 @@ impl<R> State<R> {
         ensures table_room { self.new.cleaner.table.room ≡ self.old.cleaner.table.room }
         ensures clock { self.new.heap.clock ≡ self.old.heap.clock }
         ensures waits { WaitAsBefore self.old.cleaner self.new.cleaner }
+        ensures marks { MarksNew (machine_of self.old) self.old.heap.marking no_choice (machine_of self.new) self.new.heap.marking }
     {
         self.cleaner.opened(held.guard.rid, resource);
         self.heap.end_call(by);
@@ -170,6 +174,7 @@ impl<R> State<R> {
         ensures table_room { self.new.cleaner.table.room ≡ self.old.cleaner.table.room }
         ensures clock { self.new.heap.clock ≡ self.old.heap.clock }
         ensures waits { Releases (machine_of self.new) self.old.cleaner self.new.cleaner }
+        ensures marks { MarksNew (machine_of self.old) self.old.heap.marking no_choice (machine_of self.new) self.new.heap.marking }
     {
         let Guard { rid, cleanable } = held.guard;
         self.cleaner.open_failed(cleanable, rid);
@@ -247,7 +252,7 @@ impl<R> State<R> {
     /// A call on a file or socket begins: it goes out, and its guard is held.
     pub(crate) fn check_out(&mut self, by: Mutator, guard: Handle) -> Reply<R>
         requires { IsWellFormed (machine_of self.old) }
-        ensures entry { StepsBy (machine_of self.old) (Some (Ask.CheckOut by guard)) (answer_in result) no_choice (machine_of self.new) }
+        ensures entry { StepsBy (machine_of self.old) self.old.heap.marking (Some (Ask.CheckOut by guard)) (answer_in result) no_choice (machine_of self.new) }
         ensures memory { answer_in result ≡ Some (Answer.Refused Refusal.NoMemory) → ⊥ }
         ensures flow { Conserves None self.old.cleaner.table (resource_of_reply result) self.new.cleaner.table }
         ensures moves { Moves None self.old.cleaner.table (resource_of_reply result) self.new.cleaner.table }
@@ -257,6 +262,7 @@ impl<R> State<R> {
         ensures table_room { self.new.cleaner.table.room ≡ self.old.cleaner.table.room }
         ensures clock { self.new.heap.clock ≡ self.old.heap.clock }
         ensures waits { WaitAsBefore self.old.cleaner self.new.cleaner }
+        ensures marking { self.new.heap.marking ≡ self.old.heap.marking }
     {
         let held = match self.check_use(by, guard) {
             Ok(held) => held,
@@ -281,7 +287,7 @@ impl<R> State<R> {
     /// A call on a file or socket has ended, well or not: it lies here again.
     pub(crate) fn check_in(&mut self, by: Mutator, outcome: CallOutcome, resource: R) -> Reply<R>
         requires { IsWellFormed (machine_of self.old) }
-        ensures entry { StepsBy (machine_of self.old) (Some (Ask.CheckIn by outcome)) (answer_in result) no_choice (machine_of self.new) }
+        ensures entry { StepsBy (machine_of self.old) self.old.heap.marking (Some (Ask.CheckIn by outcome)) (answer_in result) no_choice (machine_of self.new) }
         ensures memory { answer_in result ≡ Some (Answer.Refused Refusal.NoMemory) → ⊥ }
         ensures flow { Conserves (Some resource) self.old.cleaner.table (resource_of_reply result) self.new.cleaner.table }
         ensures moves { Moves (Some resource) self.old.cleaner.table (resource_of_reply result) self.new.cleaner.table }
@@ -291,6 +297,7 @@ impl<R> State<R> {
         ensures table_room { self.new.cleaner.table.room ≡ self.old.cleaner.table.room }
         ensures clock { self.new.heap.clock ≡ self.old.heap.clock }
         ensures waits { WaitAsBefore self.old.cleaner self.new.cleaner }
+        ensures marks { MarksNew (machine_of self.old) self.old.heap.marking no_choice (machine_of self.new) self.new.heap.marking }
     {
         let held = match self.check_out_call(by) {
             Ok(held) => held,
@@ -343,6 +350,7 @@ impl<R> State<R> {
         ensures table_room { self.new.cleaner.table.room ≡ self.old.cleaner.table.room }
         ensures clock { self.new.heap.clock ≡ self.old.heap.clock }
         ensures waits { WaitsOn (machine_of self.new) self.old.cleaner self.new.cleaner }
+        ensures marking { self.new.heap.marking ≡ self.old.heap.marking }
     {
         let slot = self.check_close(by, guard)?;
         Ok(self.start_job(by, slot))

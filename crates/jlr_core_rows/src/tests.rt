@@ -264,8 +264,11 @@ fn stat() -> Event<u32> {
     Event::Stat { mutator: me() }
 }
 
-fn mark() -> Event<u32> {
-    Event::Mark { budget: 64 }
+// A piece of marking, with so many ticks at most.
+fn mark(budget: u8) -> Event<u32> {
+    Event::Mark {
+        budget: u32::from(budget),
+    }
 }
 
 // ---- Cleaners, files and sockets, and names

@@ -1,7 +1,6 @@
 -- The strong and soft edges that an ask adds lead to roots.
-use Rattle.std.proofs.Common.{◌≡◌, ℕ, zero, suc, ◌+◌, ◌==◌, ◌<◌, length-set, Bool, true, false, cond, IsTrue, List, [], ◌∷◌, ◌++◌, ◌⊎◌, inl, inr, length, refl, sym, ◌∙◌, ap, subst, Option, Some, None, option_and_then, option_map, option_to_list, drop, map, slice_get, slice_set, is_some, filter_map, arith}
+use Rattle.std.proofs.Common.{◌≡◌, ℕ, zero, suc, ◌+◌, ◌==◌, ◌<◌, length-set, true, false, cond, List, [], ◌∷◌, ◌++◌, ◌⊎◌, inl, inr, length, refl, sym, ◌∙◌, ap, subst, Option, Some, None, option_and_then, option_map, option_to_list, drop, map, slice_get, slice_set, filter_map}
 use Rattle.std.specs.List.{flat_map, cons_option}
-use Rattle.std.proofs.lemmas.Bool.{both_ways, cases_eq}
 use Rattle.jlr_types.specs.declared.FieldValue.{FieldValue}
 use Rattle.jlr_types.specs.declared.FieldKind.{FieldKind}
 use Rattle.jlr_types.specs.declared.FieldKind.TheVariants.{Int as IntField, Ref as RefField}
@@ -11,7 +10,6 @@ use Rattle.jlr_types.specs.declared.RefKind.TheVariants.{Soft, Weak, Phantom}
 use Rattle.jlr_types.specs.declared.Work.TheVariants.{Resource as WorkOn}
 use Rattle.jlr_machine.specs.declared.object.Object.{Object}
 use Rattle.jlr_machine.specs.declared.object.Object.TheVariants.{Plain, Reference, Queue, Cleaner, Cleanable, Guard}
-use Rattle.jlr_machine.specs.declared.object.Reference.{Reference as ReferenceOf}
 use Rattle.jlr_machine.specs.declared.object.Cleanable.{Cleanable as CleanableOf}
 use Rattle.jlr_machine.specs.declared.object.CleanState.TheVariants.{Armed, Lined}
 use Rattle.jlr_machine.specs.declared.object.Guard.{Guard as GuardOf}
@@ -19,9 +17,9 @@ use Rattle.jlr_machine.specs.declared.object.RefState.TheVariants.{Fresh, Queued
 use Rattle.jlr_machine.specs.declared.machine.Machine.{Machine}
 use Rattle.jlr_machine.specs.declared.machine.Session.{Session}
 use Rattle.jlr_machine.specs.declared.machine.Job.{Job as JobOf}
-use Rattle.jlr_machine.specs.declared.machine.Call.TheVariants.{Free, Job as CallJob, Opening as CallOpening}
+use Rattle.jlr_machine.specs.declared.machine.Call.TheVariants.{Free, Job as CallJob}
 use Rattle.jlr_machine.specs.declared.machine.ResourceState.{ResourceState}
-use Rattle.jlr_machine.specs.declared.machine.ResourceState.TheVariants.{Idle, Closing, Opening}
+use Rattle.jlr_machine.specs.declared.machine.ResourceState.TheVariants.{Idle, Closing}
 use Rattle.jlr_machine.specs.declared.ask.Outcome.{Outcome}
 use Rattle.jlr_machine.specs.declared.ask.Outcome.TheVariants.{Ok as OutcomeOk, Failed}
 use Rattle.jlr_machine.specs.declared.ask.Handed.{Handed}
@@ -30,7 +28,7 @@ use Rattle.jlr_machine.specs.declared.ask.Ask.{Ask}
 use Rattle.jlr_machine.specs.declared.ask.Ask.TheVariants.{Join, Leave, New, Put, Get, SetInt, Int, Dup, Drop, Same, MakeRef, Deref, Refers, Clear, Enqueue, Enqueued, MakeQueue, Poll, Remove, MakeCleaner, Register, Clean, Prepare, Opened, CheckOut, CheckIn, Close, Finish, Bind, Find, Unbind, Names, Full, Stat, Notes, Faults, HandOver, TakeUp, Begin, Collect, Abandon}
 use Rattle.jlr_machine.specs.declared.ask.Answer.{Answer}
 use Rattle.jlr_machine.specs.declared.ask.Answer.TheVariants.{Prepared}
-use Rattle.jlr_machine.specs.Objects.{Heap, Table, at, set_at, ◌∈◌, as_reference, with_field, with_reference, with_members, with_cleanable, queue_ahead, is_unqueued, is_spent}
+use Rattle.jlr_machine.specs.Objects.{Heap, at, set_at, ◌∈◌, as_reference, with_field, with_reference, with_members, with_cleanable, queue_ahead, is_spent}
 use Rattle.jlr_machine.specs.Edges.{edges_from, edges, strong_edges, referent_edges, slot_in, roots, is_own_root}
 use Rattle.jlr_machine.specs.Edges.Chain.{UpToSoft}
 use Rattle.jlr_machine.specs.Lookups.{slot_named, guard_named, with_object, with_new, with_handle, with_call, on, blank, bound, job_of, with_job, without_job, with_state, rid_of, cleanable_at, cleanable_of_guard}

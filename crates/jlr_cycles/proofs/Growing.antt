@@ -84,3 +84,31 @@ pub seen_stays_seen : SeenStaysSeen
 seen_stays_seen m e s w legal h still =
     let on = goes_on_in m e legal still in
     seen_is_seen (done m e) s still (subst (λ l. s ∈ l) (sym on.seen) h) (subst (λ cells. s < cells) (sym on.cells) (w.seen_within s h))
+
+-- ---- A cycle that is open afterwards was open, or the ask is a Begin
+
+asked_opens : (m : Machine) (ask : Ask) (a : Answer) (fresh : List ℕ) → (after m ask a fresh).cycle_open ≡ true → m.cycle_open ≡ false → ask ≡ Begin
+asked_opens m ask a fresh opened shut = elim (leaves_cycle m false m.seen ask a fresh) [
+  | inl same ↦ absurd (both_ways (after m ask a fresh).cycle_open (subst (λ (n : Machine). (after n ask a fresh).cycle_open ≡ false) (ap (λ b. record m { cycle_open = b }) (sym shut)) (ap (λ (n : Machine). n.cycle_open) same)) opened)
+  | inr (inl begins) ↦ begins
+  | inr (inr abandons) ↦ absurd (both_ways false refl (subst (λ ask. (after m ask a fresh).cycle_open ≡ true) abandons opened))
+]
+
+carried_opens : (m : Machine) (ask : Ask) (a : Answer) (fresh : List ℕ) → (carried m ask a fresh).cycle_open ≡ true → m.cycle_open ≡ false → ask ≡ Begin
+carried_opens m ask (Refused by) fresh opened shut = absurd (both_ways m.cycle_open shut opened)
+carried_opens m ask a fresh opened shut = asked_opens m ask a fresh opened shut
+
+done_opens : (m : Machine) (o : Option Collected) (ask : Ask) (a : Answer) (fresh : List ℕ) → MayCollect m ask o → (carried (with_collection m o) ask a fresh).cycle_open ≡ true → m.cycle_open ≡ false → ask ≡ Begin
+done_opens m None ask a fresh may opened shut = carried_opens m ask a fresh opened shut
+done_opens m (Some c) ask a fresh may opened shut = absurd (collects_for_no_begin m ask c may (carried_opens (after_collection m c.kept c.pending) ask a fresh opened refl))
+
+unchanged_opens : (m : Machine) (e : Entry) (by : Refusal) → e.answer ≡ Refused by → e.choice ≡ no_choice → (done m e).cycle_open ≡ true → m.cycle_open ≡ false → e.ask ≡ Begin
+unchanged_opens m e by answers nothing opened shut =
+    let same : done m e ≡ m = ap (λ (c : Chosen). carried (with_collection m c.collected) e.ask e.answer c.fresh) nothing ∙ ap (λ a. carried m e.ask a []) answers in
+    absurd (both_ways m.cycle_open shut (subst (λ (n : Machine). n.cycle_open ≡ true) same opened))
+
+pub opens_by_begin : (m : Machine) (e : Entry) → IsLegal m e → (done m e).cycle_open ≡ true → m.cycle_open ≡ false → e.ask ≡ Begin
+opens_by_begin m e (carried_out c) opened shut = done_opens m e.choice.collected e.ask e.answer e.choice.fresh c.collection opened shut
+opens_by_begin m e (refused c) opened shut = unchanged_opens m e c.by c.answers c.nothing opened shut
+opens_by_begin m e (heap_full c) opened shut = absurd (both_ways (done m e).cycle_open (collected_shut m e c.clearing _ c.answers c.collects) opened)
+opens_by_begin m e (out_of_memory c) opened shut = unchanged_opens m e _ c.answers c.nothing opened shut

@@ -1,6 +1,5 @@
 -- A core that has marked something goes on standing for each machine for which it stands.
-use Rattle.std.proofs.Common.{◌≡◌, ℕ, zero, suc, ◌<◌, arith, true, false, List, [], ◌∷◌, ◌++◌, length, ◌⊎◌, inl, inr, IsTrue, refl, sym, ◌∙◌, ap, subst, Option, Some, None}
-use Rattle.std.specs.List.{list_all}
+use Rattle.std.proofs.Common.{◌≡◌, ℕ, zero, suc, ◌<◌, arith, true, false, List, [], ◌∷◌, ◌++◌, length, ◌⊎◌, inl, inr, refl, sym, ◌∙◌, ap, subst, Option, Some, None}
 use Rattle.std.proofs.lemmas.Bool.{both_ways}
 use Rattle.jlr_types.specs.declared.Refusal.{Refusal}
 use Rattle.jlr_types.specs.declared.RefKind.{RefKind}
@@ -17,7 +16,7 @@ use Rattle.jlr_machine.specs.Edges.{roots, edges_from}
 use Rattle.jlr_machine.specs.Edges.Chain.{UpToSoft, UpToPhantom}
 use Rattle.jlr_machine.specs.Reachable.{IsReached, IsPath}
 use Rattle.jlr_machine.specs.Collection.{after_collection}
-use Rattle.jlr_machine.specs.Run.{IsLegal, apply, done, now_seen, MayCollect, with_collection, carried, no_choice, is_free, is_free_place, IsFresh}
+use Rattle.jlr_machine.specs.Run.{IsLegal, apply, done, now_seen, MayCollect, with_collection, carried, no_choice, is_free, IsFresh}
 use Rattle.jlr_machine.specs.Run.IsLegal.{carried_out, refused, heap_full, out_of_memory}
 use Rattle.jlr_machine.specs.WellFormed.{IsWellFormed}
 use Rattle.jlr_machine.specs.StandsFor.{StandsFor}
@@ -39,13 +38,13 @@ path_more : (m : Machine) (x : ℕ) (path : List ℕ) (y z : ℕ) → IsPath UpT
 path_more m x [] y z p e = (subst (λ u. z ∈ edges_from UpToSoft m.objects u) (sym p) e, refl)
 path_more m x (u ∷ path) y z p e = (p.0, path_more m u path y z p.1 e)
 
-reached_more : (m : Machine) (base : List ℕ) (y z : ℕ) → IsReached UpToSoft m.objects base y → z ∈ edges_from UpToSoft m.objects y → IsReached UpToSoft m.objects base z
+pub reached_more : (m : Machine) (base : List ℕ) (y z : ℕ) → IsReached UpToSoft m.objects base y → z ∈ edges_from UpToSoft m.objects y → IsReached UpToSoft m.objects base z
 reached_more m base y z r e = (r.0, r.1, (r.2.0 ++ z ∷ [], path_more m r.0 r.2.0 y z r.2.1 e))
 
-reached_base : (m : Machine) (base : List ℕ) (y : ℕ) → y ∈ base → IsReached UpToSoft m.objects base y
+pub reached_base : (m : Machine) (base : List ℕ) (y : ℕ) → y ∈ base → IsReached UpToSoft m.objects base y
 reached_base m base y h = (y, h, ([], refl))
 
-along : (m : Machine) (S : ℕ → Type 0) → ((x y : ℕ) → S x → y ∈ edges_from UpToSoft m.objects x → S y) → (x : ℕ) (path : List ℕ) (y : ℕ) → S x → IsPath UpToSoft m.objects x path y → S y
+pub along : (m : Machine) (S : ℕ → Type 0) → ((x y : ℕ) → S x → y ∈ edges_from UpToSoft m.objects x → S y) → (x : ℕ) (path : List ℕ) (y : ℕ) → S x → IsPath UpToSoft m.objects x path y → S y
 along m S closed x [] y s p = subst S p s
 along m S closed x (z ∷ path) y s p = along m S closed z path y (closed x z s p.0) p.1
 

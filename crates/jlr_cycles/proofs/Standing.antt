@@ -73,7 +73,7 @@ legal_in_all core m e w s legal =
 unseen_kept : (n : Machine) → IsWellFormed n → IsWellFormed (with_seen n [])
 unseen_kept n w = unseen n n.cycle_open [] w refl (λ s h. nothing s h) (λ _. refl)
 
-core_kept : (core : Machine) (slots : List ℕ) (e : Entry) → IsWellFormed (with_seen core slots) → IsLegal (with_seen core slots) e → IsWellFormed (with_seen (done core e) [])
+pub core_kept : (core : Machine) (slots : List ℕ) (e : Entry) → IsWellFormed (with_seen core slots) → IsLegal (with_seen core slots) e → IsWellFormed (with_seen (done core e) [])
 core_kept core slots e w legal =
     subst IsWellFormed (leaves_the_same core slots e) (unseen_kept (apply (with_seen core slots) e) (legal_kept (with_seen core slots) e w legal))
 

@@ -4,3 +4,4 @@ pub mod Handling
 pub mod Faults
 pub mod Scripts
 pub mod Queues
+pub mod Gates

@@ -10,6 +10,7 @@
 #![tactic(auto)]
 
 mod device;
+pub mod gate;
 pub mod guarded;
 pub mod real;
 mod resource;

@@ -208,7 +208,7 @@ impl Resource for ScriptResource {
 }
 
 /// Puts bytes to the front of a buffer, as many as fit, and answers how many.
-fn fill(buf: &mut [u8], bytes: &[u8]) -> usize
+pub(crate) fn fill(buf: &mut [u8], bytes: &[u8]) -> usize
     ensures count { result ≡ min (length buf.old) (length bytes.now) }
     ensures filled { buf.new ≡ filled bytes.now buf.old }
 {

@@ -30,7 +30,7 @@ pub record IsMarking (kept : ℕ → Bool) (heap : Heap) (B : List ℕ) (m : Mar
 module _ (keeps : ℕ → Bool) (heap : Heap) (B : List ℕ) where
   -- ---- Paths
 
-  one_more : (x : ℕ) (path : List ℕ) (y z : ℕ) → IsPathFollowed keeps heap x path y → z ∈ followed keeps heap y → IsPathFollowed keeps heap x (path ++ z ∷ []) z
+  pub one_more : (x : ℕ) (path : List ℕ) (y z : ℕ) → IsPathFollowed keeps heap x path y → z ∈ followed keeps heap y → IsPathFollowed keeps heap x (path ++ z ∷ []) z
   one_more x [] y z e h = (subst (λ w. z ∈ followed keeps heap w) (sym e) h, refl)
   one_more x (w ∷ path) y z p h = (p.0, one_more w path y z p.1 h)
 

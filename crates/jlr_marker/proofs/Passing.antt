@@ -1,5 +1,5 @@
 -- Grey cells are followed, one after another.
-use Rattle.std.proofs.Common.{◌≡◌, ◌+◌, ◌∷◌, ℕ, ◌⊎◌, inl, inr, Bool, true, false, get_or, count_by, arith, refl, sym, subst, ap, ◌∙◌}
+use Rattle.std.proofs.Common.{◌≡◌, ◌+◌, ◌∷◌, ◌++◌, [], ℕ, ◌⊎◌, inl, inr, Bool, true, false, get_or, count_by, arith, refl, sym, subst, ap, ◌∙◌}
 use Rattle.std.specs.Prelude.{nat_eq}
 use Rattle.std.proofs.lemmas.Bool.{cases_eq}
 use Rattle.std.proofs.lemmas.List.Sorted.{length_permutation, list_any-IsPermutation}
@@ -9,7 +9,7 @@ use Rattle.jlr_laws.proofs.Sets.{in_front, in_rest, in_cons}
 use Rattle.jlr_marks.specs.Marking.{Marking, IsMarked, marked}
 use Rattle.jlr_marker.specs.Following.{Follows}
 use Rattle.jlr_marker.specs.Marks.{Blackening, IsBlackened}
-use Rattle.jlr_marker.proofs.Following.{follows_base, follows_on}
+use Rattle.jlr_marker.proofs.Following.{one_more}
 
 module _ (keeps : ℕ → Bool) (heap : Heap) where
   pub nothing_passed : (m : Marking) → Blackening keeps heap 0 m m
@@ -83,9 +83,9 @@ module _ (keeps : ℕ → Bool) (heap : Heap) where
           ];
           reached = λ y h. elim (f.shaded.added y h) [
             | inl o ↦ i.reached y (as_cur y o)
-            | inr n ↦ elim (i.fresh slot slot_grey) [
-              | inl grey ↦ inr (follows_on keeps heap old.grey slot y (follows_base keeps heap old.grey slot grey) n.0)
-              | inr white ↦ elim (i.reached slot top) [ inl on ↦ absurd (white on) | inr path ↦ inr (follows_on keeps heap old.grey slot y path n.0) ]
+            | inr n ↦ elim (i.reached slot top) [
+              | inl on ↦ elim (i.fresh slot slot_grey) [ inl grey ↦ inr (slot, grey, on, y ∷ [], (n.0, refl)) | inr white ↦ absurd (white on) ]
+              | inr p ↦ inr (p.0, p.1, p.2, p.3 ++ y ∷ [], one_more keeps heap old.grey p.0 p.3 slot y p.4 n.0)
             ]
           ];
         }

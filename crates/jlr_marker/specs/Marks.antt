@@ -1,11 +1,10 @@
 -- What a piece of marking does to the marks.
-use Rattle.std.specs.Prelude.{◌≡◌, ◌≢◌, ◌≤◌, ◌+◌, ℕ, ◌⊎◌, Bool, [], length}
+use Rattle.std.specs.Prelude.{◌≡◌, ◌≢◌, ◌≤◌, ◌+◌, ℕ, ◌⊎◌, Bool, List, [], length}
 use Rattle.jlr_types.specs.declared.Progress.{Progress}
 use Rattle.jlr_types.specs.declared.Progress.TheVariants.{More, Done, Idle}
 use Rattle.jlr_machine.specs.Objects.{Heap, ◌∈◌}
-use Rattle.jlr_laws.specs.Laws.{followed}
+use Rattle.jlr_laws.specs.Laws.{followed, IsPathFollowed}
 use Rattle.jlr_marks.specs.Marking.{Marking, IsMarked, marked}
-use Rattle.jlr_marker.specs.Following.{IsFollowed}
 
 -- the cell is black, and was not: it was grey, or white
 abbrev pub IsBlackened : Marking → Marking → ℕ → Type 0
@@ -25,7 +24,7 @@ pub record Blackening (keeps : ℕ → Bool) (heap : Heap) (ticks : ℕ) (old ne
   pub follows : (x y : ℕ) → IsBlackened old new x → y ∈ followed keeps heap x → IsMarked new y
   -- what was newly marked, a blackened cell leads to, and in some steps one that was grey
   pub no_more : (y : ℕ) → IsMarked new y → IsMarked old y ⊎ ((x : ℕ) × IsBlackened old new x × (y ∈ followed keeps heap x))
-  pub reached : (y : ℕ) → IsMarked new y → IsMarked old y ⊎ IsFollowed keeps heap old.grey y
+  pub reached : (y : ℕ) → IsMarked new y → IsMarked old y ⊎ ((x : ℕ) × (x ∈ old.grey) × IsMarked old x × (path : List ℕ) × IsPathFollowed keeps heap x path y)
 
 -- A piece of marking ticked so often, once for each cell that it blackened. There is more to do only after all ticks, with a grey cell left, and
 -- it is done where none is left
@@ -35,3 +34,5 @@ pub record MarksOn (keeps : ℕ → Bool) (heap : Heap) (budget ticks : ℕ) (an
   pub more : answer ≡ More → (ticks ≡ budget) × (new.grey ≢ [])
   pub done : answer ≡ Done → new.grey ≡ []
   pub never_idle : answer ≢ Idle
+  -- no more are marked than there are cells
+  pub within : marked new ≤ length heap

@@ -1,4 +1,7 @@
-//! A session of the heap: the lines of a reader are answered one after the other on a writer, over a book that is given back.
+//! Sessions over a heap: one that is alone, whose lines are answered one after the other over a book that is given back, and a server's, which share
+//! a heap.
 #![tactic(auto)]
 
+pub mod listener;
 pub mod run;
+pub mod server;

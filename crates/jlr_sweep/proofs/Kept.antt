@@ -45,7 +45,7 @@ module _ (f : Machine) (g : Graph) (rooted : IsRooted f g) where
         | inr by ↦ root_from m s (fencing r.0 r.1 r.2 (in_option s r.1.fence by))
       ]
 
-  held_root : (s : ℕ) → s ∈ held g → s ∈ roots m
+  pub held_root : (s : ℕ) → s ∈ held g → s ∈ roots m
   held_root s h =
       held_cases g s h (session_root s) (λ b. root_from m s (by_name b)) (λ b. root_from m s (waiting b)) (λ b. root_from m s (lining b))
       (λ own. root_from m s (active (active_gives g.objects s own)))

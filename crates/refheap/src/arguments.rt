@@ -1,12 +1,12 @@
 //! The command line.
-ghost use Rattle.std.specs.Prelude.{◌≡◌, ◌≢◌, ◌⊎◌, IfOk, IfErr, Some};
+ghost use Rattle.std.specs.Prelude.{◌≡◌, ◌≢◌, ◌⊎◌, IfOk, IfErr, IfSome, Some};
 ghost use Rattle.clap.specs.Values.{kind_of};
 ghost use Rattle.jlr_types.specs.Ranges.{first_fault};
 ghost use Rattle.refheap.specs.Status.{status_of};
 
 use crate::fault::ProgramFault;
 use clap::error::ErrorKind;
-use clap::{Arg, ArgMatches, Command, value_parser};
+use clap::{Arg, ArgAction, ArgMatches, Command, value_parser};
 use jlr_types::{LimitFault, Limits};
 use std::alloc::{AllocError, Global};
 use std::{env, io};
@@ -30,7 +30,7 @@ pub fn words(rt: &HostRuntime) -> Result<Vec<String>, ProgramFault>
     }
 }
 
-/// The numbers that the words of a `run` ask for.
+/// The numbers that the words of a `run` or a `serve` ask for.
 #[derive(Clone, Copy)]
 struct Numbers {
     /// The number of cells, from 16 to 65,536.
@@ -43,34 +43,43 @@ struct Numbers {
     trace: u32,
 }
 
-/// The numbers that the words of a `run` ask for, each as it is usually where they ask for none.
-fn numbers_asked(alloc: Global, words: &[String]) -> Result<Numbers, ProgramFault>
+/// The numbers that a `run` or a `serve` asks for, each as it is usually where it asks for none.
+fn numbers_asked(alloc: Global, heap: Option<&ArgMatches<'_>>) -> Result<Numbers, ProgramFault>
     ensures { IfErr result (λ fault. (status_of fault ≡ 2) ⊎ (status_of fault ≡ 5)) }
 {
-    let command = command(alloc).map_err(ProgramFault::NoMemory)?;
-    let matches = parsed(command, words)?;
-    let run = matches.subcommand_matches("run");
     for option in ["cells", "resources", "soft-age", "trace"] {
-        if !is_spelled_plainly(run, option) {
-            return Err(refused(alloc, "a number has no sign and no leading zero"));
-        }
+        spelled_plainly(alloc, heap, option)?;
     }
     Ok(Numbers {
-        cells: number(run, "cells").unwrap_or(DEFAULT_CELLS),
-        resources: number(run, "resources").unwrap_or(DEFAULT_RESOURCES),
-        soft_age: number(run, "soft-age").unwrap_or(DEFAULT_SOFT_AGE),
-        trace: number(run, "trace").unwrap_or(DEFAULT_TRACE),
+        cells: number(heap, "cells").unwrap_or(DEFAULT_CELLS),
+        resources: number(heap, "resources").unwrap_or(DEFAULT_RESOURCES),
+        soft_age: number(heap, "soft-age").unwrap_or(DEFAULT_SOFT_AGE),
+        trace: number(heap, "trace").unwrap_or(DEFAULT_TRACE),
     })
 }
 
-/// The number that is given for an option of a `run`, if there is one.
-fn number(run: Option<&ArgMatches<'_>>, option: &str) -> Option<u32> {
-    run.and_then(|run| run.get_one::<u32>(option))
+/// The number that is given for an option, if there is one.
+fn number(given: Option<&ArgMatches<'_>>, option: &str) -> Option<u32> {
+    given.and_then(|given| given.get_one::<u32>(option))
+}
+
+/// That the number which is given for an option, if there is one, has its one spelling.
+fn spelled_plainly(
+    alloc: Global,
+    given: Option<&ArgMatches<'_>>,
+    option: &str,
+) -> Result<(), ProgramFault>
+    ensures { IfErr result (λ fault. (status_of fault ≡ 2) ⊎ (status_of fault ≡ 5)) }
+{
+    if is_spelled_plainly(given, option) {
+        return Ok(());
+    }
+    Err(refused(alloc, "a number has no sign and no leading zero"))
 }
 
 /// Whether the number that is given for an option, if there is one, has its one spelling: no sign and no leading zero.
-fn is_spelled_plainly(run: Option<&ArgMatches<'_>>, option: &str) -> bool {
-    match run.and_then(|run| run.get_str(option)) {
+fn is_spelled_plainly(given: Option<&ArgMatches<'_>>, option: &str) -> bool {
+    match given.and_then(|given| given.get_str(option)) {
         Some(text) => text == "0" || !(text.starts_with('0') || text.starts_with('+')),
         None => true,
     }
@@ -81,11 +90,22 @@ pub fn limits(alloc: Global, words: &[String]) -> Result<Limits, ProgramFault>
     ensures usual { IfOk result (λ limits. (limits.sessions ≡ 1) × (limits.budget ≡ 64)) }
     ensures refused { IfErr result (λ fault. (status_of fault ≡ 2) ⊎ (status_of fault ≡ 5)) }
 {
-    let asked = numbers_asked(alloc, words)?;
-    match limits_with(asked.cells, asked.resources, asked.soft_age, asked.trace) {
+    let command = command(alloc).map_err(ProgramFault::NoMemory)?;
+    let matches = parsed(command, words)?;
+    let asked = numbers_asked(alloc, matches.subcommand_matches("run"))?;
+    checked(alloc, asked, 1)
+}
+
+/// These limits, where all lie in their ranges.
+fn checked(alloc: Global, asked: Numbers, sessions: u32) -> Result<Limits, ProgramFault>
+    ensures usual { IfOk result (λ limits. (limits.sessions ≡ sessions) × (limits.budget ≡ 64)) }
+    ensures refused { IfErr result (λ fault. (status_of fault ≡ 2) ⊎ (status_of fault ≡ 5)) }
+{
+    match limits_with(asked, sessions) {
         Ok(limits) => Ok(limits),
         Err(fault) => {
             let message = match fault {
+                LimitFault::Sessions => "the number of sessions is from 1 to 64",
                 LimitFault::Resources => "the number of resources is from 1 to 256",
                 LimitFault::SoftAge => "the soft age is from 0 to 1000",
                 LimitFault::Trace => "the length of the trace is from 64 to 1000000",
@@ -96,26 +116,86 @@ pub fn limits(alloc: Global, words: &[String]) -> Result<Limits, ProgramFault>
     }
 }
 
-/// The file that the words of an `audit` name; none where they ask for something else.
-pub fn audited<'a>(alloc: Global, words: &'a [String]) -> Result<Option<&'a str>, ProgramFault>
+/// What a `serve` is to do.
+#[derive(Clone, Copy)]
+pub struct Service<'a> {
+    /// Where it listens.
+    pub socket: &'a str,
+    /// How many clients it accepts, from 1 to 1,000,000.
+    pub total: u32,
+    pub limits: Limits,
+}
+
+/// What the words of a `serve` ask for; none where they ask for something else.
+pub fn served<'a>(alloc: Global, words: &'a [String]) -> Result<Option<Service<'a>>, ProgramFault>
+    ensures budget { IfOk result (λ service. IfSome service (λ s. s.limits.budget ≡ 64)) }
+    ensures refused { IfErr result (λ fault. (status_of fault ≡ 2) ⊎ (status_of fault ≡ 5)) }
+{
+    let command = command(alloc).map_err(ProgramFault::NoMemory)?;
+    let matches = parsed(command, words)?;
+    let Some(serve) = matches.subcommand_matches("serve") else {
+        return Ok(None);
+    };
+    let Some(socket) = serve.get_str("socket") else {
+        return Ok(None);
+    };
+    spelled_plainly(alloc, Some(serve), "sessions")?;
+    spelled_plainly(alloc, Some(serve), "total")?;
+    let asked = numbers_asked(alloc, Some(serve))?;
+    let sessions = number(Some(serve), "sessions").unwrap_or(DEFAULT_SESSIONS);
+    let limits = checked(alloc, asked, sessions)?;
+    let total = number(Some(serve), "total").unwrap_or(1);
+    Ok(Some(Service {
+        socket,
+        total,
+        limits,
+    }))
+}
+
+/// What an `audit` is to do.
+#[derive(Clone, Copy)]
+pub struct AuditOrder<'a> {
+    pub file: &'a str,
+    /// Whether it says why a history is not legal, and how far it is with a long one.
+    pub explain: bool,
+}
+
+/// What the words of an `audit` ask for; none where they ask for something else.
+pub fn audited<'a>(
+    alloc: Global,
+    words: &'a [String],
+) -> Result<Option<AuditOrder<'a>>, ProgramFault>
     ensures { IfErr result (λ fault. (status_of fault ≡ 2) ⊎ (status_of fault ≡ 5)) }
 {
     let command = command(alloc).map_err(ProgramFault::NoMemory)?;
     let matches = parsed(command, words)?;
+    let Some(audit) = matches.subcommand_matches("audit") else {
+        return Ok(None);
+    };
+    let explain = audit.get_flag("explain");
     Ok(
-        matches
-            .subcommand_matches("audit")
-            .and_then(|audit| audit.get_str("file")),
+        audit
+            .get_str("file")
+            .map(|file| AuditOrder { file, explain }),
     )
 }
 
-/// The limits of a session that is alone, with so many cells, so many files and sockets, this soft age, and a trace of this length.
-fn limits_with(cells: u32, resources: u32, soft_age: u32, trace: u32) -> Result<Limits, LimitFault>
-    ensures limits { IfOk result (λ limits. (limits.cells ≡ cells) × (limits.sessions ≡ 1) × (limits.resources ≡ resources) × (limits.soft_age ≡ soft_age) × (limits.trace ≡ trace) × (limits.budget ≡ 64)) }
-    ensures fault { IfErr result (λ fault. first_fault cells 1 resources soft_age trace 64 ≡ Some fault) }
+/// The limits of a heap of these numbers and so many sessions.
+fn limits_with(asked: Numbers, sessions: u32) -> Result<Limits, LimitFault>
+    ensures limits { IfOk result (λ limits. (limits.cells ≡ asked.cells) × (limits.sessions ≡ sessions) × (limits.resources ≡ asked.resources) × (limits.soft_age ≡ asked.soft_age) × (limits.trace ≡ asked.trace) × (limits.budget ≡ 64)) }
+    ensures fault { IfErr result (λ fault. first_fault asked.cells sessions asked.resources asked.soft_age asked.trace 64 ≡ Some fault) }
 {
-    Limits::checked(cells, 1, resources, soft_age, trace, DEFAULT_BUDGET)
+    let Numbers {
+        cells,
+        resources,
+        soft_age,
+        trace,
+    } = asked;
+    Limits::checked(cells, sessions, resources, soft_age, trace, DEFAULT_BUDGET)
 }
+
+/// How many sessions share a heap where the command line gives no number.
+const DEFAULT_SESSIONS: u32 = 4;
 
 /// How many cells a piece of marking visits at most. The command line has no option for it.
 const DEFAULT_BUDGET: u32 = 64;
@@ -171,6 +251,17 @@ fn told(error: clap::Error) -> ProgramFault
 
 /// The program's command line.
 fn command<'a>(alloc: Global) -> Result<Command<'a>, AllocError> {
+    let run = Command::new(alloc, "run").about("One session on standard input and output");
+    Command::new(alloc, "refheap")
+        .about("A managed object heap with reference objects")
+        .subcommand_required(true)
+        .subcommand(with_heap(alloc, run)?)?
+        .subcommand(serve_command(alloc)?)?
+        .subcommand(audit_command(alloc)?)
+}
+
+/// A command with the options of its heap.
+fn with_heap<'a>(alloc: Global, command: Command<'a>) -> Result<Command<'a>, AllocError> {
     let cells = Arg::new(alloc, "cells")
         .long("cells")
         .value_name("N")
@@ -195,24 +286,52 @@ fn command<'a>(alloc: Global) -> Result<Command<'a>, AllocError> {
         .help("Number of entries after which the trace is cut, from 64 to 1000000")
         .value_parser(value_parser!(u32).range(64..=1_000_000))
         .default_value("10000");
-    let run = Command::new(alloc, "run")
-        .about("One session on standard input and output")
+    command
         .arg(cells)?
         .arg(resources)?
         .arg(soft_age)?
-        .arg(trace)?;
+        .arg(trace)
+}
+
+fn serve_command<'a>(alloc: Global) -> Result<Command<'a>, AllocError> {
+    let socket = Arg::new(alloc, "socket")
+        .long("socket")
+        .value_name("PATH")
+        .help("Where the Unix socket is made on which it listens")
+        .required(true);
+    let total = Arg::new(alloc, "total")
+        .long("total")
+        .value_name("N")
+        .help("Number of clients after which it ends, from 1 to 1000000")
+        .value_parser(value_parser!(u32).range(1..=1_000_000))
+        .required(true);
+    let sessions = Arg::new(alloc, "sessions")
+        .long("sessions")
+        .value_name("N")
+        .help("Number of clients that are served at once, from 1 to 64")
+        .value_parser(value_parser!(u32).range(1..=64))
+        .default_value("4");
+    let serve = Command::new(alloc, "serve")
+        .about("A heap that clients share over a Unix socket")
+        .arg(socket)?
+        .arg(total)?
+        .arg(sessions)?;
+    with_heap(alloc, serve)
+}
+
+fn audit_command<'a>(alloc: Global) -> Result<Command<'a>, AllocError> {
     let file = Arg::new(alloc, "file")
         .value_name("FILE")
         .help("A saved history")
         .required(true);
-    let audit = Command::new(alloc, "audit")
+    let explain = Arg::new(alloc, "explain")
+        .long("explain")
+        .help("Says why a history is not legal, and how far the audit of a long one is")
+        .action(ArgAction::SetTrue);
+    Command::new(alloc, "audit")
         .about("The verdict on a saved history")
-        .arg(file)?;
-    Command::new(alloc, "refheap")
-        .about("A managed object heap with reference objects")
-        .subcommand_required(true)
-        .subcommand(run)?
-        .subcommand(audit)
+        .arg(explain)?
+        .arg(file)
 }
 
 #[cfg(test)]
@@ -229,8 +348,18 @@ mod tests {
             text.push_str(word)?;
             words.push(text)?;
         }
-        if let Ok(Some(file)) = audited(alloc, words.as_slice()) {
-            return Ok(format!(in alloc; "audit of {file}")?);
+        if let Ok(Some(AuditOrder { file, explain })) = audited(alloc, words.as_slice()) {
+            let how = if explain { ", explained" } else { "" };
+            return Ok(format!(in alloc; "audit of {file}{how}")?);
+        }
+        if let Ok(Some(service)) = served(alloc, words.as_slice()) {
+            let Service {
+                socket,
+                total,
+                limits,
+            } = service;
+            let (sessions, cells) = (limits.sessions, limits.cells);
+            return Ok(format!(in alloc; "serve {total} on {socket}, {sessions} at once, {cells}")?);
         }
         match limits(alloc, words.as_slice()) {
             Ok(limits) => {
@@ -272,6 +401,10 @@ mod tests {
             refheap run --trace 64 --soft-age 0 --resources 1 --cells 16 -> 16 1 0 64
             refheap run --cells 65536 --resources 256 --soft-age 1000 --trace 1000000 -> 65536 256 1000 1000000
             refheap audit history -> audit of history
+            refheap audit --explain history -> audit of history, explained
+            refheap audit history --explain -> audit of history, explained
+            refheap serve --socket s --total 7 -> serve 7 on s, 4 at once, 1024
+            refheap serve --total 1000000 --socket /tmp/s --sessions 64 --cells 16 -> serve 1000000 on /tmp/s, 64 at once, 16
             ",
         )?;
         play(
@@ -297,6 +430,15 @@ mod tests {
             refheap run --trace 1000001 -> status 2
             refheap run --trace 064 -> status 2
             refheap run --trace -> status 2
+            refheap serve -> status 2
+            refheap serve --socket s -> status 2
+            refheap serve --total 1 -> status 2
+            refheap serve --socket s --total 0 -> status 2
+            refheap serve --socket s --total 1000001 -> status 2
+            refheap serve --socket s --total 01 -> status 2
+            refheap serve --socket s --total 1 --sessions 0 -> status 2
+            refheap serve --socket s --total 1 --sessions 65 -> status 2
+            refheap serve --socket s --total 1 --cells 15 -> status 2
             ",
         )
     }

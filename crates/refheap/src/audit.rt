@@ -4,9 +4,13 @@ ghost use Rattle.jlr_audit.specs.Verdicts.{IsFileVerdict};
 ghost use Rattle.jlr_trace.specs.declared.file.TraceFault.TheVariants.{NoMemory};
 ghost use Rattle.refheap.specs.Audits.{IsJudged, IsDamage, damage};
 
+use crate::arguments::AuditOrder;
 use crate::fault::ProgramFault;
-use jlr_audit::audit::audit as verdict_on;
+use crate::progress::Progress;
+use jlr_audit::audit::audit_watched;
 use jlr_audit::verdict::Verdict;
+use jlr_audit::watch::Watch;
+use jlr_explain::history::explained;
 use jlr_trace::file::{TraceFault, TraceFile, read_trace};
 use std::alloc::{AllocError, Global};
 use std::fs;
@@ -32,11 +36,15 @@ fn damage_of(fault: TraceFault) -> ProgramFault
     }
 }
 
-fn verdict_of_file(alloc: Global, file: &TraceFile) -> Result<Judged, ProgramFault>
+fn verdict_of_file<W: Watch>(
+    alloc: Global,
+    file: &TraceFile,
+    watch: &mut W,
+) -> Result<Judged, ProgramFault>
     ensures verdict { IfOk result (λ j. IsFileVerdict file.now j.verdict × (j.entries ≡ length file.now.entries)) }
     ensures memory { IfErr result (λ e. e ≡ damage NoMemory) }
 {
-    match verdict_on(alloc, file) {
+    match audit_watched(alloc, file, watch) {
         Ok(verdict) => Ok(Judged {
             verdict,
             entries: file.entries.len() as u64,
@@ -49,12 +57,16 @@ fn verdict_of_file(alloc: Global, file: &TraceFile) -> Result<Judged, ProgramFau
 ///
 /// # Errors
 /// The first fault of the bytes, where they spell none, or `NoMemory`.
-pub fn verdict_of(alloc: Global, bytes: &[u8]) -> Result<Judged, ProgramFault>
+pub fn verdict_of<W: Watch>(
+    alloc: Global,
+    bytes: &[u8],
+    watch: &mut W,
+) -> Result<Judged, ProgramFault>
     ensures verdict { IfOk result (λ j. IsJudged bytes.now j) }
     ensures fault { IfErr result (λ e. IsDamage bytes.now e) }
 {
     match read_trace(alloc, bytes) {
-        Ok(file) => verdict_of_file(alloc, &file),
+        Ok(file) => verdict_of_file(alloc, &file, watch),
         Err(fault) => Err(damage_of(fault)),
     }
 }
@@ -100,13 +112,37 @@ fn outcome_of(verdict: Verdict) -> Result<(), ProgramFault> {
     }
 }
 
-/// Audits a file, and writes the verdict.
+/// Writes why a history is not legal, as one line.
+fn explain(alloc: Global, writer: &mut impl Write, bytes: &[u8]) -> Result<(), ProgramFault> {
+    let file = match read_trace(alloc, bytes) {
+        Ok(file) => file,
+        Err(fault) => return Err(damage_of(fault)),
+    };
+    let Some(why) = explained(alloc, &file)? else {
+        return Ok(());
+    };
+    let line = format!(in alloc; "{why}\n")?;
+    if writer.write_all(line.as_bytes()).is_err() || writer.flush().is_err() {
+        return Err(ProgramFault::Write);
+    }
+    Ok(())
+}
+
+/// Audits a file, and writes the verdict; where it is to be explained, also why it is not legal.
 ///
 /// # Errors
 /// `CannotRead` where the file cannot be read, the fault of a damaged file, `Illegal` where the verdict is not legal, `Write`, `NoMemory`.
-pub fn audit(rt: &HostRuntime, path: &str, writer: &mut impl Write) -> Result<(), ProgramFault> {
-    let bytes = contents(rt, path)?;
-    let judged = verdict_of(rt.alloc(), bytes.as_slice())?;
+pub fn audit(
+    rt: &HostRuntime,
+    asked: AuditOrder<'_>,
+    writer: &mut impl Write,
+) -> Result<(), ProgramFault> {
+    let bytes = contents(rt, asked.file)?;
+    let mut progress = Progress::new(*rt, asked.explain);
+    let judged = verdict_of(rt.alloc(), bytes.as_slice(), &mut progress)?;
     tell(rt.alloc(), writer, judged)?;
+    if asked.explain && judged.verdict != Verdict::Legal {
+        explain(rt.alloc(), writer, bytes.as_slice())?;
+    }
     outcome_of(judged.verdict)
 }

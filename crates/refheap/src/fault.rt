@@ -21,6 +21,11 @@ pub enum ProgramFault {
     TooManyLines,
     #[error("cannot read {0}")]
     CannotRead(String),
+    #[error("cannot listen on {0}")]
+    CannotListen(String),
+    /// A seat of a server does not agree with the history.
+    #[error("seat {0} disagrees")]
+    Disagree(u8),
     /// The verdict on a history is not legal. It was written; nothing more is said.
     #[error("illegal")]
     Illegal,
@@ -44,9 +49,10 @@ impl ProgramFault {
         ensures { result ≡ status_of self.now }
     {
         match self {
-            ProgramFault::Read | ProgramFault::Write | ProgramFault::CannotRead(_) => 1,
+            ProgramFault::Read | ProgramFault::Write => 1,
+            ProgramFault::CannotRead(_) | ProgramFault::CannotListen(_) => 1,
             ProgramFault::CommandLine(_) => 2,
-            ProgramFault::Illegal => 3,
+            ProgramFault::Illegal | ProgramFault::Disagree(_) => 3,
             ProgramFault::Unfinished | ProgramFault::TooManyLines => 4,
             ProgramFault::TraceTruncated | ProgramFault::BadMark => 4,
             ProgramFault::BadVersion | ProgramFault::BadEntry(_) => 4,
@@ -68,6 +74,7 @@ mod tests {
             (ProgramFault::Unfinished, 4, "unfinished line"),
             (ProgramFault::TooManyLines, 4, "too many lines"),
             (ProgramFault::Illegal, 3, "illegal"),
+            (ProgramFault::Disagree(7), 3, "seat 7 disagrees"),
             (ProgramFault::TraceTruncated, 4, "trace truncated"),
             (ProgramFault::BadMark, 4, "bad mark"),
             (ProgramFault::BadVersion, 4, "bad version"),

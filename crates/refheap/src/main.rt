@@ -7,7 +7,9 @@ mod audit;
 mod ends;
 mod fault;
 mod places;
+mod progress;
 mod report;
+mod serve;
 mod session;
 #[cfg(test)]
 mod verdicts;
@@ -18,17 +20,22 @@ use places::StandardPlaces;
 use report::status_after;
 use session::session;
 use std::process::ExitCode;
+use std::sync::Wait;
+use std::thread::Threads;
 
 fn main(rt: HostRuntime) -> ExitCode {
     let _places = StandardPlaces::filled(&rt);
-    ExitCode::from(status_after(rt, &run(&rt)))
+    ExitCode::from(status_after(rt, &run(&rt, &rt)))
 }
 
-/// Runs what the words of the command line ask for.
-fn run(rt: &HostRuntime) -> Result<(), ProgramFault> {
+/// Runs what the words of the command line ask for. Threads are for a server alone.
+fn run<T: Threads + Wait + Sync>(rt: &HostRuntime, threads: &T) -> Result<(), ProgramFault> {
     let words = arguments::words(rt)?;
-    if let Some(path) = arguments::audited(rt.alloc(), words.as_slice())? {
-        return audit::audit(rt, path, &mut rt.stdout());
+    if let Some(order) = arguments::audited(rt.alloc(), words.as_slice())? {
+        return audit::audit(rt, order, &mut rt.stdout());
+    }
+    if let Some(service) = arguments::served(rt.alloc(), words.as_slice())? {
+        return serve::serve(rt, threads, service, &mut rt.stdout());
     }
     let limits = arguments::limits(rt.alloc(), words.as_slice())?;
     let mut reader = rt.stdin();

@@ -1,4 +1,5 @@
 //! Each end of an audit: the status of the program, what it says on the standard error, and what it writes.
+use crate::arguments::AuditOrder;
 use crate::audit::audit;
 use crate::ends::Kept;
 use crate::report::status_after;
@@ -22,8 +23,12 @@ const FILE: &str = "
 /// what is written. Without bytes there is no file.
 const ROWS: &str = "
     103 -> 0||legal 2
-    100 01 -> 3||illegal 2
-    60 00 -> 3||illegal 0
+    100 01 -> 3||illegal 2 entry 2 of seat 0, leave of mutator 1, answered ok: it has to be refused 13, since the mutator is not joined, or may not join
+    96 0c -> 3||illegal 1 entry 1 of seat 0, join of mutator 0, answered done before: another answer is due
+    93 00 0000 100d 00 00 0100 00 00 -> 3||illegal 1 entry 1 of seat 0, join of mutator 0, answered refused 13: refused 13 says that the mutator is not joined, or may not join, and that is not so
+    93 00 0000 00 01 00000000 00000000 00 0100 00 00 -> 3||illegal 1 entry 1 of seat 0, join of mutator 0, answered ok: its collection may not come here, or keeps or hands over other objects than it may
+    93 00 0000 00 02 01 00000000 00 0100 00 00 -> 3||illegal 1 entry 1 of seat 0, join of mutator 0, answered ok: it makes 0 objects, each in a free cell of its own, and the entry tells others
+    60 00 -> 3||illegal 0 the image is not well formed
     102 -> 4|refheap: trace truncated|
     1 58 -> 4|refheap: bad mark|
     4 09 -> 4|refheap: bad version|
@@ -72,8 +77,12 @@ fn in_one_line(alloc: Global, text: &str) -> Result<String, AllocError> {
 
 fn ending(rt: HostRuntime) -> Result<String, Fail> {
     let alloc = rt.alloc();
+    let asked = AuditOrder {
+        file: PATH,
+        explain: true,
+    };
     let mut written = Vec::new(alloc);
-    let outcome = audit(&rt, PATH, &mut written);
+    let outcome = audit(&rt, asked, &mut written);
     let said = RefCell::new(String::new(alloc));
     let status = status_after(Kept { alloc, text: &said }, &outcome);
     let said = in_one_line(alloc, said.into_inner().as_str())?;

@@ -72,6 +72,7 @@ const LISTS: &str = "
     drop 4 -> done
     drop 5 -> done
     begin -> yes
+    mark done
     collect -> yes
     stat -> stat 1
     trace 0 24

@@ -31,7 +31,7 @@ const LISTS: &str = "
     collect -> yes
     stat -> stat 2 0 0 0 0
 
--- Nor is what a weak reference gave in it.
+-- Nor is what a weak reference gave in it, after all was marked.
 == what a weak reference gave in a cycle is kept: soft_age 4
     join -> done
     bare -> handle 1
@@ -43,6 +43,76 @@ const LISTS: &str = "
     mark -> marked done
     collect -> yes
     deref 2 -> handle 3
+
+-- A reference that was a root when the cycle began is kept by it, though it was dropped since. What it refers to was not marked.
+== a reference that was dropped in a cycle is kept: soft_age 4
+    join -> done
+    queue -> handle 1
+    bare -> handle 2
+    weak 2 1 -> handle 3
+    drop 2 -> done
+    begin -> yes
+    drop 3 -> done
+    mark -> marked done
+    collect -> yes
+    hand_over -> queued
+    poll 1 -> handle 2
+
+-- A piece of marking ends where its ticks are spent or no cell is grey, and a cycle is collected only then.
+== a cycle is marked in pieces: soft_age 4
+    join -> done
+    new -> handle 1
+    new -> handle 2
+    put 1 0 2 -> done
+    drop 2 -> done
+    begin -> yes
+    mark 1 -> marked more
+    collect -> no
+    mark 1 -> marked done
+    mark 1 -> marked done
+    collect -> yes
+
+-- A heap that is full in the middle of a cycle makes a full collection, which closes the cycle. It is full exactly where that leaves no room.
+== a heap is full in the middle of a cycle: soft_age 4
+    join -> done
+    bare -> handle 1 up to 16
+    begin -> yes
+    mark 1 -> marked more
+    bare -> refused HeapFull
+    mark 1 -> marked idle
+    collect -> no
+    drop 1 -> done
+    bare -> handle 1
+
+-- What is made in a cycle is kept by it, without a tick; what was dropped before it began is not.
+== what is made in a cycle is black: soft_age 4
+    join -> done
+    bare -> handle 1
+    bare -> handle 2
+    drop 2 -> done
+    begin -> yes
+    bare -> handle 2
+    drop 2 -> done
+    mark 1 -> marked done
+    collect -> yes
+    stat -> stat 2 0 0 0 0
+
+-- A piece of marking without ticks does nothing; and a cycle that is given up leaves no marks to the next.
+== marks of a cycle that was given up: soft_age 4
+    join -> done
+    bare -> handle 1
+    bare -> handle 2
+    begin -> yes
+    mark 0 -> marked more
+    mark 2 -> marked done
+    mark 0 -> marked done
+    abandon -> yes
+    mark 2 -> marked idle
+    drop 2 -> done
+    begin -> yes
+    mark 1 -> marked done
+    collect -> yes
+    stat -> stat 1 0 0 0 0
 
 -- The collection of a cycle goes by the soft policy.
 == a collect keeps what the policy keeps, cleared

@@ -1,7 +1,7 @@
 //! Lists of rows of words: an ask, an arrow, and what it is answered.
 //!
 //! `weak 2 1 -> handle 3` asks for a weak reference to what handle 2 holds, on the queue that handle 1 holds, and wants handle 3 for an
-//! answer. The asks are those of mutator 0; those of mutator 1 begin with `other`. A row whose answer is `handle 2 up to 16` stands for
+//! answer. `mark 3` asks for a piece of marking with three ticks, `mark` for one with 64. The asks are those of mutator 0; those of mutator 1 begin with `other`. A row whose answer is `handle 2 up to 16` stands for
 //! fifteen rows, with handles from 2 to 16.
 //!
 //! A text has several lists. Each begins with `== ` and its name, and has a heap of its own, with 16 cells. Behind a colon its name says what that heap has
@@ -243,7 +243,7 @@ fn alone(name: &str) -> Option<Event<u32>> {
         "begin" => Event::Begin,
         "collect" => Event::Collect,
         "abandon" => Event::Abandon,
-        "mark" => mark(),
+        "mark" => mark(64),
         _ => return None,
     };
     Some(event)
@@ -262,6 +262,7 @@ fn with_one(name: &str, handle: u8) -> Option<Event<u32>> {
         "clean" => clean(handle),
         "check_out" => check_out(handle),
         "close" => close(handle),
+        "mark" => mark(handle),
         _ => return None,
     };
     Some(event)

@@ -1,4 +1,4 @@
-use Rattle.std.proofs.Common.{◌≡◌, None, Some, is_some, refl, sym, subst, ap, ◌∙◌}
+use Rattle.std.proofs.Common.{◌≡◌, None, Some, inl, is_some, refl, sym, subst, ap, ◌∙◌}
 use Rattle.jlr_machine.specs.WellFormed.{IsObjectAt}
 use Rattle.jlr_types.specs.declared.Refusal.TheVariants.{NoMemory}
 use Rattle.jlr_machine.specs.declared.machine.Machine.{Machine}
@@ -13,6 +13,7 @@ use Rattle.jlr_core.proofs.Entries.{meets_plain, meets_refused, never_memory}
 use Rattle.jlr_core.proofs.Guards.{checked_in_is}
 use Rattle.jlr_core.proofs.Moving.{put_in}
 use Rattle.jlr_laws.proofs.Frames.{some_same}
+use Rattle.jlr_core.proofs.Shading.{by_root, fence_root, shaded_new}
 use Rattle.jlr_core.proofs.state.State.check_in.Goals as goal
 
 pub returns-in-Err-clause-entry : goal.returns-in-Err-clause-entry
@@ -47,3 +48,10 @@ end_call-requires-clause-object g c =
     let m = machine_of c.args.self.now in
     let held = c.in-Ok.ensures.1 in
     λ s e. subst (λ x. IsObjectAt m x) (some_same c.in-Ok.held.slot s (sym held.fence ∙ e)) (ap is_some held.guard)
+
+-- what the fence held was a root
+pub returns-clause-marks : goal.returns-clause-marks
+returns-clause-marks g c =
+    let s = c.args.self.now in
+    let m = machine_of s in
+    shaded_new m _ s.heap.marking _ _ c.end_call.ensures.shaded (λ x e. inl (by_root m s.heap.marking x (fence_root m c.args.by x e)))

@@ -1,4 +1,4 @@
-use Rattle.std.proofs.Common.{rules, ◌∙◌}
+use Rattle.std.proofs.Common.{rules, inl, refl, ◌∙◌}
 use Rattle.jlr_machine.specs.declared.ask.Ask.TheVariants.{Enqueue}
 use Rattle.jlr_machine.specs.declared.ask.Answer.TheVariants.{Truth}
 use Rattle.jlr_core.specs.Machines.{machine_of}
@@ -7,6 +7,7 @@ use Rattle.jlr_core.specs.State.{machine_with}
 use Rattle.jlr_core.proofs.Entries.{meets_plain}
 use Rattle.jlr_core.proofs.Queues.{enqueue_after, enqueue_reply, enqueued_long}
 use Rattle.jlr_core.proofs.Hands.{held_in_hand, named_held}
+use Rattle.jlr_core.proofs.Shading.{by_edge, named_root, next_edge, same_new, shaded_new}
 use Rattle.jlr_core.proofs.state.State.enqueue.Goals as goal
 
 pub returns-in-Ok-clause-meets : goal.returns-in-Ok-clause-meets
@@ -27,3 +28,14 @@ pub enqueue-requires-clause-held : goal.enqueue-requires-clause-held
 enqueue-requires-clause-held g c =
     let s = c.args.self.now in
     held_in_hand s.heap c.in_ok-slot.slot (named_held (machine_of s) c.args.by c.args.reference c.in_ok-slot.slot c.in_ok-slot.ensures.1)
+
+-- its queue was ahead of it
+pub returns-in-Ok-clause-marks : goal.returns-in-Ok-clause-marks
+returns-in-Ok-clause-marks g c =
+    let s = c.args.self.now in
+    let m = machine_of s in
+    let slot = c.in_ok-slot.slot in
+    shaded_new m _ s.heap.marking _ _ c.in-Ok.ensures.shaded (λ x e. inl (by_edge m s.heap.marking slot x (named_root m c.args.by c.args.reference slot c.in_ok-slot.ensures.1) (next_edge m.objects slot x e)))
+
+pub returns-in-Err-clause-marks : goal.returns-in-Err-clause-marks
+returns-in-Err-clause-marks g c = let s = c.args.self.now in same_new (machine_of s) _ s.heap.marking _ _ c.in-Err.ensures.unshaded refl

@@ -1,4 +1,5 @@
 use Rattle.std.proofs.Common.{◌≡◌, [], Some, ◌∙◌, ap, subst}
+use Rattle.jlr_machine.specs.declared.machine.Machine.{Machine}
 use Rattle.jlr_soft.specs.declared.policy.Mode.{Mode}
 use Rattle.jlr_machine.specs.Choices.{Choosing, collecting}
 use Rattle.jlr_sweep.specs.Collecting.{Collects}
@@ -7,6 +8,7 @@ use Rattle.jlr_core.specs.Machines.{machine_of}
 use Rattle.jlr_marker.specs.Following.{keeps}
 use Rattle.jlr_core.proofs.Clearings.{keeps_in, may_collect}
 use Rattle.jlr_core.proofs.Entries.{allowed_full, meets_collection}
+use Rattle.jlr_core.proofs.Shading.{shut_new}
 use Rattle.jlr_core.proofs.state.State.full.Goals as goal
 
 pub returns-clause-meets : goal.returns-clause-meets
@@ -31,3 +33,9 @@ returns-clause-policy g c =
     let x : Collects (keeps (record { soft_age = age; mode = mode_of c.args.mode }) clock) m c.args.choice.now c.collect.new.choice n =
     subst (λ (k : Mode). Collects (keeps (record { soft_age = age; mode = k }) clock) m c.args.choice.now c.collect.new.choice n) c.mode_of.ensures c.collect.ensures.collects in
     keeps_in (mode_of c.args.mode) age clock m c.args.choice.now c.collect.new.choice n c.requires.nothing x
+
+-- no cycle is open then
+pub returns-clause-marks : goal.returns-clause-marks
+returns-clause-marks g c =
+    let s = c.args.self.now in
+    shut_new (machine_of s) _ s.heap.marking _ _ (ap (λ (x : Machine). x.cycle_open) c.collect.ensures.collects.left)

@@ -1,4 +1,4 @@
-use Rattle.std.proofs.Common.{rules, refl}
+use Rattle.std.proofs.Common.{rules, inl, refl}
 use Rattle.jlr_machine.specs.declared.ask.Ask.TheVariants.{HandOver}
 use Rattle.jlr_machine.specs.declared.ask.Answer.TheVariants.{Handed}
 use Rattle.jlr_core.specs.Machines.{machine_of}
@@ -6,6 +6,7 @@ use Rattle.jlr_core.proofs.Frames.{frame_of}
 use Rattle.jlr_core.specs.State.{machine_with}
 use Rattle.jlr_core.proofs.Entries.{meets_plain}
 use Rattle.jlr_core.proofs.Queues.{handed_over_long}
+use Rattle.jlr_core.proofs.Shading.{pending_queue, same_new, shaded_new}
 use Rattle.jlr_core.proofs.state.State.hand_over.Goals as goal
 
 pub returns-in-Ok-clause-meets : goal.returns-in-Ok-clause-meets
@@ -27,3 +28,12 @@ returns-in-Ok-clause-rest g c =
 
 pub returns-in-Err-clause-memory : goal.returns-in-Err-clause-memory
 returns-in-Err-clause-memory g c = λ _. c.in-Err.ensures.grows (frame_of c.args.self.now)
+
+-- the queue of what was pending was ahead of it
+pub returns-in-Ok-clause-marks : goal.returns-in-Ok-clause-marks
+returns-in-Ok-clause-marks g c =
+    let s = c.args.self.now in
+    shaded_new (machine_of s) _ s.heap.marking _ _ c.in-Ok.ensures.shaded (λ x e. inl (pending_queue (machine_of s) s.heap.marking x e.1))
+
+pub returns-in-Err-clause-marks : goal.returns-in-Err-clause-marks
+returns-in-Err-clause-marks g c = let s = c.args.self.now in same_new (machine_of s) _ s.heap.marking _ _ c.in-Err.ensures.unshaded refl

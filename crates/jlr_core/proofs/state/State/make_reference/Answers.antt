@@ -7,6 +7,9 @@ use Rattle.jlr_core.specs.State.{Meets}
 use Rattle.jlr_core.proofs.Entries.{meets_full, meets_new_reference, allowed_reference}
 use Rattle.jlr_laws.proofs.Clearing.{in_append, in_option}
 use Rattle.jlr_core.proofs.Hands.{named_held}
+use Rattle.jlr_marks.specs.Marking.{Marking}
+use Rattle.jlr_core.specs.Marks.{BlackensMade}
+use Rattle.jlr_core.proofs.Shading.{full_new, given_new}
 use Rattle.jlr_core.proofs.state.State.make_reference.Goals as goal
 
 pub returns-in-Err-clause-meets : goal.returns-in-Err-clause-meets
@@ -32,3 +35,14 @@ allocate-requires-clause-held g c =
       | inl q ↦ named_held m c.args.by c.args.queue s (c.in_ok-queue.ensures.0 ∙ in_option s c.in_ok-queue.queue q)
       | inr r ↦ named_held m c.args.by c.args.referent s (c.in_ok-target.ensures.slot.0 ∙ in_option s (Some c.in_ok-target.target) r)
     ]
+
+-- it has a handle, and is black
+pub returns-in-Ok-clause-marks : goal.returns-in-Ok-clause-marks
+returns-in-Ok-clause-marks g c =
+    let s = c.args.self.now in
+    let mid = machine_of c.allocate.new.self in
+    let one = subst (λ (k : Marking). BlackensMade c.allocate.new.choice.chosen c.in-Ok.slot s.heap.marking k) (sym c.give.ensures.marking) c.in-Ok.ensures.one in
+    given_new (machine_of s) mid mid _ _ s.heap.marking _ c.allocate.new.choice c.args.by c.in-Ok.slot c.requires.fit c.in-Ok.ensures.allocates one c.in_ok-check_free_handle.ensures refl refl c.give.ensures.held
+
+pub returns-in-Err-clause-marks : goal.returns-in-Err-clause-marks
+returns-in-Err-clause-marks g c = let s = c.args.self.now in full_new (machine_of s) _ 1 s.heap.marking _ c.allocate.new.choice c.in-Err.ensures.full.1

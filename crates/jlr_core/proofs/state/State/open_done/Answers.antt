@@ -14,6 +14,9 @@ use Rattle.jlr_core.specs.State.{machine_with}
 use Rattle.jlr_machine.specs.declared.machine.ResourceState.TheVariants.{Opening}
 use Rattle.jlr_core.proofs.Moving.{put_in}
 use Rattle.jlr_laws.proofs.Frames.{some_same}
+use Rattle.jlr_marks.specs.Marking.{Marking, Shaded}
+use Rattle.jlr_barrier.specs.Graphs.{fence_at}
+use Rattle.jlr_core.proofs.Shading.{by_root, fence_root, shaded_new}
 use Rattle.jlr_core.proofs.state.State.open_done.Goals as goal
 
 pub returns-clause-opened : goal.returns-clause-opened
@@ -42,3 +45,12 @@ end_call-requires-clause-object g c =
 -- which is shaded once the call has ended
 pub give-requires-clause-held : goal.give-requires-clause-held
 give-requires-clause-held g c = inl (c.end_call.ensures.shaded.all c.args.held.slot c.requires.held.fence)
+
+-- what the fence held was a root
+pub returns-clause-marks : goal.returns-clause-marks
+returns-clause-marks g c =
+    let s = c.args.self.now in
+    let m = machine_of s in
+    let k = c.args.by in
+    let shaded = subst (λ (x : Marking). Shaded (λ y. fence_at s.heap.graph.mutators k ≡ Some y) s.heap.marking x) (sym c.give.ensures.marking) c.end_call.ensures.shaded in
+    shaded_new m _ s.heap.marking _ _ shaded (λ x e. inl (by_root m s.heap.marking x (fence_root m k x e)))

@@ -1,4 +1,4 @@
-use Rattle.std.proofs.Common.{None, is_some, sym, subst, ap, ◌∙◌}
+use Rattle.std.proofs.Common.{◌≡◌, None, Some, inl, is_some, sym, subst, ap, ◌∙◌}
 use Rattle.jlr_machine.specs.WellFormed.{IsObjectAt}
 use Rattle.jlr_machine.specs.declared.machine.Machine.{Machine}
 use Rattle.jlr_machine.specs.declared.machine.Call.TheVariants.{Free}
@@ -12,6 +12,8 @@ use Rattle.jlr_machine.specs.declared.machine.ResourceState.TheVariants.{Opening
 use Rattle.jlr_core.proofs.Moving.{none_lies, none_moved, none_there, without_value}
 use Rattle.jlr_laws.proofs.Frames.{some_same}
 use Rattle.jlr_core.proofs.Hands.{still_object}
+use Rattle.jlr_marks.specs.Marking.{Marking, Shaded}
+use Rattle.jlr_core.proofs.Shading.{by_root, fence_root, shaded_new}
 use Rattle.jlr_core.proofs.state.State.open_failed.Goals as goal
 
 pub returns-clause-opened : goal.returns-clause-opened
@@ -34,3 +36,12 @@ end_call-requires-clause-object g c =
     let m = machine_of c.args.self.now in
     λ s e. still_object m.objects c.spend.new.self.graph.objects c.args.held.guard.cleanable s (with_cleanable spent) (ap (λ (h : Graph). h.objects) c.spend.ensures.graph)
     (subst (λ x. IsObjectAt m x) (some_same c.args.held.slot s (sym c.requires.held.fence ∙ ap (λ (h : Graph). fence_at h.mutators c.args.by) (sym c.spend.ensures.graph) ∙ e)) (ap is_some c.requires.held.guard))
+
+-- what the fence held was a root
+pub returns-clause-marks : goal.returns-clause-marks
+returns-clause-marks g c =
+    let s = c.args.self.now in
+    let m = machine_of s in
+    let k = c.args.by in
+    let shaded = subst (λ (x : Marking). Shaded (λ y. fence_at c.spend.new.self.graph.mutators k ≡ Some y) x c.end_call.new.self.marking) c.spend.ensures.marking c.end_call.ensures.shaded in
+    shaded_new m _ s.heap.marking _ _ shaded (λ x e. inl (by_root m s.heap.marking x (fence_root m k x (ap (λ (h : Graph). fence_at h.mutators k) (sym c.spend.ensures.graph) ∙ e))))

@@ -1,4 +1,4 @@
-use Rattle.std.proofs.Common.{rules, inl, ◌&&◌, not, is_some, ◌∙◌, ap, length}
+use Rattle.std.proofs.Common.{rules, inl, ◌≡◌, ◌&&◌, Some, not, is_some, sym, subst, ◌∙◌, ap, length}
 use Rattle.jlr_machine.specs.Lookups.{has_free_handle}
 use Rattle.jlr_machine.specs.Objects.{as_members, at, Heap}
 use Rattle.std.specs.Prelude.{option_and_then}
@@ -6,6 +6,8 @@ use Rattle.jlr_core.specs.Machines.{machine_of}
 use Rattle.jlr_core.proofs.Frames.{frame_of}
 use Rattle.jlr_core.specs.State.{machine_with}
 use Rattle.jlr_core.proofs.Queues.{fronts_first, poll_answered, polled_long, polled_mutators, same_room}
+use Rattle.jlr_marks.specs.Marking.{Marking, Shaded}
+use Rattle.jlr_core.proofs.Shading.{by_edge, named_root, polled_edge, shaded_new}
 use Rattle.jlr_core.proofs.state.State.poll.Goals as goal
 
 pub give_known-requires-clause-room : goal.give_known-requires-clause-room
@@ -35,3 +37,12 @@ returns-clause-rest g c =
 -- what leaves a queue is shaded
 pub give_known-requires-clause-held : goal.give_known-requires-clause-held
 give_known-requires-clause-held g c = λ s e. inl (c.poll-front.ensures.shaded.all s e)
+
+-- and stood in it
+pub returns-clause-marks : goal.returns-clause-marks
+returns-clause-marks g c =
+    let s = c.args.self.now in
+    let m = machine_of s in
+    let queue = c.in_ok-slot.slot in
+    let shaded = subst (λ (k : Marking). Shaded (λ x. c.poll-front.result ≡ Some x) s.heap.marking k) (sym c.give_known.ensures.marking) c.poll-front.ensures.shaded in
+    shaded_new m _ s.heap.marking _ _ shaded (λ x e. inl (by_edge m s.heap.marking queue x (named_root m c.args.by c.args.queue queue c.in_ok-slot.ensures.1) (polled_edge m.objects queue x (sym c.poll-front.ensures.front ∙ e))))

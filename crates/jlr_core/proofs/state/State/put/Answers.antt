@@ -1,8 +1,9 @@
-use Rattle.std.proofs.Common.{◌≡◌, Some, sym, ◌∙◌}
+use Rattle.std.proofs.Common.{◌≡◌, Some, inl, sym, ◌∙◌}
 use Rattle.jlr_core.specs.Machines.{machine_of}
 use Rattle.jlr_marker.proofs.Following.{object_within}
 use Rattle.jlr_core.proofs.Named.{named_object}
 use Rattle.jlr_core.proofs.Hands.{field_object, held_in_hand, named_held}
+use Rattle.jlr_core.proofs.Shading.{by_field, shaded_new}
 use Rattle.jlr_core.proofs.state.State.put.Goals as goal
 
 -- a handle stands for an object, which lies within the heap
@@ -23,3 +24,9 @@ store-requires-clause-held g c =
 -- a field held an object before
 pub store-requires-clause-object : goal.store-requires-clause-object
 store-requires-clause-object g c = λ s e. field_object (machine_of c.args.self.now) c.requires c.in_ok-slot.slot c.args.field s e
+
+-- what the field held was reached
+pub returns-clause-marks : goal.returns-clause-marks
+returns-clause-marks g c =
+    let s = c.args.self.now in
+    shaded_new (machine_of s) _ s.heap.marking _ _ c.store.ensures.shaded (λ x e. inl (by_field (machine_of s) s.heap.marking c.args.by c.args.object c.in_ok-slot.slot c.args.field x c.in_ok-slot.ensures.slot.0 e))

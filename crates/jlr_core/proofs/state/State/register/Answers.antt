@@ -21,6 +21,9 @@ use Rattle.jlr_core.proofs.Awaiting.{made_there, registers}
 use Rattle.jlr_core.proofs.TakeUps.{numbered}
 use Rattle.jlr_laws.proofs.Clearing.{in_option}
 use Rattle.jlr_core.proofs.Hands.{named_held}
+use Rattle.jlr_marks.specs.Marking.{Marking}
+use Rattle.jlr_core.specs.Marks.{BlackensMade}
+use Rattle.jlr_core.proofs.Shading.{full_new, given_new}
 use Rattle.jlr_core.proofs.state.State.register.Goals as goal
 
 pub returns-in-Err-clause-meets : goal.returns-in-Err-clause-meets
@@ -75,3 +78,15 @@ returns-in-Ok-allocate-clause-waits g c =
 -- a handle names what it is registered for
 pub allocate-requires-clause-held : goal.allocate-requires-clause-held
 allocate-requires-clause-held g c = λ s h. named_held (machine_of c.args.self.now) c.args.by c.args.object s (c.in-Ok.ensures.1 ∙ in_option s (Some c.in-Ok.target) h)
+
+-- it has a handle, and is black
+pub returns-in-Ok-allocate-clause-marks : goal.returns-in-Ok-allocate-clause-marks
+returns-in-Ok-allocate-clause-marks g c =
+    let s = c.args.self.now in
+    let mid = c.allocate.new.self in
+    let slot = c.in-Ok-allocate.slot in
+    let one = subst (λ (k : Marking). BlackensMade c.allocate.new.choice.chosen slot s.heap.marking k) (sym c.give.ensures.marking) c.in-Ok-allocate.ensures.one in
+    given_new (machine_of s) (machine_of mid) (machine_with c.register-action.new.self mid.heap.graph mid.cycle_open) _ _ s.heap.marking _ c.allocate.new.choice c.args.by slot c.requires.fit c.in-Ok-allocate.ensures.allocates one c.in-Ok.ensures.2 refl refl c.give.ensures.held
+
+pub returns-in-Err-allocate-clause-marks : goal.returns-in-Err-allocate-clause-marks
+returns-in-Err-allocate-clause-marks g c = let s = c.args.self.now in full_new (machine_of s) _ 1 s.heap.marking _ c.allocate.new.choice c.in-Err-allocate.ensures.full.1

@@ -1,0 +1,34 @@
+use Rattle.std.proofs.Common.{◌≡◌, true, false, refl, sym, subst}
+use Rattle.jlr_barrier.specs.Graphs.{Graph}
+use Rattle.jlr_marker.specs.Following.{keeps}
+use Rattle.jlr_sweep.proofs.Kept.{edge_object, referent_inside}
+use Rattle.jlr_core.specs.Machines.{machine_of}
+use Rattle.jlr_core.specs.Marks.{MarksPiece, MarksReached}
+use Rattle.jlr_core.specs.State.{machine_with}
+use Rattle.jlr_core.proofs.Frames.{frame_of}
+use Rattle.jlr_core.proofs.Roots.{rooted}
+use Rattle.jlr_core.proofs.Beginning.{piece_in_cycle, piece_outside, piece_reached}
+use Rattle.jlr_core.proofs.state.State.mark.Goals as goal
+
+pub mark-requires-clause-objects : goal.mark-requires-clause-objects
+mark-requires-clause-objects g c = let s = c.args.self.now in edge_object (frame_of s) s.heap.graph (rooted s.cleaner s.heap.graph s.cycle_open c.requires)
+
+pub mark-requires-clause-within : goal.mark-requires-clause-within
+mark-requires-clause-within g c = let s = c.args.self.now in referent_inside (frame_of s) s.heap.graph (rooted s.cleaner s.heap.graph s.cycle_open c.requires)
+
+pub returns-clause-reached : goal.returns-clause-reached
+returns-clause-reached g c =
+    λ still slot on.
+    let s = c.args.self.now in
+    let new = c.mark.new.heap.marking in
+    let here : MarksReached (machine_of s) s.heap.marking (machine_of s) new = piece_reached (machine_of s) s.heap.marking new (keeps c.new-policy.result s.heap.clock) c.args.budget _ c.mark.result (c.mark.ensures.marks still) in
+    subst (λ (h : Graph). MarksReached (machine_of s) s.heap.marking (machine_with s.cleaner h s.cycle_open) new) (sym c.mark.ensures.graph) here still slot on
+
+pub returns-clause-piece : goal.returns-clause-piece
+returns-clause-piece g c =
+    let s = c.args.self.now in
+    let new = c.mark.new.heap.marking in
+    elim s.cycle_open as (λ b. s.cycle_open ≡ b → MarksPiece c.args.budget s.soft_age s.heap.clock (machine_of s) s.heap.marking c.mark.result new) [
+      | true ↦ λ still. piece_in_cycle (machine_of s) s.heap.marking new c.args.budget _ s.soft_age s.heap.clock c.new-policy.result c.mark.result c.new-policy.ensures.soft_age c.new-policy.ensures.mode still (c.mark.ensures.marks still)
+      | false ↦ λ shut. let idle = c.mark.ensures.idle shut in piece_outside (machine_of s) s.heap.marking new c.args.budget s.soft_age s.heap.clock c.mark.result shut idle.0 idle.1
+    ] refl

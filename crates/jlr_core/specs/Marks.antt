@@ -1,0 +1,85 @@
+-- What an event does to the marks.
+use Rattle.std.specs.Prelude.{◌≡◌, ◌↔◌, ◌⊎◌, ◌+◌, ◌-◌, ℕ, Bool, true, false, length, Option, Some, None, is_some, slice_get}
+use Rattle.jlr_types.specs.declared.Progress.{Progress}
+use Rattle.jlr_types.specs.declared.Progress.TheVariants.{Idle}
+use Rattle.jlr_machine.specs.declared.machine.Machine.{Machine}
+use Rattle.jlr_machine.specs.declared.ask.Ask.{Ask}
+use Rattle.jlr_machine.specs.declared.ask.Ask.TheVariants.{Begin}
+use Rattle.jlr_machine.specs.declared.entry.Chosen.{Chosen}
+use Rattle.jlr_machine.specs.Objects.{◌∈◌}
+use Rattle.jlr_machine.specs.Edges.{roots}
+use Rattle.jlr_machine.specs.Edges.Chain.{UpToSoft}
+use Rattle.jlr_machine.specs.Reachable.{Reaches}
+use Rattle.jlr_soft.specs.declared.policy.Mode.TheVariants.{Policy}
+use Rattle.jlr_marks.specs.Marking.{Marking, Blackened, IsMarked, marked}
+use Rattle.jlr_barrier.specs.Graphs.{Clock}
+use Rattle.jlr_marker.specs.Following.{keeps}
+use Rattle.jlr_marker.specs.Marks.{Blackens, MarksOn}
+use Rattle.jlr_event.specs.declared.event.Event.{Event}
+use Rattle.jlr_event.specs.declared.event.Event.TheVariants.{Mark}
+use Rattle.jlr_event.specs.declared.event.Reply.{Reply}
+use Rattle.jlr_event.specs.declared.event.Reply.TheVariants.{Marked}
+use Rattle.jlr_event.specs.Events.{ask_of}
+
+-- ---- In an open cycle
+
+-- strong and soft edges lead to s from a root, or from what is marked
+abbrev pub IsFromMarks : Machine → Marking → ℕ → Type 0
+IsFromMarks m marking s = (x : ℕ) × ((x ∈ roots m) ⊎ IsMarked marking x) × Reaches UpToSoft m.objects x s
+
+-- where a cycle is open afterwards, strong and soft edges led before to what is marked then, from a root or from what was marked, or it is a root
+abbrev pub MarksReached : Machine → Marking → Machine → Marking → Type 0
+MarksReached m old n new = n.cycle_open ≡ true → (s : ℕ) → IsMarked new s → IsFromMarks m old s ⊎ (s ∈ roots n)
+
+-- What an ask that opens no cycle does to the marks. Where a cycle is open afterwards, it blackens just the objects that it makes
+pub record MarksNew (m : Machine) (old : Marking) (chosen : Chosen) (n : Machine) (new : Marking) : Type 0 where
+  pub reached : MarksReached m old n new
+  pub blackens : n.cycle_open ≡ true → Blackens (length chosen.fresh) old new
+
+-- where no collection was made, the object that was made is black, and no other mark has changed
+abbrev pub BlackensMade : Chosen → ℕ → Marking → Marking → Type 0
+BlackensMade chosen slot old new = chosen.collected ≡ None → Blackened slot old new × (marked new ≡ marked old + 1)
+
+-- some cell is grey
+abbrev pub has_grey : Marking → Bool
+has_grey m = is_some (slice_get m.grey 0)
+
+-- ---- A cycle begins
+
+-- the roots are marked, and nothing else; and no cell is black
+pub record BeginsCycle (n : Machine) (new : Marking) : Type 0 where
+  pub begun : (s : ℕ) → IsMarked new s ↔ (s ∈ roots n)
+  pub none_black : marked new ≡ length new.grey
+
+-- ---- A piece of marking
+
+-- how many cells more are black: marked, and not grey
+abbrev pub blackened : Marking → Marking → ℕ
+blackened old new = (marked new + length old.grey) - (marked old + length new.grey)
+
+-- in an open cycle it ticks once for each cell that it blackens, by the soft policy; without one it is idle, and the marks stay as they are
+abbrev pub MarksPiece : ℕ → ℕ → Clock → Machine → Marking → Progress → Marking → Type 0
+MarksPiece budget soft_age clock m old progress new = elim m.cycle_open [
+  | true ↦ MarksOn (keeps (record { soft_age = soft_age; mode = Policy }) clock) m.objects budget (blackened old new) progress old new
+  | false ↦ (progress ≡ Idle) × (new ≡ old)
+]
+
+-- ---- Events
+
+-- how many ticks a piece of marking may make, where the event is one
+abbrev pub budget_of : {R : Type 0} → Event R → Option ℕ
+budget_of (Mark budget) = Some budget
+budget_of _ = None
+
+-- a piece of marking is answered as far as it came
+abbrev pub MarksBy : {R : Type 0} → Option ℕ → ℕ → Clock → Machine → Marking → Reply R → Marking → Type 0
+MarksBy None soft_age clock m old reply new = Unit {0}
+MarksBy (Some budget) soft_age clock m old reply new = (progress : Progress) × (reply ≡ Marked progress) × MarksPiece budget soft_age clock m old progress new
+
+-- an event that is no piece of marking, and opens no cycle, blackens just the objects that it makes, where a cycle is open afterwards
+abbrev pub BlackensNew : {R : Type 0} → Event R → Machine → Marking → Chosen → Machine → Marking → Type 0
+BlackensNew event m old chosen n new = budget_of event ≡ None → (ask_of event ≡ Some Begin → m.cycle_open ≡ true) → n.cycle_open ≡ true → Blackens (length chosen.fresh) old new
+
+-- a Begin where no cycle is open
+abbrev pub Begins : Option Ask → Machine → Machine → Marking → Type 0
+Begins ask m n new = ask ≡ Some Begin → m.cycle_open ≡ false → BeginsCycle n new

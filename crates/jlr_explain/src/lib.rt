@@ -1,0 +1,7 @@
+//! Why an audit finds a history illegal, in words. What is said here is held by tests; the verdict is the audit's.
+#![tactic(auto)]
+
+mod asks;
+pub mod history;
+mod refusals;
+mod rules;

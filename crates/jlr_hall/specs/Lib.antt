@@ -1,0 +1,8 @@
+-- Reading order.
+pub mod Seats
+pub mod Asking
+pub mod Loops
+pub mod Agreement
+pub mod Closing
+pub mod Faults
+pub mod Ports

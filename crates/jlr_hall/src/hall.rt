@@ -1,0 +1,225 @@
+//! One book under one lock, asked by many seats.
+ghost use Rattle.std.specs.Prelude.{◌≡◌, ◌+◌, ◌<◌, ◌≤◌, Some};
+ghost use Rattle.jlr_event.specs.Events.{ask_of};
+ghost use Rattle.jlr_event.specs.declared.event.Event.TheVariants.{Remove};
+ghost use Rattle.jlr_book.specs.Histories.{IsHistory, last};
+ghost use Rattle.jlr_book.specs.Rules.{BookSteps};
+ghost use Rattle.jlr_hall.specs.Asking.{Asked, HasRoomForAsk, IsOwn, NotesWith, needs};
+
+use crate::seat::Seat;
+use jlr_book::book::Book;
+use jlr_book::event::refuse;
+use jlr_book::room::ListRoom;
+use jlr_event::event::{Event, Reply};
+use jlr_machine::ask::{Answer, Ask, Handed};
+use jlr_types::{Handle, Mutator, Refusal};
+use std::sync::ledger::{Ledger, Share};
+use std::sync::{Condvar, Mutex, MutexGuard, Wait, ledger};
+
+/// What lies under the lock: the book, the count of all its entries, and whether the hall is to end.
+#[derive(Drop)]
+pub(crate) struct Locked<R, L: Ledger> {
+    pub(crate) book: Book<R>,
+    pub(crate) ledger: ledger::Book<L>,
+    pub(crate) rest: Share<L>,
+    pub(crate) stopped: bool,
+    ghost counted: { ledger.total ≡ last book },
+    ghost no_part: { rest.parts ≡ 0 },
+    ghost none: { rest.amount ≡ 0 },
+}
+
+/// Who would find something to do.
+#[derive(Clone, Copy)]
+pub(crate) struct Looks {
+    handler: bool,
+    cleaner: bool,
+    removers: bool,
+}
+
+impl<R: Drop, L: Ledger> Locked<R, L> {
+    pub(crate) fn new(book: Book<R>, ledger: ledger::Book<L>, rest: Share<L>) -> Self
+        requires count { ledger.total ≡ last book }
+        requires rest { (rest.parts ≡ 0) × (rest.amount ≡ 0) }
+    {
+        Locked {
+            book,
+            ledger,
+            rest,
+            stopped: false,
+        }
+    }
+
+    /// One event: an entry of the book and of the seat's transcript, or of neither.
+    pub(crate) fn ask(
+        &mut self,
+        seat: &mut Seat<L>,
+        asked: Option<Ask>,
+        room: ListRoom,
+        event: Event<R>,
+    ) -> Reply<R>
+        requires asks { asked ≡ ask_of event }
+        requires place { needs asked ≤ seat.old.room }
+        requires list { HasRoomForAsk asked room }
+        ensures history { IsHistory self.old.book }
+        ensures steps { BookSteps seat.old.index self.old.book event result self.new.book }
+        ensures notes { NotesWith seat.old self.old.book asked result seat.new self.new.book }
+    {
+        let Locked { book, ledger, .. } = self;
+        book.is_history();
+        let before = book.last();
+        let reply = book.step(seat.index(), event);
+        let after = book.last();
+        if before < after {
+            seat.count(ledger, after - before);
+            if let Some(ask) = asked {
+                if let Reply::Answered { answer, .. } = &reply {
+                    seat.note(after, book.base(), ask, room.copy(answer));
+                }
+            }
+        }
+        reply
+    }
+
+    /// Who would find something to do, where something may just have come into a queue.
+    pub(crate) fn looks(&self, queued: bool) -> Looks {
+        Looks {
+            handler: !self.book.pending_empty(),
+            cleaner: !self.book.line_empty(),
+            removers: queued,
+        }
+    }
+}
+
+/// Whether an ask may put a reference on a queue.
+pub(crate) fn fills_queue(asked: &Option<Ask>) -> bool {
+    matches!(asked, Some(Ask::Enqueue { .. } | Ask::HandOver))
+}
+
+/// Whether an answer says that a reference came into its queue.
+pub(crate) fn says_queued<R>(reply: &Reply<R>) -> bool {
+    match reply {
+        Reply::Answered { answer, .. } => matches!(
+            answer,
+            Answer::Truth(true) | Answer::Handed(Handed::Queued)
+        ),
+        Reply::Marked(_) => false,
+    }
+}
+
+/// The book that all seats ask.
+#[derive(Drop)]
+pub struct Hall<R, L: Ledger> {
+    pub(crate) locked: Mutex<Locked<R, L>>,
+    pub(crate) marker: Condvar,
+    pub(crate) handler: Condvar,
+    pub(crate) cleaner: Condvar,
+    pub(crate) removers: Condvar,
+    pub(crate) seats: u8,
+}
+
+impl<R: Drop, L: Ledger> Hall<R, L> {
+    /// Tells the loops and all who wait to end.
+    pub fn stop<T: Wait>(&self, rt: &T) {
+        self.locked.lock(rt).stopped = true;
+        self.marker.notify_all();
+        self.handler.notify_all();
+        self.cleaner.notify_all();
+        self.removers.notify_all();
+    }
+
+    /// Wakes those who would find something to do. Nobody else is woken; who waits looks again under the lock.
+    pub(crate) fn wake(&self, looks: Looks) {
+        if looks.handler {
+            self.handler.notify_all();
+        }
+        if looks.cleaner {
+            self.cleaner.notify_all();
+        }
+        if looks.removers {
+            self.removers.notify_all();
+        }
+    }
+}
+
+/// A `Remove` that waits until its queue holds something.
+#[derive(Clone, Copy)]
+pub(crate) struct Removal {
+    pub(crate) mutator: Mutator,
+    pub(crate) queue: Handle,
+}
+
+impl Removal {
+    /// What an event waits for, if it is a `Remove`.
+    pub(crate) fn of<R>(event: &Event<R>) -> Option<Self> {
+        match event {
+            Event::Remove { mutator, queue } => Some(Removal {
+                mutator: *mutator,
+                queue: *queue,
+            }),
+            _ => None,
+        }
+    }
+}
+
+impl<R: Drop, L: Ledger> Hall<R, L> {
+    /// Takes the lock; for a `Remove` once it would not wait, or once the hall is to end.
+    fn enter<T: Wait>(&self, rt: &T, removal: Option<Removal>) -> MutexGuard<'_, Locked<R, L>> {
+        let locked = self.locked.lock(rt);
+        match removal {
+            None => locked,
+            Some(removal) => self.removers.wait_while(rt, locked, |l| {
+                !l.stopped && l.book.would_wait(removal.mutator, removal.queue)
+            }),
+        }
+    }
+}
+
+impl<L: Ledger> Seat<L> {
+    /// One event of those that this seat may ask: a session's those of its mutator, the marker's `Begin`, `Collect`, `Abandon` and pieces of
+    /// marking, the handler's `HandOver`, the cleaner's `TakeUp` and the ends of its jobs. A `Remove` does not wait. Places in the transcript and
+    /// room for a list are made before the lock is taken, and nothing is read or written while it is held.
+    pub fn ask<R: Drop, T: Wait>(&mut self, rt: &T, hall: &Hall<R, L>, event: Event<R>) -> Reply<R>
+        requires own { IsOwn self.old.index self.old.sessions (ask_of event) }
+        ensures { Asked self.old event result self.new }
+    {
+        self.ask_once(rt, hall, None, event)
+    }
+
+    /// One `Remove` of this seat's mutator, asked once its queue holds something, or once the hall is to end.
+    pub fn remove_waiting<R: Drop, T: Wait>(
+        &mut self,
+        rt: &T,
+        hall: &Hall<R, L>,
+        queue: Handle,
+    ) -> Reply<R>
+        ensures { Asked self.old (Remove self.old.index queue) result self.new }
+    {
+        let mutator = Mutator::new(self.index());
+        let removal = Removal { mutator, queue };
+        let event = Event::Remove { mutator, queue };
+        self.ask_once(rt, hall, Some(removal), event)
+    }
+
+    /// One event, once a `Remove` that it stands for would not wait.
+    pub(crate) fn ask_once<R: Drop, T: Wait>(
+        &mut self,
+        rt: &T,
+        hall: &Hall<R, L>,
+        removal: Option<Removal>,
+        event: Event<R>,
+    ) -> Reply<R>
+        ensures { Asked self.old event result self.new }
+    {
+        let asked = event.plain();
+        let Ok(room) = self.prepare(&asked) else {
+            return refuse(event, Refusal::NoMemory);
+        };
+        let fills = fills_queue(&asked);
+        let mut locked = hall.enter(rt, removal);
+        let reply = locked.ask(self, asked, room, event);
+        let looks = locked.looks(fills && says_queued(&reply));
+        drop(locked);
+        hall.wake(looks);
+        reply
+    }
+}

@@ -1,0 +1,70 @@
+//! A seat as what the asks of a session go to.
+ghost use Rattle.std.specs.Prelude.{◌≡◌};
+
+use crate::hall::{Hall, Removal};
+use crate::seat::Seat;
+use jlr_event::event::{Event, Reply};
+use jlr_session::port::Port;
+use jlr_types::Mutator;
+use std::marker::Model;
+use std::sync::Wait;
+use std::sync::ledger::Ledger;
+
+/// A seat with its hall. Contracts see the seat.
+#[derive(Drop)]
+pub struct SeatPort<'a, R, L: Ledger, T> {
+    rt: &'a T,
+    hall: &'a Hall<R, L>,
+    seat: Seat<L>,
+}
+
+impl<'a, R, L: Ledger, T> Model for SeatPort<'a, R, L, T> {
+    ghost use Rattle.jlr_hall.specs.Seats.{Place};
+
+    ghost Value = { Place };
+
+    ghost view = { λ p. p.seat };
+}
+
+impl<'a, R, L: Ledger, T> SeatPort<'a, R, L, T> {
+    /// A seat at its hall.
+    pub fn new(rt: &'a T, hall: &'a Hall<R, L>, seat: Seat<L>) -> Self
+        ensures { result ≡ seat }
+    {
+        SeatPort { rt, hall, seat }
+    }
+
+    /// The seat, as it was left.
+    pub fn into_seat(self) -> Seat<L>
+        ensures { result ≡ self.entry }
+    {
+        let SeatPort { seat, .. } = self;
+        seat
+    }
+}
+
+impl<'a, R: Drop, L: Ledger, T: Wait> Port<R> for SeatPort<'a, R, L, T> {
+    ghost use Rattle.jlr_hall.specs.Asking.{Asked};
+    ghost use Rattle.jlr_hall.specs.Ports.{by_seat};
+
+    ghost asking = { by_seat };
+
+    fn mutator(&self) -> Mutator
+        ensures { result ≡ self.now.index }
+    {
+        Mutator::new(self.seat.index())
+    }
+
+    fn ask(&mut self, event: Event<R>) -> Reply<R>
+        ensures asked { Asked self.old event result self.new }
+        ensures named { self.new.index ≡ self.old.index }
+    {
+        let removal = Removal::of(&event);
+        self.seat.ask_once(self.rt, self.hall, removal, event)
+    }
+
+    fn settle(&mut self)
+        ensures settled { self.new ≡ self.old }
+        ensures named { self.new.index ≡ self.old.index }
+    {}
+}

@@ -1,0 +1,133 @@
+//! Transcripts that were changed, seats that are missing: a close finds each, and names the seat.
+ghost use Rattle.std.specs.Prelude.{◌≡◌, ◌+◌};
+
+use crate::closing::CloseFault;
+use crate::hall::Hall;
+use crate::seat::{Item, Seat};
+use jlr_event::event::Event;
+use jlr_machine::ask::{Answer, Ask};
+use jlr_types::{Limits, Mutator};
+use std::alloc::Global;
+use std::marker::Brand;
+use std::sync::Wait;
+use std::sync::ledger::{Blank, Ledger};
+use std::test::Fail;
+
+// What is done to the transcript of the first seat before the close, or which seats are kept back.
+#[derive(Clone, Copy)]
+enum Forgery {
+    Nothing,
+    AnswerChanged,
+    ItemLeftOut,
+    ItemTooMany,
+    TwoSwapped,
+    NumberRaised,
+    SeatMissing(usize),
+    TwoMissing,
+}
+
+fn me() -> Mutator {
+    Mutator::new(0)
+}
+
+fn too_many() -> Item {
+    Item {
+        number: 4,
+        ask: Ask::Stat { mutator: me() },
+        answer: Answer::Done,
+    }
+}
+
+// Changes what a seat noted.
+fn forge<L: Ledger>(seat: &mut Seat<L>, how: Forgery) -> Result<(), Fail> {
+    match how {
+        Forgery::AnswerChanged => {
+            if let Some(item) = seat.items.last_mut() {
+                item.answer = Answer::AlreadyDone;
+            }
+        }
+        Forgery::ItemLeftOut => drop(seat.items.pop()),
+        Forgery::ItemTooMany => seat.items.push(too_many())?,
+        Forgery::TwoSwapped => {
+            if seat.items.len() > 1 {
+                seat.items.swap(0, 1);
+            }
+        }
+        Forgery::NumberRaised => {
+            if let Some(item) = seat.items.last_mut() {
+                item.number = 9;
+            }
+        }
+        Forgery::Nothing | Forgery::SeatMissing(_) | Forgery::TwoMissing => {}
+    }
+    Ok(())
+}
+
+// Takes away the seats that are kept back.
+fn keep_back<L: Ledger>(seats: &mut Vec<Seat<L>>, how: Forgery) {
+    match how {
+        Forgery::SeatMissing(place) => {
+            if place < seats.len() {
+                drop(seats.remove(place));
+            }
+        }
+        Forgery::TwoMissing => {
+            if seats.len() > 2 {
+                drop(seats.remove(2));
+                drop(seats.remove(1));
+            }
+        }
+        _ => {}
+    }
+}
+
+// A hall of two sessions, whose first joins and asks twice, and then this is done.
+fn closed_with<L: Ledger, T: Wait>(
+    rt: &T,
+    alloc: Global,
+    limits: Limits,
+    how: Forgery,
+    blank: Blank,
+) -> Result<Option<u8>, Fail>
+    requires name { blank.name ≡ L.name }
+    requires parts { (blank.parts ≡ L.parts) × (blank.parts ≡ limits.sessions + 3) }
+{
+    let (hall, mut seats) = Hall::<u32, L>::open(alloc, limits, blank)?;
+    if let Some(seat) = seats.first_mut() {
+        let _ = seat.ask_once(rt, &hall, None, Event::Join { mutator: me() });
+        let _ = seat.ask_once(rt, &hall, None, Event::Stat { mutator: me() });
+        let _ = seat.ask_once(rt, &hall, None, Event::Names { mutator: me() });
+        forge(seat, how)?;
+    }
+    keep_back(&mut seats, how);
+    match hall.close(seats) {
+        Ok(_) => Ok(None),
+        Err(CloseFault::Disagree(seat)) => Ok(Some(seat)),
+        Err(CloseFault::NoMemory) => Err("no memory".into()),
+    }
+}
+
+fn closed<T: Wait>(rt: &T, alloc: Global, how: Forgery) -> Result<Option<u8>, Fail> {
+    let limits = Limits::checked(16, 2, 1, 0, 64, 1).ok().ok_or("limits")?;
+    closed_with::<Brand, T>(rt, alloc, limits, how, Blank::new(5))
+}
+
+#[test]
+fn a_close_finds_what_was_changed(rt: HostRuntime) -> Result<(), Fail> {
+    let rows = [
+        (Forgery::Nothing, None),
+        (Forgery::AnswerChanged, Some(0)),
+        (Forgery::ItemLeftOut, Some(0)),
+        (Forgery::ItemTooMany, Some(0)),
+        (Forgery::TwoSwapped, Some(0)),
+        (Forgery::NumberRaised, Some(0)),
+        (Forgery::SeatMissing(0), Some(0)),
+        (Forgery::SeatMissing(2), Some(2)),
+        (Forgery::SeatMissing(4), Some(4)),
+        (Forgery::TwoMissing, Some(1)),
+    ];
+    for (how, wanted) in rows {
+        assert_eq!(rt; closed(&rt, rt.alloc(), how)?, wanted);
+    }
+    Ok(())
+}

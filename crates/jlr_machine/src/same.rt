@@ -1,0 +1,485 @@
+//! Whether two asks, or two answers, are the same. They have no `==`, since their texts and lists are no plain values.
+ghost use Rattle.std.specs.Prelude.{◌≡◌, ◌↔◌, IsTrue};
+
+use crate::ask::{Answer, Ask, CallOutcome};
+use crate::machine::Failure;
+use crate::text::{Name, Text};
+use jlr_types::Layout;
+
+impl Ask {
+    /// Whether the other ask is the same, in each of its parts.
+    pub fn is_same(&self, other: &Ask) -> bool
+        ensures { IsTrue result ↔ (self.now ≡ other.now) }
+    {
+        match self {
+            Ask::Join { mutator } => match other {
+                Ask::Join {
+                    mutator: other_mutator,
+                } => *mutator == *other_mutator,
+                _ => false,
+            },
+            Ask::Leave { mutator } => match other {
+                Ask::Leave {
+                    mutator: other_mutator,
+                } => *mutator == *other_mutator,
+                _ => false,
+            },
+            Ask::New { mutator, layout } => match other {
+                Ask::New {
+                    mutator: other_mutator,
+                    layout: other_layout,
+                } => *mutator == *other_mutator && same_layout(layout, other_layout),
+                _ => false,
+            },
+            Ask::Put {
+                mutator,
+                object,
+                field,
+                value,
+            } => match other {
+                Ask::Put {
+                    mutator: other_mutator,
+                    object: other_object,
+                    field: other_field,
+                    value: other_value,
+                } => *mutator == *other_mutator
+                    && *object == *other_object
+                    && *field == *other_field
+                    && *value == *other_value,
+                _ => false,
+            },
+            Ask::Get {
+                mutator,
+                object,
+                field,
+            } => match other {
+                Ask::Get {
+                    mutator: other_mutator,
+                    object: other_object,
+                    field: other_field,
+                } => *mutator == *other_mutator
+                    && *object == *other_object
+                    && *field == *other_field,
+                _ => false,
+            },
+            Ask::SetInt {
+                mutator,
+                object,
+                field,
+                value,
+            } => match other {
+                Ask::SetInt {
+                    mutator: other_mutator,
+                    object: other_object,
+                    field: other_field,
+                    value: other_value,
+                } => *mutator == *other_mutator
+                    && *object == *other_object
+                    && *field == *other_field
+                    && *value == *other_value,
+                _ => false,
+            },
+            Ask::Int {
+                mutator,
+                object,
+                field,
+            } => match other {
+                Ask::Int {
+                    mutator: other_mutator,
+                    object: other_object,
+                    field: other_field,
+                } => *mutator == *other_mutator
+                    && *object == *other_object
+                    && *field == *other_field,
+                _ => false,
+            },
+            Ask::Dup { mutator, object } => match other {
+                Ask::Dup {
+                    mutator: other_mutator,
+                    object: other_object,
+                } => *mutator == *other_mutator && *object == *other_object,
+                _ => false,
+            },
+            Ask::Drop { mutator, object } => match other {
+                Ask::Drop {
+                    mutator: other_mutator,
+                    object: other_object,
+                } => *mutator == *other_mutator && *object == *other_object,
+                _ => false,
+            },
+            Ask::Same {
+                mutator,
+                left,
+                right,
+            } => match other {
+                Ask::Same {
+                    mutator: other_mutator,
+                    left: other_left,
+                    right: other_right,
+                } => *mutator == *other_mutator && *left == *other_left && *right == *other_right,
+                _ => false,
+            },
+            Ask::MakeRef {
+                mutator,
+                kind,
+                referent,
+                queue,
+            } => match other {
+                Ask::MakeRef {
+                    mutator: other_mutator,
+                    kind: other_kind,
+                    referent: other_referent,
+                    queue: other_queue,
+                } => *mutator == *other_mutator
+                    && *kind == *other_kind
+                    && *referent == *other_referent
+                    && *queue == *other_queue,
+                _ => false,
+            },
+            Ask::Deref { mutator, reference } => match other {
+                Ask::Deref {
+                    mutator: other_mutator,
+                    reference: other_reference,
+                } => *mutator == *other_mutator && *reference == *other_reference,
+                _ => false,
+            },
+            Ask::Refers {
+                mutator,
+                reference,
+                object,
+            } => match other {
+                Ask::Refers {
+                    mutator: other_mutator,
+                    reference: other_reference,
+                    object: other_object,
+                } => *mutator == *other_mutator
+                    && *reference == *other_reference
+                    && *object == *other_object,
+                _ => false,
+            },
+            Ask::Clear { mutator, reference } => match other {
+                Ask::Clear {
+                    mutator: other_mutator,
+                    reference: other_reference,
+                } => *mutator == *other_mutator && *reference == *other_reference,
+                _ => false,
+            },
+            Ask::Enqueue { mutator, reference } => match other {
+                Ask::Enqueue {
+                    mutator: other_mutator,
+                    reference: other_reference,
+                } => *mutator == *other_mutator && *reference == *other_reference,
+                _ => false,
+            },
+            Ask::Enqueued { mutator, reference } => match other {
+                Ask::Enqueued {
+                    mutator: other_mutator,
+                    reference: other_reference,
+                } => *mutator == *other_mutator && *reference == *other_reference,
+                _ => false,
+            },
+            Ask::MakeQueue { mutator } => match other {
+                Ask::MakeQueue {
+                    mutator: other_mutator,
+                } => *mutator == *other_mutator,
+                _ => false,
+            },
+            Ask::Poll { mutator, queue } => match other {
+                Ask::Poll {
+                    mutator: other_mutator,
+                    queue: other_queue,
+                } => *mutator == *other_mutator && *queue == *other_queue,
+                _ => false,
+            },
+            Ask::Remove { mutator, queue } => match other {
+                Ask::Remove {
+                    mutator: other_mutator,
+                    queue: other_queue,
+                } => *mutator == *other_mutator && *queue == *other_queue,
+                _ => false,
+            },
+            Ask::MakeCleaner { mutator } => match other {
+                Ask::MakeCleaner {
+                    mutator: other_mutator,
+                } => *mutator == *other_mutator,
+                _ => false,
+            },
+            Ask::Register {
+                mutator,
+                cleaner,
+                object,
+                note,
+            } => match other {
+                Ask::Register {
+                    mutator: other_mutator,
+                    cleaner: other_cleaner,
+                    object: other_object,
+                    note: other_note,
+                } => *mutator == *other_mutator
+                    && *cleaner == *other_cleaner
+                    && *object == *other_object
+                    && *note == *other_note,
+                _ => false,
+            },
+            Ask::Clean { mutator, cleanable } => match other {
+                Ask::Clean {
+                    mutator: other_mutator,
+                    cleanable: other_cleanable,
+                } => *mutator == *other_mutator && *cleanable == *other_cleanable,
+                _ => false,
+            },
+            Ask::Prepare { mutator } => match other {
+                Ask::Prepare {
+                    mutator: other_mutator,
+                } => *mutator == *other_mutator,
+                _ => false,
+            },
+            Ask::Opened { mutator, outcome } => match other {
+                Ask::Opened {
+                    mutator: other_mutator,
+                    outcome: other_outcome,
+                } => *mutator == *other_mutator && *outcome == *other_outcome,
+                _ => false,
+            },
+            Ask::CheckOut { mutator, guard } => match other {
+                Ask::CheckOut {
+                    mutator: other_mutator,
+                    guard: other_guard,
+                } => *mutator == *other_mutator && *guard == *other_guard,
+                _ => false,
+            },
+            Ask::CheckIn { mutator, outcome } => match other {
+                Ask::CheckIn {
+                    mutator: other_mutator,
+                    outcome: other_outcome,
+                } => *mutator == *other_mutator && same_outcome(outcome, other_outcome),
+                _ => false,
+            },
+            Ask::Close { mutator, guard } => match other {
+                Ask::Close {
+                    mutator: other_mutator,
+                    guard: other_guard,
+                } => *mutator == *other_mutator && *guard == *other_guard,
+                _ => false,
+            },
+            Ask::Finish {
+                by,
+                action,
+                outcome,
+            } => match other {
+                Ask::Finish {
+                    by: other_by,
+                    action: other_action,
+                    outcome: other_outcome,
+                } => *by == *other_by && *action == *other_action && *outcome == *other_outcome,
+                _ => false,
+            },
+            Ask::Bind {
+                mutator,
+                name,
+                object,
+            } => match other {
+                Ask::Bind {
+                    mutator: other_mutator,
+                    name: other_name,
+                    object: other_object,
+                } => *mutator == *other_mutator
+                    && same_text(name, other_name)
+                    && *object == *other_object,
+                _ => false,
+            },
+            Ask::Find { mutator, name } => match other {
+                Ask::Find {
+                    mutator: other_mutator,
+                    name: other_name,
+                } => *mutator == *other_mutator && same_text(name, other_name),
+                _ => false,
+            },
+            Ask::Unbind { mutator, name } => match other {
+                Ask::Unbind {
+                    mutator: other_mutator,
+                    name: other_name,
+                } => *mutator == *other_mutator && same_text(name, other_name),
+                _ => false,
+            },
+            Ask::Names { mutator } => match other {
+                Ask::Names {
+                    mutator: other_mutator,
+                } => *mutator == *other_mutator,
+                _ => false,
+            },
+            Ask::Full { mutator, mode } => match other {
+                Ask::Full {
+                    mutator: other_mutator,
+                    mode: other_mode,
+                } => *mutator == *other_mutator && *mode == *other_mode,
+                _ => false,
+            },
+            Ask::Stat { mutator } => match other {
+                Ask::Stat {
+                    mutator: other_mutator,
+                } => *mutator == *other_mutator,
+                _ => false,
+            },
+            Ask::Notes { mutator } => match other {
+                Ask::Notes {
+                    mutator: other_mutator,
+                } => *mutator == *other_mutator,
+                _ => false,
+            },
+            Ask::Faults { mutator } => match other {
+                Ask::Faults {
+                    mutator: other_mutator,
+                } => *mutator == *other_mutator,
+                _ => false,
+            },
+            Ask::HandOver => matches!(other, Ask::HandOver),
+            Ask::TakeUp => matches!(other, Ask::TakeUp),
+            Ask::Begin => matches!(other, Ask::Begin),
+            Ask::Collect => matches!(other, Ask::Collect),
+            Ask::Abandon => matches!(other, Ask::Abandon),
+        }
+    }
+}
+
+impl Answer {
+    /// Whether the other answer is the same, in each of its parts.
+    pub fn is_same(&self, other: &Answer) -> bool
+        ensures { IsTrue result ↔ (self.now ≡ other.now) }
+    {
+        match self {
+            Answer::Done => matches!(other, Answer::Done),
+            Answer::Handle(mine) => match other {
+                Answer::Handle(theirs) => *mine == *theirs,
+                _ => false,
+            },
+            Answer::Truth(mine) => match other {
+                Answer::Truth(theirs) => *mine == *theirs,
+                _ => false,
+            },
+            Answer::Int(mine) => match other {
+                Answer::Int(theirs) => *mine == *theirs,
+                _ => false,
+            },
+            Answer::Data(mine) => match other {
+                Answer::Data(theirs) => same_text(mine, theirs),
+                _ => false,
+            },
+            Answer::Wrote(mine) => match other {
+                Answer::Wrote(theirs) => *mine == *theirs,
+                _ => false,
+            },
+            Answer::Faulted(mine) => match other {
+                Answer::Faulted(theirs) => *mine == *theirs,
+                _ => false,
+            },
+            Answer::Names(mine) => match other {
+                Answer::Names(theirs) => same_names(mine.as_slice(), theirs.as_slice()),
+                _ => false,
+            },
+            Answer::Notes(mine) => match other {
+                Answer::Notes(theirs) => mine.as_slice() == theirs.as_slice(),
+                _ => false,
+            },
+            Answer::Faults(mine) => match other {
+                Answer::Faults(theirs) => same_faults(mine.as_slice(), theirs.as_slice()),
+                _ => false,
+            },
+            Answer::Stat(mine) => match other {
+                Answer::Stat(theirs) => *mine == *theirs,
+                _ => false,
+            },
+            Answer::Job { action, work } => match other {
+                Answer::Job {
+                    action: other_action,
+                    work: other_work,
+                } => *action == *other_action && *work == *other_work,
+                _ => false,
+            },
+            Answer::AlreadyDone => matches!(other, Answer::AlreadyDone),
+            Answer::Prepared(mine) => match other {
+                Answer::Prepared(theirs) => *mine == *theirs,
+                _ => false,
+            },
+            Answer::Out(mine) => match other {
+                Answer::Out(theirs) => *mine == *theirs,
+                _ => false,
+            },
+            Answer::Handed(mine) => match other {
+                Answer::Handed(theirs) => *mine == *theirs,
+                _ => false,
+            },
+            Answer::Refused(mine) => match other {
+                Answer::Refused(theirs) => *mine == *theirs,
+                _ => false,
+            },
+        }
+    }
+}
+
+fn same_text<const N: usize>(left: &Text<N>, right: &Text<N>) -> bool
+    ensures { IsTrue result ↔ (left.now ≡ right.now) }
+{
+    left.as_slice() == right.as_slice()
+}
+
+fn same_outcome(left: &CallOutcome, right: &CallOutcome) -> bool
+    ensures { IsTrue result ↔ (left.now ≡ right.now) }
+{
+    match left {
+        CallOutcome::Data(bytes) => match right {
+            CallOutcome::Data(others) => same_text(bytes, others),
+            _ => false,
+        },
+        CallOutcome::Wrote(count) => match right {
+            CallOutcome::Wrote(other) => *count == *other,
+            _ => false,
+        },
+        CallOutcome::Failed(fault) => match right {
+            CallOutcome::Failed(other) => *fault == *other,
+            _ => false,
+        },
+    }
+}
+
+fn same_layout(left: &Layout, right: &Layout) -> bool
+    ensures { IsTrue result ↔ (left.now ≡ right.now) }
+{
+    if left.len() != right.len() {
+        return false;
+    }
+    for field in 0..left.len() {
+        if left.get(field) != right.get(field) {
+            return false;
+        }
+    }
+    true
+}
+
+fn same_faults(left: &[Failure], right: &[Failure]) -> bool
+    ensures { IsTrue result ↔ (left.now ≡ right.now) }
+{
+    if left.len() != right.len() {
+        return false;
+    }
+    for index in 0..left.len() {
+        if left[index] != right[index] {
+            return false;
+        }
+    }
+    true
+}
+
+fn same_names(left: &[Name], right: &[Name]) -> bool
+    ensures { IsTrue result ↔ (left.now ≡ right.now) }
+{
+    if left.len() != right.len() {
+        return false;
+    }
+    for index in 0..left.len() {
+        if !same_text(&left[index], &right[index]) {
+            return false;
+        }
+    }
+    true
+}
