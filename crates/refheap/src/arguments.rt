@@ -64,16 +64,16 @@ pub fn words(rt: &HostRuntime) -> Result<Vec<String>, ProgramFault>
 ///
 /// # Errors
 /// A bad command line or a call for help, with the text that is said of it, or the want of memory.
-pub fn order<'a>(alloc: Global, words: &'a [String]) -> Result<Order<'a>, ProgramFault>
+pub fn order_of<'a>(alloc: Global, words: &'a [String]) -> Result<Order<'a>, ProgramFault>
     ensures { IfErr result (λ fault. (status_of fault ≡ 2) ⊎ (status_of fault ≡ 5)) }
 {
     let command = command(alloc).map_err(ProgramFault::NoMemory)?;
     let matches = parsed(command, words)?;
     if let Some(serve) = matches.subcommand_matches("serve") {
-        return service(alloc, serve).map(Order::Serve);
+        return service_of(alloc, serve).map(Order::Serve);
     }
     if let Some(audit) = matches.subcommand_matches("audit") {
-        return audit_order(alloc, audit).map(Order::Audit);
+        return audit_of(alloc, audit).map(Order::Audit);
     }
     limits(alloc, matches.subcommand_matches("run")).map(Order::Run)
 }
@@ -89,7 +89,7 @@ fn parsed<'a>(command: Command<'a>, words: &'a [String]) -> Result<ArgMatches<'a
 }
 
 /// What a `serve` asks for.
-fn service<'a>(alloc: Global, serve: &ArgMatches<'a>) -> Result<Service<'a>, ProgramFault>
+fn service_of<'a>(alloc: Global, serve: &ArgMatches<'a>) -> Result<Service<'a>, ProgramFault>
     ensures { IfErr result (λ fault. (status_of fault ≡ 2) ⊎ (status_of fault ≡ 5)) }
 {
     let Some(socket) = serve.get_str("socket") else {
@@ -110,7 +110,7 @@ fn service<'a>(alloc: Global, serve: &ArgMatches<'a>) -> Result<Service<'a>, Pro
 }
 
 /// What an `audit` asks for.
-fn audit_order<'a>(alloc: Global, audit: &ArgMatches<'a>) -> Result<AuditOrder<'a>, ProgramFault>
+fn audit_of<'a>(alloc: Global, audit: &ArgMatches<'a>) -> Result<AuditOrder<'a>, ProgramFault>
     ensures { IfErr result (λ fault. (status_of fault ≡ 2) ⊎ (status_of fault ≡ 5)) }
 {
     let Some(file) = audit.get_str("file") else {
@@ -262,7 +262,7 @@ mod tests {
             text.push_str(word)?;
             words.push(text)?;
         }
-        match order(alloc, words.as_slice()) {
+        match order_of(alloc, words.as_slice()) {
             Ok(Order::Run(limits)) => numbers(alloc, &limits),
             Ok(Order::Serve(service)) => {
                 let (total, socket) = (service.total, service.socket);

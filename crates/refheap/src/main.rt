@@ -33,7 +33,7 @@ fn main(rt: HostRuntime) -> ExitCode {
 /// Runs what the words of the command line ask for. Threads are for a server alone.
 fn run<T: Threads + Wait + Sync>(rt: &HostRuntime, threads: &T) -> Result<(), ProgramFault> {
     let words = arguments::words(rt)?;
-    match arguments::order(rt.alloc(), words.as_slice())? {
+    match arguments::order_of(rt.alloc(), words.as_slice())? {
         Order::Run(limits) => session(
             rt.alloc(),
             limits,
