@@ -6,7 +6,7 @@ use jlr_machine::entry::{Chosen, Collected, Entry};
 use jlr_machine::fresh::FreshSlots;
 use jlr_machine::items::Items;
 use jlr_machine::kept::KeptSlots;
-use jlr_machine::text::Text;
+use jlr_machine::text::{Data, Name, WriteCount};
 use jlr_types::{ActionNo, Handle, Slot, Work};
 use std::alloc::{AllocError, Global};
 
@@ -101,11 +101,23 @@ fn few(numbers: &[u32]) -> FreshSlots {
     fresh
 }
 
-/// A name, or data.
-pub(crate) fn text<const N: usize>(bytes: &[u8]) -> Text<N>
-    requires { length bytes.now ≤ N }
+/// Data.
+pub(crate) fn text(bytes: &[u8]) -> Data
+    requires { length bytes.now ≤ 200 }
 {
-    Text::from_slice(bytes).unwrap()
+    Data::from_slice(bytes).unwrap()
+}
+
+/// How many bytes were written.
+pub(crate) fn count(number: u8) -> WriteCount
+    requires { number ≤ 200 }
+{
+    WriteCount::new(number).unwrap()
+}
+
+/// A name; an error where the bytes are none.
+pub(crate) fn named(bytes: &[u8]) -> Result<Name, AllocError> {
+    Name::from_slice(bytes).ok_or(AllocError)
 }
 
 pub(crate) fn handle(number: u8) -> Answer {

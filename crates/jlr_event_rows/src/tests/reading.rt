@@ -1,7 +1,7 @@
 //! Events and replies, read from words.
 use jlr_event::event::{Event, Reply};
 use jlr_machine::ask::{Answer, CallOutcome, FullMode};
-use jlr_machine::text::{Data, Name};
+use jlr_machine::text::{Data, Name, WriteCount};
 use jlr_types::{ActionNo, Fault, FieldKind, Handle, Layout, Mutator, Progress, RefKind, Rid};
 use std::str::SplitWhitespace;
 
@@ -128,7 +128,7 @@ fn check_in(words: &mut SplitWhitespace<'_>) -> Option<Event<u32>> {
     let resource = resource(words)?;
     let outcome = match kind {
         "data" => CallOutcome::Data(Data::from_slice(word.as_bytes())?),
-        "wrote" => CallOutcome::Wrote(word.parse().ok()?),
+        "wrote" => CallOutcome::Wrote(WriteCount::new(word.parse().ok()?)?),
         _ => CallOutcome::Failed(fault(word)?),
     };
     Some(Event::CheckIn {

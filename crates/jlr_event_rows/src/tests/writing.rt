@@ -86,7 +86,9 @@ fn check_in(alloc: Global, mutator: &Mutator, how: &CallOutcome) -> Result<Strin
         CallOutcome::Data(bytes) => {
             format!(in alloc; "check_in {mutator} data {}", words_of(bytes.as_slice()))
         }
-        CallOutcome::Wrote(count) => format!(in alloc; "check_in {mutator} wrote {count}"),
+        CallOutcome::Wrote(count) => {
+            format!(in alloc; "check_in {mutator} wrote {}", count.number())
+        }
         CallOutcome::Failed(of) => format!(in alloc; "check_in {mutator} failed {}", fault(of)),
     }
 }
