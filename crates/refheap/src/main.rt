@@ -3,6 +3,7 @@
 
 mod arguments;
 mod audit;
+mod commands;
 #[cfg(test)]
 mod ends;
 mod fault;
@@ -14,6 +15,7 @@ mod session;
 #[cfg(test)]
 mod verdicts;
 
+use arguments::Order;
 use fault::ProgramFault;
 use jlr_device::real::RealDevice;
 use places::StandardPlaces;
@@ -31,15 +33,15 @@ fn main(rt: HostRuntime) -> ExitCode {
 /// Runs what the words of the command line ask for. Threads are for a server alone.
 fn run<T: Threads + Wait + Sync>(rt: &HostRuntime, threads: &T) -> Result<(), ProgramFault> {
     let words = arguments::words(rt)?;
-    if let Some(order) = arguments::audited(rt.alloc(), words.as_slice())? {
-        return audit::audit(rt, order, &mut rt.stdout());
+    match arguments::order_of(rt.alloc(), words.as_slice())? {
+        Order::Run(limits) => session(
+            rt.alloc(),
+            limits,
+            &mut rt.stdin(),
+            &mut rt.stdout(),
+            &mut RealDevice::new(*rt),
+        ),
+        Order::Serve(service) => serve::serve(rt, threads, service, &mut rt.stdout()),
+        Order::Audit(order) => audit::audit(rt, order, &mut rt.stdout()),
     }
-    if let Some(service) = arguments::served(rt.alloc(), words.as_slice())? {
-        return serve::serve(rt, threads, service, &mut rt.stdout());
-    }
-    let limits = arguments::limits(rt.alloc(), words.as_slice())?;
-    let mut reader = rt.stdin();
-    let mut writer = rt.stdout();
-    let mut device = RealDevice::new(*rt);
-    session(rt.alloc(), limits, &mut reader, &mut writer, &mut device)
 }
