@@ -8,8 +8,8 @@ class Session:
 
     BATCH = 400
 
-    def __init__(self, program, cells):
-        command = [program, "run", "--cells", str(cells)]
+    def __init__(self, program, cells, options=()):
+        command = [program, "run", "--cells", str(cells), *options]
         self.process = subprocess.Popen(command, stdin=subprocess.PIPE, stdout=subprocess.PIPE)
         self.waiting = []
         self.answered = 0
@@ -44,6 +44,12 @@ class Session:
         if not reply or reply.startswith(b"!"):
             raise SystemExit(f"{line!r} was answered {reply!r}")
         return took
+
+    def memory(self):
+        """Bytes of memory that the program has by now."""
+        self.flush()
+        with open(f"/proc/{self.process.pid}/status") as status:
+            return next(int(line.split()[1]) * 1024 for line in status if line.startswith("VmRSS"))
 
     def close(self):
         self.flush()

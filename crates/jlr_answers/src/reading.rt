@@ -11,6 +11,7 @@ use jlr_fields::cursor::{
 };
 use jlr_fields::fault::ReadError;
 use jlr_machine::ask::Answer;
+use jlr_machine::text::WriteCount;
 use jlr_parts::items::take_list;
 use jlr_parts::object::take_work;
 use jlr_parts::tables::take_fault;
@@ -48,7 +49,7 @@ fn wrote_answer(bytes: &mut &[u8]) -> Result<Answer, ReadError>
     ensures { Reads (λ x. x) result bytes.new.now (body_of TagWrote bytes.old.now) }
 {
     let body = take_within(0, 200, bytes)?;
-    Ok(Answer::Wrote(body))
+    Ok(Answer::Wrote(WriteCount::new(body).unwrap()))
 }
 
 fn faulted_answer(bytes: &mut &[u8]) -> Result<Answer, ReadError>

@@ -36,7 +36,7 @@ pub fn put_answer(out: &mut Vec<u8>, answer: &Answer) -> Result<(), AllocError>
         }
         Answer::Wrote(body) => {
             put_u8(out, 5)?;
-            put_u8(out, *body)
+            put_u8(out, body.number())
         }
         Answer::Faulted(body) => {
             put_u8(out, 6)?;

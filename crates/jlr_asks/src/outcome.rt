@@ -9,6 +9,7 @@ use jlr_fields::fault::{Fault as ByteFault, ReadError};
 use jlr_fields::number::put_u8;
 use jlr_fields::text::put_text;
 use jlr_machine::ask::{CallOutcome, FullMode, Outcome};
+use jlr_machine::text::WriteCount;
 use jlr_parts::tables::{put_fault, take_fault};
 use jlr_types::Fault;
 use std::alloc::AllocError;
@@ -49,7 +50,7 @@ pub(crate) fn call_outcome_at(bytes: &mut &[u8]) -> Result<CallOutcome, ReadErro
         }
         1 => {
             let count = take_within(0, 200, bytes)?;
-            Ok(CallOutcome::Wrote(count))
+            Ok(CallOutcome::Wrote(WriteCount::new(count).unwrap()))
         }
         2 => {
             let fault = take_fault(bytes)?;
@@ -70,7 +71,7 @@ pub(crate) fn put_call_outcome(out: &mut Vec<u8>, outcome: &CallOutcome) -> Resu
         }
         CallOutcome::Wrote(count) => {
             put_u8(out, 1)?;
-            put_u8(out, *count)
+            put_u8(out, count.number())
         }
         CallOutcome::Failed(fault) => {
             put_u8(out, 2)?;

@@ -25,7 +25,7 @@ use Rattle.jlr_laws.proofs.UpToDate.{seen_stays_up_to_date}
 use Rattle.jlr_histories.specs.Collecting.{may_collect}
 use Rattle.jlr_histories.specs.Owing.{owed}
 use Rattle.jlr_histories.specs.Rooms.{Rooms, Fits, HasRoomFor}
-use Rattle.jlr_histories.proofs.Collecting.{new_objects_fit, no_collection_unless_it_may}
+use Rattle.jlr_histories.proofs.Collecting.{no_collection_unless_it_may}
 use Rattle.jlr_histories.proofs.Fitting.{answers_fit}
 use Rattle.jlr_histories.proofs.Owing.{end_collects, end_lowers}
 use Rattle.jlr_event.specs.declared.event.Event.{Event}
@@ -36,7 +36,6 @@ use Rattle.jlr_event.specs.Events.{ask_of, answer_in}
 use Rattle.jlr_core.specs.Cores.{Kept, StandsIn}
 use Rattle.jlr_core.specs.Events.{Enters}
 use Rattle.jlr_core.specs.Flows.{GoesOut}
-use Rattle.jlr_core.specs.Looks.{cells_for}
 use Rattle.jlr_core.specs.State.{entry_of}
 use Rattle.jlr_core.specs.Steps.{IsStep}
 use Rattle.jlr_book.specs.Histories.{Ends, seated}
@@ -96,7 +95,7 @@ not_marked h k e progress chosen asked s is st =
 
 -- ---- Choices
 
--- the machine for which a core stands may collect, and has room, as the one that it keeps
+-- the machine for which a core stands may collect as the one that it keeps
 module _ (m : Machine) (ask : Option Ask) (answer : Option Answer) (chosen : Chosen) (n : Machine) where
   pub none_collected : Enters m ask answer chosen n → may_collect m ask ≡ false → chosen.collected ≡ None
   none_collected = elim ask as (λ o. Enters m o answer chosen n → may_collect m o ≡ false → chosen.collected ≡ None) [
@@ -110,18 +109,6 @@ module _ (m : Machine) (ask : Option Ask) (answer : Option Answer) (chosen : Cho
     ]
   ]
 
-  pub few_fresh : Enters m ask answer chosen n → length chosen.fresh ≤ cells_for ask
-  few_fresh = elim ask as (λ o. Enters m o answer chosen n → length chosen.fresh ≤ cells_for o) [
-    | None ↦ elim answer as (λ a. Enters m None a chosen n → length chosen.fresh ≤ cells_for None) [
-      | None ↦ λ x. (let none : length chosen.fresh ≡ 0 = ap {A = Chosen} {B = ℕ} (λ c. length c.fresh) x.0 in omega (arith, none))
-      | Some a ↦ λ x. absurd x
-    ]
-    | Some asked ↦ elim answer as (λ a. Enters m (Some asked) a chosen n → length chosen.fresh ≤ cells_for (Some asked)) [
-      | None ↦ λ x. absurd x
-      | Some a ↦ λ x. new_objects_fit m (entry_of asked a chosen) x.0
-    ]
-  ]
-
 abbrev choice_of : Option Collected → List ℕ → Chosen
 choice_of collected fresh = record { collected = collected; fresh = fresh }
 
@@ -131,9 +118,6 @@ module _ {R : Type 0} (h k : Kept R) (e : Event R) (reply : Reply R) (chosen : C
       let x = s.entry st.0 st.1 in
       let same : may_collect h.machine (ask_of e) ≡ may_collect st.0 (ask_of e) = ap {A = Machine} {B = Bool} (λ m. may_collect m (ask_of e)) st.1.same in
       none_collected st.0 (ask_of e) (answer_in reply) chosen x.0 x.1 (sym same ∙ may)
-
-  pub fresh_fits : length chosen.fresh ≤ cells_for (ask_of e)
-  fresh_fits = let x = s.entry st.0 st.1 in few_fresh st.0 (ask_of e) (answer_in reply) chosen x.0 x.1
 
   -- where it may not collect, the slots of new objects are all that is chosen
   pub chosen_plainly : (fresh : List ℕ) → may_collect h.machine (ask_of e) ≡ false → fresh ≡ chosen.fresh → IsStep h e reply (choice_of None fresh) k
@@ -300,7 +284,7 @@ owed_less_by h k e (Answered answer resource) chosen asked s is end kept st =
 
 suits_closed : (m : Machine) (ask : Option Ask) (room : ChoiceRoom) → SuitsChoice m ask room → SuitsChoice (closed m) ask room
 suits_closed m ask (Collecting choice) x = x
-suits_closed m ask (Plain fresh) x = (closed_collects m ask x.0, x.1, x.2)
+suits_closed m ask Plain x = closed_collects m ask x
 
 -- room that was made before a cut serves after it
 pub still_suits : (m n : Machine) (ask : Ask) (room : EntryRoom) → n ≡ closed m → SuitsEntry m ask room → SuitsEntry n ask room

@@ -12,7 +12,7 @@ use jlr_event::event::{Event, Reply};
 use jlr_machine::ask::{Answer, Ask};
 use jlr_machine::choice::Choice;
 use jlr_machine::entry::{Chosen, Entry};
-use jlr_machine::items::Items;
+use jlr_machine::fresh::FreshSlots;
 use std::alloc::Global;
 
 /// An ask that is no end: one entry, in a place that is there.
@@ -83,7 +83,7 @@ pub(crate) fn record_end<R>(
                 answer: ListRoom::none(alloc).copy(&answer),
                 choice: Chosen {
                     collected: None,
-                    fresh: Items::new(alloc),
+                    fresh: FreshSlots::new(),
                 },
             });
             Reply::Answered { answer, resource }

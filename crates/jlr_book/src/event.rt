@@ -1,6 +1,6 @@
 //! What a book has to know of an ask, and how it refuses one by itself.
 ghost use Rattle.std.specs.Prelude.{◌≡◌};
-ghost use Rattle.jlr_machine.specs.Refusals.{cells_needed, is_end};
+ghost use Rattle.jlr_machine.specs.Refusals.{is_end};
 ghost use Rattle.jlr_event.specs.Events.{resource_of_event};
 ghost use Rattle.jlr_event.specs.declared.event.Reply.TheVariants.{Answered};
 ghost use Rattle.jlr_machine.specs.declared.ask.Answer.TheVariants.{Refused};
@@ -16,21 +16,6 @@ pub fn is_end(ask: &Ask) -> bool
     match ask {
         Ask::Leave { .. } | Ask::Opened { .. } | Ask::CheckIn { .. } | Ask::Finish { .. } => true,
         _ => false,
-    }
-}
-
-/// How many objects an ask makes.
-pub(crate) fn new_objects(ask: &Ask) -> usize
-    ensures { result ≡ cells_needed ask.now }
-{
-    match ask {
-        Ask::New { .. }
-        | Ask::MakeRef { .. }
-        | Ask::MakeQueue { .. }
-        | Ask::MakeCleaner { .. }
-        | Ask::Register { .. } => 1,
-        Ask::Prepare { .. } => 2,
-        _ => 0,
     }
 }
 

@@ -1,13 +1,11 @@
 //! What an entry takes, made before its ask: the room of its choice, and that of its copy of a list answer. So it takes no memory then.
 ghost use Rattle.std.specs.Prelude.{◌≡◌, ◌≤◌, [], IfOk, Some, length, vec_capacity};
 ghost use Rattle.jlr_event.specs.Events.{ask_of, answer_in};
-ghost use Rattle.jlr_core.specs.Looks.{cells_for};
 ghost use Rattle.jlr_core.specs.Steps.{IsStep};
 ghost use Rattle.jlr_histories.specs.Rooms.{Fits, HasRoomFor};
 ghost use Rattle.jlr_book.specs.Making.{SuitsChoice, SuitsEntry};
 ghost use Rattle.jlr_book.specs.Writing.{Stands};
 
-use crate::event::new_objects;
 use jlr_core::engine::Core;
 use jlr_event::event::{Event, Reply};
 use jlr_machine::ask::{Answer, Ask};
@@ -16,7 +14,6 @@ use jlr_machine::entry::Chosen;
 use jlr_machine::items::Items;
 use jlr_machine::machine::Failure;
 use jlr_machine::text::Name;
-use jlr_types::Slot;
 use std::alloc::{AllocError, Global};
 use std::marker::Model;
 
@@ -147,8 +144,8 @@ fn copy_names(room: Vec<Name>, names: &[Name]) -> Vec<Name>
 pub(crate) enum ChoiceRoom {
     /// A collection may come.
     Collecting(Choice),
-    /// None comes: room for the slots of new objects.
-    Plain(Vec<Slot>),
+    /// None comes: the slots of new objects take no room.
+    Plain,
 }
 
 impl ChoiceRoom {
@@ -161,17 +158,15 @@ impl ChoiceRoom {
         alloc: Global,
         core: &Core<R>,
         cells: u32,
-        ask: &Ask,
         event: &Event<R>,
     ) -> Result<Self, AllocError>
-        requires ask { ask_of event.now ≡ Some ask.now }
-        requires cells { length core.now.machine.objects ≤ cells }
-        ensures { IfOk result (λ room. SuitsChoice core.now.machine (Some ask.now) room) }
+        requires { length core.now.machine.objects ≤ cells }
+        ensures { IfOk result (λ room. SuitsChoice core.now.machine (ask_of event.now) room) }
     {
         if core.will_collect(event) {
             return Ok(ChoiceRoom::Collecting(Choice::new(alloc, cells)?));
         }
-        Ok(ChoiceRoom::Plain(Vec::with_capacity(alloc, new_objects(ask))?))
+        Ok(ChoiceRoom::Plain)
     }
 
     /// One step of the core, and what it chose. Where no collection comes, the core is lent a choice.
@@ -195,11 +190,11 @@ impl ChoiceRoom {
                 let reply = core.step(event, &mut own);
                 (reply, own.into_chosen())
             }
-            ChoiceRoom::Plain(fresh) => {
+            ChoiceRoom::Plain => {
                 let reply = core.step(event, lent);
                 let chosen = Chosen {
                     collected: None,
-                    fresh: Items::from_vec(copy_into(fresh, lent.fresh())),
+                    fresh: lent.fresh().copy(),
                 };
                 (reply, chosen)
             }
@@ -234,7 +229,7 @@ impl EntryRoom {
         ensures { IfOk result (λ room. SuitsEntry core.now.machine ask.now room) }
     {
         Ok(EntryRoom {
-            choice: ChoiceRoom::for_event(alloc, core, cells, ask, event)?,
+            choice: ChoiceRoom::for_event(alloc, core, cells, event)?,
             list: ListRoom::for_ask(alloc, ask)?,
         })
     }

@@ -9,7 +9,9 @@ ghost use Rattle.jlr_cells.specs.Links.{links_of, no_links};
 use crate::fields::Fields;
 use crate::shape::{Kind, Shape};
 use jlr_machine::items::Items;
-use jlr_machine::object::{CleanState, Cleanable, Guard, Object, RefState, Reference};
+use jlr_machine::object::{
+    CleanState, Cleanable, Fields as PlainFields, Guard, Object, RefState, Reference,
+};
 use jlr_types::{FieldValue, Slot};
 use std::alloc::{AllocError, Global};
 use std::collections::VecDeque;
@@ -299,7 +301,7 @@ impl Cell {
                         None => unreachable!(),
                     }
                 }
-                Ok(Some(Object::Plain(Items::from_vec(values))))
+                Ok(Some(Object::Plain(PlainFields::from_vec(values).unwrap())))
             }
             Cell::Reference(reference) => Ok(Some(Object::Reference(*reference))),
             Cell::Queue(members) => Ok(Some(Object::Queue(members_image(alloc, members)?))),

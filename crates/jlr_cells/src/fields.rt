@@ -79,9 +79,10 @@ impl Fields {
         read(&self.places, &self.words, field)
     }
 
-    /// How many fields there are.
+    /// How many fields there are, at most eight.
     pub(crate) fn len(&self) -> usize
-        ensures { result ≡ length self.now }
+        ensures count { result ≡ length self.now }
+        ensures few { result ≤ 8 }
     {
         let mut count = 0;
         while self.get(count).is_some() {

@@ -13,7 +13,6 @@ pub mod RunLaws
 pub mod Queues
 pub mod TakeUps
 pub mod Awaiting
-pub mod Rest
 pub mod Guards
 pub mod Moving
 pub mod Ticks

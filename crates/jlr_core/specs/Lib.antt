@@ -12,7 +12,6 @@ pub mod Marks
 pub mod Events
 pub mod Cores
 pub mod Steps
-pub mod Rest
 pub mod Looks
 pub mod Runs
 pub mod Cycles

@@ -38,7 +38,6 @@ const CLEANER: u8 = 255;
 
 impl<R> State<R> {
     ghost use Rattle.jlr_core.specs.Machines.{machine_of};
-    ghost use Rattle.jlr_core.specs.Rest.{is_at_rest};
 
     pub(crate) fn make_cleaner(
         &mut self,
@@ -280,15 +279,6 @@ impl<R> State<R> {
             .cleaner
             .take_up(CLEANER, slot, cleanable.action, cleanable.work);
         Ok(Some(job))
-    }
-
-    /// Whether nothing is pending, nothing stands in the cleaner's line, and the cleaner runs no job.
-    pub(crate) fn is_at_rest(&self) -> bool
-        ensures { result ≡ is_at_rest (machine_of self.now) }
-    {
-        self.heap.first_pending().is_none()
-            && self.heap.first_lined().is_none()
-            && !self.cleaner.runs_job(CLEANER)
     }
 
     /// A job has ended: its taker, a mutator or 255 for the cleaner, tells how.

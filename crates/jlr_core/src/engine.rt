@@ -2,7 +2,6 @@
 ghost use Rattle.std.specs.Prelude.{◌≡◌, ◌≤◌, ◌↔◌, [], length, IfOk, IsTrue, Some};
 ghost use Rattle.jlr_machine.specs.declared.machine.Machine.{Machine};
 ghost use Rattle.jlr_machine.specs.Refusals.{refusal};
-ghost use Rattle.jlr_resource.specs.Resources.{resources};
 ghost use Rattle.jlr_event.specs.Events.{ask_of};
 ghost use Rattle.jlr_histories.specs.Collecting.{may_collect};
 ghost use Rattle.jlr_core.specs.Steps.{IsEmpty, IsStep};
@@ -37,7 +36,6 @@ impl<R> Model for Core<R> {
 
 impl<R> Core<R> {
     ghost use Rattle.jlr_core.specs.Cores.{StandsIn};
-    ghost use Rattle.jlr_core.specs.Rest.{FindsNothing, is_at_rest};
 
     /// The core of an empty machine, whose first action number is 1. All room is made at once.
     ///
@@ -75,18 +73,6 @@ impl<R> Core<R> {
     {
         choice.clear();
         self.state.step(event, choice)
-    }
-
-    /// Whether the helpers have nothing to do: nothing is pending, nothing stands in the cleaner's line, and the cleaner runs no job.
-    /// A step of the handler and one of the cleaner would find nothing then, and leave the core as it is.
-    /// That the table lists the machine's resources (`listed`) holds of every core, and is said here for a caller that takes no step.
-    pub fn is_at_rest(&self) -> bool
-        ensures exact { result ≡ is_at_rest self.now.machine }
-        ensures handler { IsTrue result → FindsNothing self.now Ask.HandOver }
-        ensures cleaner { IsTrue result → FindsNothing self.now Ask.TakeUp }
-        ensures listed { resources self.now.table ≡ self.now.machine.resources }
-    {
-        self.state.is_at_rest()
     }
 
     /// Whether an event may come with a collection: a full collection, a `Collect` in an open cycle, and an ask whose objects find no room.

@@ -7,7 +7,7 @@ use jlr_event::event::{Event, Reply};
 use jlr_machine::ask::{Answer, CallOutcome, FullMode, Handed, Stat};
 use jlr_machine::choice::Choice;
 use jlr_machine::machine::Machine;
-use jlr_machine::text::Name;
+use jlr_machine::text::{Name, WriteCount};
 use jlr_types::{
     ActionNo, Fault, FieldKind, Handle, Layout, Limits, Mutator, Progress, RefKind, Refusal,
 };
@@ -320,10 +320,18 @@ fn check_out(guard: u8) -> Event<u32> {
     }
 }
 
+// A fault in place of more than 200 bytes.
+fn wrote(count: u8) -> CallOutcome {
+    match WriteCount::new(count) {
+        Some(count) => CallOutcome::Wrote(count),
+        None => CallOutcome::Failed(Fault::Other),
+    }
+}
+
 fn check_in(count: u8, resource: u32) -> Event<u32> {
     Event::CheckIn {
         mutator: me(),
-        outcome: CallOutcome::Wrote(count),
+        outcome: wrote(count),
         resource,
     }
 }
@@ -335,11 +343,11 @@ fn close(guard: u8) -> Event<u32> {
     }
 }
 
-// The empty name in place of one that is too long.
+// `x` in place of what is no name.
 fn name(text: &str) -> Name {
     match Name::from_slice(text.as_bytes()) {
         Some(name) => name,
-        None => Name::new(),
+        None => Name::from_slice(&[b'x']).unwrap(),
     }
 }
 

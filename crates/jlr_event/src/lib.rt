@@ -3,5 +3,3 @@
 #![tactic(auto)]
 
 pub mod event;
-#[cfg(test)]
-mod tests;

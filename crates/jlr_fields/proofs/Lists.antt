@@ -29,6 +29,16 @@ items_take {A} read spelled Fits law (suc n) bytes xs rest fits e =
     let made : List A × List ℕ = (a.0.0 ∷ b.0.0, b.0.1) in
     subst (λ (y : List A × List ℕ). Takes bytes (flat_map spelled y.0) y.1 × (length y.0 ≡ suc n) × AllByRecursion Fits y.0) (ok_is made (xs, rest) b.2) (rw flat_map-cons both, ap suc second.1, (first.1, second.2))
 
+-- as many as were asked for
+pub items_counted : {A : Type 0} (read : Reader A) (n : ℕ) (bytes : List ℕ) (xs : List A) (rest : List ℕ) → items_at read n bytes ≡ Ok (xs, rest) → length xs ≡ n
+unfolding items_at
+items_counted {A} read zero bytes xs rest e = subst (λ (y : List A × List ℕ). length y.0 ≡ 0) (ok_is ([], bytes) (xs, rest) e) refl
+items_counted {A} read (suc n) bytes xs rest e =
+    let a = bind_ok (read bytes) (λ first. items_at read n first.1 >>= λ others. Ok (first.0 ∷ others.0, others.1)) (xs, rest) e in
+    let b = bind_ok (items_at read n a.0.1) (λ others. Ok (a.0.0 ∷ others.0, others.1)) (xs, rest) a.2 in
+    let made : List A × List ℕ = (a.0.0 ∷ b.0.0, b.0.1) in
+    subst (λ (y : List A × List ℕ). length y.0 ≡ suc n) (ok_is made (xs, rest) b.2) (ap suc (items_counted read n a.0.1 b.0.0 b.0.1 b.1))
+
 pub items_again : {A : Type 0} (read : Reader A) (spelled : A → List ℕ) (Fits : A → Type 0) → ReadsAgain read spelled Fits
     → (xs : List A) (rest : List ℕ) → AllByRecursion Fits xs → items_at read (length xs) (flat_map spelled xs ++ rest) ≡ Ok (xs, rest)
 unfolding items_at

@@ -1,7 +1,7 @@
 //! Texts: a byte of length, and that many bytes.
-ghost use Rattle.std.specs.Prelude.{◌≡◌, ◌≤◌, ◌<◌, ◌++◌, take, length, OnOk};
+ghost use Rattle.std.specs.Prelude.{◌≡◌, ◌≤◌, ◌<◌, ◌++◌, take, length, IsTrue, OnOk};
 ghost use Rattle.std.specs.List.{list_all};
-ghost use Rattle.jlr_fields.specs.Spelling.{spelled_text};
+ghost use Rattle.jlr_fields.specs.Spelling.{spelled_text, IsWithin};
 ghost use Rattle.jlr_fields.specs.Reading.{Gives, is_name_byte, taken_at, bytes_at, text_at};
 
 use crate::fault::{Fault, ReadError};
@@ -12,7 +12,7 @@ use std::alloc::AllocError;
 fn is_good(byte: u8) -> bool
     ensures { result ≡ is_name_byte byte }
 {
-    (97 <= byte && byte <= 122) || (48 <= byte && byte <= 57) || byte == 95
+    byte.is_ascii_lowercase() || byte.is_ascii_digit() || byte == b'_'
 }
 
 fn all_good(bytes: &[u8]) -> bool
@@ -53,6 +53,20 @@ pub(crate) fn data_at(bytes: &[u8]) -> Result<(Data, &[u8]), ReadError>
     taken::<200>(rest, count as usize)
 }
 
+/// So many bytes, which are a name where there are so many.
+#[tactic(auto, unfolding(crate::specs::Reading::taken_at))]
+fn named(bytes: &[u8], count: usize) -> Result<(Name, &[u8]), ReadError>
+    requires within { IsWithin 1 32 count }
+    requires good { IsTrue (list_all is_name_byte (take count bytes.now)) }
+    ensures { Gives (λ x. (x.0, x.1.now)) result (taken_at count bytes.now) }
+{
+    if bytes.len() < count {
+        return Err(ReadError::Fault(Fault::Short));
+    }
+    let (text, rest) = bytes.split_at(count);
+    Ok((Name::from_slice(text).unwrap(), rest))
+}
+
 /// A name. A wrong byte is met before the end of the bytes.
 #[tactic(auto, unfolding(crate::specs::Reading::text_at))]
 pub(crate) fn name_at(bytes: &[u8]) -> Result<(Name, &[u8]), ReadError>
@@ -63,7 +77,7 @@ pub(crate) fn name_at(bytes: &[u8]) -> Result<(Name, &[u8]), ReadError>
     if !all_good(front(rest, count)) {
         return Err(ReadError::Fault(Fault::Range));
     }
-    taken::<32>(rest, count)
+    named(rest, count)
 }
 
 /// Writes a text of at most 255 bytes.

@@ -3,7 +3,7 @@ ghost use Rattle.std.specs.Prelude.{◌≡◌, ◌↔◌, IsTrue};
 
 use crate::ask::{Answer, Ask, CallOutcome};
 use crate::machine::Failure;
-use crate::text::{Name, Text};
+use crate::text::{Data, Name};
 use jlr_types::Layout;
 
 impl Ask {
@@ -284,7 +284,7 @@ impl Ask {
                     name: other_name,
                     object: other_object,
                 } => *mutator == *other_mutator
-                    && same_text(name, other_name)
+                    && same_name(name, other_name)
                     && *object == *other_object,
                 _ => false,
             },
@@ -292,14 +292,14 @@ impl Ask {
                 Ask::Find {
                     mutator: other_mutator,
                     name: other_name,
-                } => *mutator == *other_mutator && same_text(name, other_name),
+                } => *mutator == *other_mutator && same_name(name, other_name),
                 _ => false,
             },
             Ask::Unbind { mutator, name } => match other {
                 Ask::Unbind {
                     mutator: other_mutator,
                     name: other_name,
-                } => *mutator == *other_mutator && same_text(name, other_name),
+                } => *mutator == *other_mutator && same_name(name, other_name),
                 _ => false,
             },
             Ask::Names { mutator } => match other {
@@ -362,7 +362,7 @@ impl Answer {
                 _ => false,
             },
             Answer::Data(mine) => match other {
-                Answer::Data(theirs) => same_text(mine, theirs),
+                Answer::Data(theirs) => same_data(mine, theirs),
                 _ => false,
             },
             Answer::Wrote(mine) => match other {
@@ -417,7 +417,13 @@ impl Answer {
     }
 }
 
-fn same_text<const N: usize>(left: &Text<N>, right: &Text<N>) -> bool
+fn same_data(left: &Data, right: &Data) -> bool
+    ensures { IsTrue result ↔ (left.now ≡ right.now) }
+{
+    left.as_slice() == right.as_slice()
+}
+
+fn same_name(left: &Name, right: &Name) -> bool
     ensures { IsTrue result ↔ (left.now ≡ right.now) }
 {
     left.as_slice() == right.as_slice()
@@ -428,7 +434,7 @@ fn same_outcome(left: &CallOutcome, right: &CallOutcome) -> bool
 {
     match left {
         CallOutcome::Data(bytes) => match right {
-            CallOutcome::Data(others) => same_text(bytes, others),
+            CallOutcome::Data(others) => same_data(bytes, others),
             _ => false,
         },
         CallOutcome::Wrote(count) => match right {
@@ -477,7 +483,7 @@ fn same_names(left: &[Name], right: &[Name]) -> bool
         return false;
     }
     for index in 0..left.len() {
-        if !same_text(&left[index], &right[index]) {
+        if !same_name(&left[index], &right[index]) {
             return false;
         }
     }

@@ -14,8 +14,7 @@ use jlr_fields::cursor::{
 };
 use jlr_fields::fault::{Fault, ReadError};
 use jlr_fields::number::{put_i64, put_option, put_slot, put_u8, put_u32, put_u64};
-use jlr_machine::items::Items;
-use jlr_machine::object::{Cleanable, Guard, Object, Reference};
+use jlr_machine::object::{Cleanable, Fields, Guard, Object, Reference};
 use jlr_types::{FieldValue, Work};
 use std::alloc::{AllocError, Global};
 
@@ -103,7 +102,7 @@ fn plain_at(alloc: Global, bytes: &mut &[u8]) -> Result<Object, ReadError>
 {
     let count = take_within(0, 8, bytes)?;
     let fields = take_items(alloc, count as u32, bytes)?;
-    Ok(Object::Plain(Items::from_vec(fields)))
+    Ok(Object::Plain(Fields::from_vec(fields).unwrap()))
 }
 
 #[tactic(auto, unfolding(crate::specs::Objects::reference_read))]

@@ -119,7 +119,8 @@ fn too_few_left(
     if !clears_for_room(alloc, machine, needed, c)? {
         return Ok(false);
     }
-    Ok(machine.objects.len() < c.kept.as_slice().len() + needed)
+    let kept = c.kept.to_vec(alloc)?;
+    Ok(machine.objects.len() < kept.as_slice().len() + needed)
 }
 
 fn collects_in_vain(

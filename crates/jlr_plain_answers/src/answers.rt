@@ -171,7 +171,7 @@ fn is_wrote(answer: &Answer, count: u8) -> bool
     ensures { result ≡ same_answer answer.now (Wrote count) }
 {
     match answer {
-        Answer::Wrote(x) => *x == count,
+        Answer::Wrote(x) => x.number() == count,
         _ => false,
     }
 }
@@ -191,7 +191,7 @@ pub fn is_outcome(answer: &Answer, outcome: &CallOutcome) -> bool
 {
     match outcome {
         CallOutcome::Data(bytes) => is_data(answer, bytes.as_slice()),
-        CallOutcome::Wrote(count) => is_wrote(answer, *count),
+        CallOutcome::Wrote(count) => is_wrote(answer, count.number()),
         CallOutcome::Failed(fault) => is_faulted(answer, *fault),
     }
 }

@@ -6,7 +6,7 @@ ghost use Rattle.jlr_machine.specs.Lookups.{slot_named, object_named, reference_
 
 use jlr_machine::items::Items;
 use jlr_machine::machine::{Binding, Job, Machine, Resource, Session};
-use jlr_machine::object::{Cleanable, Guard, Object, RefState, Reference};
+use jlr_machine::object::{Cleanable, Fields, Guard, Object, RefState, Reference};
 use jlr_types::{ActionNo, FieldValue, Handle, Mutator, Rid, Slot};
 
 /// The most handles that a mutator holds.
@@ -56,7 +56,7 @@ pub fn named_object(machine: &Machine, mutator: Mutator, handle: Handle) -> Opti
 }
 
 /// The fields, if it is a plain object.
-pub fn fields_of(object: &Object) -> Option<&Items<FieldValue>>
+pub fn fields_of(object: &Object) -> Option<&Fields>
     ensures { option_copied result ≡ as_fields object.now }
 {
     match object {

@@ -20,7 +20,7 @@ use jlr_machine::ask::{Answer, Ask, Outcome};
 use jlr_machine::copy::copy_slice;
 use jlr_machine::items::Items;
 use jlr_machine::machine::Machine;
-use jlr_machine::object::{Object, Reference};
+use jlr_machine::object::{Fields, Object, Reference};
 use jlr_machine::text::Name;
 use jlr_plain_answers::handing::line_from;
 use jlr_plain_asks::given::given_by;
@@ -91,12 +91,14 @@ fn make_plain(
     ensures { IfOk result (λ n. n ≡ made machine mutator fresh.now (Plain (map blank layout.now))) }
 {
     let fields = blank_fields(alloc, layout)?;
+    // At most eight, as a layout's length tells.
+    let _count = layout.len();
     make(
         alloc,
         machine,
         mutator,
         fresh,
-        Object::Plain(Items::from_vec(fields)),
+        Object::Plain(Fields::from_vec(fields).unwrap()),
     )
 }
 

@@ -8,7 +8,7 @@ ghost use Rattle.jlr_plain_changes.specs.Changes.{change_of};
 use jlr_machine::copy::{copy_items, copy_slice};
 use jlr_machine::items::Items;
 use jlr_machine::machine::Machine;
-use jlr_machine::object::{CleanState, Cleanable, Object, RefState, Reference};
+use jlr_machine::object::{CleanState, Cleanable, Fields, Object, RefState, Reference};
 use jlr_machine::table::Table;
 use jlr_plain_asks::lookups::object_at;
 use jlr_types::{FieldValue, Slot};
@@ -50,21 +50,15 @@ fn with_value(
     Ok(out)
 }
 
-fn changed_plain(
-    alloc: Global,
-    fields: &Items<FieldValue>,
-    change: Change,
-) -> Result<Object, AllocError>
+fn changed_plain(alloc: Global, fields: &Fields, change: Change) -> Result<Object, AllocError>
     ensures { IfOk result (λ o. o ≡ change_of change (Plain fields.now)) }
 {
     match change {
-        Change::Set(field, value) => Ok(Object::Plain(Items::from_vec(with_value(
-            alloc,
-            fields.as_slice(),
-            field,
-            value,
-        )?))),
-        _ => Ok(Object::Plain(copy_items(alloc, fields)?)),
+        Change::Set(field, value) => {
+            let values = with_value(alloc, fields.as_slice(), field, value)?;
+            Ok(Object::Plain(Fields::from_vec(values).unwrap()))
+        }
+        _ => Ok(Object::Plain(fields.copy(alloc)?)),
     }
 }
 

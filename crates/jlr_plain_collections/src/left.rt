@@ -122,9 +122,10 @@ fn collected(alloc: Global, machine: &Machine, c: &Collected) -> Result<Machine,
     ensures { IfOk result (λ n. n ≡ after_collection machine.now c.now.kept c.now.pending) }
 {
     let mut next = machine.copy(alloc)?;
+    let kept = c.kept.to_vec(alloc)?;
     next.objects = Table::from_vec(left_places(
         alloc,
-        c.kept.as_slice(),
+        kept.as_slice(),
         c.pending.as_slice(),
         machine.objects.as_slice(),
     )?);

@@ -17,11 +17,12 @@ pub fn full_tested(alloc: Global, machine: &Machine, c: &Collected) -> Result<bo
     ensures { IfOk result (λ b. b ≡ is_full machine.now c.now.kept c.now.pending) }
 {
     let base = roots_plain(alloc, machine)?;
+    let kept = c.kept.to_vec(alloc)?;
     tested(
         alloc,
         &machine.objects,
         base.as_slice(),
-        c.kept.as_slice(),
+        kept.as_slice(),
         c.pending.as_slice(),
         true,
     )
@@ -33,11 +34,12 @@ pub fn clearing_tested(alloc: Global, machine: &Machine, c: &Collected) -> Resul
     ensures { IfOk result (λ b. b ≡ is_full_clearing machine.now c.now.kept c.now.pending) }
 {
     let base = roots_plain(alloc, machine)?;
+    let kept = c.kept.to_vec(alloc)?;
     is_clearing_plain(
         alloc,
         &machine.objects,
         base.as_slice(),
-        c.kept.as_slice(),
+        kept.as_slice(),
         c.pending.as_slice(),
     )
 }
@@ -51,12 +53,13 @@ pub fn background_tested(
     ensures { IfOk result (λ b. b ≡ is_background machine.now c.now.kept c.now.pending) }
 {
     let base = roots_plain(alloc, machine)?;
+    let kept = c.kept.to_vec(alloc)?;
     is_background_plain(
         alloc,
         &machine.objects,
         base.as_slice(),
         machine.seen.as_slice(),
-        c.kept.as_slice(),
+        kept.as_slice(),
         c.pending.as_slice(),
     )
 }

@@ -5,7 +5,7 @@ use crate::resources::are_resources;
 use crate::unnamed::are_private;
 use jlr_machine::items::Items;
 use jlr_machine::machine::{Call, Machine, Resource, ResourceState, Session};
-use jlr_machine::object::{CleanState, Cleanable, Object, RefState, Reference};
+use jlr_machine::object::{CleanState, Cleanable, Fields, Object, RefState, Reference};
 use jlr_machine::table::Table;
 use jlr_plain_parts::actions::are_actions;
 use jlr_plain_parts::limits::is_within_limits;
@@ -108,7 +108,7 @@ fn session(
 /// The empty machine with a plain object in cell 0, this object in cell 1, an empty cell 2, and this mutator.
 fn with(alloc: Global, object: Option<Object>, session: Session) -> Result<Machine, AllocError> {
     let mut objects = Vec::new(alloc);
-    objects.push(Some(Object::Plain(Items::new(alloc))))?;
+    objects.push(Fields::from_vec(Vec::new(alloc)).map(Object::Plain))?;
     objects.push(object)?;
     objects.push(None)?;
     let mut mutators = Vec::new(alloc);

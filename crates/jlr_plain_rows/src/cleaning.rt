@@ -1,6 +1,6 @@
 //! Worked rows on the cleaner, files and sockets.
 use crate::asks;
-use crate::step::{Step, collecting, counts, handle, job, making, plain, text};
+use crate::step::{Step, collecting, count, counts, handle, job, making, plain, text};
 use jlr_machine::ask::{Answer, Ask, CallOutcome, FullMode, Handed, Outcome};
 use jlr_machine::items::Items;
 use jlr_machine::machine::Failure;
@@ -45,7 +45,10 @@ pub(crate) fn file_row(alloc: Global) -> Result<Vec<Step<'static>>, AllocError> 
         making(asks::prepare(0), Answer::Prepared(Rid::new(0)), &[2, 3]),
         plain(asks::opened(0, Outcome::Ok), handle(1)),
         plain(asks::check_out(0, 1), Answer::Out(Rid::new(0))),
-        plain(asks::check_in(0, CallOutcome::Wrote(2)), Answer::Wrote(2)),
+        plain(
+            asks::check_in(0, CallOutcome::Wrote(count(2))),
+            Answer::Wrote(count(2))
+        ),
         plain(asks::drop_handle(0, 1), Answer::Done),
         collecting(asks::full(0, FullMode::Policy), Answer::Done, &[3], &[3]),
         plain(Ask::HandOver, Answer::Handed(Handed::Lined)),

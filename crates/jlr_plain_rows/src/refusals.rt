@@ -1,5 +1,5 @@
 //! Worked rows on refusals, full heaps and names.
-use crate::step::{Step, collecting, collecting_for, counts, handle, making, plain, text};
+use crate::step::{Step, collecting, collecting_for, count, counts, handle, making, named, plain};
 use crate::{asks, layouts};
 use jlr_machine::ask::{Answer, CallOutcome, FullMode, Outcome};
 use jlr_machine::items::Items;
@@ -8,7 +8,7 @@ use std::alloc::{AllocError, Global};
 
 /// `get 9 0; dup 0; new ri; poll 1; get 1 2; get 1 1; setint 1 0 5; find x; queue; remove 2; weak 0 2; weak 1 1; setint 1 1 -9223372036854775808; int 1 1`
 pub(crate) fn refused_row(alloc: Global) -> Result<Vec<Step<'static>>, AllocError> {
-    let name = text(b"x");
+    let name = named(b"x")?;
     Ok(vec![in alloc;
         plain(asks::join(0), Answer::Done),
         plain(asks::get(0, 9, 0), Answer::Refused(Refusal::NoHandle)),
@@ -48,7 +48,7 @@ pub(crate) fn wrong_moment_row(alloc: Global) -> Result<Vec<Step<'static>>, Allo
         plain(asks::drop_handle(0, 1), Answer::Refused(Refusal::NoSession)),
         plain(asks::join(0), Answer::Done),
         plain(
-            asks::check_in(0, CallOutcome::Wrote(1)),
+            asks::check_in(0, CallOutcome::Wrote(count(1))),
             Answer::Refused(Refusal::NotOut)
         ),
         making(asks::prepare(0), Answer::Prepared(Rid::new(0)), &[0, 1]),
@@ -191,15 +191,15 @@ pub(crate) fn soft_full_row(alloc: Global) -> Result<Vec<Step<'static>>, AllocEr
 
 /// `new -; bind b 1; bind a 1; bind b 1; names; drop 1; gc; find a; unbind b; names`
 pub(crate) fn names_row(alloc: Global) -> Result<Vec<Step<'static>>, AllocError> {
-    let name = text(b"b");
-    let name_2 = text(b"a");
-    let name_3 = text(b"b");
-    let name_4 = text(b"b");
-    let name_5 = text(b"a");
+    let name = named(b"b")?;
+    let name_2 = named(b"a")?;
+    let name_3 = named(b"b")?;
+    let name_4 = named(b"b")?;
+    let name_5 = named(b"a")?;
     let names_6 = Items::from_vec(vec![in alloc; name_4, name_5]?);
-    let name_7 = text(b"a");
-    let name_8 = text(b"b");
-    let name_9 = text(b"a");
+    let name_7 = named(b"a")?;
+    let name_8 = named(b"b")?;
+    let name_9 = named(b"a")?;
     let names_10 = Items::from_vec(vec![in alloc; name_9]?);
     Ok(vec![in alloc;
         plain(asks::join(0), Answer::Done),

@@ -3,8 +3,10 @@ ghost use Rattle.std.specs.Prelude.{◌≤◌, length};
 
 use jlr_machine::ask::{Answer, Ask, Stat};
 use jlr_machine::entry::{Chosen, Collected, Entry};
+use jlr_machine::fresh::FreshSlots;
 use jlr_machine::items::Items;
-use jlr_machine::text::Text;
+use jlr_machine::kept::KeptSlots;
+use jlr_machine::text::{Data, Name, WriteCount};
 use jlr_types::{ActionNo, Handle, Slot, Work};
 use std::alloc::{AllocError, Global};
 
@@ -63,7 +65,7 @@ impl Step<'_> {
     pub(crate) fn entry(&self, alloc: Global) -> Result<Entry, AllocError> {
         let collected = match &self.collected {
             Some((kept, pending)) => Some(Collected {
-                kept: slots(alloc, kept)?,
+                kept: KeptSlots::from_slice(alloc, slots(alloc, kept)?.as_slice())?,
                 pending: slots(alloc, pending)?,
             }),
             None => None,
@@ -74,7 +76,7 @@ impl Step<'_> {
             answer: self.answer.copy(alloc)?,
             choice: Chosen {
                 collected,
-                fresh: slots(alloc, self.fresh)?,
+                fresh: few(self.fresh),
             },
         })
     }
@@ -88,11 +90,34 @@ fn slots(alloc: Global, numbers: &[u32]) -> Result<Items<Slot>, AllocError> {
     Ok(slots)
 }
 
-/// A name, or data.
-pub(crate) fn text<const N: usize>(bytes: &[u8]) -> Text<N>
-    requires { length bytes.now ≤ N }
+/// The slots of new objects. An entry has room for two.
+fn few(numbers: &[u32]) -> FreshSlots {
+    let mut fresh = FreshSlots::new();
+    for &number in numbers {
+        if fresh.as_slice().len() < 2 {
+            fresh.push(Slot::new(number));
+        }
+    }
+    fresh
+}
+
+/// Data.
+pub(crate) fn text(bytes: &[u8]) -> Data
+    requires { length bytes.now ≤ 200 }
 {
-    Text::from_slice(bytes).unwrap()
+    Data::from_slice(bytes).unwrap()
+}
+
+/// How many bytes were written.
+pub(crate) fn count(number: u8) -> WriteCount
+    requires { number ≤ 200 }
+{
+    WriteCount::new(number).unwrap()
+}
+
+/// A name; an error where the bytes are none.
+pub(crate) fn named(bytes: &[u8]) -> Result<Name, AllocError> {
+    Name::from_slice(bytes).ok_or(AllocError)
 }
 
 pub(crate) fn handle(number: u8) -> Answer {

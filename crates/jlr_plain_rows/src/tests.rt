@@ -3,7 +3,7 @@ ghost use Rattle.std.specs.Prelude.{◌≤◌};
 ghost use Rattle.jlr_machine.specs.WellFormed.{IsWellFormed};
 
 use crate::play::{late_start, play, start, take};
-use crate::step::{Step, handle, making, plain, text};
+use crate::step::{Step, handle, making, named, plain};
 use crate::{asks, cleaning, cycles, references, refusals, wrong};
 use jlr_machine::ask::Answer;
 use jlr_types::{Layout, Refusal};
@@ -340,12 +340,12 @@ fn no_name_is_left(rt: HostRuntime) -> Result<(), Fail> {
         making(asks::new(0, Layout::new()), handle(1), &[0]),
     ]?;
     for number in 0u8..=255 {
-        let name = text(&[b'a' + number / 16, b'a' + number % 16]);
+        let name = named(&[b'a' + number / 16, b'a' + number % 16])?;
         row.push(plain(asks::bind(0, name, 1), Answer::Done))?;
     }
-    let new = text(b"z");
+    let new = named(b"z")?;
     row.push(plain(asks::bind(0, new, 1), Answer::Refused(Refusal::NamesFull)))?;
-    let old = text(b"pp");
+    let old = named(b"pp")?;
     row.push(plain(asks::bind(0, old, 1), Answer::Done))?;
     assert!(rt; is_usual_run(alloc, row)?);
     Ok(())

@@ -49,6 +49,10 @@ filter_short p from (suc n) = elim (p from) as (λ b. length (cond b (from ∷ f
 pub below_short : (p : ℕ → Bool) (n : ℕ) → length (filter p (up_to 0 n)) ≤ n
 below_short p n = filter_short p 0 n
 
+-- they are below n
+pub below_low : (p : ℕ → Bool) (n x : ℕ) → x ∈ filter p (up_to 0 n) → x < n
+below_low p n x h = let i = in_up_to 0 n x (in_filter p (up_to 0 n) x h).1 in omega (arith, i.1)
+
 same_bool : (a b : Bool) → (a ≡ true → b ≡ true) → (b ≡ true → a ≡ true) → a ≡ b
 same_bool true b h k = sym (h refl)
 same_bool false true h k = k refl

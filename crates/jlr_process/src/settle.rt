@@ -5,6 +5,7 @@ ghost use Rattle.jlr_machine.specs.Objects.{any_referent, as_cleanable, as_refer
 ghost use Rattle.jlr_cells.specs.Contents.{kind_of};
 ghost use Rattle.jlr_machine.specs.Collection.{is_ready};
 ghost use Rattle.jlr_machine.specs.Choices.{collecting, kept_by, pended_by};
+ghost use Rattle.jlr_machine.specs.SlotSets.{IsAboveAll};
 ghost use Rattle.jlr_marks.specs.Marking.{IsMarked};
 ghost use Rattle.jlr_process.specs.Settling.{newly_pending, is_losing, loses, only_if, settled_choice, settled_graph, with_settled};
 
@@ -89,7 +90,8 @@ pub(crate) fn settle(heap: &mut Heap, slot: Slot, choice: &mut Choice)
     requires object { IsMarked heap.old.marking slot → IsTrue (is_some (at heap.old.graph.objects slot)) }
     requires within { (x : ℕ) → option_and_then any_referent (at heap.old.graph.objects slot) ≡ Some x → x < length heap.old.graph.objects }
     requires pending { IsTrue (is_losing heap.old.marking heap.old.graph.objects slot) → length heap.old.graph.pending < length heap.old.graph.objects }
-    requires kept { length (kept_by choice.old) < choice.old.cells }
+    requires cell { slot < choice.old.cells }
+    requires above { IsAboveAll slot (kept_by choice.old) }
     requires pended { length (pended_by choice.old) < choice.old.cells }
     ensures graph { heap.new.graph ≡ settled_graph heap.old.marking heap.old.graph slot }
     ensures clock { heap.new.clock ≡ heap.old.clock }

@@ -8,7 +8,7 @@ use jlr_device::guarded::{guarded_connect, guarded_open, guarded_read, guarded_w
 use jlr_device::{Device, Mode, Resource};
 use jlr_event::event::Event;
 use jlr_machine::ask::CallOutcome;
-use jlr_machine::text::Data;
+use jlr_machine::text::{Data, WriteCount};
 use jlr_types::Mutator;
 
 /// The most bytes that one call reads.
@@ -86,7 +86,7 @@ fn write_of<R: Resource>(resource: &mut R, bytes: &[u8]) -> CallOutcome
         bytes.now resource.old result resource.new }
 {
     match guarded_write(resource, bytes) {
-        Ok(n) => CallOutcome::Wrote(n as u8),
+        Ok(n) => CallOutcome::Wrote(WriteCount::new(n as u8).unwrap()),
         Err(fault) => CallOutcome::Failed(fault),
     }
 }

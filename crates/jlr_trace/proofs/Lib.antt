@@ -7,3 +7,4 @@ pub mod FileLaws
 pub mod WritingLaws
 pub mod Shapes
 pub mod Counting
+pub mod Few

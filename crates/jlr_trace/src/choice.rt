@@ -1,23 +1,35 @@
 //! What was chosen in an entry. Only this file knows how kept, pending and fresh slots lie in memory.
-ghost use Rattle.std.specs.Prelude.{◌≡◌, ◌<◌, ◌++◌, OnOk, length};
+ghost use Rattle.std.specs.Prelude.{◌≡◌, ◌≤◌, ◌<◌, ◌++◌, OnOk, length};
 ghost use Rattle.jlr_fields.specs.Reading.{Reads};
-ghost use Rattle.jlr_trace.specs.Choices.{collected_read, collection_read, fresh_read, choice_read, flags_of as flags_of_choice, spelled_collection, CollectionCounts, spelled_fresh, spelled_choice, ChoiceCounts};
+ghost use Rattle.jlr_fields.specs.Items.{rising_at};
+ghost use Rattle.jlr_parts.specs.Records.{slot_after};
+ghost use Rattle.jlr_trace.specs.Choices.{itself, collected_read, collection_read, fresh_read, choice_read, flags_of as flags_of_choice, spelled_collection, CollectionCounts, spelled_fresh, spelled_choice, ChoiceCounts};
 
 use jlr_fields::cursor::take_within;
 use jlr_fields::fault::ReadError;
 use jlr_fields::number::put_u8;
 use jlr_machine::entry::{Chosen, Collected};
+use jlr_machine::fresh::FreshSlots;
 use jlr_machine::items::Items;
+use jlr_machine::kept::KeptSlots;
 use jlr_parts::items::{put_each, put_list, take_items, take_list};
 use jlr_parts::rising::take_rising;
 use jlr_types::Slot;
 use std::alloc::{AllocError, Global};
 
+/// What a collection kept.
+fn kept_at(alloc: Global, bytes: &mut &[u8]) -> Result<KeptSlots, ReadError>
+    ensures { Reads (λ x. x) result bytes.new.now (rising_at 4 slot_after itself bytes.old.now) }
+{
+    let kept: Items<Slot> = take_rising(alloc, bytes)?;
+    Ok(KeptSlots::from_slice(alloc, kept.as_slice())?)
+}
+
 #[tactic(auto, unfolding(crate::specs::Choices::collected_read))]
 fn collected_at(alloc: Global, bytes: &mut &[u8]) -> Result<Collected, ReadError>
     ensures { Reads (λ x. x) result bytes.new.now (collected_read bytes.old.now) }
 {
-    let kept = take_rising(alloc, bytes)?;
+    let kept = kept_at(alloc, bytes)?;
     let pending = take_list(alloc, bytes)?;
     Ok(Collected { kept, pending })
 }
@@ -38,15 +50,23 @@ fn collection_at(
 }
 
 /// The slots of new objects, where there are any.
-fn fresh_at(alloc: Global, were_made: bool, bytes: &mut &[u8]) -> Result<Items<Slot>, ReadError>
+fn fresh_at(alloc: Global, were_made: bool, bytes: &mut &[u8]) -> Result<FreshSlots, ReadError>
     ensures { Reads (λ x. x) result bytes.new.now (fresh_read were_made bytes.old.now) }
 {
     if !were_made {
-        return Ok(Items::new(alloc));
+        return Ok(FreshSlots::new());
     }
     let count = take_within(1, 2, bytes)?;
     let slots = take_items(alloc, count as u32, bytes)?;
-    Ok(Items::from_vec(slots))
+    Ok(few(slots.as_slice()))
+}
+
+/// These slots, which are at most two.
+fn few(slots: &[Slot]) -> FreshSlots
+    requires { length slots.now ≤ 2 }
+    ensures { result ≡ slots.now }
+{
+    FreshSlots::from_slice(slots).unwrap()
 }
 
 /// What was chosen.
@@ -78,7 +98,8 @@ fn put_collection(out: &mut Vec<u8>, collected: &Option<Collected>) -> Result<()
     match collected {
         None => Ok(()),
         Some(collected) => {
-            put_list(out, collected.kept.as_slice())?;
+            let kept = collected.kept.to_vec(*out.allocator())?;
+            put_list(out, kept.as_slice())?;
             put_list(out, collected.pending.as_slice())
         }
     }

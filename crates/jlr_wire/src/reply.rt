@@ -170,7 +170,7 @@ fn write_words<W: Write>(answer: &Answer, writer: &mut W) -> Result<(), WriteFau
         Answer::Truth(false) => send(b"no", writer),
         Answer::Int(n) => send_after("int ", *n, writer),
         Answer::Data(bytes) => send_data(bytes.as_slice(), writer),
-        Answer::Wrote(count) => send_after("wrote ", *count, writer),
+        Answer::Wrote(count) => send_after("wrote ", count.number(), writer),
         Answer::Faulted(fault) => send_both("fault ", fault_name(*fault), writer),
         Answer::Names(names) => send_names(names.as_slice(), writer),
         Answer::Notes(notes) => send_list("list", notes.as_slice(), writer),

@@ -29,17 +29,7 @@ pub fn mode(text: &[u8]) -> Option<Mode>
 pub fn name(text: &[u8]) -> Option<Name>
     ensures { result ≡ name_of text.now }
 {
-    if text.is_empty() || !has_name_bytes(text) {
-        return None;
-    }
     Name::from_slice(text)
-}
-
-/// Whether each byte may stand in a name.
-fn has_name_bytes(text: &[u8]) -> bool
-    ensures { result ≡ list_all is_name_byte text.now }
-{
-    text.iter().all(|byte| byte.is_ascii_lowercase() || byte.is_ascii_digit() || *byte == b'_')
 }
 
 /// The 1 to 200 bytes that these hexadecimal digits spell.

@@ -46,7 +46,7 @@ fn answered(answer: &Answer, resource: Option<u32>) -> Got {
         Answer::Int(number) => Got::Int(*number),
         Answer::Stat(stat) => Got::Stat(*stat),
         Answer::Faulted(fault) => Got::Faulted(*fault),
-        Answer::Wrote(count) => Got::Wrote(*count),
+        Answer::Wrote(count) => Got::Wrote(count.number()),
         Answer::AlreadyDone => Got::AlreadyDone,
         Answer::Prepared(_) => Got::Prepared,
         Answer::Refused(refusal) => match resource {

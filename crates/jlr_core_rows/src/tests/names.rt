@@ -46,7 +46,7 @@ fn lists_of_names(rt: HostRuntime) -> Result<(), Fail> {
 fn there_are_at_most_256_names(rt: HostRuntime) -> Result<(), Fail> {
     let mut events = vec![in rt.alloc(); join(), bare()]?;
     for number in 0u16..256 {
-        let text = [(number >> 8) as u8 + b'a', number as u8];
+        let text = [b'a' + (number / 16) as u8, b'a' + (number % 16) as u8];
         let name = Name::from_slice(&text).ok_or("name")?;
         events.push(Event::Bind {
             mutator: me(),

@@ -306,7 +306,7 @@ fn of_another(words: &mut SplitWhitespace<'_>) -> Option<Event<u32>> {
         },
         "check_in" => Event::CheckIn {
             mutator,
-            outcome: CallOutcome::Wrote(byte(words)?),
+            outcome: CallOutcome::Wrote(WriteCount::new(byte(words)?)?),
             resource: u32::from(byte(words)?),
         },
         _ => return None,

@@ -15,7 +15,7 @@ const FILE: &str = "
     00 01 00 00 00
 ";
 
-// `byte 5 2` is the file with 2 in its fifth byte, `behind 0` the file with a byte more, `front 20` its first twenty bytes.
+// `byte 5 2` is the file with 2 in its fifth byte, `behind 0` the file with a byte more, `front 20` its first twenty bytes; `bytes` tells all of them.
 const ROWS: &str = "
     front 103 -> 2 entries behind 0
     byte 20 7 -> 2 entries behind 7
@@ -39,6 +39,8 @@ const ROWS: &str = "
     behind 0 -> BadEntry(3)
     behind 255 -> BadEntry(3)
     front 0 -> Truncated
+    bytes 4a4c -> Truncated
+    bytes 4a58 -> BadMark
     front 4 -> Truncated
     front 102 -> Truncated
 ";
@@ -80,6 +82,7 @@ fn changed(alloc: Global, change: &str) -> Result<Vec<u8>, Fail> {
     let mut words = change.split_whitespace();
     match words.next() {
         Some("front") => bytes.truncate(parsed(&mut words).ok_or("no length")?),
+        Some("bytes") => return decoded(alloc, words.next().ok_or("no bytes")?),
         Some("behind") => bytes.push(parsed(&mut words).ok_or("no byte")?)?,
         _ => {
             let place: usize = parsed(&mut words).ok_or("no place")?;

@@ -2,7 +2,7 @@
 use jlr_machine::ask::{Answer, Handed, Stat};
 use jlr_machine::items::Items;
 use jlr_machine::machine::Failure;
-use jlr_machine::text::{Data, Name};
+use jlr_machine::text::{Data, Name, WriteCount};
 use jlr_types::{ActionNo, Fault, Handle, Refusal, Rid, Work};
 use std::alloc::Global;
 use std::str::{FromStr, SplitWhitespace};
@@ -26,7 +26,7 @@ fn read(alloc: Global, sort: &str, words: &mut SplitWhitespace<'_>) -> Option<An
         "int" => Some(Answer::Int(parsed(words)?)),
         "refused" => Some(Answer::Refused(refusal(words.next()?)?)),
         "faulted" => Some(Answer::Faulted(fault(words.next()?)?)),
-        "wrote" => Some(Answer::Wrote(parsed(words)?)),
+        "wrote" => Some(Answer::Wrote(WriteCount::new(parsed(words)?)?)),
         "stat" => counts(words),
         "data" => data(alloc, words),
         _ => list(alloc, sort, words),

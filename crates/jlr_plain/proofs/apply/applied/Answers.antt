@@ -17,7 +17,7 @@ pub seen_plain-requires : goal.seen_plain-requires
 seen_plain-requires c =
     let m = c.args.machine.now in
     let e = c.args.entry.now in
-    let d = done_of m c.in_ok-collected.collected c.in_ok-next.next e c.as_slice.result.now c.in_ok-next.ensures c.in_ok-collected.ensures c.as_slice.ensures in
+    let d = done_of m c.in_ok-collected.collected c.in_ok-next.next e c.as_slice.result.now c.in_ok-next.ensures c.in_ok-collected.ensures c.as_slice.ensures.slots in
     record {
       cells = done_small m c.in_ok-next.next e d c.requires.formed c.requires.legal;
       within = done_within m c.in_ok-next.next e d c.requires.formed c.requires.legal;
@@ -27,5 +27,5 @@ pub returns : goal.returns
 returns c =
     let m = c.args.machine.now in
     let e = c.args.entry.now in
-    let d = done_of m c.in_ok-collected.collected c.in_ok-next.next e c.as_slice.result.now c.in_ok-next.ensures c.in_ok-collected.ensures c.as_slice.ensures in
+    let d = done_of m c.in_ok-collected.collected c.in_ok-next.next e c.as_slice.result.now c.in_ok-next.ensures c.in_ok-collected.ensures c.as_slice.ensures.slots in
     applied_is m c.in_ok-next.next e c.from_vec.result d (c.from_vec.ensures ∙ c.in_ok-seen.ensures)

@@ -2,13 +2,13 @@ use Rattle.std.proofs.Common.{◌≡◌, ℕ, ◌+◌, ◌<◌, ◌++◌, ◌∷
 use Rattle.std.proofs.lemmas.Bool.{cases_eq}
 use Rattle.std.proofs.lemmas.List.{length-set}
 use Rattle.jlr_machine.specs.declared.machine.Machine.{Machine}
-use Rattle.jlr_machine.specs.Objects.{any_referent, at, Heap, occupied}
+use Rattle.jlr_machine.specs.Objects.{any_referent, at, Heap, occupied, ◌∈◌}
 use Rattle.jlr_machine.specs.Choices.{Choosing, collecting, kept_by, pended_by}
 use Rattle.jlr_laws.proofs.Frames.{set_same, set_other}
 use Rattle.jlr_barrier.specs.Graphs.{Graph, in_machine}
 use Rattle.jlr_marks.specs.Marking.{Marking, is_marked}
 use Rattle.jlr_process.specs.Settling.{newly_pending, is_losing, marked_below, only_if, settled, settled_choice, settled_graph}
-use Rattle.jlr_process.proofs.Whole.{lost_below, all_settled, below_short, filter_more, kept_counted, losing_alike, as_parts, choice_more, unmarked_loses_not}
+use Rattle.jlr_process.proofs.Whole.{lost_below, all_settled, below_low, below_short, filter_more, kept_counted, losing_alike, as_parts, choice_more, unmarked_loses_not}
 use Rattle.jlr_process.proofs.Gone.{collection, referent_within, room_for_one, whole}
 use Rattle.jlr_process.proofs.collection.flip.Goals as goal
 
@@ -36,12 +36,15 @@ settle-requires-clause-pending c =
     let room = room_for_one (in_machine c.requires.fit.0 c.args.heap.now.graph) m (whole c.requires.fit.0 c.args.heap.now c.requires.fit.1 (c.has_grey.ensures.whole c.requires.no_grey)) n inside losing in
     omega (arith, room, ap length i.pending, i.long)
 
-pub settle-requires-clause-kept : goal.settle-requires-clause-kept
-settle-requires-clause-kept c =
-    let i = c.loop-number.invariant in
-    let kept : kept_by c.loop-number.choice ≡ marked_below c.args.heap.now.marking c.loop-number.number = ap kept_by i.choice in
-    let cells : c.loop-number.choice.cells ≡ c.args.choice.now.cells = ap (λ (x : Choosing). x.cells) i.choice in
-    omega (arith, ap length kept, cells, below_short (is_marked c.args.heap.now.marking) c.loop-number.number, c.loop-number-test.true, c.cell_count-number-end.ensures.count, c.requires.room)
+pub settle-requires-clause-cell : goal.settle-requires-clause-cell
+settle-requires-clause-cell c =
+    let cells : c.loop-number.choice.cells ≡ c.args.choice.now.cells = ap (λ (x : Choosing). x.cells) c.loop-number.invariant.choice in
+    omega (arith, cells, c.new.ensures, c.loop-number-test.true, c.cell_count-number-end.ensures.count, c.requires.room)
+
+pub settle-requires-clause-above : goal.settle-requires-clause-above
+settle-requires-clause-above c = λ s h.
+    let kept : kept_by c.loop-number.choice ≡ marked_below c.args.heap.now.marking c.loop-number.number = ap kept_by c.loop-number.invariant.choice in
+    omega (arith, c.new.ensures, below_low (is_marked c.args.heap.now.marking) c.loop-number.number s (subst (λ l. s ∈ l) kept h))
 
 pub settle-requires-clause-pended : goal.settle-requires-clause-pended
 settle-requires-clause-pended c =

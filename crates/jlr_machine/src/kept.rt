@@ -1,0 +1,139 @@
+//! What a collection kept.
+ghost use Rattle.std.specs.Prelude.{◌≡◌, ◌≤◌, ◌++◌, [], IfOk, take, length};
+ghost use Rattle.jlr_machine.specs.SlotSets.{slots_of, NoneFrom};
+
+use crate::copy::copy_slice;
+use crate::slots::SlotSet;
+use jlr_types::Slot;
+use std::alloc::{AllocError, Global};
+use std::marker::Model;
+
+/// A set of slots, and behind it those that it has no place for, as a list.
+#[derive(Drop)]
+pub(crate) struct Parts {
+    pub(crate) set: SlotSet,
+    pub(crate) strays: Vec<Slot>,
+}
+
+impl Parts {
+    /// No slot, with a place in the set for each cell.
+    ///
+    /// # Errors
+    /// `AllocError` where the room cannot be had.
+    pub(crate) fn with_cells(alloc: Global, cells: u32) -> Result<Box<Parts>, AllocError>
+        ensures none { IfOk result (λ parts. NoneFrom parts.value.set 0) }
+        ensures no_strays { IfOk result (λ parts. parts.value.strays.items ≡ []) }
+        ensures room { IfOk result (λ parts. cells ≤ length parts.value.set) }
+    {
+        let parts = Parts {
+            set: SlotSet::with_cells(alloc, cells)?,
+            strays: Vec::new(alloc),
+        };
+        Ok(Box::new(alloc, parts)?)
+    }
+}
+
+/// The slots that a collection kept, as a list. A list that rises, and of which bits take no more memory, lies here as a bit for each
+/// slot up to its last. Any other list can lie here too: an entry that was read may name any slots.
+#[derive(Drop)]
+pub struct KeptSlots {
+    parts: Box<Parts>,
+}
+
+impl Model for KeptSlots {
+    ghost use Rattle.std.specs.Prelude.{ℕ, List, ◌++◌};
+    ghost use Rattle.jlr_machine.specs.SlotSets.{slots_of};
+
+    ghost Value = { List ℕ };
+
+    ghost view = { λ k. slots_of k.parts.value.set ++ k.parts.value.strays.items };
+}
+
+impl KeptSlots {
+    /// The list of these slots.
+    ///
+    /// # Errors
+    /// `AllocError` where there is no memory.
+    pub fn from_slice(alloc: Global, slots: &[Slot]) -> Result<Self, AllocError>
+        ensures { IfOk result (λ k. k ≡ slots.now) }
+    {
+        let mut set = SlotSet::with_cells(alloc, cells_for(slots))?;
+        let count = fill(&mut set, slots);
+        let strays = copy_slice(alloc, &slots[count..])?;
+        let parts = Box::new(alloc, Parts { set, strays })?;
+        Ok(KeptSlots { parts })
+    }
+
+    /// What lies in these parts, in no more memory than it needs.
+    pub(crate) fn cut(parts: Box<Parts>) -> Self
+        ensures { result ≡ slots_of parts.value.set ++ parts.value.strays.items }
+    {
+        let mut parts = parts;
+        parts.set.trim();
+        KeptSlots { parts }
+    }
+
+    /// How many slots there are.
+    pub fn len(&self) -> usize
+        ensures { result ≡ length self.now }
+    {
+        self.parts.set.count() + self.parts.strays.len()
+    }
+
+    /// The slots, in order.
+    ///
+    /// # Errors
+    /// `AllocError` where there is no memory.
+    pub fn to_vec(&self, alloc: Global) -> Result<Vec<Slot>, AllocError>
+        ensures { IfOk result (λ slots. slots.items ≡ self.now) }
+    {
+        let mut slots = self.parts.set.to_vec(alloc)?;
+        slots.extend_from_slice(self.parts.strays.as_slice())?;
+        Ok(slots)
+    }
+
+    /// The same list.
+    ///
+    /// # Errors
+    /// `AllocError` where there is no memory.
+    pub fn copy(&self, alloc: Global) -> Result<Self, AllocError>
+        ensures { IfOk result (λ copy. copy ≡ self.now) }
+    {
+        let set = self.parts.set.copy(alloc)?;
+        let strays = copy_slice(alloc, self.parts.strays.as_slice())?;
+        let parts = Box::new(alloc, Parts { set, strays })?;
+        Ok(KeptSlots { parts })
+    }
+}
+
+/// For how many cells a set has to have places, so that its words take no more memory than the list: up to the last slot, or none.
+fn cells_for(slots: &[Slot]) -> u32 {
+    let Some(last) = slots.last() else {
+        return 0;
+    };
+    let words = last.number() as usize / 64 + 1;
+    if words * 2 > slots.len() {
+        return 0;
+    }
+    last.number().saturating_add(1)
+}
+
+/// Puts the slots into the empty set, as long as they rise and have places. Says how many.
+fn fill(set: &mut SlotSet, slots: &[Slot]) -> usize
+    requires { NoneFrom set.old 0 }
+    ensures within { result ≤ length slots.now }
+    ensures slots { slots_of set.new ≡ take result slots.now }
+{
+    let mut from = 0;
+    let mut count = 0;
+    for slot in slots {
+        let number = slot.number();
+        if (number as usize) < from || !set.has_place(number) {
+            return count;
+        }
+        set.insert(number);
+        from = number as usize + 1;
+        count += 1;
+    }
+    count
+}

@@ -1,0 +1,280 @@
+//! Asks, answers, choices and entries.
+ghost use Rattle.std.specs.Prelude.{◌<◌, ◌≤◌, length};
+ghost use Rattle.jlr_fields.specs.Spelling.{IsBytes, IsText};
+ghost use Rattle.jlr_asks.specs.Asks.{AskFits, CallOutcomeFits};
+ghost use Rattle.jlr_answers.specs.Answers.{StatFits};
+ghost use Rattle.jlr_ranges.specs.Ranges.{AnswerRange, ChoiceRange, CollectedRange};
+
+use crate::list::{Ranged, all_in_range};
+use crate::object::work_in_range;
+use jlr_machine::ask::{Answer, Ask, CallOutcome, Stat};
+use jlr_machine::entry::{Chosen, Collected, Entry};
+use jlr_machine::text::Data;
+use jlr_types::{Handle, Layout, Mutator};
+
+// ---- Asks
+
+fn mutator_in_range(mutator: Mutator)
+    ensures { mutator < 256 }
+{
+    let _mutator = mutator.number();
+}
+
+fn handle_in_range(handle: Handle)
+    ensures { handle < 256 }
+{
+    let _handle = handle.number();
+}
+
+/// An ask on an object.
+fn on_object(mutator: Mutator, object: Handle)
+    ensures mutator { mutator < 256 }
+    ensures object { object < 256 }
+{
+    mutator_in_range(mutator);
+    handle_in_range(object);
+}
+
+/// An ask on two objects.
+fn on_two(mutator: Mutator, left: Handle, right: Handle)
+    ensures mutator { mutator < 256 }
+    ensures left { left < 256 }
+    ensures right { right < 256 }
+{
+    on_object(mutator, left);
+    handle_in_range(right);
+}
+
+fn bytes_in_range(bytes: &[u8])
+    ensures { IsBytes bytes.now }
+{}
+
+fn data_in_range(text: &Data)
+    ensures { IsText 0 200 text.now }
+{
+    bytes_in_range(text.as_slice());
+}
+
+fn call_outcome_in_range(outcome: &CallOutcome)
+    ensures { CallOutcomeFits outcome.now }
+{
+    match outcome {
+        CallOutcome::Data(data) => data_in_range(data),
+        CallOutcome::Wrote(count) => {
+            let _count = count.number();
+        }
+        CallOutcome::Failed(_) => {}
+    }
+}
+
+fn new_in_range(mutator: Mutator, layout: &Layout)
+    ensures mutator { mutator < 256 }
+    ensures layout { length layout.now ≤ 8 }
+{
+    mutator_in_range(mutator);
+    let _len = layout.len();
+}
+
+fn ask_in_range(ask: &Ask)
+    ensures { AskFits ask.now }
+{
+    match ask {
+        Ask::Join { mutator } => mutator_in_range(*mutator),
+        Ask::Leave { mutator } => mutator_in_range(*mutator),
+        Ask::New { mutator, layout } => new_in_range(*mutator, layout),
+        Ask::Put {
+            mutator,
+            object,
+            field,
+            value,
+        } => {
+            on_two(*mutator, *object, *value);
+            let _field = *field;
+        }
+        Ask::Get {
+            mutator,
+            object,
+            field,
+        } => {
+            on_object(*mutator, *object);
+            let _field = *field;
+        }
+        Ask::SetInt {
+            mutator,
+            object,
+            field,
+            value,
+        } => {
+            on_object(*mutator, *object);
+            let _field = *field;
+            let _value = *value;
+        }
+        Ask::Int {
+            mutator,
+            object,
+            field,
+        } => {
+            on_object(*mutator, *object);
+            let _field = *field;
+        }
+        Ask::Dup { mutator, object } => on_object(*mutator, *object),
+        Ask::Drop { mutator, object } => on_object(*mutator, *object),
+        Ask::Same {
+            mutator,
+            left,
+            right,
+        } => on_two(*mutator, *left, *right),
+        Ask::MakeRef {
+            mutator,
+            kind: _,
+            referent,
+            queue,
+        } => on_two(*mutator, *referent, *queue),
+        Ask::Deref { mutator, reference } => on_object(*mutator, *reference),
+        Ask::Refers {
+            mutator,
+            reference,
+            object,
+        } => on_two(*mutator, *reference, *object),
+        Ask::Clear { mutator, reference } => on_object(*mutator, *reference),
+        Ask::Enqueue { mutator, reference } => on_object(*mutator, *reference),
+        Ask::Enqueued { mutator, reference } => on_object(*mutator, *reference),
+        Ask::MakeQueue { mutator } => mutator_in_range(*mutator),
+        Ask::Poll { mutator, queue } => on_object(*mutator, *queue),
+        Ask::Remove { mutator, queue } => on_object(*mutator, *queue),
+        Ask::MakeCleaner { mutator } => mutator_in_range(*mutator),
+        Ask::Register {
+            mutator,
+            cleaner,
+            object,
+            note,
+        } => {
+            on_two(*mutator, *cleaner, *object);
+            let _note = *note;
+        }
+        Ask::Clean { mutator, cleanable } => on_object(*mutator, *cleanable),
+        Ask::Prepare { mutator } => mutator_in_range(*mutator),
+        Ask::Opened {
+            mutator,
+            outcome: _,
+        } => mutator_in_range(*mutator),
+        Ask::CheckOut { mutator, guard } => on_object(*mutator, *guard),
+        Ask::CheckIn { mutator, outcome } => {
+            mutator_in_range(*mutator);
+            call_outcome_in_range(outcome);
+        }
+        Ask::Close { mutator, guard } => on_object(*mutator, *guard),
+        Ask::Finish {
+            by,
+            action,
+            outcome: _,
+        } => {
+            let _by = *by;
+            let _action = action.number();
+        }
+        Ask::Bind {
+            mutator,
+            name,
+            object,
+        } => {
+            on_object(*mutator, *object);
+            name.in_range();
+        }
+        Ask::Find { mutator, name } => {
+            mutator_in_range(*mutator);
+            name.in_range();
+        }
+        Ask::Unbind { mutator, name } => {
+            mutator_in_range(*mutator);
+            name.in_range();
+        }
+        Ask::Names { mutator } => mutator_in_range(*mutator),
+        Ask::Full { mutator, mode: _ } => mutator_in_range(*mutator),
+        Ask::Stat { mutator } => mutator_in_range(*mutator),
+        Ask::Notes { mutator } => mutator_in_range(*mutator),
+        Ask::Faults { mutator } => mutator_in_range(*mutator),
+        Ask::HandOver => {}
+        Ask::TakeUp => {}
+        Ask::Begin => {}
+        Ask::Collect => {}
+        Ask::Abandon => {}
+    }
+}
+
+// ---- Answers
+
+fn stat_in_range(stat: &Stat)
+    ensures { StatFits stat.now }
+{
+    let _objects = stat.objects;
+    let _resources = stat.resources;
+    let _taken = stat.taken;
+    let _ok = stat.ok;
+    let _failed = stat.failed;
+}
+
+fn answer_in_range(answer: &Answer)
+    ensures { AnswerRange answer.now }
+{
+    match answer {
+        Answer::Done => {}
+        Answer::Handle(handle) => handle_in_range(*handle),
+        Answer::Truth(_) => {}
+        Answer::Int(number) => {
+            let _number = *number;
+        }
+        Answer::Data(data) => data_in_range(data),
+        Answer::Wrote(count) => {
+            let _count = count.number();
+        }
+        Answer::Faulted(_) => {}
+        Answer::Names(names) => all_in_range(names.as_slice()),
+        Answer::Notes(notes) => all_in_range(notes.as_slice()),
+        Answer::Faults(failures) => all_in_range(failures.as_slice()),
+        Answer::Stat(stat) => stat_in_range(stat),
+        Answer::Job { action, work } => {
+            let _action = action.number();
+            work_in_range(*work);
+        }
+        Answer::AlreadyDone => {}
+        Answer::Prepared(rid) => {
+            let _rid = rid.number();
+        }
+        Answer::Out(rid) => {
+            let _rid = rid.number();
+        }
+        Answer::Handed(_) => {}
+        Answer::Refused(_) => {}
+    }
+}
+
+// ---- Choices
+
+fn collected_in_range(collected: &Option<Collected>)
+    ensures { CollectedRange collected.now }
+{
+    if let Some(collected) = collected {
+        all_in_range(collected.kept.as_slice());
+        all_in_range(collected.pending.as_slice());
+    }
+}
+
+fn choice_in_range(choice: &Chosen)
+    ensures { ChoiceRange choice.now }
+{
+    collected_in_range(&choice.collected);
+    all_in_range(choice.fresh.as_slice());
+}
+
+impl Ranged for Entry {
+    ghost use Rattle.jlr_ranges.specs.Ranges.{EntryRange};
+
+    ghost Range = { EntryRange };
+
+    fn in_range(&self) {
+        let _seat = self.seat;
+        ask_in_range(&self.ask);
+        answer_in_range(&self.answer);
+        choice_in_range(&self.choice);
+    }
+}
