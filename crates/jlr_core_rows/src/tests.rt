@@ -28,7 +28,7 @@ mod script;
 mod soft_references;
 
 use answers::{Got, seen};
-use script::{count_all, events_of, is_row, parsed, play_all, played, titled};
+use script::{count_all, events_of, expect, is_row, parsed, play_all, played, titled};
 
 // A heap with 16 cells and one session, that keeps soft references for so many collections.
 fn limits(soft_age: u32) -> Result<Limits, Fail> {

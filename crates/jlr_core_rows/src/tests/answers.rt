@@ -1,10 +1,10 @@
 //! Answers, as far as the rows look at them, and as words.
 use super::script::fault_of;
 use super::*;
-use std::str::SplitWhitespace;
+use std::str::{FromStr, SplitWhitespace};
 
 // An answer, as far as these tests look at it.
-#[derive(Clone, Copy, PartialEq, Eq, Debug)]
+#[derive(Clone, Copy, PartialEq, Eq)]
 pub(super) enum Got {
     Done,
     Handle(u8),
@@ -86,21 +86,42 @@ fn listed(answer: &Answer) -> Got {
 // The answer that these words stand for.
 pub(super) fn answer_of(text: &str) -> Option<Got> {
     let mut words = text.split_whitespace();
-    match words.next()? {
-        "handle" => Some(Got::Handle(words.next()?.parse().ok()?)),
-        "int" => Some(Got::Int(words.next()?.parse().ok()?)),
-        "wrote" => Some(Got::Wrote(words.next()?.parse().ok()?)),
-        "out" => Some(Got::Out(words.next()?.parse().ok()?)),
-        "marked" => Some(Got::Marked(progress_of(words.next()?)?)),
-        "fault" => Some(Got::Faulted(fault_of(words.next()?)?)),
-        "stat" => stat_of(&mut words),
-        "refused" => refused(&mut words),
-        "job" => job_of(&mut words),
-        "notes" => notes_of(&mut words),
-        "faults" => faults_of(&mut words),
-        "names" => names_of(&mut words),
+    let name = words.next()?;
+    numbered(name, &mut words)
+}
+
+// An answer with a number, or another.
+fn numbered(name: &str, words: &mut SplitWhitespace<'_>) -> Option<Got> {
+    match name {
+        "handle" => number_of(words).map(Got::Handle),
+        "int" => number_of(words).map(Got::Int),
+        "wrote" => number_of(words).map(Got::Wrote),
+        "out" => number_of(words).map(Got::Out),
+        "marked" => progress_of(words.next()?).map(Got::Marked),
+        "fault" => fault_of(words.next()?).map(Got::Faulted),
+        "stat" => stat_of(words),
+        "refused" => refused(words),
+        "job" => job_of(words),
+        _ => listing(name, words),
+    }
+}
+
+// An answer that is a list, or one of a single word.
+fn listing(name: &str, words: &mut SplitWhitespace<'_>) -> Option<Got> {
+    match name {
+        "notes" => notes_of(words),
+        "faults" => faults_of(words),
+        "names" => names_of(words),
         word => plain(word),
     }
+}
+
+// The next word as a number.
+fn number_of<T: FromStr>(words: &mut SplitWhitespace<'_>) -> Option<T>
+where
+    T::Err: Drop,
+{
+    words.next()?.parse().ok()
 }
 
 fn plain(word: &str) -> Option<Got> {

@@ -2,6 +2,7 @@
 ghost use Rattle.std.specs.Prelude.{IfOk, length, ◌≤◌};
 
 use super::*;
+use std::alloc::AllocError;
 
 // A core whose first action number is this one, and a choice that has room for all its cells.
 fn starting_at(alloc: Global, next_action: u64) -> Result<(Core<u32>, Choice), Fail>
@@ -201,31 +202,46 @@ fn lists_of_cleaning(rt: HostRuntime) -> Result<(), Fail> {
     play_all(rt.alloc(), LISTS)
 }
 
-#[test]
-fn the_last_256_notes_are_kept(rt: HostRuntime) -> Result<(), Fail> {
-    let mut events = vec![in rt.alloc(); join(), cleaner()]?;
+// The asks by which an action with this note is registered and carried out, and its cleanable let go.
+fn push_noted(events: &mut Vec<Event<u32>>, note: u32) -> Result<(), AllocError> {
+    events.push(register(1, 1, note))?;
+    events.push(clean(2))?;
+    events.push(finish(0, u64::from(note) + 1, Ok(())))?;
+    events.push(drop_handle(2))?;
+    Ok(())
+}
+
+// The asks that record the notes from 0 to 256, and ask for them.
+fn notes_asked(alloc: Global) -> Result<Vec<Event<u32>>, AllocError> {
+    let mut events = Vec::new(alloc);
+    events.push(join())?;
+    events.push(cleaner())?;
     for note in 0u32..257 {
-        events.push(register(1, 1, note))?;
-        events.push(clean(2))?;
-        events.push(finish(0, u64::from(note) + 1, Ok(())))?;
-        events.push(drop_handle(2))?;
+        push_noted(&mut events, note)?;
     }
     events.push(notes())?;
-    let replies = replies(rt.alloc(), limits(0)?, events)?;
-    match replies.last() {
-        Some(
-            Reply::Answered {
-                answer: Answer::Notes(notes),
-                ..
-            },
-        ) => {
-            assert_eq!(rt; notes.len(), 256);
-            assert_eq!(rt; notes.as_slice().first().copied(), Some(1));
-            assert_eq!(rt; notes.as_slice().last().copied(), Some(256));
-        }
-        _ => return Err(Fail::from("no notes")),
+    Ok(events)
+}
+
+// The first note that is told, behind how many there are and the last one.
+fn first_noted(reply: &Reply<u32>) -> Option<u32> {
+    match reply {
+        Reply::Answered {
+            answer: Answer::Notes(notes),
+            ..
+        } => notes.as_slice().first().copied(),
+        _ => None,
     }
-    Ok(())
+}
+
+#[test]
+fn the_last_256_notes_are_kept(rt: HostRuntime) -> Result<(), Fail> {
+    let replies = replies(rt.alloc(), limits(0)?, notes_asked(rt.alloc())?)?;
+    let told = replies.last().ok_or("no notes")?;
+    if seen(told) == Got::Notes(256, Some(256)) && first_noted(told) == Some(1) {
+        return Ok(());
+    }
+    Err(Fail::from("other notes"))
 }
 
 // Each row tells whether the core rests after the ask. It does not while something is pending or in the line.
@@ -245,12 +261,11 @@ fn a_core_rests_until_there_is_something_to_hand_over_or_to_clean(
         finish 255 1 ok -> yes
     ";
     let (mut core, mut choice) = starting_at(rt.alloc(), 1)?;
-    assert!(rt; core.pending_empty() && core.line_empty());
     for row in rows.lines() {
         if is_row(row) {
             let (event, wanted) = parsed(row).ok_or("no row")?;
             let rests = rests_after(&mut core, &mut choice, event);
-            assert_eq!(rt; Got::Truth(rests), wanted, "{row}");
+            expect("rest", row, Got::Truth(rests), wanted)?;
         }
     }
     Ok(())
@@ -281,7 +296,7 @@ fn action_numbers_end(rt: HostRuntime) -> Result<(), Fail> {
         for row in rows.lines() {
             if is_row(row) {
                 let (event, wanted) = parsed(row).ok_or("no row")?;
-                assert_eq!(rt; ask(&mut core, &mut choice, event), wanted, "{name}: {row}");
+                expect(name, row, ask(&mut core, &mut choice, event), wanted)?;
             }
         }
     }

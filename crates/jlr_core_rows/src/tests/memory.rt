@@ -173,7 +173,7 @@ fn a_refused_growth_changes_nothing(rt: HostRuntime) -> Result<(), Fail> {
         for row in rows.lines() {
             if is_row(row) {
                 let (got, wanted) = asked_again(&mut core, &mut choice, row)?;
-                assert_eq!(rt; got, wanted, "{name}: {row}");
+                expect(name, row, got, wanted)?;
             }
         }
     }

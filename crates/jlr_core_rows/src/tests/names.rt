@@ -1,5 +1,6 @@
 //! Names, and the front of a queue that is waited for.
 use super::*;
+use std::alloc::AllocError;
 
 const LISTS: &str = "
 == names keep their places and their objects
@@ -42,32 +43,46 @@ fn lists_of_names(rt: HostRuntime) -> Result<(), Fail> {
     play_all(rt.alloc(), LISTS)
 }
 
-#[test]
-fn there_are_at_most_256_names(rt: HostRuntime) -> Result<(), Fail> {
-    let mut events = vec![in rt.alloc(); join(), bare()]?;
+// The asks that give an object 256 names, then one more, and then one that it has.
+fn names_asked(alloc: Global) -> Result<Vec<Event<u32>>, AllocError> {
+    let mut events = Vec::new(alloc);
+    events.push(join())?;
+    events.push(bare())?;
     for number in 0u16..256 {
-        let text = [b'a' + (number / 16) as u8, b'a' + (number % 16) as u8];
-        let name = Name::from_slice(&text).ok_or("name")?;
-        events.push(Event::Bind {
-            mutator: me(),
-            name,
-            object: Handle::new(1),
-        })?;
+        events.push(bind_numbered(number))?;
     }
     events.push(bind("x", 1))?;
     events.push(bind("ab", 1))?;
-    let replies = replies(rt.alloc(), limits(0)?, events)?;
-    let got = all_seen(rt.alloc(), &replies)?;
-    assert_eq!(rt; got.len(), 260);
-    let (bound, last) = got.as_slice().split_at(258);
-    assert_eq!(rt; bound[0], Got::Done);
-    assert_eq!(rt; bound[1], Got::Handle(1));
-    for answer in bound.split_at(2).1 {
-        assert_eq!(rt; *answer, Got::Done);
+    Ok(events)
+}
+
+// A name of its own for each number below 256.
+fn bind_numbered(number: u16) -> Event<u32> {
+    let text = [b'a' + (number / 16) as u8 % 16, b'a' + (number % 16) as u8];
+    Event::Bind {
+        mutator: me(),
+        name: Name::from_slice(&text).unwrap_or(name("x")),
+        object: Handle::new(1),
     }
-    assert_eq!(rt;
-        last,
-        [Got::Refused(Refusal::NamesFull), Got::Done].as_slice()
-    );
-    Ok(())
+}
+
+// That all names are taken, the last of the 260 answers but one is a refusal, and the last is none.
+fn all_but_one_bound(got: &[Got]) -> Result<(), Fail> {
+    let last = [Got::Refused(Refusal::NamesFull), Got::Done];
+    if got.len() != 260 || got.split_at(258).1 != last.as_slice() {
+        return Err(Fail::from("another end"));
+    }
+    let (begin, bound) = got.split_at(258).0.split_at(2);
+    let bound = bound.iter().all(|answer| *answer == Got::Done);
+    if bound && begin == [Got::Done, Got::Handle(1)].as_slice() {
+        return Ok(());
+    }
+    Err(Fail::from("a name is not bound"))
+}
+
+#[test]
+fn there_are_at_most_256_names(rt: HostRuntime) -> Result<(), Fail> {
+    let replies = replies(rt.alloc(), limits(0)?, names_asked(rt.alloc())?)?;
+    let got = all_seen(rt.alloc(), &replies)?;
+    all_but_one_bound(got.as_slice())
 }

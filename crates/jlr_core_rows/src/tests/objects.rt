@@ -2,6 +2,7 @@
 use super::*;
 use jlr_machine::object::{Object, RefState, Reference};
 use jlr_types::{FieldValue, Slot};
+use std::alloc::AllocError;
 
 const LISTS: &str = "
 == objects are made and read
@@ -36,6 +37,12 @@ const LISTS: &str = "
     weak 1 0 -> refused HandlesFull
     same 1 250 -> yes
 
+== an outcome hands its resource back
+    opened 5 -> refused NoSession 5
+    join -> done
+    opened 7 -> refused NotOut 7
+    opened Denied -> refused NotOut
+
 == marking is idle without a cycle
     join -> done
     mark -> marked idle
@@ -44,6 +51,57 @@ const LISTS: &str = "
 #[test]
 fn lists_of_objects(rt: HostRuntime) -> Result<(), Fail> {
     play_all(rt.alloc(), LISTS)
+}
+
+// That something is seen.
+fn seen_that(holds: bool, what: &str) -> Result<(), Fail> {
+    if holds {
+        return Ok(());
+    }
+    Err(Fail::from(what))
+}
+
+// An object with a field that refers to a weak reference to it.
+fn shows_a_pair(image: &Machine) -> bool {
+    let pair = [FieldValue::Ref(Some(Slot::new(1))), FieldValue::Int(0)];
+    matches!(image.objects.get(0), Some(Object::Plain(fields)) if fields.as_slice() == pair.as_slice())
+}
+
+fn shows_its_reference(image: &Machine) -> bool {
+    let reference = Reference {
+        kind: RefKind::Weak,
+        referent: Some(Slot::new(0)),
+        queue: None,
+        state: RefState::Fresh,
+    };
+    matches!(image.objects.get(1), Some(Object::Reference(found)) if *found == reference)
+}
+
+// The first of two sessions holds both, and the second has not joined.
+fn shows_their_handles(image: &Machine) -> bool {
+    let Some(session) = image.mutators.get(0) else {
+        return false;
+    };
+    let handles = [1usize, 2, 3].map(|number| session.handles.get(number).copied());
+    handles == [Some(Slot::new(0)), Some(Slot::new(1)), None]
+        && image.mutators.len() == 2
+        && image.mutators.get(1).is_none()
+}
+
+fn shows_nothing_else(image: &Machine) -> bool {
+    image.objects.len() == 16
+        && image.objects.get(2).is_none()
+        && (image.resource_limit, image.next_action, image.taken) == (3, 1, 0)
+        && image.pending.len() == 0
+        && image.seen.len() == 0
+        && !image.cycle_open
+}
+
+fn shows_the_two(image: &Machine) -> Result<(), Fail> {
+    seen_that(shows_a_pair(image), "an object and its field")?;
+    seen_that(shows_its_reference(image), "a reference")?;
+    seen_that(shows_their_handles(image), "handles")?;
+    seen_that(shows_nothing_else(image), "nothing else")
 }
 
 #[test]
@@ -55,33 +113,32 @@ fn an_image_shows_what_the_core_holds(rt: HostRuntime) -> Result<(), Fail> {
         put 1 0 2
     ";
     let image = image_after(rt.alloc(), limits_for(2, 3)?, asks)?;
-    assert_eq!(rt; image.objects.len(), 16);
-    let pair = [FieldValue::Ref(Some(Slot::new(1))), FieldValue::Int(0)];
-    assert!(rt;
-        matches!(image.objects.get(0), Some(Object::Plain(fields)) if fields.as_slice() == pair.as_slice())
-    );
-    let reference = Reference {
-        kind: RefKind::Weak,
-        referent: Some(Slot::new(0)),
-        queue: None,
-        state: RefState::Fresh,
-    };
-    assert!(rt;
-        matches!(image.objects.get(1), Some(Object::Reference(found)) if *found == reference)
-    );
-    assert!(rt; image.objects.get(2).is_none());
-    assert_eq!(rt; image.mutators.len(), 2);
-    let session = image.mutators.get(0).ok_or("no session")?;
-    assert_eq!(rt; session.handles.get(1).copied(), Some(Slot::new(0)));
-    assert_eq!(rt; session.handles.get(2).copied(), Some(Slot::new(1)));
-    assert_eq!(rt; session.handles.get(3).copied(), None);
-    assert!(rt; image.mutators.get(1).is_none());
-    assert_eq!(rt;
-        (image.resource_limit, image.next_action, image.taken),
-        (3, 1, 0)
-    );
-    assert!(rt; image.pending.len() == 0 && image.seen.len() == 0 && !image.cycle_open);
-    Ok(())
+    shows_the_two(&image)
+}
+
+fn shows_a_queue(image: &Machine) -> bool {
+    let members = [Slot::new(2)];
+    matches!(image.objects.get(0), Some(Object::Queue(found)) if found.as_slice() == members.as_slice())
+}
+
+fn shows_a_cleanable(image: &Machine) -> bool {
+    matches!(image.objects.get(3), Some(Object::Cleaner))
+        && matches!(image.objects.get(4), Some(Object::Cleanable(_)))
+}
+
+fn shows_a_guard(image: &Machine) -> bool {
+    let places = image.objects.as_slice();
+    let guards = places
+        .iter()
+        .filter(|place| matches!(place, Some(Object::Guard(_))))
+        .count();
+    guards == 1 && image.names.len() == 1 && image.resources.len() == 1
+}
+
+fn shows_each_kind(image: &Machine) -> Result<(), Fail> {
+    seen_that(shows_a_queue(image), "a queue")?;
+    seen_that(shows_a_cleanable(image), "a cleaner and its cleanable")?;
+    seen_that(shows_a_guard(image), "a guard")
 }
 
 #[test]
@@ -99,20 +156,16 @@ fn an_image_shows_each_kind_of_object(rt: HostRuntime) -> Result<(), Fail> {
         bind x 2
     ";
     let image = image_after(rt.alloc(), limits(0)?, asks)?;
-    assert!(rt;
-        matches!(image.objects.get(0), Some(Object::Queue(members)) if members.as_slice() == [Slot::new(2)].as_slice())
-    );
-    assert!(rt; matches!(image.objects.get(3), Some(Object::Cleaner)));
-    assert!(rt; matches!(image.objects.get(4), Some(Object::Cleanable(_))));
-    let guards = image
-        .objects
-        .as_slice()
-        .iter()
-        .filter(|place| matches!(place, Some(Object::Guard(_))))
-        .count();
-    assert_eq!(rt; guards, 1);
-    assert_eq!(rt; (image.names.len(), image.resources.len()), (1, 1));
-    Ok(())
+    shows_each_kind(&image)
+}
+
+// The resources that the replies hand out, each let go.
+fn handed_out(alloc: Global, replies: Vec<Reply<u32>>) -> Result<Vec<Option<u32>>, AllocError> {
+    let mut resources = Vec::new(alloc);
+    for reply in replies {
+        resources.push(reply.plain().1)?;
+    }
+    Ok(resources)
 }
 
 #[test]
@@ -124,21 +177,7 @@ fn an_outcome_hands_its_resource_back(rt: HostRuntime) -> Result<(), Fail> {
         opened Denied
     ";
     let replies = replies(rt.alloc(), limits(0)?, events_of(rt.alloc(), asks)?)?;
-    let reasons = all_seen(rt.alloc(), &replies)?;
-    let mut resources = Vec::new(rt.alloc());
-    for reply in replies {
-        resources.push(reply.plain().1)?;
-    }
-    let wanted = [
-        Got::Back(Refusal::NoSession, 5),
-        Got::Done,
-        Got::Back(Refusal::NotOut, 7),
-        Got::Refused(Refusal::NotOut),
-    ];
-    assert_eq!(rt; reasons.as_slice(), wanted.as_slice());
-    assert_eq!(rt;
-        resources.as_slice(),
-        [Some(5), None, Some(7), None].as_slice()
-    );
-    Ok(())
+    let resources = handed_out(rt.alloc(), replies)?;
+    let wanted = [Some(5), None, Some(7), None];
+    seen_that(resources.as_slice() == wanted.as_slice(), "the resources")
 }

@@ -78,9 +78,7 @@ pub(super) fn count_all(alloc: Global, lists: &str) -> Result<(), Fail> {
             .ok_or("no count")?;
         let left = objects_left(alloc, shape.limits, asks)?;
         if left != wanted {
-            return Err(Fail::new(format!(in alloc;
-                "{name}: {left} objects are left, and not {wanted}"
-            )?));
+            return Err(Fail::new(format_args!("{name}: {left} objects are left")));
         }
     }
     Ok(())
@@ -96,12 +94,18 @@ fn play(alloc: Global, name: &str, limits: Limits, rows: &str) -> Result<(), Fai
     }
     for (number, (got, wanted)) in got.iter().zip(&wanted).enumerate() {
         if got != wanted {
-            return Err(Fail::new(format!(in alloc;
-                "{name}: row {number} is answered {got:?}, and not {wanted:?}"
-            )?));
+            return Err(Fail::new(format_args!("{name}: row {number} is answered otherwise")));
         }
     }
     Ok(())
+}
+
+// That a row is answered as it wants it.
+pub(super) fn expect(name: &str, row: &str, got: Got, wanted: Got) -> Result<(), Fail> {
+    if got == wanted {
+        return Ok(());
+    }
+    Err(Fail::new(format_args!("{name}: {row} is answered otherwise")))
 }
 
 // What the events of the rows are answered, and what is wanted.
@@ -283,35 +287,69 @@ fn with_two(name: &str, first: u8, second: u8) -> Option<Event<u32>> {
     Some(event)
 }
 
+// The mutator whose asks begin with `other`.
+fn another() -> Mutator {
+    Mutator::new(1)
+}
+
 fn of_another(words: &mut SplitWhitespace<'_>) -> Option<Event<u32>> {
-    let mutator = Mutator::new(1);
-    let event = match words.next()? {
-        "join" => Event::Join { mutator },
-        "full" => Event::Full {
+    let name = words.next()?;
+    match words.next() {
+        None => another_alone(name),
+        Some(first) => another_with(name, first, words),
+    }
+}
+
+fn another_alone(name: &str) -> Option<Event<u32>> {
+    let mutator = another();
+    match name {
+        "join" => Some(Event::Join { mutator }),
+        "full" => Some(Event::Full {
             mutator,
             mode: FullMode::Policy,
-        },
-        "stat" => Event::Stat { mutator },
-        "find" => Event::Find {
-            mutator,
-            name: name(words.next()?),
-        },
-        "drop" => Event::Drop {
-            mutator,
-            object: Handle::new(byte(words)?),
-        },
-        "check_out" => Event::CheckOut {
-            mutator,
-            guard: Handle::new(byte(words)?),
-        },
-        "check_in" => Event::CheckIn {
-            mutator,
-            outcome: CallOutcome::Wrote(WriteCount::new(byte(words)?)?),
-            resource: u32::from(byte(words)?),
-        },
-        _ => return None,
-    };
-    Some(event)
+        }),
+        "stat" => Some(Event::Stat { mutator }),
+        _ => None,
+    }
+}
+
+fn another_with(name: &str, first: &str, words: &mut SplitWhitespace<'_>) -> Option<Event<u32>> {
+    match name {
+        "find" => Some(another_find(first)),
+        "drop" => first.parse().ok().map(another_drop),
+        "check_out" => first.parse().ok().map(another_check_out),
+        "check_in" => Some(another_check_in(first.parse().ok()?, byte(words)?)),
+        _ => None,
+    }
+}
+
+fn another_find(text: &str) -> Event<u32> {
+    Event::Find {
+        mutator: another(),
+        name: name(text),
+    }
+}
+
+fn another_drop(object: u8) -> Event<u32> {
+    Event::Drop {
+        mutator: another(),
+        object: Handle::new(object),
+    }
+}
+
+fn another_check_out(guard: u8) -> Event<u32> {
+    Event::CheckOut {
+        mutator: another(),
+        guard: Handle::new(guard),
+    }
+}
+
+fn another_check_in(count: u8, resource: u8) -> Event<u32> {
+    Event::CheckIn {
+        mutator: another(),
+        outcome: wrote(count),
+        resource: u32::from(resource),
+    }
 }
 
 pub(super) fn fault_of(name: &str) -> Option<Fault> {
