@@ -12,15 +12,15 @@ use Rattle.jlr_laws.proofs.Clearing.{in_append, in_left, in_right, option_in}
 use Rattle.jlr_laws.proofs.Frames.{set_same, set_other}
 use Rattle.jlr_marks.specs.Marking.{Blackened, Marking, IsMarked, is_marked, marked as count}
 use Rattle.jlr_marks.proofs.Counting.{count_marks}
-use Rattle.jlr_barrier.specs.Graphs.{Graph, Known, held, with_objects}
+use Rattle.jlr_barrier.specs.Graphs.{Clock, Graph, Known, held, with_objects}
 use Rattle.jlr_barrier.specs.Snapshots.{IsEdge, IsObject, RefersTo, IsSafe, IsSnapshot, IsInHand, cycle_of, FitsTogether}
 use Rattle.jlr_barrier.proofs.Held.{by_session, by_name, by_pending, by_line, by_itself, held_cases}
 use Rattle.jlr_barrier.proofs.OwnRoots.{active_gives, active_from}
 use Rattle.jlr_barrier.proofs.Keeping.{snapshot_of_new}
 use Rattle.jlr_barrier.proofs.Fitting.{marked_or_not, in_hand_safe}
 
-module _ (k : Known) (a b s : ℕ) (p : Object) (ages : List ℕ) (n : Marking) (f : FitsTogether k a b) (inside : s < length k.graph.objects) (free : at k.graph.objects s ≡ None)
-    (as_long : length ages ≡ length k.clock.last_gets)
+module _ (k : Known) (a b s : ℕ) (p : Object) (clock : Clock) (n : Marking) (f : FitsTogether k a b) (inside : s < length k.graph.objects) (free : at k.graph.objects s ≡ None)
+    (as_long : length clock.last_gets ≡ length k.clock.last_gets)
     (bits : n.bits ≡ slice_set k.marking.bits s true) (grey : n.grey ≡ k.marking.grey)
     (same_discovered : n.discovered ≡ k.marking.discovered)
     (leads : (y : ℕ) → y ∈ strong_edges p → IsSafe (cycle_of k.graph k.marking) y)
@@ -105,7 +105,7 @@ module _ (k : Known) (a b s : ℕ) (p : Object) (ages : List ℕ) (n : Marking) 
     | inr d ↦ elim (marked x on) [ inl was ↦ subst (λ z. IsTrue (is_some z)) (sym (beside x d)) (f.objects x was) | inr e ↦ absurd (d e) ]
   ]
 
-  pub allocated : FitsTogether (record k { graph = after; clock = record k.clock { last_gets = ages }; marking = n }) a b
+  pub allocated : FitsTogether (record k { graph = after; clock = clock; marking = n }) a b
   allocated =
       let long : length other ≡ length old = length-set old s (Some p) in
       record {
@@ -120,11 +120,11 @@ module _ (k : Known) (a b s : ℕ) (p : Object) (ages : List ℕ) (n : Marking) 
             (subst (λ g. IsSnapshot (cycle_of after (record { bits = n.bits; grey = g; discovered = k.marking.discovered }))) (sym grey) taken);
       }
 
-pub allocated_in_hand : (k : Known) (a b s : ℕ) (p : Object) (ages : List ℕ) (n : Marking) → FitsTogether k a b → s < length k.graph.objects → at k.graph.objects s ≡ None → length ages ≡ length k.clock.last_gets
+pub allocated_in_hand : (k : Known) (a b s : ℕ) (p : Object) (clock : Clock) (n : Marking) → FitsTogether k a b → s < length k.graph.objects → at k.graph.objects s ≡ None → length clock.last_gets ≡ length k.clock.last_gets
     → n.bits ≡ slice_set k.marking.bits s true → n.grey ≡ k.marking.grey → n.discovered ≡ k.marking.discovered → ((y : ℕ) → y ∈ (strong_edges p ++ option_to_list (any_referent p)) → IsInHand k y)
-    → FitsTogether (record k { graph = with_objects k.graph (set_at k.graph.objects s p); clock = record k.clock { last_gets = ages }; marking = n }) a b
-allocated_in_hand k a b s p ages n f inside free as_long bits grey discovered held =
-    allocated k a b s p ages n f inside free as_long bits grey discovered
+    → FitsTogether (record k { graph = with_objects k.graph (set_at k.graph.objects s p); clock = clock; marking = n }) a b
+allocated_in_hand k a b s p clock n f inside free as_long bits grey discovered held =
+    allocated k a b s p clock n f inside free as_long bits grey discovered
     (λ y h. in_hand_safe k f.snapshot y (held y (in_left y (strong_edges p) (option_to_list (any_referent p)) h)))
     (λ y h. in_hand_safe k f.snapshot y (held y (in_right y (strong_edges p) (option_to_list (any_referent p)) (option_in y (any_referent p) h))))
 

@@ -115,7 +115,7 @@ empty_fits cells sessions a b few ra rb =
 
 pub new_fits : (cells sessions a b : ℕ) (objects : Heap) (mutators : Table Session) (names : List Binding) (pending line ages : List ℕ) (m : Marking) → cells ≤ 65536 → cells ≤ a → cells ≤ b
     → objects ≡ replicate cells None → mutators ≡ replicate sessions None → names ≡ [] → pending ≡ [] → line ≡ [] → length ages ≡ cells → m.bits ≡ replicate cells false → m.grey ≡ [] → m.discovered ≡ []
-    → FitsTogether (record { graph = record { objects = objects; mutators = mutators; names = names; pending = pending; line = line }; clock = record { last_gets = ages; collections = 0 }; marking = m }) a b
+    → FitsTogether (record { graph = record { objects = objects; mutators = mutators; names = names; pending = pending; line = line }; clock = record { last_gets = ages; collections = 0; since = 0 }; marking = m }) a b
 new_fits cells sessions a b objects mutators names pending line ages m few ra rb eo em en ep el ea bits grey discovered =
     let start = empty_fits cells sessions a b few ra rb in
     let graph_with : Heap → Table Session → List Binding → List ℕ → List ℕ → Graph = λ o m n p l. record { objects = o; mutators = m; names = n; pending = p; line = l } in
@@ -125,4 +125,4 @@ new_fits cells sessions a b objects mutators names pending line ages m few ra rb
     let known_with : Graph → Marking → Known = λ g m. record { graph = g; clock = (empty_known cells sessions).clock; marking = m } in
     let fits : FitsTogether (known_with (graph_with objects mutators names pending line) m) a b =
     subst (λ (k : Known). FitsTogether k a b) (ap (λ g. known_with g (unmarked cells)) same_graph ∙ ap (known_with (graph_with objects mutators names pending line)) same_marks) start in
-    other_clock (known_with (graph_with objects mutators names pending line) m) (record { last_gets = ages; collections = 0 }) a b fits (ea ∙ sym (length-replicate cells 0))
+    other_clock (known_with (graph_with objects mutators names pending line) m) (record { last_gets = ages; collections = 0; since = 0 }) a b fits (ea ∙ sym (length-replicate cells 0))

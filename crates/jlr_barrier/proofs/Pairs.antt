@@ -8,7 +8,7 @@ use Rattle.jlr_machine.specs.declared.object.CleanState.TheVariants.{Armed}
 use Rattle.jlr_machine.specs.Objects.{Heap, at, change_at, occupied, set_at, with_cleanable}
 use Rattle.jlr_laws.proofs.Frames.{set_other, set_same}
 use Rattle.jlr_cells.specs.Contents.{watching}
-use Rattle.jlr_barrier.specs.Graphs.{Clock, used_now}
+use Rattle.jlr_barrier.specs.Graphs.{Clock, made_now}
 use Rattle.jlr_barrier.specs.Guards.{with_guard}
 
 -- ---- Two places of a list
@@ -48,5 +48,5 @@ made_guard heap g c rid action within apart =
     ∙ ap (λ l. slice_set l c tied) (set_swap heap c g loose guard (λ e. apart (sym e)))
     ∙ set_twice (slice_set heap g guard) c loose tied
 
-pub made_now : (k : Clock) (g c : ℕ) → (g ≡ c → ⊥) → used_now (used_now k c) g ≡ used_now (used_now k g) c
-made_now k g c apart = ap {A = List ℕ} {B = Clock} (λ l. record k { last_gets = l }) (set_swap k.last_gets c g k.collections k.collections (λ e. apart (sym e)))
+pub made_both : (k : Clock) (g c : ℕ) → (g ≡ c → ⊥) → made_now (made_now k c) g ≡ made_now (made_now k g) c
+made_both k g c apart = ap {A = List ℕ} {B = Clock} (λ l. record (made_now (made_now k c) g) { last_gets = l }) (set_swap k.last_gets c g k.collections k.collections (λ e. apart (sym e)))

@@ -19,10 +19,11 @@ pub record Graph : Type 0 where
   pub line : List ℕ
 
 -- Time for the soft policy: how many collections have finished, and, by slot, that number when the object there was made or, if it is a
--- reference, last gave its referent
+-- reference, last gave its referent. And for whoever begins cycles: how many cells were taken since a collection finished last
 pub record Clock : Type 0 where
   pub last_gets : List ℕ
   pub collections : ℕ
+  pub since : ℕ
 
 pub record Known : Type 0 where
   pub graph : Graph
@@ -42,7 +43,7 @@ abbrev pub empty_known : ℕ → ℕ → Known
 empty_known cells sessions =
     record {
       graph = empty_graph cells sessions;
-      clock = record { last_gets = replicate cells 0; collections = 0 };
+      clock = record { last_gets = replicate cells 0; collections = 0; since = 0 };
       marking = record { bits = replicate cells false; grey = []; discovered = [] };
     }
 
@@ -63,13 +64,17 @@ with_pending g pending = record g { pending = pending }
 abbrev pub with_line : Graph → List ℕ → Graph
 with_line g line = record g { line = line }
 
--- the object at s was made, or gave its referent, now
+-- the reference at s gave its referent now
 abbrev pub used_now : Clock → ℕ → Clock
 used_now c s = record c { last_gets = slice_set c.last_gets s c.collections }
 
--- one collection more has finished. The count saturates
+-- the object at s was made now, in a cell that was taken for it. The count of these saturates
+abbrev pub made_now : Clock → ℕ → Clock
+made_now c s = record c { last_gets = slice_set c.last_gets s c.collections; since = cond (nat_lt (c.since + 1) (2 ^ 32)) (c.since + 1) c.since }
+
+-- one collection more has finished, and no cell was taken since. The count saturates
 abbrev pub counted : Clock → Clock
-counted c = record c { collections = cond (nat_lt (c.collections + 1) (2 ^ 64)) (c.collections + 1) c.collections }
+counted c = record c { collections = cond (nat_lt (c.collections + 1) (2 ^ 64)) (c.collections + 1) c.collections; since = 0 }
 
 -- what the object at a slot gives, if it is a reference
 abbrev pub gotten_at : Heap → ℕ → Option ℕ

@@ -1,4 +1,5 @@
-//! What the soft policy asks: how many collections have finished, and when a reference was made or last gave its referent.
+//! What the soft policy asks: how many collections have finished, and when a reference was made or last gave its referent. And what tells
+//! that a cycle is due: how many cells were taken since.
 ghost use Rattle.std.specs.Prelude.{◌≡◌, ◌<◌, ℕ, Some, cond, is_some, slice_index_or, length};
 ghost use Rattle.jlr_barrier.specs.Graphs.{counted, gotten_at, used_now};
 ghost use Rattle.jlr_barrier.specs.Snapshots.{IsObject};
@@ -18,6 +19,13 @@ impl Heap {
         self.collections
     }
 
+    /// How many cells were taken since a collection finished last, two for a guard; at most 2^32 - 1.
+    pub fn since_collection(&self) -> u32
+        ensures { result ≡ self.now.clock.since }
+    {
+        self.since_collection
+    }
+
     /// How many collections had finished when the object at a slot was made or, if it is a reference, last gave its referent.
     pub fn last_get(&self, slot: Slot) -> u64
         requires { slot < length self.now.graph.objects }
@@ -26,13 +34,14 @@ impl Heap {
         self.last_gets[slot.number() as usize]
     }
 
-    /// One collection more has finished. The count saturates.
+    /// One collection more has finished, and no cell was taken since. The count of collections saturates.
     pub fn count_collection(&mut self)
         ensures graph { self.new.graph ≡ self.old.graph }
         ensures clock { self.new.clock ≡ counted self.old.clock }
         ensures marking { self.new.marking ≡ self.old.marking }
     {
         self.collections = self.collections.saturating_add(1);
+        self.since_collection = 0;
     }
 
     /// What the reference at a slot would give: its referent, but never that of a phantom reference. It is not given yet.

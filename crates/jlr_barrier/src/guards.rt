@@ -3,7 +3,7 @@ ghost use Rattle.std.specs.Prelude.{◌≡◌, ◌+◌, ◌<◌, ◌↔◌, IfNo
 ghost use Rattle.jlr_machine.specs.Objects.{at, change_at, occupied, some_and, with_cleanable};
 ghost use Rattle.jlr_machine.specs.Refusals.{is_cleanable};
 ghost use Rattle.jlr_cells.specs.Contents.{watching};
-ghost use Rattle.jlr_barrier.specs.Graphs.{used_now, with_objects};
+ghost use Rattle.jlr_barrier.specs.Graphs.{made_now, with_objects};
 ghost use Rattle.jlr_barrier.specs.Guards.{AreFree, with_guard};
 ghost use Rattle.jlr_barrier.specs.Snapshots.{IsInHand};
 ghost use Rattle.jlr_marks.specs.Marking.{Blackened, Marking, marked};
@@ -20,7 +20,7 @@ impl Heap {
         ensures none { IfNone result ((self.new.graph ≡ self.old.graph) × (self.new.clock ≡ self.old.clock) × (self.new.marking ≡ self.old.marking)) }
         ensures free { IfSome result (λ made. AreFree self.old.graph.objects made.0 made.1) }
         ensures made { IfSome result (λ made. self.new.graph ≡ with_objects self.old.graph (with_guard self.old.graph.objects made.0 made.1 rid action)) }
-        ensures clock { IfSome result (λ made. self.new.clock ≡ used_now (used_now self.old.clock made.0) made.1) }
+        ensures clock { IfSome result (λ made. self.new.clock ≡ made_now (made_now self.old.clock made.0) made.1) }
         ensures black { IfSome result (λ made. (m : Marking) × Blackened made.1 self.old.marking m × Blackened made.0 m self.new.marking) }
         ensures count { IfSome result (λ _. marked self.new.marking ≡ marked self.old.marking + 2) }
     {

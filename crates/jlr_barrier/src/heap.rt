@@ -5,7 +5,7 @@ ghost use Rattle.jlr_machine.specs.Refusals.{is_plain, is_queue, is_reference};
 ghost use Rattle.jlr_cells.specs.Contents.{field_at, kind_of, object_of, referent_in};
 ghost use Rattle.jlr_machine.specs.Edges.{strong_edges};
 ghost use Rattle.jlr_marks.specs.Marking.{Blackened, IsMarked, Shaded, marked};
-ghost use Rattle.jlr_barrier.specs.Graphs.{empty_known, used_now, with_objects};
+ghost use Rattle.jlr_barrier.specs.Graphs.{empty_known, made_now, with_objects};
 ghost use Rattle.jlr_barrier.specs.Snapshots.{IsInHand, IsObject};
 
 use crate::shade::shade_value;
@@ -34,6 +34,8 @@ pub struct Heap {
     pub(crate) last_gets: Vec<u64>,
     /// How many collections have finished. It saturates.
     pub(crate) collections: u64,
+    /// How many cells were taken since a collection finished last. It saturates.
+    pub(crate) since_collection: u32,
 }
 
 impl Model for Heap {
@@ -45,13 +47,13 @@ impl Model for Heap {
 
     ghost view = { λ h. record {
       graph = record { objects = h.cells; mutators = h.roots; names = h.names; pending = h.waiting.items; line = h.lined.items };
-      clock = record { last_gets = h.last_gets.items; collections = h.collections };
+      clock = record { last_gets = h.last_gets.items; collections = h.collections; since = h.since_collection };
       marking = h.marks;
     } };
 
     ghost invariant = { λ h. FitsTogether (record {
       graph = record { objects = h.cells; mutators = h.roots; names = h.names; pending = h.waiting.items; line = h.lined.items };
-      clock = record { last_gets = h.last_gets.items; collections = h.collections };
+      clock = record { last_gets = h.last_gets.items; collections = h.collections; since = h.since_collection };
       marking = h.marks;
     }) (deque_capacity h.waiting) (deque_capacity h.lined) };
 }
@@ -74,6 +76,7 @@ impl Heap {
             marks: Marks::new(alloc, cells)?,
             last_gets: vec![in alloc; 0; cells as usize]?,
             collections: 0,
+            since_collection: 0,
         })
     }
 
@@ -164,13 +167,14 @@ impl Heap {
         ensures none { IfNone result ((self.new.graph ≡ self.old.graph) × (self.new.clock ≡ self.old.clock) × (self.new.marking ≡ self.old.marking)) }
         ensures free { IfSome result (λ slot. (slot < length self.old.graph.objects) × (at self.old.graph.objects slot ≡ None)) }
         ensures made { IfSome result (λ slot. self.new.graph ≡ with_objects self.old.graph (set_at self.old.graph.objects slot (object_of shape))) }
-        ensures clock { IfSome result (λ slot. self.new.clock ≡ used_now self.old.clock slot) }
+        ensures clock { IfSome result (λ slot. self.new.clock ≡ made_now self.old.clock slot) }
         ensures black { IfSome result (λ slot. Blackened slot self.old.marking self.new.marking) }
         ensures count { IfSome result (λ _. marked self.new.marking ≡ marked self.old.marking + 1) }
     {
         let slot = self.cells.take(shape)?;
         self.marks.blacken(slot);
         self.last_gets[slot.number() as usize] = self.collections;
+        self.since_collection = self.since_collection.saturating_add(1);
         Some(slot)
     }
 

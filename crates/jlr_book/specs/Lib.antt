@@ -1,5 +1,6 @@
 -- Reading order.
 pub mod Histories
+pub mod Due
 pub mod Rules
 pub mod Settling
 pub mod Solos

@@ -2,6 +2,7 @@
 ghost use Rattle.std.specs.Prelude.{◌≡◌, ◌≤◌, ◌+◌, ◌^◌, ◌↔◌, true, false, [], IfOk, IsErr, IsTrue, MatchBool, OnOk, OnErr, None, Some};
 ghost use Rattle.jlr_machine.specs.Refusals.{is_end, refusal};
 ghost use Rattle.jlr_event.specs.Events.{ask_of};
+ghost use Rattle.jlr_book.specs.Due.{IsDue};
 ghost use Rattle.jlr_book.specs.Histories.{last, HasNumbers, IsHistory, IsNewBook};
 ghost use Rattle.jlr_book.specs.Rules.{AsksBy, BookSteps, Cuts, EndsBy, MarksBy};
 ghost use Rattle.jlr_book.specs.Writing.{Pieces};
@@ -133,6 +134,21 @@ impl<R: Drop> Book<R> {
         ensures { IsTrue result ↔ (self.now.core.machine.line ≡ []) }
     {
         self.core.line_empty()
+    }
+
+    /// Whether a cycle is open, which is to be marked and collected.
+    pub fn cycle_open(&self) -> bool
+        ensures { result ≡ self.now.core.machine.cycle_open }
+    {
+        self.core.cycle_open()
+    }
+
+    /// Whether a cycle is to begin: none is open, and of the cells a quarter or more was taken since a collection finished last.
+    pub fn marker_due(&self) -> bool
+        ensures { IsTrue result ↔ IsDue self.now }
+    {
+        let taken = u64::from(self.core.since_collection());
+        !self.core.cycle_open() && u64::from(self.limits.cells) <= 4 * taken
     }
 }
 

@@ -6,7 +6,7 @@ use Rattle.jlr_soft.specs.declared.policy.Mode.{Mode}
 use Rattle.jlr_soft.specs.declared.policy.Mode.TheVariants.{Policy, ClearAll}
 use Rattle.jlr_machine.specs.declared.ask.FullMode.{FullMode}
 use Rattle.jlr_machine.specs.declared.ask.FullMode.TheVariants.{Policy as AskedPolicy, ClearAll as AskedClearAll}
-use Rattle.jlr_barrier.specs.Graphs.{Clock, counted, used_now}
+use Rattle.jlr_barrier.specs.Graphs.{Clock, counted, made_now}
 use Rattle.jlr_machine.specs.declared.entry.Chosen.{Chosen}
 use Rattle.jlr_machine.specs.declared.entry.Collected.{Collected}
 use Rattle.jlr_machine.specs.Objects.{at, occupied}
@@ -51,7 +51,7 @@ pub record FindsNoRoom (m : Machine) (cells : ℕ) (new : Choosing) (n : Machine
   pub too_few : length m.objects < length clearing.kept + cells
   pub left : n ≡ after_collection m clearing.kept clearing.pending
 
--- ---- The clock of the soft policy
+-- ---- The clock of the soft policy, and of cells that were taken since a collection
 
 -- a collection was counted, if there was one
 abbrev pub after_collected : Chosen → Clock → Clock
@@ -60,7 +60,7 @@ after_collected chosen c = cond (is_some chosen.collected) (counted c) c
 -- and new objects were made now
 abbrev pub after_fresh : List ℕ → Clock → Clock
 after_fresh [] c = c
-after_fresh (s ∷ fresh) c = after_fresh fresh (used_now c s)
+after_fresh (s ∷ fresh) c = after_fresh fresh (made_now c s)
 
 abbrev pub after_choice : Chosen → Clock → Clock
 after_choice chosen c = after_fresh chosen.fresh (after_collected chosen c)

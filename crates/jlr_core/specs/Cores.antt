@@ -15,7 +15,7 @@ pub record Kept (R : Type 0) : Type 0 where
   -- the marks, and the objects that are marked in an open cycle
   pub marking : Marking
   pub marked : List ℕ
-  -- the soft policy: its age, in collections, and its time
+  -- the soft policy: its age, in collections, and its time, with the count of cells that were taken since a collection finished last
   pub soft_age : ℕ
   pub clock : Clock
   -- the table of the machine's resources, with the values of those that lie in it

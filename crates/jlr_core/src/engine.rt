@@ -104,6 +104,21 @@ impl<R> Core<R> {
         self.state.line_empty()
     }
 
+    /// Whether a cycle is open.
+    pub fn cycle_open(&self) -> bool
+        ensures { result ≡ self.now.machine.cycle_open }
+    {
+        self.state.cycle_open
+    }
+
+    /// How many cells were taken since a collection finished last, or since the core was made where none has: a new guard takes two, any
+    /// other new object one. At most 2^32 - 1. What a step does to it is said by the clock of `step`.
+    pub fn since_collection(&self) -> u32
+        ensures { result ≡ self.now.clock.since }
+    {
+        self.state.heap.since_collection()
+    }
+
     /// The machine that the core stands for, as plain data, with nothing seen.
     ///
     /// # Errors

@@ -59,23 +59,23 @@ same_seat (Some ask) None old new x = absurd x
 same_seat (Some ask) (Some answer) old new (inl x) = x.1.index
 same_seat (Some ask) (Some answer) old new (inr x) = x.same.index
 
--- ---- The handler
+-- ---- The marker and the handler
 
-pub asks_none : (ask : Ask) (p : Place) → AsksOnly ask p p
-asks_none ask p = ([], no_notes p, tt)
+pub asks_none : (may : Ask → Type 0) (p : Place) → AsksOnly may p p
+asks_none may p = ([], no_notes p, tt)
 
-all_more : (ask : Ask) (items : List Item) (i : Item) → AllAsk ask items → i.ask ≡ ask → AllAsk ask (items ++ i ∷ [])
-all_more ask [] i all is = (is, tt)
-all_more ask (x ∷ items) i all is = (all.0, all_more ask items i all.1 is)
+all_more : (may : Ask → Type 0) (items : List Item) (i : Item) → AllAsk may items → may i.ask → AllAsk may (items ++ i ∷ [])
+all_more may [] i all is = (is, tt)
+all_more may (x ∷ items) i all is = (all.0, all_more may items i all.1 is)
 
-pub asks_more : (ask : Ask) (answer : Option Answer) (old mid new : Place) → AsksOnly ask old mid → AskedFor (Some ask) answer mid new → AsksOnly ask old new
-asks_more ask None old mid new h asked = absurd asked
-asks_more ask (Some answer) old mid new h (inl n) = (
+pub asks_more : (may : Ask → Type 0) (ask : Ask) → may ask → (answer : Option Answer) (old mid new : Place) → AsksOnly may old mid → AskedFor (Some ask) answer mid new → AsksOnly may old new
+asks_more may ask is None old mid new h asked = absurd asked
+asks_more may ask is (Some answer) old mid new h (inl n) = (
   h.0 ++ (new.base, item n.0 ask answer) ∷ [],
   noted old mid new h.0 n.0 ask answer h.1 n.1,
-  subst (AllAsk ask) (sym (items_more h.0 new.base (item n.0 ask answer))) (all_more ask (items_of h.0) (item n.0 ask answer) h.2 refl),
+  subst (AllAsk may) (sym (items_more h.0 new.base (item n.0 ask answer))) (all_more may (items_of h.0) (item n.0 ask answer) h.2 is),
 )
-asks_more ask (Some answer) old mid new h (inr d) = (h.0, declined old mid new h.0 ask answer h.1 d, h.2)
+asks_more may ask is (Some answer) old mid new h (inr d) = (h.0, declined old mid new h.0 ask answer h.1 d, h.2)
 
 -- ---- The cleaner
 

@@ -1,7 +1,7 @@
 -- What a loop leaves in its seat.
-use Rattle.std.specs.Prelude.{◌≡◌, ℕ, Bool, true, false, List, [], ◌∷◌, ◌++◌, map, Option, Some, None}
+use Rattle.std.specs.Prelude.{◌≡◌, ◌⊎◌, ℕ, Bool, true, false, List, [], ◌∷◌, ◌++◌, map, Option, Some, None}
 use Rattle.jlr_machine.specs.declared.ask.Ask.{Ask}
-use Rattle.jlr_machine.specs.declared.ask.Ask.TheVariants.{TakeUp, Finish}
+use Rattle.jlr_machine.specs.declared.ask.Ask.TheVariants.{Begin, Collect, Finish, HandOver, TakeUp}
 use Rattle.jlr_machine.specs.declared.ask.Answer.{Answer}
 use Rattle.jlr_machine.specs.declared.ask.Answer.TheVariants.{Job, Refused}
 use Rattle.jlr_machine.specs.declared.ask.Outcome.{Outcome}
@@ -33,15 +33,22 @@ abbrev pub is_refused : Option Answer → Bool
 is_refused (Some (Refused by)) = true
 is_refused answer = false
 
--- ---- The handler
+-- ---- The marker and the handler
 
-abbrev pub AllAsk : Ask → List Item → Type 0
-AllAsk ask [] = Unit {0}
-AllAsk ask (i ∷ items) = (i.ask ≡ ask) × AllAsk ask items
+-- what a loop may ask
+abbrev pub IsMarkers : Ask → Type 0
+IsMarkers ask = (ask ≡ Begin) ⊎ (ask ≡ Collect)
 
--- nothing but this was asked and noted
-abbrev pub AsksOnly : Ask → Place → Place → Type 0
-AsksOnly ask old new = (notes : List (ℕ × Item)) × LeadsTo old notes new × AllAsk ask (items_of notes)
+abbrev pub IsHandlers : Ask → Type 0
+IsHandlers ask = ask ≡ HandOver
+
+abbrev pub AllAsk : (Ask → Type 0) → List Item → Type 0
+AllAsk may [] = Unit {0}
+AllAsk may (i ∷ items) = may i.ask × AllAsk may items
+
+-- nothing but such asks were made and noted
+abbrev pub AsksOnly : (Ask → Type 0) → Place → Place → Type 0
+AsksOnly may old new = (notes : List (ℕ × Item)) × LeadsTo old notes new × AllAsk may (items_of notes)
 
 -- ---- The cleaner, which is 255
 

@@ -3,7 +3,7 @@ ghost use Rattle.std.specs.Prelude.{◌≡◌, ◌+◌, ◌<◌, ◌≤◌, Some
 ghost use Rattle.jlr_event.specs.Events.{ask_of};
 ghost use Rattle.jlr_event.specs.declared.event.Event.TheVariants.{Remove};
 ghost use Rattle.jlr_book.specs.Histories.{IsHistory, last};
-ghost use Rattle.jlr_book.specs.Rules.{BookSteps};
+ghost use Rattle.jlr_book.specs.Rules.{BookSteps, MarksBy};
 ghost use Rattle.jlr_hall.specs.Asking.{Asked, HasRoomForAsk, IsOwn, NotesWith, needs};
 
 use crate::seat::Seat;
@@ -12,7 +12,7 @@ use jlr_book::event::refuse;
 use jlr_book::room::ListRoom;
 use jlr_event::event::{Event, Reply};
 use jlr_machine::ask::{Answer, Ask, Handed};
-use jlr_types::{Handle, Mutator, Refusal};
+use jlr_types::{Handle, Mutator, Progress, Refusal};
 use std::sync::ledger::{Ledger, Share};
 use std::sync::{Condvar, Mutex, MutexGuard, Wait, ledger};
 
@@ -31,6 +31,7 @@ pub(crate) struct Locked<R, L: Ledger> {
 /// Who would find something to do.
 #[derive(Clone, Copy)]
 pub(crate) struct Looks {
+    marker: bool,
     handler: bool,
     cleaner: bool,
     removers: bool,
@@ -80,9 +81,22 @@ impl<R: Drop, L: Ledger> Locked<R, L> {
         reply
     }
 
+    /// A piece of marking of at most so many cells, which is no entry.
+    pub(crate) fn mark(&mut self, budget: u32) -> Progress
+        ensures { MarksBy self.old.book budget result self.new.book }
+    {
+        self.book.mark(budget)
+    }
+
+    /// Whether the marker would find something to do: a cycle to begin, or one that is open.
+    pub(crate) fn has_marking(&self) -> bool {
+        self.book.marker_due() || self.book.cycle_open()
+    }
+
     /// Who would find something to do, where something may just have come into a queue.
     pub(crate) fn looks(&self, queued: bool) -> Looks {
         Looks {
+            marker: self.has_marking(),
             handler: !self.book.pending_empty(),
             cleaner: !self.book.line_empty(),
             removers: queued,
@@ -129,6 +143,9 @@ impl<R: Drop, L: Ledger> Hall<R, L> {
 
     /// Wakes those who would find something to do. Nobody else is woken; who waits looks again under the lock.
     pub(crate) fn wake(&self, looks: Looks) {
+        if looks.marker {
+            self.marker.notify_all();
+        }
         if looks.handler {
             self.handler.notify_all();
         }

@@ -1,9 +1,9 @@
 //! The loops beside the sessions. Each asks only where its look says that there is work, and ends once the hall is to end.
 ghost use Rattle.std.specs.Prelude.{◌≡◌, ℕ, true, Option, Some, None, IfErr, IfOk};
 ghost use Rattle.jlr_hall.specs.Seats.{Place};
-ghost use Rattle.jlr_machine.specs.declared.ask.Ask.TheVariants.{HandOver};
-ghost use Rattle.jlr_event.specs.Events.{answer_in};
-ghost use Rattle.jlr_hall.specs.Loops.{AsksOnly, CleansIn, is_refused};
+ghost use Rattle.jlr_machine.specs.declared.ask.Ask.{Ask};
+ghost use Rattle.jlr_event.specs.Events.{answer_in, ask_of};
+ghost use Rattle.jlr_hall.specs.Loops.{AsksOnly, CleansIn, IsHandlers, IsMarkers, is_refused};
 
 use crate::hall::Hall;
 use crate::seat::Seat;
@@ -12,6 +12,7 @@ use jlr_device::Resource;
 use jlr_event::event::{Event, Reply};
 use jlr_machine::ask::Answer;
 use jlr_session::job::{carry_out, job_of};
+use jlr_types::Progress;
 use std::sync::Wait;
 use std::sync::ledger::Ledger;
 
@@ -55,12 +56,95 @@ impl<R: Drop, L: Ledger> Hall<R, L> {
         }
     }
 
-    /// Waits until the hall is to end.
-    fn wait_for_stop<T: Wait>(&self, rt: &T) {
-        drop(
-            self.marker
-                .wait_while(rt, self.locked.lock(rt), |l| !l.stopped),
+    /// Waits until the marker has something to do, and says what.
+    fn wait_for_marking<T: Wait>(&self, rt: &T) -> MarkerTask {
+        let locked = self.marker.wait_while(
+            rt,
+            self.locked.lock(rt),
+            |l| !l.stopped && !l.has_marking(),
         );
+        if locked.stopped {
+            MarkerTask::End
+        } else if locked.book.cycle_open() {
+            MarkerTask::Mark
+        } else {
+            MarkerTask::Begin
+        }
+    }
+
+    /// A piece of the marking of an open cycle.
+    fn mark<T: Wait>(&self, rt: &T, budget: u32) -> Progress {
+        self.locked.lock(rt).mark(budget)
+    }
+
+    /// Waits until the marker is woken, unless the hall is to end.
+    fn wait_for_marker<T: Wait>(&self, rt: &T) {
+        let locked = self.locked.lock(rt);
+        if !locked.stopped {
+            drop(self.marker.wait(rt, locked));
+        }
+    }
+}
+
+/// What the marker is to do.
+#[derive(Clone, Copy)]
+enum MarkerTask {
+    /// A cycle is to begin.
+    Begin,
+    /// One is open: a piece of it is to be marked.
+    Mark,
+    /// Nothing more: the hall is to end.
+    End,
+}
+
+/// Begins a cycle where one is due, marks it in pieces of at most so many cells, and collects it once all is marked, until the hall is to
+/// end. Each ask and each piece has the lock for itself, so that the sessions go on between them. A cycle that something else has closed
+/// is left; where an ask is refused it waits for the next event.
+pub fn marker_loop<R: Drop, L: Ledger, T: Wait>(
+    seat: Seat<L>,
+    rt: &T,
+    hall: &Hall<R, L>,
+    budget: u32,
+) -> Seat<L>
+    ensures { AsksOnly IsMarkers seat result }
+{
+    let mut seat = seat;
+    for _ in rt.forever() {
+        match hall.wait_for_marking(rt) {
+            MarkerTask::Begin => ask_or_wait(&mut seat, rt, hall, Event::Begin),
+            MarkerTask::Mark => mark_or_collect(&mut seat, rt, hall, budget),
+            MarkerTask::End => break,
+        }
+    }
+    seat
+}
+
+/// A piece of marking, and where all is marked then the collection.
+fn mark_or_collect<R: Drop, L: Ledger, T: Wait>(
+    seat: &mut Seat<L>,
+    rt: &T,
+    hall: &Hall<R, L>,
+    budget: u32,
+)
+    ensures { (first : Place) → AsksOnly IsMarkers first seat.old → AsksOnly IsMarkers first seat.new }
+{
+    if hall.mark(rt, budget) == Progress::Done {
+        ask_or_wait(seat, rt, hall, Event::Collect);
+    }
+}
+
+/// One ask of the marker's. Where it is refused it waits for the next event.
+fn ask_or_wait<R: Drop, L: Ledger, T: Wait>(
+    seat: &mut Seat<L>,
+    rt: &T,
+    hall: &Hall<R, L>,
+    event: Event<R>,
+)
+    requires { (ask : Ask) × (ask_of event ≡ Some ask) × IsMarkers ask }
+    ensures { (first : Place) → AsksOnly IsMarkers first seat.old → AsksOnly IsMarkers first seat.new }
+{
+    if was_refused(&seat.ask_once(rt, hall, None, event)) {
+        hall.wait_for_marker(rt);
     }
 }
 
@@ -70,7 +154,7 @@ pub fn handler_loop<R: Drop, L: Ledger, T: Wait>(
     rt: &T,
     hall: &Hall<R, L>,
 ) -> Seat<L>
-    ensures { AsksOnly HandOver seat result }
+    ensures { AsksOnly IsHandlers seat result }
 {
     let mut seat = seat;
     for _ in rt.forever() {
@@ -156,14 +240,6 @@ fn finish<R: Resource + Drop, L: Ledger, T: Wait>(
 
 fn refuses(answer: Answer) -> bool {
     matches!(&answer, Answer::Refused(_))
-}
-
-/// Waits until the hall is to end: nothing is marked between other events yet.
-pub fn marker_loop<R: Drop, L: Ledger, T: Wait>(seat: Seat<L>, rt: &T, hall: &Hall<R, L>) -> Seat<L>
-    ensures { result ≡ seat }
-{
-    hall.wait_for_stop(rt);
-    seat
 }
 
 fn was_refused<R>(reply: &Reply<R>) -> bool

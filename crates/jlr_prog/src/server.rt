@@ -209,21 +209,22 @@ where
 enum Post<D> {
     /// A session, whose clients' files and sockets this device opens.
     Session(D),
-    Marker,
+    /// The marker, which marks at most so many cells in a piece.
+    Marker(u32),
     Handler,
     Cleaner,
 }
 
-/// Who sits on each seat of a hall: a session for each device, then the loops.
+/// Who sits on each seat of a hall: a session for each device, then the loops. A piece of marking has this budget.
 ///
 /// # Errors
 /// `AllocError` where there is no memory.
-fn posts<D: Drop>(alloc: Global, devices: Vec<D>) -> Result<Vec<Post<D>>, AllocError> {
+fn posts<D: Drop>(alloc: Global, devices: Vec<D>, budget: u32) -> Result<Vec<Post<D>>, AllocError> {
     let mut posts = Vec::new(alloc);
     for device in devices {
         posts.push(Post::Session(device))?;
     }
-    posts.push(Post::Marker)?;
+    posts.push(Post::Marker(budget))?;
     posts.push(Post::Handler)?;
     posts.push(Post::Cleaner)?;
     Ok(posts)
@@ -243,7 +244,7 @@ where
 {
     match post {
         Post::Session(device) => worker(rt, hall, acceptor, accepts, seat, device),
-        Post::Marker => marker_loop(seat, rt, hall),
+        Post::Marker(budget) => marker_loop(seat, rt, hall, budget),
         Post::Handler => handler_loop(seat, rt, hall),
         Post::Cleaner => cleaner_loop(seat, rt, hall),
     }
@@ -304,9 +305,10 @@ where
     )
 }
 
-/// Serves as many clients as `total` says, one after the other at each session's seat, over the heap of an empty machine of these limits. A worker
-/// accepts clients for each seat, and opens their files and sockets by its device; the three loops run beside them. An accept that fails is one of
-/// them too. The last worker that goes ends the hall; then its transcripts are held against the history. No client is accepted before all threads run.
+/// Serves as many clients as `total` says, one after the other at each session's seat, over the heap of an empty machine of these limits.
+/// A worker accepts clients for each seat, and opens their files and sockets by its device; the three loops run beside them, the marker's
+/// with the budget of the limits. An accept that fails is one of them too. The last worker that goes ends the hall; then its transcripts
+/// are held against the history. No client is accepted before all threads run.
 ///
 /// # Errors
 /// `Start` where a thread cannot be started, `NoMemory` where there is no room for the heap, its seats or its threads: then no client was accepted.
@@ -334,7 +336,7 @@ where
     requires parts { (blank.parts ≡ L.parts) × (blank.parts ≡ limits.sessions + 3) }
     ensures history { IfOk result (λ served. IsHistory served.book) }
 {
-    let posts = posts(alloc, devices)?;
+    let posts = posts(alloc, devices, limits.budget)?;
     let (hall, seats) = Hall::<D::Res, L>::open(alloc, limits, blank)?;
     let accepts = Accepts::new(total, limits.sessions);
     let seats = run_threads(rt, alloc, &hall, acceptor, &accepts, seats, posts);

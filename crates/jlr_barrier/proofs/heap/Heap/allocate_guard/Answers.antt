@@ -4,8 +4,8 @@ use Rattle.jlr_machine.specs.declared.object.Object.TheVariants.{Guard}
 use Rattle.jlr_machine.specs.Objects.{at, change_at, set_at, with_cleanable}
 use Rattle.jlr_laws.proofs.Frames.{no_some, set_same}
 use Rattle.jlr_cells.specs.Contents.{watching}
-use Rattle.jlr_barrier.specs.Graphs.{Clock, Graph, used_now, with_objects}
-use Rattle.jlr_barrier.proofs.Pairs.{made_guard, made_now, untied}
+use Rattle.jlr_barrier.specs.Graphs.{Clock, Graph, made_now, with_objects}
+use Rattle.jlr_barrier.proofs.Pairs.{made_both, made_guard, untied}
 use Rattle.jlr_barrier.proofs.heap.Heap.allocate_guard.Goals as goal
 
 -- the second cell was free once the first was taken
@@ -27,5 +27,5 @@ returns-clause-made c =
 
 pub returns-clause-clock : goal.returns-clause-clock
 returns-clause-clock c =
-    c.watch.ensures.clock ∙ c.in_ok-guard.ensures.clock ∙ ap (λ (k : Clock). used_now k c.in_ok-guard.guard) c.in_ok-cleanable.ensures.clock
-    ∙ made_now c.args.self.now.clock c.in_ok-guard.guard c.in_ok-cleanable.cleanable (apart c)
+    c.watch.ensures.clock ∙ c.in_ok-guard.ensures.clock ∙ ap (λ (k : Clock). made_now k c.in_ok-guard.guard) c.in_ok-cleanable.ensures.clock
+    ∙ made_both c.args.self.now.clock c.in_ok-guard.guard c.in_ok-cleanable.cleanable (apart c)

@@ -1,0 +1,5 @@
+use Rattle.jlr_hall.specs.Loops.{AsksOnly, IsMarkers}
+use Rattle.jlr_hall.proofs.loops.marker_loop.Given as goal
+
+abbrev pub invariant-loop : goal.invariant-loop
+invariant-loop g l = AsksOnly IsMarkers l.fn.seat l.seat
