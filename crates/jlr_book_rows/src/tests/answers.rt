@@ -4,7 +4,7 @@ use jlr_machine::ask::{Answer, Handed};
 use jlr_types::Progress;
 
 // An answer, as far as these rows look at it.
-#[derive(Clone, Copy, PartialEq, Eq, Debug)]
+#[derive(Clone, Copy, PartialEq, Eq)]
 pub(super) enum Got {
     Done,
     Handle(u8),

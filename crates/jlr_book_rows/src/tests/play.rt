@@ -31,14 +31,14 @@ pub(super) fn play_all(alloc: Global, lists: &str) -> Result<(), Fail> {
 fn play(alloc: Global, title: &str, rows: &str) -> Result<(), Fail> {
     let limits = Limits::checked(16, 1, 1, 0, 64, 1).ok().ok_or("limits")?;
     let mut book = Book::new(alloc, limits)?;
-    play_rows(alloc, &mut book, title, rows)
+    play_rows(&mut book, title, rows)
 }
 
-fn play_rows(alloc: Global, book: &mut Book<u32>, title: &str, rows: &str) -> Result<(), Fail> {
+fn play_rows(book: &mut Book<u32>, title: &str, rows: &str) -> Result<(), Fail> {
     for row in rows.lines() {
         let row = row.trim();
         if is_row(row) && !holds(book, row)? {
-            return Err(Fail::new(format!(in alloc; "{title}: {row}")?));
+            return Err(Fail::new(format_args!("{title}: {row}")));
         }
     }
     Ok(())

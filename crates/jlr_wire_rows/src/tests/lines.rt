@@ -5,7 +5,6 @@ use jlr_wire::command::read_command;
 use jlr_wire::pieces::{Got, Pieces};
 use jlr_wire::reply::{WriteFault, write_reply};
 use std::alloc::{AllocError, Global};
-use std::process::Abort;
 use std::test::Fail;
 
 /// A line of 512 bytes, one of 513, `put 1`, an empty line, and a last `gc` without its end.
@@ -38,82 +37,108 @@ fn refuse(pieces: &mut Pieces, piece: &[u8], out: &mut Vec<u8>) -> Result<(), Wr
     Ok(())
 }
 
-fn each_cut_into_two_gives_the_same_lines(rt: &impl Abort, alloc: Global) -> Result<(), Fail> {
-    let bytes = stream(alloc)?;
-    for cut in 0..=bytes.len() {
-        let (front, back) = bytes.as_slice().split_at(cut);
-        let mut pieces = Pieces::new();
-        let mut out = Vec::new(alloc);
-        refuse(&mut pieces, front, &mut out)?;
-        refuse(&mut pieces, back, &mut out)?;
-        assert_eq!(rt; out.as_slice(), ANSWERS.as_bytes(), "at {cut}");
-        assert!(rt; pieces.unfinished(), "at {cut}");
-        assert_eq!(rt; pieces.line(), b"gc".as_slice(), "at {cut}");
-    }
-    Ok(())
-}
-
-fn byte_by_byte_gives_the_same_lines(rt: &impl Abort, alloc: Global) -> Result<(), Fail> {
-    let bytes = stream(alloc)?;
+/// Whether the stream, cut into two there, is answered as it has to be.
+fn is_cut_well(alloc: Global, bytes: &[u8], cut: usize) -> Result<bool, WriteFault> {
+    let (front, back) = bytes.split_at(cut);
     let mut pieces = Pieces::new();
     let mut out = Vec::new(alloc);
-    for byte in bytes.as_slice() {
-        refuse(&mut pieces, &[*byte], &mut out)?;
+    refuse(&mut pieces, front, &mut out)?;
+    refuse(&mut pieces, back, &mut out)?;
+    Ok(ends_well(&pieces, out.as_slice()))
+}
+
+/// Whether the lines were answered as they have to be, and the last one is under way.
+fn ends_well(pieces: &Pieces, out: &[u8]) -> bool {
+    out == ANSWERS.as_bytes() && pieces.unfinished() && pieces.line() == b"gc".as_slice()
+}
+
+fn each_cut_into_two_gives_the_same_lines(alloc: Global) -> Result<(), Fail> {
+    let bytes = stream(alloc)?;
+    for cut in 0..=bytes.len() {
+        if !is_cut_well(alloc, bytes.as_slice(), cut)? {
+            return Err(Fail::new(format_args!("cut at {cut}")));
+        }
     }
-    assert_eq!(rt; out.as_slice(), ANSWERS.as_bytes());
-    assert_eq!(rt; pieces.line(), b"gc".as_slice());
     Ok(())
 }
 
-fn no_byte_alone_is_a_command(rt: &impl Abort) {
-    for byte in 0..=255u8 {
-        let refused = matches!(read_command(&[byte]), Err(Refusal::Malformed));
-        assert!(rt; refused, "at {byte}");
-        let mut pieces = Pieces::new();
-        let fed = pieces.feed(&[byte, b'\n']);
-        assert_eq!(rt; fed.got, Got::Line, "at {byte}");
-        let empty = pieces.line().is_empty();
-        assert_eq!(rt; empty, byte == b'\n', "at {byte}");
-        assert_eq!(rt; fed.used, if empty { 1 } else { 2 }, "at {byte}");
-    }
-}
-
-/// Feeds so many bytes `x` and the end of their line.
-fn end_of_line_of(rt: &impl Abort, count: usize) -> Pieces {
+/// Whether the stream, byte by byte, is answered as it has to be.
+fn is_read_well(alloc: Global, bytes: &[u8]) -> Result<bool, WriteFault> {
     let mut pieces = Pieces::new();
-    for _ in 0..count {
-        let fed = pieces.feed(b"x");
-        assert_eq!(rt; fed.got, Got::More);
+    let mut out = Vec::new(alloc);
+    for byte in bytes {
+        refuse(&mut pieces, &[*byte], &mut out)?;
     }
-    assert!(rt; pieces.unfinished());
-    let fed = pieces.feed(b"\nnew -\n");
-    assert_eq!(rt; fed.used, 1);
-    assert_eq!(rt;
-        fed.got,
-        if count <= 512 {
-            Got::Line
-        } else {
-            Got::TooLong
-        }
-    );
-    assert!(rt; !pieces.unfinished());
-    pieces
+    Ok(ends_well(&pieces, out.as_slice()))
 }
 
-fn a_line_has_at_most_512_bytes(rt: &impl Abort) {
-    for (count, kept) in [(511, 511), (512, 512), (513, 513), (514, 513), (2000, 513)] {
-        let pieces = end_of_line_of(rt, count);
-        assert_eq!(rt; pieces.line().len(), kept, "at {count}");
-        let too_long = matches!(read_command(pieces.line()), Err(Refusal::TooLong));
-        assert_eq!(rt; too_long, 512 < count, "at {count}");
+fn byte_by_byte_gives_the_same_lines(alloc: Global) -> Result<(), Fail> {
+    let bytes = stream(alloc)?;
+    if is_read_well(alloc, bytes.as_slice())? {
+        return Ok(());
     }
+    Err(Fail::from("byte by byte"))
+}
+
+/// Whether the byte alone is no command, and a line of its own where no end of a line.
+fn is_no_command(byte: u8) -> bool {
+    let mut pieces = Pieces::new();
+    let fed = pieces.feed(&[byte, b'\n']);
+    let empty = byte == b'\n';
+    let used = if empty { 1 } else { 2 };
+    matches!(read_command(&[byte]), Err(Refusal::Malformed))
+        && fed.got == Got::Line
+        && fed.used == used
+        && pieces.line().is_empty() == empty
+}
+
+fn no_byte_alone_is_a_command() -> Result<(), Fail> {
+    for byte in 0..=255u8 {
+        if !is_no_command(byte) {
+            return Err(Fail::new(format_args!("byte {byte}")));
+        }
+    }
+    Ok(())
+}
+
+/// Whether each of so many bytes `x` leaves its line under way.
+fn feeds_on(pieces: &mut Pieces, count: usize) -> bool {
+    for _ in 0..count {
+        if pieces.feed(b"x").got != Got::More {
+            return false;
+        }
+    }
+    pieces.unfinished()
+}
+
+/// Whether a line of so many bytes `x` ends as it has to, with so many of them kept.
+fn ends_with(count: usize, kept: usize) -> bool {
+    let mut pieces = Pieces::new();
+    let under_way = feeds_on(&mut pieces, count);
+    let fed = pieces.feed(b"\nnew -\n");
+    let too_long = count > 512;
+    let end = if too_long { Got::TooLong } else { Got::Line };
+    under_way
+        && fed.used == 1
+        && fed.got == end
+        && !pieces.unfinished()
+        && pieces.line().len() == kept
+        && matches!(read_command(pieces.line()), Err(Refusal::TooLong)) == too_long
+}
+
+fn a_line_has_at_most_512_bytes() -> Result<(), Fail> {
+    for (count, kept) in [(511, 511), (512, 512), (513, 513), (514, 513), (2000, 513)] {
+        if !ends_with(count, kept) {
+            return Err(Fail::new(format_args!("a line of {count} bytes")));
+        }
+    }
+    Ok(())
 }
 
 #[test]
 fn lines_come_out_of_a_stream(rt: HostRuntime) -> Result<(), Fail> {
-    each_cut_into_two_gives_the_same_lines(&rt, rt.alloc())?;
-    byte_by_byte_gives_the_same_lines(&rt, rt.alloc())?;
-    no_byte_alone_is_a_command(&rt);
-    a_line_has_at_most_512_bytes(&rt);
-    Ok(())
+    each_cut_into_two_gives_the_same_lines(rt.alloc())?;
+    byte_by_byte_gives_the_same_lines(rt.alloc())?;
+    no_byte_alone_is_a_command()?;
+    a_line_has_at_most_512_bytes()
 }
