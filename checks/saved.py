@@ -4,16 +4,18 @@
     checks/saved.py [PROGRAM] [SESSIONS] [SEED]
 
 SESSIONS is 1,000 where nothing is said. A saved history is `legal N`, N its entries. A changed one is legal, illegal or damaged, with status 0, 3 or 4, and no
-crash; how often which is printed. Then saves that have to fail, and those over what stands there.
+crash; how often which is printed. Then saves that have to fail, those over what stands there, and those of servers.
 """
 import collections
 import os
 import random
+import socket
 import stat
 import struct
 import subprocess
 import sys
 import tempfile
+import time
 
 import refused
 
@@ -274,12 +276,50 @@ def try_places(program):
             os.chmod(folder, 0o700)
 
 
+def said_by(stream, lines):
+    """What a server answers to lines, one after the other."""
+    replies = []
+    for line in lines:
+        stream.write(line + b"\n")
+        stream.flush()
+        replies.append(stream.readline())
+    return replies
+
+
+def serve(program, folder, words):
+    """A server of two clients, of whom the second finds what the first left: its status, and what it wrote."""
+    path = os.path.join(folder, "socket")
+    server = subprocess.Popen([program, "serve", "--socket", path, "--total", "2", "--cells", "16", *words], cwd=folder, stdout=subprocess.PIPE, stderr=subprocess.PIPE)
+    while not os.path.exists(path) and server.poll() is None:
+        time.sleep(0.01)
+    for lines in [b"new -", b"bind a 1", b"weak 1 0", b"gc", b"bye"], [b"find a", b"open w file", b"write 2 00ff", b"bye"]:
+        with socket.socket(socket.AF_UNIX) as client:
+            client.connect(path)
+            with client.makefile("rwb") as stream:
+                said_by(stream, lines)
+    out, said = server.communicate(timeout=60)
+    return server.returncode, out.decode(), said.decode()
+
+
+def try_servers(program):
+    """The history of a server is legal, with as many entries as it says."""
+    with tempfile.TemporaryDirectory() as folder:
+        for words in [], ["--trace", "64"]:
+            status, out, said = serve(program, folder, [*words, "--save", "saved"])
+            entries = out.split()[-1] if out else ""
+            wants(f"a server {words} ends well", (status, out, said), (0, f"served 2\nentries {entries}\n", ""))
+            wants("its history is saved and legal", audit(program, "saved", folder), (0, f"legal {entries}\n", ""))
+        status, out, said = serve(program, folder, ["--save", "none/saved"])
+        wants("a server that cannot save says so", (status, out.startswith("served 2\n"), said), (1, True, "refheap: cannot save none/saved\n"))
+
+
 def main():
     program = os.path.abspath(sys.argv[1] if len(sys.argv) > 1 else os.path.join(HERE, "../crates/refheap/out/refheap"))
     count = int(sys.argv[2]) if len(sys.argv) > 2 else 1_000
     seed = sys.argv[3] if len(sys.argv) > 3 else "1"
     try:
         try_places(program)
+        try_servers(program)
         try_worked(program)
         try_sessions(program, count, seed)
     except Wrong as wrong:

@@ -1,8 +1,12 @@
 -- Sets of slots: a place for each, and the slots whose places are set.
-use Rattle.std.specs.Prelude.{◌≡◌, ℕ, ◌+◌, ◌*◌, ◌%◌, ◌<◌, ◌≤◌, Bool, true, false, List, Option, length, slice_index_or, MatchOption}
+use Rattle.std.specs.Prelude.{◌≡◌, ℕ, ◌+◌, ◌*◌, ◌^◌, ◌%◌, ◌<◌, ◌≤◌, Bool, true, false, List, Option, length, slice_index_or, MatchOption}
 use Rattle.std.specs.List.{range_with_len, filter}
 use Rattle.std.specs.Int.{div_ceil}
 use Rattle.jlr_machine.specs.Objects.{◌∈◌}
+
+-- a number of 32 bits
+abbrev pub IsSlotNumber : ℕ → Type 0
+IsSlotNumber n = n < 2 ^ 32
 
 -- whether the place is set
 abbrev pub is_in : List Bool → ℕ → Bool

@@ -1,6 +1,7 @@
 //! What a collection kept.
 ghost use Rattle.std.specs.Prelude.{◌≡◌, ◌≤◌, ◌++◌, [], IfOk, take, length};
-ghost use Rattle.jlr_machine.specs.SlotSets.{slots_of, NoneFrom};
+ghost use Rattle.std.specs.List.{AllByRecursion};
+ghost use Rattle.jlr_machine.specs.SlotSets.{slots_of, IsSlotNumber, NoneFrom};
 
 use crate::copy::copy_slice;
 use crate::slots::SlotSet;
@@ -80,6 +81,14 @@ impl KeptSlots {
         self.parts.set.count() + self.parts.strays.len()
     }
 
+    /// What is true of each of the slots, for callers.
+    pub fn in_range(&self)
+        ensures { AllByRecursion IsSlotNumber self.now }
+    {
+        self.parts.set.in_range();
+        numbers_in_range(self.parts.strays.as_slice());
+    }
+
     /// The slots, in order.
     ///
     /// # Errors
@@ -103,6 +112,15 @@ impl KeptSlots {
         let strays = copy_slice(alloc, self.parts.strays.as_slice())?;
         let parts = Box::new(alloc, Parts { set, strays })?;
         Ok(KeptSlots { parts })
+    }
+}
+
+/// What is true of the number of each slot.
+fn numbers_in_range(slots: &[Slot])
+    ensures { AllByRecursion IsSlotNumber slots.now }
+{
+    for slot in slots {
+        let _number = slot.number();
     }
 }
 

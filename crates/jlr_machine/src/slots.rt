@@ -1,5 +1,5 @@
 //! A set of slots, a bit for each.
-ghost use Rattle.std.specs.Prelude.{◌≡◌, ◌<◌, ◌≤◌, ◌↔◌, true, false, length, replicate, IfOk, IsTrue, slice_set};
+ghost use Rattle.std.specs.Prelude.{◌≡◌, ◌^◌, ◌<◌, ◌≤◌, ◌↔◌, true, false, length, replicate, IfOk, IsTrue, slice_set};
 ghost use Rattle.jlr_machine.specs.SlotSets.{slots_of, places_for, FindsFirst, IsAboveAll, IsTrimmed};
 
 use crate::words;
@@ -82,6 +82,13 @@ impl SlotSet {
             Some(_) => false,
             None => true,
         }
+    }
+
+    /// What is true of each set, for callers: no slot is beyond 32 bits.
+    pub(crate) fn in_range(&self)
+        ensures { length self.now ≤ 2 ^ 32 }
+    {
+        let _words = &self.words;
     }
 
     /// How many slots are in the set.

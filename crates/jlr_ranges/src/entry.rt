@@ -254,7 +254,7 @@ fn collected_in_range(collected: &Option<Collected>)
     ensures { CollectedRange collected.now }
 {
     if let Some(collected) = collected {
-        all_in_range(collected.kept.as_slice());
+        collected.kept.in_range();
         all_in_range(collected.pending.as_slice());
     }
 }

@@ -3,7 +3,7 @@ use Rattle.std.specs.Prelude.{◌≡◌, ◌≢◌, ℕ, Option, None, Some, Res
 use Rattle.jlr_session.specs.declared.shell.SessionEnd.{SessionEnd}
 use Rattle.jlr_session.specs.declared.shell.SessionEnd.TheVariants.{Bye, End, Truncated, ReadFault, WriteFault, TooManyLines as ManyLines, NotJoined as RefusedJoin}
 use Rattle.refheap.specs.declared.fault.ProgramFault.{ProgramFault}
-use Rattle.refheap.specs.declared.fault.ProgramFault.TheVariants.{Read, Write, CommandLine, Unfinished, TooManyLines, CannotRead, CannotListen, Disagree, Illegal, TraceTruncated, BadMark, BadVersion, BadEntry, NotJoined, NoMemory}
+use Rattle.refheap.specs.declared.fault.ProgramFault.TheVariants.{Read, Write, CommandLine, Unfinished, TooManyLines, CannotRead, CannotSave, CannotListen, Disagree, Illegal, TraceTruncated, BadMark, BadVersion, BadEntry, NotJoined, NoMemory}
 
 -- the status that the program ends with
 abbrev pub status_of : ProgramFault → ℕ
@@ -13,6 +13,7 @@ status_of (CommandLine error) = 2
 status_of Unfinished = 4
 status_of TooManyLines = 4
 status_of (CannotRead path) = 1
+status_of (CannotSave path) = 1
 status_of (CannotListen path) = 1
 status_of (Disagree seat) = 3
 status_of Illegal = 3

@@ -17,10 +17,17 @@ use std::{env, io};
 /// What the program is called for.
 #[derive(Clone, Copy)]
 pub enum Order<'a> {
-    /// One session over a heap of these limits.
-    Run(Limits),
+    Run(RunOrder<'a>),
     Serve(Service<'a>),
     Audit(AuditOrder<'a>),
+}
+
+/// What a `run` is to do: one session.
+#[derive(Clone, Copy)]
+pub struct RunOrder<'a> {
+    pub limits: Limits,
+    /// Where the history is saved at the end, if it is.
+    pub save: Option<&'a str>,
 }
 
 /// What a `serve` is to do.
@@ -31,6 +38,8 @@ pub struct Service<'a> {
     /// How many clients it accepts, from 1 to 1,000,000.
     pub total: u32,
     pub limits: Limits,
+    /// Where the history is saved at the end, if it is.
+    pub save: Option<&'a str>,
 }
 
 /// What an `audit` is to do.
@@ -75,7 +84,7 @@ pub fn order_of<'a>(alloc: Global, words: &'a [String]) -> Result<Order<'a>, Pro
     if let Some(audit) = matches.subcommand_matches("audit") {
         return audit_of(alloc, audit).map(Order::Audit);
     }
-    limits(alloc, matches.subcommand_matches("run")).map(Order::Run)
+    run_of(alloc, matches.subcommand_matches("run")).map(Order::Run)
 }
 
 /// What the words match.
@@ -106,6 +115,7 @@ fn service_of<'a>(alloc: Global, serve: &ArgMatches<'a>) -> Result<Service<'a>, 
         socket,
         total,
         limits,
+        save: serve.get_str("save"),
     })
 }
 
@@ -120,13 +130,15 @@ fn audit_of<'a>(alloc: Global, audit: &ArgMatches<'a>) -> Result<AuditOrder<'a>,
     Ok(AuditOrder { file, explain })
 }
 
-/// The limits of the heap of a `run`: what its words ask for, and the rest as it is usually.
-fn limits(alloc: Global, run: Option<&ArgMatches<'_>>) -> Result<Limits, ProgramFault>
-    ensures usual { IfOk result (λ limits. (limits.sessions ≡ 1) × (limits.budget ≡ 64)) }
+/// What a `run` asks for: the limits that its words give, and the rest as it is usually.
+fn run_of<'a>(alloc: Global, run: Option<&ArgMatches<'a>>) -> Result<RunOrder<'a>, ProgramFault>
+    ensures usual { IfOk result (λ order. (order.limits.sessions ≡ 1) × (order.limits.budget ≡ 64)) }
     ensures refused { IfErr result (λ fault. (status_of fault ≡ 2) ⊎ (status_of fault ≡ 5)) }
 {
     let asked = numbers_asked(alloc, run)?;
-    checked(alloc, asked, 1)
+    let limits = checked(alloc, asked, 1)?;
+    let save = run.and_then(|run| run.get_str("save"));
+    Ok(RunOrder { limits, save })
 }
 
 /// The numbers that the words of a `run` or a `serve` ask for.
@@ -254,7 +266,7 @@ mod tests {
     use std::test::Fail;
 
     /// What a command line asks for, whose words are parted by spaces: of a session the cells, the files and sockets, the soft age and the length of
-    /// the trace; what a server serves, or what is audited; or the status of its fault.
+    /// the trace, and where its history is saved; what a server serves, or what is audited; or the status of its fault.
     fn asked(alloc: Global, line: &str) -> Result<String, Fail> {
         let mut words = Vec::new(alloc);
         for word in line.split(' ') {
@@ -263,11 +275,15 @@ mod tests {
             words.push(text)?;
         }
         match order_of(alloc, words.as_slice()) {
-            Ok(Order::Run(limits)) => numbers(alloc, &limits),
+            Ok(Order::Run(order)) => {
+                let (heap, end) = (numbers(alloc, &order.limits)?, ending(alloc, order.save)?);
+                Ok(format!(in alloc; "{heap}{end}")?)
+            }
             Ok(Order::Serve(service)) => {
                 let (total, socket) = (service.total, service.socket);
                 let (sessions, heap) = (service.limits.sessions, numbers(alloc, &service.limits)?);
-                Ok(format!(in alloc; "serve {total} on {socket}, {sessions} at once, {heap}")?)
+                let end = ending(alloc, service.save)?;
+                Ok(format!(in alloc; "serve {total} on {socket}, {sessions} at once, {heap}{end}")?)
             }
             Ok(Order::Audit(AuditOrder { file, explain })) => {
                 let how = if explain { ", explained" } else { "" };
@@ -277,6 +293,14 @@ mod tests {
                 let status = fault.status();
                 Ok(format!(in alloc; "status {status}")?)
             }
+        }
+    }
+
+    /// Where a history is saved, if it is.
+    fn ending(alloc: Global, save: Option<&str>) -> Result<String, Fail> {
+        match save {
+            Some(file) => Ok(format!(in alloc; ", saved to {file}")?),
+            None => Ok(String::new(alloc)),
         }
     }
 
@@ -313,6 +337,9 @@ mod tests {
             refheap run --cells 17 --resources 18 --soft-age 19 --trace 65 -> 17 18 19 65
             refheap run --trace 64 --soft-age 0 --resources 1 --cells 16 -> 16 1 0 64
             refheap run --cells 65536 --resources 256 --soft-age 1000 --trace 1000000 -> 65536 256 1000 1000000
+            refheap run --save history -> 1024 16 4 10000, saved to history
+            refheap run --save history --cells 16 -> 16 16 4 10000, saved to history
+            refheap serve --socket s --total 7 --save history -> serve 7 on s, 4 at once, 1024 16 4 10000, saved to history
             refheap audit history -> audit of history
             refheap audit --explain history -> audit of history, explained
             refheap audit history --explain -> audit of history, explained
@@ -327,6 +354,8 @@ mod tests {
             "
             refheap -> status 2
             refheap walk -> status 2
+            refheap run --save -> status 2
+            refheap run --save a --save b -> status 2
             refheap audit -> status 2
             refheap audit a b -> status 2
             refheap --help -> status 2

@@ -42,7 +42,7 @@ pub fn command<'a>(alloc: Global) -> Result<Command<'a>, AllocError> {
         .subcommand(audit_command(alloc)?)
 }
 
-/// A command with the options of its heap.
+/// A command with the options of its heap, and of the history that is left.
 fn with_heap<'a>(alloc: Global, command: Command<'a>) -> Result<Command<'a>, AllocError> {
     let cells = Arg::new(alloc, "cells")
         .long("cells")
@@ -68,11 +68,16 @@ fn with_heap<'a>(alloc: Global, command: Command<'a>) -> Result<Command<'a>, All
         .help("Number of entries after which the trace is cut, from 64 to 1000000")
         .value_parser(value_parser!(u32).range(64..=1_000_000))
         .default_value("10000");
+    let save = Arg::new(alloc, "save")
+        .long("save")
+        .value_name("FILE")
+        .help("Where the history is saved at the end");
     command
         .arg(cells)?
         .arg(resources)?
         .arg(soft_age)?
-        .arg(trace)
+        .arg(trace)?
+        .arg(save)
 }
 
 /// The command of a server.

@@ -21,6 +21,8 @@ pub enum ProgramFault {
     TooManyLines,
     #[error("cannot read {0}")]
     CannotRead(String),
+    #[error("cannot save {0}")]
+    CannotSave(String),
     #[error("cannot listen on {0}")]
     CannotListen(String),
     /// A seat of a server does not agree with the history.
@@ -50,7 +52,8 @@ impl ProgramFault {
     {
         match self {
             ProgramFault::Read | ProgramFault::Write => 1,
-            ProgramFault::CannotRead(_) | ProgramFault::CannotListen(_) => 1,
+            ProgramFault::CannotRead(_) | ProgramFault::CannotSave(_) => 1,
+            ProgramFault::CannotListen(_) => 1,
             ProgramFault::CommandLine(_) => 2,
             ProgramFault::Illegal | ProgramFault::Disagree(_) => 3,
             ProgramFault::Unfinished | ProgramFault::TooManyLines => 4,

@@ -1,11 +1,17 @@
 //! A heap that clients share over a Unix socket: `refheap serve`.
+ghost use Rattle.std.specs.Prelude.{◌≡◌, ◌↔◌, IfOk, IfSome, IsSome, IsTrue};
+ghost use Rattle.jlr_book.specs.Histories.{last};
+ghost use Rattle.jlr_saving.specs.Saving.{IsSaved};
+
 use crate::arguments::Service;
 use crate::fault::ProgramFault;
+use crate::save::save;
 use jlr_book::book::Book;
 use jlr_device::real::{RealDevice, RealResource};
 use jlr_hall::closing::CloseFault;
 use jlr_prog::listener::Listener;
 use jlr_prog::server::{ServeFault, Served, serve_over};
+use jlr_saving::file::trace_bytes_of;
 use std::alloc::{AllocError, Global};
 use std::fs;
 use std::io::{self, Write};
@@ -17,11 +23,12 @@ use std::thread::Threads;
 /// The seats beside those of the sessions.
 const LOOPS: u64 = 3;
 
-/// Serves clients on a Unix socket, and writes how many and how many entries their history has. The socket's file is removed at the end.
+/// Serves clients on a Unix socket, and writes how many and how many entries their history has, which is then saved where it is to be. The
+/// socket's file is removed at the end.
 ///
 /// # Errors
 /// `CannotListen` where the socket cannot be made, also where its file exists, which is left alone, and where a thread cannot be started;
-/// `Disagree`, `Write`, `NoMemory`.
+/// `Disagree`, `Write`, `NoMemory`; `CannotSave`, also where the lines could not be written.
 pub fn serve<T: Threads + Wait + Sync>(
     rt: &HostRuntime,
     threads: &T,
@@ -37,14 +44,21 @@ pub fn serve<T: Threads + Wait + Sync>(
     };
     let outcome = served(rt, threads, service, &listener);
     let _ = fs::remove_file(rt, service.socket);
-    tell(rt.alloc(), writer, outcome?)
+    let closed = outcome?;
+    let told = tell(rt.alloc(), writer, &closed);
+    save_at(rt, service.save, closed.history)?;
+    told
 }
 
-/// How many clients were waited for, and how many entries the history has since the heap was opened.
-#[derive(Clone, Copy)]
-struct Counts {
+/// What a server leaves.
+#[derive(Drop)]
+struct Closed {
+    /// How many clients were waited for.
     accepts: u32,
+    /// How many entries the history has since the heap was opened.
     entries: u64,
+    /// The bytes of the history, if it is to be saved and there was memory for them.
+    history: Option<Result<Vec<u8>, AllocError>>,
 }
 
 fn served<T: Threads + Wait + Sync>(
@@ -52,7 +66,7 @@ fn served<T: Threads + Wait + Sync>(
     threads: &T,
     service: Service<'_>,
     listener: &Listener,
-) -> Result<Counts, ProgramFault> {
+) -> Result<Closed, ProgramFault> {
     let alloc = rt.alloc();
     let limits = service.limits;
     let mut devices = Vec::new(alloc);
@@ -70,21 +84,53 @@ fn served<T: Threads + Wait + Sync>(
         blank,
     );
     match done {
-        Ok(served) => Ok(counts_of(served)),
+        Ok(served) => Ok(closed_of(alloc, served, service.save.is_some())),
         Err(fault) => Err(fault_of(alloc, fault, service.socket)),
     }
 }
 
-/// The book is let go.
-fn counts_of(served: Served<RealResource>) -> Counts {
-    Counts {
-        accepts: served.accepts,
-        entries: last(served.book),
+/// What is left of what was served. The book is let go.
+fn closed_of<R: Drop>(alloc: Global, served: Served<R>, saves: bool) -> Closed
+    ensures accepts { result.accepts ≡ served.accepts }
+    ensures entries { result.entries ≡ last served.book }
+    ensures history { IfSome result.history (λ made. IfOk made (λ bytes. IsSaved served.book bytes.items)) }
+{
+    let Served { accepts, book } = served;
+    let entries = book.last();
+    let history = history_of(alloc, &book, saves);
+    Closed {
+        accepts,
+        entries,
+        history,
     }
 }
 
-fn last<R: Drop>(book: Book<R>) -> u64 {
-    book.last()
+/// The bytes of the history of a book, if it is to be saved.
+fn history_of<R: Drop>(
+    alloc: Global,
+    book: &Book<R>,
+    saves: bool,
+) -> Option<Result<Vec<u8>, AllocError>>
+    ensures asked { IsTrue saves ↔ IsSome result }
+    ensures bytes { IfSome result (λ made. IfOk made (λ bytes. IsSaved book.now bytes.items)) }
+{
+    if saves {
+        return Some(trace_bytes_of(alloc, book));
+    }
+    None
+}
+
+/// Saves a history where it is to be saved.
+fn save_at(
+    rt: &HostRuntime,
+    path: Option<&str>,
+    history: Option<Result<Vec<u8>, AllocError>>,
+) -> Result<(), ProgramFault> {
+    let (Some(path), Some(history)) = (path, history) else {
+        return Ok(());
+    };
+    let bytes = history?;
+    save(rt, path, bytes.as_slice())
 }
 
 /// What the fault of a server is to the program.
@@ -108,8 +154,8 @@ fn unheard(alloc: Global, path: &str) -> ProgramFault {
 }
 
 /// Writes the counts, a line each.
-fn tell(alloc: Global, writer: &mut impl Write, counts: Counts) -> Result<(), ProgramFault> {
-    let Counts { accepts, entries } = counts;
+fn tell(alloc: Global, writer: &mut impl Write, closed: &Closed) -> Result<(), ProgramFault> {
+    let (accepts, entries) = (closed.accepts, closed.entries);
     let lines = format!(in alloc; "served {accepts}\nentries {entries}\n")?;
     if writer.write_all(lines.as_bytes()).is_err() || writer.flush().is_err() {
         return Err(ProgramFault::Write);

@@ -45,7 +45,7 @@ where
 }
 
 /// What the end of the session is to the program.
-fn outcome_of(end: SessionEnd) -> Result<(), ProgramFault>
+pub(crate) fn outcome_of(end: SessionEnd) -> Result<(), ProgramFault>
     ensures { IsOutcome end result }
 {
     match end {

@@ -1,0 +1,75 @@
+//! Saved histories: each row is what a session reads, with `;` for the end of a line, an arrow, and the verdict on the history that it saved.
+use crate::arguments::AuditOrder;
+use crate::audit::audit;
+use crate::save::session_saved;
+use jlr_device::real::RealDevice;
+use jlr_types::Limits;
+use std::alloc::{AllocError, Global};
+use std::test::Fail;
+use std::{fs, str};
+
+const ROWS: &str = "
+    nothing -> legal 2
+    new -;drop 1;gc; -> legal 5
+    queue;new -;weak 2 1;drop 2;gc;poll 1; -> legal 9
+    cleaner;new -;register 1 2 7;drop 2;gc;notes; -> legal 11
+    new r;soft 1 0;drop 1;gc soft;deref 1;stat; -> legal 8
+    bind a 1;new -;bind a 1;names;find a;unbind a;get 1 0; -> legal 9
+    new -;bye -> legal 3
+";
+
+/// Where the tests save a history.
+const PATH: &str = "refheap_saved";
+
+/// The bytes of lines.
+fn lines(alloc: Global, text: &str) -> Result<Vec<u8>, AllocError> {
+    let mut bytes = Vec::new(alloc);
+    for byte in text.as_bytes() {
+        bytes.push(if *byte == b';' { b'\n' } else { *byte })?;
+    }
+    Ok(bytes)
+}
+
+fn saved(rt: HostRuntime, input: &str) -> Result<(), Fail> {
+    let bytes = lines(rt.alloc(), if input == "nothing" { "" } else { input })?;
+    let limits = Limits::checked(16, 1, 16, 4, 10_000, 64)
+        .ok()
+        .ok_or("limits")?;
+    let mut reader = bytes.as_slice();
+    let mut writer = Vec::new(rt.alloc());
+    let mut device = RealDevice::new(rt);
+    let _ = session_saved(&rt, PATH, limits, &mut reader, &mut writer, &mut device);
+    Ok(())
+}
+
+fn verdict(rt: HostRuntime) -> Result<String, Fail> {
+    let asked = AuditOrder {
+        file: PATH,
+        explain: false,
+    };
+    let mut told = Vec::new(rt.alloc());
+    let _ = audit(&rt, asked, &mut told);
+    let mut verdict = String::new(rt.alloc());
+    verdict.push_str(str::from_utf8(&told)?.trim())?;
+    Ok(verdict)
+}
+
+fn played(rt: HostRuntime, row: &str) -> Result<(), Fail> {
+    let (input, wanted) = row.split_once(" -> ").ok_or("no row")?;
+    saved(rt, input)?;
+    let got = verdict(rt)?;
+    fs::remove_file(&rt, PATH)?;
+    if got.as_str() != wanted {
+        return Err(Fail::new(format_args!("at {row}: {got}")));
+    }
+    Ok(())
+}
+
+#[test]
+fn what_a_session_saves_is_legal(rt: HostRuntime) -> Result<(), Fail> {
+    let _ = fs::remove_file(&rt, PATH);
+    for row in ROWS.trim().lines() {
+        played(rt, row.trim())?;
+    }
+    Ok(())
+}
