@@ -79,12 +79,13 @@ pub fn order_of<'a>(alloc: Global, words: &'a [String]) -> Result<Order<'a>, Pro
     let command = command(alloc).map_err(ProgramFault::NoMemory)?;
     let matches = parsed(command, words)?;
     if let Some(serve) = matches.subcommand_matches("serve") {
-        return service_of(alloc, serve).map(Order::Serve);
+        return Ok(Order::Serve(service_of(alloc, serve)?));
     }
     if let Some(audit) = matches.subcommand_matches("audit") {
-        return audit_of(alloc, audit).map(Order::Audit);
+        return Ok(Order::Audit(audit_of(alloc, audit)?));
     }
-    run_of(alloc, matches.subcommand_matches("run")).map(Order::Run)
+    let order = run_of(alloc, matches.subcommand_matches("run"))?;
+    Ok(Order::Run(order))
 }
 
 /// What the words match.

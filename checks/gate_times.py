@@ -1,0 +1,94 @@
+#!/usr/bin/env python3
+"""Runs a command, `rt ci` where none is given, and tells on standard error the processor seconds that its checks took, crate by crate.
+
+Proofs, tests and must-fail edits are told apart: a check of tests has the flag --test, and an edit is checked in a folder rt-edit-*. The
+processes are looked at twice a second, so that of a check the last half second may be missing. The exit status is that of the command.
+"""
+import os
+import re
+import subprocess
+import sys
+import time
+
+TICK = os.sysconf("SC_CLK_TCK")
+PAGE_KIB = os.sysconf("SC_PAGE_SIZE") // 1024
+KINDS = ("proofs", "tests", "edits", "builds")
+
+
+def words_of(pid):
+    """The command line of a process, or none where it has ended."""
+    try:
+        with open(f"/proc/{pid}/cmdline", "rb") as file:
+            return file.read().decode("utf-8", "replace").split("\0")
+    except OSError:
+        return []
+
+
+def usage_of(pid):
+    """When a process began, its own processor seconds, and its memory in KiB. What a check gives to copies of itself they count themselves."""
+    with open(f"/proc/{pid}/stat") as file:
+        fields = file.read().rpartition(")")[2].split()
+    return fields[19], sum(map(int, fields[11:13])) / TICK, int(fields[21]) * PAGE_KIB
+
+
+def purpose_of(pid, words):
+    """The crate that a process works on and why, or none where it is no work of the toolchain."""
+    tool = os.path.basename(words[0])
+    if tool not in ("rattle", "clang", "ld.lld"):
+        return None
+    if tool != "rattle":
+        return "(compiling)", "builds"
+    named = re.search(r"--crate-name\s(\S+)", " ".join(words))
+    if not named:
+        return None
+    if "/rt-edit-" in os.readlink(f"/proc/{pid}/cwd"):
+        return named[1], "edits"
+    return named[1], "tests" if "--test" in words else "proofs"
+
+
+def look(seen):
+    """Takes note of each process of the toolchain that runs now."""
+    for pid in filter(str.isdigit, os.listdir("/proc")):
+        words = words_of(pid)
+        if not words or not words[0]:
+            continue
+        try:
+            purpose = purpose_of(pid, words)
+            if purpose:
+                began, seconds, memory = usage_of(pid)
+                peak = max(memory, seen.get((pid, began), (None, 0, 0))[2])
+                seen[pid, began] = purpose, seconds, peak
+        except (OSError, ValueError, IndexError):
+            continue
+
+
+def tell(seen):
+    """Writes the table: a line a crate, the dearest first."""
+    table, peaks = {}, {}
+    for (crate, kind), seconds, peak in seen.values():
+        row = table.setdefault(crate, dict.fromkeys(KINDS, 0))
+        row[kind] += seconds
+        peaks[crate] = max(peaks.get(crate, 0), peak)
+    lines = [("crate", *KINDS, "MiB")]
+    for crate, row in sorted(table.items(), key=lambda it: -sum(it[1].values())):
+        lines.append((crate, *(f"{row[kind]:.0f}" for kind in KINDS), f"{peaks[crate] // 1024}"))
+    total = [f"{sum(row[kind] for row in table.values()):.0f}" for kind in KINDS]
+    lines.append(("all", *total, ""))
+    for line in lines:
+        print(f"{line[0]:24}" + "".join(f"{it:>9}" for it in line[1:]), file=sys.stderr)
+
+
+def main():
+    began = time.monotonic()
+    command = subprocess.Popen(sys.argv[1:] or ["rt", "ci"])
+    seen = {}
+    while command.poll() is None:
+        look(seen)
+        time.sleep(0.5)
+    tell(seen)
+    minutes = (time.monotonic() - began) / 60
+    print(f"{minutes:.1f} minutes on {os.cpu_count()} processors", file=sys.stderr)
+    return command.returncode
+
+
+sys.exit(main())
