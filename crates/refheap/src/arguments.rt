@@ -5,7 +5,8 @@ ghost use Rattle.jlr_types.specs.Ranges.{first_fault};
 ghost use Rattle.refheap.specs.Status.{status_of};
 
 use crate::commands::{
-    DEFAULT_CELLS, DEFAULT_RESOURCES, DEFAULT_SESSIONS, DEFAULT_SOFT_AGE, DEFAULT_TRACE, command,
+    DEFAULT_BUDGET, DEFAULT_CELLS, DEFAULT_RESOURCES, DEFAULT_SESSIONS, DEFAULT_SOFT_AGE,
+    DEFAULT_TRACE, command,
 };
 use crate::fault::ProgramFault;
 use clap::error::ErrorKind;
@@ -105,12 +106,13 @@ fn service_of<'a>(alloc: Global, serve: &ArgMatches<'a>) -> Result<Service<'a>, 
     let Some(socket) = serve.get_str("socket") else {
         return Err(refused(alloc, "a socket has to be named"));
     };
-    for option in ["sessions", "total"] {
+    for option in ["sessions", "total", "budget"] {
         spelled_plainly(alloc, Some(serve), option)?;
     }
     let asked = numbers_asked(alloc, Some(serve))?;
     let sessions = number(Some(serve), "sessions").unwrap_or(DEFAULT_SESSIONS);
-    let limits = checked(alloc, asked, sessions)?;
+    let budget = number(Some(serve), "budget").unwrap_or(DEFAULT_BUDGET);
+    let limits = checked(alloc, asked, sessions, budget)?;
     let total = number(Some(serve), "total").unwrap_or(1);
     Ok(Service {
         socket,
@@ -137,7 +139,7 @@ fn run_of<'a>(alloc: Global, run: Option<&ArgMatches<'a>>) -> Result<RunOrder<'a
     ensures refused { IfErr result (λ fault. (status_of fault ≡ 2) ⊎ (status_of fault ≡ 5)) }
 {
     let asked = numbers_asked(alloc, run)?;
-    let limits = checked(alloc, asked, 1)?;
+    let limits = checked(alloc, asked, 1, DEFAULT_BUDGET)?;
     let save = run.and_then(|run| run.get_str("save"));
     Ok(RunOrder { limits, save })
 }
@@ -198,11 +200,16 @@ fn is_spelled_plainly(given: Option<&ArgMatches<'_>>, option: &str) -> bool {
 }
 
 /// These limits, where all lie in their ranges.
-fn checked(alloc: Global, asked: Numbers, sessions: u32) -> Result<Limits, ProgramFault>
-    ensures usual { IfOk result (λ limits. (limits.sessions ≡ sessions) × (limits.budget ≡ 64)) }
+fn checked(
+    alloc: Global,
+    asked: Numbers,
+    sessions: u32,
+    budget: u32,
+) -> Result<Limits, ProgramFault>
+    ensures given { IfOk result (λ limits. (limits.sessions ≡ sessions) × (limits.budget ≡ budget)) }
     ensures refused { IfErr result (λ fault. (status_of fault ≡ 2) ⊎ (status_of fault ≡ 5)) }
 {
-    match limits_with(asked, sessions) {
+    match limits_with(asked, sessions, budget) {
         Ok(limits) => Ok(limits),
         Err(fault) => {
             let message = match fault {
@@ -210,17 +217,18 @@ fn checked(alloc: Global, asked: Numbers, sessions: u32) -> Result<Limits, Progr
                 LimitFault::Resources => "the number of resources is from 1 to 256",
                 LimitFault::SoftAge => "the soft age is from 0 to 1000",
                 LimitFault::Trace => "the length of the trace is from 64 to 1000000",
-                _ => "the number of cells is from 16 to 65536",
+                LimitFault::Budget => "the budget is from 1 to 4096",
+                LimitFault::Cells => "the number of cells is from 16 to 65536",
             };
             Err(refused(alloc, message))
         }
     }
 }
 
-/// The limits of a heap of these numbers and so many sessions.
-fn limits_with(asked: Numbers, sessions: u32) -> Result<Limits, LimitFault>
-    ensures limits { IfOk result (λ limits. (limits.cells ≡ asked.cells) × (limits.sessions ≡ sessions) × (limits.resources ≡ asked.resources) × (limits.soft_age ≡ asked.soft_age) × (limits.trace ≡ asked.trace) × (limits.budget ≡ 64)) }
-    ensures fault { IfErr result (λ fault. first_fault asked.cells sessions asked.resources asked.soft_age asked.trace 64 ≡ Some fault) }
+/// The limits of a heap of these numbers, so many sessions and this budget of a piece of marking.
+fn limits_with(asked: Numbers, sessions: u32, budget: u32) -> Result<Limits, LimitFault>
+    ensures limits { IfOk result (λ limits. (limits.cells ≡ asked.cells) × (limits.sessions ≡ sessions) × (limits.resources ≡ asked.resources) × (limits.soft_age ≡ asked.soft_age) × (limits.trace ≡ asked.trace) × (limits.budget ≡ budget)) }
+    ensures fault { IfErr result (λ fault. first_fault asked.cells sessions asked.resources asked.soft_age asked.trace budget ≡ Some fault) }
 {
     let Numbers {
         cells,
@@ -228,11 +236,8 @@ fn limits_with(asked: Numbers, sessions: u32) -> Result<Limits, LimitFault>
         soft_age,
         trace,
     } = asked;
-    Limits::checked(cells, sessions, resources, soft_age, trace, DEFAULT_BUDGET)
+    Limits::checked(cells, sessions, resources, soft_age, trace, budget)
 }
-
-/// How many cells a piece of marking visits at most. The command line has no option for it.
-const DEFAULT_BUDGET: u32 = 64;
 
 /// A bad command line, with what is wrong with it, or the want of memory to say so.
 fn refused(alloc: Global, message: &str) -> ProgramFault
@@ -282,9 +287,12 @@ mod tests {
             }
             Ok(Order::Serve(service)) => {
                 let (total, socket) = (service.total, service.socket);
-                let (sessions, heap) = (service.limits.sessions, numbers(alloc, &service.limits)?);
+                let (sessions, budget) = (service.limits.sessions, service.limits.budget);
+                let heap = numbers(alloc, &service.limits)?;
                 let end = ending(alloc, service.save)?;
-                Ok(format!(in alloc; "serve {total} on {socket}, {sessions} at once, {heap}{end}")?)
+                Ok(format!(in alloc;
+                    "serve {total} on {socket}, {sessions} at once, {budget} a piece, {heap}{end}"
+                )?)
             }
             Ok(Order::Audit(AuditOrder { file, explain })) => {
                 let how = if explain { ", explained" } else { "" };
@@ -340,13 +348,15 @@ mod tests {
             refheap run --cells 65536 --resources 256 --soft-age 1000 --trace 1000000 -> 65536 256 1000 1000000
             refheap run --save history -> 1024 16 4 10000, saved to history
             refheap run --save history --cells 16 -> 16 16 4 10000, saved to history
-            refheap serve --socket s --total 7 --save history -> serve 7 on s, 4 at once, 1024 16 4 10000, saved to history
+            refheap serve --socket s --total 7 --save history -> serve 7 on s, 4 at once, 64 a piece, 1024 16 4 10000, saved to history
             refheap audit history -> audit of history
             refheap audit --explain history -> audit of history, explained
             refheap audit history --explain -> audit of history, explained
-            refheap serve --socket s --total 7 -> serve 7 on s, 4 at once, 1024 16 4 10000
-            refheap serve --total 1000000 --socket /tmp/s --sessions 64 --cells 16 -> serve 1000000 on /tmp/s, 64 at once, 16 16 4 10000
-            refheap serve --trace 64 --soft-age 0 --resources 1 --cells 16 --sessions 1 --total 1 --socket s -> serve 1 on s, 1 at once, 16 1 0 64
+            refheap serve --socket s --total 7 -> serve 7 on s, 4 at once, 64 a piece, 1024 16 4 10000
+            refheap serve --total 1000000 --socket /tmp/s --sessions 64 --cells 16 -> serve 1000000 on /tmp/s, 64 at once, 64 a piece, 16 16 4 10000
+            refheap serve --trace 64 --soft-age 0 --resources 1 --cells 16 --sessions 1 --total 1 --socket s -> serve 1 on s, 1 at once, 64 a piece, 16 1 0 64
+            refheap serve --socket s --total 1 --budget 1 -> serve 1 on s, 4 at once, 1 a piece, 1024 16 4 10000
+            refheap serve --budget 4096 --socket s --total 1 -> serve 1 on s, 4 at once, 4096 a piece, 1024 16 4 10000
             ",
         )?;
         play(
@@ -389,6 +399,12 @@ mod tests {
             refheap serve --socket s --total 1 --sessions 0 -> status 2
             refheap serve --socket s --total 1 --sessions 65 -> status 2
             refheap serve --socket s --total 1 --cells 15 -> status 2
+            refheap serve --socket s --total 1 --budget 0 -> status 2
+            refheap serve --socket s --total 1 --budget 4097 -> status 2
+            refheap serve --socket s --total 1 --budget 064 -> status 2
+            refheap serve --socket s --total 1 --budget +1 -> status 2
+            refheap serve --socket s --total 1 --budget -> status 2
+            refheap run --budget 64 -> status 2
             ",
         )
     }

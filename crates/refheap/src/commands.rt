@@ -17,6 +17,9 @@ pub const DEFAULT_SOFT_AGE: u32 = 4;
 /// How many entries the trace holds where the command line gives no number.
 pub const DEFAULT_TRACE: u32 = 10_000;
 
+/// How many cells a piece of marking visits at most where the command line gives no number.
+pub const DEFAULT_BUDGET: u32 = 64;
+
 /// An example of a `run` that can be pasted.
 const RUN_EXAMPLE: &str =
     "Example:\n  printf 'new -\\nweak 1 0\\ndrop 1\\ngc\\nderef 2\\nbye\\n' | refheap run --cells 1024";
@@ -99,6 +102,14 @@ fn serve_command<'a>(alloc: Global) -> Result<Command<'a>, AllocError> {
         .help("Number of clients that are served at once, from 1 to 64")
         .value_parser(value_parser!(u32).range(1..=64))
         .default_value("4");
+    let budget = Arg::new(alloc, "budget")
+        .long("budget")
+        .value_name("N")
+        .help(
+            "Number of cells that the background marker visits at a time while all clients wait, from 1 to 4096",
+        )
+        .value_parser(value_parser!(u32).range(1..=4_096))
+        .default_value("64");
     let serve = Command::new(alloc, "serve")
         .about(
             "Lets clients share one heap over a Unix socket, and ends when so many have been served",
@@ -106,7 +117,8 @@ fn serve_command<'a>(alloc: Global) -> Result<Command<'a>, AllocError> {
         .after_help(SERVE_EXAMPLE)
         .arg(socket)?
         .arg(total)?
-        .arg(sessions)?;
+        .arg(sessions)?
+        .arg(budget)?;
     with_heap(alloc, serve)
 }
 
