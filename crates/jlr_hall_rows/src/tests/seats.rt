@@ -1,0 +1,165 @@
+//! Seats of a hall without a server: two sessions beside each other, and a `remove` that the end of the hall wakes.
+ghost use Rattle.std.specs.Prelude.{◌≡◌, ◌+◌};
+ghost use Rattle.std.specs.Thread.{IsSend, IsSync};
+
+use super::clients::{After, Client, Clients};
+use super::gates::{HELD, SERVED};
+use super::player::{Entries, entries};
+use jlr_device::gate::{Gate, GateDevice, GateResource};
+use jlr_event::event::{Event, Reply};
+use jlr_hall::hall::Hall;
+use jlr_hall::port::SeatPort;
+use jlr_hall::seat::Seat;
+use jlr_machine::ask::Answer;
+use jlr_prog::server::Acceptor;
+use jlr_session::port::Port;
+use jlr_session::serve::serve;
+use jlr_types::{Handle, Limits, Refusal};
+use std::alloc::Global;
+use std::marker::Brand;
+use std::sync::Wait;
+use std::sync::ledger::{Blank, Ledger};
+use std::test::Fail;
+use std::thread;
+use std::thread::Threads;
+
+/// A session of the next client at a seat.
+fn session<G: Gate + Acceptor + Copy + Drop, L: Ledger, T: Wait>(
+    threads: &T,
+    hall: &Hall<GateResource<G>, L>,
+    clients: G,
+    seat: Seat<L>,
+) -> Seat<L> {
+    let mut port = SeatPort::new(threads, hall, seat);
+    if let Ok((mut lines, mut replies)) = clients.accept() {
+        let _ = serve(
+            &mut lines,
+            &mut replies,
+            &mut port,
+            &mut GateDevice::new(clients),
+        );
+    }
+    port.into_seat()
+}
+
+/// A client at each of the first two seats. The seats, as they were left.
+fn side_by_side<
+    G: Gate + Acceptor + Copy + Drop + Send + Sync,
+    L: Ledger + Send + Sync,
+    T: Threads + Wait + Sync,
+>(
+    threads: &T,
+    alloc: Global,
+    hall: &Hall<GateResource<G>, L>,
+    clients: G,
+    seats: Vec<Seat<L>>,
+) -> Vec<Seat<L>>
+where
+    G::In: Send,
+    G::Out: Send,
+{
+    thread::scope(
+        thread::scope_env(),
+        threads,
+        move |scope| -> Vec<Seat<L>>
+            requires { IsSync T.row × IsSend L.row × IsSync L.row × IsSend G.row × IsSync G.row × IsSend G.In.row × IsSend G.Out.row }
+        {
+            let mut running = Vec::new(alloc);
+            let mut back = Vec::new(alloc);
+            for seat in seats {
+                if seat.index() > 1 {
+                    let _ = back.push(seat);
+                } else if let Ok(thread) = scope.spawn(move || session(
+                    threads, hall, clients, seat,
+                )) {
+                    let _ = running.push(thread);
+                }
+            }
+            for thread in running {
+                let _ = back.push(thread.join(threads));
+            }
+            back
+        },
+    )
+}
+
+fn two_sessions<
+    G: Gate + Acceptor + Copy + Drop + Send + Sync,
+    L: Ledger + Send + Sync,
+    T: Threads + Wait + Sync,
+>(threads: &T, alloc: Global, limits: Limits, clients: G, blank: Blank) -> Result<Entries, Fail>
+where
+    G::In: Send,
+    G::Out: Send,
+    requires name { blank.name ≡ L.name }
+    requires parts { (blank.parts ≡ L.parts) × (blank.parts ≡ limits.sessions + 3) }
+{
+    let (hall, seats) = Hall::<GateResource<G>, L>::open(alloc, limits, blank)?;
+    let seats = side_by_side(threads, alloc, &hall, clients, seats);
+    match hall.close(seats) {
+        Ok(book) => Ok(entries(&book)),
+        Err(_) => Err("a seat does not agree".into()),
+    }
+}
+
+#[test]
+fn gate_two_sessions(rt: HostRuntime) -> Result<(), Fail> {
+    let pair = [Client::new(HELD.0, HELD.1), Client::new(SERVED.0, SERVED.1)];
+    let clients = Clients::new(rt, &pair, After::Read, 6);
+    let limits = Limits::checked(16, 2, 4, 4, 100, 64).ok().ok_or("limits")?;
+    let entries = two_sessions::<_, Brand, _>(&rt, rt.alloc(), limits, &clients, Blank::new(5))?;
+    if entries != (7, 7) || !clients.are_served() {
+        return Err("the sessions went otherwise".into());
+    }
+    Ok(())
+}
+
+/// Whether a `remove` that waits at a seat is refused once the hall is to end.
+fn is_told<L: Ledger, T: Wait>(threads: &T, hall: &Hall<u32, L>, seat: Seat<L>) -> bool {
+    let mut port = SeatPort::new(threads, hall, seat);
+    let mutator = port.mutator();
+    let _ = port.ask(Event::Join { mutator });
+    let _ = port.ask(Event::MakeQueue { mutator });
+    let reply = port.ask(Event::Remove {
+        mutator,
+        queue: Handle::new(1),
+    });
+    matches!(
+        reply,
+        Reply::Answered {
+            answer: Answer::Refused(Refusal::WouldWait),
+            ..
+        }
+    )
+}
+
+fn ended<L: Ledger + Send + Sync, T: Threads + Wait + Sync>(
+    threads: &T,
+    alloc: Global,
+    limits: Limits,
+    blank: Blank,
+) -> Result<bool, Fail>
+    requires name { blank.name ≡ L.name }
+    requires parts { (blank.parts ≡ L.parts) × (blank.parts ≡ limits.sessions + 3) }
+{
+    let (hall, seats) = Hall::<u32, L>::open(alloc, limits, blank)?;
+    let shared = &hall;
+    let Some(seat) = seats.into_iter().next() else {
+        return Err("no seat".into());
+    };
+    let (told, ()) = thread::join(
+        threads,
+        move || is_told(threads, shared, seat),
+        move || shared.stop(threads),
+    );
+    Ok(told)
+}
+
+#[test]
+fn by_the_end(rt: HostRuntime) -> Result<(), Fail> {
+    let limits = Limits::checked(16, 1, 1, 0, 64, 1).ok().ok_or("limits")?;
+    if !ended::<Brand, _>(&rt, rt.alloc(), limits, Blank::new(4))? {
+        return Err("it was answered otherwise".into());
+    }
+    Ok(())
+}
