@@ -1,5 +1,6 @@
 //! Clients as text. The expected texts come from the description of the protocol and of the machine.
 mod clients;
+mod closes;
 mod gates;
 mod listeners;
 mod loops;
