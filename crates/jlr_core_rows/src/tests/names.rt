@@ -48,7 +48,7 @@ fn names_asked(alloc: Global) -> Result<Vec<Event<u32>>, AllocError> {
     let mut events = Vec::new(alloc);
     events.push(join())?;
     events.push(bare())?;
-    for number in 0u16..256 {
+    for number in 0..=255u8 {
         events.push(bind_numbered(number))?;
     }
     events.push(bind("x", 1))?;
@@ -56,9 +56,9 @@ fn names_asked(alloc: Global) -> Result<Vec<Event<u32>>, AllocError> {
     Ok(events)
 }
 
-// A name of its own for each number below 256.
-fn bind_numbered(number: u16) -> Event<u32> {
-    let text = [b'a' + (number / 16) as u8 % 16, b'a' + (number % 16) as u8];
+// A name of its own for each number.
+fn bind_numbered(number: u8) -> Event<u32> {
+    let text = [b'a' + number / 16, b'a' + number % 16];
     Event::Bind {
         mutator: me(),
         name: Name::from_slice(&text).unwrap_or(name("x")),
