@@ -3,6 +3,7 @@ mod clients;
 mod gates;
 mod listeners;
 mod loops;
+mod marker;
 mod player;
 mod removals;
 mod seats;
