@@ -4,6 +4,7 @@ mod closes;
 mod gates;
 mod listeners;
 mod loops;
+mod marker;
 mod player;
 mod removals;
 mod seats;
