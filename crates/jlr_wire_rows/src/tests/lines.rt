@@ -37,9 +37,8 @@ fn refuse(pieces: &mut Pieces, piece: &[u8], out: &mut Vec<u8>) -> Result<(), Wr
     Ok(())
 }
 
-/// Whether the stream, cut into two there, is answered as it has to be.
-fn is_cut_well(alloc: Global, bytes: &[u8], cut: usize) -> Result<bool, WriteFault> {
-    let (front, back) = bytes.split_at(cut);
+/// Whether the stream, in these two parts, is answered as it has to be.
+fn is_cut_well(alloc: Global, front: &[u8], back: &[u8]) -> Result<bool, WriteFault> {
     let mut pieces = Pieces::new();
     let mut out = Vec::new(alloc);
     refuse(&mut pieces, front, &mut out)?;
@@ -55,7 +54,8 @@ fn ends_well(pieces: &Pieces, out: &[u8]) -> bool {
 fn each_cut_into_two_gives_the_same_lines(alloc: Global) -> Result<(), Fail> {
     let bytes = stream(alloc)?;
     for cut in 0..=bytes.len() {
-        if !is_cut_well(alloc, bytes.as_slice(), cut)? {
+        let (front, back) = bytes.as_slice().split_at(cut);
+        if !is_cut_well(alloc, front, back)? {
             return Err(Fail::new(format_args!("cut at {cut}")));
         }
     }
