@@ -1,5 +1,5 @@
 #!/usr/bin/env bash
-# Tries each way in which `refheap run` ends: the exit status, and what goes to the standard error.
+# Tries each way in which `refheap run` and `refheap serve` end: the exit status, and what goes to the standard error.
 # checks/ends.sh [PROGRAM]
 set -u
 here=$(cd "$(dirname "$0")" && pwd)
@@ -55,4 +55,78 @@ if grep -q "a word of the command line is not UTF-8 text" "$errors"; then
     echo "told" >"$errors"
 fi
 check "a word that is no text, with what is wrong" 2 "told" $status
+
+folder=$(mktemp -d)
+trap 'rm -rf "$errors" "$folder"' EXIT
+socket=$folder/socket
+
+# told STATUS: keeps the status, and puts the word told in place of the text of the command line, where there is one.
+told() {
+    status=$1
+    if [ -s "$errors" ]; then
+        echo "told" >"$errors"
+    fi
+}
+
+# client: a client that says nothing but bye, once there is a server
+client() {
+    python3 - "$socket" <<'END'
+import os, socket, sys, time
+for _ in range(500):
+    if os.path.exists(sys.argv[1]):
+        break
+    time.sleep(0.01)
+with socket.socket(socket.AF_UNIX) as stream:
+    stream.connect(sys.argv[1])
+    stream.sendall(b"bye\n")
+    sys.exit(stream.recv(10) != b"ok\n")
+END
+}
+
+# gone NAME: that nothing lies where a server listened
+gone() {
+    if [ -e "$socket" ]; then
+        echo "WRONG   $1: the socket is still there"
+        failed=1
+    fi
+}
+
+client &
+"$program" serve --socket "$socket" --total 1 --sessions 1 >"$folder/said" 2>"$errors"
+check "a server of one client" 0 "" $?
+gone "a server of one client"
+if [ "$(cat "$folder/said")" != "served 1
+entries 2" ]; then
+    echo "WRONG   a server of one client said '$(cat "$folder/said")'"
+    failed=1
+fi
+client &
+"$program" serve --socket "$socket" --total 1 >/dev/full 2>"$errors"
+check "a server whose output is full" 1 "refheap: write failed" $?
+gone "a server whose output is full"
+echo "mine" >"$folder/file"
+"$program" serve --socket "$folder/file" --total 1 2>"$errors"
+check "a server where a file is" 1 "refheap: cannot listen on $folder/file" $?
+if [ "$(cat "$folder/file")" != "mine" ]; then
+    echo "WRONG   a server where a file is: the file is not left alone"
+    failed=1
+fi
+"$program" serve --socket "$folder/none/socket" --total 1 2>"$errors"
+check "a server where no folder is" 1 "refheap: cannot listen on $folder/none/socket" $?
+long=$folder/$(printf 'x%.0s' {1..200})
+"$program" serve --socket "$long" --total 1 2>"$errors"
+check "a server at a path that is too long" 1 "refheap: cannot listen on $long" $?
+(
+    ulimit -v 200000
+    exec "$program" serve --socket "$socket" --total 1 --sessions 64 2>"$errors"
+)
+check "a server whose threads cannot be started" 1 "refheap: cannot listen on $socket" $?
+gone "a server whose threads cannot be started"
+for words in "--total 1" "--socket $socket" "--socket $socket --total 0" "--socket $socket --total 1000001" "--socket $socket --total 01" \
+    "--socket $socket --total 1 --sessions 0" "--socket $socket --total 1 --sessions 65" "--socket $socket --total 1 --cells 15" "--help"; do
+    "$program" serve $words </dev/null >/dev/null 2>"$errors"
+    told $?
+    check "serve ${words//$folder\//}, with the text of the command line" 2 "told" $status
+    gone "$words"
+done
 exit $failed

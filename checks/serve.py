@@ -1,6 +1,8 @@
 #!/usr/bin/env python3
 """Loads a server: many clients of random commands with files and sockets, clients that go at any moment, collections beside them; then many sessions one
-after the other. The server ends well, no descriptor stays open, its memory stays flat, and its history has at least the asks that clients counted.
+after the other. The server ends by itself with status 0, no descriptor stays open, its memory stays flat, and its history has at least the asks that clients
+counted. Before, each seat notes a whole trace, so that what follows finds all the room that it needs. Then clients whose entries can be told from outside:
+the history has exactly as many. Then a server under `strace`: no descriptor is closed twice.
 
     checks/serve.py PROGRAM [--clients N] [--seconds N] [--sessions N]
 
@@ -9,6 +11,7 @@ A line a second says how it goes on: sessions so far, commands a second, the ser
 import argparse
 import os
 import random
+import shutil
 import socket
 import sys
 import tempfile
@@ -16,9 +19,10 @@ import threading
 import time
 
 sys.path.insert(0, os.path.join(os.path.dirname(os.path.abspath(__file__)), "..", "examples"))
-from refheap import Server  # noqa: E402
+from refheap import Client, Fault, Refused, Server  # noqa: E402
 
-TWO_ASKS = ("open", "connect", "read", "write", "close", "clean")
+SESSIONS_A_SECOND = 500
+TRACE = 1000
 
 
 class Tally:
@@ -76,12 +80,11 @@ def random_line(choices, folder):
 
 
 def at_least(line, reply):
-    """How many asks a command made for certain."""
+    """How many asks a command made for certain. What a `close` or a `clean` made cannot be told by its reply."""
     word = line.split()[0]
     if word in ("nonsense", "bye"):
         return 0
-    done = reply.startswith(("=", "wrote", "data", "end", "fault"))
-    return 2 if word in TWO_ASKS and word not in ("close", "clean") and done else 1
+    return 2 if word in ("open", "connect", "read", "write") and not reply.startswith("!") else 1
 
 
 def session(path, seed, folder, tally, most):
@@ -90,22 +93,19 @@ def session(path, seed, folder, tally, most):
     stream = socket.socket(socket.AF_UNIX)
     stream.connect(path)
     replies = stream.makefile("rb")
-    commands = asks = 0
+    commands = asks = wrong = 0
     for _ in range(choices.randint(1, most)):
         lines = [random_line(choices, folder) for _ in range(choices.choice([1, 1, 1, 20]))]
         stream.sendall("".join(line + "\n" for line in lines).encode())
         for line in lines:
             reply = replies.readline().decode()
-            if not reply.endswith("\n"):
-                tally.add(0, commands, asks, 1)
-                return
+            wrong += not reply.endswith("\n")
             commands += 1
             asks += at_least(line, reply)
     ending = choices.random()
     if ending < 0.6:
         stream.sendall(b"bye\n")
-        if replies.readline() != b"ok\n" or replies.read() != b"":
-            tally.add(0, 0, 0, 1)
+        wrong += replies.readline() != b"ok\n" or replies.read() != b""
     elif ending < 0.7:
         stream.sendall(b"ne")
     elif ending < 0.8:
@@ -114,7 +114,7 @@ def session(path, seed, folder, tally, most):
         stream.sendall(b"names\n" * 2000)
     replies.close()
     stream.close()
-    tally.add(1, commands, asks + 2)
+    tally.add(1, commands, asks + 2, wrong)
 
 
 def memory(process):
@@ -136,6 +136,229 @@ def watch(server, tally, ends, seen):
         before = commands
 
 
+def counts(heap):
+    """What `stat` tells: objects, open files and sockets, actions taken up, ended well, failed. And how often it was asked until all that was lost is closed."""
+    for asked in range(1, 2001):
+        objects, open_now, taken, well, failed = map(int, heap.stat())
+        if open_now == 0 and taken == well + failed:
+            break
+        heap.gc()
+        time.sleep(0.001)
+    return open_now, taken, well, failed, 2 * asked - 1
+
+
+def warm_up(path, clients, tally):
+    """Each seat in turn notes more than a trace holds, so that what it keeps is as large as it ever gets."""
+    heaps = [Client(path) for _ in range(clients)]
+    for heap in heaps:
+        tally.add(0, 0, 0, heap.ahead(*["same 0 0"] * (2 * TRACE)).count("yes") != 2 * TRACE)
+    for heap in heaps:
+        heap.close_session()
+    tally.add(clients, 2 * TRACE * clients, (2 * TRACE + 2) * clients)
+
+
+def load(program, clients, seconds, sessions):
+    """Clients beside each other, then one after the other. Whether all is as it was at the start."""
+    folder = tempfile.mkdtemp()
+    ends = threading.Event()
+    tally = Tally()
+    threading.Thread(target=peer, args=(f"{folder}/peer", ends), daemon=True).start()
+    most = seconds * SESSIONS_A_SECOND
+    total = clients + most + sessions + 1
+    server = Server(program, total, "--sessions", str(clients), "--cells", "4096", "--resources", "128", "--trace", str(TRACE))
+    at_start = descriptors(server.process)
+    seen = []
+    watcher = threading.Thread(target=watch, args=(server, tally, ends, seen))
+    watcher.start()
+    stop = time.time() + seconds
+    warm_up(server.path, clients, tally)
+
+    def work(number):
+        turn = 0
+        while time.time() < stop and turn < most // clients:
+            session(server.path, number * 1_000_003 + turn, folder, tally, 30)
+            turn += 1
+
+    workers = [threading.Thread(target=work, args=(number,)) for number in range(clients)]
+    for worker in workers:
+        worker.start()
+    for worker in workers:
+        worker.join()
+    beside = tally.sessions
+    number = 0
+    while tally.sessions < total - 1:
+        session(server.path, -number, folder, tally, 3)
+        number += 1
+
+    last = server.client()
+    for name in last.names():
+        last.unbind(name)
+    open_now, taken, well, failed, _ = counts(last)
+    time.sleep(0.1)
+    at_end, last_memory = descriptors(server.process), memory(server.process)
+    ends.set()
+    watcher.join()
+    last.close_session()
+    status, served, entries = server.end()
+    shutil.rmtree(folder)
+
+    early = seen[min(9, len(seen) - 1)]
+    print(f"{beside} sessions beside each other and {number} one after the other, {tally.commands} commands; taken up {taken}, well {well}, failed {failed}")
+    print(f"memory {early} kB early, {last_memory} kB at the end; descriptors {at_start} at the start, {at_end} at the end; open {open_now}")
+    print(f"status {status}, served {served}, entries {entries}, at least {tally.asks} by clients; wrong replies {tally.wrong}")
+    return all([
+        say("each command of each session was answered", tally.wrong == 0),
+        say("all that was lost was closed, and no descriptor is left", open_now == 0 and taken == well + failed and at_end == at_start + 2),
+        say("the memory is flat", last_memory <= early * 1.1),
+        say("the server ended by itself, after all sessions", status == 0 and served == total),
+        say("the history has no fewer entries than clients asked for", entries >= tally.asks),
+    ])
+
+
+def say(what, holds):
+    print(f"{'ok     ' if holds else 'WRONG  '} {what}", flush=True)
+    return holds
+
+
+class Counted:
+    """A session that knows how many entries it makes, and how many the loops make for it."""
+
+    def __init__(self, server, seed, folder):
+        self.heap = server.client()
+        self.choices = random.Random(seed)
+        self.seed = seed
+        self.folder = folder
+        self.entries = 2
+        self.cleaned = 0
+
+    def ask(self, line, entries=1):
+        self.entries += entries
+        return self.heap.ask(line)
+
+    def refused(self, line, entries=1):
+        try:
+            self.ask(line, entries)
+        except Refused:
+            return
+        raise AssertionError(line)
+
+    def graph(self):
+        top, leaf = self.ask("new rr"), self.ask("new i")
+        self.ask(f"put {top} 0 {leaf}")
+        self.ask(f"setint {leaf} 0 5")
+        self.ask(f"drop {leaf}")
+        self.ask(f"drop {self.ask(f'get {top} 0')}")
+        self.ask(f"drop {top}")
+
+    def file(self):
+        """A file that is closed, or one that is lost, which the cleaner closes."""
+        guard = self.ask(f"open w {self.folder}/c{self.seed}", 2)
+        for _ in range(self.choices.randrange(4)):
+            self.ask(f"write {guard} 0102", 2)
+        if self.choices.random() < 0.5:
+            self.ask(f"close {guard}", 2)
+            self.ask(f"close {guard}")
+            self.refused(f"write {guard} 01")
+        else:
+            self.lose()
+        self.ask(f"drop {guard}")
+
+    def no_file(self):
+        self.entries += 2
+        try:
+            self.heap.ask(f"open r {self.folder}/none")
+        except Fault:
+            return
+        raise AssertionError("a file that is not there")
+
+    def lose(self):
+        """One thing more that is handed over, taken up and finished by the loops."""
+        self.cleaned += 1
+        self.entries += 3
+
+    def death(self):
+        """A reference that the handler puts on its queue, and a `remove` that waits for it."""
+        queue, held = self.ask("queue"), self.ask("new -")
+        weak = self.ask(f"weak {held} {queue}")
+        self.ask(f"drop {held}")
+        self.ask("gc")
+        self.entries += 1
+        found = self.ask(f"remove {queue}")
+        for handle in (queue, weak, found):
+            self.ask(f"drop {handle}")
+
+    def action(self):
+        cleaner, held = self.ask("cleaner"), self.ask("new -")
+        cleanable = self.ask(f"register {cleaner} {held} 7")
+        if self.choices.random() < 0.5:
+            self.ask(f"clean {cleanable}", 2)
+            self.ask(f"clean {cleanable}")
+        else:
+            self.lose()
+        for handle in (held, cleaner, cleanable):
+            self.ask(f"drop {handle}")
+
+    def name(self):
+        held = self.ask("new -")
+        self.ask(f"bind name{self.seed} {held}")
+        self.ask(f"drop {self.ask(f'find name{self.seed}')}")
+        self.ask(f"unbind name{self.seed}")
+        self.refused(f"find name{self.seed}")
+        self.ask(f"drop {held}")
+
+    def nonsense(self):
+        self.refused("nonsense", 0)
+        self.refused("new " + "r" * 600, 0)
+        self.refused("get 200 0")
+
+    def play(self, rounds):
+        for _ in range(rounds):
+            self.choices.choice([self.graph, self.graph, self.file, self.no_file, self.death, self.action, self.name, self.nonsense])()
+        self.heap.close_session()
+
+
+def counted(program, clients, rounds):
+    """Whether a history has exactly the entries that clients and loops made."""
+    folder = tempfile.mkdtemp()
+    server = Server(program, clients + 1, "--sessions", str(clients + 1), "--cells", "65536", "--resources", "256", "--trace", str(TRACE))
+    sessions = [Counted(server, seed, folder) for seed in range(clients)]
+    threads = [threading.Thread(target=one.play, args=(rounds,)) for one in sessions]
+    for thread in threads:
+        thread.start()
+    for thread in threads:
+        thread.join()
+    last = server.client()
+    _, taken, well, _, asked = counts(last)
+    last.close_session()
+    status, _, entries = server.end()
+    shutil.rmtree(folder)
+    wanted = sum(one.entries for one in sessions) + 2 + asked
+    print(f"entries {entries}, clients and loops made {wanted}; {sum(one.cleaned for one in sessions)} things were lost, {taken} actions taken up")
+    return say("the history has exactly the entries that were made", status == 0 and entries == wanted and taken == well)
+
+
+def closed_once(program):
+    """Whether no descriptor is closed twice: `strace` sees no close that fails."""
+    with tempfile.TemporaryDirectory() as folder:
+        script, log = os.path.join(folder, "traced"), os.path.join(folder, "log")
+        with open(script, "w") as file:
+            file.write(f'#!/bin/sh\nexec strace -f -qq -e trace=close -o {log} "{program}" "$@"\n')
+        os.chmod(script, 0o755)
+        server = Server(script, 40, "--sessions", "8")
+        tally = Tally()
+        threads = [threading.Thread(target=lambda n=n: [session(server.path, n * 100 + k, folder, tally, 30) for k in range(5)]) for n in range(8)]
+        for thread in threads:
+            thread.start()
+        for thread in threads:
+            thread.join()
+        status, _, _ = server.end()
+        with open(log) as file:
+            closes = [line for line in file if "close(" in line or "close resumed" in line]
+        failed = [line for line in closes if "= -1" in line]
+        print(f"{len(closes)} closes, {len(failed)} failed")
+        return say("no descriptor is closed twice", status == 0 and len(closes) > 40 and not failed)
+
+
 def main():
     parser = argparse.ArgumentParser()
     parser.add_argument("program")
@@ -143,64 +366,11 @@ def main():
     parser.add_argument("--seconds", type=int, default=20)
     parser.add_argument("--sessions", type=int, default=2000)
     asked = parser.parse_args()
-    folder = tempfile.mkdtemp()
-    ends = threading.Event()
-    tally = Tally()
-    threading.Thread(target=peer, args=(f"{folder}/peer", ends), daemon=True).start()
-
-    total = 1_000_000
-    server = Server(asked.program, total, "--sessions", str(asked.clients), "--cells", "4096", "--resources", "128", "--trace", "1000")
-    at_start = descriptors(server.process)
-    seen = []
-    watcher = threading.Thread(target=watch, args=(server, tally, ends, seen))
-    watcher.start()
-    stop = time.time() + asked.seconds
-
-    def load(number):
-        turn = 0
-        while time.time() < stop:
-            session(server.path, number * 1_000_003 + turn, folder, tally, 30)
-            turn += 1
-
-    clients = [threading.Thread(target=load, args=(number,)) for number in range(asked.clients)]
-    for client in clients:
-        client.start()
-    for client in clients:
-        client.join()
-    for number in range(asked.sessions):
-        session(server.path, -number, folder, tally, 3)
-    ends.set()
-    watcher.join()
-
-    with server.client() as last:
-        for name in last.names():
-            last.unbind(name)
-        for _ in range(200):
-            last.gc()
-            objects, open_now, taken, well, failed = map(int, last.stat())
-            if open_now == 0 and taken == well + failed:
-                break
-            time.sleep(0.01)
-    time.sleep(0.1)
-    at_end = descriptors(server.process)
-    last_memory = memory(server.process)
-    server.process.kill()
-    server.process.wait()
-
-    early = seen[min(9, len(seen) - 1)]
-    print(f"{tally.sessions} sessions, {tally.commands} commands, at least {tally.asks} asks; taken up {taken}, well {well}, failed {failed}, open {open_now}")
-    print(f"memory {early} kB early, {last_memory} kB at the end; descriptors {at_start} at the start, {at_end} at the end")
-    right = tally.wrong == 0 and open_now == 0 and at_end <= at_start + 1 and last_memory <= early * 1.1
-    print("ok load" if right else "WRONG")
-
-    server = Server(asked.program, 8, "--sessions", "4", "--trace", "1000000")
-    tally = Tally()
-    for number in range(8):
-        session(server.path, number, folder, tally, 200)
-    status, served, entries = server.end()
-    print(f"status {status}, served {served}, entries {entries}, clients counted {tally.asks}")
-    right = right and status == 0 and served == 8 and entries >= tally.asks
-    print("ok end" if right else "WRONG")
+    program = os.path.abspath(asked.program)
+    right = load(program, asked.clients, asked.seconds, asked.sessions)
+    right = counted(program, min(asked.clients, 63), 40) and right
+    if shutil.which("strace"):
+        right = closed_once(program) and right
     return 0 if right else 1
 
 
