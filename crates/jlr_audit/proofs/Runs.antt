@@ -1,12 +1,13 @@
 -- Runs that grow, and that a history has one verdict.
-use Rattle.std.proofs.Common.{◌≡◌, ◌≢◌, ℕ, zero, suc, ◌+◌, ◌<◌, List, [], ◌∷◌, ◌++◌, Some, take, length, get_or, refl, sym, subst, ap, ◌∙◌, arith, add-one}
-use Rattle.std.specs.Prelude.{slice_get}
+use Rattle.std.proofs.Common.{◌≡◌, ◌≢◌, ℕ, zero, suc, ◌+◌, ◌<◌, List, [], ◌∷◌, ◌++◌, Option, Some, None, take, length, get_or, refl, sym, subst, ap, ◌∙◌, arith, add-one}
+use Rattle.std.specs.Prelude.{slice_get, MatchOption}
 use Rattle.std.proofs.Math.Seq.{take-suc, take-length}
 use Rattle.std.proofs.lemmas.Option.{slice_get_read, slice_get_within, slice_get-get_or}
 use Rattle.jlr_machine.specs.declared.machine.Machine.{Machine}
 use Rattle.jlr_machine.specs.declared.entry.Entry.{Entry}
 use Rattle.jlr_machine.specs.Run.{IsLegal, Run, apply}
 use Rattle.jlr_machine.specs.WellFormed.{IsImage}
+use Rattle.jlr_plain.specs.Following.{IsNext}
 use Rattle.jlr_audit.specs.declared.verdict.Verdict.{Verdict}
 use Rattle.jlr_audit.specs.declared.verdict.Verdict.TheVariants.{Legal, Illegal}
 use Rattle.jlr_audit.specs.Verdicts.{IsLegalFront, IsFirstIllegal, IsVerdict}
@@ -71,11 +72,23 @@ pub any_verdict : (image : Machine) (entries : List Entry) (v : Verdict) → IsV
 any_verdict image entries v p w q = one_verdict image entries v w p q
 
 -- ---- What the loop over the entries keeps
-pub refused_here : (old new : Machine) (entries : List Entry) (k : ℕ) (x e : Entry) → k < length entries → x ≡ get_or entries k x → (¬ (IsLegal old x)) × (new ≡ old) → slice_get entries k ≡ Some e → IsLegal new e → ⊥
-refused_here old new entries k x e lt is refused at legal =
-    let there : slice_get entries k ≡ Some x = slice_get_read entries (length entries) k x refl lt is in
-    let same : e ≡ x = cc in
-    refused.0 (subst (IsLegal old) same (subst (λ (n : Machine). IsLegal n e) refused.1 legal))
+pub next_one : (m : Machine) (e : Entry) (o : Option Machine) (n : Machine) → o ≡ Some n → MatchOption o (¬ (IsLegal m e)) (λ n. IsNext m e n) → IsNext m e n
+next_one m e o n is h = subst (λ (p : Option Machine). MatchOption p (¬ (IsLegal m e)) (λ n. IsNext m e n)) is h
+
+pub no_next : (m : Machine) (e : Entry) (o : Option Machine) → o ≡ None → MatchOption o (¬ (IsLegal m e)) (λ n. IsNext m e n) → ¬ (IsLegal m e)
+no_next m e o is h = subst (λ (p : Option Machine). MatchOption p (¬ (IsLegal m e)) (λ n. IsNext m e n)) is h
+
+pub stops_here : (start old : Machine) (entries : List Entry) (k : ℕ) (x : Entry) → k < length entries → x ≡ get_or entries k x → Run start (take k entries) old → ¬ (IsLegal old x) → IsLegalFront start entries k
+stops_here start old entries k x lt is run refused =
+    record {
+      within = omega (arith, lt);
+      left = old;
+      run = run;
+      stops = λ e at legal.
+          let there : slice_get entries k ≡ Some x = slice_get_read entries (length entries) k x refl lt is in
+          let same : e ≡ x = cc in
+          refused (subst (IsLegal old) same legal);
+    }
 
 pub goes_on : (start old new : Machine) (entries : List Entry) (k : ℕ) (x : Entry) → k < length entries → x ≡ get_or entries k x → Run start (take k entries) old → IsLegal old x × (new ≡ apply old x) → Run start (take (k + 1) entries) new
 goes_on start old new entries k x lt is run legal =
@@ -88,6 +101,15 @@ no_more entries e at = let lt : length entries < length entries = slice_get_with
 entry_there : (entries : List Entry) (k : ℕ) → k < length entries → (e : Entry) × (slice_get entries k ≡ Some e)
 entry_there [] k lt = absurd (omega arith)
 entry_there (x ∷ entries) k lt = (get_or (x ∷ entries) k x, slice_get-get_or (x ∷ entries) k x lt)
+
+pub all_through : (start left : Machine) (entries : List Entry) (k : ℕ) → k ≡ length entries → Run start (take k entries) left → IsLegalFront start entries (length entries)
+all_through start left entries k is run =
+    record {
+      within = omega arith;
+      left = left;
+      run = subst (λ n. Run start (take n entries) left) is run;
+      stops = λ e at legal. no_more entries e at;
+    }
 
 first_found : (image : Machine) (entries : List Entry) (count : ℕ) → IsImage image → IsLegalFront image entries count → (e : Entry) × (slice_get entries count ≡ Some e) → IsVerdict image entries (Illegal (count + 1))
 first_found image entries count i f at =

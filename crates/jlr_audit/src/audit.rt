@@ -2,7 +2,7 @@
 ghost use Rattle.std.specs.Prelude.{◌≡◌, IfOk};
 ghost use Rattle.jlr_audit.specs.declared.verdict.Verdict.{Verdict as VerdictOf};
 ghost use Rattle.jlr_audit.specs.Verdicts.{IsLegalFront, IsVerdict, IsFileVerdict};
-ghost use Rattle.jlr_machine.specs.WellFormed.{IsWellFormed};
+ghost use Rattle.jlr_machine.specs.WellFormed.{IsImage};
 
 use crate::verdict::{Verdict, legal_front};
 use crate::watch::{Unwatched, Watch};
@@ -19,11 +19,11 @@ fn legal_count<W: Watch>(
     entries: &[Entry],
     watch: &mut W,
 ) -> Result<usize, AllocError>
-    requires { IsWellFormed image.now }
+    requires { IsImage image.now }
     ensures { IfOk result (λ n. IsLegalFront image.now entries.now n) }
 {
-    let mut machine = image.copy(alloc)?;
-    legal_front(alloc, &mut machine, entries, watch)
+    let machine = image.copy(alloc)?;
+    legal_front(alloc, machine, entries, watch)
 }
 
 /// The verdict on a machine and entries that go on from it.

@@ -1,13 +1,12 @@
 //! Whether a history is a run of the machine.
-ghost use Rattle.std.specs.Prelude.{◌≡◌, ◌≤◌, ◌<◌, ◌↔◌, take, length, IfOk, slice_get, Some};
-ghost use Rattle.jlr_machine.specs.declared.entry.Entry.{Entry as EntryOf};
-ghost use Rattle.jlr_machine.specs.WellFormed.{IsWellFormed};
-ghost use Rattle.jlr_machine.specs.Run.{IsLegal, Run};
+ghost use Rattle.std.specs.Prelude.{IfOk};
+ghost use Rattle.jlr_plain.specs.Following.{IsFit};
+ghost use Rattle.jlr_audit.specs.Verdicts.{IsLegalFront};
 
 use crate::watch::Watch;
 use jlr_machine::entry::Entry;
 use jlr_machine::machine::Machine;
-use jlr_plain::run::step_plain;
+use jlr_plain::advance::advance_plain;
 use std::alloc::{AllocError, Global};
 
 /// What an audit says.
@@ -19,23 +18,22 @@ pub enum Verdict {
     Illegal(u64),
 }
 
-/// How many of the first entries are legal, one after the other, from this machine on. It is then what they leave.
+/// How many of the first entries are legal, one after the other, from this machine on. It is given up for what they leave.
 pub fn legal_front<W: Watch>(
     alloc: Global,
-    machine: &mut Machine,
+    machine: Machine,
     entries: &[Entry],
     watch: &mut W,
 ) -> Result<usize, AllocError>
-    requires { IsWellFormed machine.old }
-    ensures within { IfOk result (λ n. n ≤ length entries.now) }
-    ensures run { IfOk result (λ n. Run machine.old (take n entries.now) machine.new) }
-    ensures formed { IfOk result (λ _. IsWellFormed machine.new) }
-    ensures first { IfOk result (λ n. (e : EntryOf) → slice_get entries.now n ≡ Some e → ¬ (IsLegal machine.new e)) }
+    requires { IsFit machine }
+    ensures { IfOk result (λ n. IsLegalFront machine entries.now n) }
 {
+    let mut machine = machine;
     for (number, entry) in entries.iter().enumerate() {
         watch.told(number);
-        if !step_plain(alloc, machine, entry)? {
-            return Ok(number);
+        match advance_plain(alloc, machine, entry)? {
+            Some(next) => machine = next,
+            None => return Ok(number),
         }
     }
     Ok(entries.len())

@@ -50,7 +50,7 @@ along m S closed x (z ∷ path) y s p = along m S closed z path y (closed x z s 
 
 -- ---- What an entry adds, where the cycle is open afterwards
 
-abbrev AddsNoMore : Machine → Machine → Type 0
+abbrev pub AddsNoMore : Machine → Machine → Type 0
 AddsNoMore m n = (x y : ℕ) → y ∈ edges_from UpToSoft n.objects x → (y ∈ edges_from UpToSoft m.objects x) ⊎ ((y ∈ roots m) ⊎ (y ∈ roots n))
 
 carried_adds : (m : Machine) (ask : Ask) (a : Answer) (fresh : List ℕ) → ((s : ℕ) → s ∈ fresh → s < length m.objects) → AddsNoMore m (carried m ask a fresh)
@@ -72,7 +72,8 @@ free_below (o ∷ heap) (suc s) h = omega (arith, free_below heap s h)
 fresh_below : (heap : Heap) (cells : ℕ) (fresh : List ℕ) → IsFresh heap cells fresh → (s : ℕ) → s ∈ fresh → s < length heap
 fresh_below heap cells fresh f s h = free_below heap s (all_gives (is_free heap) fresh s f.free h)
 
-entry_adds : (m : Machine) (e : Entry) → IsLegal m e → (done m e).cycle_open ≡ true → AddsNoMore m (done m e)
+-- of a legal entry
+pub entry_adds : (m : Machine) (e : Entry) → IsLegal m e → (done m e).cycle_open ≡ true → AddsNoMore m (done m e)
 entry_adds m e (carried_out c) open_after = done_adds m e.choice.collected e.ask e.answer e.choice.fresh c.collection (fresh_below _ _ _ c.fresh) open_after
 entry_adds m e (refused c) open_after = subst (AddsNoMore m) (sym (unchanged m e c.by c.answers c.nothing)) (λ x y h. inl h)
 entry_adds m e (heap_full c) open_after = absurd (both_ways (done m e).cycle_open (collected_shut m e c.clearing _ c.answers c.collects) open_after)

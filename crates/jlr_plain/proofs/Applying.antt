@@ -19,6 +19,7 @@ use Rattle.jlr_laws.specs.Laws.{IsWithinHeap}
 use Rattle.jlr_laws.proofs.Empty.{well_formed_within}
 use Rattle.jlr_laws.proofs.Law.{legal_kept}
 use Rattle.jlr_laws.proofs.Allowed.{allowed}
+use Rattle.jlr_plain.specs.Deciding.{carried_in, completed}
 use Rattle.jlr_plain_changes.specs.Counts.{HaveRoom, HasNextAction, refuses}
 
 -- ---- Counts
@@ -62,9 +63,11 @@ carried_not m ask a fresh h = absurd (both_ways false refl h)
 
 -- ---- The machine before it is said what was seen
 
-pub done_of : (m collected n : Machine) (e : Entry) (fresh : List ℕ) → n ≡ carried collected e.ask e.answer fresh → collected ≡ with_collection m e.choice.collected → fresh ≡ e.choice.fresh → n ≡ done m e
-done_of m collected n e fresh a c f =
-    a ∙ ap {A = Machine} {B = Machine} (λ x. carried x e.ask e.answer fresh) c ∙ ap {A = List ℕ} {B = Machine} (λ l. carried (with_collection m e.choice.collected) e.ask e.answer l) f
+pub carried_is : (m n : Machine) (e : Entry) (fresh : List ℕ) → n ≡ carried m e.ask e.answer fresh → fresh ≡ e.choice.fresh → n ≡ carried_in m e
+carried_is m n e fresh a f = a ∙ ap {A = List ℕ} {B = Machine} (λ l. carried m e.ask e.answer l) f
+
+pub collected_done : (m collected : Machine) (e : Entry) → collected ≡ with_collection m e.choice.collected → carried_in collected e ≡ done m e
+collected_done m collected e c = ap {A = Machine} {B = Machine} (λ x. carried_in x e) c
 
 pub done_small : (m n : Machine) (e : Entry) → n ≡ done m e → IsWellFormed m → IsLegal m e → length n.objects ≤ 2 ^ 32
 done_small m n e d w l = let P : Machine → Type 0 = λ x. length x.objects ≤ 2 ^ 32 in subst P (sym d) (let h = (legal_kept m e w l).limits.cells in omega (arith, h))
@@ -72,5 +75,9 @@ done_small m n e d w l = let P : Machine → Type 0 = λ x. length x.objects ≤
 pub done_within : (m n : Machine) (e : Entry) → n ≡ done m e → IsWellFormed m → IsLegal m e → IsWithinHeap n.objects (roots n)
 done_within m n e d w l = let P : Machine → Type 0 = λ x. IsWithinHeap x.objects (roots x) in subst P (sym d) (well_formed_within (apply m e) (legal_kept m e w l))
 
-pub applied_is : (m n : Machine) (e : Entry) (seen : List ℕ) → n ≡ done m e → seen ≡ now_seen n → record n { seen = seen } ≡ apply m e
-applied_is m n e seen d s = ap {A = List ℕ} {B = Machine} (λ l. record n { seen = l }) s ∙ ap {A = Machine} {B = Machine} (λ x. record x { seen = now_seen x }) d
+pub seen_said : (m n : Machine) (e : Entry) (seen : List ℕ) → n ≡ carried_in m e → seen ≡ now_seen n → record n { seen = seen } ≡ completed m e
+seen_said m n e seen d s = ap {A = List ℕ} {B = Machine} (λ l. record n { seen = l }) s ∙ ap {A = Machine} {B = Machine} (λ x. record x { seen = now_seen x }) d
+
+-- where it is what it was already
+pub seen_kept : (m n : Machine) (e : Entry) → n ≡ carried_in m e → now_seen (carried_in m e) ≡ (carried_in m e).seen → n ≡ completed m e
+seen_kept m n e d s = d ∙ ap {A = List ℕ} {B = Machine} (λ l. record (carried_in m e) { seen = l }) (sym s)

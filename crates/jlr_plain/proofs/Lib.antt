@@ -1,1 +1,4 @@
 pub mod Applying
+pub mod Advancing
+pub mod Small
+pub mod Followed

@@ -1,27 +1,22 @@
 //! The machine after a legal entry.
-ghost use Rattle.std.specs.Prelude.{◌≡◌, false, IfOk, OnOk, OnErr};
-ghost use Rattle.jlr_machine.specs.Run.{IsLegal, carried, apply};
+ghost use Rattle.std.specs.Prelude.{◌≡◌, ◌≤◌, ◌^◌, true, false, length, IfOk, OnOk, OnErr};
+ghost use Rattle.jlr_machine.specs.Edges.{roots};
+ghost use Rattle.jlr_machine.specs.Run.{IsLegal, carried, done, now_seen, apply};
 ghost use Rattle.jlr_machine.specs.WellFormed.{IsWellFormed};
+ghost use Rattle.jlr_laws.specs.Laws.{IsWithinHeap};
+ghost use Rattle.jlr_plain.specs.Deciding.{carried_in, completed};
 ghost use Rattle.jlr_plain_changes.specs.Counts.{HaveRoom, HasNextAction, refuses};
 
+use crate::following::is_refusal;
 use jlr_machine::ask::{Answer, Ask};
 use jlr_machine::entry::Entry;
 use jlr_machine::items::Items;
 use jlr_machine::machine::Machine;
 use jlr_plain_changes::after::after_plain;
-use jlr_plain_collections::left::collected_plain;
+use jlr_plain_collections::left::collect_in;
 use jlr_plain_collections::seen::seen_plain;
 use jlr_types::Slot;
 use std::alloc::{AllocError, Global};
-
-fn is_refusal(answer: &Answer) -> bool
-    ensures { result ≡ refuses answer.now }
-{
-    match answer {
-        Answer::Refused(_) => true,
-        _ => false,
-    }
-}
 
 /// A refused ask changes nothing.
 fn carry_out(
@@ -41,24 +36,50 @@ fn carry_out(
     after_plain(alloc, machine, ask, answer, fresh)
 }
 
-/// The machine after a legal entry.
-fn applied(alloc: Global, machine: &Machine, entry: &Entry) -> Result<Machine, AllocError>
-    requires formed { IsWellFormed machine.now }
-    requires legal { IsLegal machine.now entry.now }
-    ensures { IfOk result (λ n. n ≡ apply machine.now entry.now) }
+/// The machine after an entry, made of the one that its collection left. What was seen is left as it is where it is known to be kept.
+pub(crate) fn complete(
+    alloc: Global,
+    machine: Machine,
+    entry: &Entry,
+    kept: bool,
+) -> Result<Machine, AllocError>
+    requires counts { HaveRoom machine }
+    requires actions { refuses entry.now.answer ≡ false → HasNextAction machine.next_action entry.now.ask }
+    requires cells { length (carried_in machine entry.now).objects ≤ 2 ^ 32 }
+    requires within { IsWithinHeap (carried_in machine entry.now).objects (roots (carried_in machine entry.now)) }
+    requires kept { kept ≡ true → now_seen (carried_in machine entry.now) ≡ (carried_in machine entry.now).seen }
+    ensures { IfOk result (λ n. n ≡ completed machine entry.now) }
 {
-    let _next_action = machine.next_action;
-    let choice = &entry.choice;
-    let collected = collected_plain(alloc, machine, &choice.collected)?;
     let mut next = carry_out(
         alloc,
-        collected,
+        machine,
         &entry.ask,
         &entry.answer,
-        choice.fresh.as_slice(),
+        entry.choice.fresh.as_slice(),
     )?;
+    if kept {
+        return Ok(next);
+    }
     let seen = seen_plain(alloc, &next)?;
     next.seen = Items::from_vec(seen);
+    Ok(next)
+}
+
+/// The machine after a legal entry. It is given up for it.
+pub(crate) fn applied(
+    alloc: Global,
+    machine: Machine,
+    entry: &Entry,
+    kept: bool,
+) -> Result<Machine, AllocError>
+    requires formed { IsWellFormed machine }
+    requires legal { IsLegal machine entry.now }
+    requires kept { kept ≡ true → now_seen (done machine entry.now) ≡ (done machine entry.now).seen }
+    ensures { IfOk result (λ n. n ≡ apply machine entry.now) }
+{
+    let _next_action = machine.next_action;
+    let collected = collect_in(alloc, machine, &entry.choice.collected)?;
+    let next = complete(alloc, collected, entry, kept)?;
     Ok(next)
 }
 
@@ -72,7 +93,7 @@ pub fn apply_plain(alloc: Global, machine: &mut Machine, entry: &Entry) -> Resul
     ensures ok { OnOk result (machine.new ≡ apply machine.old entry.now) }
     ensures err { OnErr result (machine.new ≡ machine.old) }
 {
-    let next = applied(alloc, machine, entry)?;
-    *machine = next;
+    let copy = machine.copy(alloc)?;
+    *machine = applied(alloc, copy, entry, false)?;
     Ok(())
 }

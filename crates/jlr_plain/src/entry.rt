@@ -1,16 +1,17 @@
 //! Whether an entry is legal in a machine.
-ghost use Rattle.std.specs.Prelude.{◌≡◌, ◌≤◌, ◌^◌, ◌↔◌, ◌&&◌, not, nat_lt, is_none, IsTrue, IfOk, length};
+ghost use Rattle.std.specs.Prelude.{◌≡◌, ◌≤◌, ◌^◌, ◌↔◌, ◌&&◌, ◌||◌, not, nat_lt, is_none, IsTrue, IfOk, length};
 ghost use Rattle.jlr_types.specs.declared.Refusal.TheVariants.{NoMemory};
 ghost use Rattle.jlr_machine.specs.declared.ask.Answer.TheVariants.{Refused};
 ghost use Rattle.jlr_machine.specs.Lookups.{resource_at};
-ghost use Rattle.jlr_machine.specs.Refusals.{is_end};
+ghost use Rattle.jlr_machine.specs.Refusals.{is_end, cells_needed, refusal};
 ghost use Rattle.jlr_laws.specs.Same.{same_answer};
 ghost use Rattle.jlr_machine.specs.Objects.{some_and};
 ghost use Rattle.jlr_machine.specs.Edges.{roots};
-ghost use Rattle.jlr_machine.specs.Run.{IsLegal};
+ghost use Rattle.jlr_machine.specs.Run.{IsLegal, with_collection};
 ghost use Rattle.jlr_machine.specs.WellFormed.{IsWellFormed};
 ghost use Rattle.jlr_laws.specs.Laws.{IsWithinHeap};
-ghost use Rattle.jlr_laws.specs.Deciding.{gives_new_rid, is_answer, chooses_nothing, is_carried_out, is_refused, leaves_too_few, is_heap_full, is_legal, is_empty};
+ghost use Rattle.jlr_laws.specs.Deciding.{gives_new_rid, is_answer, chooses_nothing, is_carried_out, is_refused, leaves_too_few, is_heap_full, is_empty, may_collect, are_fresh};
+ghost use Rattle.jlr_plain.specs.Deciding.{declines, fits_after};
 
 use crate::collecting::{clears_for_room, may_collect_plain};
 use crate::room::fresh_slots;
@@ -84,24 +85,52 @@ fn is_out_of_memory_plain(entry: &Entry) -> bool
         && chooses_none(&entry.choice)
 }
 
+/// Whether nothing refuses the ask, and it may come with its collection.
+pub(crate) fn may_carry_out(
+    alloc: Global,
+    machine: &Machine,
+    entry: &Entry,
+) -> Result<bool, AllocError>
+    requires cells { length machine.now.objects ≤ 2 ^ 32 }
+    requires within { IsWithinHeap machine.now.objects (roots machine.now) }
+    ensures { IfOk result (λ b. b ≡ (is_none (refusal machine.now entry.now.ask) && may_collect machine.now entry.now.ask entry.now.choice.collected)) }
+{
+    if refusal_plain(machine, &entry.ask).is_some() {
+        return Ok(false);
+    }
+    may_collect_plain(alloc, machine, &entry.ask, &entry.choice.collected)
+}
+
+/// Whether the ask may be so carried out, in the machine that its collection left.
+pub(crate) fn fits_in(machine: &Machine, entry: &Entry) -> bool
+    ensures { result ≡ (are_fresh machine.now.objects (cells_needed entry.now.ask) entry.now.choice.fresh && is_answer machine.now entry.now.ask entry.now.choice.collected entry.now.answer) }
+{
+    let choice = &entry.choice;
+    let cells = cells_of(&entry.ask);
+    fresh_slots(&machine.objects, cells, choice.fresh.as_slice())
+        && answered(machine, &entry.ask, &choice.collected, &entry.answer)
+}
+
+/// The same before the collection, of which a copy is made, where there is one.
+fn fits_behind(alloc: Global, machine: &Machine, entry: &Entry) -> Result<bool, AllocError>
+    ensures { IfOk result (λ b. b ≡ fits_after entry.now (with_collection machine.now entry.now.choice.collected)) }
+{
+    if entry.choice.collected.is_none() {
+        return Ok(fits_in(machine, entry));
+    }
+    let next = collected_plain(alloc, machine, &entry.choice.collected)?;
+    Ok(fits_in(&next, entry))
+}
+
 fn is_carried_out_plain(alloc: Global, machine: &Machine, entry: &Entry) -> Result<bool, AllocError>
     requires cells { length machine.now.objects ≤ 2 ^ 32 }
     requires within { IsWithinHeap machine.now.objects (roots machine.now) }
     ensures { IfOk result (λ b. b ≡ is_carried_out machine.now entry.now) }
 {
-    if refusal_plain(machine, &entry.ask).is_some() {
+    if !may_carry_out(alloc, machine, entry)? {
         return Ok(false);
     }
-    let choice = &entry.choice;
-    if !may_collect_plain(alloc, machine, &entry.ask, &choice.collected)? {
-        return Ok(false);
-    }
-    let next = collected_plain(alloc, machine, &choice.collected)?;
-    let cells = cells_of(&entry.ask);
-    if !fresh_slots(&next.objects, cells, choice.fresh.as_slice()) {
-        return Ok(false);
-    }
-    Ok(answered(&next, &entry.ask, &choice.collected, &entry.answer))
+    fits_behind(alloc, machine, entry)
 }
 
 /// Whether it is a full collection that clears all soft references and leaves too few cells.
@@ -156,14 +185,16 @@ fn is_heap_full_plain(alloc: Global, machine: &Machine, entry: &Entry) -> Result
     collects_in_vain(alloc, machine, &entry.ask, &entry.choice.collected)
 }
 
-fn legal_tested(alloc: Global, machine: &Machine, entry: &Entry) -> Result<bool, AllocError>
+/// Whether it is a legal entry of an ask that is not carried out.
+pub(crate) fn is_declined(
+    alloc: Global,
+    machine: &Machine,
+    entry: &Entry,
+) -> Result<bool, AllocError>
     requires cells { length machine.now.objects ≤ 2 ^ 32 }
     requires within { IsWithinHeap machine.now.objects (roots machine.now) }
-    ensures { IfOk result (λ b. b ≡ is_legal machine.now entry.now) }
+    ensures { IfOk result (λ b. b ≡ declines machine.now entry.now) }
 {
-    if is_carried_out_plain(alloc, machine, entry)? {
-        return Ok(true);
-    }
     if is_refused_plain(machine, entry) {
         return Ok(true);
     }
@@ -171,6 +202,17 @@ fn legal_tested(alloc: Global, machine: &Machine, entry: &Entry) -> Result<bool,
         return Ok(true);
     }
     Ok(is_out_of_memory_plain(entry))
+}
+
+fn legal_tested(alloc: Global, machine: &Machine, entry: &Entry) -> Result<bool, AllocError>
+    requires cells { length machine.now.objects ≤ 2 ^ 32 }
+    requires within { IsWithinHeap machine.now.objects (roots machine.now) }
+    ensures { IfOk result (λ b. b ≡ (is_carried_out machine.now entry.now || declines machine.now entry.now)) }
+{
+    if is_carried_out_plain(alloc, machine, entry)? {
+        return Ok(true);
+    }
+    is_declined(alloc, machine, entry)
 }
 
 /// Whether an entry is legal in a well-formed machine.

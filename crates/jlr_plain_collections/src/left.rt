@@ -5,7 +5,9 @@ ghost use Rattle.jlr_machine.specs.Collection.{is_kept_referent, left_of, places
 ghost use Rattle.jlr_machine.specs.Run.{with_collection};
 ghost use Rattle.jlr_machine.specs.declared.object.Object.TheVariants.{Reference as ReferenceObject, Cleanable as CleanableObject};
 
-use crate::collection::{has_number, holds, push_all};
+use crate::edges::push_all;
+use crate::listed::SlotList;
+use jlr_machine::copy::copy_slice;
 use jlr_machine::entry::Collected;
 use jlr_machine::items::Items;
 use jlr_machine::machine::Machine;
@@ -15,19 +17,19 @@ use jlr_types::Slot;
 use std::alloc::{AllocError, Global};
 
 /// A referent that is kept.
-fn kept_referent(kept: &[Slot], referent: Option<Slot>) -> Option<Slot>
+fn kept_referent(kept: &SlotList, referent: Option<Slot>) -> Option<Slot>
     ensures { result ≡ is_kept_referent kept.now referent }
 {
     let Some(slot) = referent else {
         return None;
     };
-    if holds(kept, slot) {
+    if kept.holds(slot) {
         return Some(slot);
     }
     None
 }
 
-fn left_reference(kept: &[Slot], listed: bool, reference: &Reference) -> Reference
+fn left_reference(kept: &SlotList, listed: bool, reference: &Reference) -> Reference
     ensures { ReferenceObject result ≡ left_of kept.now listed (ReferenceObject reference.now) }
 {
     let state = if listed {
@@ -43,7 +45,7 @@ fn left_reference(kept: &[Slot], listed: bool, reference: &Reference) -> Referen
     }
 }
 
-fn left_cleanable(kept: &[Slot], listed: bool, cleanable: &Cleanable) -> Cleanable
+fn left_cleanable(kept: &SlotList, listed: bool, cleanable: &Cleanable) -> Cleanable
     ensures { CleanableObject result ≡ left_of kept.now listed (CleanableObject cleanable.now) }
 {
     let state = if listed {
@@ -59,53 +61,43 @@ fn left_cleanable(kept: &[Slot], listed: bool, cleanable: &Cleanable) -> Cleanab
     }
 }
 
-/// A kept object after the collection, which put it behind the pending list or not.
-fn left_object(
-    alloc: Global,
-    kept: &[Slot],
-    listed: bool,
-    object: &Object,
-) -> Result<Object, AllocError>
-    ensures { IfOk result (λ o. o ≡ left_of kept.now listed object.now) }
+/// Makes of a kept object what the collection leaves, which put it behind the pending list or not.
+fn leave_object(kept: &SlotList, listed: bool, object: &mut Object)
+    ensures { object.new ≡ left_of kept.now listed object.old }
 {
     match object {
-        Object::Reference(r) => Ok(Object::Reference(left_reference(kept, listed, r))),
-        Object::Cleanable(c) => Ok(Object::Cleanable(left_cleanable(kept, listed, c))),
-        _ => object.copy(alloc),
+        Object::Reference(r) => *r = left_reference(kept, listed, r),
+        Object::Cleanable(c) => *c = left_cleanable(kept, listed, c),
+        _ => {}
     }
 }
 
-fn left_place(
-    alloc: Global,
-    kept: &[Slot],
-    pending: &[Slot],
-    number: usize,
-    place: &Option<Object>,
-) -> Result<Option<Object>, AllocError>
-    ensures { IfOk result (λ o. o ≡ cond (kept.now ∋ number) (option_map (left_of kept.now (pending.now ∋ number)) place.now) None) }
+fn leave_place(kept: &SlotList, pending: &SlotList, number: usize, place: &mut Option<Object>)
+    ensures { place.new ≡ cond (kept.now ∋ number) (option_map (left_of kept.now (pending.now ∋ number)) place.old) None }
 {
-    if !has_number(kept, number) {
-        return Ok(None);
+    if !kept.has_number(number) {
+        *place = None;
+        return;
     }
-    match place {
-        Some(object) => Ok(Some(left_object(alloc, kept, has_number(pending, number), object)?)),
-        None => Ok(None),
+    if let Some(object) = place {
+        leave_object(kept, pending.has_number(number), object);
     }
 }
 
-fn left_places(
-    alloc: Global,
-    kept: &[Slot],
-    pending: &[Slot],
-    places: &[Option<Object>],
-) -> Result<Vec<Option<Object>>, AllocError>
-    ensures { IfOk result (λ v. v.items ≡ places_left kept.now pending.now 0 places.now) }
+fn leave_places(kept: &SlotList, pending: &SlotList, places: &mut [Option<Object>])
+    ensures { places.new ≡ places_left kept.now pending.now 0 places.old }
 {
-    let mut out = Vec::new(alloc);
     for i in 0..places.len() {
-        out.push(left_place(alloc, kept, pending, i, &places[i])?)?;
+        leave_place(kept, pending, i, &mut places[i]);
     }
-    Ok(out)
+}
+
+fn objects_left(kept: &SlotList, pending: &SlotList, objects: Table<Object>) -> Table<Object>
+    ensures { result ≡ places_left kept.now pending.now 0 objects }
+{
+    let mut places = objects.into_vec();
+    leave_places(kept, pending, places.as_mut_slice());
+    Table::from_vec(places)
 }
 
 fn pending_with(alloc: Global, old: &[Slot], more: &[Slot]) -> Result<Items<Slot>, AllocError>
@@ -118,24 +110,35 @@ fn pending_with(alloc: Global, old: &[Slot], more: &[Slot]) -> Result<Items<Slot
 }
 
 /// The machine that a collection leaves.
-fn collected(alloc: Global, machine: &Machine, c: &Collected) -> Result<Machine, AllocError>
-    ensures { IfOk result (λ n. n ≡ after_collection machine.now c.now.kept c.now.pending) }
+fn collected(alloc: Global, machine: Machine, c: &Collected) -> Result<Machine, AllocError>
+    ensures { IfOk result (λ n. n ≡ after_collection machine c.now.kept c.now.pending) }
 {
-    let mut next = machine.copy(alloc)?;
-    let kept = c.kept.to_vec(alloc)?;
-    next.objects = Table::from_vec(left_places(
-        alloc,
-        kept.as_slice(),
-        c.pending.as_slice(),
-        machine.objects.as_slice(),
-    )?);
-    next.pending = pending_with(alloc, machine.pending.as_slice(), c.pending.as_slice())?;
+    let mut next = machine;
+    let cells = next.objects.len();
+    let kept = SlotList::from_vec(alloc, cells, c.kept.to_vec(alloc)?)?;
+    let listed = SlotList::from_vec(alloc, cells, copy_slice(alloc, c.pending.as_slice())?)?;
+    next.pending = pending_with(alloc, next.pending.as_slice(), c.pending.as_slice())?;
+    next.objects = objects_left(&kept, &listed, next.objects);
     next.cycle_open = false;
     next.seen = Items::new(alloc);
     Ok(next)
 }
 
-/// The machine in which an ask is carried out, after its collection, where there was one.
+/// The machine in which an ask is carried out, after its collection, where there was one. The machine is given up for it.
+pub fn collect_in(
+    alloc: Global,
+    machine: Machine,
+    collection: &Option<Collected>,
+) -> Result<Machine, AllocError>
+    ensures { IfOk result (λ n. n ≡ with_collection machine collection.now) }
+{
+    match collection {
+        Some(c) => collected(alloc, machine, c),
+        None => Ok(machine),
+    }
+}
+
+/// The same, made of a copy.
 pub fn collected_plain(
     alloc: Global,
     machine: &Machine,
@@ -143,8 +146,6 @@ pub fn collected_plain(
 ) -> Result<Machine, AllocError>
     ensures { IfOk result (λ n. n ≡ with_collection machine.now collection.now) }
 {
-    match collection {
-        Some(c) => collected(alloc, machine, c),
-        None => machine.copy(alloc),
-    }
+    let copy = machine.copy(alloc)?;
+    collect_in(alloc, copy, collection)
 }

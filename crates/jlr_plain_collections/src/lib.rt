@@ -2,7 +2,10 @@
 #![tactic(auto)]
 
 pub mod collection;
+pub mod edges;
 pub mod left;
 pub mod legal;
+pub mod listed;
+pub mod reached;
 pub mod roots;
 pub mod seen;

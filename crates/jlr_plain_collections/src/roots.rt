@@ -5,7 +5,7 @@ ghost use Rattle.jlr_machine.specs.declared.machine.Session.{Session as SessionO
 ghost use Rattle.jlr_machine.specs.declared.machine.Binding.{Binding as BindingOf};
 ghost use Rattle.jlr_machine.specs.Edges.{is_own_root, active_cleanables, roots};
 
-use crate::collection::{push_all, push_option};
+use crate::edges::{push_all, push_option};
 use jlr_machine::machine::{Binding, Machine, Session};
 use jlr_machine::object::{CleanState, Object};
 use jlr_types::Slot;

@@ -8,8 +8,10 @@ ghost use Rattle.jlr_machine.specs.Run.{seen_with, now_seen};
 ghost use Rattle.jlr_laws.specs.Laws.{IsWithinHeap};
 ghost use Rattle.jlr_plain_collections.specs.Marks.{is_marked};
 
-use crate::collection::{holds, is_marked_at, mark_reached, unmarked};
+use crate::listed::{SlotList, unmarked};
+use crate::reached::{is_marked_at, mark_reached};
 use crate::roots::roots_plain;
+use jlr_machine::copy::copy_slice;
 use jlr_machine::machine::Machine;
 use jlr_types::Slot;
 use std::alloc::{AllocError, Global};
@@ -33,15 +35,15 @@ fn all_slots(alloc: Global, cells: usize) -> Result<Vec<Slot>, AllocError>
     Ok(out)
 }
 
-fn is_seen(seen: &[Slot], marks: &[bool], slot: Slot) -> bool
+fn is_seen(seen: &SlotList, marks: &[bool], slot: Slot) -> bool
     ensures { result ≡ ((seen.now ∋ slot) || is_marked marks.now slot) }
 {
-    holds(seen, slot) || is_marked_at(marks, slot)
+    seen.holds(slot) || is_marked_at(marks, slot)
 }
 
 fn push_if_seen(
     out: &mut Vec<Slot>,
-    seen: &[Slot],
+    seen: &SlotList,
     marks: &[bool],
     number: usize,
 ) -> Result<(), AllocError>
@@ -56,7 +58,7 @@ fn push_if_seen(
 
 fn seen_or_marked(
     alloc: Global,
-    seen: &[Slot],
+    seen: &SlotList,
     marks: &[bool],
     cells: usize,
 ) -> Result<Vec<Slot>, AllocError>
@@ -78,23 +80,13 @@ fn seen_in_cycle(alloc: Global, machine: &Machine) -> Result<Vec<Slot>, AllocErr
 {
     let objects = &machine.objects;
     let base = roots_plain(alloc, machine)?;
-    let slots = all_slots(alloc, objects.len())?;
-    let mut marks = unmarked(alloc, objects.len())?;
-    mark_reached(
-        alloc,
-        objects,
-        base.as_slice(),
-        slots.as_slice(),
-        &mut marks,
-        true,
-    )?;
-    let seen = seen_or_marked(
-        alloc,
-        machine.seen.as_slice(),
-        marks.as_slice(),
-        objects.len(),
-    )?;
-    Ok(seen)
+    let cells = objects.len();
+    let slots = SlotList::from_vec(alloc, cells, all_slots(alloc, cells)?)?;
+    let mut marks = unmarked(alloc, cells)?;
+    mark_reached(alloc, objects, base.as_slice(), &slots, &mut marks, true)?;
+    let seen = SlotList::from_vec(alloc, cells, copy_slice(alloc, machine.seen.as_slice())?)?;
+    let found = seen_or_marked(alloc, &seen, marks.as_slice(), cells)?;
+    Ok(found)
 }
 
 /// The same in an open cycle; nothing outside a cycle.

@@ -4,7 +4,5 @@
 pub mod calls;
 pub mod image;
 pub mod resources;
-#[cfg(test)]
-mod tests;
 pub mod unnamed;
 mod works;

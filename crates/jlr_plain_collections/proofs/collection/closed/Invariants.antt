@@ -1,9 +1,0 @@
-use Rattle.std.proofs.Common.{◌≡◌, drop}
-use Rattle.std.specs.List.{list_all}
-use Rattle.jlr_machine.specs.Edges.{edges_from}
-use Rattle.jlr_machine.specs.Edges.Chain.{Strong}
-use Rattle.jlr_laws.specs.Deciding.{holds_all, is_closed}
-use Rattle.jlr_plain_collections.proofs.collection.closed.Given as goal
-
-abbrev pub invariant-loop-slot : goal.invariant-loop-slot
-invariant-loop-slot l = list_all (λ x. holds_all l.kept (edges_from Strong l.objects x)) (drop l.slot-index l.kept) ≡ is_closed l.fn.objects l.fn.kept

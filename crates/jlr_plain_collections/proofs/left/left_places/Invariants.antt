@@ -1,6 +1,0 @@
-use Rattle.std.proofs.Common.{◌≡◌, take}
-use Rattle.jlr_machine.specs.Collection.{places_left}
-use Rattle.jlr_plain_collections.proofs.left.left_places.Given as goal
-
-abbrev pub invariant-loop-i : goal.invariant-loop-i
-invariant-loop-i l = l.out.items ≡ places_left l.kept l.pending 0 (take l.i l.places)
