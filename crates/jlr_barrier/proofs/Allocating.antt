@@ -1,5 +1,5 @@
 -- A new object keeps a heap together.
-use Rattle.std.proofs.Common.{◌≡◌, ◌≤◌, ◌<◌, ◌+◌, ℕ, ◌⊎◌, inl, inr, true, false, IsTrue, List, [], ◌++◌, Some, None, is_some, length, option_and_then, slice_set, refl, sym, subst, arith, ap, ◌∙◌, length-set, get_or, get_or-set_same, get_or-set_other, count_by}
+use Rattle.std.proofs.Common.{◌≡◌, ◌≤◌, ◌<◌, ◌+◌, ℕ, ◌⊎◌, inl, inr, true, false, IsTrue, [], ◌++◌, Some, None, is_some, length, option_and_then, slice_set, refl, sym, subst, arith, ap, ◌∙◌, length-set, get_or, get_or-set_same, get_or-set_other, count_by}
 use Rattle.std.specs.List.{flat_map}
 use Rattle.std.specs.Option.{option_to_list}
 use Rattle.std.proofs.lemmas.Bool.{both_ways, cases_eq, false_from_ne_true}
@@ -112,8 +112,8 @@ module _ (k : Known) (a b s : ℕ) (p : Object) (clock : Clock) (n : Marking) (f
         few = subst (λ n. n ≤ 65536) (sym long) f.few;
         bits = ap length bits ∙ length-set k.marking.bits s true ∙ f.bits ∙ sym long;
         ages = as_long ∙ f.ages ∙ sym long;
-        has_room = subst (λ n. n ≤ a) (sym long) f.has_room;
-        line_has_room = subst (λ n. n ≤ b) (sym long) f.line_has_room;
+        links = subst (λ n. n ≡ a) (sym long) f.links;
+        two = f.two;
         objects = still_objects;
         snapshot =
             subst (λ d. IsSnapshot (cycle_of after (record { bits = n.bits; grey = n.grey; discovered = d }))) (sym same_discovered)

@@ -38,8 +38,8 @@ more_marks T k a b n f there s =
       few = f.few;
       bits = s.long ∙ f.bits;
       ages = f.ages;
-      has_room = f.has_room;
-      line_has_room = f.line_has_room;
+      links = f.links;
+      two = f.two;
       objects = objects_shaded T k.graph.objects k.marking n f.objects there s;
       snapshot = snapshot_shaded T k.graph k.marking n f.snapshot s;
     }
@@ -136,8 +136,8 @@ module _ (k : Known) (a b s : ℕ) (o p : Object) (f : FitsTogether k a b) (ther
         few = subst (λ n. n ≤ 65536) (sym long) f.few;
         bits = f.bits ∙ sym long;
         ages = f.ages ∙ sym long;
-        has_room = subst (λ n. n ≤ a) (sym long) f.has_room;
-        line_has_room = subst (λ n. n ≤ b) (sym long) f.line_has_room;
+        links = subst (λ n. n ≡ a) (sym long) f.links;
+        two = f.two;
         objects = still_objects;
         snapshot =
             snapshot_of_changed (cycle_of k.graph k.marking) (IsEdge other) (IsEdge other) (RefersTo other) (λ y. y ∈ held after) f.snapshot (λ x y on e. edges_gained x y e) edges_lost (λ x y e. inr e) (λ x y on q. referents_gained x y q)

@@ -69,8 +69,8 @@ opened k a b n f objects s =
       few = f.few;
       bits = s.long ∙ length-replicate (length k.graph.objects) false;
       ages = f.ages;
-      has_room = f.has_room;
-      line_has_room = f.line_has_room;
+      links = f.links;
+      two = f.two;
       objects = λ x on. elim (s.added x on) [ inl o ↦ none_marked (length k.graph.objects) x o | inr new ↦ objects x new.0 ];
       snapshot = begun k.graph n (length k.graph.objects) s;
     }
@@ -94,15 +94,15 @@ no_roots_in cells sessions x h =
     (λ i. nothing x i)
     (λ i. nothing x (subst (λ l. x ∈ l) (none_active 0 cells) i))
 
-pub empty_fits : (cells sessions a b : ℕ) → cells ≤ 65536 → cells ≤ a → cells ≤ b → FitsTogether (empty_known cells sessions) a b
+pub empty_fits : (cells sessions a b : ℕ) → cells ≤ 65536 → cells ≡ a → b ≡ 2 → FitsTogether (empty_known cells sessions) a b
 empty_fits cells sessions a b few ra rb =
     let long : length (empty_graph cells sessions).objects ≡ cells = length-replicate cells None in
     record {
       few = subst (λ n. n ≤ 65536) (sym long) few;
       bits = length-replicate cells false ∙ sym long;
       ages = length-replicate cells 0 ∙ sym long;
-      has_room = subst (λ n. n ≤ a) (sym long) ra;
-      line_has_room = subst (λ n. n ≤ b) (sym long) rb;
+      links = long ∙ ra;
+      two = rb;
       objects = λ x on. none_marked cells x on;
       snapshot = record {
         grey = λ x h. nothing x h;
@@ -113,7 +113,7 @@ empty_fits cells sessions a b few ra rb =
       };
     }
 
-pub new_fits : (cells sessions a b : ℕ) (objects : Heap) (mutators : Table Session) (names : List Binding) (pending line ages : List ℕ) (m : Marking) → cells ≤ 65536 → cells ≤ a → cells ≤ b
+pub new_fits : (cells sessions a b : ℕ) (objects : Heap) (mutators : Table Session) (names : List Binding) (pending line ages : List ℕ) (m : Marking) → cells ≤ 65536 → cells ≡ a → b ≡ 2
     → objects ≡ replicate cells None → mutators ≡ replicate sessions None → names ≡ [] → pending ≡ [] → line ≡ [] → length ages ≡ cells → m.bits ≡ replicate cells false → m.grey ≡ [] → m.discovered ≡ []
     → FitsTogether (record { graph = record { objects = objects; mutators = mutators; names = names; pending = pending; line = line }; clock = record { last_gets = ages; collections = 0; since = 0 }; marking = m }) a b
 new_fits cells sessions a b objects mutators names pending line ages m few ra rb eo em en ep el ea bits grey discovered =

@@ -1,14 +1,14 @@
 -- Changes of a heap keep it together.
-use Rattle.std.proofs.Common.{◌≡◌, ◌≤◌, ◌<◌, ℕ, ◌⊎◌, inl, inr, Bool, true, false, IsTrue, is_some, List, [], ◌∷◌, ◌++◌, Option, Some, None, length, refl, sym, subst, ◌∙◌}
-use Rattle.std.specs.Option.{option_to_list}
+use Rattle.std.proofs.Common.{◌≡◌, ◌<◌, ℕ, ◌⊎◌, inl, inr, Bool, true, false, IsTrue, is_some, List, [], ◌∷◌, ◌++◌, Some, None, length, drop, zero, suc, slice_set, arith, refl, sym, subst, ap, ◌∙◌, length-set, get_or-set_same, get_or-set_other}
 use Rattle.std.proofs.lemmas.Bool.{both_ways}
 use Rattle.jlr_machine.specs.declared.machine.Session.{Session}
 use Rattle.jlr_machine.specs.declared.machine.Binding.{Binding}
 use Rattle.jlr_machine.specs.Objects.{Table, Heap, at, ◌∈◌}
 use Rattle.jlr_machine.specs.Edges.Chain.{Strong}
 use Rattle.jlr_machine.specs.Reachable.{IsPath}
-use Rattle.jlr_laws.proofs.Sets.{nothing, in_cons}
-use Rattle.jlr_laws.proofs.Clearing.{in_append, in_right}
+use Rattle.jlr_laws.proofs.Sets.{nothing, in_cons, in_rest}
+use Rattle.jlr_laws.proofs.Clearing.{in_append}
+use Rattle.jlr_links.specs.Lists.{list_at}
 use Rattle.jlr_marks.specs.Marking.{Marking, IsMarked, is_marked}
 use Rattle.jlr_roots.specs.Walk.{slots_held}
 use Rattle.jlr_roots.specs.Naming.{named}
@@ -43,20 +43,43 @@ in_hand_safe k i y (inr r) = path_safe k.graph k.marking i r.0 r.2.0 y (i.roots 
 
 pub other_roots : (k : Known) (a b c d : ℕ) (mutators : Table Session) (names : List Binding) (pending line : List ℕ) → FitsTogether k a b
     → ((y : ℕ) → y ∈ held (record k.graph { mutators = mutators; names = names; pending = pending; line = line }) → (y ∈ held k.graph) ⊎ IsSafe (cycle_of k.graph k.marking) y)
-    → length k.graph.objects ≤ c → length k.graph.objects ≤ d
+    → length k.graph.objects ≡ c → d ≡ 2
     → FitsTogether (record k { graph = record k.graph { mutators = mutators; names = names; pending = pending; line = line } }) c d
 other_roots k a b c d mutators names pending line f roots rc rd =
     record {
       few = f.few;
       bits = f.bits;
       ages = f.ages;
-      has_room = rc;
-      line_has_room = rd;
+      links = rc;
+      two = rd;
       objects = f.objects;
       snapshot =
           snapshot_of_changed (cycle_of k.graph k.marking) (IsEdge k.graph.objects) (IsEdge k.graph.objects) (RefersTo k.graph.objects) (λ y. y ∈ held (record k.graph { mutators = mutators; names = names; pending = pending; line = line })) f.snapshot
           (λ x y m e. inl e) (λ x y e. inl e) (λ x y e. inr e) (λ x y m q. inl q) roots;
     }
+
+-- ---- Two lists by number
+
+pub first_set : (ls : List (List ℕ)) (l : List ℕ) → length ls ≡ 2 → list_at (slice_set ls 0 l) 0 ≡ l
+first_set ls l two = get_or-set_same ls 0 l [] (omega (arith, two))
+
+pub second_set : (ls : List (List ℕ)) (l : List ℕ) → length ls ≡ 2 → list_at (slice_set ls 1 l) 1 ≡ l
+second_set ls l two = get_or-set_same ls 1 l [] (omega (arith, two))
+
+pub first_kept : (ls : List (List ℕ)) (l : List ℕ) → list_at (slice_set ls 1 l) 0 ≡ list_at ls 0
+first_kept ls l = get_or-set_other ls 1 0 l [] (λ e. absurd cc)
+
+pub second_kept : (ls : List (List ℕ)) (l : List ℕ) → list_at (slice_set ls 0 l) 1 ≡ list_at ls 1
+second_kept ls l = get_or-set_other ls 0 1 l [] (λ e. absurd cc)
+
+-- what stands in neither of two lists stands in none
+pub in_no_list : (ls : List (List ℕ)) (s : ℕ) → length ls ≡ 2 → ¬ (s ∈ list_at ls 0) → ¬ (s ∈ list_at ls 1) → (k : ℕ) → s ∈ list_at ls k → ⊥
+in_no_list ls s two first second zero h = first h
+in_no_list ls s two first second (suc zero) h = second h
+in_no_list [] s two first second (suc (suc k)) h = nothing s h
+in_no_list (x ∷ []) s two first second (suc (suc k)) h = nothing s h
+in_no_list (x ∷ y ∷ []) s two first second (suc (suc k)) h = nothing s h
+in_no_list (x ∷ y ∷ z ∷ ls) s two first second (suc (suc k)) h = absurd (omega (arith, two))
 
 -- ---- Another list of each kind: what is new in it is safe
 
@@ -64,29 +87,35 @@ module _ (k : Known) where
   abbrev Safe : ℕ → Type 0
   Safe = IsSafe (cycle_of k.graph k.marking)
 
-  pub other_pending : (pending : List ℕ) (a b c : ℕ) → FitsTogether k a b → ((y : ℕ) → y ∈ pending → (y ∈ k.graph.pending) ⊎ Safe y) → length k.graph.objects ≤ c → FitsTogether (record k { graph = record k.graph { pending = pending } }) c b
-  other_pending pending a b c f from room =
-      let other : Graph = record k.graph { pending = pending } in
-      other_roots k a b c b k.graph.mutators k.graph.names pending k.graph.line f
+  -- the pending list and the line, as they stand in lists by number
+  other_lists : (ns : List (List ℕ)) (a b c d : ℕ) → FitsTogether k a b → ((y : ℕ) → y ∈ list_at ns 0 → (y ∈ k.graph.pending) ⊎ Safe y) → ((y : ℕ) → y ∈ list_at ns 1 → (y ∈ k.graph.line) ⊎ Safe y) → length k.graph.objects ≡ c → d ≡ 2
+      → FitsTogether (record k { graph = record k.graph { pending = list_at ns 0; line = list_at ns 1 } }) c d
+  other_lists ns a b c d f pending line column two =
+      let other : Graph = record k.graph { pending = list_at ns 0; line = list_at ns 1 } in
+      other_roots k a b c d k.graph.mutators k.graph.names (list_at ns 0) (list_at ns 1) f
       (λ y h. held_cases other y h
       (λ i. inl (by_session k.graph y i))
       (λ i. inl (by_name k.graph y i))
-      (λ i. elim (from y i) [ inl o ↦ inl (by_pending k.graph y o) | inr n ↦ inr n ])
-      (λ i. inl (by_line k.graph y i))
+      (λ i. elim (pending y i) [ inl o ↦ inl (by_pending k.graph y o) | inr n ↦ inr n ])
+      (λ i. elim (line y i) [ inl o ↦ inl (by_line k.graph y o) | inr n ↦ inr n ])
       (λ i. inl (by_itself k.graph y i)))
-      room f.line_has_room
+      column two
 
-  pub other_line : (line : List ℕ) (a b c : ℕ) → FitsTogether k a b → ((y : ℕ) → y ∈ line → (y ∈ k.graph.line) ⊎ Safe y) → length k.graph.objects ≤ c → FitsTogether (record k { graph = record k.graph { line = line } }) a c
-  other_line line a b c f from room =
-      let other : Graph = record k.graph { line = line } in
-      other_roots k a b a c k.graph.mutators k.graph.names k.graph.pending line f
-      (λ y h. held_cases other y h
-      (λ i. inl (by_session k.graph y i))
-      (λ i. inl (by_name k.graph y i))
-      (λ i. inl (by_pending k.graph y i))
-      (λ i. elim (from y i) [ inl o ↦ inl (by_line k.graph y o) | inr n ↦ inr n ])
-      (λ i. inl (by_itself k.graph y i)))
-      f.has_room room
+  pub other_pending : (ls ns : List (List ℕ)) (pending : List ℕ) (a c : ℕ) → FitsTogether k a (length ls) → k.graph.line ≡ list_at ls 1 → ns ≡ slice_set ls 0 pending → c ≡ a → ((y : ℕ) → y ∈ pending → (y ∈ k.graph.pending) ⊎ Safe y)
+      → FitsTogether (record k { graph = record k.graph { pending = list_at ns 0; line = list_at ns 1 } }) c (length ns)
+  other_pending ls ns pending a c f line set same from =
+      other_lists ns a (length ls) c (length ns) f
+      (λ y i. from y (subst (λ l. y ∈ l) (ap (λ l. list_at l 0) set ∙ first_set ls pending f.two) i))
+      (λ y i. inl (subst (λ l. y ∈ l) (ap (λ l. list_at l 1) set ∙ second_kept ls pending ∙ sym line) i))
+      (f.links ∙ sym same) (ap length set ∙ length-set ls 0 pending ∙ f.two)
+
+  pub other_line : (ls ns : List (List ℕ)) (line : List ℕ) (a c : ℕ) → FitsTogether k a (length ls) → k.graph.pending ≡ list_at ls 0 → ns ≡ slice_set ls 1 line → c ≡ a → ((y : ℕ) → y ∈ line → (y ∈ k.graph.line) ⊎ Safe y)
+      → FitsTogether (record k { graph = record k.graph { pending = list_at ns 0; line = list_at ns 1 } }) c (length ns)
+  other_line ls ns line a c f pending set same from =
+      other_lists ns a (length ls) c (length ns) f
+      (λ y i. inl (subst (λ l. y ∈ l) (ap (λ l. list_at l 0) set ∙ first_kept ls line ∙ sym pending) i))
+      (λ y i. from y (subst (λ l. y ∈ l) (ap (λ l. list_at l 1) set ∙ second_set ls line f.two) i))
+      (f.links ∙ sym same) (ap length set ∙ length-set ls 1 line ∙ f.two)
 
   pub other_names : (names : List Binding) (a b : ℕ) → FitsTogether k a b → ((y : ℕ) → y ∈ named names → (y ∈ named k.graph.names) ⊎ Safe y) → FitsTogether (record k { graph = record k.graph { names = names } }) a b
   other_names names a b f from =
@@ -98,7 +127,7 @@ module _ (k : Known) where
       (λ i. inl (by_pending k.graph y i))
       (λ i. inl (by_line k.graph y i))
       (λ i. inl (by_itself k.graph y i)))
-      f.has_room f.line_has_room
+      f.links f.two
 
   pub other_mutators : (mutators : Table Session) (a b : ℕ) → FitsTogether k a b → ((y : ℕ) → y ∈ slots_held mutators → (y ∈ slots_held k.graph.mutators) ⊎ Safe y) → FitsTogether (record k { graph = record k.graph { mutators = mutators } }) a b
   other_mutators mutators a b f from =
@@ -110,17 +139,18 @@ module _ (k : Known) where
       (λ i. inl (by_pending k.graph y i))
       (λ i. inl (by_line k.graph y i))
       (λ i. inl (by_itself k.graph y i)))
-      f.has_room f.line_has_room
+      f.links f.two
 
   -- another clock
   pub other_clock : (clock : Clock) (a b : ℕ) → FitsTogether k a b → length clock.last_gets ≡ length k.clock.last_gets → FitsTogether (record k { clock = clock }) a b
   other_clock clock a b f long =
-      record { few = f.few; bits = f.bits; ages = long ∙ f.ages; has_room = f.has_room; line_has_room = f.line_has_room; objects = f.objects; snapshot = f.snapshot }
+      record { few = f.few; bits = f.bits; ages = long ∙ f.ages; links = f.links; two = f.two; objects = f.objects; snapshot = f.snapshot }
 
 -- ---- Lists that get longer or shorter
 
-pub in_shorter : (o : Option ℕ) (xs ys : List ℕ) → xs ≡ option_to_list o ++ ys → (y : ℕ) → y ∈ ys → y ∈ xs
-in_shorter o xs ys e y h = subst (λ l. y ∈ l) (sym e) (in_right y (option_to_list o) ys h)
+in_shorter : (xs : List ℕ) (y : ℕ) → y ∈ drop 1 xs → y ∈ xs
+in_shorter [] y h = nothing y h
+in_shorter (x ∷ xs) y h = in_rest y x xs h
 
 pub in_longer : (xs : List ℕ) (s y : ℕ) → y ∈ (xs ++ s ∷ []) → (y ∈ xs) ⊎ (y ≡ s)
 in_longer xs s y h = elim (in_append y xs (s ∷ []) h) [ inl o ↦ inl o | inr n ↦ elim (in_cons y s [] n) [ inl p ↦ inr p | inr z ↦ nothing y z ] ]
@@ -130,8 +160,16 @@ pub or_safe : (k : Known) (a b s y : ℕ) (P : Type 0) → FitsTogether k a b �
 or_safe k a b s y P f h (inl o) = inl o
 or_safe k a b s y P f h (inr e) = inr (subst (IsSafe (cycle_of k.graph k.marking)) (sym e) (in_hand_safe k f.snapshot s h))
 
-pub pushed_pending : (k : Known) (s a b c : ℕ) → FitsTogether k a b → IsInHand k s → length k.graph.objects ≤ c → FitsTogether (record k { graph = record k.graph { pending = k.graph.pending ++ s ∷ [] } }) c b
-pushed_pending k s a b c f h room = other_pending k (k.graph.pending ++ s ∷ []) a b c f (λ y i. or_safe k a b s y (y ∈ k.graph.pending) f h (in_longer k.graph.pending s y i)) room
+module _ (k : Known) (ls ns : List (List ℕ)) (s a c : ℕ) (f : FitsTogether k a (length ls)) (held : IsInHand k s) (same : c ≡ a) where
+  pub pushed_pending : k.graph.line ≡ list_at ls 1 → ns ≡ slice_set ls 0 (k.graph.pending ++ s ∷ []) → FitsTogether (record k { graph = record k.graph { pending = list_at ns 0; line = list_at ns 1 } }) c (length ns)
+  pushed_pending line set = other_pending k ls ns (k.graph.pending ++ s ∷ []) a c f line set same (λ y i. or_safe k a (length ls) s y (y ∈ k.graph.pending) f held (in_longer k.graph.pending s y i))
 
-pub pushed_line : (k : Known) (s a b c : ℕ) → FitsTogether k a b → IsInHand k s → length k.graph.objects ≤ c → FitsTogether (record k { graph = record k.graph { line = k.graph.line ++ s ∷ [] } }) a c
-pushed_line k s a b c f h room = other_line k (k.graph.line ++ s ∷ []) a b c f (λ y i. or_safe k a b s y (y ∈ k.graph.line) f h (in_longer k.graph.line s y i)) room
+  pub pushed_line : k.graph.pending ≡ list_at ls 0 → ns ≡ slice_set ls 1 (k.graph.line ++ s ∷ []) → FitsTogether (record k { graph = record k.graph { pending = list_at ns 0; line = list_at ns 1 } }) c (length ns)
+  pushed_line pending set = other_line k ls ns (k.graph.line ++ s ∷ []) a c f pending set same (λ y i. or_safe k a (length ls) s y (y ∈ k.graph.line) f held (in_longer k.graph.line s y i))
+
+module _ (k : Known) (ls ns : List (List ℕ)) (a c : ℕ) (f : FitsTogether k a (length ls)) (same : c ≡ a) where
+  pub popped_pending : k.graph.line ≡ list_at ls 1 → ns ≡ slice_set ls 0 (drop 1 k.graph.pending) → FitsTogether (record k { graph = record k.graph { pending = list_at ns 0; line = list_at ns 1 } }) c (length ns)
+  popped_pending line set = other_pending k ls ns (drop 1 k.graph.pending) a c f line set same (λ y i. inl (in_shorter k.graph.pending y i))
+
+  pub popped_line : k.graph.pending ≡ list_at ls 0 → ns ≡ slice_set ls 1 (drop 1 k.graph.line) → FitsTogether (record k { graph = record k.graph { pending = list_at ns 0; line = list_at ns 1 } }) c (length ns)
+  popped_line pending set = other_line k ls ns (drop 1 k.graph.line) a c f pending set same (λ y i. inl (in_shorter k.graph.line y i))

@@ -55,8 +55,8 @@ module _ (k : Known) (a b s : ℕ) (f : FitsTogether k a b) (off : ¬ (IsMarked 
         few = subst (λ n. n ≤ 65536) (sym long) f.few;
         bits = f.bits ∙ sym long;
         ages = f.ages ∙ sym long;
-        has_room = subst (λ n. n ≤ a) (sym long) f.has_room;
-        line_has_room = subst (λ n. n ≤ b) (sym long) f.line_has_room;
+        links = subst (λ n. n ≡ a) (sym long) f.links;
+        two = f.two;
         objects = λ x on. subst (λ z. IsTrue (is_some z)) (sym (beside x (apart x on))) (f.objects x on);
         snapshot =
             snapshot_of_left (cycle_of k.graph k.marking) (IsEdge other) (IsEdge other) (RefersTo other) (λ y. y ∈ held after) f.snapshot

@@ -77,8 +77,8 @@ module _ (k : Known) (a b s : ℕ) (n : Marking) (f : FitsTogether k a b) (scan 
     few = f.few;
     bits = ap length scan.bits ∙ shade.long ∙ ap length scan.same_bits ∙ f.bits;
     ages = f.ages;
-    has_room = f.has_room;
-    line_has_room = f.line_has_room;
+    links = f.links;
+    two = f.two;
     objects = λ x h. elim (shade.added x (new_on x h)) [ inl o ↦ f.objects x (was_marked x o) | inr new ↦ objects x new.0 ];
     snapshot =
         snapshot_of_shaded (cycle_of k.graph k.marking) (IsEdge k.graph.objects) (IsMarked n) (λ x. x ∈ n.grey) (λ x. x ∈ n.discovered) f.snapshot (marked_or_not k.marking) (marked_or_not n) still_marked

@@ -4,11 +4,12 @@ use Rattle.std.specs.List.{cons_option}
 use Rattle.std.proofs.Math.Seq.{take-suc}
 use Rattle.std.proofs.lemmas.List.Elements.{filter_map-append}
 use Rattle.std.specs.Prelude.{slice_get}
-use Rattle.std.proofs.lemmas.Option.{same_Some, slice_get_within, get_or_from_slice_get}
+use Rattle.std.proofs.lemmas.Option.{same_Some, slice_get_within, slice_get-get_or, get_or_from_slice_get}
 use Rattle.jlr_machine.specs.declared.object.Object.{Object}
 use Rattle.jlr_machine.specs.declared.object.Object.TheVariants.{Plain, Reference, Queue, Cleaner, Cleanable, Guard}
 use Rattle.jlr_cells.specs.Contents.{members_in, member_in as member_in_queue}
 use Rattle.jlr_machine.specs.Objects.{◌∈◌}
+use Rattle.jlr_laws.proofs.Frames.{no_some}
 use Rattle.jlr_laws.proofs.Sets.{nothing, in_front, in_cons}
 use Rattle.jlr_laws.proofs.Clearing.{in_append, in_left, in_right}
 
@@ -72,6 +73,22 @@ member_in_list items i d x here e =
     let within = slice_get_within items i d here in
     let read = get_or_from_slice_get items i d d here in
     subst (λ y. y ∈ items) (read ∙ same_Some d x e) (member_in items i d within)
+
+pub took_one : (items : List ℕ) (i d : ℕ) → slice_get items i ≡ Some d → take (i + 1) items ≡ take i items ++ d ∷ []
+took_one items i d here = took items i d (slice_get_within items i d here) ∙ ap (λ y. take i items ++ y ∷ []) (get_or_from_slice_get items i d d here)
+
+-- within a list there is one at each place
+pub one_there : {P : Type 0} (items : List ℕ) (i : ℕ) → slice_get items i ≡ None → i < length items → P
+one_there items i none within = no_some (slice_index_or items i 0) (sym none ∙ slice_get-get_or items i 0 within)
+
+-- what comes after the one at a place, wherever the list is parted by it, is at the next place
+following : (items : List ℕ) (i d : ℕ) (next : Option ℕ) → slice_get items i ≡ Some d → ((before after : List ℕ) → items ≡ before ++ d ∷ after → next ≡ slice_get after 0) → next ≡ slice_get items (suc i)
+following [] i d next here parts = no_some d here
+following (y ∷ items) zero d next here parts = parts [] items (ap (λ z. z ∷ items) (same_Some y d here))
+following (y ∷ items) (suc i) d next here parts = following items i d next here (λ before after e. parts (y ∷ before) after (ap (λ l. y ∷ l) e))
+
+pub comes_next : (items : List ℕ) (i d : ℕ) (next : Option ℕ) → slice_get items i ≡ Some d → ((before after : List ℕ) → items ≡ before ++ d ∷ after → next ≡ slice_get after 0) → next ≡ slice_get items (i + 1)
+comes_next items i d next here parts = following items i d next here parts ∙ ap (slice_get items) (sym (add-one i))
 
 -- a member of a queue is one of its list
 pub member_listed : (o : Option Object) (place : ℕ) → member_in_queue o place ≡ slice_get (members_in o) place

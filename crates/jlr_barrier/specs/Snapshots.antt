@@ -81,12 +81,12 @@ pub record HoldsWhole (k : Known) : Type 0 where
   pub closed : (x y : ℕ) → IsMarked k.marking x → IsEdge k.graph.objects x y → IsMarked k.marking y
   pub referents : (x y : ℕ) → IsMarked k.marking x → RefersTo k.graph.objects x y → IsMarked k.marking y ⊎ (x ∈ k.marking.discovered)
 
--- Each list has room for every cell; what is marked is an object; and the marks are a snapshot
-pub record FitsTogether (known : Known) (pending_room line_room : ℕ) : Type 0 where
+-- There is a link for each cell, of two lists; what is marked is an object; and the marks are a snapshot
+pub record FitsTogether (known : Known) (column lists : ℕ) : Type 0 where
   pub few : length known.graph.objects ≤ 65536
   pub bits : length known.marking.bits ≡ length known.graph.objects
   pub ages : length known.clock.last_gets ≡ length known.graph.objects
-  pub has_room : length known.graph.objects ≤ pending_room
-  pub line_has_room : length known.graph.objects ≤ line_room
+  pub links : length known.graph.objects ≡ column
+  pub two : lists ≡ 2
   pub objects : (s : ℕ) → IsMarked known.marking s → IsObject known.graph.objects s
   pub snapshot : IsSnapshot (cycle_of known.graph known.marking)

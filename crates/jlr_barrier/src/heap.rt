@@ -8,15 +8,16 @@ ghost use Rattle.jlr_marks.specs.Marking.{Blackened, IsMarked, Shaded, marked};
 ghost use Rattle.jlr_barrier.specs.Graphs.{empty_known, made_now, with_objects};
 ghost use Rattle.jlr_barrier.specs.Snapshots.{IsInHand, IsObject};
 
+use crate::lists::LISTS;
 use crate::shade::shade_value;
 use jlr_cells::{Cells, Kind, Shape};
+use jlr_links::Links;
 use jlr_machine::object::{Object, Reference};
 use jlr_machine::table::Table;
 use jlr_marks::Marks;
 use jlr_roots::{Names, Roots};
 use jlr_types::{FieldValue, Limits, Slot};
 use std::alloc::{AllocError, Global};
-use std::collections::VecDeque;
 use std::marker::Model;
 
 /// The objects of a heap with their roots. Contracts see the part of the machine that it keeps, its clock and its mark set.
@@ -25,10 +26,8 @@ pub struct Heap {
     pub(crate) cells: Cells,
     pub(crate) roots: Roots,
     pub(crate) names: Names,
-    /// References to be enqueued and cleanables to be lined up, from the front on. It has room for every cell.
-    pub(crate) waiting: VecDeque<Slot>,
-    /// Cleanables to be taken up, from the front on. It has room for every cell.
-    pub(crate) lined: VecDeque<Slot>,
+    /// The pending list and the cleaner's line. A slot stands in one of them at most.
+    pub(crate) lists: Links,
     pub(crate) marks: Marks,
     /// By slot, how many collections had finished when the object was made or last gave its referent.
     pub(crate) last_gets: Vec<u64>,
@@ -39,23 +38,24 @@ pub struct Heap {
 }
 
 impl Model for Heap {
-    ghost use Rattle.std.specs.VecDeque.{deque_capacity};
+    ghost use Rattle.std.specs.Prelude.{length};
+    ghost use Rattle.jlr_links.specs.Lists.{list_at};
     ghost use Rattle.jlr_barrier.specs.Graphs.{Known};
     ghost use Rattle.jlr_barrier.specs.Snapshots.{FitsTogether};
 
     ghost Value = { Known };
 
     ghost view = { λ h. record {
-      graph = record { objects = h.cells; mutators = h.roots; names = h.names; pending = h.waiting.items; line = h.lined.items };
+      graph = record { objects = h.cells; mutators = h.roots; names = h.names; pending = list_at h.lists.lists 0; line = list_at h.lists.lists 1 };
       clock = record { last_gets = h.last_gets.items; collections = h.collections; since = h.since_collection };
       marking = h.marks;
     } };
 
     ghost invariant = { λ h. FitsTogether (record {
-      graph = record { objects = h.cells; mutators = h.roots; names = h.names; pending = h.waiting.items; line = h.lined.items };
+      graph = record { objects = h.cells; mutators = h.roots; names = h.names; pending = list_at h.lists.lists 0; line = list_at h.lists.lists 1 };
       clock = record { last_gets = h.last_gets.items; collections = h.collections; since = h.since_collection };
       marking = h.marks;
-    }) (deque_capacity h.waiting) (deque_capacity h.lined) };
+    }) h.lists.slots (length h.lists.lists) };
 }
 
 impl Heap {
@@ -71,8 +71,7 @@ impl Heap {
             cells: Cells::new(alloc, cells)?,
             roots: Roots::new(alloc, session_count(limits))?,
             names: Names::new(alloc)?,
-            waiting: VecDeque::with_capacity(alloc, cells as usize)?,
-            lined: VecDeque::with_capacity(alloc, cells as usize)?,
+            lists: Links::new(alloc, LISTS, cells)?,
             marks: Marks::new(alloc, cells)?,
             last_gets: vec![in alloc; 0; cells as usize]?,
             collections: 0,

@@ -13,6 +13,7 @@ mod clock;
 mod guards;
 mod heap;
 mod line;
+mod lists;
 mod marking;
 mod names;
 mod pending;

@@ -1,10 +1,11 @@
 //! The cleaner's line: the cleanables that the handler handed over and the cleaner has still to take up.
 ghost use Rattle.std.specs.Prelude.{◌≡◌, ◌++◌, ◌∷◌, [], ◌<◌, IfOk, drop, length, slice_get};
+ghost use Rattle.jlr_machine.specs.Objects.{◌∈◌};
 ghost use Rattle.jlr_barrier.specs.Graphs.{with_line};
 ghost use Rattle.jlr_barrier.specs.Snapshots.{IsInHand};
 
 use crate::heap::Heap;
-use crate::pending::list_image;
+use crate::lists::{LINE, list_image};
 use jlr_machine::items::Items;
 use jlr_types::Slot;
 use std::alloc::{AllocError, Global};
@@ -14,7 +15,7 @@ impl Heap {
     pub fn first_lined(&self) -> Option<Slot>
         ensures { result ≡ slice_get self.now.graph.line 0 }
     {
-        self.lined.front().copied()
+        self.lists.front(LINE)
     }
 
     /// The front of the line leaves it, if there is one.
@@ -24,18 +25,20 @@ impl Heap {
         ensures clock { self.new.clock ≡ self.old.clock }
         ensures marking { self.new.marking ≡ self.old.marking }
     {
-        self.lined.pop_front()
+        self.lists.take_front(LINE)
     }
 
-    /// A slot goes to the end of the line. There is room for every cell, and takes no memory.
+    /// A slot that stands neither in the pending list nor in the line goes to the end of the line.
     pub fn add_lined(&mut self, slot: Slot)
-        requires room { length self.old.graph.line < length self.old.graph.objects }
+        requires slot { slot < length self.old.graph.objects }
+        requires pending { ¬ (slot ∈ self.old.graph.pending) }
+        requires line { ¬ (slot ∈ self.old.graph.line) }
         requires held { IsInHand self.old slot }
         ensures graph { self.new.graph ≡ with_line self.old.graph (self.old.graph.line ++ slot ∷ []) }
         ensures clock { self.new.clock ≡ self.old.clock }
         ensures marking { self.new.marking ≡ self.old.marking }
     {
-        self.lined.push_back_reserved(slot);
+        self.lists.append(LINE, slot);
     }
 
     /// The line as plain data.
@@ -45,6 +48,6 @@ impl Heap {
     pub fn line_image(&self, alloc: Global) -> Result<Items<Slot>, AllocError>
         ensures { IfOk result (λ slots. slots ≡ self.now.graph.line) }
     {
-        list_image(alloc, &self.lined)
+        list_image(alloc, &self.lists, LINE)
     }
 }

@@ -10,9 +10,8 @@ ghost use Rattle.jlr_barrier.specs.Snapshots.{HoldsWhole, IsEdge, IsObject, Refe
 ghost use Rattle.jlr_barrier.specs.Scans.{Scanned};
 
 use crate::heap::Heap;
-use crate::shade::{
-    follow, note, shade_cleanables, shade_list, shade_names, shade_roots, shade_target,
-};
+use crate::lists::{LINE, PENDING, shade_list};
+use crate::shade::{follow, note, shade_cleanables, shade_names, shade_roots, shade_target};
 use jlr_cells::Kind;
 use jlr_types::{Meter, RefKind, Slot};
 
@@ -36,8 +35,8 @@ impl Heap {
         self.marks.reset();
         shade_roots(&self.roots, &mut self.marks);
         shade_names(&self.names, &mut self.marks);
-        shade_list(&self.waiting, &mut self.marks);
-        shade_list(&self.lined, &mut self.marks);
+        shade_list(&self.lists, PENDING, &mut self.marks);
+        shade_list(&self.lists, LINE, &mut self.marks);
         shade_cleanables(&self.cells, &mut self.marks);
     }
 

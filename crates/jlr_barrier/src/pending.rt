@@ -1,20 +1,21 @@
 //! The pending list: what the collector cleared and the handler has still to hand over.
 ghost use Rattle.std.specs.Prelude.{◌≡◌, ◌++◌, ◌∷◌, [], ◌<◌, IfOk, drop, length, slice_get};
+ghost use Rattle.jlr_machine.specs.Objects.{◌∈◌};
 ghost use Rattle.jlr_barrier.specs.Graphs.{with_pending};
 ghost use Rattle.jlr_barrier.specs.Snapshots.{IsInHand};
 
 use crate::heap::Heap;
+use crate::lists::{PENDING, list_image};
 use jlr_machine::items::Items;
 use jlr_types::Slot;
 use std::alloc::{AllocError, Global};
-use std::collections::VecDeque;
 
 impl Heap {
     /// The front of the pending list, if it is not empty.
     pub fn first_pending(&self) -> Option<Slot>
         ensures { result ≡ slice_get self.now.graph.pending 0 }
     {
-        self.waiting.front().copied()
+        self.lists.front(PENDING)
     }
 
     /// The front of the pending list leaves it, if there is one.
@@ -24,18 +25,20 @@ impl Heap {
         ensures clock { self.new.clock ≡ self.old.clock }
         ensures marking { self.new.marking ≡ self.old.marking }
     {
-        self.waiting.pop_front()
+        self.lists.take_front(PENDING)
     }
 
-    /// A slot goes to the end of the pending list. There is room for every cell, and takes no memory.
+    /// A slot that stands neither in the pending list nor in the line goes to the end of the pending list.
     pub fn add_pending(&mut self, slot: Slot)
-        requires room { length self.old.graph.pending < length self.old.graph.objects }
+        requires slot { slot < length self.old.graph.objects }
+        requires pending { ¬ (slot ∈ self.old.graph.pending) }
+        requires line { ¬ (slot ∈ self.old.graph.line) }
         requires held { IsInHand self.old slot }
         ensures graph { self.new.graph ≡ with_pending self.old.graph (self.old.graph.pending ++ slot ∷ []) }
         ensures clock { self.new.clock ≡ self.old.clock }
         ensures marking { self.new.marking ≡ self.old.marking }
     {
-        self.waiting.push_back_reserved(slot);
+        self.lists.append(PENDING, slot);
     }
 
     /// The pending list as plain data.
@@ -45,20 +48,6 @@ impl Heap {
     pub fn pending_image(&self, alloc: Global) -> Result<Items<Slot>, AllocError>
         ensures { IfOk result (λ slots. slots ≡ self.now.graph.pending) }
     {
-        list_image(alloc, &self.waiting)
+        list_image(alloc, &self.lists, PENDING)
     }
-}
-
-/// A list as plain data.
-pub(crate) fn list_image(alloc: Global, list: &VecDeque<Slot>) -> Result<Items<Slot>, AllocError>
-    ensures { IfOk result (λ slots. slots ≡ list.now.items) }
-{
-    let mut slots = Vec::with_capacity(alloc, list.len())?;
-    for place in 0..list.len() {
-        match list.get(place) {
-            Some(slot) => slots.push_reserved(*slot),
-            None => unreachable!(),
-        }
-    }
-    Ok(Items::from_vec(slots))
 }

@@ -17,7 +17,6 @@ use jlr_machine::object::{CleanState, RefState, Reference};
 use jlr_marks::Marks;
 use jlr_roots::{Names, Roots};
 use jlr_types::{FieldValue, Meter, Slot};
-use std::collections::VecDeque;
 
 pub(crate) fn shade_target(target: Option<Slot>, marks: &mut Marks)
     requires { (x : ℕ) → target ≡ Some x → x < length marks.old.bits }
@@ -149,18 +148,6 @@ pub(crate) fn shade_names(names: &Names, marks: &mut Marks)
 {
     for place in 0..names.len() {
         shade_target(names.slot_at(place), marks);
-    }
-}
-
-/// Shades the slots of a list.
-pub(crate) fn shade_list(slots: &VecDeque<Slot>, marks: &mut Marks)
-    requires { (x : ℕ) → x ∈ slots.now.items → x < length marks.old.bits }
-    ensures { Shaded (λ x. x ∈ slots.now.items) marks.old marks.new }
-{
-    let mut place = 0;
-    while let Some(slot) = slots.get(place) {
-        shade_target(Some(*slot), marks);
-        place += 1;
     }
 }
 

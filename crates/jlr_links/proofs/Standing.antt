@@ -113,6 +113,10 @@ tells_empty next ends v k e view read =
       (λ none. eq-eqb e.count 0 (same ∙ sym (long_walk next (ends_at ends k).count (ends_at ends k).first) ∙ ap length (sym (list_seen next ends v k view) ∙ none))),
     )
 
+pub tells_count : (next : List ℕ) (ends : List Ends) (v : Lists) (k : ℕ) (e : Ends) → seen next ends ≡ v → e ≡ ends_at ends k → e.count ≡ length (list_at v.lists k)
+tells_count next ends v k e view read =
+    ap (λ (x : Ends). x.count) read ∙ sym (ap length (list_seen next ends v k view) ∙ long_walk next (ends_at ends k).count (ends_at ends k).first)
+
 pub tells_front : (next : List ℕ) (ends : List Ends) (v : Lists) (k : ℕ) (e : Ends) (x : ℕ) → seen next ends ≡ v → e ≡ ends_at ends k → (e.count ≡ 0 → ⊥) → x ≡ e.first → Some x ≡ slice_get (list_at v.lists k) 0
 tells_front next ends v k e x view read some first =
     ap (λ y. Some y) (first ∙ ap (λ (z : Ends). z.first) read) ∙ some_front next ends k (λ c. some (ap (λ (z : Ends). z.count) read ∙ c)) ∙ ap (λ (w : Lists). slice_get (list_at w.lists k) 0) view

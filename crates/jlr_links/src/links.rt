@@ -61,6 +61,14 @@ impl Links {
         self.ends[list as usize].count == 0
     }
 
+    /// How many slots stand in a list.
+    pub fn count(&self, list: u32) -> u32
+        requires { list < length self.now.lists }
+        ensures { result ≡ length (list_at self.now.lists list) }
+    {
+        self.ends[list as usize].count
+    }
+
     /// The slot at the front of a list, if it is not empty.
     pub fn front(&self, list: u32) -> Option<Slot>
         requires { list < length self.now.lists }

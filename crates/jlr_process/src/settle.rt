@@ -1,7 +1,7 @@
 //! One place of the heap.
 ghost use Rattle.std.specs.Prelude.{◌≡◌, ℕ, ◌<◌, ◌++◌, [], IsTrue, Some, is_some, length, option_and_then, option_map};
 ghost use Rattle.jlr_machine.specs.declared.object.Object.TheVariants as object;
-ghost use Rattle.jlr_machine.specs.Objects.{any_referent, as_cleanable, as_reference, at};
+ghost use Rattle.jlr_machine.specs.Objects.{◌∈◌, any_referent, as_cleanable, as_reference, at};
 ghost use Rattle.jlr_cells.specs.Contents.{kind_of};
 ghost use Rattle.jlr_machine.specs.Collection.{is_ready};
 ghost use Rattle.jlr_machine.specs.Choices.{collecting, kept_by, pended_by};
@@ -27,7 +27,8 @@ fn settle_reference(heap: &mut Heap, slot: Slot, reference: Reference, choice: &
     requires here { at heap.old.graph.objects slot ≡ Some (object.Reference reference) }
     requires marked { IsMarked heap.old.marking slot }
     requires within { (x : ℕ) → reference.referent ≡ Some x → x < length heap.old.graph.objects }
-    requires pending { IsTrue (loses heap.old.marking (object.Reference reference)) → length heap.old.graph.pending < length heap.old.graph.objects }
+    requires pending { IsTrue (loses heap.old.marking (object.Reference reference)) → ¬ (slot ∈ heap.old.graph.pending) }
+    requires line { IsTrue (loses heap.old.marking (object.Reference reference)) → ¬ (slot ∈ heap.old.graph.line) }
     requires pended { length (pended_by choice.old) < choice.old.cells }
     requires collects { choice.old ≡ collecting choice.old (kept_by choice.old) (pended_by choice.old) }
     ensures graph { heap.new.graph ≡ with_settled heap.old.marking heap.old.graph slot (object.Reference reference) }
@@ -61,7 +62,8 @@ fn settle_cleanable(heap: &mut Heap, slot: Slot, cleanable: Cleanable, choice: &
     requires here { at heap.old.graph.objects slot ≡ Some (object.Cleanable cleanable) }
     requires marked { IsMarked heap.old.marking slot }
     requires within { (x : ℕ) → cleanable.referent ≡ Some x → x < length heap.old.graph.objects }
-    requires pending { IsTrue (loses heap.old.marking (object.Cleanable cleanable)) → length heap.old.graph.pending < length heap.old.graph.objects }
+    requires pending { IsTrue (loses heap.old.marking (object.Cleanable cleanable)) → ¬ (slot ∈ heap.old.graph.pending) }
+    requires line { IsTrue (loses heap.old.marking (object.Cleanable cleanable)) → ¬ (slot ∈ heap.old.graph.line) }
     requires pended { length (pended_by choice.old) < choice.old.cells }
     requires collects { choice.old ≡ collecting choice.old (kept_by choice.old) (pended_by choice.old) }
     ensures graph { heap.new.graph ≡ with_settled heap.old.marking heap.old.graph slot (object.Cleanable cleanable) }
@@ -89,7 +91,8 @@ pub(crate) fn settle(heap: &mut Heap, slot: Slot, choice: &mut Choice)
     requires no_grey { heap.old.marking.grey ≡ [] }
     requires object { IsMarked heap.old.marking slot → IsTrue (is_some (at heap.old.graph.objects slot)) }
     requires within { (x : ℕ) → option_and_then any_referent (at heap.old.graph.objects slot) ≡ Some x → x < length heap.old.graph.objects }
-    requires pending { IsTrue (is_losing heap.old.marking heap.old.graph.objects slot) → length heap.old.graph.pending < length heap.old.graph.objects }
+    requires pending { IsTrue (is_losing heap.old.marking heap.old.graph.objects slot) → ¬ (slot ∈ heap.old.graph.pending) }
+    requires line { IsTrue (is_losing heap.old.marking heap.old.graph.objects slot) → ¬ (slot ∈ heap.old.graph.line) }
     requires cell { slot < choice.old.cells }
     requires above { IsAboveAll slot (kept_by choice.old) }
     requires pended { length (pended_by choice.old) < choice.old.cells }

@@ -1,5 +1,5 @@
 -- The handler's step, as the machine has it.
-use Rattle.std.proofs.Common.{◌≡◌, ℕ, true, inr, List, [], drop, Option, Some, None, option_and_then, refl, sym, ◌∙◌, ap, subst}
+use Rattle.std.proofs.Common.{◌≡◌, ℕ, true, inr, List, [], drop, Option, Some, None, is_some, option_and_then, refl, sym, ◌∙◌, ap, subst}
 use Rattle.std.specs.Prelude.{option_map, slice_get}
 use Rattle.jlr_machine.specs.declared.machine.Machine.{Machine}
 use Rattle.jlr_machine.specs.declared.object.Object.{Object}
@@ -13,7 +13,8 @@ use Rattle.jlr_machine.specs.declared.object.CleanState.TheVariants.{Armed, Pend
 use Rattle.jlr_machine.specs.declared.ask.Handed.{Handed}
 use Rattle.jlr_machine.specs.declared.ask.Handed.TheVariants.{Queued as HandedQueued, Lined as HandedLined, Skipped, Nothing}
 use Rattle.jlr_machine.specs.declared.ask.Answer.TheVariants.{Handed as HandedAnswer}
-use Rattle.jlr_machine.specs.Objects.{◌∈◌, as_cleanable, as_reference, at, queue_ahead, with_reference}
+use Rattle.jlr_machine.specs.Objects.{◌∈◌, as_cleanable, as_reference, at, queue_ahead, some_and, with_reference}
+use Rattle.jlr_machine.specs.Refusals.{is_cleanable}
 use Rattle.jlr_machine.specs.Edges.{is_own_root}
 use Rattle.jlr_machine.specs.Lookups.{with_object}
 use Rattle.jlr_machine.specs.Calls.{delivered, hand_over_answer, handed, handed_cleanable, handed_over, handed_reference, to_queue, unreferred}
@@ -25,7 +26,7 @@ use Rattle.jlr_barrier.proofs.Held.{by_itself, by_pending}
 use Rattle.jlr_barrier.proofs.OwnRoots.{active_from}
 use Rattle.jlr_refs.specs.Parts.{DeliversFront, HandsOver, IsFit, handed_there}
 use Rattle.jlr_refs.proofs.Lining.{split}
-use Rattle.jlr_refs.proofs.Room.{pending_there}
+use Rattle.jlr_refs.proofs.Standing.{pending_there}
 
 -- ---- What the handler does with an object
 
@@ -55,6 +56,10 @@ lined_is_cleanable (Some (Queue members)) e = absurd (cc e)
 lined_is_cleanable (Some Cleaner) e = absurd (cc e)
 lined_is_cleanable (Some (Cleanable c)) e = (c, refl, lined_was_pending c.state e)
 lined_is_cleanable (Some (Guard g)) e = absurd (cc e)
+
+pub cleanable_is_object : (o : Option Object) → some_and is_cleanable o ≡ true → is_some o ≡ true
+cleanable_is_object None h = h
+cleanable_is_object (Some o) h = refl
 
 -- ---- The pending list meanwhile
 

@@ -1,7 +1,7 @@
 //! The handler's step: what is pending is handed over, a reference to its queue, and a cleanable to the line.
-ghost use Rattle.std.specs.Prelude.{◌≡◌, ◌++◌, ◌∷◌, ◌<◌, [], IfOk, IsTrue, OnErr, Some, length, slice_get};
+ghost use Rattle.std.specs.Prelude.{◌≡◌, ◌++◌, ◌∷◌, [], IfOk, IsTrue, OnErr, Some, slice_get};
 ghost use Rattle.jlr_machine.specs.declared.object.CleanState.TheVariants as state;
-ghost use Rattle.jlr_machine.specs.Objects.{at, change_at, some_and, with_cleanable};
+ghost use Rattle.jlr_machine.specs.Objects.{◌∈◌, at, change_at, some_and, with_cleanable};
 ghost use Rattle.jlr_machine.specs.Refusals.{is_cleanable};
 ghost use Rattle.jlr_machine.specs.Calls.{handed_cleanable, handed_reference};
 ghost use Rattle.jlr_machine.specs.Edges.{is_own_root};
@@ -103,7 +103,8 @@ fn deliver(heap: &mut Heap, slot: Slot, handed: Handed) -> Result<(), AllocError
 pub(crate) fn line_up(heap: &mut Heap, slot: Slot)
     requires cleanable { IsTrue (some_and is_cleanable (at heap.old.graph.objects slot)) }
     requires root { IsTrue (is_own_root (at heap.old.graph.objects slot)) }
-    requires room { length heap.old.graph.line < length heap.old.graph.objects }
+    requires pending { ¬ (slot ∈ heap.old.graph.pending) }
+    requires line { ¬ (slot ∈ heap.old.graph.line) }
     ensures graph { heap.new.graph ≡ with_line (with_objects heap.old.graph (change_at heap.old.graph.objects slot (with_cleanable (in_clean_state state.Lined)))) (heap.old.graph.line ++ slot ∷ []) }
     ensures clock { heap.new.clock ≡ heap.old.clock }
     ensures marking { heap.new.marking ≡ heap.old.marking }

@@ -9,7 +9,7 @@ use Rattle.jlr_barrier.specs.Graphs.{Graph, in_machine}
 use Rattle.jlr_marks.specs.Marking.{Marking, is_marked}
 use Rattle.jlr_process.specs.Settling.{newly_pending, is_losing, marked_below, only_if, settled, settled_choice, settled_graph}
 use Rattle.jlr_process.proofs.Whole.{lost_below, all_settled, below_low, below_short, filter_more, kept_counted, losing_alike, as_parts, choice_more, unmarked_loses_not}
-use Rattle.jlr_process.proofs.Gone.{collection, referent_within, room_for_one, whole}
+use Rattle.jlr_process.proofs.Gone.{collection, not_in_line, not_pending, referent_within, whole}
 use Rattle.jlr_process.proofs.collection.flip.Goals as goal
 
 pub settle-requires-clause-no_grey : goal.settle-requires-clause-no_grey
@@ -26,15 +26,25 @@ settle-requires-clause-within c =
 
 pub settle-requires-clause-pending : goal.settle-requires-clause-pending
 settle-requires-clause-pending c =
-    λ h.
+    λ h k.
     let i = c.loop-number.invariant in
     let n = c.loop-number.number in
     let m = c.args.heap.now.marking in
     let here : at c.loop-number.heap.graph.objects c.new.result ≡ at c.args.heap.now.graph.objects n = ap (at c.loop-number.heap.graph.objects) c.new.ensures ∙ i.rest n (omega arith) in
     let losing : is_losing m c.args.heap.now.graph.objects n ≡ true = sym (losing_alike c.loop-number.heap.marking m c.loop-number.heap.graph.objects c.args.heap.now.graph.objects c.new.result n i.marking c.new.ensures here) ∙ h in
-    let inside : n < length c.args.heap.now.graph.objects = omega (arith, c.loop-number-test.true, c.cell_count-number-end.ensures.count) in
-    let room = room_for_one (in_machine c.requires.fit.0 c.args.heap.now.graph) m (whole c.requires.fit.0 c.args.heap.now c.requires.fit.1 (c.has_grey.ensures.whole c.requires.no_grey)) n inside losing in
-    omega (arith, room, ap length i.pending, i.long)
+    not_pending (in_machine c.requires.fit.0 c.args.heap.now.graph) m (whole c.requires.fit.0 c.args.heap.now c.requires.fit.1 (c.has_grey.ensures.whole c.requires.no_grey)) n losing
+    (subst (λ l. n ∈ l) i.pending (subst (λ s. s ∈ c.loop-number.heap.graph.pending) c.new.ensures k))
+
+pub settle-requires-clause-line : goal.settle-requires-clause-line
+settle-requires-clause-line c =
+    λ h k.
+    let i = c.loop-number.invariant in
+    let n = c.loop-number.number in
+    let m = c.args.heap.now.marking in
+    let here : at c.loop-number.heap.graph.objects c.new.result ≡ at c.args.heap.now.graph.objects n = ap (at c.loop-number.heap.graph.objects) c.new.ensures ∙ i.rest n (omega arith) in
+    let losing : is_losing m c.args.heap.now.graph.objects n ≡ true = sym (losing_alike c.loop-number.heap.marking m c.loop-number.heap.graph.objects c.args.heap.now.graph.objects c.new.result n i.marking c.new.ensures here) ∙ h in
+    not_in_line (in_machine c.requires.fit.0 c.args.heap.now.graph) m (whole c.requires.fit.0 c.args.heap.now c.requires.fit.1 (c.has_grey.ensures.whole c.requires.no_grey)) n losing
+    (subst (λ l. n ∈ l) i.line (subst (λ s. s ∈ c.loop-number.heap.graph.line) c.new.ensures k))
 
 pub settle-requires-clause-cell : goal.settle-requires-clause-cell
 settle-requires-clause-cell c =

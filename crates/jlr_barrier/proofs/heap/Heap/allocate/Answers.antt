@@ -1,4 +1,4 @@
-use Rattle.std.proofs.Common.{◌≡◌, ◌+◌, slice_set, length-set, subst}
+use Rattle.std.proofs.Common.{◌≡◌, ◌+◌, length-set, subst}
 use Rattle.jlr_cells.specs.Contents.{object_of}
 use Rattle.jlr_marks.specs.Marking.{Blackened, marked}
 use Rattle.jlr_barrier.specs.Graphs.{Known}

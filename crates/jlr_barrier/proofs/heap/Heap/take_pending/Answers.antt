@@ -1,10 +1,6 @@
-use Rattle.std.proofs.Common.{inl, arith}
-use Rattle.jlr_barrier.proofs.Fitting.{other_pending, in_shorter}
+use Rattle.std.proofs.Common.{refl}
+use Rattle.jlr_barrier.proofs.Fitting.{popped_pending}
 use Rattle.jlr_barrier.proofs.heap.Heap.take_pending.Goals as goal
 
 pub invariant_of-self : goal.invariant_of-self
-invariant_of-self c =
-    let s = c.self.inside in
-    other_pending _ c.pop_front.new.self.items _ _ _ c.self.invariant
-    (λ y h. inl (in_shorter c.pop_front.result s.waiting.items c.pop_front.new.self.items c.pop_front.ensures.items y h))
-    (omega (arith, c.self.invariant.has_room, c.pop_front.ensures.capacity))
+invariant_of-self c = popped_pending _ c.self.inside.lists.lists c.take_front.new.self.lists _ _ c.self.invariant c.take_front.ensures.slots refl c.take_front.ensures.lists
