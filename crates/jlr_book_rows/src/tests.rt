@@ -1,5 +1,3 @@
 //! Lists of events and what they leave in the book. What is expected comes from the description of the book.
-mod answers;
 mod cuts;
-mod events;
 mod play;

@@ -1,62 +1,63 @@
-//! A row is an event or a reply in words. What it tells, with the resource that it carries behind `with`, is written in words again, and has
+//! A row is an event in words, as `jlr_words` reads them, or a reply. What it tells, with the resource that it carries behind `with`, is written in words again, and has
 //! to be the row; where it is something else, that stands behind an arrow. Each operand of a row is another number, so that none can stand for
 //! another.
 use jlr_event::event::{Event, Reply};
 use std::alloc::{AllocError, Global};
 use std::test::Fail;
 
-mod reading;
+mod replies;
 mod writing;
 
-use reading::{event_of, reply_of};
+use jlr_words::event_of;
+use replies::reply_of;
 use writing::{answer_text, ask_text, with_resource};
 
 const ARROW: &str = " -> ";
 
 const EVENTS: &str = "
-    join 3
-    leave 3
-    new 3 ri
-    put 3 4 5 6
-    get 3 4 5
-    set_int 3 4 5 -70000
-    int 3 4 5
-    dup 3 4
-    drop 3 4
-    same 3 4 5
-    soft 3 4 5
-    weak 3 4 5
-    phantom 3 4 5
-    deref 3 4
-    refers 3 4 5
-    clear 3 4
-    enqueue 3 4
-    enqueued 3 4
-    queue 3
-    poll 3 4
-    remove 3 4
-    cleaner 3
-    register 3 4 5 70000
-    clean 3 4
-    prepare 3
-    opened 3 ok with 9
-    opened 3 NotFound
-    check_out 3 4
-    check_in 3 data ab with 9
-    check_in 3 wrote 200 with 9
-    check_in 3 failed Other with 9
-    close 3 4
+    by 3 join
+    by 3 leave
+    by 3 new ri
+    by 3 put 4 5 6
+    by 3 get 4 5
+    by 3 set_int 4 5 -70000
+    by 3 int 4 5
+    by 3 dup 4
+    by 3 drop 4
+    by 3 same 4 5
+    by 3 soft 4 5
+    by 3 weak 4 5
+    by 3 phantom 4 5
+    by 3 deref 4
+    by 3 refers 4 5
+    by 3 clear 4
+    by 3 enqueue 4
+    by 3 enqueued 4
+    by 3 queue
+    by 3 poll 4
+    by 3 remove 4
+    by 3 cleaner
+    by 3 register 4 5 70000
+    by 3 clean 4
+    by 3 prepare
+    by 3 opened 9 -> by 3 opened ok with 9
+    by 3 opened NotFound
+    by 3 check_out 4
+    by 3 check_in data 6162 9 -> by 3 check_in data ab with 9
+    by 3 check_in 200 9 -> by 3 check_in wrote 200 with 9
+    by 3 check_in Other 9 -> by 3 check_in failed Other with 9
+    by 3 close 4
     finish 255 70000 ok
     finish 255 70000 Denied
-    bind 3 log_1 4
-    find 3 log_1
-    unbind 3 log_1
-    names 3
-    full 3
-    full_clearing 3
-    stat 3
-    notes 3
-    faults 3
+    by 3 bind log_1 4
+    by 3 find log_1
+    by 3 unbind log_1
+    by 3 names
+    by 3 full
+    by 3 full_clearing
+    by 3 stat
+    by 3 notes
+    by 3 faults
     hand_over
     take_up
     begin

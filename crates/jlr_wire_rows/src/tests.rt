@@ -1,10 +1,9 @@
 //! Rows of text: what is given, an arrow, and what is expected, from the description of the protocol.
 //!
-//! In a row `(p×255)` stands for 255 times the letter `p`.
-use std::alloc::{AllocError, Global};
+//! In a row `(p×255)` stands for 255 times the letter `p`. Answers are those of `jlr_words`.
+use std::alloc::Global;
 use std::test::Fail;
 
-mod answers;
 mod cases;
 mod commands;
 mod lines;
@@ -15,45 +14,29 @@ mod writers;
 // The row with each repetition written out.
 fn spelled(alloc: Global, row: &str) -> Result<String, Fail> {
     let mut text = String::new(alloc);
+    spell(&mut text, row)?;
+    Ok(text)
+}
+
+fn spell(text: &mut String, row: &str) -> Result<(), Fail> {
     for part in row.split("(") {
         match part.split_once(")") {
             Some((repeated, rest)) => {
-                repeat(&mut text, repeated)?;
+                repeat(text, repeated)?;
                 text.push_str(rest)?;
             }
             None => text.push_str(part)?,
         }
     }
-    Ok(text)
+    Ok(())
 }
 
 // `p×255` is 255 times `p`.
 fn repeat(text: &mut String, repeated: &str) -> Result<(), Fail> {
-    let Some((unit, count)) = repeated.split_once("×") else {
-        return Err(Fail::new(format_args!("no repetition: {repeated}")));
-    };
+    let (unit, count) = repeated.split_once("×").ok_or("no repetition")?;
     let count: usize = count.parse()?;
     for _ in 0..count {
         text.push_str(unit)?;
     }
     Ok(())
-}
-
-// What stands before the arrow, and what behind it.
-fn halves(row: &str) -> Result<(&str, &str), Fail> {
-    match row.split_once(" -> ") {
-        Some(halves) => Ok(halves),
-        None => Err(Fail::new(format_args!("no row: {row}"))),
-    }
-}
-
-// What stands between two bars, at whose ends spaces count.
-fn barred(row: &str) -> Result<&str, Fail> {
-    match row
-        .strip_prefix("|")
-        .and_then(|rest| rest.strip_suffix("|"))
-    {
-        Some(text) => Ok(text),
-        None => Err(Fail::new(format_args!("no bars: {row}"))),
-    }
 }

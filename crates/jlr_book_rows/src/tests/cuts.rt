@@ -11,7 +11,7 @@ const LISTS: &str = "
     stat -> stat 0
     trace 64 1
     6 times stat -> stat 0
-    leave 0 -> done
+    leave -> done
     trace 64 8
     last 72
 
@@ -35,9 +35,9 @@ const LISTS: &str = "
     stat -> stat 2
     trace 65 1
     image 2
-    leave 1 -> refused 13
+    by 1 leave -> refused NoSession
     trace 65 1
-    opened 6 -> refused 17 6
+    opened 6 -> refused NotOut 6
     trace 65 1
     last 66
 
@@ -48,9 +48,9 @@ const LISTS: &str = "
     new -> handle 2
     new -> handle 3
     bind a 1 -> done
-    names -> items 1
-    register 1 2 -> handle 4
-    register 1 3 -> handle 5
+    names -> names 1
+    register 1 2 7 -> handle 4
+    register 1 3 7 -> handle 5
     drop 2 -> done
     drop 3 -> done
     pending no
@@ -62,12 +62,12 @@ const LISTS: &str = "
     pending no
     line yes
     seat 3 take_up -> job 1
-    seat 3 finish 1 ok -> done
+    seat 3 finish 255 1 ok -> done
     seat 3 take_up -> job 2
-    seat 3 finish 2 failed -> faulted
+    seat 3 finish 255 2 Other -> fault Other
     line no
-    notes -> items 1
-    faults -> items 1
+    notes -> notes 1
+    faults -> faults 1
     trace 0 19
     drop 4 -> done
     drop 5 -> done
@@ -95,7 +95,7 @@ const LISTS: &str = "
     new -> handle 14
     new -> handle 15
     new -> handle 16
-    new -> refused 2
+    new -> refused HeapFull
     waits 1 yes
     drop 2 -> done
     new -> handle 2
@@ -112,10 +112,10 @@ const LISTS: &str = "
     join -> done
     new -> handle 1
     mark idle
-    mark -> idle
+    mark -> marked idle
     begin -> yes
     mark done
-    mark -> marked
+    mark -> marked done
     trace 0 3
     cut
     trace 4 0

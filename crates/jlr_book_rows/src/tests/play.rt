@@ -1,4 +1,4 @@
-//! Rows over a book.
+//! Rows over a book, in the words of `jlr_words`.
 //!
 //! `drop 1 -> done` is an ask of seat 0 and what it is answered, `seat 2 hand_over -> nothing` one of seat 2, and `63 times stat -> stat 0`
 //! stands for so many rows. A row without an arrow looks at the book: `trace 64 8` wants base 64 and 8 entries, `image 2` two objects in
@@ -7,12 +7,10 @@
 //!
 //! A text has several lists. Each begins with `== ` and its name, and has a book of its own, with 16 cells, one session and one resource,
 //! that cuts at 64 entries. A line that begins with `-- ` is a comment.
-use super::answers::{Got, answer_of, seen};
-use super::events::event_of;
 use jlr_book::book::Book;
-use jlr_event::event::Event;
 use jlr_types::{Handle, Limits, Mutator, Progress};
-use std::alloc::Global;
+use jlr_words::{event_of, is_reply};
+use std::alloc::{AllocError, Global};
 use std::test::Fail;
 
 const TITLE: &str = "== ";
@@ -30,18 +28,30 @@ pub(super) fn play_all(alloc: Global, lists: &str) -> Result<(), Fail> {
 
 fn play(alloc: Global, title: &str, rows: &str) -> Result<(), Fail> {
     let limits = Limits::checked(16, 1, 1, 0, 64, 1).ok().ok_or("limits")?;
-    let mut book = Book::new(alloc, limits)?;
-    play_rows(&mut book, title, rows)
+    match first_wrong_of(alloc, limits, rows)? {
+        Some(row) => Err(Fail::new(format_args!("{title}: {row}"))),
+        None => Ok(()),
+    }
 }
 
-fn play_rows(book: &mut Book<u32>, title: &str, rows: &str) -> Result<(), Fail> {
+fn first_wrong_of<'a>(
+    alloc: Global,
+    limits: Limits,
+    rows: &'a str,
+) -> Result<Option<&'a str>, AllocError> {
+    let mut book = Book::new(alloc, limits)?;
+    Ok(first_wrong(&mut book, rows))
+}
+
+// The first row that is not as it says.
+fn first_wrong<'a>(book: &mut Book<u32>, rows: &'a str) -> Option<&'a str> {
     for row in rows.lines() {
         let row = row.trim();
-        if is_row(row) && !holds(book, row)? {
-            return Err(Fail::new(format_args!("{title}: {row}")));
+        if is_row(row) && !holds(book, row) {
+            return Some(row);
         }
     }
-    Ok(())
+    None
 }
 
 // Whether a line is a row, and no comment and not empty.
@@ -49,62 +59,55 @@ fn is_row(line: &str) -> bool {
     !line.is_empty() && !line.starts_with("-- ")
 }
 
-fn holds(book: &mut Book<u32>, row: &str) -> Result<bool, Fail> {
-    let Some((ask, answer)) = row.split_once(ARROW) else {
-        return looked(book, row);
-    };
-    let wanted = answer_of(answer).ok_or("no answer")?;
-    let (times, ask) = counted(ask).ok_or("no count")?;
-    for _ in 0..times {
-        let (seat, ask) = seated(ask).ok_or("no seat")?;
-        let event = event_of(ask).ok_or("no ask")?;
-        if asked(book, seat, event) != wanted {
-            return Ok(false);
-        }
+fn holds(book: &mut Book<u32>, row: &str) -> bool {
+    match row.split_once(ARROW) {
+        Some((asked, wanted)) => are_answered(book, asked, wanted),
+        None => looked(book, row) == Some(true),
     }
-    Ok(true)
 }
 
-fn asked(book: &mut Book<u32>, seat: u8, event: Event<u32>) -> Got {
-    seen(&book.step(seat, event))
+fn are_answered(book: &mut Book<u32>, asked: &str, wanted: &str) -> bool {
+    let (times, asked) = counted(asked);
+    let (seat, ask) = seated(asked);
+    for _ in 0..times {
+        if !is_answered(book, seat, ask, wanted) {
+            return false;
+        }
+    }
+    true
+}
+
+fn is_answered(book: &mut Book<u32>, seat: u8, ask: &str, wanted: &str) -> bool {
+    match event_of(ask) {
+        Some(event) => is_reply(&book.step(seat, event), wanted),
+        None => false,
+    }
 }
 
 // How often an ask is made.
-fn counted(ask: &str) -> Option<(usize, &str)> {
-    match ask.split_once(" times ") {
-        Some((count, ask)) => Some((count.parse().ok()?, ask)),
-        None => Some((1, ask)),
+fn counted(asked: &str) -> (usize, &str) {
+    match asked.split_once(" times ") {
+        Some((count, ask)) => (count.parse().unwrap_or(0), ask),
+        None => (1, asked),
     }
 }
 
-// By which seat.
-fn seated(ask: &str) -> Option<(u8, &str)> {
-    match ask.strip_prefix("seat ") {
+// By which seat: 0, or another digit behind `seat`.
+fn seated(asked: &str) -> (u8, &str) {
+    match asked.strip_prefix("seat ") {
         Some(rest) => {
-            let (seat, ask) = rest.split_once(' ')?;
-            Some((seat.parse().ok()?, ask))
+            let (seat, ask) = rest.split_once(' ').unwrap_or((rest, ""));
+            (seat.parse().unwrap_or(0), ask)
         }
-        None => Some((0, ask)),
+        None => (0, asked),
     }
 }
 
-fn looked(book: &mut Book<u32>, row: &str) -> Result<bool, Fail> {
-    let mut words = row.split_whitespace();
-    let name = words.next().ok_or("no row")?;
-    if name == "cut" {
-        return Ok(cuts(book));
-    }
-    let wanted = words.next().ok_or("no look")?;
-    if name == "mark" {
-        return Ok(is_idle(book) == (wanted == "idle"));
-    }
-    let Some(second) = words.next() else {
-        return shown(book, name, wanted);
-    };
-    match name {
-        "trace" => shown_trace(book, wanted, second),
-        "waits" => shown_wait(book, wanted, second),
-        _ => Err(Fail::from("no look")),
+fn looked(book: &mut Book<u32>, row: &str) -> Option<bool> {
+    match row.split_once(' ') {
+        Some(("mark", wanted)) => Some(is_idle(book) == (wanted == "idle")),
+        Some((name, wanted)) => shown(book, name, wanted),
+        None => { if row == "cut" { Some(cuts(book)) } else { None } }
     }
 }
 
@@ -116,30 +119,30 @@ fn is_idle(book: &mut Book<u32>) -> bool {
     book.mark(64) == Progress::Idle
 }
 
-fn shown(book: &Book<u32>, name: &str, wanted: &str) -> Result<bool, Fail> {
+fn shown(book: &Book<u32>, name: &str, wanted: &str) -> Option<bool> {
     match name {
-        "last" => Ok(book.last() == number(wanted)?),
-        "image" => Ok(objects_in_image(book) == number(wanted)?),
-        "pending" => Ok(book.pending_empty() == (wanted == "no")),
-        "line" => Ok(book.line_empty() == (wanted == "no")),
-        _ => Err(Fail::from("no look")),
+        "last" => Some(wanted.parse() == Ok(book.last())),
+        "image" => Some(wanted.parse() == Ok(objects_in_image(book))),
+        "pending" => Some(book.pending_empty() == (wanted == "no")),
+        "line" => Some(book.line_empty() == (wanted == "no")),
+        "trace" => shown_trace(book, wanted),
+        "waits" => shown_wait(book, wanted),
+        _ => None,
     }
 }
 
-fn shown_trace(book: &Book<u32>, base: &str, entries: &str) -> Result<bool, Fail> {
-    Ok(book.base() == number(base)? && book.entries().len() as u64 == number(entries)?)
+fn shown_trace(book: &Book<u32>, wanted: &str) -> Option<bool> {
+    let (base, entries) = wanted.split_once(' ')?;
+    Some(base.parse() == Ok(book.base()) && entries.parse() == Ok(book.entries().len()))
 }
 
-fn shown_wait(book: &Book<u32>, queue: &str, wanted: &str) -> Result<bool, Fail> {
-    let queue = Handle::new(queue.parse().ok().ok_or("no handle")?);
-    Ok(book.would_wait(Mutator::new(0), queue) == (wanted == "yes"))
+fn shown_wait(book: &Book<u32>, wanted: &str) -> Option<bool> {
+    let (queue, wanted) = wanted.split_once(' ')?;
+    let queue = Handle::new(queue.parse().ok()?);
+    Some(book.would_wait(Mutator::new(0), queue) == (wanted == "yes"))
 }
 
-fn objects_in_image(book: &Book<u32>) -> u64 {
+fn objects_in_image(book: &Book<u32>) -> usize {
     let objects = book.image().objects.as_slice();
-    objects.iter().filter(|place| place.is_some()).count() as u64
-}
-
-fn number(word: &str) -> Result<u64, Fail> {
-    Ok(word.parse().ok().ok_or("no number")?)
+    objects.iter().filter(|place| place.is_some()).count()
 }

@@ -1,5 +1,6 @@
 //! Background cycles, integers and counts.
-use super::*;
+use super::script::play_all;
+use std::test::Fail;
 
 const LISTS: &str = "
 == cycles are opened once and closed once: soft_age 4
@@ -20,8 +21,8 @@ const LISTS: &str = "
 -- What was read out of a field in a cycle is not collected by it.
 == what a get gave in a cycle is kept: soft_age 4
     join -> done
-    new -> handle 1
-    bare -> handle 2
+    new ri -> handle 1
+    new -> handle 2
     put 1 0 2 -> done
     drop 2 -> done
     begin -> yes
@@ -34,7 +35,7 @@ const LISTS: &str = "
 -- Nor is what a weak reference gave in it, after all was marked.
 == what a weak reference gave in a cycle is kept: soft_age 4
     join -> done
-    bare -> handle 1
+    new -> handle 1
     weak 1 0 -> handle 2
     drop 1 -> done
     begin -> yes
@@ -48,7 +49,7 @@ const LISTS: &str = "
 == a reference that was dropped in a cycle is kept: soft_age 4
     join -> done
     queue -> handle 1
-    bare -> handle 2
+    new -> handle 2
     weak 2 1 -> handle 3
     drop 2 -> done
     begin -> yes
@@ -61,8 +62,8 @@ const LISTS: &str = "
 -- A piece of marking ends where its ticks are spent or no cell is grey, and a cycle is collected only then.
 == a cycle is marked in pieces: soft_age 4
     join -> done
-    new -> handle 1
-    new -> handle 2
+    new ri -> handle 1
+    new ri -> handle 2
     put 1 0 2 -> done
     drop 2 -> done
     begin -> yes
@@ -75,23 +76,23 @@ const LISTS: &str = "
 -- A heap that is full in the middle of a cycle makes a full collection, which closes the cycle. It is full exactly where that leaves no room.
 == a heap is full in the middle of a cycle: soft_age 4
     join -> done
-    bare -> handle 1 up to 16
+    new -> handle 1 up to 16
     begin -> yes
     mark 1 -> marked more
-    bare -> refused HeapFull
+    new -> refused HeapFull
     mark 1 -> marked idle
     collect -> no
     drop 1 -> done
-    bare -> handle 1
+    new -> handle 1
 
 -- What is made in a cycle is kept by it, without a tick; what was dropped before it began is not.
 == what is made in a cycle is black: soft_age 4
     join -> done
-    bare -> handle 1
-    bare -> handle 2
+    new -> handle 1
+    new -> handle 2
     drop 2 -> done
     begin -> yes
-    bare -> handle 2
+    new -> handle 2
     drop 2 -> done
     mark 1 -> marked done
     collect -> yes
@@ -100,8 +101,8 @@ const LISTS: &str = "
 -- A piece of marking without ticks does nothing; and a cycle that is given up leaves no marks to the next.
 == marks of a cycle that was given up: soft_age 4
     join -> done
-    bare -> handle 1
-    bare -> handle 2
+    new -> handle 1
+    new -> handle 2
     begin -> yes
     mark 0 -> marked more
     mark 2 -> marked done
@@ -117,7 +118,7 @@ const LISTS: &str = "
 -- The collection of a cycle goes by the soft policy.
 == a collect keeps what the policy keeps, cleared
     join -> done
-    bare -> handle 1
+    new -> handle 1
     soft 1 0 -> handle 2
     drop 1 -> done
     begin -> yes
@@ -127,7 +128,7 @@ const LISTS: &str = "
 
 == a collect keeps what the policy keeps, kept: soft_age 1
     join -> done
-    bare -> handle 1
+    new -> handle 1
     soft 1 0 -> handle 2
     drop 1 -> done
     begin -> yes
@@ -141,20 +142,20 @@ const LISTS: &str = "
     begin -> yes
     full -> done
     abandon -> no
-    bare -> handle 1 up to 16
+    new -> handle 1 up to 16
     begin -> yes
-    bare -> refused HeapFull
+    new -> refused HeapFull
     mark -> marked idle
     collect -> no
     begin -> yes
     drop 1 -> done
-    bare -> handle 1
+    new -> handle 1
     collect -> no
     stat -> stat 16 0 0 0 0
 
 == integers are set and read: soft_age 4
     join -> done
-    new -> handle 1
+    new ri -> handle 1
     int 1 1 -> int 0
     set_int 1 1 -9223372036854775808 -> done
     int 1 1 -> int -9223372036854775808
@@ -182,7 +183,7 @@ const LISTS: &str = "
 == what a poll gave in a cycle is kept: soft_age 4
     join -> done
     queue -> handle 1
-    bare -> handle 2
+    new -> handle 2
     weak 2 1 -> handle 3
     enqueue 3 -> yes
     drop 3 -> done
@@ -197,7 +198,7 @@ const LISTS: &str = "
 -- The cells of what a cycle left over are free at once.
 == a cycle gives its cells back: soft_age 4
     join -> done
-    bare -> handle 1 up to 16
+    new -> handle 1 up to 16
     drop 1 -> done
     drop 2 -> done
     drop 3 -> done
@@ -211,7 +212,7 @@ const LISTS: &str = "
     collect -> yes
     stat -> stat 8 0 0 0 0
     mark -> marked idle
-    bare -> handle 1 up to 8
+    new -> handle 1 up to 8
     stat -> stat 16 0 0 0 0
 ";
 

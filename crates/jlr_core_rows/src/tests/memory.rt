@@ -1,41 +1,13 @@
-//! Which events take memory.
-ghost use Rattle.std.specs.Prelude.{IfOk, length, ◌≤◌};
+//! Which events take memory. The core is made again where memory was refused once, and no event is but those whose rows begin with `again`: an
+//! event that took memory would be answered otherwise in the run in which it is refused. `checks/failing.sh` runs this test once for each of
+//! its allocations.
+use super::script::play_all;
+use std::test::Fail;
 
-use super::*;
-use std::alloc::AllocError;
-
-// A core and a choice that has room for all its cells.
-fn ready(alloc: Global, limits: Limits) -> Result<(Core<u32>, Choice), AllocError>
-    ensures { IfOk result (λ made. length made.0.machine.objects ≤ made.1.cells) }
-{
-    let core = Core::new(alloc, limits)?;
-    let choice = Choice::new(alloc, limits.cells)?;
-    Ok((core, choice))
-}
-
-// The same, made again where memory was refused once.
-fn ready_again(alloc: Global, limits: Limits) -> Result<(Core<u32>, Choice), AllocError>
-    ensures { IfOk result (λ made. length made.0.machine.objects ≤ made.1.cells) }
-{
-    match ready(alloc, limits) {
-        Ok(made) => Ok(made),
-        Err(_) => ready(alloc, limits),
-    }
-}
-
-// The row behind the word `again`, if it begins with it: its ask may be refused for want of memory, and is then made again.
-fn marked(row: &str) -> (bool, &str) {
-    match row.strip_prefix("again ") {
-        Some(row) => (true, row),
-        None => (false, row),
-    }
-}
-
-// Where memory is refused once, no other event is answered so than those whose rows begin with `again`.
 const LISTS: &str = "
 == no event takes memory
     join -> done
-    new -> handle 1
+    new ri -> handle 1
     weak 1 0 -> handle 2
     weak 1 0 -> handle 3
     put 1 0 1 -> done
@@ -53,7 +25,7 @@ const LISTS: &str = "
     deref 3 -> handle 0
     put 9 0 1 -> refused NoHandle
     queue -> handle 1
-    bare -> handle 4
+    new -> handle 4
     weak 4 1 -> handle 5
     refers 5 4 -> yes
     enqueued 5 -> no
@@ -66,7 +38,7 @@ const LISTS: &str = "
     refers 5 0 -> yes
     refers 7 0 -> yes
     poll 1 -> handle 0
-    new -> handle 4
+    new ri -> handle 4
     set_int 4 1 7 -> done
     int 4 1 -> int 7
     begin -> yes
@@ -83,7 +55,7 @@ const LISTS: &str = "
 == no event of a cleaner takes memory
     join -> done
     cleaner -> handle 1
-    bare -> handle 2
+    new -> handle 2
     register 1 2 7 -> handle 3
     register 1 2 8 -> handle 4
     clean 3 -> job 1
@@ -104,7 +76,7 @@ const LISTS: &str = "
     join -> done
     queue -> handle 1
     queue -> handle 2
-    bare -> handle 3
+    new -> handle 3
     weak 3 1 -> handle 4
     weak 3 2 -> handle 5
     again enqueue 4 -> yes
@@ -124,7 +96,7 @@ const LISTS: &str = "
 -- So may those for which the table grows, and those that copy a list that is not empty. A name takes no memory.
 == a table that cannot grow is left as it was
     join -> done
-    bare -> handle 1
+    new -> handle 1
     again prepare -> prepared
     opened 5 -> handle 2
     check_out 2 -> out 5
@@ -148,34 +120,7 @@ const LISTS: &str = "
     remove 4 -> handle 6
 ";
 
-// Makes the ask of a row, and where it may find no memory and does, makes it again.
-fn asked_again(core: &mut Core<u32>, choice: &mut Choice, row: &str) -> Result<(Got, Got), Fail>
-    requires { length core.old.machine.objects ≤ choice.old.cells }
-    ensures { length core.new.machine.objects ≤ choice.new.cells }
-{
-    let (may_be_refused, row) = marked(row.trim());
-    let (event, wanted) = parsed(row).ok_or("no row")?;
-    let got = ask(core, choice, event);
-    if !may_be_refused || got != Got::Refused(Refusal::NoMemory) {
-        return Ok((got, wanted));
-    }
-    let (event, _) = parsed(row).ok_or("no row")?;
-    Ok((ask(core, choice, event), wanted))
-}
-
-// The core is made again where memory was refused once, and no event is but those that say so: an event that took memory would be answered
-// otherwise in the run in which it is refused. `checks/failing.sh` runs this test once for each of its allocations.
 #[test]
 fn a_refused_growth_changes_nothing(rt: HostRuntime) -> Result<(), Fail> {
-    for list in LISTS.split("== ").skip(1) {
-        let (name, shape, rows) = titled(list)?;
-        let (mut core, mut choice) = ready_again(rt.alloc(), shape.limits)?;
-        for row in rows.lines() {
-            if is_row(row) {
-                let (got, wanted) = asked_again(&mut core, &mut choice, row)?;
-                expect(name, row, got, wanted)?;
-            }
-        }
-    }
-    Ok(())
+    play_all(rt.alloc(), LISTS)
 }

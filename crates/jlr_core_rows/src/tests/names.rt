@@ -1,11 +1,17 @@
 //! Names, and the front of a queue that is waited for.
-use super::*;
-use std::alloc::AllocError;
+use super::script::{play_all, shape_of};
+use super::{me, replies_to};
+use jlr_event::event::{Event, Reply};
+use jlr_machine::text::Name;
+use jlr_types::Handle;
+use jlr_words::{event_of, is_reply};
+use std::alloc::{AllocError, Global};
+use std::test::Fail;
 
 const LISTS: &str = "
 == names keep their places and their objects
     join -> done
-    bare -> handle 1
+    new -> handle 1
     find x -> refused NoName
     unbind x -> refused NoName
     bind b 2 -> refused NoHandle
@@ -29,7 +35,7 @@ const LISTS: &str = "
     join -> done
     queue -> handle 1
     remove 1 -> refused WouldWait
-    bare -> handle 2
+    new -> handle 2
     remove 2 -> refused WrongKind
     weak 2 1 -> handle 3
     enqueue 3 -> yes
@@ -43,46 +49,61 @@ fn lists_of_names(rt: HostRuntime) -> Result<(), Fail> {
     play_all(rt.alloc(), LISTS)
 }
 
-// The asks that give an object 256 names, then one more, and then one that it has.
-fn names_asked(alloc: Global) -> Result<Vec<Event<u32>>, AllocError> {
-    let mut events = Vec::new(alloc);
-    events.push(join())?;
-    events.push(bare())?;
-    for number in 0..=255u8 {
-        events.push(bind_numbered(number))?;
-    }
-    events.push(bind("x", 1))?;
-    events.push(bind("ab", 1))?;
-    Ok(events)
-}
-
 // A name of its own for each number.
-fn bind_numbered(number: u8) -> Event<u32> {
-    let text = [b'a' + number / 16, b'a' + number % 16];
-    Event::Bind {
+fn numbered(number: u8) -> Option<Event<u32>> {
+    let name = Name::from_slice(&[b'a' + number / 16, b'a' + number % 16])?;
+    Some(Event::Bind {
         mutator: me(),
-        name: Name::from_slice(&text).unwrap_or(name("x")),
+        name,
         object: Handle::new(1),
+    })
+}
+
+fn push(events: &mut Vec<Event<u32>>, event: Option<Event<u32>>) -> Result<(), AllocError> {
+    if let Some(event) = event {
+        events.push(event)?;
+    }
+    Ok(())
+}
+
+// The asks that give an object 256 names, then one more, and then one that it has.
+fn ask_names(events: &mut Vec<Event<u32>>) -> Result<(), AllocError> {
+    push(events, event_of("join"))?;
+    push(events, event_of("new"))?;
+    for number in 0..=255u8 {
+        push(events, numbered(number))?;
+    }
+    push(events, event_of("bind x 1"))?;
+    push(events, event_of("bind ab 1"))
+}
+
+// What the ask of this number is answered.
+fn wanted(number: usize) -> &'static str {
+    match number {
+        1 => "handle 1",
+        258 => "refused NamesFull",
+        _ => "done",
     }
 }
 
-// That all names are taken, the last of the 260 answers but one is a refusal, and the last is none.
-fn all_but_one_bound(got: &[Got]) -> Result<(), Fail> {
-    let last = [Got::Refused(Refusal::NamesFull), Got::Done];
-    if got.len() != 260 || got.split_at(258).1 != last.as_slice() {
-        return Err(Fail::from("another end"));
+fn all_but_one_bound(replies: &[Reply<u32>]) -> bool {
+    for (number, reply) in replies.iter().enumerate() {
+        if !is_reply(reply, wanted(number)) {
+            return false;
+        }
     }
-    let (begin, bound) = got.split_at(258).0.split_at(2);
-    let bound = bound.iter().all(|answer| *answer == Got::Done);
-    if bound && begin == [Got::Done, Got::Handle(1)].as_slice() {
-        return Ok(());
-    }
-    Err(Fail::from("a name is not bound"))
+    replies.len() == 260
+}
+
+fn names_end(alloc: Global) -> Result<bool, Fail> {
+    let mut events = Vec::new(alloc);
+    ask_names(&mut events)?;
+    let replies = replies_to(alloc, shape_of("")?.limits, events)?;
+    Ok(all_but_one_bound(replies.as_slice()))
 }
 
 #[test]
 fn there_are_at_most_256_names(rt: HostRuntime) -> Result<(), Fail> {
-    let replies = replies(rt.alloc(), limits(0)?, names_asked(rt.alloc())?)?;
-    let got = all_seen(rt.alloc(), &replies)?;
-    all_but_one_bound(got.as_slice())
+    assert!(rt; names_end(rt.alloc())?);
+    Ok(())
 }

@@ -1,14 +1,18 @@
 //! Objects, handles and what the core shows of them.
-use super::*;
+use super::script::{events_of, play_all, shape_of};
+use super::{image_after, replies_to};
+use jlr_event::event::Reply;
+use jlr_machine::machine::Machine;
 use jlr_machine::object::{Object, RefState, Reference};
-use jlr_types::{FieldValue, Slot};
-use std::alloc::AllocError;
+use jlr_types::{FieldValue, RefKind, Slot};
+use std::alloc::{AllocError, Global};
+use std::test::Fail;
 
 const LISTS: &str = "
 == objects are made and read
     join -> done
-    new -> handle 1
-    new -> handle 2
+    new ri -> handle 1
+    new ri -> handle 2
     put 1 0 2 -> done
     get 1 0 -> handle 3
     same 2 3 -> yes
@@ -18,22 +22,22 @@ const LISTS: &str = "
     drop 1 -> done
     get 4 0 -> handle 1
     same 1 2 -> yes
-    new -> handle 5
+    new ri -> handle 5
     get 5 0 -> handle 0
 
 == sixteen objects fill the heap
     join -> done
-    bare -> handle 1 up to 16
-    bare -> refused HeapFull
+    new -> handle 1 up to 16
+    new -> refused HeapFull
     drop 1 -> done
-    bare -> handle 1
+    new -> handle 1
 
 == two hundred and fifty handles are all
     join -> done
-    bare -> handle 1
+    new -> handle 1
     dup 1 -> handle 2 up to 250
     dup 1 -> refused HandlesFull
-    bare -> refused HandlesFull
+    new -> refused HandlesFull
     weak 1 0 -> refused HandlesFull
     same 1 250 -> yes
 
@@ -51,14 +55,6 @@ const LISTS: &str = "
 #[test]
 fn lists_of_objects(rt: HostRuntime) -> Result<(), Fail> {
     play_all(rt.alloc(), LISTS)
-}
-
-// That something is seen.
-fn seen_that(holds: bool, what: &str) -> Result<(), Fail> {
-    if holds {
-        return Ok(());
-    }
-    Err(Fail::from(what))
 }
 
 // An object with a field that refers to a weak reference to it.
@@ -97,23 +93,25 @@ fn shows_nothing_else(image: &Machine) -> bool {
         && !image.cycle_open
 }
 
-fn shows_the_two(image: &Machine) -> Result<(), Fail> {
-    seen_that(shows_a_pair(image), "an object and its field")?;
-    seen_that(shows_its_reference(image), "a reference")?;
-    seen_that(shows_their_handles(image), "handles")?;
-    seen_that(shows_nothing_else(image), "nothing else")
+fn shows_the_two(image: &Machine) -> bool {
+    shows_a_pair(image)
+        && shows_its_reference(image)
+        && shows_their_handles(image)
+        && shows_nothing_else(image)
 }
+
+const TWO: &str = "
+    join
+    new ri
+    weak 1 0
+    put 1 0 2
+";
 
 #[test]
 fn an_image_shows_what_the_core_holds(rt: HostRuntime) -> Result<(), Fail> {
-    let asks = "
-        join
-        new
-        weak 1 0
-        put 1 0 2
-    ";
-    let image = image_after(rt.alloc(), limits_for(2, 3)?, asks)?;
-    shows_the_two(&image)
+    let limits = shape_of("sessions 2, resources 3")?.limits;
+    assert!(rt; shows_the_two(&image_after(rt.alloc(), limits, TWO)?));
+    Ok(())
 }
 
 fn shows_a_queue(image: &Machine) -> bool {
@@ -135,28 +133,28 @@ fn shows_a_guard(image: &Machine) -> bool {
     guards == 1 && image.names.len() == 1 && image.resources.len() == 1
 }
 
-fn shows_each_kind(image: &Machine) -> Result<(), Fail> {
-    seen_that(shows_a_queue(image), "a queue")?;
-    seen_that(shows_a_cleanable(image), "a cleaner and its cleanable")?;
-    seen_that(shows_a_guard(image), "a guard")
+fn shows_each_kind(image: &Machine) -> bool {
+    shows_a_queue(image) && shows_a_cleanable(image) && shows_a_guard(image)
 }
+
+const EACH_KIND: &str = "
+    join
+    queue
+    new
+    weak 2 1
+    enqueue 3
+    cleaner
+    register 4 2 7
+    prepare
+    opened 9
+    bind x 2
+";
 
 #[test]
 fn an_image_shows_each_kind_of_object(rt: HostRuntime) -> Result<(), Fail> {
-    let asks = "
-        join
-        queue
-        bare
-        weak 2 1
-        enqueue 3
-        cleaner
-        register 4 2 7
-        prepare
-        opened 9
-        bind x 2
-    ";
-    let image = image_after(rt.alloc(), limits(0)?, asks)?;
-    shows_each_kind(&image)
+    let limits = shape_of("")?.limits;
+    assert!(rt; shows_each_kind(&image_after(rt.alloc(), limits, EACH_KIND)?));
+    Ok(())
 }
 
 // The resources that the replies hand out, each let go.
@@ -168,16 +166,22 @@ fn handed_out(alloc: Global, replies: Vec<Reply<u32>>) -> Result<Vec<Option<u32>
     Ok(resources)
 }
 
+const OUTCOMES: &str = "
+    opened 5
+    join
+    opened 7
+    opened Denied
+";
+
+fn outcomes_hand_back(alloc: Global) -> Result<bool, Fail> {
+    let events = events_of(alloc, OUTCOMES)?;
+    let replies = replies_to(alloc, shape_of("")?.limits, events)?;
+    let resources = handed_out(alloc, replies)?;
+    Ok(resources.as_slice() == [Some(5), None, Some(7), None].as_slice())
+}
+
 #[test]
 fn an_outcome_hands_its_resource_back(rt: HostRuntime) -> Result<(), Fail> {
-    let asks = "
-        opened 5
-        join
-        opened 7
-        opened Denied
-    ";
-    let replies = replies(rt.alloc(), limits(0)?, events_of(rt.alloc(), asks)?)?;
-    let resources = handed_out(rt.alloc(), replies)?;
-    let wanted = [Some(5), None, Some(7), None];
-    seen_that(resources.as_slice() == wanted.as_slice(), "the resources")
+    assert!(rt; outcomes_hand_back(rt.alloc())?);
+    Ok(())
 }

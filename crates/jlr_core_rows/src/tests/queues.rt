@@ -1,11 +1,12 @@
 //! Queues: what the handler and the program put on them, and what comes out.
-use super::*;
+use super::script::{first_wrong_of, play_all, shape_of};
+use std::test::Fail;
 
 const LISTS: &str = "
 == a cleared reference comes out of its queue once: soft_age 4
     join -> done
     queue -> handle 1
-    bare -> handle 2
+    new -> handle 2
     weak 2 1 -> handle 3
     drop 2 -> done
     full -> done
@@ -21,7 +22,7 @@ const LISTS: &str = "
 == a reference that dies with its referent is not enqueued: soft_age 4
     join -> done
     queue -> handle 1
-    new -> handle 2
+    new ri -> handle 2
     weak 2 1 -> handle 3
     put 2 0 3 -> done
     drop 3 -> done
@@ -33,7 +34,7 @@ const LISTS: &str = "
 == a reference that the program cleared is not enqueued by a collection: soft_age 4
     join -> done
     queue -> handle 1
-    bare -> handle 2
+    new -> handle 2
     weak 2 1 -> handle 3
     clear 3 -> done
     drop 2 -> done
@@ -48,7 +49,7 @@ const LISTS: &str = "
 == a pending reference that the program enqueues is skipped: soft_age 4
     join -> done
     queue -> handle 1
-    bare -> handle 2
+    new -> handle 2
     weak 2 1 -> handle 3
     drop 2 -> done
     full -> done
@@ -60,7 +61,7 @@ const LISTS: &str = "
 == a pending reference is skipped while it is in its queue: soft_age 4
     join -> done
     queue -> handle 1
-    bare -> handle 2
+    new -> handle 2
     weak 2 1 -> handle 3
     drop 2 -> done
     full -> done
@@ -75,7 +76,7 @@ const LISTS: &str = "
 == enqueueing clears a reference and puts it on its queue once: soft_age 4
     join -> done
     queue -> handle 1
-    bare -> handle 2
+    new -> handle 2
     weak 2 1 -> handle 3
     enqueued 3 -> no
     enqueue 3 -> yes
@@ -94,7 +95,7 @@ const LISTS: &str = "
 
 == enqueueing without a queue clears and answers no: soft_age 4
     join -> done
-    bare -> handle 1
+    new -> handle 1
     weak 1 0 -> handle 2
     enqueue 2 -> no
     enqueued 2 -> no
@@ -104,9 +105,9 @@ const LISTS: &str = "
 == references of two collections come out in their order: soft_age 4
     join -> done
     queue -> handle 1
-    bare -> handle 2
+    new -> handle 2
     weak 2 1 -> handle 3
-    bare -> handle 4
+    new -> handle 4
     weak 4 1 -> handle 5
     drop 4 -> done
     full -> done
@@ -124,7 +125,7 @@ const LISTS: &str = "
 == references come out in the order of their enqueueing: soft_age 4
     join -> done
     queue -> handle 1
-    bare -> handle 2
+    new -> handle 2
     weak 2 1 -> handle 3
     weak 2 1 -> handle 4
     soft 2 1 -> handle 5
@@ -143,7 +144,7 @@ const LISTS: &str = "
     join -> done
     queue -> handle 1
     queue -> handle 2
-    bare -> handle 3
+    new -> handle 3
     weak 3 1 -> handle 4
     phantom 3 2 -> handle 5
     drop 3 -> done
@@ -161,7 +162,7 @@ const LISTS: &str = "
 == a queue holds what is in it: soft_age 4
     join -> done
     queue -> handle 1
-    bare -> handle 2
+    new -> handle 2
     weak 2 1 -> handle 3
     drop 2 -> done
     full -> done
@@ -176,7 +177,7 @@ const LISTS: &str = "
 == a reference outlives the queue that it is in: soft_age 4
     join -> done
     queue -> handle 1
-    bare -> handle 2
+    new -> handle 2
     weak 2 1 -> handle 3
     drop 1 -> done
     drop 2 -> done
@@ -185,15 +186,12 @@ const LISTS: &str = "
     full -> done
     enqueued 3 -> yes
     enqueue 3 -> no
-";
 
-// Asks, and how many objects they leave.
-const LEFT: &str = "
 -- A reference holds its queue, and a queue does not hold the references that are registered with it.
 == a queue dies with its references: soft_age 4
     join
     queue
-    bare
+    new
     weak 2 1
     drop 1
     full
@@ -202,7 +200,7 @@ const LEFT: &str = "
 == a queue dies with its references: soft_age 4
     join
     queue
-    bare
+    new
     weak 2 1
     drop 1
     drop 3
@@ -214,7 +212,7 @@ const LEFT: &str = "
 == what is pending lives until it is handed over: soft_age 4
     join
     queue
-    bare
+    new
     weak 2 1
     drop 2
     full
@@ -226,7 +224,7 @@ const LEFT: &str = "
 == what is pending lives until it is handed over: soft_age 4
     join
     queue
-    bare
+    new
     weak 2 1
     drop 2
     full
@@ -240,46 +238,55 @@ const LEFT: &str = "
 
 #[test]
 fn lists_of_queues(rt: HostRuntime) -> Result<(), Fail> {
-    play_all(rt.alloc(), LISTS)?;
-    count_all(rt.alloc(), LEFT)
+    play_all(rt.alloc(), LISTS)
 }
 
-// In which order is open.
+// The lists differ in which of the two references comes out first, which is open.
+const EITHER: &str = "
+    join -> done
+    queue -> handle 1
+    new -> handle 2
+    weak 2 1 -> handle 3
+    weak 2 1 -> handle 4
+    drop 2 -> done
+    full -> done
+    hand_over -> queued
+    hand_over -> queued
+    hand_over -> nothing
+    poll 1 -> handle 2
+    poll 1 -> handle 5
+    poll 1 -> handle 0
+    same 2 3 -> yes
+    same 2 4 -> no
+    same 5 3 -> no
+    same 5 4 -> yes
+";
+
+const OR: &str = "
+    join -> done
+    queue -> handle 1
+    new -> handle 2
+    weak 2 1 -> handle 3
+    weak 2 1 -> handle 4
+    drop 2 -> done
+    full -> done
+    hand_over -> queued
+    hand_over -> queued
+    hand_over -> nothing
+    poll 1 -> handle 2
+    poll 1 -> handle 5
+    poll 1 -> handle 0
+    same 2 3 -> no
+    same 2 4 -> yes
+    same 5 3 -> yes
+    same 5 4 -> no
+";
+
 #[test]
 fn two_references_of_one_collection_come_out_once_each(rt: HostRuntime) -> Result<(), Fail> {
-    let rows = "
-        join -> done
-        queue -> handle 1
-        bare -> handle 2
-        weak 2 1 -> handle 3
-        weak 2 1 -> handle 4
-        drop 2 -> done
-        full -> done
-        hand_over -> queued
-        hand_over -> queued
-        hand_over -> nothing
-        poll 1 -> handle 2
-        poll 1 -> handle 5
-        poll 1 -> handle 0
-        same 2 3 -> yes
-        same 2 4 -> no
-        same 5 3 -> no
-        same 5 4 -> yes
-    ";
-    let (got, rising) = played(rt.alloc(), limits(4)?, rows)?;
-    in_either_order(got.as_slice(), rising.as_slice())
-}
-
-// That the first 13 rows are answered as they want it, and the last four so, or all the other way round.
-fn in_either_order(got: &[Got], rising: &[Got]) -> Result<(), Fail> {
-    if got.len() != 17 || rising.len() != 17 {
-        return Err(Fail::from("another number of rows"));
-    }
-    let (front, same) = got.split_at(13);
-    let (wanted, rising) = rising.split_at(13);
-    let falling = [false, true, true, false].map(Got::Truth);
-    if front == wanted && (same == rising || same == falling.as_slice()) {
-        return Ok(());
-    }
-    Err(Fail::from("two references of one collection do not come out once each"))
+    let shape = shape_of("soft_age 4")?;
+    let either = first_wrong_of(rt.alloc(), shape, EITHER)?.is_none();
+    let or = first_wrong_of(rt.alloc(), shape, OR)?.is_none();
+    assert!(rt; either != or);
+    Ok(())
 }

@@ -1,12 +1,11 @@
 //! Refusals: each ask for each of its reasons, in their order.
-use super::*;
-
-// ---- Integers, cleaners, files and sockets, and names
+use super::script::play_all;
+use std::test::Fail;
 
 const LISTS: &str = "
 == nobody asks before joining
     leave -> refused NoSession
-    bare -> refused NoSession
+    new -> refused NoSession
     put 1 0 1 -> refused NoSession
     get 1 0 -> refused NoSession
     dup 1 -> refused NoSession
@@ -16,12 +15,12 @@ const LISTS: &str = "
     deref 1 -> refused NoSession
     full -> refused NoSession
     opened Other -> refused NoSession
-    other join -> refused NoSession
+    by 1 join -> refused NoSession
 
 == each ask is refused for its reasons
     join -> done
     join -> refused NoSession
-    new -> handle 1
+    new ri -> handle 1
     weak 1 0 -> handle 2
     put 3 0 1 -> refused NoHandle
     put 1 0 3 -> refused NoHandle
@@ -56,7 +55,7 @@ const LISTS: &str = "
 
 == reading needs a free handle
     join -> done
-    new -> handle 1
+    new ri -> handle 1
     weak 1 0 -> handle 2
     put 1 0 2 -> done
     dup 1 -> handle 3 up to 250
@@ -79,7 +78,7 @@ const LISTS: &str = "
 
 == asks on references are refused for their reasons: soft_age 4
     join -> done
-    bare -> handle 1
+    new -> handle 1
     queue -> handle 2
     weak 1 2 -> handle 3
     refers 9 1 -> refused NoHandle
@@ -107,7 +106,7 @@ const LISTS: &str = "
 
 == asks on queues are refused for their reasons: soft_age 4
     join -> done
-    bare -> handle 1
+    new -> handle 1
     queue -> handle 2
     weak 1 2 -> handle 3
     poll 9 -> refused NoHandle
@@ -129,7 +128,7 @@ const LISTS: &str = "
 == queues and what they give need a free handle: soft_age 4
     join -> done
     queue -> handle 1
-    bare -> handle 2
+    new -> handle 2
     weak 2 1 -> handle 3
     enqueue 3 -> yes
     dup 2 -> handle 4 up to 250
@@ -149,7 +148,7 @@ const LISTS: &str = "
 == queues and references need a free cell: soft_age 4
     join -> done
     queue -> handle 1
-    bare -> handle 2 up to 16
+    new -> handle 2 up to 16
     queue -> refused HeapFull
     weak 2 1 -> refused HeapFull
     dup 2 -> handle 17 up to 250
@@ -184,7 +183,7 @@ const LISTS: &str = "
 
 == what is asked for has to be named
     join -> done
-    new -> handle 1
+    new ri -> handle 1
     set_int 9 1 4 -> refused NoHandle
     int 9 1 -> refused NoHandle
     remove 9 -> refused NoHandle
@@ -199,7 +198,7 @@ const LISTS: &str = "
 == cleaners files and names need a free handle
     join -> done
     queue -> handle 1
-    bare -> handle 2
+    new -> handle 2
     weak 2 1 -> handle 3
     enqueue 3 -> yes
     cleaner -> handle 4
@@ -221,7 +220,7 @@ const LISTS: &str = "
 == cleaners and actions need a free cell
     join -> done
     cleaner -> handle 1
-    bare -> handle 2 up to 16
+    new -> handle 2 up to 16
     cleaner -> refused HeapFull
     register 1 2 5 -> refused HeapFull
     drop 16 -> done
@@ -231,7 +230,7 @@ const LISTS: &str = "
 -- A mutator whose call is in flight may only end it, unless a refusal that comes first in the order holds.
 == a mutator in a call may only end it: resources 4
     join -> done
-    new -> handle 1
+    new ri -> handle 1
     queue -> handle 2
     weak 1 2 -> handle 3
     cleaner -> handle 4
@@ -245,7 +244,7 @@ const LISTS: &str = "
     bind x 1 -> done
     prepare -> prepared
     leave -> refused Busy
-    bare -> refused Busy
+    new -> refused Busy
     put 1 0 2 -> refused Busy
     get 1 0 -> refused Busy
     set_int 1 1 4 -> refused Busy

@@ -1,5 +1,6 @@
 //! Files and sockets: opened, used, closed by hand or by the cleaner, each value handed out as it was put in.
-use super::*;
+use super::script::play_all;
+use std::test::Fail;
 
 const LISTS: &str = "
 == a resource is used and closed
@@ -23,7 +24,7 @@ const LISTS: &str = "
     stat -> stat 2 0 1 1 0
     check_out 0 -> refused Null
     check_out 2 -> refused NoHandle
-    bare -> handle 2
+    new -> handle 2
     check_out 2 -> refused WrongKind
     close 2 -> refused WrongKind
 
@@ -77,7 +78,7 @@ const LISTS: &str = "
 
 == an open wants two cells
     join -> done
-    bare -> handle 1 up to 15
+    new -> handle 1 up to 15
     prepare -> refused HeapFull
     stat -> stat 15 0 0 0 0
     drop 15 -> done
@@ -87,13 +88,13 @@ const LISTS: &str = "
 -- An open is under way while another mutator collects: its guard is held.
 == a guard under way is not collected: sessions 2, resources 4
     join -> done
-    other join -> done
+    by 1 join -> done
     prepare -> prepared
-    other full -> done
+    by 1 full -> done
     opened 5 -> handle 1
-    other stat -> stat 2 1 0 0 0
+    by 1 stat -> stat 2 1 0 0 0
     leave -> done
-    other full -> done
+    by 1 full -> done
     hand_over -> lined
     take_up -> job 1 5
 
@@ -101,21 +102,21 @@ const LISTS: &str = "
 -- and by the caller's handle, which the caller cannot give up before.
 == a guard is not collected while its resource is out: sessions 2, resources 4
     join -> done
-    other join -> done
+    by 1 join -> done
     prepare -> prepared
     opened 5 -> handle 1
     bind f 1 -> done
-    other find f -> handle 1
-    other check_out 1 -> out 5
+    by 1 find f -> handle 1
+    by 1 check_out 1 -> out 5
     check_out 1 -> refused Busy
     close 1 -> refused Busy
     unbind f -> done
     drop 1 -> done
     full -> done
     hand_over -> nothing
-    other drop 1 -> refused Busy
-    other check_in 2 6 -> wrote 2
-    other drop 1 -> done
+    by 1 drop 1 -> refused Busy
+    by 1 check_in 2 6 -> wrote 2
+    by 1 drop 1 -> done
     full -> done
     hand_over -> lined
     take_up -> job 1 6

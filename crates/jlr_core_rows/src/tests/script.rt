@@ -1,14 +1,14 @@
-//! Lists of rows of words: an ask, an arrow, and what it is answered.
-//!
-//! `weak 2 1 -> handle 3` asks for a weak reference to what handle 2 holds, on the queue that handle 1 holds, and wants handle 3 for an
-//! answer. `mark 3` asks for a piece of marking with three ticks, `mark` for one with 64. The asks are those of mutator 0; those of mutator 1 begin with `other`. A row whose answer is `handle 2 up to 16` stands for
-//! fifteen rows, with handles from 2 to 16.
-//!
-//! A text has several lists. Each begins with `== ` and its name, and has a heap of its own, with 16 cells. Behind a colon its name says what that heap has
-//! beside: `sessions 2, resources 4, soft_age 1, first_action 9` where it is not 1, 1, 0 and 1. A line that begins with `-- ` is a comment.
-use super::answers::answer_of;
-use super::*;
-use std::str::SplitWhitespace;
+//! Playing lists of rows on a core.
+ghost use Rattle.std.specs.Prelude.{IfOk, length, ◌≤◌};
+
+use super::objects_in;
+use jlr_core::engine::Core;
+use jlr_event::event::{Event, Reply};
+use jlr_machine::choice::Choice;
+use jlr_types::Limits;
+use jlr_words::{event_of, handle_in, is_reply};
+use std::alloc::{AllocError, Global};
+use std::test::Fail;
 
 const ARROW: &str = " -> ";
 
@@ -16,69 +16,133 @@ const TITLE: &str = "== ";
 
 // ---- Lists
 
-// The heap of a list.
+/// The heap of a list.
 #[derive(Clone, Copy)]
 pub(super) struct Shape {
     pub(super) limits: Limits,
-    pub(super) first_action: u64,
+    first_action: u64,
 }
 
-// The name of a list with its heap, and its rows.
-pub(super) fn titled(list: &str) -> Result<(&str, Shape, &str), Fail> {
-    let (title, rows) = list.split_once('\n').ok_or("a list without rows")?;
-    let (name, options) = title.split_once(": ").unwrap_or((title, ""));
-    Ok((name, shape_of(options)?, rows))
+// The options of a list: sessions, resources, soft age and first action.
+#[derive(Clone, Copy)]
+struct Options {
+    sessions: u32,
+    resources: u32,
+    soft_age: u32,
+    first_action: u64,
 }
 
-fn shape_of(options: &str) -> Result<Shape, Fail> {
-    let (mut sessions, mut resources, mut soft_age, mut first_action) = (1, 1, 0, 1);
-    for option in options.split_terminator(", ") {
-        let (name, number) = option.split_once(' ').ok_or("no option")?;
-        match name {
-            "sessions" => sessions = number.parse().ok().ok_or("no number")?,
-            "resources" => resources = number.parse().ok().ok_or("no number")?,
-            "soft_age" => soft_age = number.parse().ok().ok_or("no number")?,
-            "first_action" => first_action = number.parse().ok().ok_or("no number")?,
-            _ => return Err(Fail::from("no option")),
-        }
+fn with_option(options: Options, name: &str, number: u32) -> Option<Options> {
+    match name {
+        "sessions" => Some(Options {
+            sessions: number,
+            ..options
+        }),
+        "resources" => Some(Options {
+            resources: number,
+            ..options
+        }),
+        "soft_age" => Some(Options {
+            soft_age: number,
+            ..options
+        }),
+        _ => None,
     }
-    let limits = Limits::checked(16, sessions, resources, soft_age, 64, 1);
-    Ok(Shape {
-        limits: limits.ok().ok_or("limits")?,
+}
+
+fn added(options: Options, option: &str) -> Option<Options> {
+    let (name, number) = option.split_once(' ')?;
+    if name == "first_action" {
+        let first_action = number.parse().ok()?;
+        return Some(Options {
+            first_action,
+            ..options
+        });
+    }
+    with_option(options, name, number.parse().ok()?)
+}
+
+fn read_shape(text: &str) -> Option<Shape> {
+    let mut options = Options {
+        sessions: 1,
+        resources: 1,
+        soft_age: 0,
+        first_action: 1,
+    };
+    for option in text.split_terminator(", ") {
+        options = added(options, option)?;
+    }
+    let Options {
+        sessions,
+        resources,
+        soft_age,
+        first_action,
+    } = options;
+    let limits = Limits::checked(16, sessions, resources, soft_age, 64, 1).ok()?;
+    Some(Shape {
+        limits,
         first_action,
     })
 }
 
-// Whether a line is a row, and no comment and not empty.
-pub(super) fn is_row(line: &str) -> bool {
-    let line = line.trim();
-    !line.is_empty() && !line.starts_with("-- ")
+/// The heap that these options tell of.
+pub(super) fn shape_of(options: &str) -> Result<Shape, Fail> {
+    Ok(read_shape(options).ok_or("no option")?)
 }
 
-// The asks of all lists are answered as they want it.
+// The heap of a list with this title.
+fn titled(title: &str) -> Option<Shape> {
+    match title.split_once(": ") {
+        Some((_, options)) => read_shape(options),
+        None => read_shape(""),
+    }
+}
+
+fn core_of(alloc: Global, shape: Shape) -> Result<Core<u32>, AllocError>
+    ensures { IfOk result (λ core. length core.machine.objects ≤ shape.limits.cells) }
+{
+    if shape.first_action > 1 {
+        return Core::new_from(alloc, shape.limits, shape.first_action);
+    }
+    Core::new(alloc, shape.limits)
+}
+
+// A core, and a choice that has room for all its cells.
+fn ready(alloc: Global, shape: Shape) -> Result<(Core<u32>, Choice), AllocError>
+    ensures { IfOk result (λ made. length made.0.machine.objects ≤ made.1.cells) }
+{
+    let choice = Choice::new(alloc, shape.limits.cells)?;
+    let core = core_of(alloc, shape)?;
+    Ok((core, choice))
+}
+
+// The same, made again where memory was refused once.
+fn ready_again(alloc: Global, shape: Shape) -> Result<(Core<u32>, Choice), AllocError>
+    ensures { IfOk result (λ made. length made.0.machine.objects ≤ made.1.cells) }
+{
+    match ready(alloc, shape) {
+        Ok(made) => Ok(made),
+        Err(_) => ready(alloc, shape),
+    }
+}
+
+/// The first row that is not as it says, on a heap of its own.
+pub(super) fn first_wrong_of<'a>(
+    alloc: Global,
+    shape: Shape,
+    rows: &'a str,
+) -> Result<Option<&'a str>, AllocError> {
+    let (mut core, mut choice) = ready_again(alloc, shape)?;
+    first_wrong(alloc, &mut core, &mut choice, rows)
+}
+
+/// The rows of all lists are as they say.
 pub(super) fn play_all(alloc: Global, lists: &str) -> Result<(), Fail> {
     for list in lists.split(TITLE).skip(1) {
-        let (name, shape, rows) = titled(list)?;
-        play(alloc, name, shape.limits, rows)?;
-    }
-    Ok(())
-}
-
-// The asks of all lists leave so many objects as their last row says.
-pub(super) fn count_all(alloc: Global, lists: &str) -> Result<(), Fail> {
-    for list in lists.split(TITLE).skip(1) {
-        let (name, shape, rows) = titled(list)?;
-        let (asks, last) = rows.split_once("objects ").ok_or("no count of objects")?;
-        let wanted: usize = last
-            .lines()
-            .next()
-            .ok_or("no count")?
-            .parse()
-            .ok()
-            .ok_or("no count")?;
-        let left = objects_left(alloc, shape.limits, asks)?;
-        if left != wanted {
-            return Err(Fail::new(format_args!("{name}: {left} objects are left")));
+        let (title, rows) = list.split_once('\n').ok_or("a list without rows")?;
+        let shape = titled(title).ok_or("no heap")?;
+        if let Some(row) = first_wrong_of(alloc, shape, rows)? {
+            return Err(Fail::new(format_args!("{title}: {row}")));
         }
     }
     Ok(())
@@ -86,277 +150,181 @@ pub(super) fn count_all(alloc: Global, lists: &str) -> Result<(), Fail> {
 
 // ---- Rows
 
-// The asks of a list are answered as it wants it.
-fn play(alloc: Global, name: &str, limits: Limits, rows: &str) -> Result<(), Fail> {
-    let (got, wanted) = played(alloc, limits, rows)?;
-    if got.is_empty() {
-        return Err(Fail::from("a list without rows"));
-    }
-    for (number, (got, wanted)) in got.iter().zip(&wanted).enumerate() {
-        if got != wanted {
-            return Err(Fail::new(format_args!("{name}: row {number} is answered otherwise")));
-        }
-    }
-    Ok(())
+// Whether a line is a row, and no comment and not empty.
+fn is_row(line: &str) -> bool {
+    !line.is_empty() && !line.starts_with("-- ")
 }
 
-// That a row is answered as it wants it.
-pub(super) fn expect(name: &str, row: &str, got: Got, wanted: Got) -> Result<(), Fail> {
-    if got == wanted {
-        return Ok(());
-    }
-    Err(Fail::new(format_args!("{name}: {row} is answered otherwise")))
-}
-
-// What the events of the rows are answered, and what is wanted.
-pub(super) fn played(
+fn first_wrong<'a>(
     alloc: Global,
-    limits: Limits,
-    rows: &str,
-) -> Result<(Vec<Got>, Vec<Got>), Fail> {
-    let mut events = Vec::new(alloc);
-    let mut wanted = Vec::new(alloc);
+    core: &mut Core<u32>,
+    choice: &mut Choice,
+    rows: &'a str,
+) -> Result<Option<&'a str>, AllocError>
+    requires { length core.old.machine.objects ≤ choice.old.cells }
+{
     for row in rows.lines() {
-        if is_row(row) {
-            add(&mut events, &mut wanted, row)?;
+        let row = row.trim();
+        if is_row(row) && !holds(alloc, core, choice, row)? {
+            return Ok(Some(row));
         }
     }
-    let replies = replies(alloc, limits, events)?;
-    Ok((all_seen(alloc, &replies)?, wanted))
+    Ok(None)
 }
 
-// The event and the answer of a row. It takes no memory.
-pub(super) fn parsed(row: &str) -> Option<(Event<u32>, Got)> {
-    let (ask, answer) = row.split_once(ARROW)?;
-    Some((event_of(ask)?, answer_of(answer)?))
+// Whether a row is as it says.
+fn holds(
+    alloc: Global,
+    core: &mut Core<u32>,
+    choice: &mut Choice,
+    row: &str,
+) -> Result<bool, AllocError>
+    requires { length core.old.machine.objects ≤ choice.old.cells }
+    ensures { length core.new.machine.objects ≤ choice.new.cells }
+{
+    if let Some(count) = row.strip_prefix("objects ") {
+        return Ok(count.parse() == Ok(objects_in(alloc, core)?));
+    }
+    Ok(match row.split_once(ARROW) {
+        Some((ask, wanted)) => is_answered(core, choice, ask, wanted),
+        None => is_seen(core, choice, row),
+    })
 }
 
-fn add(events: &mut Vec<Event<u32>>, wanted: &mut Vec<Got>, row: &str) -> Result<(), Fail> {
-    let Some((front, last)) = row.split_once(" up to ") else {
-        let (event, answer) = parsed(row).ok_or("no row")?;
-        events.push(event)?;
-        wanted.push(answer)?;
-        return Ok(());
-    };
-    let last: u8 = last.parse().ok().ok_or("no last handle")?;
-    let Some((_, Got::Handle(first))) = parsed(front) else {
-        return Err(Fail::from("no first handle"));
+// An ask whose answer is not looked at, or whether the core rests: nothing is pending then, and nothing stands in the cleaner's line.
+fn is_seen(core: &mut Core<u32>, choice: &mut Choice, row: &str) -> bool
+    requires { length core.old.machine.objects ≤ choice.old.cells }
+    ensures { length core.new.machine.objects ≤ choice.new.cells }
+{
+    match row.strip_prefix("rests ") {
+        Some(wanted) => rests(core) == (wanted == "yes"),
+        None => is_asked(core, choice, row),
+    }
+}
+
+fn rests(core: &Core<u32>) -> bool {
+    core.pending_empty() && core.line_empty()
+}
+
+fn is_answered(core: &mut Core<u32>, choice: &mut Choice, ask: &str, wanted: &str) -> bool
+    requires { length core.old.machine.objects ≤ choice.old.cells }
+    ensures { length core.new.machine.objects ≤ choice.new.cells }
+{
+    if let Some((first, last)) = wanted.split_once(" up to ") {
+        return gives_handles(core, choice, ask, range(first, last));
+    }
+    match ask.strip_prefix("again ") {
+        Some(ask) => is_told_again(core, choice, ask, wanted),
+        None => matches!(told(core, choice, ask, wanted), Outcome::AsWanted),
+    }
+}
+
+// How an ask was answered.
+#[derive(Clone, Copy)]
+enum Outcome {
+    AsWanted,
+    NoMemory,
+    Otherwise,
+}
+
+fn sort(reply: &Reply<u32>, wanted: &str) -> Outcome {
+    if is_reply(reply, wanted) {
+        return Outcome::AsWanted;
+    }
+    if is_reply(reply, "refused NoMemory") {
+        return Outcome::NoMemory;
+    }
+    Outcome::Otherwise
+}
+
+fn answer(core: &mut Core<u32>, choice: &mut Choice, event: Event<u32>, wanted: &str) -> Outcome
+    requires { length core.old.machine.objects ≤ choice.old.cells }
+    ensures { length core.new.machine.objects ≤ choice.new.cells }
+{
+    sort(&core.step(event, choice), wanted)
+}
+
+fn told(core: &mut Core<u32>, choice: &mut Choice, ask: &str, wanted: &str) -> Outcome
+    requires { length core.old.machine.objects ≤ choice.old.cells }
+    ensures { length core.new.machine.objects ≤ choice.new.cells }
+{
+    match event_of(ask) {
+        Some(event) => answer(core, choice, event, wanted),
+        None => Outcome::Otherwise,
+    }
+}
+
+// Whether an ask is answered so, at once or after a want of memory.
+fn is_told_again(core: &mut Core<u32>, choice: &mut Choice, ask: &str, wanted: &str) -> bool
+    requires { length core.old.machine.objects ≤ choice.old.cells }
+    ensures { length core.new.machine.objects ≤ choice.new.cells }
+{
+    match told(core, choice, ask, wanted) {
+        Outcome::AsWanted => true,
+        Outcome::NoMemory => matches!(told(core, choice, ask, wanted), Outcome::AsWanted),
+        Outcome::Otherwise => false,
+    }
+}
+
+fn is_asked(core: &mut Core<u32>, choice: &mut Choice, ask: &str) -> bool
+    requires { length core.old.machine.objects ≤ choice.old.cells }
+    ensures { length core.new.machine.objects ≤ choice.new.cells }
+{
+    match event_of(ask) {
+        Some(event) => {
+            drop(core.step(event, choice));
+            true
+        }
+        None => false,
+    }
+}
+
+// From the first handle to the last; none where they are none.
+fn range(first: &str, last: &str) -> Option<(u8, u8)> {
+    Some((
+        first.strip_prefix("handle ")?.parse().ok()?,
+        last.parse().ok()?,
+    ))
+}
+
+fn gives_handle(core: &mut Core<u32>, choice: &mut Choice, ask: &str, number: u8) -> bool
+    requires { length core.old.machine.objects ≤ choice.old.cells }
+    ensures { length core.new.machine.objects ≤ choice.new.cells }
+{
+    match event_of(ask) {
+        Some(event) => handle_in(&core.step(event, choice)) == Some(number),
+        None => false,
+    }
+}
+
+// Whether an ask is answered by each of these handles, time after time.
+fn gives_handles(
+    core: &mut Core<u32>,
+    choice: &mut Choice,
+    ask: &str,
+    range: Option<(u8, u8)>,
+) -> bool
+    requires { length core.old.machine.objects ≤ choice.old.cells }
+    ensures { length core.new.machine.objects ≤ choice.new.cells }
+{
+    let Some((first, last)) = range else {
+        return false;
     };
     for number in first..=last {
-        let (event, _) = parsed(front).ok_or("no row")?;
-        events.push(event)?;
-        wanted.push(Got::Handle(number))?;
+        if !gives_handle(core, choice, ask, number) {
+            return false;
+        }
     }
-    Ok(())
+    true
 }
 
-// The events of rows that are asks alone.
-pub(super) fn events_of(alloc: Global, asks: &str) -> Result<Vec<Event<u32>>, Fail> {
+/// The events of rows that are asks alone.
+pub(super) fn events_of(alloc: Global, asks: &str) -> Result<Vec<Event<u32>>, AllocError> {
     let mut events = Vec::new(alloc);
     for ask in asks.lines() {
-        if is_row(ask) {
-            events.push(event_of(ask).ok_or("no ask")?)?;
+        if let Some(event) = event_of(ask) {
+            events.push(event)?;
         }
     }
     Ok(events)
-}
-
-fn byte(words: &mut SplitWhitespace<'_>) -> Option<u8> {
-    words.next()?.parse().ok()
-}
-
-fn event_of(ask: &str) -> Option<Event<u32>> {
-    let mut words = ask.split_whitespace();
-    let event = named(words.next()?, &mut words)?;
-    if words.next().is_some() {
-        return None;
-    }
-    Some(event)
-}
-
-fn named(name: &str, words: &mut SplitWhitespace<'_>) -> Option<Event<u32>> {
-    match name {
-        "put" => Some(put(byte(words)?, byte(words)?, byte(words)?)),
-        "set_int" => long_set_int(words),
-        "register" => long_register(words),
-        "finish" => long_finish(words),
-        "opened" => Some(opened(opening(words.next()?)?)),
-        "bind" => Some(bind(words.next()?, byte(words)?)),
-        "find" => Some(find(words.next()?)),
-        "unbind" => Some(unbind(words.next()?)),
-        "other" => of_another(words),
-        _ => short(name, words),
-    }
-}
-
-fn long_set_int(words: &mut SplitWhitespace<'_>) -> Option<Event<u32>> {
-    let (object, field) = (byte(words)?, byte(words)?);
-    Some(set_int(object, field, words.next()?.parse().ok()?))
-}
-
-fn long_register(words: &mut SplitWhitespace<'_>) -> Option<Event<u32>> {
-    let (cleaner, object) = (byte(words)?, byte(words)?);
-    Some(register(cleaner, object, words.next()?.parse().ok()?))
-}
-
-fn long_finish(words: &mut SplitWhitespace<'_>) -> Option<Event<u32>> {
-    let by = byte(words)?;
-    let action = words.next()?.parse().ok()?;
-    let outcome = match words.next()? {
-        "ok" => Ok(()),
-        fault => Err(fault_of(fault)?),
-    };
-    Some(finish(by, action, outcome))
-}
-
-fn opening(outcome: &str) -> Option<Result<u32, Fault>> {
-    match outcome.parse() {
-        Ok(resource) => Some(Ok(resource)),
-        Err(_) => Some(Err(fault_of(outcome)?)),
-    }
-}
-
-fn short(name: &str, words: &mut SplitWhitespace<'_>) -> Option<Event<u32>> {
-    let Some(first) = words.next() else {
-        return alone(name);
-    };
-    let first = first.parse().ok()?;
-    match words.next() {
-        None => with_one(name, first),
-        Some(second) => with_two(name, first, second.parse().ok()?),
-    }
-}
-
-fn alone(name: &str) -> Option<Event<u32>> {
-    let event = match name {
-        "join" => join(),
-        "leave" => leave(),
-        "bare" => bare(),
-        "new" => new(),
-        "queue" => queue(),
-        "cleaner" => cleaner(),
-        "prepare" => prepare(),
-        "names" => all_names(),
-        "full" => full(),
-        "full_clearing" => full_clearing(),
-        "stat" => stat(),
-        "notes" => notes(),
-        "faults" => faults(),
-        "hand_over" => hand_over(),
-        "take_up" => Event::TakeUp,
-        "begin" => Event::Begin,
-        "collect" => Event::Collect,
-        "abandon" => Event::Abandon,
-        "mark" => mark(64),
-        _ => return None,
-    };
-    Some(event)
-}
-
-fn with_one(name: &str, handle: u8) -> Option<Event<u32>> {
-    let event = match name {
-        "dup" => dup(handle),
-        "drop" => drop_handle(handle),
-        "deref" => deref(handle),
-        "clear" => clear(handle),
-        "enqueue" => enqueue(handle),
-        "enqueued" => enqueued(handle),
-        "poll" => poll(handle),
-        "remove" => remove(handle),
-        "clean" => clean(handle),
-        "check_out" => check_out(handle),
-        "close" => close(handle),
-        "mark" => mark(handle),
-        _ => return None,
-    };
-    Some(event)
-}
-
-fn with_two(name: &str, first: u8, second: u8) -> Option<Event<u32>> {
-    let event = match name {
-        "get" => get(first, second),
-        "int" => int(first, second),
-        "same" => same(first, second),
-        "soft" => make(RefKind::Soft, first, second),
-        "weak" => make(RefKind::Weak, first, second),
-        "phantom" => make(RefKind::Phantom, first, second),
-        "refers" => refers(first, second),
-        "check_in" => check_in(first, u32::from(second)),
-        _ => return None,
-    };
-    Some(event)
-}
-
-// The mutator whose asks begin with `other`.
-fn another() -> Mutator {
-    Mutator::new(1)
-}
-
-fn of_another(words: &mut SplitWhitespace<'_>) -> Option<Event<u32>> {
-    let name = words.next()?;
-    match words.next() {
-        None => another_alone(name),
-        Some(first) => another_with(name, first, words),
-    }
-}
-
-fn another_alone(name: &str) -> Option<Event<u32>> {
-    let mutator = another();
-    match name {
-        "join" => Some(Event::Join { mutator }),
-        "full" => Some(Event::Full {
-            mutator,
-            mode: FullMode::Policy,
-        }),
-        "stat" => Some(Event::Stat { mutator }),
-        _ => None,
-    }
-}
-
-fn another_with(name: &str, first: &str, words: &mut SplitWhitespace<'_>) -> Option<Event<u32>> {
-    match name {
-        "find" => Some(another_find(first)),
-        "drop" => first.parse().ok().map(another_drop),
-        "check_out" => first.parse().ok().map(another_check_out),
-        "check_in" => Some(another_check_in(first.parse().ok()?, byte(words)?)),
-        _ => None,
-    }
-}
-
-fn another_find(text: &str) -> Event<u32> {
-    Event::Find {
-        mutator: another(),
-        name: name(text),
-    }
-}
-
-fn another_drop(object: u8) -> Event<u32> {
-    Event::Drop {
-        mutator: another(),
-        object: Handle::new(object),
-    }
-}
-
-fn another_check_out(guard: u8) -> Event<u32> {
-    Event::CheckOut {
-        mutator: another(),
-        guard: Handle::new(guard),
-    }
-}
-
-fn another_check_in(count: u8, resource: u8) -> Event<u32> {
-    Event::CheckIn {
-        mutator: another(),
-        outcome: wrote(count),
-        resource: u32::from(resource),
-    }
-}
-
-pub(super) fn fault_of(name: &str) -> Option<Fault> {
-    match name {
-        "NotFound" => Some(Fault::NotFound),
-        "Denied" => Some(Fault::Denied),
-        "Other" => Some(Fault::Other),
-        _ => None,
-    }
 }

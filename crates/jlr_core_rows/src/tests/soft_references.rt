@@ -1,10 +1,11 @@
 //! Soft references: how long a collection keeps what they refer to.
-use super::*;
+use super::script::play_all;
+use std::test::Fail;
 
 const LISTS: &str = "
 == at soft age 0 a collection clears a soft reference
     join -> done
-    bare -> handle 1
+    new -> handle 1
     soft 1 0 -> handle 2
     deref 2 -> handle 3
     drop 3 -> done
@@ -14,7 +15,7 @@ const LISTS: &str = "
 
 == at soft age 1 the second collection clears a soft reference: soft_age 1
     join -> done
-    bare -> handle 1
+    new -> handle 1
     soft 1 0 -> handle 2
     drop 1 -> done
     full -> done
@@ -23,7 +24,7 @@ const LISTS: &str = "
 
 == a soft reference that gives its referent is kept again: soft_age 1
     join -> done
-    bare -> handle 1
+    new -> handle 1
     soft 1 0 -> handle 2
     drop 1 -> done
     full -> done
@@ -35,7 +36,7 @@ const LISTS: &str = "
 -- Asking what it refers to is no use of it.
 == at soft age 4 the fifth collection clears a soft reference: soft_age 4
     join -> done
-    bare -> handle 1
+    new -> handle 1
     soft 1 0 -> handle 2
     drop 1 -> done
     full -> done
@@ -48,7 +49,7 @@ const LISTS: &str = "
 
 == a soft reference to a held object is not cleared
     join -> done
-    bare -> handle 1
+    new -> handle 1
     soft 1 0 -> handle 2
     full -> done
     full_clearing -> done
@@ -56,8 +57,8 @@ const LISTS: &str = "
 
 == soft references to an object and to what holds it are cleared together: soft_age 4
     join -> done
-    new -> handle 1
-    bare -> handle 2
+    new ri -> handle 1
+    new -> handle 2
     put 1 0 2 -> done
     soft 1 0 -> handle 3
     soft 2 0 -> handle 4
@@ -75,8 +76,8 @@ const LISTS: &str = "
 -- Only the reference to the holder gave its referent, and the other one is too old: they stay together, and go together.
 == a soft reference keeps what its referent holds: soft_age 1
     join -> done
-    new -> handle 1
-    bare -> handle 2
+    new ri -> handle 1
+    new -> handle 2
     put 1 0 2 -> done
     soft 1 0 -> handle 3
     soft 2 0 -> handle 4
@@ -94,8 +95,8 @@ const LISTS: &str = "
 
 == what holds an object may go first: soft_age 1
     join -> done
-    new -> handle 1
-    bare -> handle 2
+    new ri -> handle 1
+    new -> handle 2
     put 1 0 2 -> done
     soft 1 0 -> handle 3
     soft 2 0 -> handle 4
@@ -112,31 +113,31 @@ const LISTS: &str = "
 
 == an allocation clears a heap full of softly reachable objects: soft_age 4
     join -> done
-    bare -> handle 1
+    new -> handle 1
     soft 1 0 -> handle 2
     drop 1 -> done
-    bare -> handle 1
+    new -> handle 1
     soft 1 0 -> handle 3
     drop 1 -> done
-    bare -> handle 1
+    new -> handle 1
     soft 1 0 -> handle 4
     drop 1 -> done
-    bare -> handle 1
+    new -> handle 1
     soft 1 0 -> handle 5
     drop 1 -> done
-    bare -> handle 1
+    new -> handle 1
     soft 1 0 -> handle 6
     drop 1 -> done
-    bare -> handle 1
+    new -> handle 1
     soft 1 0 -> handle 7
     drop 1 -> done
-    bare -> handle 1
+    new -> handle 1
     soft 1 0 -> handle 8
     drop 1 -> done
-    bare -> handle 1
+    new -> handle 1
     soft 1 0 -> handle 9
     drop 1 -> done
-    bare -> handle 1
+    new -> handle 1
     deref 2 -> handle 0
     deref 3 -> handle 0
     deref 4 -> handle 0
@@ -149,10 +150,10 @@ const LISTS: &str = "
 -- The collection before the refusal counts, but clears no soft reference to an object that is held.
 == a full heap keeps what is held: soft_age 4
     join -> done
-    bare -> handle 1
+    new -> handle 1
     soft 1 0 -> handle 2
-    bare -> handle 3 up to 16
-    bare -> refused HeapFull
+    new -> handle 3 up to 16
+    new -> refused HeapFull
     soft 1 0 -> refused HeapFull
     queue -> refused HeapFull
     deref 2 -> handle 17

@@ -3,9 +3,14 @@ use jlr_machine::ask::{Answer, Ask, CallOutcome, FullMode, Outcome};
 use jlr_types::{Fault, FieldKind, Handle, Layout, Mutator, RefKind};
 use std::alloc::{AllocError, Global};
 
-// A word and the numbers behind it.
-fn line(alloc: Global, name: &str, numbers: &[i64]) -> Result<String, AllocError> {
-    let mut text = String::from_str(alloc, name)?;
+// The mutator by its number, a word, and the numbers behind it.
+fn line(
+    alloc: Global,
+    name: &str,
+    mutator: &Mutator,
+    numbers: &[i64],
+) -> Result<String, AllocError> {
+    let mut text = format!(in alloc; "by {} {name}", mutator.number())?;
     for number in numbers {
         let word = format!(in alloc; " {number}")?;
         text.push_str(word.as_str())?;
@@ -14,8 +19,8 @@ fn line(alloc: Global, name: &str, numbers: &[i64]) -> Result<String, AllocError
 }
 
 // The same with a word behind.
-fn ended(alloc: Global, name: &str, numbers: &[i64], last: &str) -> Result<String, AllocError> {
-    let mut text = line(alloc, name, numbers)?;
+fn ended(alloc: Global, name: &str, mutator: &Mutator, last: &str) -> Result<String, AllocError> {
+    let mut text = line(alloc, name, mutator, &[])?;
     text.push_str(" ")?;
     text.push_str(last)?;
     Ok(text)
@@ -31,10 +36,6 @@ pub(super) fn with_resource(
         Some(number) => format!(in alloc; "{text} with {number}"),
         None => Ok(text),
     }
-}
-
-fn by(mutator: &Mutator) -> i64 {
-    i64::from(mutator.number())
 }
 
 fn held(handle: &Handle) -> i64 {
@@ -81,30 +82,25 @@ fn words_of(bytes: &[u8]) -> &str {
 }
 
 fn check_in(alloc: Global, mutator: &Mutator, how: &CallOutcome) -> Result<String, AllocError> {
-    let mutator = by(mutator);
+    let mutator = mutator.number();
     match how {
         CallOutcome::Data(bytes) => {
-            format!(in alloc; "check_in {mutator} data {}", words_of(bytes.as_slice()))
+            format!(in alloc; "by {mutator} check_in data {}", words_of(bytes.as_slice()))
         }
         CallOutcome::Wrote(count) => {
-            format!(in alloc; "check_in {mutator} wrote {}", count.number())
+            format!(in alloc; "by {mutator} check_in wrote {}", count.number())
         }
-        CallOutcome::Failed(of) => format!(in alloc; "check_in {mutator} failed {}", fault(of)),
+        CallOutcome::Failed(of) => format!(in alloc; "by {mutator} check_in failed {}", fault(of)),
     }
 }
 
 /// An ask in words.
 pub(super) fn ask_text(alloc: Global, ask: &Ask) -> Result<String, AllocError> {
     match ask {
-        Ask::Join { mutator } => line(alloc, "join", &[by(mutator)]),
-        Ask::Leave { mutator } => line(alloc, "leave", &[by(mutator)]),
+        Ask::Join { mutator } => line(alloc, "join", mutator, &[]),
+        Ask::Leave { mutator } => line(alloc, "leave", mutator, &[]),
         Ask::New { mutator, layout } => {
-            ended(
-                alloc,
-                "new",
-                &[by(mutator)],
-                letters(alloc, layout)?.as_str(),
-            )
+            ended(alloc, "new", mutator, letters(alloc, layout)?.as_str())
         }
         Ask::Put {
             mutator,
@@ -114,17 +110,14 @@ pub(super) fn ask_text(alloc: Global, ask: &Ask) -> Result<String, AllocError> {
         } => line(
             alloc,
             "put",
-            &[by(mutator), held(object), i64::from(*field), held(value)],
+            mutator,
+            &[held(object), i64::from(*field), held(value)],
         ),
         Ask::Get {
             mutator,
             object,
             field,
-        } => line(
-            alloc,
-            "get",
-            &[by(mutator), held(object), i64::from(*field)],
-        ),
+        } => line(alloc, "get", mutator, &[held(object), i64::from(*field)]),
         Ask::SetInt {
             mutator,
             object,
@@ -133,24 +126,21 @@ pub(super) fn ask_text(alloc: Global, ask: &Ask) -> Result<String, AllocError> {
         } => line(
             alloc,
             "set_int",
-            &[by(mutator), held(object), i64::from(*field), *value],
+            mutator,
+            &[held(object), i64::from(*field), *value],
         ),
         Ask::Int {
             mutator,
             object,
             field,
-        } => line(
-            alloc,
-            "int",
-            &[by(mutator), held(object), i64::from(*field)],
-        ),
-        Ask::Dup { mutator, object } => line(alloc, "dup", &[by(mutator), held(object)]),
-        Ask::Drop { mutator, object } => line(alloc, "drop", &[by(mutator), held(object)]),
+        } => line(alloc, "int", mutator, &[held(object), i64::from(*field)]),
+        Ask::Dup { mutator, object } => line(alloc, "dup", mutator, &[held(object)]),
+        Ask::Drop { mutator, object } => line(alloc, "drop", mutator, &[held(object)]),
         Ask::Same {
             mutator,
             left,
             right,
-        } => line(alloc, "same", &[by(mutator), held(left), held(right)]),
+        } => line(alloc, "same", mutator, &[held(left), held(right)]),
         _ => reference_text(alloc, ask),
     }
 }
@@ -162,38 +152,30 @@ fn reference_text(alloc: Global, ask: &Ask) -> Result<String, AllocError> {
             kind: of,
             referent,
             queue,
-        } => line(alloc, kind(of), &[by(mutator), held(referent), held(queue)]),
-        Ask::Deref { mutator, reference } => {
-            line(alloc, "deref", &[by(mutator), held(reference)])
-        }
+        } => line(alloc, kind(of), mutator, &[held(referent), held(queue)]),
+        Ask::Deref { mutator, reference } => { line(alloc, "deref", mutator, &[held(reference)]) }
         Ask::Refers {
             mutator,
             reference,
             object,
-        } => line(
-            alloc,
-            "refers",
-            &[by(mutator), held(reference), held(object)],
-        ),
-        Ask::Clear { mutator, reference } => {
-            line(alloc, "clear", &[by(mutator), held(reference)])
-        }
+        } => line(alloc, "refers", mutator, &[held(reference), held(object)]),
+        Ask::Clear { mutator, reference } => { line(alloc, "clear", mutator, &[held(reference)]) }
         Ask::Enqueue { mutator, reference } => {
-            line(alloc, "enqueue", &[by(mutator), held(reference)])
+            line(alloc, "enqueue", mutator, &[held(reference)])
         }
         Ask::Enqueued { mutator, reference } => {
-            line(alloc, "enqueued", &[by(mutator), held(reference)])
+            line(alloc, "enqueued", mutator, &[held(reference)])
         }
-        Ask::MakeQueue { mutator } => line(alloc, "queue", &[by(mutator)]),
-        Ask::Poll { mutator, queue } => line(alloc, "poll", &[by(mutator), held(queue)]),
-        Ask::Remove { mutator, queue } => line(alloc, "remove", &[by(mutator), held(queue)]),
+        Ask::MakeQueue { mutator } => line(alloc, "queue", mutator, &[]),
+        Ask::Poll { mutator, queue } => line(alloc, "poll", mutator, &[held(queue)]),
+        Ask::Remove { mutator, queue } => line(alloc, "remove", mutator, &[held(queue)]),
         _ => cleaning_text(alloc, ask),
     }
 }
 
 fn cleaning_text(alloc: Global, ask: &Ask) -> Result<String, AllocError> {
     match ask {
-        Ask::MakeCleaner { mutator } => line(alloc, "cleaner", &[by(mutator)]),
+        Ask::MakeCleaner { mutator } => line(alloc, "cleaner", mutator, &[]),
         Ask::Register {
             mutator,
             cleaner,
@@ -202,24 +184,21 @@ fn cleaning_text(alloc: Global, ask: &Ask) -> Result<String, AllocError> {
         } => line(
             alloc,
             "register",
-            &[by(mutator), held(cleaner), held(object), i64::from(*note)],
+            mutator,
+            &[held(cleaner), held(object), i64::from(*note)],
         ),
-        Ask::Clean { mutator, cleanable } => {
-            line(alloc, "clean", &[by(mutator), held(cleanable)])
-        }
-        Ask::Prepare { mutator } => line(alloc, "prepare", &[by(mutator)]),
+        Ask::Clean { mutator, cleanable } => { line(alloc, "clean", mutator, &[held(cleanable)]) }
+        Ask::Prepare { mutator } => line(alloc, "prepare", mutator, &[]),
         Ask::Opened {
             mutator,
             outcome: how,
-        } => ended(alloc, "opened", &[by(mutator)], outcome(how)),
-        Ask::CheckOut { mutator, guard } => {
-            line(alloc, "check_out", &[by(mutator), held(guard)])
-        }
+        } => ended(alloc, "opened", mutator, outcome(how)),
+        Ask::CheckOut { mutator, guard } => { line(alloc, "check_out", mutator, &[held(guard)]) }
         Ask::CheckIn {
             mutator,
             outcome: how,
         } => check_in(alloc, mutator, how),
-        Ask::Close { mutator, guard } => line(alloc, "close", &[by(mutator), held(guard)]),
+        Ask::Close { mutator, guard } => line(alloc, "close", mutator, &[held(guard)]),
         Ask::Finish {
             by: taker,
             action,
@@ -237,22 +216,20 @@ fn heap_text(alloc: Global, ask: &Ask) -> Result<String, AllocError> {
             object,
         } => {
             let name = words_of(name.as_slice());
-            format!(in alloc; "bind {} {name} {}", by(mutator), held(object))
+            format!(in alloc; "by {} bind {name} {}", mutator.number(), held(object))
         }
-        Ask::Find { mutator, name } => {
-            ended(alloc, "find", &[by(mutator)], words_of(name.as_slice()))
-        }
+        Ask::Find { mutator, name } => { ended(alloc, "find", mutator, words_of(name.as_slice())) }
         Ask::Unbind { mutator, name } => {
-            ended(alloc, "unbind", &[by(mutator)], words_of(name.as_slice()))
+            ended(alloc, "unbind", mutator, words_of(name.as_slice()))
         }
-        Ask::Names { mutator } => line(alloc, "names", &[by(mutator)]),
+        Ask::Names { mutator } => line(alloc, "names", mutator, &[]),
         Ask::Full { mutator, mode } => match mode {
-            FullMode::Policy => line(alloc, "full", &[by(mutator)]),
-            FullMode::ClearAll => line(alloc, "full_clearing", &[by(mutator)]),
+            FullMode::Policy => line(alloc, "full", mutator, &[]),
+            FullMode::ClearAll => line(alloc, "full_clearing", mutator, &[]),
         },
-        Ask::Stat { mutator } => line(alloc, "stat", &[by(mutator)]),
-        Ask::Notes { mutator } => line(alloc, "notes", &[by(mutator)]),
-        Ask::Faults { mutator } => line(alloc, "faults", &[by(mutator)]),
+        Ask::Stat { mutator } => line(alloc, "stat", mutator, &[]),
+        Ask::Notes { mutator } => line(alloc, "notes", mutator, &[]),
+        Ask::Faults { mutator } => line(alloc, "faults", mutator, &[]),
         _ => String::from_str(alloc, background_word(ask)),
     }
 }
@@ -271,8 +248,8 @@ fn background_word(ask: &Ask) -> &'static str {
 /// An answer in words, if it is one of those of the rows.
 pub(super) fn answer_text(alloc: Global, answer: &Answer) -> Result<String, AllocError> {
     match answer {
-        Answer::Handle(handle) => line(alloc, "handle", &[held(handle)]),
-        Answer::Out(rid) => line(alloc, "out", &[i64::from(rid.number())]),
+        Answer::Handle(handle) => format!(in alloc; "handle {}", handle.number()),
+        Answer::Out(rid) => format!(in alloc; "out {}", rid.number()),
         _ => String::from_str(alloc, "another answer"),
     }
 }

@@ -1,170 +1,206 @@
-//! Commands told apart by a text.
+//! Commands held against words: the name of the case, and its parts.
+use jlr_device::Mode;
+use jlr_machine::ask::FullMode;
 use jlr_types::{FieldKind, Handle, Layout};
 use jlr_wire::command::Command;
-use std::alloc::{AllocError, Global};
+use std::str::SplitWhitespace;
 
-/// The case of a command and its parts: here those about objects.
-pub(super) fn case_of(alloc: Global, command: Command) -> Result<String, AllocError> {
-    match command {
-        Command::New { layout } => {
-            let letters = letters_of(alloc, &layout)?;
-            format!(in alloc; "New [{letters}]")
+/// Whether the command is the case of these words.
+pub(super) fn is_case(command: &Command, wanted: &str) -> bool {
+    let mut words = wanted.split_whitespace();
+    match words.next() {
+        Some(case) => is_object_case(command, case, &mut words) && words.next().is_none(),
+        None => false,
+    }
+}
+
+// Whether the next word is this number.
+fn is_number(number: u64, words: &mut SplitWhitespace<'_>) -> bool {
+    match words.next() {
+        Some(word) => word.parse() == Ok(number),
+        None => false,
+    }
+}
+
+fn is_handle(handle: &Handle, words: &mut SplitWhitespace<'_>) -> bool {
+    is_number(u64::from(handle.number()), words)
+}
+
+fn is_byte(byte: u8, words: &mut SplitWhitespace<'_>) -> bool {
+    is_number(u64::from(byte), words)
+}
+
+fn is_value(value: i64, words: &mut SplitWhitespace<'_>) -> bool {
+    match words.next() {
+        Some(word) => word.parse() == Ok(value),
+        None => false,
+    }
+}
+
+fn is_text(text: &[u8], words: &mut SplitWhitespace<'_>) -> bool {
+    match words.next() {
+        Some(word) => word.as_bytes() == text,
+        None => false,
+    }
+}
+
+// Two handles, left and right.
+fn are_both(left: &Handle, right: &Handle, words: &mut SplitWhitespace<'_>) -> bool {
+    is_handle(left, words) && is_handle(right, words)
+}
+
+fn is_kind(kind: Option<FieldKind>, letter: u8) -> bool {
+    match kind {
+        Some(FieldKind::Ref) => letter == b'r',
+        Some(FieldKind::Int) => letter == b'i',
+        None => false,
+    }
+}
+
+fn has_fields(layout: &Layout, letters: &[u8]) -> bool {
+    for (field, &letter) in letters.iter().enumerate() {
+        if !is_kind(layout.get(field), letter) {
+            return false;
         }
+    }
+    layout.len() == letters.len()
+}
+
+fn is_layout(layout: &Layout, words: &mut SplitWhitespace<'_>) -> bool {
+    match words.next() {
+        Some("-") => layout.is_empty(),
+        Some(letters) => has_fields(layout, letters.as_bytes()),
+        None => false,
+    }
+}
+
+fn are_bytes(bytes: &[u8], words: &mut SplitWhitespace<'_>) -> bool {
+    for &byte in bytes {
+        if !is_byte(byte, words) {
+            return false;
+        }
+    }
+    true
+}
+
+// Commands about objects.
+fn is_object_case(command: &Command, case: &str, words: &mut SplitWhitespace<'_>) -> bool {
+    match command {
+        Command::New { layout } => case == "New" && is_layout(layout, words),
         Command::Put {
             object,
             field,
             value,
         } => {
-            let (h, v) = (object.number(), value.number());
-            format!(in alloc; "Put {h} {field} {v}")
+            case == "Put"
+                && is_handle(object, words)
+                && is_byte(*field, words)
+                && is_handle(value, words)
         }
         Command::Get { object, field } => {
-            let h = object.number();
-            format!(in alloc; "Get {h} {field}")
+            case == "Get" && is_handle(object, words) && is_byte(*field, words)
         }
         Command::SetInt {
             object,
             field,
             value,
         } => {
-            let h = object.number();
-            format!(in alloc; "SetInt {h} {field} {value}")
+            case == "SetInt"
+                && is_handle(object, words)
+                && is_byte(*field, words)
+                && is_value(*value, words)
         }
         Command::Int { object, field } => {
-            let h = object.number();
-            format!(in alloc; "Int {h} {field}")
+            case == "Int" && is_handle(object, words) && is_byte(*field, words)
         }
-        Command::Dup { object } => with_one(alloc, "Dup", object),
-        Command::Drop { object } => with_one(alloc, "Drop", object),
-        Command::Same { left, right } => with_two(alloc, "Same", left, right),
-        another => reference_case_of(alloc, another),
+        Command::Dup { object } => case == "Dup" && is_handle(object, words),
+        Command::Drop { object } => case == "Drop" && is_handle(object, words),
+        Command::Same { left, right } => case == "Same" && are_both(left, right, words),
+        _ => is_reference_case(command, case, words),
     }
 }
 
-// The case of a command about references or queues, and its parts.
-fn reference_case_of(alloc: Global, command: Command) -> Result<String, AllocError> {
+// Commands about references and queues.
+fn is_reference_case(command: &Command, case: &str, words: &mut SplitWhitespace<'_>) -> bool {
     match command {
-        Command::Soft { referent, queue } => with_two(alloc, "Soft", referent, queue),
-        Command::Weak { referent, queue } => with_two(alloc, "Weak", referent, queue),
-        Command::Phantom { referent, queue } => with_two(alloc, "Phantom", referent, queue),
-        Command::Deref { reference } => with_one(alloc, "Deref", reference),
-        Command::Refers { reference, object } => with_two(alloc, "Refers", reference, object),
-        Command::Clear { reference } => with_one(alloc, "Clear", reference),
-        Command::Enqueue { reference } => with_one(alloc, "Enqueue", reference),
-        Command::Enqueued { reference } => with_one(alloc, "Enqueued", reference),
-        Command::Queue => format!(in alloc; "Queue"),
-        Command::Poll { queue } => with_one(alloc, "Poll", queue),
-        Command::Remove { queue } => with_one(alloc, "Remove", queue),
-        another => cleaning_case_of(alloc, another),
+        Command::Soft { referent, queue } => case == "Soft" && are_both(referent, queue, words),
+        Command::Weak { referent, queue } => case == "Weak" && are_both(referent, queue, words),
+        Command::Phantom { referent, queue } => {
+            case == "Phantom" && are_both(referent, queue, words)
+        }
+        Command::Deref { reference } => case == "Deref" && is_handle(reference, words),
+        Command::Refers { reference, object } => {
+            case == "Refers" && are_both(reference, object, words)
+        }
+        Command::Clear { reference } => case == "Clear" && is_handle(reference, words),
+        Command::Enqueue { reference } => case == "Enqueue" && is_handle(reference, words),
+        Command::Enqueued { reference } => case == "Enqueued" && is_handle(reference, words),
+        Command::Queue => case == "Queue",
+        Command::Poll { queue } => case == "Poll" && is_handle(queue, words),
+        Command::Remove { queue } => case == "Remove" && is_handle(queue, words),
+        _ => is_cleaning_case(command, case, words),
     }
 }
 
-// The case of a command about cleaners, and its parts.
-fn cleaning_case_of(alloc: Global, command: Command) -> Result<String, AllocError> {
+// Commands about cleaners, files and sockets.
+fn is_cleaning_case(command: &Command, case: &str, words: &mut SplitWhitespace<'_>) -> bool {
     match command {
-        Command::Cleaner => format!(in alloc; "Cleaner"),
+        Command::Cleaner => case == "Cleaner",
         Command::Register {
             cleaner,
             object,
             note,
         } => {
-            let (c, h) = (cleaner.number(), object.number());
-            format!(in alloc; "Register {c} {h} {note}")
+            case == "Register"
+                && are_both(cleaner, object, words)
+                && is_number(u64::from(*note), words)
         }
-        Command::Clean { cleanable } => with_one(alloc, "Clean", cleanable),
-        Command::Notes => format!(in alloc; "Notes"),
-        Command::Faults => format!(in alloc; "Faults"),
-        another => resource_case_of(alloc, another),
-    }
-}
-
-// The case of a command about files and sockets, and its parts.
-fn resource_case_of(alloc: Global, command: Command) -> Result<String, AllocError> {
-    match command {
+        Command::Clean { cleanable } => case == "Clean" && is_handle(cleanable, words),
         Command::Open { mode, path } => {
-            let path = path.as_str();
-            format!(in alloc; "Open {mode:?} {path}")
+            case == "Open"
+                && words.next() == Some(mode_word(mode))
+                && is_text(path.as_str().as_bytes(), words)
         }
-        Command::Connect { path } => {
-            let path = path.as_str();
-            format!(in alloc; "Connect {path}")
-        }
+        Command::Connect { path } => case == "Connect" && is_text(path.as_str().as_bytes(), words),
         Command::Read { guard, count } => {
-            let h = guard.number();
-            format!(in alloc; "Read {h} {count}")
+            case == "Read" && is_handle(guard, words) && is_byte(*count, words)
         }
         Command::Write { guard, bytes } => {
-            let h = guard.number();
-            let numbers = numbers_of(alloc, bytes.as_slice())?;
-            format!(in alloc; "Write {h}:{numbers}")
+            case == "Write" && is_handle(guard, words) && are_bytes(bytes.as_slice(), words)
         }
-        Command::Close { guard } => with_one(alloc, "Close", guard),
-        another => name_case_of(alloc, another),
+        Command::Close { guard } => case == "Close" && is_handle(guard, words),
+        _ => is_other_case(command, case, words),
     }
 }
 
-// The case of a command about names, and its parts.
-fn name_case_of(alloc: Global, command: Command) -> Result<String, AllocError> {
+fn mode_word(mode: &Mode) -> &'static str {
+    match mode {
+        Mode::Read => "Read",
+        Mode::Write => "Write",
+    }
+}
+
+fn full_word(mode: &FullMode) -> &'static str {
+    match mode {
+        FullMode::Policy => "Policy",
+        FullMode::ClearAll => "ClearAll",
+    }
+}
+
+// Commands about names, and about no single object.
+fn is_other_case(command: &Command, case: &str, words: &mut SplitWhitespace<'_>) -> bool {
     match command {
         Command::Bind { name, object } => {
-            let h = object.number();
-            let letters = String::from_utf8_lossy(alloc, name.as_slice())?;
-            format!(in alloc; "Bind {letters} {h}")
+            case == "Bind" && is_text(name.as_slice(), words) && is_handle(object, words)
         }
-        Command::Find { name } => {
-            let letters = String::from_utf8_lossy(alloc, name.as_slice())?;
-            format!(in alloc; "Find {letters}")
-        }
-        Command::Unbind { name } => {
-            let letters = String::from_utf8_lossy(alloc, name.as_slice())?;
-            format!(in alloc; "Unbind {letters}")
-        }
-        Command::Names => format!(in alloc; "Names"),
-        another => whole_case_of(alloc, another),
+        Command::Find { name } => case == "Find" && is_text(name.as_slice(), words),
+        Command::Unbind { name } => case == "Unbind" && is_text(name.as_slice(), words),
+        Command::Names => case == "Names",
+        Command::Notes => case == "Notes",
+        Command::Faults => case == "Faults",
+        Command::Full { mode } => case == "Full" && words.next() == Some(full_word(mode)),
+        Command::Stat => case == "Stat",
+        Command::Bye => case == "Bye",
+        _ => false,
     }
-}
-
-// The case of a command about no single object, and its parts.
-fn whole_case_of(alloc: Global, command: Command) -> Result<String, AllocError> {
-    match command {
-        Command::Full { mode } => format!(in alloc; "Full {mode:?}"),
-        Command::Stat => format!(in alloc; "Stat"),
-        Command::Bye => format!(in alloc; "Bye"),
-        _ => format!(in alloc; "another"),
-    }
-}
-
-// The bytes as decimal numbers, each after a space.
-fn numbers_of(alloc: Global, bytes: &[u8]) -> Result<String, AllocError> {
-    let mut numbers = String::new(alloc);
-    for byte in bytes {
-        let number = format!(in alloc; " {byte}")?;
-        numbers.push_str(number.as_str())?;
-    }
-    Ok(numbers)
-}
-
-// The letters of a layout.
-fn letters_of(alloc: Global, layout: &Layout) -> Result<String, AllocError> {
-    let mut letters = String::new(alloc);
-    for field in 0..layout.len() {
-        letters.push(match layout.get(field) {
-            Some(FieldKind::Ref) => 'r',
-            Some(FieldKind::Int) => 'i',
-            None => '?',
-        })?;
-    }
-    Ok(letters)
-}
-
-// The name of a case and the number of a handle.
-fn with_one(alloc: Global, case: &str, handle: Handle) -> Result<String, AllocError> {
-    let h = handle.number();
-    format!(in alloc; "{case} {h}")
-}
-
-// The name of a case and the numbers of two handles.
-fn with_two(alloc: Global, case: &str, left: Handle, right: Handle) -> Result<String, AllocError> {
-    let (a, b) = (left.number(), right.number());
-    format!(in alloc; "{case} {a} {b}")
 }

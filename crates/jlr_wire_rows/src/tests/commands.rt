@@ -1,17 +1,17 @@
 //! Each command once, and the ends of its numbers and lengths.
-use super::cases::case_of;
-use super::{halves, spelled};
+use super::cases::is_case;
+use super::spelled;
 use jlr_wire::command::read_command;
 use std::alloc::Global;
 use std::test::Fail;
 
 const ROWS: &str = "
-    new - -> New []
-    new r -> New [r]
-    new i -> New [i]
-    new ri -> New [ri]
-    new rrrrrrrr -> New [rrrrrrrr]
-    new rirririr -> New [rirririr]
+    new - -> New -
+    new r -> New r
+    new i -> New i
+    new ri -> New ri
+    new rrrrrrrr -> New rrrrrrrr
+    new rirririr -> New rirririr
     put 1 0 255 -> Put 1 0 255
     get 2 7 -> Get 2 7
     int 1 0 -> Int 1 0
@@ -57,10 +57,10 @@ const ROWS: &str = "
     read 9 1 -> Read 9 1
     read 0 99 -> Read 0 99
     read 255 200 -> Read 255 200
-    write 9 0102 -> Write 9: 1 2
-    write 0 00 -> Write 0: 0
-    write 255 fF -> Write 255: 255
-    write 1 0123456789abcdefABCDEF -> Write 1: 1 35 69 103 137 171 205 239 171 205 239
+    write 9 0102 -> Write 9 1 2
+    write 0 00 -> Write 0 0
+    write 255 fF -> Write 255 255
+    write 1 0123456789abcdefABCDEF -> Write 1 1 35 69 103 137 171 205 239 171 205 239
     close 250 -> Close 250
     bind a 1 -> Bind a 1
     bind 0 255 -> Bind 0 255
@@ -73,26 +73,34 @@ const ROWS: &str = "
     connect (/×255) -> Connect (/×255)
     find (z×32) -> Find (z×32)
     unbind (9×32) -> Unbind (9×32)
-    write 1 (0×400) -> Write 1:( 0×200)
+    write 1 (0×400) -> Write 1( 0×200)
 ";
 
-fn reads(alloc: Global, row: &str) -> Result<(), Fail> {
-    let spelled = spelled(alloc, row)?;
-    let (line, wanted) = halves(spelled.as_str())?;
-    let Ok(command) = read_command(line.as_bytes()) else {
-        return Err(Fail::new(format_args!("no command: {row}")));
-    };
-    let case = case_of(alloc, command)?;
-    if case.as_str() == wanted {
-        return Ok(());
+fn is_read(line: &str, wanted: &str) -> bool {
+    match read_command(line.as_bytes()) {
+        Ok(command) => is_case(&command, wanted),
+        Err(_) => false,
     }
-    Err(Fail::new(format_args!("{row}, and not {case}")))
+}
+
+fn holds(row: &str) -> bool {
+    match row.split_once(" -> ") {
+        Some((line, wanted)) => is_read(line, wanted),
+        None => false,
+    }
+}
+
+fn reads(alloc: Global, row: &str) -> Result<bool, Fail> {
+    let spelled = spelled(alloc, row)?;
+    Ok(holds(spelled.as_str()))
 }
 
 #[test]
 fn lines_are_read_as_their_commands(rt: HostRuntime) -> Result<(), Fail> {
     for row in ROWS.trim().lines() {
-        reads(rt.alloc(), row.trim())?;
+        if !reads(rt.alloc(), row.trim())? {
+            return Err(Fail::new(format_args!("{row}")));
+        }
     }
     Ok(())
 }

@@ -1,16 +1,17 @@
 //! Each sort of reply, and its line without its end. An answer that no command is given has no line.
-use super::answers::answer_of;
-use super::{halves, spelled};
+use super::spelled;
+use jlr_machine::ask::Answer;
 use jlr_wire::reply::write_reply;
-use std::alloc::Global;
+use jlr_words::answer_of;
+use std::alloc::{AllocError, Global};
 use std::test::Fail;
 
 const ROWS: &str = "
     done -> ok
     handle 0 -> = 0
     handle 250 -> = 250
-    truth yes -> yes
-    truth no -> no
+    yes -> yes
+    no -> no
     refused NoMemory -> ! 1
     refused Malformed -> ! 15
     refused ResourcesFull -> ! 19
@@ -21,16 +22,16 @@ const ROWS: &str = "
     stat 9 0 0 0 0 -> stat 9 0 0 0 0
     stat 1 2 12 7 3 -> stat 1 2 12 7 3
     stat 65536 256 18446744073709551615 0 0 -> stat 65536 256 18446744073709551615 0 0
-    already -> ok
-    faulted NotFound -> fault notfound
-    faulted Denied -> fault denied
-    faulted Other -> fault other
-    data -> end
-    data 1 2 -> data 0102
-    data 0 154 188 222 255 16 -> data 009abcdeff10
-    data (165 ×2) -> data a5a5
-    data (165 ×199) -> data (a5×199)
-    data (165 ×200) -> data (a5×200)
+    already_done -> ok
+    fault NotFound -> fault notfound
+    fault Denied -> fault denied
+    fault Other -> fault other
+    data - -> end
+    data 0102 -> data 0102
+    data 009abcdeff10 -> data 009abcdeff10
+    data (a5×2) -> data a5a5
+    data (a5×199) -> data (a5×199)
+    data (a5×200) -> data (a5×200)
     wrote 0 -> wrote 0
     wrote 2 -> wrote 2
     wrote 200 -> wrote 200
@@ -45,36 +46,43 @@ const ROWS: &str = "
     faults 1:Other -> list 1:other
     faults 12:Denied 3:NotFound 18446744073709551615:Other -> list 12:denied 3:notfound 18446744073709551615:other
     nothing -> no line
-    prepared -> no line
-    out -> no line
-    job -> no line
+    prepared 1 -> no line
+    out 1 -> no line
+    job 1 note 7 -> no line
 ";
 
-// What is sent for an answer.
-fn sent(alloc: Global, answer: &str) -> Result<String, Fail> {
-    let mut out = Vec::new(alloc);
-    let outcome = write_reply(&answer_of(alloc, answer)?, &mut out);
-    if outcome.is_err() && out.is_empty() {
-        return Ok(format!(in alloc; "no line\n")?);
+fn is_sent(sent: &[u8], line: &str) -> bool {
+    match sent.split_last() {
+        Some((last, front)) => *last == b'\n' && front == line.as_bytes(),
+        None => line == "no line",
     }
-    Ok(String::from_utf8_lossy(alloc, out.as_slice())?)
 }
 
-fn replies(alloc: Global, row: &str) -> Result<(), Fail> {
-    let spelled = spelled(alloc, row)?;
-    let (answer, line) = halves(spelled.as_str())?;
-    let wanted = format!(in alloc; "{line}\n")?;
-    let sent = sent(alloc, answer)?;
-    if sent.as_str() == wanted.as_str() {
-        return Ok(());
+fn is_written(alloc: Global, answer: &Answer, line: &str) -> bool {
+    let mut out = Vec::new(alloc);
+    let is_ok = write_reply(answer, &mut out).is_ok();
+    is_ok == (line != "no line") && is_sent(out.as_slice(), line)
+}
+
+fn holds(alloc: Global, row: &str) -> Result<bool, AllocError> {
+    let (answer, line) = row.split_once(" -> ").unwrap_or((row, ""));
+    match answer_of(alloc, answer)? {
+        Some(answer) => Ok(is_written(alloc, &answer, line)),
+        None => Ok(false),
     }
-    Err(Fail::new(format_args!("{row}, and not {sent}")))
+}
+
+fn replies(alloc: Global, row: &str) -> Result<bool, Fail> {
+    let spelled = spelled(alloc, row)?;
+    Ok(holds(alloc, spelled.as_str())?)
 }
 
 #[test]
 fn answers_are_written_as_their_lines(rt: HostRuntime) -> Result<(), Fail> {
     for row in ROWS.trim().lines() {
-        replies(rt.alloc(), row.trim())?;
+        if !replies(rt.alloc(), row.trim())? {
+            return Err(Fail::new(format_args!("{row}")));
+        }
     }
     Ok(())
 }

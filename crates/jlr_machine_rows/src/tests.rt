@@ -1,0 +1,28 @@
+//! No clause says that memory can be had, so each call that takes some is made here. What is expected is written by hand. Copies of asks are
+//! tested by the rows of `jlr_event_rows`.
+use jlr_machine::copy::copy_slice;
+use jlr_machine::items::Items;
+use jlr_types::Slot;
+use std::alloc::{AllocError, Global};
+
+mod choices;
+mod copies;
+mod entries;
+mod lists;
+mod values;
+
+fn slots(alloc: Global, numbers: &[u32]) -> Result<Items<Slot>, AllocError> {
+    let mut list = Items::new(alloc);
+    for &number in numbers {
+        list.push(Slot::new(number))?;
+    }
+    Ok(list)
+}
+
+fn list<T: Copy>(alloc: Global, items: &[T]) -> Result<Items<T>, AllocError> {
+    Ok(Items::from_vec(copy_slice(alloc, items)?))
+}
+
+fn slot(number: u32) -> Option<Slot> {
+    Some(Slot::new(number))
+}
