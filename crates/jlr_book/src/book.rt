@@ -220,6 +220,7 @@ impl<R: Drop> Book<R> {
     }
 
     /// An end has its place and its number, or is refused by the core.
+    #[inline(always)]
     fn end(&mut self, seat: u8, ask: Ask, event: Event<R>) -> Reply<R>
         requires ask { ask_of event ≡ Some ask }
         requires end { is_end ask ≡ true }
@@ -237,6 +238,7 @@ impl<R: Drop> Book<R> {
     }
 
     /// The room of its entry, its place, and one for each end that may be owed then are made before anything changes.
+    #[inline(always)]
     fn enter(&mut self, seat: u8, ask: Ask, event: Event<R>) -> Reply<R>
         requires ask { ask_of event ≡ Some ask }
         requires end { is_end ask ≡ false }

@@ -79,6 +79,7 @@ impl<R: Drop> Solo<R> {
     }
 
     /// One step of the book. What led to it is a history, and what it leads to.
+    #[inline(always)]
     fn step(&mut self, seat: u8, event: Event<R>) -> Reply<R>
         ensures steps { BookSteps seat self.old event result self.new }
         ensures before { IsHistory self.old }

@@ -141,6 +141,7 @@ impl<R> State<R> {
     }
 }
 
+#[inline(always)]
 fn answered<R>(outcome: Result<Answer, Refusal>) -> Reply<R>
     ensures { result ≡ Reply.Answered (answer_of outcome) None }
 {

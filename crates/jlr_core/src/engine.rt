@@ -65,6 +65,7 @@ impl<R> Core<R> {
     /// only where they are not refused. A piece of marking changes nothing but marks: in an open cycle it follows grey cells, one tick each,
     /// by the soft policy, and is Done where none is left; without one it is Idle. A `Collect` keeps exactly what is marked, and is answered
     /// yes exactly where a cycle is open and no cell is grey.
+    #[inline(always)]
     pub fn step(&mut self, event: Event<R>, choice: &mut Choice) -> Reply<R>
         requires room { length self.old.machine.objects ≤ choice.old.cells }
         ensures step { IsStep self.old event result choice.new.chosen self.new }

@@ -51,6 +51,7 @@ impl<R: Drop, L: Ledger> Locked<R, L> {
     }
 
     /// One event: an entry of the book and of the seat's transcript, or of neither.
+    #[inline(always)]
     pub(crate) fn ask(
         &mut self,
         seat: &mut Seat<L>,

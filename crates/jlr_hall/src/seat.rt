@@ -107,6 +107,7 @@ impl<L: Ledger> Seat<L> {
     }
 
     /// Learns the base of the book, if it has risen. What a cut took away is let go.
+    #[inline(always)]
     fn learn(&mut self, base: u64)
         ensures index { self.new.index ≡ self.old.index }
         ensures sessions { self.new.sessions ≡ self.old.sessions }
@@ -122,6 +123,7 @@ impl<L: Ledger> Seat<L> {
     }
 
     /// Takes down an entry of the book, in a place that is there.
+    #[inline(always)]
     pub(crate) fn note(&mut self, number: u64, base: u64, ask: Ask, answer: Answer)
         requires { 1 ≤ self.old.room }
         ensures index { self.new.index ≡ self.old.index }

@@ -27,19 +27,30 @@ where
     ghost carries = { by_asks P.asking (record { count = D.count; opens = D.may_open; connects = D.may_connect; failures = D.Res.handling.count })
         D.Res.handling };
 
-    fn carry_out(heap: &mut P, device: &mut D, command: Command) -> Answer {
+    #[inline(always)]
+    fn carry_out(heap: &mut P, device: &mut D, command: &Command) -> Answer {
         let mutator = heap.mutator();
         match command {
-            Command::Open { mode, path } => open(heap, device, mutator, mode, path.as_str()),
+            Command::Open { mode, path } => open(heap, device, mutator, *mode, path.as_str()),
             Command::Connect { path } => connect(heap, device, mutator, path.as_str()),
-            Command::Read { guard, count } => read(heap, mutator, guard, count),
-            Command::Write { guard, bytes } => write(heap, mutator, guard, bytes.as_slice()),
+            Command::Read { guard, count } => read(heap, mutator, *guard, *count),
+            Command::Write { guard, bytes } => write(heap, mutator, *guard, bytes.as_slice()),
             Command::Clean { cleanable } => work(
                 heap,
                 mutator,
-                Event::Clean { mutator, cleanable },
+                Event::Clean {
+                    mutator,
+                    cleanable: *cleanable,
+                },
             ),
-            Command::Close { guard } => work(heap, mutator, Event::Close { mutator, guard }),
+            Command::Close { guard } => work(
+                heap,
+                mutator,
+                Event::Close {
+                    mutator,
+                    guard: *guard,
+                },
+            ),
             command => ask_once(heap, mutator, command),
         }
     }
@@ -50,8 +61,9 @@ where
 }
 
 /// Carries out a command that asks once.
-fn ask_once<P: Port<R>, R: Drop>(port: &mut P, mutator: Mutator, command: Command) -> Answer
-    ensures { AsksOnce P.asking (event_of mutator command) port.old result port.new }
+#[inline(always)]
+fn ask_once<P: Port<R>, R: Drop>(port: &mut P, mutator: Mutator, command: &Command) -> Answer
+    ensures { AsksOnce P.asking (event_of mutator command.now) port.old result port.new }
 {
     match event_for(mutator, command) {
         Some(event) => said(port.ask(event)),

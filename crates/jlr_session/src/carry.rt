@@ -10,8 +10,8 @@ pub trait CarryOut<H, D> {
     ghost carries: { Carrying (H × D) };
 
     /// Carries a command out and gives its answer. `bye` is the session's own and never comes here.
-    fn carry_out(heap: &mut H, device: &mut D, command: Command) -> Answer
-        ensures { carries.command (heap.old, device.old) command result (heap.new, device.new) };
+    fn carry_out(heap: &mut H, device: &mut D, command: &Command) -> Answer
+        ensures { carries.command (heap.old, device.old) command.now result (heap.new, device.new) };
 
     /// Does what is left to do after a reply went out.
     fn settle(heap: &mut H)

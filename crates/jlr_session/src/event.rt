@@ -8,11 +8,15 @@ use jlr_types::{Handle, Mutator, RefKind};
 use jlr_wire::command::Command;
 
 /// What a command that asks once asks in the name of a mutator. There is none for one that may ask twice, and for `bye`.
-pub(crate) fn event_for<R>(mutator: Mutator, command: Command) -> Option<Event<R>>
-    ensures { result ≡ event_of mutator command }
+#[inline(always)]
+pub(crate) fn event_for<R>(mutator: Mutator, command: &Command) -> Option<Event<R>>
+    ensures { result ≡ event_of mutator command.now }
 {
-    Some(match command {
-        Command::New { layout } => Event::New { mutator, layout },
+    Some(match *command {
+        Command::New { ref layout } => Event::New {
+            mutator,
+            layout: layout.copy(),
+        },
         Command::Dup { object } => Event::Dup { mutator, object },
         Command::Drop { object } => Event::Drop { mutator, object },
         Command::Same { left, right } => Event::Same {
@@ -76,13 +80,19 @@ pub(crate) fn event_for<R>(mutator: Mutator, command: Command) -> Option<Event<R
             object,
             note,
         },
-        Command::Bind { name, object } => Event::Bind {
+        Command::Bind { ref name, object } => Event::Bind {
             mutator,
-            name,
+            name: name.copy(),
             object,
         },
-        Command::Find { name } => Event::Find { mutator, name },
-        Command::Unbind { name } => Event::Unbind { mutator, name },
+        Command::Find { ref name } => Event::Find {
+            mutator,
+            name: name.copy(),
+        },
+        Command::Unbind { ref name } => Event::Unbind {
+            mutator,
+            name: name.copy(),
+        },
         Command::Names => Event::Names { mutator },
         Command::Full { mode } => Event::Full { mutator, mode },
         Command::Stat => Event::Stat { mutator },
@@ -99,6 +109,7 @@ pub(crate) fn event_for<R>(mutator: Mutator, command: Command) -> Option<Event<R
 }
 
 /// A reference of a kind is made.
+#[inline(always)]
 fn make<R>(mutator: Mutator, kind: RefKind, referent: Handle, queue: Handle) -> Event<R>
     ensures { result ≡ MakeRef mutator kind referent queue }
 {

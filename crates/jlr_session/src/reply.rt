@@ -13,6 +13,7 @@ pub(crate) fn none() -> Answer
 }
 
 /// The answer of a reply. A resource that comes with it is dropped.
+#[inline(always)]
 pub(crate) fn said<R: Drop>(reply: Reply<R>) -> Answer
     ensures { result ≡ said_by reply }
 {

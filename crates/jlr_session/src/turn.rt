@@ -20,6 +20,7 @@ pub struct Turn {
 
 /// What a line is answered: `bye` by `ok`, a line that is no command by its refusal, and every
 /// other command by what carries it out.
+#[inline(always)]
 pub fn turn_of<C: CarryOut<H, D>, H, D>(line: &[u8], heap: &mut H, device: &mut D) -> Turn
     ensures answer { Answers C.carries line.now (heap.old, device.old) result.answer (heap.new, device.new) }
     ensures last { IsTrue result.last ↔ IsCommand line.now Bye }
@@ -40,7 +41,7 @@ pub fn turn_of<C: CarryOut<H, D>, H, D>(line: &[u8], heap: &mut H, device: &mut 
         };
     }
     Turn {
-        answer: C::carry_out(heap, device, command),
+        answer: C::carry_out(heap, device, &command),
         last: false,
     }
 }
@@ -53,6 +54,7 @@ fn is_bye(command: &Command) -> bool
 }
 
 /// Writes a reply line and flushes.
+#[inline(always)]
 pub fn reply<W: Write>(answer: &Answer, writer: &mut W) -> Result<(), WriteFault>
     ensures { SendsReply (W.contents writer.old) (W.contents writer.new) result answer.now }
 {

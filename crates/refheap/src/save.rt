@@ -1,5 +1,5 @@
 //! Saved histories: a session whose history is kept, and the file that it goes to.
-ghost use Rattle.std.specs.Prelude.{◌≡◌, ◌≤◌, ◌⊎◌, List, ℕ, length, IfOk, IsErr};
+ghost use Rattle.std.specs.Prelude.{◌≡◌, ◌≤◌, List, ℕ, length, IfOk, IsErr};
 ghost use Rattle.std.specs.Io.KnownBytes.{Appends, Consumes};
 ghost use Rattle.jlr_book.specs.Histories.{History};
 ghost use Rattle.jlr_prog.specs.Histories.{IsSession};
