@@ -17,5 +17,5 @@ tests() {
     done
 }
 
-tests jlr_plain_rows memory::a_want_of_memory_leaves_the_machine || exit 1
+tests jlr_plain_rows tests::memory::a_want_of_memory_leaves_the_machine || exit 1
 tests jlr_core_rows tests::memory::a_refused_growth_changes_nothing || exit 1

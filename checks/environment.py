@@ -1,0 +1,203 @@
+#!/usr/bin/env python3
+"""Runs the program in surroundings that want something: files, memory, rights, a reader. Each with what docs/protocol.md says of it.
+
+    checks/environment.py PROGRAM
+
+As root it drops its rights to those of nobody where rights matter, and mounts a small file system for a full disk; without root those cases are left out.
+"""
+import os
+import resource
+import shutil
+import signal
+import socket
+import subprocess
+import sys
+import tempfile
+import time
+
+NOBODY = 65_534
+NO_MEMORY = (5, b"refheap: no memory\n")
+
+
+class Checks:
+    def __init__(self, program):
+        self.program = program
+        self.failed = False
+        self.folder = tempfile.mkdtemp()
+        os.chmod(self.folder, 0o777)
+
+    def said(self, name, got, due):
+        if got == due:
+            print("ok     ", name)
+        else:
+            self.failed = True
+            print("WRONG  ", name, "got", str(got)[:400], "due", str(due)[:400])
+
+    def run(self, words, text="", before=None):
+        ended = subprocess.run([self.program, *words], input=text.encode(), capture_output=True, cwd=self.folder, preexec_fn=before, timeout=120)
+        return ended.returncode, ended.stdout, ended.stderr
+
+    def session(self, name, lines, before=None):
+        """A session of these lines, each with its reply."""
+        status, replies, said = self.run(["run", "--cells", "64", "--resources", "64"], "".join(line + "\n" for line, _ in lines), before)
+        self.said(name, (status, said, replies.decode().splitlines()), (0, b"", [reply for _, reply in lines]))
+
+    def path(self, name):
+        return os.path.join(self.folder, name)
+
+
+def as_nobody():
+    os.setgid(NOBODY)
+    os.setuid(NOBODY)
+
+
+def limited(kind, most):
+    return lambda: resource.setrlimit(kind, (most, most))
+
+
+def files(checks):
+    with open(checks.path("there"), "w") as file:
+        file.write("hi")
+    os.mkdir(checks.path("inner"))
+    os.symlink("nowhere", checks.path("link"))
+    os.symlink("round", checks.path("round"))
+    checks.session("a directory is read and written", [
+        ("open r inner", "= 1"), ("read 1 5", "fault other"), ("close 1", "ok"), ("drop 1", "ok"), ("open w inner", "fault other")])
+    checks.session("what is not there, a folder that is not, and a file as a folder", [
+        ("open r none", "fault notfound"), ("open w none/file", "fault notfound"), ("open r there/file", "fault other")])
+    checks.session("a link to nowhere is read, and written, which makes what it leads to", [
+        ("open r link", "fault notfound"), ("open w link", "= 1"), ("write 1 61", "wrote 1"), ("close 1", "ok"), ("open r nowhere", "= 2"),
+        ("read 2 9", "data 61")])
+    checks.session("a link to itself", [("open r round", "fault other")])
+    checks.session("device files", [
+        ("open w /dev/null", "= 1"), ("write 1 6162", "wrote 2"), ("close 1", "fault other"), ("close 1", "ok"), ("open r /dev/zero", "= 2"),
+        ("read 2 3", "data 000000"), ("open w /dev/full", "= 3"), ("write 3 61", "fault other"), ("faults", "list 1:other")])
+    checks.session("a socket that nobody listens on, and a file as a socket", [
+        ("connect none", "fault notfound"), ("connect there", "fault other")])
+
+
+def pipes(checks):
+    os.mkfifo(checks.path("fifo"))
+    writer = subprocess.Popen(["sh", "-c", f"printf abc > {checks.path('fifo')}"])
+    checks.session("a FIFO whose writer goes", [
+        ("open r fifo", "= 1"), ("read 1 3", "data 616263"), ("read 1 3", "end"), ("close 1", "fault other")])
+    writer.wait()
+    listener = socket.socket(socket.AF_UNIX)
+    listener.bind(checks.path("peer"))
+    listener.listen(1)
+    process = subprocess.Popen([checks.program, "run", "--cells", "64"], stdin=subprocess.PIPE, stdout=subprocess.PIPE, cwd=checks.folder, bufsize=0)
+
+    def ask(line):
+        process.stdin.write(line.encode() + b"\n")
+        return process.stdout.readline().decode().strip()
+
+    replies = [ask("connect peer")]
+    peer, _ = listener.accept()
+    peer.close()
+    replies += [ask("read 1 5"), ask("write 1 6162"), ask("close 1"), ask("bye")]
+    checks.said("a socket whose peer goes", (replies, process.wait()), (["= 1", "end", "fault other", "ok", "ok"], 0))
+
+
+def limits(checks):
+    lines = [(f"open w file{k}", f"= {k + 1}") for k in range(5)]
+    lines += [("open w more", "fault other"), ("close 1", "ok"), ("open w more", "= 6"), ("open w again", "fault other"), ("stat", "stat 16 5 1 1 0")]
+    checks.session("at most 8 open files", lines, limited(resource.RLIMIT_NOFILE, 8))
+    checks.said("a heap of 65,536 cells where 9 MB of address space are all",
+                checks.run(["run", "--cells", "65536"], "bye\n", limited(resource.RLIMIT_AS, 9_000_000))[::2], NO_MEMORY)
+    checks.session("no processor time to lose: a session under a low priority", [("new -", "= 1"), ("gc", "ok")], lambda: os.nice(19))
+
+
+def rights(checks):
+    with open(checks.path("closed"), "w") as file:
+        file.write("hi")
+    os.chmod(checks.path("closed"), 0)
+    os.mkdir(checks.path("locked"), 0)
+    checks.session("a file and a folder without rights", [
+        ("open r closed", "fault denied"), ("open w closed", "fault denied"), ("open w locked/file", "fault denied"), ("connect locked/peer", "fault denied")],
+        as_nobody)
+    wanted = (1, b"", f"refheap: cannot listen on {checks.path('locked')}/s\n".encode())
+    checks.said("a server in a folder without rights", checks.run(["serve", "--socket", checks.path("locked") + "/s", "--total", "1"], "", as_nobody), wanted)
+    wanted = (1, b"", b"refheap: cannot read closed\n")
+    checks.said("the audit of a file without rights", checks.run(["audit", "closed"], "", as_nobody), wanted)
+
+
+def full_disk(checks):
+    os.mkdir(checks.path("small"))
+    if subprocess.run(["mount", "-t", "tmpfs", "-o", "size=16k", "none", checks.path("small")], stderr=subprocess.DEVNULL).returncode:
+        print("left    a full disk: no file system can be mounted here")
+        return
+    try:
+        block = "61" * 200
+        writes = [f"write 1 {block}"] * 100
+        status, replies, said = checks.run(["run"], "open w small/file\n" + "\n".join(writes) + "\nclose 1\nstat\n")
+        replies = replies.decode().splitlines()
+        took = sum(int(reply.split()[1]) for reply in replies if reply.startswith("wrote"))
+        size = os.path.getsize(checks.path("small/file"))
+        checks.said("a full disk: what was told as written is there, and the rest is a fault",
+                    (status, said, took == size, replies[1], "fault other" in replies), (0, b"", True, "wrote 200", True))
+        saved = checks.run(["run", "--save", "small/history"], "new -\n" * 400)
+        checks.said("a history that finds no place", (saved[0], saved[2], os.listdir(checks.path("small"))),
+                    (1, b"refheap: cannot save small/history\n", ["file"]))
+    finally:
+        subprocess.run(["umount", checks.path("small")], check=True)
+
+
+def servers(checks):
+    for name, make in (("a file", lambda path: open(path, "w").close()), ("a directory", os.mkdir), ("a link to nowhere", lambda path: os.symlink("none", path))):
+        path = checks.path("socket")
+        make(path)
+        got = checks.run(["serve", "--socket", path, "--total", "1"])
+        checks.said(f"a server at a path that is {name}, which is left", (got, os.path.lexists(path)),
+                    ((1, b"", f"refheap: cannot listen on {path}\n".encode()), True))
+        os.rmdir(path) if os.path.isdir(path) else os.unlink(path)
+    far = checks.path("n" * 120)
+    checks.said("a server at a path that is too long", checks.run(["serve", "--socket", far, "--total", "1"])[::2],
+                (1, f"refheap: cannot listen on {far}\n".encode()))
+
+
+def audits(checks):
+    checks.said("the audit of a directory", checks.run(["audit", "inner"]), (1, b"", b"refheap: cannot read inner\n"))
+    checks.said("the audit of what is not there", checks.run(["audit", "none"]), (1, b"", b"refheap: cannot read none\n"))
+    checks.said("the audit of an empty device", checks.run(["audit", "/dev/null"]), (4, b"", b"refheap: trace truncated\n"))
+    checks.run(["run", "--cells", "16", "--save", "history"], "new -\n")
+    writer = subprocess.Popen(["sh", "-c", f"cat {checks.path('history')} > {checks.path('fifo')}"])
+    checks.said("the audit of a FIFO", checks.run(["audit", "fifo"]), (0, b"legal 3\n", b""))
+    writer.wait()
+    with open(checks.path("large"), "wb") as file:
+        file.write(open(checks.path("history"), "rb").read()[:8])
+        file.truncate(300_000_000)
+    checks.said("the audit of a file that memory does not hold", checks.run(["audit", "large"], "", limited(resource.RLIMIT_AS, 60_000_000)), (5, b"", NO_MEMORY[1]))
+
+
+def signals(checks):
+    for number in (signal.SIGTERM, signal.SIGINT, signal.SIGHUP):
+        process = subprocess.Popen([checks.program, "run", "--cells", "16"], stdin=subprocess.PIPE, stdout=subprocess.PIPE, stderr=subprocess.PIPE, bufsize=0)
+        process.stdin.write(b"new -\n")
+        first = process.stdout.readline()
+        process.send_signal(number)
+        checks.said(f"{number.name} ends a session as the system does", (first, process.stdout.read(), process.wait()), (b"= 1\n", b"", -number))
+    process = subprocess.Popen([checks.program, "run", "--cells", "16"], stdin=subprocess.PIPE, stdout=subprocess.PIPE, stderr=subprocess.PIPE, bufsize=0)
+    process.stdin.write(b"new -\n")
+    process.stdout.readline()
+    process.stdout.close()
+    process.stdin.write(b"new -\n" * 10)
+    checks.said("a reader that goes", (process.wait(), process.stderr.read()), (1, b"refheap: write failed\n"))
+
+
+def main():
+    checks = Checks(os.path.abspath(sys.argv[1]))
+    try:
+        for part in (files, pipes, limits, servers, audits, signals):
+            part(checks)
+        if os.geteuid() == 0:
+            rights(checks)
+            full_disk(checks)
+        else:
+            print("left    rights and a full disk: they want root")
+    finally:
+        shutil.rmtree(checks.folder, ignore_errors=True)
+    return 1 if checks.failed else 0
+
+
+if __name__ == "__main__":
+    sys.exit(main())
