@@ -137,7 +137,8 @@ def entries_at(data):
             if call:
                 take("Q" if call == 3 else "I")
     for _ in range(take("I")):
-        at += take("B")
+        size = take("B")
+        at += size
         take("I")
     for _ in range(2):
         for _ in range(take("I")):

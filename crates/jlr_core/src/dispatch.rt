@@ -145,13 +145,15 @@ impl<R> State<R> {
 fn answered<R>(outcome: Result<Answer, Refusal>) -> Reply<R>
     ensures { result ≡ Reply.Answered (answer_of outcome) None }
 {
-    let answer = match outcome {
-        Ok(answer) => answer,
-        Err(refusal) => Answer::Refused(refusal),
-    };
-    Reply::Answered {
-        answer,
-        resource: None,
+    match outcome {
+        Ok(answer) => Reply::Answered {
+            answer,
+            resource: None,
+        },
+        Err(refusal) => Reply::Answered {
+            answer: Answer::Refused(refusal),
+            resource: None,
+        },
     }
 }
 

@@ -1,3 +1,4 @@
+pub mod Reading
 pub mod Sent
 pub mod Going
 pub mod Ending

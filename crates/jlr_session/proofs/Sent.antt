@@ -39,3 +39,12 @@ pub went_out : {E : Type 0} (old new : Option (List ℕ)) (result : Result (Unit
     → SendsReply old new result answer → is_err result ≡ false → (words answer ≢ None) × Appends old new (reply_line answer)
 went_out old new (Ok u) answer h e = h
 went_out old new (Err x) answer h e = absurd (false≢true (sym e))
+
+-- a reply that failed
+pub went_in_part : {E : Type 0} (old new : Option (List ℕ)) (result : Result (Unit {0}) E) (answer : Answer)
+    → SendsReply old new result answer → is_err result ≡ true → (n : ℕ) × Appends old new (take n (reply_line answer))
+went_in_part old new (Ok u) answer h e = absurd (false≢true e)
+went_in_part old new (Err x) answer h e = h
+
+pub went_as : (old new : Option (List ℕ)) (answer due : Answer) → answer ≡ due → Appends old new (reply_line answer) → Appends old new (reply_line due)
+went_as old new answer due is h = subst (λ a. Appends old new (reply_line a)) is h

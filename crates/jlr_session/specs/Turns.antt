@@ -24,6 +24,12 @@ Answers {H} carries line old answer new =
     ⊎ (IsCommand line Bye × (answer ≡ Done) × (new ≡ old))
     ⊎ (((command : Command) → IsCommand line command → ⊥) × (answer ≡ Refused (refusal_of line)) × (new ≡ old))
 
+-- what was read of a line is carried out, or it is bye, or it is refused
+abbrev pub AnswersRead : {H : Type 0} → Carrying H → Result Command Refusal → H → Answer → H → Type 0
+AnswersRead carries read old answer new = MatchResult read
+    (λ command. ((command ≢ Bye) × carries.command old command answer new) ⊎ ((command ≡ Bye) × (answer ≡ Done) × (new ≡ old)))
+    (λ refusal. (answer ≡ Refused refusal) × (new ≡ old))
+
 -- the line is answered, and the settling follows its reply
 abbrev pub AnswersAndSettles : {H : Type 0} → Carrying H → List ℕ → H → Answer → H → Type 0
 AnswersAndSettles {H} carries line old answer new = (next : H) × Answers carries line old answer next × carries.settling next new

@@ -1,49 +1,42 @@
 //! One line and its reply.
-ghost use Rattle.std.specs.Prelude.{◌≡◌, ◌↔◌, IsTrue};
-ghost use Rattle.jlr_session.specs.Turns.{Answers, SendsReply, TurnEnds};
-ghost use Rattle.jlr_wire.specs.Commands.{IsCommand};
+ghost use Rattle.std.specs.Prelude.{◌≡◌, ◌↔◌, IsTrue, Ok};
+ghost use Rattle.jlr_session.specs.Turns.{AnswersRead, SendsReply, TurnEnds};
 ghost use Rattle.jlr_wire.specs.declared.command.Command.TheVariants.{Bye};
 
 use crate::carry::CarryOut;
 use crate::shell::SessionEnd;
 use jlr_machine::ask::Answer;
+use jlr_types::Refusal;
 use jlr_wire::command::{Command, read_command};
 use jlr_wire::reply::{WriteFault, write_reply};
 use std::io::Write;
 
-/// The answer of a line, and whether the line is the session's last.
-#[derive(Drop)]
-pub struct Turn {
-    pub answer: Answer,
-    pub last: bool,
-}
-
-/// What a line is answered: `bye` by `ok`, a line that is no command by its refusal, and every
+/// What a line is answered that was read: `bye` by `ok`, a line that is no command by its refusal, and every
 /// other command by what carries it out.
 #[inline(always)]
-pub fn turn_of<C: CarryOut<H, D>, H, D>(line: &[u8], heap: &mut H, device: &mut D) -> Turn
-    ensures answer { Answers C.carries line.now (heap.old, device.old) result.answer (heap.new, device.new) }
-    ensures last { IsTrue result.last ↔ IsCommand line.now Bye }
+fn answer_of<C: CarryOut<H, D>, H, D>(
+    read: &Result<Command, Refusal>,
+    heap: &mut H,
+    device: &mut D,
+) -> Answer
+    ensures { AnswersRead C.carries read.now (heap.old, device.old) result (heap.new, device.new) }
 {
-    let command = match read_command(line) {
-        Ok(command) => command,
-        Err(refusal) => {
-            return Turn {
-                answer: Answer::Refused(refusal),
-                last: false,
-            };
+    match read {
+        Ok(command) => {
+            if is_bye(command) {
+                return Answer::Done;
+            }
+            C::carry_out(heap, device, command)
         }
-    };
-    if is_bye(&command) {
-        return Turn {
-            answer: Answer::Done,
-            last: true,
-        };
+        Err(refusal) => Answer::Refused(*refusal),
     }
-    Turn {
-        answer: C::carry_out(heap, device, &command),
-        last: false,
-    }
+}
+
+/// Whether a line that was read ends the session.
+fn is_last(read: &Result<Command, Refusal>) -> bool
+    ensures { IsTrue result ↔ (read.now ≡ Ok Bye) }
+{
+    matches!(read, Ok(Command::Bye))
 }
 
 /// Whether the command ends the session.
@@ -74,12 +67,13 @@ pub fn answer_line<C: CarryOut<H, D>, H, D, W: Write>(
 ) -> Option<SessionEnd>
     ensures { TurnEnds C.carries line.now (heap.old, device.old) (W.contents writer.old) result (heap.new, device.new) (W.contents writer.new) }
 {
-    let turn = turn_of::<C, H, D>(line, heap, device);
-    if reply(&turn.answer, writer).is_err() {
+    let read = read_command(line);
+    let answer = answer_of::<C, H, D>(&read, heap, device);
+    if reply(&answer, writer).is_err() {
         return Some(SessionEnd::WriteFault);
     }
     C::settle(heap);
-    if turn.last {
+    if is_last(&read) {
         return Some(SessionEnd::Bye);
     }
     None

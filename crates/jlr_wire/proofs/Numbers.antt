@@ -1,11 +1,13 @@
 -- A number below a limit and its text.
-use Rattle.std.proofs.Common.{◌≡◌, ℕ, ◌<◌, ◌≤◌, ◌^◌, true, nat_lt, List, Option, Some, None, Result, Ok, Err, IfSome, IfNone, refl, sym, ap, ◌∙◌, arith}
+use Rattle.std.proofs.Common.{◌≡◌, ℕ, [], ◌∷◌, ◌+◌, ◌*◌, ◌<◌, ◌≤◌, ◌^◌, true, nat_lt, List, Option, Some, None, Result, Ok, Err, IfSome, IfNone, refl, sym, ap, ◌∙◌, arith}
 use Rattle.std.specs.Prelude.{decimal}
 use Rattle.std.specs.Result.{OkIff, result_ok}
 use Rattle.std.specs.Str.{bytes_eq}
 use Rattle.std.specs.Str.Parse.{digits_value}
 use Rattle.std.proofs.lemmas.Slice.Eq.{bytes_eq-Decides}
-use Rattle.std.proofs.lemmas.Fmt.{decimal_is_IsNumeral, decimal_injective}
+use Rattle.std.specs.Prelude.{length, slice_index_or, ◌/◌, ◌%◌}
+use Rattle.std.proofs.lemmas.Fmt.{decimal_digit, decimal_is_IsNumeral, decimal_injective}
+use Rattle.itoa.proofs.Decimal.{decimal_two}
 use Rattle.std.proofs.lemmas.Option.{cond_some, none-some}
 use Rattle.std.proofs.lemmas.Bool.{ltb-true, lt-ltb}
 use Rattle.jlr_wire.proofs.Options.{and_parts}
@@ -67,3 +69,20 @@ narrowed (Err f) text n e large =
     let s = note_of_spells text n (sym e) in
     is_number_below 256 None text (omega arith) tt tt
     (λ m lt same. let own : n ≡ m = decimal_injective n m (omega (arith, s.0)) (omega (arith, lt)) (sym s.1 ∙ same) in large (omega (arith, own, lt)))
+
+-- a text of one digit, and of two without a leading zero
+pub one_digit : (text : List ℕ) (ones : ℕ) → length text ≡ 1 → ones + 48 ≡ slice_index_or text 0 0 → ones < 10 → text ≡ decimal ones
+one_digit [] ones count is lt = absurd (omega (arith, count))
+one_digit (a ∷ []) ones count is lt = ap (λ x. x ∷ []) (omega (arith, is)) ∙ sym (decimal_digit ones lt)
+one_digit (a ∷ b ∷ text) ones count is lt = absurd (omega (arith, count))
+
+pub two_digits : (text : List ℕ) (tens ones : ℕ) → length text ≡ 2 → tens + 48 ≡ slice_index_or text 0 0 → ones + 48 ≡ slice_index_or text 1 0
+    → 0 < tens → tens < 10 → ones < 10 → text ≡ decimal (10 * tens + ones)
+two_digits [] tens ones count is is' some lt lt' = absurd (omega (arith, count))
+two_digits (a ∷ []) tens ones count is is' some lt lt' = absurd (omega (arith, count))
+two_digits (a ∷ b ∷ []) tens ones count is is' some lt lt' =
+    ap (λ x. x ∷ b ∷ []) (omega (arith, is)) ∙ ap (λ x. (48 + (10 * tens + ones) / 10) ∷ x ∷ []) (omega (arith, is')) ∙ sym (decimal_two (10 * tens + ones) (omega arith) (omega arith))
+two_digits (a ∷ b ∷ d ∷ text) tens ones count is is' some lt lt' = absurd (omega (arith, count))
+
+pub decimal_note : (text : List ℕ) (n : ℕ) → n < 2 ^ 32 → text ≡ decimal n → Some n ≡ note_of text
+decimal_note text n lt is = sym (ap note_of is ∙ note_of_decimal n lt)

@@ -1,5 +1,5 @@
 //! The decimal numbers of a line.
-ghost use Rattle.std.specs.Prelude.{ℕ, ◌≡◌, ◌<◌, ◌^◌, IfSome, IfNone, decimal};
+ghost use Rattle.std.specs.Prelude.{ℕ, ◌≡◌, ◌<◌, ◌≤◌, ◌+◌, ◌^◌, IfSome, IfNone, decimal};
 ghost use Rattle.jlr_wire.specs.Fields.{byte_of, note_of};
 ghost use Rattle.jlr_wire.specs.Reading.{count_of};
 
@@ -31,7 +31,31 @@ pub fn count(text: &[u8]) -> Option<u8>
 pub fn note(text: &[u8]) -> Option<u32>
     ensures { result ≡ note_of text.now }
 {
+    if let Some(n) = short_number(text) {
+        return Some(n);
+    }
     parse_number(text)
+}
+
+/// The number of one digit or of two that this text spells, or `None`. Most numbers of a session are such.
+fn short_number(text: &[u8]) -> Option<u32>
+    ensures { IfSome result (λ n. text.now ≡ decimal n) }
+{
+    match text {
+        [ones] if ones.is_ascii_digit() => Some(digit(*ones)),
+        [tens, ones] if tens.is_ascii_digit() && *tens != b'0' && ones.is_ascii_digit() => {
+            Some(10 * digit(*tens) + digit(*ones))
+        }
+        _ => None,
+    }
+}
+
+/// The number that a digit stands for.
+fn digit(byte: u8) -> u32
+    requires { (48 ≤ byte) × (byte ≤ 57) }
+    ensures { result + 48 ≡ byte }
+{
+    u32::from(byte - b'0')
 }
 
 /// The number from 0 to 4,294,967,295 whose decimal text this is, or `None`.

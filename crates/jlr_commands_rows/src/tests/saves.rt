@@ -1,7 +1,7 @@
 //! Saved histories: each row is what a session reads, with `;` for the end of a line, an arrow, and the verdict on the history that it saved.
-use crate::arguments::AuditOrder;
-use crate::audit::audit;
-use crate::save::session_saved;
+use jlr_commands::arguments::AuditOrder;
+use jlr_commands::audit::audit;
+use jlr_commands::save::session_saved;
 use jlr_device::real::RealDevice;
 use jlr_types::Limits;
 use std::alloc::{AllocError, Global};

@@ -2,7 +2,7 @@
 ghost use Rattle.std.specs.Prelude.{◌≡◌, IfOk, IfErr, length};
 ghost use Rattle.jlr_audit.specs.Verdicts.{IsFileVerdict};
 ghost use Rattle.jlr_trace.specs.declared.file.TraceFault.TheVariants.{NoMemory};
-ghost use Rattle.refheap.specs.Audits.{IsJudged, IsDamage, damage};
+ghost use Rattle.jlr_commands.specs.Audits.{IsJudged, IsDamage, damage};
 
 use crate::arguments::AuditOrder;
 use crate::fault::ProgramFault;

@@ -4,8 +4,8 @@
 //! Lists are parted by empty lines. The first line of a list, which ends with a colon, says what its rows show, and one that begins with `#`
 //! is a remark. A row is what is read, an arrow, and, parted by bars, the status, what is said, and what is answered. A `;` ends a line.
 //! After ` to ` stands where the answers go, if they are not kept.
-use crate::report::status_after;
-use crate::session::session;
+use jlr_commands::report::status_after;
+use jlr_commands::session::session;
 use jlr_device::real::RealDevice;
 use jlr_types::Limits;
 use std::alloc::{AllocError, Global};

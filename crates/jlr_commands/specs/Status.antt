@@ -2,8 +2,8 @@
 use Rattle.std.specs.Prelude.{◌≡◌, ◌≢◌, ℕ, Option, None, Some, Result, IsErrAnd, MatchResult}
 use Rattle.jlr_session.specs.declared.shell.SessionEnd.{SessionEnd}
 use Rattle.jlr_session.specs.declared.shell.SessionEnd.TheVariants.{Bye, End, Truncated, ReadFault, WriteFault, TooManyLines as ManyLines, NotJoined as RefusedJoin}
-use Rattle.refheap.specs.declared.fault.ProgramFault.{ProgramFault}
-use Rattle.refheap.specs.declared.fault.ProgramFault.TheVariants.{Read, Write, CommandLine, Unfinished, TooManyLines, CannotRead, CannotSave, CannotListen, Disagree, Illegal, TraceTruncated, BadMark, BadVersion, BadEntry, NotJoined, NoMemory}
+use Rattle.jlr_commands.specs.declared.fault.ProgramFault.{ProgramFault}
+use Rattle.jlr_commands.specs.declared.fault.ProgramFault.TheVariants.{Read, Write, CommandLine, Unfinished, TooManyLines, CannotRead, CannotSave, CannotListen, Disagree, Illegal, TraceTruncated, BadMark, BadVersion, BadEntry, NotJoined, NoMemory}
 
 -- the status that the program ends with
 abbrev pub status_of : ProgramFault → ℕ

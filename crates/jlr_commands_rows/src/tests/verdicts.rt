@@ -1,8 +1,8 @@
 //! Each end of an audit: the status of the program, what it says on the standard error, and what it writes.
-use crate::arguments::AuditOrder;
-use crate::audit::audit;
-use crate::ends::Kept;
-use crate::report::status_after;
+use jlr_commands::arguments::AuditOrder;
+use jlr_commands::audit::audit;
+use super::ends::Kept;
+use jlr_commands::report::status_after;
 use std::alloc::{AllocError, Global};
 use std::cell::RefCell;
 use std::fs;

@@ -1,5 +1,5 @@
 use Rattle.std.proofs.Common.{inr}
-use Rattle.refheap.proofs.session.session.Goals as goal
+use Rattle.jlr_commands.proofs.session.session.Goals as goal
 
 pub returns-in-Ok : goal.returns-in-Ok
 returns-in-Ok g c =

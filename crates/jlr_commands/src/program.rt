@@ -1,0 +1,47 @@
+//! What the program does: what the words of its command line ask for.
+use crate::arguments::{self, Order, RunOrder};
+use crate::audit::audit;
+use crate::fault::ProgramFault;
+use crate::save::session_saved;
+use crate::serve::serve;
+use crate::session::session;
+use jlr_device::real::RealDevice;
+use std::sync::Wait;
+use std::thread::Threads;
+
+/// Does what the words of the command line ask for. Threads are for a server alone.
+///
+/// # Errors
+/// The fault of the words, or of what they ask for.
+pub fn run<T: Threads + Wait + Sync>(rt: &HostRuntime, threads: &T) -> Result<(), ProgramFault> {
+    let words = arguments::words(rt)?;
+    match arguments::order_of(rt.alloc(), words.as_slice())? {
+        Order::Run(order) => run_alone(rt, order),
+        Order::Serve(service) => serve(rt, threads, service, &mut rt.stdout()),
+        Order::Audit(order) => audit(rt, order, &mut rt.stdout()),
+    }
+}
+
+/// One session on the standard input and output.
+fn run_alone(rt: &HostRuntime, order: RunOrder<'_>) -> Result<(), ProgramFault> {
+    let mut reader = rt.stdin();
+    let mut writer = rt.stdout();
+    let mut device = RealDevice::new(*rt);
+    match order.save {
+        Some(path) => session_saved(
+            rt,
+            path,
+            order.limits,
+            &mut reader,
+            &mut writer,
+            &mut device,
+        ),
+        None => session(
+            rt.alloc(),
+            order.limits,
+            &mut reader,
+            &mut writer,
+            &mut device,
+        ),
+    }
+}

@@ -1,0 +1,143 @@
+//! Command lines: each row is a line, an arrow, and what it asks for.
+use jlr_commands::arguments::{AuditOrder, Order, order_of};
+use jlr_types::Limits;
+use std::alloc::Global;
+use std::test::Fail;
+
+/// What a command line asks for, whose words are parted by spaces: of a session the cells, the files and sockets, the soft age and the length of
+/// the trace, and where its history is saved; what a server serves, or what is audited; or the status of its fault.
+fn asked(alloc: Global, line: &str) -> Result<String, Fail> {
+    let mut words = Vec::new(alloc);
+    for word in line.split(' ') {
+        let mut text = String::new(alloc);
+        text.push_str(word)?;
+        words.push(text)?;
+    }
+    match order_of(alloc, words.as_slice()) {
+        Ok(Order::Run(order)) => {
+            let (heap, end) = (numbers(alloc, &order.limits)?, ending(alloc, order.save)?);
+            Ok(format!(in alloc; "{heap}{end}")?)
+        }
+        Ok(Order::Serve(service)) => {
+            let (total, socket) = (service.total, service.socket);
+            let (sessions, budget) = (service.limits.sessions, service.limits.budget);
+            let heap = numbers(alloc, &service.limits)?;
+            let end = ending(alloc, service.save)?;
+            Ok(format!(in alloc;
+                "serve {total} on {socket}, {sessions} at once, {budget} a piece, {heap}{end}"
+            )?)
+        }
+        Ok(Order::Audit(AuditOrder { file, explain })) => {
+            let how = if explain { ", explained" } else { "" };
+            Ok(format!(in alloc; "audit of {file}{how}")?)
+        }
+        Err(fault) => {
+            let status = fault.status();
+            Ok(format!(in alloc; "status {status}")?)
+        }
+    }
+}
+
+/// Where a history is saved, if it is.
+fn ending(alloc: Global, save: Option<&str>) -> Result<String, Fail> {
+    match save {
+        Some(file) => Ok(format!(in alloc; ", saved to {file}")?),
+        None => Ok(String::new(alloc)),
+    }
+}
+
+/// The limits of a heap that a command line can set for one session.
+fn numbers(alloc: Global, limits: &Limits) -> Result<String, Fail> {
+    let (cells, resources) = (limits.cells, limits.resources);
+    let (age, trace) = (limits.soft_age, limits.trace);
+    Ok(format!(in alloc; "{cells} {resources} {age} {trace}")?)
+}
+
+/// Each row is a command line, an arrow, and what it asks for.
+fn play(alloc: Global, label: &str, rows: &str) -> Result<(), Fail> {
+    for row in rows.lines() {
+        let row = row.trim();
+        if row.is_empty() {
+            continue;
+        }
+        let (line, wanted) = row.split_once(" -> ").ok_or("no row")?;
+        let got = asked(alloc, line)?;
+        if got.as_str() != wanted {
+            return Err(Fail::new(format!(in alloc; "{label}, at {row}: {got}")?));
+        }
+    }
+    Ok(())
+}
+
+#[test]
+fn command_lines(rt: HostRuntime) -> Result<(), Fail> {
+    play(
+        rt.alloc(),
+        "each option is its own limit",
+        "
+        refheap run -> 1024 16 4 10000
+        refheap run --cells 17 --resources 18 --soft-age 19 --trace 65 -> 17 18 19 65
+        refheap run --trace 64 --soft-age 0 --resources 1 --cells 16 -> 16 1 0 64
+        refheap run --cells 65536 --resources 256 --soft-age 1000 --trace 1000000 -> 65536 256 1000 1000000
+        refheap run --save history -> 1024 16 4 10000, saved to history
+        refheap run --save history --cells 16 -> 16 16 4 10000, saved to history
+        refheap serve --socket s --total 7 --save history -> serve 7 on s, 4 at once, 64 a piece, 1024 16 4 10000, saved to history
+        refheap audit history -> audit of history
+        refheap audit --explain history -> audit of history, explained
+        refheap audit history --explain -> audit of history, explained
+        refheap serve --socket s --total 7 -> serve 7 on s, 4 at once, 64 a piece, 1024 16 4 10000
+        refheap serve --total 1000000 --socket /tmp/s --sessions 64 --cells 16 -> serve 1000000 on /tmp/s, 64 at once, 64 a piece, 16 16 4 10000
+        refheap serve --trace 64 --soft-age 0 --resources 1 --cells 16 --sessions 1 --total 1 --socket s -> serve 1 on s, 1 at once, 64 a piece, 16 1 0 64
+        refheap serve --socket s --total 1 --budget 1 -> serve 1 on s, 4 at once, 1 a piece, 1024 16 4 10000
+        refheap serve --budget 4096 --socket s --total 1 -> serve 1 on s, 4 at once, 4096 a piece, 1024 16 4 10000
+        ",
+    )?;
+    play(
+        rt.alloc(),
+        "a bad command line has status 2",
+        "
+        refheap -> status 2
+        refheap walk -> status 2
+        refheap run --save -> status 2
+        refheap run --save a --save b -> status 2
+        refheap audit -> status 2
+        refheap audit a b -> status 2
+        refheap --help -> status 2
+        refheap run --help -> status 2
+        refheap serve --help -> status 2
+        refheap audit --help -> status 2
+        refheap run --cells -> status 2
+        refheap run --cells 15 -> status 2
+        refheap run --cells 65537 -> status 2
+        refheap run --resources 0 -> status 2
+        refheap run --resources 257 -> status 2
+        refheap run --soft-age 1001 -> status 2
+        refheap run --soft-age x -> status 2
+        refheap run --cells +16 -> status 2
+        refheap run --cells 016 -> status 2
+        refheap run --soft-age 00 -> status 2
+        refheap run --trace 63 -> status 2
+        refheap run --trace 1000001 -> status 2
+        refheap run --trace 064 -> status 2
+        refheap run --trace -> status 2
+        refheap serve -> status 2
+        refheap serve --socket s -> status 2
+        refheap serve --total 1 -> status 2
+        refheap serve --socket s --total 0 -> status 2
+        refheap serve --socket s --total 1000001 -> status 2
+        refheap serve --socket s --total 01 -> status 2
+        refheap serve --socket s --total +1 -> status 2
+        refheap serve --socket s --total 1 --sessions 04 -> status 2
+        refheap serve --socket s --total 1 --trace 064 -> status 2
+        refheap serve --socket s --total 1 --sessions 0 -> status 2
+        refheap serve --socket s --total 1 --sessions 65 -> status 2
+        refheap serve --socket s --total 1 --cells 15 -> status 2
+        refheap serve --socket s --total 1 --budget 0 -> status 2
+        refheap serve --socket s --total 1 --budget 4097 -> status 2
+        refheap serve --socket s --total 1 --budget 064 -> status 2
+        refheap serve --socket s --total 1 --budget +1 -> status 2
+        refheap serve --socket s --total 1 --budget -> status 2
+        refheap run --budget 64 -> status 2
+        ",
+    )
+}
