@@ -23,18 +23,18 @@ use Rattle.jlr_trace.proofs.EntryLaws.{entry}
 use Rattle.jlr_trace.proofs.ImageLaws.{image}
 
 -- the value of a step that did not fail
-step_ok : {A B : Type 0} (r : Result A TraceFault) (f : A → Result B TraceFault) (y : B) → (r >>> f) ≡ Ok y → (x : A) × (r ≡ Ok x) × (f x ≡ Ok y)
+pub step_ok : {A B : Type 0} (r : Result A TraceFault) (f : A → Result B TraceFault) (y : B) → (r >>> f) ≡ Ok y → (x : A) × (r ≡ Ok x) × (f x ≡ Ok y)
 step_ok (Ok x) f y e = (x, refl, e)
 step_ok (Err d) f y e = absurd cc
 
-field_ok : {A : Type 0} (number : ℕ) (r : Result A Fault) (y : A) → in_entry number r ≡ Ok y → r ≡ Ok y
+pub field_ok : {A : Type 0} (number : ℕ) (r : Result A Fault) (y : A) → in_entry number r ≡ Ok y → r ≡ Ok y
 field_ok number (Ok x) y e = let same : x ≡ y = cc in ap (λ v. Ok v) same
 field_ok number (Err f) y e = absurd cc
 
-abbrev good : {A : Type 0} → A → Result A TraceFault
+abbrev pub good : {A : Type 0} → A → Result A TraceFault
 good x = Ok x
 
-good_is : {A : Type 0} (x y : A) → good x ≡ good y → x ≡ y
+pub good_is : {A : Type 0} (x y : A) → good x ≡ good y → x ≡ y
 good_is x y e = cc
 
 -- ---- The mark
@@ -72,7 +72,7 @@ mark_fits bytes rest e fits i = subst (λ (b : List ℕ). IsBytes b) e fits (suc
 
 -- ---- Entries
 
-entries_take : (number n : ℕ) (bytes : List ℕ) (xs : List Entry) (rest : List ℕ) → IsBytes bytes → entries_read number n bytes ≡ Ok (xs, rest)
+pub entries_take : (number n : ℕ) (bytes : List ℕ) (xs : List Entry) (rest : List ℕ) → IsBytes bytes → entries_read number n bytes ≡ Ok (xs, rest)
     → Takes bytes (flat_map spelled_entry xs) rest × (length xs ≡ n) × AllByRecursion EntryFits xs
 unfolding entries_read
 entries_take number zero bytes xs rest fits e =

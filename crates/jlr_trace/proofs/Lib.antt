@@ -8,3 +8,4 @@ pub mod WritingLaws
 pub mod Shapes
 pub mod Counting
 pub mod Few
+pub mod SpellingLaws

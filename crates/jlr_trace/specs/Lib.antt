@@ -3,3 +3,4 @@ pub mod Entries
 pub mod Images
 pub mod Files
 pub mod Writing
+pub mod Spellings

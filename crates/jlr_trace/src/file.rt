@@ -62,7 +62,7 @@ impl<T: Drop> From<AllocFailed<T>> for TraceFault {
 }
 
 /// The fault of a field in this entry.
-fn fault_of(error: ReadError, number: u64) -> TraceFault
+pub(crate) fn fault_of(error: ReadError, number: u64) -> TraceFault
     ensures { result ≡ told number error }
 {
     match error {
@@ -88,7 +88,7 @@ fn expect_byte(byte: u8, fault: TraceFault, bytes: &[u8]) -> Result<&[u8], Trace
 
 /// What stands behind the mark, which is compared byte by byte, and the version.
 #[tactic(auto, unfolding(crate::specs::Files::mark_read))]
-fn mark_at(bytes: &[u8]) -> Result<&[u8], TraceFault>
+pub(crate) fn mark_at(bytes: &[u8]) -> Result<&[u8], TraceFault>
     ensures { FileGives (λ x. x.now) result (mark_read bytes.now) }
 {
     let rest = expect_byte(b'J', TraceFault::BadMark, bytes)?;
@@ -98,7 +98,7 @@ fn mark_at(bytes: &[u8]) -> Result<&[u8], TraceFault>
     expect_byte(1, TraceFault::BadVersion, rest)
 }
 
-fn image_in(alloc: Global, bytes: &mut &[u8]) -> Result<Image, TraceFault>
+pub(crate) fn image_in(alloc: Global, bytes: &mut &[u8]) -> Result<Image, TraceFault>
     ensures reads { FileReads image_text result bytes.new.now (in_entry 0 (image_read bytes.old.now)) }
     ensures shape { IfOk result HasShape }
 {
@@ -108,7 +108,7 @@ fn image_in(alloc: Global, bytes: &mut &[u8]) -> Result<Image, TraceFault>
     }
 }
 
-fn count_in(bytes: &mut &[u8]) -> Result<u64, TraceFault>
+pub(crate) fn count_in(bytes: &mut &[u8]) -> Result<u64, TraceFault>
     ensures { FileReads (λ x. x) result bytes.new.now (in_entry 0 (number_at w64 bytes.old.now)) }
 {
     match take_u64(bytes) {

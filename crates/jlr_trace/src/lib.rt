@@ -6,4 +6,5 @@ mod entry;
 pub mod file;
 mod image;
 mod places;
+pub mod spelled;
 pub mod writing;
