@@ -1,5 +1,5 @@
 //! The first entry of a history that is not legal, and why it is not.
-ghost use Rattle.std.specs.Prelude.{IfOk, IfSome};
+ghost use Rattle.std.specs.Prelude.{IfOk, IfSome, IfNone, IsSome};
 ghost use Rattle.jlr_machine.specs.WellFormed.{IsWellFormed, IsImage};
 ghost use Rattle.jlr_plain.specs.Following.{IsFit};
 
@@ -9,16 +9,17 @@ use jlr_audit::verdict::legal_front;
 use jlr_audit::watch::Unwatched;
 use jlr_machine::entry::Entry;
 use jlr_machine::machine::Machine;
+use jlr_parts::record::Placed;
 use jlr_plain::advance::advance_plain;
 use jlr_plain_images::image::image_plain;
 use jlr_trace::file::TraceFile;
 use std::alloc::{AllocError, Global};
 
 /// What is wrong with an entry where it stands.
-fn said_of(
+pub(crate) fn said_of(
     alloc: Global,
     machine: &Machine,
-    number: usize,
+    number: u64,
     entry: &Entry,
 ) -> Result<String, AllocError>
     requires { IsWellFormed machine.now }
@@ -59,7 +60,7 @@ fn said_behind(
     requires { IsImage image.now }
 {
     match machine_behind(alloc, image.copy(alloc)?, before)? {
-        Some(machine) => Ok(Some(said_of(alloc, &machine, before.len() + 1, entry)?)),
+        Some(machine) => Ok(Some(said_of(alloc, &machine, before.len() as u64 + 1, entry)?)),
         None => Ok(None),
     }
 }
@@ -79,20 +80,38 @@ fn of_entries(
     }
 }
 
+fn sentence(alloc: Global, words: &str) -> Result<Option<String>, AllocError>
+    ensures { IfOk result (λ o. IsSome o) }
+{
+    let mut said = String::new(alloc);
+    said.push_str(words)?;
+    Ok(Some(said))
+}
+
+/// What is wrong with an image, beside which these objects lie in slots that are no cells; none where it may be one.
+pub(crate) fn image_said(
+    alloc: Global,
+    image: &Machine,
+    strays: &[Placed],
+) -> Result<Option<String>, AllocError>
+    ensures { IfOk result (λ o. IfNone o (IsImage image.now)) }
+{
+    if !strays.is_empty() {
+        return sentence(alloc, "the image has an object in a slot that is no cell");
+    }
+    if !image_plain(image) {
+        return sentence(alloc, "the image is not well formed");
+    }
+    Ok(None)
+}
+
 /// Why a history is not legal, in one sentence; none where it is.
 ///
 /// # Errors
 /// `AllocError` where there is no memory.
 pub fn explained(alloc: Global, file: &TraceFile) -> Result<Option<String>, AllocError> {
-    if !file.strays.as_slice().is_empty() {
-        let mut said = String::new(alloc);
-        said.push_str("the image has an object in a slot that is no cell")?;
-        return Ok(Some(said));
+    match image_said(alloc, &file.image, file.strays.as_slice())? {
+        Some(said) => Ok(Some(said)),
+        None => of_entries(alloc, &file.image, file.entries.as_slice()),
     }
-    if !image_plain(&file.image) {
-        let mut said = String::new(alloc);
-        said.push_str("the image is not well formed")?;
-        return Ok(Some(said));
-    }
-    of_entries(alloc, &file.image, file.entries.as_slice())
 }

@@ -5,3 +5,4 @@ mod asks;
 pub mod history;
 mod refusals;
 mod rules;
+pub mod spelled;
