@@ -7,11 +7,12 @@ ghost use Rattle.jlr_commands.specs.Audits.{IsJudged, IsDamage, damage};
 use crate::arguments::AuditOrder;
 use crate::fault::ProgramFault;
 use crate::progress::Progress;
-use jlr_audit::audit::audit_watched;
+use jlr_audit::spelled::audit_spelled;
 use jlr_audit::verdict::Verdict;
 use jlr_audit::watch::Watch;
-use jlr_explain::history::explained;
-use jlr_trace::file::{TraceFault, TraceFile, read_trace};
+use jlr_explain::spelled::explained_spelled;
+use jlr_trace::file::TraceFault;
+use jlr_trace::spelled::{SpelledTrace, spelled_trace};
 use std::alloc::{AllocError, Global};
 use std::fs;
 use std::io::{self, Write};
@@ -36,24 +37,24 @@ fn damage_of(fault: TraceFault) -> ProgramFault
     }
 }
 
-fn verdict_of_file<W: Watch>(
+fn verdict_of_trace<W: Watch>(
     alloc: Global,
-    file: &TraceFile,
+    trace: &SpelledTrace<'_>,
     watch: &mut W,
 ) -> Result<Judged, ProgramFault>
-    ensures verdict { IfOk result (λ j. IsFileVerdict file.now j.verdict × (j.entries ≡ length file.now.entries)) }
+    ensures verdict { IfOk result (λ j. IsFileVerdict trace.now j.verdict × (j.entries ≡ length trace.now.entries)) }
     ensures memory { IfErr result (λ e. e ≡ damage NoMemory) }
 {
-    match audit_watched(alloc, file, watch) {
+    match audit_spelled(alloc, trace, watch) {
         Ok(verdict) => Ok(Judged {
             verdict,
-            entries: file.entries.len() as u64,
+            entries: trace.count(),
         }),
         Err(fault) => Err(ProgramFault::NoMemory(fault)),
     }
 }
 
-/// The verdict on the history that the bytes spell.
+/// The verdict on the history that the bytes spell, whose entries are read one at a time.
 ///
 /// # Errors
 /// The first fault of the bytes, where they spell none, or `NoMemory`.
@@ -65,8 +66,8 @@ pub fn verdict_of<W: Watch>(
     ensures verdict { IfOk result (λ j. IsJudged bytes.now j) }
     ensures fault { IfErr result (λ e. IsDamage bytes.now e) }
 {
-    match read_trace(alloc, bytes) {
-        Ok(file) => verdict_of_file(alloc, &file, watch),
+    match spelled_trace(alloc, bytes) {
+        Ok(trace) => verdict_of_trace(alloc, &trace, watch),
         Err(fault) => Err(damage_of(fault)),
     }
 }
@@ -114,11 +115,11 @@ fn outcome_of(verdict: Verdict) -> Result<(), ProgramFault> {
 
 /// Writes why a history is not legal, as one line.
 fn explain(alloc: Global, writer: &mut impl Write, bytes: &[u8]) -> Result<(), ProgramFault> {
-    let file = match read_trace(alloc, bytes) {
-        Ok(file) => file,
+    let trace = match spelled_trace(alloc, bytes) {
+        Ok(trace) => trace,
         Err(fault) => return Err(damage_of(fault)),
     };
-    let Some(why) = explained(alloc, &file)? else {
+    let Some(why) = explained_spelled(alloc, &trace)? else {
         return Ok(());
     };
     let line = format!(in alloc; "{why}\n")?;
