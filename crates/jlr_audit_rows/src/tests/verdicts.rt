@@ -1,7 +1,10 @@
 //! The verdicts on the history of a session without a command, and on what changes make of it.
 use jlr_audit::audit::audit;
+use jlr_audit::spelled::audit_spelled;
 use jlr_audit::verdict::Verdict;
+use jlr_audit::watch::Unwatched;
 use jlr_trace::file::{TraceFile, read_trace};
+use jlr_trace::spelled::{SpelledTrace, spelled_trace};
 use jlr_trace::writing::write_trace;
 use std::alloc::{AllocError, Global};
 use std::str::{FromStr, SplitWhitespace};
@@ -114,17 +117,34 @@ fn is_written_back(alloc: Global, bytes: &[u8]) -> Result<bool, AllocError> {
     }
 }
 
-fn verdict_text(alloc: Global, file: &TraceFile) -> Result<String, AllocError> {
-    let entries = file.entries.len();
-    match audit(alloc, file)? {
+fn verdict_text(alloc: Global, verdict: Verdict, entries: u64) -> Result<String, AllocError> {
+    match verdict {
         Verdict::Legal => format!(in alloc; "legal {entries}"),
         Verdict::Illegal(number) => format!(in alloc; "illegal {number}"),
     }
 }
 
+fn verdict_of_file(alloc: Global, file: &TraceFile) -> Result<String, AllocError> {
+    let verdict = audit(alloc, file)?;
+    verdict_text(alloc, verdict, file.entries.len() as u64)
+}
+
+fn verdict_of_spelled(alloc: Global, trace: &SpelledTrace<'_>) -> Result<String, AllocError> {
+    let verdict = audit_spelled(alloc, trace, &mut Unwatched)?;
+    verdict_text(alloc, verdict, trace.count())
+}
+
 fn told(alloc: Global, bytes: &[u8]) -> Result<String, AllocError> {
     match read_trace(alloc, bytes) {
-        Ok(file) => verdict_text(alloc, &file),
+        Ok(file) => verdict_of_file(alloc, &file),
+        Err(fault) => format!(in alloc; "{fault:?}"),
+    }
+}
+
+// The same where the entries stay in the bytes.
+fn told_of_spelled(alloc: Global, bytes: &[u8]) -> Result<String, AllocError> {
+    match spelled_trace(alloc, bytes) {
+        Ok(trace) => verdict_of_spelled(alloc, &trace),
         Err(fault) => format!(in alloc; "{fault:?}"),
     }
 }
@@ -134,6 +154,9 @@ fn is_judged(alloc: Global, change: &str, wanted: &str) -> Result<(), Fail> {
     let told = told(alloc, bytes.as_slice())?;
     if told.as_str() != wanted {
         return Err(Fail::new(format_args!("{change} -> {wanted}, and not {told}")));
+    }
+    if told_of_spelled(alloc, bytes.as_slice())?.as_str() != wanted {
+        return Err(Fail::new(format_args!("{change} is judged otherwise where its entries stay")));
     }
     if !is_written_back(alloc, bytes.as_slice())? {
         return Err(Fail::new(format_args!("{change} is written otherwise")));
