@@ -1,5 +1,6 @@
 //! The history of a session without a command, its fronts, and what a byte that is changed makes of it.
 use jlr_trace::file::read_trace;
+use jlr_trace::spelled::spelled_trace;
 use std::alloc::{AllocError, Global};
 use std::str::{FromStr, SplitWhitespace};
 use std::test::Fail;
@@ -69,6 +70,17 @@ fn told(alloc: Global, bytes: &[u8]) -> Result<String, AllocError> {
     }
 }
 
+// The same where the entries stay in the bytes.
+fn told_of_spelled(alloc: Global, bytes: &[u8]) -> Result<String, AllocError> {
+    match spelled_trace(alloc, bytes) {
+        Ok(trace) => {
+            let (count, base) = (trace.count(), trace.base());
+            format!(in alloc; "{count} entries behind {base}")
+        }
+        Err(fault) => format!(in alloc; "{fault:?}"),
+    }
+}
+
 fn parsed<T: FromStr>(words: &mut SplitWhitespace<'_>) -> Option<T>
 where
     T::Err: Drop,
@@ -97,10 +109,13 @@ fn changed(alloc: Global, change: &str) -> Result<Vec<u8>, Fail> {
 fn is_read_as(alloc: Global, change: &str, wanted: &str) -> Result<(), Fail> {
     let bytes = changed(alloc, change)?;
     let told = told(alloc, bytes.as_slice())?;
-    if told.as_str() == wanted {
-        return Ok(());
+    if told.as_str() != wanted {
+        return Err(Fail::new(format_args!("{change} -> {wanted}, and not {told}")));
     }
-    Err(Fail::new(format_args!("{change} -> {wanted}, and not {told}")))
+    if told_of_spelled(alloc, bytes.as_slice())?.as_str() != wanted {
+        return Err(Fail::new(format_args!("{change} is read otherwise where its entries stay")));
+    }
+    Ok(())
 }
 
 #[test]
