@@ -86,6 +86,10 @@ def commands(seed, count):
     choices = random.Random(seed)
     for _ in range(count):
         handle, other = choices.randrange(1, 12), choices.randrange(12)
+        if choices.random() < 0.4:
+            # Without many drops all handles would soon be taken, and nothing be opened any more.
+            yield f"drop {choices.randrange(1, 40)}"
+            continue
         yield choices.choice([
             "new rri", f"put {handle} 0 {other}", f"get {handle} 1", f"drop {handle}", f"drop {handle}", f"weak {handle} {other}", f"soft {handle} 0",
             "queue", f"poll {handle}", f"deref {handle}", "gc", "gc soft", f"open w f{other}", f"open w f{other}", f"open r f{other}", f"open r none{other}",

@@ -10,7 +10,7 @@ use crate::progress::Progress;
 use jlr_audit::spelled::audit_spelled;
 use jlr_audit::verdict::Verdict;
 use jlr_audit::watch::Watch;
-use jlr_explain::spelled::explained_spelled;
+use jlr_explain::spelled::explained;
 use jlr_trace::file::TraceFault;
 use jlr_trace::spelled::{SpelledTrace, spelled_trace};
 use std::alloc::{AllocError, Global};
@@ -119,7 +119,7 @@ fn explain(alloc: Global, writer: &mut impl Write, bytes: &[u8]) -> Result<(), P
         Ok(trace) => trace,
         Err(fault) => return Err(damage_of(fault)),
     };
-    let Some(why) = explained_spelled(alloc, &trace)? else {
+    let Some(why) = explained(alloc, &trace)? else {
         return Ok(());
     };
     let line = format!(in alloc; "{why}\n")?;

@@ -2,7 +2,7 @@
 #![tactic(auto)]
 
 mod asks;
-pub mod history;
+mod history;
 mod refusals;
 mod rules;
 pub mod spelled;

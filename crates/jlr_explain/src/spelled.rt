@@ -1,4 +1,4 @@
-//! Why a history is not legal whose entries stay in its bytes: they are read one at a time.
+//! The first entry of a history that is not legal, and why it is not. The entries stay in its bytes, and are read one at a time.
 ghost use Rattle.std.specs.Prelude.{IfOk, IfSome};
 ghost use Rattle.jlr_machine.specs.WellFormed.{IsWellFormed, IsImage};
 ghost use Rattle.jlr_plain.specs.Following.{IsFit};
@@ -76,14 +76,11 @@ fn of_spelled(alloc: Global, trace: &SpelledTrace<'_>) -> Result<Option<String>,
     said_at(alloc, trace, legal + 1)
 }
 
-/// Why a history is not legal, in one sentence; none where it is. The sentence is that of `explained`, with one entry in memory at a time.
+/// Why a history is not legal, in one sentence; none where it is. One entry is in memory at a time.
 ///
 /// # Errors
 /// `AllocError` where there is no memory.
-pub fn explained_spelled(
-    alloc: Global,
-    trace: &SpelledTrace<'_>,
-) -> Result<Option<String>, AllocError> {
+pub fn explained(alloc: Global, trace: &SpelledTrace<'_>) -> Result<Option<String>, AllocError> {
     match image_said(alloc, trace.image(), trace.strays())? {
         Some(said) => Ok(Some(said)),
         None => of_spelled(alloc, trace),
