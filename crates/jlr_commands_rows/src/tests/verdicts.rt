@@ -1,7 +1,7 @@
 //! Each end of an audit: the status of the program, what it says on the standard error, and what it writes.
+use super::ends::Kept;
 use jlr_commands::arguments::AuditOrder;
 use jlr_commands::audit::audit;
-use super::ends::Kept;
 use jlr_commands::report::status_after;
 use std::alloc::{AllocError, Global};
 use std::cell::RefCell;
