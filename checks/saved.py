@@ -210,6 +210,26 @@ def try_sessions(program, count, seed):
         print(f"ok      {kind}: {times}")
 
 
+def try_fronts(program, seed):
+    """Each proper front of ten histories, with and without a cut before them, is truncated."""
+    fronts = 0
+    with tempfile.TemporaryDirectory() as folder:
+        for number in range(10):
+            rng = random.Random(f"{seed} front {number}")
+            lines = "".join(command(rng) + "\n" for _ in range(4 + 10 * number))
+            words = ["--trace", "64"] if number > 6 else []
+            run(program, ["run", "--cells", "16", *words, "--save", "saved"], lines, folder)
+            with open(os.path.join(folder, "saved"), "rb") as file:
+                data = file.read()
+            for length in range(len(data)):
+                with open(os.path.join(folder, "front"), "wb") as file:
+                    file.write(data[:length])
+                if audit(program, "front", folder) != (4, "", "refheap: trace truncated\n"):
+                    raise Wrong(f"history {number}, the front of {length} bytes: {audit(program, 'front', folder)}")
+            fronts += len(data)
+    print(f"ok      {fronts} fronts of ten histories are truncated")
+
+
 def try_worked(program):
     """The histories of the worked sessions are legal, and saving them changes no reply."""
     for number, (options, commands, replies) in enumerate(refused.SESSIONS):
@@ -322,6 +342,7 @@ def main():
         try_places(program)
         try_servers(program)
         try_worked(program)
+        try_fronts(program, seed)
         try_sessions(program, count, seed)
     except Wrong as wrong:
         print(f"WRONG   {wrong}")
