@@ -136,12 +136,16 @@ def watch(server, tally, ends, seen):
         before = commands
 
 
-def counts(heap):
-    """What `stat` tells: objects, open files and sockets, actions taken up, ended well, failed. And how often it was asked until all that was lost is closed."""
+def counts(heap, calm=1):
+    """What `stat` tells: objects, open files and sockets, actions taken up, ended well, failed. And how often it was asked until all that was lost is closed, and has been so often in turn."""
+    since, before = 0, None
     for asked in range(1, 2001):
         objects, open_now, taken, well, failed = map(int, heap.stat())
-        if open_now == 0 and taken == well + failed:
+        is_closed = open_now == 0 and taken == well + failed
+        since = since + 1 if is_closed and taken == before else int(is_closed)
+        if since >= calm:
             break
+        before = taken
         heap.gc()
         time.sleep(0.001)
     return open_now, taken, well, failed, 2 * asked - 1
@@ -328,7 +332,8 @@ def counted(program, clients, rounds):
     for thread in threads:
         thread.join()
     last = server.client()
-    _, taken, well, _, asked = counts(last)
+    # An action that only notes leaves nothing open, so it is waited until nothing more is taken up.
+    _, taken, well, _, asked = counts(last, 200)
     last.close_session()
     status, _, entries = server.end()
     shutil.rmtree(folder)
