@@ -15,23 +15,17 @@ import sys
 import tempfile
 import time
 
+import lines
+
 NOBODY = 65_534
 NO_MEMORY = (5, b"refheap: no memory\n")
 
 
-class Checks:
+class Checks(lines.Checks):
     def __init__(self, program):
-        self.program = program
-        self.failed = False
+        super().__init__(program)
         self.folder = tempfile.mkdtemp()
         os.chmod(self.folder, 0o777)
-
-    def said(self, name, got, due):
-        if got == due:
-            print("ok     ", name)
-        else:
-            self.failed = True
-            print("WRONG  ", name, "got", str(got)[:400], "due", str(due)[:400])
 
     def run(self, words, text="", before=None):
         ended = subprocess.run([self.program, *words], input=text.encode(), capture_output=True, cwd=self.folder, preexec_fn=before, timeout=120)
