@@ -1,4 +1,5 @@
-//! No clause says that memory can be had, so each call that takes some is made here. What is expected is written by hand. Copies of asks are
+//! No clause says that memory can be had, so each call that takes some is made here. What is expected is written by hand. Copies of
+//! asks are
 //! tested by the rows of `jlr_event_rows`.
 use jlr_machine::copy::copy_slice;
 use jlr_machine::items::Items;

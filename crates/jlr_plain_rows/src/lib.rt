@@ -1,4 +1,5 @@
-//! Tests of the plain program: it plays every worked row entry by entry, refuses the entries that a wrong heap would write, and tells machines
+//! Tests of the plain program: it plays every worked row entry by entry, refuses the entries that a wrong heap would write, and
+//! tells machines
 //! that are well formed from others.
 //!
 //! The rows are those that `jlr_laws` proves to be runs, and the wrong entries those that it proves not to be legal; here they are

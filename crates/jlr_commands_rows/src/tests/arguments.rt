@@ -4,7 +4,8 @@ use jlr_types::Limits;
 use std::alloc::Global;
 use std::test::Fail;
 
-/// What a command line asks for, whose words are parted by spaces: of a session the cells, the files and sockets, the soft age and the length of
+/// What a command line asks for, whose words are parted by spaces: of a session the cells, the files and sockets, the soft age and
+/// the length of
 /// the trace, and where its history is saved; what a server serves, or what is audited; or the status of its fault.
 fn asked(alloc: Global, line: &str) -> Result<String, Fail> {
     let mut words = Vec::new(alloc);

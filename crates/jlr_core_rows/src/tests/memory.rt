@@ -1,5 +1,7 @@
-//! Which events take memory. The core is made again where memory was refused once, and no event is but those whose rows begin with `again`: an
-//! event that took memory would be answered otherwise in the run in which it is refused. `checks/failing.sh` runs this test once for each of
+//! Which events take memory. The core is made again where memory was refused once, and no event is but those whose rows begin with
+//! `again`: an
+//! event that took memory would be answered otherwise in the run in which it is refused. `checks/failing.sh` runs this test once
+//! for each of
 //! its allocations.
 use super::script::play_all;
 use std::test::Fail;
