@@ -102,6 +102,7 @@ impl Seat {
     }
 }
 
+// What it is asked it writes down, and the rows compare that. Its relation says nothing; a clause has to be written at `ask` all the same.
 impl Port<ScriptResource> for Seat {
     ghost asking = { record { mutator = λ _. 3; asks = λ _ _ _ _. Unit {0}; settling = λ _ _. Unit {0} } };
 
