@@ -3,6 +3,7 @@ ghost use Rattle.jlr_wire.specs.declared.command.Command.{Command};
 ghost use Rattle.jlr_types.specs.declared.Refusal.TheVariants.{TooLong, Malformed};
 ghost use Rattle.std.specs.Prelude.{if◌then◌else◌, nat_lt, Ok, ◌≡◌, ◌<◌, ◌↔◌, IfErr, MatchOption, length};
 ghost use Rattle.std.specs.List.{slice_split};
+ghost use Rattle.std.specs.Str.{bytes_eq};
 ghost use Rattle.jlr_wire.specs.Reading.{with_number, with_two_numbers, reading_1, reading_2, reading_3, reading_4, reading};
 ghost use Rattle.jlr_wire.specs.Commands.{IsCommand};
 ghost use Rattle.jlr_wire.specs.Fields.{is_space, texts};
@@ -193,35 +194,43 @@ fn fields_of<'a>(line: &'a [u8]) -> Option<ArrayVec<&'a [u8], FIELD_LIMIT>>
     None
 }
 
+/// Whether a field is this word. Most are told apart by their lengths.
+#[inline(always)]
+fn is(field: &[u8], word: &[u8]) -> bool
+    ensures { result ≡ bytes_eq field.now word.now }
+{
+    field.len() == word.len() && field == word
+}
+
 /// A command that is its name alone.
 #[tactic(auto, unfolding(crate::specs::Reading::reading_1))]
 fn one_field(word: &[u8]) -> Option<Command>
     ensures { result ≡ reading_1 word.now }
 {
-    if word == b"queue".as_slice() {
+    if is(word, b"queue") {
         return Some(Command::Queue);
     }
-    if word == b"cleaner".as_slice() {
+    if is(word, b"cleaner") {
         return Some(Command::Cleaner);
     }
-    if word == b"gc".as_slice() {
+    if is(word, b"gc") {
         return Some(Command::Full {
             mode: FullMode::Policy,
         });
     }
-    if word == b"names".as_slice() {
+    if is(word, b"names") {
         return Some(Command::Names);
     }
-    if word == b"stat".as_slice() {
+    if is(word, b"stat") {
         return Some(Command::Stat);
     }
-    if word == b"notes".as_slice() {
+    if is(word, b"notes") {
         return Some(Command::Notes);
     }
-    if word == b"faults".as_slice() {
+    if is(word, b"faults") {
         return Some(Command::Faults);
     }
-    if word == b"bye".as_slice() {
+    if is(word, b"bye") {
         return Some(Command::Bye);
     }
     None
@@ -232,21 +241,21 @@ fn one_field(word: &[u8]) -> Option<Command>
 fn two_fields(word: &[u8], a: &[u8]) -> Option<Command>
     ensures { result ≡ reading_2 word.now a.now }
 {
-    if word == b"new".as_slice() {
+    if is(word, b"new") {
         return Some(Command::New { layout: layout(a)? });
     }
-    if word == b"connect".as_slice() {
+    if is(word, b"connect") {
         return Some(Command::Connect {
             path: Path::parse(a)?,
         });
     }
-    if word == b"find".as_slice() {
+    if is(word, b"find") {
         return Some(Command::Find { name: name(a)? });
     }
-    if word == b"unbind".as_slice() {
+    if is(word, b"unbind") {
         return Some(Command::Unbind { name: name(a)? });
     }
-    if word == b"gc".as_slice() && a == b"soft".as_slice() {
+    if is(word, b"gc") && is(a, b"soft") {
         return Some(Command::Full {
             mode: FullMode::ClearAll,
         });
@@ -260,34 +269,34 @@ fn one_number(word: &[u8], a: u8) -> Option<Command>
     ensures { result ≡ with_number word.now a }
 {
     let h = Handle::new(a);
-    if word == b"dup".as_slice() {
+    if is(word, b"dup") {
         return Some(Command::Dup { object: h });
     }
-    if word == b"drop".as_slice() {
+    if is(word, b"drop") {
         return Some(Command::Drop { object: h });
     }
-    if word == b"deref".as_slice() {
+    if is(word, b"deref") {
         return Some(Command::Deref { reference: h });
     }
-    if word == b"clear".as_slice() {
+    if is(word, b"clear") {
         return Some(Command::Clear { reference: h });
     }
-    if word == b"enqueue".as_slice() {
+    if is(word, b"enqueue") {
         return Some(Command::Enqueue { reference: h });
     }
-    if word == b"enqueued".as_slice() {
+    if is(word, b"enqueued") {
         return Some(Command::Enqueued { reference: h });
     }
-    if word == b"poll".as_slice() {
+    if is(word, b"poll") {
         return Some(Command::Poll { queue: h });
     }
-    if word == b"remove".as_slice() {
+    if is(word, b"remove") {
         return Some(Command::Remove { queue: h });
     }
-    if word == b"clean".as_slice() {
+    if is(word, b"clean") {
         return Some(Command::Clean { cleanable: h });
     }
-    if word == b"close".as_slice() {
+    if is(word, b"close") {
         return Some(Command::Close { guard: h });
     }
     None
@@ -298,25 +307,25 @@ fn one_number(word: &[u8], a: u8) -> Option<Command>
 fn three_fields(word: &[u8], a: &[u8], b: &[u8]) -> Option<Command>
     ensures { result ≡ reading_3 word.now a.now b.now }
 {
-    if word == b"open".as_slice() {
+    if is(word, b"open") {
         return Some(Command::Open {
             mode: mode(a)?,
             path: Path::parse(b)?,
         });
     }
-    if word == b"bind".as_slice() {
+    if is(word, b"bind") {
         return Some(Command::Bind {
             name: name(a)?,
             object: Handle::new(number(b)?),
         });
     }
-    if word == b"read".as_slice() {
+    if is(word, b"read") {
         return Some(Command::Read {
             guard: Handle::new(number(a)?),
             count: count(b)?,
         });
     }
-    if word == b"write".as_slice() {
+    if is(word, b"write") {
         return Some(Command::Write {
             guard: Handle::new(number(a)?),
             bytes: data(b)?,
@@ -331,28 +340,28 @@ fn two_numbers(word: &[u8], a: u8, b: u8) -> Option<Command>
     ensures { result ≡ with_two_numbers word.now a b }
 {
     let object = Handle::new(a);
-    if word == b"get".as_slice() {
+    if is(word, b"get") {
         return Some(Command::Get { object, field: b });
     }
-    if word == b"int".as_slice() {
+    if is(word, b"int") {
         return Some(Command::Int { object, field: b });
     }
     let (left, right) = (object, Handle::new(b));
-    if word == b"same".as_slice() {
+    if is(word, b"same") {
         return Some(Command::Same { left, right });
     }
     let (referent, queue) = (left, right);
-    if word == b"soft".as_slice() {
+    if is(word, b"soft") {
         return Some(Command::Soft { referent, queue });
     }
-    if word == b"weak".as_slice() {
+    if is(word, b"weak") {
         return Some(Command::Weak { referent, queue });
     }
-    if word == b"phantom".as_slice() {
+    if is(word, b"phantom") {
         return Some(Command::Phantom { referent, queue });
     }
     let (reference, object) = (left, right);
-    if word == b"refers".as_slice() {
+    if is(word, b"refers") {
         return Some(Command::Refers { reference, object });
     }
     None
@@ -363,21 +372,21 @@ fn two_numbers(word: &[u8], a: u8, b: u8) -> Option<Command>
 fn four_fields(word: &[u8], a: &[u8], b: &[u8], c: &[u8]) -> Option<Command>
     ensures { result ≡ reading_4 word.now a.now b.now c.now }
 {
-    if word == b"put".as_slice() {
+    if is(word, b"put") {
         return Some(Command::Put {
             object: Handle::new(number(a)?),
             field: number(b)?,
             value: Handle::new(number(c)?),
         });
     }
-    if word == b"setint".as_slice() {
+    if is(word, b"setint") {
         return Some(Command::SetInt {
             object: Handle::new(number(a)?),
             field: number(b)?,
             value: integer(c)?,
         });
     }
-    if word == b"register".as_slice() {
+    if is(word, b"register") {
         return Some(Command::Register {
             cleaner: Handle::new(number(a)?),
             object: Handle::new(number(b)?),
