@@ -14,16 +14,16 @@ use crate::layout::layout;
 use crate::number::{count, note, number};
 use crate::path::Path;
 use crate::pieces::LINE_LIMIT;
-use crate::word::{data, mode, name};
+use crate::word::{Digits, mode, name};
 use arrayvec::ArrayVec;
 use jlr_device::Mode;
 use jlr_machine::ask::FullMode;
-use jlr_machine::text::{Data, Name};
+use jlr_machine::text::Name;
 use jlr_types::{Handle, Layout, Refusal};
 
 /// What a line asks for. A handle may be any number from 0 to 255, also one that is never in use.
 #[derive(Drop)]
-pub enum Command {
+pub enum Command<'a> {
     /// `new L`: makes an object with these fields.
     New {
         layout: Layout,
@@ -124,11 +124,11 @@ pub enum Command {
     /// `open m path`: opens a file, for reading or for writing.
     Open {
         mode: Mode,
-        path: Path,
+        path: Path<'a>,
     },
     /// `connect path`: joins a socket.
     Connect {
-        path: Path,
+        path: Path<'a>,
     },
     /// `read h count`: reads at most so many bytes, 1 to 200.
     Read {
@@ -138,7 +138,7 @@ pub enum Command {
     /// `write h bytes`: writes 1 to 200 bytes.
     Write {
         guard: Handle,
-        bytes: Data,
+        bytes: Digits<'a>,
     },
     /// `close h`: closes a file or a socket, if that was not done before.
     Close {
@@ -204,7 +204,7 @@ fn is(field: &[u8], word: &[u8]) -> bool
 
 /// A command that is its name alone.
 #[tactic(auto, unfolding(crate::specs::Reading::reading_1))]
-fn one_field(word: &[u8]) -> Option<Command>
+fn one_field<'a>(word: &[u8]) -> Option<Command<'a>>
     ensures { result ≡ reading_1 word.now }
 {
     if is(word, b"queue") {
@@ -238,7 +238,7 @@ fn one_field(word: &[u8]) -> Option<Command>
 
 /// A command of a name and one field.
 #[tactic(auto, unfolding(crate::specs::Reading::reading_2))]
-fn two_fields(word: &[u8], a: &[u8]) -> Option<Command>
+fn two_fields<'a>(word: &[u8], a: &'a [u8]) -> Option<Command<'a>>
     ensures { result ≡ reading_2 word.now a.now }
 {
     if is(word, b"new") {
@@ -265,7 +265,7 @@ fn two_fields(word: &[u8], a: &[u8]) -> Option<Command>
 
 /// A command of a name and a number.
 #[tactic(auto, unfolding(crate::specs::Reading::with_number))]
-fn one_number(word: &[u8], a: u8) -> Option<Command>
+fn one_number<'a>(word: &[u8], a: u8) -> Option<Command<'a>>
     ensures { result ≡ with_number word.now a }
 {
     let h = Handle::new(a);
@@ -304,7 +304,7 @@ fn one_number(word: &[u8], a: u8) -> Option<Command>
 
 /// A command of a name and two fields.
 #[tactic(auto, unfolding(crate::specs::Reading::reading_3))]
-fn three_fields(word: &[u8], a: &[u8], b: &[u8]) -> Option<Command>
+fn three_fields<'a>(word: &[u8], a: &[u8], b: &'a [u8]) -> Option<Command<'a>>
     ensures { result ≡ reading_3 word.now a.now b.now }
 {
     if is(word, b"open") {
@@ -328,7 +328,7 @@ fn three_fields(word: &[u8], a: &[u8], b: &[u8]) -> Option<Command>
     if is(word, b"write") {
         return Some(Command::Write {
             guard: Handle::new(number(a)?),
-            bytes: data(b)?,
+            bytes: Digits::parse(b)?,
         });
     }
     two_numbers(word, number(a)?, number(b)?)
@@ -336,7 +336,7 @@ fn three_fields(word: &[u8], a: &[u8], b: &[u8]) -> Option<Command>
 
 /// A command of a name and two numbers.
 #[tactic(auto, unfolding(crate::specs::Reading::with_two_numbers))]
-fn two_numbers(word: &[u8], a: u8, b: u8) -> Option<Command>
+fn two_numbers<'a>(word: &[u8], a: u8, b: u8) -> Option<Command<'a>>
     ensures { result ≡ with_two_numbers word.now a b }
 {
     let object = Handle::new(a);
@@ -369,7 +369,7 @@ fn two_numbers(word: &[u8], a: u8, b: u8) -> Option<Command>
 
 /// A command of a name and three fields.
 #[tactic(auto, unfolding(crate::specs::Reading::reading_4))]
-fn four_fields(word: &[u8], a: &[u8], b: &[u8], c: &[u8]) -> Option<Command>
+fn four_fields<'a>(word: &[u8], a: &[u8], b: &[u8], c: &[u8]) -> Option<Command<'a>>
     ensures { result ≡ reading_4 word.now a.now b.now c.now }
 {
     if is(word, b"put") {
@@ -398,7 +398,7 @@ fn four_fields(word: &[u8], a: &[u8], b: &[u8], c: &[u8]) -> Option<Command>
 
 /// The command that these fields are.
 #[tactic(auto, unfolding(crate::specs::Reading::reading))]
-fn command_of(fields: &[&[u8]]) -> Option<Command>
+fn command_of<'a>(fields: &[&'a [u8]]) -> Option<Command<'a>>
     ensures { result ≡ reading (texts fields.now) }
 {
     match fields {
@@ -414,7 +414,7 @@ fn command_of(fields: &[&[u8]]) -> Option<Command>
 ///
 /// A line of more than 512 bytes is refused as `TooLong`, every other line that is no command as
 /// `Malformed`. Of a longer line the first 513 bytes are enough.
-pub fn read_command(line: &[u8]) -> Result<Command, Refusal>
+pub fn read_command<'a>(line: &'a [u8]) -> Result<Command<'a>, Refusal>
     ensures exact { (c : Command) → (result ≡ Ok c) ↔ IsCommand line.now c }
     ensures refused { IfErr result (λ e. e ≡ (if nat_lt 512 (length line.now) then TooLong else Malformed)) }
 {
