@@ -183,6 +183,12 @@ list_fits h k e answer resource chosen asked room s is st r =
     let x = as_entered h k e answer resource chosen asked s is st in
     answers_fit st.0 (entry_of asked answer chosen) room st.2 x.1.0 r
 
+-- an ask is answered, and the answer fits the room that was made for it
+pub answered : {R : Type 0} (h k : Kept R) (e : Event R) (reply : Reply R) (chosen : Chosen) (asked : Ask) (room : Rooms) → IsStep h e reply chosen k
+    → ask_of e ≡ Some asked → Stands h → HasRoomFor asked room → (answer : Answer) × (answer_in reply ≡ Some answer) × Fits room answer
+answered h k e (Answered answer resource) chosen asked room s is st r = (answer, refl, list_fits h k e answer resource chosen asked room s is st r)
+answered h k e (Marked progress) chosen asked room s is st r = absurd (not_marked h k e progress chosen asked s is st)
+
 -- an end asks for no list
 pub end_has_room : (asked : Ask) (room : Rooms) → is_end asked ≡ true → HasRoomFor asked room
 end_has_room (ask.Leave k) room is = tt
@@ -254,6 +260,18 @@ writes h k e answer noted resource asked chosen entries entries' seat s is more 
       step = s;
       adds = subst (λ o. entries' ≡ entries ++ option_to_list (seated seat o (Some answer) chosen)) (sym is) (more ∙ ap {A = Entry} {B = List Entry} (λ x. entries ++ x ∷ []) same);
     }
+
+-- the same where the answer that was noted is known to be the reply's
+pub writes_noted : {R : Type 0} (h k : Kept R) (e : Event R) (reply : Reply R) (noted : Answer) (asked : Ask) (chosen : Chosen) (entries entries' : List Entry) (seat : ℕ)
+    → IsStep h e reply chosen k → ask_of e ≡ Some asked → answer_in reply ≡ Some noted → entries' ≡ entries ++ entry_by seat asked noted chosen ∷ []
+    → Writes seat h entries e reply k entries'
+writes_noted h k e reply noted asked chosen entries entries' seat s is said more = record {
+  chosen = chosen;
+  step = s;
+  adds =
+      subst (λ o. entries' ≡ entries ++ option_to_list (seated seat o (answer_in reply) chosen)) (sym is)
+      (subst (λ a. entries' ≡ entries ++ option_to_list (seated seat (Some asked) a chosen)) (sym said) more);
+}
 
 -- an end that is answered chose nothing
 pub end_chose : {R : Type 0} (h k : Kept R) (e : Event R) (answer : Answer) (resource : Option R) (asked : Ask) (chosen : Chosen) → IsStep h e (Answered answer resource) chosen k

@@ -1,12 +1,14 @@
 //! One step of the core, and its entry behind the others.
-ghost use Rattle.std.specs.Prelude.{◌≡◌, ◌≤◌, ◌<◌, ◌+◌, true, length, vec_len, vec_capacity, Some};
+ghost use Rattle.std.specs.Prelude.{◌≡◌, ◌≤◌, ◌<◌, ◌+◌, true, false, length, vec_len, vec_capacity, Some};
 ghost use Rattle.jlr_machine.specs.Refusals.{is_end};
 ghost use Rattle.jlr_event.specs.Events.{ask_of};
+ghost use Rattle.jlr_histories.specs.Collecting.{may_collect};
 ghost use Rattle.jlr_histories.specs.Owing.{owed};
+ghost use Rattle.jlr_histories.specs.Rooms.{HasRoomFor};
 ghost use Rattle.jlr_book.specs.Making.{SuitsEntry};
 ghost use Rattle.jlr_book.specs.Writing.{refuses, Stands, Writes, WritesEnd};
 
-use crate::room::{EntryRoom, ListRoom};
+use crate::room::{ChoiceRoom, EntryRoom, ListRoom};
 use jlr_core::engine::Core;
 use jlr_event::event::{Event, Reply};
 use jlr_machine::ask::{Answer, Ask};
@@ -37,19 +39,78 @@ pub(crate) fn record<R>(
     ensures choice { choice.new.cells ≡ choice.old.cells }
 {
     let EntryRoom { choice: own, list } = room;
-    let (reply, chosen) = own.step(core, choice, event);
-    match reply {
-        Reply::Answered { answer, resource } => {
-            trace.push_reserved(Entry {
-                seat,
-                ask,
-                answer: list.copy(&answer),
-                choice: chosen,
-            });
-            Reply::Answered { answer, resource }
-        }
-        Reply::Marked(progress) => Reply::Marked(progress),
+    match own {
+        ChoiceRoom::Plain => record_plainly(core, choice, list, trace, seat, ask, event),
+        ChoiceRoom::Collecting(own) => record_collecting(core, own, list, trace, seat, ask, event),
     }
+}
+
+/// An entry without a collection. The core is lent a choice.
+#[inline(always)]
+fn record_plainly<R>(
+    core: &mut Core<R>,
+    lent: &mut Choice,
+    list: ListRoom,
+    trace: &mut Vec<Entry>,
+    seat: u8,
+    ask: Ask,
+    event: Event<R>,
+) -> Reply<R>
+    requires ask { ask_of event ≡ Some ask }
+    requires place { vec_len trace.old < vec_capacity trace.old }
+    requires stands { Stands core.old }
+    requires choice { length core.old.machine.objects ≤ lent.old.cells }
+    requires list { HasRoomFor ask list }
+    requires plain { may_collect core.old.machine (Some ask) ≡ false }
+    ensures writes { Writes seat core.old trace.old.items event result core.new trace.new.items }
+    ensures cells { length core.new.machine.objects ≡ length core.old.machine.objects }
+    ensures room { vec_capacity trace.new ≡ vec_capacity trace.old }
+    ensures choice { lent.new.cells ≡ lent.old.cells }
+{
+    let mut list = list;
+    let reply = core.step(event, lent);
+    trace.push_reserved(Entry {
+        seat,
+        ask,
+        answer: list.copy_of(&reply),
+        choice: Chosen {
+            collected: None,
+            fresh: lent.fresh().copy(),
+        },
+    });
+    reply
+}
+
+/// An entry that may come with a collection. Its choice stays in it.
+fn record_collecting<R>(
+    core: &mut Core<R>,
+    own: Box<Choice>,
+    list: ListRoom,
+    trace: &mut Vec<Entry>,
+    seat: u8,
+    ask: Ask,
+    event: Event<R>,
+) -> Reply<R>
+    requires ask { ask_of event ≡ Some ask }
+    requires place { vec_len trace.old < vec_capacity trace.old }
+    requires stands { Stands core.old }
+    requires choice { length core.old.machine.objects ≤ own.value.cells }
+    requires list { HasRoomFor ask list }
+    ensures writes { Writes seat core.old trace.old.items event result core.new trace.new.items }
+    ensures cells { length core.new.machine.objects ≡ length core.old.machine.objects }
+    ensures room { vec_capacity trace.new ≡ vec_capacity trace.old }
+{
+    let mut own = Box::into_inner(own);
+    let mut list = list;
+    let reply = core.step(event, &mut own);
+    let answer = list.copy_of(&reply);
+    trace.push_reserved(Entry {
+        seat,
+        ask,
+        answer,
+        choice: own.into_chosen(),
+    });
+    reply
 }
 
 /// An end: one entry, in the place that was kept for it, unless the core refuses it.

@@ -1,53 +1,59 @@
 //! What an entry takes, made before its ask: the room of its choice, and that of its copy of a list answer. So it takes no memory then.
 ghost use Rattle.std.specs.Prelude.{◌≡◌, ◌≤◌, [], IfOk, Some, length, vec_capacity};
+ghost use Rattle.jlr_machine.specs.declared.ask.Answer.{Answer as AnswerOf};
 ghost use Rattle.jlr_event.specs.Events.{ask_of, answer_in};
-ghost use Rattle.jlr_core.specs.Steps.{IsStep};
 ghost use Rattle.jlr_histories.specs.Rooms.{Fits, HasRoomFor};
 ghost use Rattle.jlr_book.specs.Making.{SuitsChoice, SuitsEntry};
-ghost use Rattle.jlr_book.specs.Writing.{Stands};
 
 use jlr_core::engine::Core;
 use jlr_event::event::{Event, Reply};
 use jlr_machine::ask::{Answer, Ask};
 use jlr_machine::choice::Choice;
-use jlr_machine::entry::Chosen;
 use jlr_machine::items::Items;
 use jlr_machine::machine::Failure;
 use jlr_machine::text::Name;
 use std::alloc::{AllocError, Global};
 use std::marker::Model;
+use std::mem;
 
 /// The most items of a list answer.
 const LIST_LIMIT: usize = 256;
 
 // ---- Lists
 
+/// Room for the items of one list, if any.
+#[derive(Drop)]
+pub(crate) enum ItemRoom {
+    None,
+    Names(Vec<Name>),
+    Notes(Vec<u32>),
+    Faults(Vec<Failure>),
+}
+
 /// Room for the copy of a list answer. Contracts see how many items of each kind of list it has room for.
 #[derive(Drop)]
 pub struct ListRoom {
-    names: Vec<Name>,
-    notes: Vec<u32>,
-    faults: Vec<Failure>,
+    alloc: Global,
+    list: ItemRoom,
 }
 
 impl Model for ListRoom {
-    ghost use Rattle.std.specs.Prelude.{◌≡◌, [], vec_capacity};
     ghost use Rattle.jlr_histories.specs.Rooms.{Rooms};
+    ghost use Rattle.jlr_book.specs.Lists.{rooms_of, IsVacant};
 
     ghost Value = { Rooms };
 
-    ghost view = { λ r. record { names = vec_capacity r.names; notes = vec_capacity r.notes; faults = vec_capacity r.faults } };
+    ghost view = { λ r. rooms_of r.list };
 
-    ghost invariant = { λ r. (r.names.items ≡ []) × (r.notes.items ≡ []) × (r.faults.items ≡ []) };
+    ghost invariant = { λ r. IsVacant r.list };
 }
 
 impl ListRoom {
     /// Room for no list. Takes no memory.
     pub fn none(alloc: Global) -> Self {
         ListRoom {
-            names: Vec::new(alloc),
-            notes: Vec::new(alloc),
-            faults: Vec::new(alloc),
+            alloc,
+            list: ItemRoom::None,
         }
     }
 
@@ -58,27 +64,54 @@ impl ListRoom {
     pub fn for_ask(alloc: Global, ask: &Ask) -> Result<Self, AllocError>
         ensures { IfOk result (λ room. HasRoomFor ask.now room) }
     {
-        let mut room = ListRoom::none(alloc);
-        match ask {
-            Ask::Names { .. } => room.names = Vec::with_capacity(alloc, LIST_LIMIT)?,
-            Ask::Notes { .. } => room.notes = Vec::with_capacity(alloc, LIST_LIMIT)?,
-            Ask::Faults { .. } => room.faults = Vec::with_capacity(alloc, LIST_LIMIT)?,
-            _ => {}
-        }
-        Ok(room)
+        let list = match ask {
+            Ask::Names { .. } => ItemRoom::Names(Vec::with_capacity(alloc, LIST_LIMIT)?),
+            Ask::Notes { .. } => ItemRoom::Notes(Vec::with_capacity(alloc, LIST_LIMIT)?),
+            Ask::Faults { .. } => ItemRoom::Faults(Vec::with_capacity(alloc, LIST_LIMIT)?),
+            _ => ItemRoom::None,
+        };
+        Ok(ListRoom { alloc, list })
     }
 
-    /// The same answer. Takes no memory.
+    /// Takes the room for names out.
+    fn take_names(&mut self) -> Vec<Name>
+        ensures empty { result.items ≡ [] }
+        ensures room { self.old.names ≤ vec_capacity result }
+    {
+        match mem::replace(&mut self.list, ItemRoom::None) {
+            ItemRoom::Names(room) => room,
+            _ => Vec::new(self.alloc),
+        }
+    }
+
+    /// Takes the room for notes out.
+    fn take_notes(&mut self) -> Vec<u32>
+        ensures empty { result.items ≡ [] }
+        ensures room { self.old.notes ≤ vec_capacity result }
+    {
+        match mem::replace(&mut self.list, ItemRoom::None) {
+            ItemRoom::Notes(room) => room,
+            _ => Vec::new(self.alloc),
+        }
+    }
+
+    /// Takes the room for faults out.
+    fn take_faults(&mut self) -> Vec<Failure>
+        ensures empty { result.items ≡ [] }
+        ensures room { self.old.faults ≤ vec_capacity result }
+    {
+        match mem::replace(&mut self.list, ItemRoom::None) {
+            ItemRoom::Faults(room) => room,
+            _ => Vec::new(self.alloc),
+        }
+    }
+
+    /// The same answer. Takes no memory, and the room that it needs.
     #[inline(always)]
-    pub fn copy(self, answer: &Answer) -> Answer
-        requires { Fits self answer.now }
+    pub fn copy(&mut self, answer: &Answer) -> Answer
+        requires { Fits self.old answer.now }
         ensures { result ≡ answer.now }
     {
-        let ListRoom {
-            names,
-            notes,
-            faults,
-        } = self;
         match answer {
             Answer::Done => Answer::Done,
             Answer::Handle(handle) => Answer::Handle(*handle),
@@ -88,14 +121,13 @@ impl ListRoom {
             Answer::Wrote(count) => Answer::Wrote(*count),
             Answer::Faulted(fault) => Answer::Faulted(*fault),
             Answer::Names(items) => {
-                Answer::Names(Items::from_vec(copy_names(names, items.as_slice())))
+                Answer::Names(Items::from_vec(copy_names(self.take_names(), items.as_slice())))
             }
-            Answer::Notes(items) => Answer::Notes(Items::from_vec(copy_into(
-                notes,
-                items.as_slice(),
-            ))),
+            Answer::Notes(items) => {
+                Answer::Notes(Items::from_vec(copy_into(self.take_notes(), items.as_slice())))
+            }
             Answer::Faults(items) => {
-                Answer::Faults(Items::from_vec(copy_into(faults, items.as_slice())))
+                Answer::Faults(Items::from_vec(copy_into(self.take_faults(), items.as_slice())))
             }
             Answer::Stat(stat) => Answer::Stat(*stat),
             Answer::Job { action, work } => Answer::Job {
@@ -107,6 +139,18 @@ impl ListRoom {
             Answer::Out(rid) => Answer::Out(*rid),
             Answer::Handed(handed) => Answer::Handed(*handed),
             Answer::Refused(by) => Answer::Refused(*by),
+        }
+    }
+
+    /// The same answer as that of a reply. Takes no memory, and the room that it needs.
+    #[inline(always)]
+    pub(crate) fn copy_of<R>(&mut self, reply: &Reply<R>) -> Answer
+        requires { (answer : AnswerOf) × (answer_in reply.now ≡ Some answer) × Fits self.old answer }
+        ensures { answer_in reply.now ≡ Some result }
+    {
+        match reply {
+            Reply::Answered { answer, .. } => self.copy(answer),
+            Reply::Marked(_) => unreachable!(),
         }
     }
 }
@@ -143,7 +187,7 @@ fn copy_names(room: Vec<Name>, names: &[Name]) -> Vec<Name>
 #[derive(Drop)]
 pub(crate) enum ChoiceRoom {
     /// A collection may come.
-    Collecting(Choice),
+    Collecting(Box<Choice>),
     /// None comes: the slots of new objects take no room.
     Plain,
 }
@@ -164,41 +208,10 @@ impl ChoiceRoom {
         ensures { IfOk result (λ room. SuitsChoice core.now.machine (ask_of event.now) room) }
     {
         if core.will_collect(event) {
-            return Ok(ChoiceRoom::Collecting(Choice::new(alloc, cells)?));
+            let choice = Choice::new(alloc, cells)?;
+            return Ok(ChoiceRoom::Collecting(Box::new(alloc, choice)?));
         }
         Ok(ChoiceRoom::Plain)
-    }
-
-    /// One step of the core, and what it chose. Where no collection comes, the core is lent a choice.
-    #[inline(always)]
-    pub(crate) fn step<R>(
-        self,
-        core: &mut Core<R>,
-        lent: &mut Choice,
-        event: Event<R>,
-    ) -> (Reply<R>, Chosen)
-        requires suits { SuitsChoice core.old.machine (ask_of event) self }
-        requires lent { length core.old.machine.objects ≤ lent.old.cells }
-        requires stands { Stands core.old }
-        ensures step { IsStep core.old event result.0 result.1 core.new }
-        ensures cells { length core.new.machine.objects ≡ length core.old.machine.objects }
-        ensures lent { lent.new.cells ≡ lent.old.cells }
-    {
-        match self {
-            ChoiceRoom::Collecting(own) => {
-                let mut own = own;
-                let reply = core.step(event, &mut own);
-                (reply, own.into_chosen())
-            }
-            ChoiceRoom::Plain => {
-                let reply = core.step(event, lent);
-                let chosen = Chosen {
-                    collected: None,
-                    fresh: lent.fresh().copy(),
-                };
-                (reply, chosen)
-            }
-        }
     }
 }
 

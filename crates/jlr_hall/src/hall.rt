@@ -67,6 +67,7 @@ impl<R: Drop, L: Ledger> Locked<R, L> {
         ensures notes { NotesWith seat.old self.old.book asked result seat.new self.new.book }
     {
         let Locked { book, ledger, .. } = self;
+        let mut room = room;
         book.is_history();
         let before = book.last();
         let reply = book.step(seat.index(), event);

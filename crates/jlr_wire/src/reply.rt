@@ -16,8 +16,8 @@ use std::io::Write;
 /// The most bytes that one call reads.
 const DATA_LIMIT: usize = 200;
 
-/// The most bytes of a line that most answers have, but for those of long lists.
-const LINE_ROOM: usize = 512;
+/// The most bytes of the line of an answer that is no list and no data; most are shorter by far.
+const LINE_ROOM: usize = 128;
 
 /// The most bytes of a line: that of 256 names of 32 bytes, each after a space, with its end.
 const LONG_LINE_ROOM: usize = 8_453;
@@ -210,7 +210,7 @@ pub fn write_reply<W: Write>(answer: &Answer, writer: &mut W) -> Result<(), Writ
     write_long_line(answer, writer)
 }
 
-/// As `write_reply`, with room for the lines of long lists.
+/// As `write_reply`, with room for the lines of data and of long lists.
 fn write_long_line<W: Write>(answer: &Answer, writer: &mut W) -> Result<(), WriteFault>
     ensures line { IfSome (words answer.now) (λ text. Sends (W.contents writer.old) (W.contents writer.new) result (text ++ 10 ∷ [])) }
     ensures none { IfNone (words answer.now) (IsErr result × Keeps (W.contents writer.old) (W.contents writer.new)) }
