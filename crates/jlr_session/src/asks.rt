@@ -28,13 +28,13 @@ where
         D.Res.handling };
 
     #[inline(always)]
-    fn carry_out(heap: &mut P, device: &mut D, command: &Command) -> Answer {
+    fn carry_out(heap: &mut P, device: &mut D, command: &Command<'_>) -> Answer {
         let mutator = heap.mutator();
         match command {
             Command::Open { mode, path } => open(heap, device, mutator, *mode, path.as_str()),
             Command::Connect { path } => connect(heap, device, mutator, path.as_str()),
             Command::Read { guard, count } => read(heap, mutator, *guard, *count),
-            Command::Write { guard, bytes } => write(heap, mutator, *guard, bytes.as_slice()),
+            Command::Write { guard, bytes } => write(heap, mutator, *guard, bytes.decode().as_slice()),
             Command::Clean { cleanable } => work(
                 heap,
                 mutator,
@@ -62,7 +62,7 @@ where
 
 /// Carries out a command that asks once.
 #[inline(always)]
-fn ask_once<P: Port<R>, R: Drop>(port: &mut P, mutator: Mutator, command: &Command) -> Answer
+fn ask_once<P: Port<R>, R: Drop>(port: &mut P, mutator: Mutator, command: &Command<'_>) -> Answer
     ensures { AsksOnce P.asking (event_of mutator command.now) port.old result port.new }
 {
     match event_for(mutator, command) {

@@ -10,7 +10,7 @@ pub trait CarryOut<H, D> {
     ghost carries: { Carrying (H × D) };
 
     /// Carries a command out and gives its answer. `bye` is the session's own and never comes here.
-    fn carry_out(heap: &mut H, device: &mut D, command: &Command) -> Answer
+    fn carry_out(heap: &mut H, device: &mut D, command: &Command<'_>) -> Answer
         ensures { carries.command (heap.old, device.old) command.now result (heap.new, device.new) };
 
     /// Does what is left to do after a reply went out.

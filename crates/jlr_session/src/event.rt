@@ -9,7 +9,7 @@ use jlr_wire::command::Command;
 
 /// What a command that asks once asks in the name of a mutator. There is none for one that may ask twice, and for `bye`.
 #[inline(always)]
-pub(crate) fn event_for<R>(mutator: Mutator, command: &Command) -> Option<Event<R>>
+pub(crate) fn event_for<R>(mutator: Mutator, command: &Command<'_>) -> Option<Event<R>>
     ensures { result ≡ event_of mutator command.now }
 {
     Some(match *command {

@@ -15,7 +15,7 @@ use std::io::Write;
 /// other command by what carries it out.
 #[inline(always)]
 fn answer_of<C: CarryOut<H, D>, H, D>(
-    read: &Result<Command, Refusal>,
+    read: &Result<Command<'_>, Refusal>,
     heap: &mut H,
     device: &mut D,
 ) -> Answer
@@ -33,14 +33,14 @@ fn answer_of<C: CarryOut<H, D>, H, D>(
 }
 
 /// Whether a line that was read ends the session.
-fn is_last(read: &Result<Command, Refusal>) -> bool
+fn is_last(read: &Result<Command<'_>, Refusal>) -> bool
     ensures { IsTrue result ↔ (read.now ≡ Ok Bye) }
 {
     matches!(read, Ok(Command::Bye))
 }
 
 /// Whether the command ends the session.
-fn is_bye(command: &Command) -> bool
+fn is_bye(command: &Command<'_>) -> bool
     ensures { IsTrue result ↔ (command.now ≡ Bye) }
 {
     matches!(command, Command::Bye)

@@ -3,6 +3,7 @@ ghost use Rattle.jlr_wire.specs.declared.command.Command.{Command};
 ghost use Rattle.jlr_types.specs.declared.Refusal.TheVariants.{TooLong, Malformed};
 ghost use Rattle.std.specs.Prelude.{if◌then◌else◌, nat_lt, Ok, ◌≡◌, ◌<◌, ◌↔◌, IfErr, MatchOption, length};
 ghost use Rattle.std.specs.List.{slice_split};
+ghost use Rattle.std.specs.Str.{bytes_eq};
 ghost use Rattle.jlr_wire.specs.Reading.{with_number, with_two_numbers, reading_1, reading_2, reading_3, reading_4, reading};
 ghost use Rattle.jlr_wire.specs.Commands.{IsCommand};
 ghost use Rattle.jlr_wire.specs.Fields.{is_space, texts};
@@ -13,16 +14,16 @@ use crate::layout::layout;
 use crate::number::{count, note, number};
 use crate::path::Path;
 use crate::pieces::LINE_LIMIT;
-use crate::word::{data, mode, name};
+use crate::word::{Digits, mode, name};
 use arrayvec::ArrayVec;
 use jlr_device::Mode;
 use jlr_machine::ask::FullMode;
-use jlr_machine::text::{Data, Name};
+use jlr_machine::text::Name;
 use jlr_types::{Handle, Layout, Refusal};
 
 /// What a line asks for. A handle may be any number from 0 to 255, also one that is never in use.
 #[derive(Drop)]
-pub enum Command {
+pub enum Command<'a> {
     /// `new L`: makes an object with these fields.
     New {
         layout: Layout,
@@ -123,11 +124,11 @@ pub enum Command {
     /// `open m path`: opens a file, for reading or for writing.
     Open {
         mode: Mode,
-        path: Path,
+        path: Path<'a>,
     },
     /// `connect path`: joins a socket.
     Connect {
-        path: Path,
+        path: Path<'a>,
     },
     /// `read h count`: reads at most so many bytes, 1 to 200.
     Read {
@@ -137,7 +138,7 @@ pub enum Command {
     /// `write h bytes`: writes 1 to 200 bytes.
     Write {
         guard: Handle,
-        bytes: Data,
+        bytes: Digits<'a>,
     },
     /// `close h`: closes a file or a socket, if that was not done before.
     Close {
@@ -193,35 +194,43 @@ fn fields_of<'a>(line: &'a [u8]) -> Option<ArrayVec<&'a [u8], FIELD_LIMIT>>
     None
 }
 
+/// Whether a field is this word. Most are told apart by their lengths.
+#[inline(always)]
+fn is(field: &[u8], word: &[u8]) -> bool
+    ensures { result ≡ bytes_eq field.now word.now }
+{
+    field.len() == word.len() && field == word
+}
+
 /// A command that is its name alone.
 #[tactic(auto, unfolding(crate::specs::Reading::reading_1))]
-fn one_field(word: &[u8]) -> Option<Command>
+fn one_field<'a>(word: &[u8]) -> Option<Command<'a>>
     ensures { result ≡ reading_1 word.now }
 {
-    if word == b"queue".as_slice() {
+    if is(word, b"queue") {
         return Some(Command::Queue);
     }
-    if word == b"cleaner".as_slice() {
+    if is(word, b"cleaner") {
         return Some(Command::Cleaner);
     }
-    if word == b"gc".as_slice() {
+    if is(word, b"gc") {
         return Some(Command::Full {
             mode: FullMode::Policy,
         });
     }
-    if word == b"names".as_slice() {
+    if is(word, b"names") {
         return Some(Command::Names);
     }
-    if word == b"stat".as_slice() {
+    if is(word, b"stat") {
         return Some(Command::Stat);
     }
-    if word == b"notes".as_slice() {
+    if is(word, b"notes") {
         return Some(Command::Notes);
     }
-    if word == b"faults".as_slice() {
+    if is(word, b"faults") {
         return Some(Command::Faults);
     }
-    if word == b"bye".as_slice() {
+    if is(word, b"bye") {
         return Some(Command::Bye);
     }
     None
@@ -229,24 +238,24 @@ fn one_field(word: &[u8]) -> Option<Command>
 
 /// A command of a name and one field.
 #[tactic(auto, unfolding(crate::specs::Reading::reading_2))]
-fn two_fields(word: &[u8], a: &[u8]) -> Option<Command>
+fn two_fields<'a>(word: &[u8], a: &'a [u8]) -> Option<Command<'a>>
     ensures { result ≡ reading_2 word.now a.now }
 {
-    if word == b"new".as_slice() {
+    if is(word, b"new") {
         return Some(Command::New { layout: layout(a)? });
     }
-    if word == b"connect".as_slice() {
+    if is(word, b"connect") {
         return Some(Command::Connect {
             path: Path::parse(a)?,
         });
     }
-    if word == b"find".as_slice() {
+    if is(word, b"find") {
         return Some(Command::Find { name: name(a)? });
     }
-    if word == b"unbind".as_slice() {
+    if is(word, b"unbind") {
         return Some(Command::Unbind { name: name(a)? });
     }
-    if word == b"gc".as_slice() && a == b"soft".as_slice() {
+    if is(word, b"gc") && is(a, b"soft") {
         return Some(Command::Full {
             mode: FullMode::ClearAll,
         });
@@ -256,38 +265,38 @@ fn two_fields(word: &[u8], a: &[u8]) -> Option<Command>
 
 /// A command of a name and a number.
 #[tactic(auto, unfolding(crate::specs::Reading::with_number))]
-fn one_number(word: &[u8], a: u8) -> Option<Command>
+fn one_number<'a>(word: &[u8], a: u8) -> Option<Command<'a>>
     ensures { result ≡ with_number word.now a }
 {
     let h = Handle::new(a);
-    if word == b"dup".as_slice() {
+    if is(word, b"dup") {
         return Some(Command::Dup { object: h });
     }
-    if word == b"drop".as_slice() {
+    if is(word, b"drop") {
         return Some(Command::Drop { object: h });
     }
-    if word == b"deref".as_slice() {
+    if is(word, b"deref") {
         return Some(Command::Deref { reference: h });
     }
-    if word == b"clear".as_slice() {
+    if is(word, b"clear") {
         return Some(Command::Clear { reference: h });
     }
-    if word == b"enqueue".as_slice() {
+    if is(word, b"enqueue") {
         return Some(Command::Enqueue { reference: h });
     }
-    if word == b"enqueued".as_slice() {
+    if is(word, b"enqueued") {
         return Some(Command::Enqueued { reference: h });
     }
-    if word == b"poll".as_slice() {
+    if is(word, b"poll") {
         return Some(Command::Poll { queue: h });
     }
-    if word == b"remove".as_slice() {
+    if is(word, b"remove") {
         return Some(Command::Remove { queue: h });
     }
-    if word == b"clean".as_slice() {
+    if is(word, b"clean") {
         return Some(Command::Clean { cleanable: h });
     }
-    if word == b"close".as_slice() {
+    if is(word, b"close") {
         return Some(Command::Close { guard: h });
     }
     None
@@ -295,31 +304,31 @@ fn one_number(word: &[u8], a: u8) -> Option<Command>
 
 /// A command of a name and two fields.
 #[tactic(auto, unfolding(crate::specs::Reading::reading_3))]
-fn three_fields(word: &[u8], a: &[u8], b: &[u8]) -> Option<Command>
+fn three_fields<'a>(word: &[u8], a: &[u8], b: &'a [u8]) -> Option<Command<'a>>
     ensures { result ≡ reading_3 word.now a.now b.now }
 {
-    if word == b"open".as_slice() {
+    if is(word, b"open") {
         return Some(Command::Open {
             mode: mode(a)?,
             path: Path::parse(b)?,
         });
     }
-    if word == b"bind".as_slice() {
+    if is(word, b"bind") {
         return Some(Command::Bind {
             name: name(a)?,
             object: Handle::new(number(b)?),
         });
     }
-    if word == b"read".as_slice() {
+    if is(word, b"read") {
         return Some(Command::Read {
             guard: Handle::new(number(a)?),
             count: count(b)?,
         });
     }
-    if word == b"write".as_slice() {
+    if is(word, b"write") {
         return Some(Command::Write {
             guard: Handle::new(number(a)?),
-            bytes: data(b)?,
+            bytes: Digits::parse(b)?,
         });
     }
     two_numbers(word, number(a)?, number(b)?)
@@ -327,32 +336,32 @@ fn three_fields(word: &[u8], a: &[u8], b: &[u8]) -> Option<Command>
 
 /// A command of a name and two numbers.
 #[tactic(auto, unfolding(crate::specs::Reading::with_two_numbers))]
-fn two_numbers(word: &[u8], a: u8, b: u8) -> Option<Command>
+fn two_numbers<'a>(word: &[u8], a: u8, b: u8) -> Option<Command<'a>>
     ensures { result ≡ with_two_numbers word.now a b }
 {
     let object = Handle::new(a);
-    if word == b"get".as_slice() {
+    if is(word, b"get") {
         return Some(Command::Get { object, field: b });
     }
-    if word == b"int".as_slice() {
+    if is(word, b"int") {
         return Some(Command::Int { object, field: b });
     }
     let (left, right) = (object, Handle::new(b));
-    if word == b"same".as_slice() {
+    if is(word, b"same") {
         return Some(Command::Same { left, right });
     }
     let (referent, queue) = (left, right);
-    if word == b"soft".as_slice() {
+    if is(word, b"soft") {
         return Some(Command::Soft { referent, queue });
     }
-    if word == b"weak".as_slice() {
+    if is(word, b"weak") {
         return Some(Command::Weak { referent, queue });
     }
-    if word == b"phantom".as_slice() {
+    if is(word, b"phantom") {
         return Some(Command::Phantom { referent, queue });
     }
     let (reference, object) = (left, right);
-    if word == b"refers".as_slice() {
+    if is(word, b"refers") {
         return Some(Command::Refers { reference, object });
     }
     None
@@ -360,24 +369,24 @@ fn two_numbers(word: &[u8], a: u8, b: u8) -> Option<Command>
 
 /// A command of a name and three fields.
 #[tactic(auto, unfolding(crate::specs::Reading::reading_4))]
-fn four_fields(word: &[u8], a: &[u8], b: &[u8], c: &[u8]) -> Option<Command>
+fn four_fields<'a>(word: &[u8], a: &[u8], b: &[u8], c: &[u8]) -> Option<Command<'a>>
     ensures { result ≡ reading_4 word.now a.now b.now c.now }
 {
-    if word == b"put".as_slice() {
+    if is(word, b"put") {
         return Some(Command::Put {
             object: Handle::new(number(a)?),
             field: number(b)?,
             value: Handle::new(number(c)?),
         });
     }
-    if word == b"setint".as_slice() {
+    if is(word, b"setint") {
         return Some(Command::SetInt {
             object: Handle::new(number(a)?),
             field: number(b)?,
             value: integer(c)?,
         });
     }
-    if word == b"register".as_slice() {
+    if is(word, b"register") {
         return Some(Command::Register {
             cleaner: Handle::new(number(a)?),
             object: Handle::new(number(b)?),
@@ -389,7 +398,7 @@ fn four_fields(word: &[u8], a: &[u8], b: &[u8], c: &[u8]) -> Option<Command>
 
 /// The command that these fields are.
 #[tactic(auto, unfolding(crate::specs::Reading::reading))]
-fn command_of(fields: &[&[u8]]) -> Option<Command>
+fn command_of<'a>(fields: &[&'a [u8]]) -> Option<Command<'a>>
     ensures { result ≡ reading (texts fields.now) }
 {
     match fields {
@@ -405,7 +414,7 @@ fn command_of(fields: &[&[u8]]) -> Option<Command>
 ///
 /// A line of more than 512 bytes is refused as `TooLong`, every other line that is no command as
 /// `Malformed`. Of a longer line the first 513 bytes are enough.
-pub fn read_command(line: &[u8]) -> Result<Command, Refusal>
+pub fn read_command<'a>(line: &'a [u8]) -> Result<Command<'a>, Refusal>
     ensures exact { (c : Command) → (result ≡ Ok c) ↔ IsCommand line.now c }
     ensures refused { IfErr result (λ e. e ≡ (if nat_lt 512 (length line.now) then TooLong else Malformed)) }
 {

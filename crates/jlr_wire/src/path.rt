@@ -4,45 +4,45 @@ ghost use Rattle.std.specs.List.{list_all};
 ghost use Rattle.std.specs.Char.{is_ascii_graphic};
 ghost use Rattle.jlr_wire.specs.Fields.{path_of};
 
-use jlr_machine::text::Text;
 use std::marker::Model;
 
-/// A path of 1 to 255 bytes, each of them a visible character of ASCII and no space.
+/// The most bytes of a path.
+const PATH_LIMIT: usize = 255;
+
+/// A path of 1 to 255 bytes, each of them a visible character of ASCII and no space: where it stands in its line.
 #[derive(Drop)]
-pub struct Path {
-    text: Text<255>,
+pub struct Path<'a> {
+    text: &'a [u8],
 }
 
-impl Model for Path {
+impl<'a> Model for Path<'a> {
     ghost use Rattle.std.specs.Prelude.{List, ℕ};
     ghost use Rattle.jlr_wire.specs.Texts.{IsPath};
 
     ghost Value = { List ℕ };
 
-    ghost view = { λ a. a.text };
+    ghost view = { λ a. a.text.now };
 
-    ghost invariant = { λ a. IsPath a.text };
+    ghost invariant = { λ a. IsPath a.text.now };
 }
 
-impl Path {
+impl<'a> Path<'a> {
     /// The path that the text spells, or `None`.
     #[tactic(auto, unfolding(crate::specs::Fields::word_of))]
-    pub(crate) fn parse(text: &[u8]) -> Option<Path>
+    pub(crate) fn parse(text: &'a [u8]) -> Option<Path<'a>>
         ensures { result ≡ path_of text.now }
     {
-        if text.is_empty() || !has_path_bytes(text) {
+        if text.is_empty() || text.len() > PATH_LIMIT || !has_path_bytes(text) {
             return None;
         }
-        Some(Path {
-            text: Text::from_slice(text)?,
-        })
+        Some(Path { text })
     }
 
     /// The bytes, as a text.
     pub fn as_str(&self) -> &str
         ensures { result.now ≡ self.now }
     {
-        str::from_utf8(self.text.as_slice()).unwrap()
+        str::from_utf8(self.text).unwrap()
     }
 }
 

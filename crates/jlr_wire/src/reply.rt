@@ -16,8 +16,11 @@ use std::io::Write;
 /// The most bytes that one call reads.
 const DATA_LIMIT: usize = 200;
 
-/// The most bytes of a line that is gathered before it goes out.
-const GATHERED_LIMIT: usize = 512;
+/// The most bytes of a line that most answers have, but for those of long lists.
+const LINE_ROOM: usize = 512;
+
+/// The most bytes of a line: that of 256 names of 32 bytes, each after a space, with its end.
+const LONG_LINE_ROOM: usize = 8_453;
 
 /// A write that failed or took nothing, or an answer that has no line.
 #[derive(Clone, Copy, Debug, PartialEq, Eq)]
@@ -192,8 +195,7 @@ fn write_line<W: Write>(answer: &Answer, writer: &mut W) -> Result<(), WriteFaul
     send(b"\n", writer)
 }
 
-/// Writes the line of an answer with its end, and does not flush. A line of at most 512 bytes, as each is but that of a long list,
-/// goes out by one write, where the writer takes it whole.
+/// Writes the line of an answer with its end, and does not flush. It goes out by one write, where the writer takes it whole.
 ///
 /// At a fault a front of the line went out. For an answer that has no line nothing is written, and
 /// it is a fault.
@@ -201,7 +203,19 @@ pub fn write_reply<W: Write>(answer: &Answer, writer: &mut W) -> Result<(), Writ
     ensures line { IfSome (words answer.now) (λ text. Sends (W.contents writer.old) (W.contents writer.new) result (text ++ 10 ∷ [])) }
     ensures none { IfNone (words answer.now) (IsErr result × Keeps (W.contents writer.old) (W.contents writer.new)) }
 {
-    let mut line: ArrayVec<u8, GATHERED_LIMIT> = ArrayVec::new();
+    let mut line: ArrayVec<u8, LINE_ROOM> = ArrayVec::new();
+    if write_line(answer, &mut line).is_ok() {
+        return send(line.as_slice(), writer);
+    }
+    write_long_line(answer, writer)
+}
+
+/// As `write_reply`, with room for the lines of long lists.
+fn write_long_line<W: Write>(answer: &Answer, writer: &mut W) -> Result<(), WriteFault>
+    ensures line { IfSome (words answer.now) (λ text. Sends (W.contents writer.old) (W.contents writer.new) result (text ++ 10 ∷ [])) }
+    ensures none { IfNone (words answer.now) (IsErr result × Keeps (W.contents writer.old) (W.contents writer.new)) }
+{
+    let mut line: ArrayVec<u8, LONG_LINE_ROOM> = ArrayVec::new();
     if write_line(answer, &mut line).is_ok() {
         return send(line.as_slice(), writer);
     }

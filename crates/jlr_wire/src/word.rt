@@ -6,6 +6,7 @@ ghost use Rattle.jlr_wire.specs.Fields.{mode_of, name_of, data_of};
 
 use jlr_device::Mode;
 use jlr_machine::text::{Data, Name};
+use std::marker::Model;
 
 /// The most bytes of a write.
 const DATA_LIMIT: usize = 200;
@@ -32,9 +33,44 @@ pub fn name(text: &[u8]) -> Option<Name>
     Name::from_slice(text)
 }
 
+/// The hexadecimal digits of 1 to 200 bytes, where they stand in their line. Contracts see the bytes.
+#[derive(Drop)]
+pub struct Digits<'a> {
+    text: &'a [u8],
+}
+
+impl<'a> Model for Digits<'a> {
+    ghost use Rattle.std.specs.Prelude.{List, ℕ, ◌≡◌, Some};
+    ghost use Rattle.jlr_wire.specs.Fields.{bytes_of, data_of};
+
+    ghost Value = { List ℕ };
+
+    ghost view = { λ d. bytes_of d.text.now };
+
+    ghost invariant = { λ d. data_of d.text.now ≡ Some (bytes_of d.text.now) };
+}
+
+impl<'a> Digits<'a> {
+    /// The digits, or `None` where they are none of 1 to 200 bytes.
+    pub(crate) fn parse(text: &'a [u8]) -> Option<Digits<'a>>
+        ensures { result ≡ data_of text.now }
+    {
+        data(text)?;
+        Some(Digits { text })
+    }
+
+    /// The bytes that they spell.
+    pub fn decode(&self) -> Data
+        ensures { result ≡ self.now }
+    {
+        data(self.text).unwrap()
+    }
+}
+
 /// The 1 to 200 bytes that these hexadecimal digits spell.
+#[inline(never)]
 #[tactic(auto, unfolding(crate::specs::Fields::data_of))]
-pub fn data(digits: &[u8]) -> Option<Data>
+fn data(digits: &[u8]) -> Option<Data>
     ensures { result ≡ data_of digits.now }
 {
     let count = digits.len() / 2;

@@ -3,5 +3,5 @@ use Rattle.jlr_wire.proofs.path.Path.as_str.Goals as goal
 
 pub unwrap-requires : goal.unwrap-requires
 unwrap-requires c =
-    let utf8 = path_is_utf8 c.as_slice.result.now (rw (c.as_slice.ensures.bytes) c.self.invariant) in
+    let utf8 = path_is_utf8 _ c.self.invariant in
     ok_unless c.from_utf8.result _ _ c.from_utf8.ensures.cases (λ e h. h.0 utf8)
