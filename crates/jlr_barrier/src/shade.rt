@@ -12,7 +12,7 @@ ghost use Rattle.jlr_marks.specs.Marking.{Shaded, marked};
 ghost use Rattle.jlr_barrier.specs.Snapshots.{RefersTo};
 ghost use Rattle.jlr_barrier.specs.Scans.{awaits};
 
-use jlr_cells::{Cells, Links, Visited};
+use jlr_cells::{Cells, Kind, Links, Visited};
 use jlr_machine::object::{CleanState, RefState, Reference};
 use jlr_marks::Marks;
 use jlr_roots::{Names, Roots};
@@ -106,16 +106,17 @@ pub(crate) fn note(cells: &Cells, slot: Slot, marks: &mut Marks)
     }
 }
 
-/// What the reference or the cleanable at a slot refers to, if there is one and it was not cleared.
+/// What the reference or the cleanable at a slot refers to, if there is one and it was not cleared. It reads the cells of those alone.
 fn any_referent(cells: &Cells, slot: Slot) -> Option<Slot>
     ensures { result ≡ option_and_then any_referent (at cells.now slot) }
 {
-    if let Some(reference) = cells.reference(slot) {
-        return reference.referent;
-    }
-    match cells.cleanable(slot) {
-        Some(cleanable) => cleanable.referent,
-        None => None,
+    match cells.kind(slot) {
+        Some(Kind::Reference(_)) => cells.referent(slot),
+        Some(Kind::Cleanable) => match cells.cleanable(slot) {
+            Some(cleanable) => cleanable.referent,
+            None => None,
+        },
+        _ => None,
     }
 }
 

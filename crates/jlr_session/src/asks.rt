@@ -34,7 +34,12 @@ where
             Command::Open { mode, path } => open(heap, device, mutator, *mode, path.as_str()),
             Command::Connect { path } => connect(heap, device, mutator, path.as_str()),
             Command::Read { guard, count } => read(heap, mutator, *guard, *count),
-            Command::Write { guard, bytes } => write(heap, mutator, *guard, bytes.decode().as_slice()),
+            Command::Write { guard, bytes } => write(
+                heap,
+                mutator,
+                *guard,
+                bytes.decode().as_slice(),
+            ),
             Command::Clean { cleanable } => work(
                 heap,
                 mutator,
