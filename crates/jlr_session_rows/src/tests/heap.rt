@@ -25,7 +25,7 @@ impl Heap {
 impl CarryOut<Heap, ()> for Heap {
     ghost carries = { record { command = λ _ _ _ _. Unit {0}; settling = λ _ _. Unit {0} } };
 
-    fn carry_out(heap: &mut Heap, _device: &mut (), _command: &Command) -> Answer {
+    fn carry_out(heap: &mut Heap, _device: &mut (), _command: &Command<'_>) -> Answer {
         if !heap.counts {
             return Answer::Done;
         }

@@ -6,7 +6,7 @@ use jlr_wire::command::Command;
 use std::str::SplitWhitespace;
 
 /// Whether the command is the case of these words.
-pub(super) fn is_case(command: &Command, wanted: &str) -> bool {
+pub(super) fn is_case(command: &Command<'_>, wanted: &str) -> bool {
     let mut words = wanted.split_whitespace();
     match words.next() {
         Some(case) => is_object_case(command, case, &mut words) && words.next().is_none(),
@@ -84,7 +84,7 @@ fn are_bytes(bytes: &[u8], words: &mut SplitWhitespace<'_>) -> bool {
 }
 
 // Commands about objects.
-fn is_object_case(command: &Command, case: &str, words: &mut SplitWhitespace<'_>) -> bool {
+fn is_object_case(command: &Command<'_>, case: &str, words: &mut SplitWhitespace<'_>) -> bool {
     match command {
         Command::New { layout } => case == "New" && is_layout(layout, words),
         Command::Put {
@@ -121,7 +121,7 @@ fn is_object_case(command: &Command, case: &str, words: &mut SplitWhitespace<'_>
 }
 
 // Commands about references and queues.
-fn is_reference_case(command: &Command, case: &str, words: &mut SplitWhitespace<'_>) -> bool {
+fn is_reference_case(command: &Command<'_>, case: &str, words: &mut SplitWhitespace<'_>) -> bool {
     match command {
         Command::Soft { referent, queue } => case == "Soft" && are_both(referent, queue, words),
         Command::Weak { referent, queue } => case == "Weak" && are_both(referent, queue, words),
@@ -143,7 +143,7 @@ fn is_reference_case(command: &Command, case: &str, words: &mut SplitWhitespace<
 }
 
 // Commands about cleaners, files and sockets.
-fn is_cleaning_case(command: &Command, case: &str, words: &mut SplitWhitespace<'_>) -> bool {
+fn is_cleaning_case(command: &Command<'_>, case: &str, words: &mut SplitWhitespace<'_>) -> bool {
     match command {
         Command::Cleaner => case == "Cleaner",
         Command::Register {
@@ -166,7 +166,9 @@ fn is_cleaning_case(command: &Command, case: &str, words: &mut SplitWhitespace<'
             case == "Read" && is_handle(guard, words) && is_byte(*count, words)
         }
         Command::Write { guard, bytes } => {
-            case == "Write" && is_handle(guard, words) && are_bytes(bytes.as_slice(), words)
+            case == "Write"
+                && is_handle(guard, words)
+                && are_bytes(bytes.decode().as_slice(), words)
         }
         Command::Close { guard } => case == "Close" && is_handle(guard, words),
         _ => is_other_case(command, case, words),
@@ -188,7 +190,7 @@ fn full_word(mode: &FullMode) -> &'static str {
 }
 
 // Commands about names, and about no single object.
-fn is_other_case(command: &Command, case: &str, words: &mut SplitWhitespace<'_>) -> bool {
+fn is_other_case(command: &Command<'_>, case: &str, words: &mut SplitWhitespace<'_>) -> bool {
     match command {
         Command::Bind { name, object } => {
             case == "Bind" && is_text(name.as_slice(), words) && is_handle(object, words)

@@ -11,7 +11,7 @@ use std::test::Fail;
 /// Takes at most so many bytes in one write, and so many in all. It counts its writes.
 #[derive(Drop)]
 struct Narrow {
-    taken: ArrayVec<u8, 4096>,
+    taken: ArrayVec<u8, 8453>,
     step: usize,
     room: usize,
     writes: usize,
@@ -110,7 +110,7 @@ fn sends(alloc: Global, row: &str) -> Result<bool, AllocError> {
     }
 }
 
-// How many writes a reply takes, and how many bytes it has. The longest line that goes out by one write has 512.
+// How many writes a reply takes, and how many bytes it has. The longest lines are those of 256 names and of 256 faults.
 const WRITES: &str = "
     done -> 1 3
     int -9223372036854775808 -> 1 25
@@ -118,7 +118,10 @@ const WRITES: &str = "
     stat 18446744073709551615 18446744073709551615 18446744073709551615 18446744073709551615 18446744073709551615 -> 1 110
     data (a5×200) -> 1 406
     notes (4294967295 ×45) 1234567 123 -> 1 512
-    notes (4294967295 ×45) 1234567 1234 -> 96 513
+    notes (4294967295 ×45) 1234567 1234 -> 1 513
+    notes (4294967295 ×256) -> 1 2821
+    faults (18446744073709551615:NotFound ×256) -> 1 7685
+    names (a_name_of_thirty_two_characters0 ×256) -> 1 8453
 ";
 
 // Whether the answer is written by so many writes, in so many bytes.
