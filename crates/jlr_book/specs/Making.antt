@@ -10,7 +10,7 @@ use Rattle.jlr_book.specs.declared.room.EntryRoom.{EntryRoom}
 
 -- a whole choice, or no room where no collection comes
 abbrev pub SuitsChoice : Machine → Option Ask → ChoiceRoom → Type 0
-SuitsChoice m ask (Collecting choice) = length m.objects ≤ choice.cells
+SuitsChoice m ask (Collecting choice) = length m.objects ≤ choice.value.cells
 SuitsChoice m ask Plain = may_collect m ask ≡ false
 
 pub record SuitsEntry (m : Machine) (ask : Ask) (room : EntryRoom) : Type 0 where

@@ -1,4 +1,4 @@
-use Rattle.std.proofs.Common.{subst, sym, ◌∙◌, ◌≡◌, false}
+use Rattle.std.proofs.Common.{None, subst, sym, ◌∙◌, ◌≡◌, false}
 use Rattle.jlr_histories.specs.Collecting.{may_collect}
 use Rattle.jlr_book.proofs.Entering.{answered, chosen_plainly, writes_noted}
 use Rattle.jlr_book.proofs.entry.record_plainly.Goals as goal
