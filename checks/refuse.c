@@ -1,4 +1,5 @@
-/* Loaded before the C library: refuses the allocation of the process whose number stands in REFUSED, and says so on the standard error. */
+/* Loaded before the C library: refuses the allocation of the process whose number stands in REFUSED, whichever of its threads makes it, and
+   says so on the standard error. */
 #include <stdlib.h>
 #include <unistd.h>
 
@@ -14,7 +15,7 @@ __attribute__((constructor)) static void start(void) {
 
 static int is_refused(void) {
     static const char said[] = "one allocation was refused\n";
-    return ++made == refused && write(2, said, sizeof said - 1) > 0;
+    return __atomic_add_fetch(&made, 1, __ATOMIC_RELAXED) == refused && write(2, said, sizeof said - 1) > 0;
 }
 
 void *malloc(size_t size) { return is_refused() ? 0 : __libc_malloc(size); }

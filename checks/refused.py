@@ -20,40 +20,84 @@ import tempfile
 
 HERE = os.path.dirname(os.path.abspath(__file__))
 SAID = "one allocation was refused"
+TOLD = "refheap: "
 NOTHING, DONE_NOTHING = "same 0 0", "yes"
 
-# The worked sessions: options, commands, and the replies that the description of the protocol gives them.
+
+def words(text):
+    """What `; ` parts. `3 to 5: dup 1 / drop {}` stands for `dup 1; drop 3; dup 1; drop 4; dup 1; drop 5`."""
+    parts = []
+    for part in text.split("; "):
+        numbers, is_range, lines = part.partition(": ")
+        if is_range:
+            first, last = (int(number) for number in numbers.split(" to "))
+            parts += [line.replace("{}", str(number)) for number in range(first, last + 1) for line in lines.split(" / ")]
+        else:
+            parts.append(part)
+    return parts
+
+
+class Session:
+    """A worked session: options, commands, and the replies that the description of the protocol gives them."""
+
+    def __init__(self, options, commands, answers, last="\n", status=0, alone=False):
+        self.options = options.split()
+        self.name = f"{options} {commands}".strip()[:60]
+        self.commands = words(commands)
+        self.answers = words(answers)
+        self.last = last
+        self.status = status
+        self.alone = alone
+
+    def text(self, commands):
+        """The bytes of commands, the last of which may be unfinished."""
+        return ("\n".join(commands) + self.last).encode()
+
+
+# Where a session is `alone` its replies are not those of a server: that collects by itself.
 SESSIONS = [
-    ("", "new -; weak 1 0; drop 1; gc; deref 2", "= 1; = 2; ok; ok; = 0"),
-    ("", "queue; new -; weak 2 1; drop 2; gc; enqueued 3; poll 1; same 2 3; poll 1; enqueue 3",
-     "= 1; = 2; = 3; ok; ok; yes; = 2; yes; = 0; no"),
-    ("", "new r; new -; put 1 0 2; soft 1 0; soft 2 0; drop 1; drop 2; gc; deref 3; deref 4; drop 1; drop 2; gc soft; deref 3; deref 4",
-     "= 1; = 2; ok; = 3; = 4; ok; ok; ok; = 1; = 2; ok; ok; ok; = 0; = 0"),
-    ("", "queue; new -; weak 2 1; clear 3; drop 2; gc; poll 1; enqueued 3; enqueue 3; poll 1; enqueue 3",
-     "= 1; = 2; = 3; ok; ok; ok; = 0; no; yes; = 2; no"),
-    ("", "cleaner; new -; register 1 2 7; drop 2; gc; notes; clean 3; notes", "= 1; = 2; = 3; ok; ok; list 7; ok; list 7"),
-    ("", "open r /nowhere/x; stat; open w row; write 1 00ff; drop 1; gc; open r row; read 1 200; read 1 200; stat",
-     "fault notfound; stat 2 0 0 0 0; = 1; wrote 2; ok; ok; = 1; data 00ff; end; stat 3 1 1 1 0"),
-    ("", "open w f; close 1; read 1 5; close 1; stat", "= 1; ok; ! 12; ok; stat 2 0 1 1 0"),
-    ("", "new -; bind b 1; bind a 1; bind b 1; names; drop 1; gc; find a; unbind b; names",
-     "= 1; ok; ok; ok; list b a; ok; ok; = 1; ok; list a"),
-    ("--soft-age 1", "new -; soft 1 0; drop 1; gc; deref 2; drop 1; gc; deref 2", "= 1; = 2; ok; ok; = 1; ok; ok; = 1"),
-    ("", "open w a; open w b; open w c; drop 2; gc; faults; stat", "= 1; = 2; = 3; ok; ok; list; stat 5 2 1 1 0"),
-]
-# Queues, names, files and notes in numbers, so that what holds them grows several times.
-MANY = 40
-SESSIONS += [
-    ("", "; ".join(["queue", "new -"] + ["weak 2 1"] * MANY
-                   + [f"enqueue {3 + number}" for number in range(MANY)] + ["poll 1; drop 43"] * MANY + ["poll 1"]),
-     "; ".join(["= 1", "= 2"] + [f"= {3 + number}" for number in range(MANY)] + ["yes"] * MANY + ["= 43; ok"] * MANY + ["= 0"])),
-    ("", "; ".join(["new -"] + [f"bind n{number} 1" for number in range(MANY)] + ["names"]),
-     "; ".join(["= 1"] + ["ok"] * MANY + [" ".join(["list"] + [f"n{number}" for number in range(MANY)])])),
-    ("--resources 64", "; ".join([f"open w f{number}" for number in range(MANY)] + ["close 7; stat"]),
-     "; ".join([f"= {1 + number}" for number in range(MANY)] + [f"ok; stat {2 * MANY} {MANY - 1} 1 1 0"])),
-    ("", "; ".join(["cleaner", "new -"] + [f"register 1 2 {number}" for number in range(MANY)] + ["drop 2; gc; stat"]),
-     "; ".join(["= 1", "= 2"] + [f"= {3 + number}" for number in range(MANY)] + [f"ok; ok; stat {1 + MANY} 0 {MANY} {MANY} 0"])),
-    ("", "; ".join(["queue", "new -"] + ["weak 2 1"] * MANY + ["drop 2; gc"] + ["poll 1; drop 2"] * MANY + ["poll 1"]),
-     "; ".join(["= 1", "= 2"] + [f"= {3 + number}" for number in range(MANY)] + ["ok; ok"] + ["= 2; ok"] * MANY + ["= 0"])),
+    Session("", "new -; weak 1 0; drop 1; gc; deref 2", "= 1; = 2; ok; ok; = 0"),
+    Session("", "queue; new -; weak 2 1; drop 2; gc; enqueued 3; poll 1; same 2 3; poll 1; enqueue 3",
+            "= 1; = 2; = 3; ok; ok; yes; = 2; yes; = 0; no"),
+    Session("", "new -; weak 1 0; weak 1 0; drop 1; gc; deref 2; deref 3", "= 1; = 2; = 3; ok; ok; = 0; = 0"),
+    Session("", "new r; new -; put 1 0 2; soft 1 0; soft 2 0; drop 1; drop 2; gc; deref 3; deref 4; drop 1; drop 2; gc soft; deref 3; deref 4",
+            "= 1; = 2; ok; = 3; = 4; ok; ok; ok; = 1; = 2; ok; ok; ok; = 0; = 0"),
+    Session("", "queue; new r; weak 2 1; put 2 0 3; drop 3; drop 2; gc; poll 1", "= 1; = 2; = 3; ok; ok; ok; ok; = 0"),
+    Session("", "queue; new -; weak 2 1; clear 3; drop 2; gc; poll 1; enqueued 3; enqueue 3; poll 1; enqueue 3",
+            "= 1; = 2; = 3; ok; ok; ok; = 0; no; yes; = 2; no"),
+    Session("", "new -; phantom 1 0; deref 2; refers 2 1; refers 2 0; drop 1; gc; refers 2 0", "= 1; = 2; = 0; yes; no; ok; ok; yes"),
+    Session("--cells 16", "1 to 16: new -; new -; drop 1; new -", "1 to 16: = {}; ! 2; ok; = 1"),
+    Session("--cells 16", "1 to 8: new - / soft 1 0 / drop 1; new -; 2 to 9: deref {}; stat",
+            "2 to 9: = 1 / = {} / ok; = 1; 2 to 9: = 0; stat 9 0 0 0 0", alone=True),
+    Session("", "cleaner; new -; register 1 2 7; drop 2; gc; notes; clean 3; notes", "= 1; = 2; = 3; ok; ok; list 7; ok; list 7"),
+    Session("", "open r /nowhere/x; stat; open w row; write 1 00ff; drop 1; gc; open r row; read 1 200; read 1 200; stat",
+            "fault notfound; stat 2 0 0 0 0; = 1; wrote 2; ok; ok; = 1; data 00ff; end; stat 3 1 1 1 0"),
+    # A device file cannot be synced, so its end is a fault.
+    Session("", "open w /dev/null; cleaner; new -; register 2 3 9; drop 1; gc; faults; drop 3; gc; notes; stat",
+            "= 1; = 2; = 3; = 4; ok; ok; list 1:other; ok; ok; list 9; stat 2 0 2 1 1"),
+    Session("", "; ".join(["x" * 512, "x" * 513, "put 1", "", "gc"]), "! 15; ! 16; ! 15; ! 15; ! 15", last="", status=4),
+    Session("", "get 9 0; dup 0; new ri; poll 1; get 1 2; get 1 1; setint 1 0 5; find x; queue; remove 2; weak 0 2; weak 1 1; "
+            "setint 1 1 -9223372036854775808; int 1 1; setint 1 1 9223372036854775808",
+            "! 3; ! 8; = 1; ! 5; ! 6; ! 7; ! 7; ! 9; = 2; ! 18; ! 8; ! 5; ok; int -9223372036854775808; ! 15", alone=True),
+    Session("", "open w f; close 1; read 1 5; close 1; stat", "= 1; ok; ! 12; ok; stat 2 0 1 1 0"),
+    Session("", "open w f; close 1; open w g; read 1 5", "= 1; ok; = 2; ! 12"),
+    Session("--resources 1", "open w f; open w g", "= 1; ! 19"),
+    Session("", "new -; bind b 1; bind a 1; bind b 1; names; drop 1; gc; find a; unbind b; names",
+            "= 1; ok; ok; ok; list b a; ok; ok; = 1; ok; list a"),
+    Session("", "new -; 1 to 256: bind n{} 1; bind m 1; bind n7 1", "= 1; 1 to 256: ok; ! 10; ok"),
+    Session("", "new -; 1 to 249: dup 1; dup 1; new -; weak 1 0; same 1 250", "1 to 250: = {}; ! 4; ! 4; ! 4; yes"),
+    Session("--soft-age 1", "new -; soft 1 0; drop 1; gc; gc; deref 2", "= 1; = 2; ok; ok; ok; = 0"),
+    Session("--soft-age 1", "new -; soft 1 0; drop 1; gc; deref 2; drop 1; gc; deref 2", "= 1; = 2; ok; ok; = 1; ok; ok; = 1"),
+    Session("--trace 64", "1 to 70: stat", "1 to 70: stat 0 0 0 0 0"),
+    Session("", "open w a; open w b; open w c; drop 2; gc; faults; stat", "= 1; = 2; = 3; ok; ok; list; stat 5 2 1 1 0"),
+    # Queues, names, files and notes in numbers, so that what holds them grows several times.
+    Session("", "queue; new -; 1 to 40: weak 2 1; 3 to 42: enqueue {}; 1 to 40: poll 1 / drop 43; poll 1",
+            "= 1; = 2; 3 to 42: = {}; 1 to 40: yes; 1 to 40: = 43 / ok; = 0"),
+    Session("", "new -; 10 to 49: bind n{} 1; names", "= 1; 10 to 49: ok; list " + " ".join(f"n{number}" for number in range(10, 50))),
+    Session("--resources 64", "1 to 40: open w f{}; close 7; stat", "1 to 40: = {}; ok; stat 80 39 1 1 0"),
+    Session("", "cleaner; new -; 1 to 40: register 1 2 {}; drop 2; gc; stat", "1 to 42: = {}; ok; ok; stat 41 0 40 40 0"),
+    Session("", "queue; new -; 1 to 40: weak 2 1; drop 2; gc; 1 to 40: poll 1 / drop 2; poll 1",
+            "= 1; = 2; 3 to 42: = {}; ok; ok; 1 to 40: = 2 / ok; = 0"),
 ]
 
 
@@ -64,15 +108,14 @@ class Wrong(Exception):
 class Run:
     """What a run of the program said: its replies, how many of them went out before the refused allocation, and its status."""
 
-    def __init__(self, program, library, folder, options, commands, number):
-        text = "".join(command + "\n" for command in commands)
-        words = [program, "run"] + options.split()
+    def __init__(self, program, library, folder, session, commands, number):
         environment = dict(os.environ, LD_PRELOAD=library, REFUSED=str(number))
-        ended = subprocess.run(words, input=text.encode(), stdout=subprocess.PIPE, stderr=subprocess.STDOUT, cwd=folder, env=environment)
+        ended = subprocess.run([program, "run"] + session.options, input=session.text(commands), cwd=folder, env=environment,
+                               stdout=subprocess.PIPE, stderr=subprocess.STDOUT)
         lines = ended.stdout.decode().splitlines()
         self.was_refused = SAID in lines
         self.before = lines.index(SAID) if self.was_refused else len(lines)
-        self.replies = [line for line in lines if line != SAID]
+        self.replies = [line for line in lines if line != SAID and not line.startswith(TOLD)]
         self.status = ended.returncode
 
 
@@ -81,48 +124,66 @@ def check(condition, what, run):
         raise Wrong(f"{what}: status {run.status}, {run.replies}")
 
 
-def check_once_more(again, commands, answers, place, command, answer, what):
+def check_once_more(again, session, place, command, answer, what):
     """Runs the session again with a command more, and expects one reply more."""
-    run = again(commands[:place] + [command] + commands[place:])
-    check(run.status == 0 and run.replies == answers[:place] + [answer] + answers[place:], what, run)
+    run = again(session.commands[:place] + [command] + session.commands[place:])
+    check(run.status == session.status and run.replies == session.answers[:place] + [answer] + session.answers[place:], what, run)
 
 
-def check_refused(run, again, commands, answers):
+def check_refused(run, again, session):
     """Checks a run in which an allocation was refused. Gives the kind of the place where it was."""
+    answers = session.answers
     if run.status in (2, 5):
         check(run.before == 0 and not set(run.replies) & set(answers), "before the session", run)
         return "before the session"
     place = run.before
-    check(run.status == 0 and run.replies[:place] == answers[:place], "the replies before it", run)
+    check(run.status == session.status and run.replies[:place] == answers[:place], "the replies before it", run)
     if place < len(answers) and run.replies[place] == "! 1":
-        check_once_more(again, commands, answers, place, commands[place], "! 1", "a command that was refused")
+        check_once_more(again, session, place, session.commands[place], "! 1", "a command that was refused")
         return "in a command"
     if run.replies == answers:
         return "without a trace"
-    check_once_more(again, commands, answers, place, NOTHING, DONE_NOTHING, "a settling that was cut short")
+    check_once_more(again, session, place, NOTHING, DONE_NOTHING, "a settling that was cut short")
     return "in a settling"
 
 
-def try_session(program, library, options, commands, answers):
+def try_session(program, library, session):
     """Refuses each allocation of a session in turn. Gives how often each kind of place was met."""
     places = {}
     number = 0
     while True:
         number += 1
 
-        def again(lines):
+        def again(commands):
             with tempfile.TemporaryDirectory() as folder:
-                return Run(program, library, folder, options, lines, number)
+                return Run(program, library, folder, session, commands, number)
 
-        run = again(commands)
+        run = again(session.commands)
         if not run.was_refused:
-            check(run.status == 0 and run.replies == answers, "with ample memory", run)
+            check(run.status == session.status and run.replies == session.answers, "with ample memory", run)
             return places
         try:
-            place = check_refused(run, again, commands, answers)
+            place = check_refused(run, again, session)
         except Wrong as wrong:
             raise Wrong(f"allocation {number}: {wrong}") from None
         places[place] = places.get(place, 0) + 1
+
+
+def library_in(folder):
+    """The library that refuses allocations, built in a folder."""
+    library = os.path.join(folder, "refuses.so")
+    subprocess.run(["cc", "-shared", "-fPIC", "-O1", "-o", library, os.path.join(HERE, "refuse.c")], check=True)
+    return library
+
+
+def told(name, tried):
+    """Says what came of a case. Whether it went wrong."""
+    try:
+        print("ok     ", name, "--", ", ".join(f"{count} {place}" for place, count in sorted(tried().items())), flush=True)
+    except Wrong as wrong:
+        print("WRONG  ", name, "--", wrong, flush=True)
+        return True
+    return False
 
 
 def main():
@@ -131,15 +192,9 @@ def main():
     program = os.path.abspath(parser.parse_args().program)
     failed = False
     with tempfile.TemporaryDirectory() as folder:
-        library = os.path.join(folder, "refuses.so")
-        subprocess.run(["cc", "-shared", "-fPIC", "-O1", "-o", library, os.path.join(HERE, "refuse.c")], check=True)
-        for options, commands, answers in SESSIONS:
-            try:
-                places = try_session(program, library, options, commands.split("; "), answers.split("; "))
-                print("ok     ", commands[:60], "--", ", ".join(f"{count} {place}" for place, count in sorted(places.items())))
-            except Wrong as wrong:
-                failed = True
-                print("WRONG  ", commands[:60], "--", wrong)
+        library = library_in(folder)
+        for session in SESSIONS:
+            failed |= told(session.name, lambda: try_session(program, library, session))
     sys.exit(failed)
 
 

@@ -55,7 +55,7 @@ fn forge<L: Ledger>(seat: &mut Seat<L>, how: Forgery) -> Result<(), Fail> {
         }
         Forgery::NumberRaised => {
             if let Some(item) = seat.items.last_mut() {
-                item.number = 9;
+                item.number = 99;
             }
         }
         Forgery::Nothing | Forgery::SeatMissing(_) | Forgery::TwoMissing => {}
@@ -81,12 +81,23 @@ fn keep_back<L: Ledger>(seats: &mut Vec<Seat<L>>, how: Forgery) {
     }
 }
 
-// A hall of two sessions, whose first joins and asks twice, and then this is done.
+// The second session asks so often. Its 62nd ask cuts the trace.
+fn go_on<L: Ledger, T: Wait>(rt: &T, hall: &Hall<u32, L>, seats: &mut Vec<Seat<L>>, times: usize) {
+    let mutator = Mutator::new(1);
+    if let Some(seat) = seats.get_mut(1) {
+        for _ in 0..times {
+            let _ = seat.ask_once(rt, hall, None, Event::Stat { mutator });
+        }
+    }
+}
+
+// A hall of two sessions, whose first joins and asks twice, and then this is done; and then the second asks so often.
 fn closed_with<L: Ledger, T: Wait>(
     rt: &T,
     alloc: Global,
     limits: Limits,
     how: Forgery,
+    later: usize,
     blank: Blank,
 ) -> Result<Option<u8>, Fail>
     requires name { blank.name ≡ L.name }
@@ -99,6 +110,7 @@ fn closed_with<L: Ledger, T: Wait>(
         let _ = seat.ask_once(rt, &hall, None, Event::Names { mutator: me() });
         forge(seat, how)?;
     }
+    go_on(rt, &hall, &mut seats, later);
     keep_back(&mut seats, how);
     match hall.close(seats) {
         Ok(_) => Ok(None),
@@ -107,27 +119,31 @@ fn closed_with<L: Ledger, T: Wait>(
     }
 }
 
-fn closed<T: Wait>(rt: &T, alloc: Global, how: Forgery) -> Result<Option<u8>, Fail> {
+fn closed<T: Wait>(rt: &T, alloc: Global, how: Forgery, later: usize) -> Result<Option<u8>, Fail> {
     let limits = Limits::checked(16, 2, 1, 0, 64, 1).ok().ok_or("limits")?;
-    closed_with::<Brand, T>(rt, alloc, limits, how, Blank::new(5))
+    closed_with::<Brand, T>(rt, alloc, limits, how, later, Blank::new(5))
 }
 
 #[test]
 fn a_close_finds_what_was_changed(rt: HostRuntime) -> Result<(), Fail> {
     let rows = [
-        (Forgery::Nothing, None),
-        (Forgery::AnswerChanged, Some(0)),
-        (Forgery::ItemLeftOut, Some(0)),
-        (Forgery::ItemTooMany, Some(0)),
-        (Forgery::TwoSwapped, Some(0)),
-        (Forgery::NumberRaised, Some(0)),
-        (Forgery::SeatMissing(0), Some(0)),
-        (Forgery::SeatMissing(2), Some(2)),
-        (Forgery::SeatMissing(4), Some(4)),
-        (Forgery::TwoMissing, Some(1)),
+        (Forgery::Nothing, 0, None),
+        (Forgery::AnswerChanged, 0, Some(0)),
+        (Forgery::ItemLeftOut, 0, Some(0)),
+        (Forgery::ItemTooMany, 0, Some(0)),
+        (Forgery::TwoSwapped, 0, Some(0)),
+        (Forgery::NumberRaised, 0, Some(0)),
+        (Forgery::SeatMissing(0), 0, Some(0)),
+        (Forgery::SeatMissing(2), 0, Some(2)),
+        (Forgery::SeatMissing(4), 0, Some(4)),
+        (Forgery::TwoMissing, 0, Some(1)),
+        // Just before a cut.
+        (Forgery::Nothing, 62, None),
+        (Forgery::TwoSwapped, 62, Some(0)),
+        (Forgery::NumberRaised, 62, Some(0)),
     ];
-    for (how, wanted) in rows {
-        assert_eq!(rt; closed(&rt, rt.alloc(), how)?, wanted);
+    for (how, later, wanted) in rows {
+        assert_eq!(rt; closed(&rt, rt.alloc(), how, later)?, wanted);
     }
     Ok(())
 }

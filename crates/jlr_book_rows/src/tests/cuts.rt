@@ -108,6 +108,29 @@ const LISTS: &str = "
     waits 2 no
     trace 0 23
 
+-- The name keeps the guard, and the resource is idle: the next session takes it out.
+== a session that leaves after a call leaves its resource idle
+    join -> done
+    prepare -> prepared
+    opened 5 -> handle 1
+    bind f 1 -> done
+    check_out 1 -> out 5
+    check_in 2 6 -> wrote 2
+    leave -> done
+    trace 0 7
+    join -> done
+    find f -> handle 1
+    check_out 1 -> out 6
+
+== an open that failed lets its mutator leave
+    join -> done
+    prepare -> prepared
+    leave -> refused Busy
+    trace 0 2
+    opened Denied -> fault Denied
+    leave -> done
+    trace 0 4
+
 == a cut by hand gives an open cycle up, and marking is no entry
     join -> done
     new -> handle 1

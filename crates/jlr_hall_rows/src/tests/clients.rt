@@ -3,7 +3,7 @@ use jlr_device::gate::Gate;
 use jlr_prog::server::Acceptor;
 use jlr_types::Fault;
 use std::alloc::Global;
-use std::io::{self, Read, Write};
+use std::io::{self, ErrorKind, Read, Write};
 use std::sync::atomic::{AtomicU64, Ordering};
 use std::thread;
 use std::time::Duration;
@@ -29,6 +29,8 @@ pub(super) struct Client {
     right: AtomicU64,
     /// Whether the last line came back as it was to.
     last_right: AtomicU64,
+    /// How many lines it takes: one after those fails.
+    takes: u64,
 }
 
 /// What a client waits for before it comes.
@@ -43,6 +45,11 @@ pub(super) enum After {
 
 impl Client {
     pub(super) fn new(commands: &'static str, answers: &'static str) -> Self {
+        Client::taking(commands, answers, u64::MAX)
+    }
+
+    /// One that takes so many lines.
+    pub(super) fn taking(commands: &'static str, answers: &'static str, takes: u64) -> Self {
         Client {
             commands,
             answers,
@@ -51,6 +58,7 @@ impl Client {
             replies: AtomicU64::new(0),
             right: AtomicU64::new(0),
             last_right: AtomicU64::new(0),
+            takes,
         }
     }
 
@@ -156,6 +164,9 @@ fn end_line(client: &Client, line: &mut Vec<u8>) {
 
 impl Write for Replies<'_> {
     fn write(&mut self, bytes: &[u8]) -> io::Result<usize> {
+        if self.client.replies() >= self.client.takes {
+            return Err(ErrorKind::Other.into());
+        }
         for byte in bytes {
             if *byte == b'\n' {
                 end_line(self.client, &mut self.line);

@@ -81,7 +81,8 @@ const SESSIONS: &str = "
         -> fault other; = 1; ! 19
 
     a writer may fail while a file is open:
-    lines 2, ends WriteFault | open w a; bind f 1; write 1 0102
+    # join, prepare, opened, bind, check out, check in, leave
+    lines 2, ends WriteFault, book 0 7 | open w a; bind f 1; write 1 0102
         -> = 1; ok
 ";
 

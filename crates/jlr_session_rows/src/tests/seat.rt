@@ -185,6 +185,7 @@ fn name_of(event: &Event<ScriptResource>) -> &'static str {
         Event::Stat { .. } => "Stat",
         Event::MakeQueue { .. } => "MakeQueue",
         Event::Names { .. } => "Names",
+        Event::Bind { .. } => "Bind",
         _ => "other",
     }
 }

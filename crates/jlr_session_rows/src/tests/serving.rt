@@ -38,6 +38,13 @@ const ROWS: &[Row] = &[
     ),
     Row::Asked("Join; Prepare; Opened ok; MakeQueue; Out; In wrote; Leave"),
     Row::Settled(2),
+    Row::Play(
+        "open w a\nbind f 1\nwrite 1 0102\n",
+        SessionEnd::WriteFault,
+        "= 1\nok\n",
+    ),
+    Row::Asked("Join; Prepare; Opened ok; Bind; Out; In wrote; Leave"),
+    Row::Settled(2),
     Row::Case("a failed flush ends a session"),
     Row::Room(99),
     Row::Flushes(1),
