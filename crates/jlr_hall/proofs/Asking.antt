@@ -1,23 +1,26 @@
 -- What a seat is asked under the lock is noted once, under the number of its entry, or declined.
-use Rattle.std.proofs.Common.{◌≡◌, ◌≢◌, ◌⊎◌, ◌<◌, ◌≤◌, ◌+◌, ◌^◌, ℕ, Bool, true, false, cond, List, [], ◌∷◌, ◌++◌, length, length-append, Option, Some, None, inl, inr, refl, sym, ◌∙◌, ap, subst, arith, nat_lt}
+use Rattle.std.proofs.Common.{◌≡◌, ◌≢◌, ◌⊎◌, ◌<◌, ◌≤◌, ◌+◌, ◌^◌, ℕ, Bool, true, false, cond, List, [], ◌∷◌, ◌++◌, length, length-append, Option, Some, None, inl, inr, refl, sym, ◌∙◌, ap, subst, arith, nat_lt, is_some}
 use Rattle.std.specs.Option.{option_to_list}
 use Rattle.jlr_types.specs.declared.Refusal.{Refusal}
 use Rattle.jlr_types.specs.declared.Refusal.TheVariants.{NoMemory, Exhausted}
+use Rattle.jlr_types.specs.declared.Work.TheVariants.{Note, Resource as OnResource}
 use Rattle.jlr_machine.specs.declared.machine.Machine.{Machine}
 use Rattle.jlr_machine.specs.declared.ask.Ask.{Ask}
 use Rattle.jlr_machine.specs.declared.ask.Ask.TheVariants.{Enqueue, HandOver, Prepare, Names, Notes as NotesAsk, Faults}
 use Rattle.jlr_machine.specs.declared.ask.Answer.{Answer}
 use Rattle.jlr_machine.specs.declared.ask.Answer.TheVariants.{Refused}
+use Rattle.jlr_machine.specs.declared.ask.Answer.TheVariants as answer
 use Rattle.jlr_machine.specs.declared.entry.Chosen.{Chosen}
 use Rattle.jlr_machine.specs.declared.entry.Entry.{Entry}
 use Rattle.jlr_machine.specs.Refusals.{is_end}
 use Rattle.jlr_resource.specs.Resources.{Resources}
 use Rattle.jlr_event.specs.declared.event.Event.{Event}
 use Rattle.jlr_event.specs.declared.event.Reply.{Reply}
-use Rattle.jlr_event.specs.declared.event.Reply.TheVariants.{Answered}
-use Rattle.jlr_event.specs.Events.{ask_of, answer_in, resource_of_event}
+use Rattle.jlr_event.specs.declared.event.Reply.TheVariants.{Answered, Marked}
+use Rattle.jlr_event.specs.Events.{ask_of, answer_in, resource_of_event, resource_of_reply}
 use Rattle.jlr_core.specs.Cores.{Kept}
 use Rattle.jlr_core.specs.Events.{Enters as EntersMachine, MayWantMemory, WantsMemory}
+use Rattle.jlr_core.specs.Flows.{GoesOut}
 use Rattle.jlr_core.specs.Steps.{IsStep}
 use Rattle.jlr_laws.proofs.Frames.{some_same}
 use Rattle.jlr_book.specs.Histories.{History, IsHistory, last, seated}
@@ -25,7 +28,7 @@ use Rattle.jlr_book.specs.Rules.{AsksBy, BookSteps, Cuts, EndsBy, Enters, Readie
 use Rattle.jlr_book.specs.Writing.{Stands}
 use Rattle.jlr_book.proofs.Replies.{ready_stands, stands_here}
 use Rattle.jlr_hall.specs.Seats.{Place, Unchanged, item, kept}
-use Rattle.jlr_hall.specs.Asking.{AskedFor, Declined, DeclinedFor, Notes, NotesWith, needs}
+use Rattle.jlr_hall.specs.Asking.{AskedFor, Declined, DeclinedFor, HasItsResource, Notes, NotesWith, needs}
 
 -- no end of a call wants memory
 none_at_ends : {R : Type 0} (m : Machine) (t : Resources R) (ask : Ask) → is_end ask ≡ true → MayWantMemory m t ask → ⊥
@@ -172,3 +175,40 @@ declined_by_seat {R} old mid e reply (Some ask) same u is room some =
         | false ↦ λ _. inl refl
       ] refl;
     })))
+
+-- ---- A job comes with its resource
+
+out_by : {R : Type 0} (t : Resources R) (came : Option R) (reply : Reply R) → GoesOut t came (answer_in reply) (resource_of_reply reply) → HasItsResource reply
+out_by {R} t came (Answered (answer.Job action (Note n)) resource) out = ap {A = Option R} {B = Bool} is_some out
+out_by t came (Answered (answer.Job action (OnResource rid)) None) out = absurd out
+out_by t came (Answered (answer.Job action (OnResource rid)) (Some value)) out = refl
+out_by t came (Answered answer resource) out = tt
+out_by t came (Marked progress) out = tt
+
+refused_without : {R : Type 0} (reply : Reply R) (by : Refusal) (resource : Option R) → reply ≡ Answered (Refused by) resource → HasItsResource reply
+refused_without {R} reply by resource is = subst (λ (r : Reply R). HasItsResource r) (sym is) tt
+
+module _ {R : Type 0} (seat : ℕ) (h : History R) (e : Event R) (reply : Reply R) (new : History R) where
+  comes_by : (old core : Kept R) (chosen : Chosen) → IsStep old e reply chosen core → HasItsResource reply
+  comes_by old core chosen s = out_by old.table (resource_of_event e) reply s.goes_out
+
+  when_end : EndsBy seat h e reply new → HasItsResource reply
+  when_end (inl x) = comes_by h.core new.core x.0.chosen x.0.step
+  when_end (inr x) = comes_by h.core new.core x.steps.0 x.steps.1
+
+  when_ask : AsksBy seat h e reply new → HasItsResource reply
+  when_ask (inl x) = comes_by x.ready.core new.core x.enters.chosen x.enters.step
+  when_ask (inr x) = elim x.why [ inl w ↦ refused_without reply NoMemory (resource_of_event e) w.1 | inr w ↦ refused_without reply Exhausted (resource_of_event e) w.1 ]
+
+  comes_when : (asked : Option Ask) → StepsBy seat asked h e reply new → HasItsResource reply
+  comes_when None s = comes_by h.core new.core s.chosen s.step
+  comes_when (Some ask) s = elim (is_end ask) as (λ b. elim b as (λ _. Type 0) [ true ↦ EndsBy seat h e reply new | false ↦ AsksBy seat h e reply new ] → HasItsResource reply) [
+    | true ↦ when_end
+    | false ↦ when_ask
+  ] s
+
+  pub comes_with : BookSteps seat h e reply new → HasItsResource reply
+  comes_with s = comes_when (ask_of e) s
+
+pub declined_without : {R : Type 0} (reply : Reply R) (e : Event R) → reply ≡ Answered (Refused NoMemory) (resource_of_event e) → HasItsResource reply
+declined_without reply e is = refused_without reply NoMemory (resource_of_event e) is

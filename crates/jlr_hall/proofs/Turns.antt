@@ -1,19 +1,21 @@
 -- One ask more of a loop.
-use Rattle.std.proofs.Common.{◌≡◌, ℕ, List, [], ◌∷◌, ◌++◌, map, Option, Some, None, Result, Ok, Err, true, refl, ap, ◌∙◌, inl, inr, subst, sym, ◌⊎◌}
+use Rattle.std.proofs.Common.{◌≡◌, ℕ, List, [], ◌∷◌, ◌++◌, map, Option, Some, None, Result, Ok, Err, IfOk, true, refl, ap, ◌∙◌, inl, inr, subst, sym, ◌⊎◌}
 use Rattle.jlr_machine.specs.declared.ask.Ask.{Ask}
 use Rattle.jlr_machine.specs.declared.ask.Ask.TheVariants.{TakeUp, Finish}
 use Rattle.jlr_machine.specs.declared.ask.Outcome.{Outcome}
 use Rattle.jlr_machine.specs.declared.ask.Answer.{Answer}
 use Rattle.jlr_machine.specs.declared.ask.Answer.TheVariants as answer
 use Rattle.jlr_cleaner.specs.declared.job.Job.{Job}
+use Rattle.jlr_device.specs.Handling.{Handling}
+use Rattle.jlr_event.specs.declared.event.Event.{Event}
 use Rattle.jlr_event.specs.declared.event.Reply.{Reply}
 use Rattle.jlr_event.specs.declared.event.Reply.TheVariants.{Answered, Marked}
-use Rattle.jlr_event.specs.Events.{answer_in}
-use Rattle.jlr_session.specs.Asks.{job_by}
+use Rattle.jlr_event.specs.Events.{answer_in, ask_of, outcome_of}
+use Rattle.jlr_session.specs.Asks.{TellsFinished, job_by}
 use Rattle.jlr_hall.specs.declared.seat.Item.{Item}
 use Rattle.jlr_hall.specs.Seats.{Place, item, kept}
-use Rattle.jlr_hall.specs.Asking.{AskedFor, Declined, Notes}
-use Rattle.jlr_hall.specs.Loops.{AllAsk, AsksOnly, Cleans, CleansIn, LeadsTo, after_notes, is_refused, items_of, job_taken, last_base}
+use Rattle.jlr_hall.specs.Asking.{AskedFor, Declined, HasItsResource, Notes}
+use Rattle.jlr_hall.specs.Loops.{AllAsk, AsksOnly, Cleans, CleansIn, Ends, LeadsTo, Takes, after_notes, is_refused, items_of, last_base}
 
 pub no_notes : (p : Place) → LeadsTo p [] p
 no_notes p = record { items = refl; base = refl; index = refl; sessions = refl }
@@ -79,55 +81,64 @@ asks_more may ask is (Some answer) old mid new h (inr d) = (h.0, declined old mi
 
 -- ---- The cleaner
 
-pub cleans_none : (p : Place) → CleansIn p None p
-cleans_none p = ([], no_notes p, refl)
+module _ {R : Type 0} (handling : Handling R) where
+  pub cleans_none : (p : Place) → CleansIn handling p None p
+  cleans_none p = ([], no_notes p, refl)
 
-cleans_append : (first mid last : Option ℕ) (items : List Item) (i : Item) → Cleans first items mid → Cleans mid (i ∷ []) last → Cleans first (items ++ i ∷ []) last
-cleans_append first mid last [] i c d = subst (λ (r : Option ℕ). Cleans r (i ∷ []) last) c d
-cleans_append None mid last (x ∷ items) i c d = (c.0, cleans_append (job_taken x.answer) mid last items i c.1 d)
-cleans_append (Some action) mid last (x ∷ items) i c d = (c.0, cleans_append None mid last items i c.1 d)
+  cleans_append : (first mid last : Option (Job R)) (items : List Item) (i : Item) → Cleans handling first items mid → Cleans handling mid (i ∷ []) last → Cleans handling first (items ++ i ∷ []) last
+  cleans_append first mid last [] i c d = subst (λ (r : Option (Job R)). Cleans handling r (i ∷ []) last) c d
+  cleans_append None mid last (x ∷ items) i c d = (c.0, c.1, c.2, cleans_append c.1 mid last items i c.3 d)
+  cleans_append (Some job) mid last (x ∷ items) i c d = (c.0, cleans_append None mid last items i c.1 d)
 
--- a take-up that gave a job
-pub takes_job : {R : Type 0} (reply : Reply R) (job : Job R) (old mid new : Place) → CleansIn old None mid → AskedFor (Some TakeUp) (answer_in reply) mid new → job_by reply ≡ Ok job → CleansIn old (Some job.action) new
-takes_job {R} (Answered (answer.Job action work) resource) job old mid new h asked e =
-    let same : action ≡ job.action = ap {A = Result (Job R) Answer} {B = ℕ} (λ r. elim r [ Ok j ↦ j.action | Err _ ↦ 0 ]) e in
-    let said : Answer = answer.Job action work in
-    elim asked [
-      | inl n ↦
-          let i = item n.0 TakeUp said in (
-            h.0 ++ (new.base, i) ∷ [],
-            noted old mid new h.0 n.0 TakeUp said h.1 n.1,
-            subst (λ items. Cleans None items (Some job.action)) (sym (items_more h.0 new.base i)) (cleans_append None None (Some job.action) (items_of h.0) i h.2 (refl, ap (λ (a : ℕ). Some a) (sym same))),
-          )
-      | inr d ↦ elim d.why [ inl w ↦ absurd (cc w) | inr w ↦ absurd (cc w) ]
-    ]
-takes_job (Answered answer resource) job old mid new h asked e = absurd (cc e)
-takes_job (Marked progress) job old mid new h asked e = absurd (cc e)
+  -- a take-up that gave a job
+  pub takes_job : (reply : Reply R) (job : Job R) (old mid new : Place) → CleansIn handling old None mid → AskedFor (Some TakeUp) (answer_in reply) mid new → HasItsResource reply → job_by reply ≡ Ok job → CleansIn handling old (Some job) new
+  takes_job (Answered (answer.Job action work) resource) job old mid new h asked its e =
+      let made : Job R = record { action = action; work = work; resource = resource } in
+      let said : Answer = answer.Job action work in
+      subst (λ (r : Result (Job R) Answer). IfOk r (λ j. CleansIn handling old (Some j) new)) e (elim asked [
+        | inl n ↦
+            let i = item n.0 TakeUp said in (
+              h.0 ++ (new.base, i) ∷ [],
+              noted old mid new h.0 n.0 TakeUp said h.1 n.1,
+              subst (λ items. Cleans handling None items (Some made)) (sym (items_more h.0 new.base i)) (cleans_append None None (Some made) (items_of h.0) i h.2 (refl, Some made, (made, refl, refl, refl, its), refl)),
+            )
+        | inr d ↦ elim d.why [ inl w ↦ absurd (cc w) | inr w ↦ absurd (cc w) ]
+      ])
+  takes_job (Answered answer resource) job old mid new h asked its e = absurd (cc e)
+  takes_job (Marked progress) job old mid new h asked its e = absurd (cc e)
 
-takes_nothing : (said : Answer) (old mid new : Place) → job_taken said ≡ None → CleansIn old None mid → AskedFor (Some TakeUp) (Some said) mid new → CleansIn old None new
-takes_nothing said old mid new none h (inl n) =
-    let i = item n.0 TakeUp said in (
-      h.0 ++ (new.base, i) ∷ [],
-      noted old mid new h.0 n.0 TakeUp said h.1 n.1,
-      subst (λ items. Cleans None items None) (sym (items_more h.0 new.base i)) (cleans_append None None None (items_of h.0) i h.2 (refl, sym none)),
-    )
-takes_nothing said old mid new none h (inr d) = (h.0, declined old mid new h.0 TakeUp said h.1 d, h.2)
+  takes_nothing : (said : Answer) (old mid new : Place) → Takes {R = R} said None → CleansIn handling old None mid → AskedFor (Some TakeUp) (Some said) mid new → CleansIn handling old None new
+  takes_nothing said old mid new none h (inl n) =
+      let i = item n.0 TakeUp said in (
+        h.0 ++ (new.base, i) ∷ [],
+        noted old mid new h.0 n.0 TakeUp said h.1 n.1,
+        subst (λ items. Cleans handling None items None) (sym (items_more h.0 new.base i)) (cleans_append None None None (items_of h.0) i h.2 (refl, None, none, refl)),
+      )
+  takes_nothing said old mid new none h (inr d) = (h.0, declined old mid new h.0 TakeUp said h.1 d, h.2)
 
--- and one that gave none
-pub takes_none : {R : Type 0} (reply : Reply R) (said : Answer) (old mid new : Place) → CleansIn old None mid → AskedFor (Some TakeUp) (answer_in reply) mid new → job_by reply ≡ Err said → CleansIn old None new
-takes_none (Answered (answer.Job action work) resource) said old mid new h asked e = absurd (cc e)
-takes_none (Answered answer resource) said old mid new h asked e = takes_nothing answer old mid new refl h asked
-takes_none (Marked progress) said old mid new h asked e = absurd asked
+  -- and one that gave none
+  pub takes_none : (reply : Reply R) (said : Answer) (old mid new : Place) → CleansIn handling old None mid → AskedFor (Some TakeUp) (answer_in reply) mid new → job_by reply ≡ Err said → CleansIn handling old None new
+  takes_none (Answered (answer.Job action work) resource) said old mid new h asked e = absurd (cc e)
+  takes_none (Answered answer resource) said old mid new h asked e = takes_nothing answer old mid new refl h asked
+  takes_none (Marked progress) said old mid new h asked e = absurd asked
 
--- the end of the job that runs, noted or turned away
-pub finishes : (action : ℕ) (outcome : Outcome) (answer : Option Answer) (old mid new : Place) → CleansIn old (Some action) mid → AskedFor (Some (Finish 255 action outcome)) answer mid new
-    → CleansIn old None new ⊎ (CleansIn old (Some action) new × (is_refused answer ≡ true))
-finishes action outcome None old mid new h asked = absurd asked
-finishes action outcome (Some said) old mid new h (inl n) =
-    let i = item n.0 (Finish 255 action outcome) said in
-    inl (
-      h.0 ++ (new.base, i) ∷ [],
-      noted old mid new h.0 n.0 (Finish 255 action outcome) said h.1 n.1,
-      subst (λ items. Cleans None items None) (sym (items_more h.0 new.base i)) (cleans_append None (Some action) None (items_of h.0) i h.2 ((outcome, refl), refl)),
-    )
-finishes action outcome (Some said) old mid new h (inr d) = inr ((h.0, declined old mid new h.0 (Finish 255 action outcome) said h.1 d, h.2), ap (λ (a : Answer). is_refused (Some a)) d.why.1)
+  -- the end of the job that runs, noted or turned away
+  ends_it : (job : Job R) (outcome : Outcome) → Ends handling job (Finish 255 job.action outcome) → (answer : Option Answer) (old mid new : Place) → CleansIn handling old (Some job) mid
+      → AskedFor (Some (Finish 255 job.action outcome)) answer mid new → CleansIn handling old None new ⊎ (CleansIn handling old (Some job) new × (is_refused answer ≡ true))
+  ends_it job outcome ends None old mid new h asked = absurd asked
+  ends_it job outcome ends (Some said) old mid new h (inl n) =
+      let ask = Finish 255 job.action outcome in
+      let i = item n.0 ask said in
+      inl (
+        h.0 ++ (new.base, i) ∷ [],
+        noted old mid new h.0 n.0 ask said h.1 n.1,
+        subst (λ items. Cleans handling None items None) (sym (items_more h.0 new.base i)) (cleans_append None (Some job) None (items_of h.0) i h.2 (ends, refl)),
+      )
+  ends_it job outcome ends (Some said) old mid new h (inr d) = inr ((h.0, declined old mid new h.0 (Finish 255 job.action outcome) said h.1 d, h.2), ap (λ (a : Answer). is_refused (Some a)) d.why.1)
+
+  pub finishes : (job : Job R) (event : Event R) → TellsFinished handling 255 job event → (answer : Option Answer) (old mid new : Place) → CleansIn handling old (Some job) mid
+      → AskedFor (ask_of event) answer mid new → CleansIn handling old None new ⊎ (CleansIn handling old (Some job) new × (is_refused answer ≡ true))
+  finishes job event told answer old mid new h asked =
+      let ask = Finish 255 job.action (outcome_of told.0) in
+      let is : ask_of event ≡ Some ask = ap {A = Event R} {B = Option Ask} ask_of told.2 in
+      ends_it job (outcome_of told.0) (event, told, is) answer old mid new h (subst (λ o. AskedFor o answer mid new) is asked)

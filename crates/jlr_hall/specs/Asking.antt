@@ -1,15 +1,18 @@
 -- What an ask does to its seat.
-use Rattle.std.specs.Prelude.{◌≡◌, ◌⊎◌, ◌<◌, ◌≤◌, ◌+◌, ℕ, Bool, true, false, [], ◌∷◌, ◌++◌, ⊤, Option, Some, None}
+use Rattle.std.specs.Prelude.{◌≡◌, ◌⊎◌, ◌<◌, ◌≤◌, ◌+◌, ℕ, Bool, true, false, [], ◌∷◌, ◌++◌, ⊤, Option, Some, None, is_some}
 use Rattle.jlr_types.specs.declared.Refusal.{Refusal}
 use Rattle.jlr_types.specs.declared.Refusal.TheVariants.{NoMemory, Exhausted}
+use Rattle.jlr_types.specs.declared.Work.{Work}
+use Rattle.jlr_types.specs.declared.Work.TheVariants.{Note, Resource as OnResource}
 use Rattle.jlr_machine.specs.declared.ask.Ask.{Ask}
 use Rattle.jlr_machine.specs.declared.ask.Answer.{Answer}
-use Rattle.jlr_machine.specs.declared.ask.Answer.TheVariants.{Refused}
+use Rattle.jlr_machine.specs.declared.ask.Answer.TheVariants.{Job, Refused}
 use Rattle.jlr_machine.specs.declared.ask.Ask.TheVariants.{Finish, HandOver, TakeUp}
 use Rattle.jlr_machine.specs.Refusals.{asker, is_end}
 use Rattle.jlr_histories.specs.Rooms.{Rooms, HasRoomFor}
 use Rattle.jlr_event.specs.declared.event.Event.{Event}
 use Rattle.jlr_event.specs.declared.event.Reply.{Reply}
+use Rattle.jlr_event.specs.declared.event.Reply.TheVariants.{Answered}
 use Rattle.jlr_event.specs.Events.{ask_of, answer_in}
 use Rattle.jlr_book.specs.Histories.{History, last}
 use Rattle.jlr_hall.specs.Seats.{Place, Unchanged, item, kept}
@@ -53,6 +56,17 @@ AskedFor None None old new = Unchanged old new
 
 abbrev pub Asked : {R : Type 0} → Place → Event R → Reply R → Place → Type 0
 Asked old event reply new = AskedFor (ask_of event) (answer_in reply) old new
+
+-- ---- Jobs
+
+abbrev pub is_on_resource : Work → Bool
+is_on_resource (Note n) = false
+is_on_resource (OnResource rid) = true
+
+-- a job comes with a resource just where its work is on one
+abbrev pub HasItsResource : {R : Type 0} → Reply R → Type 0
+HasItsResource (Answered (Job action work) resource) = is_some resource ≡ is_on_resource work
+HasItsResource reply = Unit {0}
 
 -- ---- Whose ask it is
 

@@ -4,7 +4,7 @@ ghost use Rattle.jlr_event.specs.Events.{ask_of};
 ghost use Rattle.jlr_event.specs.declared.event.Event.TheVariants.{Remove};
 ghost use Rattle.jlr_book.specs.Histories.{IsHistory, last};
 ghost use Rattle.jlr_book.specs.Rules.{BookSteps, MarksBy};
-ghost use Rattle.jlr_hall.specs.Asking.{Asked, HasRoomForAsk, IsOwn, NotesWith, needs};
+ghost use Rattle.jlr_hall.specs.Asking.{Asked, HasItsResource, HasRoomForAsk, IsOwn, NotesWith, needs};
 
 use crate::seat::Seat;
 use jlr_book::book::Book;
@@ -219,7 +219,7 @@ impl<L: Ledger> Seat<L> {
         self.ask_once(rt, hall, Some(removal), event)
     }
 
-    /// One event, once a `Remove` that it stands for would not wait.
+    /// One event, once a `Remove` that it stands for would not wait. A job comes with its resource.
     pub(crate) fn ask_once<R: Drop, T: Wait>(
         &mut self,
         rt: &T,
@@ -227,7 +227,8 @@ impl<L: Ledger> Seat<L> {
         removal: Option<Removal>,
         event: Event<R>,
     ) -> Reply<R>
-        ensures { Asked self.old event result self.new }
+        ensures asked { Asked self.old event result self.new }
+        ensures out { HasItsResource result }
     {
         let asked = event.plain();
         let Ok(room) = self.prepare(&asked) else {

@@ -2,6 +2,7 @@
 ghost use Rattle.std.specs.Prelude.{◌≡◌, ℕ, true, Option, Some, None, IfErr, IfOk};
 ghost use Rattle.jlr_hall.specs.Seats.{Place};
 ghost use Rattle.jlr_machine.specs.declared.ask.Ask.{Ask};
+ghost use Rattle.jlr_cleaner.specs.declared.job.Job.{Job as JobOf};
 ghost use Rattle.jlr_event.specs.Events.{answer_in, ask_of};
 ghost use Rattle.jlr_hall.specs.Loops.{AsksOnly, CleansIn, IsHandlers, IsMarkers, is_refused};
 
@@ -175,7 +176,7 @@ pub fn cleaner_loop<R: Resource + Drop, L: Ledger, T: Wait>(
     rt: &T,
     hall: &Hall<R, L>,
 ) -> Seat<L>
-    ensures { (last : Option ℕ) × CleansIn seat last result }
+    ensures { (last : Option (JobOf R)) × CleansIn R.handling seat last result }
 {
     let mut seat = seat;
     for _ in rt.forever() {
@@ -195,8 +196,8 @@ fn clean<R: Resource + Drop, L: Ledger, T: Wait>(
     rt: &T,
     hall: &Hall<R, L>,
 ) -> bool
-    ensures goes_on { (first : Place) → CleansIn first None seat.old → result ≡ true → CleansIn first None seat.new }
-    ensures cleans { (first : Place) → CleansIn first None seat.old → (last : Option ℕ) × CleansIn first last seat.new }
+    ensures goes_on { (first : Place) → CleansIn R.handling first None seat.old → result ≡ true → CleansIn R.handling first None seat.new }
+    ensures cleans { (first : Place) → CleansIn R.handling first None seat.old → (last : Option (JobOf R)) × CleansIn R.handling first last seat.new }
 {
     match take_up(seat, rt, hall) {
         Ok(job) => finish(seat, rt, hall, job),
@@ -210,13 +211,13 @@ fn clean<R: Resource + Drop, L: Ledger, T: Wait>(
 }
 
 /// One take-up. Without a job: whether it was refused.
-fn take_up<R: Drop, L: Ledger, T: Wait>(
+fn take_up<R: Resource + Drop, L: Ledger, T: Wait>(
     seat: &mut Seat<L>,
     rt: &T,
     hall: &Hall<R, L>,
 ) -> Result<Job<R>, bool>
-    ensures job { (first : Place) → CleansIn first None seat.old → IfOk result (λ job. CleansIn first (Some job.action) seat.new) }
-    ensures none { (first : Place) → CleansIn first None seat.old → IfErr result (λ _. CleansIn first None seat.new) }
+    ensures job { (first : Place) → CleansIn R.handling first None seat.old → IfOk result (λ job. CleansIn R.handling first (Some job) seat.new) }
+    ensures none { (first : Place) → CleansIn R.handling first None seat.old → IfErr result (λ _. CleansIn R.handling first None seat.new) }
 {
     match job_of(seat.ask_once(rt, hall, None, Event::TakeUp)) {
         Ok(job) => Ok(job),
@@ -231,8 +232,8 @@ fn finish<R: Resource + Drop, L: Ledger, T: Wait>(
     hall: &Hall<R, L>,
     job: Job<R>,
 ) -> bool
-    ensures goes_on { (first : Place) → CleansIn first (Some job.action) seat.old → result ≡ true → CleansIn first None seat.new }
-    ensures cleans { (first : Place) → CleansIn first (Some job.action) seat.old → (last : Option ℕ) × CleansIn first last seat.new }
+    ensures goes_on { (first : Place) → CleansIn R.handling first (Some job) seat.old → result ≡ true → CleansIn R.handling first None seat.new }
+    ensures cleans { (first : Place) → CleansIn R.handling first (Some job) seat.old → (last : Option (JobOf R)) × CleansIn R.handling first last seat.new }
 {
     let reply = seat.ask_once(rt, hall, None, carry_out(CLEANER, job));
     !was_refused(&reply)

@@ -10,10 +10,10 @@ pub returns-then-was_refused : goal.returns-then-was_refused
 returns-then-was_refused g c = λ first h.
     let said = answer_in c.ask_once.result in
     asks_more IsMarkers c.requires.0 c.requires.2 said first c.args.seat.now c.ask_once.new.self h
-    (subst (λ (o : Option Ask). AskedFor o said c.args.seat.now c.ask_once.new.self) c.requires.1 c.ask_once.ensures)
+    (subst (λ (o : Option Ask). AskedFor o said c.args.seat.now c.ask_once.new.self) c.requires.1 c.ask_once.ensures.asked)
 
 pub returns-else-was_refused : goal.returns-else-was_refused
 returns-else-was_refused g c = λ first h.
     let said = answer_in c.ask_once.result in
     asks_more IsMarkers c.requires.0 c.requires.2 said first c.args.seat.now c.ask_once.new.self h
-    (subst (λ (o : Option Ask). AskedFor o said c.args.seat.now c.ask_once.new.self) c.requires.1 c.ask_once.ensures)
+    (subst (λ (o : Option Ask). AskedFor o said c.args.seat.now c.ask_once.new.self) c.requires.1 c.ask_once.ensures.asked)

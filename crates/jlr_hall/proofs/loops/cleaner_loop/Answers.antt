@@ -5,7 +5,7 @@ use Rattle.jlr_hall.proofs.loops.cleaner_loop.Goals.{in-None, in-Some+then-wait_
 use Rattle.jlr_hall.proofs.loops.cleaner_loop.Goals as goal
 
 pub loop-init : goal.loop-init
-loop-init g c = cleans_none c.args.seat
+loop-init g c = cleans_none g.R.Resource.handling c.args.seat
 
 pub returns : goal.returns
 returns g c = elim c.match-next.branch [

@@ -9,7 +9,7 @@ pub loop-init : goal.loop-init
 loop-init g c = asks_none IsHandlers c.args.seat
 
 pub loop-preserved-then-was_refused : goal.loop-preserved-then-was_refused
-loop-preserved-then-was_refused g c = asks_more IsHandlers HandOver refl (answer_in c.ask_once.result) c.args.seat c.loop.seat c.ask_once.new.self c.loop.invariant c.ask_once.ensures
+loop-preserved-then-was_refused g c = asks_more IsHandlers HandOver refl (answer_in c.ask_once.result) c.args.seat c.loop.seat c.ask_once.new.self c.loop.invariant c.ask_once.ensures.asked
 
 pub loop-preserved : goal.loop-preserved
-loop-preserved g c = asks_more IsHandlers HandOver refl (answer_in c.ask_once.result) c.args.seat c.loop.seat c.ask_once.new.self c.loop.invariant c.ask_once.ensures
+loop-preserved g c = asks_more IsHandlers HandOver refl (answer_in c.ask_once.result) c.args.seat c.loop.seat c.ask_once.new.self c.loop.invariant c.ask_once.ensures.asked
