@@ -51,11 +51,11 @@ fn wrong_in<T: Wait>(
     rows: &'static str,
 ) -> Result<Option<&'static str>, Fail> {
     let limits = limits_of(title).ok_or("limits")?;
-    let (wrong, closed) = played(threads, alloc, limits, rows)?;
-    if wrong.is_some() {
-        return Ok(wrong);
+    let (wrong, closed) = played(threads, alloc, limits, &Rows { text: rows })?;
+    match wrong {
+        Some(number) => Ok(rows.lines().nth(number)),
+        None => Ok(wrong_close(closed, rows)),
     }
-    Ok(wrong_close(closed, rows))
 }
 
 /// The limits of a hall that a title tells.
@@ -70,13 +70,19 @@ fn limits_of(title: &str) -> Option<Limits> {
 /// What a close gave: the base of its book, and how many entries it has.
 type Closed = Option<(u64, usize)>;
 
-/// The first row that is not as it says, and what the close gave then.
+/// The rows of a list. A call that picks the brand of a hall cannot be given a text by itself.
+#[derive(Clone, Copy)]
+struct Rows {
+    text: &'static str,
+}
+
+/// The number of the first row that is not as it says, and what the close gave then.
 fn played<T: Wait>(
     threads: &T,
     alloc: Global,
     limits: Limits,
-    rows: &'static str,
-) -> Result<(Option<&'static str>, Closed), Fail> {
+    rows: &Rows,
+) -> Result<(Option<usize>, Closed), Fail> {
     let blank = Blank::new(u64::from(limits.sessions) + 3);
     played_in::<Brand, T>(threads, alloc, limits, rows, blank)
 }
@@ -85,14 +91,14 @@ fn played_in<L: Ledger, T: Wait>(
     threads: &T,
     alloc: Global,
     limits: Limits,
-    rows: &'static str,
+    rows: &Rows,
     blank: Blank,
-) -> Result<(Option<&'static str>, Closed), Fail>
+) -> Result<(Option<usize>, Closed), Fail>
     requires name { blank.name ≡ L.name }
     requires parts { (blank.parts ≡ L.parts) × (blank.parts ≡ limits.sessions + 3) }
 {
     let (hall, seats) = Hall::<u32, L>::open(alloc, limits, blank)?;
-    let (wrong, seats) = in_turns(threads, alloc, &hall, seats, rows);
+    let (wrong, seats) = in_turns(threads, alloc, &hall, seats, rows.text);
     Ok((wrong, told(hall.close(seats))))
 }
 
@@ -104,14 +110,14 @@ fn told<R: Drop>(outcome: Result<Book<R>, CloseFault>) -> Closed {
     }
 }
 
-/// Asks what the rows say. The first row that is not as it says, and the seats.
+/// Asks what the rows say. The number of the first row that is not as it says, and the seats.
 fn in_turns<L: Ledger, T: Wait>(
     threads: &T,
     alloc: Global,
     hall: &Hall<u32, L>,
     seats: Vec<Seat<L>>,
-    rows: &'static str,
-) -> (Option<&'static str>, Vec<Seat<L>>) {
+    rows: &str,
+) -> (Option<usize>, Vec<Seat<L>>) {
     let mut ports = Vec::new(alloc);
     for seat in seats {
         let _ = ports.push(SeatPort::new(threads, hall, seat));
@@ -126,12 +132,12 @@ fn in_turns<L: Ledger, T: Wait>(
 
 fn first_wrong<L: Ledger, T: Wait>(
     ports: &mut Vec<SeatPort<'_, u32, L, T>>,
-    rows: &'static str,
-) -> Option<&'static str> {
-    for row in rows.lines() {
+    rows: &str,
+) -> Option<usize> {
+    for (number, row) in rows.lines().enumerate() {
         let row = row.trim();
         if is_row(row) && !are_answered(ports, row) {
-            return Some(row);
+            return Some(number);
         }
     }
     None
