@@ -232,15 +232,15 @@ def try_fronts(program, seed):
 
 def try_worked(program):
     """The histories of the worked sessions are legal, and saving them changes no reply."""
-    for number, (options, commands, replies) in enumerate(refused.SESSIONS):
+    for session in refused.SESSIONS:
         with tempfile.TemporaryDirectory() as folder:
-            text = "".join(line + "\n" for line in commands.split("; "))
-            status, out, said = run(program, ["run", "--cells", "1024", *options.split(), "--save", "saved"], text, folder)
-            if (status, out, said) != (0, "".join(line + "\n" for line in replies.split("; ")), ""):
-                raise Wrong(f"worked session {number}: {status}, {out} {said}")
+            text = session.text(session.commands).decode()
+            status, out, said = run(program, ["run", *session.options, "--save", "saved"], text, folder)
+            if (status, out) != (session.status, "".join(line + "\n" for line in session.answers)):
+                raise Wrong(f"worked session {session.name}: {status}, {out} {said}")
             status, out, said = audit(program, "saved", folder)
             if status != 0 or not out.startswith("legal "):
-                raise Wrong(f"worked session {number}: {out} {said}")
+                raise Wrong(f"worked session {session.name}: {out} {said}")
     print(f"ok      {len(refused.SESSIONS)} worked sessions are legal")
 
 
