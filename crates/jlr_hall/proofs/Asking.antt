@@ -209,6 +209,3 @@ module _ {R : Type 0} (seat : ℕ) (h : History R) (e : Event R) (reply : Reply 
 
   pub comes_with : BookSteps seat h e reply new → HasItsResource reply
   comes_with s = comes_when (ask_of e) s
-
-pub declined_without : {R : Type 0} (reply : Reply R) (e : Event R) → reply ≡ Answered (Refused NoMemory) (resource_of_event e) → HasItsResource reply
-declined_without reply e is = refused_without reply NoMemory (resource_of_event e) is

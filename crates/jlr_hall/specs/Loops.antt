@@ -59,17 +59,20 @@ AsksOnly may old new = (notes : List (ℕ × Item)) × LeadsTo old notes new × 
 
 -- a job that was taken up: that of the answer, with a resource just where its work is on one; or none
 abbrev pub Takes : {R : Type 0} → Answer → Option (JobOf R) → Type 0
-Takes {R} (Job action work) next = (job : JobOf R) × (next ≡ Some job) × (job.action ≡ action) × (job.work ≡ work) × (is_some job.resource ≡ is_on_resource work)
+Takes {R} (Job action work) next = (job : JobOf R) × (next ≡ Some job)
+    × (job.action ≡ action) × (job.work ≡ work) × (is_some job.resource ≡ is_on_resource work)
 Takes answer next = next ≡ None
 
--- the end of a job: it tells what its resource answered to its finish, in which the count of failures rose where it is a fault; ok for a note
+-- the end of a job: it tells what its resource answered to its finish, in which the count of failures rose where it is a fault; ok for a
+-- note
 abbrev pub Ends : {R : Type 0} → Handling R → JobOf R → Ask → Type 0
 Ends {R} handling job ask = (event : Event R) × TellsFinished handling 255 job event × (ask_of event ≡ Some ask)
 
 -- With this job running, then with that one: while none runs it takes up, and a job that runs is ended before the next take-up.
 abbrev pub Cleans : {R : Type 0} → Handling R → Option (JobOf R) → List Item → Option (JobOf R) → Type 0
 Cleans handling running [] last = last ≡ running
-Cleans {R} handling None (i ∷ items) last = (i.ask ≡ TakeUp) × (next : Option (JobOf R)) × Takes i.answer next × Cleans handling next items last
+Cleans {R} handling None (i ∷ items) last = (i.ask ≡ TakeUp)
+    × (next : Option (JobOf R)) × Takes i.answer next × Cleans handling next items last
 Cleans handling (Some job) (i ∷ items) last = Ends handling job i.ask × Cleans handling None items last
 
 -- nothing else was asked and noted; a job is left running only where its Finish was turned away, which ends the loop

@@ -1,4 +1,4 @@
-use Rattle.jlr_hall.proofs.Asking.{asked_under, comes_with, declined_without}
+use Rattle.jlr_hall.proofs.Asking.{asked_under, comes_with}
 use Rattle.jlr_hall.proofs.seat.Seat.ask_once.Goals as goal
 
 pub returns-clause-asked : goal.returns-clause-asked
