@@ -186,10 +186,15 @@ def told(name, tried):
     return False
 
 
-def main():
+def named_program():
+    """The program that the command line names, or else the one that is built here."""
     parser = argparse.ArgumentParser()
     parser.add_argument("program", nargs="?", default=os.path.join(HERE, "../crates/refheap/out/refheap"))
-    program = os.path.abspath(parser.parse_args().program)
+    return os.path.abspath(parser.parse_args().program)
+
+
+def main():
+    program = named_program()
     failed = False
     with tempfile.TemporaryDirectory() as folder:
         library = library_in(folder)

@@ -13,7 +13,6 @@ the second case the history is saved.
 
 An audit tells the verdict that it has with ample memory, or ends with status 5, or 2 while the words of the command line are read.
 """
-import argparse
 import os
 import socket
 import subprocess
@@ -22,7 +21,7 @@ import tempfile
 import time
 
 sys.path.insert(0, os.path.dirname(os.path.abspath(__file__)))
-from refused import HERE, SAID, SESSIONS, Session, Wrong, library_in, told  # noqa: E402
+from refused import SAID, SESSIONS, Session, Wrong, library_in, named_program, told  # noqa: E402
 
 # Commands that change nothing as long as they are answered otherwise than in the end.
 LOOKS = ("poll", "enqueued", "notes", "faults", "stat")
@@ -260,9 +259,7 @@ def make_illegal(file):
 
 
 def main():
-    parser = argparse.ArgumentParser()
-    parser.add_argument("program", nargs="?", default=os.path.join(HERE, "../crates/refheap/out/refheap"))
-    program = os.path.abspath(parser.parse_args().program)
+    program = named_program()
     failed = False
     with tempfile.TemporaryDirectory() as folder:
         library = library_in(folder)
