@@ -126,7 +126,7 @@ impl Cells {
     pub fn is_plain(&self, slot: Slot) -> bool
         ensures { result ≡ some_and is_plain (at self.now slot) }
     {
-        self.kind(slot) == Some(Kind::Plain)
+        matches!(self.kind(slot), Some(Kind::Plain))
     }
 
     /// Whether there is a reference at a slot.
@@ -140,28 +140,28 @@ impl Cells {
     pub fn is_queue(&self, slot: Slot) -> bool
         ensures { result ≡ some_and is_queue (at self.now slot) }
     {
-        self.kind(slot) == Some(Kind::Queue)
+        matches!(self.kind(slot), Some(Kind::Queue))
     }
 
     /// Whether there is a cleaner at a slot.
     pub fn is_cleaner(&self, slot: Slot) -> bool
         ensures { result ≡ some_and is_cleaner (at self.now slot) }
     {
-        self.kind(slot) == Some(Kind::Cleaner)
+        matches!(self.kind(slot), Some(Kind::Cleaner))
     }
 
     /// Whether there is a cleanable at a slot.
     pub fn is_cleanable(&self, slot: Slot) -> bool
         ensures { result ≡ some_and is_cleanable (at self.now slot) }
     {
-        self.kind(slot) == Some(Kind::Cleanable)
+        matches!(self.kind(slot), Some(Kind::Cleanable))
     }
 
     /// Whether there is a guard at a slot.
     pub fn is_guard(&self, slot: Slot) -> bool
         ensures { result ≡ some_and is_guard (at self.now slot) }
     {
-        self.kind(slot) == Some(Kind::Guard)
+        matches!(self.kind(slot), Some(Kind::Guard))
     }
 
     /// How many fields the object at a slot has, if it is a plain one.
