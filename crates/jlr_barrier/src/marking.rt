@@ -1,5 +1,5 @@
 //! The mark set, as a collector uses it.
-ghost use Rattle.std.specs.Prelude.{◌≡◌, ◌↔◌, ℕ, IfSome, ◌+◌, ◌^◌, ◌<◌, [], IsTrue, Some, false, is_some, length, option_and_then};
+ghost use Rattle.std.specs.Prelude.{◌≡◌, ◌↔◌, ℕ, IfSome, ◌+◌, ◌^◌, ◌<◌, [], IsTrue, Some, false, is_some, length, option_and_then, slice_get};
 ghost use Rattle.jlr_types.specs.declared.RefKind.TheVariants.{Soft};
 ghost use Rattle.jlr_machine.specs.Objects.{at, some_and, ◌∈◌};
 ghost use Rattle.jlr_machine.specs.Refusals.{is_plain};
@@ -72,8 +72,22 @@ impl Heap {
     {
         let _ = self.marks.take_grey();
         let plain = follow(&self.cells, slot, meter, &mut self.marks);
-        note(&self.cells, slot, &mut self.marks);
+        note(&self.cells, slot, plain, &mut self.marks);
         plain
+    }
+
+    /// How many slots are discovered.
+    pub fn discovered_count(&self) -> usize
+        ensures { result ≡ length self.now.marking.discovered }
+    {
+        self.marks.discovered_count()
+    }
+
+    /// A discovered slot, by its place in their list, if there are so many.
+    pub fn discovered_at(&self, place: usize) -> Option<Slot>
+        ensures { result ≡ slice_get self.now.marking.discovered place }
+    {
+        self.marks.discovered_at(place)
     }
 
     /// What the object at a slot refers to, if it is a soft reference that was not cleared.

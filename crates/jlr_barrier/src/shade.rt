@@ -90,14 +90,18 @@ pub(crate) fn follow(cells: &Cells, slot: Slot, meter: &mut Meter, marks: &mut M
     }
 }
 
-/// A reference or a cleanable at a slot is discovered, if what it refers to is not marked.
-pub(crate) fn note(cells: &Cells, slot: Slot, marks: &mut Marks)
+/// A reference or a cleanable at a slot is discovered, if what it refers to is not marked. Of a plain object nothing is asked.
+pub(crate) fn note(cells: &Cells, slot: Slot, plain: bool, marks: &mut Marks)
+    requires kind { plain ≡ some_and is_plain (at cells.now slot) }
     requires room { length marks.old.grey + length marks.old.discovered < marked marks.old }
     requires within { (x : ℕ) → RefersTo cells.now slot x → x < length marks.old.bits }
     ensures bits { marks.new.bits ≡ marks.old.bits }
     ensures grey { marks.new.grey ≡ marks.old.grey }
     ensures discovered { marks.new.discovered ≡ marks.old.discovered ++ cond (some_and (awaits marks.old) (at cells.now slot)) (slot ∷ []) [] }
 {
+    if plain {
+        return;
+    }
     let Some(referent) = any_referent(cells, slot) else {
         return;
     };

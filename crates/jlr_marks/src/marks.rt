@@ -1,5 +1,5 @@
 //! Marks.
-ghost use Rattle.std.specs.Prelude.{◌≡◌, ◌↔◌, ℕ, ◌+◌, ◌<◌, ◌++◌, ◌∷◌, [], false, true, cond, length, IfOk, slice_set, IfNone, IfSome, IsPermutation, replicate};
+ghost use Rattle.std.specs.Prelude.{◌≡◌, ◌↔◌, ℕ, ◌+◌, ◌<◌, ◌++◌, ◌∷◌, [], false, true, cond, length, IfOk, slice_get, slice_set, IfNone, IfSome, IsPermutation, replicate};
 ghost use Rattle.jlr_machine.specs.Objects.{◌∈◌};
 ghost use Rattle.jlr_marks.specs.Marking.{is_marked, marked, upcoming};
 
@@ -65,7 +65,7 @@ impl Marks {
         let place = slot.number() as usize;
         if !self.bits[place] {
             self.bits[place] = true;
-            let _ = self.grey.push(slot);
+            self.grey.push_reserved(slot);
         }
     }
 
@@ -120,6 +120,20 @@ impl Marks {
             return None;
         }
         Some(self.grey.swap_remove(count.saturating_sub(AHEAD)))
+    }
+
+    /// How many cells are discovered.
+    pub fn discovered_count(&self) -> usize
+        ensures { result ≡ length self.now.discovered }
+    {
+        self.discovered.len()
+    }
+
+    /// A discovered cell, by its place in their list, if there are so many.
+    pub fn discovered_at(&self, place: usize) -> Option<Slot>
+        ensures { result ≡ slice_get self.now.discovered place }
+    {
+        self.discovered.get(place).copied()
     }
 
     /// Every cell is white.

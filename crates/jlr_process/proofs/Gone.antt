@@ -8,12 +8,11 @@ use Rattle.jlr_machine.specs.declared.object.RefState.TheVariants.{Pending, Queu
 use Rattle.jlr_machine.specs.declared.object.CleanState.{CleanState}
 use Rattle.jlr_machine.specs.declared.object.CleanState.TheVariants.{Pending as PendingClean, Lined, Spent}
 use Rattle.jlr_machine.specs.declared.machine.Machine.{Machine}
-use Rattle.jlr_machine.specs.Objects.{at, ◌∈◌, any_referent, as_cleanable, as_reference, is_armed, is_fresh, some_and}
+use Rattle.jlr_machine.specs.Objects.{at, ◌∈◌, ◌∋◌, any_referent, as_cleanable, as_reference, is_armed, is_distinct, is_fresh, some_and}
 use Rattle.jlr_machine.specs.Edges.{roots}
 use Rattle.jlr_machine.specs.Collection.{IsCollection, is_ready}
 use Rattle.jlr_machine.specs.ReachSet.{up_to}
 use Rattle.jlr_laws.proofs.Sets.{in_filter, in_up_to}
-use Rattle.jlr_laws.proofs.Clearing.{in_append}
 use Rattle.jlr_laws.proofs.Empty.{well_formed_within}
 use Rattle.jlr_laws.proofs.Fits.{referent_object}
 use Rattle.jlr_laws.proofs.Frames.{no_some, place_within, some_same}
@@ -24,7 +23,7 @@ use Rattle.jlr_process.specs.Settling.{is_losing, loses, marked_below}
 use Rattle.jlr_barrier.specs.Graphs.{Known, in_machine}
 use Rattle.jlr_barrier.specs.Snapshots.{HoldsWhole}
 use Rattle.jlr_process.specs.Flipping.{IsMarkedWhole, IsRooted}
-use Rattle.jlr_process.proofs.Whole.{lost_below, distinct_below, losing_loses, pended, same}
+use Rattle.jlr_process.proofs.Whole.{losing_loses, pended, same}
 
 -- ---- What is ready stands in no list
 
@@ -97,9 +96,6 @@ module _ (m : Machine) (marking : Marking) (w : IsMarkedWhole m marking) where
   abbrev kept : List ℕ
   kept = marked_below marking (length m.objects)
 
-  abbrev lost : List ℕ
-  lost = lost_below marking m.objects (length m.objects)
-
   object_within : (s : ℕ) → IsTrue (is_some (at m.objects s)) → s < length m.objects
   object_within s h = elim (at m.objects s) as (λ o. at m.objects s ≡ o → IsTrue (is_some o) → s < length m.objects) [ None ↦ λ e h. absurd (both_ways false refl h) | Some o ↦ λ e h. place_within m.objects s o e ] refl h
 
@@ -112,19 +108,16 @@ module _ (m : Machine) (marking : Marking) (w : IsMarkedWhole m marking) where
   is_ready_there : (n : ℕ) → is_losing marking m.objects n ≡ true → some_and is_ready (at m.objects n) ≡ true
   is_ready_there n losing = loses_is_ready marking (at m.objects n) (losing_loses marking m.objects n losing)
 
-  -- what loses its referent stands neither in the pending list, nor among what lost its own below, nor in the line
-  pub not_pending : (n : ℕ) → is_losing marking m.objects n ≡ true → n ∈ (m.pending ++ lost_below marking m.objects n) → ⊥
-  not_pending n losing h = elim (in_append n m.pending (lost_below marking m.objects n) h) [
-    | inl a ↦ ready_waits_not (at m.objects n) (is_ready_there n losing) (w.fit.lists.pending_others n a)
-    | inr b ↦ let i = in_up_to 0 n n (in_filter (is_losing marking m.objects) (up_to 0 n) n b).1 in absurd (omega (arith, i.1))
-  ]
+  -- what loses its referent stands neither in the pending list nor in the line
+  pub not_pending : (n : ℕ) → is_losing marking m.objects n ≡ true → n ∈ m.pending → ⊥
+  not_pending n losing h = ready_waits_not (at m.objects n) (is_ready_there n losing) (w.fit.lists.pending_others n h)
 
   pub not_in_line : (n : ℕ) → is_losing marking m.objects n ≡ true → n ∈ m.line → ⊥
   not_in_line n losing h = ready_lined_not (at m.objects n) (is_ready_there n losing) (w.fit.lists.line_others n h)
 
-  -- it is a collection that counts what it keeps as reachable
-  pub collection : IsCollection m.objects (roots m ++ kept) kept lost
-  collection =
+  -- it is a collection that counts what it keeps as reachable, where these become pending
+  pub collection : (lost : List ℕ) → is_distinct lost ≡ true → ((x : ℕ) → (lost ∋ x) ≡ is_losing marking m.objects x) → IsCollection m.objects (roots m ++ kept) kept lost
+  collection lost once same_lost =
       let seen : Machine = record m { seen = kept } in
       let b =
       (background_comes_down seen kept lost (well_formed_within m w.fit) (λ s h. let i = in_up_to 0 (length m.objects) s (in_filter (is_marked marking) (up_to 0 (length m.objects)) s h).1 in omega (arith, i.1))).1
@@ -133,8 +126,8 @@ module _ (m : Machine) (marking : Marking) (w : IsMarkedWhole m marking) where
         objects = λ s h. w.objects s (sym (same marking m.objects w.long s) ∙ h);
         holds_roots = λ s h. same marking m.objects w.long s ∙ w.roots s h;
         closed = λ x y h e. same marking m.objects w.long y ∙ w.closed x y (sym (same marking m.objects w.long x) ∙ h) e;
-        pended = pended marking m.objects w.long;
-        once = distinct_below (is_losing marking m.objects) (length m.objects);
+        pended = pended marking m.objects w.long lost same_lost;
+        once = once;
         rising = rising_filter (is_marked marking) 0 (length m.objects);
       }) in
       b.collection

@@ -1,3 +1,4 @@
 pub mod Settled
 pub mod Whole
 pub mod Gone
+pub mod Twice

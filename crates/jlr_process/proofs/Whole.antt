@@ -5,7 +5,7 @@ use Rattle.std.proofs.lemmas.List.Elements.{filter-append}
 use Rattle.std.proofs.lemmas.List.Sums.{length-filter}
 use Rattle.jlr_machine.specs.declared.object.Object.{Object}
 use Rattle.jlr_machine.specs.declared.object.Object.TheVariants.{Plain, Reference, Queue, Cleaner, Cleanable, Guard}
-use Rattle.jlr_machine.specs.Objects.{Table, Heap, at, ◌∈◌, ◌∋◌, any_referent, is_distinct, occupied, some_and}
+use Rattle.jlr_machine.specs.Objects.{Table, Heap, at, ◌∈◌, ◌∋◌, any_referent, occupied, some_and}
 use Rattle.jlr_machine.specs.Collection.{is_kept_referent, is_ready, left_of, made_pending, places_left}
 use Rattle.jlr_machine.specs.ReachSet.{up_to}
 use Rattle.jlr_laws.specs.Laws.{LosesReferent}
@@ -24,10 +24,6 @@ use Rattle.jlr_process.specs.Settling.{is_losing, loses, marked_below, marked_re
 
 -- ---- Slots that pass a test, so far
 
--- the slots below n of what becomes pending, rising
-abbrev pub lost_below : Marking → Heap → ℕ → List ℕ
-lost_below m heap n = filter (is_losing m heap) (up_to 0 n)
-
 up_to_more : (from n : ℕ) → up_to from (suc n) ≡ up_to from n ++ (from + n) ∷ []
 up_to_more from zero = ap (λ k. k ∷ []) (omega arith)
 up_to_more from (suc n) = ap (λ l. from ∷ l) (up_to_more (suc from) n) ∙ ap (λ k. from ∷ (up_to (suc from) n ++ k ∷ [])) (omega arith)
@@ -39,21 +35,11 @@ filter_more p n =
     ∙ filter-append p (up_to 0 n) ((0 + n) ∷ [])
     ∙ ap (λ k. filter p (up_to 0 n) ++ filter p (k ∷ [])) (omega arith)
 
-filter_short : (p : ℕ → Bool) (from n : ℕ) → length (filter p (up_to from n)) ≤ n
-filter_short p from zero = omega arith
-filter_short p from (suc n) = elim (p from) as (λ b. length (cond b (from ∷ filter p (up_to (suc from) n)) (filter p (up_to (suc from) n))) ≤ suc n) [
-  | true ↦ omega (arith, filter_short p (suc from) n)
-  | false ↦ omega (arith, filter_short p (suc from) n)
-]
-
-pub below_short : (p : ℕ → Bool) (n : ℕ) → length (filter p (up_to 0 n)) ≤ n
-below_short p n = filter_short p 0 n
-
 -- they are below n
 pub below_low : (p : ℕ → Bool) (n x : ℕ) → x ∈ filter p (up_to 0 n) → x < n
 below_low p n x h = let i = in_up_to 0 n x (in_filter p (up_to 0 n) x h).1 in omega (arith, i.1)
 
-same_bool : (a b : Bool) → (a ≡ true → b ≡ true) → (b ≡ true → a ≡ true) → a ≡ b
+pub same_bool : (a b : Bool) → (a ≡ true → b ≡ true) → (b ≡ true → a ≡ true) → a ≡ b
 same_bool true b h k = sym (h refl)
 same_bool false true h k = k refl
 same_bool false false h k = refl
@@ -68,28 +54,11 @@ passes p n x h =
 pub kept_is_marked : (m : Marking) (n x : ℕ) → length m.bits ≤ n → (marked_below m n ∋ x) ≡ is_marked m x
 kept_is_marked m n x l = passes (is_marked m) n x (λ h. omega (arith, l, marked_within m.bits x h))
 
-losing_is_marked : (m : Marking) (heap : Heap) (x : ℕ) → is_losing m heap x ≡ true → is_marked m x ≡ true
+pub losing_is_marked : (m : Marking) (heap : Heap) (x : ℕ) → is_losing m heap x ≡ true → is_marked m x ≡ true
 losing_is_marked m heap x h = elim (is_marked m x) as (λ b. (b && some_and (loses m) (at heap x)) ≡ true → b ≡ true) [ true ↦ λ e. refl | false ↦ λ e. e ] h
 
 pub losing_loses : (m : Marking) (heap : Heap) (x : ℕ) → is_losing m heap x ≡ true → some_and (loses m) (at heap x) ≡ true
 losing_loses m heap x h = elim (is_marked m x) as (λ b. (b && some_and (loses m) (at heap x)) ≡ true → some_and (loses m) (at heap x) ≡ true) [ true ↦ λ e. e | false ↦ λ e. absurd (both_ways false refl e) ] h
-
-pub lost_is_losing : (m : Marking) (heap : Heap) (n x : ℕ) → length m.bits ≤ n → (lost_below m heap n ∋ x) ≡ is_losing m heap x
-lost_is_losing m heap n x l = passes (is_losing m heap) n x (λ h. omega (arith, l, marked_within m.bits x (losing_is_marked m heap x h)))
-
--- ---- No slot comes twice
-
-distinct_from : (p : ℕ → Bool) (from n : ℕ) → is_distinct (filter p (up_to from n)) ≡ true
-distinct_from p from zero = refl
-distinct_from p from (suc n) = elim (p from) as (λ b. is_distinct (cond b (from ∷ filter p (up_to (suc from) n)) (filter p (up_to (suc from) n))) ≡ true) [
-  | true ↦
-      let later : (filter p (up_to (suc from) n) ∋ from) ≡ false = same_bool (filter p (up_to (suc from) n) ∋ from) false (λ h. let i = in_up_to (suc from) n from (in_filter p (up_to (suc from) n) from h).1 in absurd (omega (arith, i.0))) (λ e. absurd (both_ways false refl e)) in
-      ap (λ b. not b && is_distinct (filter p (up_to (suc from) n))) later ∙ distinct_from p (suc from) n
-  | false ↦ distinct_from p (suc from) n
-]
-
-pub distinct_below : (p : ℕ → Bool) (n : ℕ) → is_distinct (filter p (up_to 0 n)) ≡ true
-distinct_below p n = distinct_from p 0 n
 
 -- ---- An object
 
@@ -106,28 +75,27 @@ same_object m kept h (Cleanable c) = ap {A = Option ℕ} {B = Object} (λ t. mad
 same_object m kept h (Guard g) = refl
 
 module _ (m : Marking) (heap : Heap) (long : length m.bits ≡ length heap) where
+  pub same : (x : ℕ) → (marked_below m (length heap) ∋ x) ≡ is_marked m x
+  same x = kept_is_marked m (length heap) x (omega (arith, long))
+
+-- where these are the slots of what becomes pending
+module _ (m : Marking) (heap : Heap) (long : length m.bits ≡ length heap) (lost : List ℕ) (same_lost : (x : ℕ) → (lost ∋ x) ≡ is_losing m heap x) where
   abbrev kept : List ℕ
   kept = marked_below m (length heap)
 
-  abbrev lost : List ℕ
-  lost = lost_below m heap (length heap)
-
-  pub same : (x : ℕ) → (kept ∋ x) ≡ is_marked m x
-  same x = kept_is_marked m (length heap) x (omega (arith, long))
-
-  pub same_lost : (x : ℕ) → (lost ∋ x) ≡ is_losing m heap x
-  same_lost x = lost_is_losing m heap (length heap) x (omega (arith, long))
+  same_kept : (x : ℕ) → (kept ∋ x) ≡ is_marked m x
+  same_kept x = same m heap long x
 
   same_place : (s : ℕ) (o : Option Object) → at heap s ≡ o → settled m s o ≡ cond (kept ∋ s) (option_map (left_of kept (lost ∋ s)) o) None
-  same_place s None e = ap {A = Bool} {B = Option Object} (λ b. cond {A = Option Object} b None None) (sym (same s))
+  same_place s None e = ap {A = Bool} {B = Option Object} (λ b. cond {A = Option Object} b None None) (sym (same_kept s))
   same_place s (Some o) e =
       elim (is_marked m s) as (λ b. is_marked m s ≡ b → cond {A = Option Object} b (Some (settled_object m o)) None ≡ cond {A = Option Object} b (Some (left_of kept (lost ∋ s) o)) None) [
         | true ↦ λ k.
             let listed : (lost ∋ s) ≡ loses m o = same_lost s ∙ ap (λ b. b && some_and (loses m) (at heap s)) k ∙ ap (some_and (loses m)) e in
-            ap (λ x. Some x) (same_object m kept same o ∙ ap (λ b. left_of kept b o) (sym listed))
+            ap (λ x. Some x) (same_object m kept same_kept o ∙ ap (λ b. left_of kept b o) (sym listed))
         | false ↦ λ k. refl
       ] refl
-      ∙ ap {A = Bool} {B = Option Object} (λ b. cond {A = Option Object} b (Some (left_of kept (lost ∋ s) o)) None) (sym (same s))
+      ∙ ap {A = Bool} {B = Option Object} (λ b. cond {A = Option Object} b (Some (left_of kept (lost ∋ s) o)) None) (sym (same_kept s))
 
   table_same : {A : Type 0} (xs ys : Table A) → length xs ≡ length ys → ((s : ℕ) → at xs s ≡ at ys s) → xs ≡ ys
   table_same [] [] l h = refl
@@ -164,14 +132,14 @@ module _ (m : Marking) (heap : Heap) (long : length m.bits ≡ length heap) wher
       let o = object_gives (at heap s) (losing_loses m heap s losing) in
       let both = and_gives (is_ready o.0) (some_and (λ x. not (is_marked m x)) (any_referent o.0)) o.2 in
       let x = unmarked_gives (any_referent o.0) both.1 in
-      (same s ∙ losing_is_marked m heap s losing, (o.0, x.0), o.1, both.0, x.1, same x.0 ∙ x.2)
+      (same_kept s ∙ losing_is_marked m heap s losing, (o.0, x.0), o.1, both.0, x.1, same_kept x.0 ∙ x.2)
 
   loses_lost : (s : ℕ) → LosesReferent heap kept s → s ∈ lost
   loses_lost s l =
       let o = l.1.0 in
       let x = l.1.1 in
-      let marked : is_marked m s ≡ true = sym (same s) ∙ l.0 in
-      let unmarked : is_marked m x ≡ false = sym (same x) ∙ l.5 in
+      let marked : is_marked m s ≡ true = sym (same_kept s) ∙ l.0 in
+      let unmarked : is_marked m x ≡ false = sym (same_kept x) ∙ l.5 in
       let cut : loses m o ≡ true =
       ap (λ b. b && some_and (λ y. not (is_marked m y)) (any_referent o)) l.3
       ∙ ap (some_and (λ y. not (is_marked m y))) l.4
@@ -204,25 +172,8 @@ module _ (m : Marking) (heap : Heap) (long : length m.bits ≡ length heap) wher
   pub kept_counted : ((x : ℕ) → IsMarked m x → IsTrue (is_some (at heap x))) → occupied (places_left kept lost 0 heap) ≡ length kept
   kept_counted objects =
       sym (length-filter is_some (places_left kept lost 0 heap))
-      ∙ places_counted kept lost 0 heap (λ s h. objects s (sym (same s) ∙ subst (λ k. k ∈ kept) (omega arith) h))
-      ∙ ap length (filter_alike (λ s. kept ∋ s) (is_marked m) (up_to 0 (length heap)) same)
-
--- the same object at a slot loses alike
-pub losing_alike : (m k : Marking) (heap other : Heap) (s t : ℕ) → m ≡ k → s ≡ t → at heap s ≡ at other t → is_losing m heap s ≡ is_losing k other t
-losing_alike m k heap other s t em es eo =
-    ap (λ (x : Marking). is_marked x s && some_and (loses x) (at heap s)) em
-    ∙ ap (λ y. is_marked k y && some_and (loses k) (at heap s)) es
-    ∙ ap (λ o. is_marked k t && some_and (loses k) o) eo
-
--- ---- What the choice says
-
-pub choice_more : (c : Choosing) (kept lost : List ℕ) (b l : Bool) (n : ℕ) → (b ≡ false → l ≡ false) → cond b (collecting c (kept ++ n ∷ []) (lost ++ only_if l n)) (collecting c kept lost) ≡ collecting c (kept ++ only_if b n) (lost ++ only_if l n)
-choice_more c kept lost true l n h = refl
-choice_more c kept lost false true n h = absurd (both_ways true (h refl) refl)
-choice_more c kept lost false false n h = ap (λ k. collecting c k lost) (sym (append-nil kept)) ∙ ap (collecting c (kept ++ [])) (sym (append-nil lost))
-
-pub unmarked_loses_not : (m : Marking) (heap : Heap) (n : ℕ) → is_marked m n ≡ false → is_losing m heap n ≡ false
-unmarked_loses_not m heap n e = ap (λ b. b && some_and (loses m) (at heap n)) e
+      ∙ places_counted kept lost 0 heap (λ s h. objects s (sym (same_kept s) ∙ subst (λ k. k ∈ kept) (omega arith) h))
+      ∙ ap length (filter_alike (λ s. kept ∋ s) (is_marked m) (up_to 0 (length heap)) same_kept)
 
 pub as_parts : (k : Machine) (g : Graph) (objects : Heap) (mutators : Table Session) (names : List Binding) (pending line : List ℕ)
     → g.objects ≡ objects → g.mutators ≡ mutators → g.names ≡ names → g.pending ≡ pending → g.line ≡ line
@@ -234,3 +185,8 @@ as_parts k g objects mutators names pending line eo em en ep el =
     ∙ ap (λ b. put objects mutators b g.pending g.line) en
     ∙ ap (λ l. put objects mutators names l g.line) ep
     ∙ ap (put objects mutators names pending) el
+
+-- one slot more that is marked, or not
+pub keeps_more : (c : Choosing) (slots lost : List ℕ) (b : Bool) (n : ℕ) → cond b (collecting c (slots ++ n ∷ []) lost) (collecting c slots lost) ≡ collecting c (slots ++ only_if b n) lost
+keeps_more c slots lost true n = refl
+keeps_more c slots lost false n = ap (λ k. collecting c k lost) (sym (append-nil slots))

@@ -1,10 +1,10 @@
--- What settling a place does: an object that is marked is kept, without a referent that is not marked; any other is removed.
-use Rattle.std.specs.Prelude.{ℕ, Bool, cond, not, ◌&&◌, List, [], ◌∷◌, ◌++◌, filter, Option, Some, None, option_map, slice_set}
+-- What a collection does to a place: a marked object loses a referent that is not marked; then all that is not marked is removed.
+use Rattle.std.specs.Prelude.{◌≡◌, ◌<◌, ℕ, Bool, true, cond, not, ◌&&◌, length, List, [], ◌∷◌, ◌++◌, filter, Option, Some, None, option_map, slice_set}
 use Rattle.jlr_machine.specs.declared.object.Object.{Object}
 use Rattle.jlr_machine.specs.ReachSet.{up_to}
-use Rattle.jlr_machine.specs.Objects.{Heap, any_referent, at, some_and, with_cleanable, with_reference}
+use Rattle.jlr_machine.specs.Objects.{◌∈◌, ◌∋◌, Heap, any_referent, at, is_distinct, some_and, with_cleanable, with_reference}
 use Rattle.jlr_machine.specs.Collection.{is_ready, made_pending}
-use Rattle.jlr_machine.specs.Choices.{Choosing, collecting, kept_by, pended_by}
+use Rattle.jlr_machine.specs.Choices.{Choosing, collecting, pended_by}
 use Rattle.jlr_barrier.specs.Graphs.{Graph}
 use Rattle.jlr_marks.specs.Marking.{Marking, is_marked}
 
@@ -43,9 +43,37 @@ is_losing m heap s = is_marked m s && some_and (loses m) (at heap s)
 abbrev pub newly_pending : Marking → Heap → ℕ → List ℕ
 newly_pending m heap s = only_if (is_losing m heap s) s
 
-abbrev pub settled_graph : Marking → Graph → ℕ → Graph
-settled_graph m g s = record g { objects = slice_set g.objects s (settled m s (at g.objects s)); pending = g.pending ++ newly_pending m g.objects s }
+-- what is at a marked slot is settled, and all else is as it was
+abbrev pub cleared : Marking → ℕ → Option Object → Option Object
+cleared m s o = cond (is_marked m s) (option_map (settled_object m) o) o
 
--- the choice says what was kept and what became pending
-abbrev pub settled_choice : Marking → Heap → ℕ → Choosing → Choosing
-settled_choice m heap s c = cond (is_marked m s) (collecting c (kept_by c ++ s ∷ []) (pended_by c ++ newly_pending m heap s)) c
+abbrev pub cleared_graph : Marking → Graph → ℕ → Graph
+cleared_graph m g s = record g { objects = slice_set g.objects s (cleared m s (at g.objects s)); pending = g.pending ++ newly_pending m g.objects s }
+
+-- What is at the marked ones of these slots is settled, and all else is as it was. The lost ones, each of them once, become pending, and the
+-- choice says so
+pub record Clears (m : Marking) (slots : List ℕ) (old : Graph) (before : Choosing) (lost : List ℕ) (new : Graph) (after : Choosing) : Type 0 where
+  pub long : length new.objects ≡ length old.objects
+  pub objects : (s : ℕ) → at new.objects s ≡ cond (slots ∋ s) (cleared m s (at old.objects s)) (at old.objects s)
+  pub pending : new.pending ≡ old.pending ++ lost
+  pub line : new.line ≡ old.line
+  pub mutators : new.mutators ≡ old.mutators
+  pub names : new.names ≡ old.names
+  pub once : is_distinct lost ≡ true
+  pub listed : (s : ℕ) → s ∈ lost → (s ∈ slots) × (is_losing m old.objects s ≡ true)
+  pub all : (s : ℕ) → s ∈ slots → is_losing m old.objects s ≡ true → s ∈ lost
+  pub chosen : after ≡ collecting before [] lost
+
+-- what is at a slot is kept, if it is marked
+abbrev pub kept_at : Marking → ℕ → Option Object → Option Object
+kept_at m s o = cond (is_marked m s) o None
+
+-- What is marked is kept, and all else is gone. The choice says so, and what became pending before
+pub record Keeps (m : Marking) (old : Graph) (before : Choosing) (new : Graph) (after : Choosing) : Type 0 where
+  pub long : length new.objects ≡ length old.objects
+  pub objects : (s : ℕ) → s < length old.objects → at new.objects s ≡ kept_at m s (at old.objects s)
+  pub pending : new.pending ≡ old.pending
+  pub line : new.line ≡ old.line
+  pub mutators : new.mutators ≡ old.mutators
+  pub names : new.names ≡ old.names
+  pub chosen : after ≡ collecting before (marked_below m (length old.objects)) (pended_by before)

@@ -1,11 +1,14 @@
 //! A collection.
-ghost use Rattle.std.specs.Prelude.{◌≡◌, ◌≤◌, [], length};
+ghost use Rattle.std.specs.Prelude.{◌≡◌, ◌≤◌, ◌<◌, ℕ, [], List, length, true};
 ghost use Rattle.jlr_machine.specs.declared.machine.Machine.{Machine};
-ghost use Rattle.jlr_machine.specs.Choices.{nothing_chosen};
+ghost use Rattle.jlr_machine.specs.Objects.{◌∈◌};
+ghost use Rattle.jlr_machine.specs.Choices.{collecting, nothing_chosen, pended_by};
 ghost use Rattle.jlr_barrier.specs.Graphs.{counted, in_machine};
+ghost use Rattle.jlr_barrier.specs.Snapshots.{RefersTo};
 ghost use Rattle.jlr_process.specs.Flipping.{Flips, IsRooted};
+ghost use Rattle.jlr_process.specs.Settling.{Clears, Keeps, is_losing};
 
-use crate::settle::settle;
+use crate::settle::{keep, settle};
 use jlr_barrier::Heap;
 use jlr_machine::choice::Choice;
 use jlr_types::Slot;
@@ -13,8 +16,9 @@ use jlr_types::Slot;
 /// A collection that keeps what is marked (package `java.lang.ref`), where no cell is grey: the roots, and what they lead to, are marked
 /// then. It takes no memory, and a pass over the cells.
 ///
-/// Of what is marked, each reference loses a referent that is not. Those of them that were Fresh and registered with a queue
-/// become Pending, and go on the pending list. Then all that is not marked is removed, and the collection is counted.
+/// Of what is marked, each reference loses a referent that is not; all these were discovered while it was marked. Those of them that were
+/// Fresh and registered with a queue become Pending, and go on the pending list. Then all that is not marked is removed, and the
+/// collection is counted.
 pub fn flip(heap: &mut Heap, choice: &mut Choice)
     requires fit { (m : Machine) × IsRooted m heap.old.graph }
     requires no_grey { heap.old.marking.grey ≡ [] }
@@ -30,8 +34,45 @@ pub fn flip(heap: &mut Heap, choice: &mut Choice)
         return;
     }
     choice.collect();
-    for number in 0..heap.cell_count() {
-        settle(heap, Slot::new(number), choice);
-    }
+    settle_discovered(heap, choice);
+    keep_marked(heap, choice);
     heap.count_collection();
+}
+
+/// What was discovered, if it is marked, loses a referent that is not. What was ready is put on the pending list, and the choice is told. A slot
+/// that was discovered twice has nothing left to lose the second time. What was discovered last comes first: the roots are scanned from the
+/// last one on, so that roots are settled in the order of their slots.
+fn settle_discovered(heap: &mut Heap, choice: &mut Choice)
+    requires within { (s x : ℕ) → RefersTo heap.old.graph.objects s x → x < length heap.old.graph.objects }
+    requires pending { (s : ℕ) → is_losing heap.old.marking heap.old.graph.objects s ≡ true → ¬ (s ∈ heap.old.graph.pending) }
+    requires line { (s : ℕ) → is_losing heap.old.marking heap.old.graph.objects s ≡ true → ¬ (s ∈ heap.old.graph.line) }
+    requires bits { length heap.old.marking.bits ≡ length heap.old.graph.objects }
+    requires room { length heap.old.graph.objects ≤ choice.old.cells }
+    requires begun { choice.old ≡ collecting choice.old [] [] }
+    ensures clears { (lost : List ℕ) × Clears heap.old.marking heap.old.marking.discovered heap.old.graph choice.old lost heap.new.graph choice.new }
+    ensures clock { heap.new.clock ≡ heap.old.clock }
+    ensures marking { heap.new.marking ≡ heap.old.marking }
+{
+    let mut place = heap.discovered_count();
+    while place > 0 {
+        place -= 1;
+        match heap.discovered_at(place) {
+            Some(slot) => settle(heap, slot, choice),
+            None => unreachable!(),
+        }
+    }
+}
+
+/// Keeps what is marked, in the order of the slots, and tells the choice; removes all else.
+fn keep_marked(heap: &mut Heap, choice: &mut Choice)
+    requires no_grey { heap.old.marking.grey ≡ [] }
+    requires room { length heap.old.graph.objects ≤ choice.old.cells }
+    requires begun { choice.old ≡ collecting choice.old [] (pended_by choice.old) }
+    ensures keeps { Keeps heap.old.marking heap.old.graph choice.old heap.new.graph choice.new }
+    ensures clock { heap.new.clock ≡ heap.old.clock }
+    ensures marking { heap.new.marking ≡ heap.old.marking }
+{
+    for number in 0..heap.cell_count() {
+        keep(heap, Slot::new(number), choice);
+    }
 }

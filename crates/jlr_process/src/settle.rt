@@ -1,13 +1,14 @@
 //! One place of the heap.
-ghost use Rattle.std.specs.Prelude.{◌≡◌, ℕ, ◌<◌, ◌++◌, [], IsTrue, Some, is_some, length, option_and_then, option_map};
+ghost use Rattle.std.specs.Prelude.{◌≡◌, ℕ, ◌<◌, ◌++◌, ◌∷◌, [], IsTrue, Some, cond, length, option_and_then, option_map, slice_set};
 ghost use Rattle.jlr_machine.specs.declared.object.Object.TheVariants as object;
 ghost use Rattle.jlr_machine.specs.Objects.{◌∈◌, any_referent, as_cleanable, as_reference, at};
 ghost use Rattle.jlr_cells.specs.Contents.{kind_of};
 ghost use Rattle.jlr_machine.specs.Collection.{is_ready};
 ghost use Rattle.jlr_machine.specs.Choices.{collecting, kept_by, pended_by};
 ghost use Rattle.jlr_machine.specs.SlotSets.{IsAboveAll};
-ghost use Rattle.jlr_marks.specs.Marking.{IsMarked};
-ghost use Rattle.jlr_process.specs.Settling.{newly_pending, is_losing, loses, only_if, settled_choice, settled_graph, with_settled};
+ghost use Rattle.jlr_marks.specs.Marking.{IsMarked, is_marked};
+ghost use Rattle.jlr_barrier.specs.Graphs.{with_objects};
+ghost use Rattle.jlr_process.specs.Settling.{cleared_graph, newly_pending, is_losing, kept_at, loses, only_if, with_settled};
 
 use jlr_barrier::Heap;
 use jlr_cells::Kind;
@@ -29,7 +30,7 @@ fn settle_reference(heap: &mut Heap, slot: Slot, reference: Reference, choice: &
     requires within { (x : ℕ) → reference.referent ≡ Some x → x < length heap.old.graph.objects }
     requires pending { IsTrue (loses heap.old.marking (object.Reference reference)) → ¬ (slot ∈ heap.old.graph.pending) }
     requires line { IsTrue (loses heap.old.marking (object.Reference reference)) → ¬ (slot ∈ heap.old.graph.line) }
-    requires pended { length (pended_by choice.old) < choice.old.cells }
+    requires pended { IsTrue (loses heap.old.marking (object.Reference reference)) → length (pended_by choice.old) < choice.old.cells }
     requires collects { choice.old ≡ collecting choice.old (kept_by choice.old) (pended_by choice.old) }
     ensures graph { heap.new.graph ≡ with_settled heap.old.marking heap.old.graph slot (object.Reference reference) }
     ensures clock { heap.new.clock ≡ heap.old.clock }
@@ -64,7 +65,7 @@ fn settle_cleanable(heap: &mut Heap, slot: Slot, cleanable: Cleanable, choice: &
     requires within { (x : ℕ) → cleanable.referent ≡ Some x → x < length heap.old.graph.objects }
     requires pending { IsTrue (loses heap.old.marking (object.Cleanable cleanable)) → ¬ (slot ∈ heap.old.graph.pending) }
     requires line { IsTrue (loses heap.old.marking (object.Cleanable cleanable)) → ¬ (slot ∈ heap.old.graph.line) }
-    requires pended { length (pended_by choice.old) < choice.old.cells }
+    requires pended { IsTrue (loses heap.old.marking (object.Cleanable cleanable)) → length (pended_by choice.old) < choice.old.cells }
     requires collects { choice.old ≡ collecting choice.old (kept_by choice.old) (pended_by choice.old) }
     ensures graph { heap.new.graph ≡ with_settled heap.old.marking heap.old.graph slot (object.Cleanable cleanable) }
     ensures clock { heap.new.clock ≡ heap.old.clock }
@@ -85,34 +86,44 @@ fn settle_cleanable(heap: &mut Heap, slot: Slot, cleanable: Cleanable, choice: &
     }
 }
 
-/// Keeps what is at a slot, if it is marked, and tells the choice; else removes it.
+/// What is at a slot, if it is marked, loses a referent that is not. If it was ready, it is put on the pending list, and the choice is told.
 pub(crate) fn settle(heap: &mut Heap, slot: Slot, choice: &mut Choice)
-    requires inside { slot < length heap.old.graph.objects }
-    requires no_grey { heap.old.marking.grey ≡ [] }
-    requires object { IsMarked heap.old.marking slot → IsTrue (is_some (at heap.old.graph.objects slot)) }
     requires within { (x : ℕ) → option_and_then any_referent (at heap.old.graph.objects slot) ≡ Some x → x < length heap.old.graph.objects }
     requires pending { IsTrue (is_losing heap.old.marking heap.old.graph.objects slot) → ¬ (slot ∈ heap.old.graph.pending) }
     requires line { IsTrue (is_losing heap.old.marking heap.old.graph.objects slot) → ¬ (slot ∈ heap.old.graph.line) }
-    requires cell { slot < choice.old.cells }
-    requires above { IsAboveAll slot (kept_by choice.old) }
-    requires pended { length (pended_by choice.old) < choice.old.cells }
-    ensures graph { heap.new.graph ≡ settled_graph heap.old.marking heap.old.graph slot }
+    requires pended { IsTrue (is_losing heap.old.marking heap.old.graph.objects slot) → length (pended_by choice.old) < choice.old.cells }
+    requires collects { choice.old ≡ collecting choice.old (kept_by choice.old) (pended_by choice.old) }
+    ensures graph { heap.new.graph ≡ cleared_graph heap.old.marking heap.old.graph slot }
     ensures clock { heap.new.clock ≡ heap.old.clock }
     ensures marking { heap.new.marking ≡ heap.old.marking }
-    ensures choice { choice.new ≡ settled_choice heap.old.marking heap.old.graph.objects slot choice.old }
+    ensures choice { choice.new ≡ collecting choice.old (kept_by choice.old) (pended_by choice.old ++ newly_pending heap.old.marking heap.old.graph.objects slot) }
 {
     let kind = heap.kind(slot);
-    if !heap.is_marked(slot) {
-        if kind.is_some() {
-            heap.remove(slot);
-        }
+    if kind.is_none() || !heap.is_marked(slot) {
         return;
     }
-    choice.keep(slot);
     if let Some(reference) = reference_of(heap, slot, kind) {
         settle_reference(heap, slot, reference, choice);
     } else if let Some(cleanable) = cleanable_of(heap, slot, kind) {
         settle_cleanable(heap, slot, cleanable, choice);
+    }
+}
+
+/// Keeps what is at a slot, if it is marked, and tells the choice; else removes it.
+pub(crate) fn keep(heap: &mut Heap, slot: Slot, choice: &mut Choice)
+    requires inside { slot < length heap.old.graph.objects }
+    requires no_grey { heap.old.marking.grey ≡ [] }
+    requires cell { slot < choice.old.cells }
+    requires above { IsAboveAll slot (kept_by choice.old) }
+    ensures graph { heap.new.graph ≡ with_objects heap.old.graph (slice_set heap.old.graph.objects slot (kept_at heap.old.marking slot (at heap.old.graph.objects slot))) }
+    ensures clock { heap.new.clock ≡ heap.old.clock }
+    ensures marking { heap.new.marking ≡ heap.old.marking }
+    ensures choice { choice.new ≡ cond (is_marked heap.old.marking slot) (collecting choice.old (kept_by choice.old ++ slot ∷ []) (pended_by choice.old)) choice.old }
+{
+    if heap.is_marked(slot) {
+        choice.keep(slot);
+    } else if heap.kind(slot).is_some() {
+        heap.remove(slot);
     }
 }
 
