@@ -149,7 +149,7 @@ const AFTER: &str = "
 
     by 1 join -> done
     by 1 leave -> done
-    names -> names
+    names -> names 0
     notes -> notes 0
     faults -> faults 0
     check_out 1 -> out 5
