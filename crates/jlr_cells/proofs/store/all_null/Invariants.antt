@@ -1,6 +1,6 @@
 use Rattle.std.proofs.Common.{◌≡◌, ◌≤◌, replicate, vec_capacity}
 use Rattle.jlr_cells.specs.Links.{no_links}
-use Rattle.jlr_cells.proofs.cells.all_null.Given as goal
+use Rattle.jlr_cells.proofs.store.all_null.Given as goal
 
 -- the links so far are null, and there is room for all
 abbrev pub invariant-loop-slot : goal.invariant-loop-slot

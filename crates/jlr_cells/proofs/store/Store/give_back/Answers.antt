@@ -6,7 +6,7 @@ use Rattle.jlr_cells.specs.FreeList.{AreOfQueues}
 use Rattle.jlr_cells.proofs.ByKind.{kept_given_back}
 use Rattle.jlr_cells.proofs.Chains.{given_back}
 use Rattle.jlr_cells.proofs.Queues.{holds_at, kind_count, link_count, list_count, list_emptied, removed_object, within}
-use Rattle.jlr_cells.proofs.cells.Cells.give_back.Goals as goal
+use Rattle.jlr_cells.proofs.store.Store.give_back.Goals as goal
 
 pub clear-requires : goal.clear-requires
 clear-requires c = omega (arith, within c.self.inside.cells.items c.self.inside.queues.lists c.args.self.now c.self.view_is _ _ c.number-number.ensures c.requires, list_count c.self.inside.cells.items c.self.inside.queues.lists c.self.inside.queues.slots c.self.inside.kinds.items c.self.inside.links.items c.self.inside.first_free c.self.inside.free_count c.self.invariant)
