@@ -1,13 +1,16 @@
--- An object that is not marked is removed, where nothing is grey.
-use Rattle.std.proofs.Common.{◌≡◌, ◌≤◌, ℕ, inl, inr, IsTrue, [], Option, Some, None, is_some, option_and_then, length, refl, sym, subst, ◌∙◌, length-set}
+-- What is not marked is removed, where nothing is grey.
+use Rattle.std.proofs.Common.{◌≡◌, ◌≤◌, ℕ, cond, inl, inr, IsTrue, [], Option, Some, None, is_some, option_and_then, length, refl, sym, subst, ◌∙◌, ap}
 use Rattle.std.specs.List.{flat_map}
 use Rattle.std.specs.Option.{option_to_list}
-use Rattle.std.proofs.lemmas.Bool.{both_ways}
+use Rattle.std.proofs.lemmas.Bool.{both_ways, cases_Bool}
 use Rattle.jlr_machine.specs.declared.object.Object.{Object}
-use Rattle.jlr_machine.specs.Objects.{Heap, any_referent, at, empty_at, ◌∈◌}
+use Rattle.jlr_machine.specs.Objects.{Heap, any_referent, at, ◌∈◌}
 use Rattle.jlr_machine.specs.Edges.{is_own_root, strong_edges}
+use Rattle.jlr_machine.specs.SlotSets.{is_in}
 use Rattle.jlr_laws.proofs.Sets.{nothing}
-use Rattle.jlr_laws.proofs.Frames.{no_some, set_cases, set_other}
+use Rattle.jlr_laws.proofs.Frames.{no_some}
+use Rattle.jlr_cells.specs.Showing.{shown}
+use Rattle.jlr_cells.proofs.Showing.{at-shown, length-shown}
 use Rattle.jlr_marks.specs.Marking.{IsMarked}
 use Rattle.jlr_barrier.specs.Graphs.{Graph, Known, held, with_objects}
 use Rattle.jlr_barrier.specs.Snapshots.{FitsTogether, IsEdge, RefersTo, cycle_of}
@@ -15,25 +18,26 @@ use Rattle.jlr_barrier.proofs.Held.{by_session, by_name, by_pending, by_line, by
 use Rattle.jlr_barrier.proofs.OwnRoots.{active_gives, active_from}
 use Rattle.jlr_barrier.proofs.Keeping.{snapshot_of_left}
 
-module _ (k : Known) (a b s : ℕ) (f : FitsTogether k a b) (off : ¬ (IsMarked k.marking s)) (none : k.marking.grey ≡ []) where
+module _ (k : Known) (a b : ℕ) (f : FitsTogether k a b) (none : k.marking.grey ≡ []) where
   abbrev old : Heap
   old = k.graph.objects
 
   abbrev other : Heap
-  other = empty_at old s
+  other = shown k.marking.bits old
 
   abbrev after : Graph
   after = with_objects k.graph other
 
-  beside : (x : ℕ) → (x ≡ s → ⊥) → at other x ≡ at old x
-  beside x d = set_other old s x None d
+  -- what is marked stays
+  stays : (x : ℕ) → IsMarked k.marking x → at other x ≡ at old x
+  stays x on = at-shown k.marking.bits old x ∙ ap (λ b. cond b (at old x) None) on
 
-  apart : (x : ℕ) → IsMarked k.marking x → x ≡ s → ⊥
-  apart x on e = off (subst (IsMarked k.marking) e on)
-
-  -- there is nothing at s, or nothing lies there that was not there
+  -- nothing lies there that was not there
   still : (x : ℕ) (o : Object) → at other x ≡ Some o → at old x ≡ Some o
-  still x o e = elim (set_cases old s x None o e) [ inl here ↦ no_some o here.1 | inr there ↦ there.1 ]
+  still x o e = elim (cases_Bool (is_in k.marking.bits x)) [
+    | inl on ↦ sym (stays x on) ∙ e
+    | inr off ↦ absurd (no_some o (sym (at-shown k.marking.bits old x ∙ ap (λ b. cond b (at old x) None) off) ∙ e))
+  ]
 
   own_root : (o : Option Object) (x : ℕ) → at other x ≡ o → IsTrue (is_own_root o) → IsTrue (is_own_root (at old x))
   own_root None x e h = absurd (both_ways (is_own_root None) refl h)
@@ -50,19 +54,19 @@ module _ (k : Known) (a b s : ℕ) (f : FitsTogether k a b) (off : ¬ (IsMarked 
 
   pub removed_fits : FitsTogether (record k { graph = after }) a b
   removed_fits =
-      let long : length other ≡ length old = length-set old s None in
+      let long : length other ≡ length old = length-shown k.marking.bits old in
       record {
         few = subst (λ n. n ≤ 65536) (sym long) f.few;
         bits = f.bits ∙ sym long;
         ages = f.ages ∙ sym long;
         links = subst (λ n. n ≡ a) (sym long) f.links;
         two = f.two;
-        objects = λ x on. subst (λ z. IsTrue (is_some z)) (sym (beside x (apart x on))) (f.objects x on);
+        objects = λ x on. subst (λ z. IsTrue (is_some z)) (sym (stays x on)) (f.objects x on);
         snapshot =
             snapshot_of_left (cycle_of k.graph k.marking) (IsEdge other) (IsEdge other) (RefersTo other) (λ y. y ∈ held after) f.snapshot
             (λ x g. nothing x (subst (λ l. x ∈ l) none g))
-            (λ x y on e. subst (λ z. y ∈ flat_map strong_edges (option_to_list z)) (beside x (apart x on)) e)
+            (λ x y on e. subst (λ z. y ∈ flat_map strong_edges (option_to_list z)) (stays x on) e)
             (λ x y e. inr e)
-            (λ x y on q. subst (λ z. option_and_then any_referent z ≡ Some y) (beside x (apart x on)) q)
+            (λ x y on q. subst (λ z. option_and_then any_referent z ≡ Some y) (stays x on) q)
             held_before;
       }

@@ -1,6 +1,6 @@
 -- Calls on mutators, names and queues keep a heap together.
-use Rattle.std.proofs.Common.{◌≡◌, ℕ, inl, inr, IsTrue, List, [], ◌∷◌, ◌++◌, Option, Some, None, Result, Ok, Err, drop, length, sym, subst, ◌∙◌}
-use Rattle.std.specs.Prelude.{IfNone, IfSome, OnErr, OnOk}
+use Rattle.std.proofs.Common.{◌≡◌, ℕ, inl, inr, IsTrue, List, [], ◌∷◌, ◌++◌, Option, Some, None, drop, length, sym, subst, ◌∙◌}
+use Rattle.std.specs.Prelude.{IfNone, IfSome}
 use Rattle.jlr_machine.specs.declared.machine.Session.{Session}
 use Rattle.jlr_machine.specs.declared.machine.Binding.{Binding}
 use Rattle.jlr_machine.specs.declared.machine.Call.{Call}

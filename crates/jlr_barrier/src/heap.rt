@@ -87,11 +87,20 @@ impl Heap {
         self.cells.cell_count()
     }
 
-    /// How many cells are free.
+    /// How many cells hold no object.
     pub fn free_count(&self) -> u32
         ensures { result + occupied self.now.graph.objects ≡ length self.now.graph.objects }
     {
         self.cells.free_count()
+    }
+
+    /// What a collection removed is taken out of its cells, of at most so many. Callers see no difference.
+    pub fn sweep(&mut self, budget: u32)
+        ensures graph { self.new.graph ≡ self.old.graph }
+        ensures clock { self.new.clock ≡ self.old.clock }
+        ensures marking { self.new.marking ≡ self.old.marking }
+    {
+        self.cells.sweep(budget);
     }
 
     /// Of which kind the object at a slot is, if there is one.
@@ -175,18 +184,6 @@ impl Heap {
         self.last_gets[slot.number() as usize] = self.collections;
         self.since_collection = self.since_collection.saturating_add(1);
         Some(slot)
-    }
-
-    /// The object at a slot, which is not marked, is no more. No cell is grey.
-    pub fn remove(&mut self, slot: Slot)
-        requires object { IsTrue (is_some (at self.old.graph.objects slot)) }
-        requires unmarked { ¬ (IsMarked self.old.marking slot) }
-        requires no_grey { self.old.marking.grey ≡ [] }
-        ensures graph { self.new.graph ≡ with_objects self.old.graph (empty_at self.old.graph.objects slot) }
-        ensures clock { self.new.clock ≡ self.old.clock }
-        ensures marking { self.new.marking ≡ self.old.marking }
-    {
-        self.cells.give_back(slot);
     }
 
     /// The reference at a slot, if there is one.

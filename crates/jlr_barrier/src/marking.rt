@@ -5,8 +5,9 @@ ghost use Rattle.jlr_machine.specs.Choices.{collecting, kept_by, pended_by};
 ghost use Rattle.jlr_machine.specs.Objects.{at, some_and, ◌∈◌};
 ghost use Rattle.jlr_machine.specs.Refusals.{is_plain};
 ghost use Rattle.jlr_machine.specs.Edges.{referent};
-ghost use Rattle.jlr_machine.specs.SlotSets.{FindsFirst, missing, slots_of};
-ghost use Rattle.jlr_barrier.specs.Graphs.{held};
+ghost use Rattle.jlr_machine.specs.SlotSets.{slots_of};
+ghost use Rattle.jlr_cells.specs.Showing.{shown};
+ghost use Rattle.jlr_barrier.specs.Graphs.{held, with_objects};
 ghost use Rattle.jlr_marks.specs.Marking.{IsMarked, Shaded, is_marked, unmarked, upcoming};
 ghost use Rattle.jlr_barrier.specs.Snapshots.{HoldsWhole, IsEdge, IsObject, RefersTo};
 ghost use Rattle.jlr_barrier.specs.Scans.{Scanned};
@@ -79,21 +80,18 @@ impl Heap {
         plain
     }
 
-    /// The first slot not below `from` that is not marked.
-    pub fn next_unmarked(&self, from: u32) -> Option<Slot>
-        ensures unmarked { FindsFirst (missing self.now.marking.bits) from result }
-        ensures few { length self.now.marking.bits < 2 ^ 32 }
-    {
-        self.marks.next_unmarked(from)
-    }
-
-    /// A collection that kept nothing so far keeps all that is marked.
-    pub fn keep_marked(&self, choice: &mut Choice)
-        requires cells { length self.now.marking.bits ≤ choice.old.cells }
+    /// A collection that kept nothing so far keeps all that is marked, and all else is no more. No cell is grey.
+    pub fn keep_marked(&mut self, choice: &mut Choice)
+        requires cells { length self.old.marking.bits ≤ choice.old.cells }
         requires none { kept_by choice.old ≡ [] }
-        ensures { choice.new ≡ collecting choice.old (slots_of self.now.marking.bits) (pended_by choice.old) }
+        requires no_grey { self.old.marking.grey ≡ [] }
+        ensures graph { self.new.graph ≡ with_objects self.old.graph (shown self.old.marking.bits self.old.graph.objects) }
+        ensures clock { self.new.clock ≡ self.old.clock }
+        ensures marking { self.new.marking ≡ self.old.marking }
+        ensures choice { choice.new ≡ collecting choice.old (slots_of self.old.marking.bits) (pended_by choice.old) }
     {
         self.marks.keep_all(choice);
+        self.cells.keep_only(self.marks.marked());
     }
 
     /// How many slots are discovered.

@@ -5,3 +5,6 @@ mod Chains
 mod LinkLists
 mod ByKind
 pub mod Queues
+pub mod Showing
+pub mod Shown
+pub mod Images

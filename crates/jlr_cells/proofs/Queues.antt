@@ -1,5 +1,5 @@
 -- The members of queues, which stand in lists beside the objects.
-use Rattle.std.proofs.Common.{◌≡◌, ◌⊎◌, inl, inr, ℕ, zero, suc, ◌+◌, ◌<◌, Bool, true, false, List, [], ◌∷◌, ◌++◌, Option, Some, None, length, set, get_or, replicate, refl, sym, ap, ◌∙◌, add-one, arith, subst, take, length-set, get_or-set_same, get_or-set_other}
+use Rattle.std.proofs.Common.{◌≡◌, ◌⊎◌, inl, inr, ℕ, zero, suc, ◌<◌, Bool, true, false, List, [], ◌∷◌, Option, Some, None, length, set, get_or, replicate, refl, sym, ap, ◌∙◌, arith, subst, length-set, get_or-set_same, get_or-set_other}
 use Rattle.std.specs.Prelude.{is_some, option_map, slice_get, slice_index_or}
 use Rattle.std.proofs.lemmas.Bool.{cases_eq}
 use Rattle.std.proofs.lemmas.List.{length-map, map-set, set-set, length-replicate}
@@ -10,7 +10,6 @@ use Rattle.jlr_machine.specs.declared.object.Cleanable.{Cleanable as CleanableOf
 use Rattle.jlr_types.specs.declared.FieldValue.{FieldValue}
 use Rattle.jlr_types.specs.declared.FieldValue.TheVariants as field
 use Rattle.jlr_machine.specs.Edges.{slot_in}
-use Rattle.std.proofs.Math.Seq.{take-suc}
 use Rattle.jlr_machine.specs.Objects.{◌∈◌, Heap, at, change_at, empty_at, occupied, set_at, some_and, with_cleanable, with_field, with_members, with_reference}
 use Rattle.jlr_machine.specs.Refusals.{is_plain, is_queue}
 use Rattle.jlr_laws.proofs.ObjectsKept.{count_pointwise}
@@ -281,18 +280,21 @@ kinds_set kinds lists slots s k of none = record {
   ];
 }
 
+-- a list is emptied
+pub emptied : (kinds : List (Option Kind)) (lists : List (List ℕ)) (slots s : ℕ) → AreOfQueues kinds lists slots → s < length lists → AreOfQueues kinds (set lists s []) slots
+emptied kinds lists slots s of within = record {
+  list_count = length-set lists s [] ∙ of.list_count;
+  slot_count = of.slot_count;
+  only = λ j. elim (cases_eq j s) [
+    | inl same ↦ inl (ap (list_at (set lists s [])) same ∙ get_or-set_same lists s [] [] within)
+    | inr other ↦ subst (λ l. (l ≡ []) ⊎ (slice_index_or kinds j None ≡ Some kind.Queue)) (sym (get_or-set_other lists s j [] [] other)) (of.only j)
+  ];
+}
+
 -- the object at a slot is no more, and its list is empty
 pub list_emptied : (kinds : List (Option Kind)) (lists : List (List ℕ)) (slots s : ℕ) → AreOfQueues kinds lists slots → s < length lists → AreOfQueues (set kinds s None) (set lists s []) slots
 list_emptied kinds lists slots s of within =
-    let emptied : AreOfQueues kinds (set lists s []) slots = record {
-      list_count = length-set lists s [] ∙ of.list_count;
-      slot_count = of.slot_count;
-      only = λ j. elim (cases_eq j s) [
-        | inl same ↦ inl (ap (list_at (set lists s [])) same ∙ get_or-set_same lists s [] [] within)
-        | inr other ↦ subst (λ l. (l ≡ []) ⊎ (slice_index_or kinds j None ≡ Some kind.Queue)) (sym (get_or-set_other lists s j [] [] other)) (of.only j)
-      ];
-    } in
-    kinds_set kinds (set lists s []) slots s None emptied (get_or-set_same lists s [] [] within)
+    kinds_set kinds (set lists s []) slots s None (emptied kinds lists slots s of within) (get_or-set_same lists s [] [] within)
 
 -- empty lists
 none_of : (n s : ℕ) → list_at (replicate n []) s ≡ []
@@ -392,12 +394,3 @@ list_within (l ∷ lists) (suc t) x h = let below : t < length lists = list_with
 pub set_target : (value : FieldValue) (s : ℕ) → slot_in value ≡ Some s → value ≡ field.Ref (Some s)
 set_target (field.Int n) s e = cc
 set_target (field.Ref target) s e = ap (λ o. field.Ref o) e
-
--- the image of one more object
-pub one_image : (cells : List Cell) (lists : List (List ℕ)) (s : ℕ) (c : Cell) (objects objects' : List (Option Object)) (o : Option Object) → s < length cells → c ≡ get_or cells s c
-    → objects ≡ take s (with_lists (objects_in cells) lists) → objects' ≡ objects ++ o ∷ [] → o ≡ with_list (list_at lists s) (object_in c) → objects' ≡ take (s + 1) (with_lists (objects_in cells) lists)
-one_image cells lists s c objects objects' o below read so_far pushed is =
-    let all = with_lists (objects_in cells) lists in
-    let inside : s < length all = omega (arith, below, long-with_lists (objects_in cells) lists, length-map cells object_in) in
-    let there : at all s ≡ o = at-with_lists (objects_in cells) lists s ∙ ap (with_list (list_at lists s)) (at-read cells s c below read) ∙ sym is in
-    pushed ∙ ap (λ l. l ++ o ∷ []) so_far ∙ ap (λ x. take s all ++ x ∷ []) (sym there) ∙ sym (ap (λ n. take n all) (add-one s) ∙ take-suc all s None inside)

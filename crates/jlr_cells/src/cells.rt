@@ -1,37 +1,42 @@
-//! All cells.
-ghost use Rattle.std.specs.Prelude.{◌≡◌, ℕ, ◌+◌, ◌++◌, ◌∷◌, [], ◌^◌, ◌<◌, ◌↔◌, IfOk, IfNone, IfSome, IsNone, IsTrue, None, List, Some, drop, is_some, length, option_and_then, option_map, replicate, slice_get};
+//! The objects of the heap, in cells.
+ghost use Rattle.std.specs.Prelude.{◌≡◌, ℕ, ◌+◌, ◌++◌, ◌∷◌, [], ◌^◌, ◌<◌, ◌↔◌, IfOk, IfNone, IfSome, IsNone, IsTrue, None, List, Some, drop, is_some, length, option_and_then, option_map, replicate, slice_get, true};
 ghost use Rattle.jlr_machine.specs.Objects.{◌∈◌, as_cleanable, as_fields, as_guard, as_reference, at, change_at, empty_at, is_cleaner, occupied, set_at, some_and};
 ghost use Rattle.jlr_machine.specs.Edges.{edges_from};
 ghost use Rattle.jlr_machine.specs.Edges.Chain.{Strong};
 ghost use Rattle.jlr_machine.specs.Objects.{with_cleanable, with_field, with_members, with_reference};
 ghost use Rattle.jlr_machine.specs.Refusals.{is_cleanable, is_guard, is_plain, is_queue, is_reference};
 ghost use Rattle.jlr_machine.specs.Calls.{spent, unreferred};
-ghost use Rattle.jlr_cells.specs.Contents.{field_at, in_clean_state, in_state, kind_of, member_in, members_in, object_of, objects_in, referent_in, unregistered, watching, with_lists, without_referent};
+ghost use Rattle.jlr_cells.specs.Contents.{field_at, in_clean_state, in_state, kind_of, member_in, members_in, object_of, referent_in, unregistered, watching, without_referent};
 ghost use Rattle.jlr_cells.specs.Links.{no_links};
 ghost use Rattle.jlr_cells.specs.Visits.{edges_told, found_plain};
+ghost use Rattle.jlr_machine.specs.SlotSets.{is_in};
+ghost use Rattle.jlr_cells.specs.Showing.{shown};
 
-use crate::cell::Cell;
-use crate::free_list::{free_cells, link_to, next_free};
-use crate::links::{Links, Visited, target_of};
+use crate::links::Visited;
 use crate::shape::{Kind, Shape};
-use jlr_links::Links as Lists;
+use crate::store::Store;
+use crate::sweeping::{clear_lists, make_free, sweep_some};
+use jlr_machine::cell_set::CellSet;
 use jlr_machine::object::{CleanState, Cleanable, Guard, Object, RefState, Reference};
 use jlr_machine::table::Table;
 use jlr_types::{FieldValue, Meter, Slot};
 use std::alloc::{AllocError, Global};
 use std::marker::Model;
 
-/// The objects of the heap, by slot. The kinds stand by themselves once more, side by side, so that a pass over all cells reads
-/// only those that it has to; and so does what the fields of plain objects refer to, so that marking reads no cell of those.
+/// The objects of the heap, by slot: what lies in the cells that are occupied.
 #[derive(Drop)]
 pub struct Cells {
-    cells: Vec<Cell>,
-    /// By slot, the members of the queue there from the front on; of what is no queue there are none.
-    queues: Lists,
-    kinds: Vec<Option<Kind>>,
-    links: Vec<Links>,
-    first_free: Option<u32>,
-    free_count: u32,
+    store: Store,
+    /// The cells in which something lies: all but the free ones.
+    used: CellSet,
+    /// The cells that hold an object. What lies in another is condemned.
+    occupied: CellSet,
+    /// The queues that were given a member since they were made, and some that were not.
+    listed: CellSet,
+    /// How many cells hold no object.
+    free: u32,
+    /// No cell below is condemned.
+    swept: u32,
 }
 
 impl Model for Cells {
@@ -40,12 +45,11 @@ impl Model for Cells {
 
     ghost Value = { List (Option Object) };
 
-    ghost use Rattle.jlr_cells.specs.Contents.{objects_in, with_lists};
-    ghost use Rattle.jlr_cells.specs.FreeList.{AreWhole};
+    ghost use Rattle.jlr_cells.specs.Showing.{shown, AreShown};
 
-    ghost view = { λ a. with_lists (objects_in a.cells.items) a.queues.lists };
+    ghost view = { λ a. shown a.occupied a.store };
 
-    ghost invariant = { λ a. AreWhole a.cells.items a.queues.lists a.queues.slots a.kinds.items a.links.items a.first_free a.free_count };
+    ghost invariant = { λ a. AreShown a.store a.used a.occupied a.listed a.free a.swept };
 }
 
 impl Cells {
@@ -57,12 +61,12 @@ impl Cells {
         ensures { IfOk result (λ cells. cells ≡ replicate count None) }
     {
         Ok(Cells {
-            cells: free_cells(alloc, count)?,
-            queues: Lists::new(alloc, count, count)?,
-            kinds: no_kinds(alloc, count)?,
-            links: all_null(alloc, count)?,
-            first_free: link_to(0, count),
-            free_count: count,
+            store: Store::new(alloc, count)?,
+            used: CellSet::new(alloc, count)?,
+            occupied: CellSet::new(alloc, count)?,
+            listed: CellSet::new(alloc, count)?,
+            free: count,
+            swept: 0,
         })
     }
 
@@ -70,50 +74,65 @@ impl Cells {
     pub fn cell_count(&self) -> u32
         ensures { result ≡ length self.now }
     {
-        self.cells.len() as u32
+        self.store.cell_count()
     }
 
-    /// How many cells are free.
+    /// How many cells hold no object: they are free, or condemned.
     pub fn free_count(&self) -> u32
         ensures { result + occupied self.now ≡ length self.now }
     {
-        self.free_count
+        self.free
     }
 
-    /// A new object in a free cell, if there is one.
+    /// A new object in a free cell, if there is one. Where none is left, what is condemned is swept first.
     pub fn take(&mut self, shape: Shape) -> Option<Slot>
         ensures full { IsNone result ↔ (occupied self.old ≡ length self.old) }
         ensures none { IfNone result (self.new ≡ self.old) }
         ensures free { IfSome result (λ slot. (slot < length self.old) × (at self.old slot ≡ None)) }
         ensures taken { IfSome result (λ slot. self.new ≡ set_at self.old slot (object_of shape)) }
     {
-        match self.first_free {
-            None => None,
-            Some(slot) => {
-                self.first_free = next_free(&self.cells, slot);
-                let cell = Cell::new(shape);
-                self.kinds[slot as usize] = cell.kind();
-                self.cells[slot as usize] = cell;
-                self.free_count -= 1;
-                Some(Slot::new(slot))
-            }
-        }
+        self.swept = make_free(&mut self.store, &mut self.used, &self.occupied, self.swept);
+        let slot = self.store.take(shape)?;
+        self.used.insert(slot);
+        self.occupied.insert(slot);
+        self.free -= 1;
+        Some(slot)
     }
 
-    /// The object at a slot is no more, and its cell is free.
-    pub fn give_back(&mut self, slot: Slot)
-        requires { IsTrue (is_some (at self.old slot)) }
-        ensures { self.new ≡ empty_at self.old slot }
+    /// The objects at the slots of a set stay; all others are no more. Their cells are condemned: they lie as they are until they are swept, but
+    /// that queues among them lose their members.
+    pub fn keep_only(&mut self, kept: &CellSet)
+        requires places { length kept.now ≡ length self.old }
+        requires objects { (s : ℕ) → is_in kept.now s ≡ true → IsTrue (is_some (at self.old s)) }
+        ensures { self.new ≡ shown kept.now self.old }
     {
-        let number = slot.number();
-        self.cells[number as usize] = Cell::Free {
-            next: self.first_free,
-        };
-        self.kinds[number as usize] = None;
-        self.links[number as usize] = Links::none();
-        self.queues.clear(number);
-        self.first_free = Some(number);
-        self.free_count += 1;
+        clear_lists(&mut self.store, &mut self.listed, kept);
+        self.occupied.assign(kept);
+        self.free = self.store.cell_count() - kept.count();
+        self.swept = 0;
+    }
+
+    /// Condemned cells become free, at most so many. Callers see no difference.
+    pub fn sweep(&mut self, budget: u32)
+        ensures { self.new ≡ self.old }
+    {
+        self.swept = sweep_some(
+            &mut self.store,
+            &mut self.used,
+            &self.occupied,
+            self.swept,
+            budget,
+        );
+    }
+
+    /// Whether there is an object at a slot.
+    fn is_occupied(&self, slot: Slot) -> bool
+        ensures { result ≡ is_some (at self.now slot) }
+    {
+        if slot.number() >= self.store.cell_count() {
+            return false;
+        }
+        self.occupied.contains(slot)
     }
 
     /// Of which kind the object at a slot is, if there is one.
@@ -121,10 +140,10 @@ impl Cells {
         ensures kind { result ≡ option_map kind_of (at self.now slot) }
         ensures object { is_some result ≡ is_some (at self.now slot) }
     {
-        match self.kinds.get(slot.number() as usize) {
-            Some(kind) => *kind,
-            None => None,
+        if !self.is_occupied(slot) {
+            return None;
         }
+        self.store.kind(slot)
     }
 
     /// Whether there is a plain object at a slot.
@@ -173,17 +192,20 @@ impl Cells {
     pub fn field_count(&self, slot: Slot) -> Option<usize>
         ensures { result ≡ option_map length (option_and_then as_fields (at self.now slot)) }
     {
-        match self.cells.get(slot.number() as usize) {
-            Some(cell) => cell.field_count(),
-            None => None,
+        if !self.is_occupied(slot) {
+            return None;
         }
+        self.store.field_count(slot)
     }
 
     /// Whether there is a plain object at a slot that has this field.
     pub fn has_field(&self, slot: Slot, field: usize) -> bool
         ensures { result ≡ is_some (field_at self.now slot field) }
     {
-        field_of(&self.cells, slot, field).is_some()
+        if !self.is_occupied(slot) {
+            return false;
+        }
+        self.store.has_field(slot, field)
     }
 
     /// What a field holds.
@@ -191,7 +213,7 @@ impl Cells {
         requires { IsTrue (is_some (field_at self.now slot field)) }
         ensures { field_at self.now slot field ≡ Some result }
     {
-        field_of(&self.cells, slot, field).unwrap()
+        self.store.field(slot, field)
     }
 
     /// Sets a field, and answers what it held.
@@ -201,33 +223,27 @@ impl Cells {
         ensures old { field_at self.old slot field ≡ Some result }
         ensures new { self.new ≡ change_at self.old slot (with_field field value) }
     {
-        let place = slot.number() as usize;
-        let target = target_of(&value);
-        let cell = &mut self.cells[place];
-        let old = cell.set_field(field, value);
-        let links = &mut self.links[place];
-        links.set(field, target);
-        old
+        self.store.set_field(slot, field, value)
     }
 
     /// The reference at a slot, if there is one.
     pub fn reference(&self, slot: Slot) -> Option<Reference>
         ensures { result ≡ option_and_then as_reference (at self.now slot) }
     {
-        match self.cells.get(slot.number() as usize) {
-            Some(cell) => cell.reference(),
-            None => None,
+        if !self.is_occupied(slot) {
+            return None;
         }
+        self.store.reference(slot)
     }
 
     /// What the reference at a slot refers to, if there is a reference and it was not cleared.
     pub fn referent(&self, slot: Slot) -> Option<Slot>
         ensures { result ≡ referent_in (at self.now slot) }
     {
-        match self.cells.get(slot.number() as usize) {
-            Some(cell) => cell.referent(),
-            None => None,
+        if !self.is_occupied(slot) {
+            return None;
         }
+        self.store.referent(slot)
     }
 
     /// The reference at a slot loses its referent.
@@ -235,8 +251,7 @@ impl Cells {
         requires { IsTrue (some_and is_reference (at self.old slot)) }
         ensures { self.new ≡ change_at self.old slot (with_reference unreferred) }
     {
-        let cell = &mut self.cells[slot.number() as usize];
-        cell.clear_referent();
+        self.store.clear_referent(slot);
     }
 
     /// The reference at a slot comes into another state.
@@ -244,8 +259,7 @@ impl Cells {
         requires { IsTrue (some_and is_reference (at self.old slot)) }
         ensures { self.new ≡ change_at self.old slot (with_reference (in_state state)) }
     {
-        let cell = &mut self.cells[slot.number() as usize];
-        cell.set_state(state);
+        self.store.set_state(slot, state);
     }
 
     /// The reference at a slot is registered with no queue any more.
@@ -253,28 +267,27 @@ impl Cells {
         requires { IsTrue (some_and is_reference (at self.old slot)) }
         ensures { self.new ≡ change_at self.old slot (with_reference unregistered) }
     {
-        let cell = &mut self.cells[slot.number() as usize];
-        cell.cut_queue();
+        self.store.cut_queue(slot);
     }
 
     /// The cleanable at a slot, if there is one.
     pub fn cleanable(&self, slot: Slot) -> Option<Cleanable>
         ensures { result ≡ option_and_then as_cleanable (at self.now slot) }
     {
-        match self.cells.get(slot.number() as usize) {
-            Some(cell) => cell.cleanable(),
-            None => None,
+        if !self.is_occupied(slot) {
+            return None;
         }
+        self.store.cleanable(slot)
     }
 
     /// The guard at a slot, if there is one.
     pub fn guard(&self, slot: Slot) -> Option<Guard>
         ensures { result ≡ option_and_then as_guard (at self.now slot) }
     {
-        match self.cells.get(slot.number() as usize) {
-            Some(cell) => cell.guard(),
-            None => None,
+        if !self.is_occupied(slot) {
+            return None;
         }
+        self.store.guard(slot)
     }
 
     /// The cleanable at a slot comes into another state.
@@ -282,8 +295,7 @@ impl Cells {
         requires { IsTrue (some_and is_cleanable (at self.old slot)) }
         ensures { self.new ≡ change_at self.old slot (with_cleanable (in_clean_state state)) }
     {
-        let cell = &mut self.cells[slot.number() as usize];
-        cell.set_clean_state(state);
+        self.store.set_clean_state(slot, state);
     }
 
     /// The cleanable at a slot loses its referent.
@@ -291,8 +303,7 @@ impl Cells {
         requires { IsTrue (some_and is_cleanable (at self.old slot)) }
         ensures { self.new ≡ change_at self.old slot (with_cleanable without_referent) }
     {
-        let cell = &mut self.cells[slot.number() as usize];
-        cell.clear_cleanable();
+        self.store.clear_cleanable(slot);
     }
 
     /// The cleanable at a slot waits for an object from now on.
@@ -300,8 +311,7 @@ impl Cells {
         requires { IsTrue (some_and is_cleanable (at self.old slot)) }
         ensures { self.new ≡ change_at self.old slot (with_cleanable (watching referent)) }
     {
-        let cell = &mut self.cells[slot.number() as usize];
-        cell.watch(referent);
+        self.store.watch(slot, referent);
     }
 
     /// The cleanable at a slot has done what it was for: it is spent, and has no referent any more.
@@ -309,28 +319,27 @@ impl Cells {
         requires { IsTrue (some_and is_cleanable (at self.old slot)) }
         ensures { self.new ≡ change_at self.old slot (with_cleanable spent) }
     {
-        let cell = &mut self.cells[slot.number() as usize];
-        cell.spend();
+        self.store.spend(slot);
     }
 
     /// How many members the queue at a slot has; 0, if there is no queue.
     pub fn member_count(&self, queue: Slot) -> u32
         ensures { result ≡ length (members_in (at self.now queue)) }
     {
-        if !self.is_queue(queue) {
+        if !self.is_occupied(queue) {
             return 0;
         }
-        self.queues.count(queue.number())
+        self.store.member_count(queue)
     }
 
     /// The member at the front of the queue at a slot, if there is a queue and it has members.
     pub fn first_member(&self, queue: Slot) -> Option<Slot>
         ensures { result ≡ member_in (at self.now queue) 0 }
     {
-        if !self.is_queue(queue) {
+        if !self.is_occupied(queue) {
             return None;
         }
-        self.queues.front(queue.number())
+        self.store.first_member(queue)
     }
 
     /// The member after another of the queue at a slot, if that is not the last.
@@ -338,7 +347,7 @@ impl Cells {
         requires { member ∈ members_in (at self.now queue) }
         ensures { (before after : List ℕ) → members_in (at self.now queue) ≡ before ++ member ∷ after → result ≡ slice_get after 0 }
     {
-        self.queues.next(queue.number(), member)
+        self.store.next_member(queue, member)
     }
 
     /// The queue at a slot gets a member at its end, which stands in no queue.
@@ -348,7 +357,8 @@ impl Cells {
         requires apart { (s : ℕ) → member ∈ members_in (at self.old s) → ⊥ }
         ensures { self.new ≡ change_at self.old queue (with_members (λ members. members ++ member ∷ [])) }
     {
-        self.queues.append(queue.number(), member);
+        self.store.push_member(queue, member);
+        self.listed.insert(queue);
     }
 
     /// The member at the front of the queue at a slot leaves it, if there is one.
@@ -357,7 +367,7 @@ impl Cells {
         ensures front { result ≡ member_in (at self.old queue) 0 }
         ensures popped { self.new ≡ change_at self.old queue (with_members (drop 1)) }
     {
-        self.queues.take_front(queue.number())
+        self.store.pop_member(queue)
     }
 
     /// The objects as plain data.
@@ -367,7 +377,7 @@ impl Cells {
     pub fn image(&self, alloc: Global) -> Result<Table<Object>, AllocError>
         ensures { IfOk result (λ objects. objects ≡ self.now) }
     {
-        Ok(Table::from_vec(images(alloc, &self.cells, &self.queues)?))
+        self.store.image(alloc, &self.occupied)
     }
 
     /// Visits the object at a slot: one tick. Gives its strong edges, but those of a queue to its members: it lends the links of a
@@ -379,50 +389,6 @@ impl Cells {
         ensures plain { found_plain result ≡ some_and is_plain (at self.now slot) }
         ensures ticked { meter.new ≡ meter.old + 1 }
     {
-        meter.tick();
-        let place = slot.number() as usize;
-        if self.is_plain(slot) {
-            return Visited::Plain(&self.links[place]);
-        }
-        Visited::Other {
-            next: self.cells[place].next(),
-        }
-    }
-}
-
-fn no_kinds(alloc: Global, count: u32) -> Result<Vec<Option<Kind>>, AllocError>
-    ensures { IfOk result (λ kinds. kinds.items ≡ replicate count None) }
-{
-    Ok(vec![in alloc; None; count as usize]?)
-}
-
-fn all_null(alloc: Global, count: u32) -> Result<Vec<Links>, AllocError>
-    ensures { IfOk result (λ links. links.items ≡ replicate count no_links) }
-{
-    let mut links = Vec::with_capacity(alloc, count as usize)?;
-    for _slot in 0..count {
-        links.push_reserved(Links::none());
-    }
-    Ok(links)
-}
-
-fn images(alloc: Global, cells: &[Cell], queues: &Lists) -> Result<Vec<Option<Object>>, AllocError>
-    requires small { length cells.now < 2 ^ 32 }
-    requires lists { length queues.now.lists ≡ length cells.now }
-    ensures { IfOk result (λ objects. objects.items ≡ with_lists (objects_in cells.now) queues.now.lists) }
-{
-    let mut objects = Vec::with_capacity(alloc, cells.len())?;
-    for slot in 0..cells.len() {
-        objects.push(cells[slot].image(alloc, queues, slot as u32)?)?;
-    }
-    Ok(objects)
-}
-
-fn field_of(cells: &[Cell], slot: Slot, field: usize) -> Option<FieldValue>
-    ensures { result ≡ field_at (objects_in cells.now) slot field }
-{
-    match cells.get(slot.number() as usize) {
-        Some(cell) => cell.field(field),
-        None => None,
+        self.store.visit(slot, meter)
     }
 }

@@ -20,6 +20,8 @@ mod fields;
 mod free_list;
 mod links;
 mod shape;
+mod store;
+mod sweeping;
 
 pub use cells::Cells;
 pub use links::{Links, Visited};

@@ -48,7 +48,8 @@ impl<R> State<R> {
         was_open
     }
 
-    /// A piece of the marking of an open cycle, by the soft policy: at most so many ticks. Answers how far it is.
+    /// A piece of the marking of an open cycle, by the soft policy: at most so many ticks. Answers how far it is. Where no cycle is open, what
+    /// collections removed is swept, of at most so many cells.
     pub(crate) fn mark(&mut self, budget: u32) -> Progress
         requires { IsWellFormed (machine_of self.old) }
         ensures machine { machine_of self.new ≡ machine_of self.old }
@@ -59,9 +60,13 @@ impl<R> State<R> {
         ensures reached { MarksReached (machine_of self.old) self.old.heap.marking (machine_of self.new) self.new.heap.marking }
         ensures piece { MarksPiece budget self.old.soft_age self.old.heap.clock (machine_of self.old) self.old.heap.marking result self.new.heap.marking }
     {
+        if !self.cycle_open {
+            jlr_sweep::sweep(&mut self.heap, budget);
+            return Progress::Idle;
+        }
         let policy = Policy::new(self.soft_age, Mode::Policy);
         let mut meter = Meter::new();
-        jlr_marker::mark(&mut self.heap, self.cycle_open, &policy, &mut meter, budget)
+        jlr_marker::mark(&mut self.heap, true, &policy, &mut meter, budget)
     }
 
     /// The collection of an open cycle in which all is marked. It keeps what is marked, and closes the cycle. Answers whether there was one.

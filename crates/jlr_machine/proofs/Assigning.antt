@@ -1,10 +1,10 @@
 -- A set that takes over the slots of another, and a set of fewer places with the same slots.
-use Rattle.std.proofs.Common.{◌≡◌, ℕ, ◌*◌, ◌/◌, ◌%◌, ◌<◌, ◌≤◌, Bool, true, false, not, List, length, get_or, take, eqb, refl, sym, ◌∙◌, ap, inl, inr, arith}
+use Rattle.std.proofs.Common.{◌≡◌, ℕ, ◌*◌, ◌/◌, ◌%◌, ◌<◌, ◌≤◌, Bool, true, false, List, length, get_or, take, eqb, refl, sym, ◌∙◌, ap, inl, inr, arith}
 use Rattle.std.proofs.lemmas.Bool.{cases_Bool, cases_lt, false≢true}
-use Rattle.std.proofs.lemmas.List.{get_or-take, get_or_past, get_or-map, length-map, length-take-le}
+use Rattle.std.proofs.lemmas.List.{get_or-take, get_or_past, length-take-le}
 use Rattle.std.proofs.lemmas.Nat.Bits.{bit_at-zero}
 use Rattle.jlr_machine.specs.Bits.{bits_of, is_bit}
-use Rattle.jlr_machine.specs.SlotSets.{is_in, slots_of, missing}
+use Rattle.jlr_machine.specs.SlotSets.{is_in, slots_of}
 use Rattle.jlr_machine.proofs.Bits.{place_is, bit_of_past}
 use Rattle.jlr_machine.proofs.Below.{slots_below_agree, slots_below_same}
 
@@ -35,7 +35,7 @@ module _ (old first new : List ℕ)
   none_beyond : (k : ℕ) → 64 * length old ≤ k → is_in (bits_of first) k ≡ false
   none_beyond k past = elim (cases_Bool (is_in (bits_of first) k)) [ inl set ↦ absurd (omega (arith, room k set)) | inr clear ↦ clear ]
 
-  each : (k : ℕ) → is_in (bits_of new) k ≡ is_in (bits_of first) k
+  pub each : (k : ℕ) → is_in (bits_of new) k ≡ is_in (bits_of first) k
   each k = elim (cases_lt (k / 64) (length old)) [
     | inl here ↦ place_is new k ∙ (elim (cases_lt (k / 64) (length first)) [
       | inl copied ↦ ap (λ w. is_bit w (k % 64)) (front (k / 64) copied here) ∙ sym (place_is first k)
@@ -63,13 +63,3 @@ module _ (n : ℕ) (places : List Bool) (within : n ≤ length places) (low : (s
 
   pub shown_slots : slots_of (take n places) ≡ slots_of places
   shown_slots = slots_alike (take n places) places shown_place
-
--- a place that is shown is missing there where it is missing in all
-pub missing_shown : (n : ℕ) (places : List Bool) → n ≤ length places → (k : ℕ) → k < n → is_in (missing (take n places)) k ≡ is_in (missing places) k
-missing_shown n places within k h =
-    get_or-map not (take n places) k false false (omega (arith, length-take-le n places within))
-    ∙ ap not (get_or-take n places k false h)
-    ∙ sym (get_or-map not places k false false (omega arith))
-
-pub missing_past : (places : List Bool) (k : ℕ) → length places ≤ k → is_in (missing places) k ≡ false
-missing_past places k h = get_or_past (missing places) k false (omega (arith, length-map places not))

@@ -1,11 +1,11 @@
 -- The members of a set of slots, and what one more makes of its list.
-use Rattle.std.proofs.Common.{◌≡◌, ℕ, zero, suc, ◌+◌, ◌<◌, ◌≤◌, Bool, true, false, List, [], ◌∷◌, ◌++◌, length, replicate, set, refl, sym, ◌∙◌, ap, subst, ◌⊎◌, inl, inr, arith, nat_eq, length-set, get_or-set_same, get_or-set_other}
+use Rattle.std.proofs.Common.{◌≡◌, ℕ, zero, suc, ◌+◌, ◌<◌, Bool, true, false, List, [], ◌∷◌, ◌++◌, length, replicate, set, refl, sym, ◌∙◌, ap, subst, ◌⊎◌, inl, inr, arith, nat_eq, length-set, get_or-set_same, get_or-set_other}
 use Rattle.std.proofs.lemmas.Bool.{cases_eq, cases_lt, cases_Bool, false≢true, eqb-true, eq-eqb, or_cases, or_left, or_right, both_ways}
 use Rattle.std.proofs.lemmas.List.{length-replicate, get_or-replicate, get_or_past}
 use Rattle.std.proofs.lemmas.List.Folds.{list_any-append}
 use Rattle.jlr_machine.specs.Objects.{◌∈◌, ◌∋◌}
-use Rattle.jlr_machine.specs.SlotSets.{is_in, slots_of, slots_below, IsAboveAll, NoneFrom}
-use Rattle.jlr_machine.proofs.Below.{slots_below-zero, slots_below_same, slots_below_set, slots_below_clear, slots_below_agree, within_places}
+use Rattle.jlr_machine.specs.SlotSets.{is_in, slots_of, slots_below, NoneFrom}
+use Rattle.jlr_machine.proofs.Below.{slots_below-zero, slots_below_same, slots_below_set, slots_below_clear, slots_below_agree}
 
 in_front_part : (xs ys : List ℕ) (s : ℕ) → s ∈ xs → s ∈ (xs ++ ys)
 in_front_part xs ys s h = list_any-append (nat_eq s) xs ys ∙ or_left (xs ∋ s) (ys ∋ s) h
@@ -49,21 +49,6 @@ is_member (suc n) places slot l set = elim (cases_Bool (is_in places n)) [
         | inr other ↦ omega arith
       ]) set)
 ]
-
--- above all slots is where no place is set any more
-pub none_from : (places : List Bool) (slot : ℕ) → IsAboveAll slot (slots_of places) → NoneFrom places slot
-none_from places slot above k high = elim (cases_Bool (is_in places k)) [
-  | inl set ↦ absurd (omega (arith, above k (is_member (length places) places k (within_places places k set) set)))
-  | inr clear ↦ clear
-]
-
-pub above_all : (places : List Bool) (slot : ℕ) → NoneFrom places slot → IsAboveAll slot (slots_of places)
-above_all places slot none k h =
-    let so = member_is (length places) places k h in
-    elim (cases_lt k slot) [ inl low ↦ low | inr high ↦ absurd (false≢true (sym (none k high) ∙ so.1)) ]
-
-pub not_above : (places : List Bool) (slot k : ℕ) → slot ≤ k → is_in places k ≡ true → IsAboveAll slot (slots_of places) → ⊥
-not_above places slot k high set above = false≢true (sym (none_from places slot above k high) ∙ set)
 
 -- a slot above all others becomes the last
 pub inserted_above_is_last : (places : List Bool) (slot : ℕ) → slot < length places → NoneFrom places slot → slots_of (set places slot true) ≡ slots_of places ++ slot ∷ []

@@ -1,7 +1,7 @@
 -- Words as places: a bit for each.
-use Rattle.std.specs.Prelude.{◌≡◌, ℕ, ◌-◌, ◌*◌, ◌/◌, ◌%◌, ◌<◌, ◌≤◌, Bool, true, List, length, map, ◌==◌, slice_index}
+use Rattle.std.specs.Prelude.{◌≡◌, ℕ, ◌-◌, ◌*◌, ◌/◌, ◌%◌, ◌<◌, ◌≤◌, Bool, true, List, length, map, ◌==◌, bit_and, slice_index, slice_index_or}
 use Rattle.std.specs.List.{range_with_len}
-use Rattle.std.specs.Int.{bit_at}
+use Rattle.std.specs.Int.{bit_at, bit_not, w64}
 
 -- whether the bit of a word is set
 abbrev pub is_bit : ℕ → ℕ → Bool
@@ -20,3 +20,7 @@ pub record IsTrimmedLen (words : List ℕ) (len : ℕ) : Type 0 where
   pub within : len ≤ length words
   pub zeros : (k : ℕ) → len ≤ k → slice_index words k ≡ 0
   pub last : 0 < len → (j : ℕ) × (j < 64) × (is_bit (slice_index words (len - 1)) j ≡ true)
+
+-- what a word has and the word at the same place of others has not; there are zeros behind the last
+abbrev pub word_beyond : List ℕ → List ℕ → ℕ → ℕ
+word_beyond words others at = bit_and (slice_index_or words at 0) (bit_not w64 (slice_index_or others at 0))

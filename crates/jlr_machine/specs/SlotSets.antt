@@ -1,12 +1,7 @@
 -- Sets of slots: a place for each, and the slots whose places are set.
-use Rattle.std.specs.Prelude.{◌≡◌, ℕ, ◌+◌, ◌*◌, ◌^◌, ◌%◌, ◌<◌, ◌≤◌, Bool, true, false, not, List, Option, length, map, slice_index_or, MatchOption}
+use Rattle.std.specs.Prelude.{◌≡◌, ℕ, ◌+◌, ◌*◌, ◌^◌, ◌%◌, ◌<◌, ◌≤◌, Bool, true, false, not, ◌&&◌, List, Option, length, map, slice_index_or, MatchOption}
 use Rattle.std.specs.List.{range_with_len, filter}
 use Rattle.std.specs.Int.{div_ceil}
-use Rattle.jlr_machine.specs.Objects.{◌∈◌}
-
--- the places that are not set, set, and the others not
-abbrev pub missing : List Bool → List Bool
-missing places = map not places
 
 -- a number of 32 bits
 abbrev pub IsSlotNumber : ℕ → Type 0
@@ -15,6 +10,14 @@ IsSlotNumber n = n < 2 ^ 32
 -- whether the place is set
 abbrev pub is_in : List Bool → ℕ → Bool
 is_in places slot = slice_index_or places slot false
+
+-- whether the place is set in the one and not in the other
+abbrev pub is_beyond : List Bool → List Bool → ℕ → Bool
+is_beyond places others slot = is_in places slot && not (is_in others slot)
+
+-- the places that are set and in the others not
+unfoldable pub beyond : List Bool → List Bool → List Bool
+beyond places others = map (is_beyond places others) (range_with_len 0 (length places))
 
 -- the slots below n whose places are set, rising
 unfoldable pub slots_below : ℕ → List Bool → List ℕ
@@ -50,7 +53,3 @@ FindsFirst places from answer = MatchOption answer (NoneFrom places from) (IsFir
 pub record IsTrimmed (places : List Bool) : Type 0 where
   pub whole : length places % 64 ≡ 0
   pub last : 0 < length places → (k : ℕ) × (length places ≤ k + 64) × (is_in places k ≡ true)
-
--- the slot is above all of the list
-abbrev pub IsAboveAll : ℕ → List ℕ → Type 0
-IsAboveAll slot slots = (k : ℕ) → k ∈ slots → k < slot

@@ -1,6 +1,6 @@
 //! A set of the cells of a heap, a bit for each.
 ghost use Rattle.std.specs.Prelude.{◌≡◌, ◌^◌, ◌<◌, false, true, length, replicate, IfOk, IfSome, slice_set};
-ghost use Rattle.jlr_machine.specs.SlotSets.{is_in, missing, FindsFirst};
+ghost use Rattle.jlr_machine.specs.SlotSets.{is_in, beyond, slots_of, FindsFirst};
 
 use crate::slots::SlotSet;
 use jlr_types::Slot;
@@ -56,6 +56,14 @@ impl CellSet {
         self.set.insert(slot.number());
     }
 
+    /// Takes a cell out of the set.
+    pub fn remove(&mut self, slot: Slot)
+        requires { slot < length self.old }
+        ensures { self.new ≡ slice_set self.old slot false }
+    {
+        self.set.remove(slot.number());
+    }
+
     /// Takes all cells out of the set.
     pub fn clear(&mut self)
         ensures { self.new ≡ replicate (length self.old) false }
@@ -63,15 +71,31 @@ impl CellSet {
         self.set.clear();
     }
 
-    /// The first cell not below `from` that is not in the set.
-    pub fn next_missing(&self, from: u32) -> Option<Slot>
-        ensures missing { FindsFirst (missing self.now) from result }
+    /// Takes the cells of another set in place of its own.
+    pub fn assign(&mut self, other: &CellSet)
+        requires { length other.now ≡ length self.old }
+        ensures { self.new ≡ other.now }
+    {
+        self.set.assign(&other.set);
+    }
+
+    /// How many cells are in the set.
+    pub fn count(&self) -> u32
+        ensures { result ≡ length (slots_of self.now) }
+    {
+        let _cells = self.cells;
+        self.set.count() as u32
+    }
+
+    /// The first cell not below `from` that is in this set and not in the other.
+    pub fn next_beyond(&self, other: &CellSet, from: u32) -> Option<Slot>
+        ensures first { FindsFirst (beyond self.now other.now) from result }
         ensures few { length self.now < 2 ^ 32 }
     {
-        let cells = self.cells as usize;
-        match self.set.next_missing(from as usize) {
-            Some(place) if place < cells => Some(Slot::new(place as u32)),
-            _ => None,
+        let _cells = self.cells;
+        match self.set.next_beyond(&other.set, from as usize) {
+            Some(place) => Some(Slot::new(place as u32)),
+            None => None,
         }
     }
 }

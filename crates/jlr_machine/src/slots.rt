@@ -1,6 +1,6 @@
 //! A set of slots, a bit for each.
 ghost use Rattle.std.specs.Prelude.{◌≡◌, ℕ, ◌^◌, ◌<◌, ◌≤◌, ◌↔◌, true, false, length, replicate, IfOk, IsTrue, slice_set};
-ghost use Rattle.jlr_machine.specs.SlotSets.{slots_of, places_for, is_in, missing, FindsFirst, IsAboveAll, IsTrimmed};
+ghost use Rattle.jlr_machine.specs.SlotSets.{slots_of, places_for, is_in, beyond, FindsFirst, IsTrimmed};
 
 use crate::words;
 use jlr_types::Slot;
@@ -69,6 +69,16 @@ impl SlotSet {
         self.words[at] = word | 1u64 << (slot % PLACES);
     }
 
+    /// Takes the slot out of the set.
+    pub(crate) fn remove(&mut self, slot: u32)
+        requires { slot < length self.old }
+        ensures { self.new ≡ slice_set self.old slot false }
+    {
+        let at = (slot / PLACES) as usize;
+        let word = self.words[at];
+        self.words[at] = word & !(1u64 << (slot % PLACES));
+    }
+
     /// Takes all slots out of the set.
     pub(crate) fn clear(&mut self)
         ensures { self.new ≡ replicate (length self.old) false }
@@ -79,6 +89,7 @@ impl SlotSet {
     /// Takes the slots of another set, all of which have a place here, in place of its own.
     pub(crate) fn assign(&mut self, other: &SlotSet)
         requires { (slot : ℕ) → is_in other.now slot ≡ true → slot < length self.old }
+        ensures each { (slot : ℕ) → is_in self.new slot ≡ is_in other.now slot }
         ensures slots { slots_of self.new ≡ slots_of other.now }
         ensures places { length self.new ≡ length self.old }
     {
@@ -86,11 +97,11 @@ impl SlotSet {
         words::overwrite(&mut self.words, &other.words);
     }
 
-    /// The first slot not below `from` that has a place and is not in the set.
-    pub(crate) fn next_missing(&self, from: usize) -> Option<usize>
-        ensures { FindsFirst (missing self.now) from result }
+    /// The first slot not below `from` that is in this set and not in the other.
+    pub(crate) fn next_beyond(&self, other: &SlotSet, from: usize) -> Option<usize>
+        ensures { FindsFirst (beyond self.now other.now) from result }
     {
-        words::first_missing_from(&self.words, from)
+        words::first_beyond_from(&self.words, &other.words, from)
     }
 
     /// The first slot of the set that is not below `from`.
@@ -98,16 +109,6 @@ impl SlotSet {
         ensures { FindsFirst self.now from result }
     {
         words::first_from(&self.words, from)
-    }
-
-    /// Whether all slots of the set are below this one.
-    pub(crate) fn is_below(&self, slot: u32) -> bool
-        ensures { IsTrue result ↔ IsAboveAll slot (slots_of self.now) }
-    {
-        match self.next_from(slot as usize) {
-            Some(_) => false,
-            None => true,
-        }
     }
 
     /// What is true of each set, for callers: no slot is beyond 32 bits.

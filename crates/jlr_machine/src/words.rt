@@ -1,7 +1,7 @@
 //! What is done with the words of a set of slots.
 ghost use Rattle.std.specs.Prelude.{◌≡◌, ◌<◌, ◌≤◌, ℕ, length, slice_index_or};
-ghost use Rattle.jlr_machine.specs.Bits.{bits_of, IsTrimmedLen};
-ghost use Rattle.jlr_machine.specs.SlotSets.{FindsFirst, missing, slots_of};
+ghost use Rattle.jlr_machine.specs.Bits.{bits_of, IsTrimmedLen, word_beyond};
+ghost use Rattle.jlr_machine.specs.SlotSets.{FindsFirst, beyond, slots_of};
 
 /// The first slot at or above `from`.
 pub(crate) fn first_from(words: &[u64], from: usize) -> Option<usize>
@@ -27,22 +27,37 @@ pub(crate) fn first_from(words: &[u64], from: usize) -> Option<usize>
     None
 }
 
-/// The first place at or above `from` that is not set.
-pub(crate) fn first_missing_from(words: &[u64], from: usize) -> Option<usize>
+/// A word; 0 behind the last.
+fn word_at(words: &[u64], at: usize) -> u64
+    ensures { result ≡ slice_index_or words.now at 0 }
+{
+    if at < words.len() { words[at] } else { 0 }
+}
+
+/// What a word has and the word at the same place of others has not.
+fn word_beyond(words: &[u64], others: &[u64], at: usize) -> u64
+    requires { at < length words.now }
+    ensures { result ≡ word_beyond words.now others.now at }
+{
+    words[at] & !word_at(others, at)
+}
+
+/// The first slot at or above `from` that is not in the others.
+pub(crate) fn first_beyond_from(words: &[u64], others: &[u64], from: usize) -> Option<usize>
     requires { length words.now ≤ 67108864 }
-    ensures { FindsFirst (missing (bits_of words.now)) from result }
+    ensures { FindsFirst (beyond (bits_of words.now) (bits_of others.now)) from result }
 {
     let start = from / 64;
     if start >= words.len() {
         return None;
     }
-    let rest = !words[start] >> (from % 64);
+    let rest = word_beyond(words, others, start) >> (from % 64);
     if rest != 0 {
         return Some(from + rest.trailing_zeros() as usize);
     }
     let mut at = start + 1;
     while at < words.len() {
-        let word = !words[at];
+        let word = word_beyond(words, others, at);
         if word != 0 {
             return Some(at * 64 + word.trailing_zeros() as usize);
         }

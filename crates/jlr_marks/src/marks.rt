@@ -2,7 +2,7 @@
 ghost use Rattle.std.specs.Prelude.{◌≡◌, ◌↔◌, ℕ, ◌+◌, ◌^◌, ◌<◌, ◌≤◌, ◌++◌, ◌∷◌, [], false, true, cond, length, IfOk, slice_get, slice_set, IfNone, IfSome, IsPermutation, replicate};
 ghost use Rattle.jlr_machine.specs.Choices.{collecting, kept_by, pended_by};
 ghost use Rattle.jlr_machine.specs.Objects.{◌∈◌};
-ghost use Rattle.jlr_machine.specs.SlotSets.{FindsFirst, missing, slots_of};
+ghost use Rattle.jlr_machine.specs.SlotSets.{slots_of};
 ghost use Rattle.jlr_marks.specs.Marking.{is_marked, marked, upcoming};
 
 use jlr_machine::cell_set::CellSet;
@@ -125,12 +125,11 @@ impl Marks {
         Some(self.grey.swap_remove(count.saturating_sub(AHEAD)))
     }
 
-    /// The first cell not below `from` that is white.
-    pub fn next_unmarked(&self, from: u32) -> Option<Slot>
-        ensures unmarked { FindsFirst (missing self.now.bits) from result }
-        ensures few { length self.now.bits < 2 ^ 32 }
+    /// The marked cells.
+    pub fn marked(&self) -> &CellSet
+        ensures { result.now ≡ self.now.bits }
     {
-        self.bits.next_missing(from)
+        &self.bits
     }
 
     /// A collection that kept nothing so far keeps all marked cells.

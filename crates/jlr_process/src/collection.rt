@@ -8,13 +8,12 @@ ghost use Rattle.jlr_barrier.specs.Snapshots.{RefersTo};
 ghost use Rattle.jlr_process.specs.Flipping.{Flips, IsRooted};
 ghost use Rattle.jlr_process.specs.Settling.{Clears, Keeps, is_losing};
 
-use crate::settle::{discard, settle};
+use crate::settle::settle;
 use jlr_barrier::Heap;
 use jlr_machine::choice::Choice;
-use jlr_types::Slot;
 
 /// A collection that keeps what is marked (package `java.lang.ref`), where no cell is grey: the roots, and what they lead to, are marked
-/// then. It takes no memory, and a pass over the cells.
+/// then. It takes no memory, and reads no cell but those that were discovered.
 ///
 /// Of what is marked, each reference loses a referent that is not; all these were discovered while it was marked. Those of them that were
 /// Fresh and registered with a queue become Pending, and go on the pending list. Then all that is not marked is removed, and the
@@ -74,9 +73,4 @@ fn keep_marked(heap: &mut Heap, choice: &mut Choice)
     ensures marking { heap.new.marking ≡ heap.old.marking }
 {
     heap.keep_marked(choice);
-    let mut from = 0;
-    while let Some(slot) = heap.next_unmarked(from) {
-        discard(heap, slot);
-        from = slot.number() + 1;
-    }
 }

@@ -5,7 +5,6 @@ ghost use Rattle.jlr_machine.specs.Objects.{◌∈◌, any_referent, as_cleanabl
 ghost use Rattle.jlr_cells.specs.Contents.{kind_of};
 ghost use Rattle.jlr_machine.specs.Collection.{is_ready};
 ghost use Rattle.jlr_machine.specs.Choices.{collecting, kept_by, pended_by};
-ghost use Rattle.jlr_machine.specs.SlotSets.{IsAboveAll};
 ghost use Rattle.jlr_marks.specs.Marking.{IsMarked, is_marked};
 ghost use Rattle.jlr_barrier.specs.Graphs.{with_objects};
 ghost use Rattle.jlr_process.specs.Settling.{cleared_graph, newly_pending, is_losing, kept_at, loses, only_if, with_settled};
@@ -106,20 +105,6 @@ pub(crate) fn settle(heap: &mut Heap, slot: Slot, choice: &mut Choice)
         settle_reference(heap, slot, reference, choice);
     } else if let Some(cleanable) = cleanable_of(heap, slot, kind) {
         settle_cleanable(heap, slot, cleanable, choice);
-    }
-}
-
-/// Removes what is at a slot that is not marked, if there is something.
-pub(crate) fn discard(heap: &mut Heap, slot: Slot)
-    requires inside { slot < length heap.old.graph.objects }
-    requires unmarked { ¬ (IsMarked heap.old.marking slot) }
-    requires no_grey { heap.old.marking.grey ≡ [] }
-    ensures graph { heap.new.graph ≡ with_objects heap.old.graph (slice_set heap.old.graph.objects slot None) }
-    ensures clock { heap.new.clock ≡ heap.old.clock }
-    ensures marking { heap.new.marking ≡ heap.old.marking }
-{
-    if heap.kind(slot).is_some() {
-        heap.remove(slot);
     }
 }
 

@@ -6,5 +6,7 @@
 
 mod collection;
 mod mark;
+mod sweeping;
 
 pub use collection::full;
+pub use sweeping::sweep;

@@ -2,7 +2,6 @@ use Rattle.std.proofs.Common.{◌≡◌, ◌∙◌, ◌⊎◌, Some, arith, refl
 use Rattle.std.proofs.lemmas.Option.{slice_get_within, get_or_from_slice_get}
 use Rattle.jlr_machine.specs.Objects.{◌∈◌, at}
 use Rattle.jlr_cells.specs.Contents.{members_in}
-use Rattle.jlr_cells.proofs.Queues.{member_listed}
 use Rattle.jlr_marks.proofs.Shading.{shaded_same, shaded_then}
 use Rattle.jlr_links.proofs.Places.{comes_next, member_in_list, one_there}
 use Rattle.jlr_barrier.proofs.Walking.{took_gives, took_from}

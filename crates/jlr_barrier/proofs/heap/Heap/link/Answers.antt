@@ -1,4 +1,3 @@
-use Rattle.std.proofs.Common.{length}
 use Rattle.jlr_laws.proofs.Empty.{place_of}
 use Rattle.jlr_barrier.proofs.Rooting.{linked_fits}
 use Rattle.jlr_barrier.proofs.heap.Heap.link.Goals as goal

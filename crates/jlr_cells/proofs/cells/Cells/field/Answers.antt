@@ -1,19 +1,12 @@
-use Rattle.std.proofs.Common.{◌≡◌, ◌∙◌, refl, sym, ap, arith}
+use Rattle.std.proofs.Common.{◌∙◌, ap}
 use Rattle.std.specs.Prelude.{is_some}
-use Rattle.std.proofs.lemmas.Grind.{common_steps}
-use Rattle.jlr_machine.specs.Objects.{at}
-use Rattle.jlr_cells.specs.Contents.{field_in, field_at, objects_in}
-use Rattle.jlr_cells.proofs.Queues.{seen_as}
+use Rattle.jlr_cells.specs.Contents.{field_in}
+use Rattle.jlr_cells.proofs.Slots.{object_of_field}
+use Rattle.jlr_cells.proofs.Shown.{holds_below, there}
 use Rattle.jlr_cells.proofs.cells.Cells.field.Goals as goal
 
-pub unwrap-requires : goal.unwrap-requires
-unwrap-requires c =
-    let bare : c.field_of.result ≡ field_in (at (objects_in c.self.inside.cells.items) c.args.slot) c.args.field = grind (arith, common_steps) in
-    let seen : c.field_of.result ≡ field_at c.args.self.now c.args.slot c.args.field = bare ∙ sym (seen_as c.self.inside.cells.items c.self.inside.queues.lists c.args.self.now c.self.view_is (λ o. field_in o c.args.field) c.args.slot (λ l m. refl)) in
-    ap is_some seen ∙ c.requires
+pub field-requires : goal.field-requires
+field-requires c = holds_below c.self.inside.store c.self.inside.used c.self.inside.occupied c.self.inside.listed c.self.inside.free c.self.inside.swept c.self.invariant c.args.self.now c.self.view_is (λ o. is_some (field_in o c.args.field)) c.args.slot (λ o. object_of_field o c.args.field) c.requires
 
 pub returns : goal.returns
-returns c =
-    let bare : c.field_of.result ≡ field_in (at (objects_in c.self.inside.cells.items) c.args.slot) c.args.field = grind (arith, common_steps) in
-    let seen : field_at c.args.self.now c.args.slot c.args.field ≡ c.field_of.result = seen_as c.self.inside.cells.items c.self.inside.queues.lists c.args.self.now c.self.view_is (λ o. field_in o c.args.field) c.args.slot (λ l m. refl) ∙ sym bare in
-    grind (arith, common_steps, seen)
+returns c = ap (λ o. field_in o c.args.field) (there c.self.inside.store c.self.inside.used c.self.inside.occupied c.self.inside.listed c.self.inside.free c.self.inside.swept c.self.invariant c.args.self.now c.self.view_is c.args.slot (object_of_field _ c.args.field c.requires)) ∙ c.field.ensures

@@ -1,17 +1,20 @@
-use Rattle.std.proofs.Common.{◌∙◌, drop}
-use Rattle.jlr_links.specs.Lists.{list_at}
-use Rattle.jlr_cells.proofs.Queues.{first_seen, list_there, seen_with, whole_with}
+use Rattle.std.proofs.Common.{◌∙◌, ap, sym, refl}
+use Rattle.std.specs.Prelude.{drop}
+use Rattle.jlr_machine.specs.Objects.{some_and, with_members}
+use Rattle.jlr_machine.specs.Refusals.{is_queue}
+use Rattle.jlr_cells.specs.Contents.{member_in}
+use Rattle.jlr_cells.proofs.Slots.{object_of_queue}
+use Rattle.jlr_cells.proofs.Shown.{changed_are, changed_view, holds_below, members_give_none, there}
 use Rattle.jlr_cells.proofs.cells.Cells.pop_member.Goals as goal
 
-pub take_front-requires : goal.take_front-requires
-take_front-requires c = list_there c.self.inside.cells.items c.self.inside.queues.lists c.self.inside.queues.slots c.self.inside.kinds.items c.self.inside.links.items c.self.inside.first_free c.self.inside.free_count c.self.invariant c.args.self.now c.self.view_is c.args.queue c.number.result c.number.ensures c.requires
+pub pop_member-requires : goal.pop_member-requires
+pop_member-requires c = holds_below c.self.inside.store c.self.inside.used c.self.inside.occupied c.self.inside.listed c.self.inside.free c.self.inside.swept c.self.invariant c.args.self.now c.self.view_is (some_and is_queue) c.args.queue object_of_queue c.requires
 
 pub invariant_of-self : goal.invariant_of-self
-invariant_of-self c =
-    whole_with c.self.inside.cells.items c.self.inside.queues.lists c.self.inside.queues.slots c.self.inside.kinds.items c.self.inside.links.items c.self.inside.first_free c.self.inside.free_count c.self.invariant c.args.self.now c.self.view_is c.args.queue c.number.result (drop 1 (list_at c.self.inside.queues.lists c.number.result)) c.take_front.new.self.lists c.take_front.new.self.slots c.number.ensures c.requires c.take_front.ensures.lists c.take_front.ensures.slots
+invariant_of-self c = changed_are c.self.inside.store c.self.inside.used c.self.inside.occupied c.self.inside.listed c.self.inside.free c.self.inside.swept c.self.invariant c.args.self.now c.self.view_is c.args.queue (with_members (drop 1)) c.pop_member.new.self (members_give_none (drop 1) refl) c.pop_member.ensures.popped
 
 pub returns-clause-front : goal.returns-clause-front
-returns-clause-front c = c.take_front.ensures.front ∙ first_seen c.self.inside.cells.items c.self.inside.queues.lists c.self.inside.queues.slots c.self.inside.kinds.items c.self.inside.links.items c.self.inside.first_free c.self.inside.free_count c.self.invariant c.args.self.now c.self.view_is c.args.queue c.number.result c.number.ensures
+returns-clause-front c = c.pop_member.ensures.front ∙ ap (λ o. member_in o 0) (sym (there c.self.inside.store c.self.inside.used c.self.inside.occupied c.self.inside.listed c.self.inside.free c.self.inside.swept c.self.invariant c.args.self.now c.self.view_is c.args.queue (object_of_queue _ c.requires)))
 
 pub returns-clause-popped : goal.returns-clause-popped
-returns-clause-popped c = seen_with c.self.inside.cells.items c.self.inside.queues.lists c.self.inside.queues.slots c.self.inside.kinds.items c.self.inside.links.items c.self.inside.first_free c.self.inside.free_count c.self.invariant c.args.self.now c.self.view_is c.args.queue c.number.result (drop 1) c.take_front.new.self.lists c.number.ensures c.requires c.take_front.ensures.lists
+returns-clause-popped c = changed_view c.self.inside.store c.self.inside.used c.self.inside.occupied c.self.inside.listed c.self.inside.free c.self.inside.swept c.self.invariant c.args.self.now c.self.view_is c.args.queue (with_members (drop 1)) c.pop_member.new.self (object_of_queue _ c.requires) c.pop_member.ensures.popped

@@ -1,21 +1,24 @@
-use Rattle.std.proofs.Common.{◌++◌, ◌∷◌, [], arith, refl, subst}
-use Rattle.jlr_machine.specs.Objects.{◌∈◌}
-use Rattle.jlr_links.specs.Lists.{list_at}
-use Rattle.jlr_cells.proofs.Queues.{length_seen, list_there, members_seen, seen_with, slot_count, whole_with}
+use Rattle.std.proofs.Common.{◌∷◌, ◌++◌, [], arith}
+use Rattle.jlr_machine.specs.Objects.{some_and, with_members}
+use Rattle.jlr_machine.specs.Refusals.{is_queue}
+use Rattle.jlr_cells.proofs.Slots.{object_of_queue}
+use Rattle.jlr_cells.proofs.Shown.{changed_view, holds_below, in_no_list, inside, long, pushed_are}
 use Rattle.jlr_cells.proofs.cells.Cells.push_member.Goals as goal
 
-pub append-requires-clause-list : goal.append-requires-clause-list
-append-requires-clause-list c = list_there c.self.inside.cells.items c.self.inside.queues.lists c.self.inside.queues.slots c.self.inside.kinds.items c.self.inside.links.items c.self.inside.first_free c.self.inside.free_count c.self.invariant c.args.self.now c.self.view_is c.args.queue c.number.result c.number.ensures c.requires.queue
+pub push_member-requires-clause-queue : goal.push_member-requires-clause-queue
+push_member-requires-clause-queue c = holds_below c.self.inside.store c.self.inside.used c.self.inside.occupied c.self.inside.listed c.self.inside.free c.self.inside.swept c.self.invariant c.args.self.now c.self.view_is (some_and is_queue) c.args.queue object_of_queue c.requires.queue
 
-pub append-requires-clause-slot : goal.append-requires-clause-slot
-append-requires-clause-slot c = omega (arith, c.requires.within, length_seen c.self.inside.cells.items c.self.inside.queues.lists c.args.self.now c.self.view_is, slot_count c.self.inside.cells.items c.self.inside.queues.lists c.self.inside.queues.slots c.self.inside.kinds.items c.self.inside.links.items c.self.inside.first_free c.self.inside.free_count c.self.invariant)
+pub push_member-requires-clause-within : goal.push_member-requires-clause-within
+push_member-requires-clause-within c = omega (arith, c.requires.within, long c.self.inside.store c.self.inside.used c.self.inside.occupied c.self.inside.listed c.self.inside.free c.self.inside.swept c.self.invariant c.args.self.now c.self.view_is)
 
-pub append-requires-clause-apart : goal.append-requires-clause-apart
-append-requires-clause-apart c = λ k h. c.requires.apart k (subst (λ l. c.args.member ∈ l) (members_seen c.self.inside.cells.items c.self.inside.queues.lists c.self.inside.queues.slots c.self.inside.kinds.items c.self.inside.links.items c.self.inside.first_free c.self.inside.free_count c.self.invariant c.args.self.now c.self.view_is k k refl) h)
+pub push_member-requires-clause-apart : goal.push_member-requires-clause-apart
+push_member-requires-clause-apart c = λ s. in_no_list c.self.inside.store c.self.inside.used c.self.inside.occupied c.self.inside.listed c.self.inside.free c.self.inside.swept c.self.invariant c.args.self.now c.self.view_is s c.args.member c.requires.apart
+
+pub insert-requires : goal.insert-requires
+insert-requires c = omega (arith, inside c.self.inside.store c.self.inside.used c.self.inside.occupied c.self.inside.listed c.self.inside.free c.self.inside.swept c.self.invariant c.args.self.now c.self.view_is c.args.queue (object_of_queue _ c.requires.queue), c.self.invariant.places)
 
 pub invariant_of-self : goal.invariant_of-self
-invariant_of-self c =
-    whole_with c.self.inside.cells.items c.self.inside.queues.lists c.self.inside.queues.slots c.self.inside.kinds.items c.self.inside.links.items c.self.inside.first_free c.self.inside.free_count c.self.invariant c.args.self.now c.self.view_is c.args.queue c.number.result (list_at c.self.inside.queues.lists c.number.result ++ c.args.member ∷ []) c.append.new.self.lists c.append.new.self.slots c.number.ensures c.requires.queue c.append.ensures.lists c.append.ensures.slots
+invariant_of-self c = pushed_are c.self.inside.store c.self.inside.used c.self.inside.occupied c.self.inside.listed c.self.inside.free c.self.inside.swept c.self.invariant c.args.self.now c.self.view_is c.args.queue (with_members (λ members. members ++ c.args.member ∷ [])) c.push_member.new.self c.insert.new.self (object_of_queue _ c.requires.queue) c.push_member.ensures c.insert.ensures
 
 pub returns : goal.returns
-returns c = seen_with c.self.inside.cells.items c.self.inside.queues.lists c.self.inside.queues.slots c.self.inside.kinds.items c.self.inside.links.items c.self.inside.first_free c.self.inside.free_count c.self.invariant c.args.self.now c.self.view_is c.args.queue c.number.result (λ members. members ++ c.args.member ∷ []) c.append.new.self.lists c.number.ensures c.requires.queue c.append.ensures.lists
+returns c = changed_view c.self.inside.store c.self.inside.used c.self.inside.occupied c.self.inside.listed c.self.inside.free c.self.inside.swept c.self.invariant c.args.self.now c.self.view_is c.args.queue (with_members (λ members. members ++ c.args.member ∷ [])) c.push_member.new.self (object_of_queue _ c.requires.queue) c.push_member.ensures

@@ -1,30 +1,15 @@
-use Rattle.std.proofs.Common.{◌<◌, arith, length, refl}
-use Rattle.std.specs.Prelude.{is_some}
 use Rattle.jlr_machine.specs.Objects.{some_and, with_reference}
 use Rattle.jlr_machine.specs.Refusals.{is_reference}
 use Rattle.jlr_cells.specs.Contents.{in_state}
 use Rattle.jlr_cells.proofs.Slots.{object_of_reference}
-use Rattle.jlr_cells.proofs.ByKind.{kept_reference}
-use Rattle.jlr_cells.proofs.Queues.{reference_leaves, changed_at, holds_at, holds_in, within}
+use Rattle.jlr_cells.proofs.Shown.{changed_are, changed_view, holds_below, reference_gives_none}
 use Rattle.jlr_cells.proofs.cells.Cells.set_state.Goals as goal
 
-pub index_mut-cell-requires : goal.index_mut-cell-requires
-index_mut-cell-requires c = omega (arith, within c.self.inside.cells.items c.self.inside.queues.lists c.args.self.now c.self.view_is _ _ c.number.ensures (object_of_reference _ c.requires))
-
 pub set_state-requires : goal.set_state-requires
-set_state-requires c =
-    let below : c.number.result < length c.self.inside.cells.items = within c.self.inside.cells.items c.self.inside.queues.lists c.args.self.now c.self.view_is _ _ c.number.ensures (object_of_reference _ c.requires) in
-    holds_in c.self.inside.cells.items c.self.inside.queues.lists c.args.self.now c.self.view_is (some_and is_reference) _ _ c.index_mut-cell.result.now (λ l m. refl) c.number.ensures c.requires below c.index_mut-cell.ensures.value
+set_state-requires c = holds_below c.self.inside.store c.self.inside.used c.self.inside.occupied c.self.inside.listed c.self.inside.free c.self.inside.swept c.self.invariant c.args.self.now c.self.view_is (some_and is_reference) c.args.slot object_of_reference c.requires
 
 pub invariant_of-self : goal.invariant_of-self
-invariant_of-self c =
-    let holds = holds_at c.self.inside.cells.items c.self.inside.queues.lists c.args.self.now c.self.view_is is_some _ _ (λ l m. refl) c.number.ensures (object_of_reference _ c.requires) in
-    record {
-      kept = kept_reference _ _ _ _ _ _ c.index_mut-cell.result.now _ (in_state c.args.state) c.self.invariant.kept holds c.index_mut-cell.ensures.value c.set_state.ensures.new c.set_state.ensures.kind;
-      members = c.self.invariant.members;
-    }
+invariant_of-self c = changed_are c.self.inside.store c.self.inside.used c.self.inside.occupied c.self.inside.listed c.self.inside.free c.self.inside.swept c.self.invariant c.args.self.now c.self.view_is c.args.slot (with_reference (in_state c.args.state)) c.set_state.new.self (reference_gives_none (in_state c.args.state)) c.set_state.ensures
 
 pub returns : goal.returns
-returns c =
-    let below : c.number.result < length c.self.inside.cells.items = within c.self.inside.cells.items c.self.inside.queues.lists c.args.self.now c.self.view_is _ _ c.number.ensures (object_of_reference _ c.requires) in
-    changed_at c.self.inside.cells.items c.self.inside.queues.lists c.args.self.now c.self.view_is _ _ c.index_mut-cell.result.now _ (with_reference (in_state c.args.state)) c.number.ensures below c.index_mut-cell.ensures.value c.set_state.ensures.new (reference_leaves (in_state c.args.state))
+returns c = changed_view c.self.inside.store c.self.inside.used c.self.inside.occupied c.self.inside.listed c.self.inside.free c.self.inside.swept c.self.invariant c.args.self.now c.self.view_is c.args.slot (with_reference (in_state c.args.state)) c.set_state.new.self (object_of_reference _ c.requires) c.set_state.ensures

@@ -1,0 +1,442 @@
+//! All cells, as they lie.
+ghost use Rattle.std.specs.Prelude.{◌≡◌, ℕ, ◌+◌, ◌++◌, ◌∷◌, [], ◌^◌, ◌<◌, ◌↔◌, IfOk, IfNone, IfSome, IsNone, IsTrue, None, List, Some, cond, drop, is_some, length, option_and_then, option_map, replicate, slice_get};
+ghost use Rattle.jlr_machine.specs.Objects.{◌∈◌, as_cleanable, as_fields, as_guard, as_reference, at, change_at, empty_at, occupied, set_at, some_and};
+ghost use Rattle.jlr_machine.specs.SlotSets.{is_in};
+ghost use Rattle.jlr_links.specs.Lists.{list_at};
+ghost use Rattle.jlr_cells.specs.Showing.{shown};
+ghost use Rattle.jlr_machine.specs.Edges.{edges_from};
+ghost use Rattle.jlr_machine.specs.Edges.Chain.{Strong};
+ghost use Rattle.jlr_machine.specs.Objects.{with_cleanable, with_field, with_members, with_reference};
+ghost use Rattle.jlr_machine.specs.Refusals.{is_cleanable, is_guard, is_plain, is_queue, is_reference};
+ghost use Rattle.jlr_machine.specs.Calls.{spent, unreferred};
+ghost use Rattle.jlr_cells.specs.Contents.{field_at, in_clean_state, in_state, kind_of, member_in, members_in, object_in, object_of, objects_in, referent_in, unregistered, watching, with_list, with_lists, without_referent};
+ghost use Rattle.jlr_cells.specs.Links.{no_links};
+ghost use Rattle.jlr_cells.specs.Visits.{edges_told, found_plain};
+
+use crate::cell::Cell;
+use crate::free_list::{free_cells, link_to, next_free};
+use crate::links::{Links, Visited, target_of};
+use crate::shape::{Kind, Shape};
+use jlr_links::Links as Lists;
+use jlr_machine::cell_set::CellSet;
+use jlr_machine::object::{CleanState, Cleanable, Guard, Object, RefState, Reference};
+use jlr_machine::table::Table;
+use jlr_types::{FieldValue, Meter, Slot};
+use std::alloc::{AllocError, Global};
+use std::marker::Model;
+
+/// What lies in the cells, by slot. The kinds stand by themselves once more, side by side, so that a pass over all cells reads
+/// only those that it has to; and so does what the fields of plain objects refer to, so that marking reads no cell of those.
+#[derive(Drop)]
+pub(crate) struct Store {
+    cells: Vec<Cell>,
+    /// By slot, the members of the queue there from the front on; of what is no queue there are none.
+    queues: Lists,
+    kinds: Vec<Option<Kind>>,
+    links: Vec<Links>,
+    first_free: Option<u32>,
+    free_count: u32,
+}
+
+impl Model for Store {
+    ghost use Rattle.std.specs.Prelude.{List, Option};
+    ghost use Rattle.jlr_machine.specs.declared.object.Object.{Object};
+
+    ghost Value = { List (Option Object) };
+
+    ghost use Rattle.jlr_cells.specs.Contents.{objects_in, with_lists};
+    ghost use Rattle.jlr_cells.specs.FreeList.{AreWhole};
+
+    ghost view = { λ a. with_lists (objects_in a.cells.items) a.queues.lists };
+
+    ghost invariant = { λ a. AreWhole a.cells.items a.queues.lists a.queues.slots a.kinds.items a.links.items a.first_free a.free_count };
+}
+
+impl Store {
+    /// So many cells, all free.
+    ///
+    /// # Errors
+    /// `AllocError` where there is no memory for them.
+    pub(crate) fn new(alloc: Global, count: u32) -> Result<Self, AllocError>
+        ensures { IfOk result (λ store. store ≡ replicate count None) }
+    {
+        Ok(Store {
+            cells: free_cells(alloc, count)?,
+            queues: Lists::new(alloc, count, count)?,
+            kinds: no_kinds(alloc, count)?,
+            links: all_null(alloc, count)?,
+            first_free: link_to(0, count),
+            free_count: count,
+        })
+    }
+
+    /// How many cells there are. Their slots are the numbers below.
+    pub(crate) fn cell_count(&self) -> u32
+        ensures { result ≡ length self.now }
+    {
+        self.cells.len() as u32
+    }
+
+    /// How many cells are free.
+    pub(crate) fn free_count(&self) -> u32
+        ensures { result + occupied self.now ≡ length self.now }
+    {
+        self.free_count
+    }
+
+    /// A new object in a free cell, if there is one.
+    pub(crate) fn take(&mut self, shape: Shape) -> Option<Slot>
+        ensures full { IsNone result ↔ (occupied self.old ≡ length self.old) }
+        ensures none { IfNone result (self.new ≡ self.old) }
+        ensures free { IfSome result (λ slot. (slot < length self.old) × (at self.old slot ≡ None)) }
+        ensures taken { IfSome result (λ slot. self.new ≡ set_at self.old slot (object_of shape)) }
+    {
+        match self.first_free {
+            None => None,
+            Some(slot) => {
+                self.first_free = next_free(&self.cells, slot);
+                let cell = Cell::new(shape);
+                self.kinds[slot as usize] = cell.kind();
+                self.cells[slot as usize] = cell;
+                self.free_count -= 1;
+                Some(Slot::new(slot))
+            }
+        }
+    }
+
+    /// The object at a slot is no more, and its cell is free.
+    pub(crate) fn give_back(&mut self, slot: Slot)
+        requires { IsTrue (is_some (at self.old slot)) }
+        ensures { self.new ≡ empty_at self.old slot }
+    {
+        let number = slot.number();
+        self.cells[number as usize] = Cell::Free {
+            next: self.first_free,
+        };
+        self.kinds[number as usize] = None;
+        self.links[number as usize] = Links::none();
+        self.queues.clear(number);
+        self.first_free = Some(number);
+        self.free_count += 1;
+    }
+
+    /// Of which kind the object at a slot is, if there is one.
+    pub(crate) fn kind(&self, slot: Slot) -> Option<Kind>
+        ensures kind { result ≡ option_map kind_of (at self.now slot) }
+        ensures object { is_some result ≡ is_some (at self.now slot) }
+    {
+        match self.kinds.get(slot.number() as usize) {
+            Some(kind) => *kind,
+            None => None,
+        }
+    }
+
+    /// Whether there is a plain object at a slot.
+    pub(crate) fn is_plain(&self, slot: Slot) -> bool
+        ensures { result ≡ some_and is_plain (at self.now slot) }
+    {
+        matches!(self.kind(slot), Some(Kind::Plain))
+    }
+
+    /// Whether there is a queue at a slot.
+    pub(crate) fn is_queue(&self, slot: Slot) -> bool
+        ensures { result ≡ some_and is_queue (at self.now slot) }
+    {
+        matches!(self.kind(slot), Some(Kind::Queue))
+    }
+
+    /// How many fields the object at a slot has, if it is a plain one.
+    pub(crate) fn field_count(&self, slot: Slot) -> Option<usize>
+        ensures { result ≡ option_map length (option_and_then as_fields (at self.now slot)) }
+    {
+        match self.cells.get(slot.number() as usize) {
+            Some(cell) => cell.field_count(),
+            None => None,
+        }
+    }
+
+    /// Whether there is a plain object at a slot that has this field.
+    pub(crate) fn has_field(&self, slot: Slot, field: usize) -> bool
+        ensures { result ≡ is_some (field_at self.now slot field) }
+    {
+        field_of(&self.cells, slot, field).is_some()
+    }
+
+    /// What a field holds.
+    pub(crate) fn field(&self, slot: Slot, field: usize) -> FieldValue
+        requires { IsTrue (is_some (field_at self.now slot field)) }
+        ensures { field_at self.now slot field ≡ Some result }
+    {
+        field_of(&self.cells, slot, field).unwrap()
+    }
+
+    /// Sets a field, and answers what it held.
+    pub(crate) fn set_field(&mut self, slot: Slot, field: usize, value: FieldValue) -> FieldValue
+        requires field { IsTrue (is_some (field_at self.old slot field)) }
+        requires within { (s : ℕ) → value ≡ FieldValue.Ref (Some s) → s < length self.old }
+        ensures old { field_at self.old slot field ≡ Some result }
+        ensures new { self.new ≡ change_at self.old slot (with_field field value) }
+    {
+        let place = slot.number() as usize;
+        let target = target_of(&value);
+        let cell = &mut self.cells[place];
+        let old = cell.set_field(field, value);
+        let links = &mut self.links[place];
+        links.set(field, target);
+        old
+    }
+
+    /// The reference at a slot, if there is one.
+    pub(crate) fn reference(&self, slot: Slot) -> Option<Reference>
+        ensures { result ≡ option_and_then as_reference (at self.now slot) }
+    {
+        match self.cells.get(slot.number() as usize) {
+            Some(cell) => cell.reference(),
+            None => None,
+        }
+    }
+
+    /// What the reference at a slot refers to, if there is a reference and it was not cleared.
+    pub(crate) fn referent(&self, slot: Slot) -> Option<Slot>
+        ensures { result ≡ referent_in (at self.now slot) }
+    {
+        match self.cells.get(slot.number() as usize) {
+            Some(cell) => cell.referent(),
+            None => None,
+        }
+    }
+
+    /// The reference at a slot loses its referent.
+    pub(crate) fn clear_referent(&mut self, slot: Slot)
+        requires { IsTrue (some_and is_reference (at self.old slot)) }
+        ensures { self.new ≡ change_at self.old slot (with_reference unreferred) }
+    {
+        let cell = &mut self.cells[slot.number() as usize];
+        cell.clear_referent();
+    }
+
+    /// The reference at a slot comes into another state.
+    pub(crate) fn set_state(&mut self, slot: Slot, state: RefState)
+        requires { IsTrue (some_and is_reference (at self.old slot)) }
+        ensures { self.new ≡ change_at self.old slot (with_reference (in_state state)) }
+    {
+        let cell = &mut self.cells[slot.number() as usize];
+        cell.set_state(state);
+    }
+
+    /// The reference at a slot is registered with no queue any more.
+    pub(crate) fn cut_queue(&mut self, slot: Slot)
+        requires { IsTrue (some_and is_reference (at self.old slot)) }
+        ensures { self.new ≡ change_at self.old slot (with_reference unregistered) }
+    {
+        let cell = &mut self.cells[slot.number() as usize];
+        cell.cut_queue();
+    }
+
+    /// The cleanable at a slot, if there is one.
+    pub(crate) fn cleanable(&self, slot: Slot) -> Option<Cleanable>
+        ensures { result ≡ option_and_then as_cleanable (at self.now slot) }
+    {
+        match self.cells.get(slot.number() as usize) {
+            Some(cell) => cell.cleanable(),
+            None => None,
+        }
+    }
+
+    /// The guard at a slot, if there is one.
+    pub(crate) fn guard(&self, slot: Slot) -> Option<Guard>
+        ensures { result ≡ option_and_then as_guard (at self.now slot) }
+    {
+        match self.cells.get(slot.number() as usize) {
+            Some(cell) => cell.guard(),
+            None => None,
+        }
+    }
+
+    /// The cleanable at a slot comes into another state.
+    pub(crate) fn set_clean_state(&mut self, slot: Slot, state: CleanState)
+        requires { IsTrue (some_and is_cleanable (at self.old slot)) }
+        ensures { self.new ≡ change_at self.old slot (with_cleanable (in_clean_state state)) }
+    {
+        let cell = &mut self.cells[slot.number() as usize];
+        cell.set_clean_state(state);
+    }
+
+    /// The cleanable at a slot loses its referent.
+    pub(crate) fn clear_cleanable(&mut self, slot: Slot)
+        requires { IsTrue (some_and is_cleanable (at self.old slot)) }
+        ensures { self.new ≡ change_at self.old slot (with_cleanable without_referent) }
+    {
+        let cell = &mut self.cells[slot.number() as usize];
+        cell.clear_cleanable();
+    }
+
+    /// The cleanable at a slot waits for an object from now on.
+    pub(crate) fn watch(&mut self, slot: Slot, referent: Slot)
+        requires { IsTrue (some_and is_cleanable (at self.old slot)) }
+        ensures { self.new ≡ change_at self.old slot (with_cleanable (watching referent)) }
+    {
+        let cell = &mut self.cells[slot.number() as usize];
+        cell.watch(referent);
+    }
+
+    /// The cleanable at a slot has done what it was for: it is spent, and has no referent any more.
+    pub(crate) fn spend(&mut self, slot: Slot)
+        requires { IsTrue (some_and is_cleanable (at self.old slot)) }
+        ensures { self.new ≡ change_at self.old slot (with_cleanable spent) }
+    {
+        let cell = &mut self.cells[slot.number() as usize];
+        cell.spend();
+    }
+
+    /// How many members the queue at a slot has; 0, if there is no queue.
+    pub(crate) fn member_count(&self, queue: Slot) -> u32
+        ensures { result ≡ length (members_in (at self.now queue)) }
+    {
+        if !self.is_queue(queue) {
+            return 0;
+        }
+        self.queues.count(queue.number())
+    }
+
+    /// The member at the front of the queue at a slot, if there is a queue and it has members.
+    pub(crate) fn first_member(&self, queue: Slot) -> Option<Slot>
+        ensures { result ≡ member_in (at self.now queue) 0 }
+    {
+        if !self.is_queue(queue) {
+            return None;
+        }
+        self.queues.front(queue.number())
+    }
+
+    /// The member after another of the queue at a slot, if that is not the last.
+    pub(crate) fn next_member(&self, queue: Slot, member: Slot) -> Option<Slot>
+        requires { member ∈ members_in (at self.now queue) }
+        ensures { (before after : List ℕ) → members_in (at self.now queue) ≡ before ++ member ∷ after → result ≡ slice_get after 0 }
+    {
+        self.queues.next(queue.number(), member)
+    }
+
+    /// The queue at a slot gets a member at its end, which stands in no queue.
+    pub(crate) fn push_member(&mut self, queue: Slot, member: Slot)
+        requires queue { IsTrue (some_and is_queue (at self.old queue)) }
+        requires within { member < length self.old }
+        requires apart { (s : ℕ) → member ∈ members_in (at self.old s) → ⊥ }
+        ensures { self.new ≡ change_at self.old queue (with_members (λ members. members ++ member ∷ [])) }
+    {
+        self.queues.append(queue.number(), member);
+    }
+
+    /// The member at the front of the queue at a slot leaves it, if there is one.
+    pub(crate) fn pop_member(&mut self, queue: Slot) -> Option<Slot>
+        requires { IsTrue (some_and is_queue (at self.old queue)) }
+        ensures front { result ≡ member_in (at self.old queue) 0 }
+        ensures popped { self.new ≡ change_at self.old queue (with_members (drop 1)) }
+    {
+        self.queues.take_front(queue.number())
+    }
+
+    /// The queue at a slot has no members any more.
+    pub(crate) fn clear_members(&mut self, queue: Slot)
+        requires { queue < length self.old }
+        ensures { self.new ≡ change_at self.old queue (with_members (λ _. [])) }
+    {
+        self.queues.clear(queue.number());
+    }
+
+    /// The objects in the cells of a set, as plain data.
+    ///
+    /// # Errors
+    /// `AllocError` where there is no memory for them.
+    pub(crate) fn image(
+        &self,
+        alloc: Global,
+        occupied: &CellSet,
+    ) -> Result<Table<Object>, AllocError>
+        requires { length occupied.now ≡ length self.now }
+        ensures { IfOk result (λ objects. objects ≡ shown occupied.now self.now) }
+    {
+        Ok(Table::from_vec(images(alloc, &self.cells, &self.queues, occupied)?))
+    }
+
+    /// Visits the object at a slot: one tick. Gives its strong edges, but those of a queue to its members: it lends the links of a
+    /// plain object, whose cell it does not read, and tells the queue that a reference may still be added to, or a guard's cleanable.
+    pub(crate) fn visit(&self, slot: Slot, meter: &mut Meter) -> Visited<'_>
+        requires object { IsTrue (is_some (at self.now slot)) }
+        requires ticks { meter.old + 1 < 2 ^ 64 }
+        ensures edges { edges_from Strong self.now slot ≡ edges_told result (members_in (at self.now slot)) }
+        ensures plain { found_plain result ≡ some_and is_plain (at self.now slot) }
+        ensures ticked { meter.new ≡ meter.old + 1 }
+    {
+        meter.tick();
+        let place = slot.number() as usize;
+        if self.is_plain(slot) {
+            return Visited::Plain(&self.links[place]);
+        }
+        Visited::Other {
+            next: self.cells[place].next(),
+        }
+    }
+}
+
+fn no_kinds(alloc: Global, count: u32) -> Result<Vec<Option<Kind>>, AllocError>
+    ensures { IfOk result (λ kinds. kinds.items ≡ replicate count None) }
+{
+    Ok(vec![in alloc; None; count as usize]?)
+}
+
+fn all_null(alloc: Global, count: u32) -> Result<Vec<Links>, AllocError>
+    ensures { IfOk result (λ links. links.items ≡ replicate count no_links) }
+{
+    let mut links = Vec::with_capacity(alloc, count as usize)?;
+    for _slot in 0..count {
+        links.push_reserved(Links::none());
+    }
+    Ok(links)
+}
+
+fn images(
+    alloc: Global,
+    cells: &[Cell],
+    queues: &Lists,
+    occupied: &CellSet,
+) -> Result<Vec<Option<Object>>, AllocError>
+    requires small { length cells.now < 2 ^ 32 }
+    requires lists { length queues.now.lists ≡ length cells.now }
+    requires places { length occupied.now ≡ length cells.now }
+    ensures { IfOk result (λ objects. objects.items ≡ shown occupied.now (with_lists (objects_in cells.now) queues.now.lists)) }
+{
+    let mut objects = Vec::with_capacity(alloc, cells.len())?;
+    for slot in 0..cells.len() {
+        let cell = &cells[slot];
+        objects.push(image_of(alloc, cell, queues, slot as u32, occupied)?)?;
+    }
+    Ok(objects)
+}
+
+/// The object in a cell, if the cell is in the set.
+fn image_of(
+    alloc: Global,
+    cell: &Cell,
+    queues: &Lists,
+    slot: u32,
+    occupied: &CellSet,
+) -> Result<Option<Object>, AllocError>
+    requires list { slot < length queues.now.lists }
+    requires place { slot < length occupied.now }
+    ensures { IfOk result (λ object. object ≡ cond (is_in occupied.now slot) (with_list (list_at queues.now.lists slot) (object_in cell.now)) None) }
+{
+    if !occupied.contains(Slot::new(slot)) {
+        return Ok(None);
+    }
+    cell.image(alloc, queues, slot)
+}
+
+fn field_of(cells: &[Cell], slot: Slot, field: usize) -> Option<FieldValue>
+    ensures { result ≡ field_at (objects_in cells.now) slot field }
+{
+    match cells.get(slot.number() as usize) {
+        Some(cell) => cell.field(field),
+        None => None,
+    }
+}
