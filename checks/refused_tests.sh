@@ -1,6 +1,7 @@
 #!/usr/bin/env bash
-# Runs the tests on want of memory once for each of their allocations, with that one refused (failing.sh). They are the proved tests that
-# `rt test` builds; a crate whose tests were not built is built first, which takes minutes.
+# Runs the tests on want of memory once for each of their allocations, with that one refused (failing.sh), and the events of a heap that
+# take none with all refused (starved.sh). They are the proved tests that `rt test` builds; a crate whose tests were not built is built
+# first, which takes minutes.
 # checks/refused_tests.sh
 set -u
 here=$(cd "$(dirname "$0")" && pwd)
@@ -19,3 +20,4 @@ tests() {
 
 tests jlr_plain_rows tests::memory::a_want_of_memory_leaves_the_machine || exit 1
 tests jlr_core_rows tests::memory::a_refused_growth_changes_nothing || exit 1
+"$here/starved.sh" jlr_core_rows tests::memory::a_heap_and_its_table_are_made tests::memory::each_other_event_takes_no_memory || exit 1

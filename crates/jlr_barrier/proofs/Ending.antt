@@ -13,7 +13,7 @@ use Rattle.jlr_machine.specs.Edges.{active_cleanables}
 use Rattle.jlr_roots.specs.Walk.{slots_held}
 use Rattle.jlr_barrier.specs.Graphs.{Graph, Known, empty_graph, empty_known, held}
 use Rattle.jlr_barrier.proofs.Held.{held_cases}
-use Rattle.jlr_barrier.proofs.Walking.{member_in_list}
+use Rattle.jlr_links.proofs.Places.{member_in_list}
 use Rattle.std.specs.Prelude.{IfSome}
 use Rattle.jlr_barrier.proofs.Fitting.{other_clock}
 use Rattle.jlr_barrier.specs.Snapshots.{FitsTogether, HoldsWhole, IsObject, IsSafe, IsSnapshot, cycle_of}

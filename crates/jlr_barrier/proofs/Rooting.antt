@@ -78,10 +78,9 @@ module _ (k : Known) (a b : ℕ) (f : FitsTogether k a b) where
 
   -- ---- Members of a queue
 
-  pub linked_fits : {A E : Type 0} (result : Result A E) (cells : Heap) (q s : ℕ) → OnOk result (cells ≡ change_at k.graph.objects q (with_members (λ members. members ++ s ∷ []))) → OnErr result (cells ≡ k.graph.objects)
+  pub linked_fits : (cells : Heap) (q s : ℕ) → cells ≡ change_at k.graph.objects q (with_members (λ members. members ++ s ∷ []))
       → IsTrue (some_and is_queue (at k.graph.objects q)) → IsInHand k s → FitsTogether (record k { graph = with_objects k.graph cells }) a b
-  linked_fits (Ok x) cells q s pushed same there held = subst (λ h. FitsTogether (record k { graph = with_objects k.graph h }) a b) (sym pushed) (one_member_more k a b q f s held there)
-  linked_fits (Err x) cells q s pushed same there held = subst (λ h. FitsTogether (record k { graph = with_objects k.graph h }) a b) (sym same) f
+  linked_fits cells q s pushed there held = subst (λ h. FitsTogether (record k { graph = with_objects k.graph h }) a b) (sym pushed) (one_member_more k a b q f s held there)
 
 -- ---- What is shaded, and what it held goes
 

@@ -3,13 +3,9 @@ use Rattle.std.proofs.Common.{◌≡◌, ℕ, suc, ◌+◌, ◌<◌, ◌⊎◌, 
 use Rattle.std.specs.List.{cons_option}
 use Rattle.std.proofs.Math.Seq.{take-suc}
 use Rattle.std.proofs.lemmas.List.Elements.{filter_map-append}
-use Rattle.std.specs.Prelude.{slice_get}
-use Rattle.std.proofs.lemmas.Option.{same_Some, slice_get_within, slice_get-get_or, get_or_from_slice_get}
-use Rattle.jlr_machine.specs.declared.object.Object.{Object}
-use Rattle.jlr_machine.specs.declared.object.Object.TheVariants.{Plain, Reference, Queue, Cleaner, Cleanable, Guard}
-use Rattle.jlr_cells.specs.Contents.{members_in, member_in as member_in_queue}
+use Rattle.std.proofs.lemmas.Option.{same_Some}
 use Rattle.jlr_machine.specs.Objects.{◌∈◌}
-use Rattle.jlr_laws.proofs.Frames.{no_some}
+use Rattle.jlr_links.proofs.Places.{took}
 use Rattle.jlr_laws.proofs.Sets.{nothing, in_front, in_cons}
 use Rattle.jlr_laws.proofs.Clearing.{in_append, in_left, in_right}
 
@@ -47,62 +43,14 @@ item_in f (y ∷ items) (suc i) d x l e =
 -- ---- The same for a list of slots
 
 module _ (items : List ℕ) (i d : ℕ) (l : i < length items) where
-  took : take (i + 1) items ≡ take i items ++ slice_index_or items i d ∷ []
-  took = ap (λ n. take n items) (add-one i) ∙ take-suc items i d l
-
   pub took_gives : (x : ℕ) → x ∈ take (i + 1) items → (x ∈ take i items) ⊎ (Some (slice_index_or items i d) ≡ Some x)
-  took_gives x h = elim (in_append x (take i items) (slice_index_or items i d ∷ []) (subst (λ l. x ∈ l) took h)) [
+  took_gives x h = elim (in_append x (take i items) (slice_index_or items i d ∷ []) (subst (λ l. x ∈ l) (took items i d l) h)) [
     | inl o ↦ inl o
     | inr n ↦ elim (in_cons x (slice_index_or items i d) [] n) [ inl e ↦ inr (ap (λ y. Some y) (sym e)) | inr none ↦ nothing x none ]
   ]
 
   pub took_from : (x : ℕ) → (x ∈ take i items) ⊎ (Some (slice_index_or items i d) ≡ Some x) → x ∈ take (i + 1) items
-  took_from x h = subst (λ l. x ∈ l) (sym took) (elim h [
+  took_from x h = subst (λ l. x ∈ l) (sym (took items i d l)) (elim h [
     | inl o ↦ in_left x (take i items) (slice_index_or items i d ∷ []) o
     | inr e ↦ in_right x (take i items) (slice_index_or items i d ∷ []) (in_front x (slice_index_or items i d) [] (sym (same_Some (slice_index_or items i d) x e)))
   ])
-
--- an item is in the whole list
-pub member_in : (items : List ℕ) (i d : ℕ) → i < length items → slice_index_or items i d ∈ items
-member_in [] i d l = absurd (omega (arith, l))
-member_in (y ∷ items) zero d l = in_front y y items refl
-member_in (y ∷ items) (suc i) d l = in_right (slice_index_or items i d) (y ∷ []) items (member_in items i d (omega (arith, l)))
-
-pub member_in_list : (items : List ℕ) (i d x : ℕ) → slice_get items i ≡ Some d → Some d ≡ Some x → x ∈ items
-member_in_list items i d x here e =
-    let within = slice_get_within items i d here in
-    let read = get_or_from_slice_get items i d d here in
-    subst (λ y. y ∈ items) (read ∙ same_Some d x e) (member_in items i d within)
-
-pub took_one : (items : List ℕ) (i d : ℕ) → slice_get items i ≡ Some d → take (i + 1) items ≡ take i items ++ d ∷ []
-took_one items i d here = took items i d (slice_get_within items i d here) ∙ ap (λ y. take i items ++ y ∷ []) (get_or_from_slice_get items i d d here)
-
--- within a list there is one at each place
-pub one_there : {P : Type 0} (items : List ℕ) (i : ℕ) → slice_get items i ≡ None → i < length items → P
-one_there items i none within = no_some (slice_index_or items i 0) (sym none ∙ slice_get-get_or items i 0 within)
-
--- what comes after the one at a place, wherever the list is parted by it, is at the next place
-following : (items : List ℕ) (i d : ℕ) (next : Option ℕ) → slice_get items i ≡ Some d → ((before after : List ℕ) → items ≡ before ++ d ∷ after → next ≡ slice_get after 0) → next ≡ slice_get items (suc i)
-following [] i d next here parts = no_some d here
-following (y ∷ items) zero d next here parts = parts [] items (ap (λ z. z ∷ items) (same_Some y d here))
-following (y ∷ items) (suc i) d next here parts = following items i d next here (λ before after e. parts (y ∷ before) after (ap (λ l. y ∷ l) e))
-
-pub comes_next : (items : List ℕ) (i d : ℕ) (next : Option ℕ) → slice_get items i ≡ Some d → ((before after : List ℕ) → items ≡ before ++ d ∷ after → next ≡ slice_get after 0) → next ≡ slice_get items (i + 1)
-comes_next items i d next here parts = following items i d next here parts ∙ ap (slice_get items) (sym (add-one i))
-
--- a member of a queue is one of its list
-pub member_listed : (o : Option Object) (place : ℕ) → member_in_queue o place ≡ slice_get (members_in o) place
-member_listed None place = refl
-member_listed (Some (Plain fields)) place = refl
-member_listed (Some (Reference r)) place = refl
-member_listed (Some (Queue members)) place = refl
-member_listed (Some Cleaner) place = refl
-member_listed (Some (Cleanable c)) place = refl
-member_listed (Some (Guard g)) place = refl
-
--- where there is no further item, all were taken
-pub took_all : (items : List ℕ) (i : ℕ) → slice_get items i ≡ None → take i items ≡ items
-took_all [] zero e = refl
-took_all [] (suc i) e = refl
-took_all (y ∷ items) zero e = cc
-took_all (y ∷ items) (suc i) e = ap (λ l. y ∷ l) (took_all items i e)

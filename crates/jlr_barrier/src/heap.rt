@@ -59,7 +59,7 @@ impl Model for Heap {
 }
 
 impl Heap {
-    /// A heap without objects or names, whose mutators are not joined. All room but that of queues is made at once.
+    /// A heap without objects or names, whose mutators are not joined. All room is made at once.
     ///
     /// # Errors
     /// `AllocError` where the room cannot be had.

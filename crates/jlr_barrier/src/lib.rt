@@ -5,7 +5,7 @@
 //! be added to it, the members of a queue, the pending list and the line. So do those that make or remove a root of a mutator: its handles,
 //! the fence of its call, and the names. The barriers of a collector that marks in steps stand in these calls: what is cut off is shaded.
 //!
-//! No call but `Heap::new`, `Heap::link`, `Heap::names` and the images takes memory.
+//! No call but `Heap::new`, `Heap::names` and the images takes memory.
 #![tactic(auto)]
 
 mod cleanables;

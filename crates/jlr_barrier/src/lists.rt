@@ -1,15 +1,13 @@
 //! The pending list and the cleaner's line are linked through one column: what stands in them takes no memory of its own.
-ghost use Rattle.std.specs.Prelude.{◌≡◌, ℕ, ◌<◌, IfOk, length};
+ghost use Rattle.std.specs.Prelude.{ℕ, ◌<◌, length};
 ghost use Rattle.jlr_machine.specs.Objects.{◌∈◌};
 ghost use Rattle.jlr_links.specs.Lists.{list_at};
 ghost use Rattle.jlr_marks.specs.Marking.{Shaded};
 
 use crate::shade::shade_target;
 use jlr_links::Links;
-use jlr_machine::items::Items;
 use jlr_marks::Marks;
 use jlr_types::Slot;
-use std::alloc::{AllocError, Global};
 
 /// The number of the pending list.
 pub(crate) const PENDING: u32 = 0;
@@ -19,26 +17,6 @@ pub(crate) const LINE: u32 = 1;
 
 /// How many lists there are.
 pub(crate) const LISTS: u32 = 2;
-
-/// A list as plain data.
-pub(crate) fn list_image(alloc: Global, lists: &Links, list: u32) -> Result<Items<Slot>, AllocError>
-    requires { list < length lists.now.lists }
-    ensures { IfOk result (λ slots. slots ≡ list_at lists.now.lists list) }
-{
-    let count = lists.count(list);
-    let mut slots = Vec::with_capacity(alloc, count as usize)?;
-    let mut next = lists.front(list);
-    for _place in 0..count {
-        match next {
-            Some(slot) => {
-                slots.push_reserved(slot);
-                next = lists.next(list, slot);
-            }
-            None => unreachable!(),
-        }
-    }
-    Ok(Items::from_vec(slots))
-}
 
 /// Shades the slots of a list.
 pub(crate) fn shade_list(lists: &Links, list: u32, marks: &mut Marks)

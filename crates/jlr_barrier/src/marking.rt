@@ -1,9 +1,11 @@
 //! The mark set, as a collector uses it.
-ghost use Rattle.std.specs.Prelude.{◌≡◌, ◌↔◌, ℕ, IfSome, ◌+◌, ◌^◌, ◌<◌, [], IsTrue, Some, false, is_some, length, option_and_then, slice_get};
+ghost use Rattle.std.specs.Prelude.{◌≡◌, ◌↔◌, ℕ, IfSome, ◌+◌, ◌^◌, ◌<◌, ◌≤◌, [], IsTrue, Some, false, is_some, length, option_and_then, slice_get};
 ghost use Rattle.jlr_types.specs.declared.RefKind.TheVariants.{Soft};
+ghost use Rattle.jlr_machine.specs.Choices.{collecting, kept_by, pended_by};
 ghost use Rattle.jlr_machine.specs.Objects.{at, some_and, ◌∈◌};
 ghost use Rattle.jlr_machine.specs.Refusals.{is_plain};
 ghost use Rattle.jlr_machine.specs.Edges.{referent};
+ghost use Rattle.jlr_machine.specs.SlotSets.{FindsFirst, missing, slots_of};
 ghost use Rattle.jlr_barrier.specs.Graphs.{held};
 ghost use Rattle.jlr_marks.specs.Marking.{IsMarked, Shaded, is_marked, unmarked, upcoming};
 ghost use Rattle.jlr_barrier.specs.Snapshots.{HoldsWhole, IsEdge, IsObject, RefersTo};
@@ -13,6 +15,7 @@ use crate::heap::Heap;
 use crate::lists::{LINE, PENDING, shade_list};
 use crate::shade::{follow, note, shade_cleanables, shade_names, shade_roots, shade_target};
 use jlr_cells::Kind;
+use jlr_machine::choice::Choice;
 use jlr_types::{Meter, RefKind, Slot};
 
 impl Heap {
@@ -74,6 +77,23 @@ impl Heap {
         let plain = follow(&self.cells, slot, meter, &mut self.marks);
         note(&self.cells, slot, plain, &mut self.marks);
         plain
+    }
+
+    /// The first slot not below `from` that is not marked.
+    pub fn next_unmarked(&self, from: u32) -> Option<Slot>
+        ensures unmarked { FindsFirst (missing self.now.marking.bits) from result }
+        ensures few { length self.now.marking.bits < 2 ^ 32 }
+    {
+        self.marks.next_unmarked(from)
+    }
+
+    /// A collection that kept nothing so far keeps all that is marked.
+    pub fn keep_marked(&self, choice: &mut Choice)
+        requires cells { length self.now.marking.bits ≤ choice.old.cells }
+        requires none { kept_by choice.old ≡ [] }
+        ensures { choice.new ≡ collecting choice.old (slots_of self.now.marking.bits) (pended_by choice.old) }
+    {
+        self.marks.keep_all(choice);
     }
 
     /// How many slots are discovered.

@@ -5,7 +5,7 @@ ghost use Rattle.jlr_barrier.specs.Graphs.{with_pending};
 ghost use Rattle.jlr_barrier.specs.Snapshots.{IsInHand};
 
 use crate::heap::Heap;
-use crate::lists::{PENDING, list_image};
+use crate::lists::PENDING;
 use jlr_machine::items::Items;
 use jlr_types::Slot;
 use std::alloc::{AllocError, Global};
@@ -48,6 +48,6 @@ impl Heap {
     pub fn pending_image(&self, alloc: Global) -> Result<Items<Slot>, AllocError>
         ensures { IfOk result (λ slots. slots ≡ self.now.graph.pending) }
     {
-        list_image(alloc, &self.lists, PENDING)
+        self.lists.image(alloc, PENDING)
     }
 }

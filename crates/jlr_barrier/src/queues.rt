@@ -1,9 +1,9 @@
 //! The calls that change references and the members of queues.
-ghost use Rattle.std.specs.Prelude.{◌≡◌, ◌++◌, ◌∷◌, ℕ, [], IsTrue, OnErr, OnOk, Some, drop, option_map};
-ghost use Rattle.jlr_machine.specs.Objects.{at, change_at, some_and, with_members, with_reference};
+ghost use Rattle.std.specs.Prelude.{◌≡◌, ◌++◌, ◌∷◌, ℕ, [], IsTrue, Some, drop, option_map};
+ghost use Rattle.jlr_machine.specs.Objects.{◌∈◌, at, change_at, some_and, with_members, with_reference};
 ghost use Rattle.jlr_machine.specs.Refusals.{is_queue, is_reference};
 ghost use Rattle.jlr_machine.specs.Calls.{unreferred};
-ghost use Rattle.jlr_cells.specs.Contents.{in_state, member_in, next_in, unregistered};
+ghost use Rattle.jlr_cells.specs.Contents.{in_state, member_in, members_in, next_in, unregistered};
 ghost use Rattle.jlr_marks.specs.Marking.{Shaded};
 ghost use Rattle.jlr_barrier.specs.Graphs.{with_objects};
 ghost use Rattle.jlr_barrier.specs.Snapshots.{IsInHand, IsObject};
@@ -12,7 +12,6 @@ use crate::heap::Heap;
 use crate::shade::{shade_ahead, shade_target};
 use jlr_machine::object::RefState;
 use jlr_types::Slot;
-use std::alloc::AllocError;
 
 impl Heap {
     /// The reference at a slot loses its referent.
@@ -52,22 +51,20 @@ impl Heap {
     pub fn front(&self, queue: Slot) -> Option<Slot>
         ensures { result ≡ member_in (at self.now.graph.objects queue) 0 }
     {
-        self.cells.member(queue, 0)
+        self.cells.first_member(queue)
     }
 
-    /// The queue at a slot gets a member at its end.
-    ///
-    /// # Errors
-    /// `AllocError` where there is no memory for one member more. Nothing has changed then.
-    pub fn link(&mut self, queue: Slot, member: Slot) -> Result<(), AllocError>
+    /// The queue at a slot gets a member at its end: an object that is a member of no queue.
+    pub fn link(&mut self, queue: Slot, member: Slot)
         requires queue { IsTrue (some_and is_queue (at self.old.graph.objects queue)) }
+        requires object { IsObject self.old.graph.objects member }
+        requires apart { (s : ℕ) → member ∈ members_in (at self.old.graph.objects s) → ⊥ }
         requires held { IsInHand self.old member }
-        ensures linked { OnOk result (self.new.graph ≡ with_objects self.old.graph (change_at self.old.graph.objects queue (with_members (λ members. members ++ member ∷ [])))) }
-        ensures err { OnErr result (self.new ≡ self.old) }
+        ensures graph { self.new.graph ≡ with_objects self.old.graph (change_at self.old.graph.objects queue (with_members (λ members. members ++ member ∷ []))) }
         ensures clock { self.new.clock ≡ self.old.clock }
         ensures marking { self.new.marking ≡ self.old.marking }
     {
-        self.cells.push_member(queue, member)
+        self.cells.push_member(queue, member);
     }
 
     /// The member at the front of the queue at a slot leaves it, if there is one, and is shaded.

@@ -129,10 +129,15 @@ fn shade_members(cells: &Cells, queue: Slot, marks: &mut Marks)
     requires { (x : ℕ) → x ∈ members_in (at cells.now queue) → x < length marks.old.bits }
     ensures { Shaded (λ x. x ∈ members_in (at cells.now queue)) marks.old marks.new }
 {
-    let mut place = 0;
-    while let Some(member) = cells.member(queue, place) {
-        shade_target(Some(member), marks);
-        place += 1;
+    let mut next = cells.first_member(queue);
+    for _place in 0..cells.member_count(queue) {
+        match next {
+            Some(member) => {
+                shade_target(Some(member), marks);
+                next = cells.next_member(queue, member);
+            }
+            None => unreachable!(),
+        }
     }
 }
 

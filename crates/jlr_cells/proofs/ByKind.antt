@@ -1,6 +1,6 @@
 -- The kinds and the links that stand by themselves, and the free list, after a change of one cell.
 use Rattle.std.proofs.Common.{◌≡◌, ℕ, zero, suc, ◌+◌, ◌-◌, ◌<◌, ◌^◌, true, List, [], ◌∷◌, Option, Some, None, length, set, get_or, replicate, refl, sym, ap, ◌∙◌}
-use Rattle.std.specs.Prelude.{drop, is_some, OnErr, OnOk, Result, Ok, Err, option_map, slice_index_or}
+use Rattle.std.specs.Prelude.{drop, is_some, option_map, slice_index_or}
 use Rattle.std.proofs.Math.Seq.{map-set_same}
 use Rattle.std.proofs.lemmas.List.{map-set, get_or-map}
 use Rattle.std.proofs.lemmas.Option.{get_or_from_slice_get}
@@ -9,9 +9,9 @@ use Rattle.jlr_types.specs.declared.FieldValue.{FieldValue}
 use Rattle.jlr_machine.specs.declared.object.Reference.{Reference as ReferenceOf}
 use Rattle.jlr_machine.specs.declared.object.Cleanable.{Cleanable as CleanableOf}
 use Rattle.jlr_machine.specs.Edges.{slot_in}
-use Rattle.jlr_machine.specs.Objects.{at, change_at, with_cleanable, with_field, with_members, with_reference}
-use Rattle.jlr_cells.proofs.Slots.{at-read, change_at-objects_in, object_of_field, within_cells}
-use Rattle.jlr_cells.proofs.LinkLists.{links_with_cleanable, links_with_field, links_with_members, links_with_reference}
+use Rattle.jlr_machine.specs.Objects.{at, with_cleanable, with_field, with_reference}
+use Rattle.jlr_cells.proofs.Slots.{at-read, object_of_field, within_cells}
+use Rattle.jlr_cells.proofs.LinkLists.{links_with_cleanable, links_with_field, links_with_reference}
 use Rattle.jlr_cells.specs.declared.cell.Cell.{Cell}
 use Rattle.jlr_cells.specs.declared.cell.Cell.TheVariants.{Free}
 use Rattle.jlr_cells.specs.declared.shape.Kind.{Kind}
@@ -38,10 +38,6 @@ links_read :
 links_read cells links s c ls within by_links read read_links =
     read_links ∙ ap (λ l. get_or l s ls) by_links ∙ get_or-map cell_links cells s c ls within ∙ ap cell_links (sym read)
 
-mapped_by_same : {A : Type 0} (o : Option A) → option_map (λ x. x) o ≡ o
-mapped_by_same None = refl
-mapped_by_same (Some x) = refl
-
 -- the object in a cell becomes another of its kind
 pub kept_changed :
     (cells : List Cell) (kinds : List (Option Kind)) (links : List (List (Option ℕ))) (s count : ℕ) (first : Option ℕ) (c d : Cell) (f : Object → Object)
@@ -54,7 +50,7 @@ kept_changed cells kinds links s count first c d f kept holds read becomes same 
       by_links = kept.by_links ∙ sym (map-set_same cell_links cells s d c (linked ∙ ap cell_links read));
     }
 
--- a reference changes, a cleanable, or the members of a queue
+-- a reference changes, or a cleanable
 pub kept_reference :
     (cells : List Cell) (kinds : List (Option Kind)) (links : List (List (Option ℕ))) (s count : ℕ) (first : Option ℕ) (c d : Cell) (f : ReferenceOf → ReferenceOf)
     → AreKept cells kinds links first count → is_some (at (objects_in cells) s) ≡ true → c ≡ get_or cells s c → object_in d ≡ option_map (with_reference f) (object_in c) → kind_in d ≡ kind_in c
@@ -68,13 +64,6 @@ pub kept_cleanable :
     → AreKept (set cells s d) kinds links first count
 kept_cleanable cells kinds links s count first c d f kept holds read becomes same =
     kept_changed cells kinds links s count first c d (with_cleanable f) kept holds read becomes same (ap links_of becomes ∙ links_with_cleanable f (object_in c))
-
-pub kept_members :
-    (cells : List Cell) (kinds : List (Option Kind)) (links : List (List (Option ℕ))) (s count : ℕ) (first : Option ℕ) (c d : Cell) (f : List ℕ → List ℕ)
-    → AreKept cells kinds links first count → is_some (at (objects_in cells) s) ≡ true → c ≡ get_or cells s c → object_in d ≡ option_map (with_members f) (object_in c) → kind_in d ≡ kind_in c
-    → AreKept (set cells s d) kinds links first count
-kept_members cells kinds links s count first c d f kept holds read becomes same =
-    kept_changed cells kinds links s count first c d (with_members f) kept holds read becomes same (ap links_of becomes ∙ links_with_members f (object_in c))
 
 -- a field changes, and its link with it
 pub kept_field :
@@ -92,27 +81,6 @@ kept_field cells kinds links s count first c d i v old new kept holds read becom
       by_kind = kept.by_kind ∙ sym (map-set_same kind_in cells s d c (same ∙ ap kind_in read));
       by_links = rw (kept.by_links, is) (sym (map-set cell_links cells s d));
     }
-
--- a member is pushed, or there was no memory and the object stays
-pub kept_pushed :
-    {T E : Type 0} (cells : List Cell) (kinds : List (Option Kind)) (links : List (List (Option ℕ))) (s count : ℕ) (first : Option ℕ) (c d : Cell) (f : List ℕ → List ℕ) (result : Result T E)
-    → AreKept cells kinds links first count → is_some (at (objects_in cells) s) ≡ true → c ≡ get_or cells s c
-    → OnOk result (object_in d ≡ option_map (with_members f) (object_in c)) → OnErr result (object_in d ≡ object_in c) → kind_in d ≡ kind_in c
-    → AreKept (set cells s d) kinds links first count
-kept_pushed cells kinds links s count first c d f (Ok x) kept holds read ok err same = kept_members cells kinds links s count first c d f kept holds read ok same
-kept_pushed cells kinds links s count first c d f (Err x) kept holds read ok err same = kept_changed cells kinds links s count first c d (λ o. o) kept holds read (err ∙ sym (mapped_by_same (object_in c))) same (ap links_of err)
-
-pub pushed :
-    {T E : Type 0} (cells : List Cell) (s : ℕ) (c d : Cell) (f : Object → Object) (result : Result T E) → s < length cells → c ≡ get_or cells s c
-    → OnOk result (object_in d ≡ option_map f (object_in c)) → OnOk result (objects_in (set cells s d) ≡ change_at (objects_in cells) s f)
-pushed cells s c d f (Ok x) within read ok = change_at-objects_in cells s c d f within read ok
-pushed cells s c d f (Err x) within read ok = tt
-
-pub unpushed :
-    {T E : Type 0} (cells : List Cell) (s : ℕ) (c d : Cell) (result : Result T E) → s < length cells → c ≡ get_or cells s c
-    → OnErr result (object_in d ≡ object_in c) → OnErr result (objects_in (set cells s d) ≡ objects_in cells)
-unpushed cells s c d (Ok x) within read err = tt
-unpushed cells s c d (Err x) within read err = map-set_same object_in cells s d c (err ∙ ap object_in read)
 
 -- the first free cell is taken
 pub kept_taken :

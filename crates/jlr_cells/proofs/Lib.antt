@@ -4,3 +4,4 @@ mod Slots
 mod Chains
 mod LinkLists
 mod ByKind
+pub mod Queues

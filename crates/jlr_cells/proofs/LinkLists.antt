@@ -12,7 +12,7 @@ use Rattle.jlr_machine.specs.declared.object.Object.TheVariants as object
 use Rattle.jlr_machine.specs.declared.object.Reference.{Reference as ReferenceOf}
 use Rattle.jlr_machine.specs.declared.object.Cleanable.{Cleanable as CleanableOf}
 use Rattle.jlr_machine.specs.Lookups.{blank}
-use Rattle.jlr_machine.specs.Objects.{at, some_and, with_cleanable, with_field, with_members, with_reference}
+use Rattle.jlr_machine.specs.Objects.{at, some_and, with_cleanable, with_field, with_reference}
 use Rattle.jlr_machine.specs.Edges.{edges_from, slot_in}
 use Rattle.jlr_machine.specs.Edges.Chain.{Strong}
 use Rattle.jlr_machine.specs.Refusals.{is_plain}
@@ -73,15 +73,6 @@ links_with_cleanable f (Some object.Cleaner) = refl
 links_with_cleanable f (Some (object.Cleanable c)) = refl
 links_with_cleanable f (Some (object.Guard g)) = refl
 
-pub links_with_members : (f : List ℕ → List ℕ) (o : Option Object) → links_of (option_map (with_members f) o) ≡ links_of o
-links_with_members f None = refl
-links_with_members f (Some (object.Plain fields)) = refl
-links_with_members f (Some (object.Reference r)) = refl
-links_with_members f (Some (object.Queue members)) = refl
-links_with_members f (Some object.Cleaner) = refl
-links_with_members f (Some (object.Cleanable c)) = refl
-links_with_members f (Some (object.Guard g)) = refl
-
 -- ---- What links lead to
 
 nulls_lead_nowhere : (n : ℕ) → linked (replicate n None) ≡ []
@@ -105,7 +96,7 @@ plain_edges : (c : Cell) → some_and is_plain (object_in c) ≡ true → edges_
 plain_edges (Free next) h = cc
 plain_edges (Plain fields) h = append-nil (filter_map slot_in fields) ∙ sym (links_lead fields)
 plain_edges (Reference r) h = cc
-plain_edges (Queue members) h = cc
+plain_edges Queue h = cc
 plain_edges Cleaner h = cc
 plain_edges (Cleanable c) h = cc
 plain_edges (Guard g) h = cc
@@ -117,11 +108,11 @@ plain_edges_at (c ∷ cells) zero d h = plain_edges c h
 plain_edges_at (c ∷ cells) (suc s) d h = plain_edges_at cells s d h
 
 -- another object's are what is next to it, and its members
-pub other_edges : (c : Cell) → some_and is_plain (object_in c) ≡ false → edges_from Strong (object_in c ∷ []) 0 ≡ option_to_list (next_in (object_in c)) ++ members_in (object_in c)
-other_edges (Free next) h = refl
-other_edges (Plain fields) h = cc
-other_edges (Reference r) h = refl
-other_edges (Queue members) h = append-nil members.items
-other_edges Cleaner h = refl
-other_edges (Cleanable c) h = refl
-other_edges (Guard g) h = refl
+pub other_edges : (o : Option Object) → some_and is_plain o ≡ false → edges_from Strong (o ∷ []) 0 ≡ option_to_list (next_in o) ++ members_in o
+other_edges None h = refl
+other_edges (Some (object.Plain fields)) h = cc
+other_edges (Some (object.Reference r)) h = refl
+other_edges (Some (object.Queue members)) h = append-nil members
+other_edges (Some object.Cleaner) h = refl
+other_edges (Some (object.Cleanable c)) h = refl
+other_edges (Some (object.Guard g)) h = refl

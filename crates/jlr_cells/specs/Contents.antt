@@ -1,5 +1,5 @@
 -- Which object a cell holds, and what is asked of objects.
-use Rattle.std.specs.Prelude.{ℕ, List, [], Option, Some, None, map, option_and_then, option_map, slice_get}
+use Rattle.std.specs.Prelude.{ℕ, List, [], ◌∷◌, Option, Some, None, map, option_and_then, option_map, slice_get}
 use Rattle.jlr_types.specs.declared.FieldValue.{FieldValue}
 use Rattle.jlr_machine.specs.declared.object.Object.{Object}
 use Rattle.jlr_machine.specs.declared.object.Object.TheVariants.{Plain as PlainObject, Reference as ReferenceObject, Queue as QueueObject, Cleaner as CleanerObject, Cleanable as CleanableObject, Guard as GuardObject}
@@ -9,7 +9,7 @@ use Rattle.jlr_machine.specs.declared.object.CleanState.{CleanState}
 use Rattle.jlr_machine.specs.declared.object.CleanState.TheVariants.{Armed}
 use Rattle.jlr_machine.specs.declared.object.RefState.{RefState}
 use Rattle.jlr_machine.specs.declared.object.RefState.TheVariants.{Fresh}
-use Rattle.jlr_machine.specs.Objects.{Heap, at, as_fields, as_members, as_reference, queue_ahead}
+use Rattle.jlr_machine.specs.Objects.{Heap, at, as_fields, as_members, as_reference, queue_ahead, with_members}
 use Rattle.jlr_machine.specs.Lookups.{blank}
 use Rattle.jlr_cells.specs.declared.cell.Cell.{Cell}
 use Rattle.jlr_cells.specs.declared.cell.Cell.TheVariants.{Free, Plain, Reference, Queue, Cleaner, Cleanable, Guard}
@@ -18,19 +18,29 @@ use Rattle.jlr_cells.specs.declared.shape.Kind.TheVariants.{Plain as PlainKind, 
 use Rattle.jlr_cells.specs.declared.shape.Shape.{Shape}
 use Rattle.jlr_cells.specs.declared.shape.Shape.TheVariants.{Plain as PlainShape, Reference as ReferenceShape, Queue as QueueShape, Cleaner as CleanerShape, Cleanable as CleanableShape, Guard as GuardShape}
 
--- the object in a cell, if it is not free
+-- the object in a cell, if it is not free; a queue without its members, which stand in a list of their own
 abbrev pub object_in : Cell → Option Object
 object_in (Free next) = None
 object_in (Plain fields) = Some (PlainObject fields)
 object_in (Reference r) = Some (ReferenceObject r)
-object_in (Queue members) = Some (QueueObject members.items)
+object_in Queue = Some (QueueObject [])
 object_in Cleaner = Some CleanerObject
 object_in (Cleanable c) = Some (CleanableObject c)
 object_in (Guard g) = Some (GuardObject g)
 
--- the objects in the cells, by slot
+-- the objects in the cells, by slot, queues without their members
 abbrev pub objects_in : List Cell → Heap
 objects_in cells = map object_in cells
+
+-- an object with these members, if it is a queue
+abbrev pub with_list : List ℕ → Option Object → Option Object
+with_list members o = option_map (with_members (λ _. members)) o
+
+-- objects by slot, where the members of a queue are the list of its slot
+abbrev pub with_lists : Heap → List (List ℕ) → Heap
+with_lists [] lists = []
+with_lists (o ∷ heap) [] = with_list [] o ∷ with_lists heap []
+with_lists (o ∷ heap) (members ∷ lists) = with_list members o ∷ with_lists heap lists
 
 -- the object that is made of a shape: its fields are 0 or null, a reference is Fresh, a queue has no members, a cleanable
 -- is Armed

@@ -1,11 +1,13 @@
 -- The free cells are a list through the cells.
-use Rattle.std.specs.Prelude.{◌≡◌, ℕ, zero, suc, ◌+◌, ◌<◌, ◌^◌, nat_lt, if◌then◌else◌, List, Option, Some, None, slice_get, length}
+use Rattle.std.specs.Prelude.{◌≡◌, ◌⊎◌, ℕ, zero, suc, ◌+◌, ◌<◌, ◌^◌, nat_lt, if◌then◌else◌, List, [], Option, Some, None, slice_get, slice_index_or, length}
 use Rattle.jlr_machine.specs.Objects.{occupied}
 use Rattle.jlr_cells.specs.declared.cell.Cell.{Cell}
 use Rattle.jlr_cells.specs.declared.cell.Cell.TheVariants.{Free}
 use Rattle.jlr_cells.specs.Contents.{objects_in, kinds_in}
 use Rattle.jlr_cells.specs.Links.{links_in}
 use Rattle.jlr_cells.specs.declared.shape.Kind.{Kind}
+use Rattle.jlr_cells.specs.declared.shape.Kind.TheVariants.{Queue}
+use Rattle.jlr_links.specs.Lists.{list_at}
 
 -- the cell is free, and names the next free one
 abbrev pub IsFreeAt : List Cell → ℕ → Option ℕ → Type 0
@@ -41,3 +43,14 @@ pub record AreKept (cells : List Cell) (kinds : List (Option Kind)) (links : Lis
   pub list : IsFreeList cells first count
   pub by_kind : kinds ≡ kinds_in cells
   pub by_links : links ≡ links_in cells
+
+-- Each slot has a list, and only that of a queue has slots in it
+pub record AreOfQueues (kinds : List (Option Kind)) (lists : List (List ℕ)) (slots : ℕ) : Type 0 where
+  pub list_count : length lists ≡ length kinds
+  pub slot_count : slots ≡ length kinds
+  pub only : (s : ℕ) → (list_at lists s ≡ []) ⊎ (slice_index_or kinds s None ≡ Some Queue)
+
+-- All that is kept of the objects fits together
+pub record AreWhole (cells : List Cell) (lists : List (List ℕ)) (slots : ℕ) (kinds : List (Option Kind)) (links : List (List (Option ℕ))) (first : Option ℕ) (count : ℕ) : Type 0 where
+  pub kept : AreKept cells kinds links first count
+  pub members : AreOfQueues kinds lists slots

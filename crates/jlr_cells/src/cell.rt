@@ -1,20 +1,20 @@
 //! One cell.
-ghost use Rattle.std.specs.Prelude.{◌≡◌, ◌++◌, ◌∷◌, [], ◌+◌, ◌<◌, ◌^◌, IfOk, IfSome, OnErr, OnOk, Some, IsTrue, drop, is_some, length, option_and_then, option_map};
-ghost use Rattle.jlr_machine.specs.Objects.{as_cleanable, as_fields, as_guard, as_reference, some_and, with_cleanable, with_field, with_members, with_reference};
-ghost use Rattle.jlr_machine.specs.Refusals.{is_cleanable, is_queue, is_reference};
+ghost use Rattle.std.specs.Prelude.{◌≡◌, ◌<◌, IfOk, Some, IsTrue, is_some, length, option_and_then, option_map};
+ghost use Rattle.jlr_machine.specs.Objects.{as_cleanable, as_fields, as_guard, as_reference, some_and, with_cleanable, with_field, with_reference};
+ghost use Rattle.jlr_machine.specs.Refusals.{is_cleanable, is_reference};
 ghost use Rattle.jlr_machine.specs.Calls.{spent, unreferred};
-ghost use Rattle.jlr_cells.specs.Contents.{field_in, in_clean_state, in_state, kind_in, member_in, next_in, object_in, object_of, referent_in, unregistered, without_referent, watching};
+ghost use Rattle.jlr_cells.specs.Contents.{field_in, in_clean_state, in_state, kind_in, next_in, object_in, object_of, referent_in, unregistered, watching, with_list, without_referent};
+ghost use Rattle.jlr_links.specs.Lists.{list_at};
 ghost use Rattle.jlr_cells.specs.Links.{links_of, no_links};
 
 use crate::fields::Fields;
 use crate::shape::{Kind, Shape};
-use jlr_machine::items::Items;
+use jlr_links::Links as Lists;
 use jlr_machine::object::{
     CleanState, Cleanable, Fields as PlainFields, Guard, Object, RefState, Reference,
 };
 use jlr_types::{FieldValue, Slot};
 use std::alloc::{AllocError, Global};
-use std::collections::VecDeque;
 use std::mem::size_of;
 
 /// A place for one object.
@@ -23,8 +23,8 @@ pub(crate) enum Cell {
     Free { next: Option<u32> },
     Plain(Fields),
     Reference(Reference),
-    /// A queue, with its members from the front on.
-    Queue(VecDeque<Slot>),
+    /// A queue. Its members stand in the list of its slot.
+    Queue,
     Cleaner,
     Cleanable(Cleanable),
     Guard(Guard),
@@ -34,7 +34,7 @@ pub(crate) enum Cell {
 const _: () = prove!(size_of::<Cell>() == 80);
 
 impl Cell {
-    pub(crate) fn new(alloc: Global, shape: Shape) -> Self
+    pub(crate) fn new(shape: Shape) -> Self
         ensures object { object_in result ≡ Some (object_of shape) }
         ensures links { links_of (object_in result) ≡ no_links }
     {
@@ -50,7 +50,7 @@ impl Cell {
                 queue,
                 state: RefState::Fresh,
             }),
-            Shape::Queue => Cell::Queue(VecDeque::new(alloc)),
+            Shape::Queue => Cell::Queue,
             Shape::Cleaner => Cell::Cleaner,
             Shape::Cleanable {
                 referent,
@@ -73,7 +73,7 @@ impl Cell {
             Cell::Free { .. } => None,
             Cell::Plain(_) => Some(Kind::Plain),
             Cell::Reference(reference) => Some(Kind::Reference(reference.kind)),
-            Cell::Queue(_) => Some(Kind::Queue),
+            Cell::Queue => Some(Kind::Queue),
             Cell::Cleaner => Some(Kind::Cleaner),
             Cell::Cleanable(_) => Some(Kind::Cleanable),
             Cell::Guard(_) => Some(Kind::Guard),
@@ -250,46 +250,15 @@ impl Cell {
         }
     }
 
-    /// A member of a queue, by its place from the front on.
-    pub(crate) fn member(&self, place: usize) -> Option<Slot>
-        ensures member { result ≡ member_in (object_in self.now) place }
-        ensures few { IfSome result (λ _. place + 1 < 2 ^ 64) }
-    {
-        match self {
-            Cell::Queue(members) => members.get(place).copied(),
-            _ => None,
-        }
-    }
-
-    /// A queue gets a member at its end.
-    pub(crate) fn push_member(&mut self, member: Slot) -> Result<(), AllocError>
-        requires { IsTrue (some_and is_queue (object_in self.old)) }
-        ensures pushed { OnOk result (object_in self.new ≡ option_map (with_members (λ members. members ++ member ∷ [])) (object_in self.old)) }
-        ensures err { OnErr result (object_in self.new ≡ object_in self.old) }
-        ensures kind { kind_in self.new ≡ kind_in self.old }
-    {
-        match self {
-            Cell::Queue(members) => members.push_back(member).map_err(|_| AllocError),
-            _ => unreachable!(),
-        }
-    }
-
-    /// The member at a queue's front leaves it, if there is one.
-    pub(crate) fn pop_member(&mut self) -> Option<Slot>
-        requires { IsTrue (some_and is_queue (object_in self.old)) }
-        ensures front { result ≡ member_in (object_in self.old) 0 }
-        ensures popped { object_in self.new ≡ option_map (with_members (drop 1)) (object_in self.old) }
-        ensures kind { kind_in self.new ≡ kind_in self.old }
-    {
-        match self {
-            Cell::Queue(members) => members.pop_front(),
-            _ => unreachable!(),
-        }
-    }
-
-    /// The object as plain data, if the cell is not free.
-    pub(crate) fn image(&self, alloc: Global) -> Result<Option<Object>, AllocError>
-        ensures { IfOk result (λ object. object ≡ object_in self.now) }
+    /// The object as plain data, if the cell is not free. The members of a queue are those of this list.
+    pub(crate) fn image(
+        &self,
+        alloc: Global,
+        lists: &Lists,
+        list: u32,
+    ) -> Result<Option<Object>, AllocError>
+        requires { list < length lists.now.lists }
+        ensures { IfOk result (λ object. object ≡ with_list (list_at lists.now.lists list) (object_in self.now)) }
     {
         match self {
             Cell::Free { .. } => Ok(None),
@@ -304,23 +273,10 @@ impl Cell {
                 Ok(Some(Object::Plain(PlainFields::from_vec(values).unwrap())))
             }
             Cell::Reference(reference) => Ok(Some(Object::Reference(*reference))),
-            Cell::Queue(members) => Ok(Some(Object::Queue(members_image(alloc, members)?))),
+            Cell::Queue => Ok(Some(Object::Queue(lists.image(alloc, list)?))),
             Cell::Cleaner => Ok(Some(Object::Cleaner)),
             Cell::Cleanable(cleanable) => Ok(Some(Object::Cleanable(*cleanable))),
             Cell::Guard(guard) => Ok(Some(Object::Guard(*guard))),
         }
     }
-}
-
-fn members_image(alloc: Global, members: &VecDeque<Slot>) -> Result<Items<Slot>, AllocError>
-    ensures { IfOk result (λ slots. slots ≡ members.now.items) }
-{
-    let mut slots = Vec::with_capacity(alloc, members.len())?;
-    for place in 0..members.len() {
-        match members.get(place) {
-            Some(member) => slots.push_reserved(*member),
-            None => unreachable!(),
-        }
-    }
-    Ok(Items::from_vec(slots))
 }

@@ -1,12 +1,12 @@
 //! All cells.
-ghost use Rattle.std.specs.Prelude.{◌≡◌, ℕ, ◌+◌, ◌++◌, ◌∷◌, [], ◌^◌, ◌<◌, ◌↔◌, IfOk, IfNone, IfSome, IsNone, IsTrue, None, OnErr, OnOk, Some, drop, is_some, length, option_and_then, option_map, replicate};
-ghost use Rattle.jlr_machine.specs.Objects.{as_cleanable, as_fields, as_guard, as_reference, at, change_at, empty_at, is_cleaner, occupied, set_at, some_and};
+ghost use Rattle.std.specs.Prelude.{◌≡◌, ℕ, ◌+◌, ◌++◌, ◌∷◌, [], ◌^◌, ◌<◌, ◌↔◌, IfOk, IfNone, IfSome, IsNone, IsTrue, None, List, Some, drop, is_some, length, option_and_then, option_map, replicate, slice_get};
+ghost use Rattle.jlr_machine.specs.Objects.{◌∈◌, as_cleanable, as_fields, as_guard, as_reference, at, change_at, empty_at, is_cleaner, occupied, set_at, some_and};
 ghost use Rattle.jlr_machine.specs.Edges.{edges_from};
 ghost use Rattle.jlr_machine.specs.Edges.Chain.{Strong};
 ghost use Rattle.jlr_machine.specs.Objects.{with_cleanable, with_field, with_members, with_reference};
 ghost use Rattle.jlr_machine.specs.Refusals.{is_cleanable, is_guard, is_plain, is_queue, is_reference};
 ghost use Rattle.jlr_machine.specs.Calls.{spent, unreferred};
-ghost use Rattle.jlr_cells.specs.Contents.{field_at, in_clean_state, in_state, kind_of, member_in, members_in, object_of, objects_in, referent_in, unregistered, watching, without_referent};
+ghost use Rattle.jlr_cells.specs.Contents.{field_at, in_clean_state, in_state, kind_of, member_in, members_in, object_of, objects_in, referent_in, unregistered, watching, with_lists, without_referent};
 ghost use Rattle.jlr_cells.specs.Links.{no_links};
 ghost use Rattle.jlr_cells.specs.Visits.{edges_told, found_plain};
 
@@ -14,6 +14,7 @@ use crate::cell::Cell;
 use crate::free_list::{free_cells, link_to, next_free};
 use crate::links::{Links, Visited, target_of};
 use crate::shape::{Kind, Shape};
+use jlr_links::Links as Lists;
 use jlr_machine::object::{CleanState, Cleanable, Guard, Object, RefState, Reference};
 use jlr_machine::table::Table;
 use jlr_types::{FieldValue, Meter, Slot};
@@ -25,6 +26,8 @@ use std::marker::Model;
 #[derive(Drop)]
 pub struct Cells {
     cells: Vec<Cell>,
+    /// By slot, the members of the queue there from the front on; of what is no queue there are none.
+    queues: Lists,
     kinds: Vec<Option<Kind>>,
     links: Vec<Links>,
     first_free: Option<u32>,
@@ -37,12 +40,12 @@ impl Model for Cells {
 
     ghost Value = { List (Option Object) };
 
-    ghost use Rattle.jlr_cells.specs.Contents.{objects_in};
-    ghost use Rattle.jlr_cells.specs.FreeList.{AreKept};
+    ghost use Rattle.jlr_cells.specs.Contents.{objects_in, with_lists};
+    ghost use Rattle.jlr_cells.specs.FreeList.{AreWhole};
 
-    ghost view = { λ a. objects_in a.cells.items };
+    ghost view = { λ a. with_lists (objects_in a.cells.items) a.queues.lists };
 
-    ghost invariant = { λ a. AreKept a.cells.items a.kinds.items a.links.items a.first_free a.free_count };
+    ghost invariant = { λ a. AreWhole a.cells.items a.queues.lists a.queues.slots a.kinds.items a.links.items a.first_free a.free_count };
 }
 
 impl Cells {
@@ -55,6 +58,7 @@ impl Cells {
     {
         Ok(Cells {
             cells: free_cells(alloc, count)?,
+            queues: Lists::new(alloc, count, count)?,
             kinds: no_kinds(alloc, count)?,
             links: all_null(alloc, count)?,
             first_free: link_to(0, count),
@@ -87,7 +91,7 @@ impl Cells {
             None => None,
             Some(slot) => {
                 self.first_free = next_free(&self.cells, slot);
-                let cell = Cell::new(*self.cells.allocator(), shape);
+                let cell = Cell::new(shape);
                 self.kinds[slot as usize] = cell.kind();
                 self.cells[slot as usize] = cell;
                 self.free_count -= 1;
@@ -107,6 +111,7 @@ impl Cells {
         };
         self.kinds[number as usize] = None;
         self.links[number as usize] = Links::none();
+        self.queues.clear(number);
         self.first_free = Some(number);
         self.free_count += 1;
     }
@@ -308,28 +313,42 @@ impl Cells {
         cell.spend();
     }
 
-    /// A member of the queue at a slot, by its place from the front on, if there is a queue and it has so many.
-    pub fn member(&self, queue: Slot, place: usize) -> Option<Slot>
-        ensures member { result ≡ member_in (at self.now queue) place }
-        ensures few { IfSome result (λ _. place + 1 < 2 ^ 64) }
+    /// How many members the queue at a slot has; 0, if there is no queue.
+    pub fn member_count(&self, queue: Slot) -> u32
+        ensures { result ≡ length (members_in (at self.now queue)) }
     {
-        match self.cells.get(queue.number() as usize) {
-            Some(cell) => cell.member(place),
-            None => None,
+        if !self.is_queue(queue) {
+            return 0;
         }
+        self.queues.count(queue.number())
     }
 
-    /// The queue at a slot gets a member at its end.
-    ///
-    /// # Errors
-    /// `AllocError` where there is no memory for one member more. Nothing has changed then.
-    pub fn push_member(&mut self, queue: Slot, member: Slot) -> Result<(), AllocError>
-        requires { IsTrue (some_and is_queue (at self.old queue)) }
-        ensures pushed { OnOk result (self.new ≡ change_at self.old queue (with_members (λ members. members ++ member ∷ []))) }
-        ensures err { OnErr result (self.new ≡ self.old) }
+    /// The member at the front of the queue at a slot, if there is a queue and it has members.
+    pub fn first_member(&self, queue: Slot) -> Option<Slot>
+        ensures { result ≡ member_in (at self.now queue) 0 }
     {
-        let cell = &mut self.cells[queue.number() as usize];
-        cell.push_member(member)
+        if !self.is_queue(queue) {
+            return None;
+        }
+        self.queues.front(queue.number())
+    }
+
+    /// The member after another of the queue at a slot, if that is not the last.
+    pub fn next_member(&self, queue: Slot, member: Slot) -> Option<Slot>
+        requires { member ∈ members_in (at self.now queue) }
+        ensures { (before after : List ℕ) → members_in (at self.now queue) ≡ before ++ member ∷ after → result ≡ slice_get after 0 }
+    {
+        self.queues.next(queue.number(), member)
+    }
+
+    /// The queue at a slot gets a member at its end, which stands in no queue.
+    pub fn push_member(&mut self, queue: Slot, member: Slot)
+        requires queue { IsTrue (some_and is_queue (at self.old queue)) }
+        requires within { member < length self.old }
+        requires apart { (s : ℕ) → member ∈ members_in (at self.old s) → ⊥ }
+        ensures { self.new ≡ change_at self.old queue (with_members (λ members. members ++ member ∷ [])) }
+    {
+        self.queues.append(queue.number(), member);
     }
 
     /// The member at the front of the queue at a slot leaves it, if there is one.
@@ -338,8 +357,7 @@ impl Cells {
         ensures front { result ≡ member_in (at self.old queue) 0 }
         ensures popped { self.new ≡ change_at self.old queue (with_members (drop 1)) }
     {
-        let cell = &mut self.cells[queue.number() as usize];
-        cell.pop_member()
+        self.queues.take_front(queue.number())
     }
 
     /// The objects as plain data.
@@ -349,7 +367,7 @@ impl Cells {
     pub fn image(&self, alloc: Global) -> Result<Table<Object>, AllocError>
         ensures { IfOk result (λ objects. objects ≡ self.now) }
     {
-        Ok(Table::from_vec(images(alloc, &self.cells)?))
+        Ok(Table::from_vec(images(alloc, &self.cells, &self.queues)?))
     }
 
     /// Visits the object at a slot: one tick. Gives its strong edges, but those of a queue to its members: it lends the links of a
@@ -388,12 +406,14 @@ fn all_null(alloc: Global, count: u32) -> Result<Vec<Links>, AllocError>
     Ok(links)
 }
 
-fn images(alloc: Global, cells: &[Cell]) -> Result<Vec<Option<Object>>, AllocError>
-    ensures { IfOk result (λ objects. objects.items ≡ objects_in cells.now) }
+fn images(alloc: Global, cells: &[Cell], queues: &Lists) -> Result<Vec<Option<Object>>, AllocError>
+    requires small { length cells.now < 2 ^ 32 }
+    requires lists { length queues.now.lists ≡ length cells.now }
+    ensures { IfOk result (λ objects. objects.items ≡ with_lists (objects_in cells.now) queues.now.lists) }
 {
     let mut objects = Vec::with_capacity(alloc, cells.len())?;
-    for cell in cells {
-        objects.push(cell.image(alloc)?)?;
+    for slot in 0..cells.len() {
+        objects.push(cells[slot].image(alloc, queues, slot as u32)?)?;
     }
     Ok(objects)
 }

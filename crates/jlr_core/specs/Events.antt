@@ -1,18 +1,14 @@
 -- What an event and its reply are to the machine.
-use Rattle.std.specs.Prelude.{◌≡◌, ◌<◌, ◌≤◌, ◌^◌, IsTrue, Option, Some, None, length}
+use Rattle.std.specs.Prelude.{◌≡◌, ◌<◌, ◌≤◌, ◌^◌, Option, Some, None, length}
 use Rattle.jlr_types.specs.declared.Refusal.TheVariants.{NoMemory}
 use Rattle.jlr_machine.specs.declared.machine.Machine.{Machine}
 use Rattle.jlr_machine.specs.declared.ask.Ask.{Ask}
-use Rattle.jlr_machine.specs.declared.ask.Ask.TheVariants.{Enqueue, Prepare, Names, Notes, Faults, HandOver}
+use Rattle.jlr_machine.specs.declared.ask.Ask.TheVariants.{Prepare, Names, Notes, Faults}
 use Rattle.jlr_machine.specs.declared.ask.Answer.{Answer}
-use Rattle.jlr_machine.specs.declared.ask.Answer.TheVariants.{Handed as HandedAnswer, Refused}
-use Rattle.jlr_machine.specs.declared.ask.Handed.TheVariants.{Queued as HandedQueued}
+use Rattle.jlr_machine.specs.declared.ask.Answer.TheVariants.{Refused}
 use Rattle.jlr_machine.specs.declared.entry.Chosen.{Chosen}
 use Rattle.jlr_machine.specs.declared.entry.Entry.{Entry}
-use Rattle.jlr_machine.specs.Objects.{some_and}
-use Rattle.jlr_machine.specs.Lookups.{reference_named}
 use Rattle.jlr_machine.specs.Refusals.{refusal}
-use Rattle.jlr_machine.specs.Calls.{hand_over_answer, may_enqueue}
 use Rattle.jlr_machine.specs.Run.{no_choice, IsLegal, apply}
 use Rattle.jlr_marks.specs.Marking.{Marking}
 use Rattle.jlr_resource.specs.Resources.{Resources, resources}
@@ -22,11 +18,9 @@ use Rattle.jlr_core.specs.State.{MeetsAsk, entry_of}
 abbrev pub HasRoom : {R : Type 0} → Resources R → Type 0
 HasRoom t = (length (resources t) < t.room) × (t.next < 2 ^ 32)
 
--- The asks that may find no memory in a machine with this table, each where no refusal of its list holds: a reference goes to its queue, the
--- table has no room for one resource more, and a list that is not empty is copied
+-- The asks that may find no memory in a machine with this table, each where no refusal of its list holds: the table has no room for one
+-- resource more, or a list that is not empty is copied
 abbrev pub MayWantMemory : {R : Type 0} → Machine → Resources R → Ask → Type 0
-MayWantMemory m t (Enqueue k r) = (refusal m (Enqueue k r) ≡ None) × IsTrue (some_and may_enqueue (reference_named m k r))
-MayWantMemory m t HandOver = hand_over_answer m m.pending ≡ Some (HandedAnswer HandedQueued)
 MayWantMemory m t (Prepare k) = (refusal m (Prepare k) ≡ None) × ¬ (HasRoom t)
 MayWantMemory m t (Names k) = (refusal m (Names k) ≡ None) × (1 ≤ length m.names)
 MayWantMemory m t (Notes k) = (refusal m (Notes k) ≡ None) × (1 ≤ length m.notes)

@@ -96,7 +96,7 @@ impl<R> State<R> {
             Event::Enqueued { mutator, reference } => answered(self.enqueued(mutator, reference)),
             Event::MakeQueue { mutator } => answered(self.make_queue(mutator, choice)),
             Event::Poll { mutator, queue } => answered(self.poll(mutator, queue)),
-            Event::HandOver => answered(self.hand_over()),
+            Event::HandOver => answered(Ok(Answer::Handed(self.hand_over()))),
             Event::Remove { mutator, queue } => answered(self.remove(mutator, queue)),
             Event::MakeCleaner { mutator } => answered(self.make_cleaner(mutator, choice)),
             Event::Register {

@@ -1,5 +1,5 @@
 //! The asks on references and queues, and the handler's.
-ghost use Rattle.std.specs.Prelude.{◌≡◌, ◌&&◌, ◌==◌, ◌≤◌, IsTrue, MatchResult, None, Some, false, true, is_none, is_some, length, not, option_and_then};
+ghost use Rattle.std.specs.Prelude.{◌≡◌, ◌&&◌, ◌==◌, ◌≤◌, IsTrue, MatchResult, None, Ok, Some, false, true, is_none, is_some, length, not, option_and_then};
 ghost use Rattle.jlr_machine.specs.Objects.{at, some_and};
 ghost use Rattle.jlr_cells.specs.Contents.{member_in};
 ghost use Rattle.jlr_machine.specs.Lookups.{has_free_handle, object_named, slot_named};
@@ -7,14 +7,13 @@ ghost use Rattle.jlr_machine.specs.Refusals.{refusal, is_of_wrong_kind, is_queue
 ghost use Rattle.jlr_machine.specs.Run.{no_choice};
 ghost use Rattle.jlr_machine.specs.Choices.{nothing_chosen};
 ghost use Rattle.jlr_machine.specs.WellFormed.{IsWellFormed};
-ghost use Rattle.jlr_core.specs.Events.{MayWantMemory};
 ghost use Rattle.jlr_core.specs.Collecting.{after_choice};
 ghost use Rattle.jlr_core.specs.State.{Checks, Answered, Meets, answer_of, clock_after_deref};
 ghost use Rattle.jlr_core.specs.Marks.{MarksNew};
 
 use crate::state::State;
 use jlr_cells::Shape;
-use jlr_machine::ask::{Answer, Ask};
+use jlr_machine::ask::{Answer, Ask, Handed};
 use jlr_machine::choice::Choice;
 use jlr_types::{Handle, Mutator, RefKind, Refusal, Slot};
 
@@ -131,16 +130,12 @@ impl<R> State<R> {
 
     pub(crate) fn enqueue(&mut self, by: Mutator, reference: Handle) -> Result<Answer, Refusal>
         requires { IsWellFormed (machine_of self.old) }
-        ensures meets { Meets (machine_of self.old) (Ask.Enqueue by reference) (answer_of result) no_choice (machine_of self.new) }
-        ensures memory { answer_of result ≡ Answer.Refused Refusal.NoMemory → MayWantMemory (machine_of self.old) self.old.cleaner.table (Ask.Enqueue by reference) }
+        ensures answered { Answered (machine_of self.old) (Ask.Enqueue by reference) result (machine_of self.new) }
         ensures rest { LeavesRest self.old self.new }
         ensures marks { MarksNew (machine_of self.old) self.old.heap.marking no_choice (machine_of self.new) self.new.heap.marking }
     {
         let slot = self.check_enqueue(by, reference)?;
-        match jlr_refs::enqueue(&mut self.heap, slot) {
-            Ok(added) => Ok(Answer::Truth(added)),
-            Err(_) => Err(Refusal::NoMemory),
-        }
+        Ok(Answer::Truth(jlr_refs::enqueue(&mut self.heap, slot)))
     }
 
     pub(crate) fn enqueued(&self, by: Mutator, reference: Handle) -> Result<Answer, Refusal>
@@ -215,17 +210,13 @@ impl<R> State<R> {
     }
 
     /// The handler's step.
-    pub(crate) fn hand_over(&mut self) -> Result<Answer, Refusal>
+    pub(crate) fn hand_over(&mut self) -> Handed
         requires { IsWellFormed (machine_of self.old) }
-        ensures meets { Meets (machine_of self.old) Ask.HandOver (answer_of result) no_choice (machine_of self.new) }
-        ensures memory { answer_of result ≡ Answer.Refused Refusal.NoMemory → MayWantMemory (machine_of self.old) self.old.cleaner.table Ask.HandOver }
+        ensures answered { Answered (machine_of self.old) Ask.HandOver (Ok (Answer.Handed result)) (machine_of self.new) }
         ensures rest { LeavesRest self.old self.new }
         ensures marks { MarksNew (machine_of self.old) self.old.heap.marking no_choice (machine_of self.new) self.new.heap.marking }
     {
-        match jlr_refs::hand_over(&mut self.heap) {
-            Ok(handed) => Ok(Answer::Handed(handed)),
-            Err(_) => Err(Refusal::NoMemory),
-        }
+        jlr_refs::hand_over(&mut self.heap)
     }
 
     pub(crate) fn make_queue(&mut self, by: Mutator, choice: &mut Choice) -> Result<Answer, Refusal>

@@ -7,9 +7,9 @@
 //! stands in
 //! the cleaner's line.
 //!
-//! A text has several lists. Each begins with `== ` and its name, and has a heap of its own, with 16 cells. Behind a colon its name
+//! A text has several lists. Each begins with `== ` and its name, and has a heap of its own. Behind a colon its name
 //! says what that heap has
-//! beside: `sessions 2, resources 4, soft_age 1, first_action 9` where it is not 1, 1, 0 and 1. A line that begins with `-- ` is a comment.
+//! beside: `cells 32, sessions 2, resources 4, soft_age 1, first_action 9` where it is not 16, 1, 1, 0 and 1. A line that begins with `-- ` is a comment.
 use jlr_core::engine::Core;
 use jlr_core::run::run;
 use jlr_event::event::{Event, Reply};
@@ -20,6 +20,7 @@ use std::alloc::{AllocError, Global};
 
 mod cleaning;
 mod cycles;
+mod long_queues;
 mod memory;
 mod names;
 mod objects;

@@ -6,7 +6,7 @@ use Rattle.jlr_types.specs.declared.Refusal.TheVariants.{NoMemory, Exhausted}
 use Rattle.jlr_types.specs.declared.Work.TheVariants.{Note, Resource as OnResource}
 use Rattle.jlr_machine.specs.declared.machine.Machine.{Machine}
 use Rattle.jlr_machine.specs.declared.ask.Ask.{Ask}
-use Rattle.jlr_machine.specs.declared.ask.Ask.TheVariants.{Enqueue, HandOver, Prepare, Names, Notes as NotesAsk, Faults}
+use Rattle.jlr_machine.specs.declared.ask.Ask.TheVariants.{Prepare, Names, Notes as NotesAsk, Faults}
 use Rattle.jlr_machine.specs.declared.ask.Answer.{Answer}
 use Rattle.jlr_machine.specs.declared.ask.Answer.TheVariants.{Refused}
 use Rattle.jlr_machine.specs.declared.ask.Answer.TheVariants as answer
@@ -32,8 +32,6 @@ use Rattle.jlr_hall.specs.Asking.{AskedFor, Declined, DeclinedFor, HasItsResourc
 
 -- no end of a call wants memory
 none_at_ends : {R : Type 0} (m : Machine) (t : Resources R) (ask : Ask) → is_end ask ≡ true → MayWantMemory m t ask → ⊥
-none_at_ends m t (Enqueue k r) end w = absurd (cc end)
-none_at_ends m t HandOver end w = absurd (cc end)
 none_at_ends m t (Prepare k) end w = absurd (cc end)
 none_at_ends m t (Names k) end w = absurd (cc end)
 none_at_ends m t (NotesAsk k) end w = absurd (cc end)

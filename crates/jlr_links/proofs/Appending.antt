@@ -1,9 +1,9 @@
 -- A slot is appended to one list, and the others stay.
-use Rattle.std.proofs.Common.{◌≡◌, ℕ, zero, suc, ◌+◌, ◌<◌, ◌≤◌, ◌^◌, ◌⊎◌, inl, inr, Bool, true, false, not, ◌&&◌, IsTrue, List, [], ◌∷◌, ◌++◌, length, map, slice_set, slice_index_or, refl, sym, subst, ap, ◌∙◌, arith, length-set, get_or-set_same, get_or-set_other}
+use Rattle.std.proofs.Common.{◌≡◌, ℕ, zero, suc, ◌+◌, ◌<◌, ◌^◌, ◌⊎◌, inl, inr, not, IsTrue, List, [], ◌∷◌, ◌++◌, length, slice_set, refl, sym, subst, ap, ◌∙◌, arith, length-set, get_or-set_same, get_or-set_other}
 use Rattle.std.proofs.lemmas.Bool.{both_ways, cases_eq, and_parts, and_from, not-true, not_from_false, false_from_ne_true}
 use Rattle.jlr_machine.specs.Objects.{◌∈◌, ◌∋◌, is_distinct}
 use Rattle.jlr_laws.proofs.Sets.{nothing, in_front, in_rest, in_cons}
-use Rattle.jlr_laws.proofs.Clearing.{in_append, in_left, in_right}
+use Rattle.jlr_laws.proofs.Clearing.{in_append}
 use Rattle.jlr_links.specs.declared.links.Ends.{Ends}
 use Rattle.jlr_links.specs.Lists.{list_at}
 use Rattle.jlr_links.specs.Walks.{AreLinked, ends_at, no_ends, link, list_in, lists_in, members, walk, end_of}

@@ -1,6 +1,6 @@
 -- Slots leave one list, and the others stay.
-use Rattle.std.proofs.Common.{◌≡◌, ℕ, zero, suc, ◌+◌, ◌-◌, ◌^◌, ◌<◌, ◌⊎◌, inl, inr, Bool, true, false, not, ◌&&◌, IsTrue, List, [], ◌∷◌, ◌++◌, drop, take, length, map, slice_set, slice_index_or, replicate, refl, sym, subst, ap, ◌∙◌, arith, length-set, get_or-set_same, get_or-set_other}
-use Rattle.std.proofs.lemmas.Bool.{both_ways, cases_eq, and_parts}
+use Rattle.std.proofs.Common.{◌≡◌, ℕ, zero, suc, ◌-◌, ◌^◌, ◌<◌, inl, inr, not, IsTrue, List, [], ◌∷◌, ◌++◌, drop, take, length, slice_set, replicate, refl, sym, subst, ap, ◌∙◌, arith, length-set, get_or-set_same, get_or-set_other}
+use Rattle.std.proofs.lemmas.Bool.{cases_eq, and_parts}
 use Rattle.jlr_machine.specs.Objects.{◌∈◌, ◌∋◌, is_distinct}
 use Rattle.jlr_laws.proofs.Sets.{nothing, in_front, in_rest}
 use Rattle.jlr_links.specs.declared.links.Ends.{Ends}

@@ -3,3 +3,4 @@ pub mod Walking
 pub mod Appending
 pub mod Leaving
 pub mod Standing
+pub mod Places

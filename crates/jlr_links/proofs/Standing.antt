@@ -1,12 +1,10 @@
 -- Where a slot stands in a list.
-use Rattle.std.proofs.Common.{◌≡◌, ℕ, zero, suc, ◌<◌, ◌⊎◌, inl, inr, Bool, true, false, not, ◌&&◌, IsTrue, List, [], ◌∷◌, ◌++◌, Option, Some, None, length, refl, sym, subst, ap, ◌∙◌, arith, slice_get, is_some, nat_eq, eq-eqb}
+use Rattle.std.proofs.Common.{◌≡◌, ℕ, zero, suc, ◌<◌, not, IsTrue, List, [], ◌∷◌, ◌++◌, Some, None, length, refl, sym, subst, ap, ◌∙◌, slice_get, is_some, nat_eq, eq-eqb}
 use Rattle.std.proofs.lemmas.Bool.{both_ways, and_parts, eqb-true, not-true}
 use Rattle.jlr_machine.specs.Objects.{◌∈◌, ◌∋◌, is_distinct}
-use Rattle.jlr_laws.proofs.Sets.{nothing, in_front, in_rest, in_cons}
-use Rattle.jlr_laws.proofs.Clearing.{in_right}
 use Rattle.jlr_links.specs.declared.links.Ends.{Ends}
 use Rattle.jlr_links.specs.Lists.{Lists, list_at}
-use Rattle.jlr_links.specs.Walks.{AreLinked, ends_at, link, list_in, lists_in, members, walk, end_of}
+use Rattle.jlr_links.specs.Walks.{AreLinked, ends_at, link, lists_in, members, walk, end_of}
 use Rattle.jlr_links.proofs.Appending.{at_mapped, long_mapped, long_walk, positive}
 use Rattle.jlr_links.proofs.Walking.{end_in}
 

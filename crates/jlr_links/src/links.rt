@@ -4,6 +4,7 @@ ghost use Rattle.jlr_machine.specs.Objects.{◌∈◌};
 ghost use Rattle.jlr_links.specs.Lists.{list_at};
 ghost use Rattle.jlr_links.specs.Walks.{AreLinked, ends_at, lists_in, members};
 
+use jlr_machine::items::Items;
 use jlr_types::Slot;
 use std::alloc::{AllocError, Global};
 use std::marker::Model;
@@ -91,6 +92,29 @@ impl Links {
             return None;
         }
         Some(Slot::new(self.next[slot.number() as usize]))
+    }
+
+    /// A list as plain data.
+    ///
+    /// # Errors
+    /// `AllocError` where there is no memory for it.
+    pub fn image(&self, alloc: Global, list: u32) -> Result<Items<Slot>, AllocError>
+        requires { list < length self.now.lists }
+        ensures { IfOk result (λ slots. slots ≡ list_at self.now.lists list) }
+    {
+        let count = self.count(list);
+        let mut slots = Vec::with_capacity(alloc, count as usize)?;
+        let mut next = self.front(list);
+        for _place in 0..count {
+            match next {
+                Some(slot) => {
+                    slots.push_reserved(slot);
+                    next = self.next(list, slot);
+                }
+                None => unreachable!(),
+            }
+        }
+        Ok(Items::from_vec(slots))
     }
 
     /// A slot that stands in no list goes to the end of this one.

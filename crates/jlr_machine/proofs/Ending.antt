@@ -1,13 +1,11 @@
 -- The words up to the last that is not 0.
-use Rattle.std.proofs.Common.{◌≡◌, ◌≢◌, ℕ, suc, ◌+◌, ◌-◌, ◌*◌, ◌/◌, ◌%◌, ◌^◌, ◌<◌, ◌≤◌, true, false, eqb, List, length, get_or, take, sym, ◌∙◌, ap, inl, inr, arith, w64, pow_pos, div-lt_iff_lt-mul, le-div_iff_mul-le}
-use Rattle.std.proofs.lemmas.Bool.{cases_lt}
+use Rattle.std.proofs.Common.{◌≡◌, ◌≢◌, ℕ, ◌+◌, ◌-◌, ◌*◌, ◌/◌, ◌%◌, ◌^◌, ◌<◌, ◌≤◌, true, false, eqb, List, length, get_or, take, sym, ◌∙◌, ap, arith, w64}
 use Rattle.std.proofs.lemmas.List.{get_or-take, length-take-le}
-use Rattle.std.proofs.lemmas.Nat.Bits.{bit_at-trailing_zeros, bit_at-zero, bit_at_above}
-use Rattle.std.proofs.Math.Nat.{two-pow-succ}
-use Rattle.std.specs.Int.{bit_at, trailing_zeros}
+use Rattle.std.proofs.lemmas.Nat.Bits.{bit_at-trailing_zeros, bit_at-zero}
+use Rattle.std.specs.Int.{trailing_zeros}
 use Rattle.jlr_machine.specs.Bits.{is_bit, bits_of, IsTrimmedLen}
 use Rattle.jlr_machine.specs.SlotSets.{is_in, slots_of, slots_below, IsTrimmed}
-use Rattle.jlr_machine.proofs.Bits.{place_is, bit_of_past, length-bits_of, same_bits}
+use Rattle.jlr_machine.proofs.Bits.{place_is, length-bits_of}
 use Rattle.jlr_machine.proofs.Below.{slots_below_agree, slots_below_same}
 
 -- the places of a word

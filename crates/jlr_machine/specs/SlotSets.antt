@@ -1,8 +1,12 @@
 -- Sets of slots: a place for each, and the slots whose places are set.
-use Rattle.std.specs.Prelude.{◌≡◌, ℕ, ◌+◌, ◌*◌, ◌^◌, ◌%◌, ◌<◌, ◌≤◌, Bool, true, false, List, Option, length, slice_index_or, MatchOption}
+use Rattle.std.specs.Prelude.{◌≡◌, ℕ, ◌+◌, ◌*◌, ◌^◌, ◌%◌, ◌<◌, ◌≤◌, Bool, true, false, not, List, Option, length, map, slice_index_or, MatchOption}
 use Rattle.std.specs.List.{range_with_len, filter}
 use Rattle.std.specs.Int.{div_ceil}
 use Rattle.jlr_machine.specs.Objects.{◌∈◌}
+
+-- the places that are not set, set, and the others not
+abbrev pub missing : List Bool → List Bool
+missing places = map not places
 
 -- a number of 32 bits
 abbrev pub IsSlotNumber : ℕ → Type 0

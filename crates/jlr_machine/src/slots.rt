@@ -1,6 +1,6 @@
 //! A set of slots, a bit for each.
-ghost use Rattle.std.specs.Prelude.{◌≡◌, ◌^◌, ◌<◌, ◌≤◌, ◌↔◌, true, false, length, replicate, IfOk, IsTrue, slice_set};
-ghost use Rattle.jlr_machine.specs.SlotSets.{slots_of, places_for, FindsFirst, IsAboveAll, IsTrimmed};
+ghost use Rattle.std.specs.Prelude.{◌≡◌, ℕ, ◌^◌, ◌<◌, ◌≤◌, ◌↔◌, true, false, length, replicate, IfOk, IsTrue, slice_set};
+ghost use Rattle.jlr_machine.specs.SlotSets.{slots_of, places_for, is_in, missing, FindsFirst, IsAboveAll, IsTrimmed};
 
 use crate::words;
 use jlr_types::Slot;
@@ -50,6 +50,15 @@ impl SlotSet {
         ((slot / PLACES) as usize) < self.words.len()
     }
 
+    /// Whether the slot is in the set.
+    pub(crate) fn contains(&self, slot: u32) -> bool
+        requires { slot < length self.now }
+        ensures { result ≡ is_in self.now slot }
+    {
+        let word = self.words[(slot / PLACES) as usize];
+        word >> (slot % PLACES) & 1 == 1
+    }
+
     /// Puts the slot into the set.
     pub(crate) fn insert(&mut self, slot: u32)
         requires { slot < length self.old }
@@ -65,6 +74,23 @@ impl SlotSet {
         ensures { self.new ≡ replicate (length self.old) false }
     {
         self.words.fill(0);
+    }
+
+    /// Takes the slots of another set, all of which have a place here, in place of its own.
+    pub(crate) fn assign(&mut self, other: &SlotSet)
+        requires { (slot : ℕ) → is_in other.now slot ≡ true → slot < length self.old }
+        ensures slots { slots_of self.new ≡ slots_of other.now }
+        ensures places { length self.new ≡ length self.old }
+    {
+        self.words.fill(0);
+        words::overwrite(&mut self.words, &other.words);
+    }
+
+    /// The first slot not below `from` that has a place and is not in the set.
+    pub(crate) fn next_missing(&self, from: usize) -> Option<usize>
+        ensures { FindsFirst (missing self.now) from result }
+    {
+        words::first_missing_from(&self.words, from)
     }
 
     /// The first slot of the set that is not below `from`.

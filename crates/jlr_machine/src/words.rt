@@ -1,7 +1,7 @@
 //! What is done with the words of a set of slots.
-ghost use Rattle.std.specs.Prelude.{◌≡◌, ◌≤◌, length};
+ghost use Rattle.std.specs.Prelude.{◌≡◌, ◌<◌, ◌≤◌, ℕ, length, slice_index_or};
 ghost use Rattle.jlr_machine.specs.Bits.{bits_of, IsTrimmedLen};
-ghost use Rattle.jlr_machine.specs.SlotSets.{FindsFirst, slots_of};
+ghost use Rattle.jlr_machine.specs.SlotSets.{FindsFirst, missing, slots_of};
 
 /// The first slot at or above `from`.
 pub(crate) fn first_from(words: &[u64], from: usize) -> Option<usize>
@@ -25,6 +25,42 @@ pub(crate) fn first_from(words: &[u64], from: usize) -> Option<usize>
         at += 1;
     }
     None
+}
+
+/// The first place at or above `from` that is not set.
+pub(crate) fn first_missing_from(words: &[u64], from: usize) -> Option<usize>
+    requires { length words.now ≤ 67108864 }
+    ensures { FindsFirst (missing (bits_of words.now)) from result }
+{
+    let start = from / 64;
+    if start >= words.len() {
+        return None;
+    }
+    let rest = !words[start] >> (from % 64);
+    if rest != 0 {
+        return Some(from + rest.trailing_zeros() as usize);
+    }
+    let mut at = start + 1;
+    while at < words.len() {
+        let word = !words[at];
+        if word != 0 {
+            return Some(at * 64 + word.trailing_zeros() as usize);
+        }
+        at += 1;
+    }
+    None
+}
+
+/// Writes these words in place of the first ones, as many as there is room for.
+pub(crate) fn overwrite(words: &mut [u64], first: &[u64])
+    ensures first { (k : ℕ) → k < length first.now → k < length words.old → slice_index_or words.new k 0 ≡ slice_index_or first.now k 0 }
+    ensures rest { (k : ℕ) → length first.now ≤ k → slice_index_or words.new k 0 ≡ slice_index_or words.old k 0 }
+    ensures long { length words.new ≡ length words.old }
+{
+    let count = words.len().min(first.len());
+    for at in 0..count {
+        words[at] = first[at];
+    }
 }
 
 /// How many slots there are.

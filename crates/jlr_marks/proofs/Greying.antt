@@ -43,6 +43,10 @@ pub none_grey : (bits : List Bool) → AreGrey bits []
 unfolding IsDistinct
 none_grey bits = record { marked = λ x h. nothing x h; once = tt }
 
+-- a cell is marked, and none is grey but those before
+pub grey_still : (bits : List Bool) (grey : List ℕ) (y : ℕ) → y < length bits → AreGrey bits grey → AreGrey (set bits y true) grey
+grey_still bits grey y inside g = record { marked = λ x h. set_keeps bits y x inside (g.marked x h); once = g.once }
+
 -- a white cell is shaded
 pub grey_more : (bits : List Bool) (grey : List ℕ) (y : ℕ) → y < length bits → get_or bits y false ≡ false → AreGrey bits grey → AreGrey (set bits y true) (grey ++ y ∷ [])
 grey_more bits grey y inside white g =

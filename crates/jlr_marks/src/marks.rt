@@ -1,8 +1,12 @@
 //! Marks.
-ghost use Rattle.std.specs.Prelude.{◌≡◌, ◌↔◌, ℕ, ◌+◌, ◌<◌, ◌++◌, ◌∷◌, [], false, true, cond, length, IfOk, slice_get, slice_set, IfNone, IfSome, IsPermutation, replicate};
+ghost use Rattle.std.specs.Prelude.{◌≡◌, ◌↔◌, ℕ, ◌+◌, ◌^◌, ◌<◌, ◌≤◌, ◌++◌, ◌∷◌, [], false, true, cond, length, IfOk, slice_get, slice_set, IfNone, IfSome, IsPermutation, replicate};
+ghost use Rattle.jlr_machine.specs.Choices.{collecting, kept_by, pended_by};
 ghost use Rattle.jlr_machine.specs.Objects.{◌∈◌};
+ghost use Rattle.jlr_machine.specs.SlotSets.{FindsFirst, missing, slots_of};
 ghost use Rattle.jlr_marks.specs.Marking.{is_marked, marked, upcoming};
 
+use jlr_machine::cell_set::CellSet;
+use jlr_machine::choice::Choice;
 use jlr_types::Slot;
 use std::alloc::{AllocError, Global};
 use std::marker::Model;
@@ -14,7 +18,7 @@ const AHEAD: usize = 4;
 /// A mark for each cell, a stack of the marked cells that are grey, and a list of those that are discovered.
 #[derive(Drop)]
 pub struct Marks {
-    bits: Vec<bool>,
+    bits: CellSet,
     grey: Vec<Slot>,
     discovered: Vec<Slot>,
 }
@@ -25,9 +29,9 @@ impl Model for Marks {
 
     ghost Value = { Marking };
 
-    ghost view = { λ m. record { bits = m.bits.items; grey = m.grey.items; discovered = m.discovered.items } };
+    ghost view = { λ m. record { bits = m.bits; grey = m.grey.items; discovered = m.discovered.items } };
 
-    ghost invariant = { λ m. (length m.grey.items + length m.discovered.items ≤ count_by (λ b. b) m.bits.items) × (length m.bits.items ≤ vec_capacity m.grey) × (length m.bits.items ≤ vec_capacity m.discovered) × AreGrey m.bits.items m.grey.items };
+    ghost invariant = { λ m. (length m.grey.items + length m.discovered.items ≤ count_by (λ b. b) m.bits) × (length m.bits ≤ vec_capacity m.grey) × (length m.bits ≤ vec_capacity m.discovered) × AreGrey m.bits m.grey.items };
 }
 
 impl Marks {
@@ -41,7 +45,7 @@ impl Marks {
         ensures discovered { IfOk result (λ m. m.discovered ≡ []) }
     {
         Ok(Marks {
-            bits: vec![in alloc; false; cells as usize]?,
+            bits: CellSet::new(alloc, cells)?,
             grey: Vec::with_capacity(alloc, cells as usize)?,
             discovered: Vec::with_capacity(alloc, cells as usize)?,
         })
@@ -52,7 +56,7 @@ impl Marks {
         requires { slot < length self.now.bits }
         ensures { result ≡ is_marked self.now slot }
     {
-        self.bits[slot.number() as usize]
+        self.bits.contains(slot)
     }
 
     /// Marks a cell. If it was white before, it is grey then.
@@ -62,9 +66,8 @@ impl Marks {
         ensures grey { self.new.grey ≡ cond (is_marked self.old slot) self.old.grey (self.old.grey ++ slot ∷ []) }
         ensures discovered { self.new.discovered ≡ self.old.discovered }
     {
-        let place = slot.number() as usize;
-        if !self.bits[place] {
-            self.bits[place] = true;
+        if !self.bits.contains(slot) {
+            self.bits.insert(slot);
             self.grey.push_reserved(slot);
         }
     }
@@ -76,7 +79,7 @@ impl Marks {
         ensures grey { self.new.grey ≡ self.old.grey }
         ensures discovered { self.new.discovered ≡ self.old.discovered }
     {
-        self.bits[slot.number() as usize] = true;
+        self.bits.insert(slot);
     }
 
     /// A cell is discovered: the last of them. There is room where a marked cell is neither grey nor discovered, as one that was just taken off the grey ones.
@@ -122,6 +125,23 @@ impl Marks {
         Some(self.grey.swap_remove(count.saturating_sub(AHEAD)))
     }
 
+    /// The first cell not below `from` that is white.
+    pub fn next_unmarked(&self, from: u32) -> Option<Slot>
+        ensures unmarked { FindsFirst (missing self.now.bits) from result }
+        ensures few { length self.now.bits < 2 ^ 32 }
+    {
+        self.bits.next_missing(from)
+    }
+
+    /// A collection that kept nothing so far keeps all marked cells.
+    pub fn keep_all(&self, choice: &mut Choice)
+        requires cells { length self.now.bits ≤ choice.old.cells }
+        requires none { kept_by choice.old ≡ [] }
+        ensures { choice.new ≡ collecting choice.old (slots_of self.now.bits) (pended_by choice.old) }
+    {
+        choice.keep_all(&self.bits);
+    }
+
     /// How many cells are discovered.
     pub fn discovered_count(&self) -> usize
         ensures { result ≡ length self.now.discovered }
@@ -142,7 +162,7 @@ impl Marks {
         ensures grey { self.new.grey ≡ [] }
         ensures discovered { self.new.discovered ≡ [] }
     {
-        self.bits.fill(false);
+        self.bits.clear();
         self.grey.clear();
         self.discovered.clear();
     }

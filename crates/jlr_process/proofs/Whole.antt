@@ -1,7 +1,6 @@
 -- What a collection over all places is: that of the marked objects.
-use Rattle.std.proofs.Common.{◌≡◌, ◌&&◌, ◌+◌, ◌<◌, ◌≤◌, ◌↔◌, ℕ, zero, suc, Bool, true, false, cond, not, List, [], ◌∷◌, ◌++◌, length, filter, Option, Some, None, option_map, IsTrue, is_some, refl, sym, ◌∙◌, ap, add-one, subst, arith, inl, inr, append-nil}
+use Rattle.std.proofs.Common.{◌≡◌, ◌&&◌, ◌+◌, ◌<◌, ◌≤◌, ◌↔◌, ℕ, suc, Bool, true, false, cond, not, List, [], ◌∷◌, length, filter, Option, Some, None, option_map, IsTrue, is_some, refl, sym, ◌∙◌, ap, subst, arith, inl, inr}
 use Rattle.std.proofs.lemmas.Bool.{both_ways, cases_lt}
-use Rattle.std.proofs.lemmas.List.Elements.{filter-append}
 use Rattle.std.proofs.lemmas.List.Sums.{length-filter}
 use Rattle.jlr_machine.specs.declared.object.Object.{Object}
 use Rattle.jlr_machine.specs.declared.object.Object.TheVariants.{Plain, Reference, Queue, Cleaner, Cleanable, Guard}
@@ -9,35 +8,19 @@ use Rattle.jlr_machine.specs.Objects.{Table, Heap, at, ◌∈◌, ◌∋◌, any
 use Rattle.jlr_machine.specs.Collection.{is_kept_referent, is_ready, left_of, made_pending, places_left}
 use Rattle.jlr_machine.specs.ReachSet.{up_to}
 use Rattle.jlr_laws.specs.Laws.{LosesReferent}
-use Rattle.jlr_laws.proofs.Sets.{in_filter, filter_in, in_up_to, up_to_in}
+use Rattle.jlr_laws.proofs.Sets.{in_filter, filter_in, up_to_in}
 use Rattle.jlr_laws.proofs.Agree.{at-places_left}
 use Rattle.jlr_laws.proofs.Checks.{at_beyond}
 use Rattle.jlr_laws.proofs.CollectionKept.{length_left}
 use Rattle.jlr_machine.specs.declared.machine.Machine.{Machine}
 use Rattle.jlr_machine.specs.declared.machine.Session.{Session}
 use Rattle.jlr_machine.specs.declared.machine.Binding.{Binding}
-use Rattle.jlr_machine.specs.Choices.{Choosing, collecting}
 use Rattle.jlr_barrier.specs.Graphs.{Graph, in_machine}
 use Rattle.jlr_marks.specs.Marking.{Marking, IsMarked, is_marked}
 use Rattle.jlr_marks.proofs.Shading.{marked_within}
-use Rattle.jlr_process.specs.Settling.{is_losing, loses, marked_below, marked_referent, only_if, settled, settled_object}
+use Rattle.jlr_process.specs.Settling.{is_losing, loses, marked_below, marked_referent, settled, settled_object}
 
 -- ---- Slots that pass a test, so far
-
-up_to_more : (from n : ℕ) → up_to from (suc n) ≡ up_to from n ++ (from + n) ∷ []
-up_to_more from zero = ap (λ k. k ∷ []) (omega arith)
-up_to_more from (suc n) = ap (λ l. from ∷ l) (up_to_more (suc from) n) ∙ ap (λ k. from ∷ (up_to (suc from) n ++ k ∷ [])) (omega arith)
-
-pub filter_more : (p : ℕ → Bool) (n : ℕ) → filter p (up_to 0 (n + 1)) ≡ filter p (up_to 0 n) ++ only_if (p n) n
-filter_more p n =
-    ap (λ k. filter p (up_to 0 k)) (add-one n)
-    ∙ ap (filter p) (up_to_more 0 n)
-    ∙ filter-append p (up_to 0 n) ((0 + n) ∷ [])
-    ∙ ap (λ k. filter p (up_to 0 n) ++ filter p (k ∷ [])) (omega arith)
-
--- they are below n
-pub below_low : (p : ℕ → Bool) (n x : ℕ) → x ∈ filter p (up_to 0 n) → x < n
-below_low p n x h = let i = in_up_to 0 n x (in_filter p (up_to 0 n) x h).1 in omega (arith, i.1)
 
 pub same_bool : (a b : Bool) → (a ≡ true → b ≡ true) → (b ≡ true → a ≡ true) → a ≡ b
 same_bool true b h k = sym (h refl)
@@ -185,8 +168,3 @@ as_parts k g objects mutators names pending line eo em en ep el =
     ∙ ap (λ b. put objects mutators b g.pending g.line) en
     ∙ ap (λ l. put objects mutators names l g.line) ep
     ∙ ap (put objects mutators names pending) el
-
--- one slot more that is marked, or not
-pub keeps_more : (c : Choosing) (slots lost : List ℕ) (b : Bool) (n : ℕ) → cond b (collecting c (slots ++ n ∷ []) lost) (collecting c slots lost) ≡ collecting c (slots ++ only_if b n) lost
-keeps_more c slots lost true n = refl
-keeps_more c slots lost false n = ap (λ k. collecting c k lost) (sym (append-nil slots))

@@ -8,7 +8,7 @@ ghost use Rattle.jlr_barrier.specs.Snapshots.{RefersTo};
 ghost use Rattle.jlr_process.specs.Flipping.{Flips, IsRooted};
 ghost use Rattle.jlr_process.specs.Settling.{Clears, Keeps, is_losing};
 
-use crate::settle::{keep, settle};
+use crate::settle::{discard, settle};
 use jlr_barrier::Heap;
 use jlr_machine::choice::Choice;
 use jlr_types::Slot;
@@ -63,8 +63,9 @@ fn settle_discovered(heap: &mut Heap, choice: &mut Choice)
     }
 }
 
-/// Keeps what is marked, in the order of the slots, and tells the choice; removes all else.
+/// Keeps what is marked, and tells the choice; removes all else.
 fn keep_marked(heap: &mut Heap, choice: &mut Choice)
+    requires bits { length heap.old.marking.bits ≡ length heap.old.graph.objects }
     requires no_grey { heap.old.marking.grey ≡ [] }
     requires room { length heap.old.graph.objects ≤ choice.old.cells }
     requires begun { choice.old ≡ collecting choice.old [] (pended_by choice.old) }
@@ -72,7 +73,10 @@ fn keep_marked(heap: &mut Heap, choice: &mut Choice)
     ensures clock { heap.new.clock ≡ heap.old.clock }
     ensures marking { heap.new.marking ≡ heap.old.marking }
 {
-    for number in 0..heap.cell_count() {
-        keep(heap, Slot::new(number), choice);
+    heap.keep_marked(choice);
+    let mut from = 0;
+    while let Some(slot) = heap.next_unmarked(from) {
+        discard(heap, slot);
+        from = slot.number() + 1;
     }
 }

@@ -109,20 +109,16 @@ pub(crate) fn settle(heap: &mut Heap, slot: Slot, choice: &mut Choice)
     }
 }
 
-/// Keeps what is at a slot, if it is marked, and tells the choice; else removes it.
-pub(crate) fn keep(heap: &mut Heap, slot: Slot, choice: &mut Choice)
+/// Removes what is at a slot that is not marked, if there is something.
+pub(crate) fn discard(heap: &mut Heap, slot: Slot)
     requires inside { slot < length heap.old.graph.objects }
+    requires unmarked { ¬ (IsMarked heap.old.marking slot) }
     requires no_grey { heap.old.marking.grey ≡ [] }
-    requires cell { slot < choice.old.cells }
-    requires above { IsAboveAll slot (kept_by choice.old) }
-    ensures graph { heap.new.graph ≡ with_objects heap.old.graph (slice_set heap.old.graph.objects slot (kept_at heap.old.marking slot (at heap.old.graph.objects slot))) }
+    ensures graph { heap.new.graph ≡ with_objects heap.old.graph (slice_set heap.old.graph.objects slot None) }
     ensures clock { heap.new.clock ≡ heap.old.clock }
     ensures marking { heap.new.marking ≡ heap.old.marking }
-    ensures choice { choice.new ≡ cond (is_marked heap.old.marking slot) (collecting choice.old (kept_by choice.old ++ slot ∷ []) (pended_by choice.old)) choice.old }
 {
-    if heap.is_marked(slot) {
-        choice.keep(slot);
-    } else if heap.kind(slot).is_some() {
+    if heap.kind(slot).is_some() {
         heap.remove(slot);
     }
 }

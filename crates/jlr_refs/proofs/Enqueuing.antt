@@ -10,9 +10,9 @@ use Rattle.jlr_machine.specs.declared.object.RefState.TheVariants.{Queued, Remov
 use Rattle.jlr_machine.specs.Objects.{◌∈◌, Heap, at, as_members, as_reference, change_at, queue_ahead, some_and, with_members, with_reference, is_unqueued}
 use Rattle.jlr_machine.specs.Refusals.{is_queue, is_reference}
 use Rattle.jlr_machine.specs.Calls.{enqueued, to_queue, unreferred}
-use Rattle.jlr_cells.specs.Contents.{in_state, member_in, next_in, unregistered}
+use Rattle.jlr_cells.specs.Contents.{in_state, member_in, members_in, next_in, unregistered}
 use Rattle.jlr_laws.proofs.Frames.{is_queue_there, is_reference_there, no_some, some_same}
-use Rattle.jlr_laws.proofs.Sets.{in_front}
+use Rattle.jlr_laws.proofs.Sets.{in_front, nothing}
 use Rattle.jlr_barrier.specs.Graphs.{Graph, in_machine, with_objects}
 use Rattle.jlr_refs.specs.Parts.{IsFit, reference_at}
 use Rattle.jlr_refs.proofs.Changing.{apart, change_alike, change_apart, change_twice}
@@ -53,6 +53,27 @@ member_is_reference g q s fit is_q first =
           let listed = fit.1.references.members q s members there (front_listed members s h) in
           ap (some_and is_reference) listed.1
     ] refl first
+
+no_members : (o : Option Object) → option_and_then as_members o ≡ None → members_in o ≡ []
+no_members None e = refl
+no_members (Some (Plain fields)) e = refl
+no_members (Some (Reference r)) e = refl
+no_members (Some (Queue members)) e = no_some members (sym e)
+no_members (Some Cleaner) e = refl
+no_members (Some (Cleanable c)) e = refl
+no_members (Some (Guard g)) e = refl
+
+-- a reference that may be added to a queue is a member of none
+pub in_no_queue : (g : Graph) (s q : ℕ) → IsFit g → option_and_then queue_ahead (reference_at g.objects s) ≡ Some q → (x : ℕ) → s ∈ members_in (at g.objects x) → ⊥
+in_no_queue g s q fit ahead x h =
+    elim (option_and_then as_members (at g.objects x)) as (λ o. option_and_then as_members (at g.objects x) ≡ o → ⊥) [
+      | None ↦ λ e. nothing s (subst (λ l. s ∈ l) (no_members (at g.objects x) e) h)
+      | Some members ↦ λ e.
+          let there = is_queue_there (at g.objects x) members e in
+          let listed = fit.1.references.members x s members there (subst (λ o. s ∈ members_in o) there h) in
+          let none = ap (λ o. option_and_then queue_ahead (option_and_then as_reference o)) listed.1 ∙ ap (λ b. cond b listed.0.queue None) (ap is_unqueued listed.2) in
+          no_some q (sym none ∙ ahead)
+    ] refl
 
 -- ---- What is ahead of a reference
 

@@ -5,7 +5,7 @@ use Rattle.jlr_machine.specs.declared.object.Object.{Object}
 use Rattle.jlr_machine.specs.declared.object.Reference.{Reference as ReferenceOf}
 use Rattle.jlr_machine.specs.declared.object.Cleanable.{Cleanable as CleanableOf}
 use Rattle.jlr_machine.specs.declared.ask.Handed.{Handed}
-use Rattle.jlr_machine.specs.declared.ask.Handed.TheVariants.{Queued as HandedQueued, Skipped}
+use Rattle.jlr_machine.specs.declared.ask.Handed.TheVariants.{Skipped}
 use Rattle.jlr_machine.specs.declared.ask.Answer.TheVariants.{Handed as HandedAnswer}
 use Rattle.jlr_machine.specs.Objects.{Heap, ◌∈◌, as_cleanable, as_reference, at, is_lined, with_cleanable}
 use Rattle.jlr_machine.specs.Calls.{delivered, enqueued, from_lined, hand_over_answer, handed, handed_over, polled, spent}
@@ -46,10 +46,6 @@ queue_in_front g = option_and_then (λ s. next_in (at g.objects s)) (slice_get g
 
 abbrev pub HandsOver : Graph → Handed → Graph → Type 0
 HandsOver g handed h = (m : Machine) → (hand_over_answer (in_machine m g) g.pending ≡ Some (HandedAnswer handed)) × (in_machine m h ≡ handed_over (in_machine m g) g.pending)
-
--- the next that it takes is a reference that goes to its queue
-abbrev pub QueuesNext : Graph → Type 0
-QueuesNext g = (m : Machine) → hand_over_answer (in_machine m g) g.pending ≡ Some (HandedAnswer HandedQueued)
 
 -- ---- The line
 

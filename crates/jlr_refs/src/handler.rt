@@ -1,5 +1,5 @@
 //! The handler's step: what is pending is handed over, a reference to its queue, and a cleanable to the line.
-ghost use Rattle.std.specs.Prelude.{◌≡◌, ◌++◌, ◌∷◌, [], IfOk, IsTrue, OnErr, Some, slice_get};
+ghost use Rattle.std.specs.Prelude.{◌≡◌, ◌++◌, ◌∷◌, [], IsTrue, Some, slice_get};
 ghost use Rattle.jlr_machine.specs.declared.object.CleanState.TheVariants as state;
 ghost use Rattle.jlr_machine.specs.Objects.{◌∈◌, at, change_at, some_and, with_cleanable};
 ghost use Rattle.jlr_machine.specs.Refusals.{is_cleanable};
@@ -8,36 +8,29 @@ ghost use Rattle.jlr_machine.specs.Edges.{is_own_root};
 ghost use Rattle.jlr_cells.specs.Contents.{in_clean_state};
 ghost use Rattle.jlr_marks.specs.Marking.{Shaded};
 ghost use Rattle.jlr_barrier.specs.Graphs.{with_line, with_objects};
-ghost use Rattle.jlr_refs.specs.Parts.{DeliversFront, HandsOver, IsFit, QueuesNext, handed_there, queue_in_front};
+ghost use Rattle.jlr_refs.specs.Parts.{DeliversFront, HandsOver, IsFit, handed_there, queue_in_front};
 
 use crate::references::enqueue;
 use jlr_barrier::Heap;
 use jlr_machine::ask::Handed;
 use jlr_machine::object::{CleanState, RefState};
 use jlr_types::Slot;
-use std::alloc::AllocError;
 
 /// The front of the pending list leaves it. A Pending reference goes to the end of its queue, and a Pending cleanable, which is
 /// Lined then, to the end of the line. A reference that the program enqueued in the meantime is skipped, and so is a cleanable
 /// that it cleaned. Nothing is handed over where the list is empty. The queue that a reference goes to is shaded.
-///
-/// # Errors
-/// `AllocError` where a reference goes to its queue, and the queue cannot grow. Nothing has changed then.
-pub fn hand_over(heap: &mut Heap) -> Result<Handed, AllocError>
+pub fn hand_over(heap: &mut Heap) -> Handed
     requires fit { IsFit heap.old.graph }
-    ensures handed { IfOk result (λ handed. HandsOver heap.old.graph handed heap.new.graph) }
-    ensures shaded { IfOk result (λ handed. Shaded (λ s. (handed ≡ Handed.Queued) × (queue_in_front heap.old.graph ≡ Some s)) heap.old.marking heap.new.marking) }
-    ensures err { OnErr result (heap.new.graph ≡ heap.old.graph) }
-    ensures unshaded { OnErr result (heap.new.marking ≡ heap.old.marking) }
-    ensures grows { OnErr result (QueuesNext heap.old.graph) }
+    ensures handed { HandsOver heap.old.graph result heap.new.graph }
+    ensures shaded { Shaded (λ s. (result ≡ Handed.Queued) × (queue_in_front heap.old.graph ≡ Some s)) heap.old.marking heap.new.marking }
     ensures clock { heap.new.clock ≡ heap.old.clock }
 {
     let Some(slot) = heap.first_pending() else {
-        return Ok(Handed::Nothing);
+        return Handed::Nothing;
     };
     let handed = handed_at(heap, slot);
-    deliver(heap, slot, handed)?;
-    Ok(handed)
+    deliver(heap, slot, handed);
+    handed
 }
 
 /// Where the handler takes what is at a slot.
@@ -72,20 +65,17 @@ fn handed_cleanable(state: CleanState) -> Handed
 }
 
 /// Takes what is at the front of the pending list there. It leaves the list.
-fn deliver(heap: &mut Heap, slot: Slot, handed: Handed) -> Result<(), AllocError>
+fn deliver(heap: &mut Heap, slot: Slot, handed: Handed)
     requires fit { IsFit heap.old.graph }
     requires front { slice_get heap.old.graph.pending 0 ≡ Some slot }
     requires handed { handed ≡ handed_there (at heap.old.graph.objects slot) }
-    ensures delivered { IfOk result (λ _. DeliversFront heap.old.graph slot handed heap.new.graph) }
-    ensures shaded { IfOk result (λ _. Shaded (λ s. (handed ≡ Handed.Queued) × (queue_in_front heap.old.graph ≡ Some s)) heap.old.marking heap.new.marking) }
-    ensures err { OnErr result (heap.new.graph ≡ heap.old.graph) }
-    ensures unshaded { OnErr result (heap.new.marking ≡ heap.old.marking) }
-    ensures grows { OnErr result (handed ≡ Handed.Queued) }
+    ensures delivered { DeliversFront heap.old.graph slot handed heap.new.graph }
+    ensures shaded { Shaded (λ s. (handed ≡ Handed.Queued) × (queue_in_front heap.old.graph ≡ Some s)) heap.old.marking heap.new.marking }
     ensures clock { heap.new.clock ≡ heap.old.clock }
 {
     match handed {
         Handed::Queued => {
-            let _added = enqueue(heap, slot)?;
+            enqueue(heap, slot);
             heap.take_pending();
         }
         Handed::Lined => {
@@ -96,7 +86,6 @@ fn deliver(heap: &mut Heap, slot: Slot, handed: Handed) -> Result<(), AllocError
             heap.take_pending();
         }
     }
-    Ok(())
 }
 
 /// A Pending cleanable is Lined, and goes to the end of the line.

@@ -8,7 +8,7 @@
 //! | Pending | none | its own | the pending list | null | as it is | Queued, true; it stays on the pending list | | as it is | Queued |
 //! | Queued | none | none | its queue, perhaps still the pending list | null | as it is | false | Removed, from the front | as it is | skipped |
 //! | Removed | none | none | perhaps still the pending list | null | as it is | false | | as it is | skipped |
-ghost use Rattle.std.specs.Prelude.{◌≡◌, ℕ, ◌<◌, ◌↔◌, IfNone, IfOk, IfSome, IsNone, IsTrue, None, OnErr, Some, cond, is_some, length, nat_eq, option_and_then};
+ghost use Rattle.std.specs.Prelude.{◌≡◌, ℕ, ◌<◌, ◌↔◌, IfNone, IfSome, IsNone, IsTrue, None, Some, cond, is_some, length, nat_eq, option_and_then};
 ghost use Rattle.std.specs.Option.{option_eq};
 ghost use Rattle.jlr_machine.specs.Objects.{as_members, at, change_at, is_queued, occupied, queue_ahead, set_at, some_and, with_reference};
 ghost use Rattle.jlr_machine.specs.Refusals.{front, is_queue, is_reference};
@@ -23,7 +23,6 @@ ghost use Rattle.jlr_refs.specs.Parts.{Enqueues, IsFit, Polls, reference_at};
 use jlr_barrier::Heap;
 use jlr_machine::object::{RefState, Reference};
 use jlr_types::Slot;
-use std::alloc::AllocError;
 
 /// What a reference gives (`Reference.get`): its referent, or nothing where it was cleared or is a phantom reference. A soft
 /// reference that gives its referent was used now. What is given is shaded.
@@ -56,30 +55,24 @@ pub fn clear(heap: &mut Heap, reference: Slot)
 
 /// A reference loses its referent, and goes to the end of its queue, if it has one and was not enqueued before
 /// (`Reference.enqueue`). Whether it went there. That queue is shaded.
-///
-/// # Errors
-/// `AllocError` where the reference goes to its queue, and the queue cannot grow. Nothing has changed then.
-pub fn enqueue(heap: &mut Heap, reference: Slot) -> Result<bool, AllocError>
+pub fn enqueue(heap: &mut Heap, reference: Slot) -> bool
     requires fit { IsFit heap.old.graph }
     requires reference { IsTrue (some_and is_reference (at heap.old.graph.objects reference)) }
     requires held { IsInHand heap.old reference }
-    ensures answer { IfOk result (λ added. Some added ≡ option_and_then (λ r. Some (may_enqueue r)) (reference_at heap.old.graph.objects reference)) }
-    ensures enqueued { IfOk result (λ _. Enqueues heap.old.graph reference heap.new.graph) }
-    ensures shaded { IfOk result (λ _. Shaded (λ s. next_in (at heap.old.graph.objects reference) ≡ Some s) heap.old.marking heap.new.marking) }
-    ensures err { OnErr result (heap.new.graph ≡ heap.old.graph) }
-    ensures unshaded { OnErr result (heap.new.marking ≡ heap.old.marking) }
-    ensures grows { OnErr result (IsTrue (some_and may_enqueue (reference_at heap.old.graph.objects reference))) }
+    ensures answer { Some result ≡ option_and_then (λ r. Some (may_enqueue r)) (reference_at heap.old.graph.objects reference) }
+    ensures enqueued { Enqueues heap.old.graph reference heap.new.graph }
+    ensures shaded { Shaded (λ s. next_in (at heap.old.graph.objects reference) ≡ Some s) heap.old.marking heap.new.marking }
     ensures clock { heap.new.clock ≡ heap.old.clock }
 {
     let Some(queue) = queue_ahead(heap.reference(reference)) else {
         clear(heap, reference);
-        return Ok(false);
+        return false;
     };
-    heap.link(queue, reference)?;
+    heap.link(queue, reference);
     heap.cut_queue_edge(reference);
     heap.set_state(reference, RefState::Queued);
     clear(heap, reference);
-    Ok(true)
+    true
 }
 
 /// The queue that a reference may still be added to.

@@ -73,19 +73,18 @@ const LISTS: &str = "
     queue -> handle 2
     remove 2 -> refused WouldWait
 
--- Those events that let a queue grow may be refused, and are asked again then: nothing has changed.
-== a queue that cannot grow is left as it was
+== no event of queues takes memory
     join -> done
     queue -> handle 1
     queue -> handle 2
     new -> handle 3
     weak 3 1 -> handle 4
     weak 3 2 -> handle 5
-    again enqueue 4 -> yes
+    enqueue 4 -> yes
     refers 5 3 -> yes
     drop 3 -> done
     full -> done
-    again hand_over -> queued
+    hand_over -> queued
     hand_over -> nothing
     poll 1 -> handle 3
     same 3 4 -> yes
@@ -95,7 +94,8 @@ const LISTS: &str = "
     poll 2 -> handle 0
     enqueue 4 -> no
 
--- So may those for which the table grows, and those that copy a list that is not empty. A name takes no memory.
+-- Those events for which the table grows may be refused, and those that copy a list that is not empty, and are asked again then: nothing
+-- has changed. A name takes no memory.
 == a table that cannot grow is left as it was
     join -> done
     new -> handle 1
@@ -118,11 +118,99 @@ const LISTS: &str = "
     find x -> refused NoName
     queue -> handle 4
     weak 1 4 -> handle 5
-    again enqueue 5 -> yes
+    enqueue 5 -> yes
     remove 4 -> handle 6
 ";
 
 #[test]
 fn a_refused_growth_changes_nothing(rt: HostRuntime) -> Result<(), Fail> {
     play_all(rt.alloc(), LISTS)
+}
+
+// What takes memory at all: the heap, and the table's one place.
+const BEFORE: &str = "
+== a heap with a resource: sessions 2
+    join -> done
+    prepare -> prepared
+    opened 5 -> handle 1
+";
+
+#[test]
+fn a_heap_and_its_table_are_made(rt: HostRuntime) -> Result<(), Fail> {
+    play_all(rt.alloc(), BEFORE)
+}
+
+// The same, and then each event that takes no memory. `checks/starved.sh` runs this test with all refused that the one above does not take.
+const AFTER: &str = "
+== a heap with a resource, and each event that takes no memory: sessions 2
+    join -> done
+    prepare -> prepared
+    opened 5 -> handle 1
+
+    by 1 join -> done
+    by 1 leave -> done
+    names -> names 0
+    notes -> notes 0
+    faults -> faults 0
+    check_out 1 -> out 5
+    check_in 3 6 -> wrote 3
+    close 1 -> job 1 6
+    finish 0 1 ok -> done
+    drop 1 -> done
+    full -> done
+    prepare -> prepared
+    opened NotFound -> fault NotFound
+    new ri -> handle 1
+    put 1 0 1 -> done
+    get 1 0 -> handle 2
+    same 1 2 -> yes
+    set_int 1 1 7 -> done
+    int 1 1 -> int 7
+    dup 1 -> handle 3
+    drop 2 -> done
+    drop 3 -> done
+    bind x 1 -> done
+    find x -> handle 2
+    unbind x -> done
+    drop 2 -> done
+    queue -> handle 2
+    weak 1 2 -> handle 3
+    weak 1 2 -> handle 4
+    refers 3 1 -> yes
+    deref 3 -> handle 5
+    drop 5 -> done
+    soft 1 0 -> handle 5
+    clear 5 -> done
+    enqueue 3 -> yes
+    enqueued 3 -> yes
+    poll 2 -> handle 6
+    drop 6 -> done
+    drop 1 -> done
+    begin -> yes
+    mark -> marked done
+    collect -> yes
+    hand_over -> queued
+    remove 2 -> handle 1
+    begin -> yes
+    abandon -> yes
+    cleaner -> handle 6
+    new -> handle 7
+    register 6 7 8 -> handle 8
+    register 6 7 9 -> handle 9
+    clean 8 -> job 3
+    finish 0 3 ok -> done
+    drop 7 -> done
+    full_clearing -> done
+    hand_over -> lined
+    take_up -> job 4
+    finish 255 4 ok -> done
+    hand_over -> nothing
+    take_up -> nothing
+    stat -> stat 7 0 3 3 0
+    leave -> done
+";
+
+#[test]
+fn each_other_event_takes_no_memory(rt: HostRuntime) -> Result<(), Fail> {
+    play_all(rt.alloc(), AFTER)
 }

@@ -73,6 +73,80 @@ const LISTS: &str = "
     poll 1 -> handle 2
     poll 1 -> handle 0
 
+-- The pending list and the queue go on by links of their own.
+== references stand in the pending list and in their queue at once: soft_age 4
+    join -> done
+    queue -> handle 1
+    new -> handle 2
+    weak 2 1 -> handle 3
+    weak 2 1 -> handle 4
+    weak 2 1 -> handle 5
+    phantom 2 1 -> handle 6
+    drop 2 -> done
+    full -> done
+    enqueue 5 -> yes
+    enqueue 3 -> yes
+    enqueued 5 -> yes
+    enqueued 3 -> yes
+    hand_over
+    hand_over
+    hand_over
+    hand_over
+    hand_over -> nothing
+    poll 1 -> handle 2
+    same 2 5 -> yes
+    poll 1 -> handle 7
+    same 7 3 -> yes
+    poll 1 -> handle 8
+    same 8 3 -> no
+    same 8 5 -> no
+    poll 1 -> handle 9
+    same 9 8 -> no
+    same 9 3 -> no
+    same 9 5 -> no
+    poll 1 -> handle 0
+
+== a queue that another stands beside keeps its order: soft_age 4
+    join -> done
+    queue -> handle 1
+    queue -> handle 2
+    new -> handle 3
+    weak 3 1 -> handle 4
+    weak 3 2 -> handle 5
+    weak 3 1 -> handle 6
+    weak 3 2 -> handle 7
+    enqueue 6 -> yes
+    enqueue 5 -> yes
+    enqueue 4 -> yes
+    enqueue 7 -> yes
+    poll 2 -> handle 8
+    same 8 5 -> yes
+    poll 1 -> handle 9
+    same 9 6 -> yes
+    poll 1 -> handle 10
+    same 10 4 -> yes
+    poll 1 -> handle 0
+    poll 2 -> handle 11
+    same 11 7 -> yes
+    poll 2 -> handle 0
+
+-- The slot of a queue that died with a member is taken again, by a queue that has none.
+== a queue in the place of another begins without members: soft_age 4
+    join -> done
+    queue -> handle 1
+    new -> handle 2
+    weak 2 1 -> handle 3
+    enqueue 3 -> yes
+    drop 1 -> done
+    full -> done
+    queue -> handle 1
+    poll 1 -> handle 0
+    weak 2 1 -> handle 4
+    enqueue 4 -> yes
+    poll 1 -> handle 5
+    same 5 4 -> yes
+    poll 1 -> handle 0
+
 == enqueueing clears a reference and puts it on its queue once: soft_age 4
     join -> done
     queue -> handle 1

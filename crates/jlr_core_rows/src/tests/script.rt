@@ -23,9 +23,10 @@ pub(super) struct Shape {
     first_action: u64,
 }
 
-// The options of a list: sessions, resources, soft age and first action.
+// The options of a list: cells, sessions, resources, soft age and first action.
 #[derive(Clone, Copy)]
 struct Options {
+    cells: u32,
     sessions: u32,
     resources: u32,
     soft_age: u32,
@@ -34,6 +35,10 @@ struct Options {
 
 fn with_option(options: Options, name: &str, number: u32) -> Option<Options> {
     match name {
+        "cells" => Some(Options {
+            cells: number,
+            ..options
+        }),
         "sessions" => Some(Options {
             sessions: number,
             ..options
@@ -64,6 +69,7 @@ fn added(options: Options, option: &str) -> Option<Options> {
 
 fn read_shape(text: &str) -> Option<Shape> {
     let mut options = Options {
+        cells: 16,
         sessions: 1,
         resources: 1,
         soft_age: 0,
@@ -73,12 +79,13 @@ fn read_shape(text: &str) -> Option<Shape> {
         options = added(options, option)?;
     }
     let Options {
+        cells,
         sessions,
         resources,
         soft_age,
         first_action,
     } = options;
-    let limits = Limits::checked(16, sessions, resources, soft_age, 64, 1).ok()?;
+    let limits = Limits::checked(cells, sessions, resources, soft_age, 64, 1).ok()?;
     Some(Shape {
         limits,
         first_action,
@@ -107,8 +114,8 @@ fn core_of(alloc: Global, shape: Shape) -> Result<Core<u32>, AllocError>
     Core::new(alloc, shape.limits)
 }
 
-// A core, and a choice that has room for all its cells.
-fn ready(alloc: Global, shape: Shape) -> Result<(Core<u32>, Choice), AllocError>
+/// A core, and a choice that has room for all its cells.
+pub(super) fn ready(alloc: Global, shape: Shape) -> Result<(Core<u32>, Choice), AllocError>
     ensures { IfOk result (λ made. length made.0.machine.objects ≤ made.1.cells) }
 {
     let choice = Choice::new(alloc, shape.limits.cells)?;
@@ -206,7 +213,8 @@ fn rests(core: &Core<u32>) -> bool {
     core.pending_empty() && core.line_empty()
 }
 
-fn is_answered(core: &mut Core<u32>, choice: &mut Choice, ask: &str, wanted: &str) -> bool
+/// Whether an ask is answered so.
+pub(super) fn is_answered(core: &mut Core<u32>, choice: &mut Choice, ask: &str, wanted: &str) -> bool
     requires { length core.old.machine.objects ≤ choice.old.cells }
     ensures { length core.new.machine.objects ≤ choice.new.cells }
 {

@@ -3,7 +3,8 @@ use Rattle.std.proofs.lemmas.Option.{slice_get_within, get_or_from_slice_get}
 use Rattle.jlr_machine.specs.Objects.{◌∈◌}
 use Rattle.jlr_links.specs.Lists.{list_at}
 use Rattle.jlr_marks.proofs.Shading.{shaded_same, shaded_then}
-use Rattle.jlr_barrier.proofs.Walking.{comes_next, member_in_list, one_there, took_gives, took_from}
+use Rattle.jlr_links.proofs.Places.{comes_next, member_in_list, one_there}
+use Rattle.jlr_barrier.proofs.Walking.{took_gives, took_from}
 use Rattle.jlr_barrier.proofs.lists.shade_list.Goals as goal
 
 pub shade_target-requires : goal.shade_target-requires

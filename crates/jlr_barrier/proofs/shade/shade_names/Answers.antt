@@ -6,7 +6,8 @@ use Rattle.jlr_machine.specs.declared.machine.Binding.{Binding}
 use Rattle.jlr_roots.specs.Naming.{named}
 use Rattle.jlr_laws.proofs.Sets.{nothing}
 use Rattle.jlr_marks.proofs.Shading.{shaded_none, shaded_same, shaded_then}
-use Rattle.jlr_barrier.proofs.Walking.{took_gives, took_from, member_in_list}
+use Rattle.jlr_links.proofs.Places.{member_in_list}
+use Rattle.jlr_barrier.proofs.Walking.{took_gives, took_from}
 use Rattle.jlr_barrier.proofs.shade.shade_names.Goals as goal
 
 pub loop-place-init : goal.loop-place-init

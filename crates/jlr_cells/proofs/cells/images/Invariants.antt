@@ -1,6 +1,7 @@
 use Rattle.std.proofs.Common.{◌≡◌, take}
-use Rattle.jlr_cells.specs.Contents.{objects_in}
+use Rattle.jlr_cells.specs.Contents.{objects_in, with_lists}
 use Rattle.jlr_cells.proofs.cells.images.Given as goal
 
-abbrev pub invariant-loop-cell : goal.invariant-loop-cell
-invariant-loop-cell l = l.objects.items ≡ objects_in (take l.cell-index l.cells)
+-- the objects so far
+abbrev pub invariant-loop-slot : goal.invariant-loop-slot
+invariant-loop-slot l = l.objects.items ≡ take l.slot (with_lists (objects_in l.cells) l.queues.lists)

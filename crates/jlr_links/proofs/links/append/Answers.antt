@@ -1,4 +1,4 @@
-use Rattle.std.proofs.Common.{◌≡◌, ◌+◌, ◌<◌, suc, refl, sym, arith, length}
+use Rattle.std.proofs.Common.{arith}
 use Rattle.jlr_links.proofs.Appending.{first_lists, last_below, more_linked, more_lists, count_fits}
 use Rattle.jlr_links.proofs.links.append.Goals as goal
 

@@ -1,4 +1,3 @@
-use Rattle.std.proofs.Common.{◌≡◌}
 use Rattle.jlr_links.proofs.Leaving.{first_below, rest_linked, rest_lists}
 use Rattle.jlr_links.proofs.links.drop_front.Goals as goal
 

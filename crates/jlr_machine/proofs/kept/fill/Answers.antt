@@ -1,4 +1,4 @@
-use Rattle.std.proofs.Common.{◌≡◌, ◌+◌, ◌<◌, ◌≤◌, false, slice_index_or, take, ◌∷◌, [], ◌++◌, ◌∙◌, length, refl, sym, ap, arith}
+use Rattle.std.proofs.Common.{◌+◌, ◌<◌, ◌≤◌, false, slice_index_or, take, ◌∷◌, [], ◌++◌, ◌∙◌, length, refl, sym, ap, arith}
 use Rattle.std.proofs.lemmas.List.{take_more}
 use Rattle.jlr_machine.specs.SlotSets.{slots_of, NoneFrom}
 use Rattle.jlr_machine.proofs.Members.{none_set, inserted_above_is_last, none_after_insert}

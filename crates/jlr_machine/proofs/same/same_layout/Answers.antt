@@ -1,4 +1,4 @@
-use Rattle.std.proofs.Common.{◌≡◌, refl, length, arith}
+use Rattle.std.proofs.Common.{refl, arith}
 use Rattle.jlr_machine.proofs.SameLists.{same_places}
 use Rattle.jlr_machine.proofs.same.same_layout.Goals as goal
 

@@ -10,11 +10,17 @@ use Rattle.jlr_marks.proofs.Shading.{shaded_none}
 use Rattle.jlr_laws.proofs.Frames.{no_some}
 use Rattle.jlr_barrier.specs.Graphs.{Graph}
 use Rattle.jlr_refs.proofs.Changing.{apart, change_here, change_other, still_reference, still_there}
-use Rattle.jlr_refs.proofs.Enqueuing.{ahead_in, ahead_is_queue, enqueued_in_queue, none_ahead_of_unregistered, queue_is_object}
+use Rattle.jlr_refs.proofs.Enqueuing.{ahead_in, ahead_is_queue, enqueued_in_queue, in_no_queue, none_ahead_of_unregistered, queue_is_object, reference_is_object}
 use Rattle.jlr_refs.proofs.references.enqueue.Goals as goal
 
 pub link-requires-clause-queue : goal.link-requires-clause-queue
 link-requires-clause-queue c = ahead_is_queue c.args.heap.now.graph c.args.reference c.in-Some.queue c.requires.fit c.requires.reference (ap (option_and_then queue_ahead) (sym c.reference.ensures) ∙ sym c.queue_ahead.ensures ∙ c.in-Some.is)
+
+pub link-requires-clause-object : goal.link-requires-clause-object
+link-requires-clause-object c = reference_is_object (at c.args.heap.now.graph.objects c.args.reference) c.requires.reference
+
+pub link-requires-clause-apart : goal.link-requires-clause-apart
+link-requires-clause-apart c = in_no_queue c.args.heap.now.graph c.args.reference c.in-Some.queue c.requires.fit (ap (option_and_then queue_ahead) (sym c.reference.ensures) ∙ sym c.queue_ahead.ensures ∙ c.in-Some.is)
 
 pub clear-requires-2 : goal.clear-requires-2
 clear-requires-2 c =
@@ -23,7 +29,7 @@ clear-requires-2 c =
     let ahead = ap (option_and_then queue_ahead) (sym c.reference.ensures) ∙ sym c.queue_ahead.ensures ∙ c.in-Some.is in
     let is_q = ahead_is_queue c.args.heap.now.graph s c.in-Some.queue c.requires.fit c.requires.reference ahead in
     let linked : some_and is_reference (at c.link.new.self.graph.objects s) ≡ true =
-    ap (λ (g : Graph). some_and is_reference (at g.objects s)) c.in_ok-link.ensures.linked
+    ap (λ (g : Graph). some_and is_reference (at g.objects s)) c.link.ensures.graph
     ∙ ap (some_and is_reference) (change_other old c.in-Some.queue s (with_members (λ members. members ++ s ∷ [])) (apart old s c.in-Some.queue c.requires.reference is_q))
     ∙ c.requires.reference in
     let cut : some_and is_reference (at c.cut_queue_edge.new.self.graph.objects s) ≡ true =
@@ -36,7 +42,7 @@ returns-clause-enqueued c =
     let ahead = ap (option_and_then queue_ahead) (sym c.reference.ensures) ∙ sym c.queue_ahead.ensures ∙ c.in-Some.is in
     let is_q = ahead_is_queue c.args.heap.now.graph c.args.reference c.in-Some.queue c.requires.fit c.requires.reference ahead in
     enqueued_in_queue m c.args.heap.now.graph _ _ _ _ c.args.reference c.in-Some.queue c.requires.reference is_q ahead
-    c.in_ok-link.ensures.linked c.cut_queue_edge.ensures.graph c.set_state.ensures.graph c.clear-2.ensures.graph
+    c.link.ensures.graph c.cut_queue_edge.ensures.graph c.set_state.ensures.graph c.clear-2.ensures.graph
 
 -- the queue ahead is an object before the member is linked and after
 pub cut_queue_edge-requires-clause-object : goal.cut_queue_edge-requires-clause-object
@@ -46,11 +52,11 @@ cut_queue_edge-requires-clause-object c =
     let ahead = ap (option_and_then queue_ahead) (sym c.reference.ensures) ∙ sym c.queue_ahead.ensures ∙ c.in-Some.is in
     let is_q = ahead_is_queue g s c.in-Some.queue c.requires.fit c.requires.reference ahead in
     let same : at c.link.new.self.graph.objects s ≡ at g.objects s =
-    ap (λ (k : Graph). at k.objects s) c.in_ok-link.ensures.linked ∙ change_other g.objects c.in-Some.queue s (with_members (λ members. members ++ s ∷ [])) (apart g.objects s c.in-Some.queue c.requires.reference is_q) in
+    ap (λ (k : Graph). at k.objects s) c.link.ensures.graph ∙ change_other g.objects c.in-Some.queue s (with_members (λ members. members ++ s ∷ [])) (apart g.objects s c.in-Some.queue c.requires.reference is_q) in
     λ x e.
     let x_ahead = sym (ahead_in (at g.objects s) c.requires.reference) ∙ ap (λ (o : Option Object). next_in o) (sym same) ∙ e in
     let x_is_q = ahead_is_queue g s x c.requires.fit c.requires.reference x_ahead in
-    ap (λ (k : Graph). is_some (at k.objects x)) c.in_ok-link.ensures.linked ∙ still_there g.objects c.in-Some.queue x (with_members (λ members. members ++ s ∷ [])) (queue_is_object (at g.objects x) x_is_q)
+    ap (λ (k : Graph). is_some (at k.objects x)) c.link.ensures.graph ∙ still_there g.objects c.in-Some.queue x (with_members (λ members. members ++ s ∷ [])) (queue_is_object (at g.objects x) x_is_q)
 
 -- and nothing is ahead once its edge is cut
 pub set_state-requires-clause-edge : goal.set_state-requires-clause-edge
@@ -67,7 +73,7 @@ returns-clause-shaded c =
     let ahead = ap (option_and_then queue_ahead) (sym c.reference.ensures) ∙ sym c.queue_ahead.ensures ∙ c.in-Some.is in
     let is_q = ahead_is_queue g s c.in-Some.queue c.requires.fit c.requires.reference ahead in
     let same : at c.link.new.self.graph.objects s ≡ at g.objects s =
-    ap (λ (k : Graph). at k.objects s) c.in_ok-link.ensures.linked ∙ change_other g.objects c.in-Some.queue s (with_members (λ members. members ++ s ∷ [])) (apart g.objects s c.in-Some.queue c.requires.reference is_q) in
+    ap (λ (k : Graph). at k.objects s) c.link.ensures.graph ∙ change_other g.objects c.in-Some.queue s (with_members (λ members. members ++ s ∷ [])) (apart g.objects s c.in-Some.queue c.requires.reference is_q) in
     let before = subst (λ (o : Option Object). Shaded (λ x. next_in o ≡ Some x) c.link.new.self.marking c.cut_queue_edge.new.self.marking) same c.cut_queue_edge.ensures.shaded in
     let from = subst (λ (m : Marking). Shaded (λ x. next_in (at g.objects s) ≡ Some x) m c.cut_queue_edge.new.self.marking) c.link.ensures.marking before in
     subst (λ (m : Marking). Shaded (λ x. next_in (at g.objects s) ≡ Some x) c.args.heap.now.marking m) (sym (c.clear-2.ensures.marking ∙ c.set_state.ensures.marking)) from

@@ -10,7 +10,7 @@ use Rattle.jlr_laws.specs.Laws.{followed}
 use Rattle.jlr_laws.proofs.Sets.{nothing}
 use Rattle.jlr_barrier.specs.Graphs.{Clock, Graph, held}
 use Rattle.jlr_barrier.specs.Snapshots.{IsObject, RefersTo}
-use Rattle.jlr_barrier.proofs.Walking.{member_in_list}
+use Rattle.jlr_links.proofs.Places.{member_in_list}
 use Rattle.jlr_marks.specs.Marking.{Marking, marked, unmarked}
 use Rattle.jlr_marker.specs.Following.{Follows, keeps}
 use Rattle.jlr_marker.proofs.Following.{marking_begins, marking_goes_on, marking_ends, followed_objects, followed_is_soft, none_counted, none_in_unmarked, none_upcoming}

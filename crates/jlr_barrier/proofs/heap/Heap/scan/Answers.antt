@@ -1,7 +1,7 @@
 use Rattle.std.proofs.Common.{◌∷◌, ◌∙◌, ◌-◌, length, refl, subst}
 use Rattle.std.specs.Prelude.{IfSome, IsPermutation}
 use Rattle.jlr_machine.specs.Objects.{◌∈◌}
-use Rattle.jlr_barrier.proofs.Walking.{member_in_list}
+use Rattle.jlr_links.proofs.Places.{member_in_list}
 use Rattle.jlr_barrier.proofs.Scanning.{scanned_fits}
 use Rattle.jlr_barrier.proofs.heap.Heap.scan.Goals as goal
 

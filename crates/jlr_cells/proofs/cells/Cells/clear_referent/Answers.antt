@@ -1,19 +1,30 @@
-use Rattle.std.proofs.Common.{◌≡◌, ◌<◌, true, length}
+use Rattle.std.proofs.Common.{◌<◌, arith, length, refl}
 use Rattle.std.specs.Prelude.{is_some}
-use Rattle.jlr_machine.specs.Objects.{at, with_reference}
+use Rattle.jlr_machine.specs.Objects.{some_and, with_reference}
+use Rattle.jlr_machine.specs.Refusals.{is_reference}
 use Rattle.jlr_machine.specs.Calls.{unreferred}
-use Rattle.jlr_cells.specs.Contents.{objects_in}
-use Rattle.jlr_cells.proofs.Slots.{object_of_reference, change_at-objects_in, within_cells}
+use Rattle.jlr_cells.proofs.Slots.{object_of_reference}
 use Rattle.jlr_cells.proofs.ByKind.{kept_reference}
+use Rattle.jlr_cells.proofs.Queues.{reference_leaves, changed_at, holds_at, holds_in, within}
 use Rattle.jlr_cells.proofs.cells.Cells.clear_referent.Goals as goal
 
-holds : (c : goal.After-self-1) → is_some (at (objects_in c.self.inside.cells.items) c.number.result) ≡ true
-holds c = rw (c.number.ensures, c.self.view_is) (object_of_reference _ c.requires)
+pub index_mut-cell-requires : goal.index_mut-cell-requires
+index_mut-cell-requires c = omega (arith, within c.self.inside.cells.items c.self.inside.queues.lists c.args.self.now c.self.view_is _ _ c.number.ensures (object_of_reference _ c.requires))
+
+pub clear_referent-requires : goal.clear_referent-requires
+clear_referent-requires c =
+    let below : c.number.result < length c.self.inside.cells.items = within c.self.inside.cells.items c.self.inside.queues.lists c.args.self.now c.self.view_is _ _ c.number.ensures (object_of_reference _ c.requires) in
+    holds_in c.self.inside.cells.items c.self.inside.queues.lists c.args.self.now c.self.view_is (some_and is_reference) _ _ c.index_mut-cell.result.now (λ l m. refl) c.number.ensures c.requires below c.index_mut-cell.ensures.value
 
 pub invariant_of-self : goal.invariant_of-self
-invariant_of-self c = kept_reference _ _ _ _ _ _ c.index_mut-cell.result.now _ unreferred c.self.invariant (holds c) c.index_mut-cell.ensures.value c.clear_referent.ensures.new c.clear_referent.ensures.kind
+invariant_of-self c =
+    let holds = holds_at c.self.inside.cells.items c.self.inside.queues.lists c.args.self.now c.self.view_is is_some _ _ (λ l m. refl) c.number.ensures (object_of_reference _ c.requires) in
+    record {
+      kept = kept_reference _ _ _ _ _ _ c.index_mut-cell.result.now _ unreferred c.self.invariant.kept holds c.index_mut-cell.ensures.value c.clear_referent.ensures.new c.clear_referent.ensures.kind;
+      members = c.self.invariant.members;
+    }
 
 pub returns : goal.returns
 returns c =
-    let within : c.number.result < length c.self.inside.cells.items = within_cells _ _ (holds c) in
-    rw (← c.self.view_is, ← c.number.ensures) (change_at-objects_in _ _ c.index_mut-cell.result.now _ (with_reference unreferred) within c.index_mut-cell.ensures.value c.clear_referent.ensures.new)
+    let below : c.number.result < length c.self.inside.cells.items = within c.self.inside.cells.items c.self.inside.queues.lists c.args.self.now c.self.view_is _ _ c.number.ensures (object_of_reference _ c.requires) in
+    changed_at c.self.inside.cells.items c.self.inside.queues.lists c.args.self.now c.self.view_is _ _ c.index_mut-cell.result.now _ (with_reference unreferred) c.number.ensures below c.index_mut-cell.ensures.value c.clear_referent.ensures.new (reference_leaves unreferred)

@@ -1,23 +1,21 @@
-use Rattle.std.proofs.Common.{◌≡◌, ◌<◌, ◌++◌, ◌∷◌, [], true, length}
-use Rattle.std.specs.Prelude.{is_some}
-use Rattle.jlr_machine.specs.Objects.{at, with_members}
-use Rattle.jlr_cells.specs.Contents.{objects_in}
-use Rattle.jlr_cells.proofs.Slots.{object_of_queue, within_cells}
-use Rattle.jlr_cells.proofs.ByKind.{kept_pushed, pushed, unpushed}
+use Rattle.std.proofs.Common.{◌++◌, ◌∷◌, [], arith, refl, subst}
+use Rattle.jlr_machine.specs.Objects.{◌∈◌}
+use Rattle.jlr_links.specs.Lists.{list_at}
+use Rattle.jlr_cells.proofs.Queues.{length_seen, list_there, members_seen, seen_with, slot_count, whole_with}
 use Rattle.jlr_cells.proofs.cells.Cells.push_member.Goals as goal
 
-holds : (c : goal.After-self-1) → is_some (at (objects_in c.self.inside.cells.items) c.number.result) ≡ true
-holds c = rw (c.number.ensures, c.self.view_is) (object_of_queue _ c.requires)
+pub append-requires-clause-list : goal.append-requires-clause-list
+append-requires-clause-list c = list_there c.self.inside.cells.items c.self.inside.queues.lists c.self.inside.queues.slots c.self.inside.kinds.items c.self.inside.links.items c.self.inside.first_free c.self.inside.free_count c.self.invariant c.args.self.now c.self.view_is c.args.queue c.number.result c.number.ensures c.requires.queue
+
+pub append-requires-clause-slot : goal.append-requires-clause-slot
+append-requires-clause-slot c = omega (arith, c.requires.within, length_seen c.self.inside.cells.items c.self.inside.queues.lists c.args.self.now c.self.view_is, slot_count c.self.inside.cells.items c.self.inside.queues.lists c.self.inside.queues.slots c.self.inside.kinds.items c.self.inside.links.items c.self.inside.first_free c.self.inside.free_count c.self.invariant)
+
+pub append-requires-clause-apart : goal.append-requires-clause-apart
+append-requires-clause-apart c = λ k h. c.requires.apart k (subst (λ l. c.args.member ∈ l) (members_seen c.self.inside.cells.items c.self.inside.queues.lists c.self.inside.queues.slots c.self.inside.kinds.items c.self.inside.links.items c.self.inside.first_free c.self.inside.free_count c.self.invariant c.args.self.now c.self.view_is k k refl) h)
 
 pub invariant_of-self : goal.invariant_of-self
-invariant_of-self c = kept_pushed _ _ _ _ _ _ c.index_mut-cell.result.now _ (λ members. members ++ c.args.member ∷ []) c.push_member.result c.self.invariant (holds c) c.index_mut-cell.ensures.value c.push_member.ensures.pushed c.push_member.ensures.err c.push_member.ensures.kind
+invariant_of-self c =
+    whole_with c.self.inside.cells.items c.self.inside.queues.lists c.self.inside.queues.slots c.self.inside.kinds.items c.self.inside.links.items c.self.inside.first_free c.self.inside.free_count c.self.invariant c.args.self.now c.self.view_is c.args.queue c.number.result (list_at c.self.inside.queues.lists c.number.result ++ c.args.member ∷ []) c.append.new.self.lists c.append.new.self.slots c.number.ensures c.requires.queue c.append.ensures.lists c.append.ensures.slots
 
-pub returns-clause-pushed : goal.returns-clause-pushed
-returns-clause-pushed c =
-    let within : c.number.result < length c.self.inside.cells.items = within_cells _ _ (holds c) in
-    rw (← c.self.view_is, ← c.number.ensures) (pushed _ _ c.index_mut-cell.result.now _ (with_members (λ members. members ++ c.args.member ∷ [])) c.push_member.result within c.index_mut-cell.ensures.value c.push_member.ensures.pushed)
-
-pub returns-clause-err : goal.returns-clause-err
-returns-clause-err c =
-    let within : c.number.result < length c.self.inside.cells.items = within_cells _ _ (holds c) in
-    rw (← c.self.view_is) (unpushed _ _ c.index_mut-cell.result.now _ c.push_member.result within c.index_mut-cell.ensures.value c.push_member.ensures.err)
+pub returns : goal.returns
+returns c = seen_with c.self.inside.cells.items c.self.inside.queues.lists c.self.inside.queues.slots c.self.inside.kinds.items c.self.inside.links.items c.self.inside.first_free c.self.inside.free_count c.self.invariant c.args.self.now c.self.view_is c.args.queue c.number.result (λ members. members ++ c.args.member ∷ []) c.append.new.self.lists c.number.ensures c.requires.queue c.append.ensures.lists

@@ -1,20 +1,41 @@
-use Rattle.std.proofs.Common.{◌≡◌, ◌<◌, ◌∙◌, true, ap, length, set}
+use Rattle.std.proofs.Common.{◌<◌, ◌∙◌, ap, arith, length, refl, set, sym}
 use Rattle.std.specs.Prelude.{is_some}
-use Rattle.jlr_machine.specs.Objects.{at, with_field}
-use Rattle.jlr_cells.specs.Contents.{field_in, objects_in}
-use Rattle.jlr_cells.proofs.Slots.{object_of_field, change_at-objects_in, within_cells}
+use Rattle.jlr_machine.specs.Objects.{with_field}
+use Rattle.jlr_cells.specs.Contents.{field_in}
+use Rattle.jlr_cells.proofs.Slots.{object_of_field}
 use Rattle.jlr_cells.proofs.ByKind.{kept_field}
+use Rattle.jlr_cells.proofs.Queues.{changed_at, field_leaves, holds_at, holds_in, length_seen, link_count, seen_in, set_target, within}
 use Rattle.jlr_cells.proofs.cells.Cells.set_field.Goals as goal
 
-holds : (c : goal.After-self-2-1) → is_some (field_in (at (objects_in c.self.inside.cells.items) c.number-place.result) c.args.field) ≡ true
-holds c = rw (c.number-place.ensures, c.self.view_is) c.requires.field
+pub index_mut-cell-requires : goal.index_mut-cell-requires
+index_mut-cell-requires c = omega (arith, within c.self.inside.cells.items c.self.inside.queues.lists c.args.self.now c.self.view_is _ _ c.number-place.ensures (object_of_field _ c.args.field c.requires.field))
+
+pub set_field-old-requires : goal.set_field-old-requires
+set_field-old-requires c =
+    let below : c.number-place.result < length c.self.inside.cells.items = within c.self.inside.cells.items c.self.inside.queues.lists c.args.self.now c.self.view_is _ _ c.number-place.ensures (object_of_field _ c.args.field c.requires.field) in
+    holds_in c.self.inside.cells.items c.self.inside.queues.lists c.args.self.now c.self.view_is (λ o. is_some (field_in o c.args.field)) _ _ c.index_mut-cell.result.now (λ l m. refl) c.number-place.ensures c.requires.field below c.index_mut-cell.ensures.value
 
 pub invariant_of-self : goal.invariant_of-self
 invariant_of-self c =
-    kept_field _ _ _ _ _ _ c.index_mut-cell.result.now _ c.args.field c.args.value c.index_mut-links.result.now _ c.self.invariant (holds c) c.index_mut-cell.ensures.value c.set_field-old.ensures.new c.set_field-old.ensures.kind
-    c.index_mut-links.ensures.value (c.set.ensures ∙ ap (set c.index_mut-links.result.now c.args.field) c.target_of-target.ensures)
+    let holds = holds_at c.self.inside.cells.items c.self.inside.queues.lists c.args.self.now c.self.view_is (λ o. is_some (field_in o c.args.field)) _ _ (λ l m. refl) c.number-place.ensures c.requires.field in
+    record {
+      kept = kept_field _ _ _ _ _ _ c.index_mut-cell.result.now _ c.args.field c.args.value c.index_mut-links.result.now _ c.self.invariant.kept holds c.index_mut-cell.ensures.value c.set_field-old.ensures.new c.set_field-old.ensures.kind
+          c.index_mut-links.ensures.value (c.set.ensures ∙ ap (set c.index_mut-links.result.now c.args.field) c.target_of-target.ensures);
+      members = c.self.invariant.members;
+    }
 
 pub returns-clause-new : goal.returns-clause-new
 returns-clause-new c =
-    let within : c.number-place.result < length c.self.inside.cells.items = within_cells _ _ (object_of_field _ c.args.field (holds c)) in
-    rw (← c.self.view_is, ← c.number-place.ensures) (change_at-objects_in _ _ c.index_mut-cell.result.now _ (with_field c.args.field c.args.value) within c.index_mut-cell.ensures.value c.set_field-old.ensures.new)
+    let below : c.number-place.result < length c.self.inside.cells.items = within c.self.inside.cells.items c.self.inside.queues.lists c.args.self.now c.self.view_is _ _ c.number-place.ensures (object_of_field _ c.args.field c.requires.field) in
+    changed_at c.self.inside.cells.items c.self.inside.queues.lists c.args.self.now c.self.view_is _ _ c.index_mut-cell.result.now _ (with_field c.args.field c.args.value) c.number-place.ensures below c.index_mut-cell.ensures.value c.set_field-old.ensures.new (field_leaves c.args.field c.args.value)
+
+pub returns-clause-old : goal.returns-clause-old
+returns-clause-old c =
+    let below : c.number-place.result < length c.self.inside.cells.items = within c.self.inside.cells.items c.self.inside.queues.lists c.args.self.now c.self.view_is _ _ c.number-place.ensures (object_of_field _ c.args.field c.requires.field) in
+    seen_in c.self.inside.cells.items c.self.inside.queues.lists c.args.self.now c.self.view_is (λ o. field_in o c.args.field) c.args.slot c.number-place.result c.index_mut-cell.result.now (λ l m. refl) c.number-place.ensures below c.index_mut-cell.ensures.value ∙ c.set_field-old.ensures.old
+
+pub index_mut-links-requires : goal.index_mut-links-requires
+index_mut-links-requires c = omega (arith, within c.self.inside.cells.items c.self.inside.queues.lists c.args.self.now c.self.view_is _ _ c.number-place.ensures (object_of_field _ c.args.field c.requires.field), link_count c.self.inside.cells.items c.self.inside.queues.lists c.self.inside.queues.slots c.self.inside.kinds.items c.self.inside.links.items c.self.inside.first_free c.self.inside.free_count c.self.invariant)
+
+pub set-requires-clause-few : goal.set-requires-clause-few
+set-requires-clause-few c = λ s e. (let below = c.requires.within s (set_target c.args.value s (sym c.target_of-target.ensures ∙ e)) in omega (arith, below, length_seen c.self.inside.cells.items c.self.inside.queues.lists c.args.self.now c.self.view_is, c.self.invariant.kept.list.small))

@@ -1,27 +1,24 @@
-use Rattle.std.proofs.Common.{rules, inl, refl, ◌∙◌}
-use Rattle.jlr_machine.specs.declared.ask.Ask.TheVariants.{Enqueue}
-use Rattle.jlr_machine.specs.declared.ask.Answer.TheVariants.{Truth}
+use Rattle.std.proofs.Common.{rules, inl, ◌∙◌}
 use Rattle.jlr_core.specs.Machines.{machine_of}
 use Rattle.jlr_core.proofs.Frames.{frame_of}
 use Rattle.jlr_core.specs.State.{machine_with}
-use Rattle.jlr_core.proofs.Entries.{meets_plain}
 use Rattle.jlr_core.proofs.Queues.{enqueue_after, enqueue_reply, enqueued_long}
 use Rattle.jlr_core.proofs.Hands.{held_in_hand, named_held}
-use Rattle.jlr_core.proofs.Shading.{by_edge, named_root, next_edge, same_new, shaded_new}
+use Rattle.jlr_core.proofs.Shading.{by_edge, named_root, next_edge, shaded_new}
 use Rattle.jlr_core.proofs.state.State.enqueue.Goals as goal
 
-pub returns-in-Ok-clause-meets : goal.returns-in-Ok-clause-meets
-returns-in-Ok-clause-meets g c =
+pub returns-clause-answered : goal.returns-clause-answered
+returns-clause-answered g c =
     let m = machine_of c.args.self.now in
-    let n = machine_with c.args.self.now.cleaner c.enqueue.new.heap.graph c.args.self.now.cycle_open in
     let slot = c.in_ok-slot.slot in
-    let named = c.in_ok-slot.ensures.1 in
-    meets_plain m n (Enqueue c.args.by c.args.reference) (Truth c.in-Ok.added) tt c.in_ok-slot.ensures.0
-    (enqueue_reply m c.args.by c.args.reference slot c.in-Ok.added named c.in-Ok.ensures.answer)
-    (c.in-Ok.ensures.enqueued (frame_of c.args.self.now) ∙ enqueue_after m c.args.by c.args.reference slot named)
+    let named = c.in_ok-slot.ensures.1 in (
+      c.in_ok-slot.ensures.0,
+      enqueue_reply m c.args.by c.args.reference slot c.enqueue.result named c.enqueue.ensures.answer,
+      c.enqueue.ensures.enqueued (frame_of c.args.self.now) ∙ enqueue_after m c.args.by c.args.reference slot named,
+    )
 
-pub returns-in-Ok-clause-rest : goal.returns-in-Ok-clause-rest
-returns-in-Ok-clause-rest g c = record { age = search rules; cleaner = search rules; clock = search rules; cells = enqueued_long (machine_of c.args.self.now) (machine_with c.args.self.now.cleaner c.enqueue.new.heap.graph c.args.self.now.cycle_open) c.in_ok-slot.slot (c.in-Ok.ensures.enqueued (frame_of c.args.self.now)) }
+pub returns-clause-rest : goal.returns-clause-rest
+returns-clause-rest g c = record { age = search rules; cleaner = search rules; clock = search rules; cells = enqueued_long (machine_of c.args.self.now) (machine_with c.args.self.now.cleaner c.enqueue.new.heap.graph c.args.self.now.cycle_open) c.in_ok-slot.slot (c.enqueue.ensures.enqueued (frame_of c.args.self.now)) }
 
 -- what a handle names is in hand
 pub enqueue-requires-clause-held : goal.enqueue-requires-clause-held
@@ -30,12 +27,9 @@ enqueue-requires-clause-held g c =
     held_in_hand s.heap c.in_ok-slot.slot (named_held (machine_of s) c.args.by c.args.reference c.in_ok-slot.slot c.in_ok-slot.ensures.1)
 
 -- its queue was ahead of it
-pub returns-in-Ok-clause-marks : goal.returns-in-Ok-clause-marks
-returns-in-Ok-clause-marks g c =
+pub returns-clause-marks : goal.returns-clause-marks
+returns-clause-marks g c =
     let s = c.args.self.now in
     let m = machine_of s in
     let slot = c.in_ok-slot.slot in
-    shaded_new m _ s.heap.marking _ _ c.in-Ok.ensures.shaded (λ x e. inl (by_edge m s.heap.marking slot x (named_root m c.args.by c.args.reference slot c.in_ok-slot.ensures.1) (next_edge m.objects slot x e)))
-
-pub returns-in-Err-clause-marks : goal.returns-in-Err-clause-marks
-returns-in-Err-clause-marks g c = let s = c.args.self.now in same_new (machine_of s) _ s.heap.marking _ _ c.in-Err.ensures.unshaded refl
+    shaded_new m _ s.heap.marking _ _ c.enqueue.ensures.shaded (λ x e. inl (by_edge m s.heap.marking slot x (named_root m c.args.by c.args.reference slot c.in_ok-slot.ensures.1) (next_edge m.objects slot x e)))

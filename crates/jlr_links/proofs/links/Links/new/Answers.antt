@@ -1,4 +1,4 @@
-use Rattle.std.proofs.Common.{◌≡◌, vec_len}
+use Rattle.std.proofs.Common.{vec_len}
 use Rattle.jlr_links.proofs.Leaving.{made_empty}
 use Rattle.jlr_links.proofs.links.Links.new.Goals as goal
 

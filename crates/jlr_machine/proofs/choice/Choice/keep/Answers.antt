@@ -1,4 +1,4 @@
-use Rattle.std.proofs.Common.{◌≡◌, ◌∷◌, [], ◌++◌, ◌∙◌, List, ℕ, Bool, true, length, slice_set, ap, sym, subst, arith}
+use Rattle.std.proofs.Common.{◌≡◌, ◌∷◌, [], ◌++◌, ◌∙◌, true, length, slice_set, ap, sym, subst, arith}
 use Rattle.jlr_machine.specs.Choices.{Choosing, kept_by}
 use Rattle.jlr_machine.specs.SlotSets.{slots_of, IsAboveAll}
 use Rattle.jlr_machine.proofs.Members.{none_from, inserted_above_is_last}

@@ -1,4 +1,4 @@
-use Rattle.std.proofs.Common.{◌≡◌, ◌++◌, ◌∷◌, [], rules, sym, subst, ap, arith, ◌<◌, length, length-append, false, get_or, set, true}
+use Rattle.std.proofs.Common.{◌≡◌, ◌++◌, ◌∷◌, [], rules, sym, subst, ap, arith, ◌<◌, length, length-append, length-set, count_by, false, get_or, set, true}
 use Rattle.jlr_marks.specs.Marking.{AreGrey}
 use Rattle.jlr_marks.proofs.Counting.{count_marks, room_left}
 use Rattle.jlr_marks.proofs.Greying.{grey_more}
@@ -6,18 +6,23 @@ use Rattle.jlr_marks.proofs.marks.Marks.shade.Goals as goal
 
 pub push_reserved-requires : goal.push_reserved-requires
 push_reserved-requires c =
-    let bits = c.self.inside.bits.items in
-    let place = c.number-place.result in
-    let inside : place < length bits = search rules in
-    let white : get_or bits place false ≡ false = search rules in
-    omega (arith, room_left bits place inside white, c.self.invariant.0, c.self.invariant.1)
+    let bits = c.self.inside.bits in
+    let slot = c.args.slot in
+    let inside : slot < length bits = search rules in
+    let white : get_or bits slot false ≡ false = search rules in
+    omega (arith, room_left bits slot inside white, c.self.invariant.0, c.self.invariant.1)
 
 pub invariant_of-self : goal.invariant_of-self
 invariant_of-self c =
-    let bits = c.self.inside.bits.items in
+    let bits = c.self.inside.bits in
     let grey = c.self.inside.grey.items in
-    let place = c.number-place.result in
-    let inside : place < length bits = search rules in
-    let white : get_or bits place false ≡ false = search rules in
-    let pushed : c.push_reserved.new.self.items ≡ grey ++ place ∷ [] = search rules in
-    (omega (arith, ap length pushed, length-append grey (place ∷ []), count_marks bits place inside white, c.self.invariant.0), search rules, search rules, subst (AreGrey (set bits place true)) (sym pushed) (grey_more bits grey place inside white c.self.invariant.3))
+    let slot = c.args.slot in
+    let inside : slot < length bits = search rules in
+    let white : get_or bits slot false ≡ false = search rules in
+    let long = length-set bits slot true in
+    let pushed : c.push_reserved.new.self.items ≡ grey ++ slot ∷ [] = search rules in (
+      omega (arith, ap length pushed, length-append grey (slot ∷ []), ap (count_by (λ b. b)) c.insert.ensures, count_marks bits slot inside white, c.self.invariant.0),
+      omega (arith, ap length c.insert.ensures, long, c.self.invariant.1, c.push_reserved.ensures.capacity),
+      omega (arith, ap length c.insert.ensures, long, c.self.invariant.2),
+      subst (λ l. AreGrey l c.push_reserved.new.self.items) (sym c.insert.ensures) (subst (AreGrey (set bits slot true)) (sym pushed) (grey_more bits grey slot inside white c.self.invariant.3)),
+    )

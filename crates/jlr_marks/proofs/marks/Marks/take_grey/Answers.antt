@@ -25,7 +25,7 @@ returns-clause-taken c =
     subst (λ (m : Marking). Some r ≡ upcoming m.grey) c.self.view_is (ap (λ x. Some x) c.swap_remove.ensures.value ∙ sym (slice_get-get_or items c.saturating_sub.result r (within c)) ∙ ap (slice_get items) place)
 
 pub returns-clause-once : goal.returns-clause-once
-returns-clause-once c = taken_once c.self.inside.bits.items c.self.inside.grey.items c.swap_remove.new.self.items c.swap_remove.result c.self.invariant.3 (taken c)
+returns-clause-once c = taken_once c.self.inside.bits c.self.inside.grey.items c.swap_remove.new.self.items c.swap_remove.result c.self.invariant.3 (taken c)
 
 pub invariant_of-self : goal.invariant_of-self
-invariant_of-self c = (search rules, search rules, search rules, grey_less c.self.inside.bits.items c.self.inside.grey.items c.swap_remove.new.self.items c.swap_remove.result c.self.invariant.3 (taken c))
+invariant_of-self c = (search rules, search rules, search rules, grey_less c.self.inside.bits c.self.inside.grey.items c.swap_remove.new.self.items c.swap_remove.result c.self.invariant.3 (taken c))
