@@ -40,7 +40,7 @@ use Rattle.jlr_core.specs.State.{entry_of}
 use Rattle.jlr_core.specs.Steps.{IsStep}
 use Rattle.jlr_book.specs.Histories.{Ends, seated}
 use Rattle.jlr_book.specs.Making.{SuitsChoice, SuitsEntry}
-use Rattle.jlr_book.specs.Writing.{Stands, Writes, refuses}
+use Rattle.jlr_book.specs.Writing.{Refuses, Stands, Writes, refuses}
 use Rattle.jlr_book.specs.declared.room.ChoiceRoom.{ChoiceRoom}
 use Rattle.jlr_book.specs.declared.room.ChoiceRoom.TheVariants.{Collecting, Plain}
 use Rattle.jlr_book.specs.declared.room.EntryRoom.{EntryRoom}
@@ -308,3 +308,10 @@ suits_closed m ask Plain x = closed_collects m ask x
 pub still_suits : (m n : Machine) (ask : Ask) (room : EntryRoom) → n ≡ closed m → SuitsEntry m ask room → SuitsEntry n ask room
 still_suits m n ask room same x =
     subst (λ k. SuitsEntry k ask room) (sym same) (record { answer = x.answer; choice = suits_closed m (Some ask) room.choice x.choice })
+
+-- ---- An end that the core refuses
+
+pub turned_away : {R : Type 0} (h k : Kept R) (e : Event R) (answer : Answer) (resource : Option R) (chosen : Chosen) (entries : List Entry)
+    → IsStep h e (Answered answer resource) chosen k → refuses answer ≡ true → Refuses h entries e (Answered answer resource) k entries
+turned_away h k e (Refused by) resource chosen entries s is = record { steps = (chosen, s); by = by; refused = refl; stays = refl }
+turned_away h k e answer resource chosen entries s is = absurd (both_ways false refl is)

@@ -7,9 +7,9 @@ ghost use Rattle.jlr_book.specs.Histories.{last, HasNumbers, IsHistory, IsNewBoo
 ghost use Rattle.jlr_book.specs.Rules.{AsksBy, BookSteps, Cuts, EndsBy, MarksBy};
 ghost use Rattle.jlr_book.specs.Writing.{Pieces};
 
-use crate::cut::{close_cycle, cut_trace};
+use crate::cut::cut_to_image;
 use crate::entry::{record, record_end};
-use crate::event::{is_end, refuse};
+use crate::event::{decline, is_end};
 use crate::room::EntryRoom;
 use jlr_core::engine::Core;
 use jlr_event::event::{Event, Reply};
@@ -162,11 +162,10 @@ impl<R: Drop> Book<R> {
         let Some(ask) = event.plain() else {
             return self.mark_piece(event);
         };
-        if is_end(&ask) {
-            self.end(seat, ask, event)
-        } else {
-            self.enter(seat, ask, event)
-        }
+        let (mut ask, mut event) = (ask, event);
+        let mut reply = Reply::Marked(Progress::Idle);
+        self.take(seat, &mut ask, &mut event, &mut reply);
+        reply
     }
 
     /// A piece of marking of at most so many cells, which is no entry. Takes no memory.
@@ -191,14 +190,16 @@ impl<R: Drop> Book<R> {
         if !self.has_numbers() {
             return Err(AllocError);
         }
-        let image = self.core.image(self.alloc)?;
-        self.base += cut_trace(
+        let Ok(used) = cut_to_image(
+            self.alloc,
             &mut self.core,
             &mut self.choice,
             &mut self.trace,
-            image.cycle_open,
-        );
-        self.image = close_cycle(image);
+            &mut self.image,
+        ) else {
+            return Err(AllocError);
+        };
+        self.base += used;
         Ok(())
     }
 }
@@ -212,6 +213,7 @@ impl<R: Drop> Book<R> {
     }
 
     /// A piece of marking, which is no entry.
+    #[inline(never)]
     fn mark_piece(&mut self, event: Event<R>) -> Reply<R>
         requires { ask_of event ≡ None }
         ensures { Pieces self.old event result self.new }
@@ -219,12 +221,25 @@ impl<R: Drop> Book<R> {
         self.core.step(event, &mut self.choice)
     }
 
-    /// An end has its place and its number, or is refused by the core.
+    /// Takes the event of an ask where it lies, and puts its reply into the place of another.
     #[inline(always)]
-    fn end(&mut self, seat: u8, ask: Ask, event: Event<R>) -> Reply<R>
-        requires ask { ask_of event ≡ Some ask }
-        requires end { is_end ask ≡ true }
-        ensures { EndsBy seat self.old event result self.new }
+    fn take(&mut self, seat: u8, ask: &mut Ask, event: &mut Event<R>, reply: &mut Reply<R>)
+        requires { ask_of event.old ≡ Some ask.old }
+        ensures { BookSteps seat self.old event.old reply.new self.new }
+    {
+        if is_end(ask) {
+            self.end(seat, ask, event, reply);
+        } else {
+            self.enter(seat, ask, event, reply);
+        }
+    }
+
+    /// An end has its place and its number, or is refused by the core.
+    #[inline(never)]
+    fn end(&mut self, seat: u8, ask: &mut Ask, event: &mut Event<R>, reply: &mut Reply<R>)
+        requires ask { ask_of event.old ≡ Some ask.old }
+        requires end { is_end ask.old ≡ true }
+        ensures { EndsBy seat self.old event.old reply.new self.new }
     {
         record_end(
             self.alloc,
@@ -234,25 +249,26 @@ impl<R: Drop> Book<R> {
             seat,
             ask,
             event,
-        )
+            reply,
+        );
     }
 
     /// The room of its entry, its place, and one for each end that may be owed then are made before anything changes.
     #[inline(always)]
-    fn enter(&mut self, seat: u8, ask: Ask, event: Event<R>) -> Reply<R>
-        requires ask { ask_of event ≡ Some ask }
-        requires end { is_end ask ≡ false }
-        ensures { AsksBy seat self.old event result self.new }
+    fn enter(&mut self, seat: u8, ask: &mut Ask, event: &mut Event<R>, reply: &mut Reply<R>)
+        requires ask { ask_of event.old ≡ Some ask.old }
+        requires end { is_end ask.old ≡ false }
+        ensures { AsksBy seat self.old event.old reply.new self.new }
     {
         if !self.has_numbers() {
-            return refuse(event, Refusal::Exhausted);
+            return decline(event, Refusal::Exhausted, reply);
         }
-        let Ok(room) = EntryRoom::for_event(self.alloc, &self.core, self.limits.cells, &ask, &event)
+        let Ok(room) = EntryRoom::for_event(self.alloc, &self.core, self.limits.cells, ask, event)
         else {
-            return refuse(event, Refusal::NoMemory);
+            return decline(event, Refusal::NoMemory, reply);
         };
         if self.trace.reserve(PLACES).is_err() {
-            return refuse(event, Refusal::NoMemory);
+            return decline(event, Refusal::NoMemory, reply);
         }
         if self.trace.len() < self.limits.trace as usize {
             return record(
@@ -263,18 +279,19 @@ impl<R: Drop> Book<R> {
                 seat,
                 ask,
                 event,
+                reply,
             );
         }
-        let Ok(image) = self.core.image(self.alloc) else {
-            return refuse(event, Refusal::NoMemory);
-        };
-        self.base += cut_trace(
+        let Ok(used) = cut_to_image(
+            self.alloc,
             &mut self.core,
             &mut self.choice,
             &mut self.trace,
-            image.cycle_open,
-        );
-        self.image = close_cycle(image);
+            &mut self.image,
+        ) else {
+            return decline(event, Refusal::NoMemory, reply);
+        };
+        self.base += used;
         record(
             &mut self.core,
             &mut self.choice,
@@ -283,6 +300,7 @@ impl<R: Drop> Book<R> {
             seat,
             ask,
             event,
-        )
+            reply,
+        );
     }
 }

@@ -1,5 +1,5 @@
 //! What a cut does to the trace and the core.
-ghost use Rattle.std.specs.Prelude.{◌≡◌, ◌≤◌, ◌<◌, ◌+◌, ◌^◌, true, false, cond, [], length, vec_len, vec_capacity, None};
+ghost use Rattle.std.specs.Prelude.{◌≡◌, ◌≤◌, ◌<◌, ◌+◌, ◌^◌, true, false, cond, [], length, vec_len, vec_capacity, None, IfOk, OnOk, OnErr};
 ghost use Rattle.jlr_core.specs.Steps.{Steps};
 ghost use Rattle.jlr_book.specs.Rules.{GivesUp};
 ghost use Rattle.jlr_book.specs.Writing.{Stands};
@@ -10,9 +10,10 @@ use jlr_machine::ask::Answer;
 use jlr_machine::choice::Choice;
 use jlr_machine::entry::Entry;
 use jlr_machine::machine::Machine;
+use std::alloc::{AllocError, Global};
 
 /// Empties the trace, and says how many numbers were used: giving up an open cycle takes one more.
-pub(crate) fn cut_trace<R: Drop>(
+fn cut_trace<R: Drop>(
     core: &mut Core<R>,
     choice: &mut Choice,
     trace: &mut Vec<Entry>,
@@ -39,6 +40,37 @@ pub(crate) fn cut_trace<R: Drop>(
     used
 }
 
+/// The core's machine becomes the image, and the trace is let go, as `cut_trace` does. Says how many numbers were used.
+///
+/// # Errors
+/// `AllocError` where there is no memory for the image. Nothing has changed then.
+#[inline(never)]
+pub(crate) fn cut_to_image<R: Drop>(
+    alloc: Global,
+    core: &mut Core<R>,
+    choice: &mut Choice,
+    trace: &mut Vec<Entry>,
+    image: &mut Machine,
+) -> Result<u64, AllocError>
+    requires fits { vec_len trace.old + 1 < 2 ^ 64 }
+    requires stands { Stands core.old }
+    requires choice { length core.old.machine.objects ≤ choice.old.cells }
+    ensures used { IfOk result (λ used. used ≡ vec_len trace.old + cond core.old.machine.cycle_open 1 0) }
+    ensures image { OnOk result (image.new ≡ record core.old.machine { cycle_open = false }) }
+    ensures gives_up { OnOk result (GivesUp core.old.machine.cycle_open core.old core.new) }
+    ensures machine { OnOk result (core.new.machine ≡ record core.old.machine { cycle_open = false }) }
+    ensures stands { OnOk result (Stands core.new) }
+    ensures items { OnOk result (trace.new.items ≡ []) }
+    ensures room { vec_capacity trace.new ≡ vec_capacity trace.old }
+    ensures choice { choice.new.cells ≡ choice.old.cells }
+    ensures err { OnErr result ((core.new ≡ core.old) × (trace.new ≡ trace.old) × (image.new ≡ image.old)) }
+{
+    let machine = core.image(alloc)?;
+    let used = cut_trace(core, choice, trace, machine.cycle_open);
+    *image = close_cycle(machine);
+    Ok(used)
+}
+
 /// Gives up an open cycle. The answer is yes, and no resource goes with it.
 fn give_up<R: Drop>(core: &mut Core<R>, choice: &mut Choice)
     requires cycle { core.old.machine.cycle_open ≡ true }
@@ -53,7 +85,7 @@ fn give_up<R: Drop>(core: &mut Core<R>, choice: &mut Choice)
 }
 
 /// The machine of a core whose cycle is given up.
-pub(crate) fn close_cycle(image: Machine) -> Machine
+fn close_cycle(image: Machine) -> Machine
     ensures { result ≡ record image { cycle_open = false } }
 {
     Machine {

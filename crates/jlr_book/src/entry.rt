@@ -16,140 +16,147 @@ use jlr_machine::choice::Choice;
 use jlr_machine::entry::{Chosen, Entry};
 use jlr_machine::fresh::FreshSlots;
 use std::alloc::Global;
+use std::mem;
 
 /// An ask that is no end: one entry, in a place that is there.
 #[inline(always)]
-pub(crate) fn record<R>(
+pub(crate) fn record<R: Drop>(
     core: &mut Core<R>,
     choice: &mut Choice,
     room: EntryRoom,
     trace: &mut Vec<Entry>,
     seat: u8,
-    ask: Ask,
-    event: Event<R>,
-) -> Reply<R>
-    requires ask { ask_of event ≡ Some ask }
+    ask: &mut Ask,
+    event: &mut Event<R>,
+    reply: &mut Reply<R>,
+)
+    requires ask { ask_of event.old ≡ Some ask.old }
     requires place { vec_len trace.old < vec_capacity trace.old }
     requires stands { Stands core.old }
     requires choice { length core.old.machine.objects ≤ choice.old.cells }
-    requires room { SuitsEntry core.old.machine ask room }
-    ensures writes { Writes seat core.old trace.old.items event result core.new trace.new.items }
+    requires room { SuitsEntry core.old.machine ask.old room }
+    ensures writes { Writes seat core.old trace.old.items event.old reply.new core.new trace.new.items }
     ensures cells { length core.new.machine.objects ≡ length core.old.machine.objects }
     ensures room { vec_capacity trace.new ≡ vec_capacity trace.old }
     ensures choice { choice.new.cells ≡ choice.old.cells }
 {
     let EntryRoom { choice: own, list } = room;
     match own {
-        ChoiceRoom::Plain => record_plainly(core, choice, list, trace, seat, ask, event),
-        ChoiceRoom::Collecting(own) => record_collecting(core, own, list, trace, seat, ask, event),
+        ChoiceRoom::Plain => record_plainly(core, choice, list, trace, seat, ask, event, reply),
+        ChoiceRoom::Collecting(own) => {
+            record_collecting(core, own, list, trace, seat, ask, event, reply)
+        }
     }
 }
 
 /// An entry without a collection. The core is lent a choice.
 #[inline(always)]
-fn record_plainly<R>(
+fn record_plainly<R: Drop>(
     core: &mut Core<R>,
     lent: &mut Choice,
     list: ListRoom,
     trace: &mut Vec<Entry>,
     seat: u8,
-    ask: Ask,
-    event: Event<R>,
-) -> Reply<R>
-    requires ask { ask_of event ≡ Some ask }
+    ask: &mut Ask,
+    event: &mut Event<R>,
+    reply: &mut Reply<R>,
+)
+    requires ask { ask_of event.old ≡ Some ask.old }
     requires place { vec_len trace.old < vec_capacity trace.old }
     requires stands { Stands core.old }
     requires choice { length core.old.machine.objects ≤ lent.old.cells }
-    requires list { HasRoomFor ask list }
-    requires plain { may_collect core.old.machine (Some ask) ≡ false }
-    ensures writes { Writes seat core.old trace.old.items event result core.new trace.new.items }
+    requires list { HasRoomFor ask.old list }
+    requires plain { may_collect core.old.machine (Some ask.old) ≡ false }
+    ensures writes { Writes seat core.old trace.old.items event.old reply.new core.new trace.new.items }
     ensures cells { length core.new.machine.objects ≡ length core.old.machine.objects }
     ensures room { vec_capacity trace.new ≡ vec_capacity trace.old }
     ensures choice { lent.new.cells ≡ lent.old.cells }
 {
     let mut list = list;
-    let reply = core.step(event, lent);
+    *reply = core.step(mem::replace(event, Event::Abandon), lent);
     trace.push_reserved(Entry {
         seat,
-        ask,
-        answer: list.copy_of(&reply),
+        ask: mem::replace(ask, Ask::Abandon),
+        answer: list.copy_of(reply),
         choice: Chosen {
             collected: None,
             fresh: lent.fresh().copy(),
         },
     });
-    reply
 }
 
 /// An entry that may come with a collection. Its choice stays in it.
-fn record_collecting<R>(
+#[inline(never)]
+fn record_collecting<R: Drop>(
     core: &mut Core<R>,
     own: Box<Choice>,
     list: ListRoom,
     trace: &mut Vec<Entry>,
     seat: u8,
-    ask: Ask,
-    event: Event<R>,
-) -> Reply<R>
-    requires ask { ask_of event ≡ Some ask }
+    ask: &mut Ask,
+    event: &mut Event<R>,
+    reply: &mut Reply<R>,
+)
+    requires ask { ask_of event.old ≡ Some ask.old }
     requires place { vec_len trace.old < vec_capacity trace.old }
     requires stands { Stands core.old }
     requires choice { length core.old.machine.objects ≤ own.value.cells }
-    requires list { HasRoomFor ask list }
-    ensures writes { Writes seat core.old trace.old.items event result core.new trace.new.items }
+    requires list { HasRoomFor ask.old list }
+    ensures writes { Writes seat core.old trace.old.items event.old reply.new core.new trace.new.items }
     ensures cells { length core.new.machine.objects ≡ length core.old.machine.objects }
     ensures room { vec_capacity trace.new ≡ vec_capacity trace.old }
 {
     let mut own = Box::into_inner(own);
     let mut list = list;
-    let reply = core.step(event, &mut own);
-    let answer = list.copy_of(&reply);
+    *reply = core.step(mem::replace(event, Event::Abandon), &mut own);
+    let answer = list.copy_of(reply);
     trace.push_reserved(Entry {
         seat,
-        ask,
+        ask: mem::replace(ask, Ask::Abandon),
         answer,
         choice: own.into_chosen(),
     });
-    reply
 }
 
 /// An end: one entry, in the place that was kept for it, unless the core refuses it.
-pub(crate) fn record_end<R>(
+pub(crate) fn record_end<R: Drop>(
     alloc: Global,
     core: &mut Core<R>,
     choice: &mut Choice,
     trace: &mut Vec<Entry>,
     seat: u8,
-    ask: Ask,
-    event: Event<R>,
-) -> Reply<R>
-    requires ask { ask_of event ≡ Some ask }
-    requires end { is_end ask ≡ true }
+    ask: &mut Ask,
+    event: &mut Event<R>,
+    reply: &mut Reply<R>,
+)
+    requires ask { ask_of event.old ≡ Some ask.old }
+    requires end { is_end ask.old ≡ true }
     requires places { vec_len trace.old + owed core.old.machine ≤ vec_capacity trace.old }
     requires stands { Stands core.old }
     requires choice { length core.old.machine.objects ≤ choice.old.cells }
-    ensures writes { WritesEnd seat core.old trace.old.items event result core.new trace.new.items }
+    ensures writes { WritesEnd seat core.old trace.old.items event.old reply.new core.new trace.new.items }
     ensures cells { length core.new.machine.objects ≡ length core.old.machine.objects }
     ensures room { vec_capacity trace.new ≡ vec_capacity trace.old }
     ensures choice { choice.new.cells ≡ choice.old.cells }
 {
-    match core.step(event, choice) {
+    match core.step(mem::replace(event, Event::Abandon), choice) {
         Reply::Answered { answer, resource } => {
             if is_refused(&answer) {
-                return Reply::Answered { answer, resource };
+                *reply = Reply::Answered { answer, resource };
+                return;
             }
             trace.push_reserved(Entry {
                 seat,
-                ask,
+                ask: mem::replace(ask, Ask::Abandon),
                 answer: ListRoom::none(alloc).copy(&answer),
                 choice: Chosen {
                     collected: None,
                     fresh: FreshSlots::new(),
                 },
             });
-            Reply::Answered { answer, resource }
+            *reply = Reply::Answered { answer, resource };
         }
-        Reply::Marked(progress) => Reply::Marked(progress),
+        Reply::Marked(progress) => *reply = Reply::Marked(progress),
     }
 }
 

@@ -1,5 +1,5 @@
 -- What was read of a line, and what the line is answered.
-use Rattle.std.proofs.Common.{◌≡◌, ◌↔◌, ℕ, List, inl, inr, refl, sym, ap, subst, ◌∙◌}
+use Rattle.std.proofs.Common.{◌≡◌, ◌↔◌, ℕ, List, inl, inr, refl, ap, subst, ◌∙◌}
 use Rattle.std.specs.Prelude.{Result, Ok, Err, IfErr}
 use Rattle.jlr_types.specs.declared.Refusal.{Refusal}
 use Rattle.jlr_machine.specs.declared.ask.Answer.{Answer}

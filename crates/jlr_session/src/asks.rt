@@ -1,5 +1,5 @@
 //! Commands carried out by the asks of a port.
-ghost use Rattle.std.specs.Prelude.{◌≡◌, ◌≤◌, length, ⊤};
+ghost use Rattle.std.specs.Prelude.{◌≡◌, ⊤};
 ghost use Rattle.jlr_event.specs.declared.event.Event.TheVariants as event;
 ghost use Rattle.jlr_session.specs.Asks.{AsksOnce, AsksTwice, TellsOpened, TellsConnected, TellsRead, TellsWritten, TellsFinished, prepared_by, out_by, job_by, event_of};
 
@@ -8,12 +8,12 @@ use crate::carry::CarryOut;
 use crate::event::event_for;
 use crate::job::{carry_out, job_of};
 use crate::port::Port;
-use crate::reply::{handed_out, prepared, said};
+use crate::reply::{handed_out, prepared, say};
 use jlr_device::{Device, Mode, Resource};
 use jlr_event::event::Event;
 use jlr_machine::ask::Answer;
 use jlr_types::{Handle, Mutator};
-use jlr_wire::command::Command;
+use jlr_wire::command::{Command, Digits};
 
 /// Commands are carried out by asks of a port, and between two asks by a call of a device or of one of its resources.
 pub(crate) struct ByAsks;
@@ -28,35 +28,18 @@ where
         D.Res.handling };
 
     #[inline(always)]
-    fn carry_out(heap: &mut P, device: &mut D, command: &Command<'_>) -> Answer {
+    fn carry_out(heap: &mut P, device: &mut D, command: &Command<'_>, answer: &mut Answer) {
         let mutator = heap.mutator();
         match command {
-            Command::Open { mode, path } => open(heap, device, mutator, *mode, path.as_str()),
-            Command::Connect { path } => connect(heap, device, mutator, path.as_str()),
-            Command::Read { guard, count } => read(heap, mutator, *guard, *count),
-            Command::Write { guard, bytes } => write(
-                heap,
-                mutator,
-                *guard,
-                bytes.decode().as_slice(),
-            ),
-            Command::Clean { cleanable } => work(
-                heap,
-                mutator,
-                Event::Clean {
-                    mutator,
-                    cleanable: *cleanable,
-                },
-            ),
-            Command::Close { guard } => work(
-                heap,
-                mutator,
-                Event::Close {
-                    mutator,
-                    guard: *guard,
-                },
-            ),
-            command => ask_once(heap, mutator, command),
+            Command::Open { mode, path } => {
+                open(heap, device, mutator, *mode, path.as_str(), answer)
+            }
+            Command::Connect { path } => connect(heap, device, mutator, path.as_str(), answer),
+            Command::Read { guard, count } => read(heap, mutator, *guard, *count, answer),
+            Command::Write { guard, bytes } => write(heap, mutator, *guard, bytes, answer),
+            Command::Clean { cleanable } => clean(heap, mutator, *cleanable, answer),
+            Command::Close { guard } => close(heap, mutator, *guard, answer),
+            command => ask_once(heap, mutator, command, answer),
         }
     }
 
@@ -67,97 +50,148 @@ where
 
 /// Carries out a command that asks once.
 #[inline(always)]
-fn ask_once<P: Port<R>, R: Drop>(port: &mut P, mutator: Mutator, command: &Command<'_>) -> Answer
-    ensures { AsksOnce P.asking (event_of mutator command.now) port.old result port.new }
+fn ask_once<P: Port<R>, R: Drop>(
+    port: &mut P,
+    mutator: Mutator,
+    command: &Command<'_>,
+    answer: &mut Answer,
+)
+    ensures { AsksOnce P.asking (event_of mutator command.now) port.old answer.new port.new }
 {
     match event_for(mutator, command) {
-        Some(event) => said(port.ask(event)),
-        None => Answer::Done,
+        Some(event) => say(port.ask(event), answer),
+        None => *answer = Answer::Done,
     }
 }
 
 /// Opens a file.
+#[inline(never)]
 fn open<P: Port<D::Res>, D: Device>(
     port: &mut P,
     device: &mut D,
     mutator: Mutator,
     mode: Mode,
     path: &str,
-) -> Answer
+    answer: &mut Answer,
+)
 where
     D::Res: Drop,
     ensures { AsksTwice P.asking (event.Prepare mutator) prepared_by
         (λ _. TellsOpened (record { count = D.count; opens = D.may_open; connects = D.may_connect; failures = D.Res.handling.count }) mutator mode path.now device.old device.new)
-        (device.new ≡ device.old) port.old result port.new }
+        (device.new ≡ device.old) port.old answer.new port.new }
 {
     match prepared(port.ask(Event::Prepare { mutator })) {
-        Ok(()) => said(port.ask(opened(device, mutator, mode, path))),
-        Err(answer) => answer,
+        Ok(()) => say(port.ask(opened(device, mutator, mode, path)), answer),
+        Err(refused) => *answer = refused,
     }
 }
 
 /// Joins a socket.
+#[inline(never)]
 fn connect<P: Port<D::Res>, D: Device>(
     port: &mut P,
     device: &mut D,
     mutator: Mutator,
     path: &str,
-) -> Answer
+    answer: &mut Answer,
+)
 where
     D::Res: Drop,
     ensures { AsksTwice P.asking (event.Prepare mutator) prepared_by
         (λ _. TellsConnected (record { count = D.count; opens = D.may_open; connects = D.may_connect; failures = D.Res.handling.count }) mutator path.now device.old device.new)
-        (device.new ≡ device.old) port.old result port.new }
+        (device.new ≡ device.old) port.old answer.new port.new }
 {
     match prepared(port.ask(Event::Prepare { mutator })) {
-        Ok(()) => said(port.ask(connected(device, mutator, path))),
-        Err(answer) => answer,
+        Ok(()) => say(port.ask(connected(device, mutator, path)), answer),
+        Err(refused) => *answer = refused,
     }
 }
 
 /// Reads from a file or a socket.
+#[inline(never)]
 fn read<P: Port<R>, R: Resource + Drop>(
     port: &mut P,
     mutator: Mutator,
     guard: Handle,
     count: u8,
-) -> Answer
+    answer: &mut Answer,
+)
     ensures { AsksTwice P.asking (event.CheckOut mutator guard) out_by
         (TellsRead R.handling mutator count)
-        ⊤ port.old result port.new }
+        ⊤ port.old answer.new port.new }
 {
     match handed_out(port.ask(Event::CheckOut { mutator, guard })) {
-        Ok(resource) => said(port.ask(read_back(mutator, resource, count))),
-        Err(answer) => answer,
+        Ok(resource) => say(port.ask(read_back(mutator, resource, count)), answer),
+        Err(refused) => *answer = refused,
     }
 }
 
 /// Writes to a file or a socket.
+#[inline(never)]
 fn write<P: Port<R>, R: Resource + Drop>(
     port: &mut P,
     mutator: Mutator,
     guard: Handle,
-    bytes: &[u8],
-) -> Answer
-    requires { length bytes.now ≤ 200 }
+    digits: &Digits<'_>,
+    answer: &mut Answer,
+)
     ensures { AsksTwice P.asking (event.CheckOut mutator guard) out_by
-        (TellsWritten R.handling mutator bytes.now)
-        ⊤ port.old result port.new }
+        (TellsWritten R.handling mutator digits.now)
+        ⊤ port.old answer.new port.new }
 {
+    let bytes = digits.decode();
     match handed_out(port.ask(Event::CheckOut { mutator, guard })) {
-        Ok(resource) => said(port.ask(written_back(mutator, resource, bytes))),
-        Err(answer) => answer,
+        Ok(resource) => say(
+            port.ask(written_back(mutator, resource, bytes.as_slice())),
+            answer,
+        ),
+        Err(refused) => *answer = refused,
     }
 }
 
+/// Takes up a cleaning action before its object is reclaimed, and does its work.
+#[inline(never)]
+fn clean<P: Port<R>, R: Resource + Drop>(
+    port: &mut P,
+    mutator: Mutator,
+    cleanable: Handle,
+    answer: &mut Answer,
+)
+    ensures { AsksTwice P.asking (event.Clean mutator cleanable) job_by
+        (TellsFinished R.handling mutator)
+        ⊤ port.old answer.new port.new }
+{
+    work(port, mutator, Event::Clean { mutator, cleanable }, answer);
+}
+
+/// Takes up the finishing of a resource, and does it.
+#[inline(never)]
+fn close<P: Port<R>, R: Resource + Drop>(
+    port: &mut P,
+    mutator: Mutator,
+    guard: Handle,
+    answer: &mut Answer,
+)
+    ensures { AsksTwice P.asking (event.Close mutator guard) job_by
+        (TellsFinished R.handling mutator)
+        ⊤ port.old answer.new port.new }
+{
+    work(port, mutator, Event::Close { mutator, guard }, answer);
+}
+
 /// Takes up a cleaning action and does its work.
-fn work<P: Port<R>, R: Resource + Drop>(port: &mut P, mutator: Mutator, event: Event<R>) -> Answer
+fn work<P: Port<R>, R: Resource + Drop>(
+    port: &mut P,
+    mutator: Mutator,
+    event: Event<R>,
+    answer: &mut Answer,
+)
     ensures { AsksTwice P.asking event job_by
         (TellsFinished R.handling mutator)
-        ⊤ port.old result port.new }
+        ⊤ port.old answer.new port.new }
 {
     match job_of(port.ask(event)) {
-        Ok(job) => said(port.ask(carry_out(mutator.number(), job))),
-        Err(answer) => answer,
+        Ok(job) => say(port.ask(carry_out(mutator.number(), job)), answer),
+        Err(refused) => *answer = refused,
     }
 }

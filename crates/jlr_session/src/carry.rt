@@ -9,9 +9,9 @@ pub trait CarryOut<H, D> {
     // what may come of a command, and of a settling, to the heap and the device
     ghost carries: { Carrying (H × D) };
 
-    /// Carries a command out and gives its answer. `bye` is the session's own and never comes here.
-    fn carry_out(heap: &mut H, device: &mut D, command: &Command<'_>) -> Answer
-        ensures { carries.command (heap.old, device.old) command.now result (heap.new, device.new) };
+    /// Carries a command out and puts its answer into the place of another. `bye` is the session's own and never comes here.
+    fn carry_out(heap: &mut H, device: &mut D, command: &Command<'_>, answer: &mut Answer)
+        ensures { carries.command (heap.old, device.old) command.now answer.new (heap.new, device.new) };
 
     /// Does what is left to do after a reply went out.
     fn settle(heap: &mut H)

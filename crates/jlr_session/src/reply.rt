@@ -23,6 +23,17 @@ pub(crate) fn said<R: Drop>(reply: Reply<R>) -> Answer
     }
 }
 
+/// Puts the answer of a reply into the place of another. A resource that comes with it is dropped.
+#[inline(always)]
+pub(crate) fn say<R: Drop>(reply: Reply<R>, answer: &mut Answer)
+    ensures { answer.new ≡ said_by reply }
+{
+    match reply {
+        Reply::Answered { answer: said, .. } => *answer = said,
+        Reply::Marked(_) => *answer = none(),
+    }
+}
+
 /// Whether room was made for a resource.
 ///
 /// # Errors

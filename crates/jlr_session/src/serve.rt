@@ -53,6 +53,7 @@ where
 }
 
 /// The mutator joins.
+#[inline(never)]
 fn join<P: Port<R>, R: Drop>(port: &mut P) -> Answer
     ensures { (reply : Reply R) × P.asking.asks port.old (Join (P.asking.mutator port.old)) reply port.new × (result ≡ said_by reply) }
 {
@@ -61,6 +62,7 @@ fn join<P: Port<R>, R: Drop>(port: &mut P) -> Answer
 }
 
 /// The mutator leaves.
+#[inline(never)]
 fn leave<P: Port<R>, R: Drop>(port: &mut P)
     ensures { (reply : Reply R) × P.asking.asks port.old (Leave (P.asking.mutator port.old)) reply port.new }
 {
@@ -69,6 +71,7 @@ fn leave<P: Port<R>, R: Drop>(port: &mut P)
 }
 
 /// Tells why the mutator could not join.
+#[inline(never)]
 fn turn_away<W: Write, P: Port<R>, R>(writer: &mut W, port: &mut P, refusal: Refusal) -> SessionEnd
     ensures { (out : List ℕ) × Appends (W.contents writer.old) (W.contents writer.new) out × IsTurnedAway P.asking refusal result port.old out port.new }
 {

@@ -11,24 +11,26 @@ use jlr_wire::command::{Command, read_command};
 use jlr_wire::reply::{WriteFault, write_reply};
 use std::io::Write;
 
-/// What a line is answered that was read: `bye` by `ok`, a line that is no command by its refusal, and every
+/// Answers a line that was read, in place of another answer: `bye` by `ok`, a line that is no command by its refusal, and every
 /// other command by what carries it out.
 #[inline(always)]
 fn answer_of<C: CarryOut<H, D>, H, D>(
     read: &Result<Command<'_>, Refusal>,
     heap: &mut H,
     device: &mut D,
-) -> Answer
-    ensures { AnswersRead C.carries read.now (heap.old, device.old) result (heap.new, device.new) }
+    answer: &mut Answer,
+)
+    ensures { AnswersRead C.carries read.now (heap.old, device.old) answer.new (heap.new, device.new) }
 {
     match read {
         Ok(command) => {
             if is_bye(command) {
-                return Answer::Done;
+                *answer = Answer::Done;
+                return;
             }
-            C::carry_out(heap, device, command)
+            C::carry_out(heap, device, command, answer);
         }
-        Err(refusal) => Answer::Refused(*refusal),
+        Err(refusal) => *answer = Answer::Refused(*refusal),
     }
 }
 
@@ -68,7 +70,8 @@ pub fn answer_line<C: CarryOut<H, D>, H, D, W: Write>(
     ensures { TurnEnds C.carries line.now (heap.old, device.old) (W.contents writer.old) result (heap.new, device.new) (W.contents writer.new) }
 {
     let read = read_command(line);
-    let answer = answer_of::<C, H, D>(&read, heap, device);
+    let mut answer = Answer::Done;
+    answer_of::<C, H, D>(&read, heap, device, &mut answer);
     if reply(&answer, writer).is_err() {
         return Some(SessionEnd::WriteFault);
     }

@@ -13,3 +13,4 @@ pub mod Data
 pub mod Spaced
 pub mod Streams
 pub mod Unique
+pub mod Words

@@ -5,7 +5,7 @@ use Rattle.std.specs.Result.{OkIff, result_ok}
 use Rattle.std.specs.Str.{bytes_eq}
 use Rattle.std.specs.Str.Parse.{digits_value}
 use Rattle.std.proofs.lemmas.Slice.Eq.{bytes_eq-Decides}
-use Rattle.std.specs.Prelude.{length, slice_index_or, ◌/◌, ◌%◌}
+use Rattle.std.specs.Prelude.{length, slice_index_or, ◌/◌}
 use Rattle.std.proofs.lemmas.Fmt.{decimal_digit, decimal_is_IsNumeral, decimal_injective}
 use Rattle.itoa.proofs.Decimal.{decimal_two}
 use Rattle.std.proofs.lemmas.Option.{cond_some, none-some}

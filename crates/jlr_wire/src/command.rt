@@ -14,7 +14,8 @@ use crate::layout::layout;
 use crate::number::{count, note, number};
 use crate::path::Path;
 use crate::pieces::LINE_LIMIT;
-use crate::word::{Digits, mode, name};
+pub use crate::word::Digits;
+use crate::word::{mode, name};
 use arrayvec::ArrayVec;
 use jlr_device::Mode;
 use jlr_machine::ask::FullMode;
@@ -199,7 +200,20 @@ fn fields_of<'a>(line: &'a [u8]) -> Option<ArrayVec<&'a [u8], FIELD_LIMIT>>
 fn is(field: &[u8], word: &[u8]) -> bool
     ensures { result ≡ bytes_eq field.now word.now }
 {
-    field.len() == word.len() && field == word
+    field.len() == word.len() && is_same(field, word)
+}
+
+/// Whether two texts of one length are the same. They are compared one byte after the other: words are short.
+fn is_same(field: &[u8], word: &[u8]) -> bool
+    requires { length field.now ≡ length word.now }
+    ensures { result ≡ bytes_eq field.now word.now }
+{
+    for i in 0..field.len() {
+        if field[i] != word[i] {
+            return false;
+        }
+    }
+    true
 }
 
 /// A command that is its name alone.

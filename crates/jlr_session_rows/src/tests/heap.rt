@@ -25,15 +25,17 @@ impl Heap {
 impl CarryOut<Heap, ()> for Heap {
     ghost carries = { record { command = λ _ _ _ _. Unit {0}; settling = λ _ _. Unit {0} } };
 
-    fn carry_out(heap: &mut Heap, _device: &mut (), _command: &Command<'_>) -> Answer {
+    fn carry_out(heap: &mut Heap, _device: &mut (), _command: &Command<'_>, answer: &mut Answer) {
         if !heap.counts {
-            return Answer::Done;
+            *answer = Answer::Done;
+            return;
         }
         if heap.count >= 3 {
-            return Answer::Handed(Handed::Nothing);
+            *answer = Answer::Handed(Handed::Nothing);
+            return;
         }
         heap.count += 1;
-        Answer::Handle(Handle::new(heap.count))
+        *answer = Answer::Handle(Handle::new(heap.count));
     }
 
     fn settle(heap: &mut Heap) {

@@ -11,8 +11,8 @@ use Rattle.jlr_book.proofs.book.Book.enter.Goals as goal
 pub record-requires-clause-stands : goal.record-requires-clause-stands
 record-requires-clause-stands g c = let e = c.self.invariant.history.ends in (e.0, e.2, e.3)
 
-pub cut_trace-requires-clause-stands : goal.cut_trace-requires-clause-stands
-cut_trace-requires-clause-stands g c = let e = c.self.invariant.history.ends in (e.0, e.2, e.3)
+pub cut_to_image-requires-clause-stands : goal.cut_to_image-requires-clause-stands
+cut_to_image-requires-clause-stands g c = let e = c.self.invariant.history.ends in (e.0, e.2, e.3)
 
 -- ---- Without a cut
 
@@ -26,8 +26,8 @@ invariant_of-self-then-len-self g c =
     let numbers = subst HasNumbers (sym c.self.view_is) c.if-not-has_numbers.ensures in
     let room : c.reserve.new.self.len + 130 ≤ c.reserve.new.self.cap = search rules in
     let same = c.reserve.ensures.len in
-    let w = subst (λ xs. Writes c.args.seat old.core xs c.args.event c.record.result new.core new.trace.items) c.reserve.ensures.items c.record.ensures.writes in
-    let x = enter_goes_on old.limits old.base old.image old.trace.items new.trace.items old.core new.core c.args.seat c.args.event c.record.result kept.history w c.record.ensures.cells (omega (arith, numbers, l)) in
+    let w = subst (λ xs. Writes c.args.seat old.core xs c.args.event.now c.record.new.reply new.core new.trace.items) c.reserve.ensures.items c.record.ensures.writes in
+    let x = enter_goes_on old.limits old.base old.image old.trace.items new.trace.items old.core new.core c.args.seat c.args.event.now c.record.new.reply kept.history w c.record.ensures.cells (omega (arith, numbers, l)) in
     record { history = x.0; places = omega (arith, l, l', x.1, x.2, room, same, c.record.ensures.room); choice = omega (arith, kept.choice, c.record.ensures.choice) }
 
 pub returns-then-len-self : goal.returns-then-len-self
@@ -37,23 +37,23 @@ returns-then-len-self g c =
     let l = old.trace.ok.0 in
     let same = c.reserve.ensures.len in
     let numbers = subst HasNumbers (sym c.self.view_is) c.if-not-has_numbers.ensures in
-    let w = subst (λ xs. Writes c.args.seat old.core xs c.args.event c.record.result new.core new.trace.items) c.reserve.ensures.items c.record.ensures.writes in
-    subst (λ h. AsksBy c.args.seat h c.args.event c.record.result (told old.limits old.base old.image new.trace.items new.core)) c.self.view_is
-    (asks_by old.limits old.base old.image old.trace.items new.trace.items old.core new.core c.args.seat c.args.event c.record.result numbers (omega (arith, l, same, c.if-len-self.true)) w)
+    let w = subst (λ xs. Writes c.args.seat old.core xs c.args.event.now c.record.new.reply new.core new.trace.items) c.reserve.ensures.items c.record.ensures.writes in
+    subst (λ h. AsksBy c.args.seat h c.args.event.now c.record.new.reply (told old.limits old.base old.image new.trace.items new.core)) c.self.view_is
+    (asks_by old.limits old.base old.image old.trace.items new.trace.items old.core new.core c.args.seat c.args.event.now c.record.new.reply numbers (omega (arith, l, same, c.if-len-self.true)) w)
 
 -- ---- After a cut
 
 pub record-requires-2-clause-place : goal.record-requires-2-clause-place
 record-requires-2-clause-place g c =
     let room : c.reserve.new.self.len + 130 ≤ c.reserve.new.self.cap = search rules in
-    let none = ap length c.cut_trace.ensures.items in
-    let l' = c.cut_trace.new.trace.ok.0 in
-    omega (arith, none, l', room, c.cut_trace.ensures.room)
+    let none = ap length c.in-Ok-cut_to_image.ensures.items in
+    let l' = c.cut_to_image.new.trace.ok.0 in
+    omega (arith, none, l', room, c.cut_to_image.ensures.room)
 
 pub record-requires-2-clause-room : goal.record-requires-2-clause-room
-record-requires-2-clause-room g c = still_suits c.self.inside.core.machine c.cut_trace.new.core.machine c.args.ask c.in-Ok.room c.cut_trace.ensures.machine c.in-Ok.ensures
+record-requires-2-clause-room g c = still_suits c.self.inside.core.machine c.cut_to_image.new.core.machine c.args.ask.now c.in-Ok.room c.in-Ok-cut_to_image.ensures.machine c.in-Ok.ensures
 
-cut_is : (g : Over) (c : goal.After-record-2 g) → IsCut c.self.inside.limits c.self.inside.base c.cut_trace.result c.self.inside.image c.close_cycle.result c.self.inside.trace.items c.self.inside.core c.cut_trace.new.core
+cut_is : (g : Over) (c : goal.After-record-2 g) → IsCut c.self.inside.limits c.self.inside.base c.in-Ok-cut_to_image.used c.self.inside.image c.cut_to_image.new.image c.self.inside.trace.items c.self.inside.core c.cut_to_image.new.core
 cut_is g c =
     let old = c.self.inside in
     let l = old.trace.ok.0 in
@@ -61,11 +61,11 @@ cut_is g c =
     record {
       history = c.self.invariant.history;
       numbers = subst HasNumbers (sym c.self.view_is) c.if-not-has_numbers.ensures;
-      image_is = c.close_cycle.ensures ∙ ap {A = Machine} {B = Machine} closed c.in-Ok-image.ensures.exact;
-      machine = c.cut_trace.ensures.machine;
-      gives_up = c.cut_trace.ensures.gives_up;
-      stands = c.cut_trace.ensures.stands;
-      used_is = omega (arith, l, same, c.cut_trace.ensures.used);
+      image_is = c.in-Ok-cut_to_image.ensures.image;
+      machine = c.in-Ok-cut_to_image.ensures.machine;
+      gives_up = c.in-Ok-cut_to_image.ensures.gives_up;
+      stands = c.in-Ok-cut_to_image.ensures.stands;
+      used_is = omega (arith, l, same, c.in-Ok-cut_to_image.ensures.used);
     }
 
 pub invariant_of-self-2 : goal.invariant_of-self-2
@@ -75,9 +75,9 @@ invariant_of-self-2 g c =
     let new = c.record-2.new in
     let l' = new.trace.ok.0 in
     let room : c.reserve.new.self.len + 130 ≤ c.reserve.new.self.cap = search rules in
-    let w = subst (λ xs. Writes c.args.seat c.cut_trace.new.core xs c.args.event c.record-2.result new.core new.trace.items) c.cut_trace.ensures.items c.record-2.ensures.writes in
-    let x = cut_goes_on old.limits old.base c.cut_trace.result old.image c.close_cycle.result old.trace.items old.core c.cut_trace.new.core new.trace.items new.core c.args.seat c.args.event c.record-2.result (cut_is g c) w c.record-2.ensures.cells in
-    record { history = x.0; places = omega (arith, l', x.1, x.2, room, c.cut_trace.ensures.room, c.record-2.ensures.room); choice = omega (arith, kept.choice, c.cut_trace.ensures.choice, c.record-2.ensures.choice) }
+    let w = subst (λ xs. Writes c.args.seat c.cut_to_image.new.core xs c.args.event.now c.record-2.new.reply new.core new.trace.items) c.in-Ok-cut_to_image.ensures.items c.record-2.ensures.writes in
+    let x = cut_goes_on old.limits old.base c.in-Ok-cut_to_image.used old.image c.cut_to_image.new.image old.trace.items old.core c.cut_to_image.new.core new.trace.items new.core c.args.seat c.args.event.now c.record-2.new.reply (cut_is g c) w c.record-2.ensures.cells in
+    record { history = x.0; places = omega (arith, l', x.1, x.2, room, c.cut_to_image.ensures.room, c.record-2.ensures.room); choice = omega (arith, kept.choice, c.cut_to_image.ensures.choice, c.record-2.ensures.choice) }
 
 pub returns : goal.returns
 returns g c =
@@ -85,6 +85,6 @@ returns g c =
     let new = c.record-2.new in
     let l = old.trace.ok.0 in
     let same = c.reserve.ensures.len in
-    let w = subst (λ xs. Writes c.args.seat c.cut_trace.new.core xs c.args.event c.record-2.result new.core new.trace.items) c.cut_trace.ensures.items c.record-2.ensures.writes in
-    subst (λ h. AsksBy c.args.seat h c.args.event c.record-2.result (told old.limits (old.base + c.cut_trace.result) c.close_cycle.result new.trace.items new.core)) c.self.view_is
-    (cut_asks_by old.limits old.base c.cut_trace.result old.image c.close_cycle.result old.trace.items old.core c.cut_trace.new.core new.trace.items new.core c.args.seat c.args.event c.record-2.result (cut_is g c) (omega (arith, l, same, c.if-len-self.false)) w)
+    let w = subst (λ xs. Writes c.args.seat c.cut_to_image.new.core xs c.args.event.now c.record-2.new.reply new.core new.trace.items) c.in-Ok-cut_to_image.ensures.items c.record-2.ensures.writes in
+    subst (λ h. AsksBy c.args.seat h c.args.event.now c.record-2.new.reply (told old.limits (old.base + c.in-Ok-cut_to_image.used) c.cut_to_image.new.image new.trace.items new.core)) c.self.view_is
+    (cut_asks_by old.limits old.base c.in-Ok-cut_to_image.used old.image c.cut_to_image.new.image old.trace.items old.core c.cut_to_image.new.core new.trace.items new.core c.args.seat c.args.event.now c.record-2.new.reply (cut_is g c) (omega (arith, l, same, c.if-len-self.false)) w)
