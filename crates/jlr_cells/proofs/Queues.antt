@@ -178,9 +178,6 @@ at_unlisted f heap lists s blind = ap f (at-with_lists heap lists s) ∙ unliste
 pub occupied-with_lists : (heap : Heap) (lists : List (List ℕ)) → occupied (with_lists heap lists) ≡ occupied heap
 occupied-with_lists heap lists = count_pointwise is_some (with_lists heap lists) heap (long-with_lists heap lists) (λ s. at_unlisted is_some heap lists s (λ l m. refl))
 
-pub object_below : (heap : Heap) (lists : List (List ℕ)) (s : ℕ) → is_some (at (with_lists heap lists) s) ≡ true → is_some (at heap s) ≡ true
-object_below heap lists s h = sym (at_unlisted is_some heap lists s (λ l m. refl)) ∙ h
-
 -- ---- Changes
 
 -- the object in a cell changes, but for its members

@@ -1,5 +1,5 @@
 //! All cells, as they lie.
-ghost use Rattle.std.specs.Prelude.{◌≡◌, ℕ, ◌+◌, ◌++◌, ◌∷◌, [], ◌^◌, ◌<◌, ◌↔◌, IfOk, IfNone, IfSome, IsNone, IsTrue, None, List, Some, cond, drop, is_some, length, option_and_then, option_map, replicate, slice_get};
+ghost use Rattle.std.specs.Prelude.{◌≡◌, ◌⊎◌, ℕ, ◌+◌, ◌++◌, ◌∷◌, [], ◌^◌, ◌<◌, ◌↔◌, IfOk, IfNone, IfSome, IsNone, IsTrue, None, List, Some, cond, drop, is_some, length, option_and_then, option_map, replicate, slice_get, slice_set};
 ghost use Rattle.jlr_machine.specs.Objects.{◌∈◌, as_cleanable, as_fields, as_guard, as_reference, at, change_at, empty_at, occupied, set_at, some_and};
 ghost use Rattle.jlr_machine.specs.SlotSets.{is_in};
 ghost use Rattle.jlr_links.specs.Lists.{list_at};
@@ -113,9 +113,9 @@ impl Store {
         self.cells[number as usize] = Cell::Free {
             next: self.first_free,
         };
+        empty_list(&mut self.queues, number, self.kinds[number as usize]);
         self.kinds[number as usize] = None;
         self.links[number as usize] = Links::none();
-        self.queues.clear(number);
         self.first_free = Some(number);
         self.free_count += 1;
     }
@@ -393,6 +393,19 @@ fn all_null(alloc: Global, count: u32) -> Result<Vec<Links>, AllocError>
         links.push_reserved(Links::none());
     }
     Ok(links)
+}
+
+/// A slot's list is empty from now on. That of what is no queue is empty already, and not written.
+fn empty_list(queues: &mut Lists, slot: u32, kind: Option<Kind>)
+    requires list { slot < length queues.old.lists }
+    requires only { (list_at queues.old.lists slot ≡ []) ⊎ (kind ≡ Some Kind.Queue) }
+    ensures lists { queues.new.lists ≡ slice_set queues.old.lists slot [] }
+    ensures slots { queues.new.slots ≡ queues.old.slots }
+{
+    match kind {
+        Some(Kind::Queue) => queues.clear(slot),
+        _ => {}
+    }
 }
 
 fn images(

@@ -214,7 +214,12 @@ fn rests(core: &Core<u32>) -> bool {
 }
 
 /// Whether an ask is answered so.
-pub(super) fn is_answered(core: &mut Core<u32>, choice: &mut Choice, ask: &str, wanted: &str) -> bool
+pub(super) fn is_answered(
+    core: &mut Core<u32>,
+    choice: &mut Choice,
+    ask: &str,
+    wanted: &str,
+) -> bool
     requires { length core.old.machine.objects ≤ choice.old.cells }
     ensures { length core.new.machine.objects ≤ choice.new.cells }
 {
