@@ -4,6 +4,7 @@ ghost use Rattle.std.specs.Prelude.{◌≡◌, ◌+◌};
 use crate::closing::CloseFault;
 use crate::hall::Hall;
 use crate::seat::{Item, Seat};
+use jlr_book::book::Book;
 use jlr_event::event::Event;
 use jlr_machine::ask::{Answer, Ask};
 use jlr_types::{Limits, Mutator};
@@ -39,7 +40,7 @@ fn too_many() -> Item {
 }
 
 // Changes what a seat noted.
-fn forge<L: Ledger>(seat: &mut Seat<L>, how: Forgery) -> Result<(), Fail> {
+fn forge<L: Ledger>(seat: &mut Seat<L>, how: Forgery) {
     match how {
         Forgery::AnswerChanged => {
             if let Some(item) = seat.items.last_mut() {
@@ -47,7 +48,9 @@ fn forge<L: Ledger>(seat: &mut Seat<L>, how: Forgery) -> Result<(), Fail> {
             }
         }
         Forgery::ItemLeftOut => drop(seat.items.pop()),
-        Forgery::ItemTooMany => seat.items.push(too_many())?,
+        Forgery::ItemTooMany => {
+            let _ = seat.items.push(too_many());
+        }
         Forgery::TwoSwapped => {
             if seat.items.len() > 1 {
                 seat.items.swap(0, 1);
@@ -60,7 +63,6 @@ fn forge<L: Ledger>(seat: &mut Seat<L>, how: Forgery) -> Result<(), Fail> {
         }
         Forgery::Nothing | Forgery::SeatMissing(_) | Forgery::TwoMissing => {}
     }
-    Ok(())
 }
 
 // Takes away the seats that are kept back.
@@ -91,7 +93,26 @@ fn go_on<L: Ledger, T: Wait>(rt: &T, hall: &Hall<u32, L>, seats: &mut Vec<Seat<L
     }
 }
 
-// A hall of two sessions, whose first joins and asks twice, and then this is done; and then the second asks so often.
+// The first session joins and asks twice, and then this is done to what it noted.
+fn begin<L: Ledger, T: Wait>(rt: &T, hall: &Hall<u32, L>, seats: &mut Vec<Seat<L>>, how: Forgery) {
+    if let Some(seat) = seats.first_mut() {
+        let _ = seat.ask_once(rt, hall, None, Event::Join { mutator: me() });
+        let _ = seat.ask_once(rt, hall, None, Event::Stat { mutator: me() });
+        let _ = seat.ask_once(rt, hall, None, Event::Names { mutator: me() });
+        forge(seat, how);
+    }
+}
+
+// The seat that a close names.
+fn named<R>(closed: Result<Book<R>, CloseFault>) -> Result<Option<u8>, Fail> {
+    match closed {
+        Ok(_) => Ok(None),
+        Err(CloseFault::Disagree(seat)) => Ok(Some(seat)),
+        Err(CloseFault::NoMemory) => Err("no memory".into()),
+    }
+}
+
+// A hall of two sessions, one of which is forged; and then the second asks so often.
 fn closed_with<L: Ledger, T: Wait>(
     rt: &T,
     alloc: Global,
@@ -104,19 +125,10 @@ fn closed_with<L: Ledger, T: Wait>(
     requires parts { (blank.parts ≡ L.parts) × (blank.parts ≡ limits.sessions + 3) }
 {
     let (hall, mut seats) = Hall::<u32, L>::open(alloc, limits, blank)?;
-    if let Some(seat) = seats.first_mut() {
-        let _ = seat.ask_once(rt, &hall, None, Event::Join { mutator: me() });
-        let _ = seat.ask_once(rt, &hall, None, Event::Stat { mutator: me() });
-        let _ = seat.ask_once(rt, &hall, None, Event::Names { mutator: me() });
-        forge(seat, how)?;
-    }
+    begin(rt, &hall, &mut seats, how);
     go_on(rt, &hall, &mut seats, later);
     keep_back(&mut seats, how);
-    match hall.close(seats) {
-        Ok(_) => Ok(None),
-        Err(CloseFault::Disagree(seat)) => Ok(Some(seat)),
-        Err(CloseFault::NoMemory) => Err("no memory".into()),
-    }
+    named(hall.close(seats))
 }
 
 fn closed<T: Wait>(rt: &T, alloc: Global, how: Forgery, later: usize) -> Result<Option<u8>, Fail> {
