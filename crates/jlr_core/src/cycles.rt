@@ -66,7 +66,7 @@ impl<R> State<R> {
         }
         let policy = Policy::new(self.soft_age, Mode::Policy);
         let mut meter = Meter::new();
-        jlr_marker::mark(&mut self.heap, true, &policy, &mut meter, budget)
+        jlr_marker::mark(&mut self.heap, self.cycle_open, &policy, &mut meter, budget)
     }
 
     /// The collection of an open cycle in which all is marked. It keeps what is marked, and closes the cycle. Answers whether there was one.

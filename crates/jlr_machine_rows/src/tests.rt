@@ -6,6 +6,7 @@ use jlr_machine::items::Items;
 use jlr_types::Slot;
 use std::alloc::{AllocError, Global};
 
+mod cell_sets;
 mod choices;
 mod copies;
 mod entries;

@@ -214,6 +214,51 @@ const LISTS: &str = "
     mark -> marked idle
     new -> handle 1 up to 8
     stat -> stat 16 0 0 0 0
+
+-- What a cycle left over is swept in steps, and where an allocation finds no free cell: without a collection.
+== a cycle's cells are swept in steps: soft_age 4
+    join -> done
+    new -> handle 1 up to 16
+    drop 1 -> done
+    drop 2 -> done
+    drop 3 -> done
+    drop 4 -> done
+    drop 5 -> done
+    drop 6 -> done
+    drop 7 -> done
+    drop 8 -> done
+    begin -> yes
+    mark 8 -> marked done
+    collect -> yes
+    stat -> stat 8 0 0 0 0
+    mark 3 -> marked idle
+    stat -> stat 8 0 0 0 0
+    new -> handle 1
+    new -> handle 2
+    new -> handle 3
+    new -> handle 4
+    stat -> stat 12 0 0 0 0
+    new -> handle 5
+    new -> handle 6
+    new -> handle 7
+    new -> handle 8
+    stat -> stat 16 0 0 0 0
+
+-- A cell that a cycle left over is taken in the middle of the next, which keeps what is made there.
+== a cell is taken again in the middle of the next cycle: soft_age 4
+    join -> done
+    new -> handle 1 up to 16
+    drop 1 -> done
+    begin -> yes
+    mark -> marked done
+    collect -> yes
+    begin -> yes
+    mark 1 -> marked more
+    new -> handle 1
+    drop 1 -> done
+    mark -> marked done
+    collect -> yes
+    stat -> stat 16 0 0 0 0
 ";
 
 #[test]

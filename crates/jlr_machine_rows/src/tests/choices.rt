@@ -1,20 +1,11 @@
 //! The buffer of a choice.
+use super::cell_sets::{one_of, three_of};
 use super::slot;
 use jlr_machine::choice::Choice;
 use jlr_machine::entry::{Chosen, Collected};
 use jlr_types::Slot;
 use std::alloc::{AllocError, Global};
 use std::test::Fail;
-
-// Keeps the object in this slot where it may be kept next, and says whether it may.
-fn keep(choice: &mut Choice, number: u32) -> bool {
-    let slot = Slot::new(number);
-    let may = choice.may_keep(slot);
-    if may {
-        choice.keep(slot);
-    }
-    may
-}
 
 fn pend(choice: &mut Choice, number: u32) -> bool {
     let has_room = choice.pending().len() < choice.cells() as usize;
@@ -32,13 +23,12 @@ fn add_fresh(choice: &mut Choice, number: u32) -> bool {
     has_room
 }
 
-// Keeps so many objects, from the first on, and puts them behind the pending list from the last down. Says whether all of it could be done.
-fn fill(choice: &mut Choice, cells: u32) -> bool {
+// Puts so many objects behind the pending list, from the last down. Says whether all of it could be done.
+fn pend_all(choice: &mut Choice, cells: u32) -> bool {
     let mut all = true;
     for number in 0..cells {
-        let kept = keep(choice, number);
         let pended = pend(choice, cells - 1 - number);
-        all = all && kept && pended;
+        all = all && pended;
     }
     all
 }
@@ -52,18 +42,16 @@ fn is_filled(choice: &Choice) -> bool {
 }
 
 fn takes_all_that_it_has_room_for(choice: &mut Choice) -> bool {
-    let was_new = is_new(choice, 130);
-    let all = fill(choice, 130);
-    let one_more = keep(choice, 130);
+    let all = pend_all(choice, 130);
+    let one_more = pend(choice, 130);
     let fresh = add_fresh(choice, 7) && add_fresh(choice, 8);
-    was_new && all && !one_more && fresh && is_filled(choice)
+    all && !one_more && fresh && is_filled(choice)
 }
 
 fn has_all(alloc: Global, collected: &Collected) -> Result<bool, AllocError> {
     let kept = collected.kept.to_vec(alloc)?;
     Ok(
-        collected.kept.len() == 130
-            && kept.get(129).copied() == slot(129)
+        kept.as_slice() == [Slot::new(0), Slot::new(64), Slot::new(129)].as_slice()
             && collected.pending.as_slice().get(129).copied() == slot(0),
     )
 }
@@ -76,14 +64,6 @@ fn has_all_that_was_chosen(alloc: Global, chosen: &Chosen) -> Result<bool, Alloc
         ),
         None => Ok(false),
     }
-}
-
-fn is_used_again(choice: &mut Choice) -> bool {
-    choice.collect();
-    let collects = choice.collects();
-    let rises = keep(choice, 3) && !choice.may_keep(Slot::new(2));
-    choice.clear();
-    collects && rises && is_new(choice, 4) && keep(choice, 2)
 }
 
 fn has_kept_two_alone(alloc: Global, collected: &Collected) -> Result<bool, AllocError> {
@@ -103,15 +83,21 @@ fn has_chosen_two_alone(alloc: Global, chosen: &Chosen) -> Result<bool, AllocErr
 #[test]
 fn a_choice_holds_all_that_it_has_room_for(rt: HostRuntime) -> Result<(), Fail> {
     let mut choice = Choice::new(rt.alloc(), 130)?;
+    let was_new = is_new(&choice, 130);
+    choice.keep_all(&three_of(rt.alloc())?);
     let all = takes_all_that_it_has_room_for(&mut choice);
-    assert!(rt; has_all_that_was_chosen(rt.alloc(), &choice.into_chosen())? && all);
+    assert!(rt; has_all_that_was_chosen(rt.alloc(), &choice.into_chosen())? && all && was_new);
     Ok(())
 }
 
 #[test]
 fn a_choice_is_used_again(rt: HostRuntime) -> Result<(), Fail> {
     let mut choice = Choice::new(rt.alloc(), 4)?;
-    let again = is_used_again(&mut choice);
-    assert!(rt; has_chosen_two_alone(rt.alloc(), &choice.into_chosen())? && again);
+    choice.collect();
+    let collects = choice.collects();
+    choice.clear();
+    let again = is_new(&choice, 4);
+    choice.keep_all(&one_of(rt.alloc())?);
+    assert!(rt; has_chosen_two_alone(rt.alloc(), &choice.into_chosen())? && collects && again);
     Ok(())
 }
