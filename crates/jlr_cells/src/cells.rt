@@ -178,7 +178,7 @@ impl Cells {
     pub fn is_cleanable(&self, slot: Slot) -> bool
         ensures { result ≡ some_and is_cleanable (at self.now slot) }
     {
-        matches!(self.kind(slot), Some(Kind::Cleanable))
+        self.store.is_cleanable(slot) && self.is_occupied(slot)
     }
 
     /// Whether there is a guard at a slot.

@@ -145,6 +145,13 @@ impl Store {
         matches!(self.kind(slot), Some(Kind::Queue))
     }
 
+    /// Whether there is a cleanable at a slot.
+    pub(crate) fn is_cleanable(&self, slot: Slot) -> bool
+        ensures { result ≡ some_and is_cleanable (at self.now slot) }
+    {
+        matches!(self.kind(slot), Some(Kind::Cleanable))
+    }
+
     /// How many fields the object at a slot has, if it is a plain one.
     pub(crate) fn field_count(&self, slot: Slot) -> Option<usize>
         ensures { result ≡ option_map length (option_and_then as_fields (at self.now slot)) }

@@ -18,8 +18,7 @@ use jlr_types::Meter;
 
 /// A full collection (package `java.lang.ref`). It keeps the least set that holds the roots and is closed under strong edges and under the
 /// soft edges of those members that the policy keeps; in the mode `ClearAll` that is exactly what is strongly reachable. All references
-/// to the rest are cleared, and those of them that are ready become pending. An open cycle is over then, and all
-/// that was removed is swept. It takes no memory.
+/// to the rest are cleared, and those of them that are ready become pending. An open cycle is over then. It takes no memory.
 pub fn full(heap: &mut Heap, policy: &Policy, choice: &mut Choice)
     requires fit { (m : Machine) × IsRooted m heap.old.graph }
     requires nothing { choice.old ≡ nothing_chosen choice.old.cells }
@@ -35,5 +34,4 @@ pub fn full(heap: &mut Heap, policy: &Policy, choice: &mut Choice)
 {
     mark(heap, policy, &mut Meter::new());
     flip(heap, choice);
-    heap.sweep(u32::MAX);
 }
