@@ -1,8 +1,9 @@
 //! The objects of the heap, by slot.
 //!
 //! One flat vector of cells, one for each slot. A cell holds an object, or the number of the next free cell: the free cells are
-//! a list through the cells themselves, so that `take` and `give_back` take constant time and no memory. A cell is 80 bytes:
-//! which kind of cell it is, then for each of eight fields what its word is for, then the eight words.
+//! a list through the cells themselves. A cell is 80 bytes: which kind of cell it is, then for each of eight fields what its word
+//! is for, then the eight words. Sets of bits say which cells are not free, and which of those hold an object: a collection copies
+//! such a set and touches no cell, and what it removed lies there until it is swept.
 //!
 //! The members of a queue are a list too, through a column with a place for each slot, so that a queue takes no memory for its members
 //! and its ends cost the same at any length. An object stands in one queue at most, and once.

@@ -104,7 +104,7 @@ fn begin<L: Ledger, T: Wait>(rt: &T, hall: &Hall<u32, L>, seats: &mut Vec<Seat<L
 }
 
 // The seat that a close names.
-fn named<R>(closed: Result<Book<R>, CloseFault>) -> Result<Option<u8>, Fail> {
+fn named<R: Drop>(closed: Result<Book<R>, CloseFault>) -> Result<Option<u8>, Fail> {
     match closed {
         Ok(_) => Ok(None),
         Err(CloseFault::Disagree(seat)) => Ok(Some(seat)),
