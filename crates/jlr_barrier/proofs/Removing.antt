@@ -6,7 +6,7 @@ use Rattle.std.proofs.lemmas.Bool.{both_ways, cases_Bool}
 use Rattle.jlr_machine.specs.declared.object.Object.{Object}
 use Rattle.jlr_machine.specs.Objects.{Heap, any_referent, at, ◌∈◌}
 use Rattle.jlr_machine.specs.Edges.{is_own_root, strong_edges}
-use Rattle.jlr_machine.specs.SlotSets.{is_in}
+use Rattle.jlr_sets.specs.SlotSets.{is_in}
 use Rattle.jlr_laws.proofs.Sets.{nothing}
 use Rattle.jlr_laws.proofs.Frames.{no_some}
 use Rattle.jlr_cells.specs.Showing.{shown}

@@ -5,7 +5,7 @@ ghost use Rattle.jlr_machine.specs.Choices.{collecting, kept_by, pended_by};
 ghost use Rattle.jlr_machine.specs.Objects.{at, some_and, ◌∈◌};
 ghost use Rattle.jlr_machine.specs.Refusals.{is_plain};
 ghost use Rattle.jlr_machine.specs.Edges.{referent};
-ghost use Rattle.jlr_machine.specs.SlotSets.{slots_of};
+ghost use Rattle.jlr_sets.specs.SlotSets.{slots_of};
 ghost use Rattle.jlr_cells.specs.Showing.{shown};
 ghost use Rattle.jlr_barrier.specs.Graphs.{held, with_objects};
 ghost use Rattle.jlr_marks.specs.Marking.{IsMarked, Shaded, is_marked, unmarked, upcoming};

@@ -4,7 +4,7 @@ use Rattle.std.proofs.Math.Seq.{take-suc}
 use Rattle.std.proofs.lemmas.List.{length-map}
 use Rattle.jlr_machine.specs.declared.object.Object.{Object}
 use Rattle.jlr_machine.specs.Objects.{at}
-use Rattle.jlr_machine.specs.SlotSets.{is_in}
+use Rattle.jlr_sets.specs.SlotSets.{is_in}
 use Rattle.jlr_links.specs.Lists.{list_at}
 use Rattle.jlr_cells.specs.declared.cell.Cell.{Cell}
 use Rattle.jlr_cells.specs.Contents.{object_in, objects_in, with_list, with_lists}

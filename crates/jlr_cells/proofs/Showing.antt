@@ -6,9 +6,9 @@ use Rattle.std.proofs.lemmas.List.{length-map, length-replicate, map-set, get_or
 use Rattle.std.proofs.lemmas.List.Sums.{sum_by-cons, sum_by-set}
 use Rattle.jlr_machine.specs.declared.object.Object.{Object}
 use Rattle.jlr_machine.specs.Objects.{Heap, at, change_at, occupied}
-use Rattle.jlr_machine.specs.SlotSets.{beyond, is_in, slots_below, slots_of, IsFirstFrom, NoneFrom}
-use Rattle.jlr_machine.proofs.Beyond.{in_beyond, is_set}
-use Rattle.jlr_machine.proofs.Below.{count-suc, count_le, slots_below-zero, within_places}
+use Rattle.jlr_sets.specs.SlotSets.{beyond, is_in, slots_below, slots_of, IsFirstFrom, NoneFrom}
+use Rattle.jlr_sets.proofs.Beyond.{in_beyond, is_set}
+use Rattle.jlr_sets.proofs.Below.{count-suc, count_le, slots_below-zero, within_places}
 use Rattle.jlr_cells.specs.Showing.{AreUsed, shown}
 
 -- ---- What is shown

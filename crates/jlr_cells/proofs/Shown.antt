@@ -9,7 +9,7 @@ use Rattle.jlr_machine.specs.declared.object.Reference.{Reference as ReferenceOf
 use Rattle.jlr_machine.specs.declared.object.Cleanable.{Cleanable as CleanableOf}
 use Rattle.jlr_types.specs.declared.FieldValue.{FieldValue}
 use Rattle.jlr_machine.specs.Objects.{◌∈◌, Heap, at, change_at, occupied, with_cleanable, with_field, with_members, with_reference}
-use Rattle.jlr_machine.specs.SlotSets.{is_in, slots_of}
+use Rattle.jlr_sets.specs.SlotSets.{is_in, slots_of}
 use Rattle.jlr_laws.proofs.Sets.{nothing}
 use Rattle.jlr_cells.specs.Contents.{members_in, object_of}
 use Rattle.jlr_cells.specs.declared.shape.Shape.{Shape}

@@ -1,7 +1,7 @@
 -- Which cells count, and what callers see of what lies in the cells.
 use Rattle.std.specs.Prelude.{◌≡◌, ℕ, ◌+◌, ◌<◌, Bool, true, false, cond, List, [], ◌∷◌, None, is_some, length, map}
 use Rattle.jlr_machine.specs.Objects.{Heap, at}
-use Rattle.jlr_machine.specs.SlotSets.{is_in, slots_of}
+use Rattle.jlr_sets.specs.SlotSets.{is_in, slots_of}
 use Rattle.jlr_cells.specs.Contents.{members_in}
 
 -- what is at the slots of a set; nothing elsewhere

@@ -9,14 +9,14 @@ ghost use Rattle.jlr_machine.specs.Calls.{spent, unreferred};
 ghost use Rattle.jlr_cells.specs.Contents.{field_at, in_clean_state, in_state, kind_of, member_in, members_in, object_of, referent_in, unregistered, watching, without_referent};
 ghost use Rattle.jlr_cells.specs.Links.{no_links};
 ghost use Rattle.jlr_cells.specs.Visits.{edges_told, found_plain};
-ghost use Rattle.jlr_machine.specs.SlotSets.{is_in};
+ghost use Rattle.jlr_sets.specs.SlotSets.{is_in};
 ghost use Rattle.jlr_cells.specs.Showing.{shown};
 
 use crate::links::Visited;
 use crate::shape::{Kind, Shape};
 use crate::store::Store;
 use crate::sweeping::{clear_lists, make_free, sweep_some};
-use jlr_machine::cell_set::CellSet;
+use jlr_sets::cell_set::CellSet;
 use jlr_machine::object::{CleanState, Cleanable, Guard, Object, RefState, Reference};
 use jlr_machine::table::Table;
 use jlr_types::{FieldValue, Meter, Slot};

@@ -1,7 +1,7 @@
 //! All cells, as they lie.
 ghost use Rattle.std.specs.Prelude.{◌≡◌, ◌⊎◌, ℕ, ◌+◌, ◌++◌, ◌∷◌, [], ◌^◌, ◌<◌, ◌↔◌, IfOk, IfNone, IfSome, IsNone, IsTrue, None, List, Some, cond, drop, is_some, length, option_and_then, option_map, replicate, slice_get, slice_set};
 ghost use Rattle.jlr_machine.specs.Objects.{◌∈◌, as_cleanable, as_fields, as_guard, as_reference, at, change_at, empty_at, occupied, set_at, some_and};
-ghost use Rattle.jlr_machine.specs.SlotSets.{is_in};
+ghost use Rattle.jlr_sets.specs.SlotSets.{is_in};
 ghost use Rattle.jlr_links.specs.Lists.{list_at};
 ghost use Rattle.jlr_cells.specs.Showing.{shown};
 ghost use Rattle.jlr_machine.specs.Edges.{edges_from};
@@ -18,7 +18,7 @@ use crate::free_list::{free_cells, link_to, next_free};
 use crate::links::{Links, Visited, target_of};
 use crate::shape::{Kind, Shape};
 use jlr_links::Links as Lists;
-use jlr_machine::cell_set::CellSet;
+use jlr_sets::cell_set::CellSet;
 use jlr_machine::object::{CleanState, Cleanable, Guard, Object, RefState, Reference};
 use jlr_machine::table::Table;
 use jlr_types::{FieldValue, Meter, Slot};

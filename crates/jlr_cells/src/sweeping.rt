@@ -1,12 +1,12 @@
 //! What becomes of condemned cells.
 ghost use Rattle.std.specs.Prelude.{◌≡◌, ◌⊎◌, ◌≤◌, ℕ, [], None, false, is_some, length, map, true};
 ghost use Rattle.jlr_machine.specs.Objects.{at, occupied};
-ghost use Rattle.jlr_machine.specs.SlotSets.{is_in};
+ghost use Rattle.jlr_sets.specs.SlotSets.{is_in};
 ghost use Rattle.jlr_cells.specs.Contents.{members_in};
 ghost use Rattle.jlr_cells.specs.Showing.{AreUsed, shown};
 
 use crate::store::Store;
-use jlr_machine::cell_set::CellSet;
+use jlr_sets::cell_set::CellSet;
 
 /// Where no cell is free, all that are condemned become free. Gives the number below which none is condemned.
 pub(crate) fn make_free(store: &mut Store, used: &mut CellSet, kept: &CellSet, swept: u32) -> u32

@@ -4,8 +4,8 @@ use Rattle.std.proofs.lemmas.Bool.{cases_eq, cases_lt, cases_Bool, false≢true,
 use Rattle.std.proofs.lemmas.List.{length-replicate, get_or-replicate, get_or_past}
 use Rattle.std.proofs.lemmas.List.Folds.{list_any-append}
 use Rattle.jlr_machine.specs.Objects.{◌∈◌, ◌∋◌}
-use Rattle.jlr_machine.specs.SlotSets.{is_in, slots_of, slots_below, NoneFrom}
-use Rattle.jlr_machine.proofs.Below.{slots_below-zero, slots_below_same, slots_below_set, slots_below_clear, slots_below_agree}
+use Rattle.jlr_sets.specs.SlotSets.{is_in, slots_of, slots_below, NoneFrom}
+use Rattle.jlr_sets.proofs.Below.{slots_below-zero, slots_below_same, slots_below_set, slots_below_clear, slots_below_agree}
 
 in_front_part : (xs ys : List ℕ) (s : ℕ) → s ∈ xs → s ∈ (xs ++ ys)
 in_front_part xs ys s h = list_any-append (nat_eq s) xs ys ∙ or_left (xs ∋ s) (ys ∋ s) h

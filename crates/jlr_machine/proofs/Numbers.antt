@@ -4,7 +4,7 @@ use Rattle.std.specs.Prelude.{slice_index_or}
 use Rattle.std.specs.List.{All, range_with_len}
 use Rattle.std.proofs.lemmas.List.Elements.{All-filter}
 use Rattle.std.proofs.lemmas.List.FromFn.{get_or-range_with_len, length-range_with_len}
-use Rattle.jlr_machine.specs.SlotSets.{is_in, slots_below, slots_of, IsSlotNumber}
+use Rattle.jlr_sets.specs.SlotSets.{is_in, slots_below, slots_of, IsSlotNumber}
 
 range_below : (n k d : ℕ) → n ≤ 2 ^ 32 → k < length (range_with_len 0 n) → slice_index_or (range_with_len 0 n) k d < 2 ^ 32
 range_below n k d few less =

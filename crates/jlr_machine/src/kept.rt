@@ -1,10 +1,10 @@
 //! What a collection kept.
 ghost use Rattle.std.specs.Prelude.{◌≡◌, ◌≤◌, ◌++◌, [], IfOk, take, length};
 ghost use Rattle.std.specs.List.{AllByRecursion};
-ghost use Rattle.jlr_machine.specs.SlotSets.{slots_of, IsSlotNumber, NoneFrom};
+ghost use Rattle.jlr_sets.specs.SlotSets.{slots_of, IsSlotNumber, NoneFrom};
 
 use crate::copy::copy_slice;
-use crate::slots::SlotSet;
+use jlr_sets::slots::SlotSet;
 use jlr_types::Slot;
 use std::alloc::{AllocError, Global};
 use std::marker::Model;
@@ -43,7 +43,7 @@ pub struct KeptSlots {
 
 impl Model for KeptSlots {
     ghost use Rattle.std.specs.Prelude.{ℕ, List, ◌++◌};
-    ghost use Rattle.jlr_machine.specs.SlotSets.{slots_of};
+    ghost use Rattle.jlr_sets.specs.SlotSets.{slots_of};
 
     ghost Value = { List ℕ };
 

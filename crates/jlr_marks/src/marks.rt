@@ -2,10 +2,10 @@
 ghost use Rattle.std.specs.Prelude.{◌≡◌, ◌↔◌, ℕ, ◌+◌, ◌^◌, ◌<◌, ◌≤◌, ◌++◌, ◌∷◌, [], false, true, cond, length, IfOk, slice_get, slice_set, IfNone, IfSome, IsPermutation, replicate};
 ghost use Rattle.jlr_machine.specs.Choices.{collecting, kept_by, pended_by};
 ghost use Rattle.jlr_machine.specs.Objects.{◌∈◌};
-ghost use Rattle.jlr_machine.specs.SlotSets.{slots_of};
+ghost use Rattle.jlr_sets.specs.SlotSets.{slots_of};
 ghost use Rattle.jlr_marks.specs.Marking.{is_marked, marked, upcoming};
 
-use jlr_machine::cell_set::CellSet;
+use jlr_sets::cell_set::CellSet;
 use jlr_machine::choice::Choice;
 use jlr_types::Slot;
 use std::alloc::{AllocError, Global};

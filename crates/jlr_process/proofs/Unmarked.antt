@@ -2,7 +2,7 @@
 use Rattle.std.proofs.Common.{◌≡◌, ◌+◌, ℕ, zero, suc, ◌∷◌, length, filter, refl, ◌∙◌, ap, arith}
 use Rattle.std.specs.List.{range_with_len}
 use Rattle.jlr_machine.specs.ReachSet.{up_to}
-use Rattle.jlr_machine.specs.SlotSets.{is_in, slots_below, slots_of}
+use Rattle.jlr_sets.specs.SlotSets.{is_in, slots_below, slots_of}
 use Rattle.jlr_marks.specs.Marking.{Marking}
 use Rattle.jlr_process.specs.Settling.{marked_below}
 

@@ -2,7 +2,7 @@
 ghost use Rattle.std.specs.Prelude.{◌≡◌, IfOk, length};
 
 use super::slot;
-use jlr_machine::cell_set::CellSet;
+use jlr_sets::cell_set::CellSet;
 use jlr_types::Slot;
 use std::alloc::{AllocError, Global};
 use std::test::Fail;

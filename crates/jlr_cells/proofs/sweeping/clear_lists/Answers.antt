@@ -3,9 +3,9 @@ use Rattle.std.specs.Prelude.{is_some}
 use Rattle.std.proofs.lemmas.Bool.{cases_eq, cases_lt, both_ways}
 use Rattle.std.proofs.lemmas.List.{length-map}
 use Rattle.jlr_machine.specs.Objects.{Heap, at, with_members}
-use Rattle.jlr_machine.specs.SlotSets.{is_in}
-use Rattle.jlr_machine.proofs.Below.{within_places}
-use Rattle.jlr_machine.proofs.Beyond.{is_set}
+use Rattle.jlr_sets.specs.SlotSets.{is_in}
+use Rattle.jlr_sets.proofs.Below.{within_places}
+use Rattle.jlr_sets.proofs.Beyond.{is_set}
 use Rattle.jlr_cells.specs.Contents.{members_in}
 use Rattle.jlr_cells.specs.Showing.{shown}
 use Rattle.jlr_cells.proofs.Showing.{kept_there, not_kept, shown_hidden, used_changed}

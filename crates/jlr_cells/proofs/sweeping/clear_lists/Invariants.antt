@@ -1,7 +1,7 @@
 use Rattle.std.proofs.Common.{◌≡◌, ◌-◌, ◌<◌, ℕ, [], length, map, true, false}
 use Rattle.std.specs.Prelude.{is_some}
 use Rattle.jlr_machine.specs.Objects.{at}
-use Rattle.jlr_machine.specs.SlotSets.{is_in}
+use Rattle.jlr_sets.specs.SlotSets.{is_in}
 use Rattle.jlr_cells.specs.Contents.{members_in}
 use Rattle.jlr_cells.specs.Showing.{shown}
 use Rattle.jlr_cells.proofs.sweeping.clear_lists.Given as goal

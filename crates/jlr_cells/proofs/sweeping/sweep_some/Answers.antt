@@ -1,7 +1,7 @@
 use Rattle.std.proofs.Common.{◌∙◌, ◌+◌, None, ap, sym, subst, length, set, arith, length-set}
 use Rattle.jlr_machine.specs.Objects.{Heap}
-use Rattle.jlr_machine.proofs.Below.{within_places}
-use Rattle.jlr_machine.proofs.Beyond.{is_set}
+use Rattle.jlr_sets.proofs.Below.{within_places}
+use Rattle.jlr_sets.proofs.Beyond.{is_set}
 use Rattle.jlr_cells.specs.Showing.{AreUsed, shown}
 use Rattle.jlr_cells.proofs.Showing.{all_swept, lies_there, none_condemned, swept_one, swept_shown}
 use Rattle.jlr_cells.proofs.Shown.{emptied_at}

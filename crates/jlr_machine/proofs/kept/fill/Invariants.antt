@@ -1,5 +1,5 @@
 use Rattle.std.proofs.Common.{◌≡◌, take}
-use Rattle.jlr_machine.specs.SlotSets.{slots_of, NoneFrom}
+use Rattle.jlr_sets.specs.SlotSets.{slots_of, NoneFrom}
 use Rattle.jlr_machine.proofs.kept.fill.Given as goal
 
 abbrev pub invariant-loop-slot : goal.invariant-loop-slot

@@ -2,7 +2,7 @@ use Rattle.std.proofs.Common.{subst}
 use Rattle.std.specs.List.{All}
 use Rattle.std.proofs.lemmas.List.{take_all}
 use Rattle.std.proofs.lemmas.List.Elements.{All-more, recursion_from_All}
-use Rattle.jlr_machine.specs.SlotSets.{IsSlotNumber}
+use Rattle.jlr_sets.specs.SlotSets.{IsSlotNumber}
 use Rattle.jlr_machine.proofs.kept.numbers_in_range.Goals as goal
 
 pub loop-slot-preserved : goal.loop-slot-preserved

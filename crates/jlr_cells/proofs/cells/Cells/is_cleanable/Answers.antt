@@ -4,7 +4,7 @@ use Rattle.std.proofs.lemmas.Bool.{false≢true}
 use Rattle.jlr_machine.specs.declared.object.Object.{Object}
 use Rattle.jlr_machine.specs.Objects.{at, some_and}
 use Rattle.jlr_machine.specs.Refusals.{is_cleanable}
-use Rattle.jlr_machine.specs.SlotSets.{is_in}
+use Rattle.jlr_sets.specs.SlotSets.{is_in}
 use Rattle.jlr_cells.proofs.Shown.{seen}
 use Rattle.jlr_cells.proofs.cells.Cells.is_cleanable.Goals as goal
 

@@ -1,7 +1,7 @@
 use Rattle.std.proofs.Common.{◌≡◌, ◌-◌, ◌∙◌, ap, sym, subst, length, arith}
 use Rattle.std.specs.Prelude.{is_some}
 use Rattle.std.proofs.lemmas.List.{length-map}
-use Rattle.jlr_machine.proofs.Below.{count_le}
+use Rattle.jlr_sets.proofs.Below.{count_le}
 use Rattle.jlr_cells.specs.Showing.{AreShown, shown}
 use Rattle.jlr_cells.proofs.Showing.{shown_twice}
 use Rattle.jlr_cells.proofs.Shown.{in_set, long}

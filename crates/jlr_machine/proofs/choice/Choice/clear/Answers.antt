@@ -1,6 +1,6 @@
 use Rattle.std.proofs.Common.{◌≡◌, Bool, length, ap, ◌∙◌, arith, false}
 use Rattle.std.proofs.lemmas.List.{length-replicate}
-use Rattle.jlr_machine.specs.SlotSets.{slots_of}
+use Rattle.jlr_sets.specs.SlotSets.{slots_of}
 use Rattle.jlr_machine.proofs.Members.{empty_slots}
 use Rattle.jlr_machine.proofs.choice.Choice.clear.Goals as goal
 

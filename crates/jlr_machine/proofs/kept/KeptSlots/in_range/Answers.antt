@@ -1,7 +1,7 @@
 use Rattle.std.proofs.Common.{◌≤◌, ◌^◌, ◌++◌, length, subst, ap, arith, ◌∙◌}
 use Rattle.std.specs.List.{AllByRecursion}
 use Rattle.std.proofs.lemmas.List.Elements.{All-append, All-from_recursion, recursion_from_All}
-use Rattle.jlr_machine.specs.SlotSets.{slots_of, IsSlotNumber}
+use Rattle.jlr_sets.specs.SlotSets.{slots_of, IsSlotNumber}
 use Rattle.jlr_machine.proofs.Numbers.{all_numbers}
 use Rattle.jlr_machine.proofs.kept.KeptSlots.in_range.Goals as goal
 

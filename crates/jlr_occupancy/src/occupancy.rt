@@ -1,0 +1,163 @@
+//! The cells that hold an object, and those that are condemned.
+ghost use Rattle.std.specs.Prelude.{◌≡◌, ◌↔◌, ℕ, ◌+◌, ◌-◌, ◌<◌, ◌==◌, cond, false, true, length, IfNone, IfOk, IfSome, IsNone, slice_set};
+ghost use Rattle.jlr_sets.specs.SlotSets.{is_in, slots_of};
+ghost use Rattle.jlr_occupancy.specs.Occupying.{all_free, taken};
+
+use crate::search::{condemned_cell, free_cell};
+use jlr_sets::cell_set::CellSet;
+use jlr_types::Slot;
+use std::alloc::{AllocError, Global};
+use std::marker::Model;
+
+/// Which cells hold an object, and how many of the others are condemned.
+#[derive(Drop)]
+pub struct Occupancy {
+    /// The cells that hold an object.
+    occupied: CellSet,
+    /// The cells that are not free: they hold an object, or are condemned.
+    used: CellSet,
+    /// How many cells are free.
+    free: u32,
+    /// How many cells are condemned.
+    condemned: u32,
+    /// Where a free cell is looked for first: behind the last that was taken.
+    next_free: u32,
+    /// Where a condemned cell is looked for first: the last that was swept.
+    next_condemned: u32,
+}
+
+impl Model for Occupancy {
+    ghost use Rattle.jlr_occupancy.specs.Occupying.{AreUsed, Occupied};
+
+    ghost Value = { Occupied };
+
+    ghost view = { λ a. record { places = a.occupied; condemned = a.condemned } };
+
+    ghost invariant = { λ a. AreUsed a.used (record { places = a.occupied; condemned = a.condemned }) a.free };
+}
+
+impl Occupancy {
+    /// So many cells, all free.
+    ///
+    /// # Errors
+    /// `AllocError` where there is no memory for them.
+    pub fn new(alloc: Global, cells: u32) -> Result<Self, AllocError>
+        ensures { IfOk result (λ o. o ≡ all_free cells) }
+    {
+        Ok(Occupancy {
+            occupied: CellSet::new(alloc, cells)?,
+            used: CellSet::new(alloc, cells)?,
+            free: cells,
+            condemned: 0,
+            next_free: 0,
+            next_condemned: 0,
+        })
+    }
+
+    /// How many cells there are.
+    pub fn cell_count(&self) -> u32
+        ensures { result ≡ length self.now.places }
+    {
+        self.occupied.cell_count()
+    }
+
+    /// Whether a cell holds an object.
+    pub fn is_occupied(&self, slot: Slot) -> bool
+        requires { slot < length self.now.places }
+        ensures { result ≡ is_in self.now.places slot }
+    {
+        self.occupied.contains(slot)
+    }
+
+    /// The cells that hold an object.
+    pub fn occupied(&self) -> &CellSet
+        ensures { result.now ≡ self.now.places }
+    {
+        &self.occupied
+    }
+
+    /// How many cells are free: they hold no object, and are not condemned.
+    pub fn free_count(&self) -> u32
+        ensures { result + taken self.now + self.now.condemned ≡ length self.now.places }
+    {
+        self.free
+    }
+
+    /// How many cells hold no object: they are free, or condemned.
+    pub fn vacant_count(&self) -> u32
+        ensures { result + taken self.now ≡ length self.now.places }
+    {
+        self.free + self.condemned
+    }
+
+    /// A cell that held no object holds one from now on, if there is such a cell. It is a free one; where none is, all that are condemned are
+    /// swept first.
+    pub fn take(&mut self) -> Option<Slot>
+        ensures full { IsNone result ↔ (taken self.old ≡ length self.old.places) }
+        ensures none { IfNone result (self.new ≡ self.old) }
+        ensures vacant { IfSome result (λ slot. (slot < length self.old.places) × (is_in self.old.places slot ≡ false)) }
+        ensures taken { IfSome result (λ slot. self.new.places ≡ slice_set self.old.places slot true) }
+        ensures condemned { IfSome result (λ _. self.new.condemned ≡ cond (taken self.old + self.old.condemned == length self.old.places) 0 self.old.condemned) }
+    {
+        if self.free == 0 {
+            self.sweep_all();
+        }
+        if self.free == 0 {
+            return None;
+        }
+        let slot = free_cell(&self.used, self.next_free);
+        self.used.insert(slot);
+        self.occupied.insert(slot);
+        self.free -= 1;
+        self.next_free = slot.number();
+        Some(slot)
+    }
+
+    /// The cells of a set hold their objects still, and all others hold none: those that did are condemned, beside those that were.
+    pub fn keep(&mut self, kept: &CellSet)
+        requires places { length kept.now ≡ length self.old.places }
+        requires objects { (s : ℕ) → is_in kept.now s ≡ true → is_in self.old.places s ≡ true }
+        ensures places { self.new.places ≡ kept.now }
+        ensures condemned { length (slots_of kept.now) + self.new.condemned ≡ taken self.old + self.old.condemned }
+    {
+        self.condemned = self.used.cell_count() - self.free - kept.count();
+        self.occupied.assign(kept);
+    }
+
+    /// Condemned cells become free: so many, or all where there are no more.
+    pub fn sweep(&mut self, budget: u32)
+        ensures places { self.new.places ≡ self.old.places }
+        ensures condemned { self.new.condemned ≡ self.old.condemned - budget }
+    {
+        if self.condemned <= budget {
+            self.sweep_all();
+            return;
+        }
+        for _cell in 0..budget {
+            self.sweep_one();
+        }
+    }
+
+    /// All condemned cells become free.
+    fn sweep_all(&mut self)
+        ensures places { self.new.places ≡ self.old.places }
+        ensures condemned { self.new.condemned ≡ 0 }
+    {
+        self.used.assign(&self.occupied);
+        self.free += self.condemned;
+        self.condemned = 0;
+    }
+
+    /// A condemned cell becomes free.
+    fn sweep_one(&mut self)
+        requires { 0 < self.old.condemned }
+        ensures places { self.new.places ≡ self.old.places }
+        ensures condemned { self.new.condemned + 1 ≡ self.old.condemned }
+    {
+        let slot = condemned_cell(&self.used, &self.occupied, self.next_condemned);
+        self.used.remove(slot);
+        self.free += 1;
+        self.condemned -= 1;
+        self.next_condemned = slot.number();
+    }
+}

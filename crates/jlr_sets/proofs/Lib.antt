@@ -1,0 +1,9 @@
+pub mod Bits
+pub mod Finding
+pub mod Below
+pub mod Counting
+pub mod Ending
+pub mod Assigning
+pub mod Beyond
+pub mod Absent
+pub mod Counts

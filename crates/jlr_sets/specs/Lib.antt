@@ -1,0 +1,3 @@
+-- Reading order.
+pub mod SlotSets
+pub mod Bits
