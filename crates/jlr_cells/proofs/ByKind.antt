@@ -1,9 +1,8 @@
--- The kinds and the links that stand by themselves, and the free list, after a change of one cell.
-use Rattle.std.proofs.Common.{◌≡◌, ℕ, zero, suc, ◌+◌, ◌-◌, ◌<◌, ◌^◌, true, List, [], ◌∷◌, Option, Some, None, length, set, get_or, replicate, refl, sym, ap, ◌∙◌}
+-- The kinds and the links that stand by themselves, after a change of one cell.
+use Rattle.std.proofs.Common.{◌≡◌, ℕ, zero, suc, ◌+◌, ◌-◌, ◌<◌, ◌^◌, true, List, [], ◌∷◌, Option, Some, None, length, set, get_or, replicate, refl, sym, ap, ◌∙◌, arith, length-set}
 use Rattle.std.specs.Prelude.{drop, is_some, option_map, slice_index_or}
 use Rattle.std.proofs.Math.Seq.{map-set_same}
-use Rattle.std.proofs.lemmas.List.{map-set, get_or-map}
-use Rattle.std.proofs.lemmas.Option.{get_or_from_slice_get}
+use Rattle.std.proofs.lemmas.List.{map-set, get_or-map, length-replicate}
 use Rattle.jlr_machine.specs.declared.object.Object.{Object}
 use Rattle.jlr_types.specs.declared.FieldValue.{FieldValue}
 use Rattle.jlr_machine.specs.declared.object.Reference.{Reference as ReferenceOf}
@@ -17,8 +16,7 @@ use Rattle.jlr_cells.specs.declared.cell.Cell.TheVariants.{Free}
 use Rattle.jlr_cells.specs.declared.shape.Kind.{Kind}
 use Rattle.jlr_cells.specs.Contents.{object_in, objects_in, kind_of, kind_in, kinds_in, field_in}
 use Rattle.jlr_cells.specs.Links.{cell_links, links_in, links_of, no_links}
-use Rattle.jlr_cells.specs.FreeList.{IsFreeAt, AreKept, AreLinkedUp, link_to}
-use Rattle.jlr_cells.proofs.Chains.{changed, taken, given_back, new_list, new_objects}
+use Rattle.jlr_cells.specs.Keeping.{AreKept}
 
 -- a kind by itself is that of the object in the cell
 pub kind_at : (cells : List Cell) (s : ℕ) → slice_index_or (kinds_in cells) s None ≡ option_map kind_of (at (objects_in cells) s)
@@ -40,69 +38,57 @@ links_read cells links s c ls within by_links read read_links =
 
 -- the object in a cell becomes another of its kind
 pub kept_changed :
-    (cells : List Cell) (kinds : List (Option Kind)) (links : List (List (Option ℕ))) (s count : ℕ) (first : Option ℕ) (c d : Cell) (f : Object → Object)
-    → AreKept cells kinds links first count → is_some (at (objects_in cells) s) ≡ true → c ≡ get_or cells s c → object_in d ≡ option_map f (object_in c) → kind_in d ≡ kind_in c → cell_links d ≡ cell_links c
-    → AreKept (set cells s d) kinds links first count
-kept_changed cells kinds links s count first c d f kept holds read becomes same linked =
+    (cells : List Cell) (kinds : List (Option Kind)) (links : List (List (Option ℕ))) (s : ℕ) (c d : Cell) (f : Object → Object)
+    → AreKept cells kinds links → c ≡ get_or cells s c → object_in d ≡ option_map f (object_in c) → kind_in d ≡ kind_in c → cell_links d ≡ cell_links c
+    → AreKept (set cells s d) kinds links
+kept_changed cells kinds links s c d f kept read becomes same linked =
     record {
-      list = changed cells s count first c d f kept.list holds read becomes;
       by_kind = kept.by_kind ∙ sym (map-set_same kind_in cells s d c (same ∙ ap kind_in read));
       by_links = kept.by_links ∙ sym (map-set_same cell_links cells s d c (linked ∙ ap cell_links read));
+      small = rw (length-set cells s d) kept.small;
     }
 
 -- a reference changes, or a cleanable
 pub kept_reference :
-    (cells : List Cell) (kinds : List (Option Kind)) (links : List (List (Option ℕ))) (s count : ℕ) (first : Option ℕ) (c d : Cell) (f : ReferenceOf → ReferenceOf)
-    → AreKept cells kinds links first count → is_some (at (objects_in cells) s) ≡ true → c ≡ get_or cells s c → object_in d ≡ option_map (with_reference f) (object_in c) → kind_in d ≡ kind_in c
-    → AreKept (set cells s d) kinds links first count
-kept_reference cells kinds links s count first c d f kept holds read becomes same =
-    kept_changed cells kinds links s count first c d (with_reference f) kept holds read becomes same (ap links_of becomes ∙ links_with_reference f (object_in c))
+    (cells : List Cell) (kinds : List (Option Kind)) (links : List (List (Option ℕ))) (s : ℕ) (c d : Cell) (f : ReferenceOf → ReferenceOf)
+    → AreKept cells kinds links → c ≡ get_or cells s c → object_in d ≡ option_map (with_reference f) (object_in c) → kind_in d ≡ kind_in c
+    → AreKept (set cells s d) kinds links
+kept_reference cells kinds links s c d f kept read becomes same =
+    kept_changed cells kinds links s c d (with_reference f) kept read becomes same (ap links_of becomes ∙ links_with_reference f (object_in c))
 
 pub kept_cleanable :
-    (cells : List Cell) (kinds : List (Option Kind)) (links : List (List (Option ℕ))) (s count : ℕ) (first : Option ℕ) (c d : Cell) (f : CleanableOf → CleanableOf)
-    → AreKept cells kinds links first count → is_some (at (objects_in cells) s) ≡ true → c ≡ get_or cells s c → object_in d ≡ option_map (with_cleanable f) (object_in c) → kind_in d ≡ kind_in c
-    → AreKept (set cells s d) kinds links first count
-kept_cleanable cells kinds links s count first c d f kept holds read becomes same =
-    kept_changed cells kinds links s count first c d (with_cleanable f) kept holds read becomes same (ap links_of becomes ∙ links_with_cleanable f (object_in c))
+    (cells : List Cell) (kinds : List (Option Kind)) (links : List (List (Option ℕ))) (s : ℕ) (c d : Cell) (f : CleanableOf → CleanableOf)
+    → AreKept cells kinds links → c ≡ get_or cells s c → object_in d ≡ option_map (with_cleanable f) (object_in c) → kind_in d ≡ kind_in c
+    → AreKept (set cells s d) kinds links
+kept_cleanable cells kinds links s c d f kept read becomes same =
+    kept_changed cells kinds links s c d (with_cleanable f) kept read becomes same (ap links_of becomes ∙ links_with_cleanable f (object_in c))
 
 -- a field changes, and its link with it
 pub kept_field :
-    (cells : List Cell) (kinds : List (Option Kind)) (links : List (List (Option ℕ))) (s count : ℕ) (first : Option ℕ) (c d : Cell) (i : ℕ) (v : FieldValue) (old new : List (Option ℕ))
-    → AreKept cells kinds links first count → is_some (field_in (at (objects_in cells) s) i) ≡ true → c ≡ get_or cells s c → object_in d ≡ option_map (with_field i v) (object_in c) → kind_in d ≡ kind_in c
-    → old ≡ get_or links s old → new ≡ set old i (slot_in v) → AreKept (set cells s d) kinds (set links s new) first count
-kept_field cells kinds links s count first c d i v old new kept holds read becomes same read_links written =
+    (cells : List Cell) (kinds : List (Option Kind)) (links : List (List (Option ℕ))) (s : ℕ) (c d : Cell) (i : ℕ) (v : FieldValue) (old new : List (Option ℕ))
+    → AreKept cells kinds links → is_some (field_in (at (objects_in cells) s) i) ≡ true → c ≡ get_or cells s c → object_in d ≡ option_map (with_field i v) (object_in c) → kind_in d ≡ kind_in c
+    → old ≡ get_or links s old → new ≡ set old i (slot_in v) → AreKept (set cells s d) kinds (set links s new)
+kept_field cells kinds links s c d i v old new kept holds read becomes same read_links written =
     let object : is_some (at (objects_in cells) s) ≡ true = object_of_field (at (objects_in cells) s) i holds in
     let within : s < length cells = within_cells cells s object in
     let holds' : is_some (field_in (object_in c) i) ≡ true = rw (← at-read cells s c within read) holds in
     let was : old ≡ cell_links c = links_read cells links s c old within kept.by_links read read_links in
     let is : new ≡ cell_links d = written ∙ ap (λ l. set l i (slot_in v)) was ∙ sym (links_with_field (object_in c) i v holds') ∙ sym (ap links_of becomes) in
     record {
-      list = changed cells s count first c d (with_field i v) kept.list object read becomes;
       by_kind = kept.by_kind ∙ sym (map-set_same kind_in cells s d c (same ∙ ap kind_in read));
       by_links = rw (kept.by_links, is) (sym (map-set cell_links cells s d));
+      small = rw (length-set cells s d) kept.small;
     }
 
--- the first free cell is taken
-pub kept_taken :
-    (cells : List Cell) (kinds : List (Option Kind)) (links : List (List (Option ℕ))) (s count : ℕ) (next : Option ℕ) (c : Cell) (o : Object) (kind : Option Kind)
-    → AreKept cells kinds links (Some s) count → IsFreeAt cells s next → object_in c ≡ Some o → kind ≡ kind_in c → cell_links c ≡ no_links
-    → AreKept (set cells s c) (set kinds s kind) links next (count - 1)
-kept_taken cells kinds links s count next c o kind kept here holds is blank =
+-- an object is put into a cell
+pub kept_put :
+    (cells : List Cell) (kinds : List (Option Kind)) (links : List (List (Option ℕ))) (s : ℕ) (c : Cell) (kind : Option Kind) (ls : List (Option ℕ))
+    → AreKept cells kinds links → kind ≡ kind_in c → ls ≡ cell_links c → AreKept (set cells s c) (set kinds s kind) (set links s ls)
+kept_put cells kinds links s c kind ls kept is blank =
     record {
-      list = taken cells s count next c o kept.list here holds;
       by_kind = rw (kept.by_kind, is) (sym (map-set kind_in cells s c));
-      by_links = kept.by_links ∙ sym (map-set_same cell_links cells s c (Free next) (blank ∙ sym (ap cell_links (get_or_from_slice_get cells s (Free next) (Free next) here))));
-    }
-
--- a cell with an object becomes free
-pub kept_given_back :
-    (cells : List Cell) (kinds : List (Option Kind)) (links : List (List (Option ℕ))) (s count : ℕ) (first : Option ℕ)
-    → AreKept cells kinds links first count → is_some (at (objects_in cells) s) ≡ true → AreKept (set cells s (Free first)) (set kinds s None) (set links s no_links) (Some s) (count + 1)
-kept_given_back cells kinds links s count first kept holds =
-    record {
-      list = given_back cells s count first kept.list holds;
-      by_kind = rw kept.by_kind (sym (map-set kind_in cells s (Free first)));
-      by_links = rw kept.by_links (sym (map-set cell_links cells s (Free first)));
+      by_links = rw (kept.by_links, blank) (sym (map-set cell_links cells s c));
+      small = rw (length-set cells s c) kept.small;
     }
 
 -- free cells have no kinds, and no links
@@ -122,9 +108,17 @@ null_links (c ∷ cells) (suc n) e =
     let first : object_in c ≡ None = ap (λ l. slice_index_or l 0 None) e in
     rw (null_links cells n (ap (drop 1) e)) (ap (λ o. links_of o ∷ replicate n no_links) first)
 
+pub empty_objects : (count : ℕ) → objects_in (replicate count Free) ≡ replicate count None
+empty_objects zero = refl
+empty_objects (suc n) = ap (λ l. None ∷ l) (empty_objects n)
+
 pub new_kept :
-    (cells : List Cell) (kinds : List (Option Kind)) (links : List (List (Option ℕ))) (count : ℕ) → AreLinkedUp cells count → count < 2 ^ 32 → kinds ≡ replicate count None → links ≡ replicate count no_links
-    → AreKept cells kinds links (link_to count 0) count
-new_kept cells kinds links count all fits by_kind by_links =
-    let none = new_objects cells count all in
-    record { list = new_list cells count all fits; by_kind = by_kind ∙ sym (no_kinds cells count none); by_links = by_links ∙ sym (null_links cells count none) }
+    (cells : List Cell) (kinds : List (Option Kind)) (links : List (List (Option ℕ))) (count : ℕ) → cells ≡ replicate count Free → count < 2 ^ 32 → kinds ≡ replicate count None → links ≡ replicate count no_links
+    → AreKept cells kinds links
+new_kept cells kinds links count empty fits by_kind by_links =
+    let none = ap objects_in empty ∙ empty_objects count in
+    record {
+      by_kind = by_kind ∙ sym (no_kinds cells count none);
+      by_links = by_links ∙ sym (null_links cells count none);
+      small = omega (arith, fits, ap length empty, length-replicate {A = Cell} count Free);
+    }

@@ -1,10 +1,8 @@
 mod Writing
 mod FieldLists
-mod Slots
-mod Chains
+pub mod Slots
 mod LinkLists
 mod ByKind
 pub mod Queues
 pub mod Showing
-pub mod Shown
 pub mod Images

@@ -93,7 +93,7 @@ links_lead fields =
     ∙ mapped_leads fields
 
 plain_edges : (c : Cell) → some_and is_plain (object_in c) ≡ true → edges_from Strong (object_in c ∷ []) 0 ≡ linked (links_of (object_in c))
-plain_edges (Free next) h = cc
+plain_edges Free h = cc
 plain_edges (Plain fields) h = append-nil (filter_map slot_in fields) ∙ sym (links_lead fields)
 plain_edges (Reference r) h = cc
 plain_edges Queue h = cc

@@ -23,7 +23,7 @@ use Rattle.jlr_cells.specs.declared.shape.Shape.{Shape}
 use Rattle.jlr_cells.specs.declared.shape.Shape.TheVariants as shape
 use Rattle.jlr_cells.specs.Contents.{kind_in, kind_of, member_in, members_in, object_in, object_of, objects_in, with_list, with_lists}
 use Rattle.jlr_cells.specs.Links.{cell_links}
-use Rattle.jlr_cells.specs.FreeList.{AreOfQueues, AreWhole}
+use Rattle.jlr_cells.specs.Keeping.{AreOfQueues, AreWhole}
 use Rattle.jlr_cells.proofs.Slots.{at-read, change_at-objects_in, object_of_queue, within_cells}
 use Rattle.jlr_cells.proofs.ByKind.{kind_at}
 
@@ -197,7 +197,7 @@ changed_members heap lists s g within =
     with_lists-list heap lists s (g (list_at lists s)) within
     ∙ ap (set (with_lists heap lists) s) (members_changed g (list_at lists s) (at heap s) ∙ ap (option_map (with_members g)) (sym (at-with_lists heap lists s)))
 
--- a new object stands where none stood, and an object is no more
+-- a new object stands where nothing with members lay
 pub added_object : (cells : List Cell) (lists : List (List ℕ)) (s : ℕ) (c : Cell) (made : Shape) → list_at lists s ≡ [] → object_in c ≡ Some (object_of made)
     → with_lists (objects_in (set cells s c)) lists ≡ set_at (with_lists (objects_in cells) lists) s (object_of made)
 added_object cells lists s c made none is =
@@ -206,18 +206,9 @@ added_object cells lists s c made none is =
     ∙ with_lists-set heap lists s (object_in c)
     ∙ ap (set (with_lists heap lists) s) (ap (λ l. with_list l (object_in c)) none ∙ ap (with_list []) is ∙ new_object made)
 
-pub removed_object : (cells : List Cell) (lists : List (List ℕ)) (s : ℕ) (first : Option ℕ) → s < length lists
-    → with_lists (objects_in (set cells s (Free first))) (set lists s []) ≡ empty_at (with_lists (objects_in cells) lists) s
-removed_object cells lists s first within =
-    let heap = objects_in cells in
-    ap (λ h. with_lists h (set lists s [])) (map-set object_in cells s (Free first))
-    ∙ with_lists-set heap (set lists s []) s None
-    ∙ ap (λ h. set h s None) (with_lists-list heap lists s [] within)
-    ∙ set-set (with_lists heap lists) s (with_list [] (at heap s)) None
-
 -- ---- What is kept of queues
 
-module _ (cells : List Cell) (lists : List (List ℕ)) (slots : ℕ) (kinds : List (Option Kind)) (links : List (List (Option ℕ))) (first : Option ℕ) (count : ℕ) (whole : AreWhole cells lists slots kinds links first count) where
+module _ (cells : List Cell) (lists : List (List ℕ)) (slots : ℕ) (kinds : List (Option Kind)) (links : List (List (Option ℕ))) (whole : AreWhole cells lists slots kinds links) where
   kinds_read : (s : ℕ) → slice_index_or kinds s None ≡ option_map kind_of (at (objects_in cells) s)
   kinds_read s = ap (λ l. slice_index_or l s None) whole.kept.by_kind ∙ kind_at cells s
 
@@ -253,7 +244,7 @@ module _ (cells : List Cell) (lists : List (List ℕ)) (slots : ℕ) (kinds : Li
   ]
 
   -- the list of a queue may change
-  pub queue_changed : (s : ℕ) (members : List ℕ) → some_and is_queue (at (objects_in cells) s) ≡ true → AreWhole cells (set lists s members) slots kinds links first count
+  pub queue_changed : (s : ℕ) (members : List ℕ) → some_and is_queue (at (objects_in cells) s) ≡ true → AreWhole cells (set lists s members) slots kinds links
   queue_changed s members queue = record {
     kept = whole.kept;
     members = record {
@@ -287,11 +278,6 @@ emptied kinds lists slots s of within = record {
     | inr other ↦ subst (λ l. (l ≡ []) ⊎ (slice_index_or kinds j None ≡ Some kind.Queue)) (sym (get_or-set_other lists s j [] [] other)) (of.only j)
   ];
 }
-
--- the object at a slot is no more, and its list is empty
-pub list_emptied : (kinds : List (Option Kind)) (lists : List (List ℕ)) (slots s : ℕ) → AreOfQueues kinds lists slots → s < length lists → AreOfQueues (set kinds s None) (set lists s []) slots
-list_emptied kinds lists slots s of within =
-    kinds_set kinds (set lists s []) slots s None (emptied kinds lists slots s of within) (get_or-set_same lists s [] [] within)
 
 -- empty lists
 none_of : (n s : ℕ) → list_at (replicate n []) s ≡ []
@@ -353,25 +339,25 @@ module _ (cells : List Cell) (lists : List (List ℕ)) (v : Heap) (view : with_l
   changed_at s t c d f same below read becomes leaves =
       changed_object cells lists t c d f below read becomes leaves ∙ ap (λ x. change_at (with_lists (objects_in cells) lists) x f) same ∙ ap (λ (h : Heap). change_at h s f) view
 
-module _ (cells : List Cell) (lists : List (List ℕ)) (slots : ℕ) (kinds : List (Option Kind)) (links : List (List (Option ℕ))) (first : Option ℕ) (count : ℕ)
-    (whole : AreWhole cells lists slots kinds links first count) (v : Heap) (view : with_lists (objects_in cells) lists ≡ v) where
+module _ (cells : List Cell) (lists : List (List ℕ)) (slots : ℕ) (kinds : List (Option Kind)) (links : List (List (Option ℕ)))
+    (whole : AreWhole cells lists slots kinds links) (v : Heap) (view : with_lists (objects_in cells) lists ≡ v) where
   pub list_there : (s t : ℕ) → t ≡ s → some_and is_queue (at v s) ≡ true → t < length lists
-  list_there s t same queue = omega (arith, within cells lists v view s t same (object_of_queue (at v s) queue), list_count cells lists slots kinds links first count whole)
+  list_there s t same queue = omega (arith, within cells lists v view s t same (object_of_queue (at v s) queue), list_count cells lists slots kinds links whole)
 
   pub members_seen : (s t : ℕ) → t ≡ s → list_at lists t ≡ members_in (at v s)
   members_seen s t same =
-      ap (list_at lists) same ∙ sym (members_at cells lists slots kinds links first count whole s) ∙ ap (λ (h : Heap). members_in (at h s)) view
+      ap (list_at lists) same ∙ sym (members_at cells lists slots kinds links whole s) ∙ ap (λ (h : Heap). members_in (at h s)) view
 
   pub first_seen : (s t : ℕ) → t ≡ s → slice_get (list_at lists t) 0 ≡ member_in (at v s) 0
   first_seen s t same = ap (λ l. slice_get l 0) (members_seen s t same) ∙ sym (member_listed (at v s) 0)
 
   -- a queue's list is another
   pub whole_with : (s t : ℕ) (members : List ℕ) (lists' : List (List ℕ)) (slots' : ℕ) → t ≡ s → some_and is_queue (at v s) ≡ true → lists' ≡ set lists t members → slots' ≡ slots
-      → AreWhole cells lists' slots' kinds links first count
+      → AreWhole cells lists' slots' kinds links
   whole_with s t members lists' slots' same queue e e' =
-      subst (λ l. AreWhole cells l slots' kinds links first count) (sym e)
-      (subst (λ n. AreWhole cells (set lists t members) n kinds links first count) (sym e')
-      (queue_changed cells lists slots kinds links first count whole t members (holds_at cells lists v view (some_and is_queue) s t (λ l m. refl) same queue)))
+      subst (λ l. AreWhole cells l slots' kinds links) (sym e)
+      (subst (λ n. AreWhole cells (set lists t members) n kinds links) (sym e')
+      (queue_changed cells lists slots kinds links whole t members (holds_at cells lists v view (some_and is_queue) s t (λ l m. refl) same queue)))
 
   pub seen_with : (s t : ℕ) (g : List ℕ → List ℕ) (lists' : List (List ℕ)) → t ≡ s → some_and is_queue (at v s) ≡ true → lists' ≡ set lists t (g (list_at lists t))
       → with_lists (objects_in cells) lists' ≡ change_at v s (with_members g)

@@ -20,7 +20,7 @@ use Rattle.jlr_cells.specs.declared.shape.Shape.TheVariants.{Plain as PlainShape
 
 -- the object in a cell, if it is not free; a queue without its members, which stand in a list of their own
 abbrev pub object_in : Cell → Option Object
-object_in (Free next) = None
+object_in Free = None
 object_in (Plain fields) = Some (PlainObject fields)
 object_in (Reference r) = Some (ReferenceObject r)
 object_in Queue = Some (QueueObject [])

@@ -1,7 +1,7 @@
--- What words and links stand for, which object a cell holds, which cells are free, how the free ones are linked, and which cells count.
+-- What words and links stand for, which object a cell holds, what is kept beside the cells, and what is shown of them.
 pub mod Words
 pub mod Contents
 pub mod Links
 pub mod Visits
-pub mod FreeList
+pub mod Keeping
 pub mod Showing

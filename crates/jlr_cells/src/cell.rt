@@ -20,7 +20,8 @@ use std::mem::size_of;
 /// A place for one object.
 #[derive(Drop)]
 pub(crate) enum Cell {
-    Free { next: Option<u32> },
+    /// Nothing was put here yet.
+    Free,
     Plain(Fields),
     Reference(Reference),
     /// A queue. Its members stand in the list of its slot.
@@ -70,7 +71,7 @@ impl Cell {
         ensures { result ≡ kind_in self.now }
     {
         match self {
-            Cell::Free { .. } => None,
+            Cell::Free => None,
             Cell::Plain(_) => Some(Kind::Plain),
             Cell::Reference(reference) => Some(Kind::Reference(reference.kind)),
             Cell::Queue => Some(Kind::Queue),
@@ -261,7 +262,7 @@ impl Cell {
         ensures { IfOk result (λ object. object ≡ with_list (list_at lists.now.lists list) (object_in self.now)) }
     {
         match self {
-            Cell::Free { .. } => Ok(None),
+            Cell::Free => Ok(None),
             Cell::Plain(fields) => {
                 let mut values = Vec::with_capacity(alloc, fields.len())?;
                 for field in 0..fields.len() {

@@ -1,4 +1,4 @@
-//! All cells, as they lie.
+//! The cells, as they lie.
 ghost use Rattle.std.specs.Prelude.{◌≡◌, ◌⊎◌, ℕ, ◌+◌, ◌++◌, ◌∷◌, [], ◌^◌, ◌<◌, ◌↔◌, IfOk, IfNone, IfSome, IsNone, IsTrue, None, List, Some, cond, drop, is_some, length, option_and_then, option_map, replicate, slice_get, slice_set};
 ghost use Rattle.jlr_machine.specs.Objects.{◌∈◌, as_cleanable, as_fields, as_guard, as_reference, at, change_at, empty_at, occupied, set_at, some_and};
 ghost use Rattle.jlr_sets.specs.SlotSets.{is_in};
@@ -14,7 +14,6 @@ ghost use Rattle.jlr_cells.specs.Links.{no_links};
 ghost use Rattle.jlr_cells.specs.Visits.{edges_told, found_plain};
 
 use crate::cell::Cell;
-use crate::free_list::{free_cells, link_to, next_free};
 use crate::links::{Links, Visited, target_of};
 use crate::shape::{Kind, Shape};
 use jlr_links::Links as Lists;
@@ -25,17 +24,15 @@ use jlr_types::{FieldValue, Meter, Slot};
 use std::alloc::{AllocError, Global};
 use std::marker::Model;
 
-/// What lies in the cells, by slot. The kinds stand by themselves once more, side by side, so that a pass over all cells reads
+/// What lies in the cells, by slot, whether it still counts or not. The kinds stand by themselves once more, side by side, so that a pass over all cells reads
 /// only those that it has to; and so does what the fields of plain objects refer to, so that marking reads no cell of those.
 #[derive(Drop)]
-pub(crate) struct Store {
+pub struct Store {
     cells: Vec<Cell>,
     /// By slot, the members of the queue there from the front on; of what is no queue there are none.
     queues: Lists,
     kinds: Vec<Option<Kind>>,
     links: Vec<Links>,
-    first_free: Option<u32>,
-    free_count: u32,
 }
 
 impl Model for Store {
@@ -45,83 +42,51 @@ impl Model for Store {
     ghost Value = { List (Option Object) };
 
     ghost use Rattle.jlr_cells.specs.Contents.{objects_in, with_lists};
-    ghost use Rattle.jlr_cells.specs.FreeList.{AreWhole};
+    ghost use Rattle.jlr_cells.specs.Keeping.{AreWhole};
 
     ghost view = { λ a. with_lists (objects_in a.cells.items) a.queues.lists };
 
-    ghost invariant = { λ a. AreWhole a.cells.items a.queues.lists a.queues.slots a.kinds.items a.links.items a.first_free a.free_count };
+    ghost invariant = { λ a. AreWhole a.cells.items a.queues.lists a.queues.slots a.kinds.items a.links.items };
 }
 
 impl Store {
-    /// So many cells, all free.
+    /// So many cells, with nothing in them.
     ///
     /// # Errors
     /// `AllocError` where there is no memory for them.
-    pub(crate) fn new(alloc: Global, count: u32) -> Result<Self, AllocError>
+    pub fn new(alloc: Global, count: u32) -> Result<Self, AllocError>
         ensures { IfOk result (λ store. store ≡ replicate count None) }
     {
         Ok(Store {
-            cells: free_cells(alloc, count)?,
+            cells: empty_cells(alloc, count)?,
             queues: Lists::new(alloc, count, count)?,
             kinds: no_kinds(alloc, count)?,
             links: all_null(alloc, count)?,
-            first_free: link_to(0, count),
-            free_count: count,
         })
     }
 
     /// How many cells there are. Their slots are the numbers below.
-    pub(crate) fn cell_count(&self) -> u32
+    pub fn cell_count(&self) -> u32
         ensures { result ≡ length self.now }
     {
         self.cells.len() as u32
     }
 
-    /// How many cells are free.
-    pub(crate) fn free_count(&self) -> u32
-        ensures { result + occupied self.now ≡ length self.now }
+    /// A new object is put at a slot. What lay there before, if anything, had no members.
+    pub fn put(&mut self, slot: Slot, shape: Shape)
+        requires within { slot < length self.old }
+        requires members { members_in (at self.old slot) ≡ [] }
+        ensures { self.new ≡ set_at self.old slot (object_of shape) }
     {
-        self.free_count
-    }
-
-    /// A new object in a free cell, if there is one.
-    pub(crate) fn take(&mut self, shape: Shape) -> Option<Slot>
-        ensures full { IsNone result ↔ (occupied self.old ≡ length self.old) }
-        ensures none { IfNone result (self.new ≡ self.old) }
-        ensures free { IfSome result (λ slot. (slot < length self.old) × (at self.old slot ≡ None)) }
-        ensures taken { IfSome result (λ slot. self.new ≡ set_at self.old slot (object_of shape)) }
-    {
-        match self.first_free {
-            None => None,
-            Some(slot) => {
-                self.first_free = next_free(&self.cells, slot);
-                let cell = Cell::new(shape);
-                self.kinds[slot as usize] = cell.kind();
-                self.cells[slot as usize] = cell;
-                self.free_count -= 1;
-                Some(Slot::new(slot))
-            }
-        }
-    }
-
-    /// The object at a slot is no more, and its cell is free.
-    pub(crate) fn give_back(&mut self, slot: Slot)
-        requires { IsTrue (is_some (at self.old slot)) }
-        ensures { self.new ≡ empty_at self.old slot }
-    {
-        let number = slot.number();
-        self.cells[number as usize] = Cell::Free {
-            next: self.first_free,
-        };
-        empty_list(&mut self.queues, number, self.kinds[number as usize]);
-        self.kinds[number as usize] = None;
-        self.links[number as usize] = Links::none();
-        self.first_free = Some(number);
-        self.free_count += 1;
+        let place = slot.number() as usize;
+        let cell = Cell::new(shape);
+        self.kinds[place] = cell.kind();
+        self.links[place] = Links::none();
+        self.cells[place] = cell;
     }
 
     /// Of which kind the object at a slot is, if there is one.
-    pub(crate) fn kind(&self, slot: Slot) -> Option<Kind>
+    pub fn kind(&self, slot: Slot) -> Option<Kind>
         ensures kind { result ≡ option_map kind_of (at self.now slot) }
         ensures object { is_some result ≡ is_some (at self.now slot) }
     {
@@ -132,28 +97,28 @@ impl Store {
     }
 
     /// Whether there is a plain object at a slot.
-    pub(crate) fn is_plain(&self, slot: Slot) -> bool
+    pub fn is_plain(&self, slot: Slot) -> bool
         ensures { result ≡ some_and is_plain (at self.now slot) }
     {
         matches!(self.kind(slot), Some(Kind::Plain))
     }
 
     /// Whether there is a queue at a slot.
-    pub(crate) fn is_queue(&self, slot: Slot) -> bool
+    pub fn is_queue(&self, slot: Slot) -> bool
         ensures { result ≡ some_and is_queue (at self.now slot) }
     {
         matches!(self.kind(slot), Some(Kind::Queue))
     }
 
     /// Whether there is a cleanable at a slot.
-    pub(crate) fn is_cleanable(&self, slot: Slot) -> bool
+    pub fn is_cleanable(&self, slot: Slot) -> bool
         ensures { result ≡ some_and is_cleanable (at self.now slot) }
     {
         matches!(self.kind(slot), Some(Kind::Cleanable))
     }
 
     /// How many fields the object at a slot has, if it is a plain one.
-    pub(crate) fn field_count(&self, slot: Slot) -> Option<usize>
+    pub fn field_count(&self, slot: Slot) -> Option<usize>
         ensures { result ≡ option_map length (option_and_then as_fields (at self.now slot)) }
     {
         match self.cells.get(slot.number() as usize) {
@@ -163,14 +128,14 @@ impl Store {
     }
 
     /// Whether there is a plain object at a slot that has this field.
-    pub(crate) fn has_field(&self, slot: Slot, field: usize) -> bool
+    pub fn has_field(&self, slot: Slot, field: usize) -> bool
         ensures { result ≡ is_some (field_at self.now slot field) }
     {
         field_of(&self.cells, slot, field).is_some()
     }
 
     /// What a field holds.
-    pub(crate) fn field(&self, slot: Slot, field: usize) -> FieldValue
+    pub fn field(&self, slot: Slot, field: usize) -> FieldValue
         requires { IsTrue (is_some (field_at self.now slot field)) }
         ensures { field_at self.now slot field ≡ Some result }
     {
@@ -178,7 +143,7 @@ impl Store {
     }
 
     /// Sets a field, and answers what it held.
-    pub(crate) fn set_field(&mut self, slot: Slot, field: usize, value: FieldValue) -> FieldValue
+    pub fn set_field(&mut self, slot: Slot, field: usize, value: FieldValue) -> FieldValue
         requires field { IsTrue (is_some (field_at self.old slot field)) }
         requires within { (s : ℕ) → value ≡ FieldValue.Ref (Some s) → s < length self.old }
         ensures old { field_at self.old slot field ≡ Some result }
@@ -194,7 +159,7 @@ impl Store {
     }
 
     /// The reference at a slot, if there is one.
-    pub(crate) fn reference(&self, slot: Slot) -> Option<Reference>
+    pub fn reference(&self, slot: Slot) -> Option<Reference>
         ensures { result ≡ option_and_then as_reference (at self.now slot) }
     {
         match self.cells.get(slot.number() as usize) {
@@ -204,7 +169,7 @@ impl Store {
     }
 
     /// What the reference at a slot refers to, if there is a reference and it was not cleared.
-    pub(crate) fn referent(&self, slot: Slot) -> Option<Slot>
+    pub fn referent(&self, slot: Slot) -> Option<Slot>
         ensures { result ≡ referent_in (at self.now slot) }
     {
         match self.cells.get(slot.number() as usize) {
@@ -214,7 +179,7 @@ impl Store {
     }
 
     /// The reference at a slot loses its referent.
-    pub(crate) fn clear_referent(&mut self, slot: Slot)
+    pub fn clear_referent(&mut self, slot: Slot)
         requires { IsTrue (some_and is_reference (at self.old slot)) }
         ensures { self.new ≡ change_at self.old slot (with_reference unreferred) }
     {
@@ -223,7 +188,7 @@ impl Store {
     }
 
     /// The reference at a slot comes into another state.
-    pub(crate) fn set_state(&mut self, slot: Slot, state: RefState)
+    pub fn set_state(&mut self, slot: Slot, state: RefState)
         requires { IsTrue (some_and is_reference (at self.old slot)) }
         ensures { self.new ≡ change_at self.old slot (with_reference (in_state state)) }
     {
@@ -232,7 +197,7 @@ impl Store {
     }
 
     /// The reference at a slot is registered with no queue any more.
-    pub(crate) fn cut_queue(&mut self, slot: Slot)
+    pub fn cut_queue(&mut self, slot: Slot)
         requires { IsTrue (some_and is_reference (at self.old slot)) }
         ensures { self.new ≡ change_at self.old slot (with_reference unregistered) }
     {
@@ -241,7 +206,7 @@ impl Store {
     }
 
     /// The cleanable at a slot, if there is one.
-    pub(crate) fn cleanable(&self, slot: Slot) -> Option<Cleanable>
+    pub fn cleanable(&self, slot: Slot) -> Option<Cleanable>
         ensures { result ≡ option_and_then as_cleanable (at self.now slot) }
     {
         match self.cells.get(slot.number() as usize) {
@@ -251,7 +216,7 @@ impl Store {
     }
 
     /// The guard at a slot, if there is one.
-    pub(crate) fn guard(&self, slot: Slot) -> Option<Guard>
+    pub fn guard(&self, slot: Slot) -> Option<Guard>
         ensures { result ≡ option_and_then as_guard (at self.now slot) }
     {
         match self.cells.get(slot.number() as usize) {
@@ -261,7 +226,7 @@ impl Store {
     }
 
     /// The cleanable at a slot comes into another state.
-    pub(crate) fn set_clean_state(&mut self, slot: Slot, state: CleanState)
+    pub fn set_clean_state(&mut self, slot: Slot, state: CleanState)
         requires { IsTrue (some_and is_cleanable (at self.old slot)) }
         ensures { self.new ≡ change_at self.old slot (with_cleanable (in_clean_state state)) }
     {
@@ -270,7 +235,7 @@ impl Store {
     }
 
     /// The cleanable at a slot loses its referent.
-    pub(crate) fn clear_cleanable(&mut self, slot: Slot)
+    pub fn clear_cleanable(&mut self, slot: Slot)
         requires { IsTrue (some_and is_cleanable (at self.old slot)) }
         ensures { self.new ≡ change_at self.old slot (with_cleanable without_referent) }
     {
@@ -279,7 +244,7 @@ impl Store {
     }
 
     /// The cleanable at a slot waits for an object from now on.
-    pub(crate) fn watch(&mut self, slot: Slot, referent: Slot)
+    pub fn watch(&mut self, slot: Slot, referent: Slot)
         requires { IsTrue (some_and is_cleanable (at self.old slot)) }
         ensures { self.new ≡ change_at self.old slot (with_cleanable (watching referent)) }
     {
@@ -288,7 +253,7 @@ impl Store {
     }
 
     /// The cleanable at a slot has done what it was for: it is spent, and has no referent any more.
-    pub(crate) fn spend(&mut self, slot: Slot)
+    pub fn spend(&mut self, slot: Slot)
         requires { IsTrue (some_and is_cleanable (at self.old slot)) }
         ensures { self.new ≡ change_at self.old slot (with_cleanable spent) }
     {
@@ -297,7 +262,7 @@ impl Store {
     }
 
     /// How many members the queue at a slot has; 0, if there is no queue.
-    pub(crate) fn member_count(&self, queue: Slot) -> u32
+    pub fn member_count(&self, queue: Slot) -> u32
         ensures { result ≡ length (members_in (at self.now queue)) }
     {
         if !self.is_queue(queue) {
@@ -307,7 +272,7 @@ impl Store {
     }
 
     /// The member at the front of the queue at a slot, if there is a queue and it has members.
-    pub(crate) fn first_member(&self, queue: Slot) -> Option<Slot>
+    pub fn first_member(&self, queue: Slot) -> Option<Slot>
         ensures { result ≡ member_in (at self.now queue) 0 }
     {
         if !self.is_queue(queue) {
@@ -317,7 +282,7 @@ impl Store {
     }
 
     /// The member after another of the queue at a slot, if that is not the last.
-    pub(crate) fn next_member(&self, queue: Slot, member: Slot) -> Option<Slot>
+    pub fn next_member(&self, queue: Slot, member: Slot) -> Option<Slot>
         requires { member ∈ members_in (at self.now queue) }
         ensures { (before after : List ℕ) → members_in (at self.now queue) ≡ before ++ member ∷ after → result ≡ slice_get after 0 }
     {
@@ -325,7 +290,7 @@ impl Store {
     }
 
     /// The queue at a slot gets a member at its end, which stands in no queue.
-    pub(crate) fn push_member(&mut self, queue: Slot, member: Slot)
+    pub fn push_member(&mut self, queue: Slot, member: Slot)
         requires queue { IsTrue (some_and is_queue (at self.old queue)) }
         requires within { member < length self.old }
         requires apart { (s : ℕ) → member ∈ members_in (at self.old s) → ⊥ }
@@ -335,7 +300,7 @@ impl Store {
     }
 
     /// The member at the front of the queue at a slot leaves it, if there is one.
-    pub(crate) fn pop_member(&mut self, queue: Slot) -> Option<Slot>
+    pub fn pop_member(&mut self, queue: Slot) -> Option<Slot>
         requires { IsTrue (some_and is_queue (at self.old queue)) }
         ensures front { result ≡ member_in (at self.old queue) 0 }
         ensures popped { self.new ≡ change_at self.old queue (with_members (drop 1)) }
@@ -344,7 +309,7 @@ impl Store {
     }
 
     /// The queue at a slot has no members any more.
-    pub(crate) fn clear_members(&mut self, queue: Slot)
+    pub fn clear_members(&mut self, queue: Slot)
         requires { queue < length self.old }
         ensures { self.new ≡ change_at self.old queue (with_members (λ _. [])) }
     {
@@ -355,7 +320,7 @@ impl Store {
     ///
     /// # Errors
     /// `AllocError` where there is no memory for them.
-    pub(crate) fn image(
+    pub fn image(
         &self,
         alloc: Global,
         occupied: &CellSet,
@@ -368,7 +333,7 @@ impl Store {
 
     /// Visits the object at a slot: one tick. Gives its strong edges, but those of a queue to its members: it lends the links of a
     /// plain object, whose cell it does not read, and tells the queue that a reference may still be added to, or a guard's cleanable.
-    pub(crate) fn visit(&self, slot: Slot, meter: &mut Meter) -> Visited<'_>
+    pub fn visit(&self, slot: Slot, meter: &mut Meter) -> Visited<'_>
         requires object { IsTrue (is_some (at self.now slot)) }
         requires ticks { meter.old + 1 < 2 ^ 64 }
         ensures edges { edges_from Strong self.now slot ≡ edges_told result (members_in (at self.now slot)) }
@@ -386,6 +351,16 @@ impl Store {
     }
 }
 
+fn empty_cells(alloc: Global, count: u32) -> Result<Vec<Cell>, AllocError>
+    ensures { IfOk result (λ cells. cells.items ≡ replicate count Cell.Free) }
+{
+    let mut cells = Vec::with_capacity(alloc, count as usize)?;
+    for _slot in 0..count {
+        cells.push_reserved(Cell::Free);
+    }
+    Ok(cells)
+}
+
 fn no_kinds(alloc: Global, count: u32) -> Result<Vec<Option<Kind>>, AllocError>
     ensures { IfOk result (λ kinds. kinds.items ≡ replicate count None) }
 {
@@ -400,19 +375,6 @@ fn all_null(alloc: Global, count: u32) -> Result<Vec<Links>, AllocError>
         links.push_reserved(Links::none());
     }
     Ok(links)
-}
-
-/// A slot's list is empty from now on. That of what is no queue is empty already, and not written.
-fn empty_list(queues: &mut Lists, slot: u32, kind: Option<Kind>)
-    requires list { slot < length queues.old.lists }
-    requires only { (list_at queues.old.lists slot ≡ []) ⊎ (kind ≡ Some Kind.Queue) }
-    ensures lists { queues.new.lists ≡ slice_set queues.old.lists slot [] }
-    ensures slots { queues.new.slots ≡ queues.old.slots }
-{
-    match kind {
-        Some(Kind::Queue) => queues.clear(slot),
-        _ => {}
-    }
 }
 
 fn images(

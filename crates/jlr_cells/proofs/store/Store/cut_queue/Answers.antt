@@ -18,9 +18,8 @@ cut_queue-requires c =
 
 pub invariant_of-self : goal.invariant_of-self
 invariant_of-self c =
-    let holds = holds_at c.self.inside.cells.items c.self.inside.queues.lists c.args.self.now c.self.view_is is_some _ _ (λ l m. refl) c.number.ensures (object_of_reference _ c.requires) in
     record {
-      kept = kept_reference _ _ _ _ _ _ c.index_mut-cell.result.now _ unregistered c.self.invariant.kept holds c.index_mut-cell.ensures.value c.cut_queue.ensures.new c.cut_queue.ensures.kind;
+      kept = kept_reference _ _ _ _ c.index_mut-cell.result.now _ unregistered c.self.invariant.kept c.index_mut-cell.ensures.value c.cut_queue.ensures.new c.cut_queue.ensures.kind;
       members = c.self.invariant.members;
     }
 

@@ -1,15 +1,17 @@
 use Rattle.std.proofs.Common.{◌∙◌, ap}
-use Rattle.jlr_cells.specs.Contents.{with_lists}
-use Rattle.jlr_cells.proofs.ByKind.{new_kept}
-use Rattle.jlr_cells.proofs.Chains.{new_objects}
+use Rattle.jlr_cells.specs.Contents.{objects_in, with_lists}
+use Rattle.jlr_cells.proofs.ByKind.{empty_objects, new_kept}
 use Rattle.jlr_cells.proofs.Queues.{new_lists, nothing_listed}
 use Rattle.jlr_cells.proofs.store.Store.new.Goals as goal
 
 pub invariant_of-result : goal.invariant_of-result
 invariant_of-result c = record {
-  kept = rw c.link_to.ensures (new_kept _ _ _ _ c.in_ok-free_cells.ensures c.ranges.count.fits c.in_ok-no_kinds.ensures c.in_ok-all_null.ensures);
+  kept = new_kept _ _ _ _ c.in_ok-empty_cells.ensures c.ranges.count.fits c.in_ok-no_kinds.ensures c.in_ok-all_null.ensures;
   members = new_lists _ _ _ c.args.count c.in_ok-no_kinds.ensures c.in_ok-new.ensures.lists c.in_ok-new.ensures.slots;
 }
 
 pub returns : goal.returns
-returns c = ap (λ h. with_lists h c.in_ok-new.field-0.lists) (new_objects _ _ c.in_ok-free_cells.ensures) ∙ nothing_listed c.args.count c.in_ok-new.field-0.lists
+returns c =
+    ap (λ cells. with_lists (objects_in cells) c.in_ok-new.field-0.lists) c.in_ok-empty_cells.ensures
+    ∙ ap (λ h. with_lists h c.in_ok-new.field-0.lists) (empty_objects c.args.count)
+    ∙ nothing_listed c.args.count c.in_ok-new.field-0.lists

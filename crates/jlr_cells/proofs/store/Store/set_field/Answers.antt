@@ -19,7 +19,7 @@ pub invariant_of-self : goal.invariant_of-self
 invariant_of-self c =
     let holds = holds_at c.self.inside.cells.items c.self.inside.queues.lists c.args.self.now c.self.view_is (λ o. is_some (field_in o c.args.field)) _ _ (λ l m. refl) c.number-place.ensures c.requires.field in
     record {
-      kept = kept_field _ _ _ _ _ _ c.index_mut-cell.result.now _ c.args.field c.args.value c.index_mut-links.result.now _ c.self.invariant.kept holds c.index_mut-cell.ensures.value c.set_field-old.ensures.new c.set_field-old.ensures.kind
+      kept = kept_field _ _ _ _ c.index_mut-cell.result.now _ c.args.field c.args.value c.index_mut-links.result.now _ c.self.invariant.kept holds c.index_mut-cell.ensures.value c.set_field-old.ensures.new c.set_field-old.ensures.kind
           c.index_mut-links.ensures.value (c.set.ensures ∙ ap (set c.index_mut-links.result.now c.args.field) c.target_of-target.ensures);
       members = c.self.invariant.members;
     }
@@ -35,7 +35,7 @@ returns-clause-old c =
     seen_in c.self.inside.cells.items c.self.inside.queues.lists c.args.self.now c.self.view_is (λ o. field_in o c.args.field) c.args.slot c.number-place.result c.index_mut-cell.result.now (λ l m. refl) c.number-place.ensures below c.index_mut-cell.ensures.value ∙ c.set_field-old.ensures.old
 
 pub index_mut-links-requires : goal.index_mut-links-requires
-index_mut-links-requires c = omega (arith, within c.self.inside.cells.items c.self.inside.queues.lists c.args.self.now c.self.view_is _ _ c.number-place.ensures (object_of_field _ c.args.field c.requires.field), link_count c.self.inside.cells.items c.self.inside.queues.lists c.self.inside.queues.slots c.self.inside.kinds.items c.self.inside.links.items c.self.inside.first_free c.self.inside.free_count c.self.invariant)
+index_mut-links-requires c = omega (arith, within c.self.inside.cells.items c.self.inside.queues.lists c.args.self.now c.self.view_is _ _ c.number-place.ensures (object_of_field _ c.args.field c.requires.field), link_count c.self.inside.cells.items c.self.inside.queues.lists c.self.inside.queues.slots c.self.inside.kinds.items c.self.inside.links.items c.self.invariant)
 
 pub set-requires-clause-few : goal.set-requires-clause-few
-set-requires-clause-few c = λ s e. (let below = c.requires.within s (set_target c.args.value s (sym c.target_of-target.ensures ∙ e)) in omega (arith, below, length_seen c.self.inside.cells.items c.self.inside.queues.lists c.args.self.now c.self.view_is, c.self.invariant.kept.list.small))
+set-requires-clause-few c = λ s e. (let below = c.requires.within s (set_target c.args.value s (sym c.target_of-target.ensures ∙ e)) in omega (arith, below, length_seen c.self.inside.cells.items c.self.inside.queues.lists c.args.self.now c.self.view_is, c.self.invariant.kept.small))

@@ -18,9 +18,8 @@ spend-requires c =
 
 pub invariant_of-self : goal.invariant_of-self
 invariant_of-self c =
-    let holds = holds_at c.self.inside.cells.items c.self.inside.queues.lists c.args.self.now c.self.view_is is_some _ _ (λ l m. refl) c.number.ensures (object_of_cleanable _ c.requires) in
     record {
-      kept = kept_cleanable _ _ _ _ _ _ c.index_mut-cell.result.now _ spent c.self.invariant.kept holds c.index_mut-cell.ensures.value c.spend.ensures.new c.spend.ensures.kind;
+      kept = kept_cleanable _ _ _ _ c.index_mut-cell.result.now _ spent c.self.invariant.kept c.index_mut-cell.ensures.value c.spend.ensures.new c.spend.ensures.kind;
       members = c.self.invariant.members;
     }
 

@@ -22,7 +22,7 @@ returns-then-is_plain-clause-edges c =
     ∙ subst (λ s. edges_from Strong (objects_in cells) s ≡ linked c.index.result.now) c.number-place.ensures (edges ∙ sym read)
 
 pub index-requires : goal.index-requires
-index-requires c = omega (arith, within c.self.inside.cells.items c.self.inside.queues.lists c.args.self.now c.self.view_is _ _ c.number-place.ensures c.requires.object, link_count c.self.inside.cells.items c.self.inside.queues.lists c.self.inside.queues.slots c.self.inside.kinds.items c.self.inside.links.items c.self.inside.first_free c.self.inside.free_count c.self.invariant)
+index-requires c = omega (arith, within c.self.inside.cells.items c.self.inside.queues.lists c.args.self.now c.self.view_is _ _ c.number-place.ensures c.requires.object, link_count c.self.inside.cells.items c.self.inside.queues.lists c.self.inside.queues.slots c.self.inside.kinds.items c.self.inside.links.items c.self.invariant)
 
 pub index-requires-2 : goal.index-requires-2
 index-requires-2 c = omega (arith, within c.self.inside.cells.items c.self.inside.queues.lists c.args.self.now c.self.view_is _ _ c.number-place.ensures c.requires.object)

@@ -1,0 +1,17 @@
+use Rattle.std.proofs.Common.{◌≡◌, ◌∙◌, None, ap, replicate}
+use Rattle.jlr_machine.specs.Objects.{Heap}
+use Rattle.jlr_cells.specs.Showing.{shown}
+use Rattle.jlr_cells.proofs.Showing.{shown_none}
+use Rattle.jlr_occupancy.specs.Occupying.{Occupied}
+use Rattle.jlr_objects.specs.Holding.{Holding}
+use Rattle.jlr_objects.proofs.Shown.{new_are}
+use Rattle.jlr_objects.proofs.objects.Objects.new.Goals as goal
+
+pub invariant_of-result : goal.invariant_of-result
+invariant_of-result c = new_are c.args.cells _ _ _ c.in_ok-new.ensures (ap (λ (o : Occupied). o.places) c.in_ok-new-2.ensures) c.in_ok-new-3.ensures
+
+pub returns : goal.returns
+returns c =
+    ap (λ (h : Heap). record { objects = shown c.in_ok-new-2.field-0.places h; condemned = c.in_ok-new-2.field-0.condemned }) c.in_ok-new.ensures
+    ∙ ap (λ (h : Heap). record { objects = h; condemned = c.in_ok-new-2.field-0.condemned }) (shown_none c.args.cells c.in_ok-new-2.field-0.places)
+    ∙ ap (λ (o : Occupied). record { objects = replicate c.args.cells None; condemned = o.condemned }) c.in_ok-new-2.ensures

@@ -1,0 +1,11 @@
+//! The objects of the heap, by slot: what lies in the cells that are occupied.
+//!
+//! A collection says which cells stay occupied and writes none of the others: they are condemned, lie as they are, and become free once they are swept.
+//!
+//! Contracts see the machine's table of objects, and how many cells are condemned. No call but `Objects::new` and `image` takes memory.
+#![tactic(auto)]
+
+mod lists;
+mod objects;
+
+pub use objects::Objects;

@@ -1,0 +1,27 @@
+//! The queues that have members.
+ghost use Rattle.std.specs.Prelude.{◌≡◌, ℕ, [], false, is_some, length, map, true};
+ghost use Rattle.jlr_machine.specs.Objects.{at};
+ghost use Rattle.jlr_sets.specs.SlotSets.{is_in};
+ghost use Rattle.jlr_cells.specs.Contents.{members_in};
+ghost use Rattle.jlr_cells.specs.Showing.{shown};
+
+use jlr_cells::Store;
+use jlr_sets::cell_set::CellSet;
+
+/// Queues that are not kept lose their members.
+pub(crate) fn clear_lists(store: &mut Store, listed: &mut CellSet, kept: &CellSet)
+    requires places { length listed.old ≡ length store.old }
+    requires members { (s : ℕ) → is_in listed.old s ≡ false → members_in (at store.old s) ≡ [] }
+    ensures same { shown kept.now store.new ≡ shown kept.now store.old }
+    ensures used { map is_some store.new ≡ map is_some store.old }
+    ensures places { length listed.new ≡ length listed.old }
+    ensures queues { (s : ℕ) → is_in listed.new s ≡ true → is_in kept.now s ≡ true }
+    ensures members { (s : ℕ) → is_in listed.new s ≡ false → members_in (at store.new s) ≡ [] }
+{
+    let mut from = 0;
+    while let Some(slot) = listed.next_beyond(kept, from) {
+        store.clear_members(slot);
+        listed.remove(slot);
+        from = slot.number() + 1;
+    }
+}
