@@ -11,7 +11,7 @@ use Rattle.jlr_marks.proofs.Counting.{none_set}
 use Rattle.jlr_marks.proofs.Shading.{same_marking}
 use Rattle.jlr_machine.specs.Edges.{active_cleanables}
 use Rattle.jlr_roots.specs.Walk.{slots_held}
-use Rattle.jlr_barrier.specs.Graphs.{Graph, Known, empty_graph, empty_known, held}
+use Rattle.jlr_barrier.specs.Graphs.{Clock, Graph, Known, empty_graph, empty_known, held, swept}
 use Rattle.jlr_barrier.proofs.Held.{held_cases}
 use Rattle.jlr_links.proofs.Places.{member_in_list}
 use Rattle.std.specs.Prelude.{IfSome}
@@ -42,6 +42,10 @@ module _ (k : Known) (a b : ℕ) (f : FitsTogether k a b) (none : k.marking.grey
       | inr r ↦ elim r [ inl s ↦ inl (safe_is_marked y s) | inr d ↦ inr d ]
     ];
   }
+
+-- how many cells are condemned does not matter
+pub holds_still : (g : Graph) (c : Clock) (m : Marking) (n : ℕ) → HoldsWhole (swept g c m) → HoldsWhole (record { graph = g; clock = c; marking = m; condemned = n })
+holds_still g c m n h = record { long = h.long; objects = h.objects; roots = h.roots; closed = h.closed; referents = h.referents }
 
 -- ---- The grey slot that comes next
 
@@ -115,14 +119,14 @@ empty_fits cells sessions a b few ra rb =
 
 pub new_fits : (cells sessions a b : ℕ) (objects : Heap) (mutators : Table Session) (names : List Binding) (pending line ages : List ℕ) (m : Marking) → cells ≤ 65536 → cells ≡ a → b ≡ 2
     → objects ≡ replicate cells None → mutators ≡ replicate sessions None → names ≡ [] → pending ≡ [] → line ≡ [] → length ages ≡ cells → m.bits ≡ replicate cells false → m.grey ≡ [] → m.discovered ≡ []
-    → FitsTogether (record { graph = record { objects = objects; mutators = mutators; names = names; pending = pending; line = line }; clock = record { last_gets = ages; collections = 0; since = 0 }; marking = m }) a b
+    → FitsTogether (record { graph = record { objects = objects; mutators = mutators; names = names; pending = pending; line = line }; clock = record { last_gets = ages; collections = 0; since = 0 }; marking = m; condemned = 0 }) a b
 new_fits cells sessions a b objects mutators names pending line ages m few ra rb eo em en ep el ea bits grey discovered =
     let start = empty_fits cells sessions a b few ra rb in
     let graph_with : Heap → Table Session → List Binding → List ℕ → List ℕ → Graph = λ o m n p l. record { objects = o; mutators = m; names = n; pending = p; line = l } in
     let same_graph : empty_graph cells sessions ≡ graph_with objects mutators names pending line =
     ap (λ o. graph_with o (replicate sessions None) [] [] []) (sym eo) ∙ ap (λ u. graph_with objects u [] [] []) (sym em) ∙ ap (λ n. graph_with objects mutators n [] []) (sym en) ∙ ap (λ p. graph_with objects mutators names p []) (sym ep) ∙ ap (λ l. graph_with objects mutators names pending l) (sym el) in
     let same_marks : unmarked cells ≡ m = sym (same_marking m (unmarked cells) bits grey discovered) in
-    let known_with : Graph → Marking → Known = λ g m. record { graph = g; clock = (empty_known cells sessions).clock; marking = m } in
+    let known_with : Graph → Marking → Known = λ g m. record { graph = g; clock = (empty_known cells sessions).clock; marking = m; condemned = 0 } in
     let fits : FitsTogether (known_with (graph_with objects mutators names pending line) m) a b =
     subst (λ (k : Known). FitsTogether k a b) (ap (λ g. known_with g (unmarked cells)) same_graph ∙ ap (known_with (graph_with objects mutators names pending line)) same_marks) start in
     other_clock (known_with (graph_with objects mutators names pending line) m) (record { last_gets = ages; collections = 0; since = 0 }) a b fits (ea ∙ sym (length-replicate cells 0))

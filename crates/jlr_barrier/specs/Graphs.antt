@@ -3,7 +3,7 @@ use Rattle.std.specs.Prelude.{◌+◌, ◌^◌, ℕ, false, cond, nat_lt, Option
 use Rattle.jlr_machine.specs.declared.machine.Machine.{Machine}
 use Rattle.jlr_machine.specs.declared.machine.Session.{Session}
 use Rattle.jlr_machine.specs.declared.machine.Binding.{Binding}
-use Rattle.jlr_machine.specs.Objects.{Heap, Table, as_reference, at}
+use Rattle.jlr_machine.specs.Objects.{Heap, Table, as_reference, at, occupied}
 use Rattle.jlr_machine.specs.Edges.{active_cleanables}
 use Rattle.jlr_machine.specs.Refusals.{gotten}
 use Rattle.jlr_roots.specs.Walk.{slots_held}
@@ -25,10 +25,20 @@ pub record Clock : Type 0 where
   pub collections : ℕ
   pub since : ℕ
 
+-- Of the cells without an object so many are condemned: what lay there is no object any more, and they are not free yet
 pub record Known : Type 0 where
   pub graph : Graph
   pub clock : Clock
   pub marking : Marking
+  pub condemned : ℕ
+
+-- a heap that has no condemned cells
+abbrev pub swept : Graph → Clock → Marking → Known
+swept g c m = record { graph = g; clock = c; marking = m; condemned = 0 }
+
+-- how many cells are not free
+abbrev pub in_use : Known → ℕ
+in_use k = occupied k.graph.objects + k.condemned
 
 -- a machine of which the heap keeps its part
 abbrev pub in_machine : Machine → Graph → Machine
@@ -45,6 +55,7 @@ empty_known cells sessions =
       graph = empty_graph cells sessions;
       clock = record { last_gets = replicate cells 0; collections = 0; since = 0 };
       marking = record { bits = replicate cells false; grey = []; discovered = [] };
+      condemned = 0;
     }
 
 -- ---- Changes

@@ -55,6 +55,7 @@ impl Heap {
         ensures graph { self.new.graph ≡ with_objects self.old.graph (change_at self.old.graph.objects slot (with_cleanable (in_clean_state state))) }
         ensures clock { self.new.clock ≡ self.old.clock }
         ensures marking { self.new.marking ≡ self.old.marking }
+        ensures condemned { self.new.condemned ≡ self.old.condemned }
     {
         self.cells.set_clean_state(slot, state);
     }
@@ -65,6 +66,7 @@ impl Heap {
         ensures graph { self.new.graph ≡ with_objects self.old.graph (change_at self.old.graph.objects slot (with_cleanable without_referent)) }
         ensures clock { self.new.clock ≡ self.old.clock }
         ensures marking { self.new.marking ≡ self.old.marking }
+        ensures condemned { self.new.condemned ≡ self.old.condemned }
     {
         self.cells.clear_cleanable(slot);
     }
@@ -75,6 +77,7 @@ impl Heap {
         ensures graph { self.new.graph ≡ with_objects self.old.graph (change_at self.old.graph.objects slot (with_cleanable spent)) }
         ensures clock { self.new.clock ≡ self.old.clock }
         ensures marking { self.new.marking ≡ self.old.marking }
+        ensures condemned { self.new.condemned ≡ self.old.condemned }
     {
         self.cells.spend(slot);
     }

@@ -39,6 +39,7 @@ impl Heap {
         ensures graph { self.new.graph ≡ self.old.graph }
         ensures clock { self.new.clock ≡ counted self.old.clock }
         ensures marking { self.new.marking ≡ self.old.marking }
+        ensures condemned { self.new.condemned ≡ self.old.condemned }
     {
         self.collections = self.collections.saturating_add(1);
         self.since_collection = 0;
@@ -59,6 +60,7 @@ impl Heap {
         ensures graph { self.new.graph ≡ self.old.graph }
         ensures clock { self.new.clock ≡ cond (is_some result) (used_now self.old.clock slot) self.old.clock }
         ensures shaded { Shaded (λ s. gotten_at self.old.graph.objects slot ≡ Some s) self.old.marking self.new.marking }
+        ensures condemned { self.new.condemned ≡ self.old.condemned }
     {
         let referent = self.gotten(slot)?;
         shade_target(Some(referent), &mut self.marks);

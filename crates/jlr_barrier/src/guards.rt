@@ -13,7 +13,7 @@ use jlr_cells::Shape;
 use jlr_types::{ActionNo, Rid, Slot, Work};
 
 impl Heap {
-    /// A new guard and its cleanable, which waits for it to finish a resource, in two free cells, if there are two. Both were made now, and
+    /// A new guard and its cleanable, which waits for it to finish a resource, in two cells that held no object, if there are two. Both were made now, and
     /// are black.
     pub fn allocate_guard(&mut self, rid: Rid, action: ActionNo) -> Option<(Slot, Slot)>
         ensures full { IsNone result ↔ (length self.old.graph.objects < occupied self.old.graph.objects + 2) }
@@ -24,7 +24,7 @@ impl Heap {
         ensures black { IfSome result (λ made. (m : Marking) × Blackened made.1 self.old.marking m × Blackened made.0 m self.new.marking) }
         ensures count { IfSome result (λ _. marked self.new.marking ≡ marked self.old.marking + 2) }
     {
-        if self.free_count() < 2 {
+        if self.vacant_count() < 2 {
             return None;
         }
         let cleanable = self.allocate(Shape::Cleanable {

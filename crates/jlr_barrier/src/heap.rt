@@ -1,20 +1,21 @@
 //! The heap, its objects and their fields.
-ghost use Rattle.std.specs.Prelude.{◌≡◌, ℕ, ◌+◌, ◌++◌, ◌<◌, ◌≤◌, ◌↔◌, [], option_to_list, IfNone, IfOk, IfSome, IsNone, IsTrue, None, Some, is_some, length, option_and_then, option_map};
+ghost use Rattle.std.specs.Prelude.{◌≡◌, ℕ, ◌+◌, ◌-◌, ◌==◌, cond, ◌++◌, ◌<◌, ◌≤◌, ◌↔◌, [], option_to_list, IfNone, IfOk, IfSome, IsNone, IsTrue, None, Some, is_some, length, option_and_then, option_map};
 ghost use Rattle.jlr_machine.specs.Objects.{◌∈◌, any_referent, as_fields, as_reference, at, change_at, empty_at, occupied, set_at, some_and, with_field};
 ghost use Rattle.jlr_machine.specs.Refusals.{is_plain, is_queue, is_reference};
 ghost use Rattle.jlr_cells.specs.Contents.{field_at, kind_of, object_of, referent_in};
 ghost use Rattle.jlr_machine.specs.Edges.{strong_edges};
 ghost use Rattle.jlr_marks.specs.Marking.{Blackened, IsMarked, Shaded, marked};
-ghost use Rattle.jlr_barrier.specs.Graphs.{empty_known, made_now, with_objects};
+ghost use Rattle.jlr_barrier.specs.Graphs.{empty_known, in_use, made_now, with_objects};
 ghost use Rattle.jlr_barrier.specs.Snapshots.{IsInHand, IsObject};
 
 use crate::lists::LISTS;
 use crate::shade::shade_value;
-use jlr_cells::{Cells, Kind, Shape};
+use jlr_cells::{Kind, Shape};
 use jlr_links::Links;
 use jlr_machine::object::{Object, Reference};
 use jlr_machine::table::Table;
 use jlr_marks::Marks;
+use jlr_objects::Objects;
 use jlr_roots::{Names, Roots};
 use jlr_types::{FieldValue, Limits, Slot};
 use std::alloc::{AllocError, Global};
@@ -23,7 +24,7 @@ use std::marker::Model;
 /// The objects of a heap with their roots. Contracts see the part of the machine that it keeps, its clock and its mark set.
 #[derive(Drop)]
 pub struct Heap {
-    pub(crate) cells: Cells,
+    pub(crate) cells: Objects,
     pub(crate) roots: Roots,
     pub(crate) names: Names,
     /// The pending list and the cleaner's line. A slot stands in one of them at most.
@@ -40,22 +41,23 @@ pub struct Heap {
 impl Model for Heap {
     ghost use Rattle.std.specs.Prelude.{length};
     ghost use Rattle.jlr_links.specs.Lists.{list_at};
-    ghost use Rattle.jlr_barrier.specs.Graphs.{Known};
+    ghost use Rattle.jlr_barrier.specs.Graphs.{Known, swept};
     ghost use Rattle.jlr_barrier.specs.Snapshots.{FitsTogether};
 
     ghost Value = { Known };
 
     ghost view = { λ h. record {
-      graph = record { objects = h.cells; mutators = h.roots; names = h.names; pending = list_at h.lists.lists 0; line = list_at h.lists.lists 1 };
+      graph = record { objects = h.cells.objects; mutators = h.roots; names = h.names; pending = list_at h.lists.lists 0; line = list_at h.lists.lists 1 };
       clock = record { last_gets = h.last_gets.items; collections = h.collections; since = h.since_collection };
       marking = h.marks;
+      condemned = h.cells.condemned;
     } };
 
-    ghost invariant = { λ h. FitsTogether (record {
-      graph = record { objects = h.cells; mutators = h.roots; names = h.names; pending = list_at h.lists.lists 0; line = list_at h.lists.lists 1 };
-      clock = record { last_gets = h.last_gets.items; collections = h.collections; since = h.since_collection };
-      marking = h.marks;
-    }) h.lists.slots (length h.lists.lists) };
+    // How many cells are condemned does not matter to what has to fit together.
+    ghost invariant = { λ h. FitsTogether (swept
+      (record { objects = h.cells.objects; mutators = h.roots; names = h.names; pending = list_at h.lists.lists 0; line = list_at h.lists.lists 1 })
+      (record { last_gets = h.last_gets.items; collections = h.collections; since = h.since_collection })
+      h.marks) h.lists.slots (length h.lists.lists) };
 }
 
 impl Heap {
@@ -68,7 +70,7 @@ impl Heap {
     {
         let cells = cell_count(limits);
         Ok(Heap {
-            cells: Cells::new(alloc, cells)?,
+            cells: Objects::new(alloc, cells)?,
             roots: Roots::new(alloc, session_count(limits))?,
             names: Names::new(alloc)?,
             lists: Links::new(alloc, LISTS, cells)?,
@@ -87,20 +89,38 @@ impl Heap {
         self.cells.cell_count()
     }
 
-    /// How many cells hold no object.
+    /// How many cells are free: they hold no object, and are not condemned.
     pub fn free_count(&self) -> u32
-        ensures { result + occupied self.now.graph.objects ≡ length self.now.graph.objects }
+        ensures { result + in_use self.now ≡ length self.now.graph.objects }
     {
         self.cells.free_count()
     }
 
-    /// What a collection removed is taken out of its cells, of at most so many. Callers see no difference.
+    /// How many cells hold no object: they are free, or condemned.
+    pub fn vacant_count(&self) -> u32
+        ensures { result + occupied self.now.graph.objects ≡ length self.now.graph.objects }
+    {
+        self.cells.vacant_count()
+    }
+
+    /// Condemned cells become free: so many, or all where there are no more. The machine sees no difference.
     pub fn sweep(&mut self, budget: u32)
         ensures graph { self.new.graph ≡ self.old.graph }
         ensures clock { self.new.clock ≡ self.old.clock }
         ensures marking { self.new.marking ≡ self.old.marking }
+        ensures condemned { self.new.condemned ≡ self.old.condemned - budget }
     {
         self.cells.sweep(budget);
+    }
+
+    /// All condemned cells become free. The machine sees no difference.
+    pub fn sweep_all(&mut self)
+        ensures graph { self.new.graph ≡ self.old.graph }
+        ensures clock { self.new.clock ≡ self.old.clock }
+        ensures marking { self.new.marking ≡ self.old.marking }
+        ensures condemned { self.new.condemned ≡ 0 }
+    {
+        self.cells.sweep_all();
     }
 
     /// Of which kind the object at a slot is, if there is one.
@@ -163,21 +183,24 @@ impl Heap {
         ensures graph { self.new.graph ≡ with_objects self.old.graph (change_at self.old.graph.objects slot (with_field field value)) }
         ensures clock { self.new.clock ≡ self.old.clock }
         ensures shaded { Shaded (λ s. field_at self.old.graph.objects slot field ≡ Some (FieldValue.Ref (Some s))) self.old.marking self.new.marking }
+        ensures condemned { self.new.condemned ≡ self.old.condemned }
     {
         let old = self.cells.set_field(slot, field, value);
         shade_value(old, &mut self.marks);
     }
 
-    /// A new object in a free cell, if there is one. It was made now, and is black.
+    /// A new object in a free cell. Where no cell is free, all that are condemned are swept first; where none is left then, there is no new object. It
+    /// was made now, and is black.
     pub fn allocate(&mut self, shape: Shape) -> Option<Slot>
         requires { (s : ℕ) → s ∈ (strong_edges (object_of shape) ++ option_to_list (any_referent (object_of shape))) → IsInHand self.old s }
         ensures full { IsNone result ↔ (occupied self.old.graph.objects ≡ length self.old.graph.objects) }
-        ensures none { IfNone result ((self.new.graph ≡ self.old.graph) × (self.new.clock ≡ self.old.clock) × (self.new.marking ≡ self.old.marking)) }
+        ensures none { IfNone result ((self.new.graph ≡ self.old.graph) × (self.new.clock ≡ self.old.clock) × (self.new.marking ≡ self.old.marking) × (self.new.condemned ≡ self.old.condemned)) }
         ensures free { IfSome result (λ slot. (slot < length self.old.graph.objects) × (at self.old.graph.objects slot ≡ None)) }
         ensures made { IfSome result (λ slot. self.new.graph ≡ with_objects self.old.graph (set_at self.old.graph.objects slot (object_of shape))) }
         ensures clock { IfSome result (λ slot. self.new.clock ≡ made_now self.old.clock slot) }
         ensures black { IfSome result (λ slot. Blackened slot self.old.marking self.new.marking) }
         ensures count { IfSome result (λ _. marked self.new.marking ≡ marked self.old.marking + 1) }
+        ensures condemned { IfSome result (λ _. self.new.condemned ≡ cond (in_use self.old == length self.old.graph.objects) 0 self.old.condemned) }
     {
         let slot = self.cells.take(shape)?;
         self.marks.blacken(slot);

@@ -24,6 +24,7 @@ impl Heap {
         ensures graph { self.new.graph ≡ with_line self.old.graph (drop 1 self.old.graph.line) }
         ensures clock { self.new.clock ≡ self.old.clock }
         ensures marking { self.new.marking ≡ self.old.marking }
+        ensures condemned { self.new.condemned ≡ self.old.condemned }
     {
         self.lists.take_front(LINE)
     }
@@ -37,6 +38,7 @@ impl Heap {
         ensures graph { self.new.graph ≡ with_line self.old.graph (self.old.graph.line ++ slot ∷ []) }
         ensures clock { self.new.clock ≡ self.old.clock }
         ensures marking { self.new.marking ≡ self.old.marking }
+        ensures condemned { self.new.condemned ≡ self.old.condemned }
     {
         self.lists.append(LINE, slot);
     }

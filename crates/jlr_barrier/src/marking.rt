@@ -7,7 +7,7 @@ ghost use Rattle.jlr_machine.specs.Refusals.{is_plain};
 ghost use Rattle.jlr_machine.specs.Edges.{referent};
 ghost use Rattle.jlr_sets.specs.SlotSets.{slots_of};
 ghost use Rattle.jlr_cells.specs.Showing.{shown};
-ghost use Rattle.jlr_barrier.specs.Graphs.{held, with_objects};
+ghost use Rattle.jlr_barrier.specs.Graphs.{held, in_use, with_objects};
 ghost use Rattle.jlr_marks.specs.Marking.{IsMarked, Shaded, is_marked, unmarked, upcoming};
 ghost use Rattle.jlr_barrier.specs.Snapshots.{HoldsWhole, IsEdge, IsObject, RefersTo};
 ghost use Rattle.jlr_barrier.specs.Scans.{Scanned};
@@ -35,6 +35,7 @@ impl Heap {
         ensures graph { self.new.graph ≡ self.old.graph }
         ensures clock { self.new.clock ≡ self.old.clock }
         ensures shaded { Shaded (λ x. x ∈ held self.old.graph) (unmarked (length self.old.graph.objects)) self.new.marking }
+        ensures condemned { self.new.condemned ≡ self.old.condemned }
     {
         self.marks.reset();
         shade_roots(&self.roots, &mut self.marks);
@@ -73,6 +74,7 @@ impl Heap {
         ensures scanned { Scanned self.old.graph.objects slot self.old.marking self.new.marking }
         ensures plain { result ≡ some_and is_plain (at self.old.graph.objects slot) }
         ensures ticked { meter.new ≡ meter.old + 1 }
+        ensures condemned { self.new.condemned ≡ self.old.condemned }
     {
         let _ = self.marks.take_grey();
         let plain = follow(&self.cells, slot, meter, &mut self.marks);
@@ -80,7 +82,8 @@ impl Heap {
         plain
     }
 
-    /// A collection that kept nothing so far keeps all that is marked, and all else is no more. No cell is grey.
+    /// A collection that kept nothing so far keeps all that is marked, and all else is no more: its cells are condemned, beside those that were, and
+    /// as many are free as before. No cell is grey.
     pub fn keep_marked(&mut self, choice: &mut Choice)
         requires cells { length self.old.marking.bits ≤ choice.old.cells }
         requires none { kept_by choice.old ≡ [] }
@@ -88,6 +91,7 @@ impl Heap {
         ensures graph { self.new.graph ≡ with_objects self.old.graph (shown self.old.marking.bits self.old.graph.objects) }
         ensures clock { self.new.clock ≡ self.old.clock }
         ensures marking { self.new.marking ≡ self.old.marking }
+        ensures free { in_use self.new ≡ in_use self.old }
         ensures choice { choice.new ≡ collecting choice.old (slots_of self.old.marking.bits) (pended_by choice.old) }
     {
         self.marks.keep_all(choice);
@@ -124,6 +128,7 @@ impl Heap {
         ensures graph { self.new.graph ≡ self.old.graph }
         ensures clock { self.new.clock ≡ self.old.clock }
         ensures shaded { Shaded (λ x. Some slot ≡ Some x) self.old.marking self.new.marking }
+        ensures condemned { self.new.condemned ≡ self.old.condemned }
     {
         shade_target(Some(slot), &mut self.marks);
     }

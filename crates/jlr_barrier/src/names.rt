@@ -35,6 +35,7 @@ impl Heap {
         ensures graph { self.new.graph ≡ with_names self.old.graph (bound self.old.graph.names name.now slot) }
         ensures clock { self.new.clock ≡ self.old.clock }
         ensures marking { self.new.marking ≡ self.old.marking }
+        ensures condemned { self.new.condemned ≡ self.old.condemned }
     {
         self.names.bind(name, slot);
     }
@@ -44,6 +45,7 @@ impl Heap {
         ensures graph { self.new.graph ≡ with_names self.old.graph (unbound self.old.graph.names name.now) }
         ensures clock { self.new.clock ≡ self.old.clock }
         ensures marking { self.new.marking ≡ self.old.marking }
+        ensures condemned { self.new.condemned ≡ self.old.condemned }
     {
         self.names.unbind(name);
     }

@@ -24,6 +24,7 @@ impl Heap {
         ensures graph { self.new.graph ≡ with_pending self.old.graph (drop 1 self.old.graph.pending) }
         ensures clock { self.new.clock ≡ self.old.clock }
         ensures marking { self.new.marking ≡ self.old.marking }
+        ensures condemned { self.new.condemned ≡ self.old.condemned }
     {
         self.lists.take_front(PENDING)
     }
@@ -37,6 +38,7 @@ impl Heap {
         ensures graph { self.new.graph ≡ with_pending self.old.graph (self.old.graph.pending ++ slot ∷ []) }
         ensures clock { self.new.clock ≡ self.old.clock }
         ensures marking { self.new.marking ≡ self.old.marking }
+        ensures condemned { self.new.condemned ≡ self.old.condemned }
     {
         self.lists.append(PENDING, slot);
     }

@@ -20,6 +20,7 @@ impl Heap {
         ensures graph { self.new.graph ≡ with_objects self.old.graph (change_at self.old.graph.objects slot (with_reference unreferred)) }
         ensures clock { self.new.clock ≡ self.old.clock }
         ensures marking { self.new.marking ≡ self.old.marking }
+        ensures condemned { self.new.condemned ≡ self.old.condemned }
     {
         self.cells.clear_referent(slot);
     }
@@ -31,6 +32,7 @@ impl Heap {
         ensures graph { self.new.graph ≡ with_objects self.old.graph (change_at self.old.graph.objects slot (with_reference (in_state state))) }
         ensures clock { self.new.clock ≡ self.old.clock }
         ensures marking { self.new.marking ≡ self.old.marking }
+        ensures condemned { self.new.condemned ≡ self.old.condemned }
     {
         self.cells.set_state(slot, state);
     }
@@ -42,6 +44,7 @@ impl Heap {
         ensures graph { self.new.graph ≡ with_objects self.old.graph (change_at self.old.graph.objects slot (with_reference unregistered)) }
         ensures clock { self.new.clock ≡ self.old.clock }
         ensures shaded { Shaded (λ s. next_in (at self.old.graph.objects slot) ≡ Some s) self.old.marking self.new.marking }
+        ensures condemned { self.new.condemned ≡ self.old.condemned }
     {
         shade_ahead(&self.cells, slot, &mut self.marks);
         self.cells.cut_queue(slot);
@@ -63,6 +66,7 @@ impl Heap {
         ensures graph { self.new.graph ≡ with_objects self.old.graph (change_at self.old.graph.objects queue (with_members (λ members. members ++ member ∷ []))) }
         ensures clock { self.new.clock ≡ self.old.clock }
         ensures marking { self.new.marking ≡ self.old.marking }
+        ensures condemned { self.new.condemned ≡ self.old.condemned }
     {
         self.cells.push_member(queue, member);
     }
@@ -75,6 +79,7 @@ impl Heap {
         ensures graph { self.new.graph ≡ with_objects self.old.graph (change_at self.old.graph.objects queue (with_members (drop 1))) }
         ensures clock { self.new.clock ≡ self.old.clock }
         ensures shaded { Shaded (λ s. result ≡ Some s) self.old.marking self.new.marking }
+        ensures condemned { self.new.condemned ≡ self.old.condemned }
     {
         let member = self.cells.pop_member(queue)?;
         shade_target(Some(member), &mut self.marks);

@@ -37,6 +37,7 @@ impl Heap {
         ensures graph { self.new.graph ≡ with_mutators self.old.graph (set_at self.old.graph.mutators mutator fresh_session) }
         ensures clock { self.new.clock ≡ self.old.clock }
         ensures marking { self.new.marking ≡ self.old.marking }
+        ensures condemned { self.new.condemned ≡ self.old.condemned }
     {
         self.roots.join(mutator);
     }
@@ -47,6 +48,7 @@ impl Heap {
         ensures graph { self.new.graph ≡ with_mutators self.old.graph (empty_at self.old.graph.mutators mutator) }
         ensures clock { self.new.clock ≡ self.old.clock }
         ensures marking { self.new.marking ≡ self.old.marking }
+        ensures condemned { self.new.condemned ≡ self.old.condemned }
     {
         self.roots.leave(mutator);
     }
@@ -68,6 +70,7 @@ impl Heap {
         ensures held { IfSome result (λ handle. self.new.graph ≡ with_mutators self.old.graph (change_at self.old.graph.mutators mutator (with_slot handle slot))) }
         ensures clock { self.new.clock ≡ self.old.clock }
         ensures marking { self.new.marking ≡ self.old.marking }
+        ensures condemned { self.new.condemned ≡ self.old.condemned }
     {
         self.roots.put_handle(mutator, slot)
     }
@@ -78,6 +81,7 @@ impl Heap {
         ensures graph { self.new.graph ≡ with_mutators self.old.graph (change_at self.old.graph.mutators mutator (without_handle handle)) }
         ensures clock { self.new.clock ≡ self.old.clock }
         ensures marking { self.new.marking ≡ self.old.marking }
+        ensures condemned { self.new.condemned ≡ self.old.condemned }
     {
         self.roots.drop_handle(mutator, handle);
     }
@@ -117,6 +121,7 @@ impl Heap {
         ensures graph { self.new.graph ≡ with_mutators self.old.graph (change_at self.old.graph.mutators mutator (with_call fence call)) }
         ensures clock { self.new.clock ≡ self.old.clock }
         ensures marking { self.new.marking ≡ self.old.marking }
+        ensures condemned { self.new.condemned ≡ self.old.condemned }
     {
         self.roots.begin_call(mutator, fence, call);
     }
@@ -128,6 +133,7 @@ impl Heap {
         ensures graph { self.new.graph ≡ with_mutators self.old.graph (change_at self.old.graph.mutators mutator (with_call None Free)) }
         ensures clock { self.new.clock ≡ self.old.clock }
         ensures shaded { Shaded (λ s. fence_at self.old.graph.mutators mutator ≡ Some s) self.old.marking self.new.marking }
+        ensures condemned { self.new.condemned ≡ self.old.condemned }
     {
         shade_target(self.roots.fence(mutator), &mut self.marks);
         self.roots.end_call(mutator);

@@ -12,9 +12,10 @@ ghost use Rattle.jlr_marks.specs.Marking.{Shaded, marked};
 ghost use Rattle.jlr_barrier.specs.Snapshots.{RefersTo};
 ghost use Rattle.jlr_barrier.specs.Scans.{awaits};
 
-use jlr_cells::{Cells, Kind, Links, Visited};
+use jlr_cells::{Kind, Links, Visited};
 use jlr_machine::object::{CleanState, RefState, Reference};
 use jlr_marks::Marks;
+use jlr_objects::Objects;
 use jlr_roots::{Names, Roots};
 use jlr_types::{FieldValue, Meter, Slot};
 
@@ -39,10 +40,10 @@ pub(crate) fn shade_value(value: FieldValue, marks: &mut Marks)
 }
 
 /// Shades the queue that the reference at a slot may still be added to.
-pub(crate) fn shade_ahead(cells: &Cells, slot: Slot, marks: &mut Marks)
-    requires reference { IsTrue (some_and is_reference (at cells.now slot)) }
-    requires within { (x : ℕ) → next_in (at cells.now slot) ≡ Some x → x < length marks.old.bits }
-    ensures { Shaded (λ x. next_in (at cells.now slot) ≡ Some x) marks.old marks.new }
+pub(crate) fn shade_ahead(cells: &Objects, slot: Slot, marks: &mut Marks)
+    requires reference { IsTrue (some_and is_reference (at cells.now.objects slot)) }
+    requires within { (x : ℕ) → next_in (at cells.now.objects slot) ≡ Some x → x < length marks.old.bits }
+    ensures { Shaded (λ x. next_in (at cells.now.objects slot) ≡ Some x) marks.old marks.new }
 {
     shade_target(queue_ahead(cells.reference(slot)), marks);
 }
@@ -69,12 +70,12 @@ fn shade_links(links: &Links, marks: &mut Marks)
 }
 
 /// Shades what the strong edges of the object at a slot lead to: one tick. Answers whether it is a plain object.
-pub(crate) fn follow(cells: &Cells, slot: Slot, meter: &mut Meter, marks: &mut Marks) -> bool
-    requires object { IsTrue (is_some (at cells.now slot)) }
+pub(crate) fn follow(cells: &Objects, slot: Slot, meter: &mut Meter, marks: &mut Marks) -> bool
+    requires object { IsTrue (is_some (at cells.now.objects slot)) }
     requires ticks { meter.old + 1 < 2 ^ 64 }
-    requires within { (x : ℕ) → x ∈ edges_from Strong cells.now slot → x < length marks.old.bits }
-    ensures shaded { Shaded (λ x. x ∈ edges_from Strong cells.now slot) marks.old marks.new }
-    ensures plain { result ≡ some_and is_plain (at cells.now slot) }
+    requires within { (x : ℕ) → x ∈ edges_from Strong cells.now.objects slot → x < length marks.old.bits }
+    ensures shaded { Shaded (λ x. x ∈ edges_from Strong cells.now.objects slot) marks.old marks.new }
+    ensures plain { result ≡ some_and is_plain (at cells.now.objects slot) }
     ensures ticked { meter.new ≡ meter.old + 1 }
 {
     match cells.visit(slot, meter) {
@@ -91,13 +92,13 @@ pub(crate) fn follow(cells: &Cells, slot: Slot, meter: &mut Meter, marks: &mut M
 }
 
 /// A reference or a cleanable at a slot is discovered, if what it refers to is not marked. Of a plain object nothing is asked.
-pub(crate) fn note(cells: &Cells, slot: Slot, plain: bool, marks: &mut Marks)
-    requires kind { plain ≡ some_and is_plain (at cells.now slot) }
+pub(crate) fn note(cells: &Objects, slot: Slot, plain: bool, marks: &mut Marks)
+    requires kind { plain ≡ some_and is_plain (at cells.now.objects slot) }
     requires room { length marks.old.grey + length marks.old.discovered < marked marks.old }
-    requires within { (x : ℕ) → RefersTo cells.now slot x → x < length marks.old.bits }
+    requires within { (x : ℕ) → RefersTo cells.now.objects slot x → x < length marks.old.bits }
     ensures bits { marks.new.bits ≡ marks.old.bits }
     ensures grey { marks.new.grey ≡ marks.old.grey }
-    ensures discovered { marks.new.discovered ≡ marks.old.discovered ++ cond (some_and (awaits marks.old) (at cells.now slot)) (slot ∷ []) [] }
+    ensures discovered { marks.new.discovered ≡ marks.old.discovered ++ cond (some_and (awaits marks.old) (at cells.now.objects slot)) (slot ∷ []) [] }
 {
     if plain {
         return;
@@ -111,8 +112,8 @@ pub(crate) fn note(cells: &Cells, slot: Slot, plain: bool, marks: &mut Marks)
 }
 
 /// What the reference or the cleanable at a slot refers to, if there is one and it was not cleared. It reads the cells of those alone.
-fn any_referent(cells: &Cells, slot: Slot) -> Option<Slot>
-    ensures { result ≡ option_and_then any_referent (at cells.now slot) }
+fn any_referent(cells: &Objects, slot: Slot) -> Option<Slot>
+    ensures { result ≡ option_and_then any_referent (at cells.now.objects slot) }
 {
     match cells.kind(slot) {
         Some(Kind::Reference(_)) => cells.referent(slot),
@@ -125,9 +126,9 @@ fn any_referent(cells: &Cells, slot: Slot) -> Option<Slot>
 }
 
 /// Shades the members of a queue, if there is one at the slot.
-fn shade_members(cells: &Cells, queue: Slot, marks: &mut Marks)
-    requires { (x : ℕ) → x ∈ members_in (at cells.now queue) → x < length marks.old.bits }
-    ensures { Shaded (λ x. x ∈ members_in (at cells.now queue)) marks.old marks.new }
+fn shade_members(cells: &Objects, queue: Slot, marks: &mut Marks)
+    requires { (x : ℕ) → x ∈ members_in (at cells.now.objects queue) → x < length marks.old.bits }
+    ensures { Shaded (λ x. x ∈ members_in (at cells.now.objects queue)) marks.old marks.new }
 {
     let mut next = cells.first_member(queue);
     for _place in 0..cells.member_count(queue) {
@@ -162,9 +163,9 @@ pub(crate) fn shade_names(names: &Names, marks: &mut Marks)
 }
 
 /// Shades the cleanables that are roots by themselves. It goes over the kinds of all cells, and reads only the cells of cleanables.
-pub(crate) fn shade_cleanables(cells: &Cells, marks: &mut Marks)
-    requires { length cells.now ≤ length marks.old.bits }
-    ensures { Shaded (λ x. x ∈ active_cleanables 0 cells.now) marks.old marks.new }
+pub(crate) fn shade_cleanables(cells: &Objects, marks: &mut Marks)
+    requires { length cells.now.objects ≤ length marks.old.bits }
+    ensures { Shaded (λ x. x ∈ active_cleanables 0 cells.now.objects) marks.old marks.new }
 {
     for number in 0..cells.cell_count() {
         shade_own_root(cells, Slot::new(number), marks);
@@ -172,9 +173,9 @@ pub(crate) fn shade_cleanables(cells: &Cells, marks: &mut Marks)
 }
 
 /// Shades a slot, if a cleanable is there that is a root by itself.
-fn shade_own_root(cells: &Cells, slot: Slot, marks: &mut Marks)
+fn shade_own_root(cells: &Objects, slot: Slot, marks: &mut Marks)
     requires { slot < length marks.old.bits }
-    ensures { Shaded (λ x. (x ≡ slot) × IsTrue (is_own_root (at cells.now slot))) marks.old marks.new }
+    ensures { Shaded (λ x. (x ≡ slot) × IsTrue (is_own_root (at cells.now.objects slot))) marks.old marks.new }
 {
     if is_own_root(cells, slot) {
         marks.shade(slot);
@@ -182,8 +183,8 @@ fn shade_own_root(cells: &Cells, slot: Slot, marks: &mut Marks)
 }
 
 /// Whether a cleanable is at a slot that is a root by itself.
-fn is_own_root(cells: &Cells, slot: Slot) -> bool
-    ensures { result ≡ is_own_root (at cells.now slot) }
+fn is_own_root(cells: &Objects, slot: Slot) -> bool
+    ensures { result ≡ is_own_root (at cells.now.objects slot) }
 {
     if !cells.is_cleanable(slot) {
         return false;

@@ -66,8 +66,7 @@ impl Marks {
         ensures grey { self.new.grey ≡ cond (is_marked self.old slot) self.old.grey (self.old.grey ++ slot ∷ []) }
         ensures discovered { self.new.discovered ≡ self.old.discovered }
     {
-        if !self.bits.contains(slot) {
-            self.bits.insert(slot);
+        if self.bits.insert(slot) {
             self.grey.push_reserved(slot);
         }
     }

@@ -113,6 +113,14 @@ impl Objects {
         self.occupancy.sweep(budget);
     }
 
+    /// All condemned cells become free.
+    pub fn sweep_all(&mut self)
+        ensures objects { self.new.objects ≡ self.old.objects }
+        ensures condemned { self.new.condemned ≡ 0 }
+    {
+        self.occupancy.sweep_all();
+    }
+
     /// Whether there is an object at a slot.
     fn is_occupied(&self, slot: Slot) -> bool
         ensures { result ≡ is_some (at self.now.objects slot) }

@@ -139,7 +139,7 @@ impl Occupancy {
     }
 
     /// All condemned cells become free.
-    fn sweep_all(&mut self)
+    pub fn sweep_all(&mut self)
         ensures places { self.new.places ≡ self.old.places }
         ensures condemned { self.new.condemned ≡ 0 }
     {

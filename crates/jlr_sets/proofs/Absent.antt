@@ -52,11 +52,11 @@ absent_is words fits =
     ∙ ap not (sym (place_is words k))
     ∙ sym (in_absent (bits_of words) k here)))
 
-not_set : (b : Bool) → not b ≡ true → b ≡ false
+pub not_set : (b : Bool) → not b ≡ true → b ≡ false
 not_set true h = absurd (false≢true h)
 not_set false h = refl
 
-set_if : (b : Bool) → not b ≡ false → b ≡ true
+pub set_if : (b : Bool) → not b ≡ false → b ≡ true
 set_if true h = refl
 set_if false h = absurd (false≢true (sym h))
 

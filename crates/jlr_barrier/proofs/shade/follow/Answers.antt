@@ -13,33 +13,33 @@ use Rattle.jlr_barrier.proofs.shade.follow.Goals as goal
 
 pub shade_links-requires : goal.shade_links-requires
 shade_links-requires c =
-    let members = members_in (at c.args.cells.now c.args.slot) in
-    let edges : edges_from Strong c.args.cells.now c.args.slot ≡ linked c.in-Plain.links.now = c.visit.ensures.edges ∙ ap (λ v. edges_told v members) c.in-Plain.is in
+    let members = members_in (at c.args.cells.now.objects c.args.slot) in
+    let edges : edges_from Strong c.args.cells.now.objects c.args.slot ≡ linked c.in-Plain.links.now = c.visit.ensures.edges ∙ ap (λ v. edges_told v members) c.in-Plain.is in
     λ x h. c.requires.within x (subst (λ l. x ∈ l) (sym edges) h)
 
 pub shade_target-requires : goal.shade_target-requires
 shade_target-requires c =
-    let members = members_in (at c.args.cells.now c.args.slot) in
-    let edges : edges_from Strong c.args.cells.now c.args.slot ≡ option_to_list c.in-Other.next ++ members = c.visit.ensures.edges ∙ ap (λ v. edges_told v members) c.in-Other.is in
+    let members = members_in (at c.args.cells.now.objects c.args.slot) in
+    let edges : edges_from Strong c.args.cells.now.objects c.args.slot ≡ option_to_list c.in-Other.next ++ members = c.visit.ensures.edges ∙ ap (λ v. edges_told v members) c.in-Other.is in
     λ x e. c.requires.within x (subst (λ l. x ∈ l) (sym edges) (in_left x (option_to_list c.in-Other.next) members (option_in x c.in-Other.next e)))
 
 pub shade_members-requires : goal.shade_members-requires
 shade_members-requires c =
-    let members = members_in (at c.args.cells.now c.args.slot) in
-    let edges : edges_from Strong c.args.cells.now c.args.slot ≡ option_to_list c.in-Other.next ++ members = c.visit.ensures.edges ∙ ap (λ v. edges_told v members) c.in-Other.is in
+    let members = members_in (at c.args.cells.now.objects c.args.slot) in
+    let edges : edges_from Strong c.args.cells.now.objects c.args.slot ≡ option_to_list c.in-Other.next ++ members = c.visit.ensures.edges ∙ ap (λ v. edges_told v members) c.in-Other.is in
     λ x h.
     let inside = c.requires.within x (subst (λ l. x ∈ l) (sym edges) (in_right x (option_to_list c.in-Other.next) members h)) in
     omega (arith, inside, c.shade_target.ensures.long)
 
 pub returns-in-Plain-clause-shaded : goal.returns-in-Plain-clause-shaded
 returns-in-Plain-clause-shaded c =
-    let members = members_in (at c.args.cells.now c.args.slot) in
-    let edges : edges_from Strong c.args.cells.now c.args.slot ≡ linked c.in-Plain.links.now = c.visit.ensures.edges ∙ ap (λ v. edges_told v members) c.in-Plain.is in
+    let members = members_in (at c.args.cells.now.objects c.args.slot) in
+    let edges : edges_from Strong c.args.cells.now.objects c.args.slot ≡ linked c.in-Plain.links.now = c.visit.ensures.edges ∙ ap (λ v. edges_told v members) c.in-Plain.is in
     subst (λ l. Shaded (λ x. x ∈ l) c.args.marks.now c.shade_links.new.marks) (sym edges) c.shade_links.ensures
 
 pub returns-in-Other-clause-shaded : goal.returns-in-Other-clause-shaded
 returns-in-Other-clause-shaded c =
-    let members = members_in (at c.args.cells.now c.args.slot) in
-    let edges : edges_from Strong c.args.cells.now c.args.slot ≡ option_to_list c.in-Other.next ++ members = c.visit.ensures.edges ∙ ap (λ v. edges_told v members) c.in-Other.is in
+    let members = members_in (at c.args.cells.now.objects c.args.slot) in
+    let edges : edges_from Strong c.args.cells.now.objects c.args.slot ≡ option_to_list c.in-Other.next ++ members = c.visit.ensures.edges ∙ ap (λ v. edges_told v members) c.in-Other.is in
     subst (λ l. Shaded (λ x. x ∈ l) c.args.marks.now c.shade_members.new.marks) (sym edges)
     (shaded_in_both (option_to_list c.in-Other.next) members _ _ (shaded_then _ _ _ _ _ (shaded_target _ _ _ c.shade_target.ensures) c.shade_members.ensures))

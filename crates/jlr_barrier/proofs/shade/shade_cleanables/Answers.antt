@@ -31,9 +31,9 @@ pub loop-number-init : goal.loop-number-init
 loop-number-init c = shaded_none _ (λ x h. absurd (omega (arith, h.0))) c.args.marks.now
 
 pub loop-number-preserved : goal.loop-number-preserved
-loop-number-preserved c = one_more c.args.cells.now c.loop-number.number c.new.result c.args.marks.now c.loop-number.marks c.shade_own_root.new.marks c.new.ensures c.loop-number.invariant c.shade_own_root.ensures
+loop-number-preserved c = one_more c.args.cells.now.objects c.loop-number.number c.new.result c.args.marks.now c.loop-number.marks c.shade_own_root.new.marks c.new.ensures c.loop-number.invariant c.shade_own_root.ensures
 
 pub returns : goal.returns
 returns c =
-    let end : length c.args.cells.now ≡ c.loop-number.number = omega (arith, c.cell_count-number-end.ensures, c.loop-number-test.false, c.loop-number.auto.number-end) in
-    all_of c.args.cells.now c.loop-number.number c.args.marks.now c.loop-number.marks end c.loop-number.invariant
+    let end : length c.args.cells.now.objects ≡ c.loop-number.number = omega (arith, c.cell_count-number-end.ensures, c.loop-number-test.false, c.loop-number.auto.number-end) in
+    all_of c.args.cells.now.objects c.loop-number.number c.args.marks.now c.loop-number.marks end c.loop-number.invariant

@@ -9,19 +9,19 @@ use Rattle.jlr_barrier.proofs.shade.shade_members.Goals as goal
 
 pub shade_target-requires : goal.shade_target-requires
 shade_target-requires c =
-    let items = members_in (at c.args.cells.now c.args.queue) in
+    let items = members_in (at c.args.cells.now.objects c.args.queue) in
     λ x e. (let inside = c.requires x (member_in_list items c.loop-place._place c.in-Some.member x (sym c.loop-place.invariant.next ∙ c.in-Some.is) e) in omega (arith, inside, c.loop-place.invariant.shaded.long))
 
 pub next_member-next-requires : goal.next_member-next-requires
 next_member-next-requires c =
-    member_in_list (members_in (at c.args.cells.now c.args.queue)) c.loop-place._place c.in-Some.member c.in-Some.member (sym c.loop-place.invariant.next ∙ c.in-Some.is) refl
+    member_in_list (members_in (at c.args.cells.now.objects c.args.queue)) c.loop-place._place c.in-Some.member c.in-Some.member (sym c.loop-place.invariant.next ∙ c.in-Some.is) refl
 
 pub unreachable-requires : goal.unreachable-requires
-unreachable-requires c = one_there (members_in (at c.args.cells.now c.args.queue)) c.loop-place._place (sym c.loop-place.invariant.next ∙ c.in-None.is) (omega (arith, c.loop-place-test.true, c.member_count-place-end.ensures))
+unreachable-requires c = one_there (members_in (at c.args.cells.now.objects c.args.queue)) c.loop-place._place (sym c.loop-place.invariant.next ∙ c.in-None.is) (omega (arith, c.loop-place-test.true, c.member_count-place-end.ensures))
 
 pub loop-place-preserved : goal.loop-place-preserved
 loop-place-preserved c =
-    let items = members_in (at c.args.cells.now c.args.queue) in
+    let items = members_in (at c.args.cells.now.objects c.args.queue) in
     let i = c.loop-place._place in
     let d = c.in-Some.member in
     let here : slice_get items i ≡ Some d = sym c.loop-place.invariant.next ∙ c.in-Some.is in

@@ -11,4 +11,4 @@ returns-then-is_own_root c =
     (shaded_one c.args.slot c.args.marks.now c.shade.new.self c.requires c.shade.ensures.bits c.shade.ensures.grey c.shade.ensures.discovered)
 
 pub returns-else-is_own_root : goal.returns-else-is_own_root
-returns-else-is_own_root c = shaded_none _ (λ x h. absurd (both_ways (is_own_root (at c.args.cells.now c.args.slot)) (sym c.is_own_root.ensures ∙ c.if-is_own_root.false) h.1)) c.args.marks.now
+returns-else-is_own_root c = shaded_none _ (λ x h. absurd (both_ways (is_own_root (at c.args.cells.now.objects c.args.slot)) (sym c.is_own_root.ensures ∙ c.if-is_own_root.false) h.1)) c.args.marks.now

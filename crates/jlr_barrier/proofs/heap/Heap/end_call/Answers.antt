@@ -11,4 +11,4 @@ pub shade_target-requires : goal.shade_target-requires
 shade_target-requires c =
     let s = c.self.inside in
     let object = rw (← c.self.view_is) at c.requires.object in
-    λ x e. (let here = object_within s.cells x (object x (sym c.fence.ensures ∙ e)) in omega (arith, here, c.self.invariant.bits))
+    λ x e. (let here = object_within s.cells.objects x (object x (sym c.fence.ensures ∙ e)) in omega (arith, here, c.self.invariant.bits))

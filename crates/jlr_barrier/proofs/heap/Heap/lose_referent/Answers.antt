@@ -8,5 +8,5 @@ use Rattle.jlr_barrier.proofs.heap.Heap.lose_referent.Goals as goal
 pub invariant_of-self : goal.invariant_of-self
 invariant_of-self c =
     let s = c.self.inside in
-    rw c.clear_referent.ensures
-    (retouched_object _ _ _ c.args.slot (with_reference unreferred) c.self.invariant unreferred_retouches (there_is is_reference (at s.cells c.args.slot) (rw (← c.self.view_is) at c.requires)))
+    rw c.clear_referent.ensures.objects
+    (retouched_object _ _ _ c.args.slot (with_reference unreferred) c.self.invariant unreferred_retouches (there_is is_reference (at s.cells.objects c.args.slot) (rw (← c.self.view_is) at c.requires)))

@@ -8,4 +8,4 @@ pub invariant_of-self : goal.invariant_of-self
 invariant_of-self c =
     let s = c.self.inside in
     more_marks (λ x. Some c.args.slot ≡ Some x) _ _ _ c.shade_target.new.marks c.self.invariant
-    (λ x e. subst (IsObject s.cells) (some_same c.args.slot x e) (rw (← c.self.view_is) at c.requires)) c.shade_target.ensures
+    (λ x e. subst (IsObject s.cells.objects) (some_same c.args.slot x e) (rw (← c.self.view_is) at c.requires)) c.shade_target.ensures

@@ -8,5 +8,5 @@ use Rattle.jlr_barrier.proofs.heap.Heap.spend.Goals as goal
 pub invariant_of-self : goal.invariant_of-self
 invariant_of-self c =
     let s = c.self.inside in
-    rw c.spend.ensures
-    (retouched_object _ _ _ c.args.slot (with_cleanable spent) c.self.invariant spent_retouches (there_is is_cleanable (at s.cells c.args.slot) (rw (← c.self.view_is) at c.requires)))
+    rw c.spend.ensures.objects
+    (retouched_object _ _ _ c.args.slot (with_cleanable spent) c.self.invariant spent_retouches (there_is is_cleanable (at s.cells.objects c.args.slot) (rw (← c.self.view_is) at c.requires)))

@@ -10,8 +10,8 @@ invariant_of-self c =
     let slot = c.args.slot in
     let inside : slot < length bits = search rules in
     let long = length-set bits slot true in (
-      omega (arith, ap (count_by (λ b. b)) c.insert.ensures, count_more bits slot inside, c.self.invariant.0),
-      omega (arith, ap length c.insert.ensures, long, c.self.invariant.1),
-      omega (arith, ap length c.insert.ensures, long, c.self.invariant.2),
-      subst (λ l. AreGrey l c.self.inside.grey.items) (sym c.insert.ensures) (grey_still bits c.self.inside.grey.items slot inside c.self.invariant.3),
+      omega (arith, ap (count_by (λ b. b)) c.insert.ensures.set, count_more bits slot inside, c.self.invariant.0),
+      omega (arith, ap length c.insert.ensures.set, long, c.self.invariant.1),
+      omega (arith, ap length c.insert.ensures.set, long, c.self.invariant.2),
+      subst (λ l. AreGrey l c.self.inside.grey.items) (sym c.insert.ensures.set) (grey_still bits c.self.inside.grey.items slot inside c.self.invariant.3),
     )

@@ -1,4 +1,5 @@
-use Rattle.std.proofs.Common.{◌≡◌, ◌++◌, ◌∷◌, [], rules, sym, subst, ap, arith, ◌<◌, length, length-append, length-set, count_by, false, get_or, set, true}
+use Rattle.std.proofs.Common.{◌≡◌, ◌∙◌, ◌++◌, ◌∷◌, [], rules, sym, subst, ap, arith, ◌<◌, length, length-append, length-set, count_by, false, get_or, set, true}
+use Rattle.jlr_sets.proofs.Absent.{not_set}
 use Rattle.jlr_marks.specs.Marking.{AreGrey}
 use Rattle.jlr_marks.proofs.Counting.{count_marks, room_left}
 use Rattle.jlr_marks.proofs.Greying.{grey_more}
@@ -9,7 +10,7 @@ push_reserved-requires c =
     let bits = c.self.inside.bits in
     let slot = c.args.slot in
     let inside : slot < length bits = search rules in
-    let white : get_or bits slot false ≡ false = search rules in
+    let white = not_set (get_or bits slot false) (sym c.insert.ensures.added ∙ c.if-insert.true) in
     omega (arith, room_left bits slot inside white, c.self.invariant.0, c.self.invariant.1)
 
 pub invariant_of-self : goal.invariant_of-self
@@ -18,11 +19,11 @@ invariant_of-self c =
     let grey = c.self.inside.grey.items in
     let slot = c.args.slot in
     let inside : slot < length bits = search rules in
-    let white : get_or bits slot false ≡ false = search rules in
+    let white = not_set (get_or bits slot false) (sym c.insert.ensures.added ∙ c.if-insert.true) in
     let long = length-set bits slot true in
     let pushed : c.push_reserved.new.self.items ≡ grey ++ slot ∷ [] = search rules in (
-      omega (arith, ap length pushed, length-append grey (slot ∷ []), ap (count_by (λ b. b)) c.insert.ensures, count_marks bits slot inside white, c.self.invariant.0),
-      omega (arith, ap length c.insert.ensures, long, c.self.invariant.1, c.push_reserved.ensures.capacity),
-      omega (arith, ap length c.insert.ensures, long, c.self.invariant.2),
-      subst (λ l. AreGrey l c.push_reserved.new.self.items) (sym c.insert.ensures) (subst (AreGrey (set bits slot true)) (sym pushed) (grey_more bits grey slot inside white c.self.invariant.3)),
+      omega (arith, ap length pushed, length-append grey (slot ∷ []), ap (count_by (λ b. b)) c.insert.ensures.set, count_marks bits slot inside white, c.self.invariant.0),
+      omega (arith, ap length c.insert.ensures.set, long, c.self.invariant.1, c.push_reserved.ensures.capacity),
+      omega (arith, ap length c.insert.ensures.set, long, c.self.invariant.2),
+      subst (λ l. AreGrey l c.push_reserved.new.self.items) (sym c.insert.ensures.set) (subst (AreGrey (set bits slot true)) (sym pushed) (grey_more bits grey slot inside white c.self.invariant.3)),
     )
