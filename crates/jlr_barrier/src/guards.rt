@@ -13,11 +13,11 @@ use jlr_cells::Shape;
 use jlr_types::{ActionNo, Rid, Slot, Work};
 
 impl Heap {
-    /// A new guard and its cleanable, which waits for it to finish a resource, in two cells that held no object, if there are two. Both were made now, and
-    /// are black.
+    /// A new guard and its cleanable, which waits for it to finish a resource, in two cells that held no object, if there are two. Where fewer than
+    /// two are free, all that are condemned are swept. Both were made now, and are black.
     pub fn allocate_guard(&mut self, rid: Rid, action: ActionNo) -> Option<(Slot, Slot)>
         ensures full { IsNone result ↔ (length self.old.graph.objects < occupied self.old.graph.objects + 2) }
-        ensures none { IfNone result ((self.new.graph ≡ self.old.graph) × (self.new.clock ≡ self.old.clock) × (self.new.marking ≡ self.old.marking)) }
+        ensures none { IfNone result ((self.new.graph ≡ self.old.graph) × (self.new.clock ≡ self.old.clock) × (self.new.marking ≡ self.old.marking) × (self.new.condemned ≡ self.old.condemned)) }
         ensures free { IfSome result (λ made. AreFree self.old.graph.objects made.0 made.1) }
         ensures made { IfSome result (λ made. self.new.graph ≡ with_objects self.old.graph (with_guard self.old.graph.objects made.0 made.1 rid action)) }
         ensures clock { IfSome result (λ made. self.new.clock ≡ made_now (made_now self.old.clock made.0) made.1) }

@@ -56,7 +56,7 @@ impl<R> State<R> {
         ensures cleaner { self.new.cleaner ≡ self.old.cleaner }
         ensures marks { choice.new.chosen.collected ≡ None → self.new.heap.marking ≡ self.old.heap.marking }
     {
-        if self.heap.free_count() < cells {
+        if self.heap.vacant_count() < cells {
             self.collect(Mode::ClearAll, choice);
         }
     }

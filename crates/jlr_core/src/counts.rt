@@ -16,7 +16,7 @@ impl<R> State<R> {
     {
         self.check_session(by)?;
         self.check_no_call(by)?;
-        let objects = self.heap.cell_count() - self.heap.free_count();
+        let objects = self.heap.cell_count() - self.heap.vacant_count();
         let totals = self.cleaner.totals();
         Ok(Answer::Stat(Stat {
             objects: u64::from(objects),

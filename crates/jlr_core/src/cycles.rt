@@ -1,5 +1,5 @@
 //! Background cycles: one is opened, marked in pieces, collected, or given up.
-ghost use Rattle.std.specs.Prelude.{◌≡◌, ◌≤◌, ◌&&◌, Ok, false, length, not, true};
+ghost use Rattle.std.specs.Prelude.{◌≡◌, ◌-◌, ◌≤◌, ◌&&◌, Ok, false, length, not, true};
 ghost use Rattle.jlr_machine.specs.WellFormed.{IsWellFormed};
 ghost use Rattle.jlr_machine.specs.Choices.{nothing_chosen};
 ghost use Rattle.jlr_core.specs.Collecting.{after_choice};
@@ -48,8 +48,8 @@ impl<R> State<R> {
         was_open
     }
 
-    /// A piece of the marking of an open cycle, by the soft policy: at most so many ticks. Answers how far it is. Where no cycle is open, what
-    /// collections removed is swept, of at most so many cells.
+    /// A piece of the marking of an open cycle, by the soft policy: at most so many ticks. Answers how far it is. Where no cycle is open, condemned
+    /// cells are swept: so many, or all where there are no more.
     pub(crate) fn mark(&mut self, budget: u32) -> Progress
         requires { IsWellFormed (machine_of self.old) }
         ensures machine { machine_of self.new ≡ machine_of self.old }
@@ -59,6 +59,7 @@ impl<R> State<R> {
         ensures clock { self.new.heap.clock ≡ self.old.heap.clock }
         ensures reached { MarksReached (machine_of self.old) self.old.heap.marking (machine_of self.new) self.new.heap.marking }
         ensures piece { MarksPiece budget self.old.soft_age self.old.heap.clock (machine_of self.old) self.old.heap.marking result self.new.heap.marking }
+        ensures swept { self.old.cycle_open ≡ false → self.new.heap.condemned ≡ self.old.heap.condemned - budget }
     {
         if !self.cycle_open {
             jlr_sweep::sweep(&mut self.heap, budget);

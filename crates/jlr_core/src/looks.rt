@@ -30,7 +30,7 @@ impl<R> State<R> {
     fn lacks_room(&self, cells: u32) -> bool
         ensures { result ≡ not (has_room (machine_of self.now) cells) }
     {
-        self.heap.free_count() < cells
+        self.heap.vacant_count() < cells
     }
 
     /// Whether a `Remove` would be refused because its queue is empty, and nothing that comes before it in the order of refusals.

@@ -60,7 +60,7 @@ impl<R> State<R> {
         self.check_prepare(by)?;
         self.cleaner.reserve()?;
         self.make_room(GUARD_CELLS, choice);
-        if self.heap.free_count() < GUARD_CELLS {
+        if self.heap.vacant_count() < GUARD_CELLS {
             return Err(Refusal::HeapFull);
         }
         Ok(Answer::Prepared(self.place_guard(by, choice)))

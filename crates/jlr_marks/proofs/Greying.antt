@@ -1,6 +1,8 @@
 -- Grey cells, one more and one less.
-use Rattle.std.proofs.Common.{◌≡◌, ◌<◌, ◌∷◌, ◌++◌, ℕ, inl, inr, Bool, true, false, List, [], length, get_or, set, refl, sym, ◌∙◌, subst}
-use Rattle.std.specs.Prelude.{IsPermutation, nat_eq}
+use Rattle.std.proofs.Common.{◌≡◌, ◌<◌, ◌∷◌, ◌++◌, ℕ, inl, inr, ◌+◌, ◌-◌, ◌≤◌, Bool, true, false, List, [], Option, Some, None, length, get_or, set, refl, sym, ◌∙◌, ap, subst, arith}
+use Rattle.std.specs.Prelude.{IfSome, IsPermutation, MatchOption, nat_eq, option_to_list, slice_get}
+use Rattle.std.proofs.lemmas.List.{append-nil}
+use Rattle.std.proofs.lemmas.Option.{slice_get-get_or, slice_get_past}
 use Rattle.std.specs.List.{IsDistinct, AllByRecursion}
 use Rattle.std.proofs.lemmas.Bool.{both_ways, eq-eqb, eqb-true, false_from_ne_true}
 use Rattle.std.proofs.lemmas.List.Sorted.{IsPermutation-sym, IsPermutation-to_front, list_any-IsPermutation}
@@ -8,7 +10,7 @@ use Rattle.std.proofs.lemmas.Map.Keys.{IsDistinct-IsPermutation}
 use Rattle.jlr_machine.specs.Objects.{◌∈◌}
 use Rattle.jlr_laws.proofs.Sets.{nothing, in_front, in_rest, in_cons}
 use Rattle.jlr_laws.proofs.Clearing.{in_append}
-use Rattle.jlr_marks.specs.Marking.{AreGrey}
+use Rattle.jlr_marks.specs.Marking.{AreGrey, upcoming}
 use Rattle.jlr_marks.proofs.Shading.{marked_here, set_keeps}
 
 -- ---- Lists without repeats
@@ -69,3 +71,24 @@ module _ (bits : List Bool) (old new : List ℕ) (x : ℕ) (g : AreGrey bits old
 
   pub grey_less : AreGrey bits new
   grey_less = record { marked = λ z h. g.marked z (list_any-IsPermutation (nat_eq z) old (x ∷ new) taken ∙ in_rest z x new h); once = rest_once x new only_once }
+
+-- ---- The last grey slot is taken
+
+module _ (bits : List Bool) (old new : List ℕ) (g : AreGrey bits old) where
+  pub popped : (r : Option ℕ) → old ≡ new ++ option_to_list r → IfSome r (λ slot. IsPermutation old (slot ∷ new))
+  popped None e = tt
+  popped (Some slot) e = subst (λ l. IsPermutation l (slot ∷ new)) (sym e) (IsPermutation-to_front new slot)
+
+  pub popped_once : (r : Option ℕ) → old ≡ new ++ option_to_list r → IfSome r (λ slot. ¬ (slot ∈ new))
+  popped_once None e = tt
+  popped_once (Some slot) e = taken_once bits old new slot g (popped (Some slot) e)
+
+  pub still_grey : (r : Option ℕ) → old ≡ new ++ option_to_list r → AreGrey bits new
+  still_grey None e = subst (AreGrey bits) (e ∙ append-nil new) g
+  still_grey (Some slot) e = grey_less bits old new slot g (popped (Some slot) e)
+
+pub last_is : (r : Option ℕ) (items : List ℕ) (n : ℕ) → n ≡ length items → MatchOption r (n ≡ 0) (λ _. 0 < n) → ((d : ℕ) → 0 < n → r ≡ Some (get_or items (n - 1) d)) → r ≡ upcoming items
+last_is None items n e h value = sym (slice_get_past items (length items - 1) (omega (arith, e, h)))
+last_is (Some x) items n e h value =
+    let within : n - 1 < length items = omega (arith, e, h) in
+    value x h ∙ sym (slice_get-get_or items (n - 1) x within) ∙ ap (λ k. slice_get items (k - 1)) e

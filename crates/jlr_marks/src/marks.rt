@@ -11,10 +11,6 @@ use jlr_types::Slot;
 use std::alloc::{AllocError, Global};
 use std::marker::Model;
 
-/// From how far below the top of the stack a grey cell is taken. The cells above it come soon after, so that the processor
-/// can fetch them while it still waits for this one; from the top, each would be known only once the one before it is there.
-const AHEAD: usize = 4;
-
 /// A mark for each cell, a stack of the marked cells that are grey, and a list of those that are discovered.
 #[derive(Drop)]
 pub struct Marks {
@@ -98,16 +94,14 @@ impl Marks {
         !self.grey.is_empty()
     }
 
-    /// The grey cell that comes next, if there is one: the fourth from the top of the stack.
+    /// The grey cell that comes next, if there is one: the last that was shaded.
     pub fn next_grey(&self) -> Option<Slot>
         ensures { result ≡ upcoming self.now.grey }
     {
-        self.grey
-            .get(self.grey.len().saturating_sub(AHEAD))
-            .copied()
+        self.grey.last().copied()
     }
 
-    /// The grey cell that comes next leaves the stack, if there is one, and is black then. The top of the stack comes in its place.
+    /// The grey cell that comes next is grey no more, if there is one, and is black then.
     pub fn take_grey(&mut self) -> Option<Slot>
         ensures taken { result ≡ upcoming self.old.grey }
         ensures bits { self.new.bits ≡ self.old.bits }
@@ -117,11 +111,7 @@ impl Marks {
         ensures discovered { self.new.discovered ≡ self.old.discovered }
         ensures room { IfSome result (λ _. length self.new.grey + length self.new.discovered < marked self.new) }
     {
-        let count = self.grey.len();
-        if count == 0 {
-            return None;
-        }
-        Some(self.grey.swap_remove(count.saturating_sub(AHEAD)))
+        self.grey.pop()
     }
 
     /// The marked cells.

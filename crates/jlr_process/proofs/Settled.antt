@@ -7,7 +7,7 @@ use Rattle.jlr_machine.specs.declared.object.Reference.{Reference as ReferenceOf
 use Rattle.jlr_machine.specs.declared.object.Cleanable.{Cleanable as CleanableOf}
 use Rattle.jlr_machine.specs.declared.object.CleanState.TheVariants.{Pending as PendingClean}
 use Rattle.jlr_machine.specs.declared.object.RefState.TheVariants.{Pending}
-use Rattle.jlr_machine.specs.Objects.{Table, Heap, any_referent, at, change_at, is_fresh, is_unqueued, with_cleanable, with_reference, some_and}
+use Rattle.jlr_machine.specs.Objects.{Table, Heap, any_referent, at, change_at, ◌∋◌, is_fresh, occupied, is_unqueued, with_cleanable, with_reference, some_and}
 use Rattle.jlr_machine.specs.Calls.{unreferred}
 use Rattle.jlr_machine.specs.Collection.{is_ready}
 use Rattle.jlr_cells.specs.Contents.{in_clean_state, in_state, next_in, without_referent}
@@ -15,7 +15,9 @@ use Rattle.std.proofs.lemmas.Bool.{and_parts}
 use Rattle.jlr_laws.proofs.Frames.{fresh_unqueued, set_same, place_within}
 use Rattle.jlr_barrier.specs.Graphs.{Graph, with_objects, with_pending}
 use Rattle.jlr_marks.specs.Marking.{Marking, is_marked}
-use Rattle.jlr_process.specs.Settling.{loses, marked_referent, only_if, settled_object, with_settled}
+use Rattle.jlr_machine.specs.Choices.{Choosing}
+use Rattle.jlr_laws.proofs.ObjectsKept.{count_pointwise}
+use Rattle.jlr_process.specs.Settling.{Clears, cleared, loses, marked_referent, only_if, settled_object, with_settled}
 
 set_twice : {A : Type 0} (table : Table A) (n : ℕ) (v w : Option A) → slice_set (slice_set table n v) n w ≡ slice_set table n w
 set_twice [] n v w = refl
@@ -83,3 +85,20 @@ same_queue_ahead heap other s r here e ready =
     ap (λ h. at h s) e ∙ set_same heap s (option_map (with_reference unreferred) (at heap s)) (place_within heap s (Reference r) here) ∙ ap (option_map (with_reference unreferred)) here in
     let unqueued : is_unqueued r.state ≡ true = fresh_unqueued r.state (and_parts (is_fresh r.state) (is_some r.queue) ready).0 in
     subst (λ o. next_in (option_map (with_reference (in_state Pending)) o) ≡ next_in o) (sym there) (ap (λ b. cond b r.queue None) (sym unqueued))
+
+-- ---- How many objects there are
+
+still_some : (b : Bool) (f : Object → Object) (o : Option Object) → is_some (cond b (option_map f o) o) ≡ is_some o
+still_some true f None = refl
+still_some true f (Some o) = refl
+still_some false f o = refl
+
+either_some : (b : Bool) (o p : Option Object) → is_some o ≡ is_some p → is_some (cond b o p) ≡ is_some p
+either_some true o p e = e
+either_some false o p e = refl
+
+-- what is cleared stays an object
+pub as_many : (m : Marking) (slots : List ℕ) (old : Graph) (before : Choosing) (lost : List ℕ) (new : Graph) (after : Choosing) → Clears m slots old before lost new after → occupied new.objects ≡ occupied old.objects
+as_many m slots old before lost new after clears =
+    count_pointwise is_some new.objects old.objects clears.long
+    (λ s. ap is_some (clears.objects s) ∙ either_some (slots ∋ s) (cleared m s (at old.objects s)) (at old.objects s) (still_some (is_marked m s) (settled_object m) (at old.objects s)))

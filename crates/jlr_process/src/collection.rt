@@ -3,7 +3,7 @@ ghost use Rattle.std.specs.Prelude.{◌≡◌, ◌≤◌, ◌<◌, ℕ, [], List
 ghost use Rattle.jlr_machine.specs.declared.machine.Machine.{Machine};
 ghost use Rattle.jlr_machine.specs.Objects.{◌∈◌};
 ghost use Rattle.jlr_machine.specs.Choices.{collecting, nothing_chosen, pended_by};
-ghost use Rattle.jlr_barrier.specs.Graphs.{counted, in_machine};
+ghost use Rattle.jlr_barrier.specs.Graphs.{counted, in_machine, in_use};
 ghost use Rattle.jlr_barrier.specs.Snapshots.{RefersTo};
 ghost use Rattle.jlr_process.specs.Flipping.{Flips, IsRooted};
 ghost use Rattle.jlr_process.specs.Settling.{Clears, Keeps, is_losing};
@@ -17,7 +17,7 @@ use jlr_machine::choice::Choice;
 ///
 /// Of what is marked, each reference loses a referent that is not; all these were discovered while it was marked. Those of them that were
 /// Fresh and registered with a queue become Pending, and go on the pending list. Then all that is not marked is removed, and the
-/// collection is counted.
+/// collection is counted. The cells of what was removed are condemned: as many cells are free as before.
 pub fn flip(heap: &mut Heap, choice: &mut Choice)
     requires fit { (m : Machine) × IsRooted m heap.old.graph }
     requires no_grey { heap.old.marking.grey ≡ [] }
@@ -28,6 +28,7 @@ pub fn flip(heap: &mut Heap, choice: &mut Choice)
     ensures mutators { heap.new.graph.mutators ≡ heap.old.graph.mutators }
     ensures clock { heap.new.clock ≡ counted heap.old.clock }
     ensures marking { heap.new.marking ≡ heap.old.marking }
+    ensures free { in_use heap.new ≡ in_use heap.old }
 {
     if heap.has_grey() {
         return;
@@ -51,6 +52,7 @@ fn settle_discovered(heap: &mut Heap, choice: &mut Choice)
     ensures clears { (lost : List ℕ) × Clears heap.old.marking heap.old.marking.discovered heap.old.graph choice.old lost heap.new.graph choice.new }
     ensures clock { heap.new.clock ≡ heap.old.clock }
     ensures marking { heap.new.marking ≡ heap.old.marking }
+    ensures condemned { heap.new.condemned ≡ heap.old.condemned }
 {
     let mut place = heap.discovered_count();
     while place > 0 {
@@ -71,6 +73,7 @@ fn keep_marked(heap: &mut Heap, choice: &mut Choice)
     ensures keeps { Keeps heap.old.marking heap.old.graph choice.old heap.new.graph choice.new }
     ensures clock { heap.new.clock ≡ heap.old.clock }
     ensures marking { heap.new.marking ≡ heap.old.marking }
+    ensures free { in_use heap.new ≡ in_use heap.old }
 {
     heap.keep_marked(choice);
 }

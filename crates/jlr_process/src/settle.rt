@@ -34,6 +34,7 @@ fn settle_reference(heap: &mut Heap, slot: Slot, reference: Reference, choice: &
     ensures graph { heap.new.graph ≡ with_settled heap.old.marking heap.old.graph slot (object.Reference reference) }
     ensures clock { heap.new.clock ≡ heap.old.clock }
     ensures marking { heap.new.marking ≡ heap.old.marking }
+    ensures condemned { heap.new.condemned ≡ heap.old.condemned }
     ensures choice { choice.new ≡ collecting choice.old (kept_by choice.old) (pended_by choice.old ++ only_if (loses heap.old.marking (object.Reference reference)) slot) }
 {
     let Some(referent) = reference.referent else {
@@ -69,6 +70,7 @@ fn settle_cleanable(heap: &mut Heap, slot: Slot, cleanable: Cleanable, choice: &
     ensures graph { heap.new.graph ≡ with_settled heap.old.marking heap.old.graph slot (object.Cleanable cleanable) }
     ensures clock { heap.new.clock ≡ heap.old.clock }
     ensures marking { heap.new.marking ≡ heap.old.marking }
+    ensures condemned { heap.new.condemned ≡ heap.old.condemned }
     ensures choice { choice.new ≡ collecting choice.old (kept_by choice.old) (pended_by choice.old ++ only_if (loses heap.old.marking (object.Cleanable cleanable)) slot) }
 {
     let Some(referent) = cleanable.referent else {
@@ -95,6 +97,7 @@ pub(crate) fn settle(heap: &mut Heap, slot: Slot, choice: &mut Choice)
     ensures graph { heap.new.graph ≡ cleared_graph heap.old.marking heap.old.graph slot }
     ensures clock { heap.new.clock ≡ heap.old.clock }
     ensures marking { heap.new.marking ≡ heap.old.marking }
+    ensures condemned { heap.new.condemned ≡ heap.old.condemned }
     ensures choice { choice.new ≡ collecting choice.old (kept_by choice.old) (pended_by choice.old ++ newly_pending heap.old.marking heap.old.graph.objects slot) }
 {
     let kind = heap.kind(slot);

@@ -18,7 +18,8 @@ use jlr_types::Meter;
 
 /// A full collection (package `java.lang.ref`). It keeps the least set that holds the roots and is closed under strong edges and under the
 /// soft edges of those members that the policy keeps; in the mode `ClearAll` that is exactly what is strongly reachable. All references
-/// to the rest are cleared, and those of them that are ready become pending. An open cycle is over then. It takes no memory.
+/// to the rest are cleared, and those of them that are ready become pending. An open cycle is over then, and no cell is condemned: each that holds no object is free. It
+/// takes no memory.
 pub fn full(heap: &mut Heap, policy: &Policy, choice: &mut Choice)
     requires fit { (m : Machine) × IsRooted m heap.old.graph }
     requires nothing { choice.old ≡ nothing_chosen choice.old.cells }
@@ -31,7 +32,9 @@ pub fn full(heap: &mut Heap, policy: &Policy, choice: &mut Choice)
     ensures clock { heap.new.clock ≡ counted heap.old.clock }
     ensures cells { length heap.new.graph.objects ≡ length heap.old.graph.objects }
     ensures room { choice.new.cells ≡ choice.old.cells }
+    ensures swept { heap.new.condemned ≡ 0 }
 {
     mark(heap, policy, &mut Meter::new());
     flip(heap, choice);
+    heap.sweep_all();
 }

@@ -7,6 +7,7 @@ use Rattle.jlr_marks.specs.Marking.{Marking}
 use Rattle.jlr_process.specs.Settling.{is_losing, kept_at, marked_below, settled}
 use Rattle.jlr_process.proofs.Whole.{all_settled, as_parts, kept_counted, same_bool}
 use Rattle.jlr_process.proofs.Twice.{all_lost, settled_there}
+use Rattle.jlr_process.proofs.Settled.{as_many}
 use Rattle.jlr_process.proofs.Gone.{collection, referent_within, whole}
 use Rattle.jlr_process.proofs.collection.flip.Goals as goal
 
@@ -47,3 +48,8 @@ returns-clause-flips c =
           ∙ as_parts k c.keep_marked.new.heap.graph _ _ _ _ _ objects (t.mutators ∙ s.mutators) (t.names ∙ s.names) (t.pending ∙ s.pending) (t.line ∙ s.line);
       counted = ap (λ (g : Graph). occupied g.objects) c.count_collection.ensures.graph ∙ ap (λ h. occupied h) objects ∙ kept_counted m old w.long lost listed w.objects;
     }
+
+pub returns-clause-free : goal.returns-clause-free
+returns-clause-free c =
+    let s = c.settle_discovered.ensures.clears.1 in
+    omega (arith, as_many _ _ _ _ _ _ _ s, c.settle_discovered.ensures.condemned, c.keep_marked.ensures.free, ap (λ (g : Graph). occupied g.objects) c.count_collection.ensures.graph, c.count_collection.ensures.condemned)

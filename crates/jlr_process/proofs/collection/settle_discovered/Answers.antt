@@ -36,5 +36,6 @@ loop-place-preserved c =
       clears = (more.0, subst (λ l. Clears m l c.args.heap.now.graph c.args.choice.now more.0 c.settle.new.heap.graph c.settle.new.choice) (ap (λ n. d ∷ drop n m.discovered) (sym before) ∙ more_left m.discovered next d here) more.1);
       clock = c.settle.ensures.clock ∙ i.clock;
       marking = c.settle.ensures.marking ∙ i.marking;
+      condemned = c.settle.ensures.condemned ∙ i.condemned;
       place = omega (arith, c.loop-place-test.true, i.place);
     }

@@ -9,6 +9,7 @@ invariant-loop-place l = record {
   clears : (lost : List ℕ) × Clears l.fn.heap.marking (drop l.place l.fn.heap.marking.discovered) l.fn.heap.graph l.fn.choice lost l.heap.graph l.choice;
   clock : l.heap.clock ≡ l.fn.heap.clock;
   marking : l.heap.marking ≡ l.fn.heap.marking;
+  condemned : l.heap.condemned ≡ l.fn.heap.condemned;
   place : l.place ≤ length l.fn.heap.marking.discovered;
 }
 
