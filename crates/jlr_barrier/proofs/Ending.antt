@@ -53,7 +53,7 @@ pub upcoming_there : (k : Known) (a b : ℕ) → FitsTogether k a b → (o : Opt
 upcoming_there k a b f None e = tt
 upcoming_there k a b f (Some s) e =
     let grey = k.marking.grey in
-    let on = f.snapshot.grey s (member_in_list grey (length grey - 4) s s (sym e) refl) in
+    let on = f.snapshot.grey s (member_in_list grey (length grey - 1) s s (sym e) refl) in
     (on, f.objects s on)
 
 -- ---- All marks go, and the roots are shaded

@@ -182,7 +182,7 @@ scanned_follows heap slot old new scan =
 pub none_upcoming : (grey : List ℕ) → upcoming grey ≡ None → grey ≡ []
 none_upcoming [] e = refl
 none_upcoming (x ∷ grey) e =
-    let i = length (x ∷ grey) - 4 in
+    let i = length (x ∷ grey) - 1 in
     no_some (get_or (x ∷ grey) i 0) (sym e ∙ slice_get-get_or (x ∷ grey) i 0 (omega arith))
 
 pub none_in_unmarked : (n x : ℕ) → ¬ (IsMarked (unmarked n) x)

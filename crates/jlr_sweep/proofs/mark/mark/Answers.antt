@@ -46,7 +46,7 @@ pub follow-requires-clause-ticks : goal.follow-requires-clause-ticks
 follow-requires-clause-ticks c =
     let i = c.loop-slot.invariant in
     let items = c.loop-slot.heap.marking.grey in
-    let grey = member_in_list items (length items - 4) c.in-Some.slot c.in-Some.slot (sym c.in-Some.ensures.next) refl in
+    let grey = member_in_list items (length items - 1) c.in-Some.slot c.in-Some.slot (sym c.in-Some.ensures.next) refl in
     omega (arith, i.ticks, i.long, some_grey items c.in-Some.slot grey, c.requires.few, c.requires.ticks, count_by-le-length (λ b. b) c.loop-slot.heap.marking.bits)
 
 pub follow-requires-clause-objects : goal.follow-requires-clause-objects

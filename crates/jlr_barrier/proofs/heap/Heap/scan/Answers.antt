@@ -9,7 +9,7 @@ pub follow-plain-requires-clause-object : goal.follow-plain-requires-clause-obje
 follow-plain-requires-clause-object c =
     let grey = c.self.inside.marks.grey in
     let next = rw (← c.self.view_is) at c.requires.next in
-    c.self.invariant.objects c.args.slot (c.self.invariant.snapshot.grey c.args.slot (member_in_list grey (length grey - 4) c.args.slot c.args.slot next refl))
+    c.self.invariant.objects c.args.slot (c.self.invariant.snapshot.grey c.args.slot (member_in_list grey (length grey - 1) c.args.slot c.args.slot next refl))
 
 pub invariant_of-self : goal.invariant_of-self
 invariant_of-self c =
