@@ -7,7 +7,7 @@ ghost use Rattle.jlr_machine.specs.Edges.Chain.{Strong};
 ghost use Rattle.jlr_roots.specs.Naming.{named};
 ghost use Rattle.jlr_roots.specs.Walk.{slots_held};
 ghost use Rattle.jlr_cells.specs.Contents.{members_in, next_in};
-ghost use Rattle.jlr_cells.specs.Links.{linked};
+ghost use Rattle.jlr_cells.specs.Links.{linked, linked_in};
 ghost use Rattle.jlr_marks.specs.Marking.{Shaded, marked};
 ghost use Rattle.jlr_barrier.specs.Snapshots.{RefersTo};
 ghost use Rattle.jlr_barrier.specs.Scans.{awaits};
@@ -69,6 +69,16 @@ fn shade_links(links: &Links, marks: &mut Marks)
     }
 }
 
+/// Shades what links refer to, if there are any.
+fn shade_far(links: Option<&Links>, marks: &mut Marks)
+    requires { (x : ℕ) → x ∈ linked_in links → x < length marks.old.bits }
+    ensures { Shaded (λ x. x ∈ linked_in links.entry) marks.old marks.new }
+{
+    if let Some(links) = links {
+        shade_links(links, marks);
+    }
+}
+
 /// Shades what the strong edges of the object at a slot lead to: one tick. Answers whether it is a plain object.
 pub(crate) fn follow(cells: &Objects, slot: Slot, meter: &mut Meter, marks: &mut Marks) -> bool
     requires object { IsTrue (is_some (at cells.now.objects slot)) }
@@ -79,8 +89,9 @@ pub(crate) fn follow(cells: &Objects, slot: Slot, meter: &mut Meter, marks: &mut
     ensures ticked { meter.new ≡ meter.old + 1 }
 {
     match cells.visit(slot, meter) {
-        Visited::Plain(links) => {
-            shade_links(links, marks);
+        Visited::Plain { near, far } => {
+            shade_links(near, marks);
+            shade_far(far, marks);
             true
         }
         Visited::Other { next } => {

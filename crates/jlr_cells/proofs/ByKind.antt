@@ -31,10 +31,9 @@ has_kind (Some o) = refl
 
 -- the links of the object in a cell that was read
 links_read :
-    (cells : List Cell) (links : List (List (Option ℕ))) (s : ℕ) (c : Cell) (ls : List (Option ℕ)) → s < length cells
-    → links ≡ links_in cells → c ≡ get_or cells s c → ls ≡ get_or links s ls → ls ≡ cell_links c
-links_read cells links s c ls within by_links read read_links =
-    read_links ∙ ap (λ l. get_or l s ls) by_links ∙ get_or-map cell_links cells s c ls within ∙ ap cell_links (sym read)
+    (cells : List Cell) (links : List (List (Option ℕ))) (s : ℕ) (c : Cell) → s < length cells → links ≡ links_in cells → c ≡ get_or cells s c → get_or links s [] ≡ cell_links c
+links_read cells links s c within by_links read =
+    ap (λ l. get_or l s []) by_links ∙ get_or-map cell_links cells s c [] within ∙ ap cell_links (sym read)
 
 -- the object in a cell becomes another of its kind
 pub kept_changed :
@@ -65,29 +64,29 @@ kept_cleanable cells kinds links s c d f kept read becomes same =
 
 -- a field changes, and its link with it
 pub kept_field :
-    (cells : List Cell) (kinds : List (Option Kind)) (links : List (List (Option ℕ))) (s : ℕ) (c d : Cell) (i : ℕ) (v : FieldValue) (old new : List (Option ℕ))
+    (cells : List Cell) (kinds : List (Option Kind)) (links : List (List (Option ℕ))) (s : ℕ) (c d : Cell) (i : ℕ) (v : FieldValue) (links' : List (List (Option ℕ)))
     → AreKept cells kinds links → is_some (field_in (at (objects_in cells) s) i) ≡ true → c ≡ get_or cells s c → object_in d ≡ option_map (with_field i v) (object_in c) → kind_in d ≡ kind_in c
-    → old ≡ get_or links s old → new ≡ set old i (slot_in v) → AreKept (set cells s d) kinds (set links s new)
-kept_field cells kinds links s c d i v old new kept holds read becomes same read_links written =
+    → links' ≡ set links s (set (get_or links s []) i (slot_in v)) → AreKept (set cells s d) kinds links'
+kept_field cells kinds links s c d i v links' kept holds read becomes same written =
     let object : is_some (at (objects_in cells) s) ≡ true = object_of_field (at (objects_in cells) s) i holds in
     let within : s < length cells = within_cells cells s object in
     let holds' : is_some (field_in (object_in c) i) ≡ true = rw (← at-read cells s c within read) holds in
-    let was : old ≡ cell_links c = links_read cells links s c old within kept.by_links read read_links in
-    let is : new ≡ cell_links d = written ∙ ap (λ l. set l i (slot_in v)) was ∙ sym (links_with_field (object_in c) i v holds') ∙ sym (ap links_of becomes) in
+    let was : get_or links s [] ≡ cell_links c = links_read cells links s c within kept.by_links read in
+    let is : set (get_or links s []) i (slot_in v) ≡ cell_links d = ap (λ l. set l i (slot_in v)) was ∙ sym (links_with_field (object_in c) i v holds') ∙ sym (ap links_of becomes) in
     record {
       by_kind = kept.by_kind ∙ sym (map-set_same kind_in cells s d c (same ∙ ap kind_in read));
-      by_links = rw (kept.by_links, is) (sym (map-set cell_links cells s d));
+      by_links = written ∙ ap (set links s) is ∙ ap (λ l. set l s (cell_links d)) kept.by_links ∙ sym (map-set cell_links cells s d);
       small = rw (length-set cells s d) kept.small;
     }
 
 -- an object is put into a cell
 pub kept_put :
-    (cells : List Cell) (kinds : List (Option Kind)) (links : List (List (Option ℕ))) (s : ℕ) (c : Cell) (kind : Option Kind) (ls : List (Option ℕ))
-    → AreKept cells kinds links → kind ≡ kind_in c → ls ≡ cell_links c → AreKept (set cells s c) (set kinds s kind) (set links s ls)
-kept_put cells kinds links s c kind ls kept is blank =
+    (cells : List Cell) (kinds : List (Option Kind)) (links links' : List (List (Option ℕ))) (s : ℕ) (c : Cell) (kind : Option Kind)
+    → AreKept cells kinds links → kind ≡ kind_in c → links' ≡ set links s no_links → cell_links c ≡ no_links → AreKept (set cells s c) (set kinds s kind) links'
+kept_put cells kinds links links' s c kind kept is cleared blank =
     record {
       by_kind = rw (kept.by_kind, is) (sym (map-set kind_in cells s c));
-      by_links = rw (kept.by_links, blank) (sym (map-set cell_links cells s c));
+      by_links = cleared ∙ ap (λ l. set l s no_links) kept.by_links ∙ ap (set (links_in cells) s) (sym blank) ∙ sym (map-set cell_links cells s c);
       small = rw (length-set cells s c) kept.small;
     }
 

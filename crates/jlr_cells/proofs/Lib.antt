@@ -2,6 +2,7 @@ mod Writing
 mod FieldLists
 pub mod Slots
 mod LinkLists
+mod Rows
 mod ByKind
 pub mod Queues
 pub mod Showing

@@ -2,14 +2,14 @@
 use Rattle.std.specs.Prelude.{ℕ, ◌++◌, Bool, true, false, List, option_to_list}
 use Rattle.jlr_cells.specs.declared.links.Visited.{Visited}
 use Rattle.jlr_cells.specs.declared.links.Visited.TheVariants.{Plain, Other}
-use Rattle.jlr_cells.specs.Links.{linked}
+use Rattle.jlr_cells.specs.Links.{linked, linked_in}
 
 -- whether a visit found a plain object
 abbrev pub found_plain : Visited → Bool
-found_plain (Plain links) = true
+found_plain (Plain near far) = true
 found_plain (Other next) = false
 
 -- what a visit tells of strong edges, with the members that the object has if it is a queue
 abbrev pub edges_told : Visited → List ℕ → List ℕ
-edges_told (Plain links) members = linked links.now
+edges_told (Plain near far) members = linked near.now ++ linked_in far
 edges_told (Other next) members = option_to_list next ++ members

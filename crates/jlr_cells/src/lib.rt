@@ -6,14 +6,15 @@
 //! The members of a queue are a list, through a column with a place for each slot, so that a queue takes no memory for its members
 //! and its ends cost the same at any length. An object stands in one queue at most, and once.
 //!
-//! Beside the cells stand two columns: the kinds of the objects, and the links of plain objects, in 32 bytes each, which say
-//! for each of eight fields which slot it refers to. A collection reads little else: `visit` lends the links of a plain
-//! object, and reads no cell of one.
+//! Beside the cells stand columns: the kinds of the objects, and the links of plain objects, which say for each field which slot it refers
+//! to: 16 bytes for the first four fields, and 16 in a column of their own for the others. A collection reads little else: `visit` lends the
+//! links of a plain object, those of the second column only where one of its fields ever referred to an object, and reads no cell of one.
 //!
 //! Contracts see a table of objects. No call but `Store::new` and `image` takes memory.
 #![tactic(auto)]
 
 mod cell;
+mod columns;
 mod fields;
 mod links;
 mod shape;

@@ -1,8 +1,8 @@
-//! What the fields of plain objects refer to, apart from the fields themselves.
+//! What four fields of plain objects refer to, apart from the fields themselves.
 ghost use Rattle.std.specs.Prelude.{◌≡◌, ℕ, ◌<◌, Some, length, map, slice_set};
 ghost use Rattle.jlr_machine.specs.Objects.{at};
 ghost use Rattle.jlr_machine.specs.Edges.{slot_in};
-ghost use Rattle.jlr_cells.specs.Links.{link_of, no_links};
+ghost use Rattle.jlr_cells.specs.Links.{four_nulls, link_of};
 
 use jlr_types::{FieldValue, Slot};
 use std::marker::Model;
@@ -10,10 +10,10 @@ use std::marker::Model;
 /// Stands for a link to no object.
 const NULL: u32 = u32::MAX;
 
-/// For each of the eight fields that a plain object may have, what it refers to. An integer refers to nothing, and no field does.
+/// For each of four fields of a plain object, what it refers to. An integer refers to nothing, and no field does.
 #[derive(Drop)]
 pub struct Links {
-    slots: [u32; 8],
+    slots: [u32; 4],
 }
 
 impl Model for Links {
@@ -24,18 +24,18 @@ impl Model for Links {
 
     ghost view = { λ a. map link_of a.slots };
 
-    ghost invariant = { λ a. length a.slots ≡ 8 };
+    ghost invariant = { λ a. length a.slots ≡ 4 };
 }
 
 impl Links {
     /// No field refers to anything.
     pub(crate) fn none() -> Self
-        ensures { result ≡ no_links }
+        ensures { result ≡ four_nulls }
     {
-        Links { slots: [NULL; 8] }
+        Links { slots: [NULL; 4] }
     }
 
-    /// How many links there are: eight.
+    /// How many links there are: four.
     pub fn count(&self) -> usize
         ensures { result ≡ length self.now }
     {
@@ -53,7 +53,7 @@ impl Links {
 
     /// A field refers to something else.
     pub(crate) fn set(&mut self, place: usize, target: Option<Slot>)
-        requires place { place < 8 }
+        requires place { place < 4 }
         requires few { (s : ℕ) → target ≡ Some s → s < 4294967295 }
         ensures { self.new ≡ slice_set self.old place target }
     {
@@ -102,8 +102,13 @@ pub(crate) fn target_of(value: &FieldValue) -> Option<Slot>
 /// What a visit of an object tells of its strong edges.
 #[derive(Drop)]
 pub enum Visited<'a> {
-    /// It is a plain object, and these are the links of its fields.
-    Plain(&'a Links),
+    /// It is a plain object.
+    Plain {
+        /// The links of its first four fields.
+        near: &'a Links,
+        /// The links of the others, if one of them ever referred to an object.
+        far: Option<&'a Links>,
+    },
     /// It is of another kind. It leads to one object, or to none; a queue to its members besides.
     Other {
         /// The queue that a reference may still be added to, or the cleanable of a guard.

@@ -10,11 +10,11 @@ ghost use Rattle.jlr_machine.specs.Objects.{with_cleanable, with_field, with_mem
 ghost use Rattle.jlr_machine.specs.Refusals.{is_cleanable, is_guard, is_plain, is_queue, is_reference};
 ghost use Rattle.jlr_machine.specs.Calls.{spent, unreferred};
 ghost use Rattle.jlr_cells.specs.Contents.{field_at, in_clean_state, in_state, kind_of, member_in, members_in, object_in, object_of, objects_in, referent_in, unregistered, watching, with_list, with_lists, without_referent};
-ghost use Rattle.jlr_cells.specs.Links.{no_links};
 ghost use Rattle.jlr_cells.specs.Visits.{edges_told, found_plain};
 
 use crate::cell::Cell;
-use crate::links::{Links, Visited, target_of};
+use crate::columns::Columns;
+use crate::links::{Visited, target_of};
 use crate::shape::{Kind, Shape};
 use jlr_links::Links as Lists;
 use jlr_sets::cell_set::CellSet;
@@ -32,7 +32,7 @@ pub struct Store {
     /// By slot, the members of the queue there from the front on; of what is no queue there are none.
     queues: Lists,
     kinds: Vec<Option<Kind>>,
-    links: Vec<Links>,
+    links: Columns,
 }
 
 impl Model for Store {
@@ -46,7 +46,7 @@ impl Model for Store {
 
     ghost view = { λ a. with_lists (objects_in a.cells.items) a.queues.lists };
 
-    ghost invariant = { λ a. AreWhole a.cells.items a.queues.lists a.queues.slots a.kinds.items a.links.items };
+    ghost invariant = { λ a. AreWhole a.cells.items a.queues.lists a.queues.slots a.kinds.items a.links };
 }
 
 impl Store {
@@ -61,7 +61,7 @@ impl Store {
             cells: empty_cells(alloc, count)?,
             queues: Lists::new(alloc, count, count)?,
             kinds: no_kinds(alloc, count)?,
-            links: all_null(alloc, count)?,
+            links: Columns::new(alloc, count)?,
         })
     }
 
@@ -81,7 +81,7 @@ impl Store {
         let place = slot.number() as usize;
         let cell = Cell::new(shape);
         self.kinds[place] = cell.kind();
-        self.links[place] = Links::none();
+        self.links.clear(slot);
         self.cells[place] = cell;
     }
 
@@ -153,8 +153,7 @@ impl Store {
         let target = target_of(&value);
         let cell = &mut self.cells[place];
         let old = cell.set_field(field, value);
-        let links = &mut self.links[place];
-        links.set(field, target);
+        self.links.set(slot, field, target);
         old
     }
 
@@ -343,7 +342,8 @@ impl Store {
         meter.tick();
         let place = slot.number() as usize;
         if self.is_plain(slot) {
-            return Visited::Plain(&self.links[place]);
+            let (near, far) = self.links.of(slot);
+            return Visited::Plain { near, far };
         }
         Visited::Other {
             next: self.cells[place].next(),
@@ -365,16 +365,6 @@ fn no_kinds(alloc: Global, count: u32) -> Result<Vec<Option<Kind>>, AllocError>
     ensures { IfOk result (λ kinds. kinds.items ≡ replicate count None) }
 {
     Ok(vec![in alloc; None; count as usize]?)
-}
-
-fn all_null(alloc: Global, count: u32) -> Result<Vec<Links>, AllocError>
-    ensures { IfOk result (λ links. links.items ≡ replicate count no_links) }
-{
-    let mut links = Vec::with_capacity(alloc, count as usize)?;
-    for _slot in 0..count {
-        links.push_reserved(Links::none());
-    }
-    Ok(links)
 }
 
 fn images(

@@ -1,4 +1,4 @@
-use Rattle.std.proofs.Common.{◌<◌, ◌∙◌, ap, arith, length, refl, set, sym}
+use Rattle.std.proofs.Common.{◌<◌, ◌∙◌, [], ap, arith, get_or, length, refl, set, sym}
 use Rattle.std.specs.Prelude.{is_some}
 use Rattle.jlr_machine.specs.Objects.{with_field}
 use Rattle.jlr_cells.specs.Contents.{field_in}
@@ -19,8 +19,10 @@ pub invariant_of-self : goal.invariant_of-self
 invariant_of-self c =
     let holds = holds_at c.self.inside.cells.items c.self.inside.queues.lists c.args.self.now c.self.view_is (λ o. is_some (field_in o c.args.field)) _ _ (λ l m. refl) c.number-place.ensures c.requires.field in
     record {
-      kept = kept_field _ _ _ _ c.index_mut-cell.result.now _ c.args.field c.args.value c.index_mut-links.result.now _ c.self.invariant.kept holds c.index_mut-cell.ensures.value c.set_field-old.ensures.new c.set_field-old.ensures.kind
-          c.index_mut-links.ensures.value (c.set.ensures ∙ ap (set c.index_mut-links.result.now c.args.field) c.target_of-target.ensures);
+      kept = kept_field _ _ c.self.inside.links _ c.index_mut-cell.result.now _ c.args.field c.args.value _ c.self.invariant.kept holds c.index_mut-cell.ensures.value c.set_field-old.ensures.new c.set_field-old.ensures.kind
+          (c.set.ensures
+          ∙ ap (λ k. set c.self.inside.links k (set (get_or c.self.inside.links k []) c.args.field c.target_of-target.result)) (sym c.number-place.ensures)
+          ∙ ap (λ o. set c.self.inside.links c.number-place.result (set (get_or c.self.inside.links c.number-place.result []) c.args.field o)) c.target_of-target.ensures);
       members = c.self.invariant.members;
     }
 
@@ -34,8 +36,8 @@ returns-clause-old c =
     let below : c.number-place.result < length c.self.inside.cells.items = within c.self.inside.cells.items c.self.inside.queues.lists c.args.self.now c.self.view_is _ _ c.number-place.ensures (object_of_field _ c.args.field c.requires.field) in
     seen_in c.self.inside.cells.items c.self.inside.queues.lists c.args.self.now c.self.view_is (λ o. field_in o c.args.field) c.args.slot c.number-place.result c.index_mut-cell.result.now (λ l m. refl) c.number-place.ensures below c.index_mut-cell.ensures.value ∙ c.set_field-old.ensures.old
 
-pub index_mut-links-requires : goal.index_mut-links-requires
-index_mut-links-requires c = omega (arith, within c.self.inside.cells.items c.self.inside.queues.lists c.args.self.now c.self.view_is _ _ c.number-place.ensures (object_of_field _ c.args.field c.requires.field), link_count c.self.inside.cells.items c.self.inside.queues.lists c.self.inside.queues.slots c.self.inside.kinds.items c.self.inside.links.items c.self.invariant)
+pub set-requires-clause-slot : goal.set-requires-clause-slot
+set-requires-clause-slot c = omega (arith, c.number-place.ensures, within c.self.inside.cells.items c.self.inside.queues.lists c.args.self.now c.self.view_is _ _ c.number-place.ensures (object_of_field _ c.args.field c.requires.field), link_count c.self.inside.cells.items c.self.inside.queues.lists c.self.inside.queues.slots c.self.inside.kinds.items c.self.inside.links c.self.invariant)
 
 pub set-requires-clause-few : goal.set-requires-clause-few
 set-requires-clause-few c = λ s e. (let below = c.requires.within s (set_target c.args.value s (sym c.target_of-target.ensures ∙ e)) in omega (arith, below, length_seen c.self.inside.cells.items c.self.inside.queues.lists c.args.self.now c.self.view_is, c.self.invariant.kept.small))

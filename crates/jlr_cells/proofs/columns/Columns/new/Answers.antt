@@ -1,0 +1,13 @@
+use Rattle.std.proofs.Common.{◌∙◌, ap}
+use Rattle.jlr_cells.specs.Links.{rows}
+use Rattle.jlr_cells.proofs.Rows.{new_columns, new_rows}
+use Rattle.jlr_cells.proofs.columns.Columns.new.Goals as goal
+
+pub invariant_of-result : goal.invariant_of-result
+invariant_of-result c = new_columns c.args.count _ _ _ c.in_ok-all_null.ensures c.in_ok-all_null-2.ensures c.in_ok-new.ensures
+
+pub returns : goal.returns
+returns c =
+    ap (λ n. rows n c.in_ok-all_null-2.field-0.items) c.in_ok-all_null.ensures
+    ∙ ap (rows _) c.in_ok-all_null-2.ensures
+    ∙ new_rows c.args.count
