@@ -99,7 +99,7 @@ impl Occupancy {
         ensures taken { IfSome result (λ slot. self.new.places ≡ slice_set self.old.places slot true) }
         ensures condemned { IfSome result (λ _. self.new.condemned ≡ cond (taken self.old + self.old.condemned == length self.old.places) 0 self.old.condemned) }
     {
-        if self.free == 0 {
+        if self.free == 0 && self.condemned > 0 {
             self.sweep_all();
         }
         if self.free == 0 {
