@@ -173,13 +173,19 @@ pub(crate) fn shade_names(names: &Names, marks: &mut Marks)
     }
 }
 
-/// Shades the cleanables that are roots by themselves. It goes over the kinds of all cells, and reads only the cells of cleanables.
+/// Shades the cleanables that are roots by themselves. It goes from cleanable to cleanable, and over no other cells.
 pub(crate) fn shade_cleanables(cells: &Objects, marks: &mut Marks)
     requires { length cells.now.objects ≤ length marks.old.bits }
     ensures { Shaded (λ x. x ∈ active_cleanables 0 cells.now.objects) marks.old marks.new }
 {
-    for number in 0..cells.cell_count() {
-        shade_own_root(cells, Slot::new(number), marks);
+    let count = cells.cell_count();
+    let mut from = 0;
+    while from < count {
+        let Some(slot) = cells.next_cleanable(from) else {
+            return;
+        };
+        shade_own_root(cells, slot, marks);
+        from = slot.number() + 1;
     }
 }
 

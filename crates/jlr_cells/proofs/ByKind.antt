@@ -1,6 +1,6 @@
 -- The kinds and the links that stand by themselves, after a change of one cell.
-use Rattle.std.proofs.Common.{◌≡◌, ℕ, zero, suc, ◌+◌, ◌-◌, ◌<◌, ◌^◌, true, List, [], ◌∷◌, Option, Some, None, length, set, get_or, replicate, refl, sym, ap, ◌∙◌, arith, length-set}
-use Rattle.std.specs.Prelude.{drop, is_some, option_map, slice_index_or}
+use Rattle.std.proofs.Common.{◌≡◌, ℕ, zero, suc, ◌+◌, ◌-◌, ◌<◌, ◌^◌, true, false, List, [], ◌∷◌, Option, Some, None, length, set, get_or, replicate, refl, sym, ap, ◌∙◌, arith, length-set}
+use Rattle.std.specs.Prelude.{MatchOption, drop, is_some, option_map, slice_index_or}
 use Rattle.std.proofs.Math.Seq.{map-set_same}
 use Rattle.std.proofs.lemmas.List.{map-set, get_or-map, length-replicate}
 use Rattle.jlr_machine.specs.declared.object.Object.{Object}
@@ -8,7 +8,11 @@ use Rattle.jlr_types.specs.declared.FieldValue.{FieldValue}
 use Rattle.jlr_machine.specs.declared.object.Reference.{Reference as ReferenceOf}
 use Rattle.jlr_machine.specs.declared.object.Cleanable.{Cleanable as CleanableOf}
 use Rattle.jlr_machine.specs.Edges.{slot_in}
-use Rattle.jlr_machine.specs.Objects.{at, with_cleanable, with_field, with_reference}
+use Rattle.jlr_machine.specs.declared.object.Object.TheVariants as object
+use Rattle.jlr_machine.specs.Objects.{Heap, at, some_and, with_cleanable, with_field, with_reference}
+use Rattle.jlr_machine.specs.Refusals.{is_cleanable}
+use Rattle.jlr_cells.specs.Kinds.{IsNoCleanable}
+use Rattle.jlr_cells.specs.declared.shape.Kind.TheVariants.{Cleanable as CleanableKind}
 use Rattle.jlr_cells.proofs.Slots.{at-read, object_of_field, within_cells}
 use Rattle.jlr_cells.proofs.LinkLists.{links_with_cleanable, links_with_field, links_with_reference}
 use Rattle.jlr_cells.specs.declared.cell.Cell.{Cell}
@@ -23,6 +27,26 @@ pub kind_at : (cells : List Cell) (s : ℕ) → slice_index_or (kinds_in cells) 
 kind_at [] s = refl
 kind_at (c ∷ cells) zero = refl
 kind_at (c ∷ cells) (suc s) = kind_at cells s
+
+pub kind_seen : (cells : List Cell) (kinds : List (Option Kind)) (s : ℕ) → kinds ≡ kinds_in cells → slice_index_or kinds s None ≡ option_map kind_of (at (objects_in cells) s)
+kind_seen cells kinds s by_kind = ap (λ l. slice_index_or l s None) by_kind ∙ kind_at cells s
+
+-- what is of another kind is no cleanable
+no_cleanable : (o : Option Object) → (option_map kind_of o ≡ Some CleanableKind → ⊥) → some_and is_cleanable o ≡ false
+no_cleanable None other = refl
+no_cleanable (Some (object.Plain fields)) other = refl
+no_cleanable (Some (object.Reference r)) other = refl
+no_cleanable (Some (object.Queue members)) other = refl
+no_cleanable (Some object.Cleaner) other = refl
+no_cleanable (Some (object.Cleanable c)) other = absurd (other refl)
+no_cleanable (Some (object.Guard g)) other = refl
+
+pub none_at_kind : (kinds : List (Option Kind)) (heap : Heap) (s : ℕ) → slice_index_or kinds s None ≡ option_map kind_of (at heap s) → IsNoCleanable kinds s → some_and is_cleanable (at heap s) ≡ false
+none_at_kind kinds heap s same none = no_cleanable (at heap s) (λ e. none (same ∙ e))
+
+pub found_alike : {P P' : Type 0} {Q Q' : ℕ → Type 0} (r : Option ℕ) → (P → P') → ((s : ℕ) → Q s → Q' s) → MatchOption r P Q → MatchOption r P' Q'
+found_alike None f g h = f h
+found_alike (Some s) f g h = g s h
 
 -- each object has a kind
 pub has_kind : (o : Option Object) → is_some (option_map kind_of o) ≡ is_some o

@@ -3,7 +3,7 @@ mod FieldLists
 pub mod Slots
 mod LinkLists
 mod Rows
-mod ByKind
+pub mod ByKind
 pub mod Queues
 pub mod Showing
 pub mod Images

@@ -4,4 +4,5 @@ pub mod Contents
 pub mod Links
 pub mod Visits
 pub mod Keeping
+pub mod Kinds
 pub mod Showing

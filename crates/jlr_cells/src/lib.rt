@@ -16,6 +16,7 @@
 mod cell;
 mod columns;
 mod fields;
+mod kinds;
 mod links;
 mod shape;
 mod store;

@@ -1,5 +1,5 @@
 //! The cells, as they lie.
-ghost use Rattle.std.specs.Prelude.{◌≡◌, ◌⊎◌, ℕ, ◌+◌, ◌++◌, ◌∷◌, [], ◌^◌, ◌<◌, ◌↔◌, IfOk, IfNone, IfSome, IsNone, IsTrue, None, List, Some, cond, drop, is_some, length, option_and_then, option_map, replicate, slice_get, slice_set};
+ghost use Rattle.std.specs.Prelude.{◌≡◌, ◌⊎◌, ℕ, ◌+◌, ◌++◌, ◌∷◌, [], ◌^◌, ◌<◌, ◌↔◌, IfOk, IfNone, IfSome, IsNone, IsTrue, MatchOption, None, false, ◌≤◌, List, Some, cond, drop, is_some, length, option_and_then, option_map, replicate, slice_get, slice_set};
 ghost use Rattle.jlr_machine.specs.Objects.{◌∈◌, as_cleanable, as_fields, as_guard, as_reference, at, change_at, empty_at, occupied, set_at, some_and};
 ghost use Rattle.jlr_sets.specs.SlotSets.{is_in};
 ghost use Rattle.jlr_links.specs.Lists.{list_at};
@@ -14,6 +14,7 @@ ghost use Rattle.jlr_cells.specs.Visits.{edges_told, found_plain};
 
 use crate::cell::Cell;
 use crate::columns::Columns;
+use crate::kinds::Kinds;
 use crate::links::{Visited, target_of};
 use crate::shape::{Kind, Shape};
 use jlr_links::Links as Lists;
@@ -31,7 +32,7 @@ pub struct Store {
     cells: Vec<Cell>,
     /// By slot, the members of the queue there from the front on; of what is no queue there are none.
     queues: Lists,
-    kinds: Vec<Option<Kind>>,
+    kinds: Kinds,
     links: Columns,
 }
 
@@ -46,7 +47,7 @@ impl Model for Store {
 
     ghost view = { λ a. with_lists (objects_in a.cells.items) a.queues.lists };
 
-    ghost invariant = { λ a. AreWhole a.cells.items a.queues.lists a.queues.slots a.kinds.items a.links };
+    ghost invariant = { λ a. AreWhole a.cells.items a.queues.lists a.queues.slots a.kinds a.links };
 }
 
 impl Store {
@@ -60,7 +61,7 @@ impl Store {
         Ok(Store {
             cells: empty_cells(alloc, count)?,
             queues: Lists::new(alloc, count, count)?,
-            kinds: no_kinds(alloc, count)?,
+            kinds: Kinds::new(alloc, count)?,
             links: Columns::new(alloc, count)?,
         })
     }
@@ -80,7 +81,7 @@ impl Store {
     {
         let place = slot.number() as usize;
         let cell = Cell::new(shape);
-        self.kinds[place] = cell.kind();
+        self.kinds.set(slot, cell.kind());
         self.links.clear(slot);
         self.cells[place] = cell;
     }
@@ -90,10 +91,14 @@ impl Store {
         ensures kind { result ≡ option_map kind_of (at self.now slot) }
         ensures object { is_some result ≡ is_some (at self.now slot) }
     {
-        match self.kinds.get(slot.number() as usize) {
-            Some(kind) => *kind,
-            None => None,
-        }
+        self.kinds.get(slot)
+    }
+
+    /// A slot not below `from` such that no cleanable is between; or none, where there is no cleanable from there on.
+    pub fn next_cleanable(&self, from: u32) -> Option<Slot>
+        ensures { MatchOption result ((s : ℕ) → from ≤ s → some_and is_cleanable (at self.now s) ≡ false) (λ slot. (from ≤ slot) × (slot < length self.now) × ((s : ℕ) → from ≤ s → s < slot → some_and is_cleanable (at self.now s) ≡ false)) }
+    {
+        self.kinds.next_cleanable(from)
     }
 
     /// Whether there is a plain object at a slot.
@@ -359,12 +364,6 @@ fn empty_cells(alloc: Global, count: u32) -> Result<Vec<Cell>, AllocError>
         cells.push_reserved(Cell::Free);
     }
     Ok(cells)
-}
-
-fn no_kinds(alloc: Global, count: u32) -> Result<Vec<Option<Kind>>, AllocError>
-    ensures { IfOk result (λ kinds. kinds.items ≡ replicate count None) }
-{
-    Ok(vec![in alloc; None; count as usize]?)
 }
 
 fn images(

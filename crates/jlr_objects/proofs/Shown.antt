@@ -8,7 +8,8 @@ use Rattle.jlr_machine.specs.declared.object.Object.TheVariants.{Plain, Referenc
 use Rattle.jlr_machine.specs.declared.object.Reference.{Reference as ReferenceOf}
 use Rattle.jlr_machine.specs.declared.object.Cleanable.{Cleanable as CleanableOf}
 use Rattle.jlr_types.specs.declared.FieldValue.{FieldValue}
-use Rattle.jlr_machine.specs.Objects.{◌∈◌, Heap, at, change_at, occupied, with_cleanable, with_field, with_members, with_reference}
+use Rattle.jlr_machine.specs.Refusals.{is_cleanable}
+use Rattle.jlr_machine.specs.Objects.{◌∈◌, Heap, at, change_at, occupied, some_and, with_cleanable, with_field, with_members, with_reference}
 use Rattle.jlr_sets.specs.SlotSets.{is_in, slots_of}
 use Rattle.jlr_laws.proofs.Sets.{nothing}
 use Rattle.jlr_cells.specs.Contents.{members_in, object_of}
@@ -96,6 +97,10 @@ no_object : (o : Option Object) → is_some o ≡ false → o ≡ None
 no_object None h = refl
 no_object (Some o) h = absurd (false≢true (sym h))
 
+one_of : (b : Bool) (o : Option Object) → some_and is_cleanable o ≡ false → some_and is_cleanable (cond b o None) ≡ false
+one_of true o none = none
+one_of false o none = refl
+
 module _ (store : Heap) (occ listed : List Bool) (are : AreShown store occ listed) (v : Heap) (view : shown occ store ≡ v) where
   pub seen : (s : ℕ) → at v s ≡ cond (is_in occ s) (at store s) None
   seen s = ap (λ (h : Heap). at h s) (sym view) ∙ at-shown occ store s
@@ -118,6 +123,10 @@ module _ (store : Heap) (occ listed : List Bool) (are : AreShown store occ liste
 
   pub there : (s : ℕ) → is_some (at v s) ≡ true → at v s ≡ at store s
   there s h = in_sight s (in_set s h)
+
+  -- callers see no cleanable where none lies
+  pub no_more : (s : ℕ) → some_and is_cleanable (at store s) ≡ false → some_and is_cleanable (at v s) ≡ false
+  no_more s none = ap (some_and is_cleanable) (seen s) ∙ one_of (is_in occ s) (at store s) none
 
   pub hidden : (s : ℕ) → is_in occ s ≡ false → at v s ≡ None
   hidden s off = seen s ∙ ap (λ b. cond b (at store s) None) off

@@ -1,5 +1,5 @@
 //! The objects of the heap, in cells.
-ghost use Rattle.std.specs.Prelude.{◌≡◌, ℕ, ◌+◌, ◌-◌, ◌==◌, cond, ◌++◌, ◌∷◌, [], ◌^◌, ◌<◌, ◌↔◌, IfOk, IfNone, IfSome, IsNone, IsTrue, None, List, Some, drop, is_some, length, option_and_then, option_map, replicate, slice_get, true};
+ghost use Rattle.std.specs.Prelude.{◌≡◌, ℕ, ◌+◌, ◌-◌, ◌==◌, cond, ◌++◌, ◌∷◌, [], ◌^◌, ◌<◌, ◌↔◌, IfOk, IfNone, IfSome, IsNone, IsTrue, MatchOption, None, false, ◌≤◌, List, Some, drop, is_some, length, option_and_then, option_map, replicate, slice_get, true};
 ghost use Rattle.jlr_machine.specs.Objects.{◌∈◌, as_cleanable, as_fields, as_guard, as_reference, at, change_at, empty_at, is_cleaner, occupied, set_at, some_and};
 ghost use Rattle.jlr_machine.specs.Edges.{edges_from};
 ghost use Rattle.jlr_machine.specs.Edges.Chain.{Strong};
@@ -140,6 +140,13 @@ impl Objects {
             return None;
         }
         self.store.kind(slot)
+    }
+
+    /// A slot not below `from` such that no cleanable is between; or none, where there is no cleanable from there on.
+    pub fn next_cleanable(&self, from: u32) -> Option<Slot>
+        ensures { MatchOption result ((s : ℕ) → from ≤ s → some_and is_cleanable (at self.now.objects s) ≡ false) (λ slot. (from ≤ slot) × (slot < length self.now.objects) × ((s : ℕ) → from ≤ s → s < slot → some_and is_cleanable (at self.now.objects s) ≡ false)) }
+    {
+        self.store.next_cleanable(from)
     }
 
     /// Whether there is a plain object at a slot.

@@ -104,6 +104,18 @@ impl CellSet {
         self.set.count() as u32
     }
 
+    /// The first cell of the set that is not below `from`.
+    pub fn next_from(&self, from: u32) -> Option<Slot>
+        ensures first { FindsFirst self.now from result }
+        ensures few { length self.now < 2 ^ 32 }
+    {
+        let _cells = self.cells;
+        match self.set.next_from(from as usize) {
+            Some(place) => Some(Slot::new(place as u32)),
+            None => None,
+        }
+    }
+
     /// The first cell not below `from` that is not in the set.
     pub fn next_absent(&self, from: u32) -> Option<Slot>
         ensures first { FindsFirst (absent self.now) from result }

@@ -114,7 +114,7 @@ impl SlotSet {
     }
 
     /// The first slot of the set that is not below `from`.
-    fn next_from(&self, from: usize) -> Option<usize>
+    pub fn next_from(&self, from: usize) -> Option<usize>
         ensures { FindsFirst self.now from result }
     {
         words::first_from(&self.words, from)

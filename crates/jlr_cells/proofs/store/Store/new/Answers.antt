@@ -6,8 +6,8 @@ use Rattle.jlr_cells.proofs.store.Store.new.Goals as goal
 
 pub invariant_of-result : goal.invariant_of-result
 invariant_of-result c = record {
-  kept = new_kept _ _ _ _ c.in_ok-empty_cells.ensures c.ranges.count.fits c.in_ok-no_kinds.ensures c.in_ok-new-2.ensures;
-  members = new_lists _ _ _ c.args.count c.in_ok-no_kinds.ensures c.in_ok-new.ensures.lists c.in_ok-new.ensures.slots;
+  kept = new_kept _ _ _ _ c.in_ok-empty_cells.ensures c.ranges.count.fits c.in_ok-new-2.ensures c.in_ok-new-3.ensures;
+  members = new_lists _ _ _ c.args.count c.in_ok-new-2.ensures c.in_ok-new.ensures.lists c.in_ok-new.ensures.slots;
 }
 
 pub returns : goal.returns

@@ -37,7 +37,7 @@ returns-clause-old c =
     seen_in c.self.inside.cells.items c.self.inside.queues.lists c.args.self.now c.self.view_is (λ o. field_in o c.args.field) c.args.slot c.number-place.result c.index_mut-cell.result.now (λ l m. refl) c.number-place.ensures below c.index_mut-cell.ensures.value ∙ c.set_field-old.ensures.old
 
 pub set-requires-clause-slot : goal.set-requires-clause-slot
-set-requires-clause-slot c = omega (arith, c.number-place.ensures, within c.self.inside.cells.items c.self.inside.queues.lists c.args.self.now c.self.view_is _ _ c.number-place.ensures (object_of_field _ c.args.field c.requires.field), link_count c.self.inside.cells.items c.self.inside.queues.lists c.self.inside.queues.slots c.self.inside.kinds.items c.self.inside.links c.self.invariant)
+set-requires-clause-slot c = omega (arith, c.number-place.ensures, within c.self.inside.cells.items c.self.inside.queues.lists c.args.self.now c.self.view_is _ _ c.number-place.ensures (object_of_field _ c.args.field c.requires.field), link_count c.self.inside.cells.items c.self.inside.queues.lists c.self.inside.queues.slots c.self.inside.kinds c.self.inside.links c.self.invariant)
 
 pub set-requires-clause-few : goal.set-requires-clause-few
 set-requires-clause-few c = λ s e. (let below = c.requires.within s (set_target c.args.value s (sym c.target_of-target.ensures ∙ e)) in omega (arith, below, length_seen c.self.inside.cells.items c.self.inside.queues.lists c.args.self.now c.self.view_is, c.self.invariant.kept.small))

@@ -24,7 +24,7 @@ returns-then-is_plain-clause-edges c =
     ∙ c.of.ensures
 
 pub of-requires : goal.of-requires
-of-requires c = omega (arith, c.number-place.ensures, within c.self.inside.cells.items c.self.inside.queues.lists c.args.self.now c.self.view_is _ _ c.number-place.ensures c.requires.object, link_count c.self.inside.cells.items c.self.inside.queues.lists c.self.inside.queues.slots c.self.inside.kinds.items c.self.inside.links c.self.invariant)
+of-requires c = omega (arith, c.number-place.ensures, within c.self.inside.cells.items c.self.inside.queues.lists c.args.self.now c.self.view_is _ _ c.number-place.ensures c.requires.object, link_count c.self.inside.cells.items c.self.inside.queues.lists c.self.inside.queues.slots c.self.inside.kinds c.self.inside.links c.self.invariant)
 
 pub index-requires : goal.index-requires
 index-requires c = omega (arith, within c.self.inside.cells.items c.self.inside.queues.lists c.args.self.now c.self.view_is _ _ c.number-place.ensures c.requires.object)

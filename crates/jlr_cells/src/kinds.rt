@@ -1,0 +1,86 @@
+//! The kinds of the objects, by slot.
+ghost use Rattle.std.specs.Prelude.{◌≡◌, ℕ, ◌<◌, ◌≤◌, IfOk, MatchOption, None, Some, length, replicate, slice_index_or, slice_set, true};
+ghost use Rattle.jlr_cells.specs.Kinds.{IsNoCleanable};
+ghost use Rattle.jlr_sets.specs.SlotSets.{is_in};
+
+use crate::shape::Kind;
+use jlr_sets::cell_set::CellSet;
+use jlr_types::Slot;
+use std::alloc::{AllocError, Global};
+use std::marker::Model;
+
+/// Of which kind what lies at a slot is, by slot, side by side; and a set in which the cleanables are, so that they are found without a pass
+/// over all slots.
+#[derive(Drop)]
+pub(crate) struct Kinds {
+    kinds: Vec<Option<Kind>>,
+    cleanables: CellSet,
+}
+
+impl Model for Kinds {
+    ghost use Rattle.std.specs.Prelude.{List, Option};
+    ghost use Rattle.jlr_cells.specs.declared.shape.Kind.{Kind};
+    ghost use Rattle.jlr_cells.specs.Kinds.{AreFound};
+
+    ghost Value = { List (Option Kind) };
+
+    ghost view = { λ a. a.kinds.items };
+
+    ghost invariant = { λ a. AreFound a.kinds.items a.cleanables };
+}
+
+impl Kinds {
+    /// Nothing lies at any of so many slots.
+    ///
+    /// # Errors
+    /// `AllocError` where there is no memory for them.
+    pub(crate) fn new(alloc: Global, count: u32) -> Result<Self, AllocError>
+        ensures { IfOk result (λ kinds. kinds ≡ replicate count None) }
+    {
+        Ok(Kinds {
+            kinds: vec![in alloc; None; count as usize]?,
+            cleanables: CellSet::new(alloc, count)?,
+        })
+    }
+
+    /// Of which kind what lies at a slot is, if anything does.
+    pub(crate) fn get(&self, slot: Slot) -> Option<Kind>
+        ensures { result ≡ slice_index_or self.now slot None }
+    {
+        match self.kinds.get(slot.number() as usize) {
+            Some(kind) => *kind,
+            None => None,
+        }
+    }
+
+    /// Something of another kind lies at a slot.
+    pub(crate) fn set(&mut self, slot: Slot, kind: Option<Kind>)
+        requires { slot < length self.old }
+        ensures { self.new ≡ slice_set self.old slot kind }
+    {
+        self.kinds[slot.number() as usize] = kind;
+        note_cleanable(&mut self.cleanables, slot, kind);
+    }
+
+    /// A slot not below `from` such that no cleanable is between; or none, where there is no cleanable from there on.
+    pub(crate) fn next_cleanable(&self, from: u32) -> Option<Slot>
+        ensures { MatchOption result ((s : ℕ) → from ≤ s → IsNoCleanable self.now s) (λ slot. (from ≤ slot) × (slot < length self.now) × ((s : ℕ) → from ≤ s → s < slot → IsNoCleanable self.now s)) }
+    {
+        self.cleanables.next_from(from)
+    }
+}
+
+/// A slot is in the set where a cleanable lies there, and else it is not.
+fn note_cleanable(cleanables: &mut CellSet, slot: Slot, kind: Option<Kind>)
+    requires { slot < length cleanables.old }
+    ensures cleanable { kind ≡ Some Kind.Cleanable → is_in cleanables.new slot ≡ true }
+    ensures others { (s : ℕ) → (s ≡ slot → ⊥) → is_in cleanables.new s ≡ is_in cleanables.old s }
+    ensures places { length cleanables.new ≡ length cleanables.old }
+{
+    match kind {
+        Some(Kind::Cleanable) => {
+            cleanables.insert(slot);
+        }
+        _ => cleanables.remove(slot),
+    }
+}

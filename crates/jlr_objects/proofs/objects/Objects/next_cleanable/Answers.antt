@@ -1,0 +1,19 @@
+use Rattle.std.proofs.Common.{◌≡◌, ℕ, Bool, Option, false, ap, arith}
+use Rattle.jlr_machine.specs.declared.object.Object.{Object}
+use Rattle.jlr_machine.specs.Objects.{at, some_and}
+use Rattle.jlr_machine.specs.Refusals.{is_cleanable}
+use Rattle.jlr_cells.proofs.ByKind.{found_alike}
+use Rattle.jlr_objects.specs.Holding.{Holding}
+use Rattle.jlr_objects.proofs.Shown.{long, no_more}
+use Rattle.jlr_objects.proofs.objects.Objects.next_cleanable.Goals as goal
+
+pub returns : goal.returns
+returns c =
+    found_alike c.next_cleanable.result
+    (λ none s h. no_more c.self.inside.store c.self.inside.occupancy.places c.self.inside.listed c.self.invariant c.args.self.now.objects (ap (λ (h : Holding). h.objects) c.self.view_is) s (none s h))
+    (λ slot found. (
+      found.0,
+      omega (arith, found.1, long c.self.inside.store c.self.inside.occupancy.places c.self.inside.listed c.self.invariant c.args.self.now.objects (ap (λ (h : Holding). h.objects) c.self.view_is)),
+      λ s a b. no_more c.self.inside.store c.self.inside.occupancy.places c.self.inside.listed c.self.invariant c.args.self.now.objects (ap (λ (h : Holding). h.objects) c.self.view_is) s (found.2 s a b),
+    ))
+    c.next_cleanable.ensures
