@@ -55,9 +55,9 @@ impl Model for Heap {
 
     // How many cells are condemned does not matter to what has to fit together.
     ghost invariant = { λ h. FitsTogether (swept
-      (record { objects = h.cells.objects; mutators = h.roots; names = h.names; pending = list_at h.lists.lists 0; line = list_at h.lists.lists 1 })
-      (record { last_gets = h.last_gets.items; collections = h.collections; since = h.since_collection })
-      h.marks) h.lists.slots (length h.lists.lists) };
+        (record { objects = h.cells.objects; mutators = h.roots; names = h.names; pending = list_at h.lists.lists 0; line = list_at h.lists.lists 1 })
+        (record { last_gets = h.last_gets.items; collections = h.collections; since = h.since_collection })
+        h.marks) h.lists.slots (length h.lists.lists) };
 }
 
 impl Heap {

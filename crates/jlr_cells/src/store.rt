@@ -18,9 +18,9 @@ use crate::kinds::Kinds;
 use crate::links::{Visited, target_of};
 use crate::shape::{Kind, Shape};
 use jlr_links::Links as Lists;
-use jlr_sets::cell_set::CellSet;
 use jlr_machine::object::{CleanState, Cleanable, Guard, Object, RefState, Reference};
 use jlr_machine::table::Table;
+use jlr_sets::cell_set::CellSet;
 use jlr_types::{FieldValue, Meter, Slot};
 use std::alloc::{AllocError, Global};
 use std::marker::Model;
@@ -324,11 +324,7 @@ impl Store {
     ///
     /// # Errors
     /// `AllocError` where there is no memory for them.
-    pub fn image(
-        &self,
-        alloc: Global,
-        occupied: &CellSet,
-    ) -> Result<Table<Object>, AllocError>
+    pub fn image(&self, alloc: Global, occupied: &CellSet) -> Result<Table<Object>, AllocError>
         requires { length occupied.now ≡ length self.now }
         ensures { IfOk result (λ objects. objects ≡ shown occupied.now self.now) }
     {

@@ -5,8 +5,8 @@ ghost use Rattle.jlr_machine.specs.Objects.{◌∈◌};
 ghost use Rattle.jlr_sets.specs.SlotSets.{slots_of};
 ghost use Rattle.jlr_marks.specs.Marking.{is_marked, marked, upcoming};
 
-use jlr_sets::cell_set::CellSet;
 use jlr_machine::choice::Choice;
+use jlr_sets::cell_set::CellSet;
 use jlr_types::Slot;
 use std::alloc::{AllocError, Global};
 use std::marker::Model;

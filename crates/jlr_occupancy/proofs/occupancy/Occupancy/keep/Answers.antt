@@ -8,8 +8,12 @@ pub overflow_sub-self-2 : goal.overflow_sub-self-2
 overflow_sub-self-2 c =
     let s = c.self.inside in
     let kept = c.args.kept.now in
-    omega (arith, c.count.ensures, c.cell_count.ensures,
-    kept_count s.used _ s.free c.self.invariant kept (c.requires.places ∙ ap (λ (o : Occupied). length o.places) (sym c.self.view_is)) (λ k h. ap (λ (o : Occupied). is_in o.places k) c.self.view_is ∙ c.requires.objects k h))
+    omega (
+      arith,
+      c.count.ensures,
+      c.cell_count.ensures,
+      kept_count s.used _ s.free c.self.invariant kept (c.requires.places ∙ ap (λ (o : Occupied). length o.places) (sym c.self.view_is)) (λ k h. ap (λ (o : Occupied). is_in o.places k) c.self.view_is ∙ c.requires.objects k h),
+    )
 
 pub invariant_of-self : goal.invariant_of-self
 invariant_of-self c =
@@ -24,6 +28,13 @@ pub returns-clause-condemned : goal.returns-clause-condemned
 returns-clause-condemned c =
     let s = c.self.inside in
     let kept = c.args.kept.now in
-    omega (arith, c.count.ensures, c.cell_count.ensures, c.self.invariant.counted, c.self.invariant.left,
-    kept_count s.used _ s.free c.self.invariant kept (c.requires.places ∙ ap (λ (o : Occupied). length o.places) (sym c.self.view_is)) (λ k h. ap (λ (o : Occupied). is_in o.places k) c.self.view_is ∙ c.requires.objects k h),
-    ap taken c.self.view_is, ap (λ (o : Occupied). o.condemned) c.self.view_is)
+    omega (
+      arith,
+      c.count.ensures,
+      c.cell_count.ensures,
+      c.self.invariant.counted,
+      c.self.invariant.left,
+      kept_count s.used _ s.free c.self.invariant kept (c.requires.places ∙ ap (λ (o : Occupied). length o.places) (sym c.self.view_is)) (λ k h. ap (λ (o : Occupied). is_in o.places k) c.self.view_is ∙ c.requires.objects k h),
+      ap taken c.self.view_is,
+      ap (λ (o : Occupied). o.condemned) c.self.view_is,
+    )
