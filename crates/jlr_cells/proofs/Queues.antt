@@ -2,7 +2,7 @@
 use Rattle.std.proofs.Common.{◌≡◌, ◌⊎◌, inl, inr, ℕ, zero, suc, ◌<◌, Bool, true, false, List, [], ◌∷◌, Option, Some, None, length, set, get_or, replicate, refl, sym, ap, ◌∙◌, arith, subst, length-set, get_or-set_same, get_or-set_other}
 use Rattle.std.specs.Prelude.{is_some, option_map, slice_get, slice_index_or}
 use Rattle.std.proofs.lemmas.Bool.{cases_eq}
-use Rattle.std.proofs.lemmas.List.{length-map, map-set, set-set, length-replicate}
+use Rattle.std.proofs.lemmas.List.{length-map, map-set, length-replicate}
 use Rattle.jlr_machine.specs.declared.object.Object.{Object}
 use Rattle.jlr_machine.specs.declared.object.Object.TheVariants.{Plain, Reference, Queue, Cleaner, Cleanable, Guard}
 use Rattle.jlr_machine.specs.declared.object.Reference.{Reference as ReferenceOf}
@@ -10,13 +10,12 @@ use Rattle.jlr_machine.specs.declared.object.Cleanable.{Cleanable as CleanableOf
 use Rattle.jlr_types.specs.declared.FieldValue.{FieldValue}
 use Rattle.jlr_types.specs.declared.FieldValue.TheVariants as field
 use Rattle.jlr_machine.specs.Edges.{slot_in}
-use Rattle.jlr_machine.specs.Objects.{◌∈◌, Heap, at, change_at, empty_at, occupied, set_at, some_and, with_cleanable, with_field, with_members, with_reference}
+use Rattle.jlr_machine.specs.Objects.{◌∈◌, Heap, at, change_at, occupied, set_at, some_and, with_cleanable, with_field, with_members, with_reference}
 use Rattle.jlr_machine.specs.Refusals.{is_plain, is_queue}
 use Rattle.jlr_laws.proofs.ObjectsKept.{count_pointwise}
 use Rattle.jlr_laws.proofs.Sets.{nothing}
 use Rattle.jlr_links.specs.Lists.{list_at}
 use Rattle.jlr_cells.specs.declared.cell.Cell.{Cell}
-use Rattle.jlr_cells.specs.declared.cell.Cell.TheVariants.{Free}
 use Rattle.jlr_cells.specs.declared.shape.Kind.{Kind}
 use Rattle.jlr_cells.specs.declared.shape.Kind.TheVariants as kind
 use Rattle.jlr_cells.specs.declared.shape.Shape.{Shape}

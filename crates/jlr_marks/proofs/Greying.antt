@@ -1,5 +1,5 @@
 -- Grey cells, one more and one less.
-use Rattle.std.proofs.Common.{◌≡◌, ◌<◌, ◌∷◌, ◌++◌, ℕ, inl, inr, ◌+◌, ◌-◌, ◌≤◌, Bool, true, false, List, [], Option, Some, None, length, get_or, set, refl, sym, ◌∙◌, ap, subst, arith}
+use Rattle.std.proofs.Common.{◌≡◌, ◌<◌, ◌∷◌, ◌++◌, ℕ, inl, inr, ◌-◌, Bool, true, false, List, [], Option, Some, None, length, get_or, set, refl, sym, ◌∙◌, ap, subst, arith}
 use Rattle.std.specs.Prelude.{IfSome, IsPermutation, MatchOption, nat_eq, option_to_list, slice_get}
 use Rattle.std.proofs.lemmas.List.{append-nil}
 use Rattle.std.proofs.lemmas.Option.{slice_get-get_or, slice_get_past}

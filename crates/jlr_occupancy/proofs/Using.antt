@@ -4,8 +4,8 @@ use Rattle.std.proofs.lemmas.Bool.{cases_Bool, cases_eq, both_ways}
 use Rattle.std.proofs.lemmas.List.{length-replicate}
 use Rattle.jlr_sets.specs.SlotSets.{is_in, slots_of}
 use Rattle.jlr_sets.proofs.Counts.{count_none, count_within, in_none, not_all, one_less, one_more}
-use Rattle.jlr_sets.proofs.Below.{count_le, within_places}
-use Rattle.jlr_occupancy.specs.Occupying.{AreUsed, Occupied, taken}
+use Rattle.jlr_sets.proofs.Below.{within_places}
+use Rattle.jlr_occupancy.specs.Occupying.{AreUsed, Occupied}
 
 pub none_used : (n : ℕ) (used occupied : List Bool) → n < 2 ^ 32 → used ≡ replicate n false → occupied ≡ replicate n false → AreUsed used (record { places = occupied; condemned = 0 }) n
 none_used n used occupied few e e' =

@@ -1,7 +1,6 @@
 use Rattle.std.proofs.Common.{arith}
 use Rattle.jlr_sets.proofs.Absent.{is_clear, none_absent, within_absent}
 use Rattle.jlr_sets.proofs.Counts.{all_counted}
-use Rattle.jlr_sets.specs.SlotSets.{IsFirstFrom}
 use Rattle.jlr_occupancy.proofs.search.free_cell.Goals as goal
 
 pub unreachable-requires : goal.unreachable-requires

@@ -1,7 +1,7 @@
-use Rattle.std.proofs.Common.{◌≡◌, ◌<◌, ◌∙◌, ap, sym, subst, length, arith, get_or, set}
+use Rattle.std.proofs.Common.{◌<◌, ◌∙◌, ap, sym, length, arith, set}
 use Rattle.jlr_sets.specs.SlotSets.{is_in}
 use Rattle.jlr_cells.specs.Links.{four_nulls, no_links, rows}
-use Rattle.jlr_cells.proofs.Rows.{cleared_both, cleared_near, long, null_far, null_near}
+use Rattle.jlr_cells.proofs.Rows.{cleared_both, cleared_near, long}
 use Rattle.jlr_cells.proofs.columns.Columns.clear.Goals as goal
 
 pub index_mut-requires : goal.index_mut-requires

@@ -1,6 +1,6 @@
-use Rattle.std.proofs.Common.{◌≡◌, ◌<◌, ◌-◌, [], ◌∙◌, ap, sym, subst, length, arith, get_or, set}
+use Rattle.std.proofs.Common.{◌≡◌, ◌<◌, ◌-◌, [], ◌∙◌, ap, length, arith, get_or, set}
 use Rattle.std.proofs.lemmas.List.{get_or_read}
-use Rattle.jlr_cells.proofs.Rows.{far_are, far_set, long, near_are, near_set}
+use Rattle.jlr_cells.proofs.Rows.{far_set, long, near_set}
 use Rattle.jlr_cells.proofs.columns.Columns.set.Goals as goal
 
 pub index_mut-links-requires : goal.index_mut-links-requires

@@ -1,4 +1,4 @@
-use Rattle.std.proofs.Common.{◌≡◌, ◌∙◌, ap, refl, sym}
+use Rattle.std.proofs.Common.{◌∙◌, ap, refl, sym}
 use Rattle.std.specs.Prelude.{is_some, option_map}
 use Rattle.jlr_machine.specs.Objects.{at}
 use Rattle.jlr_cells.specs.Contents.{kind_of}

@@ -1,7 +1,6 @@
-use Rattle.std.proofs.Common.{◌≡◌, ◌<◌, ◌∙◌, [], ap, set, sym, subst, length, arith}
+use Rattle.std.proofs.Common.{◌≡◌, ◌∙◌, ap, set, sym, subst, arith}
 use Rattle.jlr_machine.specs.Objects.{Heap, set_at}
-use Rattle.jlr_links.specs.Lists.{list_at}
-use Rattle.jlr_cells.specs.Contents.{members_in, object_of}
+use Rattle.jlr_cells.specs.Contents.{object_of}
 use Rattle.jlr_cells.specs.Keeping.{AreKept, AreOfQueues}
 use Rattle.jlr_cells.specs.Links.{no_links}
 use Rattle.jlr_cells.proofs.ByKind.{kept_put}

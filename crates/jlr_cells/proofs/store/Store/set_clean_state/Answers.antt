@@ -1,11 +1,10 @@
 use Rattle.std.proofs.Common.{◌<◌, arith, length, refl}
-use Rattle.std.specs.Prelude.{is_some}
 use Rattle.jlr_machine.specs.Objects.{some_and, with_cleanable}
 use Rattle.jlr_machine.specs.Refusals.{is_cleanable}
 use Rattle.jlr_cells.specs.Contents.{in_clean_state}
 use Rattle.jlr_cells.proofs.Slots.{object_of_cleanable}
 use Rattle.jlr_cells.proofs.ByKind.{kept_cleanable}
-use Rattle.jlr_cells.proofs.Queues.{cleanable_leaves, changed_at, holds_at, holds_in, within}
+use Rattle.jlr_cells.proofs.Queues.{cleanable_leaves, changed_at, holds_in, within}
 use Rattle.jlr_cells.proofs.store.Store.set_clean_state.Goals as goal
 
 pub index_mut-cell-requires : goal.index_mut-cell-requires

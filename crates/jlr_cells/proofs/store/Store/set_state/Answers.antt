@@ -1,11 +1,10 @@
 use Rattle.std.proofs.Common.{◌<◌, arith, length, refl}
-use Rattle.std.specs.Prelude.{is_some}
 use Rattle.jlr_machine.specs.Objects.{some_and, with_reference}
 use Rattle.jlr_machine.specs.Refusals.{is_reference}
 use Rattle.jlr_cells.specs.Contents.{in_state}
 use Rattle.jlr_cells.proofs.Slots.{object_of_reference}
 use Rattle.jlr_cells.proofs.ByKind.{kept_reference}
-use Rattle.jlr_cells.proofs.Queues.{reference_leaves, changed_at, holds_at, holds_in, within}
+use Rattle.jlr_cells.proofs.Queues.{reference_leaves, changed_at, holds_in, within}
 use Rattle.jlr_cells.proofs.store.Store.set_state.Goals as goal
 
 pub index_mut-cell-requires : goal.index_mut-cell-requires

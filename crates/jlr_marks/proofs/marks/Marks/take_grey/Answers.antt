@@ -1,6 +1,5 @@
-use Rattle.std.proofs.Common.{◌≡◌, ◌∷◌, ◌≤◌, ◌+◌, length, subst, sym, ap, arith, rules}
+use Rattle.std.proofs.Common.{◌≡◌, ◌∷◌, subst, rules}
 use Rattle.std.specs.Prelude.{IfSome, IsPermutation}
-use Rattle.jlr_machine.specs.Objects.{◌∈◌}
 use Rattle.jlr_marks.specs.Marking.{Marking, upcoming}
 use Rattle.jlr_marks.proofs.Greying.{last_is, popped, popped_once, still_grey}
 use Rattle.jlr_marks.proofs.marks.Marks.take_grey.Goals as goal

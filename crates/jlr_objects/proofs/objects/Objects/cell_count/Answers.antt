@@ -1,4 +1,4 @@
-use Rattle.std.proofs.Common.{ap, length, arith}
+use Rattle.std.proofs.Common.{ap, arith}
 use Rattle.jlr_objects.specs.Holding.{Holding}
 use Rattle.jlr_objects.proofs.Shown.{long}
 use Rattle.jlr_objects.proofs.objects.Objects.cell_count.Goals as goal

@@ -1,7 +1,7 @@
 use Rattle.std.proofs.Common.{◌∙◌, None, ap, sym, arith}
 use Rattle.std.specs.Prelude.{is_some}
 use Rattle.std.proofs.lemmas.List.{get_or_past}
-use Rattle.jlr_machine.specs.Objects.{Heap, at}
+use Rattle.jlr_machine.specs.Objects.{at}
 use Rattle.jlr_cells.proofs.Showing.{is_shown}
 use Rattle.jlr_objects.specs.Holding.{Holding}
 use Rattle.jlr_objects.proofs.Shown.{long}

@@ -1,9 +1,7 @@
-use Rattle.std.proofs.Common.{◌≡◌, ◌∙◌, ap, sym, subst, length, arith}
+use Rattle.std.proofs.Common.{◌∙◌, ap, sym, subst, arith}
 use Rattle.jlr_machine.specs.Objects.{occupied}
-use Rattle.jlr_sets.specs.SlotSets.{slots_of}
 use Rattle.jlr_cells.specs.Showing.{shown}
 use Rattle.jlr_cells.proofs.Showing.{occupied-shown, shown_twice}
-use Rattle.jlr_occupancy.specs.Occupying.{Occupied}
 use Rattle.jlr_objects.specs.Holding.{AreShown, Holding}
 use Rattle.jlr_objects.proofs.Shown.{counted, in_set, kept_are, long}
 use Rattle.jlr_objects.proofs.objects.Objects.keep_only.Goals as goal

@@ -1,7 +1,4 @@
-use Rattle.std.proofs.Common.{◌≡◌, ℕ, Bool, Option, false, ap, arith}
-use Rattle.jlr_machine.specs.declared.object.Object.{Object}
-use Rattle.jlr_machine.specs.Objects.{at, some_and}
-use Rattle.jlr_machine.specs.Refusals.{is_cleanable}
+use Rattle.std.proofs.Common.{ap, arith}
 use Rattle.jlr_cells.proofs.ByKind.{found_alike}
 use Rattle.jlr_objects.specs.Holding.{Holding}
 use Rattle.jlr_objects.proofs.Shown.{long, no_more}

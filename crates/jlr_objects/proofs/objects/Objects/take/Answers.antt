@@ -1,4 +1,4 @@
-use Rattle.std.proofs.Common.{◌≡◌, ◌+◌, ◌<◌, ◌∙◌, ℕ, Some, true, cond, ap, sym, subst, refl, length, set, arith, eqb}
+use Rattle.std.proofs.Common.{◌+◌, ◌∙◌, ℕ, Some, true, cond, ap, sym, subst, refl, length, set, arith, eqb}
 use Rattle.std.specs.Prelude.{is_some}
 use Rattle.jlr_machine.specs.Objects.{Heap, occupied, set_at}
 use Rattle.jlr_cells.specs.Contents.{object_of}

@@ -1,4 +1,4 @@
-use Rattle.std.proofs.Common.{◌≡◌, ◌-◌, ◌∙◌, ap, sym, subst, length, arith}
+use Rattle.std.proofs.Common.{◌-◌, ◌∙◌, ap, sym, subst, length, arith}
 use Rattle.jlr_sets.specs.SlotSets.{is_in, slots_of}
 use Rattle.jlr_occupancy.specs.Occupying.{AreUsed, Occupied, taken}
 use Rattle.jlr_occupancy.proofs.Using.{kept_count, kept_used}
