@@ -6,7 +6,7 @@
 A session reads its lines from a file and its replies are thrown away. In a queue that keeps its length a reference is made, enqueued, and
 the front polled, again and again: shown is the time of such a turn of five commands, which is that of a session with the turns less that of
 one without. For handing over it is the time of a `gc` that clears so many references, each of which is handed over after it, for each of
-them: that of a session which ends with it less that of one without. Each time is the least of the rounds; at few members it is mostly noise.
+them: that of a session which ends with it less that of one without. Each time is the least of the rounds; at few members it is noise.
 """
 import argparse
 import os
