@@ -338,6 +338,13 @@ impl Ask {
             Ask::Begin => matches!(other, Ask::Begin),
             Ask::Collect => matches!(other, Ask::Collect),
             Ask::Abandon => matches!(other, Ask::Abandon),
+            Ask::Array { mutator, length } => match other {
+                Ask::Array {
+                    mutator: other_mutator,
+                    length: other_length,
+                } => *mutator == *other_mutator && *length == *other_length,
+                _ => false,
+            },
         }
     }
 }
