@@ -1,5 +1,5 @@
 -- The strong and soft edges that an ask adds lead to roots.
-use Rattle.std.proofs.Common.{◌≡◌, ℕ, zero, suc, ◌+◌, ◌==◌, ◌<◌, length-set, true, false, cond, List, [], ◌∷◌, ◌++◌, ◌⊎◌, inl, inr, length, refl, sym, ◌∙◌, ap, subst, Option, Some, None, option_and_then, option_map, option_to_list, drop, map, slice_get, slice_set, filter_map}
+use Rattle.std.proofs.Common.{◌≡◌, ℕ, zero, suc, ◌+◌, ◌==◌, ◌<◌, length-set, true, false, cond, List, [], ◌∷◌, ◌++◌, ◌⊎◌, inl, inr, length, refl, sym, ◌∙◌, ap, subst, Option, Some, None, option_and_then, option_map, option_to_list, drop, map, replicate, slice_get, slice_set, filter_map}
 use Rattle.std.specs.List.{flat_map, cons_option}
 use Rattle.jlr_types.specs.declared.FieldValue.{FieldValue}
 use Rattle.jlr_types.specs.declared.FieldKind.{FieldKind}
@@ -8,6 +8,7 @@ use Rattle.jlr_types.specs.declared.FieldValue.TheVariants.{Int as IntValue, Ref
 use Rattle.jlr_types.specs.declared.RefKind.{RefKind}
 use Rattle.jlr_types.specs.declared.RefKind.TheVariants.{Soft, Weak, Phantom}
 use Rattle.jlr_types.specs.declared.Work.TheVariants.{Resource as WorkOn}
+use Rattle.jlr_machine.specs.declared.object.Contents.TheVariants.{Typed, Elements}
 use Rattle.jlr_machine.specs.declared.object.Object.{Object}
 use Rattle.jlr_machine.specs.declared.object.Object.TheVariants.{Plain, Reference, Queue, Cleaner, Cleanable, Guard}
 use Rattle.jlr_machine.specs.declared.object.Cleanable.{Cleanable as CleanableOf}
@@ -25,15 +26,17 @@ use Rattle.jlr_machine.specs.declared.ask.Outcome.TheVariants.{Ok as OutcomeOk, 
 use Rattle.jlr_machine.specs.declared.ask.Handed.{Handed}
 use Rattle.jlr_machine.specs.declared.ask.Handed.TheVariants.{Queued as HandedQueued, Lined as HandedLined, Skipped, Nothing}
 use Rattle.jlr_machine.specs.declared.ask.Ask.{Ask}
-use Rattle.jlr_machine.specs.declared.ask.Ask.TheVariants.{Join, Leave, New, Put, Get, SetInt, Int, Dup, Drop, Same, MakeRef, Deref, Refers, Clear, Enqueue, Enqueued, MakeQueue, Poll, Remove, MakeCleaner, Register, Clean, Prepare, Opened, CheckOut, CheckIn, Close, Finish, Bind, Find, Unbind, Names, Full, Stat, Notes, Faults, HandOver, TakeUp, Begin, Collect, Abandon}
+use Rattle.jlr_machine.specs.declared.ask.Ask.TheVariants.{Join, Leave, New, Put, Get, SetInt, Int, Dup, Drop, Same, MakeRef, Deref, Refers, Clear, Enqueue, Enqueued, MakeQueue, Poll, Remove, MakeCleaner, Register, Clean, Prepare, Opened, CheckOut, CheckIn, Close, Finish, Bind, Find, Unbind, Names, Full, Stat, Notes, Faults, HandOver, TakeUp, Begin, Collect, Abandon, Array}
 use Rattle.jlr_machine.specs.declared.ask.Answer.{Answer}
 use Rattle.jlr_machine.specs.declared.ask.Answer.TheVariants.{Prepared}
-use Rattle.jlr_machine.specs.Objects.{Heap, at, set_at, ◌∈◌, as_reference, with_field, with_reference, with_members, with_cleanable, queue_ahead, is_spent}
-use Rattle.jlr_machine.specs.Edges.{edges_from, edges, strong_edges, referent_edges, slot_in, roots, is_own_root}
+use Rattle.jlr_machine.specs.Objects.{Heap, at, set_at, ◌∈◌, as_reference, with_field, with_value, with_reference, with_members, with_cleanable, queue_ahead, is_spent}
+use Rattle.jlr_machine.specs.Edges.{edges_from, edges, strong_edges, referent_edges, slot_in, slots_in, roots, is_own_root}
 use Rattle.jlr_machine.specs.Edges.Chain.{UpToSoft}
 use Rattle.jlr_machine.specs.Lookups.{slot_named, guard_named, with_object, with_new, with_handle, with_call, on, blank, bound, job_of, with_job, without_job, with_state, rid_of, cleanable_at, cleanable_of_guard}
 use Rattle.jlr_machine.specs.Refusals.{given}
 use Rattle.jlr_machine.specs.Calls.{after, from_lined, with_given, made, to_queue, enqueued, unreferred, polled, poll_given, with_work_state, without_work_resource, taken_up, spent, cleaned, line_taken, delivered, handed, handed_over, registered, prepared, prepared_in, guard_fenced, fence_of, opened, checked_out, checked_in, finished, free_again}
+use Rattle.jlr_laws.proofs.Fits.{in_set}
+use Rattle.jlr_laws.proofs.KeepsHeap.{no_null}
 use Rattle.jlr_laws.proofs.Sets.{nothing, in_front, in_rest, in_cons}
 use Rattle.jlr_laws.proofs.Clearing.{in_append, in_left, in_right, in_option}
 use Rattle.jlr_laws.proofs.Frames.{no_some, some_same, set_cases, set_same, root_from}
@@ -50,14 +53,6 @@ one_in None y rest (inl e) = no_some y e
 one_in None y rest (inr h) = h
 one_in (Some x) y rest (inl e) = in_front y x rest (sym (some_same x y e))
 one_in (Some x) y rest (inr h) = in_rest y x rest h
-
-set_adds : (fields : List FieldValue) (f : ℕ) (v : FieldValue) (y : ℕ) → y ∈ filter_map slot_in (slice_set fields f v) → (y ∈ filter_map slot_in fields) ⊎ (slot_in v ≡ Some y)
-set_adds [] f v y h = nothing y h
-set_adds (x ∷ xs) zero v y h = elim (in_one (slot_in v) y (filter_map slot_in xs) h) [ inl e ↦ inr e | inr r ↦ inl (one_in (slot_in x) y (filter_map slot_in xs) (inr r)) ]
-set_adds (x ∷ xs) (suc f) v y h = elim (in_one (slot_in x) y (filter_map slot_in (slice_set xs f v)) h) [
-  | inl e ↦ inl (one_in (slot_in x) y (filter_map slot_in xs) (inl e))
-  | inr r ↦ elim (set_adds xs f v y r) [ inl o ↦ inl (one_in (slot_in x) y (filter_map slot_in xs) (inr o)) | inr e ↦ inr e ]
-]
 
 blank_none : (layout : List FieldKind) (y : ℕ) → y ∈ filter_map slot_in (map blank layout) → ⊥
 blank_none [] y h = nothing y h
@@ -128,7 +123,7 @@ module _ (R : ℕ → Type 0) where
   strong_only xs y h = elim (in_append y xs [] h) [ inl i ↦ i | inr n ↦ nothing y n ]
 
   field_few : (f : ℕ) (v : FieldValue) → ((y : ℕ) → slot_in v ≡ Some y → R y) → FewEdges (with_field f v)
-  field_few f v r (Plain fields) y h = elim (set_adds fields f v y (strong_only (filter_map slot_in (slice_set fields f v)) y h)) [ inl o ↦ inl (in_left y (filter_map slot_in fields) [] o) | inr e ↦ inr (r y e) ]
+  field_few f v r (Plain fields) y h = elim (in_set fields f v y (strong_only (slots_in (with_value f v fields)) y h)) [ inl o ↦ inl (in_left y (slots_in fields) [] o) | inr e ↦ inr (r y e) ]
   field_few f v r (Reference x) y h = inl h
   field_few f v r (Queue members) y h = inl h
   field_few f v r Cleaner y h = inl h
@@ -298,7 +293,7 @@ module _ (R : ℕ → Type 0) where
     pub adds : (ask : Ask) (a : Answer) (fresh : List ℕ) → Second m ask a fresh → Adds m (after m ask a fresh)
     adds (Join k) a fresh r = none m
     adds (Leave k) a fresh r = none m
-    adds (New k layout) a fresh r = made_adds m k fresh (Plain (map blank layout)) (λ y h. absurd (blank_none layout y (strong_only (filter_map slot_in (map blank layout)) y h)))
+    adds (New k layout) a fresh r = made_adds m k fresh (Plain (Typed (map blank layout))) (λ y h. absurd (blank_none layout y (strong_only (filter_map slot_in (map blank layout)) y h)))
     adds (Put k h f v) a fresh r = on_adds m (slot_named m k h) (λ s. with_object m s (with_field f (RefValue (slot_named m k v)))) (λ s e. object_adds m s (with_field f (RefValue (slot_named m k v))) (field_few f (RefValue (slot_named m k v)) (named k v)))
     adds (Get k h f) a fresh r = given_adds m k (given m (Get k h f))
     adds (SetInt k h f number) a fresh r = on_adds m (slot_named m k h) (λ s. with_object m s (with_field f (IntValue number))) (λ s e. object_adds m s (with_field f (IntValue number)) (field_few f (IntValue number) (λ y i. no_some y i)))
@@ -338,6 +333,7 @@ module _ (R : ℕ → Type 0) where
     adds Begin a fresh r = none m
     adds Collect a fresh r = none m
     adds Abandon a fresh r = none m
+    adds (Array k n) a fresh r = made_adds m k fresh (Plain (Elements (replicate n None))) (λ y h. no_null n y (strong_only (slots_in (Elements (replicate n None))) y h))
 
 -- ---- An ask of m
 

@@ -1,7 +1,8 @@
 -- What was seen plays no part in what asks are refused with and answer, nor in what they leave.
-use Rattle.std.proofs.Common.{◌≡◌, ℕ, ◌+◌, ◌==◌, Bool, true, false, cond, List, [], ◌∷◌, ◌++◌, ◌⊎◌, inl, inr, refl, ◌∙◌, ap, Option, Some, None, option_and_then, map, slice_get}
+use Rattle.std.proofs.Common.{replicate, ◌≡◌, ℕ, ◌+◌, ◌==◌, Bool, true, false, cond, List, [], ◌∷◌, ◌++◌, ◌⊎◌, inl, inr, refl, ◌∙◌, ap, Option, Some, None, option_and_then, map, slice_get}
 use Rattle.jlr_types.specs.declared.FieldValue.TheVariants.{Int as IntValue, Ref as RefValue}
 use Rattle.jlr_machine.specs.declared.object.Object.{Object}
+use Rattle.jlr_machine.specs.declared.object.Contents.TheVariants.{Typed, Elements}
 use Rattle.jlr_machine.specs.declared.object.Object.TheVariants.{Plain, Reference, Queue, Cleaner}
 use Rattle.jlr_machine.specs.declared.object.Cleanable.{Cleanable as CleanableOf}
 use Rattle.jlr_machine.specs.declared.object.Guard.{Guard as GuardOf}
@@ -17,7 +18,7 @@ use Rattle.jlr_machine.specs.declared.ask.Outcome.{Outcome}
 use Rattle.jlr_machine.specs.declared.ask.Outcome.TheVariants.{Ok as OutcomeOk, Failed}
 use Rattle.jlr_machine.specs.declared.ask.Handed.{Handed}
 use Rattle.jlr_machine.specs.declared.ask.Handed.TheVariants.{Queued as HandedQueued, Lined as HandedLined, Skipped, Nothing}
-use Rattle.jlr_machine.specs.declared.ask.Ask.TheVariants.{Join, Leave, New, Put, Get, SetInt, Int, Dup, Drop, Same, MakeRef, Deref, Refers, Clear, Enqueue, Enqueued, MakeQueue, Poll, Remove, MakeCleaner, Register, Clean, Prepare, Opened, CheckOut, CheckIn, Close, Finish, Bind, Find, Unbind, Names, Full, Stat, Notes, Faults, HandOver, TakeUp, Begin, Collect, Abandon}
+use Rattle.jlr_machine.specs.declared.ask.Ask.TheVariants.{Join, Leave, New, Put, Get, SetInt, Int, Dup, Drop, Same, MakeRef, Deref, Refers, Clear, Enqueue, Enqueued, MakeQueue, Poll, Remove, MakeCleaner, Register, Clean, Prepare, Opened, CheckOut, CheckIn, Close, Finish, Bind, Find, Unbind, Names, Full, Stat, Notes, Faults, HandOver, TakeUp, Begin, Collect, Abandon, Array}
 use Rattle.jlr_machine.specs.declared.ask.Answer.TheVariants.{Prepared}
 use Rattle.jlr_machine.specs.Objects.{at, some_and, as_reference, with_field, with_reference, with_cleanable, queue_ahead, is_lined, is_spent}
 use Rattle.jlr_machine.specs.Lookups.{slot_named, guard_named, with_object, with_new, with_handle, with_call, on, blank, bound, job_of, with_job, without_job, with_state, rid_of, cleanable_at, cleanable_of_guard, last_256}
@@ -35,6 +36,7 @@ pub same_refusal : (m : Machine) (slots : List ℕ) (ask : Ask) → refusal (wit
 same_refusal m slots (Join k) = refl
 same_refusal m slots (Leave k) = refl
 same_refusal m slots (New k layout) = refl
+same_refusal m slots (Array k size) = refl
 same_refusal m slots (Put k h f v) = refl
 same_refusal m slots (Get k h f) = refl
 same_refusal m slots (SetInt k h f number) = refl
@@ -96,6 +98,7 @@ pub same_reply : (m : Machine) (slots : List ℕ) (ask : Ask) → reply (with_se
 same_reply m slots (Join k) = refl
 same_reply m slots (Leave k) = refl
 same_reply m slots (New k layout) = refl
+same_reply m slots (Array k size) = refl
 same_reply m slots (Put k h f v) = refl
 same_reply m slots (Get k h f) = same_given_answer m slots k (given m (Get k h f))
 same_reply m slots (SetInt k h f number) = refl
@@ -239,7 +242,8 @@ LeavesCycle m b slots ask a fresh = (after (with_cycle m b slots) ask a fresh �
 pub leaves_cycle : (m : Machine) (b : Bool) (slots : List ℕ) (ask : Ask) (a : Answer) (fresh : List ℕ) → LeavesCycle m b slots ask a fresh
 leaves_cycle m b slots (Join k) a fresh = inl refl
 leaves_cycle m b slots (Leave k) a fresh = inl refl
-leaves_cycle m b slots (New k layout) a fresh = inl (made_moves b slots m k fresh (Plain (map blank layout)))
+leaves_cycle m b slots (New k layout) a fresh = inl (made_moves b slots m k fresh (Plain (Typed (map blank layout))))
+leaves_cycle m b slots (Array k size) a fresh = inl (made_moves b slots m k fresh (Plain (Elements (replicate size None))))
 leaves_cycle m b slots (Put k h f v) a fresh = inl (on_moves b slots m (slot_named m k h) (λ m s. with_object m s (with_field f (RefValue (slot_named m k v)))) (λ s. refl))
 leaves_cycle m b slots (Get k h f) a fresh = inl (given_moves b slots m k (given m (Get k h f)))
 leaves_cycle m b slots (SetInt k h f number) a fresh = inl (on_moves b slots m (slot_named m k h) (λ m s. with_object m s (with_field f (IntValue number))) (λ s. refl))

@@ -1,8 +1,9 @@
 -- No ask changes how many cells there are.
-use Rattle.std.proofs.Common.{◌≡◌, ℕ, ◌+◌, ◌==◌, true, false, cond, List, [], ◌∷◌, ◌++◌, length, refl, ◌∙◌, Option, Some, None, option_and_then, drop, map, slice_get}
+use Rattle.std.proofs.Common.{replicate, ◌≡◌, ℕ, ◌+◌, ◌==◌, true, false, cond, List, [], ◌∷◌, ◌++◌, length, refl, ◌∙◌, Option, Some, None, option_and_then, drop, map, slice_get}
 use Rattle.std.proofs.lemmas.List.{length-set}
 use Rattle.jlr_types.specs.declared.FieldValue.TheVariants.{Int as IntValue, Ref as RefValue}
 use Rattle.jlr_machine.specs.declared.object.Object.{Object}
+use Rattle.jlr_machine.specs.declared.object.Contents.TheVariants.{Typed, Elements}
 use Rattle.jlr_machine.specs.declared.object.Object.TheVariants.{Plain, Reference, Queue, Cleaner, Cleanable, Guard}
 use Rattle.jlr_machine.specs.declared.object.Cleanable.{Cleanable as CleanableOf}
 use Rattle.jlr_machine.specs.declared.object.CleanState.TheVariants.{Armed, Lined}
@@ -19,7 +20,7 @@ use Rattle.jlr_machine.specs.declared.ask.Outcome.TheVariants.{Ok as OutcomeOk, 
 use Rattle.jlr_machine.specs.declared.ask.Handed.{Handed}
 use Rattle.jlr_machine.specs.declared.ask.Handed.TheVariants.{Queued as HandedQueued, Lined as HandedLined, Skipped, Nothing}
 use Rattle.jlr_machine.specs.declared.ask.Ask.{Ask}
-use Rattle.jlr_machine.specs.declared.ask.Ask.TheVariants.{Join, Leave, New, Put, Get, SetInt, Int, Dup, Drop, Same, MakeRef, Deref, Refers, Clear, Enqueue, Enqueued, MakeQueue, Poll, Remove, MakeCleaner, Register, Clean, Prepare, Opened, CheckOut, CheckIn, Close, Finish, Bind, Find, Unbind, Names, Full, Stat, Notes, Faults, HandOver, TakeUp, Begin, Collect, Abandon}
+use Rattle.jlr_machine.specs.declared.ask.Ask.TheVariants.{Join, Leave, New, Put, Get, SetInt, Int, Dup, Drop, Same, MakeRef, Deref, Refers, Clear, Enqueue, Enqueued, MakeQueue, Poll, Remove, MakeCleaner, Register, Clean, Prepare, Opened, CheckOut, CheckIn, Close, Finish, Bind, Find, Unbind, Names, Full, Stat, Notes, Faults, HandOver, TakeUp, Begin, Collect, Abandon, Array}
 use Rattle.jlr_machine.specs.declared.ask.Answer.{Answer}
 use Rattle.jlr_machine.specs.declared.ask.Answer.TheVariants.{Prepared}
 use Rattle.jlr_machine.specs.Objects.{at, as_reference, with_field, with_reference, with_members, with_cleanable, queue_ahead, is_spent}
@@ -130,7 +131,8 @@ free_again_cells m by = elim (by == 255) as (λ d. SameCells m (cond d m (with_c
 pub same_cells : (m : Machine) (ask : Ask) (a : Answer) (fresh : List ℕ) → SameCells m (after m ask a fresh)
 same_cells m (Join k) a fresh = refl
 same_cells m (Leave k) a fresh = refl
-same_cells m (New k layout) a fresh = made_cells m k fresh (Plain (map blank layout))
+same_cells m (New k layout) a fresh = made_cells m k fresh (Plain (Typed (map blank layout)))
+same_cells m (Array k size) a fresh = made_cells m k fresh (Plain (Elements (replicate size None)))
 same_cells m (Put k h f v) a fresh = on_cells m (slot_named m k h) (λ s. with_object m s (with_field f (RefValue (slot_named m k v)))) (λ s. object_cells m s (with_field f (RefValue (slot_named m k v))))
 same_cells m (Get k h f) a fresh = given_cells m k (given m (Get k h f))
 same_cells m (SetInt k h f number) a fresh = on_cells m (slot_named m k h) (λ s. with_object m s (with_field f (IntValue number))) (λ s. object_cells m s (with_field f (IntValue number)))

@@ -3,7 +3,7 @@ use Rattle.std.proofs.Common.{ℕ, List, ◌∙◌, Option, Some, None}
 use Rattle.jlr_machine.specs.declared.machine.Machine.{Machine}
 use Rattle.jlr_machine.specs.declared.ask.Ask.{Ask}
 use Rattle.jlr_machine.specs.declared.ask.Answer.{Answer}
-use Rattle.jlr_machine.specs.declared.ask.Ask.TheVariants.{Join, Leave, New, Put, Get, SetInt, Int, Dup, Drop, Same, MakeRef, Deref, Refers, Clear, Enqueue, Enqueued, MakeQueue, Poll, Remove, MakeCleaner, Register, Clean, Prepare, Opened, CheckOut, CheckIn, Close, Finish, Bind, Find, Unbind, Names, Full, Stat, Notes, Faults, HandOver, TakeUp, Begin, Collect, Abandon}
+use Rattle.jlr_machine.specs.declared.ask.Ask.TheVariants.{Join, Leave, New, Put, Get, SetInt, Int, Dup, Drop, Same, MakeRef, Deref, Refers, Clear, Enqueue, Enqueued, MakeQueue, Poll, Remove, MakeCleaner, Register, Clean, Prepare, Opened, CheckOut, CheckIn, Close, Finish, Bind, Find, Unbind, Names, Full, Stat, Notes, Faults, HandOver, TakeUp, Begin, Collect, Abandon, Array}
 use Rattle.jlr_machine.specs.declared.ask.FullMode.TheVariants.{Policy, ClearAll}
 use Rattle.jlr_machine.specs.declared.entry.Collected.{Collected}
 use Rattle.jlr_machine.specs.declared.entry.Entry.{Entry}
@@ -21,6 +21,7 @@ pub answers_still : (m : Machine) (slots : List ℕ) (ask : Ask) (c : Option Col
 answers_still m slots (Join k) c answer p = same_reply m slots (Join k) ∙ p
 answers_still m slots (Leave k) c answer p = same_reply m slots (Leave k) ∙ p
 answers_still m slots (New k layout) c answer p = same_reply m slots (New k layout) ∙ p
+answers_still m slots (Array k size) c answer p = same_reply m slots (Array k size) ∙ p
 answers_still m slots (Put k h f v) c answer p = same_reply m slots (Put k h f v) ∙ p
 answers_still m slots (Get k h f) c answer p = same_reply m slots (Get k h f) ∙ p
 answers_still m slots (SetInt k h f number) c answer p = same_reply m slots (SetInt k h f number) ∙ p
@@ -84,7 +85,9 @@ module _ (m : Machine) (slots : List ℕ) (more : (s : ℕ) → s ∈ m.seen →
   may_still (Leave k) (Some x) p = (p.0, clearing_still x.kept x.pending p.1)
   may_still (Leave k) None p = p
   may_still (New k layout) (Some x) p = (p.0, clearing_still x.kept x.pending p.1)
+  may_still (Array k size) (Some x) p = (p.0, clearing_still x.kept x.pending p.1)
   may_still (New k layout) None p = p
+  may_still (Array k size) None p = p
   may_still (Put k h f v) (Some x) p = (p.0, clearing_still x.kept x.pending p.1)
   may_still (Put k h f v) None p = p
   may_still (Get k h f) (Some x) p = (p.0, clearing_still x.kept x.pending p.1)

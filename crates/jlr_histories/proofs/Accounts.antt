@@ -1,8 +1,9 @@
 -- What a machine keeps of jobs, and which asks leave it.
-use Rattle.std.proofs.Common.{◌≡◌, ℕ, ◌+◌, Bool, true, false, List, [], ◌∷◌, ◌++◌, map, refl, ◌∙◌, Option, Some, None, option_and_then, slice_get}
+use Rattle.std.proofs.Common.{replicate, ◌≡◌, ℕ, ◌+◌, Bool, true, false, List, [], ◌∷◌, ◌++◌, map, refl, ◌∙◌, Option, Some, None, option_and_then, slice_get}
 use Rattle.std.proofs.lemmas.Bool.{both_ways}
 use Rattle.jlr_types.specs.declared.FieldValue.TheVariants.{Int as IntValue, Ref as RefValue}
 use Rattle.jlr_machine.specs.declared.object.Object.{Object}
+use Rattle.jlr_machine.specs.declared.object.Contents.TheVariants.{Typed, Elements}
 use Rattle.jlr_machine.specs.declared.object.Object.TheVariants.{Plain, Reference, Queue, Cleaner}
 use Rattle.jlr_machine.specs.declared.object.RefState.TheVariants.{Fresh}
 use Rattle.jlr_machine.specs.declared.machine.Machine.{Machine}
@@ -15,7 +16,7 @@ use Rattle.jlr_machine.specs.declared.ask.Outcome.TheVariants.{Ok as OutcomeOk, 
 use Rattle.jlr_machine.specs.declared.ask.Handed.{Handed}
 use Rattle.jlr_machine.specs.declared.ask.Handed.TheVariants.{Queued as HandedQueued, Lined as HandedLined, Skipped, Nothing}
 use Rattle.jlr_machine.specs.declared.ask.Ask.{Ask}
-use Rattle.jlr_machine.specs.declared.ask.Ask.TheVariants.{New, Put, Get, SetInt, Dup, MakeRef, Deref, Clear, Enqueue, MakeQueue, Poll, Remove, MakeCleaner, Register, Clean, Prepare, Opened, CheckOut, CheckIn, Close, Finish, Bind, Find, HandOver, TakeUp}
+use Rattle.jlr_machine.specs.declared.ask.Ask.TheVariants.{New, Put, Get, SetInt, Dup, MakeRef, Deref, Clear, Enqueue, MakeQueue, Poll, Remove, MakeCleaner, Register, Clean, Prepare, Opened, CheckOut, CheckIn, Close, Finish, Bind, Find, HandOver, TakeUp, Array}
 use Rattle.jlr_machine.specs.declared.ask.Answer.{Answer}
 use Rattle.jlr_machine.specs.declared.ask.Answer.TheVariants.{Prepared, Refused}
 use Rattle.jlr_machine.specs.declared.entry.Collected.{Collected}
@@ -107,7 +108,8 @@ works TakeUp = true
 works _ = false
 
 pub kept : (m : Machine) (ask : Ask) (a : Answer) (fresh : List ℕ) → works ask ≡ false → account (after m ask a fresh) ≡ account m
-kept m (New k layout) a fresh t = made_kept m k fresh (Plain (map blank layout))
+kept m (New k layout) a fresh t = made_kept m k fresh (Plain (Typed (map blank layout)))
+kept m (Array k size) a fresh t = made_kept m k fresh (Plain (Elements (replicate size None)))
 kept m (Put k h f v) a fresh t = kept_on m (slot_named m k h) (λ s. with_object m s (with_field f (RefValue (slot_named m k v)))) (λ s. refl)
 kept m (Get k h f) a fresh t = given_kept m k (given m (Get k h f))
 kept m (SetInt k h f v) a fresh t = kept_on m (slot_named m k h) (λ s. with_object m s (with_field f (IntValue v))) (λ s. refl)

@@ -1,5 +1,5 @@
 -- What one entry may make of an object: of the same kind, and if it is a reference or a cleanable, further on its way.
-use Rattle.std.proofs.Common.{◌≡◌, ℕ, Bool, true, false, cond, List, refl, ◌⊎◌, inl, inr, Option, Some, None, is_some}
+use Rattle.std.proofs.Common.{length-set, length, ◌≡◌, ℕ, Bool, true, false, cond, List, refl, sym, ◌⊎◌, inl, inr, Option, Some, None, is_some}
 use Rattle.std.proofs.lemmas.Bool.{both_ways, and_parts}
 use Rattle.jlr_types.specs.declared.FieldValue.{FieldValue}
 use Rattle.jlr_machine.specs.declared.object.Object.{Object}
@@ -10,9 +10,13 @@ use Rattle.jlr_machine.specs.declared.object.RefState.{RefState}
 use Rattle.jlr_machine.specs.declared.object.RefState.TheVariants.{Fresh, Pending, Queued, Removed}
 use Rattle.jlr_machine.specs.declared.object.CleanState.{CleanState}
 use Rattle.jlr_machine.specs.declared.object.CleanState.TheVariants.{Armed, Pending as PendingClean, Lined, Spent}
-use Rattle.jlr_machine.specs.Objects.{◌∋◌, with_field, with_reference, with_members, with_cleanable, is_fresh, is_armed}
+use Rattle.jlr_machine.specs.Objects.{with_value, ◌∋◌, with_field, with_reference, with_members, with_cleanable, is_fresh, is_armed}
 use Rattle.jlr_machine.specs.Collection.{is_ready, is_kept_referent, left_of}
+use Rattle.jlr_types.specs.declared.FieldValue.TheVariants.{Int, Ref}
+use Rattle.jlr_machine.specs.declared.object.Contents.{Contents}
+use Rattle.jlr_machine.specs.declared.object.Contents.TheVariants.{Typed, Elements}
 use Rattle.jlr_machine.specs.Calls.{spent}
+use Rattle.jlr_histories.specs.Sizes.{IsSameSize}
 use Rattle.jlr_histories.specs.Lives.{StaysOrGoes, may_follow, may_come_after, IsReferenceOn, IsCleanableOn}
 
 -- the referent of a reference goes only where P holds
@@ -20,10 +24,19 @@ pub record IsKept (P : Type 0) (r t : ReferenceOf) : Type 0 where
   pub on : IsReferenceOn r t
   pub referent : (t.referent ≡ r.referent) ⊎ P
 
+pub same_size : (x : Contents) → IsSameSize x x
+same_size (Typed x) = refl
+same_size (Elements x) = refl
+
+size_with_value : (f : ℕ) (v : FieldValue) (x : Contents) → IsSameSize x (with_value f v x)
+size_with_value f v (Typed x) = sym (length-set x f v)
+size_with_value f (Ref s) (Elements x) = sym (length-set x f s)
+size_with_value f (Int n) (Elements x) = refl
+
 abbrev pub Becomes : Type 0 → Object → Object → Type 0
 Becomes P (Reference r) (Reference t) = IsKept P r t
 Becomes P (Cleanable c) (Cleanable d) = IsCleanableOn c d
-Becomes P (Plain x) (Plain y) = Unit {0}
+Becomes P (Plain x) (Plain y) = IsSameSize x y
 Becomes P (Queue x) (Queue y) = Unit {0}
 Becomes P (Guard x) (Guard y) = Unit {0}
 Becomes P Cleaner Cleaner = Unit {0}
@@ -34,6 +47,15 @@ abbrev pub Follows : Type 0 → Option Object → Option Object → Type 0
 Follows P o None = Unit {0}
 Follows P None (Some p) = ⊥
 Follows P (Some o) (Some p) = Becomes P o p
+
+-- what a plain object becomes is plain, and as large
+pub plain_forth : (P : Type 0) (x : Contents) (o : Object) → Becomes P (Plain x) o → (y : Contents) × (o ≡ Plain y) × IsSameSize x y
+plain_forth P x (Plain y) h = (y, refl, h)
+plain_forth P x (Reference r) h = absurd h
+plain_forth P x (Queue members) h = absurd h
+plain_forth P x Cleaner h = absurd h
+plain_forth P x (Cleanable c) h = absurd h
+plain_forth P x (Guard g) h = absurd h
 
 -- ---- The same object
 
@@ -56,7 +78,7 @@ pub same_cleanable : (c : CleanableOf) → IsCleanableOn c c
 same_cleanable c = record { action = refl; work = refl; referent = inl refl; state = clean_state_stays c.state }
 
 pub same_object : (P : Type 0) (o : Object) → Becomes P o o
-same_object P (Plain x) = tt
+same_object P (Plain x) = same_size x
 same_object P (Reference r) = same_reference P r
 same_object P (Queue x) = tt
 same_object P Cleaner = tt
@@ -70,7 +92,7 @@ same_place P (Some o) = same_object P o
 -- ---- A changed object
 
 pub with_field_on : (P : Type 0) (f : ℕ) (v : FieldValue) (o : Object) → Becomes P o (with_field f v o)
-with_field_on P f v (Plain x) = tt
+with_field_on P f v (Plain x) = size_with_value f v x
 with_field_on P f v (Reference r) = same_reference P r
 with_field_on P f v (Queue x) = tt
 with_field_on P f v Cleaner = tt
@@ -78,7 +100,7 @@ with_field_on P f v (Cleanable c) = same_cleanable c
 with_field_on P f v (Guard g) = tt
 
 pub with_reference_on : (P : Type 0) (f : ReferenceOf → ReferenceOf) (o : Object) → ((r : ReferenceOf) → o ≡ Reference r → IsKept P r (f r)) → Becomes P o (with_reference f o)
-with_reference_on P f (Plain x) h = tt
+with_reference_on P f (Plain x) h = same_size x
 with_reference_on P f (Reference r) h = h r refl
 with_reference_on P f (Queue x) h = tt
 with_reference_on P f Cleaner h = tt
@@ -86,7 +108,7 @@ with_reference_on P f (Cleanable c) h = same_cleanable c
 with_reference_on P f (Guard g) h = tt
 
 pub with_cleanable_on : (P : Type 0) (f : CleanableOf → CleanableOf) (o : Object) → ((c : CleanableOf) → o ≡ Cleanable c → IsCleanableOn c (f c)) → Becomes P o (with_cleanable f o)
-with_cleanable_on P f (Plain x) h = tt
+with_cleanable_on P f (Plain x) h = same_size x
 with_cleanable_on P f (Reference r) h = same_reference P r
 with_cleanable_on P f (Queue x) h = tt
 with_cleanable_on P f Cleaner h = tt
@@ -138,7 +160,7 @@ pended_clean_state true Lined h = absurd (both_ways false refl (h refl))
 pended_clean_state true Spent h = absurd (both_ways false refl (h refl))
 
 pub left_on : (P : Type 0) → P → (kept : List ℕ) (b : Bool) (o : Object) → (b ≡ true → is_ready o ≡ true) → Becomes P o (left_of kept b o)
-left_on P p kept b (Plain x) h = tt
+left_on P p kept b (Plain x) h = same_size x
 left_on P p kept b (Reference r) h =
     record {
       on = record { kind = refl; referent = referent_left kept r.referent; queue = inl refl; state = pended_state b r.state (λ e. (and_parts (is_fresh r.state) (is_some r.queue) (h e)).0) };

@@ -2,7 +2,7 @@
 use Rattle.std.proofs.Common.{◌≡◌, ℕ, ◌≤◌, true, false, not, List, [], ◌∷◌, refl, sym, ◌∙◌, ap, subst, inl, inr, arith, Option, Some, IsTrue}
 use Rattle.std.proofs.lemmas.Bool.{both_ways, not-true}
 use Rattle.jlr_machine.specs.declared.object.Object.{Object}
-use Rattle.jlr_machine.specs.declared.object.Object.TheVariants.{Reference, Cleanable}
+use Rattle.jlr_machine.specs.declared.object.Object.TheVariants.{Plain, Reference, Cleanable}
 use Rattle.jlr_machine.specs.declared.object.Reference.{Reference as ReferenceOf}
 use Rattle.jlr_machine.specs.declared.object.Cleanable.{Cleanable as CleanableOf}
 use Rattle.jlr_machine.specs.declared.object.RefState.{RefState}
@@ -17,8 +17,9 @@ use Rattle.jlr_machine.specs.WellFormed.{IsWellFormed, IsObjectAt, IsReferenceAt
 use Rattle.jlr_laws.proofs.Allowed.{some_there}
 use Rattle.jlr_laws.proofs.Law.{legal_kept}
 use Rattle.jlr_histories.specs.Lives.{LivesOn, StaysOrGoes, stage, may_follow, clean_stage, may_come_after, IsReferenceLater, IsCleanableOn, IsCleanableLater}
+use Rattle.jlr_histories.specs.Sizes.{PlainKeepsItsSize}
 use Rattle.jlr_histories.specs.Laws.{ReferenceGoesForward, CleanableGoesForward, ReferenceLifeGoesForward, CleanableLifeGoesForward, EnqueuedIsCleared, NewIsFresh, NewIsArmed, OnlyTheyClear}
-use Rattle.jlr_histories.proofs.Becomes.{IsKept, Becomes, Follows, reference_forth, cleanable_forth}
+use Rattle.jlr_histories.proofs.Becomes.{IsKept, Becomes, Follows, plain_forth, reference_forth, cleanable_forth}
 use Rattle.jlr_histories.proofs.Changes.{IsNewAt}
 use Rattle.jlr_histories.proofs.Steps.{Clears, legal_step}
 
@@ -47,6 +48,12 @@ module _ (m : Machine) (e : Entry) (w : IsWellFormed m) (l : IsLegal m e) (s : �
       let p = some_there (at (apply m e).objects s) h in
       let d = cleanable_forth (Clears m e.ask e.choice s) c p.0 (becomes (Cleanable c) p.0 f a p.1) in
       (d.0, p.1 ∙ ap (λ x. Some x) d.1, d.2)
+
+pub plain_keeps_its_size : PlainKeepsItsSize
+plain_keeps_its_size m e s x w l h a =
+    let p = some_there (at (apply m e).objects s) h.2 in
+    let t = plain_forth (Clears m e.ask e.choice s) x p.0 (becomes m e w l s (Plain x) p.0 h.1 a p.1) in
+    (t.0, p.1 ∙ ap (λ o. Some o) t.1, t.2)
 
 pub reference_goes_forward : ReferenceGoesForward
 reference_goes_forward m e s r w l h a = let t = reference_on m e w l s r h.1 h.2 a in (t.0, t.1, t.2.on)

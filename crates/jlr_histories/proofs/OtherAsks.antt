@@ -1,16 +1,17 @@
 -- What the asks that have nothing to do with a resource answer and leave.
-use Rattle.std.proofs.Common.{◌≡◌, ℕ, Bool, true, false, List, [], ◌∷◌, map, refl, sym, ◌∙◌, ap, Option, Some, None, option_map, option_and_then, slice_get}
+use Rattle.std.proofs.Common.{replicate, ◌≡◌, ℕ, Bool, true, false, List, [], ◌∷◌, map, refl, sym, ◌∙◌, ap, Option, Some, None, option_map, option_and_then, slice_get}
 use Rattle.std.proofs.lemmas.Bool.{both_ways}
 use Rattle.jlr_types.specs.declared.FieldValue.{FieldValue}
 use Rattle.jlr_types.specs.declared.FieldValue.TheVariants.{Int as IntValue, Ref as RefValue}
 use Rattle.jlr_machine.specs.declared.object.Object.{Object}
+use Rattle.jlr_machine.specs.declared.object.Contents.TheVariants.{Typed, Elements}
 use Rattle.jlr_machine.specs.declared.object.Object.TheVariants.{Plain, Reference, Queue, Cleaner}
 use Rattle.jlr_machine.specs.declared.object.RefState.TheVariants.{Fresh}
 use Rattle.jlr_machine.specs.declared.machine.Machine.{Machine}
 use Rattle.jlr_machine.specs.declared.ask.Handed.{Handed}
 use Rattle.jlr_machine.specs.declared.ask.Handed.TheVariants.{Queued as HandedQueued, Lined as HandedLined, Skipped, Nothing}
 use Rattle.jlr_machine.specs.declared.ask.Ask.{Ask}
-use Rattle.jlr_machine.specs.declared.ask.Ask.TheVariants.{Join, Leave, New, Put, Get, SetInt, Int, Dup, Drop, Same, MakeRef, Deref, Refers, Clear, Enqueue, Enqueued, MakeQueue, Poll, Remove, MakeCleaner, Register, Clean, Prepare, Opened, CheckOut, CheckIn, Close, Finish, Bind, Find, Unbind, Names, Full, Stat, Notes, Faults, HandOver, TakeUp, Begin, Collect, Abandon}
+use Rattle.jlr_machine.specs.declared.ask.Ask.TheVariants.{Join, Leave, New, Put, Get, SetInt, Int, Dup, Drop, Same, MakeRef, Deref, Refers, Clear, Enqueue, Enqueued, MakeQueue, Poll, Remove, MakeCleaner, Register, Clean, Prepare, Opened, CheckOut, CheckIn, Close, Finish, Bind, Find, Unbind, Names, Full, Stat, Notes, Faults, HandOver, TakeUp, Begin, Collect, Abandon, Array}
 use Rattle.jlr_machine.specs.declared.ask.Answer.{Answer}
 use Rattle.jlr_machine.specs.declared.ask.Answer.TheVariants.{Handle, Job, Prepared, Out as OutAnswer, Refused}
 use Rattle.jlr_machine.specs.declared.entry.Collected.{Collected}
@@ -120,7 +121,8 @@ handed_over_same m (s ∷ rest) =
 pub other_still : (m : Machine) (ask : Ask) (o : Option Collected) (a : Answer) (fresh : List ℕ) → touches ask ≡ false → Answers m ask o a → IsStill m (after m ask a fresh) a
 other_still m (Join k) o a fresh t h = record { nothing = plain hands_out _ refl a h; same = refl }
 other_still m (Leave k) o a fresh t h = record { nothing = plain hands_out _ refl a h; same = refl }
-other_still m (New k layout) o a fresh t h = record { nothing = handle m k a h; same = made_same m k fresh (Plain (map blank layout)) }
+other_still m (New k layout) o a fresh t h = record { nothing = handle m k a h; same = made_same m k fresh (Plain (Typed (map blank layout))) }
+other_still m (Array k size) o a fresh t h = record { nothing = handle m k a h; same = made_same m k fresh (Plain (Elements (replicate size None))) }
 other_still m (Put k d f v) o a fresh t h = record { nothing = plain hands_out _ refl a h; same = on_same m (slot_named m k d) (λ s. with_object m s (with_field f (RefValue (slot_named m k v)))) (λ s. refl) }
 other_still m (Get k d f) o a fresh t h = record { nothing = object_given m k (given m (Get k d f)) a h; same = given_same m k (given m (Get k d f)) }
 other_still m (SetInt k d f v) o a fresh t h = record { nothing = plain hands_out _ refl a h; same = on_same m (slot_named m k d) (λ s. with_object m s (with_field f (IntValue v))) (λ s. refl) }

@@ -16,7 +16,7 @@ use Rattle.jlr_machine.specs.WellFormed.{IsReferenceAt, IsQueueAt, IsWellFormed}
 use Rattle.jlr_laws.proofs.Sets.{in_front}
 use Rattle.jlr_laws.proofs.Frames.{no_some, some_same, set_other, is_queue_there}
 use Rattle.jlr_histories.specs.Lives.{may_follow}
-use Rattle.jlr_histories.proofs.Becomes.{IsKept, Becomes, same_reference, same_cleanable, with_field_on, with_reference_on}
+use Rattle.jlr_histories.proofs.Becomes.{IsKept, Becomes, same_size, same_reference, same_cleanable, with_field_on, with_reference_on}
 use Rattle.jlr_histories.proofs.Changes.{IsOver, IsQuiet, quiet, quiet_on, quiet_over, over_quiet, over_on, changed_is, changed_over, changed, members_over, changed_twice}
 
 -- ---- Fields and handles
@@ -52,7 +52,7 @@ ahead_unqueued : (r : ReferenceOf) (q : ℕ) → queue_ahead r ≡ Some q → is
 ahead_unqueued r q e = elim (cases_Bool (is_unqueued r.state)) [ inl h ↦ h | inr h ↦ no_some q (sym (cond-false (is_unqueued r.state) r.queue None h) ∙ e) ]
 
 enqueued_on : (P : Type 0) (q : ℕ) (o : Object) → option_and_then queue_ahead (as_reference o) ≡ Some q → ((r : ReferenceOf) → o ≡ Reference r → (r.referent ≡ None) ⊎ P) → Becomes P o (with_reference queued (with_reference unreferred o))
-enqueued_on P q (Plain x) e h = tt
+enqueued_on P q (Plain x) e h = same_size x
 enqueued_on P q (Reference r) e h =
     record {
       on = record { kind = refl; referent = inr refl; queue = inr refl; state = queued_state r.state (ahead_unqueued r q e) };

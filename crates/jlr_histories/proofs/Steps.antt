@@ -1,10 +1,11 @@
 -- What a legal entry leaves at each slot.
-use Rattle.std.proofs.Common.{◌≡◌, ℕ, Bool, true, false, cond, List, [], ◌∷◌, map, ◌++◌, ◌==◌, length, refl, sym, ◌∙◌, ap, subst, ◌⊎◌, inl, inr, arith, Option, Some, None, option_map, is_some, IsTrue}
+use Rattle.std.proofs.Common.{replicate, ◌≡◌, ℕ, Bool, true, false, cond, List, [], ◌∷◌, map, ◌++◌, ◌==◌, length, refl, sym, ◌∙◌, ap, subst, ◌⊎◌, inl, inr, arith, Option, Some, None, option_map, is_some, IsTrue}
 use Rattle.std.proofs.lemmas.Bool.{both_ways, cond_both}
 use Rattle.jlr_machine.specs.declared.object.Object.{Object}
 use Rattle.jlr_types.specs.declared.FieldValue.TheVariants.{Int as IntValue, Ref as RefValue}
 use Rattle.jlr_types.specs.declared.Refusal.{Refusal}
 use Rattle.jlr_types.specs.declared.Refusal.TheVariants.{NoMemory}
+use Rattle.jlr_machine.specs.declared.object.Contents.TheVariants.{Typed, Elements}
 use Rattle.jlr_machine.specs.declared.object.Object.TheVariants.{Plain, Reference, Queue, Cleaner}
 use Rattle.jlr_machine.specs.declared.object.Guard.{Guard as GuardOf}
 use Rattle.jlr_machine.specs.declared.object.RefState.TheVariants.{Fresh}
@@ -17,7 +18,7 @@ use Rattle.jlr_machine.specs.declared.ask.Outcome.TheVariants.{Ok as OutcomeOk, 
 use Rattle.jlr_machine.specs.declared.ask.FullMode.{FullMode}
 use Rattle.jlr_machine.specs.declared.ask.FullMode.TheVariants.{Policy, ClearAll}
 use Rattle.jlr_machine.specs.declared.ask.Ask.{Ask}
-use Rattle.jlr_machine.specs.declared.ask.Ask.TheVariants.{Join, Leave, New, Put, Get, SetInt, Int, Dup, Drop, Same, MakeRef, Deref, Refers, Clear, Enqueue, Enqueued, MakeQueue, Poll, Remove, MakeCleaner, Register, Clean, Prepare, Opened, CheckOut, CheckIn, Close, Finish, Bind, Find, Unbind, Names, Full, Stat, Notes, Faults, HandOver, TakeUp, Begin, Collect, Abandon}
+use Rattle.jlr_machine.specs.declared.ask.Ask.TheVariants.{Join, Leave, New, Put, Get, SetInt, Int, Dup, Drop, Same, MakeRef, Deref, Refers, Clear, Enqueue, Enqueued, MakeQueue, Poll, Remove, MakeCleaner, Register, Clean, Prepare, Opened, CheckOut, CheckIn, Close, Finish, Bind, Find, Unbind, Names, Full, Stat, Notes, Faults, HandOver, TakeUp, Begin, Collect, Abandon, Array}
 use Rattle.jlr_machine.specs.declared.ask.Answer.{Answer}
 use Rattle.jlr_machine.specs.declared.ask.Answer.TheVariants.{Refused}
 use Rattle.jlr_machine.specs.declared.entry.Entry.{Entry}
@@ -176,7 +177,9 @@ step_done : (m : Machine) → IsWellFormed m → (seat : ℕ) (ask : Ask) (answe
 step_done m w seat (Join k) answer choice c = quietly m seat (Join k) answer choice c (λ x h. no_need m h.0) refl (λ a fresh. record { objects = refl; next = refl; taken = refl })
 step_done m w seat (Leave k) answer choice c = quietly m seat (Leave k) answer choice c (λ x h. no_need m h.0) refl (λ a fresh. record { objects = refl; next = refl; taken = refl })
 step_done m w seat (New k layout) answer choice c =
-    making m seat (New k layout) answer choice c (λ x h. h.1.full) (λ n o a one. made_by n (New k layout) answer choice.fresh a (made_making n k choice.fresh (Plain (map blank layout)) one tt))
+    making m seat (New k layout) answer choice c (λ x h. h.1.full) (λ n o a one. made_by n (New k layout) answer choice.fresh a (made_making n k choice.fresh (Plain (Typed (map blank layout))) one tt))
+step_done m w seat (Array k size) answer choice c =
+    making m seat (Array k size) answer choice c (λ x h. h.1.full) (λ n o a one. made_by n (Array k size) answer choice.fresh a (made_making n k choice.fresh (Plain (Elements (replicate size None))) one tt))
 step_done m w seat (Put k h f v) answer choice c =
     plainly m seat (Put k h f v) answer choice c (λ x h. no_need m h.0) refl (λ a fresh. field_over (Clears m (Put k h f v) choice) m k h f (RefValue (slot_named m k v)))
 step_done m w seat (Get k h f) answer choice c = quietly m seat (Get k h f) answer choice c (λ x h. no_need m h.0) refl (λ a fresh. given_quiet m k (given m (Get k h f)))

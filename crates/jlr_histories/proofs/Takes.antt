@@ -1,11 +1,12 @@
 -- Which entries take an action up, and what they then leave.
-use Rattle.std.proofs.Common.{◌≡◌, ℕ, ◌+◌, true, false, cond, List, [], ◌∷◌, map, refl, sym, ◌∙◌, ap, subst, Option, Some, None, option_map, option_and_then, slice_get}
+use Rattle.std.proofs.Common.{replicate, ◌≡◌, ℕ, ◌+◌, true, false, cond, List, [], ◌∷◌, map, refl, sym, ◌∙◌, ap, subst, Option, Some, None, option_map, option_and_then, slice_get}
 use Rattle.std.proofs.lemmas.Bool.{both_ways, cond-false}
 use Rattle.jlr_types.specs.declared.FieldValue.{FieldValue}
 use Rattle.jlr_types.specs.declared.FieldValue.TheVariants.{Int as IntValue, Ref as RefValue}
 use Rattle.jlr_types.specs.declared.Refusal.{Refusal}
 use Rattle.jlr_types.specs.declared.Refusal.TheVariants.{NoMemory, HeapFull}
 use Rattle.jlr_machine.specs.declared.object.Object.{Object}
+use Rattle.jlr_machine.specs.declared.object.Contents.TheVariants.{Typed, Elements}
 use Rattle.jlr_machine.specs.declared.object.Object.TheVariants.{Plain, Reference, Queue, Cleaner, Cleanable}
 use Rattle.jlr_machine.specs.declared.object.Cleanable.{Cleanable as CleanableOf}
 use Rattle.jlr_machine.specs.declared.object.RefState.TheVariants.{Fresh}
@@ -20,7 +21,7 @@ use Rattle.jlr_machine.specs.declared.ask.CallOutcome.TheVariants.{Data as GotDa
 use Rattle.jlr_machine.specs.declared.ask.Handed.{Handed}
 use Rattle.jlr_machine.specs.declared.ask.Handed.TheVariants.{Queued as HandedQueued, Lined as HandedLined, Skipped, Nothing}
 use Rattle.jlr_machine.specs.declared.ask.Ask.{Ask}
-use Rattle.jlr_machine.specs.declared.ask.Ask.TheVariants.{Join, Leave, New, Put, Get, SetInt, Int, Dup, Drop, Same, MakeRef, Deref, Refers, Clear, Enqueue, Enqueued, MakeQueue, Poll, Remove, MakeCleaner, Register, Clean, Prepare, Opened, CheckOut, CheckIn, Close, Finish, Bind, Find, Unbind, Names, Full, Stat, Notes, Faults, HandOver, TakeUp, Begin, Collect, Abandon}
+use Rattle.jlr_machine.specs.declared.ask.Ask.TheVariants.{Join, Leave, New, Put, Get, SetInt, Int, Dup, Drop, Same, MakeRef, Deref, Refers, Clear, Enqueue, Enqueued, MakeQueue, Poll, Remove, MakeCleaner, Register, Clean, Prepare, Opened, CheckOut, CheckIn, Close, Finish, Bind, Find, Unbind, Names, Full, Stat, Notes, Faults, HandOver, TakeUp, Begin, Collect, Abandon, Array}
 use Rattle.jlr_machine.specs.declared.ask.Answer.{Answer}
 use Rattle.jlr_machine.specs.declared.ask.Answer.TheVariants.{Handle, Job, AlreadyDone, Refused}
 use Rattle.jlr_machine.specs.declared.entry.Entry.{Entry}
@@ -230,7 +231,8 @@ takes m seat ask answer choice c never h =
 taking_done : (m : Machine) (seat : ℕ) (ask : Ask) (answer : Answer) (choice : Chosen) → IsCarriedOut m (entry seat ask answer choice) → TakingOf m seat ask answer choice
 taking_done m seat (Join k) answer choice c = none_taken m seat (Join k) answer choice c (λ n o a. record { no_job = plain _ refl answer a; same = refl })
 taking_done m seat (Leave k) answer choice c = none_taken m seat (Leave k) answer choice c (λ n o a. record { no_job = plain _ refl answer a; same = refl })
-taking_done m seat (New k layout) answer choice c = none_taken m seat (New k layout) answer choice c (λ n o a. record { no_job = handle n k answer a; same = made_taken n k choice.fresh (Plain (map blank layout)) })
+taking_done m seat (New k layout) answer choice c = none_taken m seat (New k layout) answer choice c (λ n o a. record { no_job = handle n k answer a; same = made_taken n k choice.fresh (Plain (Typed (map blank layout))) })
+taking_done m seat (Array k size) answer choice c = none_taken m seat (Array k size) answer choice c (λ n o a. record { no_job = handle n k answer a; same = made_taken n k choice.fresh (Plain (Elements (replicate size None))) })
 taking_done m seat (Put k h f v) answer choice c = none_taken m seat (Put k h f v) answer choice c (λ n o a. record { no_job = plain _ refl answer a; same = taken_on n (slot_named n k h) (λ s. with_object n s (with_field f (RefValue (slot_named n k v)))) (λ s. refl) })
 taking_done m seat (Get k h f) answer choice c = none_taken m seat (Get k h f) answer choice c (λ n o a. record { no_job = object_given n k (given n (Get k h f)) answer a; same = (given_quiet n k (given n (Get k h f))).taken })
 taking_done m seat (SetInt k h f v) answer choice c = none_taken m seat (SetInt k h f v) answer choice c (λ n o a. record { no_job = plain _ refl answer a; same = taken_on n (slot_named n k h) (λ s. with_object n s (with_field f (IntValue v))) (λ s. refl) })

@@ -1,4 +1,5 @@
 pub mod Lives
+pub mod Sizes
 pub mod ResourceLives
 pub mod Laws
 pub mod Promises

@@ -1,6 +1,7 @@
 //! Laws of whole runs. Each function's contract is the law, and its body is empty.
 
 ghost use Rattle.jlr_histories.specs.Laws.{ReferenceGoesForward, CleanableGoesForward, ReferenceLifeGoesForward, CleanableLifeGoesForward, EnqueuedAtMostOnce, EnqueuedOnItsWay, EnqueuedIsCleared, NewIsFresh, NewIsArmed, OnlyTheyClear, TakenUpAtMostOnce, TakeUpsAreCounted, TakeUpBeginsItsJob, JobRunsUntilItsOutcome, JobRunsOnUntilItsOutcome, FinishRecordsTheOutcome, TakersFinishIsRecorded, OnlyOutcomesAreRecorded, OutcomesAreRecorded, WaitingResourcesAreIdle, ReferencesGoForwardInHistories, CleanablesGoForwardInHistories, EnqueuedAtMostOnceInHistories, TakenUpAtMostOnceInRuns, TakeUpsEndOrRun, TakeUpHasOneOutcomeOrRunsInRuns, ResourcesInCallsAreFenced, OneResourceAnAction, PhaseIsItsState, ResourceKeepsItsRid, CallsFindTheirResourcesIdle, JobsFindTheirResourcesIdle, ResourceGoesOn, OverIsOver, ResourceLivesInOrder, ResourceLivesInOrderInRuns};
+ghost use Rattle.jlr_histories.specs.Sizes.{PlainKeepsItsSize};
 ghost use Rattle.jlr_histories.specs.Promises.{RunsKeepThePromises};
 
 /// One entry makes of a reference what it may: its kind stays, its referent and its queue stay or go, and its state stays or becomes the
@@ -12,6 +13,11 @@ pub fn a_reference_only_goes_forward()
 /// And of a cleanable: its action and its work stay.
 pub fn a_cleanable_only_goes_forward()
     ensures { CleanableGoesForward }
+{}
+
+/// No entry changes how many fields or elements an object has, nor makes the ones of the others.
+pub fn a_plain_object_keeps_its_size()
+    ensures { PlainKeepsItsSize }
 {}
 
 /// So a reference never comes back to an earlier state, nor to a referent or a queue, however long it lives.

@@ -3,6 +3,7 @@ use Rattle.std.proofs.Common.{◌≡◌, ◌≢◌, ℕ, suc, Bool, true, false,
 use Rattle.std.proofs.lemmas.Bool.{both_ways, cases_Bool, cond-true, cond-false, and_parts, and_from, not-true, not_from_false}
 use Rattle.jlr_types.specs.declared.Work.TheVariants.{Resource as WorkOn}
 use Rattle.jlr_types.specs.declared.FieldValue.{FieldValue}
+use Rattle.jlr_machine.specs.declared.object.Contents.{Contents}
 use Rattle.jlr_machine.specs.declared.object.Object.{Object}
 use Rattle.jlr_machine.specs.declared.object.Object.TheVariants.{Plain, Reference, Queue, Cleaner, Cleanable, Guard}
 use Rattle.jlr_machine.specs.declared.object.Reference.{Reference as ReferenceOf}
@@ -91,7 +92,7 @@ module _ (kept : List ℕ) (b : Bool) where
   guard_before (Cleanable x) r e = absurd (cc e)
   guard_before (Guard g) r e = sym e
 
-  plain_before : (o : Object) (r : List FieldValue) → Plain r ≡ left_of kept b o → o ≡ Plain r
+  plain_before : (o : Object) (r : Contents) → Plain r ≡ left_of kept b o → o ≡ Plain r
   plain_before (Plain fields) r e = sym e
   plain_before (Reference x) r e = absurd (cc e)
   plain_before (Queue members) r e = absurd (cc e)
@@ -297,7 +298,7 @@ module _ (m : Machine) (B kept pending : List ℕ) (w : IsWellFormed m) (l : IsL
   guard_back : (s : ℕ) (g : GuardOf) → IsGuardAt n s g → (s ∈ kept) × IsGuardAt m s g
   guard_back s g e = let b = back s (Guard g) e in (b.1, b.2 ∙ ap (λ o. Some o) (guard_before kept (pending ∋ s) b.0 g b.3))
 
-  plain_back : (s : ℕ) (xs : List FieldValue) → at heap s ≡ Some (Plain xs) → (s ∈ kept) × (at m.objects s ≡ Some (Plain xs))
+  plain_back : (s : ℕ) (xs : Contents) → at heap s ≡ Some (Plain xs) → (s ∈ kept) × (at m.objects s ≡ Some (Plain xs))
   plain_back s xs e = let b = back s (Plain xs) e in (b.1, b.2 ∙ ap (λ o. Some o) (plain_before kept (pending ∋ s) b.0 xs b.3))
 
   -- ---- What is handed over, and what is not

@@ -3,6 +3,9 @@ use Rattle.std.proofs.Common.{◌≡◌, ℕ, zero, suc, ◌<◌, true, false, L
 use Rattle.std.specs.List.{list_all, cons_option}
 use Rattle.std.proofs.lemmas.Bool.{both_ways, and_parts}
 use Rattle.jlr_types.specs.declared.FieldValue.{FieldValue}
+use Rattle.jlr_types.specs.declared.FieldValue.TheVariants.{Int as IntValue, Ref as RefValue}
+use Rattle.jlr_machine.specs.declared.object.Contents.{Contents}
+use Rattle.jlr_machine.specs.declared.object.Contents.TheVariants.{Typed, Elements}
 use Rattle.jlr_machine.specs.declared.object.Object.{Object}
 use Rattle.jlr_machine.specs.declared.object.Object.TheVariants.{Plain, Reference, Queue}
 use Rattle.jlr_machine.specs.declared.object.Reference.{Reference as ReferenceOf}
@@ -11,8 +14,8 @@ use Rattle.jlr_machine.specs.declared.object.CleanState.TheVariants.{Pending as 
 use Rattle.jlr_machine.specs.declared.machine.Machine.{Machine}
 use Rattle.jlr_machine.specs.declared.machine.Session.{Session}
 use Rattle.jlr_machine.specs.declared.machine.Call.TheVariants.{Free}
-use Rattle.jlr_machine.specs.Objects.{Heap, at, ◌∈◌, is_distinct, as_fields, as_reference, as_members, as_cleanable, as_guard, any_referent, queue_ahead}
-use Rattle.jlr_machine.specs.Edges.{edges, slot_in, strong_edges}
+use Rattle.jlr_machine.specs.Objects.{Heap, at, ◌∈◌, is_distinct, as_fields, as_reference, as_members, as_cleanable, as_guard, any_referent, queue_ahead, with_value}
+use Rattle.jlr_machine.specs.Edges.{edges, slot_in, slots_in, strong_edges}
 use Rattle.jlr_machine.specs.Lookups.{with_new, with_object, with_handle}
 use Rattle.jlr_machine.specs.Run.{is_free, IsFresh}
 use Rattle.jlr_machine.specs.WellFormed.{IsObjectAt, IsReferenceAt, IsQueueAt, IsSessionAt, IsWellFormed, FitsItsState, IsPrivate}
@@ -63,7 +66,7 @@ pub record IsNew (m : Machine) (o : Object) : Type 0 where
   pub fresh : (r : ReferenceOf) → as_reference o ≡ Some r → r.state ≡ Fresh
   pub public_referent : (x : ℕ) (r : ReferenceOf) → as_reference o ≡ Some r → r.referent ≡ Some x → ¬ (IsPrivate m x)
   pub empty : (xs : List ℕ) → as_members o ≡ Some xs → xs ≡ []
-  pub public_fields : (x : ℕ) (fields : List FieldValue) → as_fields o ≡ Some fields → x ∈ filter_map slot_in fields → ¬ (IsPrivate m x)
+  pub public_fields : (x : ℕ) (fields : Contents) → as_fields o ≡ Some fields → x ∈ slots_in fields → ¬ (IsPrivate m x)
 
 module _ (m : Machine) (s : ℕ) (o : Object) (w : IsWellFormed m) (f : IsNew m o) (inside : s < length m.objects) (free : at m.objects s ≡ None) where
   no_object : {P : Type 0} → IsObjectAt m s → P
@@ -130,16 +133,42 @@ in_set_fields (f ∷ fields) (suc i) v x h =
       ]
     ] h
 
-pub keeps_field : (m : Machine) → IsWellFormed m → (s : ℕ) (fields : List FieldValue) → at m.objects s ≡ Some (Plain fields) → (i : ℕ) (v : FieldValue) → ((x : ℕ) → slot_in v ≡ Some x → Shown m x) → IsWellFormed (with_new m s (Plain (slice_set fields i v)))
+-- the same of an array's elements
+in_set_elements : (elements : List (Option ℕ)) (i : ℕ) (v : Option ℕ) (x : ℕ) → x ∈ filter_map (λ s. s) (slice_set elements i v) → (x ∈ filter_map (λ s. s) elements) ⊎ (v ≡ Some x)
+in_set_elements [] i v x h = nothing x h
+in_set_elements (f ∷ elements) zero v x h =
+    elim v as (λ o. v ≡ o → x ∈ cons_option o (filter_map (λ s. s) elements) → (x ∈ filter_map (λ s. s) (f ∷ elements)) ⊎ (v ≡ Some x)) [
+      | None ↦ λ e h. inl (in_more f x (filter_map (λ s. s) elements) h)
+      | Some y ↦ λ e h. elim (in_cons x y (filter_map (λ s. s) elements) h) [
+        | inl same ↦ inr (e ∙ ap (λ z. Some z) (sym same))
+        | inr later ↦ inl (in_more f x (filter_map (λ s. s) elements) later)
+      ]
+    ] refl h
+in_set_elements (f ∷ elements) (suc i) v x h =
+    elim f as (λ o. x ∈ cons_option o (filter_map (λ s. s) (slice_set elements i v)) → (x ∈ cons_option o (filter_map (λ s. s) elements)) ⊎ (v ≡ Some x)) [
+      | None ↦ λ h. in_set_elements elements i v x h
+      | Some y ↦ λ h. elim (in_cons x y (filter_map (λ s. s) (slice_set elements i v)) h) [
+        | inl same ↦ inl (in_front x y (filter_map (λ s. s) elements) same)
+        | inr later ↦ elim (in_set_elements elements i v x later) [ inl a ↦ inl (in_rest x y (filter_map (λ s. s) elements) a) | inr b ↦ inr b ]
+      ]
+    ] h
+
+-- what is referred to after a change was so before, or is the new value
+pub in_set : (fields : Contents) (i : ℕ) (v : FieldValue) (x : ℕ) → x ∈ slots_in (with_value i v fields) → (x ∈ slots_in fields) ⊎ (slot_in v ≡ Some x)
+in_set (Typed fields) i v x h = in_set_fields fields i v x h
+in_set (Elements elements) i (RefValue s) x h = in_set_elements elements i s x h
+in_set (Elements elements) i (IntValue n) x h = inl h
+
+pub keeps_field : (m : Machine) → IsWellFormed m → (s : ℕ) (fields : Contents) → at m.objects s ≡ Some (Plain fields) → (i : ℕ) (v : FieldValue) → ((x : ℕ) → slot_in v ≡ Some x → Shown m x) → IsWellFormed (with_new m s (Plain (with_value i v fields)))
 keeps_field m w s fields e i v shown =
-    keeps_new m s (Plain (slice_set fields i v)) w (record {
+    keeps_new m s (Plain (with_value i v fields)) w (record {
       inside = place_within m.objects s (Plain fields) e;
       old_cleanable = ap (option_and_then as_cleanable) e;
       old_guard = ap (option_and_then as_guard) e;
       new_cleanable = refl;
       new_guard = refl;
-      edges = λ x h. elim (edge_split (Plain (slice_set fields i v)) x h) [
-        | inl h ↦ elim (in_set_fields fields i v x h) [ inl a ↦ strong_object m w s x (Plain fields) e a | inr b ↦ (shown x b).0 ]
+      edges = λ x h. elim (edge_split (Plain (with_value i v fields)) x h) [
+        | inl h ↦ elim (in_set fields i v x h) [ inl a ↦ strong_object m w s x (Plain fields) e a | inr b ↦ (shown x b).0 ]
         | inr h ↦ no_some x h
       ];
       queue_stays = λ xs g. let a : Plain fields ≡ Queue xs = some_same (Plain fields) (Queue xs) (sym e ∙ g) in absurd (cc a);
@@ -152,7 +181,7 @@ keeps_field m w s fields e i v shown =
       members = λ t xs g. no_some xs g;
       once = λ xs g. no_some xs g;
       in_one = λ t p xs ys g. no_some xs g;
-      public_fields = λ x xs g h. elim (in_set_fields fields i v x (subst (λ l. x ∈ filter_map slot_in l) (sym (some_same (slice_set fields i v) xs g)) h)) [
+      public_fields = λ x xs g h. elim (in_set fields i v x (subst (λ l. x ∈ slots_in l) (sym (some_same (with_value i v fields) xs g)) h)) [
         | inl a ↦ w.unnamed.fields s x fields e a
         | inr b ↦ (shown x b).1
       ];

@@ -3,6 +3,7 @@ use Rattle.std.proofs.Common.{◌≡◌, ℕ, zero, suc, ◌+◌, ◌<◌, ◌�
 use Rattle.std.specs.List.{flat_map}
 use Rattle.std.proofs.lemmas.Bool.{both_ways, cases_eq, cases_lt}
 use Rattle.std.proofs.lemmas.List.{length-set}
+use Rattle.jlr_machine.specs.declared.object.Contents.{Contents}
 use Rattle.jlr_machine.specs.declared.object.Object.{Object}
 use Rattle.jlr_machine.specs.declared.object.Object.TheVariants.{Plain, Reference, Queue, Cleaner, Cleanable, Guard}
 use Rattle.jlr_types.specs.declared.FieldValue.{FieldValue}
@@ -100,7 +101,7 @@ is_guard_there (Some Cleaner) r e = no_some r e
 is_guard_there (Some (Cleanable x)) r e = no_some r e
 is_guard_there (Some (Guard x)) r e = ap (λ y. Some (Guard y)) (some_same x r e)
 
-pub is_plain_there : (o : Option Object) (r : List FieldValue) → option_and_then as_fields o ≡ Some r → o ≡ Some (Plain r)
+pub is_plain_there : (o : Option Object) (r : Contents) → option_and_then as_fields o ≡ Some r → o ≡ Some (Plain r)
 is_plain_there None r e = no_some r e
 is_plain_there (Some (Plain x)) r e = ap (λ y. Some (Plain y)) (some_same x r e)
 is_plain_there (Some (Reference x)) r e = no_some r e

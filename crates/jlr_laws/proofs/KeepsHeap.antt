@@ -1,5 +1,5 @@
 -- The asks on mutators, handles and plain objects leave a well-formed machine.
-use Rattle.std.proofs.Common.{◌≡◌, ℕ, zero, suc, true, false, List, [], ◌∷◌, length, refl, sym, ◌∙◌, ap, subst, inl, inr, arith, Some, None, option_and_then, is_some, filter_map, slice_get, map, replicate, ℤ}
+use Rattle.std.proofs.Common.{◌≡◌, ℕ, zero, suc, true, false, List, [], ◌∷◌, length, refl, sym, ◌∙◌, ap, subst, inl, inr, arith, Option, Some, None, option_and_then, option_map, is_some, filter_map, slice_get, map, replicate, ℤ}
 use Rattle.std.specs.List.{cons_option}
 use Rattle.std.proofs.lemmas.Bool.{both_ways, cases_eq, or_parts, or_from}
 use Rattle.std.proofs.lemmas.List.{length-set}
@@ -8,16 +8,18 @@ use Rattle.jlr_types.specs.declared.FieldKind.TheVariants.{Int as IntField, Ref 
 use Rattle.jlr_types.specs.declared.FieldValue.{FieldValue}
 use Rattle.jlr_types.specs.declared.FieldValue.TheVariants.{Int as IntValue, Ref as RefValue}
 use Rattle.jlr_types.specs.declared.Refusal.TheVariants.{Busy, NoHandle, NoSession, Null, WrongKind}
+use Rattle.jlr_machine.specs.declared.object.Contents.{Contents}
+use Rattle.jlr_machine.specs.declared.object.Contents.TheVariants.{Typed, Elements}
 use Rattle.jlr_machine.specs.declared.object.Object.{Object}
 use Rattle.jlr_machine.specs.declared.object.Object.TheVariants.{Plain, Reference, Queue, Cleaner, Cleanable, Guard}
 use Rattle.jlr_machine.specs.declared.machine.Machine.{Machine}
 use Rattle.jlr_machine.specs.declared.machine.Session.{Session}
-use Rattle.jlr_machine.specs.declared.ask.Ask.TheVariants.{Join, Leave, New, Put, Get, SetInt, Dup, Drop}
+use Rattle.jlr_machine.specs.declared.ask.Ask.TheVariants.{Join, Leave, New, Put, Get, SetInt, Dup, Drop, Array}
 use Rattle.jlr_machine.specs.declared.ask.Answer.{Answer}
-use Rattle.jlr_machine.specs.Objects.{Table, at, set_at, empty_at, as_fields, ◌∈◌, with_field}
-use Rattle.jlr_machine.specs.Edges.{slot_in}
+use Rattle.jlr_machine.specs.Objects.{Table, at, set_at, empty_at, as_fields, ◌∈◌, with_field, value_at}
+use Rattle.jlr_machine.specs.Edges.{slot_in, slots_in}
 use Rattle.jlr_machine.specs.Lookups.{slot_named, object_named, with_new, with_object, with_handle, blank, field_named, on}
-use Rattle.jlr_machine.specs.Refusals.{refusal, is_joined, has_call, is_plain, given}
+use Rattle.jlr_machine.specs.Refusals.{refusal, is_joined, has_call, is_plain, is_record, given}
 use Rattle.jlr_machine.specs.Calls.{after, fresh_session, field_set}
 use Rattle.jlr_machine.specs.Run.{IsFresh}
 use Rattle.jlr_machine.specs.WellFormed.{IsSessionAt, IsWellFormed}
@@ -115,19 +117,48 @@ no_blank (RefField ∷ layout) x h = no_blank layout x h
 pub keeps_New : (m : Machine) → IsWellFormed m → (k : ℕ) (layout : List FieldKind) → refusal m (New k layout) ≡ None → (a : Answer) (fresh : List ℕ) → IsFresh m.objects 1 fresh → IsWellFormed (after m (New k layout) a fresh)
 keeps_New m w k layout no_refusal a fresh f =
     let s = fresh_one m.objects fresh f in
-    subst (λ o. IsWellFormed (on o (λ s. with_handle (with_new m s (Plain (map blank layout))) k s) m)) (sym s.1)
-    (keeps_made m s.0 (Plain (map blank layout)) w (record {
+    subst (λ o. IsWellFormed (on o (λ s. with_handle (with_new m s (Plain (Typed (map blank layout)))) k s) m)) (sym s.1)
+    (keeps_made m s.0 (Plain (Typed (map blank layout))) w (record {
       new_cleanable = refl;
       new_guard = refl;
-      edges = λ x h. elim (edge_split (Plain (map blank layout)) x h) [ inl h ↦ no_blank layout x h | inr h ↦ no_some x h ];
+      edges = λ x h. elim (edge_split (Plain (Typed (map blank layout))) x h) [ inl h ↦ no_blank layout x h | inr h ↦ no_some x h ];
       queue_fits = λ q r g. no_some r g;
       fresh = λ r g. no_some r g;
       public_referent = λ x r g. no_some r g;
       empty = λ xs g. no_some xs g;
-      public_fields = λ x xs g h. no_blank layout x (subst (λ l. x ∈ filter_map slot_in l) (sym (some_same (map blank layout) xs g)) h);
+      public_fields = λ x xs g h. no_blank layout x (subst (λ l. x ∈ slots_in l) (sym (some_same (Typed (map blank layout)) xs g)) h);
     }) s.2 s.3 k (λ session e. free_session m k session e (allowed m (New k layout) no_refusal Busy refl)))
 
-plain_of : (o : Object) → is_plain o ≡ true → (fields : List FieldValue) × (o ≡ Plain fields)
+-- an array of nulls refers to nothing
+pub no_null : {P : Type 0} (n x : ℕ) → x ∈ filter_map (λ s. s) (replicate n None) → P
+no_null zero x h = nothing x h
+no_null (suc n) x h = no_null n x h
+
+pub keeps_Array : (m : Machine) → IsWellFormed m → (k n : ℕ) → refusal m (Array k n) ≡ None → (a : Answer) (fresh : List ℕ) → IsFresh m.objects 1 fresh → IsWellFormed (after m (Array k n) a fresh)
+keeps_Array m w k n no_refusal a fresh f =
+    let s = fresh_one m.objects fresh f in
+    subst (λ o. IsWellFormed (on o (λ s. with_handle (with_new m s (Plain (Elements (replicate n None)))) k s) m)) (sym s.1)
+    (keeps_made m s.0 (Plain (Elements (replicate n None))) w (record {
+      new_cleanable = refl;
+      new_guard = refl;
+      edges = λ x h. elim (edge_split (Plain (Elements (replicate n None))) x h) [ inl h ↦ no_null n x h | inr h ↦ no_some x h ];
+      queue_fits = λ q r g. no_some r g;
+      fresh = λ r g. no_some r g;
+      public_referent = λ x r g. no_some r g;
+      empty = λ xs g. no_some xs g;
+      public_fields = λ x xs g h. no_null n x (subst (λ l. x ∈ slots_in l) (sym (some_same (Elements (replicate n None)) xs g)) h);
+    }) s.2 s.3 k (λ session e. free_session m k session e (allowed m (Array k n) no_refusal Busy refl)))
+
+-- what may hold integers is plain
+record_is_plain : (o : Object) → is_record o ≡ true → is_plain o ≡ true
+record_is_plain (Plain fields) e = refl
+record_is_plain (Reference r) e = absurd (cc e)
+record_is_plain (Queue members) e = absurd (cc e)
+record_is_plain Cleaner e = absurd (cc e)
+record_is_plain (Cleanable c) e = absurd (cc e)
+record_is_plain (Guard g) e = absurd (cc e)
+
+plain_of : (o : Object) → is_plain o ≡ true → (fields : Contents) × (o ≡ Plain fields)
 plain_of (Plain fields) e = (fields, refl)
 plain_of (Reference r) e = absurd (cc e)
 plain_of (Queue members) e = absurd (cc e)
@@ -152,8 +183,8 @@ keeps_Put m w k h f v no_refusal a fresh =
 pub keeps_SetInt : (m : Machine) → IsWellFormed m → (k h f : ℕ) (v : ℤ) → refusal m (SetInt k h f v) ≡ None → (a : Answer) (fresh : List ℕ) → IsWellFormed (after m (SetInt k h f v) a fresh)
 keeps_SetInt m w k h f v no_refusal a fresh =
     let ok = allowed m (SetInt k h f v) no_refusal in
-    let r = only_operand m k h is_plain w (ok NoHandle refl) (ok Null refl) (ok WrongKind refl) in
-    set_field m w k h r.0 r.1 r.2 r.3 r.4 f (IntValue v) (λ x e. no_some x e)
+    let r = only_operand m k h is_record w (ok NoHandle refl) (ok Null refl) (ok WrongKind refl) in
+    set_field m w k h r.0 r.1 r.2 r.3 (record_is_plain r.2 r.4) f (IntValue v) (λ x e. no_some x e)
 
 in_fields : (fields : List FieldValue) (i : ℕ) (v : FieldValue) (x : ℕ) → slice_get fields i ≡ Some v → slot_in v ≡ Some x → x ∈ filter_map slot_in fields
 in_fields [] i v x e g = no_some v e
@@ -161,12 +192,26 @@ in_fields (y ∷ fields) zero v x e g =
     subst (λ o. x ∈ cons_option o (filter_map slot_in fields)) (sym (ap slot_in (some_same y v e) ∙ g)) (in_front x x (filter_map slot_in fields) refl)
 in_fields (y ∷ fields) (suc i) v x e g = in_more (slot_in y) x (filter_map slot_in fields) (in_fields fields i v x e g)
 
+in_elements : (elements : List (Option ℕ)) (i x : ℕ) → slice_get elements i ≡ Some (Some x) → x ∈ filter_map (λ s. s) elements
+in_elements [] i x e = no_some (Some x) e
+in_elements (y ∷ elements) zero x e =
+    subst (λ o. x ∈ cons_option o (filter_map (λ s. s) elements)) (sym (some_same y (Some x) e)) (in_front x x (filter_map (λ s. s) elements) refl)
+in_elements (y ∷ elements) (suc i) x e = in_more y x (filter_map (λ s. s) elements) (in_elements elements i x e)
+
+pub in_value : (fields : Contents) (i : ℕ) (v : FieldValue) (x : ℕ) → value_at fields i ≡ Some v → slot_in v ≡ Some x → x ∈ slots_in fields
+in_value (Typed fields) i v x e g = in_fields fields i v x e g
+in_value (Elements elements) i v x e g =
+    elim (slice_get elements i) as (λ o. slice_get elements i ≡ o → option_map RefValue o ≡ Some v → x ∈ filter_map (λ s. s) elements) [
+      | None ↦ λ d e. no_some v e
+      | Some y ↦ λ d e. in_elements elements i x (d ∙ ap (λ z. Some z) (ap slot_in (some_same (RefValue y) v e) ∙ g))
+    ] refl e
+
 pub keeps_Get : (m : Machine) → IsWellFormed m → (k h f : ℕ) → refusal m (Get k h f) ≡ None → (a : Answer) (fresh : List ℕ) → IsWellFormed (after m (Get k h f) a fresh)
 keeps_Get m w k h f no_refusal a fresh =
     keeps_given m w k (given m (Get k h f)) (λ x e.
     let v = and_then_gives slot_in (field_named m k h f) x e in
-    let fields = and_then_gives (λ fields. slice_get fields f) (option_and_then as_fields (object_named m k h)) v.0 v.1 in
+    let fields = and_then_gives (λ fields. value_at fields f) (option_and_then as_fields (object_named m k h)) v.0 v.1 in
     let o = and_then_gives (at m.objects) (slot_named m k h) (Plain fields.0) (is_plain_there (object_named m k h) fields.0 fields.1) in
-    let there : x ∈ filter_map slot_in fields.0 = in_fields fields.0 f v.0 x fields.2 v.2 in
+    let there : x ∈ slots_in fields.0 = in_value fields.0 f v.0 x fields.2 v.2 in
     (strong_object m w o.0 x (Plain fields.0) o.2 there, w.unnamed.fields o.0 x fields.0 o.2 there))
     (λ s e. free_session m k s e (allowed m (Get k h f) no_refusal Busy refl))

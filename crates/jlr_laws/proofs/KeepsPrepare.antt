@@ -5,6 +5,7 @@ use Rattle.std.proofs.lemmas.Bool.{cases_eq, both_ways}
 use Rattle.jlr_types.specs.declared.FieldValue.{FieldValue}
 use Rattle.jlr_types.specs.declared.Work.TheVariants.{Resource as WorkOn}
 use Rattle.jlr_types.specs.declared.Refusal.TheVariants.{Busy, HandlesFull, NoSession}
+use Rattle.jlr_machine.specs.declared.object.Contents.{Contents}
 use Rattle.jlr_machine.specs.declared.object.Object.{Object}
 use Rattle.jlr_machine.specs.declared.object.Object.TheVariants.{Plain, Reference, Queue, Cleanable, Guard}
 use Rattle.jlr_machine.specs.declared.object.Reference.{Reference as ReferenceOf}
@@ -124,7 +125,7 @@ module _ (m : Machine) (k : ℕ) (session : Session) (a b rid : ℕ) (w : IsWell
     ]
   ]
 
-  old_plain : (t : ℕ) (fields : List FieldValue) → at heap t ≡ Some (Plain fields) → at m.objects t ≡ Some (Plain fields)
+  old_plain : (t : ℕ) (fields : Contents) → at heap t ≡ Some (Plain fields) → at m.objects t ≡ Some (Plain fields)
   old_plain t fields e = elim (data_cases t (Plain fields) e) [ inl y ↦ absurd (cc y.1) | inr z ↦ elim z [ inl y ↦ absurd (cc y.1) | inr y ↦ y ] ]
 
   old_reference : (t : ℕ) (r : ReferenceOf) → at heap t ≡ Some (Reference r) → at m.objects t ≡ Some (Reference r)

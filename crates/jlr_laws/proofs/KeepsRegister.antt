@@ -5,6 +5,7 @@ use Rattle.std.proofs.lemmas.Bool.{cases_eq, or_parts}
 use Rattle.jlr_types.specs.declared.FieldValue.{FieldValue}
 use Rattle.jlr_types.specs.declared.Work.TheVariants.{Note, Resource as WorkOn}
 use Rattle.jlr_types.specs.declared.Refusal.TheVariants.{Busy, NoHandle, Null, WrongKind}
+use Rattle.jlr_machine.specs.declared.object.Contents.{Contents}
 use Rattle.jlr_machine.specs.declared.object.Object.{Object}
 use Rattle.jlr_machine.specs.declared.object.Object.TheVariants.{Plain, Reference, Queue, Cleanable, Guard}
 use Rattle.jlr_machine.specs.declared.object.Reference.{Reference as ReferenceOf}
@@ -81,7 +82,7 @@ module _ (m : Machine) (s note : ℕ) (referent_of : Option ℕ) (w : IsWellForm
     | inr d ↦ inr (sym (beside t d) ∙ e)
   ]
 
-  old_plain : (t : ℕ) (fields : List FieldValue) → at heap t ≡ Some (Plain fields) → at m.objects t ≡ Some (Plain fields)
+  old_plain : (t : ℕ) (fields : Contents) → at heap t ≡ Some (Plain fields) → at m.objects t ≡ Some (Plain fields)
   old_plain t fields e = elim (object_cases t (Plain fields) e) [ inl y ↦ absurd (cc y.1) | inr y ↦ y ]
 
   old_reference : (t : ℕ) (r : ReferenceOf) → at heap t ≡ Some (Reference r) → at m.objects t ≡ Some (Reference r)

@@ -3,7 +3,7 @@ use Rattle.std.proofs.Common.{ℕ, List, [], ◌∷◌, refl, sym, subst, Some, 
 use Rattle.jlr_machine.specs.declared.machine.Machine.{Machine}
 use Rattle.jlr_machine.specs.declared.ask.Outcome.TheVariants.{Ok as OutcomeOk, Failed}
 use Rattle.jlr_machine.specs.declared.ask.Ask.{Ask}
-use Rattle.jlr_machine.specs.declared.ask.Ask.TheVariants.{Join, Leave, New, Put, Get, SetInt, Int, Dup, Drop, Same, MakeRef, Deref, Refers, Clear, Enqueue, Enqueued, MakeQueue, Poll, Remove, MakeCleaner, Register, Clean, Prepare, Opened, CheckOut, CheckIn, Close, Finish, Bind, Find, Unbind, Names, Full, Stat, Notes, Faults, HandOver, TakeUp, Begin, Collect, Abandon}
+use Rattle.jlr_machine.specs.declared.ask.Ask.TheVariants.{Join, Leave, New, Put, Get, SetInt, Int, Dup, Drop, Same, MakeRef, Deref, Refers, Clear, Enqueue, Enqueued, MakeQueue, Poll, Remove, MakeCleaner, Register, Clean, Prepare, Opened, CheckOut, CheckIn, Close, Finish, Bind, Find, Unbind, Names, Full, Stat, Notes, Faults, HandOver, TakeUp, Begin, Collect, Abandon, Array}
 use Rattle.jlr_machine.specs.declared.ask.Answer.{Answer}
 use Rattle.jlr_machine.specs.declared.entry.Entry.{Entry}
 use Rattle.jlr_machine.specs.declared.entry.Chosen.{Chosen}
@@ -13,7 +13,7 @@ use Rattle.jlr_machine.specs.WellFormed.{IsWellFormed}
 use Rattle.jlr_machine.specs.Run.IsLegal.{carried_out, refused, heap_full, out_of_memory}
 use Rattle.jlr_laws.proofs.SeenKept.{keeps_seen}
 use Rattle.jlr_laws.proofs.LegalKept.{keeps_full, keeps_refused, keeps_out_of_memory, keeps_heap_full, entry, no_need, keeps_plainly, keeps_making, keeps_Full, keeps_Collect, make_ref_refusal, register_refusal}
-use Rattle.jlr_laws.proofs.KeepsHeap.{keeps_Join, keeps_Leave, keeps_Dup, keeps_Drop, keeps_New, keeps_Put, keeps_SetInt, keeps_Get}
+use Rattle.jlr_laws.proofs.KeepsHeap.{keeps_Join, keeps_Leave, keeps_Dup, keeps_Drop, keeps_New, keeps_Array, keeps_Put, keeps_SetInt, keeps_Get}
 use Rattle.jlr_laws.proofs.KeepsReferences.{keeps_MakeQueue, keeps_MakeRef, keeps_Deref, keeps_Clear, keeps_Enqueue, keeps_Poll, keeps_Remove}
 use Rattle.jlr_laws.proofs.KeepsCalls.{keeps_check_out, keeps_check_in, keeps_opened}
 use Rattle.jlr_laws.proofs.KeepsOpenFailed.{keeps_open_failed}
@@ -87,6 +87,8 @@ keeps_done m w seat TakeUp answer choice c = keeps_plainly m w seat TakeUp answe
 keeps_done m w seat Begin answer choice c =
     keeps_plainly m w seat Begin answer choice c (λ x h. no_need m h.0) (keeps_Begin m w)
 keeps_done m w seat Collect answer choice c = keeps_Collect m w seat answer choice c
+keeps_done m w seat (Array k n) answer choice c =
+    keeps_making m w seat (Array k n) answer choice c (λ x h. h.1.full) (λ x h. refl) (λ l v r f. keeps_Array l v k n r answer choice.fresh f)
 keeps_done m w seat Abandon answer choice c = keeps_plainly m w seat Abandon answer choice c (λ x h. no_need m h.0) (keeps_Abandon m w)
 
 carried_out_kept : (m : Machine) → IsWellFormed m → (seat : ℕ) (ask : Ask) (answer : Answer) (choice : Chosen) → IsCarriedOut m (entry seat ask answer choice) → IsWellFormed (apply m (entry seat ask answer choice))

@@ -9,7 +9,7 @@ use Rattle.jlr_machine.specs.declared.entry.Entry.{Entry}
 use Rattle.jlr_machine.specs.declared.entry.Chosen.{Chosen}
 use Rattle.jlr_machine.specs.declared.entry.Collected.{Collected}
 use Rattle.jlr_machine.specs.declared.ask.Ask.{Ask}
-use Rattle.jlr_machine.specs.declared.ask.Ask.TheVariants.{Join, Leave, New, Put, Get, SetInt, Int, Dup, Drop, Same, MakeRef, Deref, Refers, Clear, Enqueue, Enqueued, MakeQueue, Poll, Remove, MakeCleaner, Register, Clean, Prepare, Opened, CheckOut, CheckIn, Close, Finish, Bind, Find, Unbind, Names, Full, Stat, Notes, Faults, HandOver, TakeUp, Begin, Collect, Abandon}
+use Rattle.jlr_machine.specs.declared.ask.Ask.TheVariants.{Join, Leave, New, Put, Get, SetInt, Int, Dup, Drop, Same, MakeRef, Deref, Refers, Clear, Enqueue, Enqueued, MakeQueue, Poll, Remove, MakeCleaner, Register, Clean, Prepare, Opened, CheckOut, CheckIn, Close, Finish, Bind, Find, Unbind, Names, Full, Stat, Notes, Faults, HandOver, TakeUp, Begin, Collect, Abandon, Array}
 use Rattle.jlr_machine.specs.declared.ask.FullMode.TheVariants.{Policy, ClearAll}
 use Rattle.jlr_machine.specs.declared.ask.Answer.{Answer}
 use Rattle.jlr_machine.specs.declared.ask.Answer.TheVariants.{Done, Handle as HandleAnswer, Truth, Int as IntAnswer, Data, Wrote, Faulted, Names as NamesAnswer, Notes as NotesAnswer, Faults as FaultsAnswer, Stat as StatAnswer, Job as JobAnswer, AlreadyDone, Prepared, Out as OutAnswer, Handed as HandedAnswer, Refused}
@@ -158,6 +158,7 @@ Decides-is_answer m HandOver c a = Decides-reply m HandOver a
 Decides-is_answer m TakeUp c a = Decides-reply m TakeUp a
 Decides-is_answer m Begin c a = Decides-reply m Begin a
 Decides-is_answer m Abandon c a = Decides-reply m Abandon a
+Decides-is_answer m (Array a0 a1) c a = Decides-reply m (Array a0 a1) a
 
 -- ---- Collections
 
@@ -257,6 +258,8 @@ module _ (m : Machine) (w : IsWithinHeap m.objects (roots m)) (i : IsSeenWithin 
   Decides-may_collect Collect None = ((λ _. tt), (λ _. refl))
   Decides-may_collect Abandon (Some c) = no_room (cells_needed Abandon) c
   Decides-may_collect Abandon None = Decides-true (has_room m (cells_needed Abandon))
+  Decides-may_collect (Array a0 a1) (Some c) = no_room (cells_needed (Array a0 a1)) c
+  Decides-may_collect (Array a0 a1) None = Decides-true (has_room m (cells_needed (Array a0 a1)))
 
   -- ---- Entries
 

@@ -5,6 +5,7 @@ use Rattle.std.proofs.lemmas.Bool.{cases_eq}
 use Rattle.std.proofs.lemmas.List.{length-set}
 use Rattle.std.proofs.lemmas.List.Sums.{sum_by-cons}
 use Rattle.jlr_types.specs.declared.FieldValue.{FieldValue}
+use Rattle.jlr_machine.specs.declared.object.Contents.{Contents}
 use Rattle.jlr_machine.specs.declared.object.Object.{Object}
 use Rattle.jlr_machine.specs.declared.object.Object.TheVariants.{Plain, Reference, Queue, Cleaner, Cleanable, Guard}
 use Rattle.jlr_machine.specs.declared.object.Reference.{Reference as ReferenceOf}
@@ -18,7 +19,7 @@ use Rattle.jlr_machine.specs.declared.machine.Call.{Call}
 use Rattle.jlr_machine.specs.declared.machine.Call.TheVariants.{Free, Opening as CallOpening, Out as CallOut, Job as CallJob}
 use Rattle.jlr_machine.specs.declared.machine.ResourceState.TheVariants.{Opening, Out}
 use Rattle.jlr_machine.specs.Objects.{Table, Heap, at, set_at, ◌∈◌, is_distinct, some_and, as_fields, as_reference, as_members, as_cleanable, as_guard, is_spent}
-use Rattle.jlr_machine.specs.Edges.{edges, edges_from, slot_in, is_own_root, is_active}
+use Rattle.jlr_machine.specs.Edges.{edges, edges_from, slots_in, is_own_root, is_active}
 use Rattle.jlr_machine.specs.Lookups.{with_new}
 use Rattle.jlr_machine.specs.WellFormed.{IsObjectAt, IsReferenceAt, IsQueueAt, IsWellFormed, FitsItsState, FitsItsCall, IsPrivate, state_at, clean_state_at, is_unspent_place}
 use Rattle.jlr_machine.specs.Edges.Chain.{UpToPhantom}
@@ -82,7 +83,7 @@ pub record IsFit (m : Machine) (s : ℕ) (o : Object) : Type 0 where
   pub once : (xs : List ℕ) → as_members o ≡ Some xs → IsTrue (is_distinct xs)
   pub in_one : (t p : ℕ) (xs ys : List ℕ) → as_members o ≡ Some xs → t ∈ xs → IsQueueAt m p ys → t ∈ ys → p ≡ s
   -- as a plain object
-  pub public_fields : (x : ℕ) (fields : List FieldValue) → as_fields o ≡ Some fields → x ∈ filter_map slot_in fields → ¬ (IsPrivate m x)
+  pub public_fields : (x : ℕ) (fields : Contents) → as_fields o ≡ Some fields → x ∈ slots_in fields → ¬ (IsPrivate m x)
 
 module _ (m : Machine) (s : ℕ) (o : Object) (w : IsWellFormed m) (f : IsFit m s o) where
   abbrev heap : Heap

@@ -13,7 +13,7 @@ use Rattle.jlr_machine.specs.declared.ask.Outcome.TheVariants.{Ok as OutcomeOk, 
 use Rattle.jlr_machine.specs.declared.ask.CallOutcome.{CallOutcome}
 use Rattle.jlr_machine.specs.declared.ask.CallOutcome.TheVariants.{Data as GotData, Wrote as GotWrote, Failed as GotFailed}
 use Rattle.jlr_machine.specs.declared.ask.Ask.{Ask}
-use Rattle.jlr_machine.specs.declared.ask.Ask.TheVariants.{Join, Leave, New, Put, Get, SetInt, Int, Dup, Drop, Same, MakeRef, Deref, Refers, Clear, Enqueue, Enqueued, MakeQueue, Poll, Remove, MakeCleaner, Register, Clean, Prepare, Opened, CheckOut, CheckIn, Close, Finish, Bind, Find, Unbind, Names, Full, Stat, Notes, Faults, HandOver, TakeUp, Begin, Collect, Abandon}
+use Rattle.jlr_machine.specs.declared.ask.Ask.TheVariants.{Join, Leave, New, Put, Get, SetInt, Int, Dup, Drop, Same, MakeRef, Deref, Refers, Clear, Enqueue, Enqueued, MakeQueue, Poll, Remove, MakeCleaner, Register, Clean, Prepare, Opened, CheckOut, CheckIn, Close, Finish, Bind, Find, Unbind, Names, Full, Stat, Notes, Faults, HandOver, TakeUp, Begin, Collect, Abandon, Array}
 use Rattle.jlr_machine.specs.declared.ask.Answer.{Answer}
 use Rattle.jlr_machine.specs.declared.ask.Answer.TheVariants.{Refused, Handle, AlreadyDone, Job}
 use Rattle.jlr_machine.specs.declared.entry.Collected.{Collected}
@@ -74,6 +74,7 @@ lists_are_in_order TakeUp = refl
 lists_are_in_order Begin = refl
 lists_are_in_order Collect = refl
 lists_are_in_order Abandon = refl
+lists_are_in_order (Array k n) = refl
 
 -- ---- No answer of an ask that is carried out is a refusal
 
@@ -169,6 +170,7 @@ gives_no_refusal m TakeUp = gives_lined m (from_lined m m.line)
 gives_no_refusal m Begin = from_some _ refl
 gives_no_refusal m Collect = from_none
 gives_no_refusal m Abandon = from_some _ refl
+gives_no_refusal m (Array k n) = gives_handle m k
 
 no_refusal : (m : Machine) (ask : Ask) (c : Option Collected) (a : Answer) → Answers m ask c a → is_refusal a ≡ false
 no_refusal m (Join k) chosen_ answer_ proof_ = gives_no_refusal m (Join k) answer_ proof_
@@ -212,6 +214,7 @@ no_refusal m TakeUp chosen_ answer_ proof_ = gives_no_refusal m TakeUp answer_ p
 no_refusal m Begin chosen_ answer_ proof_ = gives_no_refusal m Begin answer_ proof_
 no_refusal m Collect chosen_ answer_ proof_ = ap is_refusal proof_
 no_refusal m Abandon chosen_ answer_ proof_ = gives_no_refusal m Abandon answer_ proof_
+no_refusal m (Array k n) chosen_ answer_ proof_ = gives_no_refusal m (Array k n) answer_ proof_
 
 -- ---- A legal refusal is listed
 
@@ -265,6 +268,7 @@ full_listed m TakeUp proof_ = absurd (no_need m proof_)
 full_listed m Begin proof_ = absurd (no_need m proof_)
 full_listed m Collect proof_ = absurd (no_need m proof_)
 full_listed m Abandon proof_ = absurd (no_need m proof_)
+full_listed m (Array k n) proof_ = (3, lit< tt, refl)
 
 same_refusal : (a : Answer) (b by : Refusal) → a ≡ Refused b → a ≡ Refused by → b ≡ by
 same_refusal a b by e f = let g : Refused b ≡ Refused by = sym e ∙ f in cc g
@@ -335,6 +339,7 @@ not_listed_full m TakeUp = refl
 not_listed_full m Begin = refl
 not_listed_full m Collect = refl
 not_listed_full m Abandon = refl
+not_listed_full m (Array k n) = refl
 
 holds_found : (p : Refusal → Bool) (by : Refusal) (xs : List Refusal) → find p xs ≡ Some by → p by ≡ true
 holds_found p by [] e = no_some by e
