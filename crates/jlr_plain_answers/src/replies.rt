@@ -23,7 +23,7 @@ use jlr_plain_asks::lookups::{
     named_reference, named_slot, object_at, occupied_cells, queue_of, session_of,
 };
 use jlr_plain_asks::refusals::is_spent_state;
-use jlr_types::{FieldValue, Handle, Mutator, Slot};
+use jlr_types::{FieldNo, FieldValue, Handle, Mutator, Slot};
 
 /// The lowest free number from 1 on.
 pub fn first_free_handle(handles: &[Option<Slot>]) -> usize
@@ -78,7 +78,7 @@ fn gives_field(
     machine: &Machine,
     mutator: Mutator,
     object: Handle,
-    field: u8,
+    field: FieldNo,
     answer: &Answer,
 ) -> bool
     ensures { result ≡ some_and (same_answer answer.now) (option_and_then number_in (field_named machine.now mutator object field)) }
@@ -272,6 +272,7 @@ pub fn is_reply(machine: &Machine, ask: &Ask, answer: &Answer) -> bool
         | Ask::Unbind { .. }
         | Ask::Full { .. } => is_done(answer),
         Ask::New { mutator, .. }
+        | Ask::Array { mutator, .. }
         | Ask::MakeRef { mutator, .. }
         | Ask::MakeQueue { mutator }
         | Ask::MakeCleaner { mutator }

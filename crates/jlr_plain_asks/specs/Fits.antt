@@ -2,9 +2,9 @@
 use Rattle.std.specs.Prelude.{Bool, List, [], ◌∷◌}
 use Rattle.jlr_machine.specs.declared.object.Object.{Object}
 use Rattle.jlr_machine.specs.Objects.{is_cleaner}
-use Rattle.jlr_machine.specs.Refusals.{Operand, is_any, is_plain, is_reference, is_queue, is_cleanable, is_guard}
+use Rattle.jlr_machine.specs.Refusals.{Operand, is_any, is_plain, is_record, is_reference, is_queue, is_cleanable, is_guard}
 use Rattle.jlr_plain_asks.specs.declared.operands.Fit.{Fit}
-use Rattle.jlr_plain_asks.specs.declared.operands.Fit.TheVariants.{Any, Plain, Reference, Queue, Cleaner, Cleanable, Guard}
+use Rattle.jlr_plain_asks.specs.declared.operands.Fit.TheVariants.{Any, Plain, Record, Reference, Queue, Cleaner, Cleanable, Guard}
 use Rattle.jlr_plain_asks.specs.declared.operands.Named.{Named}
 use Rattle.jlr_plain_asks.specs.declared.operands.Operands.{Operands}
 use Rattle.jlr_plain_asks.specs.declared.operands.Operands.TheVariants.{Nothing, One, Two}
@@ -13,6 +13,7 @@ use Rattle.jlr_plain_asks.specs.declared.operands.Operands.TheVariants.{Nothing,
 abbrev pub test_of : Fit → Object → Bool
 test_of Any o = is_any o
 test_of Plain o = is_plain o
+test_of Record o = is_record o
 test_of Reference o = is_reference o
 test_of Queue o = is_queue o
 test_of Cleaner o = is_cleaner o

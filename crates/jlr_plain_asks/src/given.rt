@@ -10,7 +10,7 @@ use crate::lookups::{
 use jlr_machine::ask::Ask;
 use jlr_machine::machine::Machine;
 use jlr_machine::object::Reference;
-use jlr_types::{Handle, Mutator, RefKind, Slot};
+use jlr_types::{FieldNo, Handle, Mutator, RefKind, Slot};
 
 /// What `get` gives: the referent, but never a phantom reference's.
 fn referent_given(reference: &Reference) -> Option<Slot>
@@ -29,7 +29,7 @@ fn first_of(slots: &[Slot]) -> Option<Slot>
     slots.first().copied()
 }
 
-fn field_given(machine: &Machine, mutator: Mutator, object: Handle, field: u8) -> Option<Slot>
+fn field_given(machine: &Machine, mutator: Mutator, object: Handle, field: FieldNo) -> Option<Slot>
     ensures { result ≡ option_and_then slot_in (field_named machine.now mutator object field) }
 {
     match named_field(machine, mutator, object, field) {

@@ -17,7 +17,7 @@ pub fn listed_for(ask: &Ask) -> &'static [Refusal]
         | Ask::Stat { .. }
         | Ask::Notes { .. }
         | Ask::Faults { .. } => &[Refusal::NoSession, Refusal::Busy],
-        Ask::New { .. } | Ask::MakeQueue { .. } | Ask::MakeCleaner { .. } => &[
+        Ask::New { .. } | Ask::Array { .. } | Ask::MakeQueue { .. } | Ask::MakeCleaner { .. } => &[
             Refusal::NoSession,
             Refusal::Busy,
             Refusal::HandlesFull,

@@ -1,13 +1,13 @@
 //! What a machine holds, looked up in its tables and lists.
-ghost use Rattle.std.specs.Prelude.{◌≡◌, ◌≤◌, length, option_and_then, slice_get, option_copied};
-ghost use Rattle.jlr_machine.specs.Objects.{at, occupied, as_fields, as_reference, as_members, as_cleanable, as_guard, is_unqueued, queue_ahead};
+ghost use Rattle.std.specs.Prelude.{◌≡◌, ◌≤◌, length, option_and_then, option_copied};
+ghost use Rattle.jlr_machine.specs.Objects.{at, occupied, as_fields, as_reference, as_members, as_cleanable, as_guard, is_unqueued, queue_ahead, value_at};
 ghost use Rattle.jlr_machine.specs.Edges.{slot_in};
 ghost use Rattle.jlr_machine.specs.Lookups.{slot_named, object_named, reference_named, members_named, guard_named, field_named, has_free_handle, same_name, slot_bound, job_of, resource_at, cleanable_at, cleanable_of_guard};
 
 use jlr_machine::items::Items;
 use jlr_machine::machine::{Binding, Job, Machine, Resource, Session};
-use jlr_machine::object::{Cleanable, Fields, Guard, Object, RefState, Reference};
-use jlr_types::{ActionNo, FieldValue, Handle, Mutator, Rid, Slot};
+use jlr_machine::object::{Cleanable, Contents, Guard, Object, RefState, Reference};
+use jlr_types::{ActionNo, FieldNo, FieldValue, Handle, Mutator, Rid, Slot};
 
 /// The most handles that a mutator holds.
 const HANDLES: usize = 250;
@@ -55,8 +55,8 @@ pub fn named_object(machine: &Machine, mutator: Mutator, handle: Handle) -> Opti
     }
 }
 
-/// The fields, if it is a plain object.
-pub fn fields_of(object: &Object) -> Option<&Fields>
+/// The fields or elements, if it is a plain object.
+pub fn fields_of(object: &Object) -> Option<&Contents>
     ensures { option_copied result ≡ as_fields object.now }
 {
     match object {
@@ -135,21 +135,36 @@ pub fn named_guard(machine: &Machine, mutator: Mutator, handle: Handle) -> Optio
     }
 }
 
-fn field_of(object: &Object, field: u8) -> Option<FieldValue>
-    ensures { result ≡ option_and_then (λ fields. slice_get fields field) (as_fields object.now) }
+/// What the field or the element of this number holds.
+fn value_of(contents: &Contents, field: FieldNo) -> Option<FieldValue>
+    ensures { result ≡ value_at contents.now field }
+{
+    let place = field.number() as usize;
+    match contents {
+        Contents::Typed(fields) => fields.as_slice().get(place).copied(),
+        Contents::Elements(elements) => elements
+            .as_slice()
+            .get(place)
+            .copied()
+            .map(FieldValue::Ref),
+    }
+}
+
+fn field_of(object: &Object, field: FieldNo) -> Option<FieldValue>
+    ensures { result ≡ option_and_then (λ fields. value_at fields field) (as_fields object.now) }
 {
     match fields_of(object) {
-        Some(fields) => fields.as_slice().get(field as usize).copied(),
+        Some(contents) => value_of(contents, field),
         None => None,
     }
 }
 
-/// The field of the plain object that a handle stands for.
+/// The field or the element of the plain object that a handle stands for.
 pub fn named_field(
     machine: &Machine,
     mutator: Mutator,
     handle: Handle,
-    field: u8,
+    field: FieldNo,
 ) -> Option<FieldValue>
     ensures { result ≡ field_named machine.now mutator handle field }
 {

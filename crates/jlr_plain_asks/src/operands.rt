@@ -6,7 +6,7 @@ ghost use Rattle.jlr_plain_asks.specs.Fits.{operands_in};
 
 use jlr_machine::ask::Ask;
 use jlr_machine::text::Name;
-use jlr_types::{FieldKind, Handle, Mutator};
+use jlr_types::{FieldKind, FieldNo, Handle, Mutator};
 
 /// Who takes up what the cleaner is to do.
 pub const CLEANER: u8 = 255;
@@ -16,6 +16,7 @@ pub const CLEANER: u8 = 255;
 pub enum Fit {
     Any,
     Plain,
+    Record,
     Reference,
     Queue,
     Cleaner,
@@ -43,7 +44,7 @@ pub enum Operands {
 #[derive(Clone, Copy)]
 pub struct FieldNamed {
     pub object: Handle,
-    pub field: u8,
+    pub field: FieldNo,
     pub kind: FieldKind,
 }
 
@@ -93,6 +94,7 @@ pub fn asker_of(ask: &Ask) -> Option<Mutator>
         Ask::Begin => None,
         Ask::Collect => None,
         Ask::Abandon => None,
+        Ask::Array { mutator, .. } => Some(*mutator),
     }
 }
 
@@ -150,8 +152,8 @@ pub fn operands_of(ask: &Ask) -> Operands
             ..
         } => { Operands::Two(object(*x, Fit::Plain), object_or_null(*value, Fit::Any)) }
         Ask::Get { object: x, .. } => Operands::One(object(*x, Fit::Plain)),
-        Ask::SetInt { object: x, .. } => Operands::One(object(*x, Fit::Plain)),
-        Ask::Int { object: x, .. } => Operands::One(object(*x, Fit::Plain)),
+        Ask::SetInt { object: x, .. } => Operands::One(object(*x, Fit::Record)),
+        Ask::Int { object: x, .. } => Operands::One(object(*x, Fit::Record)),
         Ask::Dup { object: x, .. } => Operands::One(object(*x, Fit::Any)),
         Ask::Drop { object: x, .. } => Operands::One(object(*x, Fit::Any)),
         Ask::Same { left, right, .. } => {
@@ -212,7 +214,7 @@ pub fn field_of_ask(ask: &Ask) -> Option<FieldNamed>
     }
 }
 
-fn ref_field(object: Handle, field: u8) -> FieldNamed
+fn ref_field(object: Handle, field: FieldNo) -> FieldNamed
     ensures { result ≡ record { object = object; field = field; kind = Ref } }
 {
     FieldNamed {
@@ -222,7 +224,7 @@ fn ref_field(object: Handle, field: u8) -> FieldNamed
     }
 }
 
-fn int_field(object: Handle, field: u8) -> FieldNamed
+fn int_field(object: Handle, field: FieldNo) -> FieldNamed
     ensures { result ≡ record { object = object; field = field; kind = Int } }
 {
     FieldNamed {
@@ -251,6 +253,7 @@ pub fn cells_of(ask: &Ask) -> usize
 {
     match ask {
         Ask::New { .. } => 1,
+        Ask::Array { .. } => 1,
         Ask::MakeRef { .. } => 1,
         Ask::MakeQueue { .. } => 1,
         Ask::MakeCleaner { .. } => 1,

@@ -20,7 +20,7 @@ use crate::operands::{
 };
 use jlr_machine::ask::Ask;
 use jlr_machine::machine::{Call, Job, Machine, ResourceState};
-use jlr_machine::object::{CleanState, Object};
+use jlr_machine::object::{CleanState, Contents, Object};
 use jlr_types::{ActionNo, FieldKind, FieldValue, Handle, Mutator, Refusal, Slot};
 
 /// The most names.
@@ -32,6 +32,7 @@ fn fits(fit: Fit, object: &Object) -> bool
     match fit {
         Fit::Any => true,
         Fit::Plain => matches!(object, Object::Plain(_)),
+        Fit::Record => matches!(object, Object::Plain(Contents::Typed(_))),
         Fit::Reference => matches!(object, Object::Reference(_)),
         Fit::Queue => matches!(object, Object::Queue(_)),
         Fit::Cleaner => matches!(object, Object::Cleaner),

@@ -1,6 +1,7 @@
 //! What an ask that is not refused leaves, its collection being done.
-ghost use Rattle.std.specs.Prelude.{◌≡◌, ◌+◌, ◌^◌, ◌<◌, [], false, map, IfOk};
+ghost use Rattle.std.specs.Prelude.{◌≡◌, ◌+◌, ◌^◌, ◌<◌, [], false, map, replicate, IfOk, None};
 ghost use Rattle.jlr_types.specs.declared.FieldValue.TheVariants.{Ref};
+ghost use Rattle.jlr_machine.specs.declared.object.Contents.TheVariants.{Elements, Typed};
 ghost use Rattle.jlr_machine.specs.declared.object.Object.TheVariants.{Plain, Reference as ReferenceObject};
 ghost use Rattle.jlr_machine.specs.declared.ask.Ask.TheVariants.{Prepare};
 ghost use Rattle.jlr_machine.specs.Objects.{set_at, with_reference};
@@ -11,7 +12,7 @@ ghost use Rattle.jlr_plain_changes.specs.Counts.{HaveRoom, HasNextAction};
 
 use crate::calls::{check_in, check_out, fenced_guard, finish, open};
 use crate::lists::{name_bound, name_unbound};
-use crate::making::{blank_fields, make, new_cleanable, new_reference, prepare};
+use crate::making::{blank_fields, make, new_cleanable, new_reference, null_elements, prepare};
 use crate::objects::{Change, with_changed};
 use crate::queues::{enqueue, hand_over, hold, poll_for};
 use crate::sessions::{SessionChange, new_session, with_seat, with_session_changed};
@@ -20,14 +21,14 @@ use jlr_machine::ask::{Answer, Ask, Outcome};
 use jlr_machine::copy::copy_slice;
 use jlr_machine::items::Items;
 use jlr_machine::machine::Machine;
-use jlr_machine::object::{Fields, Object, Reference};
+use jlr_machine::object::{Contents, Fields, Object, Reference};
 use jlr_machine::text::Name;
 use jlr_plain_answers::handing::line_from;
 use jlr_plain_asks::given::given_by;
 use jlr_plain_asks::lookups::{
     cleanable_in, guarded_cleanable, named_guard, named_slot, running_job,
 };
-use jlr_types::{ActionNo, FieldValue, Handle, Layout, Mutator, Slot};
+use jlr_types::{ActionNo, FieldNo, FieldValue, Handle, Layout, Length, Mutator, Slot};
 use std::alloc::{AllocError, Global};
 
 fn join(alloc: Global, machine: Machine, mutator: Mutator) -> Result<Machine, AllocError>
@@ -42,7 +43,7 @@ fn set_field(
     machine: Machine,
     mutator: Mutator,
     object: Handle,
-    field: u8,
+    field: FieldNo,
     value: FieldValue,
 ) -> Result<Machine, AllocError>
     ensures { IfOk result (λ n. n ≡ field_set machine mutator object field value) }
@@ -88,7 +89,7 @@ fn make_plain(
     fresh: &[Slot],
     layout: &Layout,
 ) -> Result<Machine, AllocError>
-    ensures { IfOk result (λ n. n ≡ made machine mutator fresh.now (Plain (map blank layout.now))) }
+    ensures { IfOk result (λ n. n ≡ made machine mutator fresh.now (Plain (Typed (map blank layout.now)))) }
 {
     let fields = blank_fields(alloc, layout)?;
     // At most eight, as a layout's length tells.
@@ -98,7 +99,26 @@ fn make_plain(
         machine,
         mutator,
         fresh,
-        Object::Plain(Fields::from_vec(fields).unwrap()),
+        Object::Plain(Contents::Typed(Fields::from_vec(fields).unwrap())),
+    )
+}
+
+fn make_array(
+    alloc: Global,
+    machine: Machine,
+    mutator: Mutator,
+    fresh: &[Slot],
+    length: Length,
+) -> Result<Machine, AllocError>
+    ensures { IfOk result (λ n. n ≡ made machine mutator fresh.now (Plain (Elements (replicate length None)))) }
+{
+    let elements = null_elements(alloc, length)?;
+    make(
+        alloc,
+        machine,
+        mutator,
+        fresh,
+        Object::Plain(Contents::Elements(elements)),
     )
 }
 
@@ -302,7 +322,7 @@ fn put(
     machine: Machine,
     mutator: Mutator,
     object: Handle,
-    field: u8,
+    field: FieldNo,
     value: Handle,
 ) -> Result<Machine, AllocError>
     ensures { IfOk result (λ n. n ≡ field_set machine mutator object field (Ref (slot_named machine mutator value))) }
@@ -476,5 +496,6 @@ pub fn after_plain(
         Ask::Begin => Ok(set_cycle(machine, true)),
         Ask::Collect => Ok(machine),
         Ask::Abandon => Ok(abandon(alloc, machine)),
+        Ask::Array { mutator, length } => make_array(alloc, machine, *mutator, fresh, *length),
     }
 }

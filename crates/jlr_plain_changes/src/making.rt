@@ -1,5 +1,5 @@
 //! New objects.
-ghost use Rattle.std.specs.Prelude.{◌≡◌, ◌+◌, ◌^◌, ◌<◌, map, ◌++◌, ◌∷◌, [], IfOk, OnOk};
+ghost use Rattle.std.specs.Prelude.{◌≡◌, ◌+◌, ◌^◌, ◌<◌, map, replicate, ◌++◌, ◌∷◌, [], IfOk, None, OnOk};
 ghost use Rattle.jlr_machine.specs.declared.object.Object.TheVariants.{Cleanable as CleanableObject};
 ghost use Rattle.jlr_machine.specs.declared.object.RefState.TheVariants.{Fresh};
 ghost use Rattle.jlr_machine.specs.Lookups.{blank, slot_named};
@@ -11,10 +11,10 @@ use crate::queues::hold;
 use crate::takes::in_call;
 use jlr_machine::items::Items;
 use jlr_machine::machine::{Call, Machine, Resource, ResourceState};
-use jlr_machine::object::{CleanState, Cleanable, Guard, Object, RefState, Reference};
+use jlr_machine::object::{CleanState, Cleanable, Elements, Guard, Object, RefState, Reference};
 use jlr_plain_asks::lookups::named_slot;
 use jlr_types::{
-    ActionNo, FieldKind, FieldValue, Handle, Layout, Mutator, RefKind, Rid, Slot, Work,
+    ActionNo, FieldKind, FieldValue, Handle, Layout, Length, Mutator, RefKind, Rid, Slot, Work,
 };
 use std::alloc::{AllocError, Global};
 
@@ -59,6 +59,15 @@ pub fn blank_fields(alloc: Global, layout: &Layout) -> Result<Vec<FieldValue>, A
         }
     }
     Ok(out)
+}
+
+/// The elements of a new array: so many nulls.
+pub fn null_elements(alloc: Global, length: Length) -> Result<Elements, AllocError>
+    ensures { IfOk result (λ e. e ≡ replicate length None) }
+{
+    let mut slots: Vec<Option<Slot>> = Vec::new(alloc);
+    slots.resize(length.number() as usize, None)?;
+    Ok(Elements::from_vec(slots).unwrap())
 }
 
 /// A new reference.

@@ -1,24 +1,26 @@
 //! Changes of one object.
 ghost use Rattle.std.specs.Prelude.{◌≡◌, ◌++◌, ◌∷◌, [], drop, slice_set, IfOk, option_map};
 ghost use Rattle.jlr_machine.specs.declared.object.Object.TheVariants.{Plain, Queue, Reference as ReferenceObject, Cleanable as CleanableObject};
-ghost use Rattle.jlr_machine.specs.Objects.{at};
+ghost use Rattle.jlr_machine.specs.Objects.{at, with_element, with_value};
 ghost use Rattle.jlr_machine.specs.Lookups.{with_object};
 ghost use Rattle.jlr_plain_changes.specs.Changes.{change_of};
 
 use jlr_machine::copy::{copy_items, copy_slice};
 use jlr_machine::items::Items;
 use jlr_machine::machine::Machine;
-use jlr_machine::object::{CleanState, Cleanable, Fields, Object, RefState, Reference};
+use jlr_machine::object::{
+    CleanState, Cleanable, Contents, Elements, Fields, Object, RefState, Reference,
+};
 use jlr_machine::table::Table;
 use jlr_plain_asks::lookups::object_at;
-use jlr_types::{FieldValue, Slot};
+use jlr_types::{FieldNo, FieldValue, Slot};
 use std::alloc::{AllocError, Global};
 
 /// A change of an object of the kind that it is for.
 #[derive(Clone, Copy)]
 pub enum Change {
-    /// A field holds this.
-    Set(u8, FieldValue),
+    /// A field or an element holds this.
+    Set(FieldNo, FieldValue),
     /// A reference loses its referent.
     Unrefer,
     /// A reference is enqueued.
@@ -35,30 +37,72 @@ pub enum Change {
     Line,
 }
 
-fn with_value(
+fn with_item<T: Copy>(
     alloc: Global,
-    fields: &[FieldValue],
-    field: u8,
-    value: FieldValue,
-) -> Result<Vec<FieldValue>, AllocError>
-    ensures { IfOk result (λ v. v.items ≡ slice_set fields.now field value) }
+    items: &[T],
+    number: FieldNo,
+    item: T,
+) -> Result<Vec<T>, AllocError>
+    ensures { IfOk result (λ v. v.items ≡ slice_set items.now number item) }
 {
-    let mut out = copy_slice(alloc, fields)?;
-    if (field as usize) < out.len() {
-        out[field as usize] = value;
+    let mut out = copy_slice(alloc, items)?;
+    let place = number.number() as usize;
+    if place < out.len() {
+        out[place] = item;
     }
     Ok(out)
 }
 
-fn changed_plain(alloc: Global, fields: &Fields, change: Change) -> Result<Object, AllocError>
-    ensures { IfOk result (λ o. o ≡ change_of change (Plain fields.now)) }
+fn set_field(
+    alloc: Global,
+    fields: &Fields,
+    number: FieldNo,
+    value: FieldValue,
+) -> Result<Fields, AllocError>
+    ensures { IfOk result (λ f. f ≡ slice_set fields.now number value) }
+{
+    let values = with_item(alloc, fields.as_slice(), number, value)?;
+    Ok(Fields::from_vec(values).unwrap())
+}
+
+/// An element refers to another object. An integer goes into none.
+fn set_element(
+    alloc: Global,
+    elements: &Elements,
+    number: FieldNo,
+    value: FieldValue,
+) -> Result<Elements, AllocError>
+    ensures { IfOk result (λ e. e ≡ with_element elements.now number value) }
+{
+    let FieldValue::Ref(slot) = value else {
+        return elements.copy(alloc);
+    };
+    let slots = with_item(alloc, elements.as_slice(), number, slot)?;
+    Ok(Elements::from_vec(slots).unwrap())
+}
+
+fn set_value(
+    alloc: Global,
+    contents: &Contents,
+    number: FieldNo,
+    value: FieldValue,
+) -> Result<Contents, AllocError>
+    ensures { IfOk result (λ c. c ≡ with_value number value contents.now) }
+{
+    match contents {
+        Contents::Typed(fields) => Ok(Contents::Typed(set_field(alloc, fields, number, value)?)),
+        Contents::Elements(elements) => {
+            Ok(Contents::Elements(set_element(alloc, elements, number, value)?))
+        }
+    }
+}
+
+fn changed_plain(alloc: Global, contents: &Contents, change: Change) -> Result<Object, AllocError>
+    ensures { IfOk result (λ o. o ≡ change_of change (Plain contents.now)) }
 {
     match change {
-        Change::Set(field, value) => {
-            let values = with_value(alloc, fields.as_slice(), field, value)?;
-            Ok(Object::Plain(Fields::from_vec(values).unwrap()))
-        }
-        _ => Ok(Object::Plain(fields.copy(alloc)?)),
+        Change::Set(number, value) => Ok(Object::Plain(set_value(alloc, contents, number, value)?)),
+        _ => Ok(Object::Plain(contents.copy(alloc)?)),
     }
 }
 

@@ -5,26 +5,17 @@ ghost use Rattle.jlr_machine.specs.declared.machine.Session.{Session as SessionO
 ghost use Rattle.jlr_machine.specs.declared.machine.Binding.{Binding as BindingOf};
 ghost use Rattle.jlr_machine.specs.Edges.{is_own_root, active_cleanables, roots};
 
-use crate::edges::{push_all, push_option};
+use crate::edges::{push_all, push_option, push_options};
 use jlr_machine::machine::{Binding, Machine, Session};
 use jlr_machine::object::{CleanState, Object};
 use jlr_types::Slot;
 use std::alloc::{AllocError, Global};
 
-fn push_handles(out: &mut Vec<Slot>, handles: &[Option<Slot>]) -> Result<(), AllocError>
-    ensures { OnOk result (out.new.items ≡ out.old.items ++ filter_map (λ h. h) handles.now) }
-{
-    for &handle in handles {
-        push_option(out, handle)?;
-    }
-    Ok(())
-}
-
 fn push_handles_of(out: &mut Vec<Slot>, place: &Option<Session>) -> Result<(), AllocError>
     ensures { OnOk result (out.new.items ≡ out.old.items ++ flat_map (λ (s : SessionOf). filter_map (λ h. h) s.handles) (filter_map (λ s. s) (place.now ∷ []))) }
 {
     match place {
-        Some(session) => push_handles(out, session.handles.as_slice()),
+        Some(session) => push_options(out, session.handles.as_slice()),
         None => Ok(()),
     }
 }

@@ -1,5 +1,5 @@
 -- What the test of what nobody names tells.
-use Rattle.std.proofs.Common.{◌≡◌, ◌↔◌, ℕ, Bool, true, false, Decides, IsTrue, refl, ap, filter_map, inl, inr, Some}
+use Rattle.std.proofs.Common.{◌≡◌, ◌↔◌, ℕ, Bool, true, false, Decides, IsTrue, refl, ap, inl, inr, Some}
 use Rattle.std.proofs.lemmas.Bool.{both_ways, not-true, not_from_false, false_from_ne_true}
 use Rattle.jlr_machine.specs.declared.object.Object.{Object}
 use Rattle.jlr_machine.specs.declared.object.Object.TheVariants.{Plain, Reference, Queue, Cleaner, Cleanable, Guard}
@@ -7,13 +7,13 @@ use Rattle.jlr_machine.specs.declared.machine.Machine.{Machine}
 use Rattle.jlr_machine.specs.declared.machine.Session.{Session}
 use Rattle.jlr_machine.specs.declared.machine.ResourceState.TheVariants.{Opening}
 use Rattle.jlr_machine.specs.Objects.{at, some_and, ◌∈◌}
-use Rattle.jlr_machine.specs.Edges.{slot_in}
+use Rattle.jlr_machine.specs.Edges.{slots_in}
 use Rattle.jlr_machine.specs.WellFormed.{ArePrivate, IsPrivate}
 use Rattle.jlr_plain_images.specs.Resources.{is_on_resource}
 use Rattle.jlr_plain_images.specs.Unnamed.{is_private_object, is_public, handles_public, fields_public, referent_public, private_fit}
 use Rattle.jlr_plain_images.proofs.WorksDecided.{on_gives}
 use Rattle.jlr_plain_images.proofs.CallsDecided.{Decides-in_call}
-use Rattle.jlr_plain_parts.proofs.Everywhere.{Decides-places, Decides-bound, Decides-any, Decides-fields, Decides-plain, Decides-references, there_gives, there_from, also, turned}
+use Rattle.jlr_plain_parts.proofs.Everywhere.{Decides-places, Decides-bound, Decides-any, Decides-contents, Decides-plain, Decides-references, there_gives, there_from, also, turned}
 
 private_there : (m : Machine) (s : ℕ) (o : Object) → at m.objects s ≡ Some o → is_private_object m o ≡ true → IsPrivate m s
 private_there m s (Cleanable c) e h = let r = on_gives c.work h in inl (c, r.0, e, r.1)
@@ -43,8 +43,8 @@ private_decided m =
     let handles = Decides-places (handles_public m) (λ (session : Session). (h s : ℕ) → at session.handles h ≡ Some s → IsPublic m s) m.mutators
     (λ session. Decides-places (is_public m) (IsPublic m) session.handles (Decides-public m)) in
     let names = Decides-bound (is_public m) (IsPublic m) m.names (Decides-public m) in
-    let fields = Decides-plain (fields_public m) (λ fields. (s : ℕ) → s ∈ filter_map slot_in fields → IsPublic m s) m.objects
-    (λ fields. Decides-fields (is_public m) (IsPublic m) fields (Decides-public m)) in
+    let fields = Decides-plain (fields_public m) (λ fields. (s : ℕ) → s ∈ slots_in fields → IsPublic m s) m.objects
+    (λ fields. Decides-contents (is_public m) (IsPublic m) fields (Decides-public m)) in
     let references = Decides-references (referent_public m) (λ r. (s : ℕ) → r.referent ≡ Some s → IsPublic m s) m.objects
     (λ r. Decides-any (is_public m) (IsPublic m) r.referent (Decides-public m)) in
     turned (also (also (also handles names) fields) references)

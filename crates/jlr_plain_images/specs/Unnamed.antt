@@ -1,7 +1,7 @@
 -- The test that nobody names what is private.
-use Rattle.std.specs.Prelude.{ℕ, Bool, false, not, ◌&&◌, List}
+use Rattle.std.specs.Prelude.{ℕ, Bool, false, not, ◌&&◌}
 use Rattle.std.specs.List.{list_all}
-use Rattle.jlr_types.specs.declared.FieldValue.{FieldValue}
+use Rattle.jlr_machine.specs.declared.object.Contents.{Contents}
 use Rattle.jlr_machine.specs.declared.object.Object.{Object}
 use Rattle.jlr_machine.specs.declared.object.Object.TheVariants.{Cleanable, Guard}
 use Rattle.jlr_machine.specs.declared.object.Reference.{Reference as ReferenceOf}
@@ -9,9 +9,8 @@ use Rattle.jlr_machine.specs.declared.machine.Machine.{Machine}
 use Rattle.jlr_machine.specs.declared.machine.Session.{Session}
 use Rattle.jlr_machine.specs.declared.machine.ResourceState.TheVariants.{Opening}
 use Rattle.jlr_machine.specs.Objects.{at, some_and}
-use Rattle.jlr_machine.specs.Edges.{slot_in}
 use Rattle.jlr_machine.specs.Lookups.{cleanable_at}
-use Rattle.jlr_plain_parts.specs.Places.{none_or, on_plain, on_reference}
+use Rattle.jlr_plain_parts.specs.Places.{none_or, each_slot, on_plain, on_reference}
 use Rattle.jlr_plain_images.specs.Resources.{is_on_resource}
 use Rattle.jlr_plain_images.specs.Calls.{is_in_call}
 
@@ -29,9 +28,9 @@ is_public m s = not (some_and (is_private_object m) (at m.objects s))
 abbrev pub handles_public : Machine → Session → Bool
 handles_public m s = list_all (none_or (is_public m)) s.handles
 
--- no field of the object refers to it
-abbrev pub fields_public : Machine → List FieldValue → Bool
-fields_public m fields = list_all (λ f. none_or (is_public m) (slot_in f)) fields
+-- no field or element of the object refers to it
+abbrev pub fields_public : Machine → Contents → Bool
+fields_public m fields = each_slot (is_public m) fields
 
 -- the reference does not refer to it
 abbrev pub referent_public : Machine → ReferenceOf → Bool

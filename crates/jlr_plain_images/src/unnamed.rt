@@ -1,13 +1,14 @@
 //! What nobody may name: the cleanables of resources, and the guards of resources that are not open yet.
 ghost use Rattle.std.specs.Prelude.{◌≡◌, ◌↔◌, IsTrue};
 ghost use Rattle.std.specs.List.{list_all};
+ghost use Rattle.jlr_machine.specs.Edges.{slot_in};
 ghost use Rattle.jlr_machine.specs.WellFormed.{ArePrivate};
 ghost use Rattle.jlr_plain_parts.specs.Places.{none_or, on_plain, on_reference};
 ghost use Rattle.jlr_plain_images.specs.Unnamed.{is_private_object, is_public, handles_public, fields_public, referent_public, private_fit};
 
 use crate::works::{in_call_at, on_resource};
 use jlr_machine::machine::{Binding, Machine, ResourceState, Session};
-use jlr_machine::object::{Object, Reference};
+use jlr_machine::object::{Contents, Object, Reference};
 use jlr_plain_asks::lookups::{object_at, referred};
 use jlr_types::{FieldValue, Slot};
 
@@ -42,11 +43,16 @@ fn if_any_may_be_named(machine: &Machine, slot: Option<Slot>) -> bool
     }
 }
 
+fn all_or_null_public(machine: &Machine, slots: &[Option<Slot>]) -> bool
+    ensures { result ≡ list_all (none_or (is_public machine.now)) slots.now }
+{
+    slots.iter().all(|&slot| if_any_may_be_named(machine, slot))
+}
+
 fn session_names_public(machine: &Machine, session: &Session) -> bool
     ensures { result ≡ handles_public machine.now session.now }
 {
-    let mut handles = session.handles.as_slice().iter();
-    handles.all(|&slot| if_any_may_be_named(machine, slot))
+    all_or_null_public(machine, session.handles.as_slice())
 }
 
 fn sessions_name_public(machine: &Machine) -> bool
@@ -67,12 +73,21 @@ fn names_are_public(machine: &Machine, names: &[Binding]) -> bool
         .all(|binding| may_be_named(machine, binding.slot))
 }
 
-fn fields_are_public(machine: &Machine, fields: &[FieldValue]) -> bool
-    ensures { result ≡ fields_public machine.now fields.now }
+fn typed_are_public(machine: &Machine, fields: &[FieldValue]) -> bool
+    ensures { result ≡ list_all (λ f. none_or (is_public machine.now) (slot_in f)) fields.now }
 {
     fields
         .iter()
         .all(|field| if_any_may_be_named(machine, referred(field)))
+}
+
+fn fields_are_public(machine: &Machine, contents: &Contents) -> bool
+    ensures { result ≡ fields_public machine.now contents.now }
+{
+    match contents {
+        Contents::Typed(fields) => typed_are_public(machine, fields.as_slice()),
+        Contents::Elements(elements) => all_or_null_public(machine, elements.as_slice()),
+    }
 }
 
 fn all_fields_public(machine: &Machine) -> bool
@@ -80,7 +95,7 @@ fn all_fields_public(machine: &Machine) -> bool
 {
     let mut places = machine.objects.as_slice().iter();
     places.all(|place| match place {
-        Some(Object::Plain(fields)) => fields_are_public(machine, fields.as_slice()),
+        Some(Object::Plain(contents)) => fields_are_public(machine, contents),
         _ => true,
     })
 }
@@ -110,7 +125,7 @@ fn private_tested(machine: &Machine) -> bool
         && all_referents_public(machine)
 }
 
-/// Whether no handle, name, field or reference names what is private.
+/// Whether no handle, name, field, element or reference names what is private.
 #[tactic(auto, using(crate::proofs::UnnamedDecided::private_decided))]
 pub fn are_private(machine: &Machine) -> bool
     ensures { IsTrue result ↔ ArePrivate machine.now }

@@ -4,6 +4,8 @@ use Rattle.std.specs.List.{list_all, list_any, range_with_len, cons_option, AllB
 use Rattle.std.proofs.lemmas.List.Folds.{list_all-map}
 use Rattle.std.proofs.lemmas.Bool.{both_ways, and_parts, and_from, or_cases, or_left, or_right, eqb-true, eq-eqb, leb-true, le-leb, ltb-true, lt-ltb, cases_eq, not-true, not_from_false, false_from_ne_true}
 use Rattle.jlr_types.specs.declared.FieldValue.{FieldValue}
+use Rattle.jlr_machine.specs.declared.object.Contents.{Contents}
+use Rattle.jlr_machine.specs.declared.object.Contents.TheVariants.{Typed, Elements}
 use Rattle.jlr_machine.specs.declared.object.Object.{Object}
 use Rattle.jlr_machine.specs.declared.object.Object.TheVariants.{Plain, Reference, Queue, Cleaner, Cleanable, Guard}
 use Rattle.jlr_machine.specs.declared.object.Reference.{Reference as ReferenceOf}
@@ -11,11 +13,11 @@ use Rattle.jlr_machine.specs.declared.object.Cleanable.{Cleanable as CleanableOf
 use Rattle.jlr_machine.specs.declared.object.Guard.{Guard as GuardOf}
 use Rattle.jlr_machine.specs.declared.machine.Binding.{Binding}
 use Rattle.jlr_machine.specs.Objects.{Table, Heap, at, some_and, ◌∈◌, is_above, is_rising}
-use Rattle.jlr_machine.specs.Edges.{slot_in}
+use Rattle.jlr_machine.specs.Edges.{slot_in, slots_in}
 use Rattle.jlr_laws.proofs.Sets.{in_front, in_rest, all_gives}
 use Rattle.jlr_laws.proofs.Frames.{no_some, some_same, place_within}
 use Rattle.jlr_laws.proofs.Keyed.{by_key, key_found, all_found}
-use Rattle.jlr_plain_parts.specs.Places.{none_or, each_number, rising_by, is_only_key, keys_are_apart, on_plain, on_reference, on_queue, on_cleanable, on_guard}
+use Rattle.jlr_plain_parts.specs.Places.{none_or, each_slot, each_number, rising_by, is_only_key, keys_are_apart, on_plain, on_reference, on_queue, on_cleanable, on_guard}
 
 -- ---- Bools
 
@@ -77,8 +79,19 @@ fields_named : (test : ℕ → Bool) (fields : List FieldValue) → list_all tes
 fields_named test [] = refl
 fields_named test (f ∷ fields) = each_named test (slot_in f) (filter_map slot_in fields) ∙ ap (λ b. none_or test (slot_in f) && b) (fields_named test fields)
 
-pub Decides-fields : (test : ℕ → Bool) (P : ℕ → Type 0) (fields : List FieldValue) → ((s : ℕ) → Decides (test s) (P s)) → Decides (list_all (λ f. none_or test (slot_in f)) fields) ((s : ℕ) → s ∈ filter_map slot_in fields → P s)
+Decides-fields : (test : ℕ → Bool) (P : ℕ → Type 0) (fields : List FieldValue) → ((s : ℕ) → Decides (test s) (P s)) → Decides (list_all (λ f. none_or test (slot_in f)) fields) ((s : ℕ) → s ∈ filter_map slot_in fields → P s)
 Decides-fields test P fields each = subst (λ b. Decides b ((s : ℕ) → s ∈ filter_map slot_in fields → P s)) (fields_named test fields) (Decides-all test P (filter_map slot_in fields) each)
+
+elements_named : (test : ℕ → Bool) (elements : List (Option ℕ)) → list_all test (filter_map (λ s. s) elements) ≡ list_all (none_or test) elements
+elements_named test [] = refl
+elements_named test (s ∷ elements) = each_named test s (filter_map (λ s. s) elements) ∙ ap (λ b. none_or test s && b) (elements_named test elements)
+
+Decides-elements : (test : ℕ → Bool) (P : ℕ → Type 0) (elements : List (Option ℕ)) → ((s : ℕ) → Decides (test s) (P s)) → Decides (list_all (none_or test) elements) ((s : ℕ) → s ∈ filter_map (λ s. s) elements → P s)
+Decides-elements test P elements each = subst (λ b. Decides b ((s : ℕ) → s ∈ filter_map (λ s. s) elements → P s)) (elements_named test elements) (Decides-all test P (filter_map (λ s. s) elements) each)
+
+pub Decides-contents : (test : ℕ → Bool) (P : ℕ → Type 0) (contents : Contents) → ((s : ℕ) → Decides (test s) (P s)) → Decides (each_slot test contents) ((s : ℕ) → s ∈ slots_in contents → P s)
+Decides-contents test P (Typed fields) each = Decides-fields test P fields each
+Decides-contents test P (Elements elements) each = Decides-elements test P elements each
 
 pub Decides-bound : (test : ℕ → Bool) (P : ℕ → Type 0) (names : List Binding) → ((s : ℕ) → Decides (test s) (P s)) → Decides (list_all (λ b. test b.slot) names) ((s : ℕ) → s ∈ map (λ b. b.slot) names → P s)
 Decides-bound test P names each = subst (λ b. Decides b ((s : ℕ) → s ∈ map (λ b. b.slot) names → P s)) (list_all-map test (λ b. b.slot) names) (Decides-all test P (map (λ b. b.slot) names) each)
@@ -197,7 +210,7 @@ Decides-guards test P heap each = (
   ])),
 )
 
-pub Decides-plain : (test : List FieldValue → Bool) (P : List FieldValue → Type 0) (heap : Heap) → ((r : List FieldValue) → Decides (test r) (P r)) → Decides (list_all (none_or (on_plain test)) heap) ((s : ℕ) (r : List FieldValue) → at heap s ≡ Some (Plain r) → P r)
+pub Decides-plain : (test : Contents → Bool) (P : Contents → Type 0) (heap : Heap) → ((r : Contents) → Decides (test r) (P r)) → Decides (list_all (none_or (on_plain test)) heap) ((s : ℕ) (r : Contents) → at heap s ≡ Some (Plain r) → P r)
 Decides-plain test P heap each = (
   (λ h s r e. (each r).0 (places_give (on_plain test) heap s (Plain r) h e)),
   (λ h. places_from (on_plain test) heap (λ s o. elim o as (λ o. at heap s ≡ Some o → on_plain test o ≡ true) [

@@ -18,7 +18,7 @@ use Rattle.jlr_laws.proofs.Frames.{no_some, root_gives, root_from}
 use Rattle.jlr_laws.proofs.Frames.IsRoot.{held, fencing, named, waiting, lining, active}
 use Rattle.jlr_plain_parts.specs.Places.{none_or}
 use Rattle.jlr_plain_parts.specs.Slots.{is_there, edges_there, session_there, roots_there, queue_there, cleanable_there, slots_fit}
-use Rattle.jlr_plain_parts.proofs.Everywhere.{Decides-all, Decides-places, Decides-references, Decides-guards, Decides-true, Decides-any, Decides-fields, Decides-bound, also, turned}
+use Rattle.jlr_plain_parts.proofs.Everywhere.{Decides-all, Decides-places, Decides-references, Decides-guards, Decides-true, Decides-any, Decides-contents, Decides-bound, also, turned}
 
 -- ---- Edges
 
@@ -42,7 +42,7 @@ listed x o e = subst (λ o. x ∈ option_to_list o) (sym e) (in_front x x [] ref
 
 Decides-leads : (heap : Heap) (o : Object) → Decides (edges_there heap o) (Leads heap o)
 Decides-leads heap (Plain fields) =
-    let d = Decides-fields (is_there heap) (IsThere heap) fields (Decides-there heap) in
+    let d = Decides-contents (is_there heap) (IsThere heap) fields (Decides-there heap) in
     ((λ h. (d.0 h, λ x e. no_some x e)), (λ p. d.1 p.0))
 Decides-leads heap (Reference r) =
     turned (also (any_there heap (queue_ahead r)) (any_there heap r.referent))

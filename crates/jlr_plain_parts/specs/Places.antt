@@ -2,7 +2,9 @@
 use Rattle.std.specs.Prelude.{ℕ, Bool, true, not, ◌&&◌, ◌||◌, Option, Some, None, List, [], ◌∷◌, length, nat_eq, nat_lt}
 use Rattle.std.specs.List.{list_all, range_with_len}
 use Rattle.jlr_machine.specs.Objects.{Heap, at, some_and}
-use Rattle.jlr_types.specs.declared.FieldValue.{FieldValue}
+use Rattle.jlr_machine.specs.Edges.{slot_in}
+use Rattle.jlr_machine.specs.declared.object.Contents.{Contents}
+use Rattle.jlr_machine.specs.declared.object.Contents.TheVariants.{Typed, Elements}
 use Rattle.jlr_machine.specs.declared.object.Object.{Object}
 use Rattle.jlr_machine.specs.declared.object.Object.TheVariants.{Plain, Reference, Queue, Cleanable, Guard}
 use Rattle.jlr_machine.specs.declared.object.Reference.{Reference as ReferenceOf}
@@ -14,12 +16,17 @@ abbrev pub none_or : {A : Type 0} → (A → Bool) → Option A → Bool
 none_or test None = true
 none_or test (Some x) = test x
 
+-- the test passes at each slot that fields or elements refer to
+abbrev pub each_slot : (ℕ → Bool) → Contents → Bool
+each_slot test (Typed fields) = list_all (λ f. none_or test (slot_in f)) fields
+each_slot test (Elements elements) = list_all (none_or test) elements
+
 -- the test passes at each number below n
 abbrev pub each_number : ℕ → (ℕ → Bool) → Bool
 each_number n test = list_all test (range_with_len 0 n)
 
 -- the test passes if the object is of this kind
-abbrev pub on_plain : (List FieldValue → Bool) → Object → Bool
+abbrev pub on_plain : (Contents → Bool) → Object → Bool
 on_plain test (Plain fields) = test fields
 on_plain test _ = true
 

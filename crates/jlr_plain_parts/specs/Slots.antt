@@ -1,7 +1,7 @@
 -- The test that each slot named is an object of the fitting kind.
-use Rattle.std.specs.Prelude.{ℕ, Bool, true, ◌&&◌, List, is_some}
+use Rattle.std.specs.Prelude.{ℕ, Bool, true, ◌&&◌, is_some}
 use Rattle.std.specs.List.{list_all}
-use Rattle.jlr_types.specs.declared.FieldValue.{FieldValue}
+use Rattle.jlr_machine.specs.declared.object.Contents.{Contents}
 use Rattle.jlr_machine.specs.declared.object.Object.{Object}
 use Rattle.jlr_machine.specs.declared.object.Object.TheVariants.{Plain, Reference, Queue, Cleaner, Cleanable, Guard}
 use Rattle.jlr_machine.specs.declared.object.Reference.{Reference as ReferenceOf}
@@ -9,17 +9,16 @@ use Rattle.jlr_machine.specs.declared.object.Guard.{Guard as GuardOf}
 use Rattle.jlr_machine.specs.declared.machine.Machine.{Machine}
 use Rattle.jlr_machine.specs.declared.machine.Session.{Session}
 use Rattle.jlr_machine.specs.Objects.{Heap, at, some_and, queue_ahead}
-use Rattle.jlr_machine.specs.Edges.{slot_in}
 use Rattle.jlr_machine.specs.Refusals.{is_queue, is_cleanable}
-use Rattle.jlr_plain_parts.specs.Places.{none_or, on_reference, on_guard}
+use Rattle.jlr_plain_parts.specs.Places.{none_or, each_slot, on_reference, on_guard}
 
 -- there is an object at s
 abbrev pub is_there : Heap → ℕ → Bool
 is_there heap s = is_some (at heap s)
 
--- what the fields refer to is there
-abbrev pub fields_there : Heap → List FieldValue → Bool
-fields_there heap fields = list_all (λ f. none_or (is_there heap) (slot_in f)) fields
+-- what the fields or elements refer to is there
+abbrev pub fields_there : Heap → Contents → Bool
+fields_there heap fields = each_slot (is_there heap) fields
 
 -- what its strong edges and its referent name is there
 abbrev pub edges_there : Heap → Object → Bool

@@ -3,13 +3,14 @@ ghost use Rattle.std.specs.Prelude.{◌≡◌, ◌↔◌, IsTrue};
 ghost use Rattle.std.specs.List.{list_all};
 ghost use Rattle.jlr_machine.specs.Objects.{at, some_and};
 ghost use Rattle.jlr_machine.specs.declared.object.Object.TheVariants.{Reference as ReferenceObject};
+ghost use Rattle.jlr_machine.specs.Edges.{slot_in};
 ghost use Rattle.jlr_machine.specs.Refusals.{is_queue};
 ghost use Rattle.jlr_machine.specs.WellFormed.{AreSlotsNamed};
 ghost use Rattle.jlr_plain_parts.specs.Places.{none_or, on_reference, on_guard};
 ghost use Rattle.jlr_plain_parts.specs.Slots.{is_there, fields_there, edges_there, session_there, roots_there, queue_there, cleanable_there, slots_fit};
 
 use jlr_machine::machine::{Binding, Machine, Session};
-use jlr_machine::object::{Guard, Object, Reference};
+use jlr_machine::object::{Contents, Guard, Object, Reference};
 use jlr_plain_asks::lookups::{object_at, queue_of, referred};
 use jlr_types::{FieldValue, Slot};
 
@@ -35,12 +36,30 @@ fn all_there(machine: &Machine, slots: &[Slot]) -> bool
     slots.iter().all(|&slot| object_there(machine, slot))
 }
 
-fn all_fields_there(machine: &Machine, fields: &[FieldValue]) -> bool
-    ensures { result ≡ fields_there machine.now.objects fields.now }
+/// Whether all that the fields refer to is there.
+fn typed_there(machine: &Machine, fields: &[FieldValue]) -> bool
+    ensures { result ≡ list_all (λ f. none_or (is_there machine.now.objects) (slot_in f)) fields.now }
 {
     fields
         .iter()
         .all(|field| any_there(machine, referred(field)))
+}
+
+/// Whether each of the slots is there that is not null.
+fn all_or_null_there(machine: &Machine, slots: &[Option<Slot>]) -> bool
+    ensures { result ≡ list_all (none_or (is_there machine.now.objects)) slots.now }
+{
+    slots.iter().all(|&slot| any_there(machine, slot))
+}
+
+/// Whether all that the fields or elements refer to is there.
+fn all_fields_there(machine: &Machine, contents: &Contents) -> bool
+    ensures { result ≡ fields_there machine.now.objects contents.now }
+{
+    match contents {
+        Contents::Typed(fields) => typed_there(machine, fields.as_slice()),
+        Contents::Elements(elements) => all_or_null_there(machine, elements.as_slice()),
+    }
 }
 
 fn reference_leads(machine: &Machine, reference: &Reference) -> bool
@@ -54,7 +73,7 @@ fn leads_to_objects(machine: &Machine, object: &Object) -> bool
     ensures { result ≡ edges_there machine.now.objects object.now }
 {
     match object {
-        Object::Plain(fields) => all_fields_there(machine, fields.as_slice()),
+        Object::Plain(contents) => all_fields_there(machine, contents),
         Object::Reference(reference) => reference_leads(machine, reference),
         Object::Queue(members) => all_there(machine, members.as_slice()),
         Object::Cleaner => true,
@@ -73,16 +92,10 @@ fn edges_lead_to_objects(machine: &Machine) -> bool
     })
 }
 
-fn handles_there(machine: &Machine, handles: &[Option<Slot>]) -> bool
-    ensures { result ≡ list_all (none_or (is_there machine.now.objects)) handles.now }
-{
-    handles.iter().all(|&slot| any_there(machine, slot))
-}
-
 fn session_names_objects(machine: &Machine, session: &Session) -> bool
     ensures { result ≡ session_there machine.now.objects session.now }
 {
-    handles_there(machine, session.handles.as_slice()) && any_there(machine, session.fence)
+    all_or_null_there(machine, session.handles.as_slice()) && any_there(machine, session.fence)
 }
 
 fn sessions_name_objects(machine: &Machine) -> bool
