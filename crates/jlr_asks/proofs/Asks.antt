@@ -1,6 +1,7 @@
 -- Asks: what is read is what was written, and what was written is read again.
-use Rattle.std.proofs.Common.{◌≡◌, ℕ, zero, suc, ◌≤◌, Bool, true, false, cond, List, [], ◌∷◌, ◌++◌, length, Result, Ok, Err, refl, sym, ap, subst, ◌∙◌, arith}
+use Rattle.std.proofs.Common.{◌≡◌, ℕ, zero, suc, ◌≤◌, ◌^◌, Bool, true, false, cond, List, [], ◌∷◌, ◌++◌, length, Result, Ok, Err, refl, sym, ap, subst, ◌∙◌, arith}
 use Rattle.std.specs.Prelude.{nat_eq}
+use Rattle.std.specs.Int.{w16}
 use Rattle.std.specs.List.{flat_map, AllByRecursion}
 use Rattle.std.proofs.lemmas.Bool.{eqb-true}
 use Rattle.jlr_types.specs.declared.FieldKind.{FieldKind}
@@ -11,23 +12,25 @@ use Rattle.jlr_machine.specs.declared.ask.Outcome.TheVariants.{Ok as OutcomeOk, 
 use Rattle.jlr_machine.specs.declared.ask.FullMode.{FullMode}
 use Rattle.jlr_machine.specs.declared.ask.FullMode.TheVariants.{Policy, ClearAll}
 use Rattle.jlr_machine.specs.declared.ask.CallOutcome.TheVariants.{Data as GotData, Wrote as GotWrote, Failed as GotFailed}
-use Rattle.jlr_machine.specs.declared.ask.Ask.TheVariants.{Join, Leave, New, Put, Get, SetInt, Int, Dup, Drop, Same, MakeRef, Deref, Refers, Clear, Enqueue, Enqueued, MakeQueue, Poll, Remove, MakeCleaner, Register, Clean, Prepare, Opened, CheckOut, CheckIn, Close, Finish, Bind, Find, Unbind, Names, Full, Stat, Notes, Faults, HandOver, TakeUp, Begin, Collect, Abandon}
+use Rattle.jlr_machine.specs.declared.ask.Ask.TheVariants.{Join, Leave, New, Put, Get, SetInt, Int, Dup, Drop, Same, MakeRef, Deref, Refers, Clear, Enqueue, Enqueued, MakeQueue, Poll, Remove, MakeCleaner, Register, Clean, Prepare, Opened, CheckOut, CheckIn, Close, Finish, Bind, Find, Unbind, Names, Full, Stat, Notes, Faults, HandOver, TakeUp, Begin, Collect, Abandon, Array}
 use Rattle.jlr_fields.specs.declared.fault.Fault.{Fault}
 use Rattle.jlr_fields.specs.declared.fault.Fault.TheVariants.{Range}
-use Rattle.jlr_fields.specs.Reading.{picked_at}
-use Rattle.jlr_fields.specs.Spelling.{spelled_8, IsBytes}
+use Rattle.jlr_fields.specs.declared.version.Version.{Version}
+use Rattle.jlr_fields.specs.declared.version.Version.TheVariants.{One, Two}
+use Rattle.jlr_fields.specs.Reading.{picked_at, number_within_at}
+use Rattle.jlr_fields.specs.Spelling.{spelled_8, spelled_16, IsBytes, IsWithin}
 use Rattle.jlr_fields.specs.Items.{items_at}
 use Rattle.jlr_fields.specs.Laws.{Takes, TakesBehind, TakesSpelled, ReadsAgain, IsField}
 use Rattle.jlr_fields.proofs.Steps.{bind_ok, ok_is}
-use Rattle.jlr_fields.proofs.Numbers.{four_bytes, eight_bytes}
-use Rattle.jlr_fields.proofs.Basics.{byte, within, signed, bytes, picked, picked_takes}
+use Rattle.jlr_fields.proofs.Numbers.{two_bytes, four_bytes, eight_bytes}
+use Rattle.jlr_fields.proofs.Basics.{byte, within, number_within, signed, bytes, picked, picked_takes}
 use Rattle.jlr_fields.proofs.Lists.{items_take, items_again}
 use Rattle.jlr_fields.proofs.Products.{then_takes, made_takes, one_takes, two_takes, three_takes, four_takes, then_again, one_again, two_again, three_again, four_again}
 use Rattle.jlr_parts.proofs.TableLaws.{ref_kind, fault}
 use Rattle.jlr_parts.proofs.Records.{name}
 use Rattle.jlr_asks.specs.declared.tag.Tag.{Tag}
-use Rattle.jlr_asks.specs.declared.tag.Tag.TheVariants.{Join as TagJoin, Leave as TagLeave, New as TagNew, Put as TagPut, Get as TagGet, SetInt as TagSetInt, Int as TagInt, Dup as TagDup, Drop as TagDrop, Same as TagSame, MakeRef as TagMakeRef, Deref as TagDeref, Refers as TagRefers, Clear as TagClear, Enqueue as TagEnqueue, Enqueued as TagEnqueued, MakeQueue as TagMakeQueue, Poll as TagPoll, Remove as TagRemove, MakeCleaner as TagMakeCleaner, Register as TagRegister, Clean as TagClean, Prepare as TagPrepare, Opened as TagOpened, CheckOut as TagCheckOut, CheckIn as TagCheckIn, Close as TagClose, Finish as TagFinish, Bind as TagBind, Find as TagFind, Unbind as TagUnbind, Names as TagNames, Full as TagFull, Stat as TagStat, Notes as TagNotes, Faults as TagFaults, HandOver as TagHandOver, TakeUp as TagTakeUp, Begin as TagBegin, Collect as TagCollect, Abandon as TagAbandon}
-use Rattle.jlr_asks.specs.Asks.{outcomes, outcome_number, modes, mode_number, spelled_kind, spelled_layout, kind_read, layout_read, spelled_call_outcome, CallOutcomeFits, call_outcome_behind, call_outcome_read, spelled_ask, AskFits, tags, body_of, ask_read}
+use Rattle.jlr_asks.specs.declared.tag.Tag.TheVariants.{Join as TagJoin, Leave as TagLeave, New as TagNew, Put as TagPut, Get as TagGet, SetInt as TagSetInt, Int as TagInt, Dup as TagDup, Drop as TagDrop, Same as TagSame, MakeRef as TagMakeRef, Deref as TagDeref, Refers as TagRefers, Clear as TagClear, Enqueue as TagEnqueue, Enqueued as TagEnqueued, MakeQueue as TagMakeQueue, Poll as TagPoll, Remove as TagRemove, MakeCleaner as TagMakeCleaner, Register as TagRegister, Clean as TagClean, Prepare as TagPrepare, Opened as TagOpened, CheckOut as TagCheckOut, CheckIn as TagCheckIn, Close as TagClose, Finish as TagFinish, Bind as TagBind, Find as TagFind, Unbind as TagUnbind, Names as TagNames, Full as TagFull, Stat as TagStat, Notes as TagNotes, Faults as TagFaults, HandOver as TagHandOver, TakeUp as TagTakeUp, Begin as TagBegin, Collect as TagCollect, Abandon as TagAbandon, Array as TagArray}
+use Rattle.jlr_asks.specs.Asks.{outcomes, outcome_number, modes, mode_number, spelled_kind, spelled_layout, kind_read, layout_read, spelled_call_outcome, CallOutcomeFits, call_outcome_behind, call_outcome_read, spelled_field, FieldFits, field_read, spelled_ask, AskFits, tags, array_read, body_of, ask_read}
 
 -- ---- Tables
 
@@ -128,6 +131,25 @@ call_outcome_again (GotFailed x) rest fits = one_again fault GotFailed x tt rest
 call_outcome : IsField call_outcome_read spelled_call_outcome CallOutcomeFits
 call_outcome = record { takes = call_outcome_takes; again = call_outcome_again }
 
+-- ---- The number of a field, and how many elements an array has
+
+two_byte_field : IsField (number_within_at w16 0 4095) spelled_16 (IsWithin 0 4095)
+two_byte_field = number_within w16 (2 ^ 16) 0 4095 (omega arith) two_bytes
+
+field_takes : (version : Version) → TakesSpelled (field_read version) (spelled_field version) (FieldFits version)
+field_takes One = byte.takes
+field_takes Two = λ bs n rest fits e. let t = two_byte_field.takes bs n rest fits e in (t.0, omega (arith, t.1.1))
+
+field_again : (version : Version) → ReadsAgain (field_read version) (spelled_field version) (FieldFits version)
+field_again One = byte.again
+field_again Two = λ n rest fits. two_byte_field.again n rest (omega arith, omega (arith, fits))
+
+field : (version : Version) → IsField (field_read version) (spelled_field version) (FieldFits version)
+field version = record { takes = field_takes version; again = field_again version }
+
+element_count : IsField (number_within_at w16 1 4096) spelled_16 (IsWithin 1 4096)
+element_count = number_within w16 (2 ^ 16) 1 4096 (omega arith) two_bytes
+
 -- ---- Asks
 
 abbrev tag_number : Tag → ℕ
@@ -172,101 +194,109 @@ tag_number TagTakeUp = 37
 tag_number TagBegin = 38
 tag_number TagCollect = 39
 tag_number TagAbandon = 40
+tag_number TagArray = 41
 
-body_takes : (tag : Tag) → TakesBehind (tag_number tag ∷ []) (body_of tag) spelled_ask AskFits
-body_takes TagJoin = one_takes byte (0 ∷ []) Join spelled_ask AskFits (λ a. refl) (λ a p. p)
-body_takes TagLeave = one_takes byte (1 ∷ []) Leave spelled_ask AskFits (λ a. refl) (λ a p. p)
-body_takes TagNew = two_takes byte layout (2 ∷ []) New spelled_ask AskFits (λ a b. refl) (λ a b p q. (p, q))
-body_takes TagPut = four_takes byte byte byte byte (3 ∷ []) Put spelled_ask AskFits (λ a b c d. refl) (λ a b c d p q r s. (p, q, r, s))
-body_takes TagGet = three_takes byte byte byte (4 ∷ []) Get spelled_ask AskFits (λ a b c. refl) (λ a b c p q r. (p, q, r))
-body_takes TagSetInt = four_takes byte byte byte signed (5 ∷ []) SetInt spelled_ask AskFits (λ a b c d. refl) (λ a b c d p q r s. (p, q, r, s))
-body_takes TagInt = three_takes byte byte byte (6 ∷ []) Int spelled_ask AskFits (λ a b c. refl) (λ a b c p q r. (p, q, r))
-body_takes TagDup = two_takes byte byte (7 ∷ []) Dup spelled_ask AskFits (λ a b. refl) (λ a b p q. (p, q))
-body_takes TagDrop = two_takes byte byte (8 ∷ []) Drop spelled_ask AskFits (λ a b. refl) (λ a b p q. (p, q))
-body_takes TagSame = three_takes byte byte byte (9 ∷ []) Same spelled_ask AskFits (λ a b c. refl) (λ a b c p q r. (p, q, r))
-body_takes TagMakeRef = four_takes byte ref_kind byte byte (10 ∷ []) MakeRef spelled_ask AskFits (λ a b c d. refl) (λ a b c d p q r s. (p, r, s))
-body_takes TagDeref = two_takes byte byte (11 ∷ []) Deref spelled_ask AskFits (λ a b. refl) (λ a b p q. (p, q))
-body_takes TagRefers = three_takes byte byte byte (12 ∷ []) Refers spelled_ask AskFits (λ a b c. refl) (λ a b c p q r. (p, q, r))
-body_takes TagClear = two_takes byte byte (13 ∷ []) Clear spelled_ask AskFits (λ a b. refl) (λ a b p q. (p, q))
-body_takes TagEnqueue = two_takes byte byte (14 ∷ []) Enqueue spelled_ask AskFits (λ a b. refl) (λ a b p q. (p, q))
-body_takes TagEnqueued = two_takes byte byte (15 ∷ []) Enqueued spelled_ask AskFits (λ a b. refl) (λ a b p q. (p, q))
-body_takes TagMakeQueue = one_takes byte (16 ∷ []) MakeQueue spelled_ask AskFits (λ a. refl) (λ a p. p)
-body_takes TagPoll = two_takes byte byte (17 ∷ []) Poll spelled_ask AskFits (λ a b. refl) (λ a b p q. (p, q))
-body_takes TagRemove = two_takes byte byte (18 ∷ []) Remove spelled_ask AskFits (λ a b. refl) (λ a b p q. (p, q))
-body_takes TagMakeCleaner = one_takes byte (19 ∷ []) MakeCleaner spelled_ask AskFits (λ a. refl) (λ a p. p)
-body_takes TagRegister = four_takes byte byte byte four_bytes (20 ∷ []) Register spelled_ask AskFits (λ a b c d. refl) (λ a b c d p q r s. (p, q, r, s))
-body_takes TagClean = two_takes byte byte (21 ∷ []) Clean spelled_ask AskFits (λ a b. refl) (λ a b p q. (p, q))
-body_takes TagPrepare = one_takes byte (22 ∷ []) Prepare spelled_ask AskFits (λ a. refl) (λ a p. p)
-body_takes TagOpened = two_takes byte outcome (23 ∷ []) Opened spelled_ask AskFits (λ a b. refl) (λ a b p q. p)
-body_takes TagCheckOut = two_takes byte byte (24 ∷ []) CheckOut spelled_ask AskFits (λ a b. refl) (λ a b p q. (p, q))
-body_takes TagCheckIn = two_takes byte call_outcome (25 ∷ []) CheckIn spelled_ask AskFits (λ a b. refl) (λ a b p q. (p, q))
-body_takes TagClose = two_takes byte byte (26 ∷ []) Close spelled_ask AskFits (λ a b. refl) (λ a b p q. (p, q))
-body_takes TagFinish = three_takes byte eight_bytes outcome (27 ∷ []) Finish spelled_ask AskFits (λ a b c. refl) (λ a b c p q r. (p, q))
-body_takes TagBind = three_takes byte name byte (28 ∷ []) Bind spelled_ask AskFits (λ a b c. refl) (λ a b c p q r. (p, q, r))
-body_takes TagFind = two_takes byte name (29 ∷ []) Find spelled_ask AskFits (λ a b. refl) (λ a b p q. (p, q))
-body_takes TagUnbind = two_takes byte name (30 ∷ []) Unbind spelled_ask AskFits (λ a b. refl) (λ a b p q. (p, q))
-body_takes TagNames = one_takes byte (31 ∷ []) Names spelled_ask AskFits (λ a. refl) (λ a p. p)
-body_takes TagFull = two_takes byte mode (32 ∷ []) Full spelled_ask AskFits (λ a b. refl) (λ a b p q. p)
-body_takes TagStat = one_takes byte (33 ∷ []) Stat spelled_ask AskFits (λ a. refl) (λ a p. p)
-body_takes TagNotes = one_takes byte (34 ∷ []) Notes spelled_ask AskFits (λ a. refl) (λ a p. p)
-body_takes TagFaults = one_takes byte (35 ∷ []) Faults spelled_ask AskFits (λ a. refl) (λ a p. p)
-body_takes TagHandOver = made_takes (36 ∷ []) HandOver spelled_ask AskFits refl tt
-body_takes TagTakeUp = made_takes (37 ∷ []) TakeUp spelled_ask AskFits refl tt
-body_takes TagBegin = made_takes (38 ∷ []) Begin spelled_ask AskFits refl tt
-body_takes TagCollect = made_takes (39 ∷ []) Collect spelled_ask AskFits refl tt
-body_takes TagAbandon = made_takes (40 ∷ []) Abandon spelled_ask AskFits refl tt
+array_takes : (version : Version) → TakesBehind (41 ∷ []) (array_read version) (spelled_ask version) (AskFits version)
+array_takes One = λ bs x rest fits e. absurd cc
+array_takes Two = two_takes byte element_count (41 ∷ []) Array (spelled_ask Two) (AskFits Two) (λ a b. refl) (λ a b p q. (p, q))
 
-ask_takes : TakesSpelled ask_read spelled_ask AskFits
+body_takes : (version : Version) (tag : Tag) → TakesBehind (tag_number tag ∷ []) (body_of version tag) (spelled_ask version) (AskFits version)
+body_takes version TagJoin = one_takes byte (0 ∷ []) Join (spelled_ask version) (AskFits version) (λ a. refl) (λ a p. p)
+body_takes version TagLeave = one_takes byte (1 ∷ []) Leave (spelled_ask version) (AskFits version) (λ a. refl) (λ a p. p)
+body_takes version TagNew = two_takes byte layout (2 ∷ []) New (spelled_ask version) (AskFits version) (λ a b. refl) (λ a b p q. (p, q))
+body_takes version TagPut = four_takes byte byte (field version) byte (3 ∷ []) Put (spelled_ask version) (AskFits version) (λ a b c d. refl) (λ a b c d p q r s. (p, q, r, s))
+body_takes version TagGet = three_takes byte byte (field version) (4 ∷ []) Get (spelled_ask version) (AskFits version) (λ a b c. refl) (λ a b c p q r. (p, q, r))
+body_takes version TagSetInt = four_takes byte byte (field version) signed (5 ∷ []) SetInt (spelled_ask version) (AskFits version) (λ a b c d. refl) (λ a b c d p q r s. (p, q, r, s))
+body_takes version TagInt = three_takes byte byte (field version) (6 ∷ []) Int (spelled_ask version) (AskFits version) (λ a b c. refl) (λ a b c p q r. (p, q, r))
+body_takes version TagDup = two_takes byte byte (7 ∷ []) Dup (spelled_ask version) (AskFits version) (λ a b. refl) (λ a b p q. (p, q))
+body_takes version TagDrop = two_takes byte byte (8 ∷ []) Drop (spelled_ask version) (AskFits version) (λ a b. refl) (λ a b p q. (p, q))
+body_takes version TagSame = three_takes byte byte byte (9 ∷ []) Same (spelled_ask version) (AskFits version) (λ a b c. refl) (λ a b c p q r. (p, q, r))
+body_takes version TagMakeRef = four_takes byte ref_kind byte byte (10 ∷ []) MakeRef (spelled_ask version) (AskFits version) (λ a b c d. refl) (λ a b c d p q r s. (p, r, s))
+body_takes version TagDeref = two_takes byte byte (11 ∷ []) Deref (spelled_ask version) (AskFits version) (λ a b. refl) (λ a b p q. (p, q))
+body_takes version TagRefers = three_takes byte byte byte (12 ∷ []) Refers (spelled_ask version) (AskFits version) (λ a b c. refl) (λ a b c p q r. (p, q, r))
+body_takes version TagClear = two_takes byte byte (13 ∷ []) Clear (spelled_ask version) (AskFits version) (λ a b. refl) (λ a b p q. (p, q))
+body_takes version TagEnqueue = two_takes byte byte (14 ∷ []) Enqueue (spelled_ask version) (AskFits version) (λ a b. refl) (λ a b p q. (p, q))
+body_takes version TagEnqueued = two_takes byte byte (15 ∷ []) Enqueued (spelled_ask version) (AskFits version) (λ a b. refl) (λ a b p q. (p, q))
+body_takes version TagMakeQueue = one_takes byte (16 ∷ []) MakeQueue (spelled_ask version) (AskFits version) (λ a. refl) (λ a p. p)
+body_takes version TagPoll = two_takes byte byte (17 ∷ []) Poll (spelled_ask version) (AskFits version) (λ a b. refl) (λ a b p q. (p, q))
+body_takes version TagRemove = two_takes byte byte (18 ∷ []) Remove (spelled_ask version) (AskFits version) (λ a b. refl) (λ a b p q. (p, q))
+body_takes version TagMakeCleaner = one_takes byte (19 ∷ []) MakeCleaner (spelled_ask version) (AskFits version) (λ a. refl) (λ a p. p)
+body_takes version TagRegister = four_takes byte byte byte four_bytes (20 ∷ []) Register (spelled_ask version) (AskFits version) (λ a b c d. refl) (λ a b c d p q r s. (p, q, r, s))
+body_takes version TagClean = two_takes byte byte (21 ∷ []) Clean (spelled_ask version) (AskFits version) (λ a b. refl) (λ a b p q. (p, q))
+body_takes version TagPrepare = one_takes byte (22 ∷ []) Prepare (spelled_ask version) (AskFits version) (λ a. refl) (λ a p. p)
+body_takes version TagOpened = two_takes byte outcome (23 ∷ []) Opened (spelled_ask version) (AskFits version) (λ a b. refl) (λ a b p q. p)
+body_takes version TagCheckOut = two_takes byte byte (24 ∷ []) CheckOut (spelled_ask version) (AskFits version) (λ a b. refl) (λ a b p q. (p, q))
+body_takes version TagCheckIn = two_takes byte call_outcome (25 ∷ []) CheckIn (spelled_ask version) (AskFits version) (λ a b. refl) (λ a b p q. (p, q))
+body_takes version TagClose = two_takes byte byte (26 ∷ []) Close (spelled_ask version) (AskFits version) (λ a b. refl) (λ a b p q. (p, q))
+body_takes version TagFinish = three_takes byte eight_bytes outcome (27 ∷ []) Finish (spelled_ask version) (AskFits version) (λ a b c. refl) (λ a b c p q r. (p, q))
+body_takes version TagBind = three_takes byte name byte (28 ∷ []) Bind (spelled_ask version) (AskFits version) (λ a b c. refl) (λ a b c p q r. (p, q, r))
+body_takes version TagFind = two_takes byte name (29 ∷ []) Find (spelled_ask version) (AskFits version) (λ a b. refl) (λ a b p q. (p, q))
+body_takes version TagUnbind = two_takes byte name (30 ∷ []) Unbind (spelled_ask version) (AskFits version) (λ a b. refl) (λ a b p q. (p, q))
+body_takes version TagNames = one_takes byte (31 ∷ []) Names (spelled_ask version) (AskFits version) (λ a. refl) (λ a p. p)
+body_takes version TagFull = two_takes byte mode (32 ∷ []) Full (spelled_ask version) (AskFits version) (λ a b. refl) (λ a b p q. p)
+body_takes version TagStat = one_takes byte (33 ∷ []) Stat (spelled_ask version) (AskFits version) (λ a. refl) (λ a p. p)
+body_takes version TagNotes = one_takes byte (34 ∷ []) Notes (spelled_ask version) (AskFits version) (λ a. refl) (λ a p. p)
+body_takes version TagFaults = one_takes byte (35 ∷ []) Faults (spelled_ask version) (AskFits version) (λ a. refl) (λ a p. p)
+body_takes version TagHandOver = made_takes (36 ∷ []) HandOver (spelled_ask version) (AskFits version) refl tt
+body_takes version TagTakeUp = made_takes (37 ∷ []) TakeUp (spelled_ask version) (AskFits version) refl tt
+body_takes version TagBegin = made_takes (38 ∷ []) Begin (spelled_ask version) (AskFits version) refl tt
+body_takes version TagCollect = made_takes (39 ∷ []) Collect (spelled_ask version) (AskFits version) refl tt
+body_takes version TagAbandon = made_takes (40 ∷ []) Abandon (spelled_ask version) (AskFits version) refl tt
+body_takes version TagArray = array_takes version
+
+ask_takes : (version : Version) → TakesSpelled (ask_read version) (spelled_ask version) (AskFits version)
 unfolding ask_read
-ask_takes bs x rest fits e =
-    let a = bind_ok (picked_at 0 tags bs) (λ tag. body_of tag.0 tag.1) (x, rest) e in
+ask_takes version bs x rest fits e =
+    let a = bind_ok (picked_at 0 tags bs) (λ tag. body_of version tag.0 tag.1) (x, rest) e in
     let t = picked_takes 0 tags tag_number refl bs a.0.0 a.0.1 fits a.1 in
-    let r = body_takes a.0.0 a.0.1 x rest t.rest_fits a.2 in
+    let r = body_takes version a.0.0 a.0.1 x rest t.rest_fits a.2 in
     (record { parts = t.parts ∙ r.0.parts; rest_fits = r.0.rest_fits }, r.1)
 
-ask_again : ReadsAgain ask_read spelled_ask AskFits
+ask_again : (version : Version) → ReadsAgain (ask_read version) (spelled_ask version) (AskFits version)
 unfolding ask_read picked_at
-ask_again (Join mutator) rest fits = refl
-ask_again (Leave mutator) rest fits = refl
-ask_again (New a b) rest fits = two_again byte layout New a b fits.0 fits.1 rest
-ask_again (Put mutator object field value) rest fits = refl
-ask_again (Get mutator object field) rest fits = refl
-ask_again (SetInt a b c d) rest fits = four_again byte byte byte signed SetInt a b c d fits.0 fits.1 fits.2 fits.3 rest
-ask_again (Int mutator object field) rest fits = refl
-ask_again (Dup mutator object) rest fits = refl
-ask_again (Drop mutator object) rest fits = refl
-ask_again (Same mutator left right) rest fits = refl
-ask_again (MakeRef a b c d) rest fits = four_again byte ref_kind byte byte MakeRef a b c d fits.0 tt fits.1 fits.2 rest
-ask_again (Deref mutator reference) rest fits = refl
-ask_again (Refers mutator reference object) rest fits = refl
-ask_again (Clear mutator reference) rest fits = refl
-ask_again (Enqueue mutator reference) rest fits = refl
-ask_again (Enqueued mutator reference) rest fits = refl
-ask_again (MakeQueue mutator) rest fits = refl
-ask_again (Poll mutator queue) rest fits = refl
-ask_again (Remove mutator queue) rest fits = refl
-ask_again (MakeCleaner mutator) rest fits = refl
-ask_again (Register a b c d) rest fits = four_again byte byte byte four_bytes Register a b c d fits.0 fits.1 fits.2 fits.3 rest
-ask_again (Clean mutator cleanable) rest fits = refl
-ask_again (Prepare mutator) rest fits = refl
-ask_again (Opened a b) rest fits = two_again byte outcome Opened a b fits tt rest
-ask_again (CheckOut mutator guard) rest fits = refl
-ask_again (CheckIn a b) rest fits = two_again byte call_outcome CheckIn a b fits.0 fits.1 rest
-ask_again (Close mutator guard) rest fits = refl
-ask_again (Finish a b c) rest fits = three_again byte eight_bytes outcome Finish a b c fits.0 fits.1 tt rest
-ask_again (Bind a b c) rest fits = three_again byte name byte Bind a b c fits.0 fits.1 fits.2 rest
-ask_again (Find a b) rest fits = two_again byte name Find a b fits.0 fits.1 rest
-ask_again (Unbind a b) rest fits = two_again byte name Unbind a b fits.0 fits.1 rest
-ask_again (Names mutator) rest fits = refl
-ask_again (Full a b) rest fits = two_again byte mode Full a b fits tt rest
-ask_again (Stat mutator) rest fits = refl
-ask_again (Notes mutator) rest fits = refl
-ask_again (Faults mutator) rest fits = refl
-ask_again HandOver rest fits = refl
-ask_again TakeUp rest fits = refl
-ask_again Begin rest fits = refl
-ask_again Collect rest fits = refl
-ask_again Abandon rest fits = refl
+ask_again version (Join mutator) rest fits = refl
+ask_again version (Leave mutator) rest fits = refl
+ask_again version (New a b) rest fits = two_again byte layout New a b fits.0 fits.1 rest
+ask_again version (Put a b c d) rest fits = four_again byte byte (field version) byte Put a b c d fits.0 fits.1 fits.2 fits.3 rest
+ask_again version (Get a b c) rest fits = three_again byte byte (field version) Get a b c fits.0 fits.1 fits.2 rest
+ask_again version (SetInt a b c d) rest fits = four_again byte byte (field version) signed SetInt a b c d fits.0 fits.1 fits.2 fits.3 rest
+ask_again version (Int a b c) rest fits = three_again byte byte (field version) Int a b c fits.0 fits.1 fits.2 rest
+ask_again version (Dup mutator object) rest fits = refl
+ask_again version (Drop mutator object) rest fits = refl
+ask_again version (Same mutator left right) rest fits = refl
+ask_again version (MakeRef a b c d) rest fits = four_again byte ref_kind byte byte MakeRef a b c d fits.0 tt fits.1 fits.2 rest
+ask_again version (Deref mutator reference) rest fits = refl
+ask_again version (Refers mutator reference object) rest fits = refl
+ask_again version (Clear mutator reference) rest fits = refl
+ask_again version (Enqueue mutator reference) rest fits = refl
+ask_again version (Enqueued mutator reference) rest fits = refl
+ask_again version (MakeQueue mutator) rest fits = refl
+ask_again version (Poll mutator queue) rest fits = refl
+ask_again version (Remove mutator queue) rest fits = refl
+ask_again version (MakeCleaner mutator) rest fits = refl
+ask_again version (Register a b c d) rest fits = four_again byte byte byte four_bytes Register a b c d fits.0 fits.1 fits.2 fits.3 rest
+ask_again version (Clean mutator cleanable) rest fits = refl
+ask_again version (Prepare mutator) rest fits = refl
+ask_again version (Opened a b) rest fits = two_again byte outcome Opened a b fits tt rest
+ask_again version (CheckOut mutator guard) rest fits = refl
+ask_again version (CheckIn a b) rest fits = two_again byte call_outcome CheckIn a b fits.0 fits.1 rest
+ask_again version (Close mutator guard) rest fits = refl
+ask_again version (Finish a b c) rest fits = three_again byte eight_bytes outcome Finish a b c fits.0 fits.1 tt rest
+ask_again version (Bind a b c) rest fits = three_again byte name byte Bind a b c fits.0 fits.1 fits.2 rest
+ask_again version (Find a b) rest fits = two_again byte name Find a b fits.0 fits.1 rest
+ask_again version (Unbind a b) rest fits = two_again byte name Unbind a b fits.0 fits.1 rest
+ask_again version (Names mutator) rest fits = refl
+ask_again version (Full a b) rest fits = two_again byte mode Full a b fits tt rest
+ask_again version (Stat mutator) rest fits = refl
+ask_again version (Notes mutator) rest fits = refl
+ask_again version (Faults mutator) rest fits = refl
+ask_again version HandOver rest fits = refl
+ask_again version TakeUp rest fits = refl
+ask_again version Begin rest fits = refl
+ask_again version Collect rest fits = refl
+ask_again version Abandon rest fits = refl
+ask_again One (Array a b) rest fits = absurd fits
+ask_again Two (Array a b) rest fits = two_again byte element_count Array a b fits.0 fits.1 rest
 
-pub ask : IsField ask_read spelled_ask AskFits
-ask = record { takes = ask_takes; again = ask_again }
+pub ask : (version : Version) → IsField (ask_read version) (spelled_ask version) (AskFits version)
+ask version = record { takes = ask_takes version; again = ask_again version }

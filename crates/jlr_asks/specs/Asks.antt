@@ -1,7 +1,7 @@
 -- How asks are spelled and read, and which have a spelling.
 use Rattle.std.specs.Prelude.{ℕ, zero, suc, ◌<◌, ◌≤◌, ◌^◌, ◌==◌, List, [], ◌∷◌, ◌++◌, length, Option, Some, None, Ok, Err, if◌then◌else◌}
 use Rattle.std.specs.List.{flat_map}
-use Rattle.std.specs.Int.{w32, w64}
+use Rattle.std.specs.Int.{w16, w32, w64}
 use Rattle.jlr_types.specs.declared.FieldKind.{FieldKind}
 use Rattle.jlr_types.specs.declared.FieldKind.TheVariants.{Int as IntField, Ref as RefField}
 use Rattle.jlr_types.specs.declared.Fault.TheVariants.{NotFound, Denied, Other}
@@ -12,15 +12,17 @@ use Rattle.jlr_machine.specs.declared.ask.FullMode.TheVariants.{Policy, ClearAll
 use Rattle.jlr_machine.specs.declared.ask.CallOutcome.{CallOutcome}
 use Rattle.jlr_machine.specs.declared.ask.CallOutcome.TheVariants.{Data as GotData, Wrote as GotWrote, Failed as GotFailed}
 use Rattle.jlr_machine.specs.declared.ask.Ask.{Ask}
-use Rattle.jlr_machine.specs.declared.ask.Ask.TheVariants.{Join, Leave, New, Put, Get, SetInt, Int, Dup, Drop, Same, MakeRef, Deref, Refers, Clear, Enqueue, Enqueued, MakeQueue, Poll, Remove, MakeCleaner, Register, Clean, Prepare, Opened, CheckOut, CheckIn, Close, Finish, Bind, Find, Unbind, Names, Full, Stat, Notes, Faults, HandOver, TakeUp, Begin, Collect, Abandon}
+use Rattle.jlr_machine.specs.declared.ask.Ask.TheVariants.{Join, Leave, New, Put, Get, SetInt, Int, Dup, Drop, Same, MakeRef, Deref, Refers, Clear, Enqueue, Enqueued, MakeQueue, Poll, Remove, MakeCleaner, Register, Clean, Prepare, Opened, CheckOut, CheckIn, Close, Finish, Bind, Find, Unbind, Names, Full, Stat, Notes, Faults, HandOver, TakeUp, Begin, Collect, Abandon, Array}
 use Rattle.jlr_fields.specs.declared.fault.Fault.TheVariants.{Range}
-use Rattle.jlr_fields.specs.Spelling.{spelled_8, spelled_32, spelled_64, spelled_signed, spelled_text, IsSigned, IsText, IsWithin}
-use Rattle.jlr_fields.specs.Reading.{Reader, ◌>>=◌, one_field, two_fields, three_fields, four_fields, byte_at, byte_within_at, number_at, signed_at, picked_at, bytes_at, text_at, is_name_byte}
+use Rattle.jlr_fields.specs.declared.version.Version.{Version}
+use Rattle.jlr_fields.specs.declared.version.Version.TheVariants.{One, Two}
+use Rattle.jlr_fields.specs.Spelling.{spelled_8, spelled_16, spelled_32, spelled_64, spelled_signed, spelled_text, IsSigned, IsText, IsWithin}
+use Rattle.jlr_fields.specs.Reading.{Reader, ◌>>=◌, one_field, two_fields, three_fields, four_fields, byte_at, byte_within_at, number_at, number_within_at, signed_at, picked_at, bytes_at, text_at, is_name_byte}
 use Rattle.jlr_fields.specs.Items.{items_at}
 use Rattle.jlr_parts.specs.Tables.{ref_kinds, ref_kind_number, faults, fault_number}
 use Rattle.jlr_parts.specs.Records.{NameFits}
 use Rattle.jlr_asks.specs.declared.tag.Tag.{Tag}
-use Rattle.jlr_asks.specs.declared.tag.Tag.TheVariants.{Join as TagJoin, Leave as TagLeave, New as TagNew, Put as TagPut, Get as TagGet, SetInt as TagSetInt, Int as TagInt, Dup as TagDup, Drop as TagDrop, Same as TagSame, MakeRef as TagMakeRef, Deref as TagDeref, Refers as TagRefers, Clear as TagClear, Enqueue as TagEnqueue, Enqueued as TagEnqueued, MakeQueue as TagMakeQueue, Poll as TagPoll, Remove as TagRemove, MakeCleaner as TagMakeCleaner, Register as TagRegister, Clean as TagClean, Prepare as TagPrepare, Opened as TagOpened, CheckOut as TagCheckOut, CheckIn as TagCheckIn, Close as TagClose, Finish as TagFinish, Bind as TagBind, Find as TagFind, Unbind as TagUnbind, Names as TagNames, Full as TagFull, Stat as TagStat, Notes as TagNotes, Faults as TagFaults, HandOver as TagHandOver, TakeUp as TagTakeUp, Begin as TagBegin, Collect as TagCollect, Abandon as TagAbandon}
+use Rattle.jlr_asks.specs.declared.tag.Tag.TheVariants.{Join as TagJoin, Leave as TagLeave, New as TagNew, Put as TagPut, Get as TagGet, SetInt as TagSetInt, Int as TagInt, Dup as TagDup, Drop as TagDrop, Same as TagSame, MakeRef as TagMakeRef, Deref as TagDeref, Refers as TagRefers, Clear as TagClear, Enqueue as TagEnqueue, Enqueued as TagEnqueued, MakeQueue as TagMakeQueue, Poll as TagPoll, Remove as TagRemove, MakeCleaner as TagMakeCleaner, Register as TagRegister, Clean as TagClean, Prepare as TagPrepare, Opened as TagOpened, CheckOut as TagCheckOut, CheckIn as TagCheckIn, Close as TagClose, Finish as TagFinish, Bind as TagBind, Find as TagFind, Unbind as TagUnbind, Names as TagNames, Full as TagFull, Stat as TagStat, Notes as TagNotes, Faults as TagFaults, HandOver as TagHandOver, TakeUp as TagTakeUp, Begin as TagBegin, Collect as TagCollect, Abandon as TagAbandon, Array as TagArray}
 
 -- ---- Tables
 
@@ -81,140 +83,167 @@ call_outcome_behind (suc (suc (suc n))) bytes = Err Range
 unfoldable pub call_outcome_read : Reader CallOutcome
 call_outcome_read bytes = byte_at bytes >>= λ kind. call_outcome_behind kind.0 kind.1
 
+-- ---- The number of a field: a byte in version 1, and two bytes in version 2
+
+abbrev pub spelled_field : Version → ℕ → List ℕ
+spelled_field One field = spelled_8 field
+spelled_field Two field = spelled_16 field
+
+abbrev pub FieldFits : Version → ℕ → Type 0
+FieldFits One field = field < 256
+FieldFits Two field = field < 4096
+
+abbrev pub field_read : Version → Reader ℕ
+field_read One bytes = byte_at bytes
+field_read Two bytes = number_within_at w16 0 4095 bytes
+
 -- ---- Asks: a number, and the fields in order
 
-abbrev pub spelled_ask : Ask → List ℕ
-spelled_ask (Join mutator) = 0 ∷ mutator ∷ []
-spelled_ask (Leave mutator) = 1 ∷ mutator ∷ []
-spelled_ask (New mutator layout) = 2 ∷ mutator ∷ spelled_layout layout
-spelled_ask (Put mutator object field value) = 3 ∷ mutator ∷ object ∷ field ∷ value ∷ []
-spelled_ask (Get mutator object field) = 4 ∷ mutator ∷ object ∷ field ∷ []
-spelled_ask (SetInt mutator object field value) = 5 ∷ mutator ∷ object ∷ field ∷ spelled_signed value
-spelled_ask (Int mutator object field) = 6 ∷ mutator ∷ object ∷ field ∷ []
-spelled_ask (Dup mutator object) = 7 ∷ mutator ∷ object ∷ []
-spelled_ask (Drop mutator object) = 8 ∷ mutator ∷ object ∷ []
-spelled_ask (Same mutator left right) = 9 ∷ mutator ∷ left ∷ right ∷ []
-spelled_ask (MakeRef mutator kind referent queue) = 10 ∷ mutator ∷ ref_kind_number kind ∷ referent ∷ queue ∷ []
-spelled_ask (Deref mutator reference) = 11 ∷ mutator ∷ reference ∷ []
-spelled_ask (Refers mutator reference object) = 12 ∷ mutator ∷ reference ∷ object ∷ []
-spelled_ask (Clear mutator reference) = 13 ∷ mutator ∷ reference ∷ []
-spelled_ask (Enqueue mutator reference) = 14 ∷ mutator ∷ reference ∷ []
-spelled_ask (Enqueued mutator reference) = 15 ∷ mutator ∷ reference ∷ []
-spelled_ask (MakeQueue mutator) = 16 ∷ mutator ∷ []
-spelled_ask (Poll mutator queue) = 17 ∷ mutator ∷ queue ∷ []
-spelled_ask (Remove mutator queue) = 18 ∷ mutator ∷ queue ∷ []
-spelled_ask (MakeCleaner mutator) = 19 ∷ mutator ∷ []
-spelled_ask (Register mutator cleaner object note) = 20 ∷ mutator ∷ cleaner ∷ object ∷ spelled_32 note
-spelled_ask (Clean mutator cleanable) = 21 ∷ mutator ∷ cleanable ∷ []
-spelled_ask (Prepare mutator) = 22 ∷ mutator ∷ []
-spelled_ask (Opened mutator outcome) = 23 ∷ mutator ∷ outcome_number outcome ∷ []
-spelled_ask (CheckOut mutator guard) = 24 ∷ mutator ∷ guard ∷ []
-spelled_ask (CheckIn mutator outcome) = 25 ∷ mutator ∷ spelled_call_outcome outcome
-spelled_ask (Close mutator guard) = 26 ∷ mutator ∷ guard ∷ []
-spelled_ask (Finish by action outcome) = 27 ∷ by ∷ spelled_64 action ++ spelled_8 (outcome_number outcome)
-spelled_ask (Bind mutator name object) = 28 ∷ mutator ∷ spelled_text name ++ spelled_8 object
-spelled_ask (Find mutator name) = 29 ∷ mutator ∷ spelled_text name
-spelled_ask (Unbind mutator name) = 30 ∷ mutator ∷ spelled_text name
-spelled_ask (Names mutator) = 31 ∷ mutator ∷ []
-spelled_ask (Full mutator mode) = 32 ∷ mutator ∷ mode_number mode ∷ []
-spelled_ask (Stat mutator) = 33 ∷ mutator ∷ []
-spelled_ask (Notes mutator) = 34 ∷ mutator ∷ []
-spelled_ask (Faults mutator) = 35 ∷ mutator ∷ []
-spelled_ask HandOver = 36 ∷ []
-spelled_ask TakeUp = 37 ∷ []
-spelled_ask Begin = 38 ∷ []
-spelled_ask Collect = 39 ∷ []
-spelled_ask Abandon = 40 ∷ []
+abbrev pub spelled_ask : Version → Ask → List ℕ
+spelled_ask version (Join mutator) = 0 ∷ mutator ∷ []
+spelled_ask version (Leave mutator) = 1 ∷ mutator ∷ []
+spelled_ask version (New mutator layout) = 2 ∷ mutator ∷ spelled_layout layout
+spelled_ask version (Put mutator object field value) = 3 ∷ mutator ∷ object ∷ spelled_field version field ++ spelled_8 value
+spelled_ask version (Get mutator object field) = 4 ∷ mutator ∷ object ∷ spelled_field version field
+spelled_ask version (SetInt mutator object field value) = 5 ∷ mutator ∷ object ∷ spelled_field version field ++ spelled_signed value
+spelled_ask version (Int mutator object field) = 6 ∷ mutator ∷ object ∷ spelled_field version field
+spelled_ask version (Dup mutator object) = 7 ∷ mutator ∷ object ∷ []
+spelled_ask version (Drop mutator object) = 8 ∷ mutator ∷ object ∷ []
+spelled_ask version (Same mutator left right) = 9 ∷ mutator ∷ left ∷ right ∷ []
+spelled_ask version (MakeRef mutator kind referent queue) = 10 ∷ mutator ∷ ref_kind_number kind ∷ referent ∷ queue ∷ []
+spelled_ask version (Deref mutator reference) = 11 ∷ mutator ∷ reference ∷ []
+spelled_ask version (Refers mutator reference object) = 12 ∷ mutator ∷ reference ∷ object ∷ []
+spelled_ask version (Clear mutator reference) = 13 ∷ mutator ∷ reference ∷ []
+spelled_ask version (Enqueue mutator reference) = 14 ∷ mutator ∷ reference ∷ []
+spelled_ask version (Enqueued mutator reference) = 15 ∷ mutator ∷ reference ∷ []
+spelled_ask version (MakeQueue mutator) = 16 ∷ mutator ∷ []
+spelled_ask version (Poll mutator queue) = 17 ∷ mutator ∷ queue ∷ []
+spelled_ask version (Remove mutator queue) = 18 ∷ mutator ∷ queue ∷ []
+spelled_ask version (MakeCleaner mutator) = 19 ∷ mutator ∷ []
+spelled_ask version (Register mutator cleaner object note) = 20 ∷ mutator ∷ cleaner ∷ object ∷ spelled_32 note
+spelled_ask version (Clean mutator cleanable) = 21 ∷ mutator ∷ cleanable ∷ []
+spelled_ask version (Prepare mutator) = 22 ∷ mutator ∷ []
+spelled_ask version (Opened mutator outcome) = 23 ∷ mutator ∷ outcome_number outcome ∷ []
+spelled_ask version (CheckOut mutator guard) = 24 ∷ mutator ∷ guard ∷ []
+spelled_ask version (CheckIn mutator outcome) = 25 ∷ mutator ∷ spelled_call_outcome outcome
+spelled_ask version (Close mutator guard) = 26 ∷ mutator ∷ guard ∷ []
+spelled_ask version (Finish by action outcome) = 27 ∷ by ∷ spelled_64 action ++ spelled_8 (outcome_number outcome)
+spelled_ask version (Bind mutator name object) = 28 ∷ mutator ∷ spelled_text name ++ spelled_8 object
+spelled_ask version (Find mutator name) = 29 ∷ mutator ∷ spelled_text name
+spelled_ask version (Unbind mutator name) = 30 ∷ mutator ∷ spelled_text name
+spelled_ask version (Names mutator) = 31 ∷ mutator ∷ []
+spelled_ask version (Full mutator mode) = 32 ∷ mutator ∷ mode_number mode ∷ []
+spelled_ask version (Stat mutator) = 33 ∷ mutator ∷ []
+spelled_ask version (Notes mutator) = 34 ∷ mutator ∷ []
+spelled_ask version (Faults mutator) = 35 ∷ mutator ∷ []
+spelled_ask version HandOver = 36 ∷ []
+spelled_ask version TakeUp = 37 ∷ []
+spelled_ask version Begin = 38 ∷ []
+spelled_ask version Collect = 39 ∷ []
+spelled_ask version Abandon = 40 ∷ []
+spelled_ask version (Array mutator length) = 41 ∷ mutator ∷ spelled_16 length
 
-abbrev pub AskFits : Ask → Type 0
-AskFits (Join mutator) = mutator < 256
-AskFits (Leave mutator) = mutator < 256
-AskFits (New mutator layout) = (mutator < 256) × (length layout ≤ 8)
-AskFits (Put mutator object field value) = (mutator < 256) × (object < 256) × (field < 256) × (value < 256)
-AskFits (Get mutator object field) = (mutator < 256) × (object < 256) × (field < 256)
-AskFits (SetInt mutator object field value) = (mutator < 256) × (object < 256) × (field < 256) × (IsSigned value)
-AskFits (Int mutator object field) = (mutator < 256) × (object < 256) × (field < 256)
-AskFits (Dup mutator object) = (mutator < 256) × (object < 256)
-AskFits (Drop mutator object) = (mutator < 256) × (object < 256)
-AskFits (Same mutator left right) = (mutator < 256) × (left < 256) × (right < 256)
-AskFits (MakeRef mutator kind referent queue) = (mutator < 256) × (referent < 256) × (queue < 256)
-AskFits (Deref mutator reference) = (mutator < 256) × (reference < 256)
-AskFits (Refers mutator reference object) = (mutator < 256) × (reference < 256) × (object < 256)
-AskFits (Clear mutator reference) = (mutator < 256) × (reference < 256)
-AskFits (Enqueue mutator reference) = (mutator < 256) × (reference < 256)
-AskFits (Enqueued mutator reference) = (mutator < 256) × (reference < 256)
-AskFits (MakeQueue mutator) = mutator < 256
-AskFits (Poll mutator queue) = (mutator < 256) × (queue < 256)
-AskFits (Remove mutator queue) = (mutator < 256) × (queue < 256)
-AskFits (MakeCleaner mutator) = mutator < 256
-AskFits (Register mutator cleaner object note) = (mutator < 256) × (cleaner < 256) × (object < 256) × (note < 2 ^ 32)
-AskFits (Clean mutator cleanable) = (mutator < 256) × (cleanable < 256)
-AskFits (Prepare mutator) = mutator < 256
-AskFits (Opened mutator outcome) = mutator < 256
-AskFits (CheckOut mutator guard) = (mutator < 256) × (guard < 256)
-AskFits (CheckIn mutator outcome) = (mutator < 256) × (CallOutcomeFits outcome)
-AskFits (Close mutator guard) = (mutator < 256) × (guard < 256)
-AskFits (Finish by action outcome) = (by < 256) × (action < 2 ^ 64)
-AskFits (Bind mutator name object) = (mutator < 256) × (NameFits name) × (object < 256)
-AskFits (Find mutator name) = (mutator < 256) × (NameFits name)
-AskFits (Unbind mutator name) = (mutator < 256) × (NameFits name)
-AskFits (Names mutator) = mutator < 256
-AskFits (Full mutator mode) = mutator < 256
-AskFits (Stat mutator) = mutator < 256
-AskFits (Notes mutator) = mutator < 256
-AskFits (Faults mutator) = mutator < 256
-AskFits HandOver = Unit {0}
-AskFits TakeUp = Unit {0}
-AskFits Begin = Unit {0}
-AskFits Collect = Unit {0}
-AskFits Abandon = Unit {0}
+-- version 1 has no arrays
+abbrev pub ArrayFits : Version → ℕ → ℕ → Type 0
+ArrayFits One mutator length = ⊥
+ArrayFits Two mutator length = (mutator < 256) × IsWithin 1 4096 length
+
+abbrev pub AskFits : Version → Ask → Type 0
+AskFits version (Join mutator) = mutator < 256
+AskFits version (Leave mutator) = mutator < 256
+AskFits version (New mutator layout) = (mutator < 256) × (length layout ≤ 8)
+AskFits version (Put mutator object field value) = (mutator < 256) × (object < 256) × (FieldFits version field) × (value < 256)
+AskFits version (Get mutator object field) = (mutator < 256) × (object < 256) × (FieldFits version field)
+AskFits version (SetInt mutator object field value) = (mutator < 256) × (object < 256) × (FieldFits version field) × (IsSigned value)
+AskFits version (Int mutator object field) = (mutator < 256) × (object < 256) × (FieldFits version field)
+AskFits version (Dup mutator object) = (mutator < 256) × (object < 256)
+AskFits version (Drop mutator object) = (mutator < 256) × (object < 256)
+AskFits version (Same mutator left right) = (mutator < 256) × (left < 256) × (right < 256)
+AskFits version (MakeRef mutator kind referent queue) = (mutator < 256) × (referent < 256) × (queue < 256)
+AskFits version (Deref mutator reference) = (mutator < 256) × (reference < 256)
+AskFits version (Refers mutator reference object) = (mutator < 256) × (reference < 256) × (object < 256)
+AskFits version (Clear mutator reference) = (mutator < 256) × (reference < 256)
+AskFits version (Enqueue mutator reference) = (mutator < 256) × (reference < 256)
+AskFits version (Enqueued mutator reference) = (mutator < 256) × (reference < 256)
+AskFits version (MakeQueue mutator) = mutator < 256
+AskFits version (Poll mutator queue) = (mutator < 256) × (queue < 256)
+AskFits version (Remove mutator queue) = (mutator < 256) × (queue < 256)
+AskFits version (MakeCleaner mutator) = mutator < 256
+AskFits version (Register mutator cleaner object note) = (mutator < 256) × (cleaner < 256) × (object < 256) × (note < 2 ^ 32)
+AskFits version (Clean mutator cleanable) = (mutator < 256) × (cleanable < 256)
+AskFits version (Prepare mutator) = mutator < 256
+AskFits version (Opened mutator outcome) = mutator < 256
+AskFits version (CheckOut mutator guard) = (mutator < 256) × (guard < 256)
+AskFits version (CheckIn mutator outcome) = (mutator < 256) × (CallOutcomeFits outcome)
+AskFits version (Close mutator guard) = (mutator < 256) × (guard < 256)
+AskFits version (Finish by action outcome) = (by < 256) × (action < 2 ^ 64)
+AskFits version (Bind mutator name object) = (mutator < 256) × (NameFits name) × (object < 256)
+AskFits version (Find mutator name) = (mutator < 256) × (NameFits name)
+AskFits version (Unbind mutator name) = (mutator < 256) × (NameFits name)
+AskFits version (Names mutator) = mutator < 256
+AskFits version (Full mutator mode) = mutator < 256
+AskFits version (Stat mutator) = mutator < 256
+AskFits version (Notes mutator) = mutator < 256
+AskFits version (Faults mutator) = mutator < 256
+AskFits version HandOver = Unit {0}
+AskFits version TakeUp = Unit {0}
+AskFits version Begin = Unit {0}
+AskFits version Collect = Unit {0}
+AskFits version Abandon = Unit {0}
+AskFits version (Array mutator length) = ArrayFits version mutator length
 
 abbrev pub tags : List Tag
-tags = TagJoin ∷ TagLeave ∷ TagNew ∷ TagPut ∷ TagGet ∷ TagSetInt ∷ TagInt ∷ TagDup ∷ TagDrop ∷ TagSame ∷ TagMakeRef ∷ TagDeref ∷ TagRefers ∷ TagClear ∷ TagEnqueue ∷ TagEnqueued ∷ TagMakeQueue ∷ TagPoll ∷ TagRemove ∷ TagMakeCleaner ∷ TagRegister ∷ TagClean ∷ TagPrepare ∷ TagOpened ∷ TagCheckOut ∷ TagCheckIn ∷ TagClose ∷ TagFinish ∷ TagBind ∷ TagFind ∷ TagUnbind ∷ TagNames ∷ TagFull ∷ TagStat ∷ TagNotes ∷ TagFaults ∷ TagHandOver ∷ TagTakeUp ∷ TagBegin ∷ TagCollect ∷ TagAbandon ∷ []
+tags = TagJoin ∷ TagLeave ∷ TagNew ∷ TagPut ∷ TagGet ∷ TagSetInt ∷ TagInt ∷ TagDup ∷ TagDrop ∷ TagSame ∷ TagMakeRef ∷ TagDeref ∷ TagRefers ∷ TagClear ∷ TagEnqueue ∷ TagEnqueued ∷ TagMakeQueue ∷ TagPoll ∷ TagRemove ∷ TagMakeCleaner ∷ TagRegister ∷ TagClean ∷ TagPrepare ∷ TagOpened ∷ TagCheckOut ∷ TagCheckIn ∷ TagClose ∷ TagFinish ∷ TagBind ∷ TagFind ∷ TagUnbind ∷ TagNames ∷ TagFull ∷ TagStat ∷ TagNotes ∷ TagFaults ∷ TagHandOver ∷ TagTakeUp ∷ TagBegin ∷ TagCollect ∷ TagAbandon ∷ TagArray ∷ []
+
+-- version 1 has no arrays
+abbrev pub array_read : Version → Reader Ask
+array_read One bytes = Err Range
+array_read Two bytes = two_fields byte_at (number_within_at w16 1 4096) Array bytes
 
 -- what stands behind the number of an ask
-abbrev pub body_of : Tag → Reader Ask
-body_of TagJoin bytes = one_field byte_at Join bytes
-body_of TagLeave bytes = one_field byte_at Leave bytes
-body_of TagNew bytes = two_fields byte_at layout_read New bytes
-body_of TagPut bytes = four_fields byte_at byte_at byte_at byte_at Put bytes
-body_of TagGet bytes = three_fields byte_at byte_at byte_at Get bytes
-body_of TagSetInt bytes = four_fields byte_at byte_at byte_at signed_at SetInt bytes
-body_of TagInt bytes = three_fields byte_at byte_at byte_at Int bytes
-body_of TagDup bytes = two_fields byte_at byte_at Dup bytes
-body_of TagDrop bytes = two_fields byte_at byte_at Drop bytes
-body_of TagSame bytes = three_fields byte_at byte_at byte_at Same bytes
-body_of TagMakeRef bytes = four_fields byte_at (picked_at 0 ref_kinds) byte_at byte_at MakeRef bytes
-body_of TagDeref bytes = two_fields byte_at byte_at Deref bytes
-body_of TagRefers bytes = three_fields byte_at byte_at byte_at Refers bytes
-body_of TagClear bytes = two_fields byte_at byte_at Clear bytes
-body_of TagEnqueue bytes = two_fields byte_at byte_at Enqueue bytes
-body_of TagEnqueued bytes = two_fields byte_at byte_at Enqueued bytes
-body_of TagMakeQueue bytes = one_field byte_at MakeQueue bytes
-body_of TagPoll bytes = two_fields byte_at byte_at Poll bytes
-body_of TagRemove bytes = two_fields byte_at byte_at Remove bytes
-body_of TagMakeCleaner bytes = one_field byte_at MakeCleaner bytes
-body_of TagRegister bytes = four_fields byte_at byte_at byte_at (number_at w32) Register bytes
-body_of TagClean bytes = two_fields byte_at byte_at Clean bytes
-body_of TagPrepare bytes = one_field byte_at Prepare bytes
-body_of TagOpened bytes = two_fields byte_at (picked_at 0 outcomes) Opened bytes
-body_of TagCheckOut bytes = two_fields byte_at byte_at CheckOut bytes
-body_of TagCheckIn bytes = two_fields byte_at call_outcome_read CheckIn bytes
-body_of TagClose bytes = two_fields byte_at byte_at Close bytes
-body_of TagFinish bytes = three_fields byte_at (number_at w64) (picked_at 0 outcomes) Finish bytes
-body_of TagBind bytes = three_fields byte_at (text_at 1 32 is_name_byte) byte_at Bind bytes
-body_of TagFind bytes = two_fields byte_at (text_at 1 32 is_name_byte) Find bytes
-body_of TagUnbind bytes = two_fields byte_at (text_at 1 32 is_name_byte) Unbind bytes
-body_of TagNames bytes = one_field byte_at Names bytes
-body_of TagFull bytes = two_fields byte_at (picked_at 0 modes) Full bytes
-body_of TagStat bytes = one_field byte_at Stat bytes
-body_of TagNotes bytes = one_field byte_at Notes bytes
-body_of TagFaults bytes = one_field byte_at Faults bytes
-body_of TagHandOver bytes = Ok (HandOver, bytes)
-body_of TagTakeUp bytes = Ok (TakeUp, bytes)
-body_of TagBegin bytes = Ok (Begin, bytes)
-body_of TagCollect bytes = Ok (Collect, bytes)
-body_of TagAbandon bytes = Ok (Abandon, bytes)
+abbrev pub body_of : Version → Tag → Reader Ask
+body_of version TagJoin bytes = one_field byte_at Join bytes
+body_of version TagLeave bytes = one_field byte_at Leave bytes
+body_of version TagNew bytes = two_fields byte_at layout_read New bytes
+body_of version TagPut bytes = four_fields byte_at byte_at (field_read version) byte_at Put bytes
+body_of version TagGet bytes = three_fields byte_at byte_at (field_read version) Get bytes
+body_of version TagSetInt bytes = four_fields byte_at byte_at (field_read version) signed_at SetInt bytes
+body_of version TagInt bytes = three_fields byte_at byte_at (field_read version) Int bytes
+body_of version TagDup bytes = two_fields byte_at byte_at Dup bytes
+body_of version TagDrop bytes = two_fields byte_at byte_at Drop bytes
+body_of version TagSame bytes = three_fields byte_at byte_at byte_at Same bytes
+body_of version TagMakeRef bytes = four_fields byte_at (picked_at 0 ref_kinds) byte_at byte_at MakeRef bytes
+body_of version TagDeref bytes = two_fields byte_at byte_at Deref bytes
+body_of version TagRefers bytes = three_fields byte_at byte_at byte_at Refers bytes
+body_of version TagClear bytes = two_fields byte_at byte_at Clear bytes
+body_of version TagEnqueue bytes = two_fields byte_at byte_at Enqueue bytes
+body_of version TagEnqueued bytes = two_fields byte_at byte_at Enqueued bytes
+body_of version TagMakeQueue bytes = one_field byte_at MakeQueue bytes
+body_of version TagPoll bytes = two_fields byte_at byte_at Poll bytes
+body_of version TagRemove bytes = two_fields byte_at byte_at Remove bytes
+body_of version TagMakeCleaner bytes = one_field byte_at MakeCleaner bytes
+body_of version TagRegister bytes = four_fields byte_at byte_at byte_at (number_at w32) Register bytes
+body_of version TagClean bytes = two_fields byte_at byte_at Clean bytes
+body_of version TagPrepare bytes = one_field byte_at Prepare bytes
+body_of version TagOpened bytes = two_fields byte_at (picked_at 0 outcomes) Opened bytes
+body_of version TagCheckOut bytes = two_fields byte_at byte_at CheckOut bytes
+body_of version TagCheckIn bytes = two_fields byte_at call_outcome_read CheckIn bytes
+body_of version TagClose bytes = two_fields byte_at byte_at Close bytes
+body_of version TagFinish bytes = three_fields byte_at (number_at w64) (picked_at 0 outcomes) Finish bytes
+body_of version TagBind bytes = three_fields byte_at (text_at 1 32 is_name_byte) byte_at Bind bytes
+body_of version TagFind bytes = two_fields byte_at (text_at 1 32 is_name_byte) Find bytes
+body_of version TagUnbind bytes = two_fields byte_at (text_at 1 32 is_name_byte) Unbind bytes
+body_of version TagNames bytes = one_field byte_at Names bytes
+body_of version TagFull bytes = two_fields byte_at (picked_at 0 modes) Full bytes
+body_of version TagStat bytes = one_field byte_at Stat bytes
+body_of version TagNotes bytes = one_field byte_at Notes bytes
+body_of version TagFaults bytes = one_field byte_at Faults bytes
+body_of version TagHandOver bytes = Ok (HandOver, bytes)
+body_of version TagTakeUp bytes = Ok (TakeUp, bytes)
+body_of version TagBegin bytes = Ok (Begin, bytes)
+body_of version TagCollect bytes = Ok (Collect, bytes)
+body_of version TagAbandon bytes = Ok (Abandon, bytes)
+body_of version TagArray bytes = array_read version bytes
 
-unfoldable pub ask_read : Reader Ask
-ask_read bytes = picked_at 0 tags bytes >>= λ tag. body_of tag.0 tag.1
+unfoldable pub ask_read : Version → Reader Ask
+ask_read version bytes = picked_at 0 tags bytes >>= λ tag. body_of version tag.0 tag.1

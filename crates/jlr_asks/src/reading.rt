@@ -1,47 +1,51 @@
 //! Reads asks.
 ghost use Rattle.std.specs.Prelude.{◌≡◌};
-ghost use Rattle.jlr_fields.specs.Reading.{Reads};
-ghost use Rattle.jlr_asks.specs.declared.tag.Tag.TheVariants.{Join as TagJoin, Leave as TagLeave, New as TagNew, Put as TagPut, Get as TagGet, SetInt as TagSetInt, Int as TagInt, Dup as TagDup, Drop as TagDrop, Same as TagSame, MakeRef as TagMakeRef, Deref as TagDeref, Refers as TagRefers, Clear as TagClear, Enqueue as TagEnqueue, Enqueued as TagEnqueued, MakeQueue as TagMakeQueue, Poll as TagPoll, Remove as TagRemove, MakeCleaner as TagMakeCleaner, Register as TagRegister, Clean as TagClean, Prepare as TagPrepare, Opened as TagOpened, CheckOut as TagCheckOut, CheckIn as TagCheckIn, Close as TagClose, Finish as TagFinish, Bind as TagBind, Find as TagFind, Unbind as TagUnbind, Names as TagNames, Full as TagFull, Stat as TagStat, Notes as TagNotes, Faults as TagFaults};
-ghost use Rattle.jlr_asks.specs.Asks.{ask_read, body_of};
+ghost use Rattle.std.specs.Int.{w32, w64};
+ghost use Rattle.jlr_machine.specs.declared.ask.Ask.TheVariants.{Join, Leave, New, Put, Get, SetInt, Int, Dup, Drop, Same, MakeRef, Deref, Refers, Clear, Enqueue, Enqueued, MakeQueue, Poll, Remove, MakeCleaner, Register, Clean, Prepare, Opened, CheckOut, CheckIn, Close, Finish, Bind, Find, Unbind, Names, Full, Stat, Notes, Faults};
+ghost use Rattle.jlr_fields.specs.Reading.{Reads, one_field, two_fields, three_fields, four_fields, byte_at, number_at, signed_at, picked_at, text_at, is_name_byte};
+ghost use Rattle.jlr_parts.specs.Tables.{ref_kinds};
+ghost use Rattle.jlr_asks.specs.Asks.{outcomes, modes, layout_read, call_outcome_read, field_read, array_read, ask_read};
 
+use crate::field::{field_at, length_at};
 use crate::layout::layout_at;
 use crate::outcome::{call_outcome_at, mode_at, outcome_at};
 use crate::tag::{Tag, tag_at};
 use jlr_fields::cursor::{
     take_action, take_handle, take_i64, take_mutator, take_name, take_u8, take_u32,
 };
-use jlr_fields::fault::ReadError;
+use jlr_fields::fault::{Fault, ReadError};
+use jlr_fields::version::Version;
 use jlr_machine::ask::Ask;
 use jlr_parts::tables::take_ref_kind;
 
 fn join_at(bytes: &mut &[u8]) -> Result<Ask, ReadError>
-    ensures { Reads (λ x. x) result bytes.new.now (body_of TagJoin bytes.old.now) }
+    ensures { Reads (λ x. x) result bytes.new.now (one_field byte_at Join bytes.old.now) }
 {
     let mutator = take_mutator(bytes)?;
     Ok(Ask::Join { mutator })
 }
 
 fn leave_at(bytes: &mut &[u8]) -> Result<Ask, ReadError>
-    ensures { Reads (λ x. x) result bytes.new.now (body_of TagLeave bytes.old.now) }
+    ensures { Reads (λ x. x) result bytes.new.now (one_field byte_at Leave bytes.old.now) }
 {
     let mutator = take_mutator(bytes)?;
     Ok(Ask::Leave { mutator })
 }
 
 fn new_at(bytes: &mut &[u8]) -> Result<Ask, ReadError>
-    ensures { Reads (λ x. x) result bytes.new.now (body_of TagNew bytes.old.now) }
+    ensures { Reads (λ x. x) result bytes.new.now (two_fields byte_at layout_read New bytes.old.now) }
 {
     let mutator = take_mutator(bytes)?;
     let layout = layout_at(bytes)?;
     Ok(Ask::New { mutator, layout })
 }
 
-fn put_at(bytes: &mut &[u8]) -> Result<Ask, ReadError>
-    ensures { Reads (λ x. x) result bytes.new.now (body_of TagPut bytes.old.now) }
+fn put_at(version: Version, bytes: &mut &[u8]) -> Result<Ask, ReadError>
+    ensures { Reads (λ x. x) result bytes.new.now (four_fields byte_at byte_at (field_read version) byte_at Put bytes.old.now) }
 {
     let mutator = take_mutator(bytes)?;
     let object = take_handle(bytes)?;
-    let field = take_u8(bytes)?;
+    let field = field_at(version, bytes)?;
     let value = take_handle(bytes)?;
     Ok(Ask::Put {
         mutator,
@@ -51,12 +55,12 @@ fn put_at(bytes: &mut &[u8]) -> Result<Ask, ReadError>
     })
 }
 
-fn get_at(bytes: &mut &[u8]) -> Result<Ask, ReadError>
-    ensures { Reads (λ x. x) result bytes.new.now (body_of TagGet bytes.old.now) }
+fn get_at(version: Version, bytes: &mut &[u8]) -> Result<Ask, ReadError>
+    ensures { Reads (λ x. x) result bytes.new.now (three_fields byte_at byte_at (field_read version) Get bytes.old.now) }
 {
     let mutator = take_mutator(bytes)?;
     let object = take_handle(bytes)?;
-    let field = take_u8(bytes)?;
+    let field = field_at(version, bytes)?;
     Ok(Ask::Get {
         mutator,
         object,
@@ -64,12 +68,12 @@ fn get_at(bytes: &mut &[u8]) -> Result<Ask, ReadError>
     })
 }
 
-fn set_int_at(bytes: &mut &[u8]) -> Result<Ask, ReadError>
-    ensures { Reads (λ x. x) result bytes.new.now (body_of TagSetInt bytes.old.now) }
+fn set_int_at(version: Version, bytes: &mut &[u8]) -> Result<Ask, ReadError>
+    ensures { Reads (λ x. x) result bytes.new.now (four_fields byte_at byte_at (field_read version) signed_at SetInt bytes.old.now) }
 {
     let mutator = take_mutator(bytes)?;
     let object = take_handle(bytes)?;
-    let field = take_u8(bytes)?;
+    let field = field_at(version, bytes)?;
     let value = take_i64(bytes)?;
     Ok(Ask::SetInt {
         mutator,
@@ -79,12 +83,12 @@ fn set_int_at(bytes: &mut &[u8]) -> Result<Ask, ReadError>
     })
 }
 
-fn int_at(bytes: &mut &[u8]) -> Result<Ask, ReadError>
-    ensures { Reads (λ x. x) result bytes.new.now (body_of TagInt bytes.old.now) }
+fn int_at(version: Version, bytes: &mut &[u8]) -> Result<Ask, ReadError>
+    ensures { Reads (λ x. x) result bytes.new.now (three_fields byte_at byte_at (field_read version) Int bytes.old.now) }
 {
     let mutator = take_mutator(bytes)?;
     let object = take_handle(bytes)?;
-    let field = take_u8(bytes)?;
+    let field = field_at(version, bytes)?;
     Ok(Ask::Int {
         mutator,
         object,
@@ -93,7 +97,7 @@ fn int_at(bytes: &mut &[u8]) -> Result<Ask, ReadError>
 }
 
 fn dup_at(bytes: &mut &[u8]) -> Result<Ask, ReadError>
-    ensures { Reads (λ x. x) result bytes.new.now (body_of TagDup bytes.old.now) }
+    ensures { Reads (λ x. x) result bytes.new.now (two_fields byte_at byte_at Dup bytes.old.now) }
 {
     let mutator = take_mutator(bytes)?;
     let object = take_handle(bytes)?;
@@ -101,7 +105,7 @@ fn dup_at(bytes: &mut &[u8]) -> Result<Ask, ReadError>
 }
 
 fn drop_at(bytes: &mut &[u8]) -> Result<Ask, ReadError>
-    ensures { Reads (λ x. x) result bytes.new.now (body_of TagDrop bytes.old.now) }
+    ensures { Reads (λ x. x) result bytes.new.now (two_fields byte_at byte_at Drop bytes.old.now) }
 {
     let mutator = take_mutator(bytes)?;
     let object = take_handle(bytes)?;
@@ -109,7 +113,7 @@ fn drop_at(bytes: &mut &[u8]) -> Result<Ask, ReadError>
 }
 
 fn same_at(bytes: &mut &[u8]) -> Result<Ask, ReadError>
-    ensures { Reads (λ x. x) result bytes.new.now (body_of TagSame bytes.old.now) }
+    ensures { Reads (λ x. x) result bytes.new.now (three_fields byte_at byte_at byte_at Same bytes.old.now) }
 {
     let mutator = take_mutator(bytes)?;
     let left = take_handle(bytes)?;
@@ -122,7 +126,7 @@ fn same_at(bytes: &mut &[u8]) -> Result<Ask, ReadError>
 }
 
 fn make_ref_at(bytes: &mut &[u8]) -> Result<Ask, ReadError>
-    ensures { Reads (λ x. x) result bytes.new.now (body_of TagMakeRef bytes.old.now) }
+    ensures { Reads (λ x. x) result bytes.new.now (four_fields byte_at (picked_at 0 ref_kinds) byte_at byte_at MakeRef bytes.old.now) }
 {
     let mutator = take_mutator(bytes)?;
     let kind = take_ref_kind(bytes)?;
@@ -137,7 +141,7 @@ fn make_ref_at(bytes: &mut &[u8]) -> Result<Ask, ReadError>
 }
 
 fn deref_at(bytes: &mut &[u8]) -> Result<Ask, ReadError>
-    ensures { Reads (λ x. x) result bytes.new.now (body_of TagDeref bytes.old.now) }
+    ensures { Reads (λ x. x) result bytes.new.now (two_fields byte_at byte_at Deref bytes.old.now) }
 {
     let mutator = take_mutator(bytes)?;
     let reference = take_handle(bytes)?;
@@ -145,7 +149,7 @@ fn deref_at(bytes: &mut &[u8]) -> Result<Ask, ReadError>
 }
 
 fn refers_at(bytes: &mut &[u8]) -> Result<Ask, ReadError>
-    ensures { Reads (λ x. x) result bytes.new.now (body_of TagRefers bytes.old.now) }
+    ensures { Reads (λ x. x) result bytes.new.now (three_fields byte_at byte_at byte_at Refers bytes.old.now) }
 {
     let mutator = take_mutator(bytes)?;
     let reference = take_handle(bytes)?;
@@ -158,7 +162,7 @@ fn refers_at(bytes: &mut &[u8]) -> Result<Ask, ReadError>
 }
 
 fn clear_at(bytes: &mut &[u8]) -> Result<Ask, ReadError>
-    ensures { Reads (λ x. x) result bytes.new.now (body_of TagClear bytes.old.now) }
+    ensures { Reads (λ x. x) result bytes.new.now (two_fields byte_at byte_at Clear bytes.old.now) }
 {
     let mutator = take_mutator(bytes)?;
     let reference = take_handle(bytes)?;
@@ -166,7 +170,7 @@ fn clear_at(bytes: &mut &[u8]) -> Result<Ask, ReadError>
 }
 
 fn enqueue_at(bytes: &mut &[u8]) -> Result<Ask, ReadError>
-    ensures { Reads (λ x. x) result bytes.new.now (body_of TagEnqueue bytes.old.now) }
+    ensures { Reads (λ x. x) result bytes.new.now (two_fields byte_at byte_at Enqueue bytes.old.now) }
 {
     let mutator = take_mutator(bytes)?;
     let reference = take_handle(bytes)?;
@@ -174,7 +178,7 @@ fn enqueue_at(bytes: &mut &[u8]) -> Result<Ask, ReadError>
 }
 
 fn enqueued_at(bytes: &mut &[u8]) -> Result<Ask, ReadError>
-    ensures { Reads (λ x. x) result bytes.new.now (body_of TagEnqueued bytes.old.now) }
+    ensures { Reads (λ x. x) result bytes.new.now (two_fields byte_at byte_at Enqueued bytes.old.now) }
 {
     let mutator = take_mutator(bytes)?;
     let reference = take_handle(bytes)?;
@@ -182,14 +186,14 @@ fn enqueued_at(bytes: &mut &[u8]) -> Result<Ask, ReadError>
 }
 
 fn make_queue_at(bytes: &mut &[u8]) -> Result<Ask, ReadError>
-    ensures { Reads (λ x. x) result bytes.new.now (body_of TagMakeQueue bytes.old.now) }
+    ensures { Reads (λ x. x) result bytes.new.now (one_field byte_at MakeQueue bytes.old.now) }
 {
     let mutator = take_mutator(bytes)?;
     Ok(Ask::MakeQueue { mutator })
 }
 
 fn poll_at(bytes: &mut &[u8]) -> Result<Ask, ReadError>
-    ensures { Reads (λ x. x) result bytes.new.now (body_of TagPoll bytes.old.now) }
+    ensures { Reads (λ x. x) result bytes.new.now (two_fields byte_at byte_at Poll bytes.old.now) }
 {
     let mutator = take_mutator(bytes)?;
     let queue = take_handle(bytes)?;
@@ -197,7 +201,7 @@ fn poll_at(bytes: &mut &[u8]) -> Result<Ask, ReadError>
 }
 
 fn remove_at(bytes: &mut &[u8]) -> Result<Ask, ReadError>
-    ensures { Reads (λ x. x) result bytes.new.now (body_of TagRemove bytes.old.now) }
+    ensures { Reads (λ x. x) result bytes.new.now (two_fields byte_at byte_at Remove bytes.old.now) }
 {
     let mutator = take_mutator(bytes)?;
     let queue = take_handle(bytes)?;
@@ -205,14 +209,14 @@ fn remove_at(bytes: &mut &[u8]) -> Result<Ask, ReadError>
 }
 
 fn make_cleaner_at(bytes: &mut &[u8]) -> Result<Ask, ReadError>
-    ensures { Reads (λ x. x) result bytes.new.now (body_of TagMakeCleaner bytes.old.now) }
+    ensures { Reads (λ x. x) result bytes.new.now (one_field byte_at MakeCleaner bytes.old.now) }
 {
     let mutator = take_mutator(bytes)?;
     Ok(Ask::MakeCleaner { mutator })
 }
 
 fn register_at(bytes: &mut &[u8]) -> Result<Ask, ReadError>
-    ensures { Reads (λ x. x) result bytes.new.now (body_of TagRegister bytes.old.now) }
+    ensures { Reads (λ x. x) result bytes.new.now (four_fields byte_at byte_at byte_at (number_at w32) Register bytes.old.now) }
 {
     let mutator = take_mutator(bytes)?;
     let cleaner = take_handle(bytes)?;
@@ -227,7 +231,7 @@ fn register_at(bytes: &mut &[u8]) -> Result<Ask, ReadError>
 }
 
 fn clean_at(bytes: &mut &[u8]) -> Result<Ask, ReadError>
-    ensures { Reads (λ x. x) result bytes.new.now (body_of TagClean bytes.old.now) }
+    ensures { Reads (λ x. x) result bytes.new.now (two_fields byte_at byte_at Clean bytes.old.now) }
 {
     let mutator = take_mutator(bytes)?;
     let cleanable = take_handle(bytes)?;
@@ -235,14 +239,14 @@ fn clean_at(bytes: &mut &[u8]) -> Result<Ask, ReadError>
 }
 
 fn prepare_at(bytes: &mut &[u8]) -> Result<Ask, ReadError>
-    ensures { Reads (λ x. x) result bytes.new.now (body_of TagPrepare bytes.old.now) }
+    ensures { Reads (λ x. x) result bytes.new.now (one_field byte_at Prepare bytes.old.now) }
 {
     let mutator = take_mutator(bytes)?;
     Ok(Ask::Prepare { mutator })
 }
 
 fn opened_at(bytes: &mut &[u8]) -> Result<Ask, ReadError>
-    ensures { Reads (λ x. x) result bytes.new.now (body_of TagOpened bytes.old.now) }
+    ensures { Reads (λ x. x) result bytes.new.now (two_fields byte_at (picked_at 0 outcomes) Opened bytes.old.now) }
 {
     let mutator = take_mutator(bytes)?;
     let outcome = outcome_at(bytes)?;
@@ -250,7 +254,7 @@ fn opened_at(bytes: &mut &[u8]) -> Result<Ask, ReadError>
 }
 
 fn check_out_at(bytes: &mut &[u8]) -> Result<Ask, ReadError>
-    ensures { Reads (λ x. x) result bytes.new.now (body_of TagCheckOut bytes.old.now) }
+    ensures { Reads (λ x. x) result bytes.new.now (two_fields byte_at byte_at CheckOut bytes.old.now) }
 {
     let mutator = take_mutator(bytes)?;
     let guard = take_handle(bytes)?;
@@ -258,7 +262,7 @@ fn check_out_at(bytes: &mut &[u8]) -> Result<Ask, ReadError>
 }
 
 fn check_in_at(bytes: &mut &[u8]) -> Result<Ask, ReadError>
-    ensures { Reads (λ x. x) result bytes.new.now (body_of TagCheckIn bytes.old.now) }
+    ensures { Reads (λ x. x) result bytes.new.now (two_fields byte_at call_outcome_read CheckIn bytes.old.now) }
 {
     let mutator = take_mutator(bytes)?;
     let outcome = call_outcome_at(bytes)?;
@@ -266,7 +270,7 @@ fn check_in_at(bytes: &mut &[u8]) -> Result<Ask, ReadError>
 }
 
 fn close_at(bytes: &mut &[u8]) -> Result<Ask, ReadError>
-    ensures { Reads (λ x. x) result bytes.new.now (body_of TagClose bytes.old.now) }
+    ensures { Reads (λ x. x) result bytes.new.now (two_fields byte_at byte_at Close bytes.old.now) }
 {
     let mutator = take_mutator(bytes)?;
     let guard = take_handle(bytes)?;
@@ -274,7 +278,7 @@ fn close_at(bytes: &mut &[u8]) -> Result<Ask, ReadError>
 }
 
 fn finish_at(bytes: &mut &[u8]) -> Result<Ask, ReadError>
-    ensures { Reads (λ x. x) result bytes.new.now (body_of TagFinish bytes.old.now) }
+    ensures { Reads (λ x. x) result bytes.new.now (three_fields byte_at (number_at w64) (picked_at 0 outcomes) Finish bytes.old.now) }
 {
     let by = take_u8(bytes)?;
     let action = take_action(bytes)?;
@@ -287,7 +291,7 @@ fn finish_at(bytes: &mut &[u8]) -> Result<Ask, ReadError>
 }
 
 fn bind_at(bytes: &mut &[u8]) -> Result<Ask, ReadError>
-    ensures { Reads (λ x. x) result bytes.new.now (body_of TagBind bytes.old.now) }
+    ensures { Reads (λ x. x) result bytes.new.now (three_fields byte_at (text_at 1 32 is_name_byte) byte_at Bind bytes.old.now) }
 {
     let mutator = take_mutator(bytes)?;
     let name = take_name(bytes)?;
@@ -300,7 +304,7 @@ fn bind_at(bytes: &mut &[u8]) -> Result<Ask, ReadError>
 }
 
 fn find_at(bytes: &mut &[u8]) -> Result<Ask, ReadError>
-    ensures { Reads (λ x. x) result bytes.new.now (body_of TagFind bytes.old.now) }
+    ensures { Reads (λ x. x) result bytes.new.now (two_fields byte_at (text_at 1 32 is_name_byte) Find bytes.old.now) }
 {
     let mutator = take_mutator(bytes)?;
     let name = take_name(bytes)?;
@@ -308,7 +312,7 @@ fn find_at(bytes: &mut &[u8]) -> Result<Ask, ReadError>
 }
 
 fn unbind_at(bytes: &mut &[u8]) -> Result<Ask, ReadError>
-    ensures { Reads (λ x. x) result bytes.new.now (body_of TagUnbind bytes.old.now) }
+    ensures { Reads (λ x. x) result bytes.new.now (two_fields byte_at (text_at 1 32 is_name_byte) Unbind bytes.old.now) }
 {
     let mutator = take_mutator(bytes)?;
     let name = take_name(bytes)?;
@@ -316,14 +320,14 @@ fn unbind_at(bytes: &mut &[u8]) -> Result<Ask, ReadError>
 }
 
 fn names_at(bytes: &mut &[u8]) -> Result<Ask, ReadError>
-    ensures { Reads (λ x. x) result bytes.new.now (body_of TagNames bytes.old.now) }
+    ensures { Reads (λ x. x) result bytes.new.now (one_field byte_at Names bytes.old.now) }
 {
     let mutator = take_mutator(bytes)?;
     Ok(Ask::Names { mutator })
 }
 
 fn full_at(bytes: &mut &[u8]) -> Result<Ask, ReadError>
-    ensures { Reads (λ x. x) result bytes.new.now (body_of TagFull bytes.old.now) }
+    ensures { Reads (λ x. x) result bytes.new.now (two_fields byte_at (picked_at 0 modes) Full bytes.old.now) }
 {
     let mutator = take_mutator(bytes)?;
     let mode = mode_at(bytes)?;
@@ -331,40 +335,54 @@ fn full_at(bytes: &mut &[u8]) -> Result<Ask, ReadError>
 }
 
 fn stat_at(bytes: &mut &[u8]) -> Result<Ask, ReadError>
-    ensures { Reads (λ x. x) result bytes.new.now (body_of TagStat bytes.old.now) }
+    ensures { Reads (λ x. x) result bytes.new.now (one_field byte_at Stat bytes.old.now) }
 {
     let mutator = take_mutator(bytes)?;
     Ok(Ask::Stat { mutator })
 }
 
 fn notes_at(bytes: &mut &[u8]) -> Result<Ask, ReadError>
-    ensures { Reads (λ x. x) result bytes.new.now (body_of TagNotes bytes.old.now) }
+    ensures { Reads (λ x. x) result bytes.new.now (one_field byte_at Notes bytes.old.now) }
 {
     let mutator = take_mutator(bytes)?;
     Ok(Ask::Notes { mutator })
 }
 
 fn faults_at(bytes: &mut &[u8]) -> Result<Ask, ReadError>
-    ensures { Reads (λ x. x) result bytes.new.now (body_of TagFaults bytes.old.now) }
+    ensures { Reads (λ x. x) result bytes.new.now (one_field byte_at Faults bytes.old.now) }
 {
     let mutator = take_mutator(bytes)?;
     Ok(Ask::Faults { mutator })
 }
 
+/// An array, which version 1 does not have.
+fn array_at(version: Version, bytes: &mut &[u8]) -> Result<Ask, ReadError>
+    ensures { Reads (λ x. x) result bytes.new.now (array_read version bytes.old.now) }
+{
+    match version {
+        Version::One => Err(ReadError::Fault(Fault::Range)),
+        Version::Two => {
+            let mutator = take_mutator(bytes)?;
+            let length = length_at(bytes)?;
+            Ok(Ask::Array { mutator, length })
+        }
+    }
+}
+
 /// An ask from the front: its number, and its fields.
 #[tactic(auto, unfolding(crate::specs::Asks::ask_read))]
-pub fn take_ask(bytes: &mut &[u8]) -> Result<Ask, ReadError>
-    ensures { Reads (λ x. x) result bytes.new.now (ask_read bytes.old.now) }
+pub fn take_ask(version: Version, bytes: &mut &[u8]) -> Result<Ask, ReadError>
+    ensures { Reads (λ x. x) result bytes.new.now (ask_read version bytes.old.now) }
 {
     let tag = tag_at(bytes)?;
     match tag {
         Tag::Join => join_at(bytes),
         Tag::Leave => leave_at(bytes),
         Tag::New => new_at(bytes),
-        Tag::Put => put_at(bytes),
-        Tag::Get => get_at(bytes),
-        Tag::SetInt => set_int_at(bytes),
-        Tag::Int => int_at(bytes),
+        Tag::Put => put_at(version, bytes),
+        Tag::Get => get_at(version, bytes),
+        Tag::SetInt => set_int_at(version, bytes),
+        Tag::Int => int_at(version, bytes),
         Tag::Dup => dup_at(bytes),
         Tag::Drop => drop_at(bytes),
         Tag::Same => same_at(bytes),
@@ -399,5 +417,6 @@ pub fn take_ask(bytes: &mut &[u8]) -> Result<Ask, ReadError>
         Tag::Begin => Ok(Ask::Begin),
         Tag::Collect => Ok(Ask::Collect),
         Tag::Abandon => Ok(Ask::Abandon),
+        Tag::Array => array_at(version, bytes),
     }
 }

@@ -50,6 +50,7 @@ pub(crate) enum Tag {
     Begin,
     Collect,
     Abandon,
+    Array,
 }
 
 /// Which ask it is.
@@ -98,6 +99,7 @@ pub(crate) fn tag_at(bytes: &mut &[u8]) -> Result<Tag, ReadError>
         Tag::Begin,
         Tag::Collect,
         Tag::Abandon,
+        Tag::Array,
     ];
     take_picked(0, &table, bytes)
 }

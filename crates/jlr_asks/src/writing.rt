@@ -1,15 +1,17 @@
 //! Writes asks.
 ghost use Rattle.std.specs.Prelude.{◌≡◌, ◌++◌, [], ◌∷◌, OnOk};
 ghost use Rattle.jlr_fields.specs.Spelling.{spelled_8, spelled_64, spelled_signed};
-ghost use Rattle.jlr_asks.specs.Asks.{outcome_number, spelled_ask};
+ghost use Rattle.jlr_asks.specs.Asks.{outcome_number, spelled_field, FieldFits, spelled_ask, AskFits};
 
+use crate::field::{put_field, put_length};
 use crate::layout::put_layout;
 use crate::outcome::{put_call_outcome, put_mode, put_outcome};
 use jlr_fields::number::{put_i64, put_u8, put_u32, put_u64};
 use jlr_fields::text::put_text;
+use jlr_fields::version::Version;
 use jlr_machine::ask::{Ask, Outcome};
 use jlr_parts::tables::put_ref_kind;
-use jlr_types::{ActionNo, Handle, Mutator};
+use jlr_types::{ActionNo, FieldNo, Handle, Mutator};
 use std::alloc::AllocError;
 
 /// The number of an ask, and its mutator.
@@ -28,7 +30,7 @@ fn put_one(out: &mut Vec<u8>, tag: u8, mutator: Mutator, handle: Handle) -> Resu
     Ok(())
 }
 
-/// The number of an ask, its mutator, a handle, and a handle's or a field's number.
+/// The number of an ask, its mutator, a handle, and another's number.
 fn put_two(
     out: &mut Vec<u8>,
     tag: u8,
@@ -42,16 +44,34 @@ fn put_two(
     Ok(())
 }
 
-fn put_set_int(
+/// The number of an ask, its mutator, a handle, and the number of a field.
+fn put_field_of(
     out: &mut Vec<u8>,
+    version: Version,
+    tag: u8,
     mutator: Mutator,
     object: Handle,
-    field: u8,
+    field: FieldNo,
+) -> Result<(), AllocError>
+    requires { FieldFits version field }
+    ensures { OnOk result (out.new.items ≡ out.old.items ++ tag ∷ mutator ∷ object ∷ spelled_field version field) }
+{
+    put_one(out, tag, mutator, object)?;
+    put_field(out, version, field)
+}
+
+fn put_set_int(
+    out: &mut Vec<u8>,
+    version: Version,
+    mutator: Mutator,
+    object: Handle,
+    field: FieldNo,
     value: i64,
 ) -> Result<(), AllocError>
-    ensures { OnOk result (out.new.items ≡ out.old.items ++ 5 ∷ mutator ∷ object ∷ field ∷ spelled_signed value) }
+    requires { FieldFits version field }
+    ensures { OnOk result (out.new.items ≡ out.old.items ++ (5 ∷ mutator ∷ object ∷ spelled_field version field ++ spelled_signed value)) }
 {
-    put_two(out, 5, mutator, object, field)?;
+    put_field_of(out, version, 5, mutator, object, field)?;
     put_i64(out, value)
 }
 
@@ -70,8 +90,9 @@ fn put_finish(
 }
 
 /// Writes an ask.
-pub fn put_ask(out: &mut Vec<u8>, ask: &Ask) -> Result<(), AllocError>
-    ensures { OnOk result (out.new.items ≡ out.old.items ++ spelled_ask ask.now) }
+pub fn put_ask(out: &mut Vec<u8>, version: Version, ask: &Ask) -> Result<(), AllocError>
+    requires { AskFits version ask.now }
+    ensures { OnOk result (out.new.items ≡ out.old.items ++ spelled_ask version ask.now) }
 {
     match ask {
         Ask::Join { mutator } => put_alone(out, 0, *mutator),
@@ -86,25 +107,25 @@ pub fn put_ask(out: &mut Vec<u8>, ask: &Ask) -> Result<(), AllocError>
             field,
             value,
         } => {
-            put_two(out, 3, *mutator, *object, *field)?;
+            put_field_of(out, version, 3, *mutator, *object, *field)?;
             put_u8(out, value.number())
         }
         Ask::Get {
             mutator,
             object,
             field,
-        } => put_two(out, 4, *mutator, *object, *field),
+        } => put_field_of(out, version, 4, *mutator, *object, *field),
         Ask::SetInt {
             mutator,
             object,
             field,
             value,
-        } => put_set_int(out, *mutator, *object, *field, *value),
+        } => put_set_int(out, version, *mutator, *object, *field, *value),
         Ask::Int {
             mutator,
             object,
             field,
-        } => put_two(out, 6, *mutator, *object, *field),
+        } => put_field_of(out, version, 6, *mutator, *object, *field),
         Ask::Dup { mutator, object } => put_one(out, 7, *mutator, *object),
         Ask::Drop { mutator, object } => put_one(out, 8, *mutator, *object),
         Ask::Same {
@@ -192,5 +213,9 @@ pub fn put_ask(out: &mut Vec<u8>, ask: &Ask) -> Result<(), AllocError>
         Ask::Begin => put_u8(out, 38),
         Ask::Collect => put_u8(out, 39),
         Ask::Abandon => put_u8(out, 40),
+        Ask::Array { mutator, length } => {
+            put_alone(out, 41, *mutator)?;
+            put_length(out, *length)
+        }
     }
 }

@@ -11,17 +11,19 @@ use jlr_audit::spelled::audit_spelled;
 use jlr_audit::verdict::Verdict;
 use jlr_audit::watch::Watch;
 use jlr_explain::spelled::explained;
+use jlr_fields::version::Version;
 use jlr_trace::file::TraceFault;
 use jlr_trace::spelled::{SpelledTrace, spelled_trace};
 use std::alloc::{AllocError, Global};
 use std::fs;
 use std::io::{self, Write};
 
-/// A verdict on a history, and how many entries it has.
+/// A verdict on a history, how many entries it has, and the version of its file.
 #[derive(Clone, Copy)]
 pub struct Judged {
     pub verdict: Verdict,
     pub entries: u64,
+    pub version: Version,
 }
 
 /// Why a file that is no trace file ends the program.
@@ -42,13 +44,14 @@ fn verdict_of_trace<W: Watch>(
     trace: &SpelledTrace<'_>,
     watch: &mut W,
 ) -> Result<Judged, ProgramFault>
-    ensures verdict { IfOk result (λ j. IsFileVerdict trace.now j.verdict × (j.entries ≡ length trace.now.entries)) }
+    ensures verdict { IfOk result (λ j. IsFileVerdict trace.now j.verdict × (j.entries ≡ length trace.now.entries) × (j.version ≡ trace.now.version)) }
     ensures memory { IfErr result (λ e. e ≡ damage NoMemory) }
 {
     match audit_spelled(alloc, trace, watch) {
         Ok(verdict) => Ok(Judged {
             verdict,
             entries: trace.count(),
+            version: trace.version(),
         }),
         Err(fault) => Err(ProgramFault::NoMemory(fault)),
     }
@@ -92,12 +95,20 @@ fn unread(alloc: Global, path: &str) -> ProgramFault {
     }
 }
 
-/// Writes the verdict, as one line.
+fn version_number(version: Version) -> u8 {
+    match version {
+        Version::One => 1,
+        Version::Two => 2,
+    }
+}
+
+/// Writes the verdict and the version of the file, as one line.
 fn tell(alloc: Global, writer: &mut impl Write, judged: Judged) -> Result<(), ProgramFault> {
     let entries = judged.entries;
+    let version = version_number(judged.version);
     let line = match judged.verdict {
-        Verdict::Legal => format!(in alloc; "legal {entries}\n")?,
-        Verdict::Illegal(number) => format!(in alloc; "illegal {number}\n")?,
+        Verdict::Legal => format!(in alloc; "legal {entries} version {version}\n")?,
+        Verdict::Illegal(number) => format!(in alloc; "illegal {number} version {version}\n")?,
     };
     if writer.write_all(line.as_bytes()).is_err() || writer.flush().is_err() {
         return Err(ProgramFault::Write);

@@ -1,7 +1,7 @@
 //! Asks and answers in words.
 use jlr_machine::ask::{Answer, Ask, FullMode};
 use jlr_plain_asks::operands::{asker_of, name_of};
-use jlr_types::{Handle, RefKind};
+use jlr_types::{FieldNo, Handle, RefKind};
 use std::alloc::{AllocError, Global};
 use std::str;
 
@@ -12,11 +12,11 @@ fn handle(handle: &Handle) -> Option<u32> {
     Some(u32::from(handle.number()))
 }
 
-fn byte(number: &u8) -> Option<u32> {
-    Some(u32::from(*number))
+fn place(field: &FieldNo) -> Option<u32> {
+    Some(u32::from(field.number()))
 }
 
-/// Asks on plain objects and handles.
+/// Asks on plain objects, arrays and handles.
 fn object_words(ask: &Ask) -> Option<Words> {
     match ask {
         Ask::New { .. } => Some(("new", [None, None, None])),
@@ -25,10 +25,14 @@ fn object_words(ask: &Ask) -> Option<Words> {
             field,
             value,
             ..
-        } => Some(("put", [handle(object), byte(field), handle(value)])),
-        Ask::Get { object, field, .. } => Some(("get", [handle(object), byte(field), None])),
-        Ask::SetInt { object, field, .. } => Some(("setint", [handle(object), byte(field), None])),
-        Ask::Int { object, field, .. } => Some(("int", [handle(object), byte(field), None])),
+        } => Some(("put", [handle(object), place(field), handle(value)])),
+        Ask::Get { object, field, .. } => Some(("get", [handle(object), place(field), None])),
+        Ask::SetInt { object, field, .. } => Some(("setint", [handle(object), place(field), None])),
+        Ask::Int { object, field, .. } => Some(("int", [handle(object), place(field), None])),
+        Ask::Array { length, .. } => Some((
+            "array",
+            [Some(u32::from(length.number())), None, None],
+        )),
         Ask::Dup { object, .. } => Some(("dup", [handle(object), None, None])),
         Ask::Drop { object, .. } => Some(("drop", [handle(object), None, None])),
         Ask::Same { left, right, .. } => Some(("same", [handle(left), handle(right), None])),

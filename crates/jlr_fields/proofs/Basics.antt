@@ -2,13 +2,13 @@
 use Rattle.std.proofs.Common.{◌≡◌, ℕ, ℤ, zero, suc, ◌+◌, ◌-◌, ◌^◌, ◌<◌, ◌≤◌, Bool, true, false, cond, ltb, ◌||◌, List, [], ◌∷◌, ◌++◌, length, take, drop, Option, Some, None, Result, Ok, Err, refl, sym, ap, subst, ◌∙◌, arith}
 use Rattle.std.specs.Prelude.{slice_get, nat_eq, ◌&&◌}
 use Rattle.std.specs.List.{list_all}
-use Rattle.std.specs.Int.{w32, w64, to_be_bytes, cast_signed, cast_unsigned}
+use Rattle.std.specs.Int.{Width, w32, w64, to_be_bytes, cast_signed, cast_unsigned}
 use Rattle.std.proofs.lemmas.Bool.{ltb-false, le-ltb, eqb-true}
 use Rattle.std.proofs.lemmas.Int.{ints, to_z-of_z, of_z-to_z}
 use Rattle.std.proofs.lemmas.List.{take_at, drop_at, take-append-drop, length-append, length-take}
 use Rattle.jlr_fields.specs.declared.fault.Fault.{Fault}
 use Rattle.jlr_fields.specs.declared.fault.Fault.TheVariants.{Short, Range}
-use Rattle.jlr_fields.specs.Reading.{byte_at, byte_within_at, flag_at, option_at, number_at, picked_at, value_at, text_at, bytes_at, taken_at, signed_at}
+use Rattle.jlr_fields.specs.Reading.{byte_at, byte_within_at, flag_at, option_at, number_at, number_within_at, picked_at, value_at, text_at, bytes_at, taken_at, signed_at}
 use Rattle.jlr_fields.specs.Spelling.{spelled_8, spelled_32, spelled_flag, spelled_option, spelled_signed, spelled_text, no_slot, IsBytes, IsWithin, IsSigned, SlotFits, IsText, IsTextOf}
 use Rattle.jlr_fields.specs.Laws.{Takes, TakesSpelled, ReadsAgain, IsField}
 use Rattle.jlr_fields.proofs.Steps.{IsBytes-drop, IsBytes-take, bind_ok, ok_is, guard_ok}
@@ -52,6 +52,27 @@ within_again low high n rest fits =
 
 pub within : (low high : ℕ) → IsField (byte_within_at low high) spelled_8 (IsWithin low high)
 within low high = record { takes = within_takes low high; again = within_again low high }
+
+-- numbers from low to high
+number_takes : (w : Width) (limit low high : ℕ) → IsField (number_at w) (to_be_bytes w) (λ n. n < limit) → TakesSpelled (number_within_at w low high) (to_be_bytes w) (IsWithin low high)
+unfolding number_within_at
+number_takes w limit low high field bytes n rest fits e =
+    let a = bind_ok (number_at w bytes) (λ b. cond (ltb b.0 low || ltb high b.0) (Err Range) (Ok b)) (n, rest) e in
+    let g = guard_ok (ltb a.0.0 low || ltb high a.0.0) Range a.0 (n, rest) a.2 in
+    let t = field.takes bytes a.0.0 a.0.1 fits a.1 in
+    let parts = neither (ltb a.0.0 low) (ltb high a.0.0) g.0 in
+    subst (λ (y : ℕ × List ℕ). Takes bytes (to_be_bytes w y.0) y.1 × IsWithin low high y.0) g.1 (t.0, (ltb-false a.0.0 low parts.0, ltb-false high a.0.0 parts.1))
+
+number_again : (w : Width) (limit low high : ℕ) → high < limit → IsField (number_at w) (to_be_bytes w) (λ n. n < limit) → ReadsAgain (number_within_at w low high) (to_be_bytes w) (IsWithin low high)
+unfolding number_within_at
+number_again w limit low high small field n rest fits =
+    let above : ltb n low ≡ false = le-ltb _ _ fits.0 in
+    let below : ltb high n ≡ false = le-ltb _ _ fits.1 in
+    let lt : n < limit = omega (arith, fits.1) in
+    rw (field.again n rest lt, above, below) refl
+
+pub number_within : (w : Width) (limit low high : ℕ) → high < limit → IsField (number_at w) (to_be_bytes w) (λ n. n < limit) → IsField (number_within_at w low high) (to_be_bytes w) (IsWithin low high)
+number_within w limit low high small field = record { takes = number_takes w limit low high field; again = number_again w limit low high small field }
 
 flag_text : (n : ℕ) → IsWithin 0 1 n → spelled_8 n ≡ spelled_flag (nat_eq n 1)
 flag_text zero fits = refl

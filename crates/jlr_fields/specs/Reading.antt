@@ -1,5 +1,5 @@
 -- Reading fields from the front of the bytes, with the first fault that is met.
-use Rattle.std.specs.Prelude.{◌≡◌, ℕ, ℤ, ◌-◌, Bool, ◌&&◌, ◌||◌, ◌==◌, List, [], ◌∷◌, length, take, drop, Option, Some, None, Result, Ok, Err, nat_lt, nat_le, if◌then◌else◌, slice_get}
+use Rattle.std.specs.Prelude.{◌≡◌, ℕ, ℤ, ◌-◌, Bool, ◌||◌, ◌==◌, List, [], ◌∷◌, length, take, drop, Option, Some, None, Result, Ok, Err, nat_lt, if◌then◌else◌, slice_get}
 use Rattle.std.specs.List.{list_all}
 use Rattle.std.specs.Int.{Width, w32, w64, byte_len, from_be_bytes, cast_signed}
 use Rattle.jlr_machine.specs.Names as names
@@ -57,6 +57,10 @@ byte_at (b ∷ rest) = Ok (b, rest)
 
 abbrev pub number_at : Width → List ℕ → Result (ℕ × List ℕ) Fault
 number_at w bytes = if nat_lt (length bytes) (byte_len w) then Err Short else Ok (from_be_bytes w (take (byte_len w) bytes), drop (byte_len w) bytes)
+
+-- one from low to high; it is read whole before it is tested
+unfoldable pub number_within_at : Width → ℕ → ℕ → Reader ℕ
+number_within_at w low high bytes = number_at w bytes >>= λ n. if nat_lt n.0 low || nat_lt high n.0 then Err Range else Ok n
 
 unfoldable pub signed_at : List ℕ → Result (ℤ × List ℕ) Fault
 signed_at bytes = do

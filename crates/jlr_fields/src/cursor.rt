@@ -1,11 +1,11 @@
 //! Takes fields from the front of the bytes: the bytes are then what is left. After a fault they are not to be used.
 ghost use Rattle.std.specs.Prelude.{◌≡◌, ◌≤◌, ◌<◌, IfOk};
 ghost use Rattle.std.specs.Int.{w16, w32, w64};
-ghost use Rattle.jlr_fields.specs.Reading.{Reads, byte_at, number_at, signed_at, byte_within_at, flag_at, option_at, picked_at, bytes_at, text_at, is_name_byte};
+ghost use Rattle.jlr_fields.specs.Reading.{Reads, byte_at, number_at, number_within_at, signed_at, byte_within_at, flag_at, option_at, picked_at, bytes_at, text_at, is_name_byte};
 
 use crate::fault::ReadError;
 use crate::number::{
-    bool_at, byte_within, i64_at, picked, slot_option_at, u8_at, u16_at, u32_at, u64_at,
+    bool_at, byte_within, i64_at, picked, slot_option_at, u8_at, u16_at, u16_within, u32_at, u64_at,
 };
 use crate::text::{data_at, name_at};
 use jlr_machine::text::{Data, Name};
@@ -71,6 +71,16 @@ pub fn take_within(low: u8, high: u8, bytes: &mut &[u8]) -> Result<u8, ReadError
     ensures within { IfOk result (λ x. (low ≤ x) × (x ≤ high)) }
 {
     let (value, rest) = byte_within(low, high, bytes)?;
+    *bytes = rest;
+    Ok(value)
+}
+
+/// A number of two bytes, from low to high.
+pub fn take_u16_within(low: u16, high: u16, bytes: &mut &[u8]) -> Result<u16, ReadError>
+    ensures reads { Reads (λ x. x) result bytes.new.now (number_within_at w16 low high bytes.old.now) }
+    ensures within { IfOk result (λ x. (low ≤ x) × (x ≤ high)) }
+{
+    let (value, rest) = u16_within(low, high, bytes)?;
     *bytes = rest;
     Ok(value)
 }

@@ -2,7 +2,7 @@
 ghost use Rattle.std.specs.Prelude.{◌≡◌, ◌≤◌, ◌++◌, IfOk, OnOk};
 ghost use Rattle.std.specs.Int.{w16, w32, w64};
 ghost use Rattle.jlr_fields.specs.Spelling.{spelled_8, spelled_16, spelled_32, spelled_64, spelled_signed, spelled_flag, spelled_option};
-ghost use Rattle.jlr_fields.specs.Reading.{Gives, byte_at, number_at, signed_at, byte_within_at, flag_at, option_at, picked_at};
+ghost use Rattle.jlr_fields.specs.Reading.{Gives, byte_at, number_at, number_within_at, signed_at, byte_within_at, flag_at, option_at, picked_at};
 
 use crate::fault::{Fault, ReadError};
 use jlr_types::Slot;
@@ -78,6 +78,19 @@ pub(crate) fn byte_within(low: u8, high: u8, bytes: &[u8]) -> Result<(u8, &[u8])
         return Err(ReadError::Fault(Fault::Range));
     }
     Ok((byte, rest))
+}
+
+/// A number of two bytes, from low to high.
+#[tactic(auto, unfolding(crate::specs::Reading::number_within_at))]
+pub(crate) fn u16_within(low: u16, high: u16, bytes: &[u8]) -> Result<(u16, &[u8]), ReadError>
+    ensures gives { Gives (λ x. (x.0, x.1.now)) result (number_within_at w16 low high bytes.now) }
+    ensures within { IfOk result (λ x. (low ≤ x.0) × (x.0 ≤ high)) }
+{
+    let (number, rest) = u16_at(bytes)?;
+    if number < low || high < number {
+        return Err(ReadError::Fault(Fault::Range));
+    }
+    Ok((number, rest))
 }
 
 /// A byte 0 for no, 1 for yes.

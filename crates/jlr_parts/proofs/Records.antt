@@ -6,6 +6,7 @@ use Rattle.jlr_types.specs.declared.Work.{Work}
 use Rattle.jlr_types.specs.declared.Work.TheVariants.{Note, Resource as WorkOn}
 use Rattle.jlr_machine.specs.declared.object.Object.{Object}
 use Rattle.jlr_machine.specs.declared.object.Object.TheVariants.{Plain, Reference, Queue, Cleaner, Cleanable, Guard}
+use Rattle.jlr_machine.specs.declared.object.Contents.TheVariants.{Typed, Elements}
 use Rattle.jlr_machine.specs.declared.machine.Binding.{Binding}
 use Rattle.jlr_machine.specs.declared.machine.Failure.{Failure}
 use Rattle.jlr_machine.specs.declared.machine.Job.{Job}
@@ -13,6 +14,7 @@ use Rattle.jlr_machine.specs.declared.machine.Resource.{Resource}
 use Rattle.jlr_machine.specs.declared.machine.ResourceState.{ResourceState}
 use Rattle.jlr_machine.specs.declared.machine.Call.TheVariants.{Free, Opening as CallOpening, Out as CallOut, Job as CallJob}
 use Rattle.jlr_fields.specs.declared.fault.Fault.TheVariants.{Range}
+use Rattle.jlr_fields.specs.declared.version.Version.{Version}
 use Rattle.jlr_fields.specs.Reading.{Reader, ◌>>=◌, text_at, is_name_byte}
 use Rattle.jlr_fields.specs.Spelling.{spelled_8, spelled_32, spelled_64, spelled_text}
 use Rattle.jlr_fields.specs.Items.{may_follow}
@@ -182,29 +184,30 @@ resource_least r fits = omega arith
 abbrev made_placed : ℕ → Object → Placed
 made_placed slot object = record { slot = slot; object = object }
 
-placed_takes : (before : Option ℕ) → TakesSpelled (placed_after before) spelled_placed (FollowsWith PlacedFits (λ p. p.slot) before)
+placed_takes : (version : Version) (before : Option ℕ) → TakesSpelled (placed_after version before) spelled_placed (FollowsWith (PlacedFits version) (λ p. p.slot) before)
 unfolding placed_after
-placed_takes before = keyed_takes four_bytes placed_behind spelled_placed PlacedFits (λ p. p.slot) before
-    (λ slot f. one_takes object (spelled_32 slot) (made_placed slot) spelled_placed (HasKey PlacedFits (λ p. p.slot) slot) (λ o. refl) (λ o g. (record { slot = f; object = g }, refl)))
+placed_takes version before = keyed_takes four_bytes (placed_behind version) spelled_placed (PlacedFits version) (λ p. p.slot) before
+    (λ slot f. one_takes (object version) (spelled_32 slot) (made_placed slot) spelled_placed (HasKey (PlacedFits version) (λ p. p.slot) slot) (λ o. refl) (λ o g. (record { slot = f; object = g }, refl)))
 
-placed_again : (before : Option ℕ) → ReadsAgain (placed_after before) spelled_placed (FollowsWith PlacedFits (λ p. p.slot) before)
+placed_again : (version : Version) (before : Option ℕ) → ReadsAgain (placed_after version before) spelled_placed (FollowsWith (PlacedFits version) (λ p. p.slot) before)
 unfolding placed_after
-placed_again before p rest fits = keyed_again four_bytes placed_behind before p.slot fits.0.slot fits.1 (spelled_placed p ++ rest) (spelled_object p.object ++ rest) p rest
-    (append_assoc (spelled_32 p.slot) (spelled_object p.object) rest) (one_again object (made_placed p.slot) p.object fits.0.object rest)
+placed_again version before p rest fits = keyed_again four_bytes (placed_behind version) before p.slot fits.0.slot fits.1 (spelled_placed p ++ rest) (spelled_object p.object ++ rest) p rest
+    (append_assoc (spelled_32 p.slot) (spelled_object p.object) rest) (one_again (object version) (made_placed p.slot) p.object fits.0.object rest)
 
-pub rising_placed : IsRisingField placed_after spelled_placed PlacedFits (λ p. p.slot)
-rising_placed = record { field = λ before. record { takes = placed_takes before; again = placed_again before } }
+pub rising_placed : (version : Version) → IsRisingField (placed_after version) spelled_placed (PlacedFits version) (λ p. p.slot)
+rising_placed version = record { field = λ before. record { takes = placed_takes version before; again = placed_again version before } }
 
 object_least : (o : Object) → 1 ≤ length (spelled_object o)
-object_least (Plain xs) = omega arith
+object_least (Plain (Typed xs)) = omega arith
+object_least (Plain (Elements xs)) = omega arith
 object_least (Reference r) = omega arith
 object_least (Queue xs) = omega arith
 object_least Cleaner = omega arith
 object_least (Cleanable c) = omega arith
 object_least (Guard g) = omega arith
 
-pub placed_least : IsLeast 5 spelled_placed PlacedFits
-placed_least p fits = omega (arith, length-append (spelled_32 p.slot) (spelled_object p.object), object_least p.object)
+pub placed_least : (version : Version) → IsLeast 5 spelled_placed (PlacedFits version)
+placed_least version p fits = omega (arith, length-append (spelled_32 p.slot) (spelled_object p.object), object_least p.object)
 
 -- handles and the slots that they name
 abbrev made_held : ℕ → ℕ → Held

@@ -1,19 +1,23 @@
 -- How objects are spelled and read, and which have a spelling.
-use Rattle.std.specs.Prelude.{ℕ, zero, suc, ◌<◌, ◌≤◌, ◌^◌, Bool, true, false, List, [], ◌∷◌, ◌++◌, length, Ok, Err}
+use Rattle.std.specs.Prelude.{ℕ, zero, suc, ◌<◌, ◌≤◌, ◌^◌, Bool, true, false, List, [], ◌∷◌, ◌++◌, length, Ok, Err, Option}
 use Rattle.std.specs.List.{flat_map, AllByRecursion}
-use Rattle.std.specs.Int.{w32, w64}
+use Rattle.std.specs.Int.{w16, w32, w64}
 use Rattle.jlr_types.specs.declared.FieldValue.{FieldValue}
 use Rattle.jlr_types.specs.declared.FieldValue.TheVariants.{Int, Ref}
 use Rattle.jlr_types.specs.declared.Work.{Work}
 use Rattle.jlr_types.specs.declared.Work.TheVariants.{Note, Resource as WorkOn}
 use Rattle.jlr_machine.specs.declared.object.Object.{Object}
 use Rattle.jlr_machine.specs.declared.object.Object.TheVariants.{Plain, Reference, Queue, Cleaner, Cleanable, Guard}
+use Rattle.jlr_machine.specs.declared.object.Contents.{Contents}
+use Rattle.jlr_machine.specs.declared.object.Contents.TheVariants.{Typed, Elements}
 use Rattle.jlr_machine.specs.declared.object.Reference.{Reference as ReferenceOf}
 use Rattle.jlr_machine.specs.declared.object.Cleanable.{Cleanable as CleanableOf}
 use Rattle.jlr_machine.specs.declared.object.Guard.{Guard as GuardOf}
 use Rattle.jlr_fields.specs.declared.fault.Fault.TheVariants.{Range}
-use Rattle.jlr_fields.specs.Spelling.{spelled_8, spelled_32, spelled_64, spelled_signed, spelled_option, IsSigned, SlotFits}
-use Rattle.jlr_fields.specs.Reading.{Reader, ◌>>=◌, one_field, two_fields, four_fields, byte_at, byte_within_at, number_at, signed_at, flag_at, option_at, picked_at}
+use Rattle.jlr_fields.specs.declared.version.Version.{Version}
+use Rattle.jlr_fields.specs.declared.version.Version.TheVariants.{One, Two}
+use Rattle.jlr_fields.specs.Spelling.{spelled_8, spelled_16, spelled_32, spelled_64, spelled_signed, spelled_option, IsSigned, IsWithin, SlotFits}
+use Rattle.jlr_fields.specs.Reading.{Reader, ◌>>=◌, one_field, two_fields, four_fields, byte_at, byte_within_at, number_at, number_within_at, signed_at, flag_at, option_at, picked_at}
 use Rattle.jlr_fields.specs.Items.{items_at, list_at, spelled_list, IsListed}
 use Rattle.jlr_parts.specs.Tables.{ref_kinds, ref_kind_number, ref_states, ref_state_number, clean_states, clean_state_number}
 
@@ -53,6 +57,11 @@ work_read bytes = flag_at bytes >>= λ is_resource. work_behind is_resource.0 is
 
 -- ---- Objects
 
+-- what a plain object holds: its fields, or the elements of an array
+abbrev pub spelled_contents : Contents → List ℕ
+spelled_contents (Typed fields) = 1 ∷ length fields ∷ flat_map spelled_value fields
+spelled_contents (Elements elements) = 7 ∷ spelled_16 (length elements) ++ flat_map spelled_option elements
+
 abbrev pub spelled_reference : ReferenceOf → List ℕ
 spelled_reference r = 2 ∷ ref_kind_number r.kind ∷ spelled_option r.referent ++ spelled_option r.queue ++ spelled_8 (ref_state_number r.state)
 
@@ -60,7 +69,7 @@ abbrev pub spelled_cleanable : CleanableOf → List ℕ
 spelled_cleanable c = 5 ∷ spelled_option c.referent ++ spelled_64 c.action ++ spelled_work c.work ++ spelled_8 (clean_state_number c.state)
 
 abbrev pub spelled_object : Object → List ℕ
-spelled_object (Plain fields) = 1 ∷ length fields ∷ flat_map spelled_value fields
+spelled_object (Plain contents) = spelled_contents contents
 spelled_object (Reference r) = spelled_reference r
 spelled_object (Queue members) = 3 ∷ spelled_list spelled_32 members
 spelled_object Cleaner = 4 ∷ []
@@ -80,22 +89,44 @@ pub record GuardFits (g : GuardOf) : Type 0 where
   pub rid : g.rid < 2 ^ 32
   pub cleanable : g.cleanable < 2 ^ 32
 
-abbrev pub ObjectFits : Object → Type 0
-ObjectFits (Plain fields) = (length fields ≤ 8) × AllByRecursion ValueFits fields
-ObjectFits (Reference r) = ReferenceFits r
-ObjectFits (Queue members) = IsListed (λ s. s < 2 ^ 32) members
-ObjectFits Cleaner = Unit {0}
-ObjectFits (Cleanable c) = CleanableFits c
-ObjectFits (Guard g) = GuardFits g
+-- version 1 has no arrays
+abbrev pub ElementsFit : Version → List (Option ℕ) → Type 0
+ElementsFit One elements = ⊥
+ElementsFit Two elements = IsWithin 1 4096 (length elements) × AllByRecursion SlotFits elements
+
+abbrev pub ContentsFit : Version → Contents → Type 0
+ContentsFit version (Typed fields) = (length fields ≤ 8) × AllByRecursion ValueFits fields
+ContentsFit version (Elements elements) = ElementsFit version elements
+
+abbrev pub ObjectFits : Version → Object → Type 0
+ObjectFits version (Plain contents) = ContentsFit version contents
+ObjectFits version (Reference r) = ReferenceFits r
+ObjectFits version (Queue members) = IsListed (λ s. s < 2 ^ 32) members
+ObjectFits version Cleaner = Unit {0}
+ObjectFits version (Cleanable c) = CleanableFits c
+ObjectFits version (Guard g) = GuardFits g
 
 -- its lists are short enough for their counts
 abbrev pub ObjectCounts : Object → Type 0
-ObjectCounts (Plain fields) = length fields ≤ 8
 ObjectCounts (Queue members) = length members < 2 ^ 32
 ObjectCounts _ = Unit {0}
 
+abbrev pub typed : List FieldValue → Object
+typed fields = Plain (Typed fields)
+
 unfoldable pub plain_read : Reader Object
-plain_read bytes = byte_within_at 0 8 bytes >>= λ count. one_field (items_at value_read count.0) Plain count.1
+plain_read bytes = byte_within_at 0 8 bytes >>= λ count. one_field (items_at value_read count.0) typed count.1
+
+abbrev pub array : List (Option ℕ) → Object
+array elements = Plain (Elements elements)
+
+unfoldable pub array_read : Reader Object
+array_read bytes = number_within_at w16 1 4096 bytes >>= λ count. one_field (items_at option_at count.0) array count.1
+
+-- version 1 has no arrays
+abbrev pub array_in : Version → Reader Object
+array_in One bytes = Err Range
+array_in Two bytes = array_read bytes
 
 unfoldable pub reference_read : Reader Object
 reference_read = four_fields (picked_at 0 ref_kinds) option_at option_at (picked_at 0 ref_states) (λ kind referent queue state. Reference (record { kind = kind; referent = referent; queue = queue; state = state }))
@@ -109,15 +140,16 @@ cleanable_read = four_fields option_at (number_at w64) work_read (picked_at 0 cl
 unfoldable pub guard_read : Reader Object
 guard_read = two_fields (number_at w32) (number_at w32) (λ rid cleanable. Guard (record { rid = rid; cleanable = cleanable }))
 
-abbrev pub object_behind : ℕ → Reader Object
-object_behind zero bytes = Err Range
-object_behind (suc zero) bytes = plain_read bytes
-object_behind (suc (suc zero)) bytes = reference_read bytes
-object_behind (suc (suc (suc zero))) bytes = queue_read bytes
-object_behind (suc (suc (suc (suc zero)))) bytes = Ok (Cleaner, bytes)
-object_behind (suc (suc (suc (suc (suc zero))))) bytes = cleanable_read bytes
-object_behind (suc (suc (suc (suc (suc (suc zero)))))) bytes = guard_read bytes
-object_behind (suc (suc (suc (suc (suc (suc (suc n))))))) bytes = Err Range
+abbrev pub object_behind : Version → ℕ → Reader Object
+object_behind version zero bytes = Err Range
+object_behind version (suc zero) bytes = plain_read bytes
+object_behind version (suc (suc zero)) bytes = reference_read bytes
+object_behind version (suc (suc (suc zero))) bytes = queue_read bytes
+object_behind version (suc (suc (suc (suc zero)))) bytes = Ok (Cleaner, bytes)
+object_behind version (suc (suc (suc (suc (suc zero))))) bytes = cleanable_read bytes
+object_behind version (suc (suc (suc (suc (suc (suc zero)))))) bytes = guard_read bytes
+object_behind version (suc (suc (suc (suc (suc (suc (suc zero))))))) bytes = array_in version bytes
+object_behind version (suc (suc (suc (suc (suc (suc (suc (suc n)))))))) bytes = Err Range
 
-unfoldable pub object_read : Reader Object
-object_read bytes = byte_at bytes >>= λ kind. object_behind kind.0 kind.1
+unfoldable pub object_read : Version → Reader Object
+object_read version bytes = byte_at bytes >>= λ kind. object_behind version kind.0 kind.1

@@ -8,6 +8,7 @@ use Rattle.jlr_machine.specs.declared.machine.Resource.{Resource}
 use Rattle.jlr_machine.specs.declared.machine.Call.{Call}
 use Rattle.jlr_machine.specs.declared.machine.Call.TheVariants.{Free, Opening as CallOpening, Out as CallOut, Job as CallJob}
 use Rattle.jlr_fields.specs.declared.fault.Fault.TheVariants.{Range}
+use Rattle.jlr_fields.specs.declared.version.Version.{Version}
 use Rattle.jlr_fields.specs.Spelling.{spelled_8, spelled_32, spelled_64, spelled_text, IsTextOf}
 use Rattle.jlr_fields.specs.Reading.{Reader, ◌>>=◌, one_field, two_fields, byte_at, number_at, picked_at, text_at, is_name_byte}
 use Rattle.jlr_fields.specs.Items.{may_follow}
@@ -100,18 +101,18 @@ resource_after before bytes = number_at w32 bytes >>= λ rid. if may_follow befo
 abbrev pub spelled_placed : Placed → List ℕ
 spelled_placed p = spelled_32 p.slot ++ spelled_object p.object
 
-pub record PlacedFits (p : Placed) : Type 0 where
+pub record PlacedFits (version : Version) (p : Placed) : Type 0 where
   pub slot : p.slot < 2 ^ 32
-  pub object : ObjectFits p.object
+  pub object : ObjectFits version p.object
 
 abbrev pub PlacedCounts : Placed → Type 0
 PlacedCounts p = ObjectCounts p.object
 
-abbrev pub placed_behind : ℕ → Reader Placed
-placed_behind slot = one_field object_read (λ object. record { slot = slot; object = object })
+abbrev pub placed_behind : Version → ℕ → Reader Placed
+placed_behind version slot = one_field (object_read version) (λ object. record { slot = slot; object = object })
 
-unfoldable pub placed_after : Option ℕ → Reader Placed
-placed_after before bytes = number_at w32 bytes >>= λ slot. if may_follow before slot.0 then placed_behind slot.0 slot.1 else Err Range
+unfoldable pub placed_after : Version → Option ℕ → Reader Placed
+placed_after version before bytes = number_at w32 bytes >>= λ slot. if may_follow before slot.0 then placed_behind version slot.0 slot.1 else Err Range
 
 -- a handle and the slot that it names
 abbrev pub spelled_held : Held → List ℕ

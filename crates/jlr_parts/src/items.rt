@@ -4,9 +4,9 @@ ghost use Rattle.std.specs.List.{flat_map, AllByRecursion};
 ghost use Rattle.jlr_fields.specs.Reading.{Reads};
 ghost use Rattle.jlr_fields.specs.Items.{items_at, list_at, spelled_list};
 
-use jlr_fields::cursor::{take_name, take_slot, take_u32};
+use jlr_fields::cursor::{take_name, take_option, take_slot, take_u32};
 use jlr_fields::fault::{Fault, ReadError};
-use jlr_fields::number::{put_slot, put_u32};
+use jlr_fields::number::{put_option, put_slot, put_u32};
 use jlr_fields::text::put_text;
 use jlr_machine::items::Items;
 use jlr_machine::text::Name;
@@ -119,6 +119,32 @@ impl Written for Slot {
 
     fn write(&self, out: &mut Vec<u8>) -> Result<(), AllocError> {
         put_slot(out, *self)
+    }
+}
+
+impl Item for Option<Slot> {
+    ghost use Rattle.jlr_fields.specs.Reading.{option_at};
+
+    ghost read_at = { option_at };
+
+    ghost LEAST = { 4 };
+
+    const LEAST: usize = 4;
+
+    fn read(_alloc: Global, bytes: &mut &[u8]) -> Result<Self, ReadError> {
+        take_option(bytes)
+    }
+}
+
+impl Written for Option<Slot> {
+    ghost use Rattle.jlr_fields.specs.Spelling.{spelled_option};
+
+    ghost spelled = { spelled_option };
+
+    ghost Counts = { λ _. Unit {0} };
+
+    fn write(&self, out: &mut Vec<u8>) -> Result<(), AllocError> {
+        put_option(out, *self)
     }
 }
 

@@ -2,20 +2,22 @@
 ghost use Rattle.std.specs.Prelude.{◌≡◌, ◌≤◌, ◌∷◌, ◌++◌, OnOk, length};
 ghost use Rattle.std.specs.List.{flat_map};
 ghost use Rattle.jlr_fields.specs.Reading.{Reads};
-ghost use Rattle.jlr_parts.specs.Objects.{value_read, spelled_value, work_read, spelled_work, plain_read, reference_read, queue_read, cleanable_read, guard_read, object_read, spelled_object, spelled_reference, spelled_cleanable, ObjectCounts};
+ghost use Rattle.jlr_fields.specs.Spelling.{spelled_16, spelled_option};
+ghost use Rattle.jlr_parts.specs.Objects.{value_read, spelled_value, work_read, spelled_work, plain_read, array_read, array_in as array_of, reference_read, queue_read, cleanable_read, guard_read, object_read, spelled_contents, spelled_object, spelled_reference, spelled_cleanable, ObjectCounts};
 
 use crate::items::{Item, Written, put_each, put_list, take_items, take_list};
 use crate::tables::{
     put_clean_state, put_ref_kind, put_ref_state, take_clean_state, take_ref_kind, take_ref_state,
 };
 use jlr_fields::cursor::{
-    take_action, take_flag, take_i64, take_option, take_rid, take_slot, take_u8, take_u32,
-    take_within,
+    take_action, take_flag, take_i64, take_option, take_rid, take_slot, take_u8, take_u16_within,
+    take_u32, take_within,
 };
 use jlr_fields::fault::{Fault, ReadError};
-use jlr_fields::number::{put_i64, put_option, put_slot, put_u8, put_u32, put_u64};
-use jlr_machine::object::{Cleanable, Fields, Guard, Object, Reference};
-use jlr_types::{FieldValue, Work};
+use jlr_fields::number::{put_i64, put_option, put_slot, put_u8, put_u16, put_u32, put_u64};
+use jlr_fields::version::Version;
+use jlr_machine::object::{Cleanable, Contents, Elements, Fields, Guard, Object, Reference};
+use jlr_types::{FieldValue, Slot, Work};
 use std::alloc::{AllocError, Global};
 
 /// What a cleaning action does.
@@ -102,7 +104,26 @@ fn plain_at(alloc: Global, bytes: &mut &[u8]) -> Result<Object, ReadError>
 {
     let count = take_within(0, 8, bytes)?;
     let fields = take_items(alloc, count as u32, bytes)?;
-    Ok(Object::Plain(Fields::from_vec(fields).unwrap()))
+    Ok(Object::Plain(Contents::Typed(Fields::from_vec(fields).unwrap())))
+}
+
+#[tactic(auto, unfolding(crate::specs::Objects::array_read))]
+fn array_at(alloc: Global, bytes: &mut &[u8]) -> Result<Object, ReadError>
+    ensures { Reads (λ x. x) result bytes.new.now (array_read bytes.old.now) }
+{
+    let count = take_u16_within(1, 4_096, bytes)?;
+    let elements = take_items(alloc, count as u32, bytes)?;
+    Ok(Object::Plain(Contents::Elements(Elements::from_vec(elements).unwrap())))
+}
+
+/// An array, where the version has them.
+fn array_in(alloc: Global, version: Version, bytes: &mut &[u8]) -> Result<Object, ReadError>
+    ensures { Reads (λ x. x) result bytes.new.now (array_of version bytes.old.now) }
+{
+    match version {
+        Version::One => Err(ReadError::Fault(Fault::Range)),
+        Version::Two => array_at(alloc, bytes),
+    }
 }
 
 #[tactic(auto, unfolding(crate::specs::Objects::reference_read))]
@@ -158,8 +179,12 @@ fn guard_at(bytes: &mut &[u8]) -> Result<Object, ReadError>
 
 /// An object: its kind, and what that kind has.
 #[tactic(auto, unfolding(crate::specs::Objects::object_read))]
-pub(crate) fn object_at(alloc: Global, bytes: &mut &[u8]) -> Result<Object, ReadError>
-    ensures { Reads (λ x. x) result bytes.new.now (object_read bytes.old.now) }
+pub(crate) fn object_at(
+    alloc: Global,
+    version: Version,
+    bytes: &mut &[u8],
+) -> Result<Object, ReadError>
+    ensures { Reads (λ x. x) result bytes.new.now (object_read version bytes.old.now) }
 {
     let kind = take_u8(bytes)?;
     match kind {
@@ -169,6 +194,7 @@ pub(crate) fn object_at(alloc: Global, bytes: &mut &[u8]) -> Result<Object, Read
         4 => Ok(Object::Cleaner),
         5 => cleanable_at(bytes),
         6 => guard_at(bytes),
+        7 => array_in(alloc, version, bytes),
         _ => Err(ReadError::Fault(Fault::Range)),
     }
 }
@@ -180,6 +206,24 @@ fn put_plain(out: &mut Vec<u8>, fields: &[FieldValue]) -> Result<(), AllocError>
     put_u8(out, 1)?;
     put_u8(out, fields.len() as u8)?;
     put_each(out, fields)
+}
+
+fn put_array(out: &mut Vec<u8>, elements: &[Option<Slot>]) -> Result<(), AllocError>
+    requires { length elements.now ≤ 4096 }
+    ensures { OnOk result (out.new.items ≡ out.old.items ++ 7 ∷ spelled_16 (length elements.now) ++ flat_map spelled_option elements.now) }
+{
+    put_u8(out, 7)?;
+    put_u16(out, elements.len() as u16)?;
+    put_each(out, elements)
+}
+
+fn put_contents(out: &mut Vec<u8>, contents: &Contents) -> Result<(), AllocError>
+    ensures { OnOk result (out.new.items ≡ out.old.items ++ spelled_contents contents.now) }
+{
+    match contents {
+        Contents::Typed(fields) => put_plain(out, fields.as_slice()),
+        Contents::Elements(elements) => put_array(out, elements.as_slice()),
+    }
 }
 
 fn put_reference(out: &mut Vec<u8>, reference: &Reference) -> Result<(), AllocError>
@@ -208,7 +252,7 @@ pub(crate) fn put_object(out: &mut Vec<u8>, object: &Object) -> Result<(), Alloc
     ensures { OnOk result (out.new.items ≡ out.old.items ++ spelled_object object.now) }
 {
     match object {
-        Object::Plain(fields) => put_plain(out, fields.as_slice()),
+        Object::Plain(contents) => put_contents(out, contents),
         Object::Reference(reference) => put_reference(out, reference),
         Object::Queue(members) => {
             put_u8(out, 3)?;

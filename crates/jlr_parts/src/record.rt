@@ -3,7 +3,7 @@ ghost use Rattle.std.specs.Prelude.{◌≡◌, ◌++◌, OnOk};
 ghost use Rattle.jlr_fields.specs.Reading.{Reads};
 ghost use Rattle.jlr_fields.specs.Spelling.{spelled_32};
 ghost use Rattle.jlr_parts.specs.Objects.{ObjectCounts, spelled_object};
-ghost use Rattle.jlr_parts.specs.Records.{call_read, spelled_call};
+ghost use Rattle.jlr_parts.specs.Records.{call_read, spelled_call, placed_after};
 
 use crate::items::{Item, Written};
 use crate::object::{object_at, put_object, put_work, take_work};
@@ -15,6 +15,7 @@ use jlr_fields::cursor::{
 use jlr_fields::fault::{Fault, ReadError};
 use jlr_fields::number::{put_slot, put_u8, put_u32, put_u64};
 use jlr_fields::text::put_text;
+use jlr_fields::version::Version;
 use jlr_machine::machine::{Binding, Call, Failure, Job, Resource};
 use jlr_machine::object::Object;
 use jlr_types::{Handle, Slot};
@@ -225,30 +226,22 @@ impl Written for Resource {
     }
 }
 
-impl Keyed for Placed {
-    ghost use Rattle.jlr_parts.specs.Records.{placed_after};
-
-    ghost read_after = { placed_after };
-
-    ghost key_of = { λ x. x.slot };
-
-    ghost LEAST = { 5 };
-
-    const LEAST: usize = 5;
-
-    fn key(&self) -> u64 {
-        self.slot.number() as u64
+/// An object and its slot, which is above the one before it.
+#[tactic(auto, unfolding(crate::specs::Records::placed_after))]
+pub fn take_placed(
+    alloc: Global,
+    version: Version,
+    before: Option<u64>,
+    bytes: &mut &[u8],
+) -> Result<Placed, ReadError>
+    ensures { Reads (λ x. x) result bytes.new.now (placed_after version before bytes.old.now) }
+{
+    let slot = take_slot(bytes)?;
+    if !follows(before, slot.number() as u64) {
+        return Err(ReadError::Fault(Fault::Range));
     }
-
-    #[tactic(auto, unfolding(crate::specs::Records::placed_after))]
-    fn read(alloc: Global, before: Option<u64>, bytes: &mut &[u8]) -> Result<Self, ReadError> {
-        let slot = take_slot(bytes)?;
-        if !follows(before, slot.number() as u64) {
-            return Err(ReadError::Fault(Fault::Range));
-        }
-        let object = object_at(alloc, bytes)?;
-        Ok(Placed { slot, object })
-    }
+    let object = object_at(alloc, version, bytes)?;
+    Ok(Placed { slot, object })
 }
 
 /// Writes an object behind its slot.

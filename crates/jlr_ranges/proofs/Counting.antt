@@ -1,15 +1,13 @@
 -- How long a list may be: one without repeats below a number, and one whose keys have numbers of their own.
-use Rattle.std.proofs.Common.{◌≡◌, ◌≢◌, ◌&&◌, ◌||◌, ◌<◌, ◌≤◌, ℕ, suc, ◌+◌, Bool, true, false, cond, not, List, [], ◌∷◌, length, map, refl, sym, ap, ◌∙◌, subst, ◌⊎◌, inl, inr, arith, nat_lt, nat_eq, ◌==◌, Option, Some, None, find, count_by}
-use Rattle.std.specs.Prelude.{IsTrue}
+use Rattle.std.proofs.Common.{◌≡◌, ◌≢◌, ◌&&◌, ◌||◌, ◌<◌, ◌≤◌, ℕ, suc, Bool, true, false, cond, not, List, [], ◌∷◌, length, map, refl, sym, ap, ◌∙◌, subst, inl, inr, arith, nat_lt, nat_eq, ◌==◌, Some, None, count_by}
 use Rattle.std.specs.List.{IsDistinct, AllByRecursion}
 use Rattle.std.proofs.lemmas.Bool.{both_ways, and_parts, eqb-true, eq-eqb, ltb-true, cond-true}
-use Rattle.std.proofs.lemmas.List.{length-map}
 use Rattle.std.proofs.lemmas.List.Sums.{sum_by-cons}
 use Rattle.std.proofs.lemmas.Map.Steps.{length-le_from_distinct_below}
 use Rattle.jlr_machine.specs.Objects.{◌∈◌, ◌∋◌, is_distinct, is_rising, is_above}
-use Rattle.jlr_laws.proofs.Keyed.{by_key, no_some, above_less}
+use Rattle.jlr_laws.proofs.Keyed.{by_key, no_some}
 use Rattle.jlr_laws.proofs.Sets.{in_front, in_rest, in_cons}
-use Rattle.jlr_fields.specs.Items.{may_follow, Rises}
+use Rattle.jlr_fields.specs.Items.{Rises}
 
 -- ---- Lists without repeats
 

@@ -1,6 +1,5 @@
 -- The entries of a history have spellings.
-use Rattle.std.proofs.Common.{◌≡◌, ◌<◌, ◌≤◌, ◌^◌, ◌++◌, ℕ, Bool, true, List, [], ◌∷◌, length, map, refl, sym, ap, subst, ◌⊎◌, inl, inr, arith, Option, Some, None}
-use Rattle.std.specs.Prelude.{IsTrue}
+use Rattle.std.proofs.Common.{◌≡◌, ◌<◌, ◌≤◌, ◌++◌, ℕ, true, List, [], ◌∷◌, length, map, refl, sym, ap, subst, arith, Option, Some, None}
 use Rattle.std.specs.List.{AllByRecursion}
 use Rattle.std.proofs.Math.Dec.{leb}
 use Rattle.std.proofs.lemmas.Bool.{leb-true}
@@ -10,11 +9,11 @@ use Rattle.jlr_machine.specs.declared.ask.Ask.{Ask}
 use Rattle.jlr_machine.specs.declared.ask.Ask.TheVariants.{Full, Collect, Prepare, Names as AskNames, Notes as AskNotes, Faults as AskFaults}
 use Rattle.jlr_machine.specs.declared.ask.FullMode.TheVariants.{Policy, ClearAll}
 use Rattle.jlr_machine.specs.declared.ask.Answer.{Answer}
-use Rattle.jlr_machine.specs.declared.ask.Answer.TheVariants.{Names, Notes, Faults, Done, Handle, Truth, Int, Data, Wrote, Faulted, Stat, Job, AlreadyDone, Prepared, Out, Handed, Refused}
+use Rattle.jlr_machine.specs.declared.ask.Answer.TheVariants.{Names, Notes, Faults}
 use Rattle.jlr_machine.specs.declared.entry.Collected.{Collected}
 use Rattle.jlr_machine.specs.declared.entry.Chosen.{Chosen}
 use Rattle.jlr_machine.specs.declared.entry.Entry.{Entry}
-use Rattle.jlr_machine.specs.Objects.{at, ◌∈◌, is_rising, is_distinct}
+use Rattle.jlr_machine.specs.Objects.{◌∈◌, is_rising, is_distinct}
 use Rattle.jlr_machine.specs.Edges.{roots}
 use Rattle.jlr_machine.specs.Edges.Chain.{UpToSoft}
 use Rattle.jlr_machine.specs.Collection.{IsCollection, IsFull}
@@ -29,9 +28,10 @@ use Rattle.jlr_laws.proofs.Paths.{reached_below, reached_complete}
 use Rattle.jlr_histories.specs.Rooms.{Rooms, Fits, HasRoomFor}
 use Rattle.jlr_histories.proofs.Fitting.{answers_fit}
 use Rattle.jlr_histories.proofs.Collecting.{new_objects_fit}
-use Rattle.jlr_fields.specs.Items.{IsListed, IsRising, Rises}
+use Rattle.jlr_fields.specs.declared.version.Version.TheVariants.{Two}
+use Rattle.jlr_fields.specs.Items.{Rises}
 use Rattle.jlr_answers.specs.Answers.{AnswerFits}
-use Rattle.jlr_trace.specs.Choices.{SlotIs, itself, CollectedFits, CollectionFits, FreshFits, ChoiceFits}
+use Rattle.jlr_trace.specs.Choices.{SlotIs, itself, CollectedFits, CollectionFits, ChoiceFits}
 use Rattle.jlr_trace.specs.Entries.{EntryFits}
 use Rattle.jlr_ranges.specs.Ranges.{AnswerRange, CollectedRange, ChoiceRange, EntryRange}
 use Rattle.jlr_ranges.proofs.Counting.{short, rising_distinct, rises}
@@ -144,7 +144,7 @@ answer_fits a range few = range
 
 -- ---- Entries
 
-entry_fits : (m : Machine) (w : IsWellFormed m) (e : Entry) → IsLegal m e → EntryRange e → EntryFits e
+entry_fits : (m : Machine) (w : IsWellFormed m) (e : Entry) → IsLegal m e → EntryRange e → EntryFits Two e
 entry_fits m w e legal range = record {
   seat = range.seat;
   ask = range.ask;
@@ -152,6 +152,6 @@ entry_fits m w e legal range = record {
   choice = choice_fits m w e legal range.choice;
 }
 
-pub entries_fit : (m n : Machine) (entries : List Entry) → IsWellFormed m → Run m entries n → AllByRecursion EntryRange entries → AllByRecursion EntryFits entries
+pub entries_fit : (m n : Machine) (entries : List Entry) → IsWellFormed m → Run m entries n → AllByRecursion EntryRange entries → AllByRecursion (EntryFits Two) entries
 entries_fit m n [] w r range = tt
 entries_fit m n (e ∷ entries) w r range = (entry_fits m w e r.0 range.0, entries_fit (apply m e) n entries (legal_kept m e w r.0) r.1 range.1)

@@ -1,8 +1,8 @@
 -- The image of a history has a spelling.
-use Rattle.std.proofs.Common.{◌≡◌, ◌<◌, ◌≤◌, ◌^◌, ◌++◌, ℕ, suc, ◌+◌, true, false, List, [], ◌∷◌, length, map, option_map, refl, sym, ◌∙◌, ap, subst, ◌⊎◌, inl, inr, arith, Option, Some, None}
-use Rattle.std.specs.Prelude.{IsTrue, nat_lt, if◌then◌else◌}
+use Rattle.std.proofs.Common.{◌≡◌, ◌<◌, ◌≤◌, ◌^◌, ◌++◌, ℕ, suc, ◌+◌, false, List, [], ◌∷◌, length, map, option_map, refl, sym, ◌∙◌, ap, subst, arith, Option, Some, None}
+use Rattle.std.specs.Prelude.{nat_lt, if◌then◌else◌}
 use Rattle.std.specs.List.{AllByRecursion, list_any}
-use Rattle.std.proofs.lemmas.Bool.{both_ways, cases_lt, le-ltb}
+use Rattle.std.proofs.lemmas.Bool.{le-ltb}
 use Rattle.std.proofs.lemmas.List.{length-map, append-nil}
 use Rattle.jlr_machine.specs.declared.object.Guard.{Guard as GuardOf}
 use Rattle.jlr_machine.specs.declared.object.Object.TheVariants.{Guard}
@@ -12,18 +12,18 @@ use Rattle.jlr_machine.specs.declared.machine.Call.{Call}
 use Rattle.jlr_machine.specs.declared.machine.Call.TheVariants.{Free, Opening as CallOpening, Out as CallOut, Job as CallJob}
 use Rattle.jlr_machine.specs.Objects.{at, ◌∈◌}
 use Rattle.jlr_machine.specs.Edges.{roots, active_cleanables}
-use Rattle.jlr_machine.specs.WellFormed.{IsWellFormed, IsImage, IsSessionAt, FitsItsCall}
+use Rattle.jlr_machine.specs.WellFormed.{IsWellFormed, IsSessionAt, FitsItsCall}
 use Rattle.jlr_laws.proofs.Clearing.{in_left, in_right}
 use Rattle.jlr_laws.proofs.Frames.{place_within}
-use Rattle.jlr_fields.specs.Spelling.{SlotFits}
-use Rattle.jlr_fields.specs.Items.{IsListed, IsRising}
+use Rattle.jlr_fields.specs.declared.version.Version.TheVariants.{Two}
+use Rattle.jlr_fields.specs.Items.{IsRising}
 use Rattle.jlr_parts.specs.declared.record.Held.{Held}
 use Rattle.jlr_parts.specs.declared.record.Placed.{Placed}
 use Rattle.jlr_parts.specs.Records.{PlacedFits}
 use Rattle.jlr_trace.specs.declared.file.TraceFile.{TraceFile}
 use Rattle.jlr_trace.specs.Files.{image_of}
 use Rattle.jlr_machine.specs.declared.entry.Entry.{Entry}
-use Rattle.jlr_trace.specs.Images.{listed_from, placed, held, session_text, SessionFits, HeadFits, ImageFits, HasShape, HasPlaces, places_of, image_text}
+use Rattle.jlr_trace.specs.Images.{listed_from, placed, held, session_text, SessionFits, ImageFits, HasShape, HasPlaces, image_text}
 use Rattle.jlr_ranges.specs.Ranges.{SeatRange, SessionRange, MachineRange, AreLimits}
 use Rattle.jlr_ranges.proofs.Counting.{short, rises}
 use Rattle.jlr_ranges.proofs.Workers.{few_jobs, few_resources}
@@ -111,12 +111,12 @@ module _ (m : Machine) (w : IsWellFormed m) where
 
   module _ (base : ℕ) (entries : List Entry) (bound : base < 2 ^ 64) (limits : AreLimits m) (range : MachineRange m) where
     abbrev the_file : TraceFile
-    the_file = record { base = base; image = m; strays = []; entries = entries }
+    the_file = record { version = Two; base = base; image = m; strays = []; entries = entries }
 
-    objects_fit : IsRising PlacedFits (λ p. p.slot) (listed_from placed 0 m.objects ++ [])
-    objects_fit = subst (λ (l : List Placed). IsRising PlacedFits (λ p. p.slot) l) (sym (append-nil (listed_from placed 0 m.objects))) (table_fits m.objects w.limits.cells (all_objects_fit m w range.objects))
+    objects_fit : IsRising (PlacedFits Two) (λ p. p.slot) (listed_from placed 0 m.objects ++ [])
+    objects_fit = subst (λ (l : List Placed). IsRising (PlacedFits Two) (λ p. p.slot) l) (sym (append-nil (listed_from placed 0 m.objects))) (table_fits m.objects w.limits.cells (all_objects_fit m w range.objects))
 
-    pub image_fits : ImageFits (image_text (image_of the_file))
+    pub image_fits : ImageFits Two (image_text (image_of the_file))
     image_fits =
         let jobs = few_jobs m w range.jobs in
         let resources = few_resources m w range.jobs in

@@ -1,6 +1,5 @@
 -- The objects of a well-formed machine have spellings.
-use Rattle.std.proofs.Common.{◌≡◌, ◌<◌, ◌≤◌, ℕ, suc, ◌+◌, true, false, List, [], ◌∷◌, length, refl, sym, ◌∙◌, subst, ◌⊎◌, inl, inr, arith, Option, Some, None, filter_map, is_some}
-use Rattle.std.specs.Prelude.{IsTrue}
+use Rattle.std.proofs.Common.{◌≡◌, ◌<◌, ℕ, suc, ◌+◌, false, List, [], ◌∷◌, length, refl, sym, ◌∙◌, subst, inl, inr, arith, Option, Some, None, filter_map, is_some}
 use Rattle.std.specs.List.{AllByRecursion}
 use Rattle.std.proofs.lemmas.Bool.{both_ways, cases_lt}
 use Rattle.jlr_types.specs.declared.FieldValue.{FieldValue}
@@ -9,17 +8,19 @@ use Rattle.jlr_types.specs.declared.RefKind.{RefKind}
 use Rattle.jlr_types.specs.declared.RefKind.TheVariants.{Soft, Weak, Phantom}
 use Rattle.jlr_machine.specs.declared.object.Object.{Object}
 use Rattle.jlr_machine.specs.declared.object.Object.TheVariants.{Plain, Reference, Queue, Cleaner, Cleanable, Guard}
+use Rattle.jlr_machine.specs.declared.object.Contents.TheVariants.{Typed, Elements}
 use Rattle.jlr_machine.specs.declared.object.Reference.{Reference as ReferenceOf}
 use Rattle.jlr_machine.specs.declared.machine.Machine.{Machine}
-use Rattle.jlr_machine.specs.Objects.{Heap, at, ◌∈◌}
-use Rattle.jlr_machine.specs.Edges.{slot_in, strong_edges, referent, edges_from}
+use Rattle.jlr_machine.specs.Objects.{at, ◌∈◌}
+use Rattle.jlr_machine.specs.Edges.{slot_in, strong_edges, referent}
 use Rattle.jlr_machine.specs.Edges.Chain.{UpToPhantom}
 use Rattle.jlr_machine.specs.WellFormed.{IsWellFormed, IsObjectAt}
 use Rattle.jlr_laws.proofs.Checks.{at_beyond}
 use Rattle.jlr_laws.proofs.Clearing.{edge_from}
 use Rattle.jlr_laws.proofs.Frames.{place_within}
 use Rattle.jlr_laws.proofs.Sets.{in_front, in_rest}
-use Rattle.jlr_fields.specs.Spelling.{no_slot, SlotFits}
+use Rattle.jlr_fields.specs.declared.version.Version.TheVariants.{Two}
+use Rattle.jlr_fields.specs.Spelling.{SlotFits}
 use Rattle.jlr_parts.specs.Objects.{ValueFits, ObjectFits}
 use Rattle.jlr_ranges.specs.Ranges.{ValueRange, ObjectRange, PlaceRange}
 use Rattle.jlr_ranges.proofs.Counting.{short}
@@ -44,6 +45,14 @@ values_fit (Ref None ∷ fields) range there = (tt, values_fit fields range.1 th
 values_fit (Ref (Some s) ∷ fields) range there =
     let lt = there s (in_front s s (filter_map slot_in fields) refl) in
     (omega (arith, lt), values_fit fields range.1 (λ t h. there t (in_rest t s (filter_map slot_in fields) h)))
+
+elements_fit : (elements : List (Option ℕ)) → ((s : ℕ) → s ∈ filter_map (λ o. o) elements → s < 65536) → AllByRecursion SlotFits elements
+elements_fit [] there = tt
+elements_fit (None ∷ elements) there = (tt, elements_fit elements there)
+elements_fit (Some s ∷ elements) there =
+    let others : List ℕ = filter_map (λ (o : Option ℕ). o) elements in
+    let lt = there s (in_front s s others refl) in
+    (omega (arith, lt), elements_fit elements (λ t h. there t (in_rest t s others h)))
 
 -- ---- Places counted from a number
 
@@ -71,8 +80,9 @@ module _ (m : Machine) (w : IsWellFormed m) where
   referent_within : (s x : ℕ) (kind : RefKind) (o : Object) → at m.objects s ≡ Some o → referent kind o ≡ Some x → x < 65536
   referent_within s x kind o e h = within x (w.slots.edges s x (edge_from UpToPhantom m.objects s x (inr (kind, refl, (o, e, h)))))
 
-  pub object_fits : (s : ℕ) (o : Object) → at m.objects s ≡ Some o → ObjectRange o → ObjectFits o
-  object_fits s (Plain fields) e range = (range.0, values_fit fields range.1 (λ x h. strong_within s x (Plain fields) e h))
+  pub object_fits : (s : ℕ) (o : Object) → at m.objects s ≡ Some o → ObjectRange o → ObjectFits Two o
+  object_fits s (Plain (Typed fields)) e range = (range.0, values_fit fields range.1 (λ x h. strong_within s x (Plain (Typed fields)) e h))
+  object_fits s (Plain (Elements elements)) e range = (range, elements_fit elements (λ x h. strong_within s x (Plain (Elements elements)) e h))
   object_fits s (Reference r) e range = record {
     referent = slot_fits r.referent (λ x h. referent_within s x r.kind (Reference r) e (its_referent r ∙ h));
     queue = slot_fits r.queue (λ q h.

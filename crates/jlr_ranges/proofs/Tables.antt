@@ -1,10 +1,11 @@
 -- Tables as lists: what is in them, with rising places.
-use Rattle.std.proofs.Common.{◌≡◌, ◌<◌, ◌≤◌, ◌+◌, ◌^◌, ℕ, suc, List, [], ◌∷◌, length, refl, arith, Option, Some, None}
+use Rattle.std.proofs.Common.{◌<◌, ◌≤◌, ◌+◌, ℕ, suc, List, [], ◌∷◌, length, refl, arith, Option, Some, None}
 use Rattle.std.specs.Prelude.{IsTrue}
 use Rattle.std.specs.List.{AllByRecursion}
 use Rattle.std.proofs.lemmas.Bool.{lt-ltb}
 use Rattle.jlr_machine.specs.declared.object.Object.{Object}
-use Rattle.jlr_fields.specs.Items.{may_follow, Rises, IsListed, IsRising}
+use Rattle.jlr_fields.specs.Items.{may_follow, Rises, IsRising}
+use Rattle.jlr_fields.specs.declared.version.Version.TheVariants.{Two}
 use Rattle.jlr_parts.specs.Objects.{ObjectFits}
 use Rattle.jlr_parts.specs.Records.{PlacedFits, HeldFits}
 use Rattle.jlr_trace.specs.Images.{listed_from, placed, held}
@@ -35,9 +36,9 @@ held_rise n before (Some s ∷ xs) b = (follows before n b, held_rise (suc n) (S
 
 abbrev pub PlaceFits : Option Object → Type 0
 PlaceFits None = Unit {0}
-PlaceFits (Some o) = ObjectFits o
+PlaceFits (Some o) = ObjectFits Two o
 
-placed_fit : (n : ℕ) (xs : List (Option Object)) → n + length xs ≤ 65536 → AllByRecursion PlaceFits xs → AllByRecursion PlacedFits (listed_from placed n xs)
+placed_fit : (n : ℕ) (xs : List (Option Object)) → n + length xs ≤ 65536 → AllByRecursion PlaceFits xs → AllByRecursion (PlacedFits Two) (listed_from placed n xs)
 placed_fit n [] le all = tt
 placed_fit n (None ∷ xs) le all = placed_fit (suc n) xs (omega (arith, le)) all.1
 placed_fit n (Some o ∷ xs) le all = (record { slot = omega (arith, le); object = all.0 }, placed_fit (suc n) xs (omega (arith, le)) all.1)
@@ -47,7 +48,7 @@ held_fit n [] le all = tt
 held_fit n (None ∷ xs) le all = held_fit (suc n) xs (omega (arith, le)) all.1
 held_fit n (Some s ∷ xs) le all = (record { handle = omega (arith, le); slot = all.0 }, held_fit (suc n) xs (omega (arith, le)) all.1)
 
-pub table_fits : (xs : List (Option Object)) → length xs ≤ 65536 → AllByRecursion PlaceFits xs → IsRising PlacedFits (λ p. p.slot) (listed_from placed 0 xs)
+pub table_fits : (xs : List (Option Object)) → length xs ≤ 65536 → AllByRecursion PlaceFits xs → IsRising (PlacedFits Two) (λ p. p.slot) (listed_from placed 0 xs)
 table_fits xs le all =
     let count = counted placed 0 xs in
     let within = occupied_within xs in

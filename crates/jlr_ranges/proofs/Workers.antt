@@ -1,7 +1,7 @@
 -- How many jobs and resources a well-formed machine has.
-use Rattle.std.proofs.Common.{◌≡◌, ◌≢◌, ◌<◌, ◌≤◌, ◌+◌, ℕ, Bool, true, false, List, length, map, refl, sym, ap, ◌∙◌, subst, ◌⊎◌, inl, inr, arith, nat_eq, Option, Some}
+use Rattle.std.proofs.Common.{◌≡◌, ◌<◌, ◌≤◌, ◌+◌, ℕ, length, map, refl, sym, ap, ◌∙◌, subst, ◌⊎◌, inl, inr, arith, nat_eq, Some}
 use Rattle.std.specs.List.{AllByRecursion}
-use Rattle.std.proofs.lemmas.Bool.{both_ways, cases_eq, eq-eqb}
+use Rattle.std.proofs.lemmas.Bool.{cases_eq, eq-eqb}
 use Rattle.std.proofs.lemmas.List.{length-map}
 use Rattle.jlr_types.specs.declared.Work.TheVariants.{Resource as WorkOn}
 use Rattle.jlr_machine.specs.declared.object.Object.TheVariants.{Cleanable}
@@ -16,8 +16,8 @@ use Rattle.jlr_machine.specs.declared.machine.ResourceState.{ResourceState}
 use Rattle.jlr_machine.specs.declared.machine.ResourceState.TheVariants.{Opening, Idle, Out, Closing}
 use Rattle.jlr_machine.specs.Objects.{◌∈◌}
 use Rattle.jlr_machine.specs.Lookups.{job_of, resource_at}
-use Rattle.jlr_machine.specs.WellFormed.{IsWellFormed, IsJob, IsUnspent, HasResource, HasWorker, IsCallOf, IsSessionAt}
-use Rattle.jlr_laws.proofs.Keyed.{by_key, all_found, key_found}
+use Rattle.jlr_machine.specs.WellFormed.{IsWellFormed, IsJob, IsUnspent, HasResource, HasWorker, IsCallOf}
+use Rattle.jlr_laws.proofs.Keyed.{all_found, key_found}
 use Rattle.jlr_laws.proofs.Frames.{place_within, some_same}
 use Rattle.jlr_parts.specs.Records.{JobFits}
 use Rattle.jlr_ranges.proofs.Counting.{rising_distinct, found_by, counted_two, at_most}

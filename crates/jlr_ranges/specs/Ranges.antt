@@ -1,10 +1,12 @@
--- What the types of a machine and of entries say of the numbers in them.
-use Rattle.std.specs.Prelude.{ℕ, ◌<◌, ◌≤◌, ◌^◌, List, length, Option, Some, None}
+-- What the types of a machine and of entries say of the numbers in them, for a file of version 2.
+use Rattle.std.specs.Prelude.{ℕ, ◌<◌, ◌≤◌, ◌^◌, length, Option, Some, None}
 use Rattle.std.specs.List.{AllByRecursion}
 use Rattle.jlr_types.specs.declared.FieldValue.{FieldValue}
 use Rattle.jlr_types.specs.declared.FieldValue.TheVariants.{Int, Ref}
 use Rattle.jlr_machine.specs.declared.object.Object.{Object}
 use Rattle.jlr_machine.specs.declared.object.Object.TheVariants.{Plain, Reference, Queue, Cleaner, Cleanable, Guard}
+use Rattle.jlr_machine.specs.declared.object.Contents.{Contents}
+use Rattle.jlr_machine.specs.declared.object.Contents.TheVariants.{Typed, Elements}
 use Rattle.jlr_machine.specs.declared.machine.Session.{Session}
 use Rattle.jlr_machine.specs.declared.machine.Machine.{Machine}
 use Rattle.jlr_machine.specs.declared.ask.Answer.{Answer}
@@ -12,7 +14,8 @@ use Rattle.jlr_machine.specs.declared.ask.Answer.TheVariants.{Names, Notes, Faul
 use Rattle.jlr_machine.specs.declared.entry.Collected.{Collected}
 use Rattle.jlr_machine.specs.declared.entry.Chosen.{Chosen}
 use Rattle.jlr_machine.specs.declared.entry.Entry.{Entry}
-use Rattle.jlr_fields.specs.Spelling.{IsSigned}
+use Rattle.jlr_fields.specs.declared.version.Version.TheVariants.{Two}
+use Rattle.jlr_fields.specs.Spelling.{IsSigned, IsWithin}
 use Rattle.jlr_parts.specs.Objects.{WorkFits, GuardFits}
 use Rattle.jlr_parts.specs.Records.{NameFits, BindingFits, FailureFits, CallFits, JobFits, ResourceFits}
 use Rattle.jlr_asks.specs.Asks.{AskFits}
@@ -26,8 +29,12 @@ abbrev pub ValueRange : FieldValue → Type 0
 ValueRange (Int n) = IsSigned n
 ValueRange (Ref s) = Unit {0}
 
+abbrev pub ContentsRange : Contents → Type 0
+ContentsRange (Typed fields) = (length fields ≤ 8) × AllByRecursion ValueRange fields
+ContentsRange (Elements elements) = IsWithin 1 4096 (length elements)
+
 abbrev pub ObjectRange : Object → Type 0
-ObjectRange (Plain fields) = (length fields ≤ 8) × AllByRecursion ValueRange fields
+ObjectRange (Plain contents) = ContentsRange contents
 ObjectRange (Reference r) = Unit {0}
 ObjectRange (Queue members) = AllByRecursion SlotIs members
 ObjectRange Cleaner = Unit {0}
@@ -88,7 +95,7 @@ pub record ChoiceRange (c : Chosen) : Type 0 where
 
 pub record EntryRange (e : Entry) : Type 0 where
   pub seat : e.seat < 256
-  pub ask : AskFits e.ask
+  pub ask : AskFits Two e.ask
   pub answer : AnswerRange e.answer
   pub choice : ChoiceRange e.choice
 

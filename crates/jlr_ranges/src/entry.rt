@@ -1,5 +1,6 @@
 //! Asks, answers, choices and entries.
 ghost use Rattle.std.specs.Prelude.{◌<◌, ◌≤◌, length};
+ghost use Rattle.jlr_fields.specs.declared.version.Version.TheVariants.{Two};
 ghost use Rattle.jlr_fields.specs.Spelling.{IsBytes, IsText};
 ghost use Rattle.jlr_asks.specs.Asks.{AskFits, CallOutcomeFits};
 ghost use Rattle.jlr_answers.specs.Answers.{StatFits};
@@ -76,7 +77,7 @@ fn new_in_range(mutator: Mutator, layout: &Layout)
 }
 
 fn ask_in_range(ask: &Ask)
-    ensures { AskFits ask.now }
+    ensures { AskFits Two ask.now }
 {
     match ask {
         Ask::Join { mutator } => mutator_in_range(*mutator),
@@ -89,7 +90,7 @@ fn ask_in_range(ask: &Ask)
             value,
         } => {
             on_two(*mutator, *object, *value);
-            let _field = *field;
+            let _field = field.number();
         }
         Ask::Get {
             mutator,
@@ -97,7 +98,7 @@ fn ask_in_range(ask: &Ask)
             field,
         } => {
             on_object(*mutator, *object);
-            let _field = *field;
+            let _field = field.number();
         }
         Ask::SetInt {
             mutator,
@@ -106,7 +107,7 @@ fn ask_in_range(ask: &Ask)
             value,
         } => {
             on_object(*mutator, *object);
-            let _field = *field;
+            let _field = field.number();
             let _value = *value;
         }
         Ask::Int {
@@ -115,7 +116,7 @@ fn ask_in_range(ask: &Ask)
             field,
         } => {
             on_object(*mutator, *object);
-            let _field = *field;
+            let _field = field.number();
         }
         Ask::Dup { mutator, object } => on_object(*mutator, *object),
         Ask::Drop { mutator, object } => on_object(*mutator, *object),
@@ -198,6 +199,10 @@ fn ask_in_range(ask: &Ask)
         Ask::Begin => {}
         Ask::Collect => {}
         Ask::Abandon => {}
+        Ask::Array { mutator, length } => {
+            mutator_in_range(*mutator);
+            let _length = length.number();
+        }
     }
 }
 

@@ -1,10 +1,10 @@
 //! Objects.
 ghost use Rattle.std.specs.Prelude.{◌<◌, ◌^◌};
 ghost use Rattle.jlr_parts.specs.Objects.{WorkFits, GuardFits};
-ghost use Rattle.jlr_ranges.specs.Ranges.{ObjectRange};
+ghost use Rattle.jlr_ranges.specs.Ranges.{ContentsRange, ObjectRange};
 
 use crate::list::{Ranged, all_in_range};
-use jlr_machine::object::{Cleanable, Guard, Object};
+use jlr_machine::object::{Cleanable, Contents, Guard, Object};
 use jlr_types::{FieldValue, Work};
 
 impl Ranged for FieldValue {
@@ -48,11 +48,22 @@ fn cleanable_in_range(cleanable: &Cleanable)
     work_in_range(cleanable.work);
 }
 
+fn contents_in_range(contents: &Contents)
+    ensures { ContentsRange contents.now }
+{
+    match contents {
+        Contents::Typed(fields) => all_in_range(fields.as_slice()),
+        Contents::Elements(elements) => {
+            let _elements = elements.as_slice();
+        }
+    }
+}
+
 fn object_in_range(object: &Object)
     ensures { ObjectRange object.now }
 {
     match object {
-        Object::Plain(fields) => all_in_range(fields.as_slice()),
+        Object::Plain(contents) => contents_in_range(contents),
         Object::Reference(_) => {}
         Object::Queue(members) => all_in_range(members.as_slice()),
         Object::Cleaner => {}

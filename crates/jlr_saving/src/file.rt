@@ -1,11 +1,13 @@
 //! The trace file of a book, and its bytes.
 ghost use Rattle.std.specs.Prelude.{◌≡◌, [], IfOk};
+ghost use Rattle.jlr_fields.specs.declared.version.Version.TheVariants.{Two};
 ghost use Rattle.jlr_trace.specs.Files.{HasSpelling};
 ghost use Rattle.jlr_audit.specs.declared.verdict.Verdict.TheVariants.{Legal};
 ghost use Rattle.jlr_audit.specs.Verdicts.{IsFileVerdict};
 ghost use Rattle.jlr_saving.specs.Saving.{file_of, IsSaved};
 
 use jlr_book::book::Book;
+use jlr_fields::version::Version;
 use jlr_machine::entry::Entry;
 use jlr_machine::items::Items;
 use jlr_machine::machine::Machine;
@@ -31,10 +33,11 @@ fn copied(
     image: &Machine,
     entries: &[Entry],
 ) -> Result<TraceFile, AllocError>
-    ensures { IfOk result (λ f. f ≡ record { base = base; image = image.now; strays = []; entries = entries.now }) }
+    ensures { IfOk result (λ f. f ≡ record { version = Two; base = base; image = image.now; strays = []; entries = entries.now }) }
 {
     let entries = copy_entries(alloc, entries)?;
     Ok(TraceFile {
+        version: Version::Two,
         base,
         image: image.copy(alloc)?,
         strays: Items::new(alloc),

@@ -8,6 +8,7 @@ use Rattle.jlr_machine.specs.declared.ask.Answer.{Answer}
 use Rattle.jlr_machine.specs.declared.ask.Answer.TheVariants.{Done, Handle, Truth, Int, Data, Wrote, Faulted, Names, Notes, Faults, Stat, Job, AlreadyDone, Prepared, Out, Handed, Refused}
 use Rattle.jlr_machine.specs.declared.entry.Entry.{Entry}
 use Rattle.jlr_machine.specs.declared.entry.Collected.{Collected}
+use Rattle.jlr_fields.specs.declared.version.Version.{Version}
 use Rattle.jlr_parts.specs.declared.record.Placed.{Placed}
 use Rattle.jlr_parts.specs.declared.record.Held.{Held}
 use Rattle.jlr_parts.specs.Objects.{ObjectFits, ObjectCounts}
@@ -23,26 +24,26 @@ use Rattle.jlr_trace.proofs.WritingLaws.{placed_counted}
 
 -- ---- Objects
 
-object_counts : (o : Object) → ObjectFits o → ObjectCounts o
-object_counts (Plain fields) fits = fits.0
-object_counts (Reference r) fits = tt
-object_counts (Queue members) fits = fits.count
-object_counts Cleaner fits = tt
-object_counts (Cleanable c) fits = tt
-object_counts (Guard g) fits = tt
+object_counts : (version : Version) (o : Object) → ObjectFits version o → ObjectCounts o
+object_counts version (Plain contents) fits = tt
+object_counts version (Reference r) fits = tt
+object_counts version (Queue members) fits = fits.count
+object_counts version Cleaner fits = tt
+object_counts version (Cleanable c) fits = tt
+object_counts version (Guard g) fits = tt
 
-all_counts : (xs : List Placed) → AllByRecursion PlacedFits xs → AllByRecursion PlacedCounts xs
-all_counts [] all = tt
-all_counts (p ∷ xs) all = (object_counts p.object all.0.object, all_counts xs all.1)
+all_counts : (version : Version) (xs : List Placed) → AllByRecursion (PlacedFits version) xs → AllByRecursion PlacedCounts xs
+all_counts version [] all = tt
+all_counts version (p ∷ xs) all = (object_counts version p.object all.0.object, all_counts version xs all.1)
 
-behind : (front back : List Placed) → AllByRecursion PlacedFits (front ++ back) → AllByRecursion PlacedFits back
-behind [] back all = all
-behind (p ∷ front) back all = behind front back all.1
+behind : (version : Version) (front back : List Placed) → AllByRecursion (PlacedFits version) (front ++ back) → AllByRecursion (PlacedFits version) back
+behind version [] back all = all
+behind version (p ∷ front) back all = behind version front back all.1
 
-table_counts : (n : ℕ) (places : List (Option Object)) (back : List Placed) → AllByRecursion PlacedFits (listed_from placed n places ++ back) → AllByRecursion PlaceCounts places
-table_counts n [] back all = tt
-table_counts n (None ∷ places) back all = (tt, table_counts (suc n) places back all)
-table_counts n (Some o ∷ places) back all = (object_counts o all.0.object, table_counts (suc n) places back all.1)
+table_counts : (version : Version) (n : ℕ) (places : List (Option Object)) (back : List Placed) → AllByRecursion (PlacedFits version) (listed_from placed n places ++ back) → AllByRecursion PlaceCounts places
+table_counts version n [] back all = tt
+table_counts version n (None ∷ places) back all = (tt, table_counts version (suc n) places back all)
+table_counts version n (Some o ∷ places) back all = (object_counts version o all.0.object, table_counts version (suc n) places back all.1)
 
 -- ---- Sessions
 
@@ -86,15 +87,16 @@ collection_counts : (o : Option Collected) → CollectionFits o → CollectionCo
 collection_counts None fits = tt
 collection_counts (Some c) fits = (fits.kept.listed.count, fits.pending.count)
 
-entry_counts : (e : Entry) → EntryFits e → EntryCounts e
-entry_counts e fits = record {
+entry_counts : (version : Version) (e : Entry) → EntryFits version e → EntryCounts version e
+entry_counts version e fits = record {
+  ask = fits.ask;
   answer = answer_counts e.answer fits.answer;
   choice = record { collected = collection_counts e.choice.collected fits.choice.collected; fresh = let le = fits.choice.fresh.few in omega (arith, le) };
 }
 
-entries_count : (xs : List Entry) → AllByRecursion EntryFits xs → AllByRecursion EntryCounts xs
-entries_count [] all = tt
-entries_count (x ∷ xs) all = (entry_counts x all.0, entries_count xs all.1)
+entries_count : (version : Version) (xs : List Entry) → AllByRecursion (EntryFits version) xs → AllByRecursion (EntryCounts version) xs
+entries_count version [] all = tt
+entries_count version (x ∷ xs) all = (entry_counts version x all.0, entries_count version xs all.1)
 
 -- ---- Files
 
@@ -105,7 +107,7 @@ counts_of_spelling f has =
     record {
       machine = record {
         cells = i.head.cells.1;
-        objects = table_counts 0 m.objects f.strays i.objects.listed.each;
+        objects = table_counts f.version 0 m.objects f.strays i.objects.listed.each;
         sessions = let le = i.head.sessions.1 in omega (arith, le);
         handles = all_sessions_count m.mutators has.shape.places;
         limit = let le = i.head.resources.1 in omega (arith, le);
@@ -118,6 +120,6 @@ counts_of_spelling f has =
         notes = i.records.notes.count;
       };
       strays = let size = placed_counted m.objects f.strays in let lt = i.objects.listed.count in omega (arith, size, lt);
-      objects = all_counts f.strays (behind (listed_from placed 0 m.objects) f.strays i.objects.listed.each);
-      entries = entries_count f.entries has.text.entries;
+      objects = all_counts f.version f.strays (behind f.version (listed_from placed 0 m.objects) f.strays i.objects.listed.each);
+      entries = entries_count f.version f.entries has.text.entries;
     }

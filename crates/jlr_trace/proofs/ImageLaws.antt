@@ -1,20 +1,18 @@
 -- The image: what is read is what was written, and what was written is read again.
-use Rattle.std.proofs.Common.{◌≡◌, ℕ, ◌^◌, ◌<◌, Bool, true, false, cond, ltb, ◌||◌, List, [], ◌∷◌, ◌++◌, length, Option, Some, None, Ok, Err, refl, sym, ap, subst, ◌∙◌, append_assoc, arith}
+use Rattle.std.proofs.Common.{◌≡◌, ℕ, ◌^◌, Bool, true, false, cond, List, [], ◌∷◌, ◌++◌, length, Option, Some, None, Ok, refl, sym, ap, ◌∙◌, append_assoc, arith}
 use Rattle.std.specs.List.{flat_map, AllByRecursion}
-use Rattle.std.specs.Int.{Width, w16, w32, to_be_bytes}
-use Rattle.std.proofs.lemmas.Bool.{ltb-false, le-ltb}
+use Rattle.std.specs.Int.{w16, w32, to_be_bytes}
 use Rattle.jlr_machine.specs.declared.machine.Binding.{Binding}
 use Rattle.jlr_machine.specs.declared.machine.Failure.{Failure}
 use Rattle.jlr_machine.specs.declared.machine.Job.{Job}
 use Rattle.jlr_machine.specs.declared.machine.Resource.{Resource}
-use Rattle.jlr_fields.specs.declared.fault.Fault.TheVariants.{Range}
+use Rattle.jlr_fields.specs.declared.version.Version.{Version}
 use Rattle.jlr_fields.specs.Spelling.{spelled_flag, IsWithin}
-use Rattle.jlr_fields.specs.Reading.{Reader, number_at}
+use Rattle.jlr_fields.specs.Reading.{Reader, number_within_at}
 use Rattle.jlr_fields.specs.Items.{items_at, spelled_list}
-use Rattle.jlr_fields.specs.Laws.{Takes, TakesBehind, TakesSpelled, ReadsAgain, IsField}
-use Rattle.jlr_fields.proofs.Steps.{bind_ok, guard_ok}
+use Rattle.jlr_fields.specs.Laws.{TakesBehind, TakesSpelled, ReadsAgain, IsField}
 use Rattle.jlr_fields.proofs.Numbers.{two_bytes, four_bytes, eight_bytes, four_least}
-use Rattle.jlr_fields.proofs.Basics.{within, flag, option}
+use Rattle.jlr_fields.proofs.Basics.{within, number_within, flag, option}
 use Rattle.jlr_fields.proofs.Lists.{list_field, items_take, items_again}
 use Rattle.jlr_fields.proofs.Rising.{rising_field}
 use Rattle.jlr_fields.proofs.Products.{then_takes, made_takes, three_takes, four_takes, five_takes, then_again, three_again, four_again, five_again}
@@ -24,32 +22,7 @@ use Rattle.jlr_trace.specs.declared.image.Head.{Head}
 use Rattle.jlr_trace.specs.declared.image.Waiting.{Waiting}
 use Rattle.jlr_trace.specs.declared.image.Records.{Records}
 use Rattle.jlr_trace.specs.declared.image.Counts.{Counts}
-use Rattle.jlr_trace.specs.Images.{spelled_head, HeadFits, number_within_at, made_head, head_read, SessionText, spelled_session, JoinedFits, SessionFits, made_session, joined_read, session_read, spelled_waiting, WaitingFits, waiting_read, spelled_records, RecordsFit, records_read, spelled_counts, CountsFit, counts_read, spelled_image, ImageFits, made_image, image_behind, image_read}
-
-neither : (a b : Bool) → (a || b) ≡ false → (a ≡ false) × (b ≡ false)
-neither true b e = absurd cc
-neither false b e = (refl, e)
-
--- numbers from low to high
-number_takes : (w : Width) (limit low high : ℕ) → IsField (number_at w) (to_be_bytes w) (λ n. n < limit) → TakesSpelled (number_within_at w low high) (to_be_bytes w) (IsWithin low high)
-unfolding number_within_at
-number_takes w limit low high field bytes n rest fits e =
-    let a = bind_ok (number_at w bytes) (λ b. cond (ltb b.0 low || ltb high b.0) (Err Range) (Ok b)) (n, rest) e in
-    let g = guard_ok (ltb a.0.0 low || ltb high a.0.0) Range a.0 (n, rest) a.2 in
-    let t = field.takes bytes a.0.0 a.0.1 fits a.1 in
-    let parts = neither (ltb a.0.0 low) (ltb high a.0.0) g.0 in
-    subst (λ (y : ℕ × List ℕ). Takes bytes (to_be_bytes w y.0) y.1 × IsWithin low high y.0) g.1 (t.0, (ltb-false a.0.0 low parts.0, ltb-false high a.0.0 parts.1))
-
-number_again : (w : Width) (limit low high : ℕ) → high < limit → IsField (number_at w) (to_be_bytes w) (λ n. n < limit) → ReadsAgain (number_within_at w low high) (to_be_bytes w) (IsWithin low high)
-unfolding number_within_at
-number_again w limit low high small field n rest fits =
-    let above : ltb n low ≡ false = le-ltb _ _ fits.0 in
-    let below : ltb high n ≡ false = le-ltb _ _ fits.1 in
-    let lt : n < limit = omega (arith, fits.1) in
-    rw (field.again n rest lt, above, below) refl
-
-number_within : (w : Width) (limit low high : ℕ) → high < limit → IsField (number_at w) (to_be_bytes w) (λ n. n < limit) → IsField (number_within_at w low high) (to_be_bytes w) (IsWithin low high)
-number_within w limit low high small field = record { takes = number_takes w limit low high field; again = number_again w limit low high small field }
+use Rattle.jlr_trace.specs.Images.{spelled_head, HeadFits, made_head, head_read, SessionText, spelled_session, JoinedFits, SessionFits, made_session, joined_read, session_read, spelled_waiting, WaitingFits, waiting_read, spelled_records, RecordsFit, records_read, spelled_counts, CountsFit, counts_read, spelled_image, ImageFits, made_image, image_behind, image_read}
 
 cells : IsField (number_within_at w32 16 65536) (to_be_bytes w32) (IsWithin 16 65536)
 cells = number_within w32 (2 ^ 32) 16 65536 (omega arith) four_bytes
@@ -154,22 +127,22 @@ counts = record { takes = counts_takes; again = counts_again }
 
 -- ---- The image
 
-behind_takes : (h : Head) → HeadFits h → TakesBehind (spelled_head h) (image_behind h) spelled_image ImageFits
-behind_takes h f = five_takes (rising_field rising_placed placed_least) (sessions h.sessions) waiting records counts (spelled_head h) (made_image h) spelled_image ImageFits (λ o m w r c. refl)
+behind_takes : (version : Version) (h : Head) → HeadFits h → TakesBehind (spelled_head h) (image_behind version h) spelled_image (ImageFits version)
+behind_takes version h f = five_takes (rising_field (rising_placed version) (placed_least version)) (sessions h.sessions) waiting records counts (spelled_head h) (made_image h) spelled_image (ImageFits version) (λ o m w r c. refl)
     (λ o m w r c p q s t u. record { head = f; objects = p; mutators = q.1; sessions = q.0; waiting = s; records = t; counts = u })
 
-image_takes : TakesSpelled image_read spelled_image ImageFits
+image_takes : (version : Version) → TakesSpelled (image_read version) spelled_image (ImageFits version)
 unfolding image_read
-image_takes = then_takes head [] image_behind spelled_image ImageFits behind_takes
+image_takes version = then_takes head [] (image_behind version) spelled_image (ImageFits version) (behind_takes version)
 
 parted : (h o m w r c rest : List ℕ) → (((((h ++ o) ++ m) ++ w) ++ r) ++ c) ++ rest ≡ h ++ (((((o ++ m) ++ w) ++ r) ++ c) ++ rest)
 parted h o m w r c rest = simp append_assoc
 
-image_again : ReadsAgain image_read spelled_image ImageFits
+image_again : (version : Version) → ReadsAgain (image_read version) spelled_image (ImageFits version)
 unfolding image_read
-image_again t rest fits =
-    then_again head t.head fits.head image_behind (spelled_image t ++ rest) (spelled_list spelled_placed t.objects ++ flat_map spelled_session t.mutators ++ spelled_waiting t.waiting ++ spelled_records t.records ++ spelled_counts t.counts ++ rest) t rest (parted (spelled_head t.head) (spelled_list spelled_placed t.objects) (flat_map spelled_session t.mutators) (spelled_waiting t.waiting) (spelled_records t.records) (spelled_counts t.counts) rest)
-    (five_again (rising_field rising_placed placed_least) (sessions t.head.sessions) waiting records counts (made_image t.head) t.objects t.mutators t.waiting t.records t.counts fits.objects (fits.sessions, fits.mutators) fits.waiting fits.records fits.counts rest)
+image_again version t rest fits =
+    then_again head t.head fits.head (image_behind version) (spelled_image t ++ rest) (spelled_list spelled_placed t.objects ++ flat_map spelled_session t.mutators ++ spelled_waiting t.waiting ++ spelled_records t.records ++ spelled_counts t.counts ++ rest) t rest (parted (spelled_head t.head) (spelled_list spelled_placed t.objects) (flat_map spelled_session t.mutators) (spelled_waiting t.waiting) (spelled_records t.records) (spelled_counts t.counts) rest)
+    (five_again (rising_field (rising_placed version) (placed_least version)) (sessions t.head.sessions) waiting records counts (made_image t.head) t.objects t.mutators t.waiting t.records t.counts fits.objects (fits.sessions, fits.mutators) fits.waiting fits.records fits.counts rest)
 
-pub image : IsField image_read spelled_image ImageFits
-image = record { takes = image_takes; again = image_again }
+pub image : (version : Version) → IsField (image_read version) spelled_image (ImageFits version)
+image version = record { takes = image_takes version; again = image_again version }

@@ -9,3 +9,4 @@ pub mod Shapes
 pub mod Counting
 pub mod Few
 pub mod SpellingLaws
+pub mod VersionLaws

@@ -11,6 +11,7 @@ use Rattle.std.proofs.Math.Seq.{take-suc, drop-cons}
 use Rattle.jlr_machine.specs.declared.object.Object.{Object}
 use Rattle.std.specs.Int.{w32}
 use Rattle.jlr_fields.specs.declared.fault.Fault.TheVariants.{Short, Range}
+use Rattle.jlr_fields.specs.declared.version.Version.{Version}
 use Rattle.jlr_fields.specs.Reading.{◌>>=◌, byte_at, number_at}
 use Rattle.jlr_fields.specs.Items.{may_follow, rising_items_at, rising_at, Rises}
 use Rattle.jlr_fields.specs.declared.fault.Fault.{Fault}
@@ -97,12 +98,12 @@ held_follows before bytes x rest e =
     let made : Held × List ℕ = (held a.0.0 b.0.0, b.0.1) in
     subst (λ (y : Held × List ℕ). IsTrue (may_follow before y.0.handle)) (ok_is made (x, rest) b.2) g.0
 
-pub placed_follows : (before : Option ℕ) (bytes : List ℕ) (x : Placed) (rest : List ℕ) → placed_after before bytes ≡ Ok (x, rest) → IsTrue (may_follow before x.slot)
+pub placed_follows : (version : Version) (before : Option ℕ) (bytes : List ℕ) (x : Placed) (rest : List ℕ) → placed_after version before bytes ≡ Ok (x, rest) → IsTrue (may_follow before x.slot)
 unfolding placed_after
-placed_follows before bytes x rest e =
-    let a = bind_ok (number_at w32 bytes) (λ k. cond (may_follow before k.0) (placed_behind k.0 k.1) (Err Range)) (x, rest) e in
-    let g = tested (may_follow before a.0.0) Range (placed_behind a.0.0 a.0.1) (x, rest) a.2 in
-    let b = bind_ok (object_read a.0.1) (λ o. Ok (placed a.0.0 o.0, o.1)) (x, rest) g.1 in
+placed_follows version before bytes x rest e =
+    let a = bind_ok (number_at w32 bytes) (λ k. cond (may_follow before k.0) (placed_behind version k.0 k.1) (Err Range)) (x, rest) e in
+    let g = tested (may_follow before a.0.0) Range (placed_behind version a.0.0 a.0.1) (x, rest) a.2 in
+    let b = bind_ok (object_read version a.0.1) (λ o. Ok (placed a.0.0 o.0, o.1)) (x, rest) g.1 in
     let made : Placed × List ℕ = (placed a.0.0 b.0.0, b.0.1) in
     subst (λ (y : Placed × List ℕ). IsTrue (may_follow before y.0.slot)) (ok_is made (x, rest) b.2) g.0
 

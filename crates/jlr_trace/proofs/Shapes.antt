@@ -97,6 +97,7 @@ one_list (x ∷ xs) (y ∷ ys) p q e =
 -- a file out of its text, its tables and what its text does not say
 abbrev built : FileText → Table Object → List Placed → Table Session → Bool → List ℕ → TraceFile
 built t objects strays mutators is_open seen = record {
+  version = t.version;
   base = t.image.head.base;
   image = record {
     objects = objects;

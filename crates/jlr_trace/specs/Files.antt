@@ -7,6 +7,8 @@ use Rattle.jlr_fields.specs.declared.fault.Fault.{Fault}
 use Rattle.jlr_fields.specs.declared.fault.Fault.TheVariants.{Short, Range}
 use Rattle.jlr_fields.specs.declared.fault.ReadError.{ReadError}
 use Rattle.jlr_fields.specs.declared.fault.ReadError.TheVariants as errors
+use Rattle.jlr_fields.specs.declared.version.Version.{Version}
+use Rattle.jlr_fields.specs.declared.version.Version.TheVariants.{One, Two}
 use Rattle.jlr_fields.specs.Spelling.{spelled_64}
 use Rattle.jlr_fields.specs.Reading.{number_at}
 use Rattle.jlr_trace.specs.declared.file.TraceFile.{TraceFile}
@@ -20,6 +22,7 @@ use Rattle.jlr_trace.specs.Images.{ImageText, image_text, spelled_image, ImageFi
 
 -- a file with its tables as lists
 pub record FileText : Type 0 where
+  pub version : Version
   pub image : ImageText
   pub entries : List Entry
 
@@ -27,19 +30,23 @@ abbrev pub image_of : TraceFile → Image
 image_of f = record { base = f.base; machine = f.image; strays = f.strays }
 
 abbrev pub file_text : TraceFile → FileText
-file_text f = record { image = image_text (image_of f); entries = f.entries }
+file_text f = record { version = f.version; image = image_text (image_of f); entries = f.entries }
 
--- the letters JLRT, and version 1
-abbrev pub mark : List ℕ
-mark = 74 ∷ 76 ∷ 82 ∷ 84 ∷ 1 ∷ []
+abbrev pub version_number : Version → ℕ
+version_number One = 1
+version_number Two = 2
+
+-- the letters JLRT, and the version
+abbrev pub mark : Version → List ℕ
+mark version = 74 ∷ 76 ∷ 82 ∷ 84 ∷ version_number version ∷ []
 
 abbrev pub spelled_file : FileText → List ℕ
-spelled_file t = mark ++ spelled_image t.image ++ spelled_64 (length t.entries) ++ flat_map spelled_entry t.entries
+spelled_file t = mark t.version ++ spelled_image t.image ++ spelled_64 (length t.entries) ++ flat_map (spelled_entry t.version) t.entries
 
 pub record FileFits (t : FileText) : Type 0 where
-  pub image : ImageFits t.image
+  pub image : ImageFits t.version t.image
   pub count : length t.entries < 2 ^ 64
-  pub entries : AllByRecursion EntryFits t.entries
+  pub entries : AllByRecursion (EntryFits t.version) t.entries
 
 -- a file has a spelling where its text has one and says all of it
 pub record HasSpelling (f : TraceFile) : Type 0 where
@@ -62,22 +69,29 @@ abbrev pub in_entry : {A : Type 0} → ℕ → Result A Fault → Result A Trace
 in_entry number (Ok x) = Ok x
 in_entry number (Err f) = Err (fault_in number f)
 
--- one certain byte
-abbrev pub expected : ℕ → TraceFault → List ℕ → Result (List ℕ) TraceFault
-expected byte fault [] = Err Truncated
-expected byte fault (b ∷ rest) = if b == byte then Ok rest else Err fault
+-- one certain byte of the mark
+abbrev pub expected : ℕ → List ℕ → Result (List ℕ) TraceFault
+expected byte [] = Err Truncated
+expected byte (b ∷ rest) = if b == byte then Ok rest else Err BadMark
 
-unfoldable pub mark_read : List ℕ → Result (List ℕ) TraceFault
-mark_read bytes = expected 74 BadMark bytes >>> expected 76 BadMark >>> expected 82 BadMark >>> expected 84 BadMark >>> expected 1 BadVersion
+-- the version, of those that there are
+abbrev pub version_read : List ℕ → Result (Version × List ℕ) TraceFault
+version_read [] = Err Truncated
+version_read (b ∷ rest) = if b == 1 then Ok (One, rest) else (if b == 2 then Ok (Two, rest) else Err BadVersion)
+
+unfoldable pub mark_read : List ℕ → Result (Version × List ℕ) TraceFault
+mark_read bytes = expected 74 bytes >>> expected 76 >>> expected 82 >>> expected 84 >>> version_read
 
 -- so many entries, counted from a number
-unfoldable pub entries_read : ℕ → ℕ → List ℕ → Result (List Entry × List ℕ) TraceFault
-entries_read number zero bytes = Ok ([], bytes)
-entries_read number (suc n) bytes = in_entry number (entry_read bytes) >>> λ first. entries_read (suc number) n first.1 >>> λ others. Ok (first.0 ∷ others.0, others.1)
+unfoldable pub entries_read : Version → ℕ → ℕ → List ℕ → Result (List Entry × List ℕ) TraceFault
+entries_read version number zero bytes = Ok ([], bytes)
+entries_read version number (suc n) bytes = in_entry number (entry_read version bytes) >>> λ first. entries_read version (suc number) n first.1 >>> λ others. Ok (first.0 ∷ others.0, others.1)
 
 -- a file at the front of the bytes, and the bytes behind it
 unfoldable pub front_read : List ℕ → Result (FileText × List ℕ) TraceFault
-front_read bytes = mark_read bytes >>> λ behind. in_entry 0 (image_read behind) >>> λ image. in_entry 0 (number_at w64 image.1) >>> λ count. entries_read 1 count.0 count.1 >>> λ entries. Ok (record { image = image.0; entries = entries.0 }, entries.1)
+front_read bytes =
+    mark_read bytes >>> λ version. in_entry 0 (image_read version.0 version.1) >>> λ image. in_entry 0 (number_at w64 image.1) >>> λ count. entries_read version.0 1 count.0 count.1
+    >>> λ entries. Ok (record { version = version.0; image = image.0; entries = entries.0 }, entries.1)
 
 -- all of the bytes; what stands behind the end is a fault behind the last entry
 unfoldable pub file_read : List ℕ → Result FileText TraceFault

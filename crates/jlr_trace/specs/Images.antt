@@ -1,14 +1,14 @@
 -- How the image at the head of a trace file is spelled and read, and which has a spelling.
-use Rattle.std.specs.Prelude.{ℕ, suc, false, ◌<◌, ◌≤◌, ◌≡◌, ◌^◌, ◌||◌, List, [], ◌∷◌, ◌++◌, length, Option, Some, None, Ok, Err, nat_lt, if◌then◌else◌, option_map, map}
+use Rattle.std.specs.Prelude.{ℕ, suc, false, ◌<◌, ◌≤◌, ◌≡◌, ◌^◌, List, [], ◌∷◌, ◌++◌, length, Option, Some, None, Ok, nat_lt, if◌then◌else◌, option_map, map}
 use Rattle.std.specs.List.{flat_map, list_any, AllByRecursion}
-use Rattle.std.specs.Int.{Width, w16, w32, w64}
+use Rattle.std.specs.Int.{w16, w32, w64}
 use Rattle.jlr_machine.specs.declared.object.Object.{Object}
 use Rattle.jlr_machine.specs.declared.machine.Call.{Call}
 use Rattle.jlr_machine.specs.declared.machine.Session.{Session}
 use Rattle.jlr_machine.specs.declared.machine.Machine.{Machine}
-use Rattle.jlr_fields.specs.declared.fault.Fault.TheVariants.{Range}
+use Rattle.jlr_fields.specs.declared.version.Version.{Version}
 use Rattle.jlr_fields.specs.Spelling.{spelled_8, spelled_16, spelled_32, spelled_64, spelled_option, IsWithin, SlotFits}
-use Rattle.jlr_fields.specs.Reading.{Reader, ◌>>=◌, three_fields, four_fields, five_fields, byte_within_at, number_at, flag_at, option_at}
+use Rattle.jlr_fields.specs.Reading.{Reader, ◌>>=◌, three_fields, four_fields, five_fields, byte_within_at, number_at, number_within_at, flag_at, option_at}
 use Rattle.jlr_fields.specs.Items.{items_at, list_at, rising_at, spelled_list, IsListed, IsRising}
 use Rattle.jlr_parts.specs.declared.record.Placed.{Placed}
 use Rattle.jlr_parts.specs.declared.record.Held.{Held}
@@ -43,10 +43,6 @@ pub record HeadFits (h : Head) : Type 0 where
   pub sessions : IsWithin 1 64 h.sessions
   pub resources : IsWithin 1 256 h.resources
   pub base : h.base < 2 ^ 64
-
--- a number from low to high
-unfoldable pub number_within_at : Width → ℕ → ℕ → Reader ℕ
-number_within_at w low high bytes = number_at w bytes >>= λ n. if nat_lt n.0 low || nat_lt high n.0 then Err Range else Ok n
 
 abbrev pub made_head : ℕ → ℕ → ℕ → ℕ → Head
 made_head cells sessions resources base = record { cells = cells; sessions = sessions; resources = resources; base = base }
@@ -160,9 +156,9 @@ image_text i = record {
 abbrev pub spelled_image : ImageText → List ℕ
 spelled_image t = spelled_head t.head ++ spelled_list spelled_placed t.objects ++ flat_map spelled_session t.mutators ++ spelled_waiting t.waiting ++ spelled_records t.records ++ spelled_counts t.counts
 
-pub record ImageFits (t : ImageText) : Type 0 where
+pub record ImageFits (version : Version) (t : ImageText) : Type 0 where
   pub head : HeadFits t.head
-  pub objects : IsRising PlacedFits (λ p. p.slot) t.objects
+  pub objects : IsRising (PlacedFits version) (λ p. p.slot) t.objects
   pub mutators : AllByRecursion SessionFits t.mutators
   pub sessions : length t.mutators ≡ t.head.sessions
   pub waiting : WaitingFits t.waiting
@@ -173,11 +169,11 @@ abbrev pub made_image : Head → List Placed → List (Option SessionText) → W
 made_image head objects mutators waiting records counts = record { head = head; objects = objects; mutators = mutators; waiting = waiting; records = records; counts = counts }
 
 -- what stands behind a head
-abbrev pub image_behind : Head → Reader ImageText
-image_behind head = five_fields (rising_at 5 placed_after (λ p. p.slot)) (items_at session_read head.sessions) waiting_read records_read counts_read (made_image head)
+abbrev pub image_behind : Version → Head → Reader ImageText
+image_behind version head = five_fields (rising_at 5 (placed_after version) (λ p. p.slot)) (items_at session_read head.sessions) waiting_read records_read counts_read (made_image head)
 
-unfoldable pub image_read : Reader ImageText
-image_read bytes = head_read bytes >>= λ head. image_behind head.0 head.1
+unfoldable pub image_read : Version → Reader ImageText
+image_read version bytes = head_read bytes >>= λ head. image_behind version head.0 head.1
 
 -- a session's handles have 251 places, and 256 where one is above 250
 abbrev pub places_of : List Held → ℕ

@@ -2,5 +2,6 @@ pub mod Choices
 pub mod Entries
 pub mod Images
 pub mod Files
+pub mod Versions
 pub mod Writing
 pub mod Spellings

@@ -54,4 +54,4 @@ pub record FileCounts (f : TraceFile) : Type 0 where
   pub machine : MachineCounts f.image
   pub strays : occupied f.image.objects + length f.strays < 2 ^ 32
   pub objects : AllByRecursion PlacedCounts f.strays
-  pub entries : AllByRecursion EntryCounts f.entries
+  pub entries : AllByRecursion (EntryCounts f.version) f.entries

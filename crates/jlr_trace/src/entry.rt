@@ -11,16 +11,21 @@ use jlr_asks::writing::put_ask;
 use jlr_fields::cursor::take_u8;
 use jlr_fields::fault::ReadError;
 use jlr_fields::number::put_u8;
+use jlr_fields::version::Version;
 use jlr_machine::entry::Entry;
 use std::alloc::{AllocError, Global};
 
 /// An entry.
 #[tactic(auto, unfolding(crate::specs::Entries::entry_read))]
-pub(crate) fn entry_at(alloc: Global, bytes: &mut &[u8]) -> Result<Entry, ReadError>
-    ensures { Reads (λ x. x) result bytes.new.now (entry_read bytes.old.now) }
+pub(crate) fn entry_at(
+    alloc: Global,
+    version: Version,
+    bytes: &mut &[u8],
+) -> Result<Entry, ReadError>
+    ensures { Reads (λ x. x) result bytes.new.now (entry_read version bytes.old.now) }
 {
     let seat = take_u8(bytes)?;
-    let ask = take_ask(bytes)?;
+    let ask = take_ask(version, bytes)?;
     let answer = take_answer(alloc, bytes)?;
     let choice = choice_at(alloc, bytes)?;
     Ok(Entry {
@@ -32,12 +37,16 @@ pub(crate) fn entry_at(alloc: Global, bytes: &mut &[u8]) -> Result<Entry, ReadEr
 }
 
 /// Writes an entry.
-pub(crate) fn put_entry(out: &mut Vec<u8>, entry: &Entry) -> Result<(), AllocError>
-    requires { EntryCounts entry.now }
-    ensures { OnOk result (out.new.items ≡ out.old.items ++ spelled_entry entry.now) }
+pub(crate) fn put_entry(
+    out: &mut Vec<u8>,
+    version: Version,
+    entry: &Entry,
+) -> Result<(), AllocError>
+    requires { EntryCounts version entry.now }
+    ensures { OnOk result (out.new.items ≡ out.old.items ++ spelled_entry version entry.now) }
 {
     put_u8(out, entry.seat)?;
-    put_ask(out, &entry.ask)?;
+    put_ask(out, version, &entry.ask)?;
     put_answer(out, &entry.answer)?;
     put_choice(out, &entry.choice)
 }

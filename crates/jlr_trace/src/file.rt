@@ -1,16 +1,19 @@
 //! Reading a trace file.
-ghost use Rattle.std.specs.Prelude.{◌≡◌, ℕ, [], ◌++◌, List, Ok, IfOk};
+ghost use Rattle.std.specs.Prelude.{◌≡◌, ◌↔◌, ℕ, [], ◌++◌, List, Ok, IfOk, IsTrue};
 ghost use Rattle.std.specs.Int.{w64};
 ghost use Rattle.jlr_fields.specs.Reading.{number_at};
+ghost use Rattle.jlr_fields.specs.declared.version.Version.TheVariants.{One, Two};
 ghost use Rattle.jlr_trace.specs.declared.file.TraceFault.TheVariants.{NoMemory};
 ghost use Rattle.jlr_trace.specs.declared.file.TraceFile.{TraceFile as TraceFileOf};
 ghost use Rattle.jlr_trace.specs.Images.{image_text, image_read, HasShape};
-ghost use Rattle.jlr_trace.specs.Files.{FileText, image_of, file_text, spelled_file, FileFits, HasSpelling, told, expected, mark_read, in_entry, entries_read, file_read, FileGives, FileReads};
+ghost use Rattle.jlr_trace.specs.Files.{FileText, image_of, file_text, spelled_file, FileFits, HasSpelling, told, expected, version_read, mark_read, in_entry, entries_read, file_read, FileGives, FileReads};
+ghost use Rattle.jlr_trace.specs.Versions.{fits_version_1, in_version};
 
 use crate::entry::entry_at;
 use crate::image::{Image, image_at};
 use jlr_fields::cursor::take_u64;
 use jlr_fields::fault::{Fault, ReadError};
+use jlr_fields::version::Version;
 use jlr_machine::entry::Entry;
 use jlr_machine::items::Items;
 use jlr_machine::machine::Machine;
@@ -20,6 +23,8 @@ use std::alloc::{AllocError, AllocFailed, Global};
 /// A history: what is at its head, and what happened from there on.
 #[derive(Drop)]
 pub struct TraceFile {
+    /// The version of its spelling.
+    pub version: Version,
     /// How many entries there were before.
     pub base: u64,
     /// The machine from which the entries go on, with its limits.
@@ -72,8 +77,9 @@ pub(crate) fn fault_of(error: ReadError, number: u64) -> TraceFault
     }
 }
 
-fn expect_byte(byte: u8, fault: TraceFault, bytes: &[u8]) -> Result<&[u8], TraceFault>
-    ensures { FileGives (λ x. x.now) result (expected byte fault bytes.now) }
+/// What stands behind one byte of the mark.
+fn expect_byte(byte: u8, bytes: &[u8]) -> Result<&[u8], TraceFault>
+    ensures { FileGives (λ x. x.now) result (expected byte bytes.now) }
 {
     match bytes {
         [] => Err(TraceFault::Truncated),
@@ -81,28 +87,43 @@ fn expect_byte(byte: u8, fault: TraceFault, bytes: &[u8]) -> Result<&[u8], Trace
             if *first == byte {
                 return Ok(rest);
             }
-            Err(fault)
+            Err(TraceFault::BadMark)
         }
     }
 }
 
-/// What stands behind the mark, which is compared byte by byte, and the version.
-#[tactic(auto, unfolding(crate::specs::Files::mark_read))]
-pub(crate) fn mark_at(bytes: &[u8]) -> Result<&[u8], TraceFault>
-    ensures { FileGives (λ x. x.now) result (mark_read bytes.now) }
+fn version_at(bytes: &[u8]) -> Result<(Version, &[u8]), TraceFault>
+    ensures { FileGives (λ x. (x.0, x.1.now)) result (version_read bytes.now) }
 {
-    let rest = expect_byte(b'J', TraceFault::BadMark, bytes)?;
-    let rest = expect_byte(b'L', TraceFault::BadMark, rest)?;
-    let rest = expect_byte(b'R', TraceFault::BadMark, rest)?;
-    let rest = expect_byte(b'T', TraceFault::BadMark, rest)?;
-    expect_byte(1, TraceFault::BadVersion, rest)
+    match bytes {
+        [] => Err(TraceFault::Truncated),
+        [1, rest @ ..] => Ok((Version::One, rest)),
+        [2, rest @ ..] => Ok((Version::Two, rest)),
+        [_, ..] => Err(TraceFault::BadVersion),
+    }
 }
 
-pub(crate) fn image_in(alloc: Global, bytes: &mut &[u8]) -> Result<Image, TraceFault>
-    ensures reads { FileReads image_text result bytes.new.now (in_entry 0 (image_read bytes.old.now)) }
+/// The version, which stands behind the mark, and what stands behind both. The mark is compared byte by byte.
+#[tactic(auto, unfolding(crate::specs::Files::mark_read))]
+pub(crate) fn mark_at(bytes: &[u8]) -> Result<(Version, &[u8]), TraceFault>
+    ensures { FileGives (λ x. (x.0, x.1.now)) result (mark_read bytes.now) }
+{
+    let rest = expect_byte(b'J', bytes)?;
+    let rest = expect_byte(b'L', rest)?;
+    let rest = expect_byte(b'R', rest)?;
+    let rest = expect_byte(b'T', rest)?;
+    version_at(rest)
+}
+
+pub(crate) fn image_in(
+    alloc: Global,
+    version: Version,
+    bytes: &mut &[u8],
+) -> Result<Image, TraceFault>
+    ensures reads { FileReads image_text result bytes.new.now (in_entry 0 (image_read version bytes.old.now)) }
     ensures shape { IfOk result HasShape }
 {
-    match image_at(alloc, bytes) {
+    match image_at(alloc, version, bytes) {
         Ok(image) => Ok(image),
         Err(error) => Err(fault_of(error, 0)),
     }
@@ -118,12 +139,17 @@ pub(crate) fn count_in(bytes: &mut &[u8]) -> Result<u64, TraceFault>
 }
 
 /// So many entries, counted from 1.
-fn entries_at(alloc: Global, count: u64, bytes: &mut &[u8]) -> Result<Vec<Entry>, TraceFault>
-    ensures { FileReads (λ x. x.items) result bytes.new.now (entries_read 1 count bytes.old.now) }
+fn entries_at(
+    alloc: Global,
+    version: Version,
+    count: u64,
+    bytes: &mut &[u8],
+) -> Result<Vec<Entry>, TraceFault>
+    ensures { FileReads (λ x. x.items) result bytes.new.now (entries_read version 1 count bytes.old.now) }
 {
     let mut entries: Vec<Entry> = Vec::new(alloc);
     for number in 0..count {
-        match entry_at(alloc, bytes) {
+        match entry_at(alloc, version, bytes) {
             Ok(entry) => entries.push(entry)?,
             Err(error) => return Err(fault_of(error, number + 1)),
         }
@@ -131,9 +157,9 @@ fn entries_at(alloc: Global, count: u64, bytes: &mut &[u8]) -> Result<Vec<Entry>
     Ok(entries)
 }
 
-fn file_of(image: Image, entries: Vec<Entry>) -> TraceFile
+fn file_of(version: Version, image: Image, entries: Vec<Entry>) -> TraceFile
     requires { HasShape image }
-    ensures text { file_text result ≡ record { image = image_text image; entries = entries.items } }
+    ensures text { file_text result ≡ record { version = version; image = image_text image; entries = entries.items } }
     ensures shape { HasShape (image_of result) }
 {
     let Image {
@@ -142,6 +168,7 @@ fn file_of(image: Image, entries: Vec<Entry>) -> TraceFile
         strays,
     } = image;
     TraceFile {
+        version,
         base,
         image: machine,
         strays,
@@ -154,14 +181,15 @@ fn all_of(alloc: Global, bytes: &[u8]) -> Result<TraceFile, TraceFault>
     ensures exact { FileGives file_text result (file_read bytes.now) }
     ensures shape { IfOk result (λ f. HasShape (image_of f)) }
 {
-    let mut rest = mark_at(bytes)?;
-    let image = image_in(alloc, &mut rest)?;
+    let (version, behind) = mark_at(bytes)?;
+    let mut rest = behind;
+    let image = image_in(alloc, version, &mut rest)?;
     let count = count_in(&mut rest)?;
-    let entries = entries_at(alloc, count, &mut rest)?;
+    let entries = entries_at(alloc, version, count, &mut rest)?;
     if !rest.is_empty() {
         return Err(TraceFault::BadEntry(entries.len() as u64 + 1));
     }
-    Ok(file_of(image, entries))
+    Ok(file_of(version, image, entries))
 }
 
 /// The history that the bytes spell, all of the bytes.
@@ -186,4 +214,9 @@ pub fn read_trace(alloc: Global, bytes: &[u8]) -> Result<TraceFile, TraceFault>
 /// A file that begins with another is that other: what was written is read back, and never as a part of something longer.
 pub fn no_file_begins_another()
     ensures { (t u : FileText) (rest : List ℕ) → FileFits t → FileFits u → spelled_file t ++ rest ≡ spelled_file u → (rest ≡ []) × (t ≡ u) }
+{}
+
+/// Version 1 can tell a history where version 2 can, no object is an array, no ask makes one, and no field's number is above 255.
+pub fn what_version_1_can_tell()
+    ensures { (t : FileText) → FileFits (in_version One t) ↔ (FileFits (in_version Two t) × IsTrue (fits_version_1 t)) }
 {}

@@ -1,15 +1,18 @@
 //! The image at the head of a trace file.
 ghost use Rattle.std.specs.Prelude.{◌≡◌, ◌≤◌, ◌++◌, length, map, option_map, Some, IfOk};
-ghost use Rattle.std.specs.Int.{w16, w32};
-ghost use Rattle.jlr_fields.specs.Reading.{Reads};
+ghost use Rattle.std.specs.Int.{w32};
+ghost use Rattle.jlr_fields.specs.Reading.{Reads, number_within_at};
 ghost use Rattle.jlr_fields.specs.Items.{items_at, rising_at};
 ghost use Rattle.jlr_parts.specs.Records.{held_after};
-ghost use Rattle.jlr_trace.specs.Images.{listed_from, placed, held, number_within_at, head_read, session_text, joined_read, session_read, waiting_read, records_read, counts_read, image_text, made_image, image_behind, image_read, places_of, HasPlaces, HasShape};
+ghost use Rattle.jlr_trace.specs.Images.{listed_from, placed, held, head_read, session_text, joined_read, session_read, waiting_read, records_read, counts_read, image_text, made_image, image_behind, image_read, places_of, HasPlaces, HasShape};
 ghost use Rattle.std.specs.List.{AllByRecursion};
 
 use crate::places::{Objects, held_places, objects_at};
-use jlr_fields::cursor::{take_flag, take_option, take_u16, take_u32, take_u64, take_within};
+use jlr_fields::cursor::{
+    take_flag, take_option, take_u16_within, take_u32, take_u64, take_within,
+};
 use jlr_fields::fault::{Fault, ReadError};
+use jlr_fields::version::Version;
 use jlr_machine::items::Items;
 use jlr_machine::machine::{Binding, Failure, Job, Machine, Resource, Session};
 use jlr_machine::table::Table;
@@ -62,7 +65,7 @@ pub(crate) struct Image {
     pub(crate) strays: Items<Placed>,
 }
 
-#[tactic(auto, unfolding(crate::specs::Images::number_within_at))]
+#[tactic(auto, unfolding(jlr_fields::specs::Reading::number_within_at))]
 fn cells_at(bytes: &mut &[u8]) -> Result<u32, ReadError>
     ensures { Reads (λ x. x) result bytes.new.now (number_within_at w32 16 65536 bytes.old.now) }
 {
@@ -73,24 +76,13 @@ fn cells_at(bytes: &mut &[u8]) -> Result<u32, ReadError>
     Ok(cells)
 }
 
-#[tactic(auto, unfolding(crate::specs::Images::number_within_at))]
-fn resources_at(bytes: &mut &[u8]) -> Result<u16, ReadError>
-    ensures { Reads (λ x. x) result bytes.new.now (number_within_at w16 1 256 bytes.old.now) }
-{
-    let resources = take_u16(bytes)?;
-    if resources < 1 || 256 < resources {
-        return Err(ReadError::Fault(Fault::Range));
-    }
-    Ok(resources)
-}
-
 #[tactic(auto, unfolding(crate::specs::Images::head_read))]
 fn head_at(bytes: &mut &[u8]) -> Result<Head, ReadError>
     ensures { Reads (λ x. x) result bytes.new.now (head_read bytes.old.now) }
 {
     let cells = cells_at(bytes)?;
     let sessions = take_within(1, 64, bytes)?;
-    let resources = resources_at(bytes)?;
+    let resources = take_u16_within(1, 256, bytes)?;
     let base = take_u64(bytes)?;
     Ok(Head {
         cells,
@@ -255,11 +247,16 @@ fn image_of(
 }
 
 /// The image of this head.
-fn body_at(alloc: Global, head: Head, bytes: &mut &[u8]) -> Result<Image, ReadError>
-    ensures reads { Reads image_text result bytes.new.now (image_behind head bytes.old.now) }
+fn body_at(
+    alloc: Global,
+    version: Version,
+    head: Head,
+    bytes: &mut &[u8],
+) -> Result<Image, ReadError>
+    ensures reads { Reads image_text result bytes.new.now (image_behind version head bytes.old.now) }
     ensures shape { IfOk result HasShape }
 {
-    let objects = objects_at(alloc, head.cells, bytes)?;
+    let objects = objects_at(alloc, version, head.cells, bytes)?;
     let mutators = sessions_at(alloc, head.sessions, bytes)?;
     let waiting = waiting_at(alloc, bytes)?;
     let records = records_at(alloc, bytes)?;
@@ -269,10 +266,14 @@ fn body_at(alloc: Global, head: Head, bytes: &mut &[u8]) -> Result<Image, ReadEr
 
 /// The image at the front of the bytes.
 #[tactic(auto, unfolding(crate::specs::Images::image_read))]
-pub(crate) fn image_at(alloc: Global, bytes: &mut &[u8]) -> Result<Image, ReadError>
-    ensures reads { Reads image_text result bytes.new.now (image_read bytes.old.now) }
+pub(crate) fn image_at(
+    alloc: Global,
+    version: Version,
+    bytes: &mut &[u8],
+) -> Result<Image, ReadError>
+    ensures reads { Reads image_text result bytes.new.now (image_read version bytes.old.now) }
     ensures shape { IfOk result HasShape }
 {
     let head = head_at(bytes)?;
-    body_at(alloc, head, bytes)
+    body_at(alloc, version, head, bytes)
 }

@@ -8,11 +8,11 @@ ghost use Rattle.jlr_trace.specs.Images.{listed_from, placed, held, places_of};
 
 use jlr_fields::cursor::take_u32;
 use jlr_fields::fault::{Fault, ReadError};
+use jlr_fields::version::Version;
 use jlr_machine::items::Items;
 use jlr_machine::object::Object;
 use jlr_machine::table::Table;
-use jlr_parts::record::{Held, Placed};
-use jlr_parts::rising::Keyed;
+use jlr_parts::record::{Held, Placed, take_placed};
 use jlr_types::Slot;
 use std::alloc::{AllocError, Global};
 
@@ -93,11 +93,12 @@ fn put_in(
 /// So many objects, each in its place.
 fn placed_at(
     alloc: Global,
+    version: Version,
     cells: usize,
     count: u32,
     bytes: &mut &[u8],
 ) -> Result<Objects, ReadError>
-    ensures reads { Reads (λ x. listed_from placed 0 x.table ++ x.strays) result bytes.new.now (rising_items_at placed_after (λ p. p.slot) count None bytes.old.now) }
+    ensures reads { Reads (λ x. listed_from placed 0 x.table ++ x.strays) result bytes.new.now (rising_items_at (placed_after version) (λ p. p.slot) count None bytes.old.now) }
     ensures sized { IfOk result (λ x. length x.table ≡ cells) }
     ensures apart { IfOk result (λ x. AllByRecursion (λ p. length x.table ≤ p.slot) x.strays) }
 {
@@ -105,8 +106,8 @@ fn placed_at(
     let mut strays: Vec<Placed> = Vec::new(alloc);
     let mut before: Option<u64> = None;
     for _ in 0..count {
-        let item = <Placed as Keyed>::read(alloc, before, bytes)?;
-        before = Some(item.key());
+        let item = take_placed(alloc, version, before, bytes)?;
+        before = Some(item.slot.number() as u64);
         put_in(&mut places, &mut strays, cells, item)?;
     }
     pad(&mut places, cells)?;
@@ -118,8 +119,13 @@ fn placed_at(
 
 /// The objects of an image with so many cells. A list that cannot fit in the bytes that are left is short, and takes no memory.
 #[tactic(auto, unfolding(jlr_fields::specs::Items::rising_at))]
-pub(crate) fn objects_at(alloc: Global, cells: u32, bytes: &mut &[u8]) -> Result<Objects, ReadError>
-    ensures reads { Reads (λ x. listed_from placed 0 x.table ++ x.strays) result bytes.new.now (rising_at 5 placed_after (λ p. p.slot) bytes.old.now) }
+pub(crate) fn objects_at(
+    alloc: Global,
+    version: Version,
+    cells: u32,
+    bytes: &mut &[u8],
+) -> Result<Objects, ReadError>
+    ensures reads { Reads (λ x. listed_from placed 0 x.table ++ x.strays) result bytes.new.now (rising_at 5 (placed_after version) (λ p. p.slot) bytes.old.now) }
     ensures sized { IfOk result (λ x. length x.table ≡ cells) }
     ensures apart { IfOk result (λ x. AllByRecursion (λ p. length x.table ≤ p.slot) x.strays) }
 {
@@ -127,5 +133,5 @@ pub(crate) fn objects_at(alloc: Global, cells: u32, bytes: &mut &[u8]) -> Result
     if bytes.len() < count as usize * LEAST_PLACED {
         return Err(ReadError::Fault(Fault::Short));
     }
-    placed_at(alloc, cells as usize, count, bytes)
+    placed_at(alloc, version, cells as usize, count, bytes)
 }

@@ -10,6 +10,7 @@ use crate::entry::entry_at;
 use crate::file::{TraceFault, count_in, fault_of, image_in, mark_at};
 use crate::image::Image;
 use jlr_fields::fault::ReadError;
+use jlr_fields::version::Version;
 use jlr_machine::entry::Entry;
 use jlr_machine::items::Items;
 use jlr_machine::machine::Machine;
@@ -20,6 +21,7 @@ use std::marker::Model;
 /// A history whose entries stay as their bytes spell them, which are known to do so. Contracts see the history.
 #[derive(Drop)]
 pub struct SpelledTrace<'a> {
+    version: Version,
     base: u64,
     image: Machine,
     strays: Items<Placed>,
@@ -33,12 +35,19 @@ impl<'a> Model for SpelledTrace<'a> {
 
     ghost Value = { TraceFileOf };
 
-    ghost view = { λ t. record { base = t.base; image = t.image; strays = t.strays; entries = entries_in t.count t.bytes.now } };
+    ghost view = { λ t. record { version = t.version; base = t.base; image = t.image; strays = t.strays; entries = entries_in t.version t.count t.bytes.now } };
 
-    ghost invariant = { λ t. AreEntries t.count t.bytes.now };
+    ghost invariant = { λ t. AreEntries t.version t.count t.bytes.now };
 }
 
 impl<'a> SpelledTrace<'a> {
+    /// The version of its spelling.
+    pub fn version(&self) -> Version
+        ensures { result ≡ self.now.version }
+    {
+        self.version
+    }
+
     /// How many entries there were before.
     pub fn base(&self) -> u64
         ensures { result ≡ self.now.base }
@@ -72,6 +81,7 @@ impl<'a> SpelledTrace<'a> {
         ensures { result ≡ self.now.entries }
     {
         SpelledEntries {
+            version: self.version,
             count: self.count,
             bytes: self.bytes,
         }
@@ -81,6 +91,7 @@ impl<'a> SpelledTrace<'a> {
 /// The entries of a history that were not read yet. Contracts see the list of them.
 #[derive(Drop)]
 pub struct SpelledEntries<'a> {
+    version: Version,
     count: u64,
     bytes: &'a [u8],
 }
@@ -92,9 +103,9 @@ impl<'a> Model for SpelledEntries<'a> {
 
     ghost Value = { List EntryOf };
 
-    ghost view = { λ e. entries_in e.count e.bytes.now };
+    ghost view = { λ e. entries_in e.version e.count e.bytes.now };
 
-    ghost invariant = { λ e. AreEntries e.count e.bytes.now };
+    ghost invariant = { λ e. AreEntries e.version e.count e.bytes.now };
 }
 
 impl<'a> SpelledEntries<'a> {
@@ -110,7 +121,7 @@ impl<'a> SpelledEntries<'a> {
             return Ok(None);
         }
         let mut rest = self.bytes;
-        let entry = first_of(alloc, self.count, &mut rest)?;
+        let entry = first_of(alloc, self.version, self.count, &mut rest)?;
         self.count -= 1;
         self.bytes = rest;
         Ok(Some(entry))
@@ -128,28 +139,38 @@ fn memory_of(error: ReadError) -> AllocError
 }
 
 /// The first of so many entries; the bytes are then those of the others.
-fn first_of(alloc: Global, count: u64, bytes: &mut &[u8]) -> Result<Entry, AllocError>
+fn first_of(
+    alloc: Global,
+    version: Version,
+    count: u64,
+    bytes: &mut &[u8],
+) -> Result<Entry, AllocError>
     requires some { 0 < count }
-    requires entries { AreEntries count bytes.old.now }
-    ensures first { IfOk result (λ e. entries_in count bytes.old.now ≡ e ∷ entries_in (count - 1) bytes.new.now) }
-    ensures others { IfOk result (λ _. AreEntries (count - 1) bytes.new.now) }
+    requires entries { AreEntries version count bytes.old.now }
+    ensures first { IfOk result (λ e. entries_in version count bytes.old.now ≡ e ∷ entries_in version (count - 1) bytes.new.now) }
+    ensures others { IfOk result (λ _. AreEntries version (count - 1) bytes.new.now) }
 {
-    match entry_at(alloc, bytes) {
+    match entry_at(alloc, version, bytes) {
         Ok(entry) => Ok(entry),
         Err(error) => Err(memory_of(error)),
     }
 }
 
 /// What stands behind so many entries, counted from 1. Each is read and let go.
-fn behind_entries(alloc: Global, count: u64, bytes: &[u8]) -> Result<&[u8], TraceFault>
-    ensures reads { FileGives (λ rest. (entries_in count bytes.now, rest.now)) result (entries_read 1 count bytes.now) }
-    ensures counted { OnOk result (length (entries_in count bytes.now) ≡ count) }
+fn behind_entries(
+    alloc: Global,
+    version: Version,
+    count: u64,
+    bytes: &[u8],
+) -> Result<&[u8], TraceFault>
+    ensures reads { FileGives (λ rest. (entries_in version count bytes.now, rest.now)) result (entries_read version 1 count bytes.now) }
+    ensures counted { OnOk result (length (entries_in version count bytes.now) ≡ count) }
     ensures short { IfOk result (λ rest. count + length rest.now < 2 ^ 64) }
 {
     let _length = bytes.len();
     let mut rest = bytes;
     for number in 0..count {
-        match entry_at(alloc, &mut rest) {
+        match entry_at(alloc, version, &mut rest) {
             Ok(_entry) => {}
             Err(error) => return Err(fault_of(error, number + 1)),
         }
@@ -157,10 +178,10 @@ fn behind_entries(alloc: Global, count: u64, bytes: &[u8]) -> Result<&[u8], Trac
     Ok(rest)
 }
 
-fn trace_of<'a>(image: Image, count: u64, bytes: &'a [u8]) -> SpelledTrace<'a>
+fn trace_of<'a>(version: Version, image: Image, count: u64, bytes: &'a [u8]) -> SpelledTrace<'a>
     requires shape { HasShape image }
-    requires entries { AreEntries count bytes.now }
-    ensures text { file_text result ≡ record { image = image_text image; entries = entries_in count bytes.now } }
+    requires entries { AreEntries version count bytes.now }
+    ensures text { file_text result ≡ record { version = version; image = image_text image; entries = entries_in version count bytes.now } }
     ensures shape { HasShape (image_of result) }
 {
     let Image {
@@ -169,6 +190,7 @@ fn trace_of<'a>(image: Image, count: u64, bytes: &'a [u8]) -> SpelledTrace<'a>
         strays,
     } = image;
     SpelledTrace {
+        version,
         base,
         image: machine,
         strays,
@@ -182,14 +204,15 @@ fn all_of_spelled<'a>(alloc: Global, bytes: &'a [u8]) -> Result<SpelledTrace<'a>
     ensures exact { FileGives file_text result (file_read bytes.now) }
     ensures shape { IfOk result (λ f. HasShape (image_of f)) }
 {
-    let mut rest = mark_at(bytes)?;
-    let image = image_in(alloc, &mut rest)?;
+    let (version, behind_mark) = mark_at(bytes)?;
+    let mut rest = behind_mark;
+    let image = image_in(alloc, version, &mut rest)?;
     let count = count_in(&mut rest)?;
-    let behind = behind_entries(alloc, count, rest)?;
+    let behind = behind_entries(alloc, version, count, rest)?;
     if !behind.is_empty() {
         return Err(TraceFault::BadEntry(count + 1));
     }
-    Ok(trace_of(image, count, rest))
+    Ok(trace_of(version, image, count, rest))
 }
 
 /// The history that the bytes spell, all of the bytes, with its entries left in them. Each entry is read once for it, and let go.

@@ -7,11 +7,12 @@ ghost use Rattle.jlr_parts.specs.Records.{spelled_held, spelled_placed, PlacedCo
 ghost use Rattle.jlr_trace.specs.Entries.{spelled_entry, EntryCounts};
 ghost use Rattle.jlr_trace.specs.Images.{listed_from, placed, held, spelled_head, head_of, spelled_waiting, waiting_of, spelled_records, records_of, spelled_counts, counts_of, image_text, spelled_image};
 ghost use Rattle.jlr_trace.specs.Writing.{spelled_place, PlaceCounts, SessionCounts, spelled_handles, spelled_objects, spelled_session_of, MachineCounts, FileCounts};
-ghost use Rattle.jlr_trace.specs.Files.{image_of, file_text, mark, spelled_file, HasSpelling};
+ghost use Rattle.jlr_trace.specs.Files.{image_of, file_text, version_number, mark, spelled_file, HasSpelling};
 
 use crate::entry::put_entry;
 use crate::file::TraceFile;
 use jlr_fields::number::{put_option, put_slot, put_u8, put_u16, put_u32, put_u64};
+use jlr_fields::version::Version;
 use jlr_machine::entry::Entry;
 use jlr_machine::machine::{Machine, Session};
 use jlr_machine::object::Object;
@@ -202,21 +203,30 @@ fn put_image(out: &mut Vec<u8>, file: &TraceFile) -> Result<(), AllocError>
     put_counts(out, &file.image)
 }
 
-fn put_entries(out: &mut Vec<u8>, entries: &[Entry]) -> Result<(), AllocError>
-    requires { AllByRecursion EntryCounts entries.now }
-    ensures { OnOk result (out.new.items ≡ out.old.items ++ flat_map spelled_entry entries.now) }
+fn put_entries(out: &mut Vec<u8>, version: Version, entries: &[Entry]) -> Result<(), AllocError>
+    requires { AllByRecursion (EntryCounts version) entries.now }
+    ensures { OnOk result (out.new.items ≡ out.old.items ++ flat_map (spelled_entry version) entries.now) }
 {
     for entry in entries {
-        put_entry(out, entry)?;
+        put_entry(out, version, entry)?;
     }
     Ok(())
 }
 
-/// Writes the mark and the version.
-fn put_mark(out: &mut Vec<u8>) -> Result<(), AllocError>
-    ensures { OnOk result (out.new.items ≡ out.old.items ++ mark) }
+fn number_of(version: Version) -> u8
+    ensures { result ≡ version_number version }
 {
-    out.extend_from_slice(&[b'J', b'L', b'R', b'T', 1])?;
+    match version {
+        Version::One => 1,
+        Version::Two => 2,
+    }
+}
+
+/// Writes the mark and the version.
+fn put_mark(out: &mut Vec<u8>, version: Version) -> Result<(), AllocError>
+    ensures { OnOk result (out.new.items ≡ out.old.items ++ mark version) }
+{
+    out.extend_from_slice(&[b'J', b'L', b'R', b'T', number_of(version)])?;
     Ok(())
 }
 
@@ -224,10 +234,10 @@ fn put_file(out: &mut Vec<u8>, file: &TraceFile) -> Result<(), AllocError>
     requires { FileCounts file.now }
     ensures { OnOk result (out.new.items ≡ out.old.items ++ spelled_file (file_text file.now)) }
 {
-    put_mark(out)?;
+    put_mark(out, file.version)?;
     put_image(out, file)?;
     put_u64(out, file.entries.len() as u64)?;
-    put_entries(out, file.entries.as_slice())
+    put_entries(out, file.version, file.entries.as_slice())
 }
 
 /// The one spelling of a history that has one; `read_trace` reads it back as it was.

@@ -9,6 +9,9 @@ use Rattle.jlr_ranges.specs.Ranges.{AreLimits}
 use Rattle.jlr_saving.proofs.Limits.{are_limits}
 use Rattle.jlr_saving.proofs.file.trace_file_of.Goals as goal
 
+pub run_has_spelling-requires-clause-version : goal.run_has_spelling-requires-clause-version
+run_has_spelling-requires-clause-version g c = ap (λ (f : TraceFile). f.version) c.in_ok-file.ensures
+
 pub run_has_spelling-requires-clause-strays : goal.run_has_spelling-requires-clause-strays
 run_has_spelling-requires-clause-strays g c = ap (λ (f : TraceFile). f.strays) c.in_ok-file.ensures
 

@@ -12,11 +12,12 @@ use Rattle.jlr_trace.proofs.writing.put_file.Goals as goal
 pub returns : goal.returns
 returns c =
     let old : List ℕ = c.args.out.now.items in
+    let m : List ℕ = mark c.args.file.now.version in
     let i : List ℕ = spelled_image (image_text (image_of c.args.file.now)) in
     let entries : List Entry = c.args.file.now.entries in
     let n : List ℕ = spelled_64 (length entries) in
-    let two : c.put_image.new.out.items ≡ old ++ (mark ++ i) = joined old c.put_mark.new.out.items c.put_image.new.out.items mark i c.in_ok-put_mark.ensures c.in_ok-put_image.ensures in
+    let two : c.put_image.new.out.items ≡ old ++ (m ++ i) = joined old c.put_mark.new.out.items c.put_image.new.out.items m i c.in_ok-put_mark.ensures c.in_ok-put_image.ensures in
     let number : c.put_u64.new.out.items ≡ c.put_image.new.out.items ++ n = subst (λ k. c.put_u64.new.out.items ≡ c.put_image.new.out.items ++ spelled_64 k) c.len.ensures c.in_ok-put_u64.ensures in
-    let three : c.put_u64.new.out.items ≡ old ++ ((mark ++ i) ++ n) = joined old c.put_image.new.out.items c.put_u64.new.out.items (mark ++ i) n two number in
-    then_written c.put_entries.result old c.put_u64.new.out.items c.put_entries.new.out.items ((mark ++ i) ++ n) (flat_map spelled_entry entries) three
-    (subst (λ (xs : List Entry). OnOk c.put_entries.result (c.put_entries.new.out.items ≡ c.put_u64.new.out.items ++ flat_map spelled_entry xs)) c.as_slice.ensures c.put_entries.ensures)
+    let three : c.put_u64.new.out.items ≡ old ++ ((m ++ i) ++ n) = joined old c.put_image.new.out.items c.put_u64.new.out.items (m ++ i) n two number in
+    then_written c.put_entries.result old c.put_u64.new.out.items c.put_entries.new.out.items ((m ++ i) ++ n) (flat_map (spelled_entry c.args.file.now.version) entries) three
+    (subst (λ (xs : List Entry). OnOk c.put_entries.result (c.put_entries.new.out.items ≡ c.put_u64.new.out.items ++ flat_map (spelled_entry c.args.file.now.version) xs)) c.as_slice.ensures c.put_entries.ensures)
