@@ -4,10 +4,11 @@ use Rattle.std.specs.List.{cons_option}
 use Rattle.std.proofs.lemmas.Bool.{both_ways}
 use Rattle.jlr_types.specs.declared.FieldValue.{FieldValue}
 use Rattle.jlr_types.specs.declared.FieldValue.TheVariants.{Int, Ref}
+use Rattle.jlr_machine.specs.declared.object.Contents.TheVariants.{Typed, Elements}
 use Rattle.jlr_machine.specs.declared.object.Object.{Object}
 use Rattle.jlr_machine.specs.declared.object.Object.TheVariants.{Plain, Reference, Queue, Cleaner, Cleanable, Guard}
-use Rattle.jlr_machine.specs.Objects.{any_referent, at, change_at, with_field, ◌∈◌}
-use Rattle.jlr_machine.specs.Edges.{strong_edges, is_own_root, slot_in}
+use Rattle.jlr_machine.specs.Objects.{any_referent, at, change_at, with_element, with_field, ◌∈◌}
+use Rattle.jlr_machine.specs.Edges.{strong_edges, is_own_root, slot_in, slots_in}
 use Rattle.jlr_cells.specs.Contents.{field_at, field_in}
 use Rattle.jlr_laws.proofs.Sets.{nothing, in_front, in_rest, in_cons}
 use Rattle.jlr_marks.specs.Marking.{Marking, Shaded}
@@ -30,20 +31,20 @@ one_in None y rest (inr h) = h
 one_in (Some x) y rest (inl e) = in_front y x rest (sym (ap (λ o. Rattle.std.proofs.Common.unwrap_or o x) e))
 one_in (Some x) y rest (inr h) = in_rest y x rest h
 
-gained_by_set : (fields : List FieldValue) (f : ℕ) (v : FieldValue) (y : ℕ) → y ∈ filter_map slot_in (slice_set fields f v) → (y ∈ filter_map slot_in fields) ⊎ (slot_in v ≡ Some y)
-gained_by_set [] f v y h = nothing y h
-gained_by_set (x ∷ xs) zero v y h = elim (in_one (slot_in v) y (filter_map slot_in xs) h) [ inl e ↦ inr e | inr r ↦ inl (one_in (slot_in x) y (filter_map slot_in xs) (inr r)) ]
-gained_by_set (x ∷ xs) (suc f) v y h = elim (in_one (slot_in x) y (filter_map slot_in (slice_set xs f v)) h) [
-  | inl e ↦ inl (one_in (slot_in x) y (filter_map slot_in xs) (inl e))
-  | inr r ↦ elim (gained_by_set xs f v y r) [ inl o ↦ inl (one_in (slot_in x) y (filter_map slot_in xs) (inr o)) | inr e ↦ inr e ]
+gained_by_set : {A : Type 0} (g : A → Option ℕ) (fields : List A) (f : ℕ) (v : A) (y : ℕ) → y ∈ filter_map g (slice_set fields f v) → (y ∈ filter_map g fields) ⊎ (g v ≡ Some y)
+gained_by_set g [] f v y h = nothing y h
+gained_by_set g (x ∷ xs) zero v y h = elim (in_one (g v) y (filter_map g xs) h) [ inl e ↦ inr e | inr r ↦ inl (one_in (g x) y (filter_map g xs) (inr r)) ]
+gained_by_set g (x ∷ xs) (suc f) v y h = elim (in_one (g x) y (filter_map g (slice_set xs f v)) h) [
+  | inl e ↦ inl (one_in (g x) y (filter_map g xs) (inl e))
+  | inr r ↦ elim (gained_by_set g xs f v y r) [ inl o ↦ inl (one_in (g x) y (filter_map g xs) (inr o)) | inr e ↦ inr e ]
 ]
 
-lost_by_set : (fields : List FieldValue) (f : ℕ) (v : FieldValue) (y : ℕ) → y ∈ filter_map slot_in fields → (y ∈ filter_map slot_in (slice_set fields f v)) ⊎ (option_and_then slot_in (slice_get fields f) ≡ Some y)
-lost_by_set [] f v y h = nothing y h
-lost_by_set (x ∷ xs) zero v y h = elim (in_one (slot_in x) y (filter_map slot_in xs) h) [ inl e ↦ inr e | inr r ↦ inl (one_in (slot_in v) y (filter_map slot_in xs) (inr r)) ]
-lost_by_set (x ∷ xs) (suc f) v y h = elim (in_one (slot_in x) y (filter_map slot_in xs) h) [
-  | inl e ↦ inl (one_in (slot_in x) y (filter_map slot_in (slice_set xs f v)) (inl e))
-  | inr r ↦ elim (lost_by_set xs f v y r) [ inl o ↦ inl (one_in (slot_in x) y (filter_map slot_in (slice_set xs f v)) (inr o)) | inr e ↦ inr e ]
+lost_by_set : {A : Type 0} (g : A → Option ℕ) (fields : List A) (f : ℕ) (v : A) (y : ℕ) → y ∈ filter_map g fields → (y ∈ filter_map g (slice_set fields f v)) ⊎ (option_and_then g (slice_get fields f) ≡ Some y)
+lost_by_set g [] f v y h = nothing y h
+lost_by_set g (x ∷ xs) zero v y h = elim (in_one (g x) y (filter_map g xs) h) [ inl e ↦ inr e | inr r ↦ inl (one_in (g v) y (filter_map g xs) (inr r)) ]
+lost_by_set g (x ∷ xs) (suc f) v y h = elim (in_one (g x) y (filter_map g xs) h) [
+  | inl e ↦ inl (one_in (g x) y (filter_map g (slice_set xs f v)) (inl e))
+  | inr r ↦ elim (lost_by_set g xs f v y r) [ inl o ↦ inl (one_in (g x) y (filter_map g (slice_set xs f v)) (inr o)) | inr e ↦ inr e ]
 ]
 
 is_ref : (v : FieldValue) (y : ℕ) → slot_in v ≡ Some y → v ≡ Ref (Some y)
@@ -54,10 +55,24 @@ held_ref : (o : Option FieldValue) (y : ℕ) → option_and_then slot_in o ≡ S
 held_ref None y e = absurd (both_ways false refl (ap is_some e))
 held_ref (Some v) y e = ap (λ x. Some x) (is_ref v y e)
 
+held_element : (o : Option (Option ℕ)) (y : ℕ) → option_and_then (λ s. s) o ≡ Some y → option_map Ref o ≡ Some (Ref (Some y))
+held_element None y e = absurd (both_ways false refl (ap is_some e))
+held_element (Some s) y e = ap (λ z. Some (Ref z)) e
+
+-- an element that is overwritten
+gained_by_element : (elements : List (Option ℕ)) (f : ℕ) (v : FieldValue) (y : ℕ) → y ∈ slots_in (Elements (with_element elements f v)) → (y ∈ slots_in (Elements elements)) ⊎ (v ≡ Ref (Some y))
+gained_by_element elements f (Int n) y h = inl h
+gained_by_element elements f (Ref s) y h = elim (gained_by_set (λ l. l) elements f s y h) [ inl o ↦ inl o | inr e ↦ inr (ap (λ o. Ref o) e) ]
+
+lost_by_element : (elements : List (Option ℕ)) (f : ℕ) (v : FieldValue) (y : ℕ) → y ∈ slots_in (Elements elements) → (y ∈ slots_in (Elements (with_element elements f v))) ⊎ (option_map Ref (slice_get elements f) ≡ Some (Ref (Some y)))
+lost_by_element elements f (Int n) y h = inl h
+lost_by_element elements f (Ref s) y h = elim (lost_by_set (λ l. l) elements f s y h) [ inl o ↦ inl o | inr e ↦ inr (held_element (slice_get elements f) y e) ]
+
 -- ---- Objects
 
 gained_by_field : (f : ℕ) (v : FieldValue) (o : Object) (y : ℕ) → y ∈ strong_edges (with_field f v o) → (y ∈ strong_edges o) ⊎ (v ≡ Ref (Some y))
-gained_by_field f v (Plain fields) y h = elim (gained_by_set fields f v y h) [ inl o ↦ inl o | inr e ↦ inr (is_ref v y e) ]
+gained_by_field f v (Plain (Elements elements)) y h = gained_by_element elements f v y h
+gained_by_field f v (Plain (Typed fields)) y h = elim (gained_by_set slot_in fields f v y h) [ inl o ↦ inl o | inr e ↦ inr (is_ref v y e) ]
 gained_by_field f v (Reference r) y h = inl h
 gained_by_field f v (Queue members) y h = inl h
 gained_by_field f v Cleaner y h = inl h
@@ -65,7 +80,8 @@ gained_by_field f v (Cleanable c) y h = inl h
 gained_by_field f v (Guard g) y h = inl h
 
 lost_by_field : (f : ℕ) (v : FieldValue) (o : Object) (y : ℕ) → y ∈ strong_edges o → (y ∈ strong_edges (with_field f v o)) ⊎ (field_in (Some o) f ≡ Some (Ref (Some y)))
-lost_by_field f v (Plain fields) y h = elim (lost_by_set fields f v y h) [ inl o ↦ inl o | inr e ↦ inr (held_ref (slice_get fields f) y e) ]
+lost_by_field f v (Plain (Elements elements)) y h = lost_by_element elements f v y h
+lost_by_field f v (Plain (Typed fields)) y h = elim (lost_by_set slot_in fields f v y h) [ inl o ↦ inl o | inr e ↦ inr (held_ref (slice_get fields f) y e) ]
 lost_by_field f v (Reference r) y h = inl h
 lost_by_field f v (Queue members) y h = inl h
 lost_by_field f v Cleaner y h = inl h

@@ -1,16 +1,18 @@
 //! The heap, its objects and their fields.
-ghost use Rattle.std.specs.Prelude.{◌≡◌, ℕ, ◌+◌, ◌-◌, ◌==◌, cond, ◌++◌, ◌<◌, ◌≤◌, ◌↔◌, [], option_to_list, IfNone, IfOk, IfSome, IsNone, IsTrue, None, Some, is_some, length, option_and_then, option_map};
-ghost use Rattle.jlr_machine.specs.Objects.{◌∈◌, any_referent, as_fields, as_reference, at, change_at, empty_at, occupied, set_at, some_and, with_field};
-ghost use Rattle.jlr_machine.specs.Refusals.{is_plain, is_queue, is_reference};
-ghost use Rattle.jlr_cells.specs.Contents.{field_at, kind_of, object_of, referent_in};
-ghost use Rattle.jlr_machine.specs.Edges.{strong_edges};
+ghost use Rattle.std.specs.Prelude.{◌≡◌, ℕ, ◌+◌, ◌-◌, ◌==◌, cond, ◌++◌, ◌<◌, ◌≤◌, ◌↔◌, [], option_to_list, IfErr, IfNone, IfOk, IfSome, IsErr, IsNone, IsTrue, None, Some, false, is_some, length, option_and_then, option_map};
+ghost use Rattle.jlr_machine.specs.Objects.{◌∈◌, any_referent, as_reference, at, change_at, empty_at, occupied, set_at, some_and, with_field};
+ghost use Rattle.jlr_machine.specs.Refusals.{is_plain, is_queue, is_record, is_reference};
+ghost use Rattle.jlr_cells.specs.Contents.{field_at, is_ref, kind_of, object_of, referent_in};
+ghost use Rattle.jlr_machine.specs.Edges.{slots_in, strong_edges};
+ghost use Rattle.jlr_machine.specs.declared.object.Object.TheVariants.{Plain};
+ghost use Rattle.jlr_machine.specs.declared.object.Contents.TheVariants.{Elements as ElementsOf};
 ghost use Rattle.jlr_marks.specs.Marking.{Blackened, IsMarked, Shaded, marked};
 ghost use Rattle.jlr_barrier.specs.Graphs.{empty_known, in_use, made_now, with_objects};
 ghost use Rattle.jlr_barrier.specs.Snapshots.{IsInHand, IsObject};
 
 use crate::lists::LISTS;
 use crate::shade::shade_value;
-use jlr_cells::{Kind, Shape};
+use jlr_cells::{Elements, Kind, Shape};
 use jlr_links::Links;
 use jlr_machine::object::{Object, Reference};
 use jlr_machine::table::Table;
@@ -131,7 +133,7 @@ impl Heap {
         self.cells.kind(slot)
     }
 
-    /// Whether there is a plain object at a slot.
+    /// Whether there is a plain object at a slot: one with fields, or an array.
     pub fn is_plain(&self, slot: Slot) -> bool
         ensures { result ≡ some_and is_plain (at self.now.graph.objects slot) }
     {
@@ -152,21 +154,21 @@ impl Heap {
         self.cells.is_queue(slot)
     }
 
-    /// How many fields the object at a slot has, if it is a plain one.
-    pub fn field_count(&self, slot: Slot) -> Option<usize>
-        ensures { result ≡ option_map length (option_and_then as_fields (at self.now.graph.objects slot)) }
+    /// Whether there is a plain object with fields at a slot.
+    pub fn is_record(&self, slot: Slot) -> bool
+        ensures { result ≡ some_and is_record (at self.now.graph.objects slot) }
     {
-        self.cells.field_count(slot)
+        self.cells.is_record(slot)
     }
 
-    /// Whether there is a plain object at a slot that has this field.
+    /// Whether there is a plain object at a slot that has this field or element.
     pub fn has_field(&self, slot: Slot, field: usize) -> bool
         ensures { result ≡ is_some (field_at self.now.graph.objects slot field) }
     {
         self.cells.has_field(slot, field)
     }
 
-    /// What a field holds.
+    /// What a field or an element holds.
     pub fn load(&self, slot: Slot, field: usize) -> FieldValue
         requires { IsTrue (is_some (field_at self.now.graph.objects slot field)) }
         ensures { field_at self.now.graph.objects slot field ≡ Some result }
@@ -174,10 +176,11 @@ impl Heap {
         self.cells.field(slot, field)
     }
 
-    /// Sets a field. What it held is shaded: who read it before may still lead to it.
+    /// Sets a field or an element. What it held is shaded: who read it before may still lead to it. Into an element goes no integer.
     pub fn store(&mut self, slot: Slot, field: usize, value: FieldValue)
         requires field { IsTrue (is_some (field_at self.old.graph.objects slot field)) }
         requires within { (s : ℕ) → value ≡ FieldValue.Ref (Some s) → s < length self.old.graph.objects }
+        requires fits { some_and is_record (at self.old.graph.objects slot) ≡ false → IsTrue (is_ref value) }
         requires held { (s : ℕ) → value ≡ FieldValue.Ref (Some s) → IsInHand self.old s }
         requires object { (s : ℕ) → field_at self.old.graph.objects slot field ≡ Some (FieldValue.Ref (Some s)) → IsObject self.old.graph.objects s }
         ensures graph { self.new.graph ≡ with_objects self.old.graph (change_at self.old.graph.objects slot (with_field field value)) }
@@ -207,6 +210,32 @@ impl Heap {
         self.last_gets[slot.number() as usize] = self.collections;
         self.since_collection = self.since_collection.saturating_add(1);
         Some(slot)
+    }
+
+    /// A new array of these elements in a free cell. Where no cell is free, all that are condemned are swept first. It was made now, and is black.
+    ///
+    /// # Errors
+    /// The elements, where no cell is left then. Nothing has changed.
+    pub fn allocate_array(&mut self, elements: Elements) -> Result<Slot, Elements>
+        requires { (s : ℕ) → s ∈ slots_in (ElementsOf elements) → IsInHand self.old s }
+        ensures full { IsErr result ↔ (occupied self.old.graph.objects ≡ length self.old.graph.objects) }
+        ensures back { IfErr result (λ e. (e ≡ elements) × (self.new.graph ≡ self.old.graph) × (self.new.clock ≡ self.old.clock) × (self.new.marking ≡ self.old.marking) × (self.new.condemned ≡ self.old.condemned)) }
+        ensures free { IfOk result (λ slot. (slot < length self.old.graph.objects) × (at self.old.graph.objects slot ≡ None)) }
+        ensures made { IfOk result (λ slot. self.new.graph ≡ with_objects self.old.graph (set_at self.old.graph.objects slot (Plain (ElementsOf elements)))) }
+        ensures clock { IfOk result (λ slot. self.new.clock ≡ made_now self.old.clock slot) }
+        ensures black { IfOk result (λ slot. Blackened slot self.old.marking self.new.marking) }
+        ensures count { IfOk result (λ _. marked self.new.marking ≡ marked self.old.marking + 1) }
+        ensures condemned { IfOk result (λ _. self.new.condemned ≡ cond (in_use self.old == length self.old.graph.objects) 0 self.old.condemned) }
+    {
+        match self.cells.take_array(elements) {
+            Ok(made) => {
+                self.marks.blacken(made);
+                self.last_gets[made.number() as usize] = self.collections;
+                self.since_collection = self.since_collection.saturating_add(1);
+                Ok(made)
+            }
+            Err(elements) => Err(elements),
+        }
     }
 
     /// The reference at a slot, if there is one.

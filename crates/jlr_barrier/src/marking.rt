@@ -3,7 +3,7 @@ ghost use Rattle.std.specs.Prelude.{◌≡◌, ◌↔◌, ℕ, IfSome, ◌+◌, 
 ghost use Rattle.jlr_types.specs.declared.RefKind.TheVariants.{Soft};
 ghost use Rattle.jlr_machine.specs.Choices.{collecting, kept_by, pended_by};
 ghost use Rattle.jlr_machine.specs.Objects.{at, some_and, ◌∈◌};
-ghost use Rattle.jlr_machine.specs.Refusals.{is_plain};
+ghost use Rattle.jlr_machine.specs.Refusals.{is_record};
 ghost use Rattle.jlr_machine.specs.Edges.{referent};
 ghost use Rattle.jlr_sets.specs.SlotSets.{slots_of};
 ghost use Rattle.jlr_cells.specs.Showing.{shown};
@@ -63,7 +63,7 @@ impl Heap {
     }
 
     /// Follows the strong edges of the object at the grey slot that comes next: one tick. It is black then, and discovered, if it refers
-    /// to an object that is not marked. Answers whether it is a plain object.
+    /// to an object that is not marked. Answers whether it is a plain object with fields.
     pub fn scan(&mut self, slot: Slot, meter: &mut Meter) -> bool
         requires next { upcoming self.old.marking.grey ≡ Some slot }
         requires ticks { meter.old + 1 < 2 ^ 64 }
@@ -72,7 +72,7 @@ impl Heap {
         ensures graph { self.new.graph ≡ self.old.graph }
         ensures clock { self.new.clock ≡ self.old.clock }
         ensures scanned { Scanned self.old.graph.objects slot self.old.marking self.new.marking }
-        ensures plain { result ≡ some_and is_plain (at self.old.graph.objects slot) }
+        ensures plain { result ≡ some_and is_record (at self.old.graph.objects slot) }
         ensures ticked { meter.new ≡ meter.old + 1 }
         ensures condemned { self.new.condemned ≡ self.old.condemned }
     {

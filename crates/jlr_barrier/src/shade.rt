@@ -1,7 +1,7 @@
 //! Shading: what links, queues, roots, names and lists lead to is marked, and grey if it was not marked before.
 ghost use Rattle.std.specs.Prelude.{◌≡◌, ℕ, ◌+◌, ◌^◌, ◌<◌, ◌≤◌, ◌++◌, ◌∷◌, [], IsTrue, Some, cond, is_some, length, option_and_then};
 ghost use Rattle.jlr_machine.specs.Objects.{any_referent, at, queue_ahead, some_and, ◌∈◌};
-ghost use Rattle.jlr_machine.specs.Refusals.{is_plain, is_reference};
+ghost use Rattle.jlr_machine.specs.Refusals.{is_record, is_reference};
 ghost use Rattle.jlr_machine.specs.Edges.{active_cleanables, edges_from, is_active, is_own_root};
 ghost use Rattle.jlr_machine.specs.Edges.Chain.{Strong};
 ghost use Rattle.jlr_roots.specs.Naming.{named};
@@ -12,7 +12,7 @@ ghost use Rattle.jlr_marks.specs.Marking.{Shaded, marked};
 ghost use Rattle.jlr_barrier.specs.Snapshots.{RefersTo};
 ghost use Rattle.jlr_barrier.specs.Scans.{awaits};
 
-use jlr_cells::{Kind, Links, Visited};
+use jlr_cells::{Elements, Kind, Links, Visited};
 use jlr_machine::object::{CleanState, RefState, Reference};
 use jlr_marks::Marks;
 use jlr_objects::Objects;
@@ -79,13 +79,23 @@ fn shade_far(links: Option<&Links>, marks: &mut Marks)
     }
 }
 
-/// Shades what the strong edges of the object at a slot lead to: one tick. Answers whether it is a plain object.
+/// Shades what the elements of an array refer to.
+fn shade_elements(elements: &Elements, marks: &mut Marks)
+    requires { (x : ℕ) → x ∈ linked elements.now → x < length marks.old.bits }
+    ensures { Shaded (λ x. x ∈ linked elements.now) marks.old marks.new }
+{
+    for place in 0..elements.count() {
+        shade_target(elements.get(place), marks);
+    }
+}
+
+/// Shades what the strong edges of the object at a slot lead to: one tick. Answers whether it is a plain object with fields.
 pub(crate) fn follow(cells: &Objects, slot: Slot, meter: &mut Meter, marks: &mut Marks) -> bool
     requires object { IsTrue (is_some (at cells.now.objects slot)) }
     requires ticks { meter.old + 1 < 2 ^ 64 }
     requires within { (x : ℕ) → x ∈ edges_from Strong cells.now.objects slot → x < length marks.old.bits }
     ensures shaded { Shaded (λ x. x ∈ edges_from Strong cells.now.objects slot) marks.old marks.new }
-    ensures plain { result ≡ some_and is_plain (at cells.now.objects slot) }
+    ensures plain { result ≡ some_and is_record (at cells.now.objects slot) }
     ensures ticked { meter.new ≡ meter.old + 1 }
 {
     match cells.visit(slot, meter) {
@@ -93,6 +103,10 @@ pub(crate) fn follow(cells: &Objects, slot: Slot, meter: &mut Meter, marks: &mut
             shade_links(near, marks);
             shade_far(far, marks);
             true
+        }
+        Visited::Array(elements) => {
+            shade_elements(elements, marks);
+            false
         }
         Visited::Other { next } => {
             shade_target(next, marks);
@@ -102,9 +116,9 @@ pub(crate) fn follow(cells: &Objects, slot: Slot, meter: &mut Meter, marks: &mut
     }
 }
 
-/// A reference or a cleanable at a slot is discovered, if what it refers to is not marked. Of a plain object nothing is asked.
+/// A reference or a cleanable at a slot is discovered, if what it refers to is not marked. Of a plain object with fields nothing is asked.
 pub(crate) fn note(cells: &Objects, slot: Slot, plain: bool, marks: &mut Marks)
-    requires kind { plain ≡ some_and is_plain (at cells.now.objects slot) }
+    requires kind { plain ≡ some_and is_record (at cells.now.objects slot) }
     requires room { length marks.old.grey + length marks.old.discovered < marked marks.old }
     requires within { (x : ℕ) → RefersTo cells.now.objects slot x → x < length marks.old.bits }
     ensures bits { marks.new.bits ≡ marks.old.bits }

@@ -10,15 +10,16 @@ use Rattle.jlr_machine.specs.declared.object.Cleanable.{Cleanable as CleanableOf
 use Rattle.jlr_machine.specs.Edges.{slot_in}
 use Rattle.jlr_machine.specs.declared.object.Object.TheVariants as object
 use Rattle.jlr_machine.specs.Objects.{Heap, at, some_and, with_cleanable, with_field, with_reference}
-use Rattle.jlr_machine.specs.Refusals.{is_cleanable}
-use Rattle.jlr_cells.specs.Kinds.{IsNoCleanable}
-use Rattle.jlr_cells.specs.declared.shape.Kind.TheVariants.{Cleanable as CleanableKind}
+use Rattle.jlr_machine.specs.Refusals.{is_cleanable, is_record}
+use Rattle.jlr_machine.specs.declared.object.Contents.TheVariants as contents
+use Rattle.jlr_cells.specs.Kinds.{IsNoArray, IsNoCleanable}
+use Rattle.jlr_cells.specs.declared.shape.Kind.TheVariants.{Array as ArrayKind, Cleanable as CleanableKind}
 use Rattle.jlr_cells.proofs.Slots.{at-read, object_of_field, within_cells}
 use Rattle.jlr_cells.proofs.LinkLists.{links_with_cleanable, links_with_field, links_with_reference}
 use Rattle.jlr_cells.specs.declared.cell.Cell.{Cell}
 use Rattle.jlr_cells.specs.declared.cell.Cell.TheVariants.{Free}
 use Rattle.jlr_cells.specs.declared.shape.Kind.{Kind}
-use Rattle.jlr_cells.specs.Contents.{object_in, objects_in, kind_of, kind_in, kinds_in, field_in}
+use Rattle.jlr_cells.specs.Contents.{is_array, object_in, objects_in, kind_of, kind_in, kinds_in, field_in}
 use Rattle.jlr_cells.specs.Links.{cell_links, links_in, links_of, no_links}
 use Rattle.jlr_cells.specs.Keeping.{AreKept}
 
@@ -43,6 +44,20 @@ no_cleanable (Some (object.Guard g)) other = refl
 
 pub none_at_kind : (kinds : List (Option Kind)) (heap : Heap) (s : ℕ) → slice_index_or kinds s None ≡ option_map kind_of (at heap s) → IsNoCleanable kinds s → some_and is_cleanable (at heap s) ≡ false
 none_at_kind kinds heap s same none = no_cleanable (at heap s) (λ e. none (same ∙ e))
+
+-- what is of another kind is no array
+no_array : (o : Option Object) → (option_map kind_of o ≡ Some ArrayKind → ⊥) → some_and is_array o ≡ false
+no_array None other = refl
+no_array (Some (object.Plain (contents.Typed fields))) other = refl
+no_array (Some (object.Plain (contents.Elements elements))) other = absurd (other refl)
+no_array (Some (object.Reference r)) other = refl
+no_array (Some (object.Queue members)) other = refl
+no_array (Some object.Cleaner) other = refl
+no_array (Some (object.Cleanable c)) other = refl
+no_array (Some (object.Guard g)) other = refl
+
+pub no_array_kind : (kinds : List (Option Kind)) (heap : Heap) (s : ℕ) → slice_index_or kinds s None ≡ option_map kind_of (at heap s) → IsNoArray kinds s → some_and is_array (at heap s) ≡ false
+no_array_kind kinds heap s same none = no_array (at heap s) (λ e. none (same ∙ e))
 
 pub found_alike : {P P' : Type 0} {Q Q' : ℕ → Type 0} (r : Option ℕ) → (P → P') → ((s : ℕ) → Q s → Q' s) → MatchOption r P Q → MatchOption r P' Q'
 found_alike None f g h = f h
@@ -89,14 +104,15 @@ kept_cleanable cells kinds links s c d f kept read becomes same =
 -- a field changes, and its link with it
 pub kept_field :
     (cells : List Cell) (kinds : List (Option Kind)) (links : List (List (Option ℕ))) (s : ℕ) (c d : Cell) (i : ℕ) (v : FieldValue) (links' : List (List (Option ℕ)))
-    → AreKept cells kinds links → is_some (field_in (at (objects_in cells) s) i) ≡ true → c ≡ get_or cells s c → object_in d ≡ option_map (with_field i v) (object_in c) → kind_in d ≡ kind_in c
+    → AreKept cells kinds links → is_some (field_in (at (objects_in cells) s) i) ≡ true → some_and is_record (at (objects_in cells) s) ≡ true → c ≡ get_or cells s c → object_in d ≡ option_map (with_field i v) (object_in c) → kind_in d ≡ kind_in c
     → links' ≡ set links s (set (get_or links s []) i (slot_in v)) → AreKept (set cells s d) kinds links'
-kept_field cells kinds links s c d i v links' kept holds read becomes same written =
+kept_field cells kinds links s c d i v links' kept holds typed read becomes same written =
     let object : is_some (at (objects_in cells) s) ≡ true = object_of_field (at (objects_in cells) s) i holds in
     let within : s < length cells = within_cells cells s object in
     let holds' : is_some (field_in (object_in c) i) ≡ true = rw (← at-read cells s c within read) holds in
+    let typed' : some_and is_record (object_in c) ≡ true = rw (← at-read cells s c within read) typed in
     let was : get_or links s [] ≡ cell_links c = links_read cells links s c within kept.by_links read in
-    let is : set (get_or links s []) i (slot_in v) ≡ cell_links d = ap (λ l. set l i (slot_in v)) was ∙ sym (links_with_field (object_in c) i v holds') ∙ sym (ap links_of becomes) in
+    let is : set (get_or links s []) i (slot_in v) ≡ cell_links d = ap (λ l. set l i (slot_in v)) was ∙ sym (links_with_field (object_in c) i v holds' typed') ∙ sym (ap links_of becomes) in
     record {
       by_kind = kept.by_kind ∙ sym (map-set_same kind_in cells s d c (same ∙ ap kind_in read));
       by_links = written ∙ ap (set links s) is ∙ ap (λ l. set l s (cell_links d)) kept.by_links ∙ sym (map-set cell_links cells s d);

@@ -1,4 +1,5 @@
 mod Writing
+mod Parts
 mod FieldLists
 pub mod Slots
 mod LinkLists

@@ -3,6 +3,7 @@ use Rattle.std.proofs.Common.{◌≡◌, ◌⊎◌, inl, inr, ℕ, zero, suc, �
 use Rattle.std.specs.Prelude.{is_some, option_map, slice_get, slice_index_or}
 use Rattle.std.proofs.lemmas.Bool.{cases_eq}
 use Rattle.std.proofs.lemmas.List.{length-map, map-set, length-replicate}
+use Rattle.jlr_machine.specs.declared.object.Contents.TheVariants.{Typed, Elements}
 use Rattle.jlr_machine.specs.declared.object.Object.{Object}
 use Rattle.jlr_machine.specs.declared.object.Object.TheVariants.{Plain, Reference, Queue, Cleaner, Cleanable, Guard}
 use Rattle.jlr_machine.specs.declared.object.Reference.{Reference as ReferenceOf}
@@ -10,17 +11,16 @@ use Rattle.jlr_machine.specs.declared.object.Cleanable.{Cleanable as CleanableOf
 use Rattle.jlr_types.specs.declared.FieldValue.{FieldValue}
 use Rattle.jlr_types.specs.declared.FieldValue.TheVariants as field
 use Rattle.jlr_machine.specs.Edges.{slot_in}
-use Rattle.jlr_machine.specs.Objects.{◌∈◌, Heap, at, change_at, occupied, set_at, some_and, with_cleanable, with_field, with_members, with_reference}
+use Rattle.jlr_machine.specs.Objects.{◌∈◌, Heap, at, change_at, occupied, some_and, with_cleanable, with_field, with_members, with_reference}
 use Rattle.jlr_machine.specs.Refusals.{is_plain, is_queue}
 use Rattle.jlr_laws.proofs.ObjectsKept.{count_pointwise}
 use Rattle.jlr_laws.proofs.Sets.{nothing}
 use Rattle.jlr_links.specs.Lists.{list_at}
 use Rattle.jlr_cells.specs.declared.cell.Cell.{Cell}
+use Rattle.jlr_cells.specs.declared.cell.Cell.TheVariants as cell
 use Rattle.jlr_cells.specs.declared.shape.Kind.{Kind}
 use Rattle.jlr_cells.specs.declared.shape.Kind.TheVariants as kind
-use Rattle.jlr_cells.specs.declared.shape.Shape.{Shape}
-use Rattle.jlr_cells.specs.declared.shape.Shape.TheVariants as shape
-use Rattle.jlr_cells.specs.Contents.{kind_in, kind_of, member_in, members_in, object_in, object_of, objects_in, with_list, with_lists}
+use Rattle.jlr_cells.specs.Contents.{kind_in, kind_of, member_in, members_in, object_in, objects_in, with_list, with_lists}
 use Rattle.jlr_cells.specs.Links.{cell_links}
 use Rattle.jlr_cells.specs.Keeping.{AreOfQueues, AreWhole}
 use Rattle.jlr_cells.proofs.Slots.{at-read, change_at-objects_in, object_of_queue, within_cells}
@@ -79,14 +79,16 @@ members_changed g members (Some Cleaner) = refl
 members_changed g members (Some (Cleanable c)) = refl
 members_changed g members (Some (Guard g')) = refl
 
--- a new queue has no members
-new_object : (s : Shape) → with_list [] (Some (object_of s)) ≡ Some (object_of s)
-new_object (shape.Plain layout) = refl
-new_object (shape.Reference kind referent queue) = refl
-new_object shape.Queue = refl
-new_object shape.Cleaner = refl
-new_object (shape.Cleanable referent action work) = refl
-new_object (shape.Guard rid cleanable) = refl
+-- a queue in a cell is one without members
+bare : (c : Cell) → with_list [] (object_in c) ≡ object_in c
+bare cell.Free = refl
+bare (cell.Plain fields) = refl
+bare (cell.Array elements) = refl
+bare (cell.Reference r) = refl
+bare cell.Queue = refl
+bare cell.Cleaner = refl
+bare (cell.Cleanable c) = refl
+bare (cell.Guard g) = refl
 
 -- the members that an object is given, where it is a queue or they are none
 given_none : (o : Option Object) → members_in (with_list [] o) ≡ []
@@ -100,7 +102,8 @@ given_none (Some (Guard g)) = refl
 
 given_queue : (members : List ℕ) (o : Option Object) → option_map kind_of o ≡ Some kind.Queue → members_in (with_list members o) ≡ members
 given_queue members None e = cc
-given_queue members (Some (Plain fields)) e = cc
+given_queue members (Some (Plain (Typed fields))) e = cc
+given_queue members (Some (Plain (Elements elements))) e = cc
 given_queue members (Some (Reference r)) e = cc
 given_queue members (Some (Queue l)) e = refl
 given_queue members (Some Cleaner) e = cc
@@ -196,14 +199,14 @@ changed_members heap lists s g within =
     with_lists-list heap lists s (g (list_at lists s)) within
     ∙ ap (set (with_lists heap lists) s) (members_changed g (list_at lists s) (at heap s) ∙ ap (option_map (with_members g)) (sym (at-with_lists heap lists s)))
 
--- a new object stands where nothing with members lay
-pub added_object : (cells : List Cell) (lists : List (List ℕ)) (s : ℕ) (c : Cell) (made : Shape) → list_at lists s ≡ [] → object_in c ≡ Some (object_of made)
-    → with_lists (objects_in (set cells s c)) lists ≡ set_at (with_lists (objects_in cells) lists) s (object_of made)
-added_object cells lists s c made none is =
+-- something else stands where nothing with members lay
+pub written_object : (cells : List Cell) (lists : List (List ℕ)) (s : ℕ) (c : Cell) → list_at lists s ≡ []
+    → with_lists (objects_in (set cells s c)) lists ≡ set (with_lists (objects_in cells) lists) s (object_in c)
+written_object cells lists s c none =
     let heap = objects_in cells in
     ap (λ h. with_lists h lists) (map-set object_in cells s c)
     ∙ with_lists-set heap lists s (object_in c)
-    ∙ ap (set (with_lists heap lists) s) (ap (λ l. with_list l (object_in c)) none ∙ ap (with_list []) is ∙ new_object made)
+    ∙ ap (set (with_lists heap lists) s) (ap (λ l. with_list l (object_in c)) none ∙ bare c)
 
 -- ---- What is kept of queues
 

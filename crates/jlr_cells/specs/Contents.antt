@@ -1,6 +1,8 @@
 -- Which object a cell holds, and what is asked of objects.
-use Rattle.std.specs.Prelude.{ℕ, List, [], ◌∷◌, Option, Some, None, map, option_and_then, option_map, slice_get}
+use Rattle.std.specs.Prelude.{ℕ, Bool, true, false, List, [], ◌∷◌, Option, Some, None, map, option_and_then, option_map, slice_get}
 use Rattle.jlr_types.specs.declared.FieldValue.{FieldValue}
+use Rattle.jlr_types.specs.declared.FieldValue.TheVariants.{Int, Ref}
+use Rattle.jlr_machine.specs.declared.object.Contents.TheVariants.{Typed, Elements}
 use Rattle.jlr_machine.specs.declared.object.Object.{Object}
 use Rattle.jlr_machine.specs.declared.object.Object.TheVariants.{Plain as PlainObject, Reference as ReferenceObject, Queue as QueueObject, Cleaner as CleanerObject, Cleanable as CleanableObject, Guard as GuardObject}
 use Rattle.jlr_machine.specs.declared.object.Reference.{Reference as ReferenceOf}
@@ -9,19 +11,20 @@ use Rattle.jlr_machine.specs.declared.object.CleanState.{CleanState}
 use Rattle.jlr_machine.specs.declared.object.CleanState.TheVariants.{Armed}
 use Rattle.jlr_machine.specs.declared.object.RefState.{RefState}
 use Rattle.jlr_machine.specs.declared.object.RefState.TheVariants.{Fresh}
-use Rattle.jlr_machine.specs.Objects.{Heap, at, as_fields, as_members, as_reference, queue_ahead, with_members}
+use Rattle.jlr_machine.specs.Objects.{Heap, at, as_fields, as_members, as_reference, queue_ahead, value_at, with_members}
 use Rattle.jlr_machine.specs.Lookups.{blank}
 use Rattle.jlr_cells.specs.declared.cell.Cell.{Cell}
-use Rattle.jlr_cells.specs.declared.cell.Cell.TheVariants.{Free, Plain, Reference, Queue, Cleaner, Cleanable, Guard}
+use Rattle.jlr_cells.specs.declared.cell.Cell.TheVariants.{Free, Plain, Array, Reference, Queue, Cleaner, Cleanable, Guard}
 use Rattle.jlr_cells.specs.declared.shape.Kind.{Kind}
-use Rattle.jlr_cells.specs.declared.shape.Kind.TheVariants.{Plain as PlainKind, Reference as ReferenceKind, Queue as QueueKind, Cleaner as CleanerKind, Cleanable as CleanableKind, Guard as GuardKind}
+use Rattle.jlr_cells.specs.declared.shape.Kind.TheVariants.{Plain as PlainKind, Array as ArrayKind, Reference as ReferenceKind, Queue as QueueKind, Cleaner as CleanerKind, Cleanable as CleanableKind, Guard as GuardKind}
 use Rattle.jlr_cells.specs.declared.shape.Shape.{Shape}
 use Rattle.jlr_cells.specs.declared.shape.Shape.TheVariants.{Plain as PlainShape, Reference as ReferenceShape, Queue as QueueShape, Cleaner as CleanerShape, Cleanable as CleanableShape, Guard as GuardShape}
 
 -- the object in a cell, if it is not free; a queue without its members, which stand in a list of their own
 abbrev pub object_in : Cell → Option Object
 object_in Free = None
-object_in (Plain fields) = Some (PlainObject fields)
+object_in (Plain fields) = Some (PlainObject (Typed fields))
+object_in (Array elements) = Some (PlainObject (Elements elements))
 object_in (Reference r) = Some (ReferenceObject r)
 object_in Queue = Some (QueueObject [])
 object_in Cleaner = Some CleanerObject
@@ -45,7 +48,7 @@ with_lists (o ∷ heap) (members ∷ lists) = with_list members o ∷ with_lists
 -- the object that is made of a shape: its fields are 0 or null, a reference is Fresh, a queue has no members, a cleanable
 -- is Armed
 abbrev pub object_of : Shape → Object
-object_of (PlainShape layout) = PlainObject (map blank layout)
+object_of (PlainShape layout) = PlainObject (Typed (map blank layout))
 object_of (ReferenceShape kind referent queue) = ReferenceObject (record { kind = kind; referent = referent; queue = queue; state = Fresh })
 object_of QueueShape = QueueObject []
 object_of CleanerShape = CleanerObject
@@ -54,7 +57,8 @@ object_of (GuardShape rid cleanable) = GuardObject (record { rid = rid; cleanabl
 
 -- of which kind an object is
 abbrev pub kind_of : Object → Kind
-kind_of (PlainObject fields) = PlainKind
+kind_of (PlainObject (Typed fields)) = PlainKind
+kind_of (PlainObject (Elements elements)) = ArrayKind
 kind_of (ReferenceObject r) = ReferenceKind r.kind
 kind_of (QueueObject members) = QueueKind
 kind_of CleanerObject = CleanerKind
@@ -69,11 +73,21 @@ kind_in c = option_map kind_of (object_in c)
 abbrev pub kinds_in : List Cell → List (Option Kind)
 kinds_in cells = map kind_in cells
 
--- a field of an object, if it is a plain one and has that field
+-- a field or an element of an object, if it is a plain one and has that
 abbrev pub field_in : Option Object → ℕ → Option FieldValue
-field_in o field = option_and_then (λ fields. slice_get fields field) (option_and_then as_fields o)
+field_in o field = option_and_then (λ fields. value_at fields field) (option_and_then as_fields o)
 
--- a field of the object at a slot
+-- whether an object is an array
+abbrev pub is_array : Object → Bool
+is_array (PlainObject (Elements elements)) = true
+is_array _ = false
+
+-- whether a value may stand in an element
+abbrev pub is_ref : FieldValue → Bool
+is_ref (Ref s) = true
+is_ref (Int n) = false
+
+-- a field or an element of the object at a slot
 abbrev pub field_at : Heap → ℕ → ℕ → Option FieldValue
 field_at heap s field = field_in (at heap s) field
 

@@ -1,17 +1,14 @@
 -- What links stand for, and which go with an object.
 use Rattle.std.specs.Borrow.{Bor}
-use Rattle.std.specs.Prelude.{◌≡◌, ℕ, ◌-◌, ◌<◌, ◌∷◌, ◌++◌, [], Bool, false, nat_lt, if◌then◌else◌, List, Option, Some, None, length, map, filter_map, replicate, slice_index_or}
+use Rattle.std.specs.Prelude.{◌≡◌, ℕ, ◌-◌, ◌<◌, ◌∷◌, ◌++◌, [], Bool, false, List, Option, Some, None, length, map, filter_map, replicate, slice_index_or}
 use Rattle.jlr_types.specs.declared.FieldValue.{FieldValue}
+use Rattle.jlr_machine.specs.declared.object.Contents.TheVariants.{Typed}
 use Rattle.jlr_machine.specs.declared.object.Object.{Object}
 use Rattle.jlr_machine.specs.declared.object.Object.TheVariants.{Plain as PlainObject}
 use Rattle.jlr_machine.specs.Edges.{slot_in}
 use Rattle.jlr_sets.specs.SlotSets.{is_in}
 use Rattle.jlr_cells.specs.declared.cell.Cell.{Cell}
 use Rattle.jlr_cells.specs.Contents.{object_in}
-
--- the greatest number stands for null, each other for a slot
-abbrev pub link_of : ℕ → Option ℕ
-link_of n = if nat_lt n 4294967295 then Some n else None
 
 -- four links, all null, and eight
 abbrev pub four_nulls : List (Option ℕ)
@@ -24,10 +21,10 @@ no_links = replicate 8 None
 abbrev pub links_to : List FieldValue → List (Option ℕ)
 links_to fields = map slot_in fields ++ replicate (8 - length fields) None
 
--- the links of an object: an object that is no plain one has none
+-- the links of an object: one without typed fields has none
 abbrev pub links_of : Option Object → List (Option ℕ)
 links_of None = no_links
-links_of (Some (PlainObject fields)) = links_to fields
+links_of (Some (PlainObject (Typed fields))) = links_to fields
 links_of (Some _) = no_links
 
 -- the links of the object in a cell, and of those in the cells, by slot

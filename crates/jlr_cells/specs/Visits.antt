@@ -1,15 +1,17 @@
 -- What a visit of an object tells.
 use Rattle.std.specs.Prelude.{ℕ, ◌++◌, Bool, true, false, List, option_to_list}
 use Rattle.jlr_cells.specs.declared.links.Visited.{Visited}
-use Rattle.jlr_cells.specs.declared.links.Visited.TheVariants.{Plain, Other}
+use Rattle.jlr_cells.specs.declared.links.Visited.TheVariants.{Plain, Array, Other}
 use Rattle.jlr_cells.specs.Links.{linked, linked_in}
 
--- whether a visit found a plain object
+-- whether a visit found a plain object with fields
 abbrev pub found_plain : Visited → Bool
 found_plain (Plain near far) = true
+found_plain (Array elements) = false
 found_plain (Other next) = false
 
 -- what a visit tells of strong edges, with the members that the object has if it is a queue
 abbrev pub edges_told : Visited → List ℕ → List ℕ
 edges_told (Plain near far) members = linked near.now ++ linked_in far
+edges_told (Array elements) members = linked elements.now
 edges_told (Other next) members = option_to_list next ++ members

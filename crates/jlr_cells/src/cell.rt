@@ -1,17 +1,20 @@
 //! One cell.
-ghost use Rattle.std.specs.Prelude.{◌≡◌, ◌<◌, IfOk, Some, IsTrue, is_some, length, option_and_then, option_map};
-ghost use Rattle.jlr_machine.specs.Objects.{as_cleanable, as_fields, as_guard, as_reference, some_and, with_cleanable, with_field, with_reference};
-ghost use Rattle.jlr_machine.specs.Refusals.{is_cleanable, is_reference};
+ghost use Rattle.std.specs.Prelude.{◌≡◌, ◌<◌, ℕ, IfOk, Some, IsTrue, is_some, length, option_and_then, option_map, true, false};
+ghost use Rattle.jlr_machine.specs.Objects.{as_cleanable, as_guard, as_reference, some_and, with_cleanable, with_field, with_reference};
+ghost use Rattle.jlr_machine.specs.Refusals.{is_cleanable, is_record, is_reference};
+ghost use Rattle.jlr_machine.specs.declared.object.Object.TheVariants.{Plain};
+ghost use Rattle.jlr_machine.specs.declared.object.Contents.TheVariants.{Elements as ElementsOf};
 ghost use Rattle.jlr_machine.specs.Calls.{spent, unreferred};
-ghost use Rattle.jlr_cells.specs.Contents.{field_in, in_clean_state, in_state, kind_in, next_in, object_in, object_of, referent_in, unregistered, watching, with_list, without_referent};
+ghost use Rattle.jlr_cells.specs.Contents.{field_in, is_array, in_clean_state, in_state, kind_in, next_in, object_in, object_of, referent_in, unregistered, watching, with_list, without_referent};
 ghost use Rattle.jlr_links.specs.Lists.{list_at};
 ghost use Rattle.jlr_cells.specs.Links.{links_of, no_links};
 
+use crate::elements::Elements;
 use crate::fields::Fields;
 use crate::shape::{Kind, Shape};
 use jlr_links::Links as Lists;
 use jlr_machine::object::{
-    CleanState, Cleanable, Fields as PlainFields, Guard, Object, RefState, Reference,
+    CleanState, Cleanable, Contents, Fields as PlainFields, Guard, Object, RefState, Reference,
 };
 use jlr_types::{FieldValue, Slot};
 use std::alloc::{AllocError, Global};
@@ -23,6 +26,8 @@ pub(crate) enum Cell {
     /// Nothing was put here yet.
     Free,
     Plain(Fields),
+    /// An array. Its elements are the only thing in a cell that has memory of its own.
+    Array(Elements),
     Reference(Reference),
     /// A queue. Its members stand in the list of its slot.
     Queue,
@@ -73,6 +78,7 @@ impl Cell {
         match self {
             Cell::Free => None,
             Cell::Plain(_) => Some(Kind::Plain),
+            Cell::Array(_) => Some(Kind::Array),
             Cell::Reference(reference) => Some(Kind::Reference(reference.kind)),
             Cell::Queue => Some(Kind::Queue),
             Cell::Cleaner => Some(Kind::Cleaner),
@@ -81,28 +87,21 @@ impl Cell {
         }
     }
 
-    pub(crate) fn field_count(&self) -> Option<usize>
-        ensures { result ≡ option_map length (option_and_then as_fields (object_in self.now)) }
-    {
-        match self {
-            Cell::Plain(fields) => Some(fields.len()),
-            _ => None,
-        }
-    }
-
-    /// A field, if this is a plain object and has it.
+    /// A field or an element, if this is a plain object and has it.
     pub(crate) fn field(&self, field: usize) -> Option<FieldValue>
         ensures { result ≡ field_in (object_in self.now) field }
     {
         match self {
             Cell::Plain(fields) => fields.get(field),
+            Cell::Array(elements) => elements.value(field),
             _ => None,
         }
     }
 
     /// Sets a field, and answers what it held.
     pub(crate) fn set_field(&mut self, field: usize, value: FieldValue) -> FieldValue
-        requires { IsTrue (is_some (field_in (object_in self.old) field)) }
+        requires there { IsTrue (is_some (field_in (object_in self.old) field)) }
+        requires record { some_and is_record (object_in self.old) ≡ true }
         ensures old { field_in (object_in self.old) field ≡ Some result }
         ensures new { object_in self.new ≡ option_map (with_field field value) (object_in self.old) }
         ensures kind { kind_in self.new ≡ kind_in self.old }
@@ -110,6 +109,33 @@ impl Cell {
     {
         match self {
             Cell::Plain(fields) => fields.set(field, value),
+            _ => unreachable!(),
+        }
+    }
+
+    /// Sets an element, and answers what it referred to.
+    pub(crate) fn set_element(&mut self, place: usize, target: Option<Slot>) -> Option<Slot>
+        requires there { IsTrue (is_some (field_in (object_in self.old) place)) }
+        requires array { some_and is_record (object_in self.old) ≡ false }
+        requires few { (s : ℕ) → target ≡ Some s → s < 4294967295 }
+        ensures old { field_in (object_in self.old) place ≡ Some (FieldValue.Ref result) }
+        ensures new { object_in self.new ≡ option_map (with_field place (FieldValue.Ref target)) (object_in self.old) }
+        ensures kind { kind_in self.new ≡ kind_in self.old }
+        ensures links { links_of (object_in self.new) ≡ links_of (object_in self.old) }
+    {
+        match self {
+            Cell::Array(elements) => elements.set(place, target),
+            _ => unreachable!(),
+        }
+    }
+
+    /// The elements of an array.
+    pub(crate) fn elements(&self) -> &Elements
+        requires { some_and is_array (object_in self.now) ≡ true }
+        ensures { object_in self.now ≡ Some (Plain (ElementsOf result.now)) }
+    {
+        match self {
+            Cell::Array(elements) => elements,
             _ => unreachable!(),
         }
     }
@@ -271,7 +297,12 @@ impl Cell {
                         None => unreachable!(),
                     }
                 }
-                Ok(Some(Object::Plain(PlainFields::from_vec(values).unwrap())))
+                let fields = PlainFields::from_vec(values).unwrap();
+                Ok(Some(Object::Plain(Contents::Typed(fields))))
+            }
+            Cell::Array(elements) => {
+                let elements = elements.image(alloc)?;
+                Ok(Some(Object::Plain(Contents::Elements(elements))))
             }
             Cell::Reference(reference) => Ok(Some(Object::Reference(*reference))),
             Cell::Queue => Ok(Some(Object::Queue(lists.image(alloc, list)?))),

@@ -1,6 +1,6 @@
 //! The kinds of the objects, by slot.
-ghost use Rattle.std.specs.Prelude.{◌≡◌, ℕ, ◌<◌, ◌≤◌, IfOk, MatchOption, None, Some, length, replicate, slice_index_or, slice_set, true};
-ghost use Rattle.jlr_cells.specs.Kinds.{IsNoCleanable};
+ghost use Rattle.std.specs.Prelude.{◌≡◌, ℕ, ◌<◌, ◌≤◌, IfOk, MatchOption, None, Some, false, length, replicate, slice_index_or, slice_set, true};
+ghost use Rattle.jlr_cells.specs.Kinds.{IsNoArray, IsNoCleanable};
 ghost use Rattle.jlr_sets.specs.SlotSets.{is_in};
 
 use crate::shape::Kind;
@@ -9,12 +9,14 @@ use jlr_types::Slot;
 use std::alloc::{AllocError, Global};
 use std::marker::Model;
 
-/// Of which kind what lies at a slot is, by slot, side by side; and a set in which the cleanables are, so that they are found without a pass
-/// over all slots.
+/// Of which kind what lies at a slot is, by slot, side by side; and sets in which the cleanables and the arrays are, so that they are found
+/// without a pass over all slots.
 #[derive(Drop)]
 pub(crate) struct Kinds {
     kinds: Vec<Option<Kind>>,
     cleanables: CellSet,
+    /// The arrays, and some slots at which none lies any more.
+    arrays: CellSet,
 }
 
 impl Model for Kinds {
@@ -26,7 +28,7 @@ impl Model for Kinds {
 
     ghost view = { λ a. a.kinds.items };
 
-    ghost invariant = { λ a. AreFound a.kinds.items a.cleanables };
+    ghost invariant = { λ a. AreFound a.kinds.items a.cleanables a.arrays };
 }
 
 impl Kinds {
@@ -40,6 +42,7 @@ impl Kinds {
         Ok(Kinds {
             kinds: vec![in alloc; None; count as usize]?,
             cleanables: CellSet::new(alloc, count)?,
+            arrays: CellSet::new(alloc, count)?,
         })
     }
 
@@ -60,6 +63,7 @@ impl Kinds {
     {
         self.kinds[slot.number() as usize] = kind;
         note_cleanable(&mut self.cleanables, slot, kind);
+        note_array(&mut self.arrays, slot, kind);
     }
 
     /// A slot not below `from` such that no cleanable is between; or none, where there is no cleanable from there on.
@@ -67,6 +71,29 @@ impl Kinds {
         ensures { MatchOption result ((s : ℕ) → from ≤ s → IsNoCleanable self.now s) (λ slot. (from ≤ slot) × (slot < length self.now) × ((s : ℕ) → from ≤ s → s < slot → IsNoCleanable self.now s)) }
     {
         self.cleanables.next_from(from)
+    }
+
+    /// A slot not below `from` outside a set, such that no array is between outside the set; or none, where there is no array outside the set from there on.
+    pub(crate) fn next_array(&self, kept: &CellSet, from: u32) -> Option<Slot>
+        ensures { MatchOption result ((s : ℕ) → from ≤ s → is_in kept.now s ≡ false → IsNoArray self.now s) (λ slot. (from ≤ slot) × (slot < length self.now) × (is_in kept.now slot ≡ false) × ((s : ℕ) → from ≤ s → s < slot → is_in kept.now s ≡ false → IsNoArray self.now s)) }
+    {
+        self.arrays.next_beyond(kept, from)
+    }
+}
+
+/// A slot is in the set where an array lies there, and it is not where nothing does.
+fn note_array(arrays: &mut CellSet, slot: Slot, kind: Option<Kind>)
+    requires { slot < length arrays.old }
+    ensures array { kind ≡ Some Kind.Array → is_in arrays.new slot ≡ true }
+    ensures others { (s : ℕ) → (s ≡ slot → ⊥) → is_in arrays.new s ≡ is_in arrays.old s }
+    ensures places { length arrays.new ≡ length arrays.old }
+{
+    match kind {
+        Some(Kind::Array) => {
+            arrays.insert(slot);
+        }
+        None => arrays.remove(slot),
+        _ => {}
     }
 }
 

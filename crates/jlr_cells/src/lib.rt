@@ -10,17 +10,22 @@
 //! to: 16 bytes for the first four fields, and 16 in a column of their own for the others. A collection reads little else: `visit` lends the
 //! links of a plain object, those of the second column only where one of its fields ever referred to an object, and reads no cell of one.
 //!
-//! Contracts see a table of objects. No call but `Store::new` and `image` takes memory.
+//! The elements of an array lie in memory of their own, four bytes each, which is given back when the array's cell is written. The arrays are in
+//! a set, so that those in cells that become free are found.
+//!
+//! Contracts see a table of objects. No call but `Store::new`, `Elements::new` and `image` takes memory.
 #![tactic(auto)]
 
 mod cell;
 mod columns;
+mod elements;
 mod fields;
 mod kinds;
 mod links;
 mod shape;
 mod store;
 
+pub use elements::Elements;
 pub use links::{Links, Visited};
 pub use shape::{Kind, Shape};
 pub use store::Store;

@@ -2,8 +2,10 @@
 ghost use Rattle.std.specs.Prelude.{◌≡◌, ℕ, ◌<◌, Some, length, map, slice_set};
 ghost use Rattle.jlr_machine.specs.Objects.{at};
 ghost use Rattle.jlr_machine.specs.Edges.{slot_in};
-ghost use Rattle.jlr_cells.specs.Links.{four_nulls, link_of};
+ghost use Rattle.jlr_cells.specs.Links.{four_nulls};
+ghost use Rattle.jlr_cells.specs.Nulls.{link_of};
 
+use crate::elements::Elements;
 use jlr_types::{FieldValue, Slot};
 use std::marker::Model;
 
@@ -18,7 +20,7 @@ pub struct Links {
 
 impl Model for Links {
     ghost use Rattle.std.specs.Prelude.{◌≡◌, List, Option, ℕ, length, map};
-    ghost use Rattle.jlr_cells.specs.Links.{link_of};
+    ghost use Rattle.jlr_cells.specs.Nulls.{link_of};
 
     ghost Value = { List (Option ℕ) };
 
@@ -69,7 +71,7 @@ fn link_at(slots: &[u32], place: usize) -> Option<Slot>
 }
 
 /// The slot of a number; none, where it stands for null.
-fn slot_of(number: u32) -> Option<Slot>
+pub(crate) fn slot_of(number: u32) -> Option<Slot>
     ensures { result ≡ link_of number }
 {
     if number < NULL {
@@ -79,7 +81,7 @@ fn slot_of(number: u32) -> Option<Slot>
     }
 }
 
-fn number_of(target: Option<Slot>) -> u32
+pub(crate) fn number_of(target: Option<Slot>) -> u32
     requires { (s : ℕ) → target ≡ Some s → s < 4294967295 }
     ensures { link_of result ≡ target }
 {
@@ -102,13 +104,15 @@ pub(crate) fn target_of(value: &FieldValue) -> Option<Slot>
 /// What a visit of an object tells of its strong edges.
 #[derive(Drop)]
 pub enum Visited<'a> {
-    /// It is a plain object.
+    /// It is a plain object with fields.
     Plain {
         /// The links of its first four fields.
         near: &'a Links,
         /// The links of the others, if one of them ever referred to an object.
         far: Option<&'a Links>,
     },
+    /// It is an array of these elements.
+    Array(&'a Elements),
     /// It is of another kind. It leads to one object, or to none; a queue to its members besides.
     Other {
         /// The queue that a reference may still be added to, or the cleanable of a guard.

@@ -6,6 +6,8 @@ use jlr_types::{ActionNo, Layout, RefKind, Rid, Slot, Work};
 pub enum Kind {
     /// An object with fields.
     Plain,
+    /// An array of references.
+    Array,
     /// A reference object of this strength.
     Reference(RefKind),
     /// A reference queue.

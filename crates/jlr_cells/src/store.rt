@@ -1,19 +1,23 @@
 //! The cells, as they lie.
-ghost use Rattle.std.specs.Prelude.{◌≡◌, ◌⊎◌, ℕ, ◌+◌, ◌++◌, ◌∷◌, [], ◌^◌, ◌<◌, ◌↔◌, IfOk, IfNone, IfSome, IsNone, IsTrue, MatchOption, None, false, ◌≤◌, List, Some, cond, drop, is_some, length, option_and_then, option_map, replicate, slice_get, slice_set};
-ghost use Rattle.jlr_machine.specs.Objects.{◌∈◌, as_cleanable, as_fields, as_guard, as_reference, at, change_at, empty_at, occupied, set_at, some_and};
+ghost use Rattle.std.specs.Prelude.{◌≡◌, ◌⊎◌, ℕ, ◌+◌, ◌++◌, ◌∷◌, [], ◌^◌, ◌<◌, ◌↔◌, IfOk, IfNone, IfSome, IsNone, IsTrue, MatchOption, None, false, true, ◌≤◌, List, Some, cond, drop, is_some, length, option_and_then, option_map, replicate, slice_get, slice_set};
+ghost use Rattle.jlr_machine.specs.Objects.{◌∈◌, as_cleanable, as_guard, as_reference, at, change_at, empty_at, occupied, set_at, some_and};
 ghost use Rattle.jlr_sets.specs.SlotSets.{is_in};
 ghost use Rattle.jlr_links.specs.Lists.{list_at};
 ghost use Rattle.jlr_cells.specs.Showing.{shown};
 ghost use Rattle.jlr_machine.specs.Edges.{edges_from};
 ghost use Rattle.jlr_machine.specs.Edges.Chain.{Strong};
 ghost use Rattle.jlr_machine.specs.Objects.{with_cleanable, with_field, with_members, with_reference};
-ghost use Rattle.jlr_machine.specs.Refusals.{is_cleanable, is_guard, is_plain, is_queue, is_reference};
+ghost use Rattle.jlr_machine.specs.Refusals.{is_cleanable, is_guard, is_plain, is_queue, is_record, is_reference};
 ghost use Rattle.jlr_machine.specs.Calls.{spent, unreferred};
-ghost use Rattle.jlr_cells.specs.Contents.{field_at, in_clean_state, in_state, kind_of, member_in, members_in, object_in, object_of, objects_in, referent_in, unregistered, watching, with_list, with_lists, without_referent};
+ghost use Rattle.jlr_cells.specs.Contents.{field_at, is_array, is_ref, in_clean_state, in_state, kind_of, member_in, members_in, object_in, object_of, objects_in, referent_in, unregistered, watching, with_list, with_lists, without_referent};
+ghost use Rattle.jlr_cells.specs.Links.{cell_links, no_links};
+ghost use Rattle.jlr_machine.specs.declared.object.Object.TheVariants.{Plain};
+ghost use Rattle.jlr_machine.specs.declared.object.Contents.TheVariants.{Elements as ElementsOf};
 ghost use Rattle.jlr_cells.specs.Visits.{edges_told, found_plain};
 
 use crate::cell::Cell;
 use crate::columns::Columns;
+use crate::elements::Elements;
 use crate::kinds::Kinds;
 use crate::links::{Visited, target_of};
 use crate::shape::{Kind, Shape};
@@ -79,8 +83,35 @@ impl Store {
         requires members { members_in (at self.old slot) ≡ [] }
         ensures { self.new ≡ set_at self.old slot (object_of shape) }
     {
+        self.write(slot, Cell::new(shape));
+    }
+
+    /// An array of these elements is put at a slot. What lay there before, if anything, had no members.
+    pub fn put_array(&mut self, slot: Slot, elements: Elements)
+        requires within { slot < length self.old }
+        requires members { members_in (at self.old slot) ≡ [] }
+        ensures { self.new ≡ set_at self.old slot (Plain (ElementsOf elements)) }
+    {
+        self.write(slot, Cell::Array(elements));
+    }
+
+    /// Nothing lies at a slot any more. What lay there had no members. The memory of an array is given back.
+    pub fn empty(&mut self, slot: Slot)
+        requires within { slot < length self.old }
+        requires members { members_in (at self.old slot) ≡ [] }
+        ensures { self.new ≡ empty_at self.old slot }
+    {
+        self.write(slot, Cell::Free);
+    }
+
+    /// The cell of a slot is written. What lay there before, if anything, had no members.
+    fn write(&mut self, slot: Slot, cell: Cell)
+        requires within { slot < length self.old }
+        requires members { members_in (at self.old slot) ≡ [] }
+        requires links { cell_links cell ≡ no_links }
+        ensures { self.new ≡ slice_set self.old slot (object_in cell) }
+    {
         let place = slot.number() as usize;
-        let cell = Cell::new(shape);
         self.kinds.set(slot, cell.kind());
         self.links.clear(slot);
         self.cells[place] = cell;
@@ -101,11 +132,32 @@ impl Store {
         self.kinds.next_cleanable(from)
     }
 
-    /// Whether there is a plain object at a slot.
+    /// Whether there is a plain object at a slot: one with fields, or an array.
     pub fn is_plain(&self, slot: Slot) -> bool
         ensures { result ≡ some_and is_plain (at self.now slot) }
     {
+        matches!(self.kind(slot), Some(Kind::Plain | Kind::Array))
+    }
+
+    /// Whether there is a plain object with fields at a slot.
+    pub fn is_record(&self, slot: Slot) -> bool
+        ensures { result ≡ some_and is_record (at self.now slot) }
+    {
         matches!(self.kind(slot), Some(Kind::Plain))
+    }
+
+    /// Whether there is an array at a slot.
+    pub fn is_array(&self, slot: Slot) -> bool
+        ensures { result ≡ some_and is_array (at self.now slot) }
+    {
+        matches!(self.kind(slot), Some(Kind::Array))
+    }
+
+    /// A slot not below `from` outside a set, such that no array is between outside the set; or none, where there is no array outside the set from there on.
+    pub fn next_array(&self, kept: &CellSet, from: u32) -> Option<Slot>
+        ensures { MatchOption result ((s : ℕ) → from ≤ s → is_in kept.now s ≡ false → some_and is_array (at self.now s) ≡ false) (λ slot. (from ≤ slot) × (slot < length self.now) × (is_in kept.now slot ≡ false) × ((s : ℕ) → from ≤ s → s < slot → is_in kept.now s ≡ false → some_and is_array (at self.now s) ≡ false)) }
+    {
+        self.kinds.next_array(kept, from)
     }
 
     /// Whether there is a queue at a slot.
@@ -122,24 +174,14 @@ impl Store {
         matches!(self.kind(slot), Some(Kind::Cleanable))
     }
 
-    /// How many fields the object at a slot has, if it is a plain one.
-    pub fn field_count(&self, slot: Slot) -> Option<usize>
-        ensures { result ≡ option_map length (option_and_then as_fields (at self.now slot)) }
-    {
-        match self.cells.get(slot.number() as usize) {
-            Some(cell) => cell.field_count(),
-            None => None,
-        }
-    }
-
-    /// Whether there is a plain object at a slot that has this field.
+    /// Whether there is a plain object at a slot that has this field or element.
     pub fn has_field(&self, slot: Slot, field: usize) -> bool
         ensures { result ≡ is_some (field_at self.now slot field) }
     {
         field_of(&self.cells, slot, field).is_some()
     }
 
-    /// What a field holds.
+    /// What a field or an element holds.
     pub fn field(&self, slot: Slot, field: usize) -> FieldValue
         requires { IsTrue (is_some (field_at self.now slot field)) }
         ensures { field_at self.now slot field ≡ Some result }
@@ -147,9 +189,39 @@ impl Store {
         field_of(&self.cells, slot, field).unwrap()
     }
 
-    /// Sets a field, and answers what it held.
+    /// Sets a field or an element, and answers what it held. Into an element goes no integer.
     pub fn set_field(&mut self, slot: Slot, field: usize, value: FieldValue) -> FieldValue
         requires field { IsTrue (is_some (field_at self.old slot field)) }
+        requires within { (s : ℕ) → value ≡ FieldValue.Ref (Some s) → s < length self.old }
+        requires fits { some_and is_record (at self.old slot) ≡ false → IsTrue (is_ref value) }
+        ensures old { field_at self.old slot field ≡ Some result }
+        ensures new { self.new ≡ change_at self.old slot (with_field field value) }
+    {
+        if self.is_record(slot) {
+            return self.set_typed(slot, field, value);
+        }
+        match value {
+            FieldValue::Ref(target) => FieldValue::Ref(self.set_element(slot, field, target)),
+            FieldValue::Int(_) => unreachable!(),
+        }
+    }
+
+    /// Sets an element, and answers what it referred to.
+    fn set_element(&mut self, slot: Slot, place: usize, target: Option<Slot>) -> Option<Slot>
+        requires field { IsTrue (is_some (field_at self.old slot place)) }
+        requires array { some_and is_record (at self.old slot) ≡ false }
+        requires within { (s : ℕ) → target ≡ Some s → s < length self.old }
+        ensures old { field_at self.old slot place ≡ Some (FieldValue.Ref result) }
+        ensures new { self.new ≡ change_at self.old slot (with_field place (FieldValue.Ref target)) }
+    {
+        let cell = &mut self.cells[slot.number() as usize];
+        cell.set_element(place, target)
+    }
+
+    /// Sets a field of an object with fields, and answers what it held.
+    fn set_typed(&mut self, slot: Slot, field: usize, value: FieldValue) -> FieldValue
+        requires field { IsTrue (is_some (field_at self.old slot field)) }
+        requires record { some_and is_record (at self.old slot) ≡ true }
         requires within { (s : ℕ) → value ≡ FieldValue.Ref (Some s) → s < length self.old }
         ensures old { field_at self.old slot field ≡ Some result }
         ensures new { self.new ≡ change_at self.old slot (with_field field value) }
@@ -332,19 +404,23 @@ impl Store {
     }
 
     /// Visits the object at a slot: one tick. Gives its strong edges, but those of a queue to its members: it lends the links of a
-    /// plain object, whose cell it does not read, and tells the queue that a reference may still be added to, or a guard's cleanable.
+    /// plain object with fields, whose cell it does not read, or the elements of an array, and tells the queue that a reference may still be
+    /// added to, or a guard's cleanable.
     pub fn visit(&self, slot: Slot, meter: &mut Meter) -> Visited<'_>
         requires object { IsTrue (is_some (at self.now slot)) }
         requires ticks { meter.old + 1 < 2 ^ 64 }
         ensures edges { edges_from Strong self.now slot ≡ edges_told result (members_in (at self.now slot)) }
-        ensures plain { found_plain result ≡ some_and is_plain (at self.now slot) }
+        ensures plain { found_plain result ≡ some_and is_record (at self.now slot) }
         ensures ticked { meter.new ≡ meter.old + 1 }
     {
         meter.tick();
         let place = slot.number() as usize;
-        if self.is_plain(slot) {
+        if self.is_record(slot) {
             let (near, far) = self.links.of(slot);
             return Visited::Plain { near, far };
+        }
+        if self.is_array(slot) {
+            return Visited::Array(self.cells[place].elements());
         }
         Visited::Other {
             next: self.cells[place].next(),

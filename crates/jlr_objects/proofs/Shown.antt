@@ -1,8 +1,9 @@
 -- One object, as callers see it and as it lies.
-use Rattle.std.proofs.Common.{◌≡◌, ℕ, zero, suc, ◌<◌, Bool, true, false, cond, List, [], Option, Some, None, length, map, replicate, set, refl, sym, ap, ◌∙◌, inl, inr, arith, subst, length-set, get_or-set_same, get_or-set_other}
+use Rattle.std.proofs.Common.{◌≡◌, ℕ, zero, suc, ◌<◌, Bool, true, false, cond, List, [], ◌∷◌, Option, Some, None, length, map, replicate, set, refl, sym, ap, ◌∙◌, inl, inr, arith, subst, length-set, get_or-set_same, get_or-set_other}
 use Rattle.std.specs.Prelude.{is_some, option_map}
 use Rattle.std.proofs.lemmas.Bool.{cases_Bool, cases_eq, cases_lt, both_ways, false≢true}
 use Rattle.std.proofs.lemmas.List.{get_or_past, length-map, length-replicate}
+use Rattle.jlr_machine.specs.declared.object.Contents.TheVariants.{Typed, Elements}
 use Rattle.jlr_machine.specs.declared.object.Object.{Object}
 use Rattle.jlr_machine.specs.declared.object.Object.TheVariants.{Plain, Reference, Queue, Cleaner, Cleanable, Guard}
 use Rattle.jlr_machine.specs.declared.object.Reference.{Reference as ReferenceOf}
@@ -12,53 +13,108 @@ use Rattle.jlr_machine.specs.Refusals.{is_cleanable}
 use Rattle.jlr_machine.specs.Objects.{◌∈◌, Heap, at, change_at, occupied, some_and, with_cleanable, with_field, with_members, with_reference}
 use Rattle.jlr_sets.specs.SlotSets.{is_in, slots_of}
 use Rattle.jlr_laws.proofs.Sets.{nothing}
-use Rattle.jlr_cells.specs.Contents.{members_in, object_of}
+use Rattle.jlr_cells.specs.Contents.{is_array, members_in, object_of}
 use Rattle.jlr_cells.specs.declared.shape.Shape.{Shape}
 use Rattle.jlr_cells.specs.declared.shape.Shape.TheVariants as shape
 use Rattle.jlr_sets.proofs.Counts.{in_none}
 use Rattle.jlr_cells.specs.Showing.{shown}
-use Rattle.jlr_objects.specs.Holding.{AreShown}
+use Rattle.jlr_objects.specs.Holding.{AreShown, Holding}
 use Rattle.jlr_cells.proofs.Showing.{at-shown, changed_some, length-shown, occupied-shown, shown_changed, used_at}
 
--- a change that gives no members
-abbrev pub GivesNone : (Object → Object) → Type 0
-GivesNone f = (o : Object) → members_in (Some o) ≡ [] → members_in (Some (f o)) ≡ []
+-- a change that gives no members, and makes no arrays
+pub record GivesNone (f : Object → Object) : Type 0 where
+  pub none : (o : Object) → members_in (Some o) ≡ [] → members_in (Some (f o)) ≡ []
+  pub arrays : (o : Object) → is_array (f o) ≡ is_array o
+
+reference_gives_none_members : (f : ReferenceOf → ReferenceOf) (o : Object) → members_in (Some o) ≡ [] → members_in (Some (with_reference f o)) ≡ []
+reference_gives_none_members f (Plain fields) h = refl
+reference_gives_none_members f (Reference r) h = refl
+reference_gives_none_members f (Queue l) h = h
+reference_gives_none_members f Cleaner h = refl
+reference_gives_none_members f (Cleanable c) h = refl
+reference_gives_none_members f (Guard g) h = refl
+
+reference_gives_none_arrays : (f : ReferenceOf → ReferenceOf) (o : Object) → is_array (with_reference f o) ≡ is_array o
+reference_gives_none_arrays f (Plain fields) = refl
+reference_gives_none_arrays f (Reference r) = refl
+reference_gives_none_arrays f (Queue l) = refl
+reference_gives_none_arrays f Cleaner = refl
+reference_gives_none_arrays f (Cleanable c) = refl
+reference_gives_none_arrays f (Guard g) = refl
 
 pub reference_gives_none : (f : ReferenceOf → ReferenceOf) → GivesNone (with_reference f)
-reference_gives_none f (Plain fields) h = refl
-reference_gives_none f (Reference r) h = refl
-reference_gives_none f (Queue l) h = h
-reference_gives_none f Cleaner h = refl
-reference_gives_none f (Cleanable c) h = refl
-reference_gives_none f (Guard g) h = refl
+reference_gives_none f = record { none = reference_gives_none_members f; arrays = reference_gives_none_arrays f }
+
+cleanable_gives_none_members : (f : CleanableOf → CleanableOf) (o : Object) → members_in (Some o) ≡ [] → members_in (Some (with_cleanable f o)) ≡ []
+cleanable_gives_none_members f (Plain fields) h = refl
+cleanable_gives_none_members f (Reference r) h = refl
+cleanable_gives_none_members f (Queue l) h = h
+cleanable_gives_none_members f Cleaner h = refl
+cleanable_gives_none_members f (Cleanable c) h = refl
+cleanable_gives_none_members f (Guard g) h = refl
+
+cleanable_gives_none_arrays : (f : CleanableOf → CleanableOf) (o : Object) → is_array (with_cleanable f o) ≡ is_array o
+cleanable_gives_none_arrays f (Plain fields) = refl
+cleanable_gives_none_arrays f (Reference r) = refl
+cleanable_gives_none_arrays f (Queue l) = refl
+cleanable_gives_none_arrays f Cleaner = refl
+cleanable_gives_none_arrays f (Cleanable c) = refl
+cleanable_gives_none_arrays f (Guard g) = refl
 
 pub cleanable_gives_none : (f : CleanableOf → CleanableOf) → GivesNone (with_cleanable f)
-cleanable_gives_none f (Plain fields) h = refl
-cleanable_gives_none f (Reference r) h = refl
-cleanable_gives_none f (Queue l) h = h
-cleanable_gives_none f Cleaner h = refl
-cleanable_gives_none f (Cleanable c) h = refl
-cleanable_gives_none f (Guard g) h = refl
+cleanable_gives_none f = record { none = cleanable_gives_none_members f; arrays = cleanable_gives_none_arrays f }
+
+field_gives_none_members : (i : ℕ) (v : FieldValue) (o : Object) → members_in (Some o) ≡ [] → members_in (Some (with_field i v o)) ≡ []
+field_gives_none_members i v (Plain fields) h = refl
+field_gives_none_members i v (Reference r) h = refl
+field_gives_none_members i v (Queue l) h = h
+field_gives_none_members i v Cleaner h = refl
+field_gives_none_members i v (Cleanable c) h = refl
+field_gives_none_members i v (Guard g) h = refl
+
+field_gives_none_arrays : (i : ℕ) (v : FieldValue) (o : Object) → is_array (with_field i v o) ≡ is_array o
+field_gives_none_arrays i v (Plain (Typed fields)) = refl
+field_gives_none_arrays i v (Plain (Elements elements)) = refl
+field_gives_none_arrays i v (Reference r) = refl
+field_gives_none_arrays i v (Queue l) = refl
+field_gives_none_arrays i v Cleaner = refl
+field_gives_none_arrays i v (Cleanable c) = refl
+field_gives_none_arrays i v (Guard g) = refl
 
 pub field_gives_none : (i : ℕ) (v : FieldValue) → GivesNone (with_field i v)
-field_gives_none i v (Plain fields) h = refl
-field_gives_none i v (Reference r) h = refl
-field_gives_none i v (Queue l) h = h
-field_gives_none i v Cleaner h = refl
-field_gives_none i v (Cleanable c) h = refl
-field_gives_none i v (Guard g) h = refl
+field_gives_none i v = record { none = field_gives_none_members i v; arrays = field_gives_none_arrays i v }
+
+members_give : (f : List ℕ → List ℕ) → f [] ≡ [] → (o : Object) → members_in (Some o) ≡ [] → members_in (Some (with_members f o)) ≡ []
+members_give f e (Plain fields) h = refl
+members_give f e (Reference r) h = refl
+members_give f e (Queue l) h = ap f h ∙ e
+members_give f e Cleaner h = refl
+members_give f e (Cleanable c) h = refl
+members_give f e (Guard g) h = refl
+
+pub members_arrays : (f : List ℕ → List ℕ) (o : Object) → is_array (with_members f o) ≡ is_array o
+members_arrays f (Plain fields) = refl
+members_arrays f (Reference r) = refl
+members_arrays f (Queue l) = refl
+members_arrays f Cleaner = refl
+members_arrays f (Cleanable c) = refl
+members_arrays f (Guard g) = refl
 
 pub members_give_none : (f : List ℕ → List ℕ) → f [] ≡ [] → GivesNone (with_members f)
-members_give_none f e (Plain fields) h = refl
-members_give_none f e (Reference r) h = refl
-members_give_none f e (Queue l) h = ap f h ∙ e
-members_give_none f e Cleaner h = refl
-members_give_none f e (Cleanable c) h = refl
-members_give_none f e (Guard g) h = refl
+members_give_none f e = record { none = members_give f e; arrays = members_arrays f }
 
 pub given_none : (f : Object → Object) (o : Option Object) → GivesNone f → members_in o ≡ [] → members_in (option_map f o) ≡ []
 given_none f None g h = refl
-given_none f (Some o) g h = g o h
+given_none f (Some o) g h = g.none o h
+
+-- whether an array lies somewhere does not change where an object does
+pub same_arrays : (heap : Heap) (s k : ℕ) (f : Object → Object) → ((o : Object) → is_array (f o) ≡ is_array o) → some_and is_array (at (change_at heap s f) k) ≡ some_and is_array (at heap k)
+same_arrays [] s k f same = refl
+same_arrays (None ∷ heap) zero zero f same = refl
+same_arrays (Some o ∷ heap) zero zero f same = same o
+same_arrays (o ∷ heap) zero (suc k) f same = refl
+same_arrays (o ∷ heap) (suc s) zero f same = refl
+same_arrays (o ∷ heap) (suc s) (suc k) f same = same_arrays heap s k f same
 
 no_members_left : (o : Option Object) → members_in (option_map (with_members (λ _. [])) o) ≡ []
 no_members_left None = refl
@@ -101,7 +157,7 @@ one_of : (b : Bool) (o : Option Object) → some_and is_cleanable o ≡ false �
 one_of true o none = none
 one_of false o none = refl
 
-module _ (store : Heap) (occ listed : List Bool) (are : AreShown store occ listed) (v : Heap) (view : shown occ store ≡ v) where
+module _ (store : Heap) (occ used listed : List Bool) (are : AreShown store occ used listed) (v : Heap) (view : shown occ store ≡ v) where
   pub seen : (s : ℕ) → at v s ≡ cond (is_in occ s) (at store s) None
   seen s = ap (λ (h : Heap). at h s) (sym view) ∙ at-shown occ store s
 
@@ -154,9 +210,11 @@ module _ (store : Heap) (occ listed : List Bool) (are : AreShown store occ liste
     | inr past ↦ ap members_in (get_or_past (change_at store s f) s None (omega (arith, past, length-set store s (option_map f (at store s)))))
   ]
 
-  pub changed_are : (s : ℕ) (f : Object → Object) (store' : Heap) → GivesNone f → store' ≡ change_at store s f → AreShown store' occ listed
+  pub changed_are : (s : ℕ) (f : Object → Object) (store' : Heap) → GivesNone f → store' ≡ change_at store s f → AreShown store' occ used listed
   changed_are s f store' gives e = record {
     places = are.places ∙ sym (changed_length s f store' e);
+    uses = are.uses ∙ sym (changed_length s f store' e);
+    free = λ k off. ap (λ (l : Heap). some_and is_array (at l k)) e ∙ same_arrays store s k f gives.arrays ∙ are.free k off;
     lists = are.lists ∙ sym (changed_length s f store' e);
     objects = λ k h. ap (λ (l : Heap). is_some (at l k)) e ∙ changed_some store s k f ∙ are.objects k h;
     queues = are.queues;
@@ -183,10 +241,12 @@ module _ (store : Heap) (occ listed : List Bool) (are : AreShown store occ liste
   ]
 
   -- a queue that callers see is given a member
-  pub pushed_are : (s : ℕ) (f : Object → Object) (store' : Heap) (listed' : List Bool) → is_some (at v s) ≡ true → store' ≡ change_at store s f → listed' ≡ set listed s true → AreShown store' occ listed'
-  pushed_are s f store' listed' h e e' =
-      subst (λ l. AreShown store' occ l) (sym e') (record {
+  pub pushed_are : (s : ℕ) (f : Object → Object) (store' : Heap) (listed' : List Bool) → is_some (at v s) ≡ true → ((o : Object) → is_array (f o) ≡ is_array o) → store' ≡ change_at store s f → listed' ≡ set listed s true → AreShown store' occ used listed'
+  pushed_are s f store' listed' h arrays e e' =
+      subst (λ l. AreShown store' occ used l) (sym e') (record {
         places = are.places ∙ sym (changed_length s f store' e);
+        uses = are.uses ∙ sym (changed_length s f store' e);
+        free = λ k off. ap (λ (l : Heap). some_and is_array (at l k)) e ∙ same_arrays store s k f arrays ∙ are.free k off;
         lists = length-set listed s true ∙ are.lists ∙ sym (changed_length s f store' e);
         objects = λ k on. ap (λ (l : Heap). is_some (at l k)) e ∙ changed_some store s k f ∙ are.objects k on;
         queues = λ k on. elim (cases_eq k s) [
@@ -202,11 +262,14 @@ module _ (store : Heap) (occ listed : List Bool) (are : AreShown store occ liste
   -- fewer objects are kept, and the queues elsewhere lose their members
   pub kept_are : (kept : List Bool) (store' : Heap) (listed' : List Bool) → length kept ≡ length v → ((s : ℕ) → is_in kept s ≡ true → is_some (at v s) ≡ true)
       → map is_some store' ≡ map is_some store → length listed' ≡ length listed → ((s : ℕ) → is_in listed' s ≡ true → is_in kept s ≡ true)
-      → ((s : ℕ) → is_in listed' s ≡ false → members_in (at store' s) ≡ []) → AreShown store' kept listed'
-  kept_are kept store' listed' fits within same same_lists queues members =
+      → ((s : ℕ) → some_and is_array (at store' s) ≡ some_and is_array (at store s))
+      → ((s : ℕ) → is_in listed' s ≡ false → members_in (at store' s) ≡ []) → AreShown store' kept used listed'
+  kept_are kept store' listed' fits within same same_lists queues arrays members =
       let same_long : length store' ≡ length store = omega (arith, ap length same, length-map store' is_some, length-map store is_some) in
       record {
         places = fits ∙ long ∙ sym same_long;
+        uses = are.uses ∙ sym same_long;
+        free = λ s off. arrays s ∙ are.free s off;
         lists = same_lists ∙ are.lists ∙ sym same_long;
         objects = λ s h. sym (used_at store' s) ∙ ap (λ l. is_in l s) same ∙ used_at store s ∙ are.objects s (in_set s (within s h));
         queues = queues;
@@ -214,7 +277,7 @@ module _ (store : Heap) (occ listed : List Bool) (are : AreShown store occ liste
       }
 
 -- a new object, in a cell that is not occupied
-module _ (store : Heap) (occ listed : List Bool) (are : AreShown store occ listed) (s : ℕ) (within : s < length store) (off : is_in occ s ≡ false) where
+module _ (store : Heap) (occ used listed : List Bool) (are : AreShown store occ used listed) (s : ℕ) (within : s < length store) (off : is_in occ s ≡ false) where
   not_listed : is_in listed s ≡ false
   not_listed = elim (cases_Bool (is_in listed s)) [ inr without ↦ without | inl with' ↦ absurd (both_ways (is_in occ s) off (are.queues s with')) ]
 
@@ -222,22 +285,44 @@ module _ (store : Heap) (occ listed : List Bool) (are : AreShown store occ liste
   pub none_lay : members_in (at store s) ≡ []
   none_lay = are.members s not_listed
 
-  pub put_are : (made : Shape) → AreShown (set store s (Some (object_of made))) (set occ s true) listed
-  put_are made = record {
-    places = length-set occ s true ∙ are.places ∙ sym (length-set store s (Some (object_of made)));
-    lists = are.lists ∙ sym (length-set store s (Some (object_of made)));
+  pub put_are : (made : Object) → members_in (Some made) ≡ [] → AreShown (set store s (Some made)) (set occ s true) (set used s true) listed
+  put_are made bare = record {
+    uses = length-set used s true ∙ are.uses ∙ sym (length-set store s (Some made));
+    free = λ k off. elim (cases_eq k s) [
+      | inl same ↦ absurd (both_ways (is_in (set used s true) k) off (ap (is_in (set used s true)) same ∙ get_or-set_same used s true false (omega (arith, within, are.uses))))
+      | inr d ↦ ap (some_and is_array) (get_or-set_other store s k (Some made) None d) ∙ are.free k (sym (get_or-set_other used s k true false d) ∙ off)
+    ];
+    places = length-set occ s true ∙ are.places ∙ sym (length-set store s (Some made));
+    lists = are.lists ∙ sym (length-set store s (Some made));
     objects = λ k h. elim (cases_eq k s) [
-      | inl same ↦ ap (λ n. is_some (at (set store s (Some (object_of made))) n)) same ∙ ap is_some (get_or-set_same store s (Some (object_of made)) None within)
-      | inr d ↦ ap is_some (get_or-set_other store s k (Some (object_of made)) None d) ∙ are.objects k (sym (get_or-set_other occ s k true false d) ∙ h)
+      | inl same ↦ ap (λ n. is_some (at (set store s (Some made)) n)) same ∙ ap is_some (get_or-set_same store s (Some made) None within)
+      | inr d ↦ ap is_some (get_or-set_other store s k (Some made) None d) ∙ are.objects k (sym (get_or-set_other occ s k true false d) ∙ h)
     ];
     queues = λ k on. elim (cases_eq k s) [
       | inl same ↦ ap (is_in (set occ s true)) same ∙ get_or-set_same occ s true false (omega (arith, within, are.places))
       | inr d ↦ get_or-set_other occ s k true false d ∙ are.queues k on
     ];
     members = λ k clear. elim (cases_eq k s) [
-      | inl same ↦ ap (λ n. members_in (at (set store s (Some (object_of made))) n)) same ∙ ap members_in (get_or-set_same store s (Some (object_of made)) None within) ∙ new_none made
-      | inr d ↦ ap members_in (get_or-set_other store s k (Some (object_of made)) None d) ∙ are.members k clear
+      | inl same ↦ ap (λ n. members_in (at (set store s (Some made)) n)) same ∙ ap members_in (get_or-set_same store s (Some made) None within) ∙ bare
+      | inr d ↦ ap members_in (get_or-set_other store s k (Some made) None d) ∙ are.members k clear
     ];
+  }
+
+-- condemned cells become free, and no array lies in them any more
+module _ (store : Heap) (occ used listed : List Bool) (are : AreShown store occ used listed) where
+  pub swept_are : (store' : Heap) (used' : List Bool) → length used' ≡ length used → length store' ≡ length store
+      → ((s : ℕ) → is_in occ s ≡ true → at store' s ≡ at store s)
+      → ((s : ℕ) → members_in (at store' s) ≡ members_in (at store s))
+      → ((s : ℕ) → is_in used' s ≡ false → some_and is_array (at store' s) ≡ false)
+      → AreShown store' occ used' listed
+  swept_are store' used' same_used same_long kept members free = record {
+    places = are.places ∙ sym same_long;
+    uses = same_used ∙ are.uses ∙ sym same_long;
+    lists = are.lists ∙ sym same_long;
+    objects = λ s on. ap is_some (kept s on) ∙ are.objects s on;
+    queues = are.queues;
+    members = λ s off. members s ∙ are.members s off;
+    free = free;
   }
 
 no_members : (n s : ℕ) → members_in (at (replicate n None) s) ≡ []
@@ -245,13 +330,24 @@ no_members zero s = refl
 no_members (suc n) zero = refl
 no_members (suc n) (suc s) = no_members n s
 
+no_array : (n s : ℕ) → some_and is_array (at (replicate n None) s) ≡ false
+no_array zero s = refl
+no_array (suc n) zero = refl
+no_array (suc n) (suc s) = no_array n s
+
 -- new cells
-pub new_are : (n : ℕ) (store : Heap) (occ listed : List Bool) → store ≡ replicate n None → occ ≡ replicate n false → listed ≡ replicate n false → AreShown store occ listed
-new_are n store occ listed e e' f =
-    rw (e, e', f) (record {
+pub new_are : (n : ℕ) (store : Heap) (occ used listed : List Bool) → store ≡ replicate n None → occ ≡ replicate n false → used ≡ replicate n false → listed ≡ replicate n false → AreShown store occ used listed
+new_are n store occ used listed e e' u f =
+    rw (e, e', u, f) (record {
+      uses = length-replicate {A = Bool} n false ∙ sym (length-replicate {A = Option Object} n None);
+      free = λ s h. no_array n s;
       places = length-replicate {A = Bool} n false ∙ sym (length-replicate {A = Option Object} n None);
       lists = length-replicate {A = Bool} n false ∙ sym (length-replicate {A = Option Object} n None);
       objects = λ s h. absurd (both_ways (is_in (replicate n false) s) (in_none n s) h);
       queues = λ s h. h;
       members = λ s h. no_members n s;
     })
+
+-- what is seen is the same where its parts are
+pub same_holding : (a b : Holding) → a.objects ≡ b.objects → a.condemned ≡ b.condemned → a ≡ b
+same_holding a b e n = ap (λ (o : Heap). record { objects = o; condemned = a.condemned }) e ∙ ap (λ (k : ℕ). record { objects = b.objects; condemned = k }) n

@@ -1,8 +1,8 @@
 //! The queues that have members.
 ghost use Rattle.std.specs.Prelude.{◌≡◌, ℕ, [], false, is_some, length, map, true};
-ghost use Rattle.jlr_machine.specs.Objects.{at};
+ghost use Rattle.jlr_machine.specs.Objects.{at, some_and};
 ghost use Rattle.jlr_sets.specs.SlotSets.{is_in};
-ghost use Rattle.jlr_cells.specs.Contents.{members_in};
+ghost use Rattle.jlr_cells.specs.Contents.{is_array, members_in};
 ghost use Rattle.jlr_cells.specs.Showing.{shown};
 
 use jlr_cells::Store;
@@ -16,6 +16,7 @@ pub(crate) fn clear_lists(store: &mut Store, listed: &mut CellSet, kept: &CellSe
     ensures used { map is_some store.new ≡ map is_some store.old }
     ensures places { length listed.new ≡ length listed.old }
     ensures queues { (s : ℕ) → is_in listed.new s ≡ true → is_in kept.now s ≡ true }
+    ensures arrays { (s : ℕ) → some_and is_array (at store.new s) ≡ some_and is_array (at store.old s) }
     ensures members { (s : ℕ) → is_in listed.new s ≡ false → members_in (at store.new s) ≡ [] }
 {
     let mut from = 0;

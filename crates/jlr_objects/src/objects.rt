@@ -1,20 +1,23 @@
 //! The objects of the heap, in cells.
-ghost use Rattle.std.specs.Prelude.{◌≡◌, ℕ, ◌+◌, ◌-◌, ◌==◌, cond, ◌++◌, ◌∷◌, [], ◌^◌, ◌<◌, ◌↔◌, IfOk, IfNone, IfSome, IsNone, IsTrue, MatchOption, None, false, ◌≤◌, List, Some, drop, is_some, length, option_and_then, option_map, replicate, slice_get, true};
-ghost use Rattle.jlr_machine.specs.Objects.{◌∈◌, as_cleanable, as_fields, as_guard, as_reference, at, change_at, empty_at, is_cleaner, occupied, set_at, some_and};
+ghost use Rattle.std.specs.Prelude.{◌≡◌, ℕ, ◌+◌, ◌-◌, ◌==◌, cond, ◌++◌, ◌∷◌, [], ◌^◌, ◌<◌, ◌↔◌, IfErr, IfOk, IfNone, IfSome, IsErr, IsNone, IsTrue, MatchOption, None, false, ◌≤◌, List, Some, drop, is_some, length, option_and_then, option_map, replicate, slice_get, true};
+ghost use Rattle.jlr_machine.specs.Objects.{◌∈◌, as_cleanable, as_guard, as_reference, at, change_at, empty_at, is_cleaner, occupied, set_at, some_and};
 ghost use Rattle.jlr_machine.specs.Edges.{edges_from};
 ghost use Rattle.jlr_machine.specs.Edges.Chain.{Strong};
 ghost use Rattle.jlr_machine.specs.Objects.{with_cleanable, with_field, with_members, with_reference};
-ghost use Rattle.jlr_machine.specs.Refusals.{is_cleanable, is_guard, is_plain, is_queue, is_reference};
+ghost use Rattle.jlr_machine.specs.Refusals.{is_cleanable, is_guard, is_plain, is_queue, is_record, is_reference};
 ghost use Rattle.jlr_machine.specs.Calls.{spent, unreferred};
-ghost use Rattle.jlr_cells.specs.Contents.{field_at, in_clean_state, in_state, kind_of, member_in, members_in, object_of, referent_in, unregistered, watching, without_referent};
+ghost use Rattle.jlr_cells.specs.Contents.{field_at, is_ref, in_clean_state, in_state, kind_of, member_in, members_in, object_of, referent_in, unregistered, watching, without_referent};
+ghost use Rattle.jlr_machine.specs.declared.object.Object.TheVariants.{Plain};
+ghost use Rattle.jlr_machine.specs.declared.object.Contents.TheVariants.{Elements as ElementsOf};
 ghost use Rattle.jlr_cells.specs.Links.{no_links};
 ghost use Rattle.jlr_cells.specs.Visits.{edges_told, found_plain};
 ghost use Rattle.jlr_sets.specs.SlotSets.{is_in};
 ghost use Rattle.jlr_cells.specs.Showing.{shown};
 ghost use Rattle.jlr_objects.specs.Holding.{all_free, in_use};
 
+use crate::arrays::{free_array, free_arrays};
 use crate::lists::clear_lists;
-use jlr_cells::{Kind, Shape, Store, Visited};
+use jlr_cells::{Elements, Kind, Shape, Store, Visited};
 use jlr_machine::object::{CleanState, Cleanable, Guard, Object, RefState, Reference};
 use jlr_machine::table::Table;
 use jlr_occupancy::Occupancy;
@@ -41,7 +44,7 @@ impl Model for Objects {
 
     ghost view = { λ a. record { objects = shown a.occupancy.places a.store; condemned = a.occupancy.condemned } };
 
-    ghost invariant = { λ a. AreShown a.store a.occupancy.places a.listed };
+    ghost invariant = { λ a. AreShown a.store a.occupancy.places a.occupancy.used a.listed };
 }
 
 impl Objects {
@@ -88,9 +91,45 @@ impl Objects {
         ensures taken { IfSome result (λ slot. self.new.objects ≡ set_at self.old.objects slot (object_of shape)) }
         ensures condemned { IfSome result (λ _. self.new.condemned ≡ cond (in_use self.old == length self.old.objects) 0 self.old.condemned) }
     {
-        let slot = self.occupancy.take()?;
+        if !self.make_free() {
+            return None;
+        }
+        let slot = self.occupancy.take();
         self.store.put(slot, shape);
         Some(slot)
+    }
+
+    /// A new array of these elements in a free cell. Where no cell is free, all that are condemned are swept first.
+    ///
+    /// # Errors
+    /// The elements, where no cell is left then. Nothing has changed.
+    pub fn take_array(&mut self, elements: Elements) -> Result<Slot, Elements>
+        ensures full { IsErr result ↔ (occupied self.old.objects ≡ length self.old.objects) }
+        ensures back { IfErr result (λ e. (e ≡ elements) × (self.new ≡ self.old)) }
+        ensures free { IfOk result (λ slot. (slot < length self.old.objects) × (at self.old.objects slot ≡ None)) }
+        ensures taken { IfOk result (λ slot. self.new.objects ≡ set_at self.old.objects slot (Plain (ElementsOf elements))) }
+        ensures condemned { IfOk result (λ _. self.new.condemned ≡ cond (in_use self.old == length self.old.objects) 0 self.old.condemned) }
+    {
+        if !self.make_free() {
+            return Err(elements);
+        }
+        let slot = self.occupancy.take();
+        self.store.put_array(slot, elements);
+        Ok(slot)
+    }
+
+    /// Where no cell is free, all that are condemned are swept. Answers whether a cell is free then.
+    fn make_free(&mut self) -> bool
+        ensures objects { self.new.objects ≡ self.old.objects }
+        ensures condemned { self.new.condemned ≡ cond (in_use self.old == length self.old.objects) 0 self.old.condemned }
+        ensures room { result ≡ true → in_use self.new < length self.new.objects }
+        ensures full { result ≡ false → (occupied self.old.objects ≡ length self.old.objects) × (self.new ≡ self.old) }
+    {
+        if self.free_count() > 0 {
+            return true;
+        }
+        self.sweep_all();
+        self.free_count() > 0
     }
 
     /// The objects at the slots of a set stay; all others are no more, and their cells are condemned. No cell is written, but that queues among
@@ -110,7 +149,13 @@ impl Objects {
         ensures objects { self.new.objects ≡ self.old.objects }
         ensures condemned { self.new.condemned ≡ self.old.condemned - budget }
     {
-        self.occupancy.sweep(budget);
+        if self.occupancy.condemned_count() <= budget {
+            self.sweep_all();
+            return;
+        }
+        for _cell in 0..budget {
+            self.sweep_one();
+        }
     }
 
     /// All condemned cells become free.
@@ -118,7 +163,18 @@ impl Objects {
         ensures objects { self.new.objects ≡ self.old.objects }
         ensures condemned { self.new.condemned ≡ 0 }
     {
+        free_arrays(&mut self.store, self.occupancy.occupied());
         self.occupancy.sweep_all();
+    }
+
+    /// A condemned cell becomes free.
+    fn sweep_one(&mut self)
+        requires { 0 < self.old.condemned }
+        ensures objects { self.new.objects ≡ self.old.objects }
+        ensures condemned { self.new.condemned + 1 ≡ self.old.condemned }
+    {
+        let slot = self.occupancy.sweep_one();
+        free_array(&mut self.store, slot);
     }
 
     /// Whether there is an object at a slot.
@@ -149,9 +205,16 @@ impl Objects {
         self.store.next_cleanable(from)
     }
 
-    /// Whether there is a plain object at a slot.
+    /// Whether there is a plain object at a slot: one with fields, or an array.
     pub fn is_plain(&self, slot: Slot) -> bool
         ensures { result ≡ some_and is_plain (at self.now.objects slot) }
+    {
+        matches!(self.kind(slot), Some(Kind::Plain | Kind::Array))
+    }
+
+    /// Whether there is a plain object with fields at a slot.
+    pub fn is_record(&self, slot: Slot) -> bool
+        ensures { result ≡ some_and is_record (at self.now.objects slot) }
     {
         matches!(self.kind(slot), Some(Kind::Plain))
     }
@@ -191,17 +254,7 @@ impl Objects {
         matches!(self.kind(slot), Some(Kind::Guard))
     }
 
-    /// How many fields the object at a slot has, if it is a plain one.
-    pub fn field_count(&self, slot: Slot) -> Option<usize>
-        ensures { result ≡ option_map length (option_and_then as_fields (at self.now.objects slot)) }
-    {
-        if !self.is_occupied(slot) {
-            return None;
-        }
-        self.store.field_count(slot)
-    }
-
-    /// Whether there is a plain object at a slot that has this field.
+    /// Whether there is a plain object at a slot that has this field or element.
     pub fn has_field(&self, slot: Slot, field: usize) -> bool
         ensures { result ≡ is_some (field_at self.now.objects slot field) }
     {
@@ -211,7 +264,7 @@ impl Objects {
         self.store.has_field(slot, field)
     }
 
-    /// What a field holds.
+    /// What a field or an element holds.
     pub fn field(&self, slot: Slot, field: usize) -> FieldValue
         requires { IsTrue (is_some (field_at self.now.objects slot field)) }
         ensures { field_at self.now.objects slot field ≡ Some result }
@@ -219,10 +272,11 @@ impl Objects {
         self.store.field(slot, field)
     }
 
-    /// Sets a field, and answers what it held.
+    /// Sets a field or an element, and answers what it held. Into an element goes no integer.
     pub fn set_field(&mut self, slot: Slot, field: usize, value: FieldValue) -> FieldValue
         requires field { IsTrue (is_some (field_at self.old.objects slot field)) }
         requires within { (s : ℕ) → value ≡ FieldValue.Ref (Some s) → s < length self.old.objects }
+        requires fits { some_and is_record (at self.old.objects slot) ≡ false → IsTrue (is_ref value) }
         ensures old { field_at self.old.objects slot field ≡ Some result }
         ensures objects { self.new.objects ≡ change_at self.old.objects slot (with_field field value) }
         ensures condemned { self.new.condemned ≡ self.old.condemned }
@@ -394,12 +448,13 @@ impl Objects {
     }
 
     /// Visits the object at a slot: one tick. Gives its strong edges, but those of a queue to its members: it lends the links of a
-    /// plain object, whose cell it does not read, and tells the queue that a reference may still be added to, or a guard's cleanable.
+    /// plain object with fields, whose cell it does not read, or the elements of an array, and tells the queue that a reference may still be
+    /// added to, or a guard's cleanable.
     pub fn visit(&self, slot: Slot, meter: &mut Meter) -> Visited<'_>
         requires object { IsTrue (is_some (at self.now.objects slot)) }
         requires ticks { meter.old + 1 < 2 ^ 64 }
         ensures edges { edges_from Strong self.now.objects slot ≡ edges_told result (members_in (at self.now.objects slot)) }
-        ensures plain { found_plain result ≡ some_and is_plain (at self.now.objects slot) }
+        ensures plain { found_plain result ≡ some_and is_record (at self.now.objects slot) }
         ensures ticked { meter.new ≡ meter.old + 1 }
     {
         self.store.visit(slot, meter)

@@ -7,7 +7,7 @@ use Rattle.jlr_sets.proofs.Counts.{count_none, count_within, in_none, not_all, o
 use Rattle.jlr_sets.proofs.Below.{within_places}
 use Rattle.jlr_occupancy.specs.Occupying.{AreUsed, Occupied}
 
-pub none_used : (n : ℕ) (used occupied : List Bool) → n < 2 ^ 32 → used ≡ replicate n false → occupied ≡ replicate n false → AreUsed used (record { places = occupied; condemned = 0 }) n
+pub none_used : (n : ℕ) (used occupied : List Bool) → n < 2 ^ 32 → used ≡ replicate n false → occupied ≡ replicate n false → AreUsed (record { places = occupied; used = used; condemned = 0 }) n
 none_used n used occupied few e e' =
     rw (e, e') (record {
       places = refl;
@@ -17,7 +17,10 @@ none_used n used occupied few e e' =
       few = omega (arith, few, length-replicate {A = Bool} n false);
     })
 
-module _ (used : List Bool) (o : Occupied) (free : ℕ) (are : AreUsed used o free) where
+module _ (o : Occupied) (free : ℕ) (are : AreUsed o free) where
+  abbrev used : List Bool
+  used = o.used
+
   -- a free cell holds no object
   pub free_is_vacant : (s : ℕ) → is_in used s ≡ false → is_in o.places s ≡ false
   free_is_vacant s off = elim (cases_Bool (is_in o.places s)) [
@@ -26,7 +29,7 @@ module _ (used : List Bool) (o : Occupied) (free : ℕ) (are : AreUsed used o fr
   ]
 
   -- a free cell is taken
-  pub taken_one : (s : ℕ) → s < length used → is_in used s ≡ false → AreUsed (set used s true) (record { places = set o.places s true; condemned = o.condemned }) (free - 1)
+  pub taken_one : (s : ℕ) → s < length used → is_in used s ≡ false → AreUsed (record { places = set o.places s true; used = set used s true; condemned = o.condemned }) (free - 1)
   taken_one s within off =
       let here : s < length o.places = omega (arith, within, are.places) in
       let vacant = free_is_vacant s off in
@@ -46,7 +49,7 @@ module _ (used : List Bool) (o : Occupied) (free : ℕ) (are : AreUsed used o fr
 
   -- fewer cells hold an object
   pub kept_used : (kept : List Bool) → length kept ≡ length o.places → ((s : ℕ) → is_in kept s ≡ true → is_in o.places s ≡ true)
-      → AreUsed used (record { places = kept; condemned = length used - free - length (slots_of kept) }) free
+      → AreUsed (record { places = kept; used = used; condemned = length used - free - length (slots_of kept) }) free
   kept_used kept long within = record {
     places = are.places ∙ sym long;
     objects = λ s h. are.objects s (within s h);
@@ -56,7 +59,7 @@ module _ (used : List Bool) (o : Occupied) (free : ℕ) (are : AreUsed used o fr
   }
 
   -- all condemned cells become free
-  pub swept_all : AreUsed o.places (record { places = o.places; condemned = 0 }) (free + o.condemned)
+  pub swept_all : AreUsed (record { places = o.places; used = o.places; condemned = 0 }) (free + o.condemned)
   swept_all = record {
     places = refl;
     objects = λ s h. h;
@@ -66,7 +69,7 @@ module _ (used : List Bool) (o : Occupied) (free : ℕ) (are : AreUsed used o fr
   }
 
   -- a condemned cell becomes free
-  pub swept_one : (s : ℕ) → is_in used s ≡ true → is_in o.places s ≡ false → AreUsed (set used s false) (record { places = o.places; condemned = o.condemned - 1 }) (free + 1)
+  pub swept_one : (s : ℕ) → is_in used s ≡ true → is_in o.places s ≡ false → AreUsed (record { places = o.places; used = set used s false; condemned = o.condemned - 1 }) (free + 1)
   swept_one s on off =
       let within = within_places used s on in
       let less = one_less used s within on in

@@ -1,5 +1,5 @@
 //! The cells that hold an object, and those that are condemned.
-ghost use Rattle.std.specs.Prelude.{◌≡◌, ◌↔◌, ℕ, ◌+◌, ◌-◌, ◌<◌, ◌==◌, cond, false, true, length, IfNone, IfOk, IfSome, IsNone, slice_set};
+ghost use Rattle.std.specs.Prelude.{◌≡◌, ℕ, ◌+◌, ◌<◌, false, true, length, IfOk, slice_set};
 ghost use Rattle.jlr_sets.specs.SlotSets.{is_in, slots_of};
 ghost use Rattle.jlr_occupancy.specs.Occupying.{all_free, taken};
 
@@ -31,9 +31,9 @@ impl Model for Occupancy {
 
     ghost Value = { Occupied };
 
-    ghost view = { λ a. record { places = a.occupied; condemned = a.condemned } };
+    ghost view = { λ a. record { places = a.occupied; used = a.used; condemned = a.condemned } };
 
-    ghost invariant = { λ a. AreUsed a.used (record { places = a.occupied; condemned = a.condemned }) a.free };
+    ghost invariant = { λ a. AreUsed (record { places = a.occupied; used = a.used; condemned = a.condemned }) a.free };
 }
 
 impl Occupancy {
@@ -83,6 +83,13 @@ impl Occupancy {
         self.free
     }
 
+    /// How many cells are condemned.
+    pub fn condemned_count(&self) -> u32
+        ensures { result ≡ self.now.condemned }
+    {
+        self.condemned
+    }
+
     /// How many cells hold no object: they are free, or condemned.
     pub fn vacant_count(&self) -> u32
         ensures { result + taken self.now ≡ length self.now.places }
@@ -90,27 +97,21 @@ impl Occupancy {
         self.free + self.condemned
     }
 
-    /// A cell that held no object holds one from now on, if there is such a cell. It is a free one; where none is, all that are condemned are
-    /// swept first.
-    pub fn take(&mut self) -> Option<Slot>
-        ensures full { IsNone result ↔ (taken self.old ≡ length self.old.places) }
-        ensures none { IfNone result (self.new ≡ self.old) }
-        ensures vacant { IfSome result (λ slot. (slot < length self.old.places) × (is_in self.old.places slot ≡ false)) }
-        ensures taken { IfSome result (λ slot. self.new.places ≡ slice_set self.old.places slot true) }
-        ensures condemned { IfSome result (λ _. self.new.condemned ≡ cond (taken self.old + self.old.condemned == length self.old.places) 0 self.old.condemned) }
+    /// A free cell holds an object from now on.
+    pub fn take(&mut self) -> Slot
+        requires { taken self.old + self.old.condemned < length self.old.places }
+        ensures within { result < length self.old.places }
+        ensures vacant { is_in self.old.places result ≡ false }
+        ensures taken { self.new.places ≡ slice_set self.old.places result true }
+        ensures used { self.new.used ≡ slice_set self.old.used result true }
+        ensures condemned { self.new.condemned ≡ self.old.condemned }
     {
-        if self.free == 0 && self.condemned > 0 {
-            self.sweep_all();
-        }
-        if self.free == 0 {
-            return None;
-        }
         let slot = free_cell(&self.used, self.next_free);
         self.used.insert(slot);
         self.occupied.insert(slot);
         self.free -= 1;
         self.next_free = slot.number();
-        Some(slot)
+        slot
     }
 
     /// The cells of a set hold their objects still, and all others hold none: those that did are condemned, beside those that were.
@@ -118,29 +119,17 @@ impl Occupancy {
         requires places { length kept.now ≡ length self.old.places }
         requires objects { (s : ℕ) → is_in kept.now s ≡ true → is_in self.old.places s ≡ true }
         ensures places { self.new.places ≡ kept.now }
+        ensures used { self.new.used ≡ self.old.used }
         ensures condemned { length (slots_of kept.now) + self.new.condemned ≡ taken self.old + self.old.condemned }
     {
         self.condemned = self.used.cell_count() - self.free - kept.count();
         self.occupied.assign(kept);
     }
 
-    /// Condemned cells become free: so many, or all where there are no more.
-    pub fn sweep(&mut self, budget: u32)
-        ensures places { self.new.places ≡ self.old.places }
-        ensures condemned { self.new.condemned ≡ self.old.condemned - budget }
-    {
-        if self.condemned <= budget {
-            self.sweep_all();
-            return;
-        }
-        for _cell in 0..budget {
-            self.sweep_one();
-        }
-    }
-
     /// All condemned cells become free.
     pub fn sweep_all(&mut self)
         ensures places { self.new.places ≡ self.old.places }
+        ensures used { self.new.used ≡ self.old.places }
         ensures condemned { self.new.condemned ≡ 0 }
     {
         self.used.assign(&self.occupied);
@@ -148,10 +137,13 @@ impl Occupancy {
         self.condemned = 0;
     }
 
-    /// A condemned cell becomes free.
-    fn sweep_one(&mut self)
+    /// A condemned cell becomes free. Answers which.
+    pub fn sweep_one(&mut self) -> Slot
         requires { 0 < self.old.condemned }
+        ensures vacant { is_in self.old.places result ≡ false }
+        ensures swept { is_in self.old.used result ≡ true }
         ensures places { self.new.places ≡ self.old.places }
+        ensures used { self.new.used ≡ slice_set self.old.used result false }
         ensures condemned { self.new.condemned + 1 ≡ self.old.condemned }
     {
         let slot = condemned_cell(&self.used, &self.occupied, self.next_condemned);
@@ -159,5 +151,6 @@ impl Occupancy {
         self.free += 1;
         self.condemned -= 1;
         self.next_condemned = slot.number();
+        slot
     }
 }

@@ -52,3 +52,15 @@ returns-in-Other-clause-shaded c =
     let edges : edges_from Strong c.args.cells.now.objects c.args.slot ≡ option_to_list c.in-Other.next ++ members = c.visit.ensures.edges ∙ ap (λ v. edges_told v members) c.in-Other.is in
     subst (λ l. Shaded (λ x. x ∈ l) c.args.marks.now c.shade_members.new.marks) (sym edges)
     (shaded_in_both (option_to_list c.in-Other.next) members _ _ (shaded_then _ _ _ _ _ (shaded_target _ _ _ c.shade_target.ensures) c.shade_members.ensures))
+
+pub shade_elements-requires : goal.shade_elements-requires
+shade_elements-requires c =
+    let members = members_in (at c.args.cells.now.objects c.args.slot) in
+    let edges : edges_from Strong c.args.cells.now.objects c.args.slot ≡ linked c.in-Array.elements.now = c.visit.ensures.edges ∙ ap (λ v. edges_told v members) c.in-Array.is in
+    λ x h. c.requires.within x (subst (λ l. x ∈ l) (sym edges) h)
+
+pub returns-in-Array-clause-shaded : goal.returns-in-Array-clause-shaded
+returns-in-Array-clause-shaded c =
+    let members = members_in (at c.args.cells.now.objects c.args.slot) in
+    let edges : edges_from Strong c.args.cells.now.objects c.args.slot ≡ linked c.in-Array.elements.now = c.visit.ensures.edges ∙ ap (λ v. edges_told v members) c.in-Array.is in
+    subst (λ l. Shaded (λ x. x ∈ l) c.args.marks.now c.shade_elements.new.marks) (sym edges) c.shade_elements.ensures

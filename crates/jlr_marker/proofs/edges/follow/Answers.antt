@@ -3,7 +3,7 @@ use Rattle.jlr_machine.specs.declared.object.Object.{Object}
 use Rattle.jlr_machine.specs.declared.object.Object.TheVariants.{Plain, Reference, Queue, Cleaner, Cleanable, Guard}
 use Rattle.jlr_types.specs.declared.RefKind.TheVariants.{Soft}
 use Rattle.jlr_machine.specs.Objects.{at, some_and}
-use Rattle.jlr_machine.specs.Refusals.{is_plain}
+use Rattle.jlr_machine.specs.Refusals.{is_record}
 use Rattle.jlr_machine.specs.Edges.{referent}
 use Rattle.std.specs.Prelude.{option_and_then}
 use Rattle.jlr_barrier.specs.Graphs.{Clock, Graph}
@@ -23,7 +23,7 @@ follow_soft-requires-clause-object c =
     (λ x e. c.requires.objects x (soft_edge c.args.heap.now.graph.objects c.args.slot x e))
 
 -- a plain object has no soft referent
-no_soft : {P : Type 0} (o : Option Object) (x : ℕ) → some_and is_plain o ≡ true → option_and_then (referent Soft) o ≡ Some x → P
+no_soft : {P : Type 0} (o : Option Object) (x : ℕ) → some_and is_record o ≡ true → option_and_then (referent Soft) o ≡ Some x → P
 no_soft None x plain soft = cc
 no_soft (Some (Plain fields)) x plain soft = cc
 no_soft (Some (Reference r)) x plain soft = cc
@@ -37,7 +37,7 @@ returns-then-scan-clause-follows c =
     let heap = c.args.heap.now.graph.objects in
     let s = c.args.slot in
     let kept = keeps c.args.policy.now c.args.heap.now.clock in
-    let plain : some_and is_plain (at heap s) ≡ true = sym c.scan.ensures.plain ∙ c.if-scan.true in
+    let plain : some_and is_record (at heap s) ≡ true = sym c.scan.ensures.plain ∙ c.if-scan.true in
     let f = scanned_follows heap s c.args.heap.now.marking c.scan.new.self.marking c.scan.ensures.scanned in
     record {
       off = f.off;

@@ -2,14 +2,14 @@ use Rattle.std.proofs.Common.{◌≡◌, ◌<◌, ◌∙◌, [], inl, inr, true,
 use Rattle.std.specs.Prelude.{is_some}
 use Rattle.std.proofs.lemmas.Bool.{cases_eq, cases_lt, both_ways}
 use Rattle.std.proofs.lemmas.List.{length-map}
-use Rattle.jlr_machine.specs.Objects.{Heap, at, with_members}
+use Rattle.jlr_machine.specs.Objects.{Heap, at, some_and, with_members}
 use Rattle.jlr_sets.specs.SlotSets.{is_in}
 use Rattle.jlr_sets.proofs.Below.{within_places}
 use Rattle.jlr_sets.proofs.Beyond.{is_set, kept_there, not_kept}
-use Rattle.jlr_cells.specs.Contents.{members_in}
+use Rattle.jlr_cells.specs.Contents.{is_array, members_in}
 use Rattle.jlr_cells.specs.Showing.{shown}
 use Rattle.jlr_cells.proofs.Showing.{shown_hidden, used_changed}
-use Rattle.jlr_objects.proofs.Shown.{cleared_at}
+use Rattle.jlr_objects.proofs.Shown.{cleared_at, members_arrays, same_arrays}
 use Rattle.jlr_objects.proofs.lists.clear_lists.Goals as goal
 
 pub clear_members-requires : goal.clear_members-requires
@@ -57,6 +57,7 @@ loop-slot-preserved c =
               | inr high ↦ kept_there listed kept s (first.none_before s high (omega (arith, l, d, c.number-from.ensures))) old
             ]
       ];
+      arrays = λ s. ap (λ (l : Heap). some_and is_array (at l s)) e ∙ same_arrays heap n s (with_members (λ _. [])) (members_arrays (λ _. [])) ∙ i.arrays s;
       members = λ s off. ap (λ (l : Heap). members_in (at l s)) e ∙ cleared_at heap n s (λ d. i.members s (sym (ap (λ p. is_in p s) e' ∙ get_or-set_other listed n s false false d) ∙ off));
     }
 

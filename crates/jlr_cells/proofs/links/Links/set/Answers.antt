@@ -1,6 +1,6 @@
 use Rattle.std.proofs.Common.{◌∙◌, ap, set}
 use Rattle.std.proofs.lemmas.List.{map-set}
-use Rattle.jlr_cells.specs.Links.{link_of}
+use Rattle.jlr_cells.specs.Nulls.{link_of}
 use Rattle.jlr_cells.proofs.links.Links.set.Goals as goal
 
 pub returns : goal.returns

@@ -24,7 +24,7 @@ returns-then-is_cleanable c =
     let store = c.self.inside.store in
     let occ = c.self.inside.occupancy.places in
     let s = c.args.slot in
-    let see = seen store occ c.self.inside.listed c.self.invariant c.args.self.now.objects (ap (λ (h : Holding). h.objects) c.self.view_is) s in
+    let see = seen store occ c.self.inside.occupancy.used c.self.inside.listed c.self.invariant c.args.self.now.objects (ap (λ (h : Holding). h.objects) c.self.view_is) s in
     c.is_occupied.ensures
     ∙ ap is_some see
     ∙ one_shown (is_in occ s) (at store s) (sym c.is_cleanable.ensures ∙ c.if-is_cleanable.true)
@@ -35,7 +35,7 @@ returns-else-is_cleanable c =
     let store = c.self.inside.store in
     let occ = c.self.inside.occupancy.places in
     let s = c.args.slot in
-    let see = seen store occ c.self.inside.listed c.self.invariant c.args.self.now.objects (ap (λ (h : Holding). h.objects) c.self.view_is) s in
+    let see = seen store occ c.self.inside.occupancy.used c.self.inside.listed c.self.invariant c.args.self.now.objects (ap (λ (h : Holding). h.objects) c.self.view_is) s in
     c.if-is_cleanable.false
     ∙ none_shown (is_in occ s) (at store s) (sym c.is_cleanable.ensures ∙ c.if-is_cleanable.false)
     ∙ sym (ap (some_and is_cleanable) see)

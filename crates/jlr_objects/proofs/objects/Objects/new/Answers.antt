@@ -7,7 +7,7 @@ use Rattle.jlr_objects.proofs.Shown.{new_are}
 use Rattle.jlr_objects.proofs.objects.Objects.new.Goals as goal
 
 pub invariant_of-result : goal.invariant_of-result
-invariant_of-result c = new_are c.args.cells _ _ _ c.in_ok-new.ensures (ap (λ (o : Occupied). o.places) c.in_ok-new-2.ensures) c.in_ok-new-3.ensures
+invariant_of-result c = new_are c.args.cells _ _ _ _ c.in_ok-new.ensures (ap (λ (o : Occupied). o.places) c.in_ok-new-2.ensures) (ap (λ (o : Occupied). o.used) c.in_ok-new-2.ensures) c.in_ok-new-3.ensures
 
 pub returns : goal.returns
 returns c =

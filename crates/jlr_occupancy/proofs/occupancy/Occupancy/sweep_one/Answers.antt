@@ -16,5 +16,5 @@ overflow_add-self c = omega (arith, c.requires, c.self.invariant.counted, c.self
 pub invariant_of-self : goal.invariant_of-self
 invariant_of-self c =
     let s = c.self.inside in
-    subst (λ u. AreUsed u (record { places = s.occupied; condemned = s.condemned - 1 }) (s.free + 1)) (sym c.remove.ensures)
-    (swept_one s.used _ s.free c.self.invariant c.condemned_cell-slot.result c.condemned_cell-slot.ensures.used c.condemned_cell-slot.ensures.vacant)
+    subst (λ u. AreUsed (record { places = s.occupied; used = u; condemned = s.condemned - 1 }) (s.free + 1)) (sym c.remove.ensures)
+    (swept_one _ s.free c.self.invariant c.condemned_cell-slot.result c.condemned_cell-slot.ensures.used c.condemned_cell-slot.ensures.vacant)
