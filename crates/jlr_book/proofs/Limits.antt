@@ -1,9 +1,10 @@
 -- No entry changes how many cells, mutators and resources there may be.
-use Rattle.std.proofs.Common.{◌≡◌, ℕ, ◌+◌, Bool, true, false, List, [], ◌∷◌, length, map, refl, ◌∙◌, ap, Option, Some, None, option_and_then, slice_get, if◌then◌else◌, ◌==◌}
+use Rattle.std.proofs.Common.{◌≡◌, ℕ, ◌+◌, Bool, true, false, List, [], ◌∷◌, length, map, replicate, refl, ◌∙◌, ap, Option, Some, None, option_and_then, slice_get, if◌then◌else◌, ◌==◌}
 use Rattle.std.proofs.lemmas.List.{length-set}
 use Rattle.jlr_types.specs.declared.FieldValue.TheVariants.{Int as IntValue, Ref as RefValue}
 use Rattle.jlr_types.specs.declared.Work.TheVariants.{Note, Resource as WorkOn}
 use Rattle.jlr_machine.specs.declared.object.Object.{Object}
+use Rattle.jlr_machine.specs.declared.object.Contents.TheVariants.{Typed, Elements}
 use Rattle.jlr_machine.specs.declared.object.Object.TheVariants.{Plain, Reference, Queue, Cleaner, Cleanable, Guard}
 use Rattle.jlr_machine.specs.declared.object.Cleanable.{Cleanable as CleanableOf}
 use Rattle.jlr_machine.specs.declared.object.Guard.{Guard as GuardOf}
@@ -21,7 +22,7 @@ use Rattle.jlr_machine.specs.declared.ask.Outcome.TheVariants.{Ok as OutcomeOk, 
 use Rattle.jlr_machine.specs.declared.ask.Handed.{Handed}
 use Rattle.jlr_machine.specs.declared.ask.Handed.TheVariants.{Queued as HandedQueued, Lined as HandedLined, Skipped, Nothing}
 use Rattle.jlr_machine.specs.declared.ask.Ask.{Ask}
-use Rattle.jlr_machine.specs.declared.ask.Ask.TheVariants.{Join, Leave, New, Put, Get, SetInt, Dup, Drop, MakeRef, Deref, Clear, Enqueue, MakeQueue, Poll, Remove, MakeCleaner, Register, Clean, Prepare, Opened, CheckOut, CheckIn, Close, Finish, Bind, Find, HandOver, TakeUp}
+use Rattle.jlr_machine.specs.declared.ask.Ask.TheVariants.{Join, Leave, New, Put, Get, SetInt, Dup, Drop, MakeRef, Deref, Clear, Enqueue, MakeQueue, Poll, Remove, MakeCleaner, Register, Clean, Prepare, Opened, CheckOut, CheckIn, Close, Finish, Bind, Find, HandOver, TakeUp, Array}
 use Rattle.jlr_machine.specs.declared.ask.Answer.{Answer}
 use Rattle.jlr_machine.specs.declared.ask.Answer.TheVariants.{Prepared, Refused}
 use Rattle.jlr_machine.specs.declared.entry.Collected.{Collected}
@@ -162,7 +163,7 @@ opened_kept m k g (Failed fault) =
 kept : (m : Machine) (ask : Ask) (a : Answer) (fresh : List ℕ) → bounds (after m ask a fresh) ≡ bounds m
 kept m (Join k) a fresh = in_sessions m _ (length-set m.mutators k (Some fresh_session))
 kept m (Leave k) a fresh = in_sessions m _ (length-set m.mutators k None)
-kept m (New k layout) a fresh = made_kept m k fresh (Plain (map blank layout))
+kept m (New k layout) a fresh = made_kept m k fresh (Plain (Typed (map blank layout)))
 kept m (Put k h f v) a fresh = kept_on m (slot_named m k h) (λ s. with_object m s (with_field f (RefValue (slot_named m k v)))) (λ s. object_kept m s _)
 kept m (Get k h f) a fresh = given_kept m k (given m (Get k h f))
 kept m (SetInt k h f v) a fresh = kept_on m (slot_named m k h) (λ s. with_object m s (with_field f (IntValue v))) (λ s. object_kept m s _)
@@ -189,6 +190,7 @@ kept m (Bind k name h) a fresh = kept_on m (slot_named m k h) (λ s. record m { 
 kept m (Find k name) a fresh = given_kept m k (given m (Find k name))
 kept m HandOver a fresh = handed_over_kept m m.pending
 kept m TakeUp a fresh = line_taken_kept m (from_lined m m.line)
+kept m (Array k n) a fresh = made_kept m k fresh (Plain (Elements (replicate n None)))
 kept m ask a fresh = refl
 
 -- ---- Entries and runs

@@ -1,5 +1,5 @@
 -- Legal entries, from what an ask did.
-use Rattle.std.proofs.Common.{◌≡◌, ◌+◌, ◌&&◌, ◌||◌, ◌==◌, zero, suc, ℕ, ◌<◌, Bool, true, false, not, List, [], ◌∷◌, length, Option, Some, None, IsTrue, is_some, is_none, refl, sym, ◌∙◌, ap, subst, arith, find, cond, option_and_then}
+use Rattle.std.proofs.Common.{◌≡◌, ◌+◌, ◌&&◌, ◌||◌, ◌==◌, zero, suc, ℕ, ◌<◌, Bool, true, false, not, List, [], ◌∷◌, length, replicate, Option, Some, None, IsTrue, is_some, is_none, refl, sym, ◌∙◌, ap, subst, arith, find, cond, option_and_then}
 use Rattle.std.proofs.lemmas.Bool.{both_ways, le-leb, ne_eqb}
 use Rattle.std.proofs.lemmas.List.Sums.{count_by-le-length}
 use Rattle.jlr_types.specs.declared.RefKind.{RefKind}
@@ -8,12 +8,13 @@ use Rattle.jlr_types.specs.declared.Refusal.TheVariants.{NoMemory, NoSession, No
 use Rattle.jlr_machine.specs.declared.object.Object.{Object}
 use Rattle.jlr_types.specs.declared.Work.TheVariants.{Note}
 use Rattle.jlr_machine.specs.declared.object.CleanState.TheVariants.{Armed}
-use Rattle.jlr_machine.specs.declared.object.Object.TheVariants.{Cleanable, Reference}
+use Rattle.jlr_machine.specs.declared.object.Object.TheVariants.{Plain, Cleanable, Reference}
+use Rattle.jlr_machine.specs.declared.object.Contents.TheVariants.{Elements}
 use Rattle.jlr_machine.specs.declared.object.RefState.TheVariants.{Fresh}
 use Rattle.jlr_machine.specs.declared.machine.Machine.{Machine}
 use Rattle.jlr_machine.specs.declared.machine.Session.{Session}
 use Rattle.jlr_machine.specs.declared.ask.Ask.{Ask}
-use Rattle.jlr_machine.specs.declared.ask.Ask.TheVariants.{Join, Leave, Put, Get, SetInt, Int, Dup, Drop, Same, MakeRef, Deref, Refers, Clear, Enqueue, Enqueued, Poll, Register, Clean, Prepare, Opened, CheckOut, CheckIn, Close, Finish, Remove, Bind, Find, Unbind, Names, HandOver, TakeUp, Full, Stat, Notes, Faults, Begin, Abandon}
+use Rattle.jlr_machine.specs.declared.ask.Ask.TheVariants.{Join, Leave, Put, Get, SetInt, Int, Dup, Drop, Same, MakeRef, Deref, Refers, Clear, Enqueue, Enqueued, Poll, Register, Clean, Prepare, Opened, CheckOut, CheckIn, Close, Finish, Remove, Bind, Find, Unbind, Names, HandOver, TakeUp, Full, Stat, Notes, Faults, Begin, Abandon, Array}
 use Rattle.jlr_machine.specs.declared.ask.FullMode.{FullMode}
 use Rattle.jlr_machine.specs.declared.ask.FullMode.TheVariants.{Policy, ClearAll}
 use Rattle.jlr_machine.specs.declared.ask.Answer.{Answer}
@@ -281,6 +282,27 @@ allowed_reference m k kind h q j uh uq nh nq b f =
     (skip p Busy (HandlesFull ∷ HeapFull ∷ []) None b
     (skip p HandlesFull (HeapFull ∷ []) None (ap not f)
     (skip p HeapFull [] None refl refl))))))
+
+-- an array, whose elements refer to nothing
+may_collect_array : (m : Machine) (k n : ℕ) (o : Option Collected) → MayMakeRoom m 1 o → MayCollect m (Array k n) o
+may_collect_array m k n None r = r
+may_collect_array m k n (Some c) r = r
+
+allowed_array : (m : Machine) (k n : ℕ) → is_joined m k ≡ true → has_call m k ≡ false → has_free_handle m k ≡ true → refusal m (Array k n) ≡ None
+allowed_array m k n j b f =
+    let p = applies m (Array k n) in
+    skip p NoSession (Busy ∷ HandlesFull ∷ HeapFull ∷ []) None (ap not j)
+    (skip p Busy (HandlesFull ∷ HeapFull ∷ []) None b
+    (skip p HandlesFull (HeapFull ∷ []) None (ap not f)
+    (skip p HeapFull [] None refl refl)))
+
+pub meets_new_array :
+    (m mid n : Machine) (k size slot : ℕ) (elements : List (Option ℕ)) (new : Choosing) (a : Answer)
+    → is_joined m k ≡ true → has_call m k ≡ false → has_free_handle m k ≡ true → elements ≡ replicate size None
+    → Allocates m (Plain (Elements elements)) new slot mid → new_handle mid k ≡ Some a → n ≡ with_handle mid k slot → Meets m (Array k size) a new.chosen n
+meets_new_array m mid n k size slot elements new a joined calls room null x handle left =
+    meets_new m mid n (Array k size) k slot (Plain (Elements (replicate size None))) new a (allowed_array m k size joined calls room) (may_collect_array m k size) refl (λ y s h. (h, h)) (λ y s. refl)
+    (subst (λ l. Allocates m (Plain (Elements l)) new slot mid) null x) handle left
 
 pub meets_new_reference :
     (m mid n : Machine) (k slot : ℕ) (kind : RefKind) (h q target : ℕ) (queue : Option ℕ) (new : Choosing) (a : Answer) → refusal m (MakeRef k kind h q) ≡ None

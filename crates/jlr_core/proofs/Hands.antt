@@ -6,14 +6,15 @@ use Rattle.jlr_types.specs.declared.FieldValue.{FieldValue}
 use Rattle.jlr_types.specs.declared.FieldValue.TheVariants.{Ref}
 use Rattle.jlr_types.specs.declared.FieldKind.{FieldKind}
 use Rattle.jlr_types.specs.declared.FieldKind.TheVariants.{Int as IntField, Ref as RefField}
+use Rattle.jlr_machine.specs.declared.object.Contents.{Contents}
 use Rattle.jlr_machine.specs.declared.object.Object.{Object}
 use Rattle.jlr_machine.specs.declared.object.Object.TheVariants.{Plain, Reference}
 use Rattle.jlr_machine.specs.declared.object.Reference.{Reference as ReferenceOf}
 use Rattle.jlr_machine.specs.declared.machine.Session.{Session}
 use Rattle.jlr_machine.specs.declared.machine.Binding.{Binding}
 use Rattle.jlr_machine.specs.declared.machine.Machine.{Machine}
-use Rattle.jlr_machine.specs.Objects.{Heap, at, ◌∈◌, change_at, as_fields, as_reference}
-use Rattle.jlr_machine.specs.Edges.{edges_from, strong_edges, slot_in, is_kind}
+use Rattle.jlr_machine.specs.Objects.{Heap, at, ◌∈◌, change_at, as_fields, as_reference, value_at}
+use Rattle.jlr_machine.specs.Edges.{edges_from, strong_edges, slot_in, slots_in, is_kind}
 use Rattle.jlr_machine.specs.Edges.Chain.{Strong}
 use Rattle.jlr_machine.specs.Lookups.{blank, same_name, slot_bound, slot_named}
 use Rattle.jlr_machine.specs.Refusals.{gotten}
@@ -25,6 +26,7 @@ use Rattle.jlr_roots.specs.Naming.{named}
 use Rattle.jlr_laws.proofs.Sets.{nothing, in_front, in_rest}
 use Rattle.jlr_laws.proofs.Clearing.{in_append, in_left}
 use Rattle.jlr_laws.proofs.Fits.{referent_object, strong_object}
+use Rattle.jlr_laws.proofs.KeepsHeap.{in_value}
 use Rattle.jlr_laws.proofs.Frames.{no_some, some_same, root_from, is_plain_there, is_reference_there, from_places, from_sessions}
 use Rattle.jlr_laws.proofs.Frames.IsRoot.{fencing}
 use Rattle.jlr_cells.specs.Contents.{field_at}
@@ -53,23 +55,14 @@ bound_named (b ∷ names) name y e =
 
 -- ---- Fields
 
-in_one : (o : Option ℕ) (y : ℕ) (rest : List ℕ) → y ∈ rest → y ∈ cons_option o rest
-in_one None y rest h = h
-in_one (Some x) y rest h = in_rest y x rest h
-
-in_fields : (fields : List FieldValue) (f y : ℕ) → slice_get fields f ≡ Some (Ref (Some y)) → y ∈ filter_map slot_in fields
-in_fields [] f y e = no_some (Ref (Some y)) e
-in_fields (v ∷ fields) zero y e = subst (λ z. y ∈ cons_option (slot_in z) (filter_map slot_in fields)) (sym (some_same v (Ref (Some y)) e)) (in_front y y (filter_map slot_in fields) refl)
-in_fields (v ∷ fields) (suc f) y e = in_one (slot_in v) y (filter_map slot_in fields) (in_fields fields f y e)
-
-has_fields : (o : Option (List FieldValue)) (f y : ℕ) → option_and_then (λ fields. slice_get fields f) o ≡ Some (Ref (Some y)) → (fields : List FieldValue) × (o ≡ Some fields) × (slice_get fields f ≡ Some (Ref (Some y)))
+has_fields : (o : Option Contents) (f y : ℕ) → option_and_then (λ fields. value_at fields f) o ≡ Some (Ref (Some y)) → (fields : Contents) × (o ≡ Some fields) × (value_at fields f ≡ Some (Ref (Some y)))
 has_fields None f y e = no_some (Ref (Some y)) e
 has_fields (Some fields) f y e = (fields, refl, e)
 
 pub loads : (heap : Heap) (x f y : ℕ) → field_at heap x f ≡ Some (Ref (Some y)) → y ∈ edges_from Strong heap x
 loads heap x f y e =
     let s = has_fields (option_and_then as_fields (at heap x)) f y e in
-    subst (λ o. y ∈ flat_map strong_edges (option_to_list o)) (sym (is_plain_there (at heap x) s.0 s.1)) (in_left y (filter_map slot_in s.0) [] (in_fields s.0 f y s.2))
+    subst (λ o. y ∈ flat_map strong_edges (option_to_list o)) (sym (is_plain_there (at heap x) s.0 s.1)) (in_left y (slots_in s.0) [] (in_value s.0 f (Ref (Some y)) y s.2 refl))
 
 -- ---- In hand
 
@@ -99,7 +92,7 @@ module _ (m : Machine) (w : IsWellFormed m) where
   pub field_object : (x f y : ℕ) → field_at m.objects x f ≡ Some (Ref (Some y)) → IsObjectAt m y
   field_object x f y e =
       let s = has_fields (option_and_then as_fields (at m.objects x)) f y e in
-      strong_object m w x y (Plain s.0) (is_plain_there (at m.objects x) s.0 s.1) (in_fields s.0 f y s.2)
+      strong_object m w x y (Plain s.0) (is_plain_there (at m.objects x) s.0 s.1) (in_value s.0 f (Ref (Some y)) y s.2 refl)
 
   given_referent : (r : ReferenceOf) (y : ℕ) → gotten r ≡ Some y → r.referent ≡ Some y
   given_referent r y e = elim (is_kind Phantom r.kind) as (λ b. cond b None r.referent ≡ Some y → r.referent ≡ Some y) [ true ↦ λ e. no_some y e | false ↦ λ e. e ] e

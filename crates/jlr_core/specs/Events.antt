@@ -3,7 +3,7 @@ use Rattle.std.specs.Prelude.{◌≡◌, ◌<◌, ◌≤◌, ◌^◌, Option, So
 use Rattle.jlr_types.specs.declared.Refusal.TheVariants.{NoMemory}
 use Rattle.jlr_machine.specs.declared.machine.Machine.{Machine}
 use Rattle.jlr_machine.specs.declared.ask.Ask.{Ask}
-use Rattle.jlr_machine.specs.declared.ask.Ask.TheVariants.{Prepare, Names, Notes, Faults}
+use Rattle.jlr_machine.specs.declared.ask.Ask.TheVariants.{Prepare, Names, Notes, Faults, Array}
 use Rattle.jlr_machine.specs.declared.ask.Answer.{Answer}
 use Rattle.jlr_machine.specs.declared.ask.Answer.TheVariants.{Refused}
 use Rattle.jlr_machine.specs.declared.entry.Chosen.{Chosen}
@@ -19,12 +19,13 @@ abbrev pub HasRoom : {R : Type 0} → Resources R → Type 0
 HasRoom t = (length (resources t) < t.room) × (t.next < 2 ^ 32)
 
 -- The asks that may find no memory in a machine with this table, each where no refusal of its list holds: the table has no room for one
--- resource more, or a list that is not empty is copied
+-- resource more, a list that is not empty is copied, or the elements of an array are asked for
 abbrev pub MayWantMemory : {R : Type 0} → Machine → Resources R → Ask → Type 0
 MayWantMemory m t (Prepare k) = (refusal m (Prepare k) ≡ None) × ¬ (HasRoom t)
 MayWantMemory m t (Names k) = (refusal m (Names k) ≡ None) × (1 ≤ length m.names)
 MayWantMemory m t (Notes k) = (refusal m (Notes k) ≡ None) × (1 ≤ length m.notes)
 MayWantMemory m t (Faults k) = (refusal m (Faults k) ≡ None) × (1 ≤ length m.faults)
+MayWantMemory m t (Array k n) = refusal m (Array k n) ≡ None
 MayWantMemory m t _ = ⊥
 
 -- memory is said to be wanting only there

@@ -1,7 +1,9 @@
 //! The full collections that an ask makes: one that is asked for, and one that makes room for a new object.
 ghost use Rattle.std.specs.Prelude.{◌≡◌, ◌≤◌, ◌++◌, ℕ, None, length, option_to_list, IfOk, IfErr};
 ghost use Rattle.jlr_machine.specs.Objects.{◌∈◌, any_referent};
-ghost use Rattle.jlr_machine.specs.Edges.{strong_edges};
+ghost use Rattle.jlr_machine.specs.Edges.{slots_in, strong_edges};
+ghost use Rattle.jlr_machine.specs.declared.object.Contents.TheVariants.{Elements as ElementsOf};
+ghost use Rattle.jlr_machine.specs.declared.object.Object.TheVariants.{Plain};
 ghost use Rattle.jlr_roots.specs.Walk.{slots_held};
 ghost use Rattle.jlr_marks.specs.Marking.{IsMarked};
 ghost use Rattle.jlr_cells.specs.Contents.{object_of};
@@ -17,7 +19,7 @@ ghost use Rattle.jlr_core.specs.State.{Meets, answer_of};
 ghost use Rattle.jlr_core.specs.Marks.{BlackensMade, MarksNew};
 
 use crate::state::State;
-use jlr_cells::Shape;
+use jlr_cells::{Elements, Shape};
 use jlr_machine::ask::{Answer, Ask, FullMode};
 use jlr_machine::choice::Choice;
 use jlr_soft::{Mode, Policy};
@@ -80,6 +82,34 @@ impl<R> State<R> {
     {
         self.make_room(1, choice);
         let Some(slot) = self.heap.allocate(shape) else {
+            return Err(Refusal::HeapFull);
+        };
+        choice.add_fresh(slot);
+        Ok(slot)
+    }
+
+    /// As `allocate`, for an array of these elements, which refer to nothing. Where no cell is left, they are let go.
+    pub(crate) fn allocate_array(
+        &mut self,
+        elements: Elements,
+        choice: &mut Choice,
+    ) -> Result<Slot, Refusal>
+        requires fit { IsWellFormed (machine_of self.old) }
+        requires nothing { choice.old ≡ nothing_chosen choice.old.cells }
+        requires room { length self.old.heap.graph.objects ≤ choice.old.cells }
+        requires null { (s : ℕ) → s ∈ slots_in (ElementsOf elements) → ⊥ }
+        ensures allocates { IfOk result (λ slot. Allocates (machine_of self.old) (Plain (ElementsOf elements)) choice.new slot (machine_of self.new)) }
+        ensures clock { self.new.heap.clock ≡ after_choice choice.new.chosen self.old.heap.clock }
+        ensures black { IfOk result (λ slot. IsMarked self.new.heap.marking slot) }
+        ensures full { IfErr result (λ r. (r ≡ Refusal.HeapFull) × FindsNoRoom (machine_of self.old) 1 choice.new (machine_of self.new)) }
+        ensures room { choice.new.cells ≡ choice.old.cells }
+        ensures cells { length self.new.heap.graph.objects ≡ length self.old.heap.graph.objects }
+        ensures age { self.new.soft_age ≡ self.old.soft_age }
+        ensures cleaner { self.new.cleaner ≡ self.old.cleaner }
+        ensures one { IfOk result (λ slot. BlackensMade choice.new.chosen slot self.old.heap.marking self.new.heap.marking) }
+    {
+        self.make_room(1, choice);
+        let Ok(slot) = self.heap.allocate_array(elements) else {
             return Err(Refusal::HeapFull);
         };
         choice.add_fresh(slot);

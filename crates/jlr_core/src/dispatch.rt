@@ -136,6 +136,9 @@ impl<R> State<R> {
             Event::Begin => answered(Ok(Answer::Truth(self.begin()))),
             Event::Collect => answered(Ok(Answer::Truth(self.collect_cycle(choice)))),
             Event::Abandon => answered(Ok(Answer::Truth(self.abandon()))),
+            Event::Array { mutator, length } => {
+                answered(self.new_array(mutator, length, choice))
+            }
             Event::Mark { budget } => Reply::Marked(self.mark(budget)),
         }
     }

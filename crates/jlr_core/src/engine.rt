@@ -60,8 +60,8 @@ impl<R> Core<R> {
         })
     }
 
-    /// One event. The choice says what was chosen; it has room for every cell. Only `Prepare` where the table of resources has no room, and
-    /// `Names`, `Notes` and `Faults`, which copy a list, may find no memory, and only where they are not refused. A piece of marking changes
+    /// One event. The choice says what was chosen; it has room for every cell. Only `Prepare` where the table of resources has no room,
+    /// `Names`, `Notes` and `Faults`, which copy a list, and `Array`, for its elements, may find no memory, and only where they are not refused. A piece of marking changes
     /// nothing but marks: in an open cycle it follows grey cells, one tick each, by the soft policy, and is Done where none is left; without
     /// one it is Idle. A `Collect` keeps exactly what is marked, and is answered yes exactly where a cycle is open and no cell is grey.
     #[inline(always)]

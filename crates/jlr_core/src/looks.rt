@@ -65,6 +65,7 @@ fn cells_for<R>(event: &Event<R>) -> u32
 {
     match event {
         Event::New { .. }
+        | Event::Array { .. }
         | Event::MakeRef { .. }
         | Event::MakeQueue { .. }
         | Event::MakeCleaner { .. }

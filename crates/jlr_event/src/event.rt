@@ -4,7 +4,7 @@ ghost use Rattle.jlr_event.specs.Events.{ask_of, answer_in, outcome_of, resource
 
 use jlr_machine::ask::{Answer, Ask, CallOutcome, FullMode, Outcome};
 use jlr_machine::text::Name;
-use jlr_types::{ActionNo, Fault, Handle, Layout, Mutator, Progress, RefKind};
+use jlr_types::{ActionNo, Fault, FieldNo, Handle, Layout, Length, Mutator, Progress, RefKind};
 
 /// An event: an ask, with the resource that is handed in where one is, or a piece of marking.
 #[derive(Drop)]
@@ -22,31 +22,31 @@ pub enum Event<R> {
         mutator: Mutator,
         layout: Layout,
     },
-    /// A reference field is written; the value may be null.
+    /// A reference field, or an element of an array, is written; the value may be null.
     Put {
         mutator: Mutator,
         object: Handle,
-        field: u8,
+        field: FieldNo,
         value: Handle,
     },
-    /// A reference field is read.
+    /// A reference field, or an element of an array, is read.
     Get {
         mutator: Mutator,
         object: Handle,
-        field: u8,
+        field: FieldNo,
     },
     /// An integer field is written.
     SetInt {
         mutator: Mutator,
         object: Handle,
-        field: u8,
+        field: FieldNo,
         value: i64,
     },
     /// An integer field is read.
     Int {
         mutator: Mutator,
         object: Handle,
-        field: u8,
+        field: FieldNo,
     },
     /// A second handle is taken for an object.
     Dup {
@@ -205,6 +205,11 @@ pub enum Event<R> {
     Collect,
     /// An open cycle is given up.
     Abandon,
+    /// An array of references is made, each element null.
+    Array {
+        mutator: Mutator,
+        length: Length,
+    },
     /// A piece of marking of at most so many ticks. The machine does not see it.
     Mark {
         budget: u32,
@@ -380,6 +385,7 @@ impl<R> Event<R> {
             Event::Begin => Ask::Begin,
             Event::Collect => Ask::Collect,
             Event::Abandon => Ask::Abandon,
+            Event::Array { mutator, length } => Ask::Array { mutator, length },
             Event::Mark { .. } => return None,
         })
     }
@@ -430,6 +436,7 @@ impl<R> Event<R> {
             | Event::Begin
             | Event::Collect
             | Event::Abandon
+            | Event::Array { .. }
             | Event::Mark { .. } => None,
         }
     }

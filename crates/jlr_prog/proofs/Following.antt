@@ -16,7 +16,7 @@ use Rattle.jlr_event.specs.declared.event.Event.TheVariants as event
 use Rattle.jlr_event.specs.declared.event.Reply.{Reply}
 use Rattle.jlr_event.specs.Events.{ask_of}
 use Rattle.jlr_wire.specs.declared.command.Command.{Command}
-use Rattle.jlr_wire.specs.declared.command.Command.TheVariants.{New, Put, Get, SetInt, Int, Dup, Drop, Same, Soft, Weak, Phantom, Deref, Refers, Clear, Enqueue, Enqueued, Queue, Poll, Remove, Cleaner, Register, Clean, Open, Connect, Read, Write, Close, Bind, Find, Unbind, Names, Full, Stat, Notes, Faults}
+use Rattle.jlr_wire.specs.declared.command.Command.TheVariants.{New, Put, Get, SetInt, Int, Dup, Drop, Same, Soft, Weak, Phantom, Deref, Refers, Clear, Enqueue, Enqueued, Queue, Poll, Remove, Cleaner, Register, Clean, Open, Connect, Read, Write, Close, Bind, Find, Unbind, Names, Full, Stat, Notes, Faults, Array}
 use Rattle.jlr_cleaner.specs.declared.job.Job.{Job as JobOf}
 use Rattle.jlr_device.specs.Handling.{Handling}
 use Rattle.jlr_session.specs.Calls.{Opening}
@@ -49,6 +49,7 @@ quietly e stays d is = subst (λ o. StaysIn (option_and_then ask_of o)) is stays
 
 asks_quietly : {R : Type 0} (c : Command) → AsksQuietly {R = R} (event_of 0 c)
 asks_quietly (New layout) = quietly (event.New 0 layout) (refl, λ m a fresh x. made_stays Free m _ fresh x)
+asks_quietly (Array length) = quietly (event.Array 0 length) (refl, λ m a fresh x. made_stays Free m _ fresh x)
 asks_quietly (Put h f v) = quietly (event.Put 0 h f v) (refl, λ m a fresh x. put_stays Free m _ (slot_named m 0 h) x)
 asks_quietly (Get h f) = quietly (event.Get 0 h f) (refl, λ m a fresh x. given_stays Free m (given m (ask.Get 0 h f)) x)
 asks_quietly (SetInt h f n) = quietly (event.SetInt 0 h f n) (refl, λ m a fresh x. put_stays Free m _ (slot_named m 0 h) x)

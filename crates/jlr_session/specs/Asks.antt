@@ -13,7 +13,7 @@ use Rattle.jlr_event.specs.declared.event.Event.TheVariants as event
 use Rattle.jlr_event.specs.declared.event.Reply.{Reply}
 use Rattle.jlr_event.specs.declared.event.Reply.TheVariants.{Answered, Marked}
 use Rattle.jlr_wire.specs.declared.command.Command.{Command}
-use Rattle.jlr_wire.specs.declared.command.Command.TheVariants.{New, Put, Get, SetInt, Int, Dup, Drop, Same, Soft, Weak, Phantom, Deref, Refers, Clear, Enqueue, Enqueued, Queue, Poll, Remove, Cleaner, Register, Clean, Open, Connect, Read, Write, Close, Bind, Find, Unbind, Names, Full, Stat, Notes, Faults, Bye}
+use Rattle.jlr_wire.specs.declared.command.Command.TheVariants.{New, Put, Get, SetInt, Int, Dup, Drop, Same, Soft, Weak, Phantom, Deref, Refers, Clear, Enqueue, Enqueued, Queue, Poll, Remove, Cleaner, Register, Clean, Open, Connect, Read, Write, Close, Bind, Find, Unbind, Names, Full, Stat, Notes, Faults, Bye, Array}
 use Rattle.jlr_session.specs.Carrying.{Carrying}
 use Rattle.jlr_device.specs.Handling.{Handling}
 use Rattle.jlr_session.specs.Calls.{Opening, Opens, Connects, Reads, Writes, Finishes}
@@ -66,6 +66,7 @@ job_by (Marked progress) = Err no_answer
 -- the ask of a command that asks once, in the name of m; none for a command that may ask twice, and for bye
 abbrev pub event_of : {R : Type 0} → ℕ → Command → Option (Event R)
 event_of m (New layout) = Some (event.New m layout)
+event_of m (Array length) = Some (event.Array m length)
 event_of m (Put h k v) = Some (event.Put m h k v)
 event_of m (Get h k) = Some (event.Get m h k)
 event_of m (SetInt h k n) = Some (event.SetInt m h k n)

@@ -17,6 +17,7 @@ pub(crate) fn event_for<R>(mutator: Mutator, command: &Command<'_>) -> Option<Ev
             mutator,
             layout: layout.copy(),
         },
+        Command::Array { length } => Event::Array { mutator, length },
         Command::Dup { object } => Event::Dup { mutator, object },
         Command::Drop { object } => Event::Drop { mutator, object },
         Command::Same { left, right } => Event::Same {

@@ -27,7 +27,7 @@ use Rattle.jlr_types.specs.declared.FieldKind.{FieldKind}
 use Rattle.jlr_types.specs.declared.FieldKind.TheVariants.{Int as IntField, Ref as RefField}
 use Rattle.jlr_machine.specs.declared.ask.FullMode.TheVariants.{Policy, ClearAll}
 use Rattle.jlr_wire.specs.declared.command.Command.{Command}
-use Rattle.jlr_wire.specs.declared.command.Command.TheVariants.{New, Put, Get, SetInt, Int, Dup, Drop, Same, Soft, Weak, Phantom, Deref, Refers, Clear, Enqueue, Enqueued, Queue, Poll, Remove, Cleaner, Register, Clean, Open, Connect, Read, Write, Close, Bind, Find, Unbind, Names, Full, Stat, Notes, Faults, Bye}
+use Rattle.jlr_wire.specs.declared.command.Command.TheVariants.{New, Put, Get, SetInt, Int, Dup, Drop, Same, Soft, Weak, Phantom, Deref, Refers, Clear, Enqueue, Enqueued, Queue, Poll, Remove, Cleaner, Register, Clean, Open, Connect, Read, Write, Close, Bind, Find, Unbind, Names, Full, Stat, Notes, Faults, Bye, Array}
 
 -- a test for texts without a space
 abbrev spaceless : List ℕ → Bool
@@ -51,6 +51,9 @@ digits n lt = λ k d h.
 
 number : (n : ℕ) → n < 256 → IsWithout 32 (decimal n)
 number n lt = digits n (omega (arith, lt))
+
+field : (n : ℕ) → n < 4096 → IsWithout 32 (decimal n)
+field n lt = digits n (omega (arith, lt))
 
 after_sign : (xs : List ℕ) → IsWithout 32 xs → IsWithout 32 (45 ∷ xs)
 after_sign xs h = All-cons (λ b. b ≢ 32) 45 xs (search rules) h
@@ -104,10 +107,11 @@ four a b c d h k l m = record { first = a; rest = b ∷ c ∷ d ∷ []; are = re
 
 apart : (c : Command) (fields : List (List ℕ)) → Fields c fields → Apart fields
 apart (New l) fields f = rw f.1 (two _ _ (word (codes "new") refl) (layout_word l))
-apart (Put h k v) fields f = rw f.3 (four _ _ _ _ (word (codes "put") refl) (number h f.0) (number k f.1) (number v f.2))
-apart (Get h k) fields f = rw f.2 (three _ _ _ (word (codes "get") refl) (number h f.0) (number k f.1))
-apart (SetInt h k n) fields f = rw f.3 (four _ _ _ _ (word (codes "setint") refl) (number h f.0) (number k f.1) (integer n f.2))
-apart (Int h k) fields f = rw f.2 (three _ _ _ (word (codes "int") refl) (number h f.0) (number k f.1))
+apart (Put h k v) fields f = rw f.3 (four _ _ _ _ (word (codes "put") refl) (number h f.0) (field k f.1) (number v f.2))
+apart (Get h k) fields f = rw f.2 (three _ _ _ (word (codes "get") refl) (number h f.0) (field k f.1))
+apart (Array n) fields f = rw f.2 (two _ _ (word (codes "array") refl) (digits n (omega (arith, f.1))))
+apart (SetInt h k n) fields f = rw f.3 (four _ _ _ _ (word (codes "setint") refl) (number h f.0) (field k f.1) (integer n f.2))
+apart (Int h k) fields f = rw f.2 (three _ _ _ (word (codes "int") refl) (number h f.0) (field k f.1))
 apart (Dup h) fields f = rw f.1 (two _ _ (word (codes "dup") refl) (number h f.0))
 apart (Drop h) fields f = rw f.1 (two _ _ (word (codes "drop") refl) (number h f.0))
 apart (Same h k) fields f = rw f.2 (three _ _ _ (word (codes "same") refl) (number h f.0) (number k f.1))

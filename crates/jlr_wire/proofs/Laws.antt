@@ -1,32 +1,51 @@
 -- What is read is what the fields of a command are.
-use Rattle.std.proofs.Common.{◌≡◌, ℕ, ◌<◌, true, ◌&&◌, List, [], ◌∷◌, Option, Some, refl, sym, subst, inl, inr}
+use Rattle.std.proofs.Common.{◌≡◌, ℕ, ◌<◌, true, ◌&&◌, List, [], ◌∷◌, Option, Some, refl, sym, subst, inl, inr, arith, ◌≤◌, cond, nat_le, ap, ◌∙◌, None}
 use Rattle.std.specs.Prelude.{codes, decimal}
 use Rattle.std.specs.List.{AllByRecursion}
 use Rattle.std.specs.Str.{bytes_eq}
 use Rattle.std.proofs.lemmas.Slice.Eq.{bytes_eq-Decides}
 use Rattle.std.proofs.lemmas.Option.{same_Some, none-some}
+use Rattle.std.proofs.lemmas.Option.{cond_some}
+use Rattle.std.proofs.lemmas.Bool.{le-leb}
+use Rattle.std.proofs.lemmas.Bool.{leb-true}
 use Rattle.jlr_wire.proofs.Options.{bind_some, chosen, cond_some_of, and_parts}
-use Rattle.jlr_wire.proofs.Numbers.{byte_of_decimal, byte_of_spells, note_of_decimal, note_of_spells}
+use Rattle.jlr_wire.proofs.Numbers.{number_below_decimal, number_below_spells, byte_of_decimal, byte_of_spells, note_of_decimal, note_of_spells}
 use Rattle.jlr_wire.proofs.Integers.{integer_of_decimal, integer_of_spells}
 use Rattle.jlr_wire.proofs.Layouts.{layout_of_layout, layout_of_spells}
 use Rattle.std.specs.Char.{is_ascii_graphic}
 use Rattle.jlr_wire.proofs.Texts.{word_of_word, word_of_spells, data_of_digits, data_of_spells, count_of_decimal, count_of_spells, mode_of_letter, mode_of_spells}
 use Rattle.jlr_wire.specs.Texts.{is_name_byte}
-use Rattle.jlr_wire.specs.Fields.{byte_of, note_of, integer_of, path_of, name_of, data_of, mode_of}
+use Rattle.jlr_wire.specs.Fields.{number_below, byte_of, field_of, note_of, integer_of, path_of, name_of, data_of, mode_of}
 use Rattle.jlr_wire.specs.Commands.{Fields}
-use Rattle.jlr_wire.specs.Reading.{◌>>=◌, layout_of, count_of, among, names_with_word, names_with_words, names_alone, names_with_number, names_with_two, named, with_number, with_two_numbers, reading_1, reading_2, reading_3, reading_4, reading}
+use Rattle.jlr_wire.specs.Reading.{◌>>=◌, layout_of, count_of, length_of, among, names_with_word, names_with_words, names_alone, names_with_number, names_with_two, named, with_number, with_two_numbers, reading_1, reading_2, reading_3, reading_4, reading}
 use Rattle.jlr_machine.specs.declared.ask.FullMode.TheVariants.{Policy, ClearAll}
 use Rattle.jlr_wire.specs.declared.command.Command.{Command}
-use Rattle.jlr_wire.specs.declared.command.Command.TheVariants.{New, Put, Get, SetInt, Int, Dup, Drop, Same, Soft, Weak, Phantom, Deref, Refers, Clear, Enqueue, Enqueued, Queue, Poll, Remove, Cleaner, Register, Clean, Open, Connect, Read, Write, Close, Bind, Find, Unbind, Names, Full, Stat, Notes, Faults, Bye}
+use Rattle.jlr_wire.specs.declared.command.Command.TheVariants.{New, Put, Get, SetInt, Int, Dup, Drop, Same, Soft, Weak, Phantom, Deref, Refers, Clear, Enqueue, Enqueued, Queue, Poll, Remove, Cleaner, Register, Clean, Open, Connect, Read, Write, Close, Bind, Find, Unbind, Names, Full, Stat, Notes, Faults, Bye, Array}
+
+field_of_decimal : (n : ℕ) → n < 4096 → field_of (decimal n) ≡ Some n
+field_of_decimal n lt = number_below_decimal 4096 n (omega arith) lt
+
+length_of_decimal : (n : ℕ) → 1 ≤ n → n ≤ 4096 → length_of (decimal n) ≡ Some n
+length_of_decimal n some few = rw (number_below_decimal 4097 n (omega arith) (omega (arith, few)), le-leb 1 n some) refl
+
+length_of_spells : (text : List ℕ) (n : ℕ) → length_of text ≡ Some n → (1 ≤ n) × (n ≤ 4096) × (text ≡ decimal n)
+length_of_spells text n e =
+    let p = bind_some (number_below 4097 text) (λ m. cond (nat_le 1 m) (Some m) None) n e in
+    let h = cond_some _ _ _ p.2 in
+    let s = number_below_spells 4097 text p.0 p.1 in
+    let same : p.0 ≡ n = h.1 in
+    let some : 1 ≤ p.0 = leb-true 1 p.0 h.0 in
+    (omega (arith, some, same), omega (arith, s.0, same), s.1 ∙ ap decimal same)
 
 -- the fields of a command are read as that command
 pub complete : (c : Command) (fields : List (List ℕ)) → Fields c fields → reading fields ≡ Some c
 unfolding reading reading_1 reading_2 reading_3 reading_4 with_number with_two_numbers
 complete (New l) fields f = rw (f.1, layout_of_layout l f.0) refl
-complete (Put h k v) fields f = rw (f.3, byte_of_decimal h f.0, byte_of_decimal k f.1, byte_of_decimal v f.2) refl
-complete (Get h k) fields f = rw (f.2, byte_of_decimal h f.0, byte_of_decimal k f.1) refl
-complete (SetInt h k n) fields f = rw (f.3, byte_of_decimal h f.0, byte_of_decimal k f.1, integer_of_decimal n f.2) refl
-complete (Int h k) fields f = rw (f.2, byte_of_decimal h f.0, byte_of_decimal k f.1) refl
+complete (Put h k v) fields f = rw (f.3, byte_of_decimal h f.0, field_of_decimal k f.1, byte_of_decimal v f.2) refl
+complete (Get h k) fields f = rw (f.2, byte_of_decimal h f.0, field_of_decimal k f.1) refl
+complete (SetInt h k n) fields f = rw (f.3, byte_of_decimal h f.0, field_of_decimal k f.1, integer_of_decimal n f.2) refl
+complete (Int h k) fields f = rw (f.2, byte_of_decimal h f.0, field_of_decimal k f.1) refl
+complete (Array n) fields f = rw (f.2, length_of_decimal n f.0 f.1) refl
 complete (Dup h) fields f = rw (f.1, byte_of_decimal h f.0) refl
 complete (Drop h) fields f = rw (f.1, byte_of_decimal h f.0) refl
 complete (Same h k) fields f = rw (f.2, byte_of_decimal h f.0, byte_of_decimal k f.1) refl
@@ -97,6 +116,13 @@ spelled f a c e =
     let h = byte_of_spells a p.0 p.1 in
     (p.0, h.0, h.1, p.2)
 
+-- the same of the number of a field
+spelled_field : (f : ℕ → Option Command) (a : List ℕ) (c : Command) → (field_of a >>= f) ≡ Some c → (h : ℕ) × (h < 4096) × (a ≡ decimal h) × (f h ≡ Some c)
+spelled_field f a c e =
+    let p = bind_some (field_of a) f c e in
+    let h = number_below_spells 4096 a p.0 p.1 in
+    (p.0, h.0, h.1, p.2)
+
 sound_1 : (n : List ℕ) (c : Command) → reading_1 n ≡ Some c → Fields c (n ∷ [])
 unfolding reading_1
 sound_1 n c e =
@@ -115,7 +141,7 @@ unfolding with_two_numbers
 sound_two_numbers n h k c h_fits k_fits e =
     let P : List ℕ → Command → Type 0 = λ n c. Fields c (n ∷ decimal h ∷ decimal k ∷ []) in
     in_table P n (names_with_two h k) c
-    ((h_fits, k_fits, refl), ((h_fits, k_fits, refl), ((h_fits, k_fits, refl), ((h_fits, k_fits, refl), ((h_fits, k_fits, refl), ((h_fits, k_fits, refl), ((h_fits, k_fits, refl), tt))))))) e
+    ((h_fits, k_fits, refl), ((h_fits, k_fits, refl), ((h_fits, k_fits, refl), ((h_fits, k_fits, refl), ((h_fits, k_fits, refl), tt))))) e
 
 -- a new object, a socket, and a name
 sound_new : (a : List ℕ) (c : Command) → (layout_of a >>= λ l. Some (New l)) ≡ Some c → Fields c (codes "new" ∷ a ∷ [])
@@ -142,11 +168,17 @@ sound_unbind a c e =
     let n = word_of_spells 32 is_name_byte a q.0 q.1 in
     rw (← same_Some _ _ q.2) (n.0, same_2 _ _ _ _ refl n.1)
 
+sound_array : (a : List ℕ) (c : Command) → (length_of a >>= λ n. Some (Array n)) ≡ Some c → Fields c (codes "array" ∷ a ∷ [])
+sound_array a c e =
+    let q = bind_some (length_of a) (λ n. Some (Array n)) c e in
+    let n = length_of_spells a q.0 q.1 in
+    rw (← same_Some _ _ q.2) (n.0, n.1, same_2 _ _ _ _ refl n.2)
+
 sound_2 : (n a : List ℕ) (c : Command) → reading_2 n a ≡ Some c → Fields c (n ∷ a ∷ [])
 unfolding reading_2
 sound_2 n a c e =
     let P : List ℕ → Command → Type 0 = λ n c. Fields c (n ∷ a ∷ []) in
-    in_among P n (names_with_word a) _ c (sound_new a c, (sound_connect a c, (sound_find a c, (sound_unbind a c, tt))))
+    in_among P n (names_with_word a) _ c (sound_new a c, (sound_connect a c, (sound_find a c, (sound_unbind a c, (sound_array a c, tt)))))
     (λ f. elim (chosen (bytes_eq n (codes "gc") && bytes_eq a (codes "soft")) (Some (Full ClearAll)) (byte_of a >>= λ h. with_number n h) (Some c) f) [
       | inl q ↦
           let both = and_parts (bytes_eq n (codes "gc")) (bytes_eq a (codes "soft")) q.0 in
@@ -184,11 +216,23 @@ sound_write a b c e =
     let q = bind_some (data_of b) (λ d. Some (Write h.0 d)) c h.3 in
     rw (← same_Some _ _ q.2) (h.1, b, data_of_spells b q.0 q.1, same_3 _ _ _ _ _ h.2 refl)
 
+sound_get : (a b : List ℕ) (c : Command) → (byte_of a >>= λ h. field_of b >>= λ k. Some (Get h k)) ≡ Some c → Fields c (codes "get" ∷ a ∷ b ∷ [])
+sound_get a b c e =
+    let h = spelled (λ h. field_of b >>= λ k. Some (Get h k)) a c e in
+    let k = spelled_field (λ k. Some (Get h.0 k)) b c h.3 in
+    rw (← same_Some _ _ k.3) (h.1, k.1, same_3 _ _ _ _ _ h.2 k.2)
+
+sound_int : (a b : List ℕ) (c : Command) → (byte_of a >>= λ h. field_of b >>= λ k. Some (Int h k)) ≡ Some c → Fields c (codes "int" ∷ a ∷ b ∷ [])
+sound_int a b c e =
+    let h = spelled (λ h. field_of b >>= λ k. Some (Int h k)) a c e in
+    let k = spelled_field (λ k. Some (Int h.0 k)) b c h.3 in
+    rw (← same_Some _ _ k.3) (h.1, k.1, same_3 _ _ _ _ _ h.2 k.2)
+
 sound_3 : (n a b : List ℕ) (c : Command) → reading_3 n a b ≡ Some c → Fields c (n ∷ a ∷ b ∷ [])
 unfolding reading_3
 sound_3 n a b c e =
     let P : List ℕ → Command → Type 0 = λ n c. Fields c (n ∷ a ∷ b ∷ []) in
-    in_among P n (names_with_words a b) _ c (sound_open a b c, (sound_bind a b c, (sound_read a b c, (sound_write a b c, tt))))
+    in_among P n (names_with_words a b) _ c (sound_open a b c, (sound_bind a b c, (sound_read a b c, (sound_write a b c, (sound_get a b c, (sound_int a b c, tt))))))
     (λ f.
     let h = spelled (λ h. byte_of b >>= λ k. with_two_numbers n h k) a c f in
     let k = spelled (with_two_numbers n h.0) b c h.3 in
@@ -196,18 +240,18 @@ sound_3 n a b c e =
     (subst (λ t. Fields c (n ∷ decimal h.0 ∷ t ∷ [])) (sym k.2) (sound_two_numbers n h.0 k.0 c h.1 k.1 k.3))) e
 
 sound_put : (n x a b : List ℕ) (c : Command) → bytes_eq n (codes "put") ≡ true
-    → (byte_of x >>= λ g. byte_of a >>= λ h. byte_of b >>= λ k. Some (Put g h k)) ≡ Some c → Fields c (n ∷ x ∷ a ∷ b ∷ [])
+    → (byte_of x >>= λ g. field_of a >>= λ h. byte_of b >>= λ k. Some (Put g h k)) ≡ Some c → Fields c (n ∷ x ∷ a ∷ b ∷ [])
 sound_put n x a b c name e =
-    let g = spelled (λ g. byte_of a >>= λ h. byte_of b >>= λ k. Some (Put g h k)) x c e in
-    let h = spelled (λ h. byte_of b >>= λ k. Some (Put g.0 h k)) a c g.3 in
+    let g = spelled (λ g. field_of a >>= λ h. byte_of b >>= λ k. Some (Put g h k)) x c e in
+    let h = spelled_field (λ h. byte_of b >>= λ k. Some (Put g.0 h k)) a c g.3 in
     let k = spelled (λ k. Some (Put g.0 h.0 k)) b c h.3 in
     rw (← same_Some _ _ k.3) (g.1, h.1, k.1, same_4 _ _ _ _ _ _ _ _ (same_name n (codes "put") name) g.2 h.2 k.2)
 
 sound_setint : (n x a b : List ℕ) (c : Command) → bytes_eq n (codes "setint") ≡ true
-    → (byte_of x >>= λ h. byte_of a >>= λ k. integer_of b >>= λ z. Some (SetInt h k z)) ≡ Some c → Fields c (n ∷ x ∷ a ∷ b ∷ [])
+    → (byte_of x >>= λ h. field_of a >>= λ k. integer_of b >>= λ z. Some (SetInt h k z)) ≡ Some c → Fields c (n ∷ x ∷ a ∷ b ∷ [])
 sound_setint n x a b c name e =
-    let h = spelled (λ h. byte_of a >>= λ k. integer_of b >>= λ z. Some (SetInt h k z)) x c e in
-    let k = spelled (λ k. integer_of b >>= λ z. Some (SetInt h.0 k z)) a c h.3 in
+    let h = spelled (λ h. field_of a >>= λ k. integer_of b >>= λ z. Some (SetInt h k z)) x c e in
+    let k = spelled_field (λ k. integer_of b >>= λ z. Some (SetInt h.0 k z)) a c h.3 in
     let q = bind_some (integer_of b) (λ z. Some (SetInt h.0 k.0 z)) c k.3 in
     let z = integer_of_spells b q.0 q.1 in
     rw (← same_Some _ _ q.2) (h.1, k.1, z.0, same_4 _ _ _ _ _ _ _ _ (same_name n (codes "setint") name) h.2 k.2 z.1)

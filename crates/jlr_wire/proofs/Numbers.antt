@@ -11,9 +11,9 @@ use Rattle.itoa.proofs.Decimal.{decimal_two}
 use Rattle.std.proofs.lemmas.Option.{cond_some, none-some}
 use Rattle.std.proofs.lemmas.Bool.{ltb-true, lt-ltb}
 use Rattle.jlr_wire.proofs.Options.{and_parts}
-use Rattle.jlr_wire.specs.Fields.{number_below, byte_of, note_of}
+use Rattle.jlr_wire.specs.Fields.{number_below, byte_of, field_of, note_of}
 
-number_below_decimal : (limit n : ℕ) → limit ≤ 2 ^ 64 → n < limit → number_below limit (decimal n) ≡ Some n
+pub number_below_decimal : (limit n : ℕ) → limit ≤ 2 ^ 64 → n < limit → number_below limit (decimal n) ≡ Some n
 unfolding number_below
 number_below_decimal limit n le lt =
     let value : digits_value 10 (decimal n) ≡ n = (decimal_is_IsNumeral n (omega (arith, le, lt))).1 in
@@ -21,7 +21,7 @@ number_below_decimal limit n le lt =
     let same : bytes_eq (decimal n) (decimal n) ≡ true = (bytes_eq-Decides (decimal n) (decimal n)).1 refl in
     simp (value, small, same) refl
 
-number_below_spells : (limit : ℕ) (text : List ℕ) (n : ℕ) → number_below limit text ≡ Some n → (n < limit) × (text ≡ decimal n)
+pub number_below_spells : (limit : ℕ) (text : List ℕ) (n : ℕ) → number_below limit text ≡ Some n → (n < limit) × (text ≡ decimal n)
 unfolding number_below
 number_below_spells limit text n e =
     let v = digits_value 10 text in
@@ -86,3 +86,17 @@ two_digits (a ∷ b ∷ d ∷ text) tens ones count is is' some lt lt' = absurd 
 
 pub decimal_note : (text : List ℕ) (n : ℕ) → n < 2 ^ 32 → text ≡ decimal n → Some n ≡ note_of text
 decimal_note text n lt is = sym (ap note_of is ∙ note_of_decimal n lt)
+
+-- a text of no number below 2 ^ 32 is none of one below a smaller limit, nor is one of a larger number
+pub none_below : (limit : ℕ) (text : List ℕ) → limit ≤ 2 ^ 32 → None ≡ note_of text → None ≡ number_below limit text
+none_below limit text le e = is_number_below limit None text (omega (arith, le)) tt tt
+    (λ n lt is. none-some n (e ∙ ap note_of is ∙ note_of_decimal n (omega (arith, lt, le))))
+
+pub some_below : (limit : ℕ) (text : List ℕ) (n : ℕ) → limit ≤ 2 ^ 32 → Some n ≡ note_of text → n < limit → Some n ≡ number_below limit text
+some_below limit text n le e lt = is_number_below limit (Some n) text (omega (arith, le)) lt (note_of_spells text n (sym e)).1 tt
+
+pub above_none : (limit : ℕ) (text : List ℕ) (n : ℕ) → limit ≤ 2 ^ 32 → Some n ≡ note_of text → limit ≤ n → None ≡ number_below limit text
+above_none limit text n le e large =
+    let s = note_of_spells text n (sym e) in
+    is_number_below limit None text (omega (arith, le)) tt tt
+    (λ m lt same. let own : n ≡ m = decimal_injective n m (omega (arith, s.0)) (omega (arith, lt, le)) (sym s.1 ∙ same) in omega (arith, own, lt, large))

@@ -16,7 +16,7 @@ use Rattle.jlr_wire.specs.Commands.{Fields, IsCommand}
 use Rattle.jlr_wire.specs.Spelling.{has_digits}
 use Rattle.jlr_machine.specs.declared.ask.FullMode.TheVariants.{Policy, ClearAll}
 use Rattle.jlr_wire.specs.declared.command.Command.{Command}
-use Rattle.jlr_wire.specs.declared.command.Command.TheVariants.{New, Put, Get, SetInt, Int, Dup, Drop, Same, Soft, Weak, Phantom, Deref, Refers, Clear, Enqueue, Enqueued, Queue, Poll, Remove, Cleaner, Register, Clean, Open, Connect, Read, Write, Close, Bind, Find, Unbind, Names, Full, Stat, Notes, Faults, Bye}
+use Rattle.jlr_wire.specs.declared.command.Command.TheVariants.{New, Put, Get, SetInt, Int, Dup, Drop, Same, Soft, Weak, Phantom, Deref, Refers, Clear, Enqueue, Enqueued, Queue, Poll, Remove, Cleaner, Register, Clean, Open, Connect, Read, Write, Close, Bind, Find, Unbind, Names, Full, Stat, Notes, Faults, Bye, Array}
 
 -- ---- digits in small letters
 
@@ -94,6 +94,7 @@ one_form : (c : Command) (xs ys : List (List ℕ)) → Fields c xs → Fields c 
 one_form (New a) xs ys f g = inl (f.1 ∙ sym g.1)
 one_form (Put a b c) xs ys f g = inl (f.3 ∙ sym g.3)
 one_form (Get a b) xs ys f g = inl (f.2 ∙ sym g.2)
+one_form (Array n) xs ys f g = inl (f.2 ∙ sym g.2)
 one_form (SetInt a b c) xs ys f g = inl (f.3 ∙ sym g.3)
 one_form (Int a b) xs ys f g = inl (f.2 ∙ sym g.2)
 one_form (Dup a) xs ys f g = inl (f.1 ∙ sym g.1)

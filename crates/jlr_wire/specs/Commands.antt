@@ -10,7 +10,7 @@ use Rattle.jlr_device.specs.declared.device.Mode.TheVariants.{Read as Reading, W
 use Rattle.jlr_machine.specs.declared.ask.FullMode.TheVariants.{Policy, ClearAll}
 use Rattle.jlr_wire.specs.Texts.{IsPath, IsName, AreDigits}
 use Rattle.jlr_wire.specs.declared.command.Command.{Command}
-use Rattle.jlr_wire.specs.declared.command.Command.TheVariants.{New, Put, Get, SetInt, Int, Dup, Drop, Same, Soft, Weak, Phantom, Deref, Refers, Clear, Enqueue, Enqueued, Queue, Poll, Remove, Cleaner, Register, Clean, Open, Connect, Read, Write, Close, Bind, Find, Unbind, Names, Full, Stat, Notes, Faults, Bye}
+use Rattle.jlr_wire.specs.declared.command.Command.TheVariants.{New, Put, Get, SetInt, Int, Dup, Drop, Same, Soft, Weak, Phantom, Deref, Refers, Clear, Enqueue, Enqueued, Queue, Poll, Remove, Cleaner, Register, Clean, Open, Connect, Read, Write, Close, Bind, Find, Unbind, Names, Full, Stat, Notes, Faults, Bye, Array}
 
 -- the letter of a field
 abbrev pub letter : FieldKind → ℕ
@@ -30,11 +30,11 @@ mode_letter Writing = codes "w"
 -- these are the fields of the command; a number has no leading zero
 abbrev pub Fields : Command → List (List ℕ) → Type 0
 Fields (New kinds) fields = (length kinds ≤ 8) × (fields ≡ codes "new" ∷ layout kinds ∷ [])
-Fields (Put h k v) fields = (h < 256) × (k < 256) × (v < 256) × (fields ≡ codes "put" ∷ decimal h ∷ decimal k ∷ decimal v ∷ [])
-Fields (Get h k) fields = (h < 256) × (k < 256) × (fields ≡ codes "get" ∷ decimal h ∷ decimal k ∷ [])
+Fields (Put h k v) fields = (h < 256) × (k < 4096) × (v < 256) × (fields ≡ codes "put" ∷ decimal h ∷ decimal k ∷ decimal v ∷ [])
+Fields (Get h k) fields = (h < 256) × (k < 4096) × (fields ≡ codes "get" ∷ decimal h ∷ decimal k ∷ [])
 Fields (SetInt h k n) fields =
-    (h < 256) × (k < 256) × FitsSigned w64 n × (fields ≡ codes "setint" ∷ decimal h ∷ decimal k ∷ signed_decimal n ∷ [])
-Fields (Int h k) fields = (h < 256) × (k < 256) × (fields ≡ codes "int" ∷ decimal h ∷ decimal k ∷ [])
+    (h < 256) × (k < 4096) × FitsSigned w64 n × (fields ≡ codes "setint" ∷ decimal h ∷ decimal k ∷ signed_decimal n ∷ [])
+Fields (Int h k) fields = (h < 256) × (k < 4096) × (fields ≡ codes "int" ∷ decimal h ∷ decimal k ∷ [])
 Fields (Dup h) fields = (h < 256) × (fields ≡ codes "dup" ∷ decimal h ∷ [])
 Fields (Drop h) fields = (h < 256) × (fields ≡ codes "drop" ∷ decimal h ∷ [])
 Fields (Same a b) fields = (a < 256) × (b < 256) × (fields ≡ codes "same" ∷ decimal a ∷ decimal b ∷ [])
@@ -69,6 +69,7 @@ Fields Stat fields = fields ≡ codes "stat" ∷ []
 Fields Notes fields = fields ≡ codes "notes" ∷ []
 Fields Faults fields = fields ≡ codes "faults" ∷ []
 Fields Bye fields = fields ≡ codes "bye" ∷ []
+Fields (Array n) fields = (1 ≤ n) × (n ≤ 4096) × (fields ≡ codes "array" ∷ decimal n ∷ [])
 
 -- The line, without its end, is the command.
 pub record IsCommand (line : List ℕ) (command : Command) : Type 0 where

@@ -4,9 +4,9 @@ use Rattle.std.specs.Str.{bytes_eq}
 use Rattle.jlr_types.specs.declared.FieldKind.{FieldKind}
 use Rattle.jlr_types.specs.declared.FieldKind.TheVariants.{Int as IntField, Ref as RefField}
 use Rattle.jlr_machine.specs.declared.ask.FullMode.TheVariants.{Policy, ClearAll}
-use Rattle.jlr_wire.specs.Fields.{byte_of, note_of, integer_of, path_of, name_of, data_of, mode_of}
+use Rattle.jlr_wire.specs.Fields.{number_below, byte_of, field_of, note_of, integer_of, path_of, name_of, data_of, mode_of}
 use Rattle.jlr_wire.specs.declared.command.Command.{Command}
-use Rattle.jlr_wire.specs.declared.command.Command.TheVariants.{New, Put, Get, SetInt, Int, Dup, Drop, Same, Soft, Weak, Phantom, Deref, Refers, Clear, Enqueue, Enqueued, Queue, Poll, Remove, Cleaner, Register, Clean, Open, Connect, Read, Write, Close, Bind, Find, Unbind, Names, Full, Stat, Notes, Faults, Bye}
+use Rattle.jlr_wire.specs.declared.command.Command.TheVariants.{New, Put, Get, SetInt, Int, Dup, Drop, Same, Soft, Weak, Phantom, Deref, Refers, Clear, Enqueue, Enqueued, Queue, Poll, Remove, Cleaner, Register, Clean, Open, Connect, Read, Write, Close, Bind, Find, Unbind, Names, Full, Stat, Notes, Faults, Bye, Array}
 
 -- the ? of the logic
 infixl 10 ◌>>=◌
@@ -17,6 +17,10 @@ None >>= f = None
 -- the count of a read that a text spells
 abbrev pub count_of : List ℕ → Option ℕ
 count_of text = byte_of text >>= λ n. cond (nat_le 1 n && nat_le n 200) (Some n) None
+
+-- how many elements a text asks for
+abbrev pub length_of : List ℕ → Option ℕ
+length_of text = number_below 4097 text >>= λ n. cond (nat_le 1 n) (Some n) None
 
 -- the kind that a letter stands for
 abbrev pub kind_of : ℕ → Option FieldKind
@@ -62,9 +66,7 @@ names_with_number a =
 
 abbrev pub names_with_two : ℕ → ℕ → List (List ℕ × Command)
 names_with_two a b =
-    (codes "get", Get a b)
-    ∷ (codes "int", Int a b)
-    ∷ (codes "same", Same a b)
+    (codes "same", Same a b)
     ∷ (codes "soft", Soft a b)
     ∷ (codes "weak", Weak a b)
     ∷ (codes "phantom", Phantom a b)
@@ -88,6 +90,7 @@ names_with_word a =
     ∷ (codes "connect", path_of a >>= λ p. Some (Connect p))
     ∷ (codes "find", name_of a >>= λ n. Some (Find n))
     ∷ (codes "unbind", name_of a >>= λ n. Some (Unbind n))
+    ∷ (codes "array", length_of a >>= λ n. Some (Array n))
     ∷ []
 
 abbrev pub names_with_words : List ℕ → List ℕ → List (List ℕ × Option Command)
@@ -96,6 +99,8 @@ names_with_words a b =
     ∷ (codes "bind", name_of a >>= λ n. byte_of b >>= λ h. Some (Bind n h))
     ∷ (codes "read", byte_of a >>= λ h. count_of b >>= λ n. Some (Read h n))
     ∷ (codes "write", byte_of a >>= λ h. data_of b >>= λ d. Some (Write h d))
+    ∷ (codes "get", byte_of a >>= λ h. field_of b >>= λ k. Some (Get h k))
+    ∷ (codes "int", byte_of a >>= λ h. field_of b >>= λ k. Some (Int h k))
     ∷ []
 
 unfoldable pub with_number : List ℕ → ℕ → Option Command
@@ -118,8 +123,8 @@ reading_3 name a b = among name (names_with_words a b) (byte_of a >>= λ h. byte
 
 unfoldable pub reading_4 : List ℕ → List ℕ → List ℕ → List ℕ → Option Command
 reading_4 name a b c =
-    cond (bytes_eq name (codes "put")) (byte_of a >>= λ h. byte_of b >>= λ k. byte_of c >>= λ v. Some (Put h k v))
-    (cond (bytes_eq name (codes "setint")) (byte_of a >>= λ h. byte_of b >>= λ k. integer_of c >>= λ n. Some (SetInt h k n))
+    cond (bytes_eq name (codes "put")) (byte_of a >>= λ h. field_of b >>= λ k. byte_of c >>= λ v. Some (Put h k v))
+    (cond (bytes_eq name (codes "setint")) (byte_of a >>= λ h. field_of b >>= λ k. integer_of c >>= λ n. Some (SetInt h k n))
     (cond (bytes_eq name (codes "register")) (byte_of a >>= λ k. byte_of b >>= λ h. note_of c >>= λ n. Some (Register k h n)) None))
 
 -- the command of these fields

@@ -11,7 +11,7 @@ ghost use Rattle.jlr_wire.specs.Fields.{is_space, texts};
 use crate::cut::cut_at;
 use crate::integer::integer;
 use crate::layout::layout;
-use crate::number::{count, note, number};
+use crate::number::{count, field, length, note, number};
 use crate::path::Path;
 use crate::pieces::LINE_LIMIT;
 pub use crate::word::Digits;
@@ -20,7 +20,7 @@ use arrayvec::ArrayVec;
 use jlr_device::Mode;
 use jlr_machine::ask::FullMode;
 use jlr_machine::text::Name;
-use jlr_types::{Handle, Layout, Refusal};
+use jlr_types::{FieldNo, Handle, Layout, Length, Refusal};
 
 /// What a line asks for. A handle may be any number from 0 to 255, also one that is never in use.
 #[derive(Drop)]
@@ -32,24 +32,24 @@ pub enum Command<'a> {
     /// `put h k v`: writes a reference field.
     Put {
         object: Handle,
-        field: u8,
+        field: FieldNo,
         value: Handle,
     },
     /// `get h k`: reads a reference field.
     Get {
         object: Handle,
-        field: u8,
+        field: FieldNo,
     },
     /// `setint h k integer`: writes an integer field.
     SetInt {
         object: Handle,
-        field: u8,
+        field: FieldNo,
         value: i64,
     },
     /// `int h k`: reads an integer field.
     Int {
         object: Handle,
-        field: u8,
+        field: FieldNo,
     },
     /// `dup h`: one handle more for the object.
     Dup {
@@ -172,6 +172,10 @@ pub enum Command<'a> {
     Faults,
     /// `bye`: ends the session.
     Bye,
+    /// `array n`: makes an array of references.
+    Array {
+        length: Length,
+    },
 }
 
 /// The most fields of a command, its name among them.
@@ -269,6 +273,9 @@ fn two_fields<'a>(word: &[u8], a: &'a [u8]) -> Option<Command<'a>>
     if is(word, b"unbind") {
         return Some(Command::Unbind { name: name(a)? });
     }
+    if is(word, b"array") {
+        return Some(Command::Array { length: length(a)? });
+    }
     if is(word, b"gc") && is(a, b"soft") {
         return Some(Command::Full {
             mode: FullMode::ClearAll,
@@ -345,6 +352,18 @@ fn three_fields<'a>(word: &[u8], a: &[u8], b: &'a [u8]) -> Option<Command<'a>>
             bytes: Digits::parse(b)?,
         });
     }
+    if is(word, b"get") {
+        return Some(Command::Get {
+            object: Handle::new(number(a)?),
+            field: field(b)?,
+        });
+    }
+    if is(word, b"int") {
+        return Some(Command::Int {
+            object: Handle::new(number(a)?),
+            field: field(b)?,
+        });
+    }
     two_numbers(word, number(a)?, number(b)?)
 }
 
@@ -354,12 +373,6 @@ fn two_numbers<'a>(word: &[u8], a: u8, b: u8) -> Option<Command<'a>>
     ensures { result ≡ with_two_numbers word.now a b }
 {
     let object = Handle::new(a);
-    if is(word, b"get") {
-        return Some(Command::Get { object, field: b });
-    }
-    if is(word, b"int") {
-        return Some(Command::Int { object, field: b });
-    }
     let (left, right) = (object, Handle::new(b));
     if is(word, b"same") {
         return Some(Command::Same { left, right });
@@ -389,14 +402,14 @@ fn four_fields<'a>(word: &[u8], a: &[u8], b: &[u8], c: &[u8]) -> Option<Command<
     if is(word, b"put") {
         return Some(Command::Put {
             object: Handle::new(number(a)?),
-            field: number(b)?,
+            field: field(b)?,
             value: Handle::new(number(c)?),
         });
     }
     if is(word, b"setint") {
         return Some(Command::SetInt {
             object: Handle::new(number(a)?),
-            field: number(b)?,
+            field: field(b)?,
             value: integer(c)?,
         });
     }

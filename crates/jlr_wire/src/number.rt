@@ -1,9 +1,10 @@
 //! The decimal numbers of a line.
 ghost use Rattle.std.specs.Prelude.{ℕ, ◌≡◌, ◌<◌, ◌≤◌, ◌+◌, ◌^◌, IfSome, IfNone, decimal};
-ghost use Rattle.jlr_wire.specs.Fields.{byte_of, note_of};
-ghost use Rattle.jlr_wire.specs.Reading.{count_of};
+ghost use Rattle.jlr_wire.specs.Fields.{byte_of, field_of, note_of};
+ghost use Rattle.jlr_wire.specs.Reading.{count_of, length_of};
 
 use itoa::Buffer;
+use jlr_types::{FieldNo, Length};
 
 /// The most bytes of a read.
 const COUNT_LIMIT: u8 = 200;
@@ -25,6 +26,30 @@ pub fn count(text: &[u8]) -> Option<u8>
         return Some(count);
     }
     None
+}
+
+/// The number of a field, 0 to 4,095, that the text spells in decimal without a leading zero, or `None`.
+#[tactic(auto, using(crate::proofs::Numbers::none_below, crate::proofs::Numbers::some_below, crate::proofs::Numbers::above_none))]
+pub fn field(text: &[u8]) -> Option<FieldNo>
+    ensures { result ≡ field_of text.now }
+{
+    let number = note(text)?;
+    if number >= 4096 {
+        return None;
+    }
+    FieldNo::new(number as u16)
+}
+
+/// How many elements, 1 to 4,096, the text spells in decimal without a leading zero, or `None`.
+#[tactic(auto, using(crate::proofs::Numbers::none_below, crate::proofs::Numbers::some_below, crate::proofs::Numbers::above_none))]
+pub fn length(text: &[u8]) -> Option<Length>
+    ensures { result ≡ length_of text.now }
+{
+    let number = note(text)?;
+    if number >= 4097 {
+        return None;
+    }
+    Length::new(number as u16)
 }
 
 /// The number from 0 to 4,294,967,295 that the text spells in decimal without a leading zero, or `None`.

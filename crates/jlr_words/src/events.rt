@@ -1,9 +1,9 @@
 //! Events by their names.
 use crate::calls::{check_in, finish, opened};
-use crate::words::{byte, handle, layout_of, name, number};
+use crate::words::{byte, field, handle, layout_of, name, number};
 use jlr_event::event::Event;
 use jlr_machine::ask::FullMode;
-use jlr_types::{Handle, Mutator, RefKind};
+use jlr_types::{Handle, Length, Mutator, RefKind};
 use std::str::SplitWhitespace;
 
 /// The event that these words stand for.
@@ -28,12 +28,15 @@ fn asked(mutator: Mutator, ask: &str, words: &mut SplitWhitespace<'_>) -> Option
         "opened" => opened(mutator, words),
         "check_in" => check_in(mutator, words),
         "new" => Some(new(mutator, words)),
+        "array" => array(mutator, words),
         "set_int" => set_int(mutator, words),
         "register" => register(mutator, words),
         "bind" => bind(mutator, words),
         "find" => name(words).map(|name| Event::Find { mutator, name }),
         "unbind" => name(words).map(|name| Event::Unbind { mutator, name }),
         "put" => put(mutator, words),
+        "get" => get(mutator, words),
+        "int" => int(mutator, words),
         "mark" => mark(words),
         _ => short(mutator, ask, words),
     }
@@ -44,9 +47,14 @@ fn new(mutator: Mutator, words: &mut SplitWhitespace<'_>) -> Event<u32> {
     Event::New { mutator, layout }
 }
 
+fn array(mutator: Mutator, words: &mut SplitWhitespace<'_>) -> Option<Event<u32>> {
+    let length = Length::new(number(words)?)?;
+    Some(Event::Array { mutator, length })
+}
+
 fn set_int(mutator: Mutator, words: &mut SplitWhitespace<'_>) -> Option<Event<u32>> {
     let object = handle(words)?;
-    let field = byte(words)?;
+    let field = field(words)?;
     let value = number(words)?;
     Some(Event::SetInt {
         mutator,
@@ -58,13 +66,33 @@ fn set_int(mutator: Mutator, words: &mut SplitWhitespace<'_>) -> Option<Event<u3
 
 fn put(mutator: Mutator, words: &mut SplitWhitespace<'_>) -> Option<Event<u32>> {
     let object = handle(words)?;
-    let field = byte(words)?;
+    let field = field(words)?;
     let value = handle(words)?;
     Some(Event::Put {
         mutator,
         object,
         field,
         value,
+    })
+}
+
+fn get(mutator: Mutator, words: &mut SplitWhitespace<'_>) -> Option<Event<u32>> {
+    let object = handle(words)?;
+    let field = field(words)?;
+    Some(Event::Get {
+        mutator,
+        object,
+        field,
+    })
+}
+
+fn int(mutator: Mutator, words: &mut SplitWhitespace<'_>) -> Option<Event<u32>> {
+    let object = handle(words)?;
+    let field = field(words)?;
+    Some(Event::Int {
+        mutator,
+        object,
+        field,
     })
 }
 
@@ -204,16 +232,6 @@ fn with_two(mutator: Mutator, ask: &str, first: Handle, second: u8) -> Option<Ev
         });
     }
     let event = match ask {
-        "get" => Event::Get {
-            mutator,
-            object: first,
-            field: second,
-        },
-        "int" => Event::Int {
-            mutator,
-            object: first,
-            field: second,
-        },
         "same" => Event::Same {
             mutator,
             left: first,

@@ -2,7 +2,7 @@
 ghost use Rattle.std.specs.Prelude.{◌≤◌};
 
 use jlr_machine::text::{Data, Name};
-use jlr_types::{Fault, FieldKind, Handle, Layout, Refusal};
+use jlr_types::{Fault, FieldKind, FieldNo, Handle, Layout, Refusal};
 use std::str::{FromStr, SplitWhitespace};
 
 pub(crate) fn number<T: FromStr>(words: &mut SplitWhitespace<'_>) -> Option<T>
@@ -14,6 +14,10 @@ where
 
 pub(crate) fn byte(words: &mut SplitWhitespace<'_>) -> Option<u8> {
     number(words)
+}
+
+pub(crate) fn field(words: &mut SplitWhitespace<'_>) -> Option<FieldNo> {
+    FieldNo::new(number(words)?)
 }
 
 pub(crate) fn handle(words: &mut SplitWhitespace<'_>) -> Option<Handle> {
