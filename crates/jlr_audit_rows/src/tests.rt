@@ -1,2 +1,3 @@
 //! The tests, a file for each topic.
+mod older;
 mod verdicts;

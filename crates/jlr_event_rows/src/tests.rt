@@ -19,8 +19,11 @@ const EVENTS: &str = "
     by 3 join
     by 3 leave
     by 3 new ri
+    by 3 array 4096
     by 3 put 4 5 6
+    by 3 put 4 4095 6
     by 3 get 4 5
+    by 3 get 4 300
     by 3 set_int 4 5 -70000
     by 3 int 4 5
     by 3 dup 4

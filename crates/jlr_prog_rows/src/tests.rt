@@ -1,4 +1,5 @@
 //! Sessions as lists of text. The expected texts come from the description of the protocol and of the machine.
+mod arrays;
 mod cleaners;
 mod cuts;
 mod files;

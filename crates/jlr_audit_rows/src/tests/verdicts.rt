@@ -1,4 +1,4 @@
-//! The verdicts on the history of a session without a command, and on what changes make of it.
+//! The verdicts on two histories, one of version 1 and one of version 2, and on what changes make of them.
 use jlr_audit::audit::audit;
 use jlr_audit::spelled::audit_spelled;
 use jlr_audit::verdict::Verdict;
@@ -21,7 +21,19 @@ const FILE: &str = "
     00 01 00 00 00
 ";
 
-// `front 20` is the first twenty bytes of the file, `for 21 24 ff 00` the file with these bytes in place of those from the 21st to the 24th.
+// The same of version 2, with three entries: mutator 0 joins, makes an array of two in cell 0, its handle 1, and leaves.
+const ARRAY_FILE: &str = "
+    4a4c5254 02 00000010 01 0010 0000000000000000
+    00000000 00
+    00000000 00000000 00000000 00000000 00000000 00000000 00000000
+    0000000000000001 0000000000000000 0000000000000000 0000000000000000
+    0000000000000003
+    00 00 00 00 00
+    00 29 00 0002 01 01 02 01 00000000
+    00 01 00 00 00
+";
+
+// `whole` is the file, `front 20` its first twenty bytes, `for 21 24 ff 00` the file with these bytes in place of those from the 21st to the 24th.
 const ROWS: &str = "
     the file as it is, and cut:
     front 103 -> legal 2
@@ -29,6 +41,8 @@ const ROWS: &str = "
 
     the mark, the version, and a byte behind the end:
     for 2 2 58 -> BadMark
+    for 5 5 02 -> legal 2
+    for 5 5 03 -> BadVersion
     for 5 5 09 -> BadVersion
     for 104 103 00 -> BadEntry(3)
 
@@ -69,6 +83,49 @@ const ROWS: &str = "
 
     a history without an entry:
     for 93 103 00 -> legal 0
+
+    an array, and a field's number of two bytes, of which version 1 reads the first:
+    for 21 24 00000001 00000000 07 0001 ffffffff -> BadEntry(0)
+    for 95 95 29 -> BadEntry(1)
+    for 99 103 00 04 00 01 01 00 00 -> illegal 2
+    for 99 103 00 04 00 01 0001 01 00 00 -> BadEntry(3)
+";
+
+// The same of the other file.
+const ARRAY_ROWS: &str = "
+    the file as it is, and in other versions:
+    front 116 -> legal 3
+    for 5 5 01 -> BadEntry(2)
+    for 5 5 03 -> BadVersion
+
+    an array of a length that none has, read whole first, and one in a cell that is none:
+    for 102 103 0000 -> BadEntry(2)
+    for 102 103 1000 -> legal 3
+    for 102 103 1001 -> BadEntry(2)
+    for 108 111 00000010 -> illegal 2
+
+    its elements: null, one that is not there, numbers that no array has, and one too great for a field:
+    for 112 116 00 04 00 01 0001 01 00 00 -> legal 3
+    for 112 116 00 04 00 01 0001 01 01 00 -> illegal 3
+    for 112 116 00 04 00 01 0002 10 06 00 -> legal 3
+    for 112 116 00 04 00 01 0fff 10 06 00 -> legal 3
+    for 112 116 00 04 00 01 1000 10 06 00 -> BadEntry(3)
+
+    an element is set to the array itself; no integer is set or got:
+    for 112 116 00 03 00 01 0001 01 00 00 -> legal 3
+    for 112 116 00 05 00 01 0000 0000000000000001 10 05 00 -> legal 3
+    for 112 116 00 06 00 01 0000 10 05 00 -> legal 3
+    for 112 116 00 06 00 01 1000 10 05 00 -> BadEntry(3)
+
+    arrays in the image: in another cell and in this one, with an element that is not there, too short, too long, and in no cell:
+    for 21 24 00000001 00000001 07 0002 ffffffff 00000001 -> legal 3
+    for 21 24 00000001 00000000 07 0002 ffffffff 00000000 -> illegal 2
+    for 21 24 00000001 00000001 07 0001 00000002 -> illegal 0
+    for 21 24 00000001 00000001 07 0000 -> BadEntry(0)
+    for 21 24 00000001 00000001 07 1001 -> BadEntry(0)
+    for 21 24 00000001 00000001 07 1000 -> Truncated
+    for 21 24 00000001 00000010 07 0001 ffffffff -> illegal 0
+    for 21 24 00000001 00000001 08 -> BadEntry(0)
 ";
 
 fn parsed<T: FromStr>(words: &mut SplitWhitespace<'_>) -> Option<T>
@@ -92,11 +149,16 @@ fn push_decoded(bytes: &mut Vec<u8>, words: &mut SplitWhitespace<'_>) -> Result<
 }
 
 // The file with the change that the words say.
-fn changed(alloc: Global, change: &str) -> Result<Vec<u8>, Fail> {
+fn changed(alloc: Global, file: &str, change: &str) -> Result<Vec<u8>, Fail> {
+    let mut file_words = file.split_whitespace();
     let mut file = Vec::new(alloc);
-    push_decoded(&mut file, &mut FILE.split_whitespace())?;
+    push_decoded(&mut file, &mut file_words)?;
     let mut words = change.split_whitespace();
-    if words.next() == Some("front") {
+    let kind = words.next();
+    if kind == Some("whole") {
+        return Ok(file);
+    }
+    if kind == Some("front") {
         file.truncate(parsed(&mut words).ok_or("no length")?);
         return Ok(file);
     }
@@ -149,8 +211,8 @@ fn told_of_spelled(alloc: Global, bytes: &[u8]) -> Result<String, AllocError> {
     }
 }
 
-fn is_judged(alloc: Global, change: &str, wanted: &str) -> Result<(), Fail> {
-    let bytes = changed(alloc, change)?;
+pub(super) fn is_judged(alloc: Global, file: &str, change: &str, wanted: &str) -> Result<(), Fail> {
+    let bytes = changed(alloc, file, change)?;
     let told = told(alloc, bytes.as_slice())?;
     if told.as_str() != wanted {
         return Err(Fail::new(format_args!("{change} -> {wanted}, and not {told}")));
@@ -164,9 +226,8 @@ fn is_judged(alloc: Global, change: &str, wanted: &str) -> Result<(), Fail> {
     Ok(())
 }
 
-#[test]
-fn files_are_judged_as_the_rows_say(rt: HostRuntime) -> Result<(), Fail> {
-    for row in ROWS.lines() {
+fn are_judged(alloc: Global, file: &str, rows: &str) -> Result<(), Fail> {
+    for row in rows.lines() {
         let row = row.trim();
         if row.is_empty() || row.ends_with(":") {
             continue;
@@ -174,7 +235,13 @@ fn files_are_judged_as_the_rows_say(rt: HostRuntime) -> Result<(), Fail> {
         let Some((change, wanted)) = row.split_once(" -> ") else {
             return Err(Fail::new(format_args!("no row: {row}")));
         };
-        is_judged(rt.alloc(), change, wanted)?;
+        is_judged(alloc, file, change, wanted)?;
     }
     Ok(())
+}
+
+#[test]
+fn files_are_judged_as_the_rows_say(rt: HostRuntime) -> Result<(), Fail> {
+    are_judged(rt.alloc(), FILE, ROWS)?;
+    are_judged(rt.alloc(), ARRAY_FILE, ARRAY_ROWS)
 }

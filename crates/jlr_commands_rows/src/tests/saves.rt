@@ -9,13 +9,15 @@ use std::test::Fail;
 use std::{fs, str};
 
 const ROWS: &str = "
-    nothing -> legal 2
-    new -;drop 1;gc; -> legal 5
-    queue;new -;weak 2 1;drop 2;gc;poll 1; -> legal 9
-    cleaner;new -;register 1 2 7;drop 2;gc;notes; -> legal 11
-    new r;soft 1 0;drop 1;gc soft;deref 1;stat; -> legal 8
-    bind a 1;new -;bind a 1;names;find a;unbind a;get 1 0; -> legal 9
-    new -;bye -> legal 3
+    nothing -> legal 2 version 2
+    new -;drop 1;gc; -> legal 5 version 2
+    queue;new -;weak 2 1;drop 2;gc;poll 1; -> legal 9 version 2
+    cleaner;new -;register 1 2 7;drop 2;gc;notes; -> legal 11 version 2
+    new r;soft 1 0;drop 1;gc soft;deref 1;stat; -> legal 8 version 2
+    bind a 1;new -;bind a 1;names;find a;unbind a;get 1 0; -> legal 9 version 2
+    new -;bye -> legal 3 version 2
+    array 2; -> legal 3 version 2
+    array 3;new -;put 1 2 2;drop 2;gc;get 1 2;array 4096;put 3 4095 1;drop 1;gc; -> legal 12 version 2
 ";
 
 /// Where the tests save a history.

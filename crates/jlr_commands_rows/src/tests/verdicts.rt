@@ -22,15 +22,17 @@ const FILE: &str = "
 /// Each row says how many bytes of the file stand at the front, what stands behind them in place of as many, an arrow, and how the audit ends: the status, what is said, and
 /// what is written. Without bytes there is no file.
 const ROWS: &str = "
-    103 -> 0||legal 2
-    100 01 -> 3||illegal 2 entry 2 of seat 0, leave of mutator 1, answered ok: it has to be refused 13, since the mutator is not joined, or may not join
-    96 0c -> 3||illegal 1 entry 1 of seat 0, join of mutator 0, answered done before: another answer is due
-    93 00 0000 100d 00 00 0100 00 00 -> 3||illegal 1 entry 1 of seat 0, join of mutator 0, answered refused 13: refused 13 says that the mutator is not joined, or may not join, and that is not so
-    93 00 0000 00 01 00000000 00000000 00 0100 00 00 -> 3||illegal 1 entry 1 of seat 0, join of mutator 0, answered ok: its collection may not come here, or keeps or hands over other objects than it may
-    93 00 0000 00 02 01 00000000 00 0100 00 00 -> 3||illegal 1 entry 1 of seat 0, join of mutator 0, answered ok: it makes 0 objects, each in a free cell of its own, and the entry tells others
-    60 00 -> 3||illegal 0 the image is not well formed
+    103 -> 0||legal 2 version 1
+    100 01 -> 3||illegal 2 version 1 entry 2 of seat 0, leave of mutator 1, answered ok: it has to be refused 13, since the mutator is not joined, or may not join
+    96 0c -> 3||illegal 1 version 1 entry 1 of seat 0, join of mutator 0, answered done before: another answer is due
+    93 00 0000 100d 00 00 0100 00 00 -> 3||illegal 1 version 1 entry 1 of seat 0, join of mutator 0, answered refused 13: refused 13 says that the mutator is not joined, or may not join, and that is not so
+    93 00 0000 00 01 00000000 00000000 00 0100 00 00 -> 3||illegal 1 version 1 entry 1 of seat 0, join of mutator 0, answered ok: its collection may not come here, or keeps or hands over other objects than it may
+    93 00 0000 00 02 01 00000000 00 0100 00 00 -> 3||illegal 1 version 1 entry 1 of seat 0, join of mutator 0, answered ok: it makes 0 objects, each in a free cell of its own, and the entry tells others
+    60 00 -> 3||illegal 0 version 1 the image is not well formed
     102 -> 4|refheap: trace truncated|
     1 58 -> 4|refheap: bad mark|
+    4 02 -> 0||legal 2 version 2
+    4 03 -> 4|refheap: bad version|
     4 09 -> 4|refheap: bad version|
     103 00 -> 4|refheap: bad entry 3|
     94 29 -> 4|refheap: bad entry 1|

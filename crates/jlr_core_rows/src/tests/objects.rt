@@ -3,7 +3,7 @@ use super::script::{events_of, play_all, shape_of};
 use super::{image_after, replies_to};
 use jlr_event::event::Reply;
 use jlr_machine::machine::Machine;
-use jlr_machine::object::{Object, RefState, Reference};
+use jlr_machine::object::{Contents, Object, RefState, Reference};
 use jlr_types::{FieldValue, RefKind, Slot};
 use std::alloc::{AllocError, Global};
 use std::test::Fail;
@@ -41,6 +41,20 @@ const LISTS: &str = "
     weak 1 0 -> refused HandlesFull
     same 1 250 -> yes
 
+== an array is made, written and read
+    join -> done
+    array 3 -> handle 1
+    new -> handle 2
+    put 1 2 2 -> done
+    drop 2 -> done
+    full -> done
+    get 1 2 -> handle 2
+    get 1 0 -> handle 0
+    int 1 0 -> refused WrongKind
+    set_int 1 0 5 -> refused WrongKind
+    get 1 3 -> refused NoField
+    put 1 3 0 -> refused NoField
+
 == an outcome hands its resource back
     opened 5 -> refused NoSession 5
     join -> done
@@ -60,7 +74,7 @@ fn lists_of_objects(rt: HostRuntime) -> Result<(), Fail> {
 // An object with a field that refers to a weak reference to it.
 fn shows_a_pair(image: &Machine) -> bool {
     let pair = [FieldValue::Ref(Some(Slot::new(1))), FieldValue::Int(0)];
-    matches!(image.objects.get(0), Some(Object::Plain(fields)) if fields.as_slice() == pair.as_slice())
+    matches!(image.objects.get(0), Some(Object::Plain(Contents::Typed(fields))) if fields.as_slice() == pair.as_slice())
 }
 
 fn shows_its_reference(image: &Machine) -> bool {

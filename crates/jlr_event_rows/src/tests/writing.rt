@@ -1,6 +1,6 @@
 //! Asks and answers, written in words.
 use jlr_machine::ask::{Answer, Ask, CallOutcome, FullMode, Outcome};
-use jlr_types::{Fault, FieldKind, Handle, Layout, Mutator, RefKind};
+use jlr_types::{Fault, FieldKind, FieldNo, Handle, Layout, Mutator, RefKind};
 use std::alloc::{AllocError, Global};
 
 // The mutator by its number, a word, and the numbers behind it.
@@ -40,6 +40,10 @@ pub(super) fn with_resource(
 
 fn held(handle: &Handle) -> i64 {
     i64::from(handle.number())
+}
+
+fn numbered(field: FieldNo) -> i64 {
+    i64::from(field.number())
 }
 
 fn kind(kind: &RefKind) -> &'static str {
@@ -102,6 +106,12 @@ pub(super) fn ask_text(alloc: Global, ask: &Ask) -> Result<String, AllocError> {
         Ask::New { mutator, layout } => {
             ended(alloc, "new", mutator, letters(alloc, layout)?.as_str())
         }
+        Ask::Array { mutator, length } => line(
+            alloc,
+            "array",
+            mutator,
+            &[i64::from(length.number())],
+        ),
         Ask::Put {
             mutator,
             object,
@@ -111,13 +121,13 @@ pub(super) fn ask_text(alloc: Global, ask: &Ask) -> Result<String, AllocError> {
             alloc,
             "put",
             mutator,
-            &[held(object), i64::from(*field), held(value)],
+            &[held(object), numbered(*field), held(value)],
         ),
         Ask::Get {
             mutator,
             object,
             field,
-        } => line(alloc, "get", mutator, &[held(object), i64::from(*field)]),
+        } => line(alloc, "get", mutator, &[held(object), numbered(*field)]),
         Ask::SetInt {
             mutator,
             object,
@@ -127,13 +137,13 @@ pub(super) fn ask_text(alloc: Global, ask: &Ask) -> Result<String, AllocError> {
             alloc,
             "set_int",
             mutator,
-            &[held(object), i64::from(*field), *value],
+            &[held(object), numbered(*field), *value],
         ),
         Ask::Int {
             mutator,
             object,
             field,
-        } => line(alloc, "int", mutator, &[held(object), i64::from(*field)]),
+        } => line(alloc, "int", mutator, &[held(object), numbered(*field)]),
         Ask::Dup { mutator, object } => line(alloc, "dup", mutator, &[held(object)]),
         Ask::Drop { mutator, object } => line(alloc, "drop", mutator, &[held(object)]),
         Ask::Same {

@@ -5,7 +5,9 @@ use jlr_machine::items::Items;
 use jlr_machine::machine::{
     Binding, Call, Failure, Job, Machine, Resource, ResourceState, Session,
 };
-use jlr_machine::object::{CleanState, Cleanable, Fields, Guard, Object, RefState, Reference};
+use jlr_machine::object::{
+    CleanState, Cleanable, Contents, Elements, Fields, Guard, Object, RefState, Reference,
+};
 use jlr_machine::table::Table;
 use jlr_machine::text::Name;
 use jlr_types::{ActionNo, Fault, FieldValue, RefKind, Rid, Slot, Work};
@@ -19,7 +21,13 @@ fn plain(alloc: Global) -> Result<Object, AllocError> {
         FieldValue::Ref(None),
     ];
     let fields = Fields::from_vec(copy_slice(alloc, &fields)?).ok_or(AllocError)?;
-    Ok(Object::Plain(fields))
+    Ok(Object::Plain(Contents::Typed(fields)))
+}
+
+fn array(alloc: Global) -> Result<Object, AllocError> {
+    let elements = copy_slice(alloc, &[None, slot(9)])?;
+    let elements = Elements::from_vec(elements).ok_or(AllocError)?;
+    Ok(Object::Plain(Contents::Elements(elements)))
 }
 
 fn waiting() -> Reference {
@@ -56,6 +64,7 @@ fn objects(alloc: Global) -> Result<Table<Object>, AllocError> {
     places.push(Some(Object::Cleaner))?;
     places.push(Some(Object::Guard(guard())))?;
     places.push(Some(Object::Cleanable(armed())))?;
+    places.push(Some(array(alloc)?))?;
     Ok(Table::from_vec(places))
 }
 
@@ -165,7 +174,7 @@ pub(super) fn failure() -> Failure {
 // Each of these says whether a copy holds what the value above was given.
 
 fn has_the_plain_object(object: Option<&Object>) -> bool {
-    let Some(Object::Plain(fields)) = object else {
+    let Some(Object::Plain(Contents::Typed(fields))) = object else {
         return false;
     };
     let fields = fields.as_slice();
@@ -173,6 +182,14 @@ fn has_the_plain_object(object: Option<&Object>) -> bool {
         && fields.first().copied() == Some(FieldValue::Int(-7))
         && fields.get(1).copied() == Some(FieldValue::Ref(slot(1)))
         && fields.get(2).copied() == Some(FieldValue::Ref(None))
+}
+
+fn has_the_array(object: Option<&Object>) -> bool {
+    match object {
+        Some(Object::Plain(Contents::Elements(elements))) => elements.as_slice()
+            == [None, slot(9)].as_slice(),
+        _ => false,
+    }
 }
 
 fn has_the_queue(object: Option<&Object>) -> bool {
@@ -235,9 +252,10 @@ fn has_the_counts(machine: &Machine) -> bool {
 }
 
 fn has_the_objects(objects: &Table<Object>) -> bool {
-    objects.len() == 7
+    objects.len() == 8
         && has_the_plain_object(objects.get(0))
         && has_the_queue(objects.get(2))
+        && has_the_array(objects.get(7))
         && objects.get(3).is_none()
         && matches!(objects.get(4), Some(Object::Cleaner))
         && has_the_small_objects(objects)

@@ -1,7 +1,7 @@
 //! Small machines that are well formed, and for each part one that breaks just it.
 use jlr_machine::items::Items;
 use jlr_machine::machine::{Call, Machine, Resource, ResourceState, Session};
-use jlr_machine::object::{CleanState, Cleanable, Fields, Object, RefState, Reference};
+use jlr_machine::object::{CleanState, Cleanable, Contents, Fields, Object, RefState, Reference};
 use jlr_machine::table::Table;
 use jlr_plain_images::calls::are_calls;
 use jlr_plain_images::image::{image_plain, well_formed_plain};
@@ -105,10 +105,14 @@ fn session(
     })
 }
 
+fn plain(fields: Fields) -> Object {
+    Object::Plain(Contents::Typed(fields))
+}
+
 /// The empty machine with a plain object in cell 0, this object in cell 1, an empty cell 2, and this mutator.
 fn with(alloc: Global, object: Option<Object>, session: Session) -> Result<Machine, AllocError> {
     let mut objects = Vec::new(alloc);
-    objects.push(Fields::from_vec(Vec::new(alloc)).map(Object::Plain))?;
+    objects.push(Fields::from_vec(Vec::new(alloc)).map(plain))?;
     objects.push(object)?;
     objects.push(None)?;
     let mut mutators = Vec::new(alloc);

@@ -1,6 +1,6 @@
 //! Whether two machines are the same, part by part.
 use jlr_machine::machine::{Binding, Machine, Session};
-use jlr_machine::object::Object;
+use jlr_machine::object::{Contents, Object};
 
 pub(crate) fn same_machine(left: &Machine, right: &Machine) -> bool {
     same_tables(left, right) && same_lists(left, right) && same_numbers(left, right)
@@ -47,11 +47,20 @@ fn same_places(left: &Option<Object>, right: &Option<Object>) -> bool {
     }
 }
 
+fn same_contents(left: &Contents, right: &Contents) -> bool {
+    match left {
+        Contents::Typed(one) => {
+            matches!(right, Contents::Typed(other) if one.as_slice() == other.as_slice())
+        }
+        Contents::Elements(one) => {
+            matches!(right, Contents::Elements(other) if one.as_slice() == other.as_slice())
+        }
+    }
+}
+
 fn same_object(left: &Object, right: &Object) -> bool {
     match left {
-        Object::Plain(one) => {
-            matches!(right, Object::Plain(other) if one.as_slice() == other.as_slice())
-        }
+        Object::Plain(one) => matches!(right, Object::Plain(other) if same_contents(one, other)),
         Object::Reference(one) => matches!(right, Object::Reference(other) if one == other),
         Object::Queue(one) => {
             matches!(right, Object::Queue(other) if one.as_slice() == other.as_slice())

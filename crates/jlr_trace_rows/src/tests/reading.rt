@@ -1,4 +1,5 @@
-//! The history of a session without a command, its fronts, and what a byte that is changed makes of it.
+//! Two histories, one of version 1 and one of version 2, their fronts, and what a byte that is changed makes of them.
+use jlr_fields::version::Version;
 use jlr_trace::file::read_trace;
 use jlr_trace::spelled::spelled_trace;
 use std::alloc::{AllocError, Global};
@@ -16,15 +17,29 @@ const FILE: &str = "
     00 01 00 00 00
 ";
 
+// The same of version 2, with three entries: mutator 0 joins, makes an array of two in cell 0, its handle 1, and leaves.
+const ARRAY_FILE: &str = "
+    4a4c5254 02 00000010 01 0010 0000000000000000
+    00000000 00
+    00000000 00000000 00000000 00000000 00000000 00000000 00000000
+    0000000000000001 0000000000000000 0000000000000000 0000000000000000
+    0000000000000003
+    00 00 00 00 00
+    00 29 00 0002 01 01 02 01 00000000
+    00 01 00 00 00
+";
+
 // `byte 5 2` is the file with 2 in its fifth byte, `behind 0` the file with a byte more, `front 20` its first twenty bytes; `bytes` tells all of them.
 const ROWS: &str = "
-    front 103 -> 2 entries behind 0
-    byte 20 7 -> 2 entries behind 7
-    byte 101 1 -> 2 entries behind 0
+    front 103 -> 2 entries behind 0 in version 1
+    byte 20 7 -> 2 entries behind 7 in version 1
+    byte 101 1 -> 2 entries behind 0 in version 1
     byte 1 0 -> BadMark
     byte 4 83 -> BadMark
     byte 5 0 -> BadVersion
-    byte 5 2 -> BadVersion
+    byte 5 2 -> 2 entries behind 0 in version 2
+    byte 5 3 -> BadVersion
+    byte 5 9 -> BadVersion
     byte 21 255 -> Truncated
     byte 25 2 -> BadEntry(0)
     byte 26 255 -> Truncated
@@ -46,6 +61,21 @@ const ROWS: &str = "
     front 102 -> Truncated
 ";
 
+// The same of the other file: its 100th byte is the number of its second ask, and the 102nd and 103rd are the length of the array.
+const ARRAY_ROWS: &str = "
+    front 116 -> 3 entries behind 0 in version 2
+    byte 5 1 -> BadEntry(2)
+    byte 5 0 -> BadVersion
+    byte 5 3 -> BadVersion
+    byte 100 42 -> BadEntry(2)
+    byte 102 15 -> 3 entries behind 0 in version 2
+    byte 102 16 -> BadEntry(2)
+    byte 103 0 -> BadEntry(2)
+    byte 103 1 -> 3 entries behind 0 in version 2
+    front 102 -> Truncated
+    behind 0 -> BadEntry(4)
+";
+
 fn decoded(alloc: Global, text: &str) -> Result<Vec<u8>, Fail> {
     let mut bytes = Vec::new(alloc);
     for word in text.split_whitespace() {
@@ -59,12 +89,19 @@ fn decoded(alloc: Global, text: &str) -> Result<Vec<u8>, Fail> {
     Ok(bytes)
 }
 
+fn number_of(version: Version) -> u8 {
+    match version {
+        Version::One => 1,
+        Version::Two => 2,
+    }
+}
+
 // What the bytes are read as.
 fn told(alloc: Global, bytes: &[u8]) -> Result<String, AllocError> {
     match read_trace(alloc, bytes) {
         Ok(file) => {
-            let (count, base) = (file.entries.len(), file.base);
-            format!(in alloc; "{count} entries behind {base}")
+            let (count, base, version) = (file.entries.len(), file.base, number_of(file.version));
+            format!(in alloc; "{count} entries behind {base} in version {version}")
         }
         Err(fault) => format!(in alloc; "{fault:?}"),
     }
@@ -74,8 +111,8 @@ fn told(alloc: Global, bytes: &[u8]) -> Result<String, AllocError> {
 fn told_of_spelled(alloc: Global, bytes: &[u8]) -> Result<String, AllocError> {
     match spelled_trace(alloc, bytes) {
         Ok(trace) => {
-            let (count, base) = (trace.count(), trace.base());
-            format!(in alloc; "{count} entries behind {base}")
+            let (count, base, version) = (trace.count(), trace.base(), number_of(trace.version()));
+            format!(in alloc; "{count} entries behind {base} in version {version}")
         }
         Err(fault) => format!(in alloc; "{fault:?}"),
     }
@@ -89,8 +126,8 @@ where
 }
 
 // The file with the change that the words say.
-fn changed(alloc: Global, change: &str) -> Result<Vec<u8>, Fail> {
-    let mut bytes = decoded(alloc, FILE)?;
+fn changed(alloc: Global, file: &str, change: &str) -> Result<Vec<u8>, Fail> {
+    let mut bytes = decoded(alloc, file)?;
     let mut words = change.split_whitespace();
     match words.next() {
         Some("front") => bytes.truncate(parsed(&mut words).ok_or("no length")?),
@@ -106,8 +143,8 @@ fn changed(alloc: Global, change: &str) -> Result<Vec<u8>, Fail> {
     Ok(bytes)
 }
 
-fn is_read_as(alloc: Global, change: &str, wanted: &str) -> Result<(), Fail> {
-    let bytes = changed(alloc, change)?;
+fn is_read_as(alloc: Global, file: &str, change: &str, wanted: &str) -> Result<(), Fail> {
+    let bytes = changed(alloc, file, change)?;
     let told = told(alloc, bytes.as_slice())?;
     if told.as_str() != wanted {
         return Err(Fail::new(format_args!("{change} -> {wanted}, and not {told}")));
@@ -118,18 +155,23 @@ fn is_read_as(alloc: Global, change: &str, wanted: &str) -> Result<(), Fail> {
     Ok(())
 }
 
-#[test]
-fn files_are_read_as_the_rows_say(rt: HostRuntime) -> Result<(), Fail> {
-    let alloc = rt.alloc();
-    for row in ROWS.trim().lines() {
+// Each row, and that each proper front is truncated.
+fn are_read_as_told(alloc: Global, file: &str, rows: &str) -> Result<(), Fail> {
+    for row in rows.trim().lines() {
         let Some((change, wanted)) = row.trim().split_once(" -> ") else {
             return Err(Fail::new(format_args!("no row: {row}")));
         };
-        is_read_as(alloc, change, wanted)?;
+        is_read_as(alloc, file, change, wanted)?;
     }
-    for length in 0..103usize {
+    for length in 0..decoded(alloc, file)?.len() {
         let front = format!(in alloc; "front {length}")?;
-        is_read_as(alloc, front.as_str(), "Truncated")?;
+        is_read_as(alloc, file, front.as_str(), "Truncated")?;
     }
     Ok(())
+}
+
+#[test]
+fn files_are_read_as_the_rows_say(rt: HostRuntime) -> Result<(), Fail> {
+    are_read_as_told(rt.alloc(), FILE, ROWS)?;
+    are_read_as_told(rt.alloc(), ARRAY_FILE, ARRAY_ROWS)
 }

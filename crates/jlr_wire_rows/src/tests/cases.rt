@@ -1,7 +1,7 @@
 //! Commands held against words: the name of the case, and its parts.
 use jlr_device::Mode;
 use jlr_machine::ask::FullMode;
-use jlr_types::{FieldKind, Handle, Layout};
+use jlr_types::{FieldKind, FieldNo, Handle, Layout};
 use jlr_wire::command::Command;
 use std::str::SplitWhitespace;
 
@@ -24,6 +24,10 @@ fn is_number(number: u64, words: &mut SplitWhitespace<'_>) -> bool {
 
 fn is_handle(handle: &Handle, words: &mut SplitWhitespace<'_>) -> bool {
     is_number(u64::from(handle.number()), words)
+}
+
+fn is_field(field: FieldNo, words: &mut SplitWhitespace<'_>) -> bool {
+    is_number(u64::from(field.number()), words)
 }
 
 fn is_byte(byte: u8, words: &mut SplitWhitespace<'_>) -> bool {
@@ -87,6 +91,8 @@ fn are_bytes(bytes: &[u8], words: &mut SplitWhitespace<'_>) -> bool {
 fn is_object_case(command: &Command<'_>, case: &str, words: &mut SplitWhitespace<'_>) -> bool {
     match command {
         Command::New { layout } => case == "New" && is_layout(layout, words),
+        Command::Array { length } => case == "Array"
+            && is_number(u64::from(length.number()), words),
         Command::Put {
             object,
             field,
@@ -94,11 +100,11 @@ fn is_object_case(command: &Command<'_>, case: &str, words: &mut SplitWhitespace
         } => {
             case == "Put"
                 && is_handle(object, words)
-                && is_byte(*field, words)
+                && is_field(*field, words)
                 && is_handle(value, words)
         }
         Command::Get { object, field } => {
-            case == "Get" && is_handle(object, words) && is_byte(*field, words)
+            case == "Get" && is_handle(object, words) && is_field(*field, words)
         }
         Command::SetInt {
             object,
@@ -107,11 +113,11 @@ fn is_object_case(command: &Command<'_>, case: &str, words: &mut SplitWhitespace
         } => {
             case == "SetInt"
                 && is_handle(object, words)
-                && is_byte(*field, words)
+                && is_field(*field, words)
                 && is_value(*value, words)
         }
         Command::Int { object, field } => {
-            case == "Int" && is_handle(object, words) && is_byte(*field, words)
+            case == "Int" && is_handle(object, words) && is_field(*field, words)
         }
         Command::Dup { object } => case == "Dup" && is_handle(object, words),
         Command::Drop { object } => case == "Drop" && is_handle(object, words),

@@ -12,7 +12,14 @@ const ROWS: &str = "
     new ri -> New ri
     new rrrrrrrr -> New rrrrrrrr
     new rirririr -> New rirririr
+    array 1 -> Array 1
+    array 17 -> Array 17
+    array 4096 -> Array 4096
     put 1 0 255 -> Put 1 0 255
+    put 1 4095 2 -> Put 1 4095 2
+    get 1 300 -> Get 1 300
+    int 1 4095 -> Int 1 4095
+    setint 1 1000 5 -> SetInt 1 1000 5
     get 2 7 -> Get 2 7
     int 1 0 -> Int 1 0
     int 255 255 -> Int 255 255

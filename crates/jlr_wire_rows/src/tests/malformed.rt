@@ -132,7 +132,16 @@ const LINES: &str = "
     |get 1 00|
     |get +1 0|
     |get -1 0|
-    |get 1 256|
+    |get 1 4096|
+    |array|
+    |array 0|
+    |array 4097|
+    |array 01|
+    |array -1|
+    |array 2 2|
+    |array x|
+    |array 65537|
+    |array 4294967297|
     |dup 256|
     |dup 1000|
     |dup 0x1|
@@ -148,7 +157,7 @@ const LINES: &str = "
     |enqueued 01|
     |poll 300|
     |int 01 0|
-    |int 1 256|
+    |int 1 4096|
     |setint 256 0 5|
     |setint 1 00 5|
     |register 256 2 7|
@@ -161,7 +170,7 @@ const LINES: &str = "
     |put 01 0 2|
     |put 256 0 2|
     |put 1 00 2|
-    |put 1 256 2|
+    |put 1 4096 2|
     |put 1 0 -1|
     |put 1 0 256|
     |get 256 0|
@@ -188,7 +197,7 @@ const LINES: &str = "
     |int 256 0|
     |int 1 00|
     |setint 01 0 5|
-    |setint 1 256 5|
+    |setint 1 4096 5|
     |register 1 01 7|
     == other layouts and integers
     |new --|
