@@ -155,7 +155,7 @@ def audits(checks):
     checks.said("the audit of an empty device", checks.run(["audit", "/dev/null"]), (4, b"", b"refheap: trace truncated\n"))
     checks.run(["run", "--cells", "16", "--save", "history"], "new -\n")
     writer = subprocess.Popen(["sh", "-c", f"cat {checks.path('history')} > {checks.path('fifo')}"])
-    checks.said("the audit of a FIFO", checks.run(["audit", "fifo"]), (0, b"legal 3\n", b""))
+    checks.said("the audit of a FIFO", checks.run(["audit", "fifo"]), (0, b"legal 3 version 2\n", b""))
     writer.wait()
     with open(checks.path("large"), "wb") as file:
         file.write(open(checks.path("history"), "rb").read()[:8])

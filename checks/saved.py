@@ -3,7 +3,7 @@
 
     checks/saved.py [PROGRAM] [SESSIONS] [SEED]
 
-SESSIONS is 1,000 where nothing is said. A saved history is `legal N`, N its entries. A changed one is legal, illegal or damaged, with status 0, 3 or 4, and no
+SESSIONS is 1,000 where nothing is said. A saved history is `legal N version 2`, N its entries. A changed one is legal, illegal or damaged, with status 0, 3 or 4, and no
 crash; how often which is printed. Then saves that have to fail, those over what stands there, and those of servers.
 """
 import collections
@@ -197,7 +197,7 @@ def try_sessions(program, count, seed):
                 data = file.read()
             entries = struct.unpack_from(">Q", data, entries_at(data))[0]
             verdict = audit(program, "saved", folder)
-            if verdict != (0, f"legal {entries}\n", ""):
+            if verdict != (0, f"legal {entries} version 2\n", ""):
                 raise Wrong(f"session {number}: {verdict}, due is legal {entries}")
             told["saved and legal"] += 1
             with open(os.path.join(folder, "changed"), "wb") as file:
@@ -251,7 +251,7 @@ def wants(name, got, wanted):
 
 
 def is_saved(program, folder, name):
-    return audit(program, name, folder)[:2] == (0, "legal 3\n")
+    return audit(program, name, folder)[:2] == (0, "legal 3 version 2\n")
 
 
 def try_places(program):
@@ -290,7 +290,7 @@ def try_places(program):
             os.remove(there(f"busy.new{number}"))
         wants("no new file is left", sorted(os.listdir(folder)), ["dangling", "directory", "link", "other", "saved"])
         wants("a session that fails is saved too", run(program, ["run", "--cells", "16", "--save", "failed"], "new -", folder)[::2], (4, "refheap: unfinished line\n"))
-        wants("and is legal", audit(program, "failed", folder)[:2], (0, "legal 2\n"))
+        wants("and is legal", audit(program, "failed", folder)[:2], (0, "legal 2 version 2\n"))
         if os.geteuid() != 0:
             os.chmod(folder, 0o500)
             wants("no save in a folder that is only read", save(folder, "saved"), (1, "= 1\n", "refheap: cannot save saved\n"))
@@ -329,7 +329,7 @@ def try_servers(program):
             status, out, said = serve(program, folder, [*words, "--save", "saved"])
             entries = out.split()[-1] if out else ""
             wants(f"a server {words} ends well", (status, out, said), (0, f"served 2\nentries {entries}\n", ""))
-            wants("its history is saved and legal", audit(program, "saved", folder), (0, f"legal {entries}\n", ""))
+            wants("its history is saved and legal", audit(program, "saved", folder), (0, f"legal {entries} version 2\n", ""))
         status, out, said = serve(program, folder, ["--save", "none/saved"])
         wants("a server that cannot save says so", (status, out.startswith("served 2\n"), said), (1, True, "refheap: cannot save none/saved\n"))
 

@@ -23,16 +23,16 @@ NONE = 0xFFFFFFFF
 
 ASKS = """Join Leave New Put Get SetInt Int Dup Drop Same MakeRef Deref Refers Clear Enqueue Enqueued MakeQueue
 Poll Remove MakeCleaner Register Clean Prepare Opened CheckOut CheckIn Close Finish Bind Find Unbind Names Full
-Stat Notes Faults HandOver TakeUp Begin Collect Abandon""".split()
+Stat Notes Faults HandOver TakeUp Begin Collect Abandon Array""".split()
 
-# The operands of each ask behind its tag, a letter each: b u8, i i64, n u32, a u64, t text, o outcome, c outcome of a call.
+# The operands of each ask behind its tag, a letter each: b u8, k a field's number, h u16, i i64, n u32, a u64, t text, o outcome, c outcome of a call.
 OPERANDS = {
-    "Join": "b", "Leave": "b", "New": "bt", "Put": "bbbb", "Get": "bbb", "SetInt": "bbbi", "Int": "bbb", "Dup": "bb",
+    "Join": "b", "Leave": "b", "New": "bt", "Put": "bbkb", "Get": "bbk", "SetInt": "bbki", "Int": "bbk", "Dup": "bb",
     "Drop": "bb", "Same": "bbb", "MakeRef": "bbbb", "Deref": "bb", "Refers": "bbb", "Clear": "bb", "Enqueue": "bb",
     "Enqueued": "bb", "MakeQueue": "b", "Poll": "bb", "Remove": "bb", "MakeCleaner": "b", "Register": "bbbn", "Clean": "bb",
     "Prepare": "b", "Opened": "bo", "CheckOut": "bb", "CheckIn": "bc", "Close": "bb", "Finish": "bao", "Bind": "btb",
     "Find": "bt", "Unbind": "bt", "Names": "b", "Full": "bb", "Stat": "b", "Notes": "b", "Faults": "b",
-    "HandOver": "", "TakeUp": "", "Begin": "", "Collect": "", "Abandon": "",
+    "HandOver": "", "TakeUp": "", "Begin": "", "Collect": "", "Abandon": "", "Array": "bh",
 }
 OUTCOMES = ["ok", "notfound", "denied", "other"]
 KINDS = ["soft", "weak", "phantom"]
@@ -54,6 +54,7 @@ class Bytes:
     def __init__(self, data):
         self.data = data
         self.place = 0
+        self.version = 1
 
     def take(self, count):
         if len(self.data) - self.place < count:
@@ -67,6 +68,9 @@ class Bytes:
 
     def u8(self):
         return self.number("B")
+
+    def u16(self):
+        return self.number("H")
 
     def u32(self):
         return self.number("I")
@@ -143,6 +147,8 @@ def read_object(bytes_, born):
         return Obj("cleanable", born, referent=referent, action=action, work=work, state=CLEAN_STATES[bytes_.u8()])
     if kind == 6:
         return Obj("guard", born, rid=bytes_.u32(), cleanable=bytes_.u32())
+    if kind == 7 and bytes_.version > 1:
+        return Obj("array", born, fields=[bytes_.slot() for _ in range(bytes_.u16())])
     raise Damaged(f"an object of kind {kind}")
 
 
@@ -165,6 +171,10 @@ def read_mutator(bytes_):
 def read_operand(bytes_, letter):
     if letter == "b":
         return bytes_.u8()
+    if letter == "k":
+        return bytes_.u16() if bytes_.version > 1 else bytes_.u8()
+    if letter == "h":
+        return bytes_.u16()
     if letter == "i":
         return bytes_.number("q")
     if letter == "n":
@@ -226,7 +236,8 @@ class History:
         bytes_ = self.bytes
         if bytes_.take(4) != b"JLRT":
             raise Damaged("this is no saved history")
-        if bytes_.u8() != 1:
+        bytes_.version = bytes_.u8()
+        if bytes_.version not in (1, 2):
             raise Damaged("another version of the file")
         bytes_.u32()
         self.sessions = bytes_.u8()
@@ -260,7 +271,7 @@ class History:
         for _ in range(min(self.count, most)):
             seat = self.bytes.u8()
             tag = self.bytes.u8()
-            if tag >= len(ASKS):
+            if tag >= len(ASKS) or (ASKS[tag] == "Array" and self.bytes.version == 1):
                 raise Damaged(f"an ask of tag {tag}")
             ask = ASKS[tag]
             operands = [read_operand(self.bytes, letter) for letter in OPERANDS[ask]]
@@ -321,6 +332,10 @@ class History:
         mutator, layout = operands
         self.make(fresh[0], "plain", fields=[None if letter == "r" else 0 for letter in layout])
         self.give(mutator, answer, fresh[0])
+
+    def on_array(self, operands, answer, fresh):
+        self.make(fresh[0], "array", fields=[None] * operands[1])
+        self.give(operands[0], answer, fresh[0])
 
     def on_put(self, operands, answer, fresh):
         mutator, object_, field, value = operands
@@ -488,7 +503,7 @@ class Resource:
 # ---- Drawing
 
 COLOURS = {
-    "plain": "#9db4c0", "queue": "#c9ada7", "cleaner": "#b5a7d6", "guard": "#e0b070", "Fresh": "#7fb069", "Pending": "#f4d35e",
+    "plain": "#9db4c0", "array": "#7c9aa8", "queue": "#c9ada7", "cleaner": "#b5a7d6", "guard": "#e0b070", "Fresh": "#7fb069", "Pending": "#f4d35e",
     "Queued": "#ee964b", "Removed": "#bbbbbb", "Armed": "#7fb069", "Lined": "#ee964b", "Spent": "#bbbbbb", "Opening": "#f4d35e",
     "Idle": "#7fb069", "Out": "#4f86c6", "Closing": "#ee964b",
 }

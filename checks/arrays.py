@@ -1,0 +1,118 @@
+#!/usr/bin/env python3
+"""Arrays: what they take is given back, whether they are refused or collected, and a session lives on where memory for more is refused.
+
+    checks/arrays.py PROGRAM [--arrays N]
+
+A session makes N arrays of 4,096 elements (100,000) that are refused, since its 16 cells are full, and another as many that are given up and
+collected: the memory at the end is held against that after the first tenth. A third session, which may have 512 MB, makes arrays in 65,536 cells
+until one is refused for want of memory (`! 1`): all before it are there, and once they are given up there is room again.
+"""
+import argparse
+import resource
+import subprocess
+import sys
+
+LIMIT = 512 * 1024 * 1024
+BATCH = 100
+
+
+class Session:
+    """A session that lines are sent to, and whose replies are read."""
+
+    def __init__(self, program, *words, limit=None):
+        self.process = subprocess.Popen(
+            [program, "run", *words], stdin=subprocess.PIPE, stdout=subprocess.PIPE, preexec_fn=(lambda: limited(limit)) if limit else None
+        )
+
+    def ask(self, *lines):
+        self.process.stdin.write("".join(line + "\n" for line in lines).encode())
+        self.process.stdin.flush()
+        return [self.process.stdout.readline().decode().rstrip("\n") for _ in lines]
+
+    def memory(self):
+        """What of it is in memory, in kB."""
+        with open(f"/proc/{self.process.pid}/status") as status:
+            return next(int(line.split()[1]) for line in status if line.startswith("VmRSS:"))
+
+    def close(self):
+        self.ask("bye")
+        self.process.stdin.close()
+        return self.process.wait()
+
+
+def limited(limit):
+    resource.setrlimit(resource.RLIMIT_AS, (limit, limit))
+
+
+def said(name, holds, *told):
+    print("ok     " if holds else "FAILED ", name, *told)
+    return 0 if holds else 1
+
+
+def flat(name, session, arrays, lines, wanted):
+    """Asks these lines again and again, and looks whether the memory stays what it was after the first tenth."""
+    early, failed = 0, 0
+    for turn in range(arrays // BATCH):
+        replies = session.ask(*lines * BATCH)
+        failed += replies != wanted * BATCH
+        if turn + 1 == max(1, arrays // BATCH // 10):
+            early = session.memory()
+    late = session.memory()
+    faults = said(f"{name} are answered as they have to be", failed == 0)
+    faults += said(f"{name} leave the memory as it was", late - early < 256, f"({early} kB, {late} kB)")
+    return faults + said("the session ends", session.close() == 0)
+
+
+def refused(program, arrays):
+    session = Session(program, "--cells", "16", "--trace", "64")
+    session.ask(*["new -"] * 16)
+    return flat("arrays without a cell", session, arrays, ["array 4096"], ["! 2"])
+
+
+def collected(program, arrays):
+    session = Session(program, "--cells", "16", "--trace", "64")
+    return flat("arrays that are given up", session, arrays, ["array 4096", "drop 1"], ["= 1", "ok"])
+
+
+def made(session):
+    """Makes arrays, each held by an element of another, until one is refused. Says how many there are, and what the refusal was."""
+    session.ask("array 4096")
+    count = 1
+    for place in range(4096):
+        count += 1
+        first = session.ask("array 4096")[0]
+        if first != "= 2":
+            return count - 1, first
+        session.ask(f"put 1 {place} 2")
+        for inner in range(15):
+            told = session.ask("array 4096")[0]
+            if told != "= 3":
+                return count, told
+            count += 1
+            session.ask(f"put 2 {inner} 3", "drop 3")
+        session.ask("drop 2")
+    return count, "none"
+
+
+def starved(program):
+    session = Session(program, "--cells", "65536", "--trace", "1000000", limit=LIMIT)
+    count, told = made(session)
+    faults = said("an array is refused for want of memory", told == "! 1", f"({count} arrays stand, then {told})")
+    faults += said("those before it stand", session.ask("stat")[0] == f"stat {count} 0 0 0 0")
+    session.ask("drop 1", "drop 2", "gc")
+    faults += said("they go when they are given up", session.ask("stat")[0] == "stat 0 0 0 0 0")
+    faults += said("there is room again", session.ask("array 4096")[0] == "= 1")
+    return faults + said("the session ends", session.close() == 0)
+
+
+def main():
+    words = argparse.ArgumentParser(description="what arrays take, and give back")
+    words.add_argument("program")
+    words.add_argument("--arrays", type=int, default=100_000)
+    words = words.parse_args()
+    faults = refused(words.program, words.arrays) + collected(words.program, words.arrays) + starved(words.program)
+    return 1 if faults else 0
+
+
+if __name__ == "__main__":
+    sys.exit(main())
