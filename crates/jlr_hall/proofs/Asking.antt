@@ -6,7 +6,7 @@ use Rattle.jlr_types.specs.declared.Refusal.TheVariants.{NoMemory, Exhausted}
 use Rattle.jlr_types.specs.declared.Work.TheVariants.{Note, Resource as OnResource}
 use Rattle.jlr_machine.specs.declared.machine.Machine.{Machine}
 use Rattle.jlr_machine.specs.declared.ask.Ask.{Ask}
-use Rattle.jlr_machine.specs.declared.ask.Ask.TheVariants.{Prepare, Names, Notes as NotesAsk, Faults}
+use Rattle.jlr_machine.specs.declared.ask.Ask.TheVariants.{Prepare, Names, Notes as NotesAsk, Faults, Array}
 use Rattle.jlr_machine.specs.declared.ask.Answer.{Answer}
 use Rattle.jlr_machine.specs.declared.ask.Answer.TheVariants.{Refused}
 use Rattle.jlr_machine.specs.declared.ask.Answer.TheVariants as answer
@@ -36,6 +36,7 @@ none_at_ends m t (Prepare k) end w = absurd (cc end)
 none_at_ends m t (Names k) end w = absurd (cc end)
 none_at_ends m t (NotesAsk k) end w = absurd (cc end)
 none_at_ends m t (Faults k) end w = absurd (cc end)
+none_at_ends m t (Array k n) end w = absurd (cc end)
 none_at_ends m t ask end w = w
 
 -- how the number of the last entry goes on with an ask: by one, or by two where a cut gave up a cycle; or it stays, and the ask is declined
