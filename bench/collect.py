@@ -106,13 +106,13 @@ def graph(builder, count):
 
 
 class Plain:
-    """The plain mark-sweep over the same objects, one collection at a time."""
+    """A plain mark-sweep, that of the source of this name, over the same objects, one collection at a time."""
 
-    def __init__(self, edges, root):
+    def __init__(self, edges, root, source="plain_mark_sweep"):
         self.live = len(edges)
         self.folder = tempfile.TemporaryDirectory()
-        program = os.path.join(self.folder.name, "plain_mark_sweep")
-        subprocess.run(["rustc", "-O", os.path.join(HERE, "plain_mark_sweep.rs"), "-o", program], check=True)
+        program = os.path.join(self.folder.name, source)
+        subprocess.run(["rustc", "-O", os.path.join(HERE, f"{source}.rs"), "-o", program], check=True)
         objects = os.path.join(self.folder.name, "objects")
         with open(objects, "w") as out:
             for fields in edges:

@@ -1,3 +1,4 @@
 //! The tests, a file for each topic.
 mod older;
+mod reading;
 mod verdicts;

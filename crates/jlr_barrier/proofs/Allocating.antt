@@ -3,16 +3,20 @@ use Rattle.std.proofs.Common.{◌≡◌, ◌≤◌, ◌<◌, ◌+◌, ℕ, ◌�
 use Rattle.std.specs.List.{flat_map}
 use Rattle.std.specs.Option.{option_to_list}
 use Rattle.std.proofs.lemmas.Bool.{both_ways, cases_eq, false_from_ne_true}
+use Rattle.jlr_machine.specs.declared.object.Contents.TheVariants.{Elements}
 use Rattle.jlr_machine.specs.declared.object.Object.{Object}
+use Rattle.jlr_machine.specs.declared.object.Object.TheVariants.{Plain}
 use Rattle.jlr_machine.specs.Objects.{Heap, any_referent, at, set_at, ◌∈◌}
 use Rattle.jlr_machine.specs.Edges.{edges_from, strong_edges, is_own_root, active_cleanables}
 use Rattle.jlr_machine.specs.Edges.Chain.{Strong}
 use Rattle.jlr_laws.proofs.Sets.{nothing}
 use Rattle.jlr_laws.proofs.Clearing.{in_append, in_left, in_right, option_in}
-use Rattle.jlr_laws.proofs.Frames.{set_same, set_other}
-use Rattle.jlr_marks.specs.Marking.{Blackened, Marking, IsMarked, is_marked, marked as count}
+use Rattle.jlr_laws.proofs.Frames.{no_some, set_same, set_other}
+use Rattle.jlr_marks.specs.declared.part.Part.{Part}
+use Rattle.jlr_marks.specs.Marking.{Blackened, Marking, IsMarked, is_marked, marked as count, place}
 use Rattle.jlr_marks.proofs.Counting.{count_marks}
 use Rattle.jlr_barrier.specs.Graphs.{Clock, Graph, Known, held, with_objects}
+use Rattle.jlr_barrier.specs.Parts.{IsInProgress, ahead_at, edges_ahead}
 use Rattle.jlr_barrier.specs.Snapshots.{IsEdge, IsObject, RefersTo, IsSafe, IsSnapshot, IsInHand, cycle_of, FitsTogether}
 use Rattle.jlr_barrier.proofs.Held.{by_session, by_name, by_pending, by_line, by_itself, held_cases}
 use Rattle.jlr_barrier.proofs.OwnRoots.{active_gives, active_from}
@@ -23,6 +27,7 @@ module _ (k : Known) (a b s : ℕ) (p : Object) (clock : Clock) (n : Marking) (f
     (as_long : length clock.last_gets ≡ length k.clock.last_gets)
     (bits : n.bits ≡ slice_set k.marking.bits s true) (grey : n.grey ≡ k.marking.grey)
     (same_discovered : n.discovered ≡ k.marking.discovered)
+    (same_part : n.part ≡ k.marking.part)
     (leads : (y : ℕ) → y ∈ strong_edges p → IsSafe (cycle_of k.graph k.marking) y)
     (refers : (y : ℕ) → any_referent p ≡ Some y → IsSafe (cycle_of k.graph k.marking) y) where
   abbrev old : Heap
@@ -40,16 +45,22 @@ module _ (k : Known) (a b s : ℕ) (p : Object) (clock : Clock) (n : Marking) (f
   beside : (x : ℕ) → (x ≡ s → ⊥) → at other x ≡ at old x
   beside x d = set_other old s x (Some p) d
 
-  no_edges : (y : ℕ) → ¬ (y ∈ edges_from Strong old s)
-  no_edges y h = nothing y (subst (λ z. y ∈ flat_map strong_edges (option_to_list z)) free h)
-
   edges_beside : (x y : ℕ) → (x ≡ s → ⊥) → y ∈ edges_from Strong other x → y ∈ edges_from Strong old x
   edges_beside x y d h = subst (λ z. y ∈ flat_map strong_edges (option_to_list z)) (beside x d) h
 
-  edges_stay : (x y : ℕ) → y ∈ edges_from Strong old x → y ∈ edges_from Strong other x
-  edges_stay x y h = elim (cases_eq x s) [
-    | inl e ↦ absurd (no_edges y (subst (λ z. y ∈ edges_from Strong old z) e h))
-    | inr d ↦ subst (λ z. y ∈ flat_map strong_edges (option_to_list z)) (sym (beside x d)) h
+  none_ahead : (y : ℕ) → ¬ (y ∈ ahead_at old (place k.marking s) s)
+  none_ahead y h = nothing y (subst (λ z. y ∈ flat_map (edges_ahead (place k.marking s)) (option_to_list z)) free h)
+
+  ahead_stay : (x y : ℕ) → y ∈ ahead_at old (place k.marking x) x → y ∈ ahead_at other (place k.marking x) x
+  ahead_stay x y h = elim (cases_eq x s) [
+    | inl e ↦ absurd (none_ahead y (subst (λ z. y ∈ ahead_at old (place k.marking z) z) e h))
+    | inr d ↦ subst (λ z. y ∈ flat_map (edges_ahead (place k.marking x)) (option_to_list z)) (sym (beside x d)) h
+  ]
+
+  still_placed : (q : Part) → IsInProgress old q → IsInProgress other q
+  still_placed q i = elim (cases_eq q.slot s) [
+    | inl e ↦ no_some (Plain (Elements i.elements)) (sym free ∙ ap (at old) (sym e) ∙ i.there)
+    | inr d ↦ record { elements = i.elements; there = beside q.slot d ∙ i.there; parts = i.parts; whole = i.whole; more = i.more }
   ]
 
   edges_new : (y : ℕ) → y ∈ edges_from Strong other s → IsSafe (cycle_of k.graph k.marking) y
@@ -94,10 +105,10 @@ module _ (k : Known) (a b s : ℕ) (p : Object) (clock : Clock) (n : Marking) (f
   referents_new : (y : ℕ) → RefersTo other s y → IsSafe (cycle_of k.graph k.marking) y
   referents_new y h = refers y (subst (λ z. option_and_then any_referent z ≡ Some y) here h)
 
-  taken : IsSnapshot (cycle_of after (record { bits = n.bits; grey = k.marking.grey; discovered = k.marking.discovered }))
+  taken : IsSnapshot (cycle_of after (record { bits = n.bits; grey = k.marking.grey; discovered = k.marking.discovered; part = k.marking.part }))
   taken =
-      snapshot_of_new (cycle_of k.graph k.marking) s (IsEdge other) (IsEdge other) (RefersTo other) (λ y. y ∈ held after) (IsMarked n) f.snapshot (marked_or_not k.marking) (marked_or_not n) kept marked black
-      no_edges edges_beside edges_stay edges_new referents_beside referents_new (λ x. cases_eq x s) held_before
+      snapshot_of_new (cycle_of k.graph k.marking) s (IsEdge other) (λ x y. y ∈ ahead_at other (place k.marking x) x) (RefersTo other) (λ y. y ∈ held after) (IsMarked n) f.snapshot (marked_or_not k.marking) (marked_or_not n) kept marked black
+      none_ahead edges_beside ahead_stay edges_new referents_beside referents_new (λ x. cases_eq x s) held_before
 
   still_objects : (x : ℕ) → IsMarked n x → IsObject other x
   still_objects x on = elim (cases_eq x s) [
@@ -115,26 +126,30 @@ module _ (k : Known) (a b s : ℕ) (p : Object) (clock : Clock) (n : Marking) (f
         links = subst (λ n. n ≡ a) (sym long) f.links;
         two = f.two;
         objects = still_objects;
+        started = λ q e. subst (λ l. q.slot ∈ l) (sym grey) (f.started q (sym same_part ∙ e));
+        placed = λ q e. still_placed q (f.placed q (sym same_part ∙ e));
         snapshot =
-            subst (λ d. IsSnapshot (cycle_of after (record { bits = n.bits; grey = n.grey; discovered = d }))) (sym same_discovered)
-            (subst (λ g. IsSnapshot (cycle_of after (record { bits = n.bits; grey = g; discovered = k.marking.discovered }))) (sym grey) taken);
+            subst (λ q. IsSnapshot (cycle_of after (record { bits = n.bits; grey = n.grey; discovered = n.discovered; part = q }))) (sym same_part)
+            (subst (λ d. IsSnapshot (cycle_of after (record { bits = n.bits; grey = n.grey; discovered = d; part = k.marking.part }))) (sym same_discovered)
+            (subst (λ g. IsSnapshot (cycle_of after (record { bits = n.bits; grey = g; discovered = k.marking.discovered; part = k.marking.part }))) (sym grey) taken));
       }
 
 pub allocated_in_hand : (k : Known) (a b s : ℕ) (p : Object) (clock : Clock) (n : Marking) → FitsTogether k a b → s < length k.graph.objects → at k.graph.objects s ≡ None → length clock.last_gets ≡ length k.clock.last_gets
-    → n.bits ≡ slice_set k.marking.bits s true → n.grey ≡ k.marking.grey → n.discovered ≡ k.marking.discovered → ((y : ℕ) → y ∈ (strong_edges p ++ option_to_list (any_referent p)) → IsInHand k y)
+    → n.bits ≡ slice_set k.marking.bits s true → n.grey ≡ k.marking.grey → n.discovered ≡ k.marking.discovered → n.part ≡ k.marking.part → ((y : ℕ) → y ∈ (strong_edges p ++ option_to_list (any_referent p)) → IsInHand k y)
     → FitsTogether (record k { graph = with_objects k.graph (set_at k.graph.objects s p); clock = clock; marking = n }) a b
-allocated_in_hand k a b s p clock n f inside free as_long bits grey discovered held =
-    allocated k a b s p clock n f inside free as_long bits grey discovered
+allocated_in_hand k a b s p clock n f inside free as_long bits grey discovered part held =
+    allocated k a b s p clock n f inside free as_long bits grey discovered part
     (λ y h. in_hand_safe k f.snapshot y (held y (in_left y (strong_edges p) (option_to_list (any_referent p)) h)))
     (λ y h. in_hand_safe k f.snapshot y (held y (in_right y (strong_edges p) (option_to_list (any_referent p)) (option_in y (any_referent p) h))))
 
-pub blackened : (k : Known) (a b s : ℕ) (n : Marking) → FitsTogether k a b → s < length k.graph.objects → n.bits ≡ slice_set k.marking.bits s true → n.grey ≡ k.marking.grey → n.discovered ≡ k.marking.discovered → Blackened s k.marking n
-blackened k a b s n f inside bits grey discovered =
+pub blackened : (k : Known) (a b s : ℕ) (n : Marking) → FitsTogether k a b → s < length k.graph.objects → n.bits ≡ slice_set k.marking.bits s true → n.grey ≡ k.marking.grey → n.discovered ≡ k.marking.discovered → n.part ≡ k.marking.part → Blackened s k.marking n
+blackened k a b s n f inside bits grey discovered part =
     record {
       marked = subst (λ l. get_or l s false ≡ true) (sym bits) (get_or-set_same k.marking.bits s true false (omega (arith, inside, f.bits)));
       bits = bits;
       grey = grey;
       discovered = discovered;
+      part = part;
     }
 
 -- a free cell was white, so that one more is marked

@@ -1,31 +1,39 @@
 -- More marks, and another object at a slot, keep a heap together.
-use Rattle.std.proofs.Common.{◌≡◌, ◌≤◌, ℕ, ◌⊎◌, inl, inr, Bool, false, IsTrue, [], Option, Some, None, length, slice_set, is_some, option_and_then, option_map, refl, sym, subst, ap, ◌∙◌, length-set}
+use Rattle.std.proofs.Common.{◌≡◌, ◌≤◌, ◌<◌, ℕ, ◌⊎◌, inl, inr, Bool, false, IsTrue, List, [], Option, Some, None, length, slice_set, is_some, option_and_then, option_map, refl, sym, subst, ap, ◌∙◌, length-set}
 use Rattle.std.specs.List.{flat_map}
 use Rattle.std.specs.Option.{option_to_list}
 use Rattle.std.proofs.lemmas.Bool.{both_ways, cases_eq}
+use Rattle.jlr_machine.specs.declared.object.Contents.{Contents}
+use Rattle.jlr_machine.specs.declared.object.Contents.TheVariants.{Elements}
 use Rattle.jlr_machine.specs.declared.object.Object.{Object}
-use Rattle.jlr_machine.specs.Objects.{Heap, any_referent, at, change_at, some_and, ◌∈◌}
+use Rattle.jlr_machine.specs.declared.object.Object.TheVariants.{Plain, Reference, Queue, Cleaner, Cleanable, Guard}
+use Rattle.jlr_machine.specs.Objects.{Heap, any_referent, as_fields, at, change_at, some_and, ◌∈◌}
 use Rattle.jlr_machine.specs.Edges.{strong_edges, is_own_root, active_cleanables}
 use Rattle.jlr_laws.proofs.Sets.{nothing}
 use Rattle.jlr_laws.proofs.Clearing.{in_append, in_left}
-use Rattle.jlr_laws.proofs.Frames.{set_same, set_other, place_within}
-use Rattle.jlr_marks.specs.Marking.{Marking, IsMarked, Shaded}
+use Rattle.jlr_laws.proofs.Frames.{no_some, set_same, set_other, some_same, place_within}
+use Rattle.jlr_marks.specs.declared.part.Part.{Part}
+use Rattle.jlr_marks.specs.Marking.{Marking, IsMarked, Shaded, place, place_in}
 use Rattle.jlr_barrier.specs.Graphs.{Graph, Known, held, with_objects}
+use Rattle.jlr_barrier.specs.Parts.{IsInProgress, ahead_at, edges_ahead}
 use Rattle.jlr_barrier.specs.Snapshots.{IsEdge, IsObject, RefersTo, IsSafe, IsSnapshot, cycle_of, FitsTogether}
 use Rattle.jlr_barrier.proofs.Held.{by_session, by_name, by_pending, by_line, by_itself, held_cases}
 use Rattle.jlr_barrier.proofs.OwnRoots.{active_gives, active_from}
 use Rattle.jlr_barrier.proofs.Keeping.{snapshot_of_changed, snapshot_of_shaded}
-use Rattle.jlr_barrier.proofs.Fitting.{marked_or_not}
+use Rattle.jlr_barrier.proofs.Fitting.{marked_or_not, whole_of}
 
 -- ---- More marks
 
+still_ahead : (heap : Heap) (m n : Marking) (x y : ℕ) → n.part ≡ m.part → y ∈ ahead_at heap (place m x) x → y ∈ ahead_at heap (place n x) x
+still_ahead heap m n x y same h = subst (λ q. y ∈ ahead_at heap (place_in q x) x) (sym same) h
+
 pub snapshot_shaded : (T : ℕ → Type 0) (g : Graph) (m n : Marking) → IsSnapshot (cycle_of g m) → Shaded T m n → IsSnapshot (cycle_of g n)
 snapshot_shaded T g m n i s =
-    snapshot_of_shaded (cycle_of g m) (IsEdge g.objects) (IsMarked n) (λ x. x ∈ n.grey) (λ x. x ∈ n.discovered) i (marked_or_not m) (marked_or_not n) s.kept
+    snapshot_of_shaded (cycle_of g m) (λ x y. y ∈ ahead_at g.objects (place n x) x) (IsMarked n) (λ x. x ∈ n.grey) (λ x. x ∈ n.discovered) i (marked_or_not m) (marked_or_not n) s.kept
     (λ x on. elim (s.added x on) [ inl was ↦ inl was | inr new ↦ inr new.1 ])
     (λ x h. elim (s.grey_marked x h) [ inl was ↦ s.kept x (i.grey x was) | inr on ↦ on ])
-    (λ x y h e. inl (s.grey_kept x h, e))
-    (λ x y white e. e)
+    (λ x y h e. inl (s.grey_kept x h, still_ahead g.objects m n x y s.part_same e))
+    (λ x y white e. still_ahead g.objects m n x y s.part_same e)
     (λ x d. subst (λ l. x ∈ l) (sym s.discovered_same) d)
     (λ x y h q. inl (s.grey_kept x h))
 
@@ -41,6 +49,8 @@ more_marks T k a b n f there s =
       links = f.links;
       two = f.two;
       objects = objects_shaded T k.graph.objects k.marking n f.objects there s;
+      started = λ p e. s.grey_kept p.slot (f.started p (sym s.part_same ∙ e));
+      placed = λ p e. f.placed p (sym s.part_same ∙ e);
       snapshot = snapshot_shaded T k.graph k.marking n f.snapshot s;
     }
 
@@ -50,11 +60,18 @@ edges_here heap x y o e h = elim (in_append y (strong_edges o) [] (subst (λ z. 
 edges_there : (heap : Heap) (x y : ℕ) (o : Object) → at heap x ≡ Some o → y ∈ strong_edges o → IsEdge heap x y
 edges_there heap x y o e h = subst (λ z. y ∈ flat_map strong_edges (option_to_list z)) (sym e) (in_left y (strong_edges o) [] h)
 
+ahead_here : (heap : Heap) (x y from : ℕ) (o : Object) → at heap x ≡ Some o → y ∈ ahead_at heap from x → y ∈ edges_ahead from o
+ahead_here heap x y from o e h = elim (in_append y (edges_ahead from o) [] (subst (λ z. y ∈ flat_map (edges_ahead from) (option_to_list z)) e h)) [ inl a ↦ a | inr n ↦ nothing y n ]
+
+ahead_there : (heap : Heap) (x y from : ℕ) (o : Object) → at heap x ≡ Some o → y ∈ edges_ahead from o → y ∈ ahead_at heap from x
+ahead_there heap x y from o e h = subst (λ z. y ∈ flat_map (edges_ahead from) (option_to_list z)) (sym e) (in_left y (edges_ahead from o) [] h)
+
 -- ---- Another object at s
 
 module _ (k : Known) (a b s : ℕ) (o p : Object) (f : FitsTogether k a b) (there : at k.graph.objects s ≡ Some o)
     (gained : (y : ℕ) → y ∈ strong_edges p → (y ∈ strong_edges o) ⊎ IsSafe (cycle_of k.graph k.marking) y)
-    (lost : (y : ℕ) → y ∈ strong_edges o → (y ∈ strong_edges p) ⊎ IsMarked k.marking y)
+    (ahead : (from y : ℕ) → y ∈ edges_ahead from o → (y ∈ edges_ahead from p) ⊎ IsMarked k.marking y)
+    (array : (e : List (Option ℕ)) → o ≡ Plain (Elements e) → (l : List (Option ℕ)) × (p ≡ Plain (Elements l)) × (length l ≡ length e))
     (refers : (y : ℕ) → any_referent p ≡ Some y → (any_referent o ≡ Some y) ⊎ IsSafe (cycle_of k.graph k.marking) y)
     (own : IsTrue (is_own_root (Some p)) → IsTrue (is_own_root (Some o)) ⊎ IsSafe (cycle_of k.graph k.marking) s) where
   abbrev old : Heap
@@ -72,9 +89,6 @@ module _ (k : Known) (a b s : ℕ) (o p : Object) (f : FitsTogether k a b) (ther
   edges_beside : (x y : ℕ) → (x ≡ s → ⊥) → IsEdge other x y → IsEdge old x y
   edges_beside x y d h = subst (λ z. y ∈ flat_map strong_edges (option_to_list z)) (beside x d) h
 
-  edges_back : (x y : ℕ) → (x ≡ s → ⊥) → IsEdge old x y → IsEdge other x y
-  edges_back x y d h = subst (λ z. y ∈ flat_map strong_edges (option_to_list z)) (sym (beside x d)) h
-
   edges_gained : (x y : ℕ) → IsEdge other x y → IsEdge old x y ⊎ IsSafe (cycle_of k.graph k.marking) y
   edges_gained x y h = elim (cases_eq x s) [
     | inl e ↦ elim (gained y (edges_here other s y p here (subst (λ z. IsEdge other z y) e h))) [
@@ -84,13 +98,28 @@ module _ (k : Known) (a b s : ℕ) (o p : Object) (f : FitsTogether k a b) (ther
     | inr d ↦ inl (edges_beside x y d h)
   ]
 
-  edges_lost : (x y : ℕ) → IsEdge old x y → IsEdge other x y ⊎ IsMarked k.marking y
-  edges_lost x y h = elim (cases_eq x s) [
-    | inl e ↦ elim (lost y (edges_here old s y o there (subst (λ z. IsEdge old z y) e h))) [
-      | inl still ↦ inl (subst (λ z. IsEdge other z y) (sym e) (edges_there other s y p here still))
+  ahead_lost : (x y : ℕ) → y ∈ ahead_at old (place k.marking x) x → (y ∈ ahead_at other (place k.marking x) x) ⊎ IsMarked k.marking y
+  ahead_lost x y h = elim (cases_eq x s) [
+    | inl e ↦ elim (ahead (place k.marking x) y (ahead_here old s y (place k.marking x) o there (subst (λ z. y ∈ ahead_at old (place k.marking x) z) e h))) [
+      | inl still ↦ inl (subst (λ z. y ∈ ahead_at other (place k.marking x) z) (sym e) (ahead_there other s y (place k.marking x) p here still))
       | inr on ↦ inr on
     ]
-    | inr d ↦ inl (edges_back x y d h)
+    | inr d ↦ inl (subst (λ z. y ∈ flat_map (edges_ahead (place k.marking x)) (option_to_list z)) (sym (beside x d)) h)
+  ]
+
+  still_placed : (q : Part) → IsInProgress old q → IsInProgress other q
+  still_placed q i = elim (cases_eq q.slot s) [
+    | inl e ↦
+        let was : o ≡ Plain (Elements i.elements) = some_same o (Plain (Elements i.elements)) (sym there ∙ ap (at old) (sym e) ∙ i.there) in
+        let now = array i.elements was in
+        record {
+          elements = now.0;
+          there = ap (at other) e ∙ here ∙ ap (λ z. Some z) now.1;
+          parts = i.parts;
+          whole = i.whole;
+          more = subst (λ n. q.place < n) (sym now.2) i.more;
+        }
+    | inr d ↦ record { elements = i.elements; there = beside q.slot d ∙ i.there; parts = i.parts; whole = i.whole; more = i.more }
   ]
 
   referents_gained : (x y : ℕ) → RefersTo other x y → RefersTo old x y ⊎ IsSafe (cycle_of k.graph k.marking) y
@@ -139,18 +168,21 @@ module _ (k : Known) (a b s : ℕ) (o p : Object) (f : FitsTogether k a b) (ther
         links = subst (λ n. n ≡ a) (sym long) f.links;
         two = f.two;
         objects = still_objects;
+        started = f.started;
+        placed = λ q e. still_placed q (f.placed q e);
         snapshot =
-            snapshot_of_changed (cycle_of k.graph k.marking) (IsEdge other) (IsEdge other) (RefersTo other) (λ y. y ∈ held after) f.snapshot (λ x y on e. edges_gained x y e) edges_lost (λ x y e. inr e) (λ x y on q. referents_gained x y q)
-            held_before;
+            snapshot_of_changed (cycle_of k.graph k.marking) (IsEdge other) (λ x y. y ∈ ahead_at other (place k.marking x) x) (RefersTo other) (λ y. y ∈ held after) f.snapshot (λ x y on e. edges_gained x y e) ahead_lost
+            (whole_of other k.marking f.started f.snapshot.grey) (λ x y on q. referents_gained x y q) held_before;
       }
 
 -- ---- The object at s changed by g
 
--- what a change of an object may do: strong edges and referents that it gains lead to what is safe, strong edges that it loses led to what is marked, and it
--- is a root by itself only if it was one or is safe
+-- what a change of an object may do: strong edges and referents that it gains lead to what is safe, strong edges from any place on that it loses led to
+-- what is marked, an array has as many elements, and it is a root by itself only if it was one or is safe
 pub record Keeps (k : Known) (s : ℕ) (o p : Object) : Type 0 where
   pub gained : (y : ℕ) → y ∈ strong_edges p → (y ∈ strong_edges o) ⊎ IsSafe (cycle_of k.graph k.marking) y
-  pub lost : (y : ℕ) → y ∈ strong_edges o → (y ∈ strong_edges p) ⊎ IsMarked k.marking y
+  pub ahead : (from y : ℕ) → y ∈ edges_ahead from o → (y ∈ edges_ahead from p) ⊎ IsMarked k.marking y
+  pub array : (e : List (Option ℕ)) → o ≡ Plain (Elements e) → (l : List (Option ℕ)) × (p ≡ Plain (Elements l)) × (length l ≡ length e)
   pub refers : (y : ℕ) → any_referent p ≡ Some y → (any_referent o ≡ Some y) ⊎ IsSafe (cycle_of k.graph k.marking) y
   pub own : IsTrue (is_own_root (Some p)) → IsTrue (is_own_root (Some o)) ⊎ IsSafe (cycle_of k.graph k.marking) s
 
@@ -161,15 +193,69 @@ changed_there k a b s g f keeps None e h = absurd (both_ways false refl h)
 changed_there k a b s g f keeps (Some o) e h =
     let c = keeps o e in
     subst (λ z. FitsTogether (record k { graph = with_objects k.graph (slice_set k.graph.objects s (option_map g z)) }) a b) (sym e)
-    (other_object k a b s o (g o) f e c.gained c.lost c.refers c.own)
+    (other_object k a b s o (g o) f e c.gained c.ahead c.array c.refers c.own)
 
 pub changed_object : (k : Known) (a b s : ℕ) (g : Object → Object) → FitsTogether k a b → ((o : Object) → at k.graph.objects s ≡ Some o → Keeps k s o (g o)) → IsObject k.graph.objects s
     → FitsTogether (record k { graph = with_objects k.graph (change_at k.graph.objects s g) }) a b
 changed_object k a b s g f keeps there = changed_there k a b s g f keeps (at k.graph.objects s) refl there
 
+-- ---- An object whose fields or elements are as before, changed by g
+
+plain_is : (p : Object) (c : Contents) → as_fields p ≡ Some c → p ≡ Plain c
+plain_is (Plain d) c e = ap {A = Contents} {B = Object} (λ z. Plain z) (some_same d c e)
+plain_is (Reference r) c e = no_some c e
+plain_is (Queue members) c e = no_some c e
+plain_is Cleaner c e = no_some c e
+plain_is (Cleanable d) c e = no_some c e
+plain_is (Guard g) c e = no_some c e
+
+no_fields_ahead : (p : Object) (from : ℕ) → as_fields p ≡ None → edges_ahead from p ≡ strong_edges p
+no_fields_ahead (Plain c) from e = no_some c (sym e)
+no_fields_ahead (Reference r) from e = refl
+no_fields_ahead (Queue members) from e = refl
+no_fields_ahead Cleaner from e = refl
+no_fields_ahead (Cleanable c) from e = refl
+no_fields_ahead (Guard g) from e = refl
+
+module _ (M : ℕ → Type 0) (p : Object) where
+  still_ahead_of : (o : Object) (from y : ℕ) → as_fields p ≡ None → (y ∈ strong_edges p) ⊎ M y → (y ∈ edges_ahead from p) ⊎ M y
+  still_ahead_of o from y e (inl still) = inl (subst (λ l. y ∈ l) (sym (no_fields_ahead p from e)) still)
+  still_ahead_of o from y e (inr on) = inr on
+
+  lost_ahead : (o : Object) → as_fields p ≡ as_fields o → ((y : ℕ) → y ∈ strong_edges o → (y ∈ strong_edges p) ⊎ M y) → (from y : ℕ) → y ∈ edges_ahead from o → (y ∈ edges_ahead from p) ⊎ M y
+  lost_ahead (Plain c) e lost from y h = inl (subst (λ z. y ∈ edges_ahead from z) (sym (plain_is p c e)) h)
+  lost_ahead (Reference r) e lost from y h = still_ahead_of (Reference r) from y e (lost y h)
+  lost_ahead (Queue members) e lost from y h = still_ahead_of (Queue members) from y e (lost y h)
+  lost_ahead Cleaner e lost from y h = still_ahead_of Cleaner from y e (lost y h)
+  lost_ahead (Cleanable c) e lost from y h = still_ahead_of (Cleanable c) from y e (lost y h)
+  lost_ahead (Guard g) e lost from y h = still_ahead_of (Guard g) from y e (lost y h)
+
+pub record Alters (k : Known) (s : ℕ) (o p : Object) : Type 0 where
+  pub fields : as_fields p ≡ as_fields o
+  pub gained : (y : ℕ) → y ∈ strong_edges p → (y ∈ strong_edges o) ⊎ IsSafe (cycle_of k.graph k.marking) y
+  pub lost : (y : ℕ) → y ∈ strong_edges o → (y ∈ strong_edges p) ⊎ IsMarked k.marking y
+  pub refers : (y : ℕ) → any_referent p ≡ Some y → (any_referent o ≡ Some y) ⊎ IsSafe (cycle_of k.graph k.marking) y
+  pub own : IsTrue (is_own_root (Some p)) → IsTrue (is_own_root (Some o)) ⊎ IsSafe (cycle_of k.graph k.marking) s
+
+pub altered_object : (k : Known) (a b s : ℕ) (g : Object → Object) → FitsTogether k a b → ((o : Object) → at k.graph.objects s ≡ Some o → Alters k s o (g o)) → IsObject k.graph.objects s
+    → FitsTogether (record k { graph = with_objects k.graph (change_at k.graph.objects s g) }) a b
+altered_object k a b s g f alters there =
+    changed_object k a b s g f
+    (λ o e.
+    let c = alters o e in
+    record {
+      gained = c.gained;
+      ahead = lost_ahead (IsMarked k.marking) (g o) o c.fields c.lost;
+      array = λ l is. (l, plain_is (g o) (Elements l) (c.fields ∙ ap as_fields is), refl);
+      refers = c.refers;
+      own = c.own;
+    })
+    there
+
 -- ---- With the same strong edges, no new referent, and no root by itself that was none
 
 pub record Retouches (g : Object → Object) : Type 0 where
+  pub fields : (o : Object) → as_fields (g o) ≡ as_fields o
   pub edges : (o : Object) → strong_edges (g o) ≡ strong_edges o
   pub refers : (o : Object) (y : ℕ) → any_referent (g o) ≡ Some y → any_referent o ≡ Some y
   pub own : (o : Object) → IsTrue (is_own_root (Some (g o))) → IsTrue (is_own_root (Some o))
@@ -177,8 +263,9 @@ pub record Retouches (g : Object → Object) : Type 0 where
 pub retouched_object : (k : Known) (a b s : ℕ) (g : Object → Object) → FitsTogether k a b → Retouches g → IsObject k.graph.objects s
     → FitsTogether (record k { graph = with_objects k.graph (change_at k.graph.objects s g) }) a b
 retouched_object k a b s g f r =
-    changed_object k a b s g f
+    altered_object k a b s g f
     (λ o e. record {
+      fields = r.fields o;
       gained = λ y h. inl (subst (λ l. y ∈ l) (r.edges o) h);
       lost = λ y h. inl (subst (λ l. y ∈ l) (sym (r.edges o)) h);
       refers = λ y h. inl (r.refers o y h);

@@ -9,12 +9,15 @@ use Rattle.jlr_machine.specs.Reachable.{IsPath}
 use Rattle.jlr_laws.proofs.Sets.{nothing, in_cons, in_rest}
 use Rattle.jlr_laws.proofs.Clearing.{in_append}
 use Rattle.jlr_links.specs.Lists.{list_at}
-use Rattle.jlr_marks.specs.Marking.{Marking, IsMarked, is_marked}
+use Rattle.jlr_marks.specs.declared.part.Part.{Part}
+use Rattle.jlr_marks.specs.Marking.{Marking, IsMarked, is_marked, place}
 use Rattle.jlr_roots.specs.Walk.{slots_held}
 use Rattle.jlr_roots.specs.Naming.{named}
 use Rattle.jlr_barrier.specs.Graphs.{Clock, Graph, Known, held}
 use Rattle.jlr_laws.proofs.Frames.{place_within}
 use Rattle.jlr_barrier.specs.Snapshots.{IsEdge, IsObject, RefersTo, IsSafe, IsSnapshot, cycle_of, IsInHand, FitsTogether}
+use Rattle.jlr_barrier.specs.Parts.{ahead_at}
+use Rattle.jlr_barrier.proofs.Parts.{edge_ahead, not_begun}
 use Rattle.jlr_barrier.proofs.Held.{by_session, by_name, by_pending, by_line, by_itself, held_cases}
 use Rattle.jlr_barrier.proofs.Keeping.{safe_along, snapshot_of_changed}
 
@@ -28,6 +31,23 @@ marked_or_not m x = is_or_not (is_marked m x)
 -- an object lies within the heap
 pub object_within : (heap : Heap) (s : ℕ) → IsObject heap s → s < length heap
 object_within heap s h = elim (at heap s) as (λ o. at heap s ≡ o → IsTrue (is_some o) → s < length heap) [ None ↦ λ e h. absurd (both_ways false refl h) | Some o ↦ λ e h. place_within heap s o e ] refl h
+
+-- ---- Of what is not grey no part was followed
+
+-- the array in progress is grey
+abbrev pub Starts : Marking → Type 0
+Starts m = (p : Part) → m.part ≡ Some p → p.slot ∈ m.grey
+
+not_grey_place : (m : Marking) → Starts m → (x : ℕ) → (x ∈ m.grey → ⊥) → place m x ≡ 0
+not_grey_place m started x off = not_begun m.part x (λ p e same. off (subst (λ s. s ∈ m.grey) same (started p e)))
+
+-- so all its edges are ahead
+pub not_grey_ahead : (heap : Heap) (m : Marking) → Starts m → (x y : ℕ) → (x ∈ m.grey → ⊥) → IsEdge heap x y → y ∈ ahead_at heap (place m x) x
+not_grey_ahead heap m started x y off e = subst (λ q. y ∈ ahead_at heap q x) (sym (not_grey_place m started x off)) (edge_ahead heap x y e)
+
+-- what is marked is looked at again, or all its edges are ahead
+pub whole_of : (heap : Heap) (m : Marking) → Starts m → ((x : ℕ) → x ∈ m.grey → IsMarked m x) → (x y : ℕ) → IsEdge heap x y → IsMarked m x ⊎ (y ∈ ahead_at heap (place m x) x)
+whole_of heap m started grey x y e = elim (marked_or_not m x) [ inl on ↦ inl on | inr off ↦ inr (not_grey_ahead heap m started x y (λ g. off (grey x g)) e) ]
 
 -- ---- What is in hand is safe
 
@@ -53,9 +73,11 @@ other_roots k a b c d mutators names pending line f roots rc rd =
       links = rc;
       two = rd;
       objects = f.objects;
+      started = f.started;
+      placed = f.placed;
       snapshot =
-          snapshot_of_changed (cycle_of k.graph k.marking) (IsEdge k.graph.objects) (IsEdge k.graph.objects) (RefersTo k.graph.objects) (λ y. y ∈ held (record k.graph { mutators = mutators; names = names; pending = pending; line = line })) f.snapshot
-          (λ x y m e. inl e) (λ x y e. inl e) (λ x y e. inr e) (λ x y m q. inl q) roots;
+          snapshot_of_changed (cycle_of k.graph k.marking) (IsEdge k.graph.objects) (λ x y. y ∈ ahead_at k.graph.objects (place k.marking x) x) (RefersTo k.graph.objects) (λ y. y ∈ held (record k.graph { mutators = mutators; names = names; pending = pending; line = line })) f.snapshot
+          (λ x y m e. inl e) (λ x y e. inl e) f.snapshot.whole (λ x y m q. inl q) roots;
     }
 
 -- ---- Two lists by number
@@ -144,7 +166,7 @@ module _ (k : Known) where
   -- another clock
   pub other_clock : (clock : Clock) (a b : ℕ) → FitsTogether k a b → length clock.last_gets ≡ length k.clock.last_gets → FitsTogether (record k { clock = clock }) a b
   other_clock clock a b f long =
-      record { few = f.few; bits = f.bits; ages = long ∙ f.ages; links = f.links; two = f.two; objects = f.objects; snapshot = f.snapshot }
+      record { few = f.few; bits = f.bits; ages = long ∙ f.ages; links = f.links; two = f.two; objects = f.objects; started = f.started; placed = f.placed; snapshot = f.snapshot }
 
 -- ---- Lists that get longer or shorter
 

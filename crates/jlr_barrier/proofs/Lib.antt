@@ -4,6 +4,7 @@ pub mod OwnRoots
 pub mod Pairs
 pub mod Held
 pub mod Holding
+pub mod Parts
 pub mod Keeping
 pub mod Fitting
 pub mod Changing

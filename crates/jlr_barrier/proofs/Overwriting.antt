@@ -1,5 +1,5 @@
 -- A field is overwritten.
-use Rattle.std.proofs.Common.{◌≡◌, ◌≤◌, ◌<◌, ℕ, zero, suc, ◌⊎◌, inl, inr, Bool, true, false, cond, IsTrue, List, [], ◌∷◌, ◌++◌, Option, Some, None, length, filter_map, slice_set, slice_get, is_some, option_map, option_and_then, refl, sym, subst, arith, ap, ◌∙◌}
+use Rattle.std.proofs.Common.{◌≡◌, ◌≤◌, ◌<◌, ℕ, zero, suc, ◌⊎◌, inl, inr, Bool, true, false, cond, IsTrue, List, [], ◌∷◌, ◌++◌, Option, Some, None, length, filter_map, slice_set, slice_get, is_some, option_map, option_and_then, refl, sym, subst, arith, ap, ◌∙◌, drop, length-set}
 use Rattle.std.specs.List.{cons_option}
 use Rattle.std.proofs.lemmas.Bool.{both_ways}
 use Rattle.jlr_types.specs.declared.FieldValue.{FieldValue}
@@ -13,6 +13,7 @@ use Rattle.jlr_cells.specs.Contents.{field_at, field_in}
 use Rattle.jlr_laws.proofs.Sets.{nothing, in_front, in_rest, in_cons}
 use Rattle.jlr_marks.specs.Marking.{Marking, Shaded}
 use Rattle.jlr_barrier.specs.Graphs.{Known, with_objects}
+use Rattle.jlr_barrier.specs.Parts.{edges_ahead}
 use Rattle.jlr_barrier.specs.Snapshots.{IsInHand, IsObject, FitsTogether}
 use Rattle.jlr_barrier.proofs.Fitting.{in_hand_safe}
 use Rattle.jlr_barrier.proofs.Changing.{changed_object, more_marks}
@@ -64,9 +65,19 @@ gained_by_element : (elements : List (Option ℕ)) (f : ℕ) (v : FieldValue) (y
 gained_by_element elements f (Int n) y h = inl h
 gained_by_element elements f (Ref s) y h = elim (gained_by_set (λ l. l) elements f s y h) [ inl o ↦ inl o | inr e ↦ inr (ap (λ o. Ref o) e) ]
 
-lost_by_element : (elements : List (Option ℕ)) (f : ℕ) (v : FieldValue) (y : ℕ) → y ∈ slots_in (Elements elements) → (y ∈ slots_in (Elements (with_element elements f v))) ⊎ (option_map Ref (slice_get elements f) ≡ Some (Ref (Some y)))
-lost_by_element elements f (Int n) y h = inl h
-lost_by_element elements f (Ref s) y h = elim (lost_by_set (λ l. l) elements f s y h) [ inl o ↦ inl o | inr e ↦ inr (held_element (slice_get elements f) y e) ]
+lost_ahead_by_set : (elements : List (Option ℕ)) (from f : ℕ) (v : Option ℕ) (y : ℕ) → y ∈ slots_in (Elements (drop from elements)) → (y ∈ slots_in (Elements (drop from (slice_set elements f v)))) ⊎ (option_and_then (λ s. s) (slice_get elements f) ≡ Some y)
+lost_ahead_by_set elements zero f v y h = lost_by_set (λ l. l) elements f v y h
+lost_ahead_by_set [] (suc from) f v y h = nothing y h
+lost_ahead_by_set (x ∷ xs) (suc from) zero v y h = inl h
+lost_ahead_by_set (x ∷ xs) (suc from) (suc f) v y h = lost_ahead_by_set xs from f v y h
+
+lost_ahead_by_element : (elements : List (Option ℕ)) (from f : ℕ) (v : FieldValue) (y : ℕ) → y ∈ slots_in (Elements (drop from elements)) → (y ∈ slots_in (Elements (drop from (with_element elements f v)))) ⊎ (option_map Ref (slice_get elements f) ≡ Some (Ref (Some y)))
+lost_ahead_by_element elements from f (Int n) y h = inl h
+lost_ahead_by_element elements from f (Ref s) y h = elim (lost_ahead_by_set elements from f s y h) [ inl o ↦ inl o | inr e ↦ inr (held_element (slice_get elements f) y e) ]
+
+as_many : (elements : List (Option ℕ)) (f : ℕ) (v : FieldValue) → length (with_element elements f v) ≡ length elements
+as_many elements f (Int n) = refl
+as_many elements f (Ref s) = length-set elements f s
 
 -- ---- Objects
 
@@ -79,14 +90,14 @@ gained_by_field f v Cleaner y h = inl h
 gained_by_field f v (Cleanable c) y h = inl h
 gained_by_field f v (Guard g) y h = inl h
 
-lost_by_field : (f : ℕ) (v : FieldValue) (o : Object) (y : ℕ) → y ∈ strong_edges o → (y ∈ strong_edges (with_field f v o)) ⊎ (field_in (Some o) f ≡ Some (Ref (Some y)))
-lost_by_field f v (Plain (Elements elements)) y h = lost_by_element elements f v y h
-lost_by_field f v (Plain (Typed fields)) y h = elim (lost_by_set slot_in fields f v y h) [ inl o ↦ inl o | inr e ↦ inr (held_ref (slice_get fields f) y e) ]
-lost_by_field f v (Reference r) y h = inl h
-lost_by_field f v (Queue members) y h = inl h
-lost_by_field f v Cleaner y h = inl h
-lost_by_field f v (Cleanable c) y h = inl h
-lost_by_field f v (Guard g) y h = inl h
+lost_by_field : (f : ℕ) (v : FieldValue) (o : Object) (from y : ℕ) → y ∈ edges_ahead from o → (y ∈ edges_ahead from (with_field f v o)) ⊎ (field_in (Some o) f ≡ Some (Ref (Some y)))
+lost_by_field f v (Plain (Elements elements)) from y h = lost_ahead_by_element elements from f v y h
+lost_by_field f v (Plain (Typed fields)) from y h = elim (lost_by_set slot_in fields f v y h) [ inl o ↦ inl o | inr e ↦ inr (held_ref (slice_get fields f) y e) ]
+lost_by_field f v (Reference r) from y h = inl h
+lost_by_field f v (Queue members) from y h = inl h
+lost_by_field f v Cleaner from y h = inl h
+lost_by_field f v (Cleanable c) from y h = inl h
+lost_by_field f v (Guard g) from y h = inl h
 
 own_by_field : (f : ℕ) (v : FieldValue) (o : Object) → IsTrue (is_own_root (Some (with_field f v o))) → IsTrue (is_own_root (Some o))
 own_by_field f v (Plain fields) h = h
@@ -125,10 +136,11 @@ overwritten k a b s field v n f there held objects shaded =
         | inl was ↦ inl was
         | inr new ↦ inr (in_hand_safe m fm.snapshot y (elim (held y new) [ inl on ↦ inl (shaded.kept y on) | inr r ↦ inr r ]))
       ];
-      lost = λ y h. elim (lost_by_field field v o y h) [
+      ahead = λ from y h. elim (lost_by_field field v o from y h) [
         | inl still ↦ inl still
         | inr was ↦ inr (shaded.all y (subst (λ z. field_in z field ≡ Some (Ref (Some y))) (sym e) was))
       ];
+      array = λ l is. (with_element l field v, ap (with_field field v) is, as_many l field v);
       refers = λ y h. inl (referent_by_field field v o y h);
       own = λ h. inl (own_by_field field v o h);
     })

@@ -11,11 +11,13 @@ use Rattle.jlr_laws.proofs.Sets.{nothing}
 use Rattle.jlr_laws.proofs.Frames.{no_some}
 use Rattle.jlr_cells.specs.Showing.{shown}
 use Rattle.jlr_cells.proofs.Showing.{at-shown, length-shown}
-use Rattle.jlr_marks.specs.Marking.{IsMarked}
+use Rattle.jlr_marks.specs.Marking.{IsMarked, place}
 use Rattle.jlr_barrier.specs.Graphs.{Graph, Known, held, with_objects}
 use Rattle.jlr_barrier.specs.Snapshots.{FitsTogether, IsEdge, RefersTo, cycle_of}
 use Rattle.jlr_barrier.proofs.Held.{by_session, by_name, by_pending, by_line, by_itself, held_cases}
 use Rattle.jlr_barrier.proofs.OwnRoots.{active_gives, active_from}
+use Rattle.jlr_barrier.specs.Parts.{ahead_at}
+use Rattle.jlr_barrier.proofs.Fitting.{whole_of}
 use Rattle.jlr_barrier.proofs.Keeping.{snapshot_of_left}
 
 module _ (k : Known) (a b : ℕ) (f : FitsTogether k a b) (none : k.marking.grey ≡ []) where
@@ -62,11 +64,13 @@ module _ (k : Known) (a b : ℕ) (f : FitsTogether k a b) (none : k.marking.grey
         links = subst (λ n. n ≡ a) (sym long) f.links;
         two = f.two;
         objects = λ x on. subst (λ z. IsTrue (is_some z)) (sym (stays x on)) (f.objects x on);
+        started = f.started;
+        placed = λ p e. nothing p.slot (subst (λ l. p.slot ∈ l) none (f.started p e));
         snapshot =
-            snapshot_of_left (cycle_of k.graph k.marking) (IsEdge other) (IsEdge other) (RefersTo other) (λ y. y ∈ held after) f.snapshot
+            snapshot_of_left (cycle_of k.graph k.marking) (IsEdge other) (λ x y. y ∈ ahead_at other (place k.marking x) x) (RefersTo other) (λ y. y ∈ held after) f.snapshot
             (λ x g. nothing x (subst (λ l. x ∈ l) none g))
             (λ x y on e. subst (λ z. y ∈ flat_map strong_edges (option_to_list z)) (stays x on) e)
-            (λ x y e. inr e)
+            (whole_of other k.marking f.started f.snapshot.grey)
             (λ x y on q. subst (λ z. option_and_then any_referent z ≡ Some y) (stays x on) q)
             held_before;
       }

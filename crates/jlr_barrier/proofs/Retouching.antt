@@ -8,7 +8,7 @@ use Rattle.jlr_machine.specs.declared.object.Reference.{Reference as ReferenceOf
 use Rattle.jlr_machine.specs.declared.object.Cleanable.{Cleanable as CleanableOf}
 use Rattle.jlr_machine.specs.declared.object.CleanState.{CleanState}
 use Rattle.jlr_machine.specs.declared.object.RefState.{RefState}
-use Rattle.jlr_machine.specs.Objects.{any_referent, at, change_at, is_unqueued, queue_ahead, some_and, with_cleanable, with_members, with_reference, ◌∈◌}
+use Rattle.jlr_machine.specs.Objects.{any_referent, as_fields, at, change_at, is_unqueued, queue_ahead, some_and, with_cleanable, with_members, with_reference, ◌∈◌}
 use Rattle.jlr_machine.specs.Edges.{strong_edges, is_active, is_own_root}
 use Rattle.jlr_machine.specs.Calls.{spent, unreferred}
 use Rattle.jlr_machine.specs.Refusals.{is_cleanable, is_queue, is_reference}
@@ -20,7 +20,33 @@ use Rattle.jlr_marks.specs.Marking.{IsMarked}
 use Rattle.jlr_barrier.specs.Graphs.{Known, with_objects}
 use Rattle.jlr_barrier.specs.Snapshots.{FitsTogether, IsInHand, IsSafe, cycle_of}
 use Rattle.jlr_barrier.proofs.Fitting.{in_hand_safe}
-use Rattle.jlr_barrier.proofs.Changing.{Retouches, changed_object, there_is}
+use Rattle.jlr_barrier.proofs.Changing.{Retouches, altered_object, there_is}
+
+-- ---- Fields and elements are as before
+
+reference_fields : (f : ReferenceOf → ReferenceOf) (o : Object) → as_fields (with_reference f o) ≡ as_fields o
+reference_fields f (Plain fields) = refl
+reference_fields f (Reference r) = refl
+reference_fields f (Queue members) = refl
+reference_fields f Cleaner = refl
+reference_fields f (Cleanable c) = refl
+reference_fields f (Guard g) = refl
+
+cleanable_fields : (f : CleanableOf → CleanableOf) (o : Object) → as_fields (with_cleanable f o) ≡ as_fields o
+cleanable_fields f (Plain fields) = refl
+cleanable_fields f (Reference r) = refl
+cleanable_fields f (Queue members) = refl
+cleanable_fields f Cleaner = refl
+cleanable_fields f (Cleanable c) = refl
+cleanable_fields f (Guard g) = refl
+
+members_fields : (f : List ℕ → List ℕ) (o : Object) → as_fields (with_members f o) ≡ as_fields o
+members_fields f (Plain fields) = refl
+members_fields f (Reference r) = refl
+members_fields f (Queue members) = refl
+members_fields f Cleaner = refl
+members_fields f (Cleanable c) = refl
+members_fields f (Guard g) = refl
 
 -- ---- A reference or a cleanable of which only that changes
 
@@ -50,7 +76,7 @@ module _ (f : ReferenceOf → ReferenceOf) (ahead : (r : ReferenceOf) → queue_
   no_new_root (Guard g) h = h
 
   pub of_reference : Retouches (with_reference f)
-  of_reference = record { edges = same_edges; refers = no_new_referent; own = no_new_root }
+  of_reference = record { fields = reference_fields f; edges = same_edges; refers = no_new_referent; own = no_new_root }
 
 module _ (f : CleanableOf → CleanableOf) where
   pub cleanable_edges : (o : Object) → strong_edges (with_cleanable f o) ≡ strong_edges o
@@ -83,10 +109,10 @@ pub unreferred_retouches : Retouches (with_reference unreferred)
 unreferred_retouches = of_reference unreferred (λ r. refl) (λ r y e. no_some y e)
 
 pub without_referent_retouches : Retouches (with_cleanable without_referent)
-without_referent_retouches = record { edges = cleanable_edges without_referent; refers = cleanable_refers without_referent (λ c y e. no_some y e); own = cleanable_own without_referent (λ c h. h) }
+without_referent_retouches = record { fields = cleanable_fields without_referent; edges = cleanable_edges without_referent; refers = cleanable_refers without_referent (λ c y e. no_some y e); own = cleanable_own without_referent (λ c h. h) }
 
 pub spent_retouches : Retouches (with_cleanable spent)
-spent_retouches = record { edges = cleanable_edges spent; refers = cleanable_refers spent (λ c y e. no_some y e); own = cleanable_own spent (λ c h. absurd (both_ways false refl h)) }
+spent_retouches = record { fields = cleanable_fields spent; edges = cleanable_edges spent; refers = cleanable_refers spent (λ c y e. no_some y e); own = cleanable_own spent (λ c h. absurd (both_ways false refl h)) }
 
 -- ---- A cleanable in another state, or with a referent
 
@@ -108,8 +134,9 @@ module _ (k : Known) (a b s : ℕ) (f : FitsTogether k a b) where
   pub another_clean_state : (state : CleanState) → (IsTrue (is_active state) → IsInHand k s) → IsTrue (some_and is_cleanable (at k.graph.objects s))
       → FitsTogether (record k { graph = with_objects k.graph (change_at k.graph.objects s (with_cleanable (in_clean_state state))) }) a b
   another_clean_state state root there =
-      changed_object k a b s (with_cleanable (in_clean_state state)) f
+      altered_object k a b s (with_cleanable (in_clean_state state)) f
       (λ o e. record {
+        fields = cleanable_fields (in_clean_state state) o;
         gained = λ y h. inl (subst (λ l. y ∈ l) (cleanable_edges (in_clean_state state) o) h);
         lost = λ y h. inl (subst (λ l. y ∈ l) (sym (cleanable_edges (in_clean_state state) o)) h);
         refers = λ y h. inl (cleanable_refers (in_clean_state state) (λ c y e. e) o y h);
@@ -128,8 +155,9 @@ module _ (k : Known) (a b s : ℕ) (f : FitsTogether k a b) where
   pub now_watching : (t : ℕ) → IsInHand k t → IsTrue (some_and is_cleanable (at k.graph.objects s))
       → FitsTogether (record k { graph = with_objects k.graph (change_at k.graph.objects s (with_cleanable (watching t))) }) a b
   now_watching t held there =
-      changed_object k a b s (with_cleanable (watching t)) f
+      altered_object k a b s (with_cleanable (watching t)) f
       (λ o e. record {
+        fields = cleanable_fields (watching t) o;
         gained = λ y h. inl (subst (λ l. y ∈ l) (cleanable_edges (watching t) o) h);
         lost = λ y h. inl (subst (λ l. y ∈ l) (sym (cleanable_edges (watching t) o)) h);
         refers = refers_watching t (in_hand t held) o;
@@ -166,10 +194,11 @@ module _ (k : Known) (a b s : ℕ) (f : FitsTogether k a b) where
   pub another_state : (state : RefState) → next_in (option_map (with_reference (in_state state)) (at k.graph.objects s)) ≡ next_in (at k.graph.objects s) → IsTrue (some_and is_reference (at k.graph.objects s))
       → FitsTogether (record k { graph = with_objects k.graph (change_at k.graph.objects s (with_reference (in_state state))) }) a b
   another_state state edge there =
-      changed_object k a b s (with_reference (in_state state)) f
+      altered_object k a b s (with_reference (in_state state)) f
       (λ o e.
       let same = same_ahead state o (subst (λ z. next_in (option_map (with_reference (in_state state)) z) ≡ next_in z) e edge) in
       record {
+        fields = reference_fields (in_state state) o;
         gained = λ y h. inl (subst (λ l. y ∈ l) same h);
         lost = λ y h. inl (subst (λ l. y ∈ l) (sym same) h);
         refers = λ y h. inl (state_refers state o y h);
@@ -217,8 +246,9 @@ module _ (k : Known) (a b s : ℕ) (f : FitsTogether k a b) where
   pub without_queue : ((y : ℕ) → next_in (at k.graph.objects s) ≡ Some y → IsMarked k.marking y) → IsTrue (some_and is_reference (at k.graph.objects s))
       → FitsTogether (record k { graph = with_objects k.graph (change_at k.graph.objects s (with_reference unregistered)) }) a b
   without_queue marked there =
-      changed_object k a b s (with_reference unregistered) f
+      altered_object k a b s (with_reference unregistered) f
       (λ o e. record {
+        fields = reference_fields unregistered o;
         gained = λ y h. inl (unregistered_gains o y h);
         lost = λ y h. elim (unregistered_loses o y h) [ inl still ↦ inl still | inr next ↦ inr (marked y (ap next_in e ∙ next)) ];
         refers = λ y h. inl (unregistered_refers o y h);
@@ -263,8 +293,9 @@ module _ (k : Known) (a b s : ℕ) (f : FitsTogether k a b) where
   pub one_member_more : (t : ℕ) → IsInHand k t → IsTrue (some_and is_queue (at k.graph.objects s))
       → FitsTogether (record k { graph = with_objects k.graph (change_at k.graph.objects s (with_members (λ members. members ++ t ∷ []))) }) a b
   one_member_more t held there =
-      changed_object k a b s (with_members (λ members. members ++ t ∷ [])) f
+      altered_object k a b s (with_members (λ members. members ++ t ∷ [])) f
       (λ o e. record {
+        fields = members_fields (λ members. members ++ t ∷ []) o;
         gained = λ y h. elim (longer_gains t o y h) [ inl was ↦ inl was | inr same ↦ inr (subst Safe (sym same) (in_hand t held)) ];
         lost = λ y h. inl (longer_keeps t o y h);
         refers = λ y h. inl (members_refers (λ members. members ++ t ∷ []) o y h);
@@ -293,8 +324,9 @@ module _ (k : Known) (a b s : ℕ) (f : FitsTogether k a b) where
   pub one_member_less : ((y : ℕ) → member_in (at k.graph.objects s) 0 ≡ Some y → IsMarked k.marking y) → IsTrue (some_and is_queue (at k.graph.objects s))
       → FitsTogether (record k { graph = with_objects k.graph (change_at k.graph.objects s (with_members (drop 1))) }) a b
   one_member_less marked there =
-      changed_object k a b s (with_members (drop 1)) f
+      altered_object k a b s (with_members (drop 1)) f
       (λ o e. record {
+        fields = members_fields (drop 1) o;
         gained = λ y h. inl (shorter_gains o y h);
         lost = λ y h. elim (shorter_loses o y h) [ inl still ↦ inl still | inr first ↦ inr (marked y (ap (λ z. member_in z 0) e ∙ first)) ];
         refers = λ y h. inl (members_refers (drop 1) o y h);

@@ -1,5 +1,5 @@
 -- What a heap is seen as: an object graph with its roots, a clock of collections, and a mark set.
-use Rattle.std.specs.Prelude.{◌+◌, ◌^◌, ℕ, false, cond, nat_lt, Option, List, [], ◌++◌, None, replicate, slice_set, option_and_then}
+use Rattle.std.specs.Prelude.{◌+◌, ◌^◌, ℕ, cond, nat_lt, Option, List, [], ◌++◌, None, replicate, slice_set, option_and_then}
 use Rattle.jlr_machine.specs.declared.machine.Machine.{Machine}
 use Rattle.jlr_machine.specs.declared.machine.Session.{Session}
 use Rattle.jlr_machine.specs.declared.machine.Binding.{Binding}
@@ -8,7 +8,7 @@ use Rattle.jlr_machine.specs.Edges.{active_cleanables}
 use Rattle.jlr_machine.specs.Refusals.{gotten}
 use Rattle.jlr_roots.specs.Walk.{slots_held}
 use Rattle.jlr_roots.specs.Naming.{named}
-use Rattle.jlr_marks.specs.Marking.{Marking}
+use Rattle.jlr_marks.specs.Marking.{Marking, unmarked}
 
 -- the part of a machine that the heap keeps
 pub record Graph : Type 0 where
@@ -54,7 +54,7 @@ empty_known cells sessions =
     record {
       graph = empty_graph cells sessions;
       clock = record { last_gets = replicate cells 0; collections = 0; since = 0 };
-      marking = record { bits = replicate cells false; grey = []; discovered = [] };
+      marking = unmarked cells;
       condemned = 0;
     }
 

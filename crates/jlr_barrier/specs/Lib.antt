@@ -1,5 +1,6 @@
 -- Reading order.
 pub mod Graphs
+pub mod Parts
 pub mod Snapshots
 pub mod Scans
 pub mod Guards

@@ -4,8 +4,10 @@ use Rattle.jlr_machine.specs.Objects.{Heap, any_referent, at, ◌∈◌}
 use Rattle.jlr_machine.specs.Edges.{edges_from}
 use Rattle.jlr_machine.specs.Edges.Chain.{Strong}
 use Rattle.jlr_machine.specs.Reachable.{IsReached}
-use Rattle.jlr_marks.specs.Marking.{Marking, IsMarked}
+use Rattle.jlr_marks.specs.Marking.{Marking, IsMarked, place}
+use Rattle.jlr_marks.specs.declared.part.Part.{Part}
 use Rattle.jlr_barrier.specs.Graphs.{Graph, Known, held}
+use Rattle.jlr_barrier.specs.Parts.{IsInProgress, ahead_at}
 
 -- ---- Paths
 
@@ -55,7 +57,7 @@ RefersTo heap x y = option_and_then any_referent (at heap x) ≡ Some y
 abbrev pub cycle_of : Graph → Marking → Cycle
 cycle_of g m = record {
   E = IsEdge g.objects;
-  F = IsEdge g.objects;
+  F = λ x y. y ∈ ahead_at g.objects (place m x) x;
   Q = RefersTo g.objects;
   R = λ y. y ∈ held g;
   M = IsMarked m;
@@ -81,7 +83,8 @@ pub record HoldsWhole (k : Known) : Type 0 where
   pub closed : (x y : ℕ) → IsMarked k.marking x → IsEdge k.graph.objects x y → IsMarked k.marking y
   pub referents : (x y : ℕ) → IsMarked k.marking x → RefersTo k.graph.objects x y → IsMarked k.marking y ⊎ (x ∈ k.marking.discovered)
 
--- There is a link for each cell, of two lists; what is marked is an object; and the marks are a snapshot
+-- There is a link for each cell, of two lists; what is marked is an object; where a part of something was followed, it is a grey array with more
+-- elements; and the marks are a snapshot
 pub record FitsTogether (known : Known) (column lists : ℕ) : Type 0 where
   pub few : length known.graph.objects ≤ 65536
   pub bits : length known.marking.bits ≡ length known.graph.objects
@@ -89,4 +92,6 @@ pub record FitsTogether (known : Known) (column lists : ℕ) : Type 0 where
   pub links : length known.graph.objects ≡ column
   pub two : lists ≡ 2
   pub objects : (s : ℕ) → IsMarked known.marking s → IsObject known.graph.objects s
+  pub started : (p : Part) → known.marking.part ≡ Some p → p.slot ∈ known.marking.grey
+  pub placed : (p : Part) → known.marking.part ≡ Some p → IsInProgress known.graph.objects p
   pub snapshot : IsSnapshot (cycle_of known.graph known.marking)

@@ -1,9 +1,9 @@
 //! New guards, each with the cleanable that finishes what it stands for.
-ghost use Rattle.std.specs.Prelude.{◌≡◌, ◌+◌, ◌<◌, ◌↔◌, IfNone, IfSome, IsNone, IsTrue, length};
+ghost use Rattle.std.specs.Prelude.{◌≡◌, ◌+◌, ◌<◌, ◌==◌, ◌||◌, ◌↔◌, cond, IfNone, IfSome, IsNone, IsTrue, length};
 ghost use Rattle.jlr_machine.specs.Objects.{at, change_at, occupied, some_and, with_cleanable};
 ghost use Rattle.jlr_machine.specs.Refusals.{is_cleanable};
 ghost use Rattle.jlr_cells.specs.Contents.{watching};
-ghost use Rattle.jlr_barrier.specs.Graphs.{made_now, with_objects};
+ghost use Rattle.jlr_barrier.specs.Graphs.{in_use, made_now, with_objects};
 ghost use Rattle.jlr_barrier.specs.Guards.{AreFree, with_guard};
 ghost use Rattle.jlr_barrier.specs.Snapshots.{IsInHand};
 ghost use Rattle.jlr_marks.specs.Marking.{Blackened, Marking, marked};
@@ -23,6 +23,7 @@ impl Heap {
         ensures clock { IfSome result (λ made. self.new.clock ≡ made_now (made_now self.old.clock made.0) made.1) }
         ensures black { IfSome result (λ made. (m : Marking) × Blackened made.1 self.old.marking m × Blackened made.0 m self.new.marking) }
         ensures count { IfSome result (λ _. marked self.new.marking ≡ marked self.old.marking + 2) }
+        ensures condemned { IfSome result (λ _. self.new.condemned ≡ cond (in_use self.old == length self.old.graph.objects || in_use self.old + 1 == length self.old.graph.objects) 0 self.old.condemned) }
     {
         if self.vacant_count() < 2 {
             return None;
@@ -44,6 +45,7 @@ impl Heap {
         ensures graph { self.new.graph ≡ with_objects self.old.graph (change_at self.old.graph.objects slot (with_cleanable (watching referent))) }
         ensures clock { self.new.clock ≡ self.old.clock }
         ensures marking { self.new.marking ≡ self.old.marking }
+        ensures condemned { self.new.condemned ≡ self.old.condemned }
     {
         self.cells.watch(slot, referent);
     }

@@ -8,13 +8,14 @@ ghost use Rattle.jlr_machine.specs.Edges.{referent};
 ghost use Rattle.jlr_sets.specs.SlotSets.{slots_of};
 ghost use Rattle.jlr_cells.specs.Showing.{shown};
 ghost use Rattle.jlr_barrier.specs.Graphs.{held, in_use, with_objects};
-ghost use Rattle.jlr_marks.specs.Marking.{IsMarked, Shaded, is_marked, unmarked, upcoming};
+ghost use Rattle.jlr_marks.specs.Marking.{IsMarked, Shaded, is_marked, place, unmarked, upcoming};
 ghost use Rattle.jlr_barrier.specs.Snapshots.{HoldsWhole, IsEdge, IsObject, RefersTo};
+ghost use Rattle.jlr_barrier.specs.Parts.{IsBegun, ticks_at};
 ghost use Rattle.jlr_barrier.specs.Scans.{Scanned};
 
 use crate::heap::Heap;
 use crate::lists::{LINE, PENDING, shade_list};
-use crate::shade::{follow, note, shade_cleanables, shade_names, shade_roots, shade_target};
+use crate::shade::{scan_part, shade_cleanables, shade_names, shade_roots, shade_target};
 use jlr_cells::Kind;
 use jlr_machine::choice::Choice;
 use jlr_types::{Meter, RefKind, Slot};
@@ -54,32 +55,32 @@ impl Heap {
         self.marks.has_grey()
     }
 
-    /// The grey slot that comes next, if there is one. It is marked, and an object.
+    /// The grey slot that comes next, if there is one. It is marked, and an object. Fewer ticks were spent on it than it takes.
     pub fn next_grey(&self) -> Option<Slot>
-        ensures next { result ≡ upcoming self.now.marking.grey }
+        ensures next { result ≡ upcoming self.now.marking }
         ensures there { IfSome result (λ slot. IsMarked self.now.marking slot × IsObject self.now.graph.objects slot) }
+        ensures begun { IfSome result (λ slot. IsBegun self.now.graph.objects (place self.now.marking slot) slot) }
     {
         self.marks.next_grey()
     }
 
-    /// Follows the strong edges of the object at the grey slot that comes next: one tick. It is black then, and discovered, if it refers
-    /// to an object that is not marked. Answers whether it is a plain object with fields.
+    /// Follows a part of the strong edges of the object at the grey slot that comes next: one tick. Of an array a part are at most 64 elements, of any other
+    /// object all its edges. Where there is more to follow, it is grey again and comes next. Otherwise it is black, and discovered, if it refers to an
+    /// object that is not marked. No object takes more than 64 ticks. Answers whether it is a plain object with fields.
     pub fn scan(&mut self, slot: Slot, meter: &mut Meter) -> bool
-        requires next { upcoming self.old.marking.grey ≡ Some slot }
+        requires next { upcoming self.old.marking ≡ Some slot }
         requires ticks { meter.old + 1 < 2 ^ 64 }
         requires objects { (x : ℕ) → IsEdge self.old.graph.objects slot x → IsObject self.old.graph.objects x }
         requires within { (x : ℕ) → RefersTo self.old.graph.objects slot x → x < length self.old.graph.objects }
         ensures graph { self.new.graph ≡ self.old.graph }
         ensures clock { self.new.clock ≡ self.old.clock }
         ensures scanned { Scanned self.old.graph.objects slot self.old.marking self.new.marking }
+        ensures few { ticks_at self.old.graph.objects slot ≤ 64 }
         ensures plain { result ≡ some_and is_record (at self.old.graph.objects slot) }
         ensures ticked { meter.new ≡ meter.old + 1 }
         ensures condemned { self.new.condemned ≡ self.old.condemned }
     {
-        let _ = self.marks.take_grey();
-        let plain = follow(&self.cells, slot, meter, &mut self.marks);
-        note(&self.cells, slot, plain, &mut self.marks);
-        plain
+        scan_part(&self.cells, slot, meter, &mut self.marks)
     }
 
     /// A collection that kept nothing so far keeps all that is marked, and all else is no more: its cells are condemned, beside those that were, and

@@ -1,5 +1,5 @@
 //! Shading: what links, queues, roots, names and lists lead to is marked, and grey if it was not marked before.
-ghost use Rattle.std.specs.Prelude.{◌≡◌, ℕ, ◌+◌, ◌^◌, ◌<◌, ◌≤◌, ◌++◌, ◌∷◌, [], IsTrue, Some, cond, is_some, length, option_and_then};
+ghost use Rattle.std.specs.Prelude.{◌≡◌, ℕ, ◌+◌, ◌-◌, ◌^◌, ◌<◌, ◌≤◌, ◌++◌, ◌∷◌, [], IsTrue, Some, cond, drop, is_some, length, option_and_then, take};
 ghost use Rattle.jlr_machine.specs.Objects.{any_referent, at, queue_ahead, some_and, ◌∈◌};
 ghost use Rattle.jlr_machine.specs.Refusals.{is_record, is_reference};
 ghost use Rattle.jlr_machine.specs.Edges.{active_cleanables, edges_from, is_active, is_own_root};
@@ -8,9 +8,11 @@ ghost use Rattle.jlr_roots.specs.Naming.{named};
 ghost use Rattle.jlr_roots.specs.Walk.{slots_held};
 ghost use Rattle.jlr_cells.specs.Contents.{members_in, next_in};
 ghost use Rattle.jlr_cells.specs.Links.{linked, linked_in};
-ghost use Rattle.jlr_marks.specs.Marking.{Shaded, marked};
+ghost use Rattle.jlr_machine.specs.declared.object.Contents.TheVariants.{Elements as ElementsOf};
+ghost use Rattle.jlr_marks.specs.Marking.{IsMarked, Shaded, marked, upcoming};
 ghost use Rattle.jlr_barrier.specs.Snapshots.{RefersTo};
-ghost use Rattle.jlr_barrier.specs.Scans.{awaits};
+ghost use Rattle.jlr_barrier.specs.Parts.{next_at, part_at, parts_of, place_after, ticks_at};
+ghost use Rattle.jlr_barrier.specs.Scans.{Scanned, awaits};
 
 use jlr_cells::{Elements, Kind, Links, Visited};
 use jlr_machine::object::{CleanState, RefState, Reference};
@@ -18,6 +20,9 @@ use jlr_marks::Marks;
 use jlr_objects::Objects;
 use jlr_roots::{Names, Roots};
 use jlr_types::{FieldValue, Meter, Slot};
+
+/// How many elements of an array are followed at one tick.
+const PART: usize = 64;
 
 pub(crate) fn shade_target(target: Option<Slot>, marks: &mut Marks)
     requires { (x : ℕ) → target ≡ Some x → x < length marks.old.bits }
@@ -79,51 +84,113 @@ fn shade_far(links: Option<&Links>, marks: &mut Marks)
     }
 }
 
-/// Shades what the elements of an array refer to.
-fn shade_elements(elements: &Elements, marks: &mut Marks)
-    requires { (x : ℕ) → x ∈ linked elements.now → x < length marks.old.bits }
-    ensures { Shaded (λ x. x ∈ linked elements.now) marks.old marks.new }
+/// Shades what so many elements of an array refer to, from a place on.
+fn shade_elements(elements: &Elements, from: usize, count: usize, marks: &mut Marks)
+    requires few { length elements.now ≤ 4096 }
+    requires there { count ≤ length elements.now - from }
+    requires within { (x : ℕ) → x ∈ linked elements.now → x < length marks.old.bits }
+    ensures { Shaded (λ x. x ∈ linked (take count (drop from elements.now))) marks.old marks.new }
 {
-    for place in 0..elements.count() {
-        shade_target(elements.get(place), marks);
+    for step in 0..count {
+        shade_target(elements.get(from + step), marks);
     }
 }
 
-/// Shades what the strong edges of the object at a slot lead to: one tick. Answers whether it is a plain object with fields.
-pub(crate) fn follow(cells: &Objects, slot: Slot, meter: &mut Meter, marks: &mut Marks) -> bool
+/// Shades what at most 64 elements of an array refer to, from a place on. Answers the place behind them, if there are more.
+fn shade_part(elements: &Elements, from: u16, marks: &mut Marks) -> Option<u16>
+    requires { (x : ℕ) → x ∈ linked elements.now → x < length marks.old.bits }
+    ensures shaded { Shaded (λ x. x ∈ linked (take 64 (drop from elements.now))) marks.old marks.new }
+    ensures next { result ≡ place_after from (ElementsOf elements.now) }
+    ensures few { parts_of (ElementsOf elements.now) ≤ 64 }
+{
+    let count = elements.count();
+    let first = from as usize;
+    if first + PART < count {
+        shade_elements(elements, first, PART, marks);
+        return Some(from + PART as u16);
+    }
+    shade_elements(elements, first, count.saturating_sub(first), marks);
+    None
+}
+
+/// What was found where a part of the strong edges was followed.
+#[derive(Drop)]
+struct Found {
+    /// Whether it is a plain object with fields: it refers to nothing, and all its edges were followed.
+    plain: bool,
+    /// From which place on an array has more elements.
+    next: Option<u16>,
+}
+
+/// Shades what a part of the strong edges of the object at a slot leads to, from a place on: one tick. Of an array these are at most 64 elements, of any
+/// other object all. No object takes more than 64 ticks.
+fn follow(cells: &Objects, slot: Slot, from: u16, meter: &mut Meter, marks: &mut Marks) -> Found
     requires object { IsTrue (is_some (at cells.now.objects slot)) }
     requires ticks { meter.old + 1 < 2 ^ 64 }
     requires within { (x : ℕ) → x ∈ edges_from Strong cells.now.objects slot → x < length marks.old.bits }
-    ensures shaded { Shaded (λ x. x ∈ edges_from Strong cells.now.objects slot) marks.old marks.new }
-    ensures plain { result ≡ some_and is_record (at cells.now.objects slot) }
+    ensures shaded { Shaded (λ x. x ∈ part_at cells.now.objects from slot) marks.old marks.new }
+    ensures plain { result.plain ≡ some_and is_record (at cells.now.objects slot) }
+    ensures next { result.next ≡ next_at cells.now.objects from slot }
+    ensures few { ticks_at cells.now.objects slot ≤ 64 }
     ensures ticked { meter.new ≡ meter.old + 1 }
 {
     match cells.visit(slot, meter) {
         Visited::Plain { near, far } => {
             shade_links(near, marks);
             shade_far(far, marks);
-            true
+            Found {
+                plain: true,
+                next: None,
+            }
         }
-        Visited::Array(elements) => {
-            shade_elements(elements, marks);
-            false
-        }
+        Visited::Array(elements) => Found {
+            plain: false,
+            next: shade_part(elements, from, marks),
+        },
         Visited::Other { next } => {
             shade_target(next, marks);
             shade_members(cells, slot, marks);
-            false
+            Found {
+                plain: false,
+                next: None,
+            }
         }
     }
 }
 
+/// Follows a part of the strong edges of the object at the grey slot that comes next: one tick. Where there is more to follow, it is grey again and comes
+/// next. Otherwise it is black, and discovered, if it refers to an object that is not marked. Answers whether it is a plain object with fields.
+pub(crate) fn scan_part(cells: &Objects, slot: Slot, meter: &mut Meter, marks: &mut Marks) -> bool
+    requires next { upcoming marks.old ≡ Some slot }
+    requires marked { IsMarked marks.old slot }
+    requires object { IsTrue (is_some (at cells.now.objects slot)) }
+    requires ticks { meter.old + 1 < 2 ^ 64 }
+    requires within { (x : ℕ) → x ∈ edges_from Strong cells.now.objects slot → x < length marks.old.bits }
+    requires refers { (x : ℕ) → RefersTo cells.now.objects slot x → x < length marks.old.bits }
+    ensures scanned { Scanned cells.now.objects slot marks.old marks.new }
+    ensures few { ticks_at cells.now.objects slot ≤ 64 }
+    ensures plain { result ≡ some_and is_record (at cells.now.objects slot) }
+    ensures ticked { meter.new ≡ meter.old + 1 }
+{
+    let from = marks.place(slot);
+    let _ = marks.take_grey();
+    let found = follow(cells, slot, from, meter, marks);
+    match found.next {
+        Some(place) => marks.resume_at(slot, place),
+        None => note(cells, slot, found.plain, marks),
+    }
+    found.plain
+}
+
 /// A reference or a cleanable at a slot is discovered, if what it refers to is not marked. Of a plain object with fields nothing is asked.
-pub(crate) fn note(cells: &Objects, slot: Slot, plain: bool, marks: &mut Marks)
+fn note(cells: &Objects, slot: Slot, plain: bool, marks: &mut Marks)
     requires kind { plain ≡ some_and is_record (at cells.now.objects slot) }
     requires room { length marks.old.grey + length marks.old.discovered < marked marks.old }
     requires within { (x : ℕ) → RefersTo cells.now.objects slot x → x < length marks.old.bits }
     ensures bits { marks.new.bits ≡ marks.old.bits }
     ensures grey { marks.new.grey ≡ marks.old.grey }
     ensures discovered { marks.new.discovered ≡ marks.old.discovered ++ cond (some_and (awaits marks.old) (at cells.now.objects slot)) (slot ∷ []) [] }
+    ensures part { marks.new.part ≡ marks.old.part }
 {
     if plain {
         return;

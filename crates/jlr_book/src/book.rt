@@ -159,12 +159,12 @@ impl<R: Drop> Book<R> {
     pub fn step(&mut self, seat: u8, event: Event<R>) -> Reply<R>
         ensures { BookSteps seat self.old event result self.new }
     {
+        let mut event = event;
         let Some(ask) = event.plain() else {
             return self.mark_piece(event);
         };
-        let (mut ask, mut event) = (ask, event);
         let mut reply = Reply::Marked(Progress::Idle);
-        self.take(seat, &mut ask, &mut event, &mut reply);
+        self.take(seat, ask, &mut event, &mut reply);
         reply
     }
 
@@ -172,10 +172,7 @@ impl<R: Drop> Book<R> {
     pub fn mark(&mut self, budget: u32) -> Progress
         ensures { MarksBy self.old budget result self.new }
     {
-        match self.mark_piece(Event::Mark { budget }) {
-            Reply::Marked(progress) => progress,
-            Reply::Answered { .. } => unreachable!(),
-        }
+        self.core.mark(budget)
     }
 
     /// The core's machine becomes the image, and the trace is let go. An open cycle is given up before, which takes a number.
@@ -223,11 +220,11 @@ impl<R: Drop> Book<R> {
 
     /// Takes the event of an ask where it lies, and puts its reply into the place of another.
     #[inline(always)]
-    fn take(&mut self, seat: u8, ask: &mut Ask, event: &mut Event<R>, reply: &mut Reply<R>)
-        requires { ask_of event.old ≡ Some ask.old }
+    fn take(&mut self, seat: u8, ask: Ask, event: &mut Event<R>, reply: &mut Reply<R>)
+        requires { ask_of event.old ≡ Some ask }
         ensures { BookSteps seat self.old event.old reply.new self.new }
     {
-        if is_end(ask) {
+        if is_end(&ask) {
             self.end(seat, ask, event, reply);
         } else {
             self.enter(seat, ask, event, reply);
@@ -236,9 +233,9 @@ impl<R: Drop> Book<R> {
 
     /// An end has its place and its number, or is refused by the core.
     #[inline(never)]
-    fn end(&mut self, seat: u8, ask: &mut Ask, event: &mut Event<R>, reply: &mut Reply<R>)
-        requires ask { ask_of event.old ≡ Some ask.old }
-        requires end { is_end ask.old ≡ true }
+    fn end(&mut self, seat: u8, ask: Ask, event: &mut Event<R>, reply: &mut Reply<R>)
+        requires ask { ask_of event.old ≡ Some ask }
+        requires end { is_end ask ≡ true }
         ensures { EndsBy seat self.old event.old reply.new self.new }
     {
         record_end(
@@ -255,15 +252,15 @@ impl<R: Drop> Book<R> {
 
     /// The room of its entry, its place, and one for each end that may be owed then are made before anything changes.
     #[inline(always)]
-    fn enter(&mut self, seat: u8, ask: &mut Ask, event: &mut Event<R>, reply: &mut Reply<R>)
-        requires ask { ask_of event.old ≡ Some ask.old }
-        requires end { is_end ask.old ≡ false }
+    fn enter(&mut self, seat: u8, ask: Ask, event: &mut Event<R>, reply: &mut Reply<R>)
+        requires ask { ask_of event.old ≡ Some ask }
+        requires end { is_end ask ≡ false }
         ensures { AsksBy seat self.old event.old reply.new self.new }
     {
         if !self.has_numbers() {
             return decline(event, Refusal::Exhausted, reply);
         }
-        let Ok(room) = EntryRoom::for_event(self.alloc, &self.core, self.limits.cells, ask, event)
+        let Ok(room) = EntryRoom::for_event(self.alloc, &self.core, self.limits.cells, &ask, event)
         else {
             return decline(event, Refusal::NoMemory, reply);
         };

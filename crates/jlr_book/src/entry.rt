@@ -26,15 +26,15 @@ pub(crate) fn record<R: Drop>(
     room: EntryRoom,
     trace: &mut Vec<Entry>,
     seat: u8,
-    ask: &mut Ask,
+    ask: Ask,
     event: &mut Event<R>,
     reply: &mut Reply<R>,
 )
-    requires ask { ask_of event.old ≡ Some ask.old }
+    requires ask { ask_of event.old ≡ Some ask }
     requires place { vec_len trace.old < vec_capacity trace.old }
     requires stands { Stands core.old }
     requires choice { length core.old.machine.objects ≤ choice.old.cells }
-    requires room { SuitsEntry core.old.machine ask.old room }
+    requires room { SuitsEntry core.old.machine ask room }
     ensures writes { Writes seat core.old trace.old.items event.old reply.new core.new trace.new.items }
     ensures cells { length core.new.machine.objects ≡ length core.old.machine.objects }
     ensures room { vec_capacity trace.new ≡ vec_capacity trace.old }
@@ -57,16 +57,16 @@ fn record_plainly<R: Drop>(
     list: ListRoom,
     trace: &mut Vec<Entry>,
     seat: u8,
-    ask: &mut Ask,
+    ask: Ask,
     event: &mut Event<R>,
     reply: &mut Reply<R>,
 )
-    requires ask { ask_of event.old ≡ Some ask.old }
+    requires ask { ask_of event.old ≡ Some ask }
     requires place { vec_len trace.old < vec_capacity trace.old }
     requires stands { Stands core.old }
     requires choice { length core.old.machine.objects ≤ lent.old.cells }
-    requires list { HasRoomFor ask.old list }
-    requires plain { may_collect core.old.machine (Some ask.old) ≡ false }
+    requires list { HasRoomFor ask list }
+    requires plain { may_collect core.old.machine (Some ask) ≡ false }
     ensures writes { Writes seat core.old trace.old.items event.old reply.new core.new trace.new.items }
     ensures cells { length core.new.machine.objects ≡ length core.old.machine.objects }
     ensures room { vec_capacity trace.new ≡ vec_capacity trace.old }
@@ -76,7 +76,7 @@ fn record_plainly<R: Drop>(
     *reply = core.step(mem::replace(event, Event::Abandon), lent);
     trace.push_reserved(Entry {
         seat,
-        ask: mem::replace(ask, Ask::Abandon),
+        ask,
         answer: list.copy_of(reply),
         choice: Chosen {
             collected: None,
@@ -93,15 +93,15 @@ fn record_collecting<R: Drop>(
     list: ListRoom,
     trace: &mut Vec<Entry>,
     seat: u8,
-    ask: &mut Ask,
+    ask: Ask,
     event: &mut Event<R>,
     reply: &mut Reply<R>,
 )
-    requires ask { ask_of event.old ≡ Some ask.old }
+    requires ask { ask_of event.old ≡ Some ask }
     requires place { vec_len trace.old < vec_capacity trace.old }
     requires stands { Stands core.old }
     requires choice { length core.old.machine.objects ≤ own.value.cells }
-    requires list { HasRoomFor ask.old list }
+    requires list { HasRoomFor ask list }
     ensures writes { Writes seat core.old trace.old.items event.old reply.new core.new trace.new.items }
     ensures cells { length core.new.machine.objects ≡ length core.old.machine.objects }
     ensures room { vec_capacity trace.new ≡ vec_capacity trace.old }
@@ -112,7 +112,7 @@ fn record_collecting<R: Drop>(
     let answer = list.copy_of(reply);
     trace.push_reserved(Entry {
         seat,
-        ask: mem::replace(ask, Ask::Abandon),
+        ask,
         answer,
         choice: own.into_chosen(),
     });
@@ -125,12 +125,12 @@ pub(crate) fn record_end<R: Drop>(
     choice: &mut Choice,
     trace: &mut Vec<Entry>,
     seat: u8,
-    ask: &mut Ask,
+    ask: Ask,
     event: &mut Event<R>,
     reply: &mut Reply<R>,
 )
-    requires ask { ask_of event.old ≡ Some ask.old }
-    requires end { is_end ask.old ≡ true }
+    requires ask { ask_of event.old ≡ Some ask }
+    requires end { is_end ask ≡ true }
     requires places { vec_len trace.old + owed core.old.machine ≤ vec_capacity trace.old }
     requires stands { Stands core.old }
     requires choice { length core.old.machine.objects ≤ choice.old.cells }
@@ -147,7 +147,7 @@ pub(crate) fn record_end<R: Drop>(
             }
             trace.push_reserved(Entry {
                 seat,
-                ask: mem::replace(ask, Ask::Abandon),
+                ask,
                 answer: ListRoom::none(alloc).copy(&answer),
                 choice: Chosen {
                     collected: None,

@@ -1,6 +1,6 @@
 -- The links of objects: of new ones, of one whose field changes, and what they lead to.
 use Rattle.std.proofs.Common.{◌≡◌, ℕ, zero, suc, ◌+◌, ◌-◌, ◌<◌, ◌≤◌, true, false, List, [], ◌∷◌, ◌++◌, Option, Some, None, length, set, get_or, map, replicate, refl, sym, ap, ◌∙◌, arith, length-set}
-use Rattle.std.specs.Prelude.{filter_map, is_some, option_map, option_to_list, slice_get}
+use Rattle.std.specs.Prelude.{filter_map, is_some, option_and_then, option_map, option_to_list, slice_get}
 use Rattle.std.proofs.lemmas.List.{append-nil, map-set, length-map, set-append_left, replicate-append-replicate}
 use Rattle.std.proofs.lemmas.List.Elements.{filter_map-append}
 use Rattle.jlr_types.specs.declared.FieldKind.{FieldKind}
@@ -20,6 +20,7 @@ use Rattle.jlr_machine.specs.Refusals.{is_plain, is_record}
 use Rattle.jlr_cells.specs.declared.cell.Cell.{Cell}
 use Rattle.jlr_cells.specs.declared.cell.Cell.TheVariants.{Free, Plain, Array, Reference, Queue, Cleaner, Cleanable, Guard}
 use Rattle.jlr_cells.specs.Contents.{is_array, next_in, field_in, members_in, object_in, objects_in}
+use Rattle.jlr_cells.specs.Visits.{elements_of}
 use Rattle.jlr_cells.specs.Links.{linked, links_in, links_of, links_to, no_links}
 
 -- ---- New objects
@@ -144,6 +145,27 @@ no_plain (Some (object.Guard g)) h n = refl
 -- an array's strong edges are what its elements lead to
 pub array_edges : (o : Option Object) (elements : List (Option ℕ)) → o ≡ Some (object.Plain (Elements elements)) → edges_from Strong (o ∷ []) 0 ≡ linked elements
 array_edges o elements e = ap (λ x. edges_from Strong (x ∷ []) 0) e ∙ append-nil (linked elements)
+
+-- what is no array has no elements
+pub record_has_none : (o : Option Object) → some_and is_record o ≡ true → option_and_then elements_of o ≡ None
+record_has_none None h = refl
+record_has_none (Some (object.Plain (Typed fields))) h = refl
+record_has_none (Some (object.Plain (Elements elements))) h = cc
+record_has_none (Some (object.Reference r)) h = refl
+record_has_none (Some (object.Queue members)) h = refl
+record_has_none (Some object.Cleaner) h = refl
+record_has_none (Some (object.Cleanable c)) h = refl
+record_has_none (Some (object.Guard g)) h = refl
+
+pub other_has_none : (o : Option Object) → some_and is_array o ≡ false → option_and_then elements_of o ≡ None
+other_has_none None h = refl
+other_has_none (Some (object.Plain (Typed fields))) h = refl
+other_has_none (Some (object.Plain (Elements elements))) h = cc
+other_has_none (Some (object.Reference r)) h = refl
+other_has_none (Some (object.Queue members)) h = refl
+other_has_none (Some object.Cleaner) h = refl
+other_has_none (Some (object.Cleanable c)) h = refl
+other_has_none (Some (object.Guard g)) h = refl
 
 -- another object's are what is next to it, and its members
 pub other_edges : (o : Option Object) → some_and is_plain o ≡ false → edges_from Strong (o ∷ []) 0 ≡ option_to_list (next_in o) ++ members_in o

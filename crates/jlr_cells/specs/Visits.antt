@@ -1,5 +1,8 @@
 -- What a visit of an object tells.
-use Rattle.std.specs.Prelude.{ℕ, ◌++◌, Bool, true, false, List, option_to_list}
+use Rattle.std.specs.Prelude.{ℕ, ◌++◌, Bool, true, false, List, Option, Some, None, option_to_list}
+use Rattle.jlr_machine.specs.declared.object.Contents.TheVariants.{Elements}
+use Rattle.jlr_machine.specs.declared.object.Object.{Object}
+use Rattle.jlr_machine.specs.declared.object.Object.TheVariants.{Plain as PlainObject}
 use Rattle.jlr_cells.specs.declared.links.Visited.{Visited}
 use Rattle.jlr_cells.specs.declared.links.Visited.TheVariants.{Plain, Array, Other}
 use Rattle.jlr_cells.specs.Links.{linked, linked_in}
@@ -15,3 +18,13 @@ abbrev pub edges_told : Visited → List ℕ → List ℕ
 edges_told (Plain near far) members = linked near.now ++ linked_in far
 edges_told (Array elements) members = linked elements.now
 edges_told (Other next) members = option_to_list next ++ members
+
+-- the elements that a visit lends, and those of an object, if it is an array
+abbrev pub elements_lent : Visited → Option (List (Option ℕ))
+elements_lent (Plain near far) = None
+elements_lent (Array elements) = Some elements.now
+elements_lent (Other next) = None
+
+abbrev pub elements_of : Object → Option (List (Option ℕ))
+elements_of (PlainObject (Elements elements)) = Some elements
+elements_of _ = None

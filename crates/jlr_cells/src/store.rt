@@ -13,7 +13,7 @@ ghost use Rattle.jlr_cells.specs.Contents.{field_at, is_array, is_ref, in_clean_
 ghost use Rattle.jlr_cells.specs.Links.{cell_links, no_links};
 ghost use Rattle.jlr_machine.specs.declared.object.Object.TheVariants.{Plain};
 ghost use Rattle.jlr_machine.specs.declared.object.Contents.TheVariants.{Elements as ElementsOf};
-ghost use Rattle.jlr_cells.specs.Visits.{edges_told, found_plain};
+ghost use Rattle.jlr_cells.specs.Visits.{edges_told, elements_lent, elements_of, found_plain};
 
 use crate::cell::Cell;
 use crate::columns::Columns;
@@ -411,6 +411,7 @@ impl Store {
         requires ticks { meter.old + 1 < 2 ^ 64 }
         ensures edges { edges_from Strong self.now slot ≡ edges_told result (members_in (at self.now slot)) }
         ensures plain { found_plain result ≡ some_and is_record (at self.now slot) }
+        ensures array { elements_lent result ≡ option_and_then elements_of (at self.now slot) }
         ensures ticked { meter.new ≡ meter.old + 1 }
     {
         meter.tick();

@@ -1,5 +1,5 @@
 -- A cycle begins, and a piece of its marking.
-use Rattle.std.proofs.Common.{◌≡◌, ℕ, Bool, true, false, inl, inr, List, [], ◌∷◌, length, is_some, refl, sym, subst, arith}
+use Rattle.std.proofs.Common.{◌≡◌, ◌-◌, ℕ, Bool, true, false, inl, inr, List, [], ◌∷◌, length, is_some, refl, sym, subst, arith}
 use Rattle.std.specs.Prelude.{◌↔◌, slice_get}
 use Rattle.jlr_types.specs.declared.Progress.{Progress}
 use Rattle.jlr_types.specs.declared.Progress.TheVariants.{Idle}
@@ -16,12 +16,12 @@ use Rattle.jlr_marks.specs.Marking.{Marking, IsMarked, Shaded, unmarked}
 use Rattle.jlr_barrier.specs.Graphs.{Clock, Graph, held}
 use Rattle.jlr_barrier.proofs.Ending.{none_marked}
 use Rattle.jlr_marker.specs.Following.{keeps}
-use Rattle.jlr_marker.specs.Marks.{Blackens, MarksOn}
+use Rattle.jlr_marker.specs.Marks.{Blackening, MarksOn}
 use Rattle.jlr_marker.proofs.Following.{followed_is_soft, none_counted}
 use Rattle.jlr_sweep.proofs.Kept.{held_root}
 use Rattle.jlr_cleaner.specs.Cleanings.{Cleanings}
 use Rattle.jlr_core.specs.State.{frame, machine_with}
-use Rattle.jlr_core.specs.Marks.{BeginsCycle, MarksPiece, MarksReached, blackened, has_grey}
+use Rattle.jlr_core.specs.Marks.{BeginsCycle, MarksPiece, MarksReached, has_grey, ticks_between}
 use Rattle.jlr_core.proofs.Clearings.{same_policy}
 use Rattle.jlr_core.proofs.Roots.{rooted}
 
@@ -38,6 +38,7 @@ module _ {R : Type 0} (c : Cleanings R) (g : Graph) (cycle : Bool) (k : Marking)
   begins_cycle = record {
     begun = λ s. (marked_root s, (λ root. shaded.all s ((rooted c g cycle w).all_held s root)));
     none_black = omega (arith, shaded.black_same, none_counted (unmarked (length g.objects)).bits (λ x h. none_marked (length g.objects) x h));
+    no_part = shaded.part_same;
   }
 
   pub begins_reached : (old : Marking) → MarksReached (machine_with c g cycle) old (machine_with c g true) k
@@ -45,21 +46,23 @@ module _ {R : Type 0} (c : Cleanings R) (g : Graph) (cycle : Bool) (k : Marking)
 
 -- ---- A piece of marking
 
--- as many ticks as cells were blackened
-pub ticks_are : (ticks : ℕ) (old new : Marking) → Blackens ticks old new → ticks ≡ blackened old new
-ticks_are ticks old new b = omega (arith, b)
+-- as many ticks as were spent
+ticks_are : (keeps : ℕ → Bool) (heap : Heap) (ticks : ℕ) (old new : Marking) → Blackening keeps heap ticks old new → ticks ≡ ticks_between heap old new
+ticks_are keeps heap ticks old new b = omega (arith, b.spends)
 
-pub piece_in_cycle : (m : Machine) (old new : Marking) (budget ticks age : ℕ) (clock : Clock) (policy : Policy) (progress : Progress) → policy.soft_age ≡ age → policy.mode ≡ PolicyMode → m.cycle_open ≡ true
-    → MarksOn (keeps policy clock) m.objects budget ticks progress old new → MarksPiece budget age clock m old progress new
-piece_in_cycle m old new budget ticks age clock policy progress same_age same_mode still marks =
+pub piece_in_cycle : (m : Machine) (old new : Marking) (condemned left budget ticks age : ℕ) (clock : Clock) (policy : Policy) (progress : Progress) → policy.soft_age ≡ age → policy.mode ≡ PolicyMode → m.cycle_open ≡ true
+    → MarksOn (keeps policy clock) m.objects budget ticks progress old new → left ≡ condemned → MarksPiece budget age clock m old condemned progress new left
+piece_in_cycle m old new condemned left budget ticks age clock policy progress same_age same_mode still marks same =
     let p : Policy = record { soft_age = age; mode = PolicyMode } in
     let by_policy : MarksOn (keeps p clock) m.objects budget ticks progress old new = subst (λ (x : Policy). MarksOn (keeps x clock) m.objects budget ticks progress old new) (same_policy policy p same_age same_mode) marks in
-    subst (λ b. elim b as (λ _. Type 0) [ true ↦ MarksOn (keeps p clock) m.objects budget (blackened old new) progress old new | false ↦ (progress ≡ Idle) × (new ≡ old) ]) (sym still)
-    (subst (λ t. MarksOn (keeps p clock) m.objects budget t progress old new) (ticks_are ticks old new marks.blackening.black) by_policy)
+    subst (λ b. elim b as (λ _. Type 0) [ true ↦ MarksOn (keeps p clock) m.objects budget (ticks_between m.objects old new) progress old new × (left ≡ condemned) | false ↦ (progress ≡ Idle) × (new ≡ old) × (left ≡ condemned - budget) ]) (sym still)
+    (subst (λ t. MarksOn (keeps p clock) m.objects budget t progress old new) (ticks_are (keeps policy clock) m.objects ticks old new marks.blackening) by_policy, same)
 
-pub piece_outside : (m : Machine) (old new : Marking) (budget age : ℕ) (clock : Clock) (progress : Progress) → m.cycle_open ≡ false → progress ≡ Idle → new ≡ old → MarksPiece budget age clock m old progress new
-piece_outside m old new budget age clock progress shut idle same =
-    subst (λ b. elim b as (λ _. Type 0) [ true ↦ MarksOn (keeps (record { soft_age = age; mode = PolicyMode }) clock) m.objects budget (blackened old new) progress old new | false ↦ (progress ≡ Idle) × (new ≡ old) ]) (sym shut) (idle, same)
+pub piece_outside : (m : Machine) (old new : Marking) (condemned left budget age : ℕ) (clock : Clock) (progress : Progress) → m.cycle_open ≡ false → progress ≡ Idle → new ≡ old → left ≡ condemned - budget
+    → MarksPiece budget age clock m old condemned progress new left
+piece_outside m old new condemned left budget age clock progress shut idle same swept =
+    subst (λ b. elim b as (λ _. Type 0) [ true ↦ MarksOn (keeps (record { soft_age = age; mode = PolicyMode }) clock) m.objects budget (ticks_between m.objects old new) progress old new × (left ≡ condemned) | false ↦ (progress ≡ Idle) × (new ≡ old) × (left ≡ condemned - budget) ]) (sym shut)
+    (idle, same, swept)
 
 soft_path : (kept : ℕ → Bool) (heap : Heap) (x : ℕ) (path : List ℕ) (y : ℕ) → IsPathFollowed kept heap x path y → IsPath UpToSoft heap x path y
 soft_path kept heap x [] y p = p

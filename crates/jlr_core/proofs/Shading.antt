@@ -30,7 +30,7 @@ use Rattle.jlr_marks.specs.Marking.{Marking, Blackened, IsMarked, Shaded, marked
 use Rattle.jlr_marker.specs.Marks.{Blackens}
 use Rattle.jlr_types.specs.declared.FieldValue.TheVariants.{Ref}
 use Rattle.jlr_core.specs.Collecting.{Allocates, FindsNoRoom, MakesRoom}
-use Rattle.jlr_core.specs.Marks.{BlackensMade, IsFromMarks, MarksNew, MarksReached}
+use Rattle.jlr_core.specs.Marks.{BlackensMade, BlackensOnly, IsFromMarks, MarksNew, MarksReached, MarksStay}
 use Rattle.jlr_core.proofs.Hands.{has_session, loads}
 
 -- ---- Where nothing is shaded
@@ -41,8 +41,34 @@ same_reached m n old new e = λ _ s h. inl (s, inr (subst (λ k. IsMarked k s) e
 pub same_black : (old new : Marking) (fresh : List ℕ) → new ≡ old → fresh ≡ [] → Blackens (length fresh) old new
 same_black old new fresh e none = omega (arith, ap marked e, ap (λ (k : Marking). length k.grey) e, ap (λ (l : List ℕ). length l) none)
 
+stays_same : (k : Marking) → MarksStay k k
+stays_same k = record { kept = λ x h. h; fresh = λ x h. inl h; part = refl }
+
+pub same_only : (old new : Marking) (fresh : List ℕ) → new ≡ old → fresh ≡ [] → BlackensOnly (length fresh) old new
+same_only old new fresh e none = (same_black old new fresh e none, subst (MarksStay old) (sym e) (stays_same old))
+
+shaded_stays : (T : ℕ → Type 0) (old new : Marking) → Shaded T old new → MarksStay old new
+shaded_stays T old new s = record { kept = s.kept; fresh = s.fresh; part = s.part_same }
+
+made_stays : (x : ℕ) (old new : Marking) → Blackened x old new → MarksStay old new
+made_stays x old new b = record {
+  kept = λ s h. elim (cases_eq s x) [
+    | inl e ↦ subst (IsMarked new) (sym e) b.marked
+    | inr d ↦ subst (λ l. get_or l s false ≡ true) (sym b.bits) (get_or-set_other old.bits x s true false d ∙ h)
+  ];
+  fresh = λ s h. inl (subst (λ l. s ∈ l) b.grey h);
+  part = b.part;
+}
+
+stays_then : (old mid new : Marking) → MarksStay old mid → MarksStay mid new → MarksStay old new
+stays_then old mid new a b = record {
+  kept = λ s h. b.kept s (a.kept s h);
+  fresh = λ s h. elim (b.fresh s h) [ inl was ↦ a.fresh s was | inr white ↦ inr (λ on. white (a.kept s on)) ];
+  part = b.part ∙ a.part;
+}
+
 pub same_new : (m n : Machine) (old new : Marking) (chosen : Chosen) → new ≡ old → chosen.fresh ≡ [] → MarksNew m old chosen n new
-same_new m n old new chosen e none = record { reached = same_reached m n old new e; blackens = λ _. same_black old new chosen.fresh e none }
+same_new m n old new chosen e none = record { reached = same_reached m n old new e; blackens = λ _. same_only old new chosen.fresh e none }
 
 -- where no cycle is open afterwards, nothing is to be said
 pub shut_new : (m n : Machine) (old new : Marking) (chosen : Chosen) → n.cycle_open ≡ false → MarksNew m old chosen n new
@@ -54,7 +80,7 @@ pub shaded_new : (m n : Machine) (old new : Marking) (T : ℕ → Type 0) → Sh
 shaded_new m n old new T shaded from =
     record {
       reached = λ _ s h. elim (shaded.added s h) [ inl was ↦ inl (s, inr was, ([], refl)) | inr t ↦ from s t.0 ];
-      blackens = λ _. omega (arith, shaded.black_same);
+      blackens = λ _. (omega (arith, shaded.black_same), shaded_stays T old new shaded);
     }
 
 -- ---- What is reached
@@ -152,7 +178,7 @@ made_new : (m n : Machine) (old new : Marking) (chosen : Chosen) (slot : ℕ) �
 made_new m n old new chosen slot b count fresh root =
     record {
       reached = λ _ s h. elim (black_or slot old new b s h) [ inl was ↦ inl (s, inr was, ([], refl)) | inr e ↦ inr (subst (λ x. x ∈ roots n) (sym e) root) ];
-      blackens = λ _. omega (arith, count, ap (λ (l : List ℕ). length l) b.grey, ap (λ (l : List ℕ). length l) fresh);
+      blackens = λ _. (omega (arith, count, ap (λ (l : List ℕ). length l) b.grey, ap (λ (l : List ℕ). length l) fresh), made_stays slot old new b);
     }
 
 -- a new object that has a handle afterwards
@@ -180,7 +206,7 @@ placed_new m n old mid new chosen guard place first second count fresh guard_roo
         | inr e ↦ inr (subst (λ x. x ∈ roots n) (sym e) guard_root)
         | inl h ↦ elim (black_or place old mid first s h) [ inl was ↦ inl (s, inr was, ([], refl)) | inr e ↦ inr (subst (λ x. x ∈ roots n) (sym e) place_root) ]
       ];
-      blackens = λ _. omega (arith, count, ap (λ (l : List ℕ). length l) first.grey, ap (λ (l : List ℕ). length l) second.grey, ap (λ (l : List ℕ). length l) fresh);
+      blackens = λ _. (omega (arith, count, ap (λ (l : List ℕ). length l) first.grey, ap (λ (l : List ℕ). length l) second.grey, ap (λ (l : List ℕ). length l) fresh), stays_then old mid new (made_stays place old mid first) (made_stays guard mid new second));
     }
 
 -- the fence of a mutator that is there is a root

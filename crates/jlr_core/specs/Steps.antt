@@ -44,9 +44,9 @@ pub record IsStep {R : Type 0} (old : Kept R) (event : Event R) (reply : Reply R
   -- where memory may be found wanting, and what room there is from then on
   pub memory : WantsMemory old.machine old.table (ask_of event) (answer_in reply)
   pub table_room : LeavesRoom (ask_of event) old.table new.table
-  -- a cycle begins with its roots; a piece of marking blackens as many cells as it ticks; any other event just the objects that it makes
+  -- a cycle begins with its roots; a piece of marking ticks for each part that it follows, or sweeps; any other event blackens just the objects that it makes
   pub begins : Begins (ask_of event) old.machine new.machine new.marking
-  pub marking : MarksBy (budget_of event) old.soft_age old.clock old.machine old.marking reply new.marking
+  pub marking : MarksBy (budget_of event) old.soft_age old.clock old.machine old.marking old.condemned reply new.marking new.condemned
   pub blackens : BlackensNew event old.machine old.marking chosen new.machine new.marking
   -- a Collect is answered yes exactly where a cycle is open and no cell is grey
   pub collects : ask_of event ≡ Some Collect → answer_in reply ≡ Some (Truth (old.machine.cycle_open && not (has_grey old.marking)))

@@ -1,5 +1,5 @@
 //! Background cycles: one is opened, marked in pieces, collected, or given up.
-ghost use Rattle.std.specs.Prelude.{◌≡◌, ◌-◌, ◌≤◌, ◌&&◌, Ok, false, length, not, true};
+ghost use Rattle.std.specs.Prelude.{◌≡◌, ◌≤◌, ◌&&◌, Ok, false, length, not, true};
 ghost use Rattle.jlr_machine.specs.WellFormed.{IsWellFormed};
 ghost use Rattle.jlr_machine.specs.Choices.{nothing_chosen};
 ghost use Rattle.jlr_core.specs.Collecting.{after_choice};
@@ -58,8 +58,7 @@ impl<R> State<R> {
         ensures graph { self.new.heap.graph ≡ self.old.heap.graph }
         ensures clock { self.new.heap.clock ≡ self.old.heap.clock }
         ensures reached { MarksReached (machine_of self.old) self.old.heap.marking (machine_of self.new) self.new.heap.marking }
-        ensures piece { MarksPiece budget self.old.soft_age self.old.heap.clock (machine_of self.old) self.old.heap.marking result self.new.heap.marking }
-        ensures swept { self.old.cycle_open ≡ false → self.new.heap.condemned ≡ self.old.heap.condemned - budget }
+        ensures piece { MarksPiece budget self.old.soft_age self.old.heap.clock (machine_of self.old) self.old.heap.marking self.old.heap.condemned result self.new.heap.marking self.new.heap.condemned }
     {
         if !self.cycle_open {
             jlr_sweep::sweep(&mut self.heap, budget);

@@ -23,6 +23,7 @@ impl<R> State<R> {
     ghost use Rattle.jlr_core.specs.Machines.{machine_of};
 
     /// One event.
+    #[tactic(auto, using(crate::proofs::Shading::same_only))]
     pub(crate) fn step(&mut self, event: Event<R>, choice: &mut Choice) -> Reply<R>
         requires fit { IsWellFormed (machine_of self.old) }
         requires waits { AllWait (machine_of self.old) self.old.cleaner.waiting }
@@ -36,7 +37,7 @@ impl<R> State<R> {
         ensures table_room { LeavesRoom (ask_of event) self.old.cleaner.table self.new.cleaner.table }
         ensures reached { MarksReached (machine_of self.old) self.old.heap.marking (machine_of self.new) self.new.heap.marking }
         ensures begins { Begins (ask_of event) (machine_of self.old) (machine_of self.new) self.new.heap.marking }
-        ensures marking { MarksBy (budget_of event) self.old.soft_age self.old.heap.clock (machine_of self.old) self.old.heap.marking result self.new.heap.marking }
+        ensures marking { MarksBy (budget_of event) self.old.soft_age self.old.heap.clock (machine_of self.old) self.old.heap.marking self.old.heap.condemned result self.new.heap.marking self.new.heap.condemned }
         ensures blackens { BlackensNew event (machine_of self.old) self.old.heap.marking choice.new.chosen (machine_of self.new) self.new.heap.marking }
         ensures collects { ask_of event ≡ Some Ask.Collect → answer_in result ≡ Some (Answer.Truth (self.old.cycle_open && not (has_grey self.old.heap.marking))) }
         ensures policy { KeepsByPolicy self.old.soft_age self.old.heap.clock (machine_of self.old) self.old.heap.marking (ask_of event) choice.new.chosen }

@@ -2,6 +2,7 @@
 ghost use Rattle.std.specs.Prelude.{◌≡◌, ◌≤◌, ◌↔◌, [], length, IfOk, IsTrue, Some};
 ghost use Rattle.jlr_machine.specs.declared.machine.Machine.{Machine};
 ghost use Rattle.jlr_machine.specs.Refusals.{refusal};
+ghost use Rattle.jlr_machine.specs.Run.{no_choice};
 ghost use Rattle.jlr_event.specs.Events.{ask_of};
 ghost use Rattle.jlr_histories.specs.Collecting.{may_collect};
 ghost use Rattle.jlr_core.specs.Steps.{IsEmpty, IsStep};
@@ -11,7 +12,7 @@ use jlr_event::event::{Event, Reply};
 use jlr_machine::ask::Ask;
 use jlr_machine::choice::Choice;
 use jlr_machine::machine::Machine;
-use jlr_types::{Handle, Limits, Mutator, Refusal};
+use jlr_types::{Handle, Limits, Mutator, Progress, Refusal};
 use std::alloc::{AllocError, Global};
 use std::marker::Model;
 
@@ -29,7 +30,7 @@ impl<R> Model for Core<R> {
 
     ghost Value = { Kept R };
 
-    ghost view = { λ c. kept_with c.state.cleaner c.state.heap.graph c.state.heap.clock c.state.heap.marking c.state.soft_age c.state.cycle_open };
+    ghost view = { λ c. kept_with c.state.cleaner c.state.heap c.state.soft_age c.state.cycle_open };
 
     ghost invariant = { λ c. IsWellFormed (machine_with c.state.cleaner c.state.heap.graph c.state.cycle_open) × AllWait (machine_with c.state.cleaner c.state.heap.graph c.state.cycle_open) c.state.cleaner.waiting };
 }
@@ -62,8 +63,8 @@ impl<R> Core<R> {
 
     /// One event. The choice says what was chosen; it has room for every cell. Only `Prepare` where the table of resources has no room,
     /// `Names`, `Notes` and `Faults`, which copy a list, and `Array`, for its elements, may find no memory, and only where they are not refused. A piece of marking changes
-    /// nothing but marks: in an open cycle it follows grey cells, one tick each, by the soft policy, and is Done where none is left; without
-    /// one it is Idle. A `Collect` keeps exactly what is marked, and is answered yes exactly where a cycle is open and no cell is grey.
+    /// nothing but marks: in an open cycle it follows grey cells, one tick each, and of an array one for each 64 elements, by the soft policy, and is Done where
+    /// none is left; without one it is Idle, and as many condemned cells become free, or all where there are no more. A `Collect` keeps exactly what is marked, and is answered yes exactly where a cycle is open and no cell is grey.
     #[inline(always)]
     pub fn step(&mut self, event: Event<R>, choice: &mut Choice) -> Reply<R>
         requires room { length self.old.machine.objects ≤ choice.old.cells }
@@ -73,6 +74,14 @@ impl<R> Core<R> {
     {
         choice.clear();
         self.state.step(event, choice)
+    }
+
+    /// A piece of marking of at most so many ticks: what `step` does for a `Mark`, which chooses nothing. Nothing is moved for it but its budget.
+    pub fn mark(&mut self, budget: u32) -> Progress
+        ensures step { IsStep self.old (Event.Mark budget) (Reply.Marked result) no_choice self.new }
+        ensures cells { length self.new.machine.objects ≡ length self.old.machine.objects }
+    {
+        self.state.mark(budget)
     }
 
     /// Whether an event may come with a collection: a full collection, a `Collect` in an open cycle, and an ask whose objects find no room.

@@ -12,5 +12,3 @@ pub mod hall;
 pub mod loops;
 pub mod port;
 pub mod seat;
-#[cfg(test)]
-mod tests;

@@ -1,5 +1,5 @@
 //! One asker's end: what it noted, and its share of the count of entries.
-ghost use Rattle.std.specs.Prelude.{◌≡◌, ◌+◌, ◌^◌, ◌<◌, ◌≤◌, [], ◌∷◌, ◌++◌, true, IfOk, IsSome, OnErr, Some, max, OnOk, vec_capacity, vec_len};
+ghost use Rattle.std.specs.Prelude.{◌≡◌, ◌+◌, ◌-◌, ◌^◌, ◌<◌, ◌≤◌, [], ◌∷◌, ◌++◌, true, IfOk, IsSome, OnErr, Some, max, OnOk, vec_capacity, vec_len};
 ghost use Rattle.jlr_machine.specs.Refusals.{is_end};
 ghost use Rattle.jlr_hall.specs.Seats.{Unchanged, after, item, kept};
 ghost use Rattle.jlr_hall.specs.Asking.{HasRoomForAsk, needs};
@@ -82,6 +82,15 @@ impl<L: Ledger> Seat<L> {
         ensures { result.now ≡ self.now.items }
     {
         self.items.as_slice()
+    }
+
+    /// Puts other items in place of what it noted, and gives those back. The transcript is its seat's alone, and nothing is answered by it: the close of its
+    /// hall finds what was changed.
+    pub fn replace_items(&mut self, items: Vec<Item>) -> Vec<Item>
+        ensures given { result.items ≡ self.old.items }
+        ensures put { self.new ≡ record self.old { items = items.items; room = vec_capacity items - vec_len items } }
+    {
+        std::mem::replace(&mut self.items, items)
     }
 
     /// Makes the places of an ask in the transcript, and room for a list that it is answered by. An end finds its place: it was kept.

@@ -1,8 +1,9 @@
 //! Clients as text. The expected texts come from the description of the protocol and of the machine.
+mod book;
 mod clients;
-mod closes;
 mod cuts;
 mod devices;
+mod forgeries;
 mod gates;
 mod listeners;
 mod loops;

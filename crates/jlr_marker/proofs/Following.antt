@@ -1,31 +1,23 @@
 -- Following edges from a base: how it begins, a step, and its end.
-use Rattle.std.proofs.Common.{ℕ, suc, length, arith, ◌-◌, ◌<◌, ◌≡◌, ◌↔◌, ◌⊎◌, Some, None, option_and_then, ap, cond, Bool, true, false, IsTrue, is_some, get_or, count_by, List, [], ◌∷◌, ◌++◌, refl, sym, ◌∙◌, subst, inl, inr}
-use Rattle.std.specs.Prelude.{IsPermutation, nat_eq}
-use Rattle.std.proofs.lemmas.List.Sorted.{list_any-IsPermutation}
+use Rattle.std.proofs.Common.{ℕ, suc, length, arith, ◌-◌, ◌<◌, ◌≡◌, ◌⊎◌, Option, Some, None, option_and_then, ap, cond, Bool, true, false, IsTrue, is_some, get_or, count_by, List, [], ◌∷◌, ◌++◌, refl, sym, ◌∙◌, subst, inl, inr}
 use Rattle.std.proofs.lemmas.Bool.{both_ways}
+use Rattle.std.proofs.lemmas.Option.{slice_get-get_or}
 use Rattle.jlr_types.specs.declared.RefKind.{RefKind}
 use Rattle.jlr_types.specs.declared.RefKind.TheVariants.{Soft, Weak, Phantom}
-use Rattle.jlr_machine.specs.Objects.{Heap, at, ◌∋◌, ◌∈◌}
+use Rattle.jlr_machine.specs.Objects.{Heap, at, ◌∈◌}
 use Rattle.jlr_machine.specs.Edges.{edges_from, referent}
 use Rattle.jlr_machine.specs.Edges.Chain.{Strong, UpToSoft}
 use Rattle.jlr_laws.proofs.Clearing.{HasReferent, edge_from, edge_gives, takes}
 use Rattle.jlr_laws.proofs.Frames.{no_some, place_within}
+use Rattle.jlr_laws.proofs.Sets.{in_front, in_rest, in_cons}
 use Rattle.jlr_laws.specs.Laws.{followed, IsPathFollowed}
-use Rattle.std.proofs.lemmas.Option.{slice_get-get_or}
-use Rattle.jlr_marks.specs.Marking.{Marking, IsMarked, Shaded, unmarked, upcoming}
-use Rattle.jlr_barrier.specs.Snapshots.{IsEdge}
-use Rattle.jlr_barrier.specs.Scans.{Scanned}
+use Rattle.jlr_marks.specs.declared.part.Part.{Part}
+use Rattle.jlr_marks.specs.Marking.{Marking, IsMarked, Shaded, next_of, place, unmarked, upcoming}
+use Rattle.jlr_marks.proofs.Shading.{shaded_same, shaded_then}
+use Rattle.jlr_barrier.specs.Parts.{next_at, part_at}
+use Rattle.jlr_barrier.specs.Scans.{Scanned, ScannedTo}
 use Rattle.jlr_barrier.proofs.Ending.{none_marked}
 use Rattle.jlr_marker.specs.Following.{Follows, IsFollowed, soft_at}
-use Rattle.jlr_laws.proofs.Sets.{nothing, in_front, in_cons}
-use Rattle.jlr_laws.proofs.Clearing.{in_right}
-
--- While edges are followed from B: what is marked is followed, and a marked slot whose edges were not all followed is grey
-pub record IsMarking (kept : ℕ → Bool) (heap : Heap) (B : List ℕ) (m : Marking) : Type 0 where
-  pub sound : (x : ℕ) → IsMarked m x → IsFollowed kept heap B x
-  pub grey : (x : ℕ) → x ∈ m.grey → IsMarked m x
-  pub traced : (x y : ℕ) → IsMarked m x → y ∈ followed kept heap x → (x ∈ m.grey) ⊎ IsMarked m y
-  pub base : (x : ℕ) → x ∈ B → IsMarked m x
 
 module _ (keeps : ℕ → Bool) (heap : Heap) (B : List ℕ) where
   -- ---- Paths
@@ -41,53 +33,9 @@ module _ (keeps : ℕ → Bool) (heap : Heap) (B : List ℕ) where
   follows_base x h = (x, h, [], refl)
 
   -- what holds of the base and goes along each followed edge holds of all that is followed
-  along : (P : ℕ → Type 0) → ((x y : ℕ) → P x → y ∈ followed keeps heap x → P y) → (x : ℕ) (path : List ℕ) (y : ℕ) → P x → IsPathFollowed keeps heap x path y → P y
+  pub along : (P : ℕ → Type 0) → ((x y : ℕ) → P x → y ∈ followed keeps heap x → P y) → (x : ℕ) (path : List ℕ) (y : ℕ) → P x → IsPathFollowed keeps heap x path y → P y
   along P step x [] y p e = subst P e p
   along P step x (z ∷ path) y p h = along P step z path y (step x z p h.0) h.1
-
-  -- ---- Marking
-
-  pub marking_begins : (m n : Marking) → ((x : ℕ) → ¬ (IsMarked m x)) → m.grey ≡ [] → Shaded (λ x. x ∈ B) m n → IsMarking keeps heap B n
-  marking_begins m n none e s =
-      record {
-        sound = λ x h. elim (s.added x h) [ inl o ↦ absurd (none x o) | inr a ↦ follows_base x a.0 ];
-        grey = λ x h. elim (s.grey_marked x h) [ inl o ↦ nothing x (subst (λ l. x ∈ l) e o) | inr k ↦ k ];
-        traced = λ x y h t. elim (s.added x h) [ inl o ↦ absurd (none x o) | inr a ↦ inl a.1 ];
-        base = s.all;
-      }
-
-  -- x is grey no more, and what it leads to was shaded
-  pub marking_goes_on : (m k n : Marking) (x : ℕ) → IsMarking keeps heap B m → k.bits ≡ m.bits → IsPermutation m.grey (x ∷ k.grey) → Shaded (λ y. y ∈ followed keeps heap x) k n → IsMarking keeps heap B n
-  marking_goes_on m k n x v eb eg s =
-      let same : (z : ℕ) → (m.grey ∋ z) ≡ ((x ∷ k.grey) ∋ z) = λ z. list_any-IsPermutation (nat_eq z) m.grey (x ∷ k.grey) eg in
-      let as_k : (z : ℕ) → IsMarked m z → IsMarked k z = λ z h. rw eb h in
-      let as_m : (z : ℕ) → IsMarked k z → IsMarked m z = λ z h. rw (← eb) h in
-      let top : IsMarked m x = v.grey x (same x ∙ in_front x x k.grey refl) in
-      record {
-        sound = λ z h. elim (s.added z h) [ inl o ↦ v.sound z (as_m z o) | inr a ↦ follows_on x z (v.sound x top) a.0 ];
-        grey = λ z h. elim (s.grey_marked z h) [
-          | inl o ↦ s.kept z (as_k z (v.grey z (same z ∙ in_right z (x ∷ []) k.grey o)))
-          | inr q ↦ q
-        ];
-        traced = λ a b h t. elim (s.added a h) [
-          | inl o ↦ elim (v.traced a b (as_m a o) t) [
-            | inl g ↦ elim (in_cons a x k.grey (sym (same a) ∙ g)) [
-              | inl e ↦ inr (s.all b (subst (λ c. b ∈ followed keeps heap c) e t))
-              | inr i ↦ inl (s.grey_kept a i)
-            ]
-            | inr q ↦ inr (s.kept b (as_k b q))
-          ]
-          | inr n ↦ inl n.1
-        ];
-        base = λ z r. s.kept z (as_k z (v.base z r));
-      }
-
-  -- with no grey slot left, exactly what is followed is marked
-  pub marking_ends : (m : Marking) → IsMarking keeps heap B m → m.grey ≡ [] → (x : ℕ) → IsMarked m x ↔ IsFollowed keeps heap B x
-  marking_ends m v e x = (
-    v.sound x,
-    (λ f. along (IsMarked m) (λ a b h t. elim (v.traced a b h t) [ inl g ↦ nothing a (subst (λ l. a ∈ l) e g) | inr q ↦ q ]) f.0 f.2 x (v.base f.0 f.1) f.3),
-  )
 
   -- where the base is of objects and edges lead to objects, all that is followed is an object
   pub followed_objects : ((x : ℕ) → x ∈ B → IsTrue (is_some (at heap x))) → ((x y : ℕ) → y ∈ followed keeps heap x → IsTrue (is_some (at heap y))) → (x : ℕ) → IsFollowed keeps heap B x → IsTrue (is_some (at heap x))
@@ -148,42 +96,125 @@ followed_gives keeps heap s t h =
 pub object_within : (heap : Heap) (s : ℕ) → IsTrue (is_some (at heap s)) → s < length heap
 object_within heap s h = elim (at heap s) as (λ o. at heap s ≡ o → IsTrue (is_some o) → s < length heap) [ None ↦ λ e h. absurd (both_ways false refl h) | Some o ↦ λ e h. place_within heap s o e ] refl h
 
--- ---- A grey slot is scanned
+-- ---- A grey slot is followed
 
-abbrev without : Marking → Marking → Marking
-without off new = record { bits = off.bits; grey = off.grey; discovered = new.discovered }
+-- the slot may stand in front all the while
+shaded_front : (T : ℕ → Type 0) (slot : ℕ) (off on : Marking) (discovered : List ℕ) (part : Option Part) → Shaded T off on
+    → Shaded T (record { bits = off.bits; grey = slot ∷ off.grey; discovered = discovered; part = part }) (record { bits = on.bits; grey = slot ∷ on.grey; discovered = discovered; part = part })
+shaded_front T slot off on discovered part s = record {
+  long = s.long;
+  kept = s.kept;
+  added = λ x h. elim (s.added x h) [ inl o ↦ inl o | inr n ↦ inr (n.0, in_rest x slot on.grey n.1) ];
+  grey_kept = λ x h. elim (in_cons x slot off.grey h) [ inl here ↦ in_front x slot on.grey here | inr o ↦ in_rest x slot on.grey (s.grey_kept x o) ];
+  grey_marked = λ x h. elim (in_cons x slot on.grey h) [
+    | inl here ↦ inl (in_front x slot off.grey here)
+    | inr o ↦ elim (s.grey_marked x o) [ inl z ↦ inl (in_rest x slot off.grey z) | inr z ↦ inr z ]
+  ];
+  fresh = λ x h. elim (in_cons x slot on.grey h) [
+    | inl here ↦ inl (in_front x slot off.grey here)
+    | inr o ↦ elim (s.fresh x o) [ inl z ↦ inl (in_rest x slot off.grey z) | inr z ↦ inr z ]
+  ];
+  all = s.all;
+  black_same = omega (arith, s.black_same);
+  discovered_same = refl;
+  part_same = refl;
+}
 
-pub scanned_follows : (heap : Heap) (slot : ℕ) (old new : Marking) → Scanned heap slot old new → Follows (IsEdge heap slot) slot old new
-scanned_follows heap slot old new scan =
-    let shade = scan.shaded in
-    let on_new : (x : ℕ) → IsMarked scan.on x → IsMarked new x = λ x h. subst (λ v. get_or v x false ≡ true) (sym scan.bits) h in
-    let new_on : (x : ℕ) → IsMarked new x → IsMarked scan.on x = λ x h. subst (λ v. get_or v x false ≡ true) scan.bits h in
-    let grey_on : (x : ℕ) → x ∈ scan.on.grey → x ∈ new.grey = λ x h. subst (λ l. x ∈ l) (sym scan.grey) h in
-    let on_grey : (x : ℕ) → x ∈ new.grey → x ∈ scan.on.grey = λ x h. subst (λ l. x ∈ l) scan.grey h in
+-- the marks with another list of discovered ones, and another part
+abbrev beside : Marking → List ℕ → Option Part → Marking
+beside m discovered part = record { bits = m.bits; grey = m.grey; discovered = discovered; part = part }
+
+shaded_beside : (T : ℕ → Type 0) (off on : Marking) (discovered : List ℕ) (part : Option Part) → Shaded T off on → Shaded T (beside off discovered part) (beside on discovered part)
+shaded_beside T off on discovered part s = record {
+  long = s.long;
+  kept = s.kept;
+  added = s.added;
+  grey_kept = s.grey_kept;
+  grey_marked = s.grey_marked;
+  fresh = s.fresh;
+  all = s.all;
+  black_same = s.black_same;
+  discovered_same = refl;
+  part_same = refl;
+}
+
+pub same_marking : (m n : Marking) → m.bits ≡ n.bits → m.grey ≡ n.grey → m.discovered ≡ n.discovered → m.part ≡ n.part → m ≡ n
+same_marking m n eb eg ed ep =
+    let with_bits : List Bool → Marking = λ b. record { bits = b; grey = m.grey; discovered = m.discovered; part = m.part } in
+    let with_grey : List ℕ → Marking = λ g. record { bits = n.bits; grey = g; discovered = m.discovered; part = m.part } in
+    let with_discovered : List ℕ → Marking = λ d. record { bits = n.bits; grey = n.grey; discovered = d; part = m.part } in
+    let with_part : Option Part → Marking = λ p. record { bits = n.bits; grey = n.grey; discovered = n.discovered; part = p } in
+    ap with_bits eb ∙ ap with_grey eg ∙ ap with_discovered ed ∙ ap with_part ep
+
+scanned_to : (more : Option ℕ) (heap : Heap) (slot : ℕ) (old new : Marking) → ScannedTo more heap slot old new → Follows (λ x. x ∈ part_at heap (place old slot) slot) slot more old new
+scanned_to None heap slot old new scan =
+    let f = scan.followed in
+    let after : Marking = beside scan.on new.discovered None in
     record {
-      off = without scan.off new;
-      same_bits = scan.same_bits;
-      taken = scan.taken;
-      gone = scan.gone;
-      shaded = record {
-        long = ap length scan.bits ∙ shade.long;
-        kept = λ x h. on_new x (shade.kept x h);
-        added = λ x h. elim (shade.added x (new_on x h)) [ inl o ↦ inl o | inr n ↦ inr (n.0, grey_on x n.1) ];
-        grey_kept = λ x h. grey_on x (shade.grey_kept x h);
-        grey_marked = λ x h. elim (shade.grey_marked x (on_grey x h)) [ inl o ↦ inl o | inr on ↦ inr (on_new x on) ];
-        fresh = λ x h. shade.fresh x (on_grey x h);
-        all = λ x e. on_new x (shade.all x e);
-        black_same = omega (arith, shade.black_same, ap (count_by (λ b. b)) scan.bits, ap length scan.grey);
-        discovered_same = refl;
-      };
+      rest = scan.off.grey;
+      off = beside scan.off new.discovered None;
+      same_bits = f.same_bits;
+      taken = f.taken;
+      gone = f.gone;
+      grey = refl;
+      part = refl;
+      shaded = subst (Shaded (λ x. x ∈ part_at heap (place old slot) slot) (beside scan.off new.discovered None)) (sym (same_marking new after scan.bits scan.grey refl scan.part))
+          (shaded_beside (λ x. x ∈ part_at heap (place old slot) slot) scan.off scan.on new.discovered None f.shaded);
+    }
+scanned_to (Some p) heap slot old new scan =
+    let f = scan.followed in
+    let here : Option Part = Some (record { slot = slot; place = p }) in
+    let front : Marking → Marking = λ m. record { bits = m.bits; grey = slot ∷ m.grey; discovered = new.discovered; part = here } in
+    record {
+      rest = scan.off.grey;
+      off = front scan.off;
+      same_bits = f.same_bits;
+      taken = f.taken;
+      gone = f.gone;
+      grey = refl;
+      part = refl;
+      shaded = subst (Shaded (λ x. x ∈ part_at heap (place old slot) slot) (front scan.off)) (sym (same_marking new (front scan.on) scan.bits scan.grey refl scan.part))
+          (shaded_front (λ x. x ∈ part_at heap (place old slot) slot) slot scan.off scan.on new.discovered here f.shaded);
     }
 
+pub scanned_follows : (heap : Heap) (slot : ℕ) (old new : Marking) → Scanned heap slot old new → Follows (λ x. x ∈ part_at heap (place old slot) slot) slot (next_at heap (place old slot) slot) old new
+scanned_follows heap slot old new scan = scanned_to (next_at heap (place old slot) slot) heap slot old new scan
+
+-- what is followed may be said in other words, and more may be shaded after it
+pub follows_same : (T U : ℕ → Type 0) (slot : ℕ) (more : Option ℕ) (old new : Marking) → ((x : ℕ) → T x → U x) → ((x : ℕ) → U x → T x) → Follows T slot more old new → Follows U slot more old new
+follows_same T U slot more old new to from f = record {
+  rest = f.rest;
+  off = f.off;
+  same_bits = f.same_bits;
+  taken = f.taken;
+  gone = f.gone;
+  grey = f.grey;
+  part = f.part;
+  shaded = shaded_same T U to from f.off new f.shaded;
+}
+
+pub follows_then : (T U : ℕ → Type 0) (slot : ℕ) (more : Option ℕ) (old mid new : Marking) → Follows T slot more old mid → Shaded U mid new → Follows (λ x. T x ⊎ U x) slot more old new
+follows_then T U slot more old mid new f s = record {
+  rest = f.rest;
+  off = f.off;
+  same_bits = f.same_bits;
+  taken = f.taken;
+  gone = f.gone;
+  grey = f.grey;
+  part = f.part;
+  shaded = shaded_then T U f.off mid new f.shaded s;
+}
+
 -- where none comes next, none is grey
-pub none_upcoming : (grey : List ℕ) → upcoming grey ≡ None → grey ≡ []
-none_upcoming [] e = refl
-none_upcoming (x ∷ grey) e =
+none_next : (part : Option Part) (grey : List ℕ) → next_of part grey ≡ None → grey ≡ []
+none_next (Some p) grey e = no_some p.slot (sym e)
+none_next None [] e = refl
+none_next None (x ∷ grey) e =
     let i = length (x ∷ grey) - 1 in
     no_some (get_or (x ∷ grey) i 0) (sym e ∙ slice_get-get_or (x ∷ grey) i 0 (omega arith))
+
+pub none_upcoming : (m : Marking) → upcoming m ≡ None → m.grey ≡ []
+none_upcoming m e = none_next m.part m.grey e
 
 pub none_in_unmarked : (n x : ℕ) → ¬ (IsMarked (unmarked n) x)
 none_in_unmarked n x h = none_marked n x h

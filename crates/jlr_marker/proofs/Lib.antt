@@ -1,2 +1,5 @@
 pub mod Following
+pub mod Elements
+pub mod Totals
 pub mod Passing
+pub mod Whole

@@ -1,3 +1,4 @@
 -- Reading order.
 pub mod Following
+pub mod Spending
 pub mod Marks

@@ -10,7 +10,7 @@ use Rattle.std.proofs.lemmas.Map.Keys.{IsDistinct-IsPermutation}
 use Rattle.jlr_machine.specs.Objects.{◌∈◌}
 use Rattle.jlr_laws.proofs.Sets.{nothing, in_front, in_rest, in_cons}
 use Rattle.jlr_laws.proofs.Clearing.{in_append}
-use Rattle.jlr_marks.specs.Marking.{AreGrey, upcoming}
+use Rattle.jlr_marks.specs.Marking.{AreGrey}
 use Rattle.jlr_marks.proofs.Shading.{marked_here, set_keeps}
 
 -- ---- Lists without repeats
@@ -87,8 +87,23 @@ module _ (bits : List Bool) (old new : List ℕ) (g : AreGrey bits old) where
   still_grey None e = subst (AreGrey bits) (e ∙ append-nil new) g
   still_grey (Some slot) e = grey_less bits old new slot g (popped (Some slot) e)
 
-pub last_is : (r : Option ℕ) (items : List ℕ) (n : ℕ) → n ≡ length items → MatchOption r (n ≡ 0) (λ _. 0 < n) → ((d : ℕ) → 0 < n → r ≡ Some (get_or items (n - 1) d)) → r ≡ upcoming items
+pub last_is : (r : Option ℕ) (items : List ℕ) (n : ℕ) → n ≡ length items → MatchOption r (n ≡ 0) (λ _. 0 < n) → ((d : ℕ) → 0 < n → r ≡ Some (get_or items (n - 1) d)) → r ≡ slice_get items (length items - 1)
 last_is None items n e h value = sym (slice_get_past items (length items - 1) (omega (arith, e, h)))
 last_is (Some x) items n e h value =
     let within : n - 1 < length items = omega (arith, e, h) in
     value x h ∙ sym (slice_get-get_or items (n - 1) x within) ∙ ap (λ k. slice_get items (k - 1)) e
+
+-- a cell is grey again, before all others
+pub grey_again : (bits : List Bool) (grey : List ℕ) (y : ℕ) → get_or bits y false ≡ true → (y ∈ grey → ⊥) → AreGrey bits grey → AreGrey bits (y ∷ grey)
+grey_again bits grey y on out g =
+    record {
+      marked = λ x h. elim (in_cons x y grey h) [ inl e ↦ subst (λ z. get_or bits z false ≡ true) (sym e) on | inr o ↦ g.marked x o ];
+      once = one_before y grey out g.once;
+    }
+
+-- the first is grey no more
+pub first_once : (bits : List Bool) (grey : List ℕ) (y : ℕ) → AreGrey bits (y ∷ grey) → y ∈ grey → ⊥
+first_once bits grey y g h = front_once y grey g.once h
+
+pub grey_rest : (bits : List Bool) (grey : List ℕ) (y : ℕ) → AreGrey bits (y ∷ grey) → AreGrey bits grey
+grey_rest bits grey y g = record { marked = λ z h. g.marked z (in_rest z y grey h); once = rest_once y grey g.once }

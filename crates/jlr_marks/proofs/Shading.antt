@@ -4,6 +4,7 @@ use Rattle.std.specs.Option.{option_to_list}
 use Rattle.std.proofs.lemmas.List.{set-get_or}
 use Rattle.std.proofs.lemmas.Bool.{both_ways, cases_eq}
 use Rattle.jlr_machine.specs.Objects.{◌∈◌}
+use Rattle.jlr_marks.specs.declared.part.Part.{Part}
 use Rattle.jlr_marks.specs.Marking.{Marking, is_marked, IsMarked, Shaded}
 use Rattle.jlr_laws.proofs.Sets.{nothing, in_front, in_cons}
 use Rattle.jlr_laws.proofs.Clearing.{in_append, in_left, in_right, option_in, in_option}
@@ -42,6 +43,7 @@ shaded_none T none m =
       all = λ x t. absurd (none x t);
       black_same = refl;
       discovered_same = refl;
+      part_same = refl;
     }
 
 pub shaded_same : (T U : ℕ → Type 0) → ((x : ℕ) → T x → U x) → ((x : ℕ) → U x → T x) → (m n : Marking) → Shaded T m n → Shaded U m n
@@ -56,6 +58,7 @@ shaded_same T U to from m n s =
       all = λ x u. s.all x (from x u);
       black_same = s.black_same;
       discovered_same = s.discovered_same;
+      part_same = s.part_same;
     }
 
 pub shaded_then : (T U : ℕ → Type 0) (a b c : Marking) → Shaded T a b → Shaded U b c → Shaded (λ x. T x ⊎ U x) a c
@@ -76,6 +79,7 @@ shaded_then T U a b c s t =
       all = λ x h. elim h [ inl u ↦ t.kept x (s.all x u) | inr u ↦ t.all x u ];
       black_same = omega (arith, s.black_same, t.black_same);
       discovered_same = t.discovered_same ∙ s.discovered_same;
+      part_same = t.part_same ∙ s.part_same;
     }
 
 -- ---- Shading one slot
@@ -83,12 +87,13 @@ shaded_then T U a b c s t =
 set_same : (bits : List Bool) (y : ℕ) → get_or bits y false ≡ true → set bits y true ≡ bits
 set_same bits y k = subst (λ b. set bits y b ≡ bits) k (set-get_or bits y false)
 
-pub same_marking : (m n : Marking) → m.bits ≡ n.bits → m.grey ≡ n.grey → m.discovered ≡ n.discovered → m ≡ n
-same_marking m n eb eg ed =
-    let with_bits : List Bool → Marking = λ b. record { bits = b; grey = m.grey; discovered = m.discovered } in
-    let with_grey : List ℕ → Marking = λ g. record { bits = n.bits; grey = g; discovered = m.discovered } in
-    let with_discovered : List ℕ → Marking = λ d. record { bits = n.bits; grey = n.grey; discovered = d } in
-    ap with_bits eb ∙ ap with_grey eg ∙ ap with_discovered ed
+pub same_marking : (m n : Marking) → m.bits ≡ n.bits → m.grey ≡ n.grey → m.discovered ≡ n.discovered → m.part ≡ n.part → m ≡ n
+same_marking m n eb eg ed ep =
+    let with_bits : List Bool → Marking = λ b. record { bits = b; grey = m.grey; discovered = m.discovered; part = m.part } in
+    let with_grey : List ℕ → Marking = λ g. record { bits = n.bits; grey = g; discovered = m.discovered; part = m.part } in
+    let with_discovered : List ℕ → Marking = λ d. record { bits = n.bits; grey = n.grey; discovered = d; part = m.part } in
+    let with_part : Option Part → Marking = λ p. record { bits = n.bits; grey = n.grey; discovered = n.discovered; part = p } in
+    ap with_bits eb ∙ ap with_grey eg ∙ ap with_discovered ed ∙ ap with_part ep
 
 shaded_already : (y : ℕ) (m : Marking) → is_marked m y ≡ true → Shaded (λ x. x ≡ y) m m
 shaded_already y m k =
@@ -102,10 +107,11 @@ shaded_already y m k =
       all = λ x e. ap (is_marked m) e ∙ k;
       black_same = refl;
       discovered_same = refl;
+      part_same = refl;
     }
 
 abbrev shade_new : Marking → ℕ → Marking
-shade_new m y = record { bits = set m.bits y true; grey = m.grey ++ y ∷ []; discovered = m.discovered }
+shade_new m y = record { bits = set m.bits y true; grey = m.grey ++ y ∷ []; discovered = m.discovered; part = m.part }
 
 shaded_new : (y : ℕ) (m : Marking) → y < length m.bits → is_marked m y ≡ false → Shaded (λ x. x ≡ y) m (shade_new m y)
 shaded_new y m h k =
@@ -127,16 +133,17 @@ shaded_new y m h k =
       all = λ x e. ap (is_marked (shade_new m y)) e ∙ top;
       black_same = omega (arith, count_marks m.bits y h k, length-append m.grey (y ∷ []));
       discovered_same = refl;
+      part_same = refl;
     }
 
-shaded_case : (y : ℕ) (m : Marking) (b : Bool) → is_marked m y ≡ b → y < length m.bits → Shaded (λ x. x ≡ y) m (record { bits = set m.bits y true; grey = cond b m.grey (m.grey ++ y ∷ []); discovered = m.discovered })
-shaded_case y m true k h = subst (λ l. Shaded (λ x. x ≡ y) m (record { bits = l; grey = m.grey; discovered = m.discovered })) (sym (set_same m.bits y k)) (shaded_already y m k)
+shaded_case : (y : ℕ) (m : Marking) (b : Bool) → is_marked m y ≡ b → y < length m.bits → Shaded (λ x. x ≡ y) m (record { bits = set m.bits y true; grey = cond b m.grey (m.grey ++ y ∷ []); discovered = m.discovered; part = m.part })
+shaded_case y m true k h = subst (λ l. Shaded (λ x. x ≡ y) m (record { bits = l; grey = m.grey; discovered = m.discovered; part = m.part })) (sym (set_same m.bits y k)) (shaded_already y m k)
 shaded_case y m false k h = shaded_new y m h k
 
-pub shaded_one : (y : ℕ) (m n : Marking) → y < length m.bits → n.bits ≡ set m.bits y true → n.grey ≡ cond (is_marked m y) m.grey (m.grey ++ y ∷ []) → n.discovered ≡ m.discovered → Shaded (λ x. x ≡ y) m n
-shaded_one y m n h eb eg ed =
-    let after : Marking = record { bits = set m.bits y true; grey = cond (is_marked m y) m.grey (m.grey ++ y ∷ []); discovered = m.discovered } in
-    subst (Shaded (λ x. x ≡ y) m) (sym (same_marking n after eb eg ed)) (shaded_case y m (is_marked m y) refl h)
+pub shaded_one : (y : ℕ) (m n : Marking) → y < length m.bits → n.bits ≡ set m.bits y true → n.grey ≡ cond (is_marked m y) m.grey (m.grey ++ y ∷ []) → n.discovered ≡ m.discovered → n.part ≡ m.part → Shaded (λ x. x ≡ y) m n
+shaded_one y m n h eb eg ed ep =
+    let after : Marking = record { bits = set m.bits y true; grey = cond (is_marked m y) m.grey (m.grey ++ y ∷ []); discovered = m.discovered; part = m.part } in
+    subst (Shaded (λ x. x ≡ y) m) (sym (same_marking n after eb eg ed ep)) (shaded_case y m (is_marked m y) refl h)
 
 -- ---- Shading the members of two lists
 

@@ -10,7 +10,7 @@ ghost use Rattle.jlr_cells.specs.Contents.{field_at, is_ref, in_clean_state, in_
 ghost use Rattle.jlr_machine.specs.declared.object.Object.TheVariants.{Plain};
 ghost use Rattle.jlr_machine.specs.declared.object.Contents.TheVariants.{Elements as ElementsOf};
 ghost use Rattle.jlr_cells.specs.Links.{no_links};
-ghost use Rattle.jlr_cells.specs.Visits.{edges_told, found_plain};
+ghost use Rattle.jlr_cells.specs.Visits.{edges_told, elements_lent, elements_of, found_plain};
 ghost use Rattle.jlr_sets.specs.SlotSets.{is_in};
 ghost use Rattle.jlr_cells.specs.Showing.{shown};
 ghost use Rattle.jlr_objects.specs.Holding.{all_free, in_use};
@@ -455,6 +455,7 @@ impl Objects {
         requires ticks { meter.old + 1 < 2 ^ 64 }
         ensures edges { edges_from Strong self.now.objects slot ≡ edges_told result (members_in (at self.now.objects slot)) }
         ensures plain { found_plain result ≡ some_and is_record (at self.now.objects slot) }
+        ensures array { elements_lent result ≡ option_and_then elements_of (at self.now.objects slot) }
         ensures ticked { meter.new ≡ meter.old + 1 }
     {
         self.store.visit(slot, meter)

@@ -39,7 +39,6 @@ fn join(alloc: Global, machine: Machine, mutator: Mutator) -> Result<Machine, Al
 }
 
 fn set_field(
-    alloc: Global,
     machine: Machine,
     mutator: Mutator,
     object: Handle,
@@ -49,21 +48,16 @@ fn set_field(
     ensures { IfOk result (λ n. n ≡ field_set machine mutator object field value) }
 {
     match named_slot(&machine, mutator, object) {
-        Some(slot) => with_changed(alloc, machine, slot, Change::Set(field, value)),
+        Some(slot) => with_changed(machine, slot, Change::Set(field, value)),
         None => Ok(machine),
     }
 }
 
-fn clear(
-    alloc: Global,
-    machine: Machine,
-    mutator: Mutator,
-    reference: Handle,
-) -> Result<Machine, AllocError>
+fn clear(machine: Machine, mutator: Mutator, reference: Handle) -> Result<Machine, AllocError>
     ensures { IfOk result (λ n. n ≡ on (slot_named machine mutator reference) (λ s. with_object machine s (with_reference unreferred)) machine) }
 {
     match named_slot(&machine, mutator, reference) {
-        Some(slot) => with_changed(alloc, machine, slot, Change::Unrefer),
+        Some(slot) => with_changed(machine, slot, Change::Unrefer),
         None => Ok(machine),
     }
 }
@@ -77,7 +71,7 @@ fn enqueue_named(
     ensures { IfOk result (λ n. n ≡ on (slot_named machine mutator reference) (enqueued machine) machine) }
 {
     match named_slot(&machine, mutator, reference) {
-        Some(slot) => enqueue(alloc, machine, slot),
+        Some(slot) => enqueue(machine, slot),
         None => Ok(machine),
     }
 }
@@ -318,7 +312,6 @@ fn poll_asked(
 }
 
 fn put(
-    alloc: Global,
     machine: Machine,
     mutator: Mutator,
     object: Handle,
@@ -328,14 +321,7 @@ fn put(
     ensures { IfOk result (λ n. n ≡ field_set machine mutator object field (Ref (slot_named machine mutator value))) }
 {
     let slot = named_slot(&machine, mutator, value);
-    set_field(
-        alloc,
-        machine,
-        mutator,
-        object,
-        field,
-        FieldValue::Ref(slot),
-    )
+    set_field(machine, mutator, object, field, FieldValue::Ref(slot))
 }
 
 fn make_reference(
@@ -414,21 +400,14 @@ pub fn after_plain(
             object,
             field,
             value,
-        } => put(alloc, machine, *mutator, *object, *field, *value),
+        } => put(machine, *mutator, *object, *field, *value),
         Ask::Get { mutator, .. } => hold_given(alloc, machine, *mutator, ask),
         Ask::SetInt {
             mutator,
             object,
             field,
             value,
-        } => set_field(
-            alloc,
-            machine,
-            *mutator,
-            *object,
-            *field,
-            FieldValue::Int(*value),
-        ),
+        } => set_field(machine, *mutator, *object, *field, FieldValue::Int(*value)),
         Ask::Int { .. } => Ok(machine),
         Ask::Dup { mutator, .. } => hold_given(alloc, machine, *mutator, ask),
         Ask::Drop { mutator, object } => with_session_changed(
@@ -449,7 +428,7 @@ pub fn after_plain(
         }
         Ask::Deref { mutator, .. } => hold_given(alloc, machine, *mutator, ask),
         Ask::Refers { .. } => Ok(machine),
-        Ask::Clear { mutator, reference } => clear(alloc, machine, *mutator, *reference),
+        Ask::Clear { mutator, reference } => clear(machine, *mutator, *reference),
         Ask::Enqueue { mutator, reference } => enqueue_named(alloc, machine, *mutator, *reference),
         Ask::Enqueued { .. } => Ok(machine),
         Ask::MakeQueue { mutator } => make(

@@ -63,7 +63,7 @@ fn open_badly(
     ensures { IfOk result (λ n. n ≡ opened machine mutator guard (Failed fault)) }
 {
     let gone = without_rid(alloc, machine, guard.rid)?;
-    let next = with_changed(alloc, gone, guard.cleanable, Change::Spend)?;
+    let next = with_changed(gone, guard.cleanable, Change::Spend)?;
     in_call(alloc, next, mutator, None, Call::Free)
 }
 

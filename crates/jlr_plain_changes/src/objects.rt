@@ -1,20 +1,18 @@
 //! Changes of one object.
-ghost use Rattle.std.specs.Prelude.{◌≡◌, ◌++◌, ◌∷◌, [], drop, slice_set, IfOk, option_map};
+ghost use Rattle.std.specs.Prelude.{◌≡◌, ◌++◌, ◌∷◌, [], None, drop, slice_set, IfOk, OnOk};
 ghost use Rattle.jlr_machine.specs.declared.object.Object.TheVariants.{Plain, Queue, Reference as ReferenceObject, Cleanable as CleanableObject};
-ghost use Rattle.jlr_machine.specs.Objects.{at, with_element, with_value};
+ghost use Rattle.jlr_machine.specs.Objects.{at, change_at, with_element, with_value};
 ghost use Rattle.jlr_machine.specs.Lookups.{with_object};
 ghost use Rattle.jlr_plain_changes.specs.Changes.{change_of};
 
-use jlr_machine::copy::{copy_items, copy_slice};
 use jlr_machine::items::Items;
 use jlr_machine::machine::Machine;
 use jlr_machine::object::{
     CleanState, Cleanable, Contents, Elements, Fields, Object, RefState, Reference,
 };
 use jlr_machine::table::Table;
-use jlr_plain_asks::lookups::object_at;
 use jlr_types::{FieldNo, FieldValue, Slot};
-use std::alloc::{AllocError, Global};
+use std::alloc::AllocError;
 
 /// A change of an object of the kind that it is for.
 #[derive(Clone, Copy)]
@@ -37,77 +35,55 @@ pub enum Change {
     Line,
 }
 
-fn with_item<T: Copy>(
-    alloc: Global,
-    items: &[T],
-    number: FieldNo,
-    item: T,
-) -> Result<Vec<T>, AllocError>
-    ensures { IfOk result (λ v. v.items ≡ slice_set items.now number item) }
+fn set_item<T: Copy>(items: &mut Vec<T>, number: FieldNo, item: T)
+    ensures { items.new.items ≡ slice_set items.old.items number item }
 {
-    let mut out = copy_slice(alloc, items)?;
     let place = number.number() as usize;
-    if place < out.len() {
-        out[place] = item;
+    if place < items.len() {
+        items[place] = item;
     }
-    Ok(out)
 }
 
-fn set_field(
-    alloc: Global,
-    fields: &Fields,
-    number: FieldNo,
-    value: FieldValue,
-) -> Result<Fields, AllocError>
-    ensures { IfOk result (λ f. f ≡ slice_set fields.now number value) }
+fn set_field(fields: Fields, number: FieldNo, value: FieldValue) -> Fields
+    ensures { result ≡ slice_set fields number value }
 {
-    let values = with_item(alloc, fields.as_slice(), number, value)?;
-    Ok(Fields::from_vec(values).unwrap())
+    let mut values = fields.into_vec();
+    set_item(&mut values, number, value);
+    Fields::from_vec(values).unwrap()
 }
 
 /// An element refers to another object. An integer goes into none.
-fn set_element(
-    alloc: Global,
-    elements: &Elements,
-    number: FieldNo,
-    value: FieldValue,
-) -> Result<Elements, AllocError>
-    ensures { IfOk result (λ e. e ≡ with_element elements.now number value) }
+fn set_element(elements: Elements, number: FieldNo, value: FieldValue) -> Elements
+    ensures { result ≡ with_element elements number value }
 {
     let FieldValue::Ref(slot) = value else {
-        return elements.copy(alloc);
+        return elements;
     };
-    let slots = with_item(alloc, elements.as_slice(), number, slot)?;
-    Ok(Elements::from_vec(slots).unwrap())
+    let mut slots = elements.into_vec();
+    set_item(&mut slots, number, slot);
+    Elements::from_vec(slots).unwrap()
 }
 
-fn set_value(
-    alloc: Global,
-    contents: &Contents,
-    number: FieldNo,
-    value: FieldValue,
-) -> Result<Contents, AllocError>
-    ensures { IfOk result (λ c. c ≡ with_value number value contents.now) }
+fn set_value(contents: Contents, number: FieldNo, value: FieldValue) -> Contents
+    ensures { result ≡ with_value number value contents }
 {
     match contents {
-        Contents::Typed(fields) => Ok(Contents::Typed(set_field(alloc, fields, number, value)?)),
-        Contents::Elements(elements) => {
-            Ok(Contents::Elements(set_element(alloc, elements, number, value)?))
-        }
+        Contents::Typed(fields) => Contents::Typed(set_field(fields, number, value)),
+        Contents::Elements(elements) => Contents::Elements(set_element(elements, number, value)),
     }
 }
 
-fn changed_plain(alloc: Global, contents: &Contents, change: Change) -> Result<Object, AllocError>
-    ensures { IfOk result (λ o. o ≡ change_of change (Plain contents.now)) }
+fn changed_plain(contents: Contents, change: Change) -> Object
+    ensures { result ≡ change_of change (Plain contents) }
 {
     match change {
-        Change::Set(number, value) => Ok(Object::Plain(set_value(alloc, contents, number, value)?)),
-        _ => Ok(Object::Plain(contents.copy(alloc)?)),
+        Change::Set(number, value) => Object::Plain(set_value(contents, number, value)),
+        _ => Object::Plain(contents),
     }
 }
 
-fn changed_reference(r: &Reference, change: Change) -> Reference
-    ensures { ReferenceObject result ≡ change_of change (ReferenceObject r.now) }
+fn changed_reference(r: Reference, change: Change) -> Reference
+    ensures { ReferenceObject result ≡ change_of change (ReferenceObject r) }
 {
     match change {
         Change::Unrefer => Reference {
@@ -128,40 +104,46 @@ fn changed_reference(r: &Reference, change: Change) -> Reference
             queue: r.queue,
             state: RefState::Removed,
         },
-        _ => *r,
+        _ => r,
     }
 }
 
-fn appended(alloc: Global, members: &[Slot], slot: Slot) -> Result<Vec<Slot>, AllocError>
-    ensures { IfOk result (λ v. v.items ≡ members.now ++ slot ∷ []) }
+fn without_first(members: Vec<Slot>) -> Vec<Slot>
+    ensures { result.items ≡ drop 1 members.items }
 {
-    let mut out = copy_slice(alloc, members)?;
-    out.push(slot)?;
-    Ok(out)
-}
-
-fn without_first(alloc: Global, members: &[Slot]) -> Result<Vec<Slot>, AllocError>
-    ensures { IfOk result (λ v. v.items ≡ drop 1 members.now) }
-{
-    if members.is_empty() {
-        return Ok(Vec::new(alloc));
+    let mut members = members;
+    if !members.is_empty() {
+        drop(members.remove(0));
     }
-    copy_slice(alloc, &members[1..])
+    members
 }
 
-fn changed_queue(alloc: Global, members: &Items<Slot>, change: Change) -> Result<Object, AllocError>
-    ensures { IfOk result (λ o. o ≡ change_of change (Queue members.now)) }
+fn appended(members: Vec<Slot>, slot: Slot) -> Result<Vec<Slot>, AllocError>
+    ensures { IfOk result (λ v. v.items ≡ members.items ++ slot ∷ []) }
 {
-    let list = members.as_slice();
+    let mut members = members;
+    members.push(slot)?;
+    Ok(members)
+}
+
+fn changed_queue(members: Items<Slot>, change: Change) -> Result<Object, AllocError>
+    ensures { IfOk result (λ o. o ≡ change_of change (Queue members)) }
+{
     match change {
-        Change::Append(slot) => Ok(Object::Queue(Items::from_vec(appended(alloc, list, slot)?))),
-        Change::DropFirst => Ok(Object::Queue(Items::from_vec(without_first(alloc, list)?))),
-        _ => Ok(Object::Queue(copy_items(alloc, members)?)),
+        Change::Append(slot) => {
+            let longer = appended(members.into_vec(), slot)?;
+            Ok(Object::Queue(Items::from_vec(longer)))
+        }
+        Change::DropFirst => {
+            let rest = without_first(members.into_vec());
+            Ok(Object::Queue(Items::from_vec(rest)))
+        }
+        _ => Ok(Object::Queue(members)),
     }
 }
 
-fn changed_cleanable(c: &Cleanable, change: Change) -> Cleanable
-    ensures { CleanableObject result ≡ change_of change (CleanableObject c.now) }
+fn changed_cleanable(c: Cleanable, change: Change) -> Cleanable
+    ensures { CleanableObject result ≡ change_of change (CleanableObject c) }
 {
     match change {
         Change::Spend => Cleanable {
@@ -176,21 +158,21 @@ fn changed_cleanable(c: &Cleanable, change: Change) -> Cleanable
             work: c.work,
             state: CleanState::Lined,
         },
-        _ => *c,
+        _ => c,
     }
 }
 
-/// The object after the change.
-fn changed(alloc: Global, object: &Object, change: Change) -> Result<Object, AllocError>
-    ensures { IfOk result (λ o. o ≡ change_of change object.now) }
+/// The object after the change. What it holds stays where it lies; only a queue that grows takes memory.
+fn changed(object: Object, change: Change) -> Result<Object, AllocError>
+    ensures { IfOk result (λ o. o ≡ change_of change object) }
 {
     match object {
-        Object::Plain(fields) => changed_plain(alloc, fields, change),
+        Object::Plain(contents) => Ok(changed_plain(contents, change)),
         Object::Reference(r) => Ok(Object::Reference(changed_reference(r, change))),
-        Object::Queue(members) => changed_queue(alloc, members, change),
+        Object::Queue(members) => changed_queue(members, change),
         Object::Cleaner => Ok(Object::Cleaner),
         Object::Cleanable(c) => Ok(Object::Cleanable(changed_cleanable(c, change))),
-        Object::Guard(g) => Ok(Object::Guard(*g)),
+        Object::Guard(g) => Ok(Object::Guard(g)),
     }
 }
 
@@ -213,29 +195,40 @@ pub fn with_place(machine: Machine, slot: Slot, place: Option<Object>) -> Machin
     machine
 }
 
-fn changed_at(
-    alloc: Global,
-    machine: &Machine,
-    slot: Slot,
-    change: Change,
-) -> Result<Option<Object>, AllocError>
-    ensures { IfOk result (λ o. o ≡ option_map (change_of change) (at machine.now.objects slot)) }
+/// Takes out what lies at a place.
+fn take_object(places: &mut Vec<Option<Object>>, number: usize) -> Option<Object>
+    ensures taken { result ≡ at places.old.items number }
+    ensures left { places.new.items ≡ slice_set places.old.items number None }
 {
-    match object_at(machine, slot) {
-        Some(object) => Ok(Some(changed(alloc, object, change)?)),
-        None => Ok(None),
+    match places.get_mut(number) {
+        Some(place) => place.take(),
+        None => None,
     }
 }
 
-/// The machine with the object at the slot changed.
-pub fn with_changed(
-    alloc: Global,
-    machine: Machine,
-    slot: Slot,
+/// Changes the object at a place, if there is one.
+fn change_object(
+    places: &mut Vec<Option<Object>>,
+    number: usize,
     change: Change,
-) -> Result<Machine, AllocError>
+) -> Result<(), AllocError>
+    ensures { OnOk result (places.new.items ≡ change_at places.old.items number (change_of change)) }
+{
+    let place = match take_object(places, number) {
+        Some(object) => Some(changed(object, change)?),
+        None => None,
+    };
+    put_object(places, number, place);
+    Ok(())
+}
+
+/// The machine with the object at the slot changed.
+pub fn with_changed(machine: Machine, slot: Slot, change: Change) -> Result<Machine, AllocError>
     ensures { IfOk result (λ n. n ≡ with_object machine slot (change_of change)) }
 {
-    let place = changed_at(alloc, &machine, slot, change)?;
-    Ok(with_place(machine, slot, place))
+    let mut machine = machine;
+    let mut places = machine.objects.into_vec();
+    let done = change_object(&mut places, slot.number() as usize, change);
+    machine.objects = Table::from_vec(places);
+    done.map(|()| machine)
 }

@@ -30,19 +30,14 @@ pub fn hold(
     }
 }
 
-fn add_to_queue(
-    alloc: Global,
-    machine: Machine,
-    slot: Slot,
-    queue: Option<Slot>,
-) -> Result<Machine, AllocError>
+fn add_to_queue(machine: Machine, slot: Slot, queue: Option<Slot>) -> Result<Machine, AllocError>
     ensures { IfOk result (λ n. n ≡ to_queue machine slot queue) }
 {
     let Some(queue) = queue else {
         return Ok(machine);
     };
-    let next = with_changed(alloc, machine, slot, Change::Enqueue)?;
-    with_changed(alloc, next, queue, Change::Append(slot))
+    let next = with_changed(machine, slot, Change::Enqueue)?;
+    with_changed(next, queue, Change::Append(slot))
 }
 
 fn queue_ahead_at(machine: &Machine, slot: Slot) -> Option<Slot>
@@ -58,12 +53,12 @@ fn queue_ahead_at(machine: &Machine, slot: Slot) -> Option<Slot>
 }
 
 /// The reference at the slot loses its referent, and goes to the end of its queue, if it may.
-pub fn enqueue(alloc: Global, machine: Machine, slot: Slot) -> Result<Machine, AllocError>
+pub fn enqueue(machine: Machine, slot: Slot) -> Result<Machine, AllocError>
     ensures { IfOk result (λ n. n ≡ enqueued machine slot) }
 {
     let queue = queue_ahead_at(&machine, slot);
-    let next = with_changed(alloc, machine, slot, Change::Unrefer)?;
-    add_to_queue(alloc, next, slot, queue)
+    let next = with_changed(machine, slot, Change::Unrefer)?;
+    add_to_queue(next, slot, queue)
 }
 
 fn poll_to(
@@ -78,8 +73,8 @@ fn poll_to(
     let Some(slot) = slot else {
         return Ok(machine);
     };
-    let shorter = with_changed(alloc, machine, queue, Change::DropFirst)?;
-    let next = with_changed(alloc, shorter, slot, Change::Remove)?;
+    let shorter = with_changed(machine, queue, Change::DropFirst)?;
+    let next = with_changed(shorter, slot, Change::Remove)?;
     with_session_changed(alloc, next, mutator, SessionChange::Hold(slot))
 }
 
@@ -104,7 +99,7 @@ fn line_up(alloc: Global, machine: Machine, slot: Slot) -> Result<Machine, Alloc
 {
     let mut line = copy_slice(alloc, machine.line.as_slice())?;
     line.push(slot)?;
-    let mut next = with_changed(alloc, machine, slot, Change::Line)?;
+    let mut next = with_changed(machine, slot, Change::Line)?;
     next.line = Items::from_vec(line);
     Ok(next)
 }
@@ -113,7 +108,7 @@ fn deliver(alloc: Global, machine: Machine, slot: Slot, step: Handed) -> Result<
     ensures { IfOk result (λ n. n ≡ delivered machine slot step) }
 {
     match step {
-        Handed::Queued => enqueue(alloc, machine, slot),
+        Handed::Queued => enqueue(machine, slot),
         Handed::Lined => line_up(alloc, machine, slot),
         Handed::Skipped => Ok(machine),
         Handed::Nothing => Ok(machine),

@@ -94,7 +94,7 @@ pub fn take_up(
         work: cleanable.work,
         by,
     };
-    let mut next = with_changed(alloc, machine, slot, Change::Spend)?;
+    let mut next = with_changed(machine, slot, Change::Spend)?;
     let jobs = job_added(alloc, next.jobs.as_slice(), job)?;
     next.jobs = Items::from_vec(jobs);
     next.taken += 1;

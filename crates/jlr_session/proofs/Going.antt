@@ -5,7 +5,7 @@ use Rattle.std.proofs.lemmas.Bool.{cases_lt, le-ltb, lt-ltb}
 use Rattle.std.proofs.lemmas.List.Elements.{All-nil}
 use Rattle.jlr_machine.specs.declared.ask.Answer.{Answer}
 use Rattle.jlr_machine.specs.declared.ask.Answer.TheVariants.{Refused}
-use Rattle.jlr_wire.specs.Lines.{Held, nothing_held, IsInLine}
+use Rattle.jlr_wire.specs.Lines.{Held, begun, nothing_held, IsInLine}
 use Rattle.jlr_wire.specs.Feeding.{Feeds, Continues, Ends}
 use Rattle.jlr_wire.specs.Commands.{IsCommand}
 use Rattle.jlr_wire.specs.Replies.{words}
@@ -95,10 +95,11 @@ so_far_on carries bytes held n old out heap rest used held' s h =
 abbrev pub AnyEnd : Held → List ℕ → ℕ → Held → Type 0
 AnyEnd = Ends (λ n. Unit {0})
 
-pub any_end : (got : Got) (held : Held) (rest : List ℕ) (used : ℕ) (held' : Held) → got ≢ More → Feeds held rest used got held' → AnyEnd held rest used held'
-any_end More held rest used held' n h = absurd (n refl)
-any_end Line held rest used held' n h = record { front = h.front; rest = h.rest; cut = h.cut; taken = h.taken; in_line = h.in_line; size = tt; ended = h.ended; held = h.held }
-any_end TooLong held rest used held' n h = record { front = h.front; rest = h.rest; cut = h.cut; taken = h.taken; in_line = h.in_line; size = tt; ended = h.ended; held = h.held }
+-- of what a reader of lines holds only the line under way counts
+pub so_far_same : {H : Type 0} (carries : Carrying H) (bytes : List ℕ) (held held' : Held) (n : ℕ) (old : H) (out : List ℕ) (heap : H)
+    → begun held' ≡ begun held → SoFar carries bytes held n old out heap → SoFar carries bytes held' n old out heap
+so_far_same carries bytes held held' n old out heap e s =
+    record { lines = s.lines; last = s.last; are = s.are; holds = e ∙ s.holds; counted = s.counted; speaks = s.speaks }
 
 -- a line is answered
 pub so_far_line : {H : Type 0} (carries : Carrying H) (bytes : List ℕ) (held : Held) (n : ℕ) (old : H) (out : List ℕ) (heap : H) (rest : List ℕ) (used : ℕ) (held' : Held) (answer : Answer) (heap' : H)

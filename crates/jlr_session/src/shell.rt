@@ -10,7 +10,7 @@ use crate::turn::{answer_line, reply};
 use jlr_device::retry;
 use jlr_machine::ask::Answer;
 use jlr_types::Refusal;
-use jlr_wire::pieces::{Got, LINE_LIMIT, Pieces};
+use jlr_wire::pieces::{LINE_LIMIT, LineAt, Pieces};
 use std::io::{Read, Write};
 
 /// The most lines that a session answers.
@@ -104,10 +104,10 @@ fn take_chunk<C: CarryOut<H, D>, H, D, W: Write>(
 {
     let mut rest = chunk;
     while !rest.is_empty() {
-        let fed = pieces.feed(rest);
-        rest = rest.split_at(fed.used).1;
-        if fed.got != Got::More {
-            let line = pieces.line();
+        let next = pieces.next(rest);
+        let line = pieces.line_at(rest, &next);
+        rest = rest.split_at(next.used).1;
+        if next.at != LineAt::Nowhere {
             if let Some(end) = answer_line::<C, H, D, W>(line, writer, heap, device) {
                 return Some(end);
             }

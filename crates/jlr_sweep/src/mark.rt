@@ -1,5 +1,5 @@
 //! Marking: what the roots reach by strong edges, and by the soft edges that the policy keeps.
-ghost use Rattle.std.specs.Prelude.{◌≡◌, ℕ, ◌+◌, ◌^◌, ◌<◌, ◌≤◌, ◌↔◌, [], IsTrue, count_by, is_some, length};
+ghost use Rattle.std.specs.Prelude.{◌≡◌, ℕ, ◌*◌, ◌+◌, ◌^◌, ◌<◌, ◌≤◌, ◌↔◌, [], IsTrue, is_some, length};
 ghost use Rattle.jlr_machine.specs.Objects.{at, ◌∈◌};
 ghost use Rattle.jlr_machine.specs.Edges.{edges_from};
 ghost use Rattle.jlr_machine.specs.Edges.Chain.{UpToSoft};
@@ -7,17 +7,18 @@ ghost use Rattle.jlr_barrier.specs.Graphs.{held};
 ghost use Rattle.jlr_marks.specs.Marking.{IsMarked};
 ghost use Rattle.jlr_barrier.specs.Snapshots.{RefersTo};
 ghost use Rattle.jlr_marker.specs.Following.{IsFollowed, keeps};
+ghost use Rattle.jlr_marker.specs.Spending.{spent, ticks_for};
 
 use jlr_barrier::Heap;
 use jlr_marker::{begin, follow};
 use jlr_soft::Policy;
 use jlr_types::Meter;
 
-/// Marks just what the roots reach by strong edges, and by the soft edges of those references that the policy keeps. It ticks once
-/// for each slot that it marks, so at most as often as there are cells.
+/// Marks just what the roots reach by strong edges, and by the soft edges of those references that the policy keeps. It ticks as
+/// often as what it marks takes: once for an object, and for an array once for each 64 elements.
 pub(crate) fn mark(heap: &mut Heap, policy: &Policy, meter: &mut Meter)
     requires few { length heap.old.graph.objects ≤ 65536 }
-    requires ticks { meter.old + 65536 < 2 ^ 64 }
+    requires ticks { meter.old + 65536 * 64 + 1 < 2 ^ 64 }
     requires roots { (x : ℕ) → x ∈ held heap.old.graph → IsTrue (is_some (at heap.old.graph.objects x)) }
     requires edges { (x y : ℕ) → y ∈ edges_from UpToSoft heap.old.graph.objects x → IsTrue (is_some (at heap.old.graph.objects y)) }
     requires within { (x y : ℕ) → RefersTo heap.old.graph.objects x y → y < length heap.old.graph.objects }
@@ -27,8 +28,8 @@ pub(crate) fn mark(heap: &mut Heap, policy: &Policy, meter: &mut Meter)
     ensures objects { (x : ℕ) → IsMarked heap.new.marking x → IsTrue (is_some (at heap.old.graph.objects x)) }
     ensures no_grey { heap.new.marking.grey ≡ [] }
     ensures long { length heap.new.marking.bits ≡ length heap.old.graph.objects }
-    ensures once { meter.new ≡ meter.old + count_by (λ b. b) heap.new.marking.bits }
-    ensures ticks { meter.new ≤ meter.old + length heap.old.graph.objects }
+    ensures once { meter.new ≡ meter.old + spent heap.old.graph.objects heap.new.marking }
+    ensures ticks { meter.new ≤ meter.old + ticks_for heap.old.graph.objects }
 {
     begin(heap);
     while let Some(slot) = heap.next_grey() {

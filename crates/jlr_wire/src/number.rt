@@ -53,6 +53,7 @@ pub fn length(text: &[u8]) -> Option<Length>
 }
 
 /// The number from 0 to 4,294,967,295 that the text spells in decimal without a leading zero, or `None`.
+#[inline(always)]
 pub fn note(text: &[u8]) -> Option<u32>
     ensures { result ≡ note_of text.now }
 {
@@ -63,6 +64,7 @@ pub fn note(text: &[u8]) -> Option<u32>
 }
 
 /// The number of one digit or of two that this text spells, or `None`. Most numbers of a session are such.
+#[inline(always)]
 fn short_number(text: &[u8]) -> Option<u32>
     ensures { IfSome result (λ n. text.now ≡ decimal n) }
 {
@@ -84,6 +86,7 @@ fn digit(byte: u8) -> u32
 }
 
 /// The number from 0 to 4,294,967,295 whose decimal text this is, or `None`.
+#[inline(never)]
 fn parse_number(text: &[u8]) -> Option<u32>
     ensures found { IfSome result (λ n. text.now ≡ decimal n) }
     ensures none { IfNone result ((n : ℕ) → n < 2 ^ 32 → text.now ≡ decimal n → ⊥) }

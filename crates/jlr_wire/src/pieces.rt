@@ -1,7 +1,7 @@
 //! Lines out of a stream of bytes that comes in pieces.
-ghost use Rattle.std.specs.Prelude.{◌≡◌, ◌≤◌, ◌<◌, [], length, false, nat_lt, ◌&&◌, not, take, ◌++◌, cond};
-ghost use Rattle.jlr_wire.specs.Lines.{Held, nothing_held};
-ghost use Rattle.jlr_wire.specs.Feeding.{Feeds};
+ghost use Rattle.std.specs.Prelude.{ℕ, List, ◌≡◌, ◌≤◌, ◌<◌, [], length, false, nat_lt, ◌&&◌, not, take, ◌++◌, ◌∷◌, cond, IfSome};
+ghost use Rattle.jlr_wire.specs.Lines.{Held, IsInLine, nothing_held};
+ghost use Rattle.jlr_wire.specs.Feeding.{Feeds, FindsLine, line_at};
 
 use crate::cut::cut_at;
 use arrayvec::ArrayVec;
@@ -29,6 +29,24 @@ pub enum Got {
 pub struct Fed {
     pub used: usize,
     pub got: Got,
+}
+
+/// Where a line lies that has just ended.
+#[derive(Clone, Copy, Debug, PartialEq, Eq)]
+pub enum LineAt {
+    /// No line ended.
+    Nowhere,
+    /// The line lies whole in the bytes that were taken, before its end.
+    Bytes,
+    /// The line came in pieces or is too long: what is held of it.
+    Held,
+}
+
+/// How many of the bytes were taken, and where the line lies that ended in them.
+#[derive(Clone, Copy, Debug, PartialEq, Eq)]
+pub struct Next {
+    pub used: usize,
+    pub at: LineAt,
 }
 
 /// Cuts a stream into its lines, in whatever pieces it comes. It takes no memory: of a line that
@@ -86,6 +104,53 @@ impl Pieces {
         }
     }
 
+    /// As `feed`, but a line that lies whole in the bytes is left where it lies.
+    #[inline(always)]
+    pub fn next(&mut self, bytes: &[u8]) -> Next
+        ensures line { FindsLine self.old bytes.now result.used result.at self.new }
+        ensures bound { result.used ≤ length bytes.now }
+        ensures progress { 0 < length bytes.now → 0 < result.used }
+    {
+        if !self.unfinished() {
+            if let Some(size) = short_line(bytes) {
+                return Next {
+                    used: size + 1,
+                    at: LineAt::Bytes,
+                };
+            }
+        }
+        self.next_held(bytes)
+    }
+
+    /// As `next`, where no line lies whole in the bytes.
+    #[inline(never)]
+    fn next_held(&mut self, bytes: &[u8]) -> Next
+        ensures line { FindsLine self.old bytes.now result.used result.at self.new }
+        ensures bound { result.used ≤ length bytes.now }
+        ensures progress { 0 < length bytes.now → 0 < result.used }
+    {
+        let fed = self.feed(bytes);
+        let at = if fed.got == Got::More {
+            LineAt::Nowhere
+        } else {
+            LineAt::Held
+        };
+        Next { used: fed.used, at }
+    }
+
+    /// The line that ended in these bytes, without its end. Of more than 513 bytes it gives the first 513.
+    #[inline(always)]
+    pub fn line_at<'a>(&'a self, bytes: &'a [u8], next: &Next) -> &'a [u8]
+        requires some { 0 < next.now.used }
+        requires bound { next.now.used ≤ length bytes.now }
+        ensures { result.now ≡ line_at next.now.at next.now.used bytes.now self.now }
+    {
+        if next.at == LineAt::Bytes {
+            return &bytes[..next.used - 1];
+        }
+        self.line()
+    }
+
     /// The line that has just ended, without its end, or the bytes that have come of the line under
     /// way. Of more than 513 bytes it gives the first 513.
     pub fn line(&self) -> &[u8]
@@ -101,6 +166,18 @@ impl Pieces {
     {
         !self.ended && !self.held.is_empty()
     }
+}
+
+/// How many bytes the first line of these has, without its end, where one ends and has at most 512.
+#[inline(always)]
+fn short_line(bytes: &[u8]) -> Option<usize>
+    ensures { IfSome result (λ size. (front : List ℕ) × (rest : List ℕ) × (bytes.now ≡ front ++ 10 ∷ rest) × IsInLine front × (size ≡ length front) × (size ≤ 512)) }
+{
+    let (line, _) = cut_at(bytes, b'\n')?;
+    if line.len() > LINE_LIMIT {
+        return None;
+    }
+    Some(line.len())
 }
 
 /// Empties what is held where its line has ended.

@@ -1,5 +1,5 @@
 //! Reply lines out of answers.
-ghost use Rattle.std.specs.Prelude.{◌≡◌, ◌++◌, ◌∷◌, [], ◌≤◌, length, codes, IfSome, IfNone, IsErr};
+ghost use Rattle.std.specs.Prelude.{ℕ, List, ◌≡◌, ◌++◌, ◌∷◌, [], ◌≤◌, length, codes, Some, IfSome, IfNone, IsErr};
 ghost use Rattle.std.specs.Io.KnownBytes.{Keeps};
 ghost use Rattle.jlr_wire.specs.Replies.{Sends, spaced, stat_words, fault_text, failure_text, data_words, words};
 ghost use Rattle.hex.specs.Hex.{encode_lower};
@@ -203,6 +203,31 @@ pub fn write_reply<W: Write>(answer: &Answer, writer: &mut W) -> Result<(), Writ
     ensures line { IfSome (words answer.now) (λ text. Sends (W.contents writer.old) (W.contents writer.new) result (text ++ 10 ∷ [])) }
     ensures none { IfNone (words answer.now) (IsErr result × Keeps (W.contents writer.old) (W.contents writer.new)) }
 {
+    if let Some(line) = fixed_line(answer) {
+        return send(line, writer);
+    }
+    write_short_line(answer, writer)
+}
+
+/// The line of an answer that says always the same, with its end.
+#[inline(always)]
+fn fixed_line(answer: &Answer) -> Option<&'static [u8]>
+    ensures { IfSome result (λ line. (text : List ℕ) × (words answer.now ≡ Some text) × (line.now ≡ text ++ 10 ∷ [])) }
+{
+    match answer {
+        Answer::Done | Answer::AlreadyDone => Some(b"ok\n"),
+        Answer::Truth(true) => Some(b"yes\n"),
+        Answer::Truth(false) => Some(b"no\n"),
+        _ => None,
+    }
+}
+
+/// As `write_reply`, with room for the lines of most answers.
+#[inline(never)]
+fn write_short_line<W: Write>(answer: &Answer, writer: &mut W) -> Result<(), WriteFault>
+    ensures line { IfSome (words answer.now) (λ text. Sends (W.contents writer.old) (W.contents writer.new) result (text ++ 10 ∷ [])) }
+    ensures none { IfNone (words answer.now) (IsErr result × Keeps (W.contents writer.old) (W.contents writer.new)) }
+{
     let mut line: ArrayVec<u8, LINE_ROOM> = ArrayVec::new();
     if write_line(answer, &mut line).is_ok() {
         return send(line.as_slice(), writer);
@@ -211,6 +236,7 @@ pub fn write_reply<W: Write>(answer: &Answer, writer: &mut W) -> Result<(), Writ
 }
 
 /// As `write_reply`, with room for the lines of data and of long lists.
+#[inline(never)]
 fn write_long_line<W: Write>(answer: &Answer, writer: &mut W) -> Result<(), WriteFault>
     ensures line { IfSome (words answer.now) (λ text. Sends (W.contents writer.old) (W.contents writer.new) result (text ++ 10 ∷ [])) }
     ensures none { IfNone (words answer.now) (IsErr result × Keeps (W.contents writer.old) (W.contents writer.new)) }

@@ -73,6 +73,67 @@ const LISTS: &str = "
     mark 1 -> marked done
     collect -> yes
 
+-- An array takes a tick for each 64 elements, and is grey until the last; it comes before what its parts lead to.
+== an array is followed part by part: soft_age 4
+    join -> done
+    array 129 -> handle 1
+    new -> handle 2
+    put 1 0 2 -> done
+    put 1 128 2 -> done
+    drop 2 -> done
+    begin -> yes
+    mark 2 -> marked more
+    collect -> no
+    mark 1 -> marked more
+    collect -> no
+    mark 1 -> marked done
+    collect -> yes
+    stat -> stat 2 0 0 0 0
+    begin -> yes
+    mark 3 -> marked more
+    mark 1 -> marked done
+    abandon -> yes
+    array 128 -> handle 2
+    drop 1 -> done
+    begin -> yes
+    mark 1 -> marked more
+    mark 1 -> marked done
+    collect -> yes
+    stat -> stat 1 0 0 0 0
+
+-- An object is carried from the part ahead into the part that was followed, and back.
+== an array is written while it is followed: soft_age 4
+    join -> done
+    array 100 -> handle 1
+    new -> handle 2
+    new -> handle 3
+    put 1 99 2 -> done
+    put 1 3 3 -> done
+    drop 2 -> done
+    drop 3 -> done
+    begin -> yes
+    mark 1 -> marked more
+    get 1 99 -> handle 2
+    put 1 5 2 -> done
+    put 1 99 0 -> done
+    drop 2 -> done
+    get 1 3 -> handle 2
+    put 1 70 2 -> done
+    put 1 3 0 -> done
+    drop 2 -> done
+    abandon -> yes
+    begin -> yes
+    mark 1 -> marked more
+    get 1 5 -> handle 2
+    put 1 80 2 -> done
+    put 1 5 0 -> done
+    drop 2 -> done
+    mark -> marked done
+    collect -> yes
+    stat -> stat 3 0 0 0 0
+    get 1 80 -> handle 2
+    get 1 70 -> handle 3
+
 -- A heap that is full in the middle of a cycle makes a full collection, which closes the cycle. It is full exactly where that leaves no room.
 == a heap is full in the middle of a cycle: soft_age 4
     join -> done
@@ -114,6 +175,100 @@ const LISTS: &str = "
     mark 1 -> marked done
     collect -> yes
     stat -> stat 1 0 0 0 0
+
+-- An array is followed 64 elements a tick, and is grey until its last.
+== an array of three parts is marked in three ticks: soft_age 4
+    join -> done
+    array 130 -> handle 1
+    new -> handle 2
+    put 1 129 2 -> done
+    drop 2 -> done
+    begin -> yes
+    mark 2 -> marked more
+    collect -> no
+    mark 2 -> marked done
+    collect -> yes
+    get 1 129 -> handle 2
+
+== elements move between the parts of an array in progress: soft_age 4
+    join -> done
+    array 130 -> handle 1
+    new -> handle 2
+    put 1 129 2 -> done
+    drop 2 -> done
+    begin -> yes
+    mark 1 -> marked more
+    get 1 129 -> handle 2
+    put 1 0 2 -> done
+    put 1 129 0 -> done
+    drop 2 -> done
+    mark 64 -> marked done
+    collect -> yes
+    get 1 0 -> handle 2
+    stat -> stat 2 0 0 0 0
+
+-- 64 elements are one part, one more is two, and 4,096 are 64; of what an array refers to each takes its own ticks.
+== ticks of arrays: soft_age 4
+    join -> done
+    array 64 -> handle 1
+    begin -> yes
+    mark 1 -> marked done
+    collect -> yes
+    array 65 -> handle 2
+    drop 1 -> done
+    begin -> yes
+    mark 1 -> marked more
+    mark 1 -> marked done
+    collect -> yes
+    array 4096 -> handle 1
+    drop 2 -> done
+    begin -> yes
+    mark 63 -> marked more
+    mark 1 -> marked done
+    collect -> yes
+    array 65 -> handle 2
+    put 1 0 2 -> done
+    drop 2 -> done
+    begin -> yes
+    mark 65 -> marked more
+    mark 1 -> marked done
+    collect -> yes
+
+-- What an array referred to when a cycle began is kept by it, whether it stood in the part that was followed or in the rest; and a cycle begins anew with each array.
+== a cycle is given up in the middle of an array: soft_age 4
+    join -> done
+    array 130 -> handle 1
+    new -> handle 2
+    put 1 100 2 -> done
+    drop 2 -> done
+    begin -> yes
+    mark 1 -> marked more
+    put 1 100 0 -> done
+    abandon -> yes
+    mark 64 -> marked idle
+    begin -> yes
+    mark 2 -> marked more
+    mark 1 -> marked done
+    collect -> yes
+    stat -> stat 1 0 0 0 0
+
+-- A full collection in the middle of an array closes the cycle, and leaves nothing of it.
+== a full collection in the middle of an array: soft_age 4
+    join -> done
+    array 4096 -> handle 1
+    new -> handle 2
+    put 1 4095 2 -> done
+    drop 2 -> done
+    begin -> yes
+    mark 10 -> marked more
+    full -> done
+    mark 1 -> marked idle
+    stat -> stat 2 0 0 0 0
+    begin -> yes
+    mark 64 -> marked more
+    mark 1 -> marked done
+    collect -> yes
+    get 1 4095 -> handle 2
 
 -- The collection of a cycle goes by the soft policy.
 == a collect keeps what the policy keeps, cleared

@@ -5,10 +5,11 @@ use Rattle.jlr_machine.specs.Edges.{edges_from}
 use Rattle.jlr_machine.specs.Edges.Chain.{Strong}
 use Rattle.jlr_cells.specs.Contents.{members_in}
 use Rattle.jlr_cells.specs.Links.{linked, linked_in}
-use Rattle.jlr_cells.specs.Visits.{edges_told}
+use Rattle.jlr_cells.specs.Visits.{edges_told, elements_lent}
 use Rattle.jlr_laws.proofs.Clearing.{in_left, in_right, option_in}
 use Rattle.jlr_marks.specs.Marking.{Shaded}
 use Rattle.jlr_marks.proofs.Shading.{shaded_in_both, shaded_target, shaded_then}
+use Rattle.jlr_barrier.proofs.Parts.{array_next, array_part, array_ticks, few_ticks, no_next, whole_part}
 use Rattle.jlr_barrier.proofs.shade.follow.Goals as goal
 
 pub shade_links-requires : goal.shade_links-requires
@@ -41,26 +42,49 @@ shade_members-requires c =
 
 pub returns-in-Plain-clause-shaded : goal.returns-in-Plain-clause-shaded
 returns-in-Plain-clause-shaded c =
-    let members = members_in (at c.args.cells.now.objects c.args.slot) in
-    let edges : edges_from Strong c.args.cells.now.objects c.args.slot ≡ linked c.in-Plain.near.now ++ linked_in c.in-Plain.far = c.visit.ensures.edges ∙ ap (λ v. edges_told v members) c.in-Plain.is in
-    subst (λ l. Shaded (λ x. x ∈ l) c.args.marks.now c.shade_far.new.marks) (sym edges)
+    let heap = c.args.cells.now.objects in
+    let members = members_in (at heap c.args.slot) in
+    let edges : edges_from Strong heap c.args.slot ≡ linked c.in-Plain.near.now ++ linked_in c.in-Plain.far = c.visit.ensures.edges ∙ ap (λ v. edges_told v members) c.in-Plain.is in
+    let all = whole_part heap c.args.slot c.args.from (ap elements_lent (sym c.in-Plain.is) ∙ c.visit.ensures.array) in
+    subst (λ l. Shaded (λ x. x ∈ l) c.args.marks.now c.shade_far.new.marks) (sym (all ∙ edges))
     (shaded_in_both (linked c.in-Plain.near.now) (linked_in c.in-Plain.far) _ _ (shaded_then _ _ _ _ _ c.shade_links.ensures c.shade_far.ensures))
+
+pub returns-in-Plain-clause-next : goal.returns-in-Plain-clause-next
+returns-in-Plain-clause-next c = no_next c.args.cells.now.objects c.args.slot c.args.from (ap elements_lent (sym c.in-Plain.is) ∙ c.visit.ensures.array)
 
 pub returns-in-Other-clause-shaded : goal.returns-in-Other-clause-shaded
 returns-in-Other-clause-shaded c =
-    let members = members_in (at c.args.cells.now.objects c.args.slot) in
-    let edges : edges_from Strong c.args.cells.now.objects c.args.slot ≡ option_to_list c.in-Other.next ++ members = c.visit.ensures.edges ∙ ap (λ v. edges_told v members) c.in-Other.is in
-    subst (λ l. Shaded (λ x. x ∈ l) c.args.marks.now c.shade_members.new.marks) (sym edges)
+    let heap = c.args.cells.now.objects in
+    let members = members_in (at heap c.args.slot) in
+    let edges : edges_from Strong heap c.args.slot ≡ option_to_list c.in-Other.next ++ members = c.visit.ensures.edges ∙ ap (λ v. edges_told v members) c.in-Other.is in
+    let all = whole_part heap c.args.slot c.args.from (ap elements_lent (sym c.in-Other.is) ∙ c.visit.ensures.array) in
+    subst (λ l. Shaded (λ x. x ∈ l) c.args.marks.now c.shade_members.new.marks) (sym (all ∙ edges))
     (shaded_in_both (option_to_list c.in-Other.next) members _ _ (shaded_then _ _ _ _ _ (shaded_target _ _ _ c.shade_target.ensures) c.shade_members.ensures))
 
-pub shade_elements-requires : goal.shade_elements-requires
-shade_elements-requires c =
+pub returns-in-Other-clause-next : goal.returns-in-Other-clause-next
+returns-in-Other-clause-next c = no_next c.args.cells.now.objects c.args.slot c.args.from (ap elements_lent (sym c.in-Other.is) ∙ c.visit.ensures.array)
+
+pub shade_part-requires : goal.shade_part-requires
+shade_part-requires c =
     let members = members_in (at c.args.cells.now.objects c.args.slot) in
     let edges : edges_from Strong c.args.cells.now.objects c.args.slot ≡ linked c.in-Array.elements.now = c.visit.ensures.edges ∙ ap (λ v. edges_told v members) c.in-Array.is in
     λ x h. c.requires.within x (subst (λ l. x ∈ l) (sym edges) h)
 
 pub returns-in-Array-clause-shaded : goal.returns-in-Array-clause-shaded
 returns-in-Array-clause-shaded c =
-    let members = members_in (at c.args.cells.now.objects c.args.slot) in
-    let edges : edges_from Strong c.args.cells.now.objects c.args.slot ≡ linked c.in-Array.elements.now = c.visit.ensures.edges ∙ ap (λ v. edges_told v members) c.in-Array.is in
-    subst (λ l. Shaded (λ x. x ∈ l) c.args.marks.now c.shade_elements.new.marks) (sym edges) c.shade_elements.ensures
+    let part = array_part c.args.cells.now.objects c.args.slot c.args.from c.in-Array.elements.now (ap elements_lent (sym c.in-Array.is) ∙ c.visit.ensures.array) in
+    subst (λ l. Shaded (λ x. x ∈ l) c.args.marks.now c.shade_part.new.marks) (sym part) c.shade_part.ensures.shaded
+
+pub returns-in-Array-clause-next : goal.returns-in-Array-clause-next
+returns-in-Array-clause-next c =
+    c.shade_part.ensures.next ∙ array_next c.args.cells.now.objects c.args.slot c.args.from c.in-Array.elements.now (ap elements_lent (sym c.in-Array.is) ∙ c.visit.ensures.array)
+
+pub returns-in-Plain-clause-few : goal.returns-in-Plain-clause-few
+returns-in-Plain-clause-few c = few_ticks c.args.cells.now.objects c.args.slot (ap elements_lent (sym c.in-Plain.is) ∙ c.visit.ensures.array)
+
+pub returns-in-Array-clause-few : goal.returns-in-Array-clause-few
+returns-in-Array-clause-few c =
+    array_ticks c.args.cells.now.objects c.args.slot c.args.from c.in-Array.elements.now (ap elements_lent (sym c.in-Array.is) ∙ c.visit.ensures.array) c.shade_part.ensures.few
+
+pub returns-in-Other-clause-few : goal.returns-in-Other-clause-few
+returns-in-Other-clause-few c = few_ticks c.args.cells.now.objects c.args.slot (ap elements_lent (sym c.in-Other.is) ∙ c.visit.ensures.array)

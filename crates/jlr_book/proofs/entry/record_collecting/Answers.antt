@@ -1,7 +1,5 @@
 use Rattle.std.proofs.Common.{Option, Some, ap, subst, sym, ◌∙◌, ◌≡◌}
-use Rattle.jlr_machine.specs.declared.ask.Ask.{Ask}
 use Rattle.jlr_core.specs.Steps.{IsStep}
-use Rattle.jlr_event.specs.Events.{ask_of}
 use Rattle.jlr_book.proofs.Entering.{answered, writes_noted}
 use Rattle.jlr_book.proofs.entry.record_collecting.Goals as goal
 
@@ -9,13 +7,12 @@ pub copy_of-answer-requires : goal.copy_of-answer-requires
 copy_of-answer-requires g c =
     let made = c.step in
     let s = subst (λ e. IsStep c.args.core.now e made.result made.new.choice.chosen made.new.self) c.replace.ensures.value made.ensures.step in
-    answered c.args.core.now made.new.self c.args.event.now made.result made.new.choice.chosen c.args.ask.now c.args.list s c.requires.ask c.requires.stands c.requires.list
+    answered c.args.core.now made.new.self c.args.event.now made.result made.new.choice.chosen c.args.ask c.args.list s c.requires.ask c.requires.stands c.requires.list
 
 pub returns-clause-writes : goal.returns-clause-writes
 returns-clause-writes g c =
     let made = c.step in
     let was = subst (λ e. IsStep c.args.core.now e made.result made.new.choice.chosen made.new.self) c.replace.ensures.value made.ensures.step in
     let s = subst (λ chosen. IsStep c.args.core.now c.args.event.now made.result chosen made.new.self) (sym c.into_chosen.ensures) was in
-    let asked : ask_of c.args.event.now ≡ Some c.replace-2.result = c.requires.ask ∙ ap {A = Ask} {B = Option Ask} (λ a. Some a) (sym c.replace-2.ensures.value) in
-    writes_noted c.args.core.now made.new.self c.args.event.now made.result c.copy_of-answer.result c.replace-2.result c.into_chosen.result c.args.trace.now.items c.push_reserved.new.self.items c.args.seat
-    s asked c.copy_of-answer.ensures c.push_reserved.ensures.items
+    writes_noted c.args.core.now made.new.self c.args.event.now made.result c.copy_of-answer.result c.args.ask c.into_chosen.result c.args.trace.now.items c.push_reserved.new.self.items c.args.seat
+    s c.requires.ask c.copy_of-answer.ensures c.push_reserved.ensures.items

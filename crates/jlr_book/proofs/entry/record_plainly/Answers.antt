@@ -1,8 +1,6 @@
 use Rattle.std.proofs.Common.{Option, None, Some, ap, subst, sym, ◌∙◌, ◌≡◌, false}
-use Rattle.jlr_machine.specs.declared.ask.Ask.{Ask}
 use Rattle.jlr_histories.specs.Collecting.{may_collect}
 use Rattle.jlr_core.specs.Steps.{IsStep}
-use Rattle.jlr_event.specs.Events.{ask_of}
 use Rattle.jlr_book.proofs.Entering.{answered, chosen_plainly, writes_noted}
 use Rattle.jlr_book.proofs.entry.record_plainly.Goals as goal
 
@@ -10,7 +8,7 @@ pub copy_of-requires : goal.copy_of-requires
 copy_of-requires g c =
     let made = c.step in
     let s = subst (λ e. IsStep c.args.core.now e made.result made.new.choice.chosen made.new.self) c.replace.ensures.value made.ensures.step in
-    answered c.args.core.now made.new.self c.args.event.now made.result made.new.choice.chosen c.args.ask.now c.args.list s c.requires.ask c.requires.stands c.requires.list
+    answered c.args.core.now made.new.self c.args.event.now made.result made.new.choice.chosen c.args.ask c.args.list s c.requires.ask c.requires.stands c.requires.list
 
 pub returns-clause-writes : goal.returns-clause-writes
 returns-clause-writes g c =
@@ -18,6 +16,5 @@ returns-clause-writes g c =
     let was = subst (λ e. IsStep c.args.core.now e made.result made.new.choice.chosen made.new.self) c.replace.ensures.value made.ensures.step in
     let may = subst (λ o. may_collect c.args.core.now.machine o ≡ false) (sym c.requires.ask) c.requires.plain in
     let s = chosen_plainly c.args.core.now made.new.self c.args.event.now made.result made.new.choice.chosen was c.requires.stands c.copy.result may (c.copy.ensures ∙ c.fresh.ensures) in
-    let asked : ask_of c.args.event.now ≡ Some c.replace-2.result = c.requires.ask ∙ ap {A = Ask} {B = Option Ask} (λ a. Some a) (sym c.replace-2.ensures.value) in
-    writes_noted c.args.core.now made.new.self c.args.event.now made.result c.copy_of.result c.replace-2.result (record { collected = None; fresh = c.copy.result }) c.args.trace.now.items c.push_reserved.new.self.items c.args.seat
-    s asked c.copy_of.ensures c.push_reserved.ensures.items
+    writes_noted c.args.core.now made.new.self c.args.event.now made.result c.copy_of.result c.args.ask (record { collected = None; fresh = c.copy.result }) c.args.trace.now.items c.push_reserved.new.self.items c.args.seat
+    s c.requires.ask c.copy_of.ensures c.push_reserved.ensures.items

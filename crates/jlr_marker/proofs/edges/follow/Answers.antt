@@ -7,11 +7,11 @@ use Rattle.jlr_machine.specs.Refusals.{is_record}
 use Rattle.jlr_machine.specs.Edges.{referent}
 use Rattle.std.specs.Prelude.{option_and_then}
 use Rattle.jlr_barrier.specs.Graphs.{Clock, Graph}
-use Rattle.jlr_marks.specs.Marking.{Shaded}
-use Rattle.jlr_marks.proofs.Shading.{shaded_same, shaded_then}
+use Rattle.jlr_marks.specs.Marking.{Shaded, place}
+use Rattle.jlr_barrier.specs.Parts.{next_at}
 use Rattle.jlr_marker.specs.Following.{keeps, soft_at}
 use Rattle.jlr_barrier.specs.Snapshots.{IsObject}
-use Rattle.jlr_marker.proofs.Following.{followed_from, followed_gives, followed_is_soft, scanned_follows, soft_edge}
+use Rattle.jlr_marker.proofs.Following.{followed_is_soft, follows_same, follows_then, scanned_follows, soft_edge}
 use Rattle.jlr_marker.proofs.edges.follow.Goals as goal
 
 pub scan-requires-clause-objects : goal.scan-requires-clause-objects
@@ -36,30 +36,19 @@ pub returns-then-scan-clause-follows : goal.returns-then-scan-clause-follows
 returns-then-scan-clause-follows c =
     let heap = c.args.heap.now.graph.objects in
     let s = c.args.slot in
-    let kept = keeps c.args.policy.now c.args.heap.now.clock in
+    let old = c.args.heap.now.marking in
+    let new = c.scan.new.self.marking in
     let plain : some_and is_record (at heap s) ≡ true = sym c.scan.ensures.plain ∙ c.if-scan.true in
-    let f = scanned_follows heap s c.args.heap.now.marking c.scan.new.self.marking c.scan.ensures.scanned in
-    record {
-      off = f.off;
-      same_bits = f.same_bits;
-      taken = f.taken;
-      gone = f.gone;
-      shaded = shaded_same _ _ (λ x h. followed_from kept heap s x (inl h)) (λ x h. elim (followed_gives kept heap s x h) [ inl strong ↦ strong | inr soft ↦ no_soft (at heap s) x plain soft.1 ]) _ _ f.shaded;
-    }
+    follows_same _ _ s (next_at heap (place old s) s) old new (λ x h. inl h) (λ x h. elim h [ inl part ↦ part | inr soft ↦ no_soft (at heap s) x plain soft.1 ])
+    (scanned_follows heap s old new c.scan.ensures.scanned)
 
 pub returns-clause-follows : goal.returns-clause-follows
 returns-clause-follows c =
     let heap = c.args.heap.now.graph.objects in
     let s = c.args.slot in
     let kept = keeps c.args.policy.now c.args.heap.now.clock in
+    let old = c.args.heap.now.marking in
     let soft : Shaded (λ x. (kept s ≡ true) × (soft_at heap s ≡ Some x)) c.scan.new.self.marking c.follow_soft.new.heap.marking =
     subst (λ (k : Clock). Shaded (λ x. (keeps c.args.policy.now k s ≡ true) × (soft_at heap s ≡ Some x)) c.scan.new.self.marking c.follow_soft.new.heap.marking) c.scan.ensures.clock
     (subst (λ (g : Graph). Shaded (λ x. (keeps c.args.policy.now c.scan.new.self.clock s ≡ true) × (soft_at g.objects s ≡ Some x)) c.scan.new.self.marking c.follow_soft.new.heap.marking) c.scan.ensures.graph c.follow_soft.ensures.shaded) in
-    let f = scanned_follows heap s c.args.heap.now.marking c.scan.new.self.marking c.scan.ensures.scanned in
-    record {
-      off = f.off;
-      same_bits = f.same_bits;
-      taken = f.taken;
-      gone = f.gone;
-      shaded = shaded_same _ _ (λ x h. followed_from kept heap s x h) (λ x h. followed_gives kept heap s x h) _ _ (shaded_then _ _ _ _ _ f.shaded soft);
-    }
+    follows_then _ _ s (next_at heap (place old s) s) old c.scan.new.self.marking c.follow_soft.new.heap.marking (scanned_follows heap s old c.scan.new.self.marking c.scan.ensures.scanned) soft

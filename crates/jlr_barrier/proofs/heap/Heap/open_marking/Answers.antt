@@ -64,7 +64,7 @@ pub invariant_of-self : goal.invariant_of-self
 invariant_of-self c =
     let s = c.self.inside in
     let g : Graph = graph_of s.cells.objects s.roots s.names (list_at s.lists.lists 0) (list_at s.lists.lists 1) in
-    let none : c.reset.new.self ≡ unmarked (length s.cells.objects) = same_marking c.reset.new.self (unmarked (length s.cells.objects)) (c.reset.ensures.bits ∙ ap (λ n. replicate n false) c.self.invariant.bits) c.reset.ensures.grey c.reset.ensures.discovered in
+    let none : c.reset.new.self ≡ unmarked (length s.cells.objects) = same_marking c.reset.new.self (unmarked (length s.cells.objects)) (c.reset.ensures.bits ∙ ap (λ n. replicate n false) c.self.invariant.bits) c.reset.ensures.grey c.reset.ensures.discovered c.reset.ensures.part in
     opened _ _ _ c.shade_cleanables.new.marks c.self.invariant (within _ _ c.self.view_is c.requires)
     (all_shaded g (length s.cells.objects) _ _ _ _ _ _ none c.shade_roots.ensures c.shade_names.ensures c.shade_list.ensures c.shade_list-2.ensures c.shade_cleanables.ensures)
 
@@ -72,6 +72,6 @@ pub returns-clause-shaded : goal.returns-clause-shaded
 returns-clause-shaded c =
     let s = c.self.inside in
     let g : Graph = graph_of s.cells.objects s.roots s.names (list_at s.lists.lists 0) (list_at s.lists.lists 1) in
-    let none : c.reset.new.self ≡ unmarked (length s.cells.objects) = same_marking c.reset.new.self (unmarked (length s.cells.objects)) (c.reset.ensures.bits ∙ ap (λ n. replicate n false) c.self.invariant.bits) c.reset.ensures.grey c.reset.ensures.discovered in
+    let none : c.reset.new.self ≡ unmarked (length s.cells.objects) = same_marking c.reset.new.self (unmarked (length s.cells.objects)) (c.reset.ensures.bits ∙ ap (λ n. replicate n false) c.self.invariant.bits) c.reset.ensures.grey c.reset.ensures.discovered c.reset.ensures.part in
     subst (λ (k : Known). Shaded (λ x. x ∈ held k.graph) (unmarked (length k.graph.objects)) c.shade_cleanables.new.marks) c.self.view_is
     (all_shaded g (length s.cells.objects) _ _ _ _ _ _ none c.shade_roots.ensures c.shade_names.ensures c.shade_list.ensures c.shade_list-2.ensures c.shade_cleanables.ensures)

@@ -10,7 +10,7 @@ invariant_of-self g c =
     let l = old.trace.ok.0 in
     let l' = new.trace.ok.0 in
     let kept = c.self.invariant in
-    let x = end_goes_on old.limits old.base (vec_capacity old.trace) old.image old.trace.items new.trace.items old.core new.core c.args.seat c.args.event.now c.record_end.new.reply c.args.ask.now
+    let x = end_goes_on old.limits old.base (vec_capacity old.trace) old.image old.trace.items new.trace.items old.core new.core c.args.seat c.args.event.now c.record_end.new.reply c.args.ask
     kept.history c.requires.ask c.requires.end c.record_end.ensures.writes c.record_end.ensures.cells (omega (arith, l, kept.places)) in
     record { history = x.0; places = omega (arith, l', x.1, c.record_end.ensures.room); choice = omega (arith, kept.choice, c.record_end.ensures.choice) }
 

@@ -51,7 +51,7 @@ record-requires-2-clause-place g c =
     omega (arith, none, l', room, c.cut_to_image.ensures.room)
 
 pub record-requires-2-clause-room : goal.record-requires-2-clause-room
-record-requires-2-clause-room g c = still_suits c.self.inside.core.machine c.cut_to_image.new.core.machine c.args.ask.now c.in-Ok.room c.in-Ok-cut_to_image.ensures.machine c.in-Ok.ensures
+record-requires-2-clause-room g c = still_suits c.self.inside.core.machine c.cut_to_image.new.core.machine c.args.ask c.in-Ok.room c.in-Ok-cut_to_image.ensures.machine c.in-Ok.ensures
 
 cut_is : (g : Over) (c : goal.After-record-2 g) → IsCut c.self.inside.limits c.self.inside.base c.in-Ok-cut_to_image.used c.self.inside.image c.cut_to_image.new.image c.self.inside.trace.items c.self.inside.core c.cut_to_image.new.core
 cut_is g c =

@@ -1,4 +1,5 @@
 use Rattle.std.proofs.Common.{◌≡◌, true, false, refl, sym, subst}
+use Rattle.std.proofs.lemmas.Bool.{both_ways}
 use Rattle.jlr_barrier.specs.Graphs.{Graph}
 use Rattle.jlr_marker.specs.Following.{keeps}
 use Rattle.jlr_sweep.proofs.Kept.{edge_object, referent_inside}
@@ -28,7 +29,9 @@ pub returns-clause-piece : goal.returns-clause-piece
 returns-clause-piece g c =
     let s = c.args.self.now in
     let new = c.mark.new.heap.marking in
-    elim s.cycle_open as (λ b. s.cycle_open ≡ b → MarksPiece c.args.budget s.soft_age s.heap.clock (machine_of s) s.heap.marking c.mark.result new) [
-      | true ↦ λ still. piece_in_cycle (machine_of s) s.heap.marking new c.args.budget _ s.soft_age s.heap.clock c.new-policy.result c.mark.result c.new-policy.ensures.soft_age c.new-policy.ensures.mode still (c.mark.ensures.marks still)
-      | false ↦ λ shut. let idle = c.mark.ensures.idle shut in piece_outside (machine_of s) s.heap.marking new c.args.budget s.soft_age s.heap.clock c.mark.result shut idle.0 idle.1
+    elim s.cycle_open as (λ b. s.cycle_open ≡ b → MarksPiece c.args.budget s.soft_age s.heap.clock (machine_of s) s.heap.marking s.heap.condemned c.mark.result new c.mark.new.heap.condemned) [
+      | true ↦ λ still.
+          piece_in_cycle (machine_of s) s.heap.marking new s.heap.condemned c.mark.new.heap.condemned c.args.budget _ s.soft_age s.heap.clock c.new-policy.result c.mark.result
+          c.new-policy.ensures.soft_age c.new-policy.ensures.mode still (c.mark.ensures.marks still) c.mark.ensures.condemned
+      | false ↦ λ shut. absurd (both_ways s.cycle_open shut c.if-not-self.false)
     ] refl

@@ -1,11 +1,11 @@
 use Rattle.jlr_objects.specs.Holding.{Holding}
 use Rattle.std.proofs.Common.{◌∙◌, ◌∷◌, [], ap, sym}
-use Rattle.std.specs.Prelude.{is_some}
+use Rattle.std.specs.Prelude.{is_some, option_and_then}
 use Rattle.jlr_machine.specs.Objects.{some_and}
 use Rattle.jlr_machine.specs.Edges.{edges_from}
 use Rattle.jlr_machine.specs.Edges.Chain.{Strong}
 use Rattle.jlr_machine.specs.Refusals.{is_record}
-use Rattle.jlr_cells.specs.Visits.{edges_told}
+use Rattle.jlr_cells.specs.Visits.{edges_told, elements_of}
 use Rattle.jlr_cells.specs.Contents.{members_in}
 use Rattle.jlr_objects.proofs.Shown.{holds_below, there}
 use Rattle.jlr_objects.proofs.objects.Objects.visit.Goals as goal
@@ -21,3 +21,6 @@ returns-clause-edges c =
 
 pub returns-clause-plain : goal.returns-clause-plain
 returns-clause-plain c = c.visit.ensures.plain ∙ ap (some_and is_record) (sym (there c.self.inside.store c.self.inside.occupancy.places c.self.inside.occupancy.used c.self.inside.listed c.self.invariant c.args.self.now.objects (ap (λ (h : Holding). h.objects) c.self.view_is) c.args.slot c.requires.object))
+
+pub returns-clause-array : goal.returns-clause-array
+returns-clause-array c = c.visit.ensures.array ∙ ap (option_and_then elements_of) (sym (there c.self.inside.store c.self.inside.occupancy.places c.self.inside.occupancy.used c.self.inside.listed c.self.invariant c.args.self.now.objects (ap (λ (h : Holding). h.objects) c.self.view_is) c.args.slot c.requires.object))

@@ -1,2 +1,0 @@
-//! Trace files spelled out, from the description of the format.
-mod reading;
