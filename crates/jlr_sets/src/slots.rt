@@ -67,8 +67,11 @@ impl SlotSet {
     {
         let at = (slot / PLACES) as usize;
         let word = self.words[at];
+        if word >> (slot % PLACES) & 1 == 1 {
+            return false;
+        }
         self.words[at] = word | 1u64 << (slot % PLACES);
-        word >> (slot % PLACES) & 1 != 1
+        true
     }
 
     /// Takes the slot out of the set.
