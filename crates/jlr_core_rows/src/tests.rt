@@ -20,7 +20,6 @@ use std::alloc::{AllocError, Global};
 
 mod cleaning;
 mod cycles;
-mod events;
 mod long_queues;
 mod memory;
 mod names;

@@ -10,6 +10,7 @@
 mod cleaning;
 mod cycles;
 mod entries;
+mod events;
 mod images;
 mod memory;
 mod play;
