@@ -71,13 +71,14 @@ impl Heap {
         ensures { IfOk result (λ heap. heap ≡ empty_known limits.cells limits.sessions) }
     {
         let cells = cell_count(limits);
+        // What has most parts comes last: each `?` lets go what was made before it.
         Ok(Heap {
-            cells: Objects::new(alloc, cells)?,
-            roots: Roots::new(alloc, session_count(limits))?,
-            names: Names::new(alloc)?,
-            lists: Links::new(alloc, LISTS, cells)?,
-            marks: Marks::new(alloc, cells)?,
             last_gets: vec![in alloc; 0; cells as usize]?,
+            marks: Marks::new(alloc, cells)?,
+            lists: Links::new(alloc, LISTS, cells)?,
+            names: Names::new(alloc)?,
+            roots: Roots::new(alloc, session_count(limits))?,
+            cells: Objects::new(alloc, cells)?,
             collections: 0,
             since_collection: 0,
         })

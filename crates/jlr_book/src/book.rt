@@ -58,18 +58,23 @@ impl<R: Drop> Book<R> {
     pub fn new(alloc: Global, limits: Limits) -> Result<Self, AllocError>
         ensures { IfOk result (λ book. IsNewBook limits book) }
     {
-        let core = Core::new(alloc, limits)?;
         let choice = Choice::new(alloc, limits.cells)?;
-        let image = core.image(alloc)?;
-        Ok(Book {
-            alloc,
-            limits,
-            core,
-            choice,
-            image,
-            base: 0,
-            trace: Vec::new(alloc),
-        })
+        let core = Core::new(alloc, limits)?;
+        match core.image(alloc) {
+            Ok(image) => Ok(Book {
+                alloc,
+                limits,
+                core,
+                choice,
+                image,
+                base: 0,
+                trace: Vec::new(alloc),
+            }),
+            Err(wanting) => {
+                drop(core);
+                Err(wanting)
+            }
+        }
     }
 
     /// What is true of each book, for callers: the entries are a run from the image, which is a well-formed machine with no open cycle and at

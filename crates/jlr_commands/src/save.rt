@@ -30,7 +30,9 @@ pub struct Recording {
 fn history_of<R: Drop>(alloc: Global, book: Book<R>) -> Result<Vec<u8>, AllocError>
     ensures { IfOk result (λ v. IsSaved book v.items) }
 {
-    trace_bytes_of(alloc, &book)
+    let bytes = trace_bytes_of(alloc, &book);
+    drop(book);
+    bytes
 }
 
 /// A session over the heap of these limits, how it ended, and its history as a trace file spells it.

@@ -98,6 +98,7 @@ fn closed_of<R: Drop>(alloc: Global, served: Served<R>, saves: bool) -> Closed
     let Served { accepts, book } = served;
     let entries = book.last();
     let history = history_of(alloc, &book, saves);
+    drop(book);
     Closed {
         accepts,
         entries,

@@ -39,7 +39,10 @@ where
         limits (FindsEnd (R.remaining reader.new) bytes) end bytes device.old out device.new book) }
 {
     match run_over(alloc, limits, reader, writer, device) {
-        Ok((end, _book)) => outcome_of(end),
+        Ok((end, book)) => {
+            drop(book);
+            outcome_of(end)
+        }
         Err(fault) => Err(ProgramFault::NoMemory(fault)),
     }
 }

@@ -35,20 +35,47 @@ fn me() -> Mutator {
     Mutator::new(0)
 }
 
+// What a run gave: its replies, and the core that it left.
+type Ran = (Vec<Reply<u32>>, Core<u32>);
+
+// A core is let go. To prove that takes its time, so that it is done here alone.
+fn let_go(core: Core<u32>) {
+    drop(core);
+}
+
+// The replies of a run.
+fn replies_of(ran: Ran) -> Vec<Reply<u32>> {
+    let (replies, core) = ran;
+    let_go(core);
+    replies
+}
+
+// What the core of a run shows.
+fn image_of(alloc: Global, ran: Ran) -> Result<Machine, AllocError> {
+    let (_, core) = ran;
+    let image = core.image(alloc);
+    let_go(core);
+    image
+}
+
 // What a run of these events is answered.
 fn replies_to(
     alloc: Global,
     limits: Limits,
     events: Vec<Event<u32>>,
 ) -> Result<Vec<Reply<u32>>, AllocError> {
-    let (replies, _) = run(alloc, limits, events)?;
-    Ok(replies)
+    match run(alloc, limits, events) {
+        Ok(ran) => Ok(replies_of(ran)),
+        Err(wanting) => Err(wanting),
+    }
 }
 
 // What the core shows after a run of these asks.
 fn image_after(alloc: Global, limits: Limits, asks: &str) -> Result<Machine, AllocError> {
-    let (_, core) = run(alloc, limits, events_of(alloc, asks)?)?;
-    core.image(alloc)
+    match run(alloc, limits, events_of(alloc, asks)?) {
+        Ok(ran) => image_of(alloc, ran),
+        Err(wanting) => Err(wanting),
+    }
 }
 
 fn count(image: &Machine) -> usize {

@@ -125,7 +125,10 @@ fn give<R: Drop>(book: Book<R>, fault: Option<CloseFault>) -> Result<Book<R>, Cl
 {
     match fault {
         None => Ok(book),
-        Some(fault) => Err(fault),
+        Some(fault) => {
+            drop(book);
+            Err(fault)
+        }
     }
 }
 

@@ -352,6 +352,14 @@ fn close<R: Drop, L: Ledger>(
     ensures history { IfOk result (λ served. IsHistory served.book) }
     ensures accepts { IfOk result (λ served. served.accepts ≡ accepts) }
 {
-    let book = hall.close(seats?)?;
-    Ok(Served { accepts, book })
+    match seats {
+        Ok(seats) => Ok(Served {
+            accepts,
+            book: hall.close(seats)?,
+        }),
+        Err(fault) => {
+            drop(hall);
+            Err(fault)
+        }
+    }
 }

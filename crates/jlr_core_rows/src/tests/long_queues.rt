@@ -1,8 +1,8 @@
 //! A queue with 60,000 members, taken apart in the order in which they came to it.
 ghost use Rattle.std.specs.Prelude.{length, ◌≤◌};
 
-use super::me;
 use super::script::{is_answered, ready, shape_of};
+use super::{let_go, me};
 use jlr_core::engine::Core;
 use jlr_event::event::Event;
 use jlr_machine::choice::Choice;
@@ -156,12 +156,22 @@ fn takes_all(core: &mut Core<u32>, choice: &mut Choice) -> bool
     true
 }
 
+// Whether all members come out as they came in, and nothing after them. The core is let go.
+fn come_out_in_their_order(made: (Core<u32>, Choice)) -> bool
+    requires { length made.0.machine.objects ≤ made.1.cells }
+{
+    let (mut core, mut choice) = made;
+    let in_order = begins(&mut core, &mut choice)
+        && puts_all(&mut core, &mut choice)
+        && takes_all(&mut core, &mut choice)
+        && is_answered(&mut core, &mut choice, "poll 1", "handle 0");
+    let_go(core);
+    in_order
+}
+
 #[test]
 fn sixty_thousand_members_come_out_in_their_order(rt: HostRuntime) -> Result<(), Fail> {
-    let (mut core, mut choice) = ready(rt.alloc(), shape_of("cells 65536")?)?;
-    assert!(rt; begins(&mut core, &mut choice));
-    assert!(rt; puts_all(&mut core, &mut choice));
-    assert!(rt; takes_all(&mut core, &mut choice));
-    assert!(rt; is_answered(&mut core, &mut choice, "poll 1", "handle 0"));
+    let made = ready(rt.alloc(), shape_of("cells 65536")?)?;
+    assert!(rt; come_out_in_their_order(made));
     Ok(())
 }

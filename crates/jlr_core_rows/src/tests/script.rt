@@ -1,7 +1,7 @@
 //! Playing lists of rows on a core.
 ghost use Rattle.std.specs.Prelude.{IfOk, length, ◌≤◌};
 
-use super::objects_in;
+use super::{let_go, objects_in};
 use jlr_core::engine::Core;
 use jlr_event::event::{Event, Reply};
 use jlr_machine::choice::Choice;
@@ -133,14 +133,30 @@ fn ready_again(alloc: Global, shape: Shape) -> Result<(Core<u32>, Choice), Alloc
     }
 }
 
+// The first row that is not as it says, on this heap.
+fn first_wrong_on<'a>(
+    alloc: Global,
+    made: (Core<u32>, Choice),
+    rows: &'a str,
+) -> Result<Option<&'a str>, AllocError>
+    requires { length made.0.machine.objects ≤ made.1.cells }
+{
+    let (mut core, mut choice) = made;
+    let wrong = first_wrong(alloc, &mut core, &mut choice, rows);
+    let_go(core);
+    wrong
+}
+
 /// The first row that is not as it says, on a heap of its own.
 pub(super) fn first_wrong_of<'a>(
     alloc: Global,
     shape: Shape,
     rows: &'a str,
 ) -> Result<Option<&'a str>, AllocError> {
-    let (mut core, mut choice) = ready_again(alloc, shape)?;
-    first_wrong(alloc, &mut core, &mut choice, rows)
+    match ready_again(alloc, shape) {
+        Ok(made) => first_wrong_on(alloc, made, rows),
+        Err(wanting) => Err(wanting),
+    }
 }
 
 /// The rows of all lists are as they say.

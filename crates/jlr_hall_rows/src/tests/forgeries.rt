@@ -146,7 +146,11 @@ fn play<L: Ledger, T: Wait>(
 // What a close gave. The book is let go.
 fn told<R: Drop>(outcome: Result<Book<R>, CloseFault>) -> Closed {
     match outcome {
-        Ok(book) => Ok((book.base(), book.entries().len())),
+        Ok(book) => {
+            let closed = (book.base(), book.entries().len());
+            drop(book);
+            Ok(closed)
+        }
         Err(fault) => Err(fault),
     }
 }

@@ -84,10 +84,9 @@ fn devices(rt: HostRuntime, sessions: u32) -> Result<Vec<RealDevice>, AllocError
 
 /// How many clients were accepted, where they were served. The book is let go.
 fn accepts_of<R: Drop>(served: Result<Served<R>, ServeFault>) -> Option<u32> {
-    match served {
-        Ok(served) => Some(served.accepts),
-        Err(_) => None,
-    }
+    let Served { accepts, book } = served.ok()?;
+    drop(book);
+    Some(accepts)
 }
 
 #[test]

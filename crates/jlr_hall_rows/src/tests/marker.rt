@@ -150,10 +150,10 @@ fn serve_maker<T: Threads + Wait + Sync>(
 
 /// Whether the marker's seat has entries, where a client was served. The book is let go.
 fn has_marked(served: Result<Served<RealResource>, ServeFault>) -> Option<bool> {
-    match served {
-        Ok(served) => Some(served.book.entries().iter().any(|entry| entry.seat == 1)),
-        Err(_) => None,
-    }
+    let Served { book, .. } = served.ok()?;
+    let marked = book.entries().iter().any(|entry| entry.seat == 1);
+    drop(book);
+    Some(marked)
 }
 
 #[test]

@@ -74,10 +74,10 @@ fn devices<G: Gate + Copy + Drop>(
 
 /// How many entries the first two seats have, where clients were served. The book is let go.
 fn entries_of<R: Drop>(served: Result<Served<R>, ServeFault>) -> Option<Entries> {
-    match served {
-        Ok(served) => Some(entries(&served.book)),
-        Err(_) => None,
-    }
+    let Served { book, .. } = served.ok()?;
+    let entries = entries(&book);
+    drop(book);
+    Some(entries)
 }
 
 /// How many entries the first two seats have in a book.

@@ -97,7 +97,11 @@ where
     let (hall, seats) = Hall::<GateResource<G>, L>::open(alloc, limits, blank)?;
     let seats = side_by_side(threads, alloc, &hall, clients, seats);
     match hall.close(seats) {
-        Ok(book) => Ok(entries(&book)),
+        Ok(book) => {
+            let entries = entries(&book);
+            drop(book);
+            Ok(entries)
+        }
         Err(_) => Err("a seat does not agree".into()),
     }
 }
@@ -133,6 +137,21 @@ fn is_told<L: Ledger, T: Wait>(threads: &T, hall: &Hall<u32, L>, seat: Seat<L>) 
     )
 }
 
+/// Whether it is told so, where the hall is told to end beside it.
+fn is_stopped<L: Ledger + Send + Sync, T: Threads + Wait + Sync>(
+    threads: &T,
+    hall: &Hall<u32, L>,
+    seat: Seat<L>,
+) -> bool {
+    let (told, ()) = thread::join(
+        threads,
+        move || is_told(threads, hall, seat),
+        move || hall.stop(threads),
+    );
+    told
+}
+
+/// The same over a hall of its own.
 fn ended<L: Ledger + Send + Sync, T: Threads + Wait + Sync>(
     threads: &T,
     alloc: Global,
@@ -143,15 +162,11 @@ fn ended<L: Ledger + Send + Sync, T: Threads + Wait + Sync>(
     requires parts { (blank.parts ≡ L.parts) × (blank.parts ≡ limits.sessions + 3) }
 {
     let (hall, seats) = Hall::<u32, L>::open(alloc, limits, blank)?;
-    let shared = &hall;
-    let Some(seat) = seats.into_iter().next() else {
-        return Err("no seat".into());
+    let told = match seats.into_iter().next() {
+        Some(seat) => is_stopped(threads, &hall, seat),
+        None => false,
     };
-    let (told, ()) = thread::join(
-        threads,
-        move || is_told(threads, shared, seat),
-        move || shared.stop(threads),
-    );
+    drop(hall);
     Ok(told)
 }
 

@@ -105,7 +105,11 @@ fn played_in<L: Ledger, T: Wait>(
 /// What a close gave. The book is let go.
 fn told<R: Drop>(outcome: Result<Book<R>, CloseFault>) -> Closed {
     match outcome {
-        Ok(book) => Some((book.base(), book.entries().len())),
+        Ok(book) => {
+            let closed = (book.base(), book.entries().len());
+            drop(book);
+            Some(closed)
+        }
         Err(_) => None,
     }
 }

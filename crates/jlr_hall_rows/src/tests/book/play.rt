@@ -40,7 +40,9 @@ fn first_wrong_of<'a>(
     rows: &'a str,
 ) -> Result<Option<&'a str>, AllocError> {
     let mut book = Book::new(alloc, limits)?;
-    Ok(first_wrong(&mut book, rows))
+    let wrong = first_wrong(&mut book, rows);
+    drop(book);
+    Ok(wrong)
 }
 
 // The first row that is not as it says.
