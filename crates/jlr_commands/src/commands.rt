@@ -47,96 +47,142 @@ pub fn command<'a>(alloc: Global) -> Result<Command<'a>, AllocError> {
 
 /// A command with the options of its heap, and of the history that is left.
 fn with_heap<'a>(alloc: Global, command: Command<'a>) -> Result<Command<'a>, AllocError> {
-    let cells = Arg::new(alloc, "cells")
-        .long("cells")
-        .value_name("N")
-        .help("Number of cells of the heap, from 16 to 65536")
-        .value_parser(value_parser!(u32).range(16..=65_536))
-        .default_value("1024");
-    let resources = Arg::new(alloc, "resources")
-        .long("resources")
-        .value_name("N")
-        .help("Number of files and sockets that may be open at once, from 1 to 256")
-        .value_parser(value_parser!(u32).range(1..=256))
-        .default_value("16");
-    let soft_age = Arg::new(alloc, "soft-age")
-        .long("soft-age")
-        .value_name("N")
-        .help("Number of collections for which a soft reference keeps its referent, from 0 to 1000")
-        .value_parser(value_parser!(u32).range(0..=1_000))
-        .default_value("4");
-    let trace = Arg::new(alloc, "trace")
-        .long("trace")
-        .value_name("N")
-        .help("Number of entries after which the trace is cut, from 64 to 1000000")
-        .value_parser(value_parser!(u32).range(64..=1_000_000))
-        .default_value("10000");
-    let save = Arg::new(alloc, "save")
-        .long("save")
-        .value_name("FILE")
-        .help("Where the history is saved at the end");
     command
-        .arg(cells)?
-        .arg(resources)?
-        .arg(soft_age)?
-        .arg(trace)?
-        .arg(save)
+        .arg(cells_option(alloc))?
+        .arg(resources_option(alloc))?
+        .arg(soft_age_option(alloc))?
+        .arg(trace_option(alloc))?
+        .arg(save_option(alloc))
 }
 
 /// The command of a server.
 fn serve_command<'a>(alloc: Global) -> Result<Command<'a>, AllocError> {
-    let socket = Arg::new(alloc, "socket")
+    let serve = Command::new(alloc, "serve")
+        .about(
+            "Lets clients share one heap over a Unix socket, and ends when so many have been served",
+        )
+        .after_help(SERVE_EXAMPLE)
+        .arg(socket_option(alloc))?
+        .arg(total_option(alloc))?
+        .arg(sessions_option(alloc))?
+        .arg(budget_option(alloc))?;
+    with_heap(alloc, serve)
+}
+
+/// The command of an audit.
+fn audit_command<'a>(alloc: Global) -> Result<Command<'a>, AllocError> {
+    Command::new(alloc, "audit")
+        .about(
+            "Tells whether each step of a saved history was allowed, or which is the first that was not",
+        )
+        .after_help(AUDIT_EXAMPLE)
+        .arg(explain_option(alloc))?
+        .arg(file_argument(alloc))
+}
+
+// ---- Options
+
+/// How many cells the heap has.
+fn cells_option<'a>(alloc: Global) -> Arg<'a> {
+    Arg::new(alloc, "cells")
+        .long("cells")
+        .value_name("N")
+        .help("Number of cells of the heap, from 16 to 65536")
+        .value_parser(value_parser!(u32).range(16..=65_536))
+        .default_value("1024")
+}
+
+/// How many files and sockets may be open at once.
+fn resources_option<'a>(alloc: Global) -> Arg<'a> {
+    Arg::new(alloc, "resources")
+        .long("resources")
+        .value_name("N")
+        .help("Number of files and sockets that may be open at once, from 1 to 256")
+        .value_parser(value_parser!(u32).range(1..=256))
+        .default_value("16")
+}
+
+/// For how many collections a soft reference keeps its referent.
+fn soft_age_option<'a>(alloc: Global) -> Arg<'a> {
+    Arg::new(alloc, "soft-age")
+        .long("soft-age")
+        .value_name("N")
+        .help("Number of collections for which a soft reference keeps its referent, from 0 to 1000")
+        .value_parser(value_parser!(u32).range(0..=1_000))
+        .default_value("4")
+}
+
+/// After how many entries the trace is cut.
+fn trace_option<'a>(alloc: Global) -> Arg<'a> {
+    Arg::new(alloc, "trace")
+        .long("trace")
+        .value_name("N")
+        .help("Number of entries after which the trace is cut, from 64 to 1000000")
+        .value_parser(value_parser!(u32).range(64..=1_000_000))
+        .default_value("10000")
+}
+
+/// Where the history is saved.
+fn save_option<'a>(alloc: Global) -> Arg<'a> {
+    Arg::new(alloc, "save")
+        .long("save")
+        .value_name("FILE")
+        .help("Where the history is saved at the end")
+}
+
+/// Where a server listens.
+fn socket_option<'a>(alloc: Global) -> Arg<'a> {
+    Arg::new(alloc, "socket")
         .long("socket")
         .value_name("PATH")
         .help("Where the Unix socket is made on which it listens")
-        .required(true);
-    let total = Arg::new(alloc, "total")
+        .required(true)
+}
+
+/// After how many clients a server ends.
+fn total_option<'a>(alloc: Global) -> Arg<'a> {
+    Arg::new(alloc, "total")
         .long("total")
         .value_name("N")
         .help("Number of clients after which it ends, from 1 to 1000000")
         .value_parser(value_parser!(u32).range(1..=1_000_000))
-        .required(true);
-    let sessions = Arg::new(alloc, "sessions")
+        .required(true)
+}
+
+/// How many clients are served at once.
+fn sessions_option<'a>(alloc: Global) -> Arg<'a> {
+    Arg::new(alloc, "sessions")
         .long("sessions")
         .value_name("N")
         .help("Number of clients that are served at once, from 1 to 64")
         .value_parser(value_parser!(u32).range(1..=64))
-        .default_value("4");
-    let budget = Arg::new(alloc, "budget")
+        .default_value("4")
+}
+
+/// How many cells the background marker visits at a time.
+fn budget_option<'a>(alloc: Global) -> Arg<'a> {
+    Arg::new(alloc, "budget")
         .long("budget")
         .value_name("N")
         .help(
             "Number of cells that the background marker visits at a time while all clients wait, from 1 to 4096",
         )
         .value_parser(value_parser!(u32).range(1..=4_096))
-        .default_value("64");
-    let serve = Command::new(alloc, "serve")
-        .about(
-            "Lets clients share one heap over a Unix socket, and ends when so many have been served",
-        )
-        .after_help(SERVE_EXAMPLE)
-        .arg(socket)?
-        .arg(total)?
-        .arg(sessions)?
-        .arg(budget)?;
-    with_heap(alloc, serve)
+        .default_value("64")
 }
 
-/// The command of an audit.
-fn audit_command<'a>(alloc: Global) -> Result<Command<'a>, AllocError> {
-    let file = Arg::new(alloc, "file")
+/// Which history is audited.
+fn file_argument<'a>(alloc: Global) -> Arg<'a> {
+    Arg::new(alloc, "file")
         .value_name("FILE")
         .help("A saved history")
-        .required(true);
-    let explain = Arg::new(alloc, "explain")
+        .required(true)
+}
+
+/// Whether an audit says why, and how far it is.
+fn explain_option<'a>(alloc: Global) -> Arg<'a> {
+    Arg::new(alloc, "explain")
         .long("explain")
         .help("Says why a history is not legal, and how far the audit of a long one is")
-        .action(ArgAction::SetTrue);
-    Command::new(alloc, "audit")
-        .about(
-            "Tells whether each step of a saved history was allowed, or which is the first that was not",
-        )
-        .after_help(AUDIT_EXAMPLE)
-        .arg(explain)?
-        .arg(file)
+        .action(ArgAction::SetTrue)
 }
