@@ -18,7 +18,7 @@ use Rattle.jlr_laws.proofs.Frames.{no_some, some_same}
 use Rattle.jlr_cells.specs.Links.{linked}
 use Rattle.jlr_cells.specs.Visits.{elements_of}
 use Rattle.jlr_marks.specs.declared.part.Part.{Part}
-use Rattle.jlr_marks.specs.Marking.{place_in}
+use Rattle.jlr_marks.specs.Marking.{IsMarked, Marking, Shaded, place_in}
 use Rattle.jlr_barrier.specs.Snapshots.{IsEdge}
 use Rattle.jlr_barrier.specs.Parts.{IsBegun, IsInProgress, ahead_at, edges_ahead, edges_part, next_at, next_place, part_at, parts_of, place_after, ticks_at, ticks_in}
 
@@ -268,3 +268,24 @@ last_ones e from n same few =
 
 pub part_within : (e : List (Option ℕ)) (from x : ℕ) → x ∈ linked (drop from e) → x ∈ linked e
 part_within e from x h = elements_all e from x h
+
+-- what is marked already may be counted among what was shaded
+pub shaded_wider : (T U : ℕ → Type 0) → ((x : ℕ) → T x → U x) → (m n : Marking) → ((x : ℕ) → U x → T x ⊎ IsMarked n x) → Shaded T m n → Shaded U m n
+shaded_wider T U more m n marked s = record {
+  long = s.long;
+  kept = s.kept;
+  added = λ x h. elim (s.added x h) [
+    | inl old ↦ inl old
+    | inr new ↦ inr (more x new.0, new.1)
+  ];
+  grey_kept = s.grey_kept;
+  grey_marked = s.grey_marked;
+  fresh = s.fresh;
+  all = λ x h. elim (marked x h) [
+    | inl there ↦ s.all x there
+    | inr mark ↦ mark
+  ];
+  black_same = s.black_same;
+  discovered_same = s.discovered_same;
+  part_same = s.part_same;
+}

@@ -1,5 +1,5 @@
 //! Shading: what links, queues, roots, names and lists lead to is marked, and grey if it was not marked before.
-ghost use Rattle.std.specs.Prelude.{◌≡◌, ℕ, ◌+◌, ◌-◌, ◌^◌, ◌<◌, ◌≤◌, ◌++◌, ◌∷◌, [], IsTrue, Some, cond, drop, is_some, length, option_and_then, take};
+ghost use Rattle.std.specs.Prelude.{◌≡◌, ◌⊎◌, ℕ, ◌+◌, ◌-◌, ◌^◌, ◌<◌, ◌≤◌, ◌++◌, ◌∷◌, [], IsTrue, Some, cond, drop, is_some, length, option_and_then, take};
 ghost use Rattle.jlr_machine.specs.Objects.{any_referent, at, queue_ahead, some_and, ◌∈◌};
 ghost use Rattle.jlr_machine.specs.Refusals.{is_record, is_reference};
 ghost use Rattle.jlr_machine.specs.Edges.{active_cleanables, edges_from, is_active, is_own_root};
@@ -84,6 +84,28 @@ fn shade_far(links: Option<&Links>, marks: &mut Marks)
     }
 }
 
+/// How many of so many elements from a place on refer to nothing, or to what is marked, before the first that does not, so many being known already. It
+/// only looks: of a heap of arrays nearly all elements lead to what is marked.
+fn marked_run(elements: &Elements, from: usize, known: usize, count: usize, marks: &Marks) -> usize
+    requires few { length elements.now ≤ 4096 }
+    requires there { (known ≤ count) × (count ≤ length elements.now - from) }
+    requires within { (x : ℕ) → x ∈ linked elements.now → x < length marks.now.bits }
+    ensures few { (known ≤ result) × (result ≤ count) }
+    ensures more { (x : ℕ) → x ∈ linked (take known (drop from elements.now)) → x ∈ linked (take result (drop from elements.now)) }
+    ensures marked { (x : ℕ) → x ∈ linked (take result (drop from elements.now)) → (x ∈ linked (take known (drop from elements.now))) ⊎ IsMarked marks.now x }
+{
+    let mut run = known;
+    while run < count {
+        if let Some(slot) = elements.get(from + run) {
+            if !marks.is_marked(slot) {
+                return run;
+            }
+        }
+        run += 1;
+    }
+    run
+}
+
 /// Shades what so many elements of an array refer to, from a place on.
 fn shade_elements(elements: &Elements, from: usize, count: usize, marks: &mut Marks)
     requires few { length elements.now ≤ 4096 }
@@ -91,8 +113,10 @@ fn shade_elements(elements: &Elements, from: usize, count: usize, marks: &mut Ma
     requires within { (x : ℕ) → x ∈ linked elements.now → x < length marks.old.bits }
     ensures { Shaded (λ x. x ∈ linked (take count (drop from elements.now))) marks.old marks.new }
 {
-    for step in 0..count {
+    let mut step = marked_run(elements, from, 0, count, marks);
+    while step < count {
         shade_target(elements.get(from + step), marks);
+        step = marked_run(elements, from, step + 1, count, marks);
     }
 }
 
