@@ -1,5 +1,5 @@
 -- The places that are not set, as those of other words.
-use Rattle.std.proofs.Common.{◌≡◌, ℕ, zero, suc, ◌-◌, ◌*◌, ◌/◌, ◌%◌, ◌^◌, ◌<◌, ◌≤◌, Bool, true, false, not, eqb, List, length, map, get_or, refl, sym, ◌∙◌, ap, take, inl, inr, arith, w64}
+use Rattle.std.proofs.Common.{◌≡◌, ℕ, zero, suc, ◌-◌, ◌/◌, ◌%◌, ◌^◌, ◌<◌, ◌≤◌, Bool, true, false, not, eqb, List, length, map, get_or, refl, sym, ◌∙◌, ap, take, inl, inr, arith, w64}
 use Rattle.std.proofs.lemmas.Bool.{cases_lt, false≢true, both_ways}
 use Rattle.std.proofs.lemmas.List.{get_or_past, get_or-map, get_or-take, length-map, length-take-le}
 use Rattle.std.proofs.lemmas.List.FromFn.{length-map-range_with_len, get_or-map-range_with_len}

@@ -1,4 +1,4 @@
-use Rattle.std.proofs.Common.{◌≡◌, ◌⊎◌, ◌<◌, ◌≤◌, ◌+◌, ◌-◌, ◌∙◌, ℕ, List, Option, Some, None, inl, inr, sym, arith, subst, length, drop, take}
+use Rattle.std.proofs.Common.{◌≡◌, ◌⊎◌, ◌<◌, ◌≤◌, ◌+◌, ◌∙◌, ℕ, List, Option, Some, None, inl, inr, sym, arith, subst, length, drop, take}
 use Rattle.std.proofs.lemmas.List.{get_or-drop, length-drop}
 use Rattle.jlr_machine.specs.Objects.{◌∈◌, at}
 use Rattle.jlr_cells.specs.Links.{linked}

@@ -1,4 +1,4 @@
-use Rattle.std.proofs.Common.{ap, subst, sym, length, take, arith}
+use Rattle.std.proofs.Common.{ap, subst, sym, length, arith}
 use Rattle.std.proofs.lemmas.List.{length-take-le}
 use Rattle.jlr_sets.specs.SlotSets.{absent, IsFirstFrom, NoneFrom}
 use Rattle.jlr_sets.proofs.Absent.{first_shown, none_shown}
