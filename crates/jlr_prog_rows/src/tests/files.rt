@@ -22,7 +22,7 @@ fn played<R: Read>(
     let mut device = RealDevice::new(rt);
     let mut out = Vec::new(rt.alloc());
     let limits = limits(16, 4, 10_000)?;
-    let (end, _book) = ended(rt.alloc(), limits, reader, &mut out, &mut device)?;
+    let (end, _) = ended(rt.alloc(), limits, reader, &mut out, &mut device)?;
     if end != wanted || !is_answered(rt.alloc(), out.as_slice(), answers) {
         let got = text_of(out.as_slice());
         return Err(told(rt.alloc(), "real files and sockets", answers, got));

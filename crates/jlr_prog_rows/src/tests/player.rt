@@ -39,10 +39,12 @@ where
 
 /// What is seen of a book, which is given up.
 fn shown<R: Drop>(book: Book<R>) -> Shown {
-    Shown {
+    let shown = Shown {
         base: book.base(),
         entries: book.entries().len(),
-    }
+    };
+    drop(book);
+    shown
 }
 
 /// Each session of the lists ends and is answered as it has to.
