@@ -84,8 +84,8 @@ fn shade_far(links: Option<&Links>, marks: &mut Marks)
     }
 }
 
-/// How many of so many elements from a place on refer to nothing, or to what is marked, before the first that does not, so many being known already. It
-/// only looks: of a heap of arrays nearly all elements lead to what is marked.
+/// How many elements from a place on, at most `count`, refer to nothing or to what is marked, up to the first that does not; of the first `known` nothing
+/// is asked. It writes nothing: in a heap of arrays nearly all elements lead to what is marked.
 fn marked_run(elements: &Elements, from: usize, known: usize, count: usize, marks: &Marks) -> usize
     requires few { length elements.now ≤ 4096 }
     requires there { (known ≤ count) × (count ≤ length elements.now - from) }
