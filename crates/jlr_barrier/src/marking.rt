@@ -67,6 +67,7 @@ impl Heap {
     /// Follows a part of the strong edges of the object at the grey slot that comes next: one tick. Of an array a part are at most 64 elements, of any other
     /// object all its edges. Where there is more to follow, it is grey again and comes next. Otherwise it is black, and discovered, if it refers to an
     /// object that is not marked. No object takes more than 64 ticks. Answers whether it is a plain object with fields.
+    #[inline(always)]
     pub fn scan(&mut self, slot: Slot, meter: &mut Meter) -> bool
         requires next { upcoming self.old.marking ≡ Some slot }
         requires ticks { meter.old + 1 < 2 ^ 64 }

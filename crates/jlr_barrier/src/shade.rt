@@ -121,6 +121,7 @@ fn shade_elements(elements: &Elements, from: usize, count: usize, marks: &mut Ma
 }
 
 /// Shades what at most 64 elements of an array refer to, from a place on. Answers the place behind them, if there are more.
+#[inline(never)]
 fn shade_part(elements: &Elements, from: u16, marks: &mut Marks) -> Option<u16>
     requires { (x : ℕ) → x ∈ linked elements.now → x < length marks.old.bits }
     ensures shaded { Shaded (λ x. x ∈ linked (take 64 (drop from elements.now))) marks.old marks.new }
@@ -148,6 +149,7 @@ struct Found {
 
 /// Shades what a part of the strong edges of the object at a slot leads to, from a place on: one tick. Of an array these are at most 64 elements, of any
 /// other object all. No object takes more than 64 ticks.
+#[inline(always)]
 fn follow(cells: &Objects, slot: Slot, from: u16, meter: &mut Meter, marks: &mut Marks) -> Found
     requires object { IsTrue (is_some (at cells.now.objects slot)) }
     requires ticks { meter.old + 1 < 2 ^ 64 }
@@ -184,6 +186,7 @@ fn follow(cells: &Objects, slot: Slot, from: u16, meter: &mut Meter, marks: &mut
 
 /// Follows a part of the strong edges of the object at the grey slot that comes next: one tick. Where there is more to follow, it is grey again and comes
 /// next. Otherwise it is black, and discovered, if it refers to an object that is not marked. Answers whether it is a plain object with fields.
+#[inline(always)]
 pub(crate) fn scan_part(cells: &Objects, slot: Slot, meter: &mut Meter, marks: &mut Marks) -> bool
     requires next { upcoming marks.old ≡ Some slot }
     requires marked { IsMarked marks.old slot }
@@ -207,6 +210,7 @@ pub(crate) fn scan_part(cells: &Objects, slot: Slot, meter: &mut Meter, marks: &
 }
 
 /// A reference or a cleanable at a slot is discovered, if what it refers to is not marked. Of a plain object with fields nothing is asked.
+#[inline(always)]
 fn note(cells: &Objects, slot: Slot, plain: bool, marks: &mut Marks)
     requires kind { plain ≡ some_and is_record (at cells.now.objects slot) }
     requires room { length marks.old.grey + length marks.old.discovered < marked marks.old }
@@ -216,9 +220,22 @@ fn note(cells: &Objects, slot: Slot, plain: bool, marks: &mut Marks)
     ensures discovered { marks.new.discovered ≡ marks.old.discovered ++ cond (some_and (awaits marks.old) (at cells.now.objects slot)) (slot ∷ []) [] }
     ensures part { marks.new.part ≡ marks.old.part }
 {
-    if plain {
-        return;
+    if !plain {
+        note_referent(cells, slot, marks);
     }
+}
+
+/// An object at a slot is discovered, if it refers to one that is not marked. It stands apart from the following of plain objects with fields, which
+/// are nearly all that a heap holds.
+#[inline(never)]
+fn note_referent(cells: &Objects, slot: Slot, marks: &mut Marks)
+    requires room { length marks.old.grey + length marks.old.discovered < marked marks.old }
+    requires within { (x : ℕ) → RefersTo cells.now.objects slot x → x < length marks.old.bits }
+    ensures bits { marks.new.bits ≡ marks.old.bits }
+    ensures grey { marks.new.grey ≡ marks.old.grey }
+    ensures discovered { marks.new.discovered ≡ marks.old.discovered ++ cond (some_and (awaits marks.old) (at cells.now.objects slot)) (slot ∷ []) [] }
+    ensures part { marks.new.part ≡ marks.old.part }
+{
     let Some(referent) = any_referent(cells, slot) else {
         return;
     };
@@ -242,6 +259,7 @@ fn any_referent(cells: &Objects, slot: Slot) -> Option<Slot>
 }
 
 /// Shades the members of a queue, if there is one at the slot.
+#[inline(never)]
 fn shade_members(cells: &Objects, queue: Slot, marks: &mut Marks)
     requires { (x : ℕ) → x ∈ members_in (at cells.now.objects queue) → x < length marks.old.bits }
     ensures { Shaded (λ x. x ∈ members_in (at cells.now.objects queue)) marks.old marks.new }

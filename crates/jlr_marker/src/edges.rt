@@ -13,6 +13,7 @@ use jlr_soft::Policy;
 use jlr_types::{Meter, Slot};
 
 /// Marks what a kept soft reference refers to.
+#[inline(never)]
 fn follow_soft(heap: &mut Heap, policy: &Policy, slot: Slot)
     requires inside { slot < length heap.old.graph.objects }
     requires object { (x : ℕ) → soft_at heap.old.graph.objects slot ≡ Some x → IsObject heap.old.graph.objects x }
@@ -30,6 +31,7 @@ fn follow_soft(heap: &mut Heap, policy: &Policy, slot: Slot)
 
 /// Marks what the object at the grey slot that comes next leads to by the edges that are followed: one tick. It is black then, but for an array
 /// with more than 64 elements that were not followed yet: its next 64 are followed, and it comes next again.
+#[inline(always)]
 pub fn follow(heap: &mut Heap, policy: &Policy, slot: Slot, meter: &mut Meter)
     requires next { upcoming heap.old.marking ≡ Some slot }
     requires object { IsObject heap.old.graph.objects slot }
