@@ -1,6 +1,8 @@
 -- What an event and its reply are to the machine.
-use Rattle.std.specs.Prelude.{◌≡◌, ◌<◌, ◌≤◌, ◌^◌, Option, Some, None, length}
+use Rattle.std.specs.Prelude.{◌≡◌, ◌<◌, ◌≤◌, ◌^◌, Bool, Option, Some, None, false, length, true}
 use Rattle.jlr_types.specs.declared.Refusal.TheVariants.{NoMemory}
+use Rattle.jlr_event.specs.declared.event.Event.{Event}
+use Rattle.jlr_event.specs.declared.event.Event.TheVariants.{Deref, Drop, Dup, Get, Int, MakeRef, New, Poll, Put, Refers, Same, SetInt}
 use Rattle.jlr_machine.specs.declared.machine.Machine.{Machine}
 use Rattle.jlr_machine.specs.declared.ask.Ask.{Ask}
 use Rattle.jlr_machine.specs.declared.ask.Ask.TheVariants.{Prepare, Names, Notes, Faults, Array}
@@ -13,6 +15,22 @@ use Rattle.jlr_machine.specs.Run.{no_choice, IsLegal, apply}
 use Rattle.jlr_marks.specs.Marking.{Marking}
 use Rattle.jlr_resource.specs.Resources.{Resources, resources}
 use Rattle.jlr_core.specs.State.{MeetsAsk, entry_of}
+
+-- the asks that come most often: those about objects, their fields and handles, and about references
+abbrev pub is_often : {R : Type 0} → Event R → Bool
+is_often (New k layout) = true
+is_often (Put k h f v) = true
+is_often (Get k h f) = true
+is_often (SetInt k h f n) = true
+is_often (Int k h f) = true
+is_often (Dup k h) = true
+is_often (Drop k h) = true
+is_often (Same k a b) = true
+is_often (MakeRef k kind h q) = true
+is_often (Deref k r) = true
+is_often (Refers k r h) = true
+is_often (Poll k q) = true
+is_often _ = false
 
 -- the table has room for one resource more, in a place that has a number
 abbrev pub HasRoom : {R : Type 0} → Resources R → Type 0

@@ -1,10 +1,10 @@
 //! Which ask an event is.
-ghost use Rattle.std.specs.Prelude.{◌≡◌, ◌≤◌, ◌&&◌, length, not, None, Some};
+ghost use Rattle.std.specs.Prelude.{◌≡◌, ◌≤◌, ◌&&◌, false, length, not, None, Some};
 ghost use Rattle.jlr_machine.specs.Choices.{nothing_chosen};
 ghost use Rattle.jlr_machine.specs.WellFormed.{IsWellFormed};
 ghost use Rattle.jlr_core.specs.State.{answer_of};
 ghost use Rattle.jlr_event.specs.Events.{ask_of, answer_in, resource_of_event, resource_of_reply};
-ghost use Rattle.jlr_core.specs.Events.{StepsBy, WantsMemory};
+ghost use Rattle.jlr_core.specs.Events.{StepsBy, WantsMemory, is_often};
 ghost use Rattle.jlr_core.specs.Marks.{Begins, BlackensNew, MarksBy, MarksReached, budget_of, has_grey};
 ghost use Rattle.jlr_core.specs.Flows.{Conserves, GoesOut, Moves};
 ghost use Rattle.jlr_core.specs.Steps.{LeavesRoom};
@@ -22,7 +22,8 @@ use jlr_types::Refusal;
 impl<R> State<R> {
     ghost use Rattle.jlr_core.specs.Machines.{machine_of};
 
-    /// One event.
+    /// One event. Those that sessions ask most often are met here, and all others in a function of their own: a function clears the room of all its
+    /// values when it is entered.
     #[tactic(auto, using(crate::proofs::Shading::same_only))]
     pub(crate) fn step(&mut self, event: Event<R>, choice: &mut Choice) -> Reply<R>
         requires fit { IsWellFormed (machine_of self.old) }
@@ -48,8 +49,6 @@ impl<R> State<R> {
         ensures waits { WaitsOn (machine_of self.new) self.old.cleaner self.new.cleaner }
     {
         match event {
-            Event::Join { mutator } => answered(self.join(mutator)),
-            Event::Leave { mutator } => answered(self.leave(mutator)),
             Event::New { mutator, layout } => { answered(self.new_object(mutator, layout, choice)) }
             Event::Put {
                 mutator,
@@ -92,11 +91,45 @@ impl<R> State<R> {
                 reference,
                 object,
             } => answered(self.refers(mutator, reference, object)),
+            Event::Poll { mutator, queue } => answered(self.poll(mutator, queue)),
+            event => self.step_seldom(event, choice),
+        }
+    }
+
+    /// One event of those that are not asked often.
+    #[inline(never)]
+    #[tactic(auto, using(crate::proofs::Shading::same_only))]
+    fn step_seldom(&mut self, event: Event<R>, choice: &mut Choice) -> Reply<R>
+        requires seldom { is_often event ≡ false }
+        requires fit { IsWellFormed (machine_of self.old) }
+        requires waits { AllWait (machine_of self.old) self.old.cleaner.waiting }
+        requires nothing { choice.old ≡ nothing_chosen choice.old.cells }
+        requires room { length self.old.heap.graph.objects ≤ choice.old.cells }
+        ensures entry { StepsBy (machine_of self.old) self.old.heap.marking (ask_of event) (answer_in result) choice.new.chosen (machine_of self.new) }
+        ensures flow { Conserves (resource_of_event event) self.old.cleaner.table (resource_of_reply result) self.new.cleaner.table }
+        ensures moves { Moves (resource_of_event event) self.old.cleaner.table (resource_of_reply result) self.new.cleaner.table }
+        ensures goes_out { GoesOut self.old.cleaner.table (resource_of_event event) (answer_in result) (resource_of_reply result) }
+        ensures memory { WantsMemory (machine_of self.old) self.old.cleaner.table (ask_of event) (answer_in result) }
+        ensures table_room { LeavesRoom (ask_of event) self.old.cleaner.table self.new.cleaner.table }
+        ensures reached { MarksReached (machine_of self.old) self.old.heap.marking (machine_of self.new) self.new.heap.marking }
+        ensures begins { Begins (ask_of event) (machine_of self.old) (machine_of self.new) self.new.heap.marking }
+        ensures marking { MarksBy (budget_of event) self.old.soft_age self.old.heap.clock (machine_of self.old) self.old.heap.marking self.old.heap.condemned result self.new.heap.marking self.new.heap.condemned }
+        ensures blackens { BlackensNew event (machine_of self.old) self.old.heap.marking choice.new.chosen (machine_of self.new) self.new.heap.marking }
+        ensures collects { ask_of event ≡ Some Ask.Collect → answer_in result ≡ Some (Answer.Truth (self.old.cycle_open && not (has_grey self.old.heap.marking))) }
+        ensures policy { KeepsByPolicy self.old.soft_age self.old.heap.clock (machine_of self.old) self.old.heap.marking (ask_of event) choice.new.chosen }
+        ensures age { self.new.soft_age ≡ self.old.soft_age }
+        ensures clock { self.new.heap.clock ≡ clock_after (machine_of self.old) self.old.heap.clock (ask_of event) (answer_in result) choice.new.chosen }
+        ensures room { choice.new.cells ≡ choice.old.cells }
+        ensures cells { length self.new.heap.graph.objects ≡ length self.old.heap.graph.objects }
+        ensures waits { WaitsOn (machine_of self.new) self.old.cleaner self.new.cleaner }
+    {
+        match event {
+            Event::Join { mutator } => answered(self.join(mutator)),
+            Event::Leave { mutator } => answered(self.leave(mutator)),
             Event::Clear { mutator, reference } => answered(self.clear(mutator, reference)),
             Event::Enqueue { mutator, reference } => answered(self.enqueue(mutator, reference)),
             Event::Enqueued { mutator, reference } => answered(self.enqueued(mutator, reference)),
             Event::MakeQueue { mutator } => answered(self.make_queue(mutator, choice)),
-            Event::Poll { mutator, queue } => answered(self.poll(mutator, queue)),
             Event::HandOver => answered(Ok(Answer::Handed(self.hand_over()))),
             Event::Remove { mutator, queue } => answered(self.remove(mutator, queue)),
             Event::MakeCleaner { mutator } => answered(self.make_cleaner(mutator, choice)),
@@ -141,6 +174,7 @@ impl<R> State<R> {
                 answered(self.new_array(mutator, length, choice))
             }
             Event::Mark { budget } => Reply::Marked(self.mark(budget)),
+            _ => unreachable!(),
         }
     }
 }

@@ -9,4 +9,5 @@ pub mod Shapes
 pub mod Counting
 pub mod Few
 pub mod SpellingLaws
+pub mod ToEnd
 pub mod VersionLaws

@@ -6,7 +6,7 @@ ghost use Rattle.jlr_fields.specs.declared.version.Version.TheVariants.{One, Two
 ghost use Rattle.jlr_trace.specs.declared.file.TraceFault.TheVariants.{NoMemory};
 ghost use Rattle.jlr_trace.specs.declared.file.TraceFile.{TraceFile as TraceFileOf};
 ghost use Rattle.jlr_trace.specs.Images.{image_text, image_read, HasShape};
-ghost use Rattle.jlr_trace.specs.Files.{FileText, image_of, file_text, spelled_file, FileFits, HasSpelling, told, expected, version_read, mark_read, in_entry, entries_read, file_read, FileGives, FileReads};
+ghost use Rattle.jlr_trace.specs.Files.{FileText, image_of, file_text, spelled_file, FileFits, HasSpelling, told, expected, version_read, mark_read, in_entry, entries_read, entries_to_end, file_read, FileGives, FileReads};
 ghost use Rattle.jlr_trace.specs.Versions.{fits_version_1, in_version};
 
 use crate::entry::entry_at;
@@ -176,6 +176,24 @@ fn file_of(version: Version, image: Image, entries: Vec<Entry>) -> TraceFile
     }
 }
 
+/// The entries behind an image, up to the end of the bytes.
+#[tactic(auto, unfolding(crate::specs::Files::entries_to_end))]
+fn entries_to_end(
+    alloc: Global,
+    version: Version,
+    bytes: &mut &[u8],
+) -> Result<Vec<Entry>, TraceFault>
+    ensures { FileGives (λ x. x.items) result (entries_to_end version bytes.old.now) }
+{
+    let count = count_in(bytes)?;
+    let entries = entries_at(alloc, version, count, bytes)?;
+    if !bytes.is_empty() {
+        return Err(TraceFault::BadEntry(entries.len() as u64 + 1));
+    }
+    Ok(entries)
+}
+
+/// All of the bytes. The image is let go by a call where the entries have a fault: it has many parts, through which an exit that held it would go.
 #[tactic(auto, unfolding(crate::specs::Files::front_read, crate::specs::Files::file_read))]
 fn all_of(alloc: Global, bytes: &[u8]) -> Result<TraceFile, TraceFault>
     ensures exact { FileGives file_text result (file_read bytes.now) }
@@ -184,12 +202,13 @@ fn all_of(alloc: Global, bytes: &[u8]) -> Result<TraceFile, TraceFault>
     let (version, behind) = mark_at(bytes)?;
     let mut rest = behind;
     let image = image_in(alloc, version, &mut rest)?;
-    let count = count_in(&mut rest)?;
-    let entries = entries_at(alloc, version, count, &mut rest)?;
-    if !rest.is_empty() {
-        return Err(TraceFault::BadEntry(entries.len() as u64 + 1));
+    match entries_to_end(alloc, version, &mut rest) {
+        Ok(entries) => Ok(file_of(version, image, entries)),
+        Err(fault) => {
+            drop(image);
+            Err(fault)
+        }
     }
-    Ok(file_of(version, image, entries))
 }
 
 /// The history that the bytes spell, all of the bytes.

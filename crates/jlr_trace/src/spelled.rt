@@ -3,7 +3,7 @@ ghost use Rattle.std.specs.Prelude.{◌≡◌, [], ◌∷◌, ◌-◌, ◌+◌, 
 ghost use Rattle.jlr_fields.specs.declared.fault.ReadError.TheVariants.{Memory};
 ghost use Rattle.jlr_trace.specs.declared.file.TraceFile.{TraceFile as TraceFileOf};
 ghost use Rattle.jlr_trace.specs.Images.{image_text, HasShape};
-ghost use Rattle.jlr_trace.specs.Files.{FileText, image_of, file_text, spelled_file, FileFits, HasSpelling, entries_read, file_read, FileGives};
+ghost use Rattle.jlr_trace.specs.Files.{FileText, image_of, file_text, spelled_file, FileFits, HasSpelling, entries_read, entries_to_end, file_read, FileGives};
 ghost use Rattle.jlr_trace.specs.Spellings.{entries_in, AreEntries};
 
 use crate::entry::entry_at;
@@ -199,20 +199,41 @@ fn trace_of<'a>(version: Version, image: Image, count: u64, bytes: &'a [u8]) -> 
     }
 }
 
-#[tactic(auto, unfolding(crate::specs::Files::front_read, crate::specs::Files::file_read))]
-fn all_of_spelled<'a>(alloc: Global, bytes: &'a [u8]) -> Result<SpelledTrace<'a>, TraceFault>
-    ensures exact { FileGives file_text result (file_read bytes.now) }
-    ensures shape { IfOk result (λ f. HasShape (image_of f)) }
+/// How many entries stand behind an image, and where their bytes begin, which go up to the end. Each entry is read once, and let go.
+#[tactic(auto, unfolding(crate::specs::Files::entries_to_end))]
+fn spelled_to_end<'a>(
+    alloc: Global,
+    version: Version,
+    bytes: &'a [u8],
+) -> Result<(u64, &'a [u8]), TraceFault>
+    ensures reads { FileGives (λ x. entries_in version x.0 x.1.now) result (entries_to_end version bytes.now) }
+    ensures entries { IfOk result (λ x. AreEntries version x.0 x.1.now) }
 {
-    let (version, behind_mark) = mark_at(bytes)?;
-    let mut rest = behind_mark;
-    let image = image_in(alloc, version, &mut rest)?;
+    let mut rest = bytes;
     let count = count_in(&mut rest)?;
     let behind = behind_entries(alloc, version, count, rest)?;
     if !behind.is_empty() {
         return Err(TraceFault::BadEntry(count + 1));
     }
-    Ok(trace_of(version, image, count, rest))
+    Ok((count, rest))
+}
+
+/// All of the bytes. The image is let go by a call where the entries have a fault: it has many parts, through which an exit that held it would go.
+#[tactic(auto, unfolding(crate::specs::Files::front_read, crate::specs::Files::file_read))]
+fn all_of_spelled<'a>(alloc: Global, bytes: &'a [u8]) -> Result<SpelledTrace<'a>, TraceFault>
+    ensures exact { FileGives file_text result (file_read bytes.now) }
+    ensures shape { IfOk result (λ f. HasShape (image_of f)) }
+{
+    let (version, behind) = mark_at(bytes)?;
+    let mut rest = behind;
+    let image = image_in(alloc, version, &mut rest)?;
+    match spelled_to_end(alloc, version, rest) {
+        Ok((count, entries)) => Ok(trace_of(version, image, count, entries)),
+        Err(fault) => {
+            drop(image);
+            Err(fault)
+        }
+    }
 }
 
 /// The history that the bytes spell, all of the bytes, with its entries left in them. Each entry is read once for it, and let go.

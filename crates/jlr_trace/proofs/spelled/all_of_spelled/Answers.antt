@@ -1,6 +1,15 @@
-use Rattle.std.proofs.Common.{arith, sym, length}
-use Rattle.std.proofs.lemmas.Bool.{eqb-false}
+use Rattle.std.proofs.Common.{◌∙◌, ap, sym}
+use Rattle.std.specs.Prelude.{Ok}
+use Rattle.jlr_trace.specs.Images.{image_text}
+use Rattle.jlr_trace.specs.Files.{◌>>>◌}
+use Rattle.jlr_trace.proofs.ToEnd.{behind_image, fault_behind, file_with}
 use Rattle.jlr_trace.proofs.spelled.all_of_spelled.Goals as goal
 
-pub overflow_add-result : goal.overflow_add-result
-overflow_add-result c = omega (arith, c.in_ok-behind.ensures.short, eqb-false (length c.in_ok-behind.behind.now) 0 (sym c.if-not-is_empty.ensures))
+pub returns-in-Ok-clause-exact : goal.returns-in-Ok-clause-exact
+returns-in-Ok-clause-exact c =
+    behind_image c.args.bytes.now c.in_ok-version.version c.in_ok-version.behind.now c.image_in.new.bytes.now (image_text c.in_ok-image.image) c.in_ok-version.ensures c.in_ok-image.ensures.reads
+    ∙ ap (λ r. r >>> file_with c.in_ok-version.version (image_text c.in_ok-image.image)) c.in-Ok.ensures.reads ∙ ap Ok (sym c.trace_of.ensures.text)
+
+pub returns-in-Err-clause-exact : goal.returns-in-Err-clause-exact
+returns-in-Err-clause-exact c =
+    fault_behind c.args.bytes.now c.in_ok-version.version c.in_ok-version.behind.now c.image_in.new.bytes.now (image_text c.in_ok-image.image) c.in-Err.fault c.in_ok-version.ensures c.in_ok-image.ensures.reads c.in-Err.ensures.reads
