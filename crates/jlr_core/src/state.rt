@@ -53,9 +53,8 @@ impl<R> State<R> {
         ensures { IfOk result (λ machine. machine ≡ machine_of self.now) }
     {
         let totals = self.cleaner.totals();
+        // What has most parts comes last: the others would go through all of them where they let it go for want of memory.
         Ok(Machine {
-            objects: self.heap.objects_image(alloc)?,
-            mutators: self.heap.mutators_image(alloc)?,
             names: self.heap.names_image(alloc)?,
             pending: self.heap.pending_image(alloc)?,
             line: self.heap.line_image(alloc)?,
@@ -70,6 +69,8 @@ impl<R> State<R> {
             failed: totals.failed,
             cycle_open: self.cycle_open,
             seen: Items::new(alloc),
+            mutators: self.heap.mutators_image(alloc)?,
+            objects: self.heap.objects_image(alloc)?,
         })
     }
 
