@@ -1,8 +1,7 @@
 -- What handles, names and fences hold, and what the fields of what a handle names hold, is in hand; and what is shaded is an object.
-use Rattle.std.proofs.Common.{◌≡◌, ◌++◌, ℕ, zero, suc, cond, inl, inr, IsTrue, true, false, List, [], ◌∷◌, Option, Some, None, slice_get, option_and_then, option_map, is_some, filter_map, find, map, refl, sym, subst, ap, ◌∙◌}
-use Rattle.std.specs.List.{flat_map, cons_option}
+use Rattle.std.proofs.Common.{◌≡◌, ◌++◌, ℕ, zero, suc, cond, inl, inr, IsTrue, true, false, List, [], ◌∷◌, Option, Some, None, option_and_then, option_map, is_some, filter_map, find, map, refl, sym, subst, ap, ◌∙◌}
+use Rattle.std.specs.List.{flat_map}
 use Rattle.std.specs.Option.{option_to_list}
-use Rattle.jlr_types.specs.declared.FieldValue.{FieldValue}
 use Rattle.jlr_types.specs.declared.FieldValue.TheVariants.{Ref}
 use Rattle.jlr_types.specs.declared.FieldKind.{FieldKind}
 use Rattle.jlr_types.specs.declared.FieldKind.TheVariants.{Int as IntField, Ref as RefField}

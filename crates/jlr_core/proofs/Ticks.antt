@@ -11,14 +11,14 @@ use Rattle.jlr_machine.specs.declared.ask.Answer.{Answer}
 use Rattle.jlr_machine.specs.declared.ask.Answer.TheVariants.{Truth}
 use Rattle.jlr_machine.specs.declared.entry.Chosen.{Chosen}
 use Rattle.jlr_machine.specs.declared.entry.Collected.{Collected}
-use Rattle.jlr_machine.specs.Objects.{Heap, ◌∋◌, ◌∈◌}
+use Rattle.jlr_machine.specs.Objects.{Heap, ◌∋◌}
 use Rattle.jlr_laws.proofs.Frames.{no_some}
 use Rattle.jlr_marks.specs.declared.part.Part.{Part}
-use Rattle.jlr_marks.specs.Marking.{Marking, IsMarked, is_marked, marked, place, place_in}
+use Rattle.jlr_marks.specs.Marking.{Marking, is_marked, marked, place, place_in}
 use Rattle.jlr_barrier.specs.Parts.{ticks_at}
 use Rattle.jlr_marker.specs.Following.{keeps}
 use Rattle.jlr_marker.specs.Spending.{by_colour, spent_at, total}
-use Rattle.jlr_marker.specs.Marks.{IsBlackened, MarksOn}
+use Rattle.jlr_marker.specs.Marks.{MarksOn}
 use Rattle.jlr_marker.proofs.Totals.{by_cases, colour_black, colour_grey, colour_white, total_within}
 use Rattle.jlr_event.specs.declared.event.Event.{Event}
 use Rattle.jlr_event.specs.declared.event.Reply.{Reply}

@@ -2,7 +2,7 @@
 use Rattle.std.specs.Prelude.{◌≡◌, ◌<◌, ◌≤◌, ◌^◌, Bool, Option, Some, None, false, length, true}
 use Rattle.jlr_types.specs.declared.Refusal.TheVariants.{NoMemory}
 use Rattle.jlr_event.specs.declared.event.Event.{Event}
-use Rattle.jlr_event.specs.declared.event.Event.TheVariants.{Deref, Drop, Dup, Get, Int, MakeRef, New, Poll, Put, Refers, Same, SetInt}
+use Rattle.jlr_event.specs.declared.event.Event.TheVariants.{CheckIn, CheckOut, Clean, Close, Mark, Opened, TakeUp}
 use Rattle.jlr_machine.specs.declared.machine.Machine.{Machine}
 use Rattle.jlr_machine.specs.declared.ask.Ask.{Ask}
 use Rattle.jlr_machine.specs.declared.ask.Ask.TheVariants.{Prepare, Names, Notes, Faults, Array}
@@ -16,21 +16,16 @@ use Rattle.jlr_marks.specs.Marking.{Marking}
 use Rattle.jlr_resource.specs.Resources.{Resources, resources}
 use Rattle.jlr_core.specs.State.{MeetsAsk, entry_of}
 
--- the asks that come most often: those about objects, their fields and handles, and about references
-abbrev pub is_often : {R : Type 0} → Event R → Bool
-is_often (New k layout) = true
-is_often (Put k h f v) = true
-is_often (Get k h f) = true
-is_often (SetInt k h f n) = true
-is_often (Int k h f) = true
-is_often (Dup k h) = true
-is_often (Drop k h) = true
-is_often (Same k a b) = true
-is_often (MakeRef k kind h q) = true
-is_often (Deref k r) = true
-is_often (Refers k r h) = true
-is_often (Poll k q) = true
-is_often _ = false
+-- an event that carries no resource, neither in nor out, and is no piece of marking
+abbrev pub is_plain : {R : Type 0} → Event R → Bool
+is_plain (Clean k c) = false
+is_plain (Opened k outcome) = false
+is_plain (CheckOut k h) = false
+is_plain (CheckIn k outcome resource) = false
+is_plain (Close k h) = false
+is_plain TakeUp = false
+is_plain (Mark budget) = false
+is_plain _ = true
 
 -- the table has room for one resource more, in a place that has a number
 abbrev pub HasRoom : {R : Type 0} → Resources R → Type 0

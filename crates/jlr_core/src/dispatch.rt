@@ -1,10 +1,10 @@
 //! Which ask an event is.
-ghost use Rattle.std.specs.Prelude.{◌≡◌, ◌≤◌, ◌&&◌, false, length, not, None, Some};
+ghost use Rattle.std.specs.Prelude.{◌≡◌, ◌≤◌, ◌&&◌, length, not, true, None, Some};
 ghost use Rattle.jlr_machine.specs.Choices.{nothing_chosen};
 ghost use Rattle.jlr_machine.specs.WellFormed.{IsWellFormed};
 ghost use Rattle.jlr_core.specs.State.{answer_of};
 ghost use Rattle.jlr_event.specs.Events.{ask_of, answer_in, resource_of_event, resource_of_reply};
-ghost use Rattle.jlr_core.specs.Events.{StepsBy, WantsMemory, is_often};
+ghost use Rattle.jlr_core.specs.Events.{StepsBy, WantsMemory, is_plain};
 ghost use Rattle.jlr_core.specs.Marks.{Begins, BlackensNew, MarksBy, MarksReached, budget_of, has_grey};
 ghost use Rattle.jlr_core.specs.Flows.{Conserves, GoesOut, Moves};
 ghost use Rattle.jlr_core.specs.Steps.{LeavesRoom};
@@ -22,8 +22,7 @@ use jlr_types::Refusal;
 impl<R> State<R> {
     ghost use Rattle.jlr_core.specs.Machines.{machine_of};
 
-    /// One event. Those that sessions ask most often are met here, and all others in a function of their own: a function clears the room of all its
-    /// values when it is entered.
+    /// One event.
     #[tactic(auto, using(crate::proofs::Shading::same_only))]
     pub(crate) fn step(&mut self, event: Event<R>, choice: &mut Choice) -> Reply<R>
         requires fit { IsWellFormed (machine_of self.old) }
@@ -49,99 +48,8 @@ impl<R> State<R> {
         ensures waits { WaitsOn (machine_of self.new) self.old.cleaner self.new.cleaner }
     {
         match event {
-            Event::New { mutator, layout } => { answered(self.new_object(mutator, layout, choice)) }
-            Event::Put {
-                mutator,
-                object,
-                field,
-                value,
-            } => answered(self.put(mutator, object, field, value)),
-            Event::Get {
-                mutator,
-                object,
-                field,
-            } => answered(self.get(mutator, object, field)),
-            Event::SetInt {
-                mutator,
-                object,
-                field,
-                value,
-            } => answered(self.set_int(mutator, object, field, value)),
-            Event::Int {
-                mutator,
-                object,
-                field,
-            } => answered(self.int(mutator, object, field)),
-            Event::Dup { mutator, object } => answered(self.dup(mutator, object)),
-            Event::Drop { mutator, object } => answered(self.drop_handle(mutator, object)),
-            Event::Same {
-                mutator,
-                left,
-                right,
-            } => answered(self.same(mutator, left, right)),
-            Event::MakeRef {
-                mutator,
-                kind,
-                referent,
-                queue,
-            } => answered(self.make_reference(mutator, kind, referent, queue, choice)),
-            Event::Deref { mutator, reference } => answered(self.deref(mutator, reference)),
-            Event::Refers {
-                mutator,
-                reference,
-                object,
-            } => answered(self.refers(mutator, reference, object)),
-            Event::Poll { mutator, queue } => answered(self.poll(mutator, queue)),
-            event => self.step_seldom(event, choice),
-        }
-    }
-
-    /// One event of those that are not asked often.
-    #[inline(never)]
-    #[tactic(auto, using(crate::proofs::Shading::same_only))]
-    fn step_seldom(&mut self, event: Event<R>, choice: &mut Choice) -> Reply<R>
-        requires seldom { is_often event ≡ false }
-        requires fit { IsWellFormed (machine_of self.old) }
-        requires waits { AllWait (machine_of self.old) self.old.cleaner.waiting }
-        requires nothing { choice.old ≡ nothing_chosen choice.old.cells }
-        requires room { length self.old.heap.graph.objects ≤ choice.old.cells }
-        ensures entry { StepsBy (machine_of self.old) self.old.heap.marking (ask_of event) (answer_in result) choice.new.chosen (machine_of self.new) }
-        ensures flow { Conserves (resource_of_event event) self.old.cleaner.table (resource_of_reply result) self.new.cleaner.table }
-        ensures moves { Moves (resource_of_event event) self.old.cleaner.table (resource_of_reply result) self.new.cleaner.table }
-        ensures goes_out { GoesOut self.old.cleaner.table (resource_of_event event) (answer_in result) (resource_of_reply result) }
-        ensures memory { WantsMemory (machine_of self.old) self.old.cleaner.table (ask_of event) (answer_in result) }
-        ensures table_room { LeavesRoom (ask_of event) self.old.cleaner.table self.new.cleaner.table }
-        ensures reached { MarksReached (machine_of self.old) self.old.heap.marking (machine_of self.new) self.new.heap.marking }
-        ensures begins { Begins (ask_of event) (machine_of self.old) (machine_of self.new) self.new.heap.marking }
-        ensures marking { MarksBy (budget_of event) self.old.soft_age self.old.heap.clock (machine_of self.old) self.old.heap.marking self.old.heap.condemned result self.new.heap.marking self.new.heap.condemned }
-        ensures blackens { BlackensNew event (machine_of self.old) self.old.heap.marking choice.new.chosen (machine_of self.new) self.new.heap.marking }
-        ensures collects { ask_of event ≡ Some Ask.Collect → answer_in result ≡ Some (Answer.Truth (self.old.cycle_open && not (has_grey self.old.heap.marking))) }
-        ensures policy { KeepsByPolicy self.old.soft_age self.old.heap.clock (machine_of self.old) self.old.heap.marking (ask_of event) choice.new.chosen }
-        ensures age { self.new.soft_age ≡ self.old.soft_age }
-        ensures clock { self.new.heap.clock ≡ clock_after (machine_of self.old) self.old.heap.clock (ask_of event) (answer_in result) choice.new.chosen }
-        ensures room { choice.new.cells ≡ choice.old.cells }
-        ensures cells { length self.new.heap.graph.objects ≡ length self.old.heap.graph.objects }
-        ensures waits { WaitsOn (machine_of self.new) self.old.cleaner self.new.cleaner }
-    {
-        match event {
-            Event::Join { mutator } => answered(self.join(mutator)),
-            Event::Leave { mutator } => answered(self.leave(mutator)),
-            Event::Clear { mutator, reference } => answered(self.clear(mutator, reference)),
-            Event::Enqueue { mutator, reference } => answered(self.enqueue(mutator, reference)),
-            Event::Enqueued { mutator, reference } => answered(self.enqueued(mutator, reference)),
-            Event::MakeQueue { mutator } => answered(self.make_queue(mutator, choice)),
-            Event::HandOver => answered(Ok(Answer::Handed(self.hand_over()))),
-            Event::Remove { mutator, queue } => answered(self.remove(mutator, queue)),
-            Event::MakeCleaner { mutator } => answered(self.make_cleaner(mutator, choice)),
-            Event::Register {
-                mutator,
-                cleaner,
-                object,
-                note,
-            } => answered(self.register(mutator, cleaner, object, note, choice)),
             Event::Clean { mutator, cleanable } => cleaned(self.clean(mutator, cleanable)),
             Event::Opened { mutator, outcome } => self.opened(mutator, outcome),
-            Event::Prepare { mutator } => answered(self.prepare(mutator, choice)),
             Event::CheckOut { mutator, guard } => self.check_out(mutator, guard),
             Event::CheckIn {
                 mutator,
@@ -149,31 +57,119 @@ impl<R> State<R> {
                 resource,
             } => self.check_in(mutator, outcome, resource),
             Event::Close { mutator, guard } => cleaned(self.close(mutator, guard)),
+            Event::TakeUp => taken_up(self.take_up()),
+            Event::Mark { budget } => Reply::Marked(self.mark(budget)),
+            _ => answered(self.answer(event, choice)),
+        }
+    }
+
+    /// One event of those that carry no resource, neither in nor out, and are no piece of marking.
+    #[inline(always)]
+    #[tactic(auto, using(crate::proofs::Shading::same_only))]
+    fn answer(&mut self, event: Event<R>, choice: &mut Choice) -> Result<Answer, Refusal>
+        requires plain { is_plain event ≡ true }
+        requires fit { IsWellFormed (machine_of self.old) }
+        requires waits { AllWait (machine_of self.old) self.old.cleaner.waiting }
+        requires nothing { choice.old ≡ nothing_chosen choice.old.cells }
+        requires room { length self.old.heap.graph.objects ≤ choice.old.cells }
+        ensures entry { StepsBy (machine_of self.old) self.old.heap.marking (ask_of event) (Some (answer_of result)) choice.new.chosen (machine_of self.new) }
+        ensures flow { Conserves (resource_of_event event) self.old.cleaner.table None self.new.cleaner.table }
+        ensures moves { Moves (resource_of_event event) self.old.cleaner.table None self.new.cleaner.table }
+        ensures goes_out { GoesOut self.old.cleaner.table (resource_of_event event) (Some (answer_of result)) None }
+        ensures memory { WantsMemory (machine_of self.old) self.old.cleaner.table (ask_of event) (Some (answer_of result)) }
+        ensures table_room { LeavesRoom (ask_of event) self.old.cleaner.table self.new.cleaner.table }
+        ensures reached { MarksReached (machine_of self.old) self.old.heap.marking (machine_of self.new) self.new.heap.marking }
+        ensures begins { Begins (ask_of event) (machine_of self.old) (machine_of self.new) self.new.heap.marking }
+        ensures blackens { BlackensNew event (machine_of self.old) self.old.heap.marking choice.new.chosen (machine_of self.new) self.new.heap.marking }
+        ensures collects { ask_of event ≡ Some Ask.Collect → Some (answer_of result) ≡ Some (Answer.Truth (self.old.cycle_open && not (has_grey self.old.heap.marking))) }
+        ensures policy { KeepsByPolicy self.old.soft_age self.old.heap.clock (machine_of self.old) self.old.heap.marking (ask_of event) choice.new.chosen }
+        ensures age { self.new.soft_age ≡ self.old.soft_age }
+        ensures clock { self.new.heap.clock ≡ clock_after (machine_of self.old) self.old.heap.clock (ask_of event) (Some (answer_of result)) choice.new.chosen }
+        ensures room { choice.new.cells ≡ choice.old.cells }
+        ensures cells { length self.new.heap.graph.objects ≡ length self.old.heap.graph.objects }
+        ensures waits { WaitsOn (machine_of self.new) self.old.cleaner self.new.cleaner }
+    {
+        match event {
+            Event::Join { mutator } => self.join(mutator),
+            Event::Leave { mutator } => self.leave(mutator),
+            Event::New { mutator, layout } => self.new_object(mutator, layout, choice),
+            Event::Put {
+                mutator,
+                object,
+                field,
+                value,
+            } => self.put(mutator, object, field, value),
+            Event::Get {
+                mutator,
+                object,
+                field,
+            } => self.get(mutator, object, field),
+            Event::SetInt {
+                mutator,
+                object,
+                field,
+                value,
+            } => self.set_int(mutator, object, field, value),
+            Event::Int {
+                mutator,
+                object,
+                field,
+            } => self.int(mutator, object, field),
+            Event::Dup { mutator, object } => self.dup(mutator, object),
+            Event::Drop { mutator, object } => self.drop_handle(mutator, object),
+            Event::Same {
+                mutator,
+                left,
+                right,
+            } => self.same(mutator, left, right),
+            Event::MakeRef {
+                mutator,
+                kind,
+                referent,
+                queue,
+            } => self.make_reference(mutator, kind, referent, queue, choice),
+            Event::Deref { mutator, reference } => self.deref(mutator, reference),
+            Event::Refers {
+                mutator,
+                reference,
+                object,
+            } => self.refers(mutator, reference, object),
+            Event::Clear { mutator, reference } => self.clear(mutator, reference),
+            Event::Enqueue { mutator, reference } => self.enqueue(mutator, reference),
+            Event::Enqueued { mutator, reference } => self.enqueued(mutator, reference),
+            Event::MakeQueue { mutator } => self.make_queue(mutator, choice),
+            Event::Poll { mutator, queue } => self.poll(mutator, queue),
+            Event::HandOver => Ok(Answer::Handed(self.hand_over())),
+            Event::Remove { mutator, queue } => self.remove(mutator, queue),
+            Event::MakeCleaner { mutator } => self.make_cleaner(mutator, choice),
+            Event::Register {
+                mutator,
+                cleaner,
+                object,
+                note,
+            } => self.register(mutator, cleaner, object, note, choice),
+            Event::Prepare { mutator } => self.prepare(mutator, choice),
             Event::Finish {
                 by,
                 action,
                 outcome,
-            } => answered(self.finish(by, action, outcome)),
+            } => self.finish(by, action, outcome),
             Event::Bind {
                 mutator,
                 name,
                 object,
-            } => answered(self.bind(mutator, &name, object)),
-            Event::Find { mutator, name } => answered(self.find(mutator, &name)),
-            Event::Unbind { mutator, name } => answered(self.unbind(mutator, &name)),
-            Event::Names { mutator } => answered(self.names(mutator)),
-            Event::Full { mutator, mode } => answered(self.full(mutator, mode, choice)),
-            Event::Stat { mutator } => answered(self.stat(mutator)),
-            Event::Notes { mutator } => answered(self.notes(mutator)),
-            Event::Faults { mutator } => answered(self.faults(mutator)),
-            Event::TakeUp => taken_up(self.take_up()),
-            Event::Begin => answered(Ok(Answer::Truth(self.begin()))),
-            Event::Collect => answered(Ok(Answer::Truth(self.collect_cycle(choice)))),
-            Event::Abandon => answered(Ok(Answer::Truth(self.abandon()))),
-            Event::Array { mutator, length } => {
-                answered(self.new_array(mutator, length, choice))
-            }
-            Event::Mark { budget } => Reply::Marked(self.mark(budget)),
+            } => self.bind(mutator, &name, object),
+            Event::Find { mutator, name } => self.find(mutator, &name),
+            Event::Unbind { mutator, name } => self.unbind(mutator, &name),
+            Event::Names { mutator } => self.names(mutator),
+            Event::Full { mutator, mode } => self.full(mutator, mode, choice),
+            Event::Stat { mutator } => self.stat(mutator),
+            Event::Notes { mutator } => self.notes(mutator),
+            Event::Faults { mutator } => self.faults(mutator),
+            Event::Begin => Ok(Answer::Truth(self.begin())),
+            Event::Collect => Ok(Answer::Truth(self.collect_cycle(choice))),
+            Event::Abandon => Ok(Answer::Truth(self.abandon())),
+            Event::Array { mutator, length } => self.new_array(mutator, length, choice),
             _ => unreachable!(),
         }
     }

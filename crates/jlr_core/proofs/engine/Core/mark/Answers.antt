@@ -1,4 +1,4 @@
-use Rattle.std.proofs.Common.{rules, ◌≡◌, None, Some, length, refl, sym, subst, ap}
+use Rattle.std.proofs.Common.{rules, None, Some, length, refl, sym, subst, ap}
 use Rattle.jlr_machine.specs.declared.machine.Machine.{Machine}
 use Rattle.jlr_machine.specs.declared.ask.Ask.TheVariants.{Begin}
 use Rattle.jlr_laws.proofs.Frames.{no_some}

@@ -8,7 +8,7 @@ use Rattle.jlr_core.specs.Marks.{MarksPiece, MarksReached}
 use Rattle.jlr_core.specs.State.{machine_with}
 use Rattle.jlr_core.proofs.Frames.{frame_of}
 use Rattle.jlr_core.proofs.Roots.{rooted}
-use Rattle.jlr_core.proofs.Beginning.{piece_in_cycle, piece_outside, piece_reached}
+use Rattle.jlr_core.proofs.Beginning.{piece_in_cycle, piece_reached}
 use Rattle.jlr_core.proofs.state.State.mark.Goals as goal
 
 pub mark-requires-clause-objects : goal.mark-requires-clause-objects
