@@ -124,13 +124,21 @@ fn outcome_of(verdict: Verdict) -> Result<(), ProgramFault> {
     }
 }
 
+/// Why the history that the bytes spell is not legal, in one sentence; none where it is.
+fn why_illegal(alloc: Global, bytes: &[u8]) -> Result<Option<String>, ProgramFault> {
+    match spelled_trace(alloc, bytes) {
+        Ok(trace) => {
+            let why = explained(alloc, &trace);
+            drop(trace);
+            Ok(why?)
+        }
+        Err(fault) => Err(damage_of(fault)),
+    }
+}
+
 /// Writes why a history is not legal, as one line.
 fn explain(alloc: Global, writer: &mut impl Write, bytes: &[u8]) -> Result<(), ProgramFault> {
-    let trace = match spelled_trace(alloc, bytes) {
-        Ok(trace) => trace,
-        Err(fault) => return Err(damage_of(fault)),
-    };
-    let Some(why) = explained(alloc, &trace)? else {
+    let Some(why) = why_illegal(alloc, bytes)? else {
         return Ok(());
     };
     let line = format!(in alloc; "{why}\n")?;

@@ -1,5 +1,5 @@
 //! The machine that a collection leaves.
-ghost use Rattle.std.specs.Prelude.{◌≡◌, ◌++◌, cond, option_map, None, IfOk};
+ghost use Rattle.std.specs.Prelude.{◌≡◌, ◌++◌, cond, false, option_map, None, IfOk, []};
 ghost use Rattle.jlr_machine.specs.Objects.{◌∋◌};
 ghost use Rattle.jlr_machine.specs.Collection.{is_kept_referent, left_of, places_left, after_collection};
 ghost use Rattle.jlr_machine.specs.Run.{with_collection};
@@ -109,19 +109,50 @@ fn pending_with(alloc: Global, old: &[Slot], more: &[Slot]) -> Result<Items<Slot
     Ok(Items::from_vec(out))
 }
 
-/// The machine that a collection leaves.
+/// What a collection kept, what it put behind the pending list, and the pending list that it leaves.
+fn lists_of(
+    alloc: Global,
+    machine: &Machine,
+    c: &Collected,
+) -> Result<(SlotList, SlotList, Items<Slot>), AllocError>
+    ensures { IfOk result (λ x. (x.0 ≡ c.now.kept) × (x.1 ≡ c.now.pending) × (x.2 ≡ machine.now.pending ++ c.now.pending)) }
+{
+    let cells = machine.objects.len();
+    let kept = SlotList::from_vec(alloc, cells, c.kept.to_vec(alloc)?)?;
+    let listed = SlotList::from_vec(alloc, cells, copy_slice(alloc, c.pending.as_slice())?)?;
+    let pending = pending_with(alloc, machine.pending.as_slice(), c.pending.as_slice())?;
+    Ok((kept, listed, pending))
+}
+
+/// The machine that is left, where so much is kept and listed.
+fn left_by(
+    alloc: Global,
+    machine: Machine,
+    kept: &SlotList,
+    listed: &SlotList,
+    pending: Items<Slot>,
+) -> Machine
+    ensures { result ≡ record machine { objects = places_left kept.now listed.now 0 machine.objects; pending = pending; cycle_open = false; seen = [] } }
+{
+    let mut next = machine;
+    next.pending = pending;
+    next.objects = objects_left(kept, listed, next.objects);
+    next.cycle_open = false;
+    next.seen = Items::new(alloc);
+    next
+}
+
+/// The machine that a collection leaves. The one before is let go by a call where there is no memory: it has many parts.
 fn collected(alloc: Global, machine: Machine, c: &Collected) -> Result<Machine, AllocError>
     ensures { IfOk result (λ n. n ≡ after_collection machine c.now.kept c.now.pending) }
 {
-    let mut next = machine;
-    let cells = next.objects.len();
-    let kept = SlotList::from_vec(alloc, cells, c.kept.to_vec(alloc)?)?;
-    let listed = SlotList::from_vec(alloc, cells, copy_slice(alloc, c.pending.as_slice())?)?;
-    next.pending = pending_with(alloc, next.pending.as_slice(), c.pending.as_slice())?;
-    next.objects = objects_left(&kept, &listed, next.objects);
-    next.cycle_open = false;
-    next.seen = Items::new(alloc);
-    Ok(next)
+    match lists_of(alloc, &machine, c) {
+        Ok((kept, listed, pending)) => Ok(left_by(alloc, machine, &kept, &listed, pending)),
+        Err(fault) => {
+            drop(machine);
+            Err(fault)
+        }
+    }
 }
 
 /// The machine in which an ask is carried out, after its collection, where there was one. The machine is given up for it.

@@ -226,7 +226,13 @@ fn are_served<T: Threads + Wait + Sync>(
 
 /// Whether there is a book, which is let go.
 fn has_book<R: Drop>(served: Result<Served<R>, ServeFault>) -> bool {
-    served.is_ok()
+    match served {
+        Ok(Served { book, .. }) => {
+            drop(book);
+            true
+        }
+        Err(_) => false,
+    }
 }
 
 #[test]
