@@ -450,6 +450,7 @@ impl Objects {
     /// Visits the object at a slot: one tick. Gives its strong edges, but those of a queue to its members: it lends the links of a
     /// plain object with fields, whose cell it does not read, or the elements of an array, and tells the queue that a reference may still be
     /// added to, or a guard's cleanable.
+    #[inline(always)]
     pub fn visit(&self, slot: Slot, meter: &mut Meter) -> Visited<'_>
         requires object { IsTrue (is_some (at self.now.objects slot)) }
         requires ticks { meter.old + 1 < 2 ^ 64 }
