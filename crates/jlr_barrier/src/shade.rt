@@ -84,8 +84,8 @@ fn shade_far(links: Option<&Links>, marks: &mut Marks)
     }
 }
 
-/// How many elements from a place on, at most `count`, refer to nothing or to what is marked, up to the first that does not; of the first `known` nothing
-/// is asked. It writes nothing: in a heap of arrays nearly all elements lead to what is marked.
+/// How many elements from a place on, at most `count`, refer to nothing or to what is marked, up to the first that does not; of the first
+/// `known` nothing is asked. It writes nothing: in a heap of arrays nearly all elements lead to what is marked.
 fn marked_run(elements: &Elements, from: usize, known: usize, count: usize, marks: &Marks) -> usize
     requires few { length elements.now ≤ 4096 }
     requires there { (known ≤ count) × (count ≤ length elements.now - from) }
@@ -225,15 +225,16 @@ fn note(cells: &Objects, slot: Slot, plain: bool, marks: &mut Marks)
     }
 }
 
-/// An object at a slot is discovered, if it refers to one that is not marked. It stands apart from the following of plain objects with fields, which
-/// are nearly all that a heap holds.
+/// An object at a slot is discovered, if it refers to one that is not marked. It stands apart from the following of plain objects with
+/// fields, which are nearly all that a heap holds.
 #[inline(never)]
 fn note_referent(cells: &Objects, slot: Slot, marks: &mut Marks)
     requires room { length marks.old.grey + length marks.old.discovered < marked marks.old }
     requires within { (x : ℕ) → RefersTo cells.now.objects slot x → x < length marks.old.bits }
     ensures bits { marks.new.bits ≡ marks.old.bits }
     ensures grey { marks.new.grey ≡ marks.old.grey }
-    ensures discovered { marks.new.discovered ≡ marks.old.discovered ++ cond (some_and (awaits marks.old) (at cells.now.objects slot)) (slot ∷ []) [] }
+    ensures discovered { marks.new.discovered
+        ≡ marks.old.discovered ++ cond (some_and (awaits marks.old) (at cells.now.objects slot)) (slot ∷ []) [] }
     ensures part { marks.new.part ≡ marks.old.part }
 {
     let Some(referent) = any_referent(cells, slot) else {

@@ -72,7 +72,8 @@ impl<R> State<R> {
         requires waits { AllWait (machine_of self.old) self.old.cleaner.waiting }
         requires nothing { choice.old ≡ nothing_chosen choice.old.cells }
         requires room { length self.old.heap.graph.objects ≤ choice.old.cells }
-        ensures entry { StepsBy (machine_of self.old) self.old.heap.marking (ask_of event) (Some (answer_of result)) choice.new.chosen (machine_of self.new) }
+        ensures entry { StepsBy (machine_of self.old) self.old.heap.marking (ask_of event)
+            (Some (answer_of result)) choice.new.chosen (machine_of self.new) }
         ensures flow { Conserves (resource_of_event event) self.old.cleaner.table None self.new.cleaner.table }
         ensures moves { Moves (resource_of_event event) self.old.cleaner.table None self.new.cleaner.table }
         ensures goes_out { GoesOut self.old.cleaner.table (resource_of_event event) (Some (answer_of result)) None }
@@ -80,11 +81,15 @@ impl<R> State<R> {
         ensures table_room { LeavesRoom (ask_of event) self.old.cleaner.table self.new.cleaner.table }
         ensures reached { MarksReached (machine_of self.old) self.old.heap.marking (machine_of self.new) self.new.heap.marking }
         ensures begins { Begins (ask_of event) (machine_of self.old) (machine_of self.new) self.new.heap.marking }
-        ensures blackens { BlackensNew event (machine_of self.old) self.old.heap.marking choice.new.chosen (machine_of self.new) self.new.heap.marking }
-        ensures collects { ask_of event ≡ Some Ask.Collect → Some (answer_of result) ≡ Some (Answer.Truth (self.old.cycle_open && not (has_grey self.old.heap.marking))) }
-        ensures policy { KeepsByPolicy self.old.soft_age self.old.heap.clock (machine_of self.old) self.old.heap.marking (ask_of event) choice.new.chosen }
+        ensures blackens { BlackensNew event (machine_of self.old) self.old.heap.marking choice.new.chosen
+            (machine_of self.new) self.new.heap.marking }
+        ensures collects { ask_of event ≡ Some Ask.Collect
+            → answer_of result ≡ Answer.Truth (self.old.cycle_open && not (has_grey self.old.heap.marking)) }
+        ensures policy { KeepsByPolicy self.old.soft_age self.old.heap.clock (machine_of self.old) self.old.heap.marking
+            (ask_of event) choice.new.chosen }
         ensures age { self.new.soft_age ≡ self.old.soft_age }
-        ensures clock { self.new.heap.clock ≡ clock_after (machine_of self.old) self.old.heap.clock (ask_of event) (Some (answer_of result)) choice.new.chosen }
+        ensures clock { self.new.heap.clock ≡ clock_after (machine_of self.old) self.old.heap.clock (ask_of event)
+            (Some (answer_of result)) choice.new.chosen }
         ensures room { choice.new.cells ≡ choice.old.cells }
         ensures cells { length self.new.heap.graph.objects ≡ length self.old.heap.graph.objects }
         ensures waits { WaitsOn (machine_of self.new) self.old.cleaner self.new.cleaner }

@@ -132,7 +132,12 @@ fn left_by(
     listed: &SlotList,
     pending: Items<Slot>,
 ) -> Machine
-    ensures { result ≡ record machine { objects = places_left kept.now listed.now 0 machine.objects; pending = pending; cycle_open = false; seen = [] } }
+    ensures { result ≡ record machine {
+      objects = places_left kept.now listed.now 0 machine.objects;
+      pending = pending;
+      cycle_open = false;
+      seen = [];
+    } }
 {
     let mut next = machine;
     next.pending = pending;

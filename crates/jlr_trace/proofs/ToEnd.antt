@@ -8,7 +8,8 @@ use Rattle.jlr_fields.specs.declared.version.Version.{Version}
 use Rattle.jlr_trace.specs.declared.file.TraceFault.{TraceFault}
 use Rattle.jlr_trace.specs.declared.file.TraceFault.TheVariants.{BadEntry, BadMark, BadVersion, NoMemory, Truncated}
 use Rattle.jlr_trace.specs.Images.{ImageText, image_read}
-use Rattle.jlr_trace.specs.Files.{FileFails, FileText, entries_read, entries_to_end, file_read, front_read, in_entry, mark_read, ◌>>>◌}
+use Rattle.jlr_trace.specs.Files.{FileFails, FileText, entries_read, file_read, front_read, in_entry, mark_read, ◌>>>◌}
+use Rattle.jlr_trace.specs.ToEnd.{entries_to_end}
 
 abbrev put_together : Version → ImageText → List Entry × List ℕ → Result (FileText × List ℕ) TraceFault
 put_together v image es = Ok (record { version = v; image = image; entries = es.0 }, es.1)
@@ -40,27 +41,34 @@ module _ (v : Version) (image : ImageText) where
   after_end es false = refl
 
   -- the end of the bytes is looked for before or after the file is put together
-  after_entries : (r : Result (List Entry × List ℕ) TraceFault) → ((r >>> put_together v image) >>> file_ended) ≡ ((r >>> entries_ended) >>> file_with v image)
+  after_entries : (r : Result (List Entry × List ℕ) TraceFault) →
+      ((r >>> put_together v image) >>> file_ended) ≡ ((r >>> entries_ended) >>> file_with v image)
   after_entries (Err e) = refl
   after_entries (Ok es) = after_end es (length es.1 == 0)
 
   after_count : (r : Result (ℕ × List ℕ) TraceFault) →
-      ((r >>> λ count. entries_counted v count >>> put_together v image) >>> file_ended) ≡ ((r >>> λ count. entries_counted v count >>> entries_ended) >>> file_with v image)
+      ((r >>> λ count. entries_counted v count >>> put_together v image) >>> file_ended)
+      ≡ ((r >>> λ count. entries_counted v count >>> entries_ended) >>> file_with v image)
   after_count (Err e) = refl
   after_count (Ok count) = after_entries (entries_counted v count)
 
--- behind a mark and an image, a file is what its entries to the end make of it
-pub behind_image : (bytes : List ℕ) (v : Version) (rest behind : List ℕ) (image : ImageText) → mark_read bytes ≡ Ok (v, rest) → in_entry 0 (image_read v rest) ≡ Ok (image, behind) →
-    file_read bytes ≡ (entries_to_end v behind >>> file_with v image)
-unfolding file_read front_read entries_to_end
-behind_image bytes v rest behind image marked imaged =
-    ap (λ m. (m >>> behind_its_mark) >>> file_ended) marked ∙ ap (λ i. (i >>> behind_its_image v) >>> file_ended) imaged ∙ after_count v image (in_entry 0 (number_at w64 behind))
+module _ (bytes : List ℕ) (v : Version) (rest behind : List ℕ) (image : ImageText)
+    (marked : mark_read bytes ≡ Ok (v, rest)) (imaged : in_entry 0 (image_read v rest) ≡ Ok (image, behind)) where
+  -- behind a mark and an image, a file is what its entries to the end make of it
+  pub behind_image : file_read bytes ≡ (entries_to_end v behind >>> file_with v image)
+  unfolding file_read front_read entries_to_end
+  behind_image =
+      ap (λ m. (m >>> behind_its_mark) >>> file_ended) marked
+      ∙ ap (λ i. (i >>> behind_its_image v) >>> file_ended) imaged
+      ∙ after_count v image (in_entry 0 (number_at w64 behind))
 
--- its fault is that of its entries
-pub fault_behind : (bytes : List ℕ) (v : Version) (rest behind : List ℕ) (image : ImageText) (fault : TraceFault) → mark_read bytes ≡ Ok (v, rest) → in_entry 0 (image_read v rest) ≡ Ok (image, behind) →
-    FileFails fault (entries_to_end v behind) → FileFails fault (file_read bytes)
-fault_behind bytes v rest behind image NoMemory marked imaged h = h
-fault_behind bytes v rest behind image Truncated marked imaged h = behind_image bytes v rest behind image marked imaged ∙ ap (λ r. r >>> file_with v image) h
-fault_behind bytes v rest behind image BadMark marked imaged h = behind_image bytes v rest behind image marked imaged ∙ ap (λ r. r >>> file_with v image) h
-fault_behind bytes v rest behind image BadVersion marked imaged h = behind_image bytes v rest behind image marked imaged ∙ ap (λ r. r >>> file_with v image) h
-fault_behind bytes v rest behind image (BadEntry k) marked imaged h = behind_image bytes v rest behind image marked imaged ∙ ap (λ r. r >>> file_with v image) h
+  -- its fault is that of its entries
+  fails : (fault : TraceFault) → entries_to_end v behind ≡ Err fault → file_read bytes ≡ Err fault
+  fails fault h = behind_image ∙ ap (λ r. r >>> file_with v image) h
+
+  pub fault_behind : (fault : TraceFault) → FileFails fault (entries_to_end v behind) → FileFails fault (file_read bytes)
+  fault_behind NoMemory h = h
+  fault_behind Truncated h = fails Truncated h
+  fault_behind BadMark h = fails BadMark h
+  fault_behind BadVersion h = fails BadVersion h
+  fault_behind (BadEntry k) h = fails (BadEntry k) h

@@ -87,12 +87,6 @@ unfoldable pub entries_read : Version → ℕ → ℕ → List ℕ → Result (L
 entries_read version number zero bytes = Ok ([], bytes)
 entries_read version number (suc n) bytes = in_entry number (entry_read version bytes) >>> λ first. entries_read version (suc number) n first.1 >>> λ others. Ok (first.0 ∷ others.0, others.1)
 
--- the entries behind an image, up to the end of the bytes: their count, and so many; what stands behind them is a fault behind the last entry
-unfoldable pub entries_to_end : Version → List ℕ → Result (List Entry) TraceFault
-entries_to_end version bytes =
-    in_entry 0 (number_at w64 bytes) >>> λ count. entries_read version 1 count.0 count.1
-    >>> λ entries. if length entries.1 == 0 then Ok entries.0 else Err (BadEntry (length entries.0 + 1))
-
 -- a file at the front of the bytes, and the bytes behind it
 unfoldable pub front_read : List ℕ → Result (FileText × List ℕ) TraceFault
 front_read bytes =

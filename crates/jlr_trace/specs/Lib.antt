@@ -2,6 +2,7 @@ pub mod Choices
 pub mod Entries
 pub mod Images
 pub mod Files
+pub mod ToEnd
 pub mod Versions
 pub mod Writing
 pub mod Spellings

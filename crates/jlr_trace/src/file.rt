@@ -6,7 +6,8 @@ ghost use Rattle.jlr_fields.specs.declared.version.Version.TheVariants.{One, Two
 ghost use Rattle.jlr_trace.specs.declared.file.TraceFault.TheVariants.{NoMemory};
 ghost use Rattle.jlr_trace.specs.declared.file.TraceFile.{TraceFile as TraceFileOf};
 ghost use Rattle.jlr_trace.specs.Images.{image_text, image_read, HasShape};
-ghost use Rattle.jlr_trace.specs.Files.{FileText, image_of, file_text, spelled_file, FileFits, HasSpelling, told, expected, version_read, mark_read, in_entry, entries_read, entries_to_end, file_read, FileGives, FileReads};
+ghost use Rattle.jlr_trace.specs.Files.{FileText, image_of, file_text, spelled_file, FileFits, HasSpelling, told, expected, version_read, mark_read, in_entry, entries_read, file_read, FileGives, FileReads};
+ghost use Rattle.jlr_trace.specs.ToEnd.{entries_to_end};
 ghost use Rattle.jlr_trace.specs.Versions.{fits_version_1, in_version};
 
 use crate::entry::entry_at;
@@ -177,7 +178,7 @@ fn file_of(version: Version, image: Image, entries: Vec<Entry>) -> TraceFile
 }
 
 /// The entries behind an image, up to the end of the bytes.
-#[tactic(auto, unfolding(crate::specs::Files::entries_to_end))]
+#[tactic(auto, unfolding(crate::specs::ToEnd::entries_to_end))]
 fn entries_to_end(
     alloc: Global,
     version: Version,
@@ -193,7 +194,8 @@ fn entries_to_end(
     Ok(entries)
 }
 
-/// All of the bytes. The image is let go by a call where the entries have a fault: it has many parts, through which an exit that held it would go.
+/// All of the bytes. The image is let go by a call where the entries have a fault: it has many parts, through which an exit that held it
+/// would go.
 #[tactic(auto, unfolding(crate::specs::Files::front_read, crate::specs::Files::file_read))]
 fn all_of(alloc: Global, bytes: &[u8]) -> Result<TraceFile, TraceFault>
     ensures exact { FileGives file_text result (file_read bytes.now) }

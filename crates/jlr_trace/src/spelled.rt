@@ -3,7 +3,8 @@ ghost use Rattle.std.specs.Prelude.{◌≡◌, [], ◌∷◌, ◌-◌, ◌+◌, 
 ghost use Rattle.jlr_fields.specs.declared.fault.ReadError.TheVariants.{Memory};
 ghost use Rattle.jlr_trace.specs.declared.file.TraceFile.{TraceFile as TraceFileOf};
 ghost use Rattle.jlr_trace.specs.Images.{image_text, HasShape};
-ghost use Rattle.jlr_trace.specs.Files.{FileText, image_of, file_text, spelled_file, FileFits, HasSpelling, entries_read, entries_to_end, file_read, FileGives};
+ghost use Rattle.jlr_trace.specs.Files.{FileText, image_of, file_text, spelled_file, FileFits, HasSpelling, entries_read, file_read, FileGives};
+ghost use Rattle.jlr_trace.specs.ToEnd.{entries_to_end};
 ghost use Rattle.jlr_trace.specs.Spellings.{entries_in, AreEntries};
 
 use crate::entry::entry_at;
@@ -200,7 +201,7 @@ fn trace_of<'a>(version: Version, image: Image, count: u64, bytes: &'a [u8]) -> 
 }
 
 /// How many entries stand behind an image, and where their bytes begin, which go up to the end. Each entry is read once, and let go.
-#[tactic(auto, unfolding(crate::specs::Files::entries_to_end))]
+#[tactic(auto, unfolding(crate::specs::ToEnd::entries_to_end))]
 fn spelled_to_end<'a>(
     alloc: Global,
     version: Version,
@@ -218,7 +219,8 @@ fn spelled_to_end<'a>(
     Ok((count, rest))
 }
 
-/// All of the bytes. The image is let go by a call where the entries have a fault: it has many parts, through which an exit that held it would go.
+/// All of the bytes. The image is let go by a call where the entries have a fault: it has many parts, through which an exit that held it
+/// would go.
 #[tactic(auto, unfolding(crate::specs::Files::front_read, crate::specs::Files::file_read))]
 fn all_of_spelled<'a>(alloc: Global, bytes: &'a [u8]) -> Result<SpelledTrace<'a>, TraceFault>
     ensures exact { FileGives file_text result (file_read bytes.now) }

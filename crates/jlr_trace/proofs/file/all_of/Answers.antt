@@ -7,9 +7,14 @@ use Rattle.jlr_trace.proofs.file.all_of.Goals as goal
 
 pub returns-in-Ok-clause-exact : goal.returns-in-Ok-clause-exact
 returns-in-Ok-clause-exact c =
-    behind_image c.args.bytes.now c.in_ok-version.version c.in_ok-version.behind.now c.image_in.new.bytes.now (image_text c.in_ok-image.image) c.in_ok-version.ensures c.in_ok-image.ensures.reads
-    ∙ ap (λ r. r >>> file_with c.in_ok-version.version (image_text c.in_ok-image.image)) c.in-Ok.ensures ∙ ap Ok (sym c.file_of.ensures.text)
+    let v = c.in_ok-version.version in
+    let image = image_text c.in_ok-image.image in
+    behind_image c.args.bytes.now v c.in_ok-version.behind.now c.image_in.new.bytes.now image c.in_ok-version.ensures c.in_ok-image.ensures.reads
+    ∙ ap (λ r. r >>> file_with v image) c.in-Ok.ensures
+    ∙ ap Ok (sym c.file_of.ensures.text)
 
 pub returns-in-Err-clause-exact : goal.returns-in-Err-clause-exact
 returns-in-Err-clause-exact c =
-    fault_behind c.args.bytes.now c.in_ok-version.version c.in_ok-version.behind.now c.image_in.new.bytes.now (image_text c.in_ok-image.image) c.in-Err.fault c.in_ok-version.ensures c.in_ok-image.ensures.reads c.in-Err.ensures
+    let image = image_text c.in_ok-image.image in
+    fault_behind c.args.bytes.now c.in_ok-version.version c.in_ok-version.behind.now c.image_in.new.bytes.now image
+    c.in_ok-version.ensures c.in_ok-image.ensures.reads c.in-Err.fault c.in-Err.ensures
