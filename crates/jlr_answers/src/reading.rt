@@ -38,10 +38,10 @@ fn int_answer(bytes: &mut &[u8]) -> Result<Answer, ReadError>
     Ok(Answer::Int(body))
 }
 
-fn data_answer(bytes: &mut &[u8]) -> Result<Answer, ReadError>
+fn data_answer(alloc: Global, bytes: &mut &[u8]) -> Result<Answer, ReadError>
     ensures { Reads (λ x. x) result bytes.new.now (body_of TagData bytes.old.now) }
 {
-    let body = take_data(bytes)?;
+    let body = take_data(alloc, bytes)?;
     Ok(Answer::Data(body))
 }
 
@@ -134,7 +134,7 @@ pub fn take_answer(alloc: Global, bytes: &mut &[u8]) -> Result<Answer, ReadError
         Tag::Handle => handle_answer(bytes),
         Tag::Truth => truth_answer(bytes),
         Tag::Int => int_answer(bytes),
-        Tag::Data => data_answer(bytes),
+        Tag::Data => data_answer(alloc, bytes),
         Tag::Wrote => wrote_answer(bytes),
         Tag::Faulted => faulted_answer(bytes),
         Tag::Names => names_answer(alloc, bytes),

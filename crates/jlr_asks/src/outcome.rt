@@ -12,7 +12,7 @@ use jlr_machine::ask::{CallOutcome, FullMode, Outcome};
 use jlr_machine::text::WriteCount;
 use jlr_parts::tables::{put_fault, take_fault};
 use jlr_types::Fault;
-use std::alloc::AllocError;
+use std::alloc::{AllocError, Global};
 
 /// How an open or a job ended.
 pub(crate) fn outcome_at(bytes: &mut &[u8]) -> Result<Outcome, ReadError>
@@ -39,13 +39,13 @@ pub(crate) fn put_outcome(out: &mut Vec<u8>, outcome: Outcome) -> Result<(), All
 
 /// How a call on a resource ended.
 #[tactic(auto, unfolding(crate::specs::Asks::call_outcome_read))]
-pub(crate) fn call_outcome_at(bytes: &mut &[u8]) -> Result<CallOutcome, ReadError>
+pub(crate) fn call_outcome_at(alloc: Global, bytes: &mut &[u8]) -> Result<CallOutcome, ReadError>
     ensures { Reads (λ x. x) result bytes.new.now (call_outcome_read bytes.old.now) }
 {
     let kind = take_u8(bytes)?;
     match kind {
         0 => {
-            let text = take_data(bytes)?;
+            let text = take_data(alloc, bytes)?;
             Ok(CallOutcome::Data(text))
         }
         1 => {

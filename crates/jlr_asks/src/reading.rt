@@ -17,6 +17,7 @@ use jlr_fields::fault::{Fault, ReadError};
 use jlr_fields::version::Version;
 use jlr_machine::ask::Ask;
 use jlr_parts::tables::take_ref_kind;
+use std::alloc::Global;
 
 fn join_at(bytes: &mut &[u8]) -> Result<Ask, ReadError>
     ensures { Reads (λ x. x) result bytes.new.now (one_field byte_at Join bytes.old.now) }
@@ -261,11 +262,11 @@ fn check_out_at(bytes: &mut &[u8]) -> Result<Ask, ReadError>
     Ok(Ask::CheckOut { mutator, guard })
 }
 
-fn check_in_at(bytes: &mut &[u8]) -> Result<Ask, ReadError>
+fn check_in_at(alloc: Global, bytes: &mut &[u8]) -> Result<Ask, ReadError>
     ensures { Reads (λ x. x) result bytes.new.now (two_fields byte_at call_outcome_read CheckIn bytes.old.now) }
 {
     let mutator = take_mutator(bytes)?;
-    let outcome = call_outcome_at(bytes)?;
+    let outcome = call_outcome_at(alloc, bytes)?;
     Ok(Ask::CheckIn { mutator, outcome })
 }
 
@@ -371,7 +372,7 @@ fn array_at(version: Version, bytes: &mut &[u8]) -> Result<Ask, ReadError>
 
 /// An ask from the front: its number, and its fields.
 #[tactic(auto, unfolding(crate::specs::Asks::ask_read))]
-pub fn take_ask(version: Version, bytes: &mut &[u8]) -> Result<Ask, ReadError>
+pub fn take_ask(alloc: Global, version: Version, bytes: &mut &[u8]) -> Result<Ask, ReadError>
     ensures { Reads (λ x. x) result bytes.new.now (ask_read version bytes.old.now) }
 {
     let tag = tag_at(bytes)?;
@@ -401,7 +402,7 @@ pub fn take_ask(version: Version, bytes: &mut &[u8]) -> Result<Ask, ReadError>
         Tag::Prepare => prepare_at(bytes),
         Tag::Opened => opened_at(bytes),
         Tag::CheckOut => check_out_at(bytes),
-        Tag::CheckIn => check_in_at(bytes),
+        Tag::CheckIn => check_in_at(alloc, bytes),
         Tag::Close => close_at(bytes),
         Tag::Finish => finish_at(bytes),
         Tag::Bind => bind_at(bytes),

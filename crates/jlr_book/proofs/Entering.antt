@@ -1,5 +1,5 @@
 -- An entry more, an end that is refused, and an open cycle that is given up.
-use Rattle.std.proofs.Common.{◌≡◌, ℕ, ◌+◌, ◌≤◌, Bool, true, false, not, IsTrue, List, [], ◌∷◌, ◌++◌, length, Option, Some, None, refl, sym, ◌∙◌, ap, subst, arith, option_to_list, append-nil}
+use Rattle.std.proofs.Common.{◌≡◌, ℕ, ◌+◌, ◌≤◌, Bool, true, false, cond, is_some, not, IsTrue, List, [], ◌∷◌, ◌++◌, length, Option, Some, None, refl, sym, ◌∙◌, ap, subst, arith, option_to_list, append-nil}
 use Rattle.std.proofs.lemmas.Bool.{both_ways}
 use Rattle.jlr_types.specs.declared.Progress.{Progress}
 use Rattle.jlr_types.specs.declared.Refusal.{Refusal}
@@ -12,6 +12,8 @@ use Rattle.jlr_machine.specs.declared.ask.Answer.TheVariants.{Refused, Truth}
 use Rattle.jlr_machine.specs.declared.entry.Chosen.{Chosen}
 use Rattle.jlr_machine.specs.declared.entry.Collected.{Collected}
 use Rattle.jlr_machine.specs.declared.entry.Entry.{Entry}
+use Rattle.jlr_machine.specs.declared.ask.CallOutcome.TheVariants.{Data as GotData, Wrote as GotWrote, Failed as GotFailed}
+use Rattle.jlr_machine.specs.Data.{Brings, tells_data}
 use Rattle.jlr_machine.specs.Refusals.{is_end, cells_needed}
 use Rattle.jlr_machine.specs.Run.{Run, IsLegal, MayCollect, Answers, has_room, no_choice, with_collection, now_seen, apply}
 use Rattle.jlr_machine.specs.Run.IsLegal.{carried_out, refused, heap_full, out_of_memory}
@@ -189,13 +191,19 @@ pub answered : {R : Type 0} (h k : Kept R) (e : Event R) (reply : Reply R) (chos
 answered h k e (Answered answer resource) chosen asked room s is st r = (answer, refl, list_fits h k e answer resource chosen asked room s is st r)
 answered h k e (Marked progress) chosen asked room s is st r = absurd (not_marked h k e progress chosen asked s is st)
 
--- an end asks for no list
-pub end_has_room : (asked : Ask) (room : Rooms) → is_end asked ≡ true → HasRoomFor asked room
-end_has_room (ask.Leave k) room is = tt
-end_has_room (ask.Opened k outcome) room is = tt
-end_has_room (ask.CheckIn k outcome) room is = tt
-end_has_room (ask.Finish by action outcome) room is = tt
-end_has_room a room is = absurd (both_ways false refl is)
+-- an end asks for no list, and room for what a call read was brought
+pub end_has_room : {X : Type 0} (asked : Ask) (brought : Option X) (room : Rooms) → is_end asked ≡ true → Brings brought (Some asked) → (is_some brought ≡ true → 1 ≤ room.bytes) → HasRoomFor asked room
+end_has_room (ask.Leave k) brought room is brings holds = tt
+end_has_room (ask.Opened k outcome) brought room is brings holds = tt
+end_has_room (ask.CheckIn k (GotData bytes)) brought room is brings holds = holds brings
+end_has_room (ask.CheckIn k (GotWrote n)) brought room is brings holds = tt
+end_has_room (ask.CheckIn k (GotFailed fault)) brought room is brings holds = tt
+end_has_room (ask.Finish by action outcome) brought room is brings holds = tt
+end_has_room a brought room is brings holds = absurd (both_ways false refl is)
+
+-- room of both kinds is there where room is
+pub brings_as : {X Y : Type 0} (room : Option X) (part : Option Y) (asked : Option Ask) → is_some part ≡ is_some room → Brings room asked → Brings part asked
+brings_as room part asked same brings = subst (λ b. cond (tells_data asked) b true ≡ true) (sym same) brings
 
 -- ---- A cycle that is given up
 

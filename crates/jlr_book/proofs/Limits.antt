@@ -2,7 +2,7 @@
 use Rattle.std.proofs.Common.{◌≡◌, ℕ, ◌+◌, Bool, true, false, List, [], ◌∷◌, length, map, replicate, refl, ◌∙◌, ap, Option, Some, None, option_and_then, slice_get, if◌then◌else◌, ◌==◌}
 use Rattle.std.proofs.lemmas.List.{length-set}
 use Rattle.jlr_types.specs.declared.FieldValue.TheVariants.{Int as IntValue, Ref as RefValue}
-use Rattle.jlr_types.specs.declared.Work.TheVariants.{Note, Resource as WorkOn}
+use Rattle.jlr_types.specs.declared.Work.TheVariants.{Resource as WorkOn}
 use Rattle.jlr_machine.specs.declared.object.Object.{Object}
 use Rattle.jlr_machine.specs.declared.object.Contents.TheVariants.{Typed, Elements}
 use Rattle.jlr_machine.specs.declared.object.Object.TheVariants.{Plain, Reference, Queue, Cleaner, Cleanable, Guard}
@@ -14,7 +14,7 @@ use Rattle.jlr_machine.specs.declared.machine.Machine.{Machine}
 use Rattle.jlr_machine.specs.declared.machine.Session.{Session}
 use Rattle.jlr_machine.specs.declared.machine.Job.{Job as JobOf}
 use Rattle.jlr_machine.specs.declared.machine.Call.{Call}
-use Rattle.jlr_machine.specs.declared.machine.Call.TheVariants.{Free, Opening as CallOpening, Out as CallOut, Job as CallJob}
+use Rattle.jlr_machine.specs.declared.machine.Call.TheVariants.{Free, Out as CallOut, Job as CallJob}
 use Rattle.jlr_machine.specs.declared.machine.ResourceState.{ResourceState}
 use Rattle.jlr_machine.specs.declared.machine.ResourceState.TheVariants.{Idle, Out, Closing}
 use Rattle.jlr_machine.specs.declared.ask.Outcome.{Outcome}
@@ -27,11 +27,11 @@ use Rattle.jlr_machine.specs.declared.ask.Answer.{Answer}
 use Rattle.jlr_machine.specs.declared.ask.Answer.TheVariants.{Prepared, Refused}
 use Rattle.jlr_machine.specs.declared.entry.Collected.{Collected}
 use Rattle.jlr_machine.specs.declared.entry.Entry.{Entry}
-use Rattle.jlr_machine.specs.Objects.{at, as_reference, as_cleanable, with_reference, with_cleanable, with_members, with_field, queue_ahead, is_spent, empty_at}
+use Rattle.jlr_machine.specs.Objects.{at, as_reference, with_reference, with_cleanable, with_members, with_field, queue_ahead, is_spent, empty_at}
 use Rattle.jlr_machine.specs.Lookups.{slot_named, guard_named, cleanable_of_guard, cleanable_at, on, job_of, rid_of, with_job, without_job, with_session, with_state, with_object, with_handle, with_new, with_call, without_resource, bound, blank}
 use Rattle.jlr_machine.specs.Refusals.{given}
-use Rattle.jlr_machine.specs.Calls.{after, handed, made, registered, with_given, to_queue, unreferred, enqueued, polled, poll_given, delivered, handed_over, guard_fenced, fence_of, opened, checked_out, checked_in, prepared_in, prepared, spent, with_work_state, without_work_resource, without_work, taken_up, cleaned, line_taken, from_lined, finished, free_again, fresh_session}
-use Rattle.jlr_machine.specs.Run.{Run, with_collection, carried, apply, done}
+use Rattle.jlr_machine.specs.Calls.{after, handed, made, registered, with_given, to_queue, unreferred, enqueued, polled, poll_given, delivered, handed_over, guard_fenced, fence_of, opened, checked_out, checked_in, prepared_in, spent, with_work_state, without_work_resource, taken_up, cleaned, line_taken, from_lined, finished, free_again, fresh_session}
+use Rattle.jlr_machine.specs.Run.{Run, with_collection, carried, apply}
 use Rattle.jlr_laws.proofs.Frames.{change_as_long}
 use Rattle.jlr_laws.proofs.CollectionKept.{length_left}
 use Rattle.jlr_book.specs.Limits.{HasSameLimits}

@@ -14,5 +14,5 @@ SuitsChoice m ask (Collecting choice) = length m.objects ≤ choice.value.cells
 SuitsChoice m ask Plain = may_collect m ask ≡ false
 
 pub record SuitsEntry (m : Machine) (ask : Ask) (room : EntryRoom) : Type 0 where
-  pub answer : HasRoomFor ask room.list
+  pub answer : HasRoomFor ask room.answer
   pub choice : SuitsChoice m (Some ask) room.choice

@@ -1,5 +1,6 @@
 //! The book: the core, and the history that led to it.
-ghost use Rattle.std.specs.Prelude.{◌≡◌, ◌≤◌, ◌+◌, ◌^◌, ◌↔◌, true, false, [], IfOk, IsErr, IsTrue, MatchBool, OnOk, OnErr, None, Some};
+ghost use Rattle.std.specs.Prelude.{◌≡◌, ◌⊎◌, ◌≤◌, ◌+◌, ◌^◌, ◌↔◌, true, false, [], IfOk, IsErr, IsTrue, MatchBool, OnOk, OnErr, None, Some};
+ghost use Rattle.jlr_machine.specs.Data.{Brings};
 ghost use Rattle.jlr_machine.specs.Refusals.{is_end, refusal};
 ghost use Rattle.jlr_event.specs.Events.{ask_of};
 ghost use Rattle.jlr_book.specs.Due.{IsDue};
@@ -9,12 +10,13 @@ ghost use Rattle.jlr_book.specs.Writing.{Pieces};
 
 use crate::cut::cut_to_image;
 use crate::entry::{record, record_end};
-use crate::event::{decline, is_end};
-use crate::room::EntryRoom;
+use crate::event::{is_end, refuse};
+use crate::room::{AnswerRoom, EntryRoom};
 use jlr_core::engine::Core;
 use jlr_event::event::{Event, Reply};
 use jlr_machine::ask::Ask;
 use jlr_machine::choice::Choice;
+use jlr_machine::data::{CopyRoom, Data};
 use jlr_machine::entry::Entry;
 use jlr_machine::machine::Machine;
 use jlr_types::{Handle, Limits, Mutator, Progress, Refusal};
@@ -83,6 +85,11 @@ impl<R: Drop> Book<R> {
         ensures { IsHistory self.now }
     {
         let _base = &self.base;
+    }
+
+    /// Where its memory comes from.
+    pub fn alloc(&self) -> Global {
+        self.alloc
     }
 
     /// The limits that it was made with.
@@ -160,17 +167,20 @@ impl<R: Drop> Book<R> {
 impl<R: Drop> Book<R> {
     /// One event of a seat. An ask that is no end is exactly one entry, perhaps after a cut, or the book refuses it and nothing has changed:
     /// with `Exhausted` just where fewer than 1,024 numbers are left, with `NoMemory` where a place or an image cannot be had. An end is
-    /// one entry, and finds its place always; where the core refuses it, it is none. A piece of marking is none.
-    pub fn step(&mut self, seat: u8, event: Event<R>) -> Reply<R>
+    /// one entry, and finds its place always; where the core refuses it, it is none. A piece of marking is none. With the end of a call
+    /// that read comes the room in which its entry tells what was read: whoever asks it makes that room before the call.
+    pub fn step(&mut self, seat: u8, event: Event<R>, room: Option<CopyRoom>) -> Reply<R>
+        requires { Brings room (ask_of event) }
         ensures { BookSteps seat self.old event result self.new }
     {
-        let mut event = event;
-        let Some(ask) = event.plain() else {
+        let (ask_room, answer_room) = CopyRoom::split(room);
+        let Some(ask) = event.plain(ask_room) else {
             return self.mark_piece(event);
         };
-        let mut reply = Reply::Marked(Progress::Idle);
-        self.take(seat, ask, &mut event, &mut reply);
-        reply
+        if is_end(&ask) {
+            return self.end(seat, ask, answer_room, event);
+        }
+        self.enter(seat, ask, event)
     }
 
     /// A piece of marking of at most so many cells, which is no entry. Takes no memory.
@@ -207,6 +217,17 @@ impl<R: Drop> Book<R> {
 }
 
 impl<R: Drop> Book<R> {
+    /// Why an ask that is no end is declined for which there is no memory: for that, unless fewer than 1,024 numbers are left.
+    pub fn wanting(&self) -> Refusal
+        ensures { (HasNumbers self.now × (result ≡ Refusal.NoMemory)) ⊎ ((2 ^ 64 ≤ last self.now + 1024) × (result ≡ Refusal.Exhausted)) }
+    {
+        if self.has_numbers() {
+            Refusal::NoMemory
+        } else {
+            Refusal::Exhausted
+        }
+    }
+
     /// Whether at least 1,024 entry numbers are left.
     fn has_numbers(&self) -> bool
         ensures { MatchBool result (HasNumbers self.now) (2 ^ 64 ≤ last self.now + 1024) }
@@ -223,54 +244,42 @@ impl<R: Drop> Book<R> {
         self.core.step(event, &mut self.choice)
     }
 
-    /// Takes the event of an ask where it lies, and puts its reply into the place of another.
-    #[inline(always)]
-    fn take(&mut self, seat: u8, ask: Ask, event: &mut Event<R>, reply: &mut Reply<R>)
-        requires { ask_of event.old ≡ Some ask }
-        ensures { BookSteps seat self.old event.old reply.new self.new }
-    {
-        if is_end(&ask) {
-            self.end(seat, ask, event, reply);
-        } else {
-            self.enter(seat, ask, event, reply);
-        }
-    }
-
     /// An end has its place and its number, or is refused by the core.
     #[inline(never)]
-    fn end(&mut self, seat: u8, ask: Ask, event: &mut Event<R>, reply: &mut Reply<R>)
-        requires ask { ask_of event.old ≡ Some ask }
+    fn end(&mut self, seat: u8, ask: Ask, room: Option<Data>, event: Event<R>) -> Reply<R>
+        requires ask { ask_of event ≡ Some ask }
         requires end { is_end ask ≡ true }
-        ensures { EndsBy seat self.old event.old reply.new self.new }
+        requires room { Brings room (Some ask) }
+        ensures { EndsBy seat self.old event result self.new }
     {
+        let room = AnswerRoom::for_bytes(self.alloc, room);
         record_end(
-            self.alloc,
             &mut self.core,
             &mut self.choice,
+            room,
             &mut self.trace,
             seat,
             ask,
             event,
-            reply,
-        );
+        )
     }
 
     /// The room of its entry, its place, and one for each end that may be owed then are made before anything changes.
     #[inline(always)]
-    fn enter(&mut self, seat: u8, ask: Ask, event: &mut Event<R>, reply: &mut Reply<R>)
-        requires ask { ask_of event.old ≡ Some ask }
+    fn enter(&mut self, seat: u8, ask: Ask, event: Event<R>) -> Reply<R>
+        requires ask { ask_of event ≡ Some ask }
         requires end { is_end ask ≡ false }
-        ensures { AsksBy seat self.old event.old reply.new self.new }
+        ensures { AsksBy seat self.old event result self.new }
     {
         if !self.has_numbers() {
-            return decline(event, Refusal::Exhausted, reply);
+            return refuse(event, Refusal::Exhausted);
         }
-        let Ok(room) = EntryRoom::for_event(self.alloc, &self.core, self.limits.cells, &ask, event)
+        let Ok(room) = EntryRoom::for_event(self.alloc, &self.core, self.limits.cells, &ask, &event)
         else {
-            return decline(event, Refusal::NoMemory, reply);
+            return refuse(event, Refusal::NoMemory);
         };
         if self.trace.reserve(PLACES).is_err() {
-            return decline(event, Refusal::NoMemory, reply);
+            return refuse(event, Refusal::NoMemory);
         }
         if self.trace.len() < self.limits.trace as usize {
             return record(
@@ -281,7 +290,6 @@ impl<R: Drop> Book<R> {
                 seat,
                 ask,
                 event,
-                reply,
             );
         }
         let Ok(used) = cut_to_image(
@@ -291,7 +299,7 @@ impl<R: Drop> Book<R> {
             &mut self.trace,
             &mut self.image,
         ) else {
-            return decline(event, Refusal::NoMemory, reply);
+            return refuse(event, Refusal::NoMemory);
         };
         self.base += used;
         record(
@@ -302,7 +310,6 @@ impl<R: Drop> Book<R> {
             seat,
             ask,
             event,
-            reply,
-        );
+        )
     }
 }

@@ -8,15 +8,13 @@ ghost use Rattle.jlr_histories.specs.Rooms.{HasRoomFor};
 ghost use Rattle.jlr_book.specs.Making.{SuitsEntry};
 ghost use Rattle.jlr_book.specs.Writing.{refuses, Stands, Writes, WritesEnd};
 
-use crate::room::{ChoiceRoom, EntryRoom, ListRoom};
+use crate::room::{AnswerRoom, ChoiceRoom, EntryRoom};
 use jlr_core::engine::Core;
 use jlr_event::event::{Event, Reply};
 use jlr_machine::ask::{Answer, Ask};
 use jlr_machine::choice::Choice;
 use jlr_machine::entry::{Chosen, Entry};
 use jlr_machine::fresh::FreshSlots;
-use std::alloc::Global;
-use std::mem;
 
 /// An ask that is no end: one entry, in a place that is there.
 #[inline(always)]
@@ -27,24 +25,26 @@ pub(crate) fn record<R: Drop>(
     trace: &mut Vec<Entry>,
     seat: u8,
     ask: Ask,
-    event: &mut Event<R>,
-    reply: &mut Reply<R>,
-)
-    requires ask { ask_of event.old ≡ Some ask }
+    event: Event<R>,
+) -> Reply<R>
+    requires ask { ask_of event ≡ Some ask }
     requires place { vec_len trace.old < vec_capacity trace.old }
     requires stands { Stands core.old }
     requires choice { length core.old.machine.objects ≤ choice.old.cells }
     requires room { SuitsEntry core.old.machine ask room }
-    ensures writes { Writes seat core.old trace.old.items event.old reply.new core.new trace.new.items }
+    ensures writes { Writes seat core.old trace.old.items event result core.new trace.new.items }
     ensures cells { length core.new.machine.objects ≡ length core.old.machine.objects }
     ensures room { vec_capacity trace.new ≡ vec_capacity trace.old }
     ensures choice { choice.new.cells ≡ choice.old.cells }
 {
-    let EntryRoom { choice: own, list } = room;
+    let EntryRoom {
+        choice: own,
+        answer,
+    } = room;
     match own {
-        ChoiceRoom::Plain => record_plainly(core, choice, list, trace, seat, ask, event, reply),
+        ChoiceRoom::Plain => record_plainly(core, choice, answer, trace, seat, ask, event),
         ChoiceRoom::Collecting(own) => {
-            record_collecting(core, own, list, trace, seat, ask, event, reply)
+            record_collecting(core, own, answer, trace, seat, ask, event)
         }
     }
 }
@@ -54,35 +54,35 @@ pub(crate) fn record<R: Drop>(
 fn record_plainly<R: Drop>(
     core: &mut Core<R>,
     lent: &mut Choice,
-    list: ListRoom,
+    room: AnswerRoom,
     trace: &mut Vec<Entry>,
     seat: u8,
     ask: Ask,
-    event: &mut Event<R>,
-    reply: &mut Reply<R>,
-)
-    requires ask { ask_of event.old ≡ Some ask }
+    event: Event<R>,
+) -> Reply<R>
+    requires ask { ask_of event ≡ Some ask }
     requires place { vec_len trace.old < vec_capacity trace.old }
     requires stands { Stands core.old }
     requires choice { length core.old.machine.objects ≤ lent.old.cells }
-    requires list { HasRoomFor ask list }
+    requires room { HasRoomFor ask room }
     requires plain { may_collect core.old.machine (Some ask) ≡ false }
-    ensures writes { Writes seat core.old trace.old.items event.old reply.new core.new trace.new.items }
+    ensures writes { Writes seat core.old trace.old.items event result core.new trace.new.items }
     ensures cells { length core.new.machine.objects ≡ length core.old.machine.objects }
     ensures room { vec_capacity trace.new ≡ vec_capacity trace.old }
     ensures choice { lent.new.cells ≡ lent.old.cells }
 {
-    let mut list = list;
-    *reply = core.step(mem::replace(event, Event::Abandon), lent);
+    let mut room = room;
+    let reply = core.step(event, lent);
     trace.push_reserved(Entry {
         seat,
         ask,
-        answer: list.copy_of(reply),
+        answer: room.copy_of(&reply),
         choice: Chosen {
             collected: None,
-            fresh: lent.fresh().copy(),
+            fresh: lent.take_fresh(),
         },
     });
+    reply
 }
 
 /// An entry that may come with a collection. Its choice stays in it.
@@ -90,73 +90,73 @@ fn record_plainly<R: Drop>(
 fn record_collecting<R: Drop>(
     core: &mut Core<R>,
     own: Box<Choice>,
-    list: ListRoom,
+    room: AnswerRoom,
     trace: &mut Vec<Entry>,
     seat: u8,
     ask: Ask,
-    event: &mut Event<R>,
-    reply: &mut Reply<R>,
-)
-    requires ask { ask_of event.old ≡ Some ask }
+    event: Event<R>,
+) -> Reply<R>
+    requires ask { ask_of event ≡ Some ask }
     requires place { vec_len trace.old < vec_capacity trace.old }
     requires stands { Stands core.old }
     requires choice { length core.old.machine.objects ≤ own.value.cells }
-    requires list { HasRoomFor ask list }
-    ensures writes { Writes seat core.old trace.old.items event.old reply.new core.new trace.new.items }
+    requires room { HasRoomFor ask room }
+    ensures writes { Writes seat core.old trace.old.items event result core.new trace.new.items }
     ensures cells { length core.new.machine.objects ≡ length core.old.machine.objects }
     ensures room { vec_capacity trace.new ≡ vec_capacity trace.old }
 {
     let mut own = Box::into_inner(own);
-    let mut list = list;
-    *reply = core.step(mem::replace(event, Event::Abandon), &mut own);
-    let answer = list.copy_of(reply);
+    let mut room = room;
+    let reply = core.step(event, &mut own);
+    let answer = room.copy_of(&reply);
     trace.push_reserved(Entry {
         seat,
         ask,
         answer,
         choice: own.into_chosen(),
     });
+    reply
 }
 
 /// An end: one entry, in the place that was kept for it, unless the core refuses it.
 pub(crate) fn record_end<R: Drop>(
-    alloc: Global,
     core: &mut Core<R>,
     choice: &mut Choice,
+    room: AnswerRoom,
     trace: &mut Vec<Entry>,
     seat: u8,
     ask: Ask,
-    event: &mut Event<R>,
-    reply: &mut Reply<R>,
-)
-    requires ask { ask_of event.old ≡ Some ask }
+    event: Event<R>,
+) -> Reply<R>
+    requires ask { ask_of event ≡ Some ask }
     requires end { is_end ask ≡ true }
+    requires room { HasRoomFor ask room }
     requires places { vec_len trace.old + owed core.old.machine ≤ vec_capacity trace.old }
     requires stands { Stands core.old }
     requires choice { length core.old.machine.objects ≤ choice.old.cells }
-    ensures writes { WritesEnd seat core.old trace.old.items event.old reply.new core.new trace.new.items }
+    ensures writes { WritesEnd seat core.old trace.old.items event result core.new trace.new.items }
     ensures cells { length core.new.machine.objects ≡ length core.old.machine.objects }
     ensures room { vec_capacity trace.new ≡ vec_capacity trace.old }
     ensures choice { choice.new.cells ≡ choice.old.cells }
 {
-    match core.step(mem::replace(event, Event::Abandon), choice) {
+    let mut room = room;
+    match core.step(event, choice) {
         Reply::Answered { answer, resource } => {
             if is_refused(&answer) {
-                *reply = Reply::Answered { answer, resource };
-                return;
+                return Reply::Answered { answer, resource };
             }
             trace.push_reserved(Entry {
                 seat,
                 ask,
-                answer: ListRoom::none(alloc).copy(&answer),
+                answer: room.copy(&answer),
                 choice: Chosen {
                     collected: None,
                     fresh: FreshSlots::new(),
                 },
             });
-            *reply = Reply::Answered { answer, resource };
+            Reply::Answered { answer, resource }
         }
-        Reply::Marked(progress) => *reply = Reply::Marked(progress),
+        Reply::Marked(progress) => Reply::Marked(progress),
     }
 }
 

@@ -8,7 +8,6 @@ ghost use Rattle.jlr_machine.specs.declared.ask.Answer.TheVariants.{Refused};
 use jlr_event::event::{Event, Reply};
 use jlr_machine::ask::{Answer, Ask};
 use jlr_types::Refusal;
-use std::mem;
 
 /// Whether an ask ends a call or a session.
 pub fn is_end(ask: &Ask) -> bool
@@ -28,12 +27,4 @@ pub fn refuse<R>(event: Event<R>, by: Refusal) -> Reply<R>
         answer: Answer::Refused(by),
         resource: event.into_resource(),
     }
-}
-
-/// As `refuse`, for an event where it lies. Its reply is put into the place of another.
-#[inline(never)]
-pub(crate) fn decline<R: Drop>(event: &mut Event<R>, by: Refusal, reply: &mut Reply<R>)
-    ensures { reply.new ≡ Answered (Refused by) (resource_of_event event.old) }
-{
-    *reply = refuse(mem::replace(event, Event::Abandon), by);
 }

@@ -1,6 +1,7 @@
-//! What an entry takes, made before its ask: the room of its choice, and that of its copy of a list answer. So it takes no memory then.
-ghost use Rattle.std.specs.Prelude.{◌≡◌, ◌≤◌, [], IfOk, Some, length, vec_capacity};
+//! What an entry takes, made before its ask: the room of its choice, and that of its copy of an answer. So it takes no memory then.
+ghost use Rattle.std.specs.Prelude.{◌≡◌, ◌≤◌, true, false, [], IfOk, Some, is_some, length, vec_capacity};
 ghost use Rattle.jlr_machine.specs.declared.ask.Answer.{Answer as AnswerOf};
+ghost use Rattle.jlr_machine.specs.Refusals.{is_end};
 ghost use Rattle.jlr_event.specs.Events.{ask_of, answer_in};
 ghost use Rattle.jlr_histories.specs.Rooms.{Fits, HasRoomFor};
 ghost use Rattle.jlr_book.specs.Making.{SuitsChoice, SuitsEntry};
@@ -9,6 +10,7 @@ use jlr_core::engine::Core;
 use jlr_event::event::{Event, Reply};
 use jlr_machine::ask::{Answer, Ask};
 use jlr_machine::choice::Choice;
+use jlr_machine::data::Data;
 use jlr_machine::items::Items;
 use jlr_machine::machine::Failure;
 use jlr_machine::text::Name;
@@ -21,56 +23,69 @@ const LIST_LIMIT: usize = 256;
 
 // ---- Lists
 
-/// Room for the items of one list, if any.
+/// Room for the items of one list, or for what a call read, if any.
 #[derive(Drop)]
 pub(crate) enum ItemRoom {
     None,
     Names(Vec<Name>),
     Notes(Vec<u32>),
     Faults(Vec<Failure>),
+    Bytes(Data),
 }
 
-/// Room for the copy of a list answer. Contracts see how many items of each kind of list it has room for.
+/// Room for the copy of an answer. Contracts see how many items of each kind of list it has room for, and how many times the bytes of a call.
 #[derive(Drop)]
-pub struct ListRoom {
+pub struct AnswerRoom {
     alloc: Global,
-    list: ItemRoom,
+    items: ItemRoom,
 }
 
-impl Model for ListRoom {
+impl Model for AnswerRoom {
     ghost use Rattle.jlr_histories.specs.Rooms.{Rooms};
     ghost use Rattle.jlr_book.specs.Lists.{rooms_of, IsVacant};
 
     ghost Value = { Rooms };
 
-    ghost view = { λ r. rooms_of r.list };
+    ghost view = { λ r. rooms_of r.items };
 
-    ghost invariant = { λ r. IsVacant r.list };
+    ghost invariant = { λ r. IsVacant r.items };
 }
 
-impl ListRoom {
-    /// Room for no list. Takes no memory.
+impl AnswerRoom {
+    /// Room for no list, and for no bytes. Takes no memory.
     pub fn none(alloc: Global) -> Self {
-        ListRoom {
+        AnswerRoom {
             alloc,
-            list: ItemRoom::None,
+            items: ItemRoom::None,
         }
     }
 
-    /// Room for the list that an ask is answered by, if it is one of the three that are: 256 items.
+    /// Room for what a call read, if there is any. Takes no memory.
+    pub fn for_bytes(alloc: Global, room: Option<Data>) -> Self
+        ensures { is_some room ≡ true → 1 ≤ result.bytes }
+    {
+        let items = match room {
+            Some(room) => ItemRoom::Bytes(room),
+            None => ItemRoom::None,
+        };
+        AnswerRoom { alloc, items }
+    }
+
+    /// Room for the list that an ask is answered by that is no end, if it is one of the three that are: 256 items.
     ///
     /// # Errors
     /// `AllocError` where the room cannot be had.
     pub fn for_ask(alloc: Global, ask: &Ask) -> Result<Self, AllocError>
+        requires { is_end ask.now ≡ false }
         ensures { IfOk result (λ room. HasRoomFor ask.now room) }
     {
-        let list = match ask {
+        let items = match ask {
             Ask::Names { .. } => ItemRoom::Names(Vec::with_capacity(alloc, LIST_LIMIT)?),
             Ask::Notes { .. } => ItemRoom::Notes(Vec::with_capacity(alloc, LIST_LIMIT)?),
             Ask::Faults { .. } => ItemRoom::Faults(Vec::with_capacity(alloc, LIST_LIMIT)?),
             _ => ItemRoom::None,
         };
-        Ok(ListRoom { alloc, list })
+        Ok(AnswerRoom { alloc, items })
     }
 
     /// Takes the room for names out.
@@ -78,7 +93,7 @@ impl ListRoom {
         ensures empty { result.items ≡ [] }
         ensures room { self.old.names ≤ vec_capacity result }
     {
-        match mem::replace(&mut self.list, ItemRoom::None) {
+        match mem::replace(&mut self.items, ItemRoom::None) {
             ItemRoom::Names(room) => room,
             _ => Vec::new(self.alloc),
         }
@@ -89,7 +104,7 @@ impl ListRoom {
         ensures empty { result.items ≡ [] }
         ensures room { self.old.notes ≤ vec_capacity result }
     {
-        match mem::replace(&mut self.list, ItemRoom::None) {
+        match mem::replace(&mut self.items, ItemRoom::None) {
             ItemRoom::Notes(room) => room,
             _ => Vec::new(self.alloc),
         }
@@ -100,9 +115,21 @@ impl ListRoom {
         ensures empty { result.items ≡ [] }
         ensures room { self.old.faults ≤ vec_capacity result }
     {
-        match mem::replace(&mut self.list, ItemRoom::None) {
+        match mem::replace(&mut self.items, ItemRoom::None) {
             ItemRoom::Faults(room) => room,
             _ => Vec::new(self.alloc),
+        }
+    }
+
+    /// The bytes that a call read, in the room for them.
+    #[inline(never)]
+    fn copy_bytes(&mut self, bytes: &Data) -> Data
+        requires { 1 ≤ self.old.bytes }
+        ensures { result ≡ bytes.now }
+    {
+        match mem::replace(&mut self.items, ItemRoom::None) {
+            ItemRoom::Bytes(room) => bytes.copy_into(room),
+            _ => unreachable!(),
         }
     }
 
@@ -117,7 +144,7 @@ impl ListRoom {
             Answer::Handle(handle) => Answer::Handle(*handle),
             Answer::Truth(truth) => Answer::Truth(*truth),
             Answer::Int(value) => Answer::Int(*value),
-            Answer::Data(bytes) => Answer::Data(bytes.copy()),
+            Answer::Data(bytes) => Answer::Data(self.copy_bytes(bytes)),
             Answer::Wrote(count) => Answer::Wrote(*count),
             Answer::Faulted(fault) => Answer::Faulted(*fault),
             Answer::Names(items) => {
@@ -221,7 +248,7 @@ impl ChoiceRoom {
 #[derive(Drop)]
 pub(crate) struct EntryRoom {
     pub(crate) choice: ChoiceRoom,
-    pub(crate) list: ListRoom,
+    pub(crate) answer: AnswerRoom,
 }
 
 impl EntryRoom {
@@ -238,12 +265,13 @@ impl EntryRoom {
         event: &Event<R>,
     ) -> Result<Self, AllocError>
         requires ask { ask_of event.now ≡ Some ask.now }
+        requires end { is_end ask.now ≡ false }
         requires cells { length core.now.machine.objects ≤ cells }
         ensures { IfOk result (λ room. SuitsEntry core.now.machine ask.now room) }
     {
         Ok(EntryRoom {
             choice: ChoiceRoom::for_event(alloc, core, cells, event)?,
-            list: ListRoom::for_ask(alloc, ask)?,
+            answer: AnswerRoom::for_ask(alloc, ask)?,
         })
     }
 }

@@ -1,6 +1,10 @@
 //! A book that one session has for itself, as what its asks go to.
-ghost use Rattle.std.specs.Prelude.{◌≡◌, ◌≢◌, ◌<◌, [], IfOk, MatchBool, length};
-ghost use Rattle.jlr_event.specs.declared.event.Event.TheVariants.{HandOver};
+ghost use Rattle.std.specs.Prelude.{◌≡◌, ◌≢◌, ◌<◌, false, [], IfErr, IfOk, MatchBool, None, length};
+ghost use Rattle.jlr_machine.specs.Data.{Brings, tells_data};
+ghost use Rattle.jlr_machine.specs.declared.ask.Answer.TheVariants.{Refused};
+ghost use Rattle.jlr_event.specs.Events.{ask_of};
+ghost use Rattle.jlr_event.specs.declared.event.Event.TheVariants.{CheckOut, HandOver};
+ghost use Rattle.jlr_event.specs.declared.event.Reply.TheVariants.{Answered};
 ghost use Rattle.jlr_book.specs.Histories.{IsHistory, IsNewBook};
 ghost use Rattle.jlr_book.specs.Rules.{BookSteps};
 ghost use Rattle.jlr_book.specs.Settling.{CannotHandOver, Cleans, HandsAllOver, HandsOver, Works};
@@ -11,9 +15,10 @@ use crate::book::Book;
 use jlr_device::Resource;
 use jlr_event::event::{Event, Reply};
 use jlr_machine::ask::Answer;
+use jlr_machine::data::CallRoom;
 use jlr_session::job::{carry_out, job_of};
-use jlr_session::port::Port;
-use jlr_types::{Limits, Mutator};
+use jlr_session::port::{Port, ReadRoom};
+use jlr_types::{Handle, Limits, Mutator, Refusal};
 use std::alloc::{AllocError, Global};
 use std::marker::Model;
 
@@ -81,12 +86,13 @@ impl<R: Drop> Solo<R> {
     /// One step of the book. What led to it is a history, and what it leads to.
     #[inline(always)]
     fn step(&mut self, seat: u8, event: Event<R>) -> Reply<R>
+        requires { tells_data (ask_of event) ≡ false }
         ensures steps { BookSteps seat self.old event result self.new }
         ensures before { IsHistory self.old }
         ensures after { IsHistory self.new }
     {
         self.book.is_history();
-        let reply = self.book.step(seat, event);
+        let reply = self.book.step(seat, event, None);
         self.book.is_history();
         reply
     }
@@ -107,6 +113,7 @@ impl<R: Resource + Drop> Solo<R> {
     }
 
     /// One step of the handler, where something is pending.
+    #[inline(never)]
     fn hand_over(&mut self) -> Turn
         requires { self.old.core.machine.pending ≢ [] }
         ensures turn { IsTurn at_book.hands (HandsOver at_book) HandOver result self.old self.new }
@@ -132,6 +139,7 @@ impl<R: Resource + Drop> Solo<R> {
     }
 
     /// One job, where the line is not empty. If none of it is Lined, it is let go.
+    #[inline(never)]
     fn clean(&mut self) -> Turn
         requires { self.old.core.machine.line ≢ [] }
         ensures turn { IsTurn at_book.cleans (Works at_book R.handling) Event.TakeUp result self.old self.new }
@@ -155,11 +163,23 @@ impl<R: Resource + Drop> Port<R> for Solo<R> {
         Mutator::new(0)
     }
 
-    fn ask(&mut self, event: Event<R>) -> Reply<R>
+    fn read_room(&self, guard: Handle) -> Result<ReadRoom, Refusal>
+        ensures declined { IfErr result (λ by. BookSteps 0 self.now (CheckOut 0 guard) (Answered (Refused by) None) self.now) }
+    {
+        let _declined = guard;
+        match ReadRoom::new(self.book.alloc()) {
+            Ok(room) => Ok(room),
+            Err(_) => Err(self.book.wanting()),
+        }
+    }
+
+    fn ask(&mut self, event: Event<R>, room: Option<CallRoom>) -> Reply<R>
+        requires { Brings room (ask_of event) }
         ensures asked { BookSteps 0 self.old event result self.new }
         ensures named { (by_book R.handling).mutator self.new ≡ (by_book R.handling).mutator self.old }
     {
-        self.book.step(0, event)
+        let (room, _) = CallRoom::split(room);
+        self.book.step(0, event, room)
     }
 
     fn settle(&mut self) {

@@ -1,8 +1,10 @@
 //! What comes to the core, and what goes back: an ask or an answer with the resource that it carries.
 ghost use Rattle.std.specs.Prelude.{◌≡◌};
+ghost use Rattle.jlr_machine.specs.Data.{Brings};
 ghost use Rattle.jlr_event.specs.Events.{ask_of, answer_in, outcome_of, resource_of_event, resource_of_reply};
 
 use jlr_machine::ask::{Answer, Ask, CallOutcome, FullMode, Outcome};
+use jlr_machine::data::Data;
 use jlr_machine::text::Name;
 use jlr_types::{ActionNo, Fault, FieldNo, Handle, Layout, Length, Mutator, Progress, RefKind};
 
@@ -226,8 +228,10 @@ pub enum Reply<R> {
 }
 
 impl<R> Event<R> {
-    /// The ask, without the resource that it carries. There is none for `Mark`. Takes no memory.
-    pub fn plain(&self) -> Option<Ask>
+    /// The ask, without the resource that it carries. There is none for `Mark`. Takes no memory, and the room where it tells what a
+    /// call read.
+    pub fn plain(&self, room: Option<Data>) -> Option<Ask>
+        requires { Brings room (ask_of self.now) }
         ensures { result ≡ ask_of self.now }
     {
         Some(match *self {
@@ -355,7 +359,7 @@ impl<R> Event<R> {
                 ..
             } => Ask::CheckIn {
                 mutator,
-                outcome: outcome.copy(),
+                outcome: outcome.copy_into(room),
             },
             Event::Close { mutator, guard } => Ask::Close { mutator, guard },
             Event::Bind {

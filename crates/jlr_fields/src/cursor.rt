@@ -8,8 +8,10 @@ use crate::number::{
     bool_at, byte_within, i64_at, picked, slot_option_at, u8_at, u16_at, u16_within, u32_at, u64_at,
 };
 use crate::text::{data_at, name_at};
-use jlr_machine::text::{Data, Name};
+use jlr_machine::data::Data;
+use jlr_machine::text::Name;
 use jlr_types::{ActionNo, Handle, Mutator, Rid, Slot};
+use std::alloc::Global;
 
 /// A byte.
 pub fn take_u8(bytes: &mut &[u8]) -> Result<u8, ReadError>
@@ -148,10 +150,10 @@ pub fn take_option(bytes: &mut &[u8]) -> Result<Option<Slot>, ReadError>
 }
 
 /// A text of 0 to 200 bytes.
-pub fn take_data(bytes: &mut &[u8]) -> Result<Data, ReadError>
+pub fn take_data(alloc: Global, bytes: &mut &[u8]) -> Result<Data, ReadError>
     ensures { Reads (λ x. x) result bytes.new.now (bytes_at 0 200 bytes.old.now) }
 {
-    match data_at(bytes) {
+    match data_at(alloc, bytes) {
         Ok((value, rest)) => {
             *bytes = rest;
             Ok(value)

@@ -6,8 +6,9 @@ ghost use Rattle.jlr_fields.specs.Reading.{Gives, is_name_byte, taken_at, bytes_
 
 use crate::fault::{Fault, ReadError};
 use crate::number::byte_within;
-use jlr_machine::text::{Data, Name, Text};
-use std::alloc::AllocError;
+use jlr_machine::data::Data;
+use jlr_machine::text::Name;
+use std::alloc::{AllocError, Global};
 
 fn is_good(byte: u8) -> bool
     ensures { result ≡ is_name_byte byte }
@@ -33,24 +34,25 @@ fn front(bytes: &[u8], count: usize) -> &[u8]
 }
 
 #[tactic(auto, unfolding(crate::specs::Reading::taken_at))]
-fn taken<const N: usize>(bytes: &[u8], count: usize) -> Result<(Text<N>, &[u8]), ReadError>
-    requires { count ≤ N }
+fn taken(alloc: Global, bytes: &[u8], count: usize) -> Result<(Data, &[u8]), ReadError>
+    requires { count ≤ 200 }
     ensures { Gives (λ x. (x.0, x.1.now)) result (taken_at count bytes.now) }
 {
     if bytes.len() < count {
         return Err(ReadError::Fault(Fault::Short));
     }
     let (text, rest) = bytes.split_at(count);
-    Ok((Text::from_slice(text).unwrap(), rest))
+    let data = Data::from_slice(alloc, text)?;
+    Ok((data.unwrap(), rest))
 }
 
 /// What one call read: at most 200 bytes.
 #[tactic(auto, unfolding(crate::specs::Reading::bytes_at))]
-pub(crate) fn data_at(bytes: &[u8]) -> Result<(Data, &[u8]), ReadError>
+pub(crate) fn data_at(alloc: Global, bytes: &[u8]) -> Result<(Data, &[u8]), ReadError>
     ensures { Gives (λ x. (x.0, x.1.now)) result (bytes_at 0 200 bytes.now) }
 {
     let (count, rest) = byte_within(0, 200, bytes)?;
-    taken::<200>(rest, count as usize)
+    taken(alloc, rest, count as usize)
 }
 
 /// So many bytes, which are a name where there are so many.

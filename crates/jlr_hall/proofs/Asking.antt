@@ -1,5 +1,5 @@
 -- What a seat is asked under the lock is noted once, under the number of its entry, or declined.
-use Rattle.std.proofs.Common.{◌≡◌, ◌≢◌, ◌⊎◌, ◌<◌, ◌≤◌, ◌+◌, ◌^◌, ℕ, Bool, true, false, cond, List, [], ◌∷◌, ◌++◌, length, length-append, Option, Some, None, inl, inr, refl, sym, ◌∙◌, ap, subst, arith, nat_lt, is_some}
+use Rattle.std.proofs.Common.{◌≡◌, ◌⊎◌, ◌<◌, ◌≤◌, ◌+◌, ℕ, Bool, true, false, cond, List, [], ◌∷◌, ◌++◌, length, length-append, Option, Some, None, inl, inr, refl, sym, ◌∙◌, ap, subst, arith, nat_lt, is_some}
 use Rattle.std.specs.Option.{option_to_list}
 use Rattle.jlr_types.specs.declared.Refusal.{Refusal}
 use Rattle.jlr_types.specs.declared.Refusal.TheVariants.{NoMemory, Exhausted}
@@ -22,13 +22,12 @@ use Rattle.jlr_core.specs.Cores.{Kept}
 use Rattle.jlr_core.specs.Events.{Enters as EntersMachine, MayWantMemory, WantsMemory}
 use Rattle.jlr_core.specs.Flows.{GoesOut}
 use Rattle.jlr_core.specs.Steps.{IsStep}
-use Rattle.jlr_laws.proofs.Frames.{some_same}
 use Rattle.jlr_book.specs.Histories.{History, IsHistory, last, seated}
 use Rattle.jlr_book.specs.Rules.{AsksBy, BookSteps, Cuts, EndsBy, Enters, Readies, StepsBy}
 use Rattle.jlr_book.specs.Writing.{Stands}
 use Rattle.jlr_book.proofs.Replies.{ready_stands, stands_here}
 use Rattle.jlr_hall.specs.Seats.{Place, Unchanged, item, kept}
-use Rattle.jlr_hall.specs.Asking.{AskedFor, Declined, DeclinedFor, HasItsResource, Notes, NotesWith, needs}
+use Rattle.jlr_hall.specs.Asking.{AskedFor, DeclinedFor, HasItsResource, NotesWith, needs}
 
 -- no end of a call wants memory
 none_at_ends : {R : Type 0} (m : Machine) (t : Resources R) (ask : Ask) → is_end ask ≡ true → MayWantMemory m t ask → ⊥

@@ -1,5 +1,5 @@
 -- One ask more of a loop.
-use Rattle.std.proofs.Common.{◌≡◌, ℕ, List, [], ◌∷◌, ◌++◌, map, Option, Some, None, Result, Ok, Err, IfOk, true, refl, ap, ◌∙◌, inl, inr, subst, sym, ◌⊎◌}
+use Rattle.std.proofs.Common.{◌≡◌, ℕ, List, [], ◌∷◌, ◌++◌, Option, Some, None, Result, Ok, Err, IfOk, true, refl, ap, ◌∙◌, inl, inr, subst, sym, ◌⊎◌}
 use Rattle.jlr_machine.specs.declared.ask.Ask.{Ask}
 use Rattle.jlr_machine.specs.declared.ask.Ask.TheVariants.{TakeUp, Finish}
 use Rattle.jlr_machine.specs.declared.ask.Outcome.{Outcome}

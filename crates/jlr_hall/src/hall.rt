@@ -1,5 +1,6 @@
 //! One book under one lock, asked by many seats.
 ghost use Rattle.std.specs.Prelude.{◌≡◌, ◌+◌, ◌<◌, ◌≤◌, Some};
+ghost use Rattle.jlr_machine.specs.Data.{Brings};
 ghost use Rattle.jlr_event.specs.Events.{ask_of};
 ghost use Rattle.jlr_event.specs.declared.event.Event.TheVariants.{Remove};
 ghost use Rattle.jlr_book.specs.Histories.{IsHistory, last};
@@ -9,9 +10,10 @@ ghost use Rattle.jlr_hall.specs.Asking.{Asked, HasItsResource, HasRoomForAsk, Is
 use crate::seat::Seat;
 use jlr_book::book::Book;
 use jlr_book::event::refuse;
-use jlr_book::room::ListRoom;
+use jlr_book::room::AnswerRoom;
 use jlr_event::event::{Event, Reply};
 use jlr_machine::ask::{Answer, Ask, Handed};
+use jlr_machine::data::{CallRoom, CopyRoom};
 use jlr_types::{Handle, Mutator, Progress, Refusal};
 use std::sync::ledger::{Ledger, Share};
 use std::sync::{Condvar, Mutex, MutexGuard, Wait, ledger};
@@ -56,10 +58,12 @@ impl<R: Drop, L: Ledger> Locked<R, L> {
         &mut self,
         seat: &mut Seat<L>,
         asked: Option<Ask>,
-        room: ListRoom,
+        room: AnswerRoom,
         event: Event<R>,
+        entry_room: Option<CopyRoom>,
     ) -> Reply<R>
         requires asks { asked ≡ ask_of event }
+        requires brought { Brings entry_room asked }
         requires place { needs asked ≤ seat.old.room }
         requires list { HasRoomForAsk asked room }
         ensures history { IsHistory self.old.book }
@@ -70,15 +74,20 @@ impl<R: Drop, L: Ledger> Locked<R, L> {
         let mut room = room;
         book.is_history();
         let before = book.last();
-        let reply = book.step(seat.index(), event);
+        let reply = book.step(seat.index(), event, entry_room);
         let after = book.last();
         if before < after {
             seat.count(ledger, after - before);
             if let Some(ask) = asked {
-                if let Reply::Answered { answer, .. } = &reply {
-                    seat.note(after, book.base(), ask, room.copy(answer));
+                match &reply {
+                    Reply::Answered { answer, .. } => {
+                        seat.note(after, book.base(), ask, room.copy(answer));
+                    }
+                    Reply::Marked(_) => drop(ask),
                 }
             }
+        } else {
+            drop(asked);
         }
         reply
     }
@@ -196,12 +205,20 @@ impl<R: Drop, L: Ledger> Hall<R, L> {
 impl<L: Ledger> Seat<L> {
     /// One event of those that this seat may ask: a session's those of its mutator, the marker's `Begin`, `Collect`, `Abandon` and pieces of
     /// marking, the handler's `HandOver`, the cleaner's `TakeUp` and the ends of its jobs. A `Remove` does not wait. Places in the transcript and
-    /// room for a list are made before the lock is taken, and nothing is read or written while it is held.
-    pub fn ask<R: Drop, T: Wait>(&mut self, rt: &T, hall: &Hall<R, L>, event: Event<R>) -> Reply<R>
+    /// room for a list are made before the lock is taken, and nothing is read or written while it is held. With the end of a call that read
+    /// comes the room in which it is told again: whoever asks it makes that room before the call.
+    pub fn ask<R: Drop, T: Wait>(
+        &mut self,
+        rt: &T,
+        hall: &Hall<R, L>,
+        event: Event<R>,
+        room: Option<CallRoom>,
+    ) -> Reply<R>
         requires own { IsOwn self.old.index self.old.sessions (ask_of event) }
+        requires room { Brings room (ask_of event) }
         ensures { Asked self.old event result self.new }
     {
-        self.ask_once(rt, hall, None, event)
+        self.ask_once(rt, hall, None, event, room)
     }
 
     /// One `Remove` of this seat's mutator, asked once its queue holds something, or once the hall is to end.
@@ -216,7 +233,7 @@ impl<L: Ledger> Seat<L> {
         let mutator = Mutator::new(self.index());
         let removal = Removal { mutator, queue };
         let event = Event::Remove { mutator, queue };
-        self.ask_once(rt, hall, Some(removal), event)
+        self.ask_once(rt, hall, Some(removal), event, None)
     }
 
     /// One event, once a `Remove` that it stands for would not wait. A job comes with its resource.
@@ -226,17 +243,21 @@ impl<L: Ledger> Seat<L> {
         hall: &Hall<R, L>,
         removal: Option<Removal>,
         event: Event<R>,
+        room: Option<CallRoom>,
     ) -> Reply<R>
+        requires { Brings room (ask_of event) }
         ensures asked { Asked self.old event result self.new }
         ensures out { HasItsResource result }
     {
-        let asked = event.plain();
-        let Ok(room) = self.prepare(&asked) else {
+        let (entry_room, item_room) = CallRoom::split(room);
+        let (ask_room, answer_room) = CopyRoom::split(item_room);
+        let asked = event.plain(ask_room);
+        let Ok(room) = self.prepare(&asked, answer_room) else {
             return refuse(event, Refusal::NoMemory);
         };
         let fills = fills_queue(&asked);
         let mut locked = hall.enter(rt, removal);
-        let reply = locked.ask(self, asked, room, event);
+        let reply = locked.ask(self, asked, room, event, entry_room);
         let looks = locked.looks(fills && says_queued(&reply));
         drop(locked);
         hall.wake(looks);

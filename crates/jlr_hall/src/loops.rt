@@ -144,7 +144,7 @@ fn ask_or_wait<R: Drop, L: Ledger, T: Wait>(
     requires { (ask : Ask) × (ask_of event ≡ Some ask) × IsMarkers ask }
     ensures { (first : Place) → AsksOnly IsMarkers first seat.old → AsksOnly IsMarkers first seat.new }
 {
-    if was_refused(&seat.ask_once(rt, hall, None, event)) {
+    if was_refused(&seat.ask_once(rt, hall, None, event, None)) {
         hall.wait_for_marker(rt);
     }
 }
@@ -162,7 +162,7 @@ pub fn handler_loop<R: Drop, L: Ledger, T: Wait>(
         if hall.wait_for_pending(rt) {
             break;
         }
-        if was_refused(&seat.ask_once(rt, hall, None, Event::HandOver)) {
+        if was_refused(&seat.ask_once(rt, hall, None, Event::HandOver, None)) {
             hall.wait_for_handler(rt);
         }
     }
@@ -219,7 +219,7 @@ fn take_up<R: Resource + Drop, L: Ledger, T: Wait>(
     ensures job { (first : Place) → CleansIn R.handling first None seat.old → IfOk result (λ job. CleansIn R.handling first (Some job) seat.new) }
     ensures none { (first : Place) → CleansIn R.handling first None seat.old → IfErr result (λ _. CleansIn R.handling first None seat.new) }
 {
-    match job_of(seat.ask_once(rt, hall, None, Event::TakeUp)) {
+    match job_of(seat.ask_once(rt, hall, None, Event::TakeUp, None)) {
         Ok(job) => Ok(job),
         Err(answer) => Err(refuses(answer)),
     }
@@ -235,7 +235,7 @@ fn finish<R: Resource + Drop, L: Ledger, T: Wait>(
     ensures goes_on { (first : Place) → CleansIn R.handling first (Some job) seat.old → result ≡ true → CleansIn R.handling first None seat.new }
     ensures cleans { (first : Place) → CleansIn R.handling first (Some job) seat.old → (last : Option (JobOf R)) × CleansIn R.handling first last seat.new }
 {
-    let reply = seat.ask_once(rt, hall, None, carry_out(CLEANER, job));
+    let reply = seat.ask_once(rt, hall, None, carry_out(CLEANER, job), None);
     !was_refused(&reply)
 }
 

@@ -1,11 +1,12 @@
 //! A seat as what the asks of a session go to.
-ghost use Rattle.std.specs.Prelude.{◌≡◌};
+ghost use Rattle.std.specs.Prelude.{◌≡◌, IfErr, None};
 
 use crate::hall::{Hall, Removal};
 use crate::seat::Seat;
 use jlr_event::event::{Event, Reply};
-use jlr_session::port::Port;
-use jlr_types::Mutator;
+use jlr_machine::data::CallRoom;
+use jlr_session::port::{Port, ReadRoom};
+use jlr_types::{Handle, Mutator, Refusal};
 use std::marker::Model;
 use std::sync::Wait;
 use std::sync::ledger::Ledger;
@@ -44,6 +45,11 @@ impl<'a, R, L: Ledger, T> SeatPort<'a, R, L, T> {
 }
 
 impl<'a, R: Drop, L: Ledger, T: Wait> Port<R> for SeatPort<'a, R, L, T> {
+    ghost use Rattle.jlr_machine.specs.declared.ask.Answer.TheVariants.{Refused};
+    ghost use Rattle.jlr_machine.specs.Data.{Brings};
+    ghost use Rattle.jlr_event.specs.Events.{ask_of};
+    ghost use Rattle.jlr_event.specs.declared.event.Event.TheVariants.{CheckOut};
+    ghost use Rattle.jlr_event.specs.declared.event.Reply.TheVariants.{Answered};
     ghost use Rattle.jlr_hall.specs.Asking.{Asked};
     ghost use Rattle.jlr_hall.specs.Ports.{by_seat};
 
@@ -55,12 +61,23 @@ impl<'a, R: Drop, L: Ledger, T: Wait> Port<R> for SeatPort<'a, R, L, T> {
         Mutator::new(self.seat.index())
     }
 
-    fn ask(&mut self, event: Event<R>) -> Reply<R>
+    fn read_room(&self, guard: Handle) -> Result<ReadRoom, Refusal>
+        ensures declined { IfErr result (λ by. Asked {R = R} self.now (CheckOut self.now.index guard) (Answered (Refused by) None) self.now) }
+    {
+        let _declined = guard;
+        match ReadRoom::new(self.seat.alloc()) {
+            Ok(room) => Ok(room),
+            Err(_) => Err(Refusal::NoMemory),
+        }
+    }
+
+    fn ask(&mut self, event: Event<R>, room: Option<CallRoom>) -> Reply<R>
+        requires { Brings room (ask_of event) }
         ensures asked { Asked self.old event result self.new }
         ensures named { self.new.index ≡ self.old.index }
     {
         let removal = Removal::of(&event);
-        self.seat.ask_once(self.rt, self.hall, removal, event)
+        self.seat.ask_once(self.rt, self.hall, removal, event, room)
     }
 
     fn settle(&mut self)

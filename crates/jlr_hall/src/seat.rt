@@ -1,13 +1,15 @@
 //! One asker's end: what it noted, and its share of the count of entries.
 ghost use Rattle.std.specs.Prelude.{◌≡◌, ◌+◌, ◌-◌, ◌^◌, ◌<◌, ◌≤◌, [], ◌∷◌, ◌++◌, true, IfOk, IsSome, OnErr, Some, max, OnOk, vec_capacity, vec_len};
+ghost use Rattle.jlr_machine.specs.Data.{Brings};
 ghost use Rattle.jlr_machine.specs.Refusals.{is_end};
 ghost use Rattle.jlr_hall.specs.Seats.{Unchanged, after, item, kept};
 ghost use Rattle.jlr_hall.specs.Asking.{HasRoomForAsk, needs};
 ghost use Rattle.jlr_hall.specs.Closing.{IsNew};
 
 use jlr_book::event::is_end;
-use jlr_book::room::ListRoom;
+use jlr_book::room::AnswerRoom;
 use jlr_machine::ask::{Answer, Ask};
+use jlr_machine::data::Data;
 use std::alloc::{AllocError, Global};
 use std::marker::Model;
 use std::sync::ledger;
@@ -70,6 +72,11 @@ impl<L: Ledger> Seat<L> {
         })
     }
 
+    /// Where its memory comes from.
+    pub(crate) fn alloc(&self) -> Global {
+        self.alloc
+    }
+
     /// Which seat it is: those of the sessions come first, then those of the marker, the handler and the cleaner.
     pub fn index(&self) -> u8
         ensures { result ≡ self.now.index }
@@ -93,11 +100,17 @@ impl<L: Ledger> Seat<L> {
         std::mem::replace(&mut self.items, items)
     }
 
-    /// Makes the places of an ask in the transcript, and room for a list that it is answered by. An end finds its place: it was kept.
+    /// Makes the places of an ask in the transcript, and room for a list that it is answered by. An end finds its place: it was kept, and
+    /// room for what a call read was brought.
     ///
     /// # Errors
     /// `AllocError` where there is no memory, and for an end only where it has no place.
-    pub(crate) fn prepare(&mut self, asked: &Option<Ask>) -> Result<ListRoom, AllocError>
+    pub(crate) fn prepare(
+        &mut self,
+        asked: &Option<Ask>,
+        brought: Option<Data>,
+    ) -> Result<AnswerRoom, AllocError>
+        requires { Brings brought asked.now }
         ensures same { Unchanged self.old self.new }
         ensures places { OnOk result (needs asked.now ≤ self.new.room) }
         ensures list { IfOk result (λ room. HasRoomForAsk asked.now room) }
@@ -105,14 +118,14 @@ impl<L: Ledger> Seat<L> {
         ensures err { OnErr result ((ask : Ask) → asked.now ≡ Some ask → is_end ask ≡ true → self.old.room ≡ 0) }
     {
         let Some(ask) = asked else {
-            return Ok(ListRoom::none(self.alloc));
+            return Ok(AnswerRoom::none(self.alloc));
         };
         if is_end(ask) {
             self.items.reserve(1)?;
-            return Ok(ListRoom::none(self.alloc));
+            return Ok(AnswerRoom::for_bytes(self.alloc, brought));
         }
         self.items.reserve(PLACES)?;
-        ListRoom::for_ask(self.alloc, ask)
+        AnswerRoom::for_ask(self.alloc, ask)
     }
 
     /// Learns the base of the book, if it has risen. What a cut took away is let go.

@@ -1,4 +1,4 @@
--- A list answer comes only to the three asks for lists, and has at most 256 items.
+-- A list answer comes only to the three asks for lists, and has at most 256 items; what a call read only to the end of that call.
 use Rattle.std.proofs.Common.{◌≡◌, ℕ, ◌≤◌, true, false, cond, List, [], ◌∷◌, map, length, Option, Some, None, option_map, option_and_then, sym, subst, arith}
 use Rattle.std.proofs.lemmas.List.{length-map}
 use Rattle.jlr_types.specs.declared.FieldValue.{FieldValue}
@@ -53,10 +53,10 @@ module _ (room : Rooms) where
   ended OutcomeOk success a h e = h e
   ended (Failed fault) success a h e = plainly (answer.Faulted fault) a e tt
 
-  called : (outcome : CallOutcome) → Fits room (call_answer outcome)
-  called (GotData bytes) = tt
-  called (GotWrote n) = tt
-  called (GotFailed fault) = tt
+  called : (k : ℕ) (outcome : CallOutcome) → HasRoomFor (CheckIn k outcome) room → Fits room (call_answer outcome)
+  called k (GotData bytes) r = r
+  called k (GotWrote n) r = tt
+  called k (GotFailed fault) r = tt
 
   handed_over : (m : Machine) (slots : List ℕ) (a : Answer) → hand_over_answer m slots ≡ Some a → Fits room a
   handed_over m [] a e = plainly _ a e tt
@@ -93,7 +93,7 @@ module _ (room : Rooms) where
   answered m (Prepare k) o a x y z r e = subst (Fits room) (sym e.3) tt
   answered m (Opened k outcome) o a x y z r e = ended outcome (new_handle m k) a (handle m k a) e
   answered m (CheckOut k h) o a x y z r e = mapped _ _ a (λ _. tt) e
-  answered m (CheckIn k outcome) o a x y z r e = plainly (call_answer outcome) a e (called outcome)
+  answered m (CheckIn k outcome) o a x y z r e = plainly (call_answer outcome) a e (called k outcome r)
   answered m (Close k h) o a x y z r e = mapped take_up_answer _ a taken_up e
   answered m (Finish by action outcome) o a x y z r e = ended outcome (Some answer.Done) a (λ f. plainly answer.Done a f tt) e
   answered m (Bind k name h) o a x y z r e = plainly answer.Done a e tt

@@ -2,8 +2,9 @@
 ghost use Rattle.std.specs.Prelude.{◌≡◌, ◌↔◌, IsTrue};
 
 use crate::ask::{Answer, Ask, CallOutcome};
+use crate::data::Data;
 use crate::machine::Failure;
-use crate::text::{Data, Name};
+use crate::text::Name;
 use jlr_types::Layout;
 
 impl Ask {

@@ -9,8 +9,8 @@ ghost use Rattle.jlr_ranges.specs.Ranges.{AnswerRange, ChoiceRange, CollectedRan
 use crate::list::{Ranged, all_in_range};
 use crate::object::work_in_range;
 use jlr_machine::ask::{Answer, Ask, CallOutcome, Stat};
+use jlr_machine::data::Data;
 use jlr_machine::entry::{Chosen, Collected, Entry};
-use jlr_machine::text::Data;
 use jlr_types::{Handle, Layout, Mutator};
 
 // ---- Asks

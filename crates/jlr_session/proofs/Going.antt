@@ -6,14 +6,12 @@ use Rattle.std.proofs.lemmas.List.Elements.{All-nil}
 use Rattle.jlr_machine.specs.declared.ask.Answer.{Answer}
 use Rattle.jlr_machine.specs.declared.ask.Answer.TheVariants.{Refused}
 use Rattle.jlr_wire.specs.Lines.{Held, begun, nothing_held, IsInLine}
-use Rattle.jlr_wire.specs.Feeding.{Feeds, Continues, Ends}
+use Rattle.jlr_wire.specs.Feeding.{Continues, Ends}
 use Rattle.jlr_wire.specs.Commands.{IsCommand}
 use Rattle.jlr_wire.specs.Replies.{words}
 use Rattle.jlr_wire.proofs.Streams.{line_goes_on, line_ends}
 use Rattle.jlr_wire.specs.declared.command.Command.{Command}
 use Rattle.jlr_wire.specs.declared.command.Command.TheVariants.{Bye}
-use Rattle.jlr_wire.specs.declared.pieces.Got.{Got}
-use Rattle.jlr_wire.specs.declared.pieces.Got.TheVariants.{More, Line, TooLong}
 use Rattle.jlr_session.specs.Carrying.{Carrying}
 use Rattle.jlr_session.specs.Turns.{Answers, AnswersAndSettles, reply_line, refusal_of}
 use Rattle.jlr_session.specs.Sessions.{Speaks}

@@ -1,5 +1,7 @@
 //! Commands carried out by the asks of a port.
-ghost use Rattle.std.specs.Prelude.{◌≡◌, ⊤};
+ghost use Rattle.std.specs.Prelude.{◌≡◌, false, ⊤};
+ghost use Rattle.jlr_machine.specs.Data.{tells_data};
+ghost use Rattle.jlr_event.specs.Events.{ask_of};
 ghost use Rattle.jlr_event.specs.declared.event.Event.TheVariants as event;
 ghost use Rattle.jlr_session.specs.Asks.{AsksOnce, AsksTwice, TellsOpened, TellsConnected, TellsRead, TellsWritten, TellsFinished, prepared_by, out_by, job_by, event_of};
 
@@ -7,7 +9,7 @@ use crate::call::{connected, opened, read_back, written_back};
 use crate::carry::CarryOut;
 use crate::event::event_for;
 use crate::job::{carry_out, job_of};
-use crate::port::Port;
+use crate::port::{Port, ReadRoom};
 use crate::reply::{handed_out, prepared, say};
 use jlr_device::{Device, Mode, Resource};
 use jlr_event::event::Event;
@@ -59,7 +61,7 @@ fn ask_once<P: Port<R>, R: Drop>(
     ensures { AsksOnce P.asking (event_of mutator command.now) port.old answer.new port.new }
 {
     match event_for(mutator, command) {
-        Some(event) => say(port.ask(event), answer),
+        Some(event) => say(port.ask(event, None), answer),
         None => *answer = Answer::Done,
     }
 }
@@ -80,8 +82,8 @@ where
         (λ _. TellsOpened (record { count = D.count; opens = D.may_open; connects = D.may_connect; failures = D.Res.handling.count }) mutator mode path.now device.old device.new)
         (device.new ≡ device.old) port.old answer.new port.new }
 {
-    match prepared(port.ask(Event::Prepare { mutator })) {
-        Ok(()) => say(port.ask(opened(device, mutator, mode, path)), answer),
+    match prepared(port.ask(Event::Prepare { mutator }, None)) {
+        Ok(()) => say(port.ask(opened(device, mutator, mode, path), None), answer),
         Err(refused) => *answer = refused,
     }
 }
@@ -101,8 +103,8 @@ where
         (λ _. TellsConnected (record { count = D.count; opens = D.may_open; connects = D.may_connect; failures = D.Res.handling.count }) mutator path.now device.old device.new)
         (device.new ≡ device.old) port.old answer.new port.new }
 {
-    match prepared(port.ask(Event::Prepare { mutator })) {
-        Ok(()) => say(port.ask(connected(device, mutator, path)), answer),
+    match prepared(port.ask(Event::Prepare { mutator }, None)) {
+        Ok(()) => say(port.ask(connected(device, mutator, path), None), answer),
         Err(refused) => *answer = refused,
     }
 }
@@ -116,12 +118,23 @@ fn read<P: Port<R>, R: Resource + Drop>(
     count: u8,
     answer: &mut Answer,
 )
+    requires { mutator ≡ P.asking.mutator port.old }
     ensures { AsksTwice P.asking (event.CheckOut mutator guard) out_by
         (TellsRead R.handling mutator count)
         ⊤ port.old answer.new port.new }
 {
-    match handed_out(port.ask(Event::CheckOut { mutator, guard })) {
-        Ok(resource) => say(port.ask(read_back(mutator, resource, count)), answer),
+    let ReadRoom { bytes, copies } = match port.read_room(guard) {
+        Ok(room) => room,
+        Err(by) => {
+            *answer = Answer::Refused(by);
+            return;
+        }
+    };
+    match handed_out(port.ask(Event::CheckOut { mutator, guard }, None)) {
+        Ok(resource) => {
+            let told = read_back(mutator, resource, count, bytes);
+            say(port.ask(told, Some(copies)), answer);
+        }
         Err(refused) => *answer = refused,
     }
 }
@@ -140,9 +153,9 @@ fn write<P: Port<R>, R: Resource + Drop>(
         ⊤ port.old answer.new port.new }
 {
     let bytes = digits.decode();
-    match handed_out(port.ask(Event::CheckOut { mutator, guard })) {
+    match handed_out(port.ask(Event::CheckOut { mutator, guard }, None)) {
         Ok(resource) => say(
-            port.ask(written_back(mutator, resource, bytes.as_slice())),
+            port.ask(written_back(mutator, resource, bytes.as_slice()), None),
             answer,
         ),
         Err(refused) => *answer = refused,
@@ -186,12 +199,13 @@ fn work<P: Port<R>, R: Resource + Drop>(
     event: Event<R>,
     answer: &mut Answer,
 )
+    requires { tells_data (ask_of event) ≡ false }
     ensures { AsksTwice P.asking event job_by
         (TellsFinished R.handling mutator)
         ⊤ port.old answer.new port.new }
 {
-    match job_of(port.ask(event)) {
-        Ok(job) => say(port.ask(carry_out(mutator.number(), job)), answer),
+    match job_of(port.ask(event, None)) {
+        Ok(job) => say(port.ask(carry_out(mutator.number(), job), None), answer),
         Err(refused) => *answer = refused,
     }
 }

@@ -8,7 +8,8 @@ use jlr_device::guarded::{guarded_connect, guarded_open, guarded_read, guarded_w
 use jlr_device::{Device, Mode, Resource};
 use jlr_event::event::Event;
 use jlr_machine::ask::CallOutcome;
-use jlr_machine::text::{Data, WriteCount};
+use jlr_machine::data::Data;
+use jlr_machine::text::WriteCount;
 use jlr_types::Mutator;
 
 /// The most bytes that one call reads.
@@ -41,27 +42,36 @@ pub(crate) fn connected<D: Device>(device: &mut D, mutator: Mutator, path: &str)
     }
 }
 
-/// Reads at most so many bytes of a resource, 200 at most, and gives the event that tells them and hands it back.
-pub(crate) fn read_back<R: Resource>(mutator: Mutator, resource: R, count: u8) -> Event<R>
+/// Reads at most so many bytes of a resource, 200 at most, into the room for them, and gives the event that tells them and hands it back.
+pub(crate) fn read_back<R: Resource>(
+    mutator: Mutator,
+    resource: R,
+    count: u8,
+    room: Data,
+) -> Event<R>
     ensures { TellsRead R.handling
         mutator count resource result }
 {
     let mut resource = resource;
     Event::CheckIn {
         mutator,
-        outcome: read_of(&mut resource, count),
+        outcome: read_of(&mut resource, count, room),
         resource,
     }
 }
 
-fn read_of<R: Resource>(resource: &mut R, count: u8) -> CallOutcome
+fn read_of<R: Resource>(resource: &mut R, count: u8, room: Data) -> CallOutcome
     ensures { Reads R.handling
         count resource.old result resource.new }
 {
     let mut buffer = [0u8; CALL_LIMIT];
-    let room = &mut buffer[..CALL_LIMIT.min(usize::from(count))];
-    match guarded_read(resource, room) {
-        Ok(n) => CallOutcome::Data(Data::from_slice(&room[..n]).unwrap()),
+    let bytes = &mut buffer[..CALL_LIMIT.min(usize::from(count))];
+    match guarded_read(resource, bytes) {
+        Ok(n) => {
+            let mut room = room;
+            room.fill(&bytes[..n]);
+            CallOutcome::Data(room)
+        }
         Err(fault) => CallOutcome::Failed(fault),
     }
 }

@@ -1,5 +1,7 @@
 //! The ask of a command that asks once.
-ghost use Rattle.std.specs.Prelude.{◌≡◌};
+ghost use Rattle.std.specs.Prelude.{◌≡◌, false, IfSome};
+ghost use Rattle.jlr_machine.specs.Data.{tells_data};
+ghost use Rattle.jlr_event.specs.Events.{ask_of};
 ghost use Rattle.jlr_event.specs.declared.event.Event.TheVariants.{MakeRef};
 ghost use Rattle.jlr_session.specs.Asks.{event_of};
 
@@ -10,7 +12,8 @@ use jlr_wire::command::Command;
 /// What a command that asks once asks in the name of a mutator. There is none for one that may ask twice, and for `bye`.
 #[inline(always)]
 pub(crate) fn event_for<R>(mutator: Mutator, command: &Command<'_>) -> Option<Event<R>>
-    ensures { result ≡ event_of mutator command.now }
+    ensures event { result ≡ event_of mutator command.now }
+    ensures told { IfSome result (λ event. tells_data (ask_of event) ≡ false) }
 {
     Some(match *command {
         Command::New { ref layout } => Event::New {

@@ -1,10 +1,37 @@
 //! What the asks of a session go to.
 use jlr_event::event::{Event, Reply};
-use jlr_types::Mutator;
+use jlr_machine::data::{CallRoom, Data};
+use jlr_types::{Handle, Mutator, Refusal};
+use std::alloc::{AllocError, Global};
+
+/// Room for what a call reads, and for the copies of it in what is told of the call.
+#[derive(Drop)]
+pub struct ReadRoom {
+    pub(crate) bytes: Data,
+    pub(crate) copies: CallRoom,
+}
+
+impl ReadRoom {
+    /// Such room.
+    ///
+    /// # Errors
+    /// `AllocError` where there is no memory.
+    pub fn new(alloc: Global) -> Result<Self, AllocError> {
+        Ok(ReadRoom {
+            bytes: Data::new(alloc)?,
+            copies: CallRoom::new(alloc)?,
+        })
+    }
+}
 
 /// What answers the asks of one mutator: a heap, or a seat at a heap that others share.
 pub trait Port<R> {
-    ghost use Rattle.std.specs.Prelude.{◌≡◌};
+    ghost use Rattle.std.specs.Prelude.{◌≡◌, IfErr, None};
+    ghost use Rattle.jlr_machine.specs.Data.{Brings};
+    ghost use Rattle.jlr_machine.specs.declared.ask.Answer.TheVariants.{Refused};
+    ghost use Rattle.jlr_event.specs.Events.{ask_of};
+    ghost use Rattle.jlr_event.specs.declared.event.Event.TheVariants.{CheckOut};
+    ghost use Rattle.jlr_event.specs.declared.event.Reply.TheVariants.{Answered};
     ghost use Rattle.jlr_session.specs.Asks.{Asking};
 
     // in whose name it asks, what an ask and its reply do, and what a settling does
@@ -14,8 +41,16 @@ pub trait Port<R> {
     fn mutator(&self) -> Mutator
         ensures { result ≡ asking.mutator self.now };
 
-    /// Asks, and gives the reply.
-    fn ask(&mut self, event: Event<R>) -> Reply<R>
+    /// Room for what a call reads of a guard's resource.
+    ///
+    /// # Errors
+    /// Where the room cannot be had, that by which the port declines to check the resource out.
+    fn read_room(&self, guard: Handle) -> Result<ReadRoom, Refusal>
+        ensures declined { IfErr result (λ by. asking.asks self.now (CheckOut (asking.mutator self.now) guard) (Answered (Refused by) None) self.now) };
+
+    /// Asks, and gives the reply. With the end of a call that read comes the room in which it is told again.
+    fn ask(&mut self, event: Event<R>, room: Option<CallRoom>) -> Reply<R>
+        requires room { Brings room (ask_of event) }
         ensures asked { asking.asks self.old event result self.new }
         ensures named { asking.mutator self.new ≡ asking.mutator self.old };
 

@@ -58,7 +58,7 @@ fn join<P: Port<R>, R: Drop>(port: &mut P) -> Answer
     ensures { (reply : Reply R) × P.asking.asks port.old (Join (P.asking.mutator port.old)) reply port.new × (result ≡ said_by reply) }
 {
     let mutator = port.mutator();
-    said(port.ask(Event::Join { mutator }))
+    said(port.ask(Event::Join { mutator }, None))
 }
 
 /// The mutator leaves.
@@ -67,7 +67,7 @@ fn leave<P: Port<R>, R: Drop>(port: &mut P)
     ensures { (reply : Reply R) × P.asking.asks port.old (Leave (P.asking.mutator port.old)) reply port.new }
 {
     let mutator = port.mutator();
-    let _ = port.ask(Event::Leave { mutator });
+    let _ = port.ask(Event::Leave { mutator }, None);
 }
 
 /// Tells why the mutator could not join.

@@ -25,7 +25,7 @@ pub(crate) fn entry_at(
     ensures { Reads (λ x. x) result bytes.new.now (entry_read version bytes.old.now) }
 {
     let seat = take_u8(bytes)?;
-    let ask = take_ask(version, bytes)?;
+    let ask = take_ask(alloc, version, bytes)?;
     let answer = take_answer(alloc, bytes)?;
     let choice = choice_at(alloc, bytes)?;
     Ok(Entry {

@@ -5,7 +5,7 @@ ghost use Rattle.jlr_wire.specs.Texts.{is_name_byte};
 ghost use Rattle.jlr_wire.specs.Fields.{mode_of, name_of, data_of};
 
 use jlr_device::Mode;
-use jlr_machine::text::{Data, Name};
+use jlr_machine::text::{CallBytes, Name};
 use std::marker::Model;
 
 /// The most bytes of a write.
@@ -60,7 +60,7 @@ impl<'a> Digits<'a> {
     }
 
     /// The bytes that they spell.
-    pub fn decode(&self) -> Data
+    pub fn decode(&self) -> CallBytes
         ensures { result ≡ self.now }
     {
         data(self.text).unwrap()
@@ -70,7 +70,7 @@ impl<'a> Digits<'a> {
 /// The 1 to 200 bytes that these hexadecimal digits spell.
 #[inline(never)]
 #[tactic(auto, unfolding(crate::specs::Fields::data_of))]
-fn data(digits: &[u8]) -> Option<Data>
+fn data(digits: &[u8]) -> Option<CallBytes>
     ensures { result ≡ data_of digits.now }
 {
     let count = digits.len() / 2;
@@ -80,5 +80,5 @@ fn data(digits: &[u8]) -> Option<Data>
     let mut room = [0u8; DATA_LIMIT];
     let bytes = &mut room[..count];
     hex::decode_to_slice(digits, bytes).ok()?;
-    Data::from_slice(bytes)
+    CallBytes::from_slice(bytes)
 }

@@ -8,7 +8,7 @@ use jlr_types::{ActionNo, Handle, Rid, Work};
 use std::alloc::{AllocError, Global};
 use std::str::SplitWhitespace;
 
-/// The answer of these words; none where they are no answer. Those that hold a list take memory.
+/// The answer of these words; none where they are no answer. Those that hold a list, or what a call read, take memory.
 ///
 /// # Errors
 /// `AllocError` where there is no memory.
@@ -18,7 +18,7 @@ pub fn answer_of(alloc: Global, text: &str) -> Result<Option<Answer>, AllocError
         Some("names") => names_of(alloc, &mut words),
         Some("notes") => notes_of(alloc, &mut words),
         Some("faults") => faults_of(alloc, &mut words),
-        Some(word) => Ok(short(word, &mut words)),
+        Some(word) => Ok(short(alloc, word, &mut words)),
         None => Ok(None),
     }
 }
@@ -66,11 +66,11 @@ fn rid(words: &mut SplitWhitespace<'_>) -> Option<Rid> {
     number(words).map(Rid::new)
 }
 
-fn short(word: &str, words: &mut SplitWhitespace<'_>) -> Option<Answer> {
+fn short(alloc: Global, word: &str, words: &mut SplitWhitespace<'_>) -> Option<Answer> {
     match word {
         "handle" => number(words).map(Handle::new).map(Answer::Handle),
         "int" => number(words).map(Answer::Int),
-        "data" => words.next().map(data_of).map(Answer::Data),
+        "data" => data_of(alloc, words.next()?).map(Answer::Data),
         "wrote" => wrote(words),
         "fault" => fault(words),
         "refused" => refused(words),

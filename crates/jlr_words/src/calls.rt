@@ -4,6 +4,7 @@ use jlr_event::event::Event;
 use jlr_machine::ask::CallOutcome;
 use jlr_machine::text::WriteCount;
 use jlr_types::{ActionNo, Fault, Mutator};
+use std::alloc::Global;
 use std::str::SplitWhitespace;
 
 fn ended(word: &str) -> Option<Result<(), Fault>> {
@@ -40,11 +41,9 @@ fn written(count: u8) -> Option<CallOutcome> {
     WriteCount::new(count).map(CallOutcome::Wrote)
 }
 
-fn called(word: &str, words: &mut SplitWhitespace<'_>) -> Option<CallOutcome> {
+fn called(alloc: Global, word: &str, words: &mut SplitWhitespace<'_>) -> Option<CallOutcome> {
     if word == "data" {
-        return words
-            .next()
-            .map(|digits| CallOutcome::Data(data_of(digits)));
+        return data_of(alloc, words.next()?).map(CallOutcome::Data);
     }
     match fault_of(word) {
         Some(fault) => Some(CallOutcome::Failed(fault)),
@@ -52,9 +51,13 @@ fn called(word: &str, words: &mut SplitWhitespace<'_>) -> Option<CallOutcome> {
     }
 }
 
-pub(crate) fn check_in(mutator: Mutator, words: &mut SplitWhitespace<'_>) -> Option<Event<u32>> {
+pub(crate) fn check_in(
+    alloc: Global,
+    mutator: Mutator,
+    words: &mut SplitWhitespace<'_>,
+) -> Option<Event<u32>> {
     let word = words.next()?;
-    let outcome = called(word, words)?;
+    let outcome = called(alloc, word, words)?;
     let resource = number(words)?;
     Some(Event::CheckIn {
         mutator,

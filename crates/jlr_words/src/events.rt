@@ -4,17 +4,18 @@ use crate::words::{byte, field, handle, layout_of, name, number};
 use jlr_event::event::Event;
 use jlr_machine::ask::FullMode;
 use jlr_types::{Handle, Length, Mutator, RefKind};
+use std::alloc::Global;
 use std::str::SplitWhitespace;
 
 /// The event that these words stand for.
-pub fn event_of(text: &str) -> Option<Event<u32>> {
+pub fn event_of(alloc: Global, text: &str) -> Option<Event<u32>> {
     let mut words = text.split_whitespace();
     let first = words.next()?;
     let event = if first == "by" {
         let mutator = Mutator::new(byte(&mut words)?);
-        asked(mutator, words.next()?, &mut words)?
+        asked(alloc, mutator, words.next()?, &mut words)?
     } else {
-        asked(Mutator::new(0), first, &mut words)?
+        asked(alloc, Mutator::new(0), first, &mut words)?
     };
     if words.next().is_some() {
         return None;
@@ -22,11 +23,16 @@ pub fn event_of(text: &str) -> Option<Event<u32>> {
     Some(event)
 }
 
-fn asked(mutator: Mutator, ask: &str, words: &mut SplitWhitespace<'_>) -> Option<Event<u32>> {
+fn asked(
+    alloc: Global,
+    mutator: Mutator,
+    ask: &str,
+    words: &mut SplitWhitespace<'_>,
+) -> Option<Event<u32>> {
     match ask {
         "finish" => finish(words),
         "opened" => opened(mutator, words),
-        "check_in" => check_in(mutator, words),
+        "check_in" => check_in(alloc, mutator, words),
         "new" => Some(new(mutator, words)),
         "array" => array(mutator, words),
         "set_int" => set_int(mutator, words),

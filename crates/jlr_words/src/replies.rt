@@ -1,5 +1,5 @@
 //! Replies, held against words.
-use crate::words::{data_of, fault_of, number, refusal_of};
+use crate::words::{bytes_of, fault_of, number, refusal_of};
 use jlr_event::event::Reply;
 use jlr_machine::ask::{Answer, Handed, Stat};
 use jlr_machine::items::Items;
@@ -123,7 +123,7 @@ fn is_fault(fault: Fault, words: &mut SplitWhitespace<'_>) -> bool {
 
 fn is_data(bytes: &[u8], words: &mut SplitWhitespace<'_>) -> bool {
     match words.next() {
-        Some(digits) => data_of(digits).as_slice() == bytes,
+        Some(digits) => bytes_of(digits).as_slice() == bytes,
         None => false,
     }
 }

@@ -1,8 +1,10 @@
 //! Words that are no asks: numbers, faults, refusals, names and bytes.
 ghost use Rattle.std.specs.Prelude.{◌≤◌};
 
-use jlr_machine::text::{Data, Name};
+use jlr_machine::data::Data;
+use jlr_machine::text::{CallBytes, Name};
 use jlr_types::{Fault, FieldKind, FieldNo, Handle, Layout, Refusal};
+use std::alloc::Global;
 use std::str::{FromStr, SplitWhitespace};
 
 pub(crate) fn number<T: FromStr>(words: &mut SplitWhitespace<'_>) -> Option<T>
@@ -97,8 +99,8 @@ fn digit(letter: u8) -> u8
 }
 
 // The bytes of these digits, two a byte, and none for `-`.
-pub(crate) fn data_of(digits: &str) -> Data {
-    let mut data = Data::new();
+pub(crate) fn bytes_of(digits: &str) -> CallBytes {
+    let mut data = CallBytes::new();
     let mut high = None;
     for letter in digits.bytes() {
         match high {
@@ -110,4 +112,9 @@ pub(crate) fn data_of(digits: &str) -> Data {
         }
     }
     data
+}
+
+// The same where a call read them; none where there is no memory.
+pub(crate) fn data_of(alloc: Global, digits: &str) -> Option<Data> {
+    Data::from_slice(alloc, bytes_of(digits).as_slice()).ok()?
 }

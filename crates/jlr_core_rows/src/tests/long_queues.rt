@@ -8,6 +8,7 @@ use jlr_event::event::Event;
 use jlr_machine::choice::Choice;
 use jlr_types::{Handle, RefKind};
 use jlr_words::{handle_in, is_reply};
+use std::alloc::Global;
 use std::test::Fail;
 
 // Of each 300 members the first keeps its handle, by which it is known again. With handles from 3 to 202 that are 60,000.
@@ -18,13 +19,13 @@ const LAST_KEPT: u8 = 202;
 const OTHERS: u32 = 299;
 
 // A heap with a queue at handle 1, and an object at handle 2.
-fn begins(core: &mut Core<u32>, choice: &mut Choice) -> bool
+fn begins(alloc: Global, core: &mut Core<u32>, choice: &mut Choice) -> bool
     requires { length core.old.machine.objects ≤ choice.old.cells }
     ensures { length core.new.machine.objects ≤ choice.new.cells }
 {
-    is_answered(core, choice, "join", "done")
-        && is_answered(core, choice, "queue", "handle 1")
-        && is_answered(core, choice, "new", "handle 2")
+    is_answered(alloc, core, choice, "join", "done")
+        && is_answered(alloc, core, choice, "queue", "handle 1")
+        && is_answered(alloc, core, choice, "new", "handle 2")
 }
 
 fn is_told(core: &mut Core<u32>, choice: &mut Choice, event: Event<u32>, wanted: &str) -> bool
@@ -157,14 +158,14 @@ fn takes_all(core: &mut Core<u32>, choice: &mut Choice) -> bool
 }
 
 // Whether all members come out as they came in, and nothing after them. The core is let go.
-fn come_out_in_their_order(made: (Core<u32>, Choice)) -> bool
+fn come_out_in_their_order(alloc: Global, made: (Core<u32>, Choice)) -> bool
     requires { length made.0.machine.objects ≤ made.1.cells }
 {
     let (mut core, mut choice) = made;
-    let in_order = begins(&mut core, &mut choice)
+    let in_order = begins(alloc, &mut core, &mut choice)
         && puts_all(&mut core, &mut choice)
         && takes_all(&mut core, &mut choice)
-        && is_answered(&mut core, &mut choice, "poll 1", "handle 0");
+        && is_answered(alloc, &mut core, &mut choice, "poll 1", "handle 0");
     let_go(core);
     in_order
 }
@@ -172,6 +173,6 @@ fn come_out_in_their_order(made: (Core<u32>, Choice)) -> bool
 #[test]
 fn sixty_thousand_members_come_out_in_their_order(rt: HostRuntime) -> Result<(), Fail> {
     let made = ready(rt.alloc(), shape_of("cells 65536")?)?;
-    assert!(rt; come_out_in_their_order(made));
+    assert!(rt; come_out_in_their_order(rt.alloc(), made));
     Ok(())
 }

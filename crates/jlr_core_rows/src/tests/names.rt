@@ -67,14 +67,14 @@ fn push(events: &mut Vec<Event<u32>>, event: Option<Event<u32>>) -> Result<(), A
 }
 
 // The asks that give an object 256 names, then one more, and then one that it has.
-fn ask_names(events: &mut Vec<Event<u32>>) -> Result<(), AllocError> {
-    push(events, event_of("join"))?;
-    push(events, event_of("new"))?;
+fn ask_names(alloc: Global, events: &mut Vec<Event<u32>>) -> Result<(), AllocError> {
+    push(events, event_of(alloc, "join"))?;
+    push(events, event_of(alloc, "new"))?;
     for number in 0..=255u8 {
         push(events, numbered(number))?;
     }
-    push(events, event_of("bind x 1"))?;
-    push(events, event_of("bind ab 1"))
+    push(events, event_of(alloc, "bind x 1"))?;
+    push(events, event_of(alloc, "bind ab 1"))
 }
 
 // What the ask of this number is answered.
@@ -97,7 +97,7 @@ fn all_but_one_bound(replies: &[Reply<u32>]) -> bool {
 
 fn names_end(alloc: Global) -> Result<bool, Fail> {
     let mut events = Vec::new(alloc);
-    ask_names(&mut events)?;
+    ask_names(alloc, &mut events)?;
     let replies = replies_to(alloc, shape_of("")?.limits, events)?;
     Ok(all_but_one_bound(replies.as_slice()))
 }

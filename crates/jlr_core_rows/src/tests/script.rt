@@ -209,19 +209,19 @@ fn holds(
         return Ok(count.parse() == Ok(objects_in(alloc, core)?));
     }
     Ok(match row.split_once(ARROW) {
-        Some((ask, wanted)) => is_answered(core, choice, ask, wanted),
-        None => is_seen(core, choice, row),
+        Some((ask, wanted)) => is_answered(alloc, core, choice, ask, wanted),
+        None => is_seen(alloc, core, choice, row),
     })
 }
 
 // An ask whose answer is not looked at, or whether the core rests: nothing is pending then, and nothing stands in the cleaner's line.
-fn is_seen(core: &mut Core<u32>, choice: &mut Choice, row: &str) -> bool
+fn is_seen(alloc: Global, core: &mut Core<u32>, choice: &mut Choice, row: &str) -> bool
     requires { length core.old.machine.objects ≤ choice.old.cells }
     ensures { length core.new.machine.objects ≤ choice.new.cells }
 {
     match row.strip_prefix("rests ") {
         Some(wanted) => rests(core) == (wanted == "yes"),
-        None => is_asked(core, choice, row),
+        None => is_asked(alloc, core, choice, row),
     }
 }
 
@@ -231,6 +231,7 @@ fn rests(core: &Core<u32>) -> bool {
 
 /// Whether an ask is answered so.
 pub(super) fn is_answered(
+    alloc: Global,
     core: &mut Core<u32>,
     choice: &mut Choice,
     ask: &str,
@@ -240,11 +241,11 @@ pub(super) fn is_answered(
     ensures { length core.new.machine.objects ≤ choice.new.cells }
 {
     if let Some((first, last)) = wanted.split_once(" up to ") {
-        return gives_handles(core, choice, ask, range(first, last));
+        return gives_handles(alloc, core, choice, ask, range(first, last));
     }
     match ask.strip_prefix("again ") {
-        Some(ask) => is_told_again(core, choice, ask, wanted),
-        None => matches!(told(core, choice, ask, wanted), Outcome::AsWanted),
+        Some(ask) => is_told_again(alloc, core, choice, ask, wanted),
+        None => matches!(told(alloc, core, choice, ask, wanted), Outcome::AsWanted),
     }
 }
 
@@ -273,33 +274,45 @@ fn answer(core: &mut Core<u32>, choice: &mut Choice, event: Event<u32>, wanted: 
     sort(&core.step(event, choice), wanted)
 }
 
-fn told(core: &mut Core<u32>, choice: &mut Choice, ask: &str, wanted: &str) -> Outcome
+fn told(
+    alloc: Global,
+    core: &mut Core<u32>,
+    choice: &mut Choice,
+    ask: &str,
+    wanted: &str,
+) -> Outcome
     requires { length core.old.machine.objects ≤ choice.old.cells }
     ensures { length core.new.machine.objects ≤ choice.new.cells }
 {
-    match event_of(ask) {
+    match event_of(alloc, ask) {
         Some(event) => answer(core, choice, event, wanted),
         None => Outcome::Otherwise,
     }
 }
 
 // Whether an ask is answered so, at once or after a want of memory.
-fn is_told_again(core: &mut Core<u32>, choice: &mut Choice, ask: &str, wanted: &str) -> bool
+fn is_told_again(
+    alloc: Global,
+    core: &mut Core<u32>,
+    choice: &mut Choice,
+    ask: &str,
+    wanted: &str,
+) -> bool
     requires { length core.old.machine.objects ≤ choice.old.cells }
     ensures { length core.new.machine.objects ≤ choice.new.cells }
 {
-    match told(core, choice, ask, wanted) {
+    match told(alloc, core, choice, ask, wanted) {
         Outcome::AsWanted => true,
-        Outcome::NoMemory => matches!(told(core, choice, ask, wanted), Outcome::AsWanted),
+        Outcome::NoMemory => matches!(told(alloc, core, choice, ask, wanted), Outcome::AsWanted),
         Outcome::Otherwise => false,
     }
 }
 
-fn is_asked(core: &mut Core<u32>, choice: &mut Choice, ask: &str) -> bool
+fn is_asked(alloc: Global, core: &mut Core<u32>, choice: &mut Choice, ask: &str) -> bool
     requires { length core.old.machine.objects ≤ choice.old.cells }
     ensures { length core.new.machine.objects ≤ choice.new.cells }
 {
-    match event_of(ask) {
+    match event_of(alloc, ask) {
         Some(event) => {
             drop(core.step(event, choice));
             true
@@ -316,11 +329,17 @@ fn range(first: &str, last: &str) -> Option<(u8, u8)> {
     ))
 }
 
-fn gives_handle(core: &mut Core<u32>, choice: &mut Choice, ask: &str, number: u8) -> bool
+fn gives_handle(
+    alloc: Global,
+    core: &mut Core<u32>,
+    choice: &mut Choice,
+    ask: &str,
+    number: u8,
+) -> bool
     requires { length core.old.machine.objects ≤ choice.old.cells }
     ensures { length core.new.machine.objects ≤ choice.new.cells }
 {
-    match event_of(ask) {
+    match event_of(alloc, ask) {
         Some(event) => handle_in(&core.step(event, choice)) == Some(number),
         None => false,
     }
@@ -328,6 +347,7 @@ fn gives_handle(core: &mut Core<u32>, choice: &mut Choice, ask: &str, number: u8
 
 // Whether an ask is answered by each of these handles, time after time.
 fn gives_handles(
+    alloc: Global,
     core: &mut Core<u32>,
     choice: &mut Choice,
     ask: &str,
@@ -340,7 +360,7 @@ fn gives_handles(
         return false;
     };
     for number in first..=last {
-        if !gives_handle(core, choice, ask, number) {
+        if !gives_handle(alloc, core, choice, ask, number) {
             return false;
         }
     }
@@ -351,7 +371,7 @@ fn gives_handles(
 pub(super) fn events_of(alloc: Global, asks: &str) -> Result<Vec<Event<u32>>, AllocError> {
     let mut events = Vec::new(alloc);
     for ask in asks.lines() {
-        if let Some(event) = event_of(ask) {
+        if let Some(event) = event_of(alloc, ask) {
             events.push(event)?;
         }
     }

@@ -31,6 +31,17 @@ const LISTS: &str = "
     opened 5 -> handle 1
     closes 0 65
 
+== what a call read is noted as it was answered: 1 64
+    join -> done
+    prepare -> prepared
+    opened 5 -> handle 1
+    check_out 1 -> out 5
+    check_in data 00ff 6 -> data 00ff
+    check_in data 00ff 7 -> refused NotOut 7
+    check_out 1 -> out 6
+    check_in data - 6 -> data -
+    closes 0 7
+
 -- The leave that is refused is no entry.
 == the ask after it cuts: 2 64
     join -> done

@@ -102,9 +102,9 @@ fn keep_back<L: Ledger>(seats: &mut Vec<Seat<L>>, how: Forgery) {
 // The first session joins and asks twice.
 fn begin<L: Ledger, T: Wait>(rt: &T, hall: &Hall<u32, L>, seat: Seat<L>) -> Seat<L> {
     let mut port = SeatPort::new(rt, hall, seat);
-    let _ = port.ask(Event::Join { mutator: me() });
-    let _ = port.ask(Event::Stat { mutator: me() });
-    let _ = port.ask(Event::Names { mutator: me() });
+    let _ = port.ask(Event::Join { mutator: me() }, None);
+    let _ = port.ask(Event::Stat { mutator: me() }, None);
+    let _ = port.ask(Event::Names { mutator: me() }, None);
     port.into_seat()
 }
 
@@ -113,7 +113,7 @@ fn go_on<L: Ledger, T: Wait>(rt: &T, hall: &Hall<u32, L>, seat: Seat<L>, times: 
     let mut port = SeatPort::new(rt, hall, seat);
     let mutator = port.mutator();
     for _ in 0..times {
-        let _ = port.ask(Event::Stat { mutator });
+        let _ = port.ask(Event::Stat { mutator }, None);
     }
     port.into_seat()
 }

@@ -122,12 +122,15 @@ fn gate_two_sessions(rt: HostRuntime) -> Result<(), Fail> {
 fn is_told<L: Ledger, T: Wait>(threads: &T, hall: &Hall<u32, L>, seat: Seat<L>) -> bool {
     let mut port = SeatPort::new(threads, hall, seat);
     let mutator = port.mutator();
-    let _ = port.ask(Event::Join { mutator });
-    let _ = port.ask(Event::MakeQueue { mutator });
-    let reply = port.ask(Event::Remove {
-        mutator,
-        queue: Handle::new(1),
-    });
+    let _ = port.ask(Event::Join { mutator }, None);
+    let _ = port.ask(Event::MakeQueue { mutator }, None);
+    let reply = port.ask(
+        Event::Remove {
+            mutator,
+            queue: Handle::new(1),
+        },
+        None,
+    );
     matches!(
         reply,
         Reply::Answered {

@@ -13,6 +13,7 @@ use jlr_hall::closing::CloseFault;
 use jlr_hall::hall::Hall;
 use jlr_hall::port::SeatPort;
 use jlr_hall::seat::Seat;
+use jlr_machine::data::CallRoom;
 use jlr_session::port::Port;
 use jlr_types::Limits;
 use jlr_words::{event_of, is_reply};
@@ -126,7 +127,7 @@ fn in_turns<L: Ledger, T: Wait>(
     for seat in seats {
         let _ = ports.push(SeatPort::new(threads, hall, seat));
     }
-    let wrong = first_wrong(&mut ports, rows);
+    let wrong = first_wrong(alloc, &mut ports, rows);
     let mut back = Vec::new(alloc);
     for port in ports {
         let _ = back.push(port.into_seat());
@@ -135,12 +136,13 @@ fn in_turns<L: Ledger, T: Wait>(
 }
 
 fn first_wrong<L: Ledger, T: Wait>(
+    alloc: Global,
     ports: &mut Vec<SeatPort<'_, u32, L, T>>,
     rows: &str,
 ) -> Option<usize> {
     for (number, row) in rows.lines().enumerate() {
         let row = row.trim();
-        if is_row(row) && !are_answered(ports, row) {
+        if is_row(row) && !are_answered(alloc, ports, row) {
             return Some(number);
         }
     }
@@ -152,7 +154,11 @@ fn is_row(line: &str) -> bool {
     !line.is_empty() && !line.starts_with("-- ") && !line.starts_with(CLOSE)
 }
 
-fn are_answered<L: Ledger, T: Wait>(ports: &mut Vec<SeatPort<'_, u32, L, T>>, row: &str) -> bool {
+fn are_answered<L: Ledger, T: Wait>(
+    alloc: Global,
+    ports: &mut Vec<SeatPort<'_, u32, L, T>>,
+    row: &str,
+) -> bool {
     let (asked, wanted) = row.split_once(ARROW).unwrap_or((row, ""));
     let (seat, asked) = seated(asked);
     let (times, ask) = counted(asked);
@@ -160,7 +166,7 @@ fn are_answered<L: Ledger, T: Wait>(ports: &mut Vec<SeatPort<'_, u32, L, T>>, ro
         return false;
     };
     for _ in 0..times {
-        if !is_answered(port, ask, wanted) {
+        if !is_answered(alloc, port, ask, wanted) {
             return false;
         }
     }
@@ -168,12 +174,16 @@ fn are_answered<L: Ledger, T: Wait>(ports: &mut Vec<SeatPort<'_, u32, L, T>>, ro
 }
 
 fn is_answered<L: Ledger, T: Wait>(
+    alloc: Global,
     port: &mut SeatPort<'_, u32, L, T>,
     ask: &str,
     wanted: &str,
 ) -> bool {
-    match event_of(ask) {
-        Some(event) => is_reply(&port.ask(event), wanted),
+    let Ok(room) = CallRoom::new(alloc) else {
+        return false;
+    };
+    match event_of(alloc, ask) {
+        Some(event) => is_reply(&port.ask(event, Some(room)), wanted),
         None => false,
     }
 }

@@ -2,11 +2,11 @@
 use super::copies::{failure, name};
 use super::{list, slots};
 use jlr_machine::ask::{Answer, Ask, Handed};
+use jlr_machine::data::Data;
 use jlr_machine::entry::{Chosen, Collected, Entry};
 use jlr_machine::fresh::FreshSlots;
 use jlr_machine::items::Items;
 use jlr_machine::kept::KeptSlots;
-use jlr_machine::text::Data;
 use jlr_types::{Mutator, Refusal, Slot};
 use std::alloc::{AllocError, Global};
 use std::test::Fail;
@@ -59,8 +59,9 @@ fn faults(alloc: Global) -> Result<Answer, AllocError> {
     Ok(Answer::Faults(list(alloc, &[failure()])?))
 }
 
-fn data() -> Result<Answer, Fail> {
-    Ok(Answer::Data(Data::from_slice(&[1, 2]).ok_or("too long")?))
+fn data(alloc: Global) -> Result<Answer, Fail> {
+    let data = Data::from_slice(alloc, &[1, 2])?.ok_or("too long")?;
+    Ok(Answer::Data(data))
 }
 
 fn names_are_copied(alloc: Global) -> Result<bool, Fail> {
@@ -74,7 +75,7 @@ fn faults_are_copied(alloc: Global) -> Result<bool, Fail> {
 }
 
 fn data_are_copied(alloc: Global) -> Result<bool, Fail> {
-    let answer = data()?;
+    let answer = data(alloc)?;
     Ok(is_the_data(&answer.copy(alloc)?))
 }
 

@@ -1,10 +1,11 @@
 //! Lists, tables, texts, and lists of what was kept.
 use super::slots;
 use jlr_machine::copy::{copy_items, copy_slice};
+use jlr_machine::data::Data;
 use jlr_machine::items::Items;
 use jlr_machine::kept::KeptSlots;
 use jlr_machine::table::Table;
-use jlr_machine::text::{Data, Name, Text, TextFull};
+use jlr_machine::text::{Name, Text, TextFull};
 use jlr_types::Slot;
 use std::alloc::{AllocError, Global};
 use std::test::Fail;
@@ -52,10 +53,10 @@ fn is_seven_eight(text: &Text<2>) -> bool {
     !text.is_empty() && text.len() == 2 && text.as_slice() == [7, 8].as_slice()
 }
 
-fn is_data(bytes: &[u8]) -> bool {
-    match Data::from_slice(bytes) {
-        Some(data) => data.len() == bytes.len(),
-        None => false,
+fn is_data(alloc: Global, bytes: &[u8]) -> Result<bool, AllocError> {
+    match Data::from_slice(alloc, bytes)? {
+        Some(data) => Ok(data.as_slice() == bytes),
+        None => Ok(false),
     }
 }
 
@@ -83,12 +84,13 @@ fn lists_and_tables_hold_what_they_were_given(rt: HostRuntime) -> Result<(), Fai
 }
 
 #[test]
-fn texts_hold_what_fits(rt: HostRuntime) {
+fn texts_hold_what_fits(rt: HostRuntime) -> Result<(), Fail> {
     assert!(rt; a_text_grows_until_it_is_full());
-    assert!(rt; is_data(&[0; 200]));
-    assert!(rt; !is_data(&[0; 201]));
+    assert!(rt; is_data(rt.alloc(), &[0; 200])?);
+    assert!(rt; !is_data(rt.alloc(), &[0; 201])?);
     assert!(rt; is_name(&[97; 32]));
     assert!(rt; !is_name(b"") && !is_name(b"A") && !is_name(b"a b") && !is_name(&[97; 33]));
+    Ok(())
 }
 
 /// Lists of which bits take less memory than the list, and others.

@@ -1,5 +1,6 @@
 //! Entries, read from words.
 use jlr_machine::ask::{Answer, Ask};
+use jlr_machine::data::Data;
 use jlr_machine::entry::{Chosen, Collected, Entry};
 use jlr_machine::fresh::FreshSlots;
 use jlr_machine::items::Items;
@@ -16,7 +17,7 @@ pub(super) fn entry_of(alloc: Global, row: &str) -> Result<Option<Entry>, AllocE
     let (answer, choice) = told.split_once(", ").unwrap_or((told, ""));
     let choice = choice_of(alloc, choice)?;
     match answer_of(alloc, answer)? {
-        Some(answer) => Ok(entry(ask_of(ask), answer, choice)),
+        Some(answer) => Ok(entry(ask_of(alloc, ask), answer, choice)),
         None => Ok(None),
     }
 }
@@ -30,8 +31,8 @@ fn entry(ask: Option<Ask>, answer: Answer, choice: Chosen) -> Option<Entry> {
     })
 }
 
-fn ask_of(text: &str) -> Option<Ask> {
-    event_of(text)?.plain()
+fn ask_of(alloc: Global, text: &str) -> Option<Ask> {
+    event_of(alloc, text)?.plain(Data::new(alloc).ok())
 }
 
 // ---- Choices

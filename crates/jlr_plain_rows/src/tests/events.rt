@@ -3,6 +3,7 @@
 //! to be the row; where it is something else, that stands behind an arrow. Each operand of a row is another number, so that none can stand for
 //! another.
 use jlr_event::event::{Event, Reply};
+use jlr_machine::data::Data;
 use std::alloc::{AllocError, Global};
 use std::test::Fail;
 
@@ -83,7 +84,7 @@ fn events_are_their_asks(rt: HostRuntime) -> Result<(), Fail> {
     for row in EVENTS.lines() {
         if !row.trim().is_empty() {
             let (given, wanted) = parts(row.trim());
-            let event = event_of(given).ok_or("no event")?;
+            let event = event_of(rt.alloc(), given).ok_or("no event")?;
             let got = event_told(rt.alloc(), event)?;
             assert!(rt; got.as_str() == wanted, "{row} is told as {got}");
         }
@@ -111,8 +112,8 @@ fn parts(row: &str) -> (&str, &str) {
 
 // The copy of an event's ask in words, with its resource.
 fn event_told(alloc: Global, event: Event<u32>) -> Result<String, AllocError> {
-    let text = match event.plain() {
-        Some(ask) => ask_text(alloc, &ask.copy())?,
+    let text = match event.plain(Some(Data::new(alloc)?)) {
+        Some(ask) => ask_text(alloc, &ask.copy(alloc)?)?,
         None => String::from_str(alloc, "none")?,
     };
     with_resource(alloc, text, event.into_resource())

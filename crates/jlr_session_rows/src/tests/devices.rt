@@ -95,6 +95,18 @@ const ROWS: &[Row] = &[
     Row::On(Place::Seat(Manner::ForgetsTheFile)),
     Row::Play("open w a\nwrite 1 00\n", SessionEnd::WriteFault, "= 1\n"),
     Row::Asked("Join; Prepare; Opened ok; Out; Leave"),
+    Row::Case("a read whose room cannot be had checks nothing out"),
+    Row::On(Place::Seat(Manner::HasNoRoom)),
+    Row::Device(Plan {
+        calls: &[Call::Take(1)],
+        ..WELL
+    }),
+    Row::Play(
+        "open w a\nread 1 4\nwrite 1 00\n",
+        SessionEnd::End,
+        "= 1\n! 1\nwrote 1\n",
+    ),
+    Row::Asked("Join; Prepare; Opened ok; Out; In wrote; Leave"),
     Row::Case("a full count makes no call"),
     Row::Device(Plan {
         failed: u64::MAX - 1,

@@ -2,7 +2,8 @@
 use jlr_device::script::ScriptResource;
 use jlr_event::event::{Event, Reply};
 use jlr_machine::ask::{Answer, CallOutcome, Handed};
-use jlr_session::port::Port;
+use jlr_machine::data::CallRoom;
+use jlr_session::port::{Port, ReadRoom};
 use jlr_types::{ActionNo, Fault, Handle, Mutator, Progress, Refusal, Rid, Work};
 use std::alloc::Global;
 
@@ -16,6 +17,8 @@ pub(super) enum Manner {
     RefusesOpened,
     /// What is handed out for a call has no resource with it.
     ForgetsTheFile,
+    /// There is no memory for what a call reads.
+    HasNoRoom,
 }
 
 /// Answers the asks of mutator 3 as a heap with one file would, and keeps the file. Writes down what was asked, and counts its settlings.
@@ -23,6 +26,7 @@ pub(super) enum Manner {
 /// `gc` is answered as a piece of marking would be, `stat` by an answer that has no line, and each other command by `ok`.
 #[derive(Drop)]
 pub(super) struct Seat {
+    alloc: Global,
     pub asked: String,
     pub settlings: usize,
     manner: Manner,
@@ -32,6 +36,7 @@ pub(super) struct Seat {
 impl Seat {
     pub(super) fn new(alloc: Global, manner: Manner) -> Seat {
         Seat {
+            alloc,
             asked: String::new(alloc),
             settlings: 0,
             manner,
@@ -110,7 +115,18 @@ impl Port<ScriptResource> for Seat {
         Mutator::new(3)
     }
 
-    fn ask(&mut self, event: Event<ScriptResource>) -> Reply<ScriptResource>
+    fn read_room(&self, _guard: Handle) -> Result<ReadRoom, Refusal> {
+        match self.manner {
+            Manner::HasNoRoom => Err(Refusal::NoMemory),
+            _ => ReadRoom::new(self.alloc).or(Err(Refusal::NoMemory)),
+        }
+    }
+
+    fn ask(
+        &mut self,
+        event: Event<ScriptResource>,
+        _room: Option<CallRoom>,
+    ) -> Reply<ScriptResource>
         ensures { Unit {0} }
     {
         self.write_down(name_of(&event));

@@ -1,40 +1,35 @@
-use Rattle.std.proofs.Common.{◌≡◌, ℕ, List, Option, None, Some, inl, inr, arith, sym, ap, subst, ◌∙◌}
+use Rattle.std.proofs.Common.{ℕ, List, None, inl, inr, arith, sym, ap, subst, ◌∙◌}
 use Rattle.jlr_machine.specs.declared.entry.Chosen.{Chosen}
 use Rattle.jlr_event.specs.declared.event.Reply.TheVariants.{Answered}
 use Rattle.jlr_core.specs.Steps.{IsStep}
-use Rattle.jlr_book.proofs.Entering.{end_chose, end_has_room, list_fits, not_refused, owed_less_by, turned_away, writes}
+use Rattle.jlr_book.proofs.Entering.{end_chose, list_fits, not_refused, owed_less_by, turned_away, writes}
 use Rattle.jlr_book.proofs.entry.record_end.Goals as goal
 
 pub copy-requires : goal.copy-requires
 copy-requires g c =
-    let was = subst (λ e. IsStep c.args.core.now e c.step.result c.step.new.choice.chosen c.step.new.self) c.replace.ensures.value c.step.ensures.step in
-    let s = subst (λ q. IsStep c.args.core.now c.args.event.now q c.step.new.choice.chosen c.step.new.self) c.in-Answered.is was in
-    list_fits c.args.core.now c.step.new.self c.args.event.now c.in-Answered.answer c.in-Answered.resource c.step.new.choice.chosen c.args.ask c.none.result s c.requires.ask c.requires.stands
-    (end_has_room c.args.ask c.none.result c.requires.end)
+    let s = subst (λ q. IsStep c.args.core.now c.args.event q c.step.new.choice.chosen c.step.new.self) c.in-Answered.is c.step.ensures.step in
+    list_fits c.args.core.now c.step.new.self c.args.event c.in-Answered.answer c.in-Answered.resource c.step.new.choice.chosen c.args.ask c.args.room s c.requires.ask c.requires.stands c.requires.room
 
 pub push_reserved-requires : goal.push_reserved-requires
 push_reserved-requires g c =
-    let was = subst (λ e. IsStep c.args.core.now e c.step.result c.step.new.choice.chosen c.step.new.self) c.replace.ensures.value c.step.ensures.step in
-    let s = subst (λ q. IsStep c.args.core.now c.args.event.now q c.step.new.choice.chosen c.step.new.self) c.in-Answered.is was in
-    let less = owed_less_by c.args.core.now c.step.new.self c.args.event.now (Answered c.in-Answered.answer c.in-Answered.resource) c.step.new.choice.chosen c.args.ask s c.requires.ask c.requires.end (λ by e. not_refused c.in-Answered.answer by (sym c.is_refused.ensures ∙ c.if-is_refused.false) e) c.requires.stands in
+    let s = subst (λ q. IsStep c.args.core.now c.args.event q c.step.new.choice.chosen c.step.new.self) c.in-Answered.is c.step.ensures.step in
+    let less = owed_less_by c.args.core.now c.step.new.self c.args.event (Answered c.in-Answered.answer c.in-Answered.resource) c.step.new.choice.chosen c.args.ask s c.requires.ask c.requires.end (λ by e. not_refused c.in-Answered.answer by (sym c.is_refused.ensures ∙ c.if-is_refused.false) e) c.requires.stands in
     omega (arith, less, c.requires.places)
 
 pub returns-then-is_refused-clause-writes : goal.returns-then-is_refused-clause-writes
 returns-then-is_refused-clause-writes g c =
-    let was = subst (λ e. IsStep c.args.core.now e c.step.result c.step.new.choice.chosen c.step.new.self) c.replace.ensures.value c.step.ensures.step in
-    let s = subst (λ q. IsStep c.args.core.now c.args.event.now q c.step.new.choice.chosen c.step.new.self) c.in-Answered.is was in
-    inr (turned_away c.args.core.now c.step.new.self c.args.event.now c.in-Answered.answer c.in-Answered.resource c.step.new.choice.chosen c.args.trace.now.items s (sym c.is_refused.ensures ∙ c.if-is_refused.true))
+    let s = subst (λ q. IsStep c.args.core.now c.args.event q c.step.new.choice.chosen c.step.new.self) c.in-Answered.is c.step.ensures.step in
+    inr (turned_away c.args.core.now c.step.new.self c.args.event c.in-Answered.answer c.in-Answered.resource c.step.new.choice.chosen c.args.trace.now.items s (sym c.is_refused.ensures ∙ c.if-is_refused.true))
 
 pub returns-else-is_refused-clause-writes : goal.returns-else-is_refused-clause-writes
 returns-else-is_refused-clause-writes g c =
-    let was = subst (λ e. IsStep c.args.core.now e c.step.result c.step.new.choice.chosen c.step.new.self) c.replace.ensures.value c.step.ensures.step in
-    let s = subst (λ q. IsStep c.args.core.now c.args.event.now q c.step.new.choice.chosen c.step.new.self) c.in-Answered.is was in
+    let s = subst (λ q. IsStep c.args.core.now c.args.event q c.step.new.choice.chosen c.step.new.self) c.in-Answered.is c.step.ensures.step in
     let written : Chosen = record { collected = None; fresh = c.new.result } in
-    let nothing = end_chose c.args.core.now c.step.new.self c.args.event.now c.in-Answered.answer c.in-Answered.resource c.args.ask c.step.new.choice.chosen s c.requires.ask c.requires.end c.requires.stands in
+    let nothing = end_chose c.args.core.now c.step.new.self c.args.event c.in-Answered.answer c.in-Answered.resource c.args.ask c.step.new.choice.chosen s c.requires.ask c.requires.end c.requires.stands in
     let plain = ap {A = List ℕ} {B = Chosen} (λ l. record { collected = None; fresh = l }) c.new.ensures in
-    let noted = subst (λ x. IsStep c.args.core.now c.args.event.now (Answered c.in-Answered.answer c.in-Answered.resource) x c.step.new.self) (sym (plain ∙ nothing)) s in
+    let noted = subst (λ x. IsStep c.args.core.now c.args.event (Answered c.in-Answered.answer c.in-Answered.resource) x c.step.new.self) (sym (plain ∙ nothing)) s in
     inl (
-      writes c.args.core.now c.step.new.self c.args.event.now c.in-Answered.answer c.copy.result c.in-Answered.resource c.args.ask written
+      writes c.args.core.now c.step.new.self c.args.event c.in-Answered.answer c.copy.result c.in-Answered.resource c.args.ask written
           c.args.trace.now.items c.push_reserved.new.self.items c.args.seat noted c.requires.ask c.push_reserved.ensures.items c.copy.ensures,
       λ by e. not_refused c.in-Answered.answer by (sym c.is_refused.ensures ∙ c.if-is_refused.false) e,
     )

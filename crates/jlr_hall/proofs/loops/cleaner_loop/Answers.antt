@@ -1,5 +1,4 @@
 use Rattle.std.proofs.Common.{None}
-use Rattle.jlr_hall.specs.Loops.{CleansIn}
 use Rattle.jlr_hall.proofs.Turns.{cleans_none}
 use Rattle.jlr_hall.proofs.loops.cleaner_loop.Goals.{in-None, in-Some+then-wait_for_line, in-Some+else-wait_for_line+then-not-clean}
 use Rattle.jlr_hall.proofs.loops.cleaner_loop.Goals as goal

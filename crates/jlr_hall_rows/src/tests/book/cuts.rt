@@ -41,6 +41,17 @@ const LISTS: &str = "
     trace 65 1
     last 66
 
+== what a call read is told in its entry, and a refused end is none
+    join -> done
+    prepare -> prepared
+    opened 5 -> handle 1
+    check_out 1 -> out 5
+    check_in data 00ff 6 -> data 00ff
+    check_in data 00ff 7 -> refused NotOut 7
+    check_out 1 -> out 6
+    check_in data - 6 -> data -
+    trace 0 7
+
 -- The list answers are copied into the trace, and so are new objects and what a collection did.
 == lists, new objects and collections are entries
     join -> done

@@ -8,6 +8,7 @@
 //! A text has several lists. Each begins with `== ` and its name, and has a book of its own, with 16 cells, one session and one resource,
 //! that cuts at 64 entries. A line that begins with `-- ` is a comment.
 use jlr_book::book::Book;
+use jlr_machine::data::CopyRoom;
 use jlr_types::{Handle, Limits, Mutator, Progress};
 use jlr_words::{event_of, is_reply};
 use std::alloc::{AllocError, Global};
@@ -40,16 +41,16 @@ fn first_wrong_of<'a>(
     rows: &'a str,
 ) -> Result<Option<&'a str>, AllocError> {
     let mut book = Book::new(alloc, limits)?;
-    let wrong = first_wrong(&mut book, rows);
+    let wrong = first_wrong(alloc, &mut book, rows);
     drop(book);
     Ok(wrong)
 }
 
 // The first row that is not as it says.
-fn first_wrong<'a>(book: &mut Book<u32>, rows: &'a str) -> Option<&'a str> {
+fn first_wrong<'a>(alloc: Global, book: &mut Book<u32>, rows: &'a str) -> Option<&'a str> {
     for row in rows.lines() {
         let row = row.trim();
-        if is_row(row) && !holds(book, row) {
+        if is_row(row) && !holds(alloc, book, row) {
             return Some(row);
         }
     }
@@ -61,27 +62,30 @@ fn is_row(line: &str) -> bool {
     !line.is_empty() && !line.starts_with("-- ")
 }
 
-fn holds(book: &mut Book<u32>, row: &str) -> bool {
+fn holds(alloc: Global, book: &mut Book<u32>, row: &str) -> bool {
     match row.split_once(ARROW) {
-        Some((asked, wanted)) => are_answered(book, asked, wanted),
+        Some((asked, wanted)) => are_answered(alloc, book, asked, wanted),
         None => looked(book, row) == Some(true),
     }
 }
 
-fn are_answered(book: &mut Book<u32>, asked: &str, wanted: &str) -> bool {
+fn are_answered(alloc: Global, book: &mut Book<u32>, asked: &str, wanted: &str) -> bool {
     let (times, asked) = counted(asked);
     let (seat, ask) = seated(asked);
     for _ in 0..times {
-        if !is_answered(book, seat, ask, wanted) {
+        if !is_answered(alloc, book, seat, ask, wanted) {
             return false;
         }
     }
     true
 }
 
-fn is_answered(book: &mut Book<u32>, seat: u8, ask: &str, wanted: &str) -> bool {
-    match event_of(ask) {
-        Some(event) => is_reply(&book.step(seat, event), wanted),
+fn is_answered(alloc: Global, book: &mut Book<u32>, seat: u8, ask: &str, wanted: &str) -> bool {
+    let Ok(room) = CopyRoom::new(alloc) else {
+        return false;
+    };
+    match event_of(alloc, ask) {
+        Some(event) => is_reply(&book.step(seat, event, Some(room)), wanted),
         None => false,
     }
 }

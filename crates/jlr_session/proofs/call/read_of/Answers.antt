@@ -7,8 +7,8 @@ use Rattle.jlr_session.proofs.call.read_of.Goals as goal
 pub returns-in-Ok : goal.returns-in-Ok
 returns-in-Ok g c =
     let e = c.guarded_read.ensures in
-    let text : c.unwrap.result ≡ take c.in-Ok.n c.guarded_read.new.buf = search rules in
-    let is : Data c.unwrap.result ≡ read_outcome c.guarded_read.result c.guarded_read.new.buf = rw c.in-Ok.is (ap Data text) in
+    let text : c.fill.new.self ≡ take c.in-Ok.n c.guarded_read.new.buf = search rules in
+    let is : Data c.fill.new.self ≡ read_outcome c.guarded_read.result c.guarded_read.new.buf = rw c.in-Ok.is (ap Data text) in
     reads g.R.Resource.handling c.args.count _ _ c.guarded_read.result _ c.guarded_read.new.buf _ (search rules) e.either e.counted e.told e.uncalled e.bound is
 
 pub returns-in-Err : goal.returns-in-Err

@@ -1,8 +1,6 @@
-use Rattle.std.proofs.Common.{◌+◌, arith, subst, ap, length, sym, ◌∙◌}
-use Rattle.jlr_machine.specs.declared.machine.Machine.{Machine}
+use Rattle.std.proofs.Common.{◌+◌, arith, subst, ap, length, sym}
 use Rattle.jlr_book.specs.Histories.{HasNumbers, IsHistory}
 use Rattle.jlr_book.specs.Rules.{Cuts}
-use Rattle.jlr_book.proofs.Entering.{closed}
 use Rattle.jlr_book.proofs.Histories.{cut_is_history, cut_owes, cuts, told, IsCut}
 use Rattle.jlr_book.proofs.book.Book.cut.Goals as goal
 

@@ -1,9 +1,8 @@
-use Rattle.std.proofs.Common.{◌+◌, ◌≤◌, arith, rules, subst, sym, ap, length, ◌∙◌}
-use Rattle.jlr_machine.specs.declared.machine.Machine.{Machine}
+use Rattle.std.proofs.Common.{◌+◌, ◌≤◌, arith, rules, subst, sym, ap, length}
 use Rattle.jlr_book.specs.Histories.{HasNumbers}
 use Rattle.jlr_book.specs.Rules.{AsksBy}
 use Rattle.jlr_book.specs.Writing.{Writes}
-use Rattle.jlr_book.proofs.Entering.{closed, still_suits}
+use Rattle.jlr_book.proofs.Entering.{still_suits}
 use Rattle.jlr_book.proofs.Histories.{asks_by, cut_asks_by, cut_goes_on, enter_goes_on, told, IsCut}
 use Rattle.jlr_book.proofs.book.Book.enter.Given.{Over}
 use Rattle.jlr_book.proofs.book.Book.enter.Goals as goal
@@ -26,8 +25,8 @@ invariant_of-self-then-len-self g c =
     let numbers = subst HasNumbers (sym c.self.view_is) c.if-not-has_numbers.ensures in
     let room : c.reserve.new.self.len + 130 ≤ c.reserve.new.self.cap = search rules in
     let same = c.reserve.ensures.len in
-    let w = subst (λ xs. Writes c.args.seat old.core xs c.args.event.now c.record.new.reply new.core new.trace.items) c.reserve.ensures.items c.record.ensures.writes in
-    let x = enter_goes_on old.limits old.base old.image old.trace.items new.trace.items old.core new.core c.args.seat c.args.event.now c.record.new.reply kept.history w c.record.ensures.cells (omega (arith, numbers, l)) in
+    let w = subst (λ xs. Writes c.args.seat old.core xs c.args.event c.record.result new.core new.trace.items) c.reserve.ensures.items c.record.ensures.writes in
+    let x = enter_goes_on old.limits old.base old.image old.trace.items new.trace.items old.core new.core c.args.seat c.args.event c.record.result kept.history w c.record.ensures.cells (omega (arith, numbers, l)) in
     record { history = x.0; places = omega (arith, l, l', x.1, x.2, room, same, c.record.ensures.room); choice = omega (arith, kept.choice, c.record.ensures.choice) }
 
 pub returns-then-len-self : goal.returns-then-len-self
@@ -37,9 +36,9 @@ returns-then-len-self g c =
     let l = old.trace.ok.0 in
     let same = c.reserve.ensures.len in
     let numbers = subst HasNumbers (sym c.self.view_is) c.if-not-has_numbers.ensures in
-    let w = subst (λ xs. Writes c.args.seat old.core xs c.args.event.now c.record.new.reply new.core new.trace.items) c.reserve.ensures.items c.record.ensures.writes in
-    subst (λ h. AsksBy c.args.seat h c.args.event.now c.record.new.reply (told old.limits old.base old.image new.trace.items new.core)) c.self.view_is
-    (asks_by old.limits old.base old.image old.trace.items new.trace.items old.core new.core c.args.seat c.args.event.now c.record.new.reply numbers (omega (arith, l, same, c.if-len-self.true)) w)
+    let w = subst (λ xs. Writes c.args.seat old.core xs c.args.event c.record.result new.core new.trace.items) c.reserve.ensures.items c.record.ensures.writes in
+    subst (λ h. AsksBy c.args.seat h c.args.event c.record.result (told old.limits old.base old.image new.trace.items new.core)) c.self.view_is
+    (asks_by old.limits old.base old.image old.trace.items new.trace.items old.core new.core c.args.seat c.args.event c.record.result numbers (omega (arith, l, same, c.if-len-self.true)) w)
 
 -- ---- After a cut
 
@@ -75,8 +74,8 @@ invariant_of-self-2 g c =
     let new = c.record-2.new in
     let l' = new.trace.ok.0 in
     let room : c.reserve.new.self.len + 130 ≤ c.reserve.new.self.cap = search rules in
-    let w = subst (λ xs. Writes c.args.seat c.cut_to_image.new.core xs c.args.event.now c.record-2.new.reply new.core new.trace.items) c.in-Ok-cut_to_image.ensures.items c.record-2.ensures.writes in
-    let x = cut_goes_on old.limits old.base c.in-Ok-cut_to_image.used old.image c.cut_to_image.new.image old.trace.items old.core c.cut_to_image.new.core new.trace.items new.core c.args.seat c.args.event.now c.record-2.new.reply (cut_is g c) w c.record-2.ensures.cells in
+    let w = subst (λ xs. Writes c.args.seat c.cut_to_image.new.core xs c.args.event c.record-2.result new.core new.trace.items) c.in-Ok-cut_to_image.ensures.items c.record-2.ensures.writes in
+    let x = cut_goes_on old.limits old.base c.in-Ok-cut_to_image.used old.image c.cut_to_image.new.image old.trace.items old.core c.cut_to_image.new.core new.trace.items new.core c.args.seat c.args.event c.record-2.result (cut_is g c) w c.record-2.ensures.cells in
     record { history = x.0; places = omega (arith, l', x.1, x.2, room, c.cut_to_image.ensures.room, c.record-2.ensures.room); choice = omega (arith, kept.choice, c.cut_to_image.ensures.choice, c.record-2.ensures.choice) }
 
 pub returns : goal.returns
@@ -85,6 +84,6 @@ returns g c =
     let new = c.record-2.new in
     let l = old.trace.ok.0 in
     let same = c.reserve.ensures.len in
-    let w = subst (λ xs. Writes c.args.seat c.cut_to_image.new.core xs c.args.event.now c.record-2.new.reply new.core new.trace.items) c.in-Ok-cut_to_image.ensures.items c.record-2.ensures.writes in
-    subst (λ h. AsksBy c.args.seat h c.args.event.now c.record-2.new.reply (told old.limits (old.base + c.in-Ok-cut_to_image.used) c.cut_to_image.new.image new.trace.items new.core)) c.self.view_is
-    (cut_asks_by old.limits old.base c.in-Ok-cut_to_image.used old.image c.cut_to_image.new.image old.trace.items old.core c.cut_to_image.new.core new.trace.items new.core c.args.seat c.args.event.now c.record-2.new.reply (cut_is g c) (omega (arith, l, same, c.if-len-self.false)) w)
+    let w = subst (λ xs. Writes c.args.seat c.cut_to_image.new.core xs c.args.event c.record-2.result new.core new.trace.items) c.in-Ok-cut_to_image.ensures.items c.record-2.ensures.writes in
+    subst (λ h. AsksBy c.args.seat h c.args.event c.record-2.result (told old.limits (old.base + c.in-Ok-cut_to_image.used) c.cut_to_image.new.image new.trace.items new.core)) c.self.view_is
+    (cut_asks_by old.limits old.base c.in-Ok-cut_to_image.used old.image c.cut_to_image.new.image old.trace.items old.core c.cut_to_image.new.core new.trace.items new.core c.args.seat c.args.event c.record-2.result (cut_is g c) (omega (arith, l, same, c.if-len-self.false)) w)

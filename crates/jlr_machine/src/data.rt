@@ -1,0 +1,149 @@
+//! What one call reads, behind one place: an ask or an answer that tells none stays small.
+ghost use Rattle.std.specs.Prelude.{◌≡◌, ◌≤◌, ◌↔◌, [], IfOk, IfSome, IsSome, is_some, length};
+
+use crate::text::CallBytes;
+use std::alloc::{AllocError, Global};
+use std::marker::Model;
+
+/// What one call read: at most 200 bytes. It takes memory, also where it holds none.
+#[derive(Drop)]
+pub struct Data {
+    bytes: Box<CallBytes>,
+}
+
+impl Model for Data {
+    ghost use Rattle.std.specs.Prelude.{ℕ, List};
+
+    ghost Value = { List ℕ };
+
+    ghost view = { λ d. d.bytes.value };
+}
+
+impl Data {
+    /// Room for what a call reads. It holds no byte.
+    ///
+    /// # Errors
+    /// `AllocError` where there is no memory.
+    pub fn new(alloc: Global) -> Result<Self, AllocError>
+        ensures { IfOk result (λ d. d ≡ []) }
+    {
+        Ok(Data {
+            bytes: Box::new(alloc, CallBytes::new())?,
+        })
+    }
+
+    /// These bytes, or none where they are more than 200.
+    ///
+    /// # Errors
+    /// `AllocError` where there is no memory.
+    pub fn from_slice(alloc: Global, bytes: &[u8]) -> Result<Option<Self>, AllocError>
+        ensures fits { IfOk result (λ found. IsSome found ↔ (length bytes.now ≤ 200)) }
+        ensures bytes { IfOk result (λ found. IfSome found (λ d. d ≡ bytes.now)) }
+    {
+        let Some(bytes) = CallBytes::from_slice(bytes) else {
+            return Ok(None);
+        };
+        Ok(Some(Data {
+            bytes: Box::new(alloc, bytes)?,
+        }))
+    }
+
+    /// The bytes, at most 200.
+    pub fn as_slice(&self) -> &[u8]
+        ensures bytes { result.now ≡ self.now }
+        ensures fits { length result.now ≤ 200 }
+    {
+        self.bytes.as_slice()
+    }
+
+    /// Puts these bytes, at most 200, in place of those that it holds. Takes no memory.
+    pub fn fill(&mut self, bytes: &[u8])
+        requires { length bytes.now ≤ 200 }
+        ensures { self.new ≡ bytes.now }
+    {
+        self.bytes.fill(bytes);
+    }
+
+    /// The same bytes in room that is there. Takes no memory.
+    pub fn copy_into(&self, room: Data) -> Data
+        ensures { result ≡ self.now }
+    {
+        let mut room = room;
+        room.fill(self.as_slice());
+        room
+    }
+
+    /// The same bytes again.
+    ///
+    /// # Errors
+    /// `AllocError` where there is no memory.
+    pub fn copy(&self, alloc: Global) -> Result<Data, AllocError>
+        ensures { IfOk result (λ copy. copy ≡ self.now) }
+    {
+        Ok(self.copy_into(Data::new(alloc)?))
+    }
+}
+
+/// Room for a copy of the end of a call: what was read stands in its ask and in its answer.
+#[derive(Drop)]
+pub struct CopyRoom {
+    ask: Data,
+    answer: Data,
+}
+
+impl CopyRoom {
+    /// Such room.
+    ///
+    /// # Errors
+    /// `AllocError` where there is no memory.
+    pub fn new(alloc: Global) -> Result<Self, AllocError> {
+        Ok(CopyRoom {
+            ask: Data::new(alloc)?,
+            answer: Data::new(alloc)?,
+        })
+    }
+
+    /// The room for the ask, and that for the answer, if there is any.
+    #[inline]
+    pub fn split(room: Option<Self>) -> (Option<Data>, Option<Data>)
+        ensures ask { is_some result.0 ≡ is_some room }
+        ensures answer { is_some result.1 ≡ is_some room }
+    {
+        match room {
+            Some(CopyRoom { ask, answer }) => (Some(ask), Some(answer)),
+            None => (None, None),
+        }
+    }
+}
+
+/// Room for the two copies of the end of a call: in the history, and in the transcript of the seat that asked.
+#[derive(Drop)]
+pub struct CallRoom {
+    entry: CopyRoom,
+    item: CopyRoom,
+}
+
+impl CallRoom {
+    /// Such room.
+    ///
+    /// # Errors
+    /// `AllocError` where there is no memory.
+    pub fn new(alloc: Global) -> Result<Self, AllocError> {
+        Ok(CallRoom {
+            entry: CopyRoom::new(alloc)?,
+            item: CopyRoom::new(alloc)?,
+        })
+    }
+
+    /// The room for the entry of the history, and that for the item of the transcript, if there is any.
+    #[inline]
+    pub fn split(room: Option<Self>) -> (Option<CopyRoom>, Option<CopyRoom>)
+        ensures entry { is_some result.0 ≡ is_some room }
+        ensures item { is_some result.1 ≡ is_some room }
+    {
+        match room {
+            Some(CallRoom { entry, item }) => (Some(entry), Some(item)),
+            None => (None, None),
+        }
+    }
+}
