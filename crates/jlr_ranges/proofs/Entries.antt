@@ -6,7 +6,8 @@ use Rattle.std.proofs.lemmas.Bool.{leb-true}
 use Rattle.jlr_types.specs.declared.RefKind.TheVariants.{Soft}
 use Rattle.jlr_machine.specs.declared.machine.Machine.{Machine}
 use Rattle.jlr_machine.specs.declared.ask.Ask.{Ask}
-use Rattle.jlr_machine.specs.declared.ask.Ask.TheVariants.{Full, Collect, Prepare, Names as AskNames, Notes as AskNotes, Faults as AskFaults}
+use Rattle.jlr_machine.specs.declared.ask.Ask.TheVariants.{Full, Collect, Prepare, Names as AskNames, Notes as AskNotes, Faults as AskFaults, CheckIn}
+use Rattle.jlr_machine.specs.declared.ask.CallOutcome.TheVariants.{Data as GotData, Wrote as GotWrote, Failed as GotFailed}
 use Rattle.jlr_machine.specs.declared.ask.FullMode.TheVariants.{Policy, ClearAll}
 use Rattle.jlr_machine.specs.declared.ask.Answer.{Answer}
 use Rattle.jlr_machine.specs.declared.ask.Answer.TheVariants.{Names, Notes, Faults}
@@ -128,12 +129,15 @@ choice_fits m w e legal range =
 -- ---- Answers
 
 abbrev room : Rooms
-room = record { names = 256; notes = 256; faults = 256 }
+room = record { names = 256; notes = 256; faults = 256; bytes = 1 }
 
 has_room : (ask : Ask) → HasRoomFor ask room
 has_room (AskNames k) = omega arith
 has_room (AskNotes k) = omega arith
 has_room (AskFaults k) = omega arith
+has_room (CheckIn k (GotData bytes)) = omega arith
+has_room (CheckIn k (GotWrote n)) = tt
+has_room (CheckIn k (GotFailed fault)) = tt
 has_room ask = tt
 
 answer_fits : (a : Answer) → AnswerRange a → Fits room a → AnswerFits a

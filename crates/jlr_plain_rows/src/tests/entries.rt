@@ -32,7 +32,8 @@ fn entry(ask: Option<Ask>, answer: Answer, choice: Chosen) -> Option<Entry> {
 }
 
 fn ask_of(alloc: Global, text: &str) -> Option<Ask> {
-    event_of(alloc, text)?.plain(Data::new(alloc).ok())
+    let room = Data::new(alloc).ok()?;
+    event_of(alloc, text)?.plain(Some(room))
 }
 
 // ---- Choices
