@@ -2,6 +2,7 @@
 ghost use Rattle.std.specs.Prelude.{◌≡◌, ◌++◌, IfOk, length};
 ghost use Rattle.std.specs.List.Sorted.{IsPermutation};
 ghost use Rattle.jlr_resource.specs.Resources.{values};
+ghost use Rattle.jlr_core.specs.Steps.{IsEmpty};
 ghost use Rattle.jlr_core.specs.Runs.{IsRunOf, resources_of_events, resources_of_replies};
 
 use crate::engine::Core;
@@ -27,11 +28,38 @@ pub fn run<R: Drop>(
     ensures age { IfOk result (λ out. out.1.soft_age ≡ limits.soft_age) }
     ensures flow { IfOk result (λ out. IsPermutation (resources_of_events events.items) (resources_of_replies out.0.items ++ values out.1.table)) }
 {
-    let mut core = Core::new(alloc, limits)?;
     let mut choice = Choice::new(alloc, limits.cells)?;
+    let mut core = Core::new(alloc, limits)?;
+    match answer_all(alloc, limits, &mut core, &mut choice, events) {
+        Ok(replies) => Ok((replies, core)),
+        Err(wanting) => {
+            drop(core);
+            Err(wanting)
+        }
+    }
+}
+
+/// The replies to events in order, by a core of the empty machine of the limits.
+///
+/// # Errors
+/// `AllocError` where there is no room for the replies.
+fn answer_all<R: Drop>(
+    alloc: Global,
+    limits: Limits,
+    core: &mut Core<R>,
+    choice: &mut Choice,
+    events: Vec<Event<R>>,
+) -> Result<Vec<Reply<R>>, AllocError>
+    requires empty { IsEmpty limits.cells limits.sessions limits.resources limits.soft_age 1 core.old }
+    requires room { choice.old.cells ≡ limits.cells }
+    ensures run { IfOk result (λ replies. IsRunOf limits events.items replies.items core.new) }
+    ensures cells { IfOk result (λ _. length core.new.machine.objects ≡ limits.cells) }
+    ensures age { IfOk result (λ _. core.new.soft_age ≡ limits.soft_age) }
+    ensures flow { IfOk result (λ replies. IsPermutation (resources_of_events events.items) (resources_of_replies replies.items ++ values core.new.table)) }
+{
     let mut replies = Vec::with_capacity(alloc, events.len())?;
     for event in events {
-        replies.push(core.step(event, &mut choice))?;
+        replies.push(core.step(event, choice))?;
     }
-    Ok((replies, core))
+    Ok(replies)
 }

@@ -2,7 +2,7 @@ use Rattle.std.proofs.Common.{◌≡◌, ◌++◌, length}
 use Rattle.std.specs.List.Sorted.{IsPermutation}
 use Rattle.jlr_resource.specs.Resources.{values}
 use Rattle.jlr_core.specs.Runs.{IsRunOf, resources_of_events, resources_of_replies}
-use Rattle.jlr_core.proofs.run.run.Given as goal
+use Rattle.jlr_core.proofs.run.answer_all.Given as goal
 
 abbrev pub invariant-loop-event : goal.invariant-loop-event
 invariant-loop-event g l = record {

@@ -11,20 +11,20 @@ use Rattle.jlr_event.specs.declared.event.Reply.{Reply}
 use Rattle.jlr_core.specs.Runs.{IsRunOf, resources_of_events, resources_of_replies}
 use Rattle.jlr_core.proofs.Ranges.{limits_hold}
 use Rattle.jlr_core.proofs.RunLaws.{run_more, flow_more, start_run, start_flow, start_cells}
-use Rattle.jlr_core.proofs.run.run.Goals as goal
+use Rattle.jlr_core.proofs.run.answer_all.Goals as goal
 
 pub loop-event-init : goal.loop-event-init
 loop-event-init g c =
     let l = c.args.limits in
-    let e = c.in_ok-core.ensures.empty in
+    let e = c.requires.empty in
     let fit = limits_hold l in
     record {
       run =
-          start_run c.in_ok-core.core l c.in_ok-replies.replies.items (empty_is_well_formed l.cells l.sessions l.resources fit.0 fit.2) e c.in_ok-replies.ensures.items;
-      flow = start_flow c.in_ok-replies.replies.items c.in_ok-core.core.table c.in_ok-replies.ensures.items e.none_held;
+          start_run c.args.core.now l c.in_ok-replies.replies.items (empty_is_well_formed l.cells l.sessions l.resources fit.0 fit.2) e c.in_ok-replies.ensures.items;
+      flow = start_flow c.in_ok-replies.replies.items c.args.core.now.table c.in_ok-replies.ensures.items e.none_held;
       age = e.age;
-      cells = start_cells c.in_ok-core.core l.cells l.sessions l.resources e.machine;
-      room = ap (λ (x : Choosing). x.cells) c.in_ok-choice.ensures;
+      cells = start_cells c.args.core.now l.cells l.sessions l.resources e.machine;
+      room = c.requires.room;
     }
 
 pub step-requires : goal.step-requires
