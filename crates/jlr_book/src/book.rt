@@ -219,7 +219,8 @@ impl<R: Drop> Book<R> {
 impl<R: Drop> Book<R> {
     /// Why an ask that is no end is declined for which there is no memory: for that, unless fewer than 1,024 numbers are left.
     pub fn wanting(&self) -> Refusal
-        ensures { (HasNumbers self.now × (result ≡ Refusal.NoMemory)) ⊎ ((2 ^ 64 ≤ last self.now + 1024) × (result ≡ Refusal.Exhausted)) }
+        ensures { (HasNumbers self.now × (result ≡ Refusal.NoMemory))
+            ⊎ ((2 ^ 64 ≤ last self.now + 1024) × (result ≡ Refusal.Exhausted)) }
     {
         if self.has_numbers() {
             Refusal::NoMemory

@@ -33,7 +33,8 @@ pub(crate) enum ItemRoom {
     Bytes(Data),
 }
 
-/// Room for the copy of an answer. Contracts see how many items of each kind of list it has room for, and how many times the bytes of a call.
+/// Room for the copy of an answer. Contracts see how many items of each kind of list it has room for, and how many times the
+/// bytes of a call.
 #[derive(Drop)]
 pub struct AnswerRoom {
     alloc: Global,

@@ -55,7 +55,8 @@ fn answer_all<R: Drop>(
     ensures run { IfOk result (λ replies. IsRunOf limits events.items replies.items core.new) }
     ensures cells { IfOk result (λ _. length core.new.machine.objects ≡ limits.cells) }
     ensures age { IfOk result (λ _. core.new.soft_age ≡ limits.soft_age) }
-    ensures flow { IfOk result (λ replies. IsPermutation (resources_of_events events.items) (resources_of_replies replies.items ++ values core.new.table)) }
+    ensures flow { IfOk result (λ replies. IsPermutation
+        (resources_of_events events.items) (resources_of_replies replies.items ++ values core.new.table)) }
 {
     let mut replies = Vec::with_capacity(alloc, events.len())?;
     for event in events {

@@ -62,7 +62,8 @@ impl<'a, R: Drop, L: Ledger, T: Wait> Port<R> for SeatPort<'a, R, L, T> {
     }
 
     fn read_room(&self, guard: Handle) -> Result<ReadRoom, Refusal>
-        ensures declined { IfErr result (λ by. Asked {R = R} self.now (CheckOut self.now.index guard) (Answered (Refused by) None) self.now) }
+        ensures declined { IfErr result (λ by.
+            Asked {R = R} self.now (CheckOut self.now.index guard) (Answered (Refused by) None) self.now) }
     {
         let _declined = guard;
         match ReadRoom::new(self.seat.alloc()) {

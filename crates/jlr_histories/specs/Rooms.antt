@@ -1,4 +1,5 @@
--- What an entry takes to be written down: the items of a list answer, the bytes of one that tells what a call read, and the slots of new objects.
+-- What an entry takes to be written down: the items of a list answer, the bytes of one that tells what a call read, and the slots
+-- of new objects.
 use Rattle.std.specs.Prelude.{ℕ, ◌≤◌, length}
 use Rattle.jlr_machine.specs.declared.machine.Machine.{Machine}
 use Rattle.jlr_machine.specs.declared.ask.Ask.{Ask}
