@@ -9,8 +9,8 @@ use std::thread;
 use std::time::Instant;
 
 struct Records {
-    entries: Vec<[u8; 528]>,
-    notes: Vec<[u8; 432]>,
+    entries: Vec<[u8; 168]>,
+    notes: Vec<[u8; 112]>,
 }
 
 fn serve(mut stream: UnixStream, records: Arc<Mutex<Records>>) {
@@ -25,8 +25,8 @@ fn serve(mut stream: UnixStream, records: Arc<Mutex<Records>>) {
                 records.entries.clear();
                 records.notes.clear();
             }
-            records.entries.push([bytes[0]; 528]);
-            records.notes.push([bytes[1]; 432]);
+            records.entries.push([bytes[0]; 168]);
+            records.notes.push([bytes[1]; 112]);
         }
         if stream.write_all(&bytes[..count]).is_err() {
             return;

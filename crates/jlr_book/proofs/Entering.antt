@@ -41,6 +41,7 @@ use Rattle.jlr_core.specs.Flows.{GoesOut}
 use Rattle.jlr_core.specs.State.{entry_of}
 use Rattle.jlr_core.specs.Steps.{IsStep}
 use Rattle.jlr_book.specs.Histories.{Ends, seated}
+use Rattle.jlr_book.specs.Lists.{is_brief}
 use Rattle.jlr_book.specs.Making.{SuitsChoice, SuitsEntry}
 use Rattle.jlr_book.specs.Writing.{Refuses, Stands, Writes, refuses}
 use Rattle.jlr_book.specs.declared.room.ChoiceRoom.{ChoiceRoom}
@@ -200,6 +201,26 @@ end_has_room (ask.CheckIn k (GotWrote n)) brought room is brings holds = tt
 end_has_room (ask.CheckIn k (GotFailed fault)) brought room is brings holds = tt
 end_has_room (ask.Finish by action outcome) brought room is brings holds = tt
 end_has_room a brought room is brings holds = absurd (both_ways false refl is)
+
+-- an ask whose entry takes its place alone is no end, and needs no room
+pub brief_is_no_end : (asked : Ask) → is_brief (Some asked) ≡ true → is_end asked ≡ false
+brief_is_no_end (ask.Leave k) is = absurd (both_ways false refl is)
+brief_is_no_end (ask.Opened k outcome) is = absurd (both_ways false refl is)
+brief_is_no_end (ask.CheckIn k outcome) is = absurd (both_ways false refl is)
+brief_is_no_end (ask.Finish by action outcome) is = absurd (both_ways false refl is)
+brief_is_no_end a is = refl
+
+pub brief_has_room : (asked : Ask) (room : Rooms) → is_brief (Some asked) ≡ true → HasRoomFor asked room
+brief_has_room (ask.Names k) room is = absurd (both_ways false refl is)
+brief_has_room (ask.Notes k) room is = absurd (both_ways false refl is)
+brief_has_room (ask.Faults k) room is = absurd (both_ways false refl is)
+brief_has_room (ask.CheckIn k outcome) room is = absurd (both_ways false refl is)
+brief_has_room a room is = tt
+
+pub brief_tells_no_data : {X : Type 0} (asked : Option Ask) (room : Option X) → is_brief asked ≡ true → Brings room asked
+brief_tells_no_data None room is = refl
+brief_tells_no_data (Some (ask.CheckIn k outcome)) room is = absurd (both_ways false refl is)
+brief_tells_no_data (Some a) room is = refl
 
 -- room of both kinds is there where room is
 pub brings_as : {X Y : Type 0} (room : Option X) (part : Option Y) (asked : Option Ask) → is_some part ≡ is_some room → Brings room asked → Brings part asked

@@ -1,5 +1,10 @@
 -- Room for the items of a list answer, or for what a call read.
-use Rattle.std.specs.Prelude.{◌≡◌, [], vec_capacity}
+use Rattle.std.specs.Prelude.{◌≡◌, Bool, true, false, not, [], Option, Some, None, vec_capacity}
+use Rattle.jlr_machine.specs.declared.ask.Ask.{Ask}
+use Rattle.jlr_machine.specs.declared.ask.Ask.TheVariants.{Names as AskNames, Notes as AskNotes, Faults as AskFaults}
+use Rattle.jlr_machine.specs.declared.ask.Answer.{Answer}
+use Rattle.jlr_machine.specs.declared.ask.Answer.TheVariants.{Names as NamesAre, Notes as NotesAre, Faults as FaultsAre, Data}
+use Rattle.jlr_machine.specs.Refusals.{is_end}
 use Rattle.jlr_histories.specs.Rooms.{Rooms}
 use Rattle.jlr_book.specs.declared.room.ItemRoom.{ItemRoom}
 use Rattle.jlr_book.specs.declared.room.ItemRoom.TheVariants.{None as NoList, Names, Notes, Faults, Bytes}
@@ -19,3 +24,19 @@ IsVacant (Names room) = room.items ≡ []
 IsVacant (Notes room) = room.items ≡ []
 IsVacant (Faults room) = room.items ≡ []
 IsVacant (Bytes room) = Unit {0}
+
+-- the entry of this ask takes its place alone, where nothing is collected: it is no end and asks for no list, and a piece of marking is no entry
+abbrev pub is_brief : Option Ask → Bool
+is_brief None = false
+is_brief (Some (AskNames k)) = false
+is_brief (Some (AskNotes k)) = false
+is_brief (Some (AskFaults k)) = false
+is_brief (Some ask) = not (is_end ask)
+
+-- the answers whose copies take room: lists, and what a call read
+abbrev pub is_long : Answer → Bool
+is_long (NamesAre items) = true
+is_long (NotesAre items) = true
+is_long (FaultsAre items) = true
+is_long (Data bytes) = true
+is_long answer = false

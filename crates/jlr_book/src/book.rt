@@ -1,23 +1,25 @@
 //! The book: the core, and the history that led to it.
-ghost use Rattle.std.specs.Prelude.{◌≡◌, ◌⊎◌, ◌≤◌, ◌+◌, ◌^◌, ◌↔◌, true, false, [], IfOk, IsErr, IsTrue, MatchBool, OnOk, OnErr, None, Some};
+ghost use Rattle.std.specs.Prelude.{◌≡◌, ◌⊎◌, ◌≤◌, ◌<◌, ◌+◌, ◌^◌, ◌↔◌, true, false, [], IfOk, IsErr, IsTrue, MatchBool, MatchOption, OnOk, OnErr, None, Some, vec_len, vec_capacity};
 ghost use Rattle.jlr_machine.specs.Data.{Brings};
 ghost use Rattle.jlr_machine.specs.Refusals.{is_end, refusal};
 ghost use Rattle.jlr_event.specs.Events.{ask_of};
 ghost use Rattle.jlr_book.specs.Due.{IsDue};
+ghost use Rattle.jlr_book.specs.Lists.{is_brief};
 ghost use Rattle.jlr_book.specs.Histories.{last, HasNumbers, IsHistory, IsNewBook};
 ghost use Rattle.jlr_book.specs.Rules.{AsksBy, BookSteps, Cuts, EndsBy, MarksBy};
 ghost use Rattle.jlr_book.specs.Writing.{Pieces};
 
 use crate::cut::cut_to_image;
-use crate::entry::{record, record_end};
+use crate::entry::{record, record_end, record_plainly};
 use crate::event::{is_end, refuse};
 use crate::room::{AnswerRoom, EntryRoom};
 use jlr_core::engine::Core;
 use jlr_event::event::{Event, Reply};
-use jlr_machine::ask::Ask;
+use jlr_machine::ask::{Answer, Ask, Handed};
 use jlr_machine::choice::Choice;
 use jlr_machine::data::{CopyRoom, Data};
-use jlr_machine::entry::Entry;
+use jlr_machine::entry::{Chosen, Entry};
+use jlr_machine::fresh::FreshSlots;
 use jlr_machine::machine::Machine;
 use jlr_types::{Handle, Limits, Mutator, Progress, Refusal};
 use std::alloc::{AllocError, Global};
@@ -173,6 +175,35 @@ impl<R: Drop> Book<R> {
         requires { Brings room (ask_of event) }
         ensures { BookSteps seat self.old event result self.new }
     {
+        if !is_brief(&event) {
+            return self.step_at_length(seat, event, room);
+        }
+        let Some(ask) = event.plain(None) else {
+            return self.mark_piece(event);
+        };
+        if self.has_numbers()
+            && has_places(&self.trace, self.limits.trace)
+            && !self.core.will_collect(&event)
+        {
+            return record_plainly(
+                &mut self.core,
+                &mut self.choice,
+                AnswerRoom::none(self.alloc),
+                &mut self.trace,
+                seat,
+                ask,
+                event,
+            );
+        }
+        self.enter_with_room(seat, ask, event)
+    }
+
+    /// The same for any event: its room is made first, and the trace is cut where it is as long as it may be.
+    #[inline(never)]
+    fn step_at_length(&mut self, seat: u8, event: Event<R>, room: Option<CopyRoom>) -> Reply<R>
+        requires { Brings room (ask_of event) }
+        ensures { BookSteps seat self.old event result self.new }
+    {
         let (ask_room, answer_room) = CopyRoom::split(room);
         let Some(ask) = event.plain(ask_room) else {
             return self.mark_piece(event);
@@ -180,7 +211,7 @@ impl<R: Drop> Book<R> {
         if is_end(&ask) {
             return self.end(seat, ask, answer_room, event);
         }
-        self.enter(seat, ask, event)
+        self.enter_with_room(seat, ask, event)
     }
 
     /// A piece of marking of at most so many cells, which is no entry. Takes no memory.
@@ -236,6 +267,27 @@ impl<R: Drop> Book<R> {
         u64::MAX - self.last() >= SPARE_NUMBERS
     }
 
+    /// A step of the handler, if its entry finds its place and nothing has to be cut: what `step` does for `HandOver` then. Else nothing is done.
+    pub(crate) fn hand_over_briefly(&mut self, seat: u8) -> Option<Handed>
+        ensures { MatchOption result (self.new ≡ self.old)
+            (λ handed. BookSteps seat self.old Event.HandOver (Reply.Answered (Answer.Handed handed) None) self.new) }
+    {
+        if !self.has_numbers() || !has_places(&self.trace, self.limits.trace) {
+            return None;
+        }
+        let handed = self.core.hand_over();
+        self.trace.push_reserved(Entry {
+            seat,
+            ask: Ask::HandOver,
+            answer: Answer::Handed(handed),
+            choice: Chosen {
+                collected: None,
+                fresh: FreshSlots::new(),
+            },
+        });
+        Some(handed)
+    }
+
     /// A piece of marking, which is no entry.
     #[inline(never)]
     fn mark_piece(&mut self, event: Event<R>) -> Reply<R>
@@ -266,8 +318,8 @@ impl<R: Drop> Book<R> {
     }
 
     /// The room of its entry, its place, and one for each end that may be owed then are made before anything changes.
-    #[inline(always)]
-    fn enter(&mut self, seat: u8, ask: Ask, event: Event<R>) -> Reply<R>
+    #[inline(never)]
+    fn enter_with_room(&mut self, seat: u8, ask: Ask, event: Event<R>) -> Reply<R>
         requires ask { ask_of event ≡ Some ask }
         requires end { is_end ask ≡ false }
         ensures { AsksBy seat self.old event result self.new }
@@ -312,5 +364,27 @@ impl<R: Drop> Book<R> {
             ask,
             event,
         )
+    }
+}
+
+/// Whether a trace of at most so many entries has a place for one more, and for each end that may be owed then.
+#[inline(always)]
+fn has_places(trace: &Vec<Entry>, limit: u32) -> bool
+    ensures { MatchBool result ((vec_len trace.now < limit) × (vec_len trace.now + 130 ≤ vec_capacity trace.now))
+        ((limit ≤ vec_len trace.now) ⊎ (vec_capacity trace.now < vec_len trace.now + 130)) }
+{
+    trace.len() < limit as usize && trace.capacity() - trace.len() >= PLACES
+}
+
+/// Whether the entry of an event needs no more than its place, unless it collects: it is no end, no piece of marking, and asks for no list.
+#[inline(always)]
+fn is_brief<R>(event: &Event<R>) -> bool
+    ensures { result ≡ is_brief (ask_of event.now) }
+{
+    match event {
+        Event::Names { .. } | Event::Notes { .. } | Event::Faults { .. } => false,
+        Event::Leave { .. } | Event::Opened { .. } | Event::CheckIn { .. } => false,
+        Event::Finish { .. } | Event::Mark { .. } => false,
+        _ => true,
     }
 }

@@ -51,7 +51,7 @@ pub(crate) fn record<R: Drop>(
 
 /// An entry without a collection. The core is lent a choice.
 #[inline(always)]
-fn record_plainly<R: Drop>(
+pub(crate) fn record_plainly<R: Drop>(
     core: &mut Core<R>,
     lent: &mut Choice,
     room: AnswerRoom,

@@ -4,6 +4,7 @@ ghost use Rattle.jlr_machine.specs.declared.ask.Answer.{Answer as AnswerOf};
 ghost use Rattle.jlr_machine.specs.Refusals.{is_end};
 ghost use Rattle.jlr_event.specs.Events.{ask_of, answer_in};
 ghost use Rattle.jlr_histories.specs.Rooms.{Fits, HasRoomFor};
+ghost use Rattle.jlr_book.specs.Lists.{is_long};
 ghost use Rattle.jlr_book.specs.Making.{SuitsChoice, SuitsEntry};
 
 use jlr_core::engine::Core;
@@ -122,8 +123,29 @@ impl AnswerRoom {
         }
     }
 
-    /// The bytes that a call read, in the room for them.
+    /// The same list, or what a call read, in the room for it.
     #[inline(never)]
+    fn copy_long(&mut self, answer: &Answer) -> Answer
+        requires fits { Fits self.old answer.now }
+        requires long { is_long answer.now ≡ true }
+        ensures { result ≡ answer.now }
+    {
+        match answer {
+            Answer::Data(bytes) => Answer::Data(self.copy_bytes(bytes)),
+            Answer::Names(items) => {
+                Answer::Names(Items::from_vec(copy_names(self.take_names(), items.as_slice())))
+            }
+            Answer::Notes(items) => {
+                Answer::Notes(Items::from_vec(copy_into(self.take_notes(), items.as_slice())))
+            }
+            Answer::Faults(items) => {
+                Answer::Faults(Items::from_vec(copy_into(self.take_faults(), items.as_slice())))
+            }
+            _ => unreachable!(),
+        }
+    }
+
+    /// The bytes that a call read, in the room for them.
     fn copy_bytes(&mut self, bytes: &Data) -> Data
         requires { 1 ≤ self.old.bytes }
         ensures { result ≡ bytes.now }
@@ -145,17 +167,10 @@ impl AnswerRoom {
             Answer::Handle(handle) => Answer::Handle(*handle),
             Answer::Truth(truth) => Answer::Truth(*truth),
             Answer::Int(value) => Answer::Int(*value),
-            Answer::Data(bytes) => Answer::Data(self.copy_bytes(bytes)),
             Answer::Wrote(count) => Answer::Wrote(*count),
             Answer::Faulted(fault) => Answer::Faulted(*fault),
-            Answer::Names(items) => {
-                Answer::Names(Items::from_vec(copy_names(self.take_names(), items.as_slice())))
-            }
-            Answer::Notes(items) => {
-                Answer::Notes(Items::from_vec(copy_into(self.take_notes(), items.as_slice())))
-            }
-            Answer::Faults(items) => {
-                Answer::Faults(Items::from_vec(copy_into(self.take_faults(), items.as_slice())))
+            Answer::Data(_) | Answer::Names(_) | Answer::Notes(_) | Answer::Faults(_) => {
+                self.copy_long(answer)
             }
             Answer::Stat(stat) => Answer::Stat(*stat),
             Answer::Job { action, work } => Answer::Job {

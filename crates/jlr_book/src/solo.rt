@@ -120,6 +120,21 @@ impl<R: Resource + Drop> Solo<R> {
         ensures shorter { result ≡ Turn.Worked → length self.new.core.machine.pending < length self.old.core.machine.pending }
     {
         let seat = self.handler();
+        self.book.is_history();
+        match self.book.hand_over_briefly(seat) {
+            Some(_) => Turn::Worked,
+            None => self.hand_over_at_length(),
+        }
+    }
+
+    /// The same, whether its entry finds its place or not.
+    #[inline(never)]
+    fn hand_over_at_length(&mut self) -> Turn
+        requires { self.old.core.machine.pending ≢ [] }
+        ensures turn { IsTurn at_book.hands (HandsOver at_book) HandOver result self.old self.new }
+        ensures shorter { result ≡ Turn.Worked → length self.new.core.machine.pending < length self.old.core.machine.pending }
+    {
+        let seat = self.handler();
         match self.step(seat, Event::HandOver) {
             Reply::Answered { answer, .. } => turn_after(&answer),
             Reply::Marked(_) => Turn::Refused,

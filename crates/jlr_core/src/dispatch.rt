@@ -1,6 +1,7 @@
 //! Which ask an event is.
 ghost use Rattle.std.specs.Prelude.{◌≡◌, ◌≤◌, ◌&&◌, length, not, true, None, Some};
 ghost use Rattle.jlr_machine.specs.Choices.{nothing_chosen};
+ghost use Rattle.jlr_machine.specs.Run.{no_choice};
 ghost use Rattle.jlr_machine.specs.WellFormed.{IsWellFormed};
 ghost use Rattle.jlr_core.specs.State.{answer_of};
 ghost use Rattle.jlr_event.specs.Events.{ask_of, answer_in, resource_of_event, resource_of_reply};
@@ -61,6 +62,31 @@ impl<R> State<R> {
             Event::Mark { budget } => Reply::Marked(self.mark(budget)),
             _ => answered(self.answer(event, choice)),
         }
+    }
+
+    /// The handler's step: what `step` does for `HandOver`, which chooses nothing. No event is moved for it, and no reply.
+    #[tactic(auto, using(crate::proofs::Shading::same_only))]
+    pub(crate) fn step_handler(&mut self) -> Handed
+        requires fit { IsWellFormed (machine_of self.old) }
+        requires waits { AllWait (machine_of self.old) self.old.cleaner.waiting }
+        ensures entry { StepsBy (machine_of self.old) self.old.heap.marking (Some Ask.HandOver)
+            (Some (Answer.Handed result)) no_choice (machine_of self.new) }
+        ensures flow { Conserves None self.old.cleaner.table None self.new.cleaner.table }
+        ensures moves { Moves None self.old.cleaner.table None self.new.cleaner.table }
+        ensures memory { WantsMemory (machine_of self.old) self.old.cleaner.table (Some Ask.HandOver) (Some (Answer.Handed result)) }
+        ensures table_room { LeavesRoom (Some Ask.HandOver) self.old.cleaner.table self.new.cleaner.table }
+        ensures reached { MarksReached (machine_of self.old) self.old.heap.marking (machine_of self.new) self.new.heap.marking }
+        ensures blackens { BlackensNew {R = R} Event.HandOver (machine_of self.old) self.old.heap.marking no_choice
+            (machine_of self.new) self.new.heap.marking }
+        ensures policy { KeepsByPolicy self.old.soft_age self.old.heap.clock (machine_of self.old) self.old.heap.marking
+            (Some Ask.HandOver) no_choice }
+        ensures age { self.new.soft_age ≡ self.old.soft_age }
+        ensures clock { self.new.heap.clock ≡ clock_after (machine_of self.old) self.old.heap.clock (Some Ask.HandOver)
+            (Some (Answer.Handed result)) no_choice }
+        ensures cells { length self.new.heap.graph.objects ≡ length self.old.heap.graph.objects }
+        ensures waits { WaitsOn (machine_of self.new) self.old.cleaner self.new.cleaner }
+    {
+        self.hand_over()
     }
 
     /// One event of those that carry no resource, neither in nor out, and are no piece of marking.

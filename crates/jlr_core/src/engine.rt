@@ -1,5 +1,5 @@
 //! The core: one event at a time.
-ghost use Rattle.std.specs.Prelude.{◌≡◌, ◌≤◌, ◌↔◌, [], length, IfOk, IsTrue, Some};
+ghost use Rattle.std.specs.Prelude.{◌≡◌, ◌≤◌, ◌↔◌, [], length, IfOk, IsTrue, None, Some};
 ghost use Rattle.jlr_machine.specs.declared.machine.Machine.{Machine};
 ghost use Rattle.jlr_machine.specs.Refusals.{refusal};
 ghost use Rattle.jlr_machine.specs.Run.{no_choice};
@@ -9,7 +9,7 @@ ghost use Rattle.jlr_core.specs.Steps.{IsEmpty, IsStep};
 
 use crate::state::State;
 use jlr_event::event::{Event, Reply};
-use jlr_machine::ask::Ask;
+use jlr_machine::ask::{Answer, Ask, Handed};
 use jlr_machine::choice::Choice;
 use jlr_machine::machine::Machine;
 use jlr_types::{Handle, Limits, Mutator, Progress, Refusal};
@@ -82,6 +82,14 @@ impl<R> Core<R> {
         ensures cells { length self.new.machine.objects ≡ length self.old.machine.objects }
     {
         self.state.mark(budget)
+    }
+
+    /// A step of the handler: what `step` does for `HandOver`, which chooses nothing and is never refused.
+    pub fn hand_over(&mut self) -> Handed
+        ensures step { IsStep self.old Event.HandOver (Reply.Answered (Answer.Handed result) None) no_choice self.new }
+        ensures cells { length self.new.machine.objects ≡ length self.old.machine.objects }
+    {
+        self.state.step_handler()
     }
 
     /// Whether an event may come with a collection: a full collection, a `Collect` in an open cycle, and an ask whose objects find no room.

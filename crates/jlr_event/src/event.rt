@@ -230,6 +230,7 @@ pub enum Reply<R> {
 impl<R> Event<R> {
     /// The ask, without the resource that it carries. There is none for `Mark`. Takes no memory, and the room where it tells what a
     /// call read.
+    #[inline(always)]
     pub fn plain(&self, room: Option<Data>) -> Option<Ask>
         requires { Brings room (ask_of self.now) }
         ensures { result ≡ ask_of self.now }

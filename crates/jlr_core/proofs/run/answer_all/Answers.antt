@@ -1,10 +1,9 @@
-use Rattle.std.proofs.Common.{rules, arith, length, ◌≡◌, ◌++◌, ◌∷◌, [], List, sym, ◌∙◌, ap, subst}
+use Rattle.std.proofs.Common.{rules, arith, length, ◌≡◌, ◌++◌, ◌∷◌, [], List, sym, ◌∙◌, subst}
 use Rattle.std.proofs.lemmas.List.{map-id}
 use Rattle.std.specs.List.Sorted.{IsPermutation}
 use Rattle.jlr_resource.specs.Resources.{values}
 use Rattle.std.proofs.lemmas.Iterator.Consumers.{YieldsList-end}
 use Rattle.std.proofs.lemmas.Iterator.Adapters.{YieldsList-from_vec}
-use Rattle.jlr_machine.specs.Choices.{Choosing}
 use Rattle.jlr_laws.proofs.Empty.{empty_is_well_formed}
 use Rattle.jlr_event.specs.declared.event.Event.{Event}
 use Rattle.jlr_event.specs.declared.event.Reply.{Reply}

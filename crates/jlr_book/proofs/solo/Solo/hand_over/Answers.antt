@@ -1,24 +1,27 @@
-use Rattle.std.proofs.Common.{ap, subst}
+use Rattle.std.proofs.Common.{None, subst, refl}
+use Rattle.jlr_machine.specs.declared.ask.Answer.TheVariants.{Handed}
 use Rattle.jlr_event.specs.declared.event.Event.TheVariants.{HandOver}
-use Rattle.jlr_event.specs.Events.{answer_in}
+use Rattle.jlr_event.specs.declared.event.Reply.TheVariants.{Answered}
+use Rattle.jlr_book.specs.Histories.{IsHistory}
 use Rattle.jlr_book.specs.Rules.{BookSteps}
-use Rattle.jlr_book.proofs.HandingOver.{handed_turn, never_marked}
+use Rattle.jlr_book.specs.declared.solo.Turn.TheVariants as turn
+use Rattle.jlr_book.proofs.HandingOver.{handed_turn}
 use Rattle.jlr_book.proofs.solo.Solo.hand_over.Goals as goal
 
-pub returns-in-Answered-clause-turn : goal.returns-in-Answered-clause-turn
-returns-in-Answered-clause-turn g c =
+pub returns-in-Some-clause-turn : goal.returns-in-Some-clause-turn
+returns-in-Some-clause-turn g c =
     let old = c.args.self.now in
-    let steps = subst (λ s. BookSteps s old HandOver c.step.result c.step.new.self) c.handler-seat.ensures c.step.ensures.steps in
-    (handed_turn old c.step.new.self c.step.result c.in-Answered.answer c.turn_after.result (ap answer_in c.in-Answered.is) c.turn_after.ensures c.step.ensures.before c.requires steps).0
+    let new = c.hand_over_briefly.new.self in
+    let reply = Answered (Handed c.in-Some.field-0) None in
+    let there = subst (λ h. BookSteps c.handler-seat.result h HandOver reply new) c.self.view_is c.in-Some.ensures in
+    let steps = subst (λ s. BookSteps s old HandOver reply new) c.handler-seat.ensures there in
+    (handed_turn old new reply (Handed c.in-Some.field-0) turn.Worked refl refl (subst IsHistory c.self.view_is c.is_history.ensures) c.requires steps).0
 
-pub returns-in-Answered-clause-shorter : goal.returns-in-Answered-clause-shorter
-returns-in-Answered-clause-shorter g c =
+pub returns-in-Some-clause-shorter : goal.returns-in-Some-clause-shorter
+returns-in-Some-clause-shorter g c =
     let old = c.args.self.now in
-    let steps = subst (λ s. BookSteps s old HandOver c.step.result c.step.new.self) c.handler-seat.ensures c.step.ensures.steps in
-    (handed_turn old c.step.new.self c.step.result c.in-Answered.answer c.turn_after.result (ap answer_in c.in-Answered.is) c.turn_after.ensures c.step.ensures.before c.requires steps).1
-
-pub returns-clause-turn : goal.returns-clause-turn
-returns-clause-turn g c =
-    let old = c.args.self.now in
-    let steps = subst (λ s. BookSteps s old HandOver c.step.result c.step.new.self) c.handler-seat.ensures c.step.ensures.steps in
-    never_marked old c.step.new.self c.step.result (ap answer_in c.in-Marked.is) c.step.ensures.before c.requires steps
+    let new = c.hand_over_briefly.new.self in
+    let reply = Answered (Handed c.in-Some.field-0) None in
+    let there = subst (λ h. BookSteps c.handler-seat.result h HandOver reply new) c.self.view_is c.in-Some.ensures in
+    let steps = subst (λ s. BookSteps s old HandOver reply new) c.handler-seat.ensures there in
+    (handed_turn old new reply (Handed c.in-Some.field-0) turn.Worked refl refl (subst IsHistory c.self.view_is c.is_history.ensures) c.requires steps).1

@@ -4,8 +4,8 @@ use Rattle.jlr_book.specs.Rules.{AsksBy}
 use Rattle.jlr_book.specs.Writing.{Writes}
 use Rattle.jlr_book.proofs.Entering.{still_suits}
 use Rattle.jlr_book.proofs.Histories.{asks_by, cut_asks_by, cut_goes_on, enter_goes_on, told, IsCut}
-use Rattle.jlr_book.proofs.book.Book.enter.Given.{Over}
-use Rattle.jlr_book.proofs.book.Book.enter.Goals as goal
+use Rattle.jlr_book.proofs.book.Book.enter_with_room.Given.{Over}
+use Rattle.jlr_book.proofs.book.Book.enter_with_room.Goals as goal
 
 pub record-requires-clause-stands : goal.record-requires-clause-stands
 record-requires-clause-stands g c = let e = c.self.invariant.history.ends in (e.0, e.2, e.3)

@@ -1,0 +1,43 @@
+use Rattle.std.proofs.Common.{◌∙◌, arith, ap, sym, subst}
+use Rattle.jlr_book.specs.Histories.{HasNumbers}
+use Rattle.jlr_book.specs.Lists.{is_brief}
+use Rattle.jlr_book.specs.Rules.{AsksBy}
+use Rattle.jlr_book.proofs.Entering.{brief_is_no_end}
+use Rattle.jlr_book.proofs.Histories.{asks_by, enter_goes_on, steps_as_asked, told}
+use Rattle.jlr_book.proofs.book.Book.step.Goals as goal
+
+pub record_plainly-requires-clause-place : goal.record_plainly-requires-clause-place
+record_plainly-requires-clause-place g c =
+    let places = c.if-has_places.ensures in
+    omega (arith, places.1)
+
+pub invariant_of-self : goal.invariant_of-self
+invariant_of-self g c =
+    let old = c.self.inside in
+    let kept = c.self.invariant in
+    let new = c.record_plainly.new in
+    let l = old.trace.ok.0 in
+    let l' = new.trace.ok.0 in
+    let places = c.if-has_places.ensures in
+    let numbers = subst HasNumbers (sym c.self.view_is) c.if-has_numbers.ensures in
+    let x = enter_goes_on old.limits old.base old.image old.trace.items new.trace.items old.core new.core c.args.seat c.args.event c.record_plainly.result
+    kept.history c.record_plainly.ensures.writes c.record_plainly.ensures.cells (omega (arith, numbers, l)) in
+    record {
+      history = x.0;
+      places = omega (arith, l, l', x.1, x.2, places.1, c.record_plainly.ensures.room);
+      choice = omega (arith, kept.choice, c.record_plainly.ensures.choice);
+    }
+
+pub returns-then-not-will_collect : goal.returns-then-not-will_collect
+returns-then-not-will_collect g c =
+    let old = c.self.inside in
+    let new = c.record_plainly.new in
+    let l = old.trace.ok.0 in
+    let places = c.if-has_places.ensures in
+    let numbers = subst HasNumbers (sym c.self.view_is) c.if-has_numbers.ensures in
+    let end = brief_is_no_end c.in-Some.ask (ap is_brief c.in-Some.ensures ∙ sym c.if-not-is_brief.ensures) in
+    let here = told old.limits old.base old.image new.trace.items new.core in
+    let asks = subst (λ h. AsksBy c.args.seat h c.args.event c.record_plainly.result here) c.self.view_is
+    (asks_by old.limits old.base old.image old.trace.items new.trace.items old.core new.core c.args.seat c.args.event c.record_plainly.result
+    numbers (omega (arith, l, places.0)) c.record_plainly.ensures.writes) in
+    steps_as_asked c.args.seat c.args.self.now here c.args.event c.record_plainly.result c.in-Some.ask (sym c.in-Some.ensures) end asks
