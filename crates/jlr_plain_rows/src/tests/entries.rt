@@ -15,9 +15,10 @@ const ARROW: &str = " -> ";
 pub(super) fn entry_of(alloc: Global, row: &str) -> Result<Option<Entry>, AllocError> {
     let (ask, told) = row.split_once(ARROW).unwrap_or((row, ""));
     let (answer, choice) = told.split_once(", ").unwrap_or((told, ""));
+    let asked = ask_of(alloc, ask)?;
     let choice = choice_of(alloc, choice)?;
     match answer_of(alloc, answer)? {
-        Some(answer) => Ok(entry(ask_of(alloc, ask), answer, choice)),
+        Some(answer) => Ok(entry(asked, answer, choice)),
         None => Ok(None),
     }
 }
@@ -31,9 +32,12 @@ fn entry(ask: Option<Ask>, answer: Answer, choice: Chosen) -> Option<Entry> {
     })
 }
 
-fn ask_of(alloc: Global, text: &str) -> Option<Ask> {
-    let room = Data::new(alloc).ok()?;
-    event_of(alloc, text)?.plain(Some(room))
+fn ask_of(alloc: Global, text: &str) -> Result<Option<Ask>, AllocError> {
+    let room = Data::new(alloc)?;
+    match event_of(alloc, text) {
+        Some(event) => Ok(event.plain(Some(room))),
+        None => Ok(None),
+    }
 }
 
 // ---- Choices
