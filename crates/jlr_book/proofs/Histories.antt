@@ -219,7 +219,8 @@ asks_by limits base image entries entries' core core' seat e reply n l w =
     inl (record { numbers = n; ready = h; readies = readies_as_it_is h h l refl; enters = enters_by limits base image entries entries' core core' seat e reply w })
 
 -- an ask that is no end
-pub steps_as_asked : {R : Type 0} (seat : ℕ) (old new : History R) (e : Event R) (reply : Reply R) (asked : Ask) → ask_of e ≡ Some asked → is_end asked ≡ false → AsksBy seat old e reply new → BookSteps seat old e reply new
+pub steps_as_asked : {R : Type 0} (seat : ℕ) (old new : History R) (e : Event R) (reply : Reply R) (asked : Ask)
+    → ask_of e ≡ Some asked → is_end asked ≡ false → AsksBy seat old e reply new → BookSteps seat old e reply new
 steps_as_asked {R} seat old new e reply asked is end by =
     subst (λ o. StepsBy seat o old e reply new) (sym is)
     (subst (λ b. elim b as (λ _. Type 0) [ true ↦ EndsBy seat old e reply new | false ↦ AsksBy seat old e reply new ]) (sym end) by)

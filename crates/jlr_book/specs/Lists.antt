@@ -25,7 +25,8 @@ IsVacant (Notes room) = room.items ≡ []
 IsVacant (Faults room) = room.items ≡ []
 IsVacant (Bytes room) = Unit {0}
 
--- the entry of this ask takes its place alone, where nothing is collected: it is no end and asks for no list, and a piece of marking is no entry
+-- the entry of this ask takes its place alone, where nothing is collected: it is no end and asks for no list. A piece of marking
+-- is no entry
 abbrev pub is_brief : Option Ask → Bool
 is_brief None = false
 is_brief (Some (AskNames k)) = false

@@ -198,7 +198,7 @@ impl<R: Drop> Book<R> {
         self.enter_with_room(seat, ask, event)
     }
 
-    /// The same for any event: its room is made first, and the trace is cut where it is as long as it may be.
+    /// The same for any event: the room of its entry is made first, and the trace is cut where it is as long as it may be.
     #[inline(never)]
     fn step_at_length(&mut self, seat: u8, event: Event<R>, room: Option<CopyRoom>) -> Reply<R>
         requires { Brings room (ask_of event) }
@@ -267,7 +267,8 @@ impl<R: Drop> Book<R> {
         u64::MAX - self.last() >= SPARE_NUMBERS
     }
 
-    /// A step of the handler, if its entry finds its place and nothing has to be cut: what `step` does for `HandOver` then. Else nothing is done.
+    /// A step of the handler, if its entry finds its place and nothing has to be cut: what `step` does for `HandOver` then. Else
+    /// nothing is done.
     pub(crate) fn hand_over_briefly(&mut self, seat: u8) -> Option<Handed>
         ensures { MatchOption result (self.new ≡ self.old)
             (λ handed. BookSteps seat self.old Event.HandOver (Reply.Answered (Answer.Handed handed) None) self.new) }

@@ -14,25 +14,34 @@ use Rattle.jlr_book.proofs.book.Book.hand_over_briefly.Given.{Over}
 use Rattle.jlr_book.proofs.book.Book.hand_over_briefly.Goals as goal
 
 written : (g : Over) (c : goal.After-push_reserved g)
-    → Writes c.args.seat c.self.inside.core c.self.inside.trace.items HandOver (Answered (Handed c.hand_over-handed.result) None) c.hand_over-handed.new.self c.push_reserved.new.self.items
+    → Writes c.args.seat c.self.inside.core c.self.inside.trace.items HandOver (Answered (Handed c.hand_over-handed.result) None)
+    c.hand_over-handed.new.self c.push_reserved.new.self.items
 written g c =
-    let reply = Answered (Handed c.hand_over-handed.result) None in
+    let core = c.self.inside.core in
+    let core' = c.hand_over-handed.new.self in
+    let entries = c.self.inside.trace.items in
+    let entries' = c.push_reserved.new.self.items in
+    let answer = Handed c.hand_over-handed.result in
+    let reply = Answered answer None in
     let chosen : Chosen = record { collected = None; fresh = c.new.result } in
     let none = ap {A = List ℕ} {B = Chosen} (λ l. record { collected = None; fresh = l }) c.new.ensures in
-    let step = subst (λ x. IsStep c.self.inside.core HandOver reply x c.hand_over-handed.new.self) (sym none) c.hand_over-handed.ensures.step in
-    writes c.self.inside.core c.hand_over-handed.new.self HandOver (Handed c.hand_over-handed.result) (Handed c.hand_over-handed.result) None ask.HandOver chosen
-    c.self.inside.trace.items c.push_reserved.new.self.items c.args.seat step refl c.push_reserved.ensures.items refl
+    let step = subst (λ x. IsStep core HandOver reply x core') (sym none) c.hand_over-handed.ensures.step in
+    writes core core' HandOver answer answer None ask.HandOver chosen entries entries' c.args.seat
+    step refl c.push_reserved.ensures.items refl
 
 pub invariant_of-self : goal.invariant_of-self
 invariant_of-self g c =
     let old = c.self.inside in
     let kept = c.self.invariant in
+    let core' = c.hand_over-handed.new.self in
+    let entries' = c.push_reserved.new.self.items in
+    let reply = Answered (Handed c.hand_over-handed.result) None in
     let l = old.trace.ok.0 in
     let l' = c.push_reserved.new.self.ok.0 in
     let places = c.if-not-has_places.ensures in
     let numbers = subst HasNumbers (sym c.self.view_is) c.if-not-has_numbers.ensures in
-    let x = enter_goes_on old.limits old.base old.image old.trace.items c.push_reserved.new.self.items old.core c.hand_over-handed.new.self c.args.seat HandOver
-    (Answered (Handed c.hand_over-handed.result) None) kept.history (written g c) c.hand_over-handed.ensures.cells (omega (arith, numbers, l)) in
+    let x = enter_goes_on old.limits old.base old.image old.trace.items entries' old.core core' c.args.seat HandOver reply
+    kept.history (written g c) c.hand_over-handed.ensures.cells (omega (arith, numbers, l)) in
     record {
       history = x.0;
       places = omega (arith, l, l', x.1, x.2, places.1, c.push_reserved.ensures.capacity);
@@ -42,10 +51,13 @@ invariant_of-self g c =
 pub returns : goal.returns
 returns g c =
     let old = c.self.inside in
+    let core' = c.hand_over-handed.new.self in
+    let entries' = c.push_reserved.new.self.items in
+    let reply = Answered (Handed c.hand_over-handed.result) None in
     let l = old.trace.ok.0 in
     let places = c.if-not-has_places.ensures in
-    let reply = Answered (Handed c.hand_over-handed.result) None in
     let numbers = subst HasNumbers (sym c.self.view_is) c.if-not-has_numbers.ensures in
-    subst (λ h. AsksBy c.args.seat h HandOver reply (told old.limits old.base old.image c.push_reserved.new.self.items c.hand_over-handed.new.self)) c.self.view_is
-    (asks_by old.limits old.base old.image old.trace.items c.push_reserved.new.self.items old.core c.hand_over-handed.new.self c.args.seat HandOver reply
+    let new = told old.limits old.base old.image entries' core' in
+    subst (λ h. AsksBy c.args.seat h HandOver reply new) c.self.view_is
+    (asks_by old.limits old.base old.image old.trace.items entries' old.core core' c.args.seat HandOver reply
     numbers (omega (arith, l, places.0)) (written g c))

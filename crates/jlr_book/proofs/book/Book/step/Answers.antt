@@ -20,7 +20,8 @@ invariant_of-self g c =
     let l' = new.trace.ok.0 in
     let places = c.if-has_places.ensures in
     let numbers = subst HasNumbers (sym c.self.view_is) c.if-has_numbers.ensures in
-    let x = enter_goes_on old.limits old.base old.image old.trace.items new.trace.items old.core new.core c.args.seat c.args.event c.record_plainly.result
+    let reply = c.record_plainly.result in
+    let x = enter_goes_on old.limits old.base old.image old.trace.items new.trace.items old.core new.core c.args.seat c.args.event reply
     kept.history c.record_plainly.ensures.writes c.record_plainly.ensures.cells (omega (arith, numbers, l)) in
     record {
       history = x.0;
@@ -37,7 +38,8 @@ returns-then-not-will_collect g c =
     let numbers = subst HasNumbers (sym c.self.view_is) c.if-has_numbers.ensures in
     let end = brief_is_no_end c.in-Some.ask (ap is_brief c.in-Some.ensures ∙ sym c.if-not-is_brief.ensures) in
     let here = told old.limits old.base old.image new.trace.items new.core in
-    let asks = subst (λ h. AsksBy c.args.seat h c.args.event c.record_plainly.result here) c.self.view_is
-    (asks_by old.limits old.base old.image old.trace.items new.trace.items old.core new.core c.args.seat c.args.event c.record_plainly.result
+    let reply = c.record_plainly.result in
+    let asks = subst (λ h. AsksBy c.args.seat h c.args.event reply here) c.self.view_is
+    (asks_by old.limits old.base old.image old.trace.items new.trace.items old.core new.core c.args.seat c.args.event reply
     numbers (omega (arith, l, places.0)) c.record_plainly.ensures.writes) in
-    steps_as_asked c.args.seat c.args.self.now here c.args.event c.record_plainly.result c.in-Some.ask (sym c.in-Some.ensures) end asks
+    steps_as_asked c.args.seat c.args.self.now here c.args.event reply c.in-Some.ask (sym c.in-Some.ensures) end asks

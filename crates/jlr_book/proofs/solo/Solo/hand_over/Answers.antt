@@ -15,7 +15,8 @@ returns-in-Some-clause-turn g c =
     let reply = Answered (Handed c.in-Some.field-0) None in
     let there = subst (λ h. BookSteps c.handler-seat.result h HandOver reply new) c.self.view_is c.in-Some.ensures in
     let steps = subst (λ s. BookSteps s old HandOver reply new) c.handler-seat.ensures there in
-    (handed_turn old new reply (Handed c.in-Some.field-0) turn.Worked refl refl (subst IsHistory c.self.view_is c.is_history.ensures) c.requires steps).0
+    let history = subst IsHistory c.self.view_is c.is_history.ensures in
+    (handed_turn old new reply (Handed c.in-Some.field-0) turn.Worked refl refl history c.requires steps).0
 
 pub returns-in-Some-clause-shorter : goal.returns-in-Some-clause-shorter
 returns-in-Some-clause-shorter g c =
@@ -24,4 +25,5 @@ returns-in-Some-clause-shorter g c =
     let reply = Answered (Handed c.in-Some.field-0) None in
     let there = subst (λ h. BookSteps c.handler-seat.result h HandOver reply new) c.self.view_is c.in-Some.ensures in
     let steps = subst (λ s. BookSteps s old HandOver reply new) c.handler-seat.ensures there in
-    (handed_turn old new reply (Handed c.in-Some.field-0) turn.Worked refl refl (subst IsHistory c.self.view_is c.is_history.ensures) c.requires steps).1
+    let history = subst IsHistory c.self.view_is c.is_history.ensures in
+    (handed_turn old new reply (Handed c.in-Some.field-0) turn.Worked refl refl history c.requires steps).1
