@@ -3,6 +3,7 @@ ghost use Rattle.std.specs.Prelude.{◌≡◌, ◌⊎◌, ◌≤◌, ◌<◌, �
 ghost use Rattle.jlr_machine.specs.Data.{Brings};
 ghost use Rattle.jlr_machine.specs.Refusals.{is_end, refusal};
 ghost use Rattle.jlr_event.specs.Events.{ask_of};
+ghost use Rattle.jlr_core.specs.TakeUps.{handed_out, take_up_answered};
 ghost use Rattle.jlr_book.specs.Due.{IsDue};
 ghost use Rattle.jlr_book.specs.Lists.{is_brief};
 ghost use Rattle.jlr_book.specs.Histories.{last, HasNumbers, IsHistory, IsNewBook};
@@ -10,9 +11,10 @@ ghost use Rattle.jlr_book.specs.Rules.{AsksBy, BookSteps, Cuts, EndsBy, MarksBy}
 ghost use Rattle.jlr_book.specs.Writing.{Pieces};
 
 use crate::cut::cut_to_image;
-use crate::entry::{record, record_end, record_plainly};
+use crate::entry::{ended, is_refused, record, record_end, record_plainly, take_up_answer};
 use crate::event::{is_end, refuse};
 use crate::room::{AnswerRoom, EntryRoom};
+use jlr_cleaner::Job;
 use jlr_core::engine::Core;
 use jlr_event::event::{Event, Reply};
 use jlr_machine::ask::{Answer, Ask, Handed};
@@ -21,7 +23,7 @@ use jlr_machine::data::{CopyRoom, Data};
 use jlr_machine::entry::{Chosen, Entry};
 use jlr_machine::fresh::FreshSlots;
 use jlr_machine::machine::Machine;
-use jlr_types::{Handle, Limits, Mutator, Progress, Refusal};
+use jlr_types::{ActionNo, Fault, Handle, Limits, Mutator, Progress, Refusal};
 use std::alloc::{AllocError, Global};
 use std::marker::Model;
 
@@ -287,6 +289,51 @@ impl<R: Drop> Book<R> {
             },
         });
         Some(handed)
+    }
+
+    /// A step of the cleaner, if its entry finds its place and nothing has to be cut: what `step` does for `TakeUp` then. Else nothing
+    /// is done.
+    pub(crate) fn take_up_briefly(&mut self, seat: u8) -> Option<Result<Option<Job<R>>, Refusal>>
+        ensures { MatchOption result (self.new ≡ self.old)
+            (λ taken. BookSteps seat self.old Event.TakeUp (Reply.Answered (take_up_answered taken) (handed_out taken)) self.new) }
+    {
+        if !self.has_numbers() || !has_places(&self.trace, self.limits.trace) {
+            return None;
+        }
+        let taken = self.core.take_up();
+        self.trace.push_reserved(Entry {
+            seat,
+            ask: Ask::TakeUp,
+            answer: take_up_answer(&taken),
+            choice: Chosen {
+                collected: None,
+                fresh: FreshSlots::new(),
+            },
+        });
+        Some(taken)
+    }
+
+    /// The end of a job: what `step` does for a `Finish`, which finds its place always. Where the core refuses it, it is no entry.
+    pub(crate) fn end_job(&mut self, seat: u8, by: u8, action: ActionNo, outcome: Result<(), Fault>)
+        ensures { (reply : Reply R) × BookSteps seat self.old (Event.Finish by action outcome) reply self.new }
+    {
+        let answer = self.core.finish(by, action, outcome);
+        if is_refused(&answer) {
+            return;
+        }
+        self.trace.push_reserved(Entry {
+            seat,
+            ask: Ask::Finish {
+                by,
+                action,
+                outcome: ended(outcome),
+            },
+            answer,
+            choice: Chosen {
+                collected: None,
+                fresh: FreshSlots::new(),
+            },
+        });
     }
 
     /// A piece of marking, which is no entry.

@@ -1,7 +1,8 @@
 //! One step of the core, and its entry behind the others.
 ghost use Rattle.std.specs.Prelude.{◌≡◌, ◌≤◌, ◌<◌, ◌+◌, true, false, length, vec_len, vec_capacity, Some};
 ghost use Rattle.jlr_machine.specs.Refusals.{is_end};
-ghost use Rattle.jlr_event.specs.Events.{ask_of};
+ghost use Rattle.jlr_event.specs.Events.{ask_of, outcome_of};
+ghost use Rattle.jlr_core.specs.TakeUps.{take_up_answered};
 ghost use Rattle.jlr_histories.specs.Collecting.{may_collect};
 ghost use Rattle.jlr_histories.specs.Owing.{owed};
 ghost use Rattle.jlr_histories.specs.Rooms.{HasRoomFor};
@@ -9,12 +10,14 @@ ghost use Rattle.jlr_book.specs.Making.{SuitsEntry};
 ghost use Rattle.jlr_book.specs.Writing.{refuses, Stands, Writes, WritesEnd};
 
 use crate::room::{AnswerRoom, ChoiceRoom, EntryRoom};
+use jlr_cleaner::Job;
 use jlr_core::engine::Core;
 use jlr_event::event::{Event, Reply};
-use jlr_machine::ask::{Answer, Ask};
+use jlr_machine::ask::{Answer, Ask, Handed, Outcome};
 use jlr_machine::choice::Choice;
 use jlr_machine::entry::{Chosen, Entry};
 use jlr_machine::fresh::FreshSlots;
+use jlr_types::{Fault, Refusal};
 
 /// An ask that is no end: one entry, in a place that is there.
 #[inline(always)]
@@ -160,8 +163,33 @@ pub(crate) fn record_end<R: Drop>(
     }
 }
 
-fn is_refused(answer: &Answer) -> bool
+/// Whether an answer is a refusal.
+pub(crate) fn is_refused(answer: &Answer) -> bool
     ensures { result ≡ refuses answer.now }
 {
     matches!(answer, Answer::Refused(_))
+}
+
+/// What a take-up by the cleaner is answered.
+pub(crate) fn take_up_answer<R>(taken: &Result<Option<Job<R>>, Refusal>) -> Answer
+    ensures { result ≡ take_up_answered taken.now }
+{
+    match taken {
+        Ok(Some(job)) => Answer::Job {
+            action: job.action,
+            work: job.work,
+        },
+        Ok(None) => Answer::Handed(Handed::Nothing),
+        Err(refusal) => Answer::Refused(*refusal),
+    }
+}
+
+/// How a job ended, as its entry tells it.
+pub(crate) fn ended(outcome: Result<(), Fault>) -> Outcome
+    ensures { result ≡ outcome_of outcome }
+{
+    match outcome {
+        Ok(()) => Outcome::Ok,
+        Err(fault) => Outcome::Failed(fault),
+    }
 }

@@ -5,6 +5,7 @@ ghost use Rattle.jlr_machine.specs.declared.ask.Answer.TheVariants.{Refused};
 ghost use Rattle.jlr_event.specs.Events.{ask_of};
 ghost use Rattle.jlr_event.specs.declared.event.Event.TheVariants.{CheckOut, HandOver};
 ghost use Rattle.jlr_event.specs.declared.event.Reply.TheVariants.{Answered};
+ghost use Rattle.jlr_session.specs.Asks.{TellsFinished};
 ghost use Rattle.jlr_book.specs.Histories.{IsHistory, IsNewBook};
 ghost use Rattle.jlr_book.specs.Rules.{BookSteps};
 ghost use Rattle.jlr_book.specs.Settling.{CannotHandOver, Cleans, HandsAllOver, HandsOver, Works};
@@ -12,11 +13,12 @@ ghost use Rattle.jlr_book.specs.Solos.{at_book, by_book, cleaner_seat, handler_s
 ghost use Rattle.jlr_book.specs.OneTurn.{IsTurn, turn_by};
 
 use crate::book::Book;
+use jlr_cleaner::Job;
 use jlr_device::Resource;
 use jlr_event::event::{Event, Reply};
 use jlr_machine::ask::Answer;
 use jlr_machine::data::CallRoom;
-use jlr_session::job::{carry_out, job_of};
+use jlr_session::job::{finish, job_of};
 use jlr_session::port::{Port, ReadRoom};
 use jlr_types::{Handle, Limits, Mutator, Refusal};
 use std::alloc::{AllocError, Global};
@@ -161,13 +163,47 @@ impl<R: Resource + Drop> Solo<R> {
         ensures shorter { result ≡ Turn.Worked → length self.new.core.machine.line < length self.old.core.machine.line }
     {
         let seat = self.cleaner();
+        self.book.is_history();
+        match self.book.take_up_briefly(seat) {
+            Some(Ok(Some(job))) => {
+                self.finish(seat, job);
+                Turn::Worked
+            }
+            Some(Ok(None)) => Turn::Worked,
+            Some(Err(_)) => Turn::Refused,
+            None => self.clean_at_length(),
+        }
+    }
+
+    /// The same, whether the entry of the take-up finds its place or not.
+    #[inline(never)]
+    fn clean_at_length(&mut self) -> Turn
+        requires { self.old.core.machine.line ≢ [] }
+        ensures turn { IsTurn at_book.cleans (Works at_book R.handling) Event.TakeUp result self.old self.new }
+        ensures shorter { result ≡ Turn.Worked → length self.new.core.machine.line < length self.old.core.machine.line }
+    {
+        let seat = self.cleaner();
         match job_of(self.step(seat, Event::TakeUp)) {
             Ok(job) => {
-                self.step(seat, carry_out(CLEANER, job));
+                self.finish(seat, job);
                 Turn::Worked
             }
             Err(answer) => turn_after(&answer),
         }
+    }
+
+    /// The work of a job that the cleaner took up is done, and its outcome told. What led to it is a history.
+    fn finish(&mut self, seat: u8, job: Job<R>)
+        ensures told { (event : Event R) × (reply : Reply R) × TellsFinished R.handling 255 job event × BookSteps seat self.old event reply self.new }
+        ensures before { IsHistory self.old }
+    {
+        self.book.is_history();
+        let Job {
+            action,
+            resource,
+            ..
+        } = job;
+        self.book.end_job(seat, CLEANER, action, finish(resource));
     }
 }
 

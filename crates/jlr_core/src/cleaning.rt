@@ -253,6 +253,7 @@ impl<R> State<R> {
     ///
     /// # Errors
     /// `Busy` where the cleaner has a job that has not ended.
+    #[inline(always)]
     pub(crate) fn take_up(&mut self) -> Result<Option<Job<R>>, Refusal>
         requires fit { IsWellFormed (machine_of self.old) }
         requires waits { AllWait (machine_of self.old) self.old.cleaner.waiting }
@@ -285,6 +286,7 @@ impl<R> State<R> {
     ///
     /// # Errors
     /// `NoSession` where the taker is no joined mutator, `NotOut` where it runs no such job.
+    #[inline(always)]
     pub(crate) fn finish(
         &mut self,
         by: u8,

@@ -12,13 +12,14 @@ ghost use Rattle.jlr_core.specs.Steps.{LeavesRoom};
 ghost use Rattle.jlr_core.specs.TakeUps.{clean_answer, handed_out, take_up_answered};
 ghost use Rattle.jlr_core.specs.Policy.{KeepsByPolicy, clock_after};
 ghost use Rattle.jlr_core.specs.Waiting.{AllWait, WaitsOn};
+ghost use Rattle.jlr_cleaner.specs.Outcomes.{outcome_of};
 
 use crate::state::State;
 use jlr_cleaner::Job;
 use jlr_event::event::{Event, Reply};
 use jlr_machine::ask::{Answer, Ask, Handed};
 use jlr_machine::choice::Choice;
-use jlr_types::Refusal;
+use jlr_types::{ActionNo, Fault, Refusal};
 
 impl<R> State<R> {
     ghost use Rattle.jlr_core.specs.Machines.{machine_of};
@@ -87,6 +88,64 @@ impl<R> State<R> {
         ensures waits { WaitsOn (machine_of self.new) self.old.cleaner self.new.cleaner }
     {
         self.hand_over()
+    }
+
+    /// The cleaner's step: what `step` does for `TakeUp`, which chooses nothing. The job goes out as it is.
+    #[tactic(auto, using(crate::proofs::Shading::same_only))]
+    pub(crate) fn step_cleaner(&mut self) -> Result<Option<Job<R>>, Refusal>
+        requires fit { IsWellFormed (machine_of self.old) }
+        requires waits { AllWait (machine_of self.old) self.old.cleaner.waiting }
+        ensures entry { StepsBy (machine_of self.old) self.old.heap.marking (Some Ask.TakeUp)
+            (Some (take_up_answered result)) no_choice (machine_of self.new) }
+        ensures flow { Conserves None self.old.cleaner.table (handed_out result) self.new.cleaner.table }
+        ensures moves { Moves None self.old.cleaner.table (handed_out result) self.new.cleaner.table }
+        ensures goes_out { GoesOut self.old.cleaner.table None (Some (take_up_answered result)) (handed_out result) }
+        ensures memory { WantsMemory (machine_of self.old) self.old.cleaner.table (Some Ask.TakeUp) (Some (take_up_answered result)) }
+        ensures table_room { LeavesRoom (Some Ask.TakeUp) self.old.cleaner.table self.new.cleaner.table }
+        ensures reached { MarksReached (machine_of self.old) self.old.heap.marking (machine_of self.new) self.new.heap.marking }
+        ensures blackens { BlackensNew {R = R} Event.TakeUp (machine_of self.old) self.old.heap.marking no_choice
+            (machine_of self.new) self.new.heap.marking }
+        ensures policy { KeepsByPolicy self.old.soft_age self.old.heap.clock (machine_of self.old) self.old.heap.marking
+            (Some Ask.TakeUp) no_choice }
+        ensures age { self.new.soft_age ≡ self.old.soft_age }
+        ensures clock { self.new.heap.clock ≡ clock_after (machine_of self.old) self.old.heap.clock (Some Ask.TakeUp)
+            (Some (take_up_answered result)) no_choice }
+        ensures cells { length self.new.heap.graph.objects ≡ length self.old.heap.graph.objects }
+        ensures waits { WaitsOn (machine_of self.new) self.old.cleaner self.new.cleaner }
+    {
+        self.take_up()
+    }
+
+    /// The end of a job: what `step` does for `Finish`, which chooses nothing.
+    #[tactic(auto, using(crate::proofs::Shading::same_only))]
+    pub(crate) fn step_finish(
+        &mut self,
+        by: u8,
+        action: ActionNo,
+        outcome: Result<(), Fault>,
+    ) -> Answer
+        requires fit { IsWellFormed (machine_of self.old) }
+        requires waits { AllWait (machine_of self.old) self.old.cleaner.waiting }
+        ensures entry { StepsBy (machine_of self.old) self.old.heap.marking (Some (Ask.Finish by action (outcome_of outcome)))
+            (Some result) no_choice (machine_of self.new) }
+        ensures flow { Conserves None self.old.cleaner.table None self.new.cleaner.table }
+        ensures moves { Moves None self.old.cleaner.table None self.new.cleaner.table }
+        ensures goes_out { GoesOut self.old.cleaner.table None (Some result) None }
+        ensures memory { WantsMemory (machine_of self.old) self.old.cleaner.table (Some (Ask.Finish by action (outcome_of outcome)))
+            (Some result) }
+        ensures table_room { LeavesRoom (Some (Ask.Finish by action (outcome_of outcome))) self.old.cleaner.table self.new.cleaner.table }
+        ensures reached { MarksReached (machine_of self.old) self.old.heap.marking (machine_of self.new) self.new.heap.marking }
+        ensures blackens { BlackensNew {R = R} (Event.Finish by action outcome) (machine_of self.old) self.old.heap.marking no_choice
+            (machine_of self.new) self.new.heap.marking }
+        ensures policy { KeepsByPolicy self.old.soft_age self.old.heap.clock (machine_of self.old) self.old.heap.marking
+            (Some (Ask.Finish by action (outcome_of outcome))) no_choice }
+        ensures age { self.new.soft_age ≡ self.old.soft_age }
+        ensures clock { self.new.heap.clock ≡ clock_after (machine_of self.old) self.old.heap.clock
+            (Some (Ask.Finish by action (outcome_of outcome))) (Some result) no_choice }
+        ensures cells { length self.new.heap.graph.objects ≡ length self.old.heap.graph.objects }
+        ensures waits { WaitsOn (machine_of self.new) self.old.cleaner self.new.cleaner }
+    {
+        answer_to(self.finish(by, action, outcome))
     }
 
     /// One event of those that carry no resource, neither in nor out, and are no piece of marking.
@@ -203,6 +262,17 @@ impl<R> State<R> {
             Event::Array { mutator, length } => self.new_array(mutator, length, choice),
             _ => unreachable!(),
         }
+    }
+}
+
+/// What an ask is answered.
+#[inline(always)]
+fn answer_to(outcome: Result<Answer, Refusal>) -> Answer
+    ensures { result ≡ answer_of outcome }
+{
+    match outcome {
+        Ok(answer) => answer,
+        Err(refusal) => Answer::Refused(refusal),
     }
 }
 

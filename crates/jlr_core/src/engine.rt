@@ -6,13 +6,15 @@ ghost use Rattle.jlr_machine.specs.Run.{no_choice};
 ghost use Rattle.jlr_event.specs.Events.{ask_of};
 ghost use Rattle.jlr_histories.specs.Collecting.{may_collect};
 ghost use Rattle.jlr_core.specs.Steps.{IsEmpty, IsStep};
+ghost use Rattle.jlr_core.specs.TakeUps.{handed_out, take_up_answered};
 
 use crate::state::State;
+use jlr_cleaner::Job;
 use jlr_event::event::{Event, Reply};
 use jlr_machine::ask::{Answer, Ask, Handed};
 use jlr_machine::choice::Choice;
 use jlr_machine::machine::Machine;
-use jlr_types::{Handle, Limits, Mutator, Progress, Refusal};
+use jlr_types::{ActionNo, Fault, Handle, Limits, Mutator, Progress, Refusal};
 use std::alloc::{AllocError, Global};
 use std::marker::Model;
 
@@ -90,6 +92,27 @@ impl<R> Core<R> {
         ensures cells { length self.new.machine.objects ≡ length self.old.machine.objects }
     {
         self.state.step_handler()
+    }
+
+    /// A step of the cleaner: what `step` does for `TakeUp`, which chooses nothing. The job that was taken up, with its resource; none where
+    /// no cleanable of the line is Lined.
+    ///
+    /// # Errors
+    /// `Busy` where the cleaner has a job that has not ended.
+    pub fn take_up(&mut self) -> Result<Option<Job<R>>, Refusal>
+        ensures step { IsStep self.old Event.TakeUp (Reply.Answered (take_up_answered result) (handed_out result)) no_choice self.new }
+        ensures cells { length self.new.machine.objects ≡ length self.old.machine.objects }
+    {
+        self.state.step_cleaner()
+    }
+
+    /// The end of a job that a mutator took up, or, by 255, the cleaner: what `step` does for `Finish`, which chooses nothing. It is
+    /// refused `NoSession` where the taker is no joined mutator, and `NotOut` where it runs no such job.
+    pub fn finish(&mut self, by: u8, action: ActionNo, outcome: Result<(), Fault>) -> Answer
+        ensures step { IsStep self.old (Event.Finish by action outcome) (Reply.Answered result None) no_choice self.new }
+        ensures cells { length self.new.machine.objects ≡ length self.old.machine.objects }
+    {
+        self.state.step_finish(by, action, outcome)
     }
 
     /// Whether an event may come with a collection: a full collection, a `Collect` in an open cycle, and an ask whose objects find no room.

@@ -50,8 +50,11 @@ pub fn carry_out<R: Resource + Drop>(by: u8, job: Job<R>) -> Event<R>
     }
 }
 
-/// Finishes a resource where there is one.
-fn finish<R: Resource + Drop>(resource: Option<R>) -> Result<(), Fault>
+/// Does the work of a job: finishes its resource, once, where it has one. A note, which has none, ends well.
+///
+/// # Errors
+/// How the finishing failed, `other` where the count of failures is at its last value.
+pub fn finish<R: Resource + Drop>(resource: Option<R>) -> Result<(), Fault>
     ensures { Finishes R.handling resource result }
 {
     match resource {
