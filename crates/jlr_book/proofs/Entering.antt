@@ -36,7 +36,7 @@ use Rattle.jlr_event.specs.declared.event.Reply.{Reply}
 use Rattle.jlr_event.specs.declared.event.Reply.TheVariants.{Answered, Marked}
 use Rattle.jlr_event.specs.Events.{ask_of, answer_in}
 use Rattle.jlr_core.specs.Cores.{Kept, StandsIn}
-use Rattle.jlr_core.specs.Events.{Enters}
+use Rattle.jlr_core.specs.Events.{Enters, is_plain}
 use Rattle.jlr_core.specs.Flows.{GoesOut}
 use Rattle.jlr_core.specs.State.{entry_of}
 use Rattle.jlr_core.specs.Steps.{IsStep}
@@ -216,6 +216,21 @@ brief_has_room (ask.Notes k) room is = absurd (both_ways false refl is)
 brief_has_room (ask.Faults k) room is = absurd (both_ways false refl is)
 brief_has_room (ask.CheckIn k outcome) room is = absurd (both_ways false refl is)
 brief_has_room a room is = tt
+
+-- no file or socket goes in or out with its event, and that is no piece of marking
+pub brief_is_plain : {R : Type 0} (e : Event R) → is_brief (ask_of e) ≡ true → is_plain e ≡ true
+brief_is_plain (event.Clean k c) is = absurd (both_ways false refl is)
+brief_is_plain (event.Opened k outcome) is = absurd (both_ways false refl is)
+brief_is_plain (event.CheckOut k h) is = absurd (both_ways false refl is)
+brief_is_plain (event.CheckIn k outcome resource) is = absurd (both_ways false refl is)
+brief_is_plain (event.Close k h) is = absurd (both_ways false refl is)
+brief_is_plain event.TakeUp is = absurd (both_ways false refl is)
+brief_is_plain (event.Mark budget) is = absurd (both_ways false refl is)
+brief_is_plain e is = refl
+
+pub brief_asks : (asked : Option Ask) → is_brief asked ≡ true → (some : Ask) × (asked ≡ Some some)
+brief_asks None is = absurd (both_ways false refl is)
+brief_asks (Some a) is = (a, refl)
 
 pub brief_tells_no_data : {X : Type 0} (asked : Option Ask) (room : Option X) → is_brief asked ≡ true → Brings room asked
 brief_tells_no_data None room is = refl

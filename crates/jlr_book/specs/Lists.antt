@@ -1,7 +1,7 @@
 -- Room for the items of a list answer, or for what a call read.
 use Rattle.std.specs.Prelude.{◌≡◌, Bool, true, false, not, [], Option, Some, None, vec_capacity}
 use Rattle.jlr_machine.specs.declared.ask.Ask.{Ask}
-use Rattle.jlr_machine.specs.declared.ask.Ask.TheVariants.{Names as AskNames, Notes as AskNotes, Faults as AskFaults}
+use Rattle.jlr_machine.specs.declared.ask.Ask.TheVariants.{Names as AskNames, Notes as AskNotes, Faults as AskFaults, Clean as AskClean, CheckOut as AskCheckOut, Close as AskClose, TakeUp as AskTakeUp}
 use Rattle.jlr_machine.specs.declared.ask.Answer.{Answer}
 use Rattle.jlr_machine.specs.declared.ask.Answer.TheVariants.{Names as NamesAre, Notes as NotesAre, Faults as FaultsAre, Data}
 use Rattle.jlr_machine.specs.Refusals.{is_end}
@@ -17,6 +17,9 @@ rooms_of (Notes room) = record { names = 0; notes = vec_capacity room; faults = 
 rooms_of (Faults room) = record { names = 0; notes = 0; faults = vec_capacity room; bytes = 0 }
 rooms_of (Bytes room) = record { names = 0; notes = 0; faults = 0; bytes = 1 }
 
+abbrev pub no_room : Rooms
+no_room = rooms_of NoList
+
 -- nothing is in it
 abbrev pub IsVacant : ItemRoom → Type 0
 IsVacant NoList = Unit {0}
@@ -25,13 +28,17 @@ IsVacant (Notes room) = room.items ≡ []
 IsVacant (Faults room) = room.items ≡ []
 IsVacant (Bytes room) = Unit {0}
 
--- the entry of this ask takes its place alone, where nothing is collected: it is no end and asks for no list. A piece of marking
--- is no entry
+-- the entry of this ask takes its place alone, where nothing is collected, and no file or socket goes in or out: it is no end, and asks
+-- for no list and no resource. A piece of marking is no entry
 abbrev pub is_brief : Option Ask → Bool
 is_brief None = false
 is_brief (Some (AskNames k)) = false
 is_brief (Some (AskNotes k)) = false
 is_brief (Some (AskFaults k)) = false
+is_brief (Some (AskClean k c)) = false
+is_brief (Some (AskCheckOut k h)) = false
+is_brief (Some (AskClose k h)) = false
+is_brief (Some AskTakeUp) = false
 is_brief (Some ask) = not (is_end ask)
 
 -- the answers whose copies take room: lists, and what a call read

@@ -11,7 +11,7 @@ ghost use Rattle.jlr_book.specs.Rules.{AsksBy, BookSteps, Cuts, EndsBy, MarksBy}
 ghost use Rattle.jlr_book.specs.Writing.{Pieces};
 
 use crate::cut::cut_to_image;
-use crate::entry::{ended, is_refused, record, record_end, record_plainly, take_up_answer};
+use crate::entry::{ended, is_refused, record, record_briefly, record_end, take_up_answer};
 use crate::event::{is_end, refuse};
 use crate::room::{AnswerRoom, EntryRoom};
 use jlr_cleaner::Job;
@@ -177,27 +177,25 @@ impl<R: Drop> Book<R> {
         requires { Brings room (ask_of event) }
         ensures { BookSteps seat self.old event result self.new }
     {
-        if !is_brief(&event) {
-            return self.step_at_length(seat, event, room);
-        }
-        let Some(ask) = event.plain(None) else {
-            return self.mark_piece(event);
-        };
-        if self.has_numbers()
+        if is_brief(&event)
+            && self.has_numbers()
             && has_places(&self.trace, self.limits.trace)
             && !self.core.will_collect(&event)
         {
-            return record_plainly(
+            let answer = record_briefly(
                 &mut self.core,
                 &mut self.choice,
-                AnswerRoom::none(self.alloc),
+                self.alloc,
                 &mut self.trace,
                 seat,
-                ask,
-                event,
+                &event,
             );
+            return Reply::Answered {
+                answer,
+                resource: None,
+            };
         }
-        self.enter_with_room(seat, ask, event)
+        self.step_at_length(seat, event, room)
     }
 
     /// The same for any event: the room of its entry is made first, and the trace is cut where it is as long as it may be.
@@ -424,7 +422,8 @@ fn has_places(trace: &Vec<Entry>, limit: u32) -> bool
     trace.len() < limit as usize && trace.capacity() - trace.len() >= PLACES
 }
 
-/// Whether the entry of an event needs no more than its place, unless it collects: it is no end, no piece of marking, and asks for no list.
+/// Whether the entry of an event needs no more than its place, unless it collects, and no resource goes in or out: it is no end, no piece of
+/// marking, and asks for no list and no resource.
 #[inline(always)]
 fn is_brief<R>(event: &Event<R>) -> bool
     ensures { result ≡ is_brief (ask_of event.now) }
@@ -433,6 +432,7 @@ fn is_brief<R>(event: &Event<R>) -> bool
         Event::Names { .. } | Event::Notes { .. } | Event::Faults { .. } => false,
         Event::Leave { .. } | Event::Opened { .. } | Event::CheckIn { .. } => false,
         Event::Finish { .. } | Event::Mark { .. } => false,
+        Event::Clean { .. } | Event::CheckOut { .. } | Event::Close { .. } | Event::TakeUp => false,
         _ => true,
     }
 }

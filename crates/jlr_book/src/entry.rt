@@ -1,15 +1,17 @@
 //! One step of the core, and its entry behind the others.
-ghost use Rattle.std.specs.Prelude.{◌≡◌, ◌≤◌, ◌<◌, ◌+◌, true, false, length, vec_len, vec_capacity, Some};
+ghost use Rattle.std.specs.Prelude.{◌≡◌, ◌≤◌, ◌<◌, ◌+◌, true, false, length, vec_len, vec_capacity, None, Some};
 ghost use Rattle.jlr_machine.specs.Refusals.{is_end};
 ghost use Rattle.jlr_event.specs.Events.{ask_of, outcome_of};
 ghost use Rattle.jlr_core.specs.TakeUps.{take_up_answered};
 ghost use Rattle.jlr_histories.specs.Collecting.{may_collect};
 ghost use Rattle.jlr_histories.specs.Owing.{owed};
 ghost use Rattle.jlr_histories.specs.Rooms.{HasRoomFor};
+ghost use Rattle.jlr_core.specs.Steps.{IsStep};
+ghost use Rattle.jlr_book.specs.Lists.{is_brief};
 ghost use Rattle.jlr_book.specs.Making.{SuitsEntry};
 ghost use Rattle.jlr_book.specs.Writing.{refuses, Stands, Writes, WritesEnd};
 
-use crate::room::{AnswerRoom, ChoiceRoom, EntryRoom};
+use crate::room::{AnswerRoom, ChoiceRoom, EntryRoom, copy_without_room};
 use jlr_cleaner::Job;
 use jlr_core::engine::Core;
 use jlr_event::event::{Event, Reply};
@@ -18,6 +20,7 @@ use jlr_machine::choice::Choice;
 use jlr_machine::entry::{Chosen, Entry};
 use jlr_machine::fresh::FreshSlots;
 use jlr_types::{Fault, Refusal};
+use std::alloc::Global;
 
 /// An ask that is no end: one entry, in a place that is there.
 #[inline(always)]
@@ -50,6 +53,69 @@ pub(crate) fn record<R: Drop>(
             record_collecting(core, own, answer, trace, seat, ask, event)
         }
     }
+}
+
+/// An entry that needs its place alone, without a collection: it is told in its place, which it finds empty. The core is lent the event, and a
+/// choice.
+#[inline(always)]
+pub(crate) fn record_briefly<R>(
+    core: &mut Core<R>,
+    lent: &mut Choice,
+    alloc: Global,
+    trace: &mut Vec<Entry>,
+    seat: u8,
+    event: &Event<R>,
+) -> Answer
+    requires brief { is_brief (ask_of event.now) ≡ true }
+    requires place { vec_len trace.old < vec_capacity trace.old }
+    requires stands { Stands core.old }
+    requires choice { length core.old.machine.objects ≤ lent.old.cells }
+    requires plain { may_collect core.old.machine (ask_of event.now) ≡ false }
+    ensures writes { Writes seat core.old trace.old.items event.now (Reply.Answered result None) core.new trace.new.items }
+    ensures cells { length core.new.machine.objects ≡ length core.old.machine.objects }
+    ensures room { vec_capacity trace.new ≡ vec_capacity trace.old }
+    ensures choice { lent.new.cells ≡ lent.old.cells }
+{
+    let place = trace.len();
+    trace.push_reserved(Entry {
+        seat,
+        ask: Ask::HandOver,
+        answer: Answer::Done,
+        choice: Chosen {
+            collected: None,
+            fresh: FreshSlots::new(),
+        },
+    });
+    let entry = &mut trace[place];
+    tell_briefly(core, lent, alloc, entry, event)
+}
+
+/// A step of the core for an event whose entry needs its place alone, told over an entry of the same seat. The answer.
+#[inline(always)]
+fn tell_briefly<R>(
+    core: &mut Core<R>,
+    lent: &mut Choice,
+    alloc: Global,
+    entry: &mut Entry,
+    event: &Event<R>,
+) -> Answer
+    requires brief { is_brief (ask_of event.now) ≡ true }
+    requires stands { Stands core.old }
+    requires choice { length core.old.machine.objects ≤ lent.old.cells }
+    requires plain { may_collect core.old.machine (ask_of event.now) ≡ false }
+    ensures step { IsStep core.old event.now (Reply.Answered result None) (record { collected = None; fresh = entry.new.choice.fresh }) core.new }
+    ensures ask { ask_of event.now ≡ Some entry.new.ask }
+    ensures answer { entry.new.answer ≡ result }
+    ensures seat { entry.new.seat ≡ entry.old.seat }
+    ensures collected { entry.new.choice.collected ≡ entry.old.choice.collected }
+    ensures cells { length core.new.machine.objects ≡ length core.old.machine.objects }
+    ensures choice { lent.new.cells ≡ lent.old.cells }
+{
+    event.tell(None, &mut entry.ask);
+    let answer = core.answer(event, lent);
+    entry.answer = copy_without_room(alloc, &answer);
+    entry.choice.fresh = lent.take_fresh();
+    answer
 }
 
 /// An entry without a collection. The core is lent a choice.

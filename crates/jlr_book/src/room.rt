@@ -4,7 +4,7 @@ ghost use Rattle.jlr_machine.specs.declared.ask.Answer.{Answer as AnswerOf};
 ghost use Rattle.jlr_machine.specs.Refusals.{is_end};
 ghost use Rattle.jlr_event.specs.Events.{ask_of, answer_in};
 ghost use Rattle.jlr_histories.specs.Rooms.{Fits, HasRoomFor};
-ghost use Rattle.jlr_book.specs.Lists.{is_long};
+ghost use Rattle.jlr_book.specs.Lists.{is_long, no_room};
 ghost use Rattle.jlr_book.specs.Making.{SuitsChoice, SuitsEntry};
 
 use jlr_core::engine::Core;
@@ -55,7 +55,9 @@ impl Model for AnswerRoom {
 
 impl AnswerRoom {
     /// Room for no list, and for no bytes. Takes no memory.
-    pub fn none(alloc: Global) -> Self {
+    pub fn none(alloc: Global) -> Self
+        ensures { result ≡ no_room }
+    {
         AnswerRoom {
             alloc,
             items: ItemRoom::None,
@@ -163,25 +165,10 @@ impl AnswerRoom {
         ensures { result ≡ answer.now }
     {
         match answer {
-            Answer::Done => Answer::Done,
-            Answer::Handle(handle) => Answer::Handle(*handle),
-            Answer::Truth(truth) => Answer::Truth(*truth),
-            Answer::Int(value) => Answer::Int(*value),
-            Answer::Wrote(count) => Answer::Wrote(*count),
-            Answer::Faulted(fault) => Answer::Faulted(*fault),
             Answer::Data(_) | Answer::Names(_) | Answer::Notes(_) | Answer::Faults(_) => {
                 self.copy_long(answer)
             }
-            Answer::Stat(stat) => Answer::Stat(*stat),
-            Answer::Job { action, work } => Answer::Job {
-                action: *action,
-                work: *work,
-            },
-            Answer::AlreadyDone => Answer::AlreadyDone,
-            Answer::Prepared(rid) => Answer::Prepared(*rid),
-            Answer::Out(rid) => Answer::Out(*rid),
-            Answer::Handed(handed) => Answer::Handed(*handed),
-            Answer::Refused(by) => Answer::Refused(*by),
+            _ => copy_without_room(self.alloc, answer),
         }
     }
 
@@ -195,6 +182,35 @@ impl AnswerRoom {
             Reply::Answered { answer, .. } => self.copy(answer),
             Reply::Marked(_) => unreachable!(),
         }
+    }
+}
+
+/// The same answer, where it needs no room: it is no list, or an empty one, and nothing that a call read.
+#[inline(never)]
+pub(crate) fn copy_without_room(alloc: Global, answer: &Answer) -> Answer
+    requires { Fits no_room answer.now }
+    ensures { result ≡ answer.now }
+{
+    match answer {
+        Answer::Done => Answer::Done,
+        Answer::Handle(handle) => Answer::Handle(*handle),
+        Answer::Truth(truth) => Answer::Truth(*truth),
+        Answer::Int(value) => Answer::Int(*value),
+        Answer::Wrote(count) => Answer::Wrote(*count),
+        Answer::Faulted(fault) => Answer::Faulted(*fault),
+        Answer::Data(_) | Answer::Names(_) | Answer::Notes(_) | Answer::Faults(_) => {
+            AnswerRoom::none(alloc).copy_long(answer)
+        }
+        Answer::Stat(stat) => Answer::Stat(*stat),
+        Answer::Job { action, work } => Answer::Job {
+            action: *action,
+            work: *work,
+        },
+        Answer::AlreadyDone => Answer::AlreadyDone,
+        Answer::Prepared(rid) => Answer::Prepared(*rid),
+        Answer::Out(rid) => Answer::Out(*rid),
+        Answer::Handed(handed) => Answer::Handed(*handed),
+        Answer::Refused(by) => Answer::Refused(*by),
     }
 }
 

@@ -61,7 +61,14 @@ impl<R> State<R> {
             Event::Close { mutator, guard } => cleaned(self.close(mutator, guard)),
             Event::TakeUp => taken_up(self.take_up()),
             Event::Mark { budget } => Reply::Marked(self.mark(budget)),
-            _ => answered(self.answer(event, choice)),
+            event => {
+                let answer = self.step_plain(&event, choice);
+                event.let_go();
+                Reply::Answered {
+                    answer,
+                    resource: None,
+                }
+            }
         }
     }
 
@@ -148,41 +155,78 @@ impl<R> State<R> {
         answer_to(self.finish(by, action, outcome))
     }
 
-    /// One event of those that carry no resource, neither in nor out, and are no piece of marking.
-    #[inline(always)]
+    /// One event of those that carry no resource, neither in nor out, and are no piece of marking: what it is answered. The event is not moved.
+    #[inline(never)]
     #[tactic(auto, using(crate::proofs::Shading::same_only))]
-    fn answer(&mut self, event: Event<R>, choice: &mut Choice) -> Result<Answer, Refusal>
-        requires plain { is_plain event ≡ true }
+    pub(crate) fn step_plain(&mut self, event: &Event<R>, choice: &mut Choice) -> Answer
+        requires plain { is_plain event.now ≡ true }
         requires fit { IsWellFormed (machine_of self.old) }
         requires waits { AllWait (machine_of self.old) self.old.cleaner.waiting }
         requires nothing { choice.old ≡ nothing_chosen choice.old.cells }
         requires room { length self.old.heap.graph.objects ≤ choice.old.cells }
-        ensures entry { StepsBy (machine_of self.old) self.old.heap.marking (ask_of event)
-            (Some (answer_of result)) choice.new.chosen (machine_of self.new) }
-        ensures flow { Conserves (resource_of_event event) self.old.cleaner.table None self.new.cleaner.table }
-        ensures moves { Moves (resource_of_event event) self.old.cleaner.table None self.new.cleaner.table }
-        ensures goes_out { GoesOut self.old.cleaner.table (resource_of_event event) (Some (answer_of result)) None }
-        ensures memory { WantsMemory (machine_of self.old) self.old.cleaner.table (ask_of event) (Some (answer_of result)) }
-        ensures table_room { LeavesRoom (ask_of event) self.old.cleaner.table self.new.cleaner.table }
+        ensures entry { StepsBy (machine_of self.old) self.old.heap.marking (ask_of event.now)
+            (Some result) choice.new.chosen (machine_of self.new) }
+        ensures flow { Conserves (resource_of_event event.now) self.old.cleaner.table None self.new.cleaner.table }
+        ensures moves { Moves (resource_of_event event.now) self.old.cleaner.table None self.new.cleaner.table }
+        ensures goes_out { GoesOut self.old.cleaner.table (resource_of_event event.now) (Some result) None }
+        ensures memory { WantsMemory (machine_of self.old) self.old.cleaner.table (ask_of event.now) (Some result) }
+        ensures table_room { LeavesRoom (ask_of event.now) self.old.cleaner.table self.new.cleaner.table }
         ensures reached { MarksReached (machine_of self.old) self.old.heap.marking (machine_of self.new) self.new.heap.marking }
-        ensures begins { Begins (ask_of event) (machine_of self.old) (machine_of self.new) self.new.heap.marking }
-        ensures blackens { BlackensNew event (machine_of self.old) self.old.heap.marking choice.new.chosen
+        ensures begins { Begins (ask_of event.now) (machine_of self.old) (machine_of self.new) self.new.heap.marking }
+        ensures blackens { BlackensNew event.now (machine_of self.old) self.old.heap.marking choice.new.chosen
             (machine_of self.new) self.new.heap.marking }
-        ensures collects { ask_of event ≡ Some Ask.Collect
+        ensures collects { ask_of event.now ≡ Some Ask.Collect
+            → result ≡ Answer.Truth (self.old.cycle_open && not (has_grey self.old.heap.marking)) }
+        ensures policy { KeepsByPolicy self.old.soft_age self.old.heap.clock (machine_of self.old) self.old.heap.marking
+            (ask_of event.now) choice.new.chosen }
+        ensures age { self.new.soft_age ≡ self.old.soft_age }
+        ensures clock { self.new.heap.clock ≡ clock_after (machine_of self.old) self.old.heap.clock (ask_of event.now)
+            (Some result) choice.new.chosen }
+        ensures room { choice.new.cells ≡ choice.old.cells }
+        ensures cells { length self.new.heap.graph.objects ≡ length self.old.heap.graph.objects }
+        ensures waits { WaitsOn (machine_of self.new) self.old.cleaner self.new.cleaner }
+    {
+        answer_to(self.answer(event, choice))
+    }
+
+    /// One event of those that carry no resource, neither in nor out, and are no piece of marking.
+    #[inline(always)]
+    #[tactic(auto, using(crate::proofs::Shading::same_only))]
+    fn answer(&mut self, event: &Event<R>, choice: &mut Choice) -> Result<Answer, Refusal>
+        requires plain { is_plain event.now ≡ true }
+        requires fit { IsWellFormed (machine_of self.old) }
+        requires waits { AllWait (machine_of self.old) self.old.cleaner.waiting }
+        requires nothing { choice.old ≡ nothing_chosen choice.old.cells }
+        requires room { length self.old.heap.graph.objects ≤ choice.old.cells }
+        ensures entry { StepsBy (machine_of self.old) self.old.heap.marking (ask_of event.now)
+            (Some (answer_of result)) choice.new.chosen (machine_of self.new) }
+        ensures flow { Conserves (resource_of_event event.now) self.old.cleaner.table None self.new.cleaner.table }
+        ensures moves { Moves (resource_of_event event.now) self.old.cleaner.table None self.new.cleaner.table }
+        ensures goes_out { GoesOut self.old.cleaner.table (resource_of_event event.now) (Some (answer_of result)) None }
+        ensures memory { WantsMemory (machine_of self.old) self.old.cleaner.table (ask_of event.now) (Some (answer_of result)) }
+        ensures table_room { LeavesRoom (ask_of event.now) self.old.cleaner.table self.new.cleaner.table }
+        ensures reached { MarksReached (machine_of self.old) self.old.heap.marking (machine_of self.new) self.new.heap.marking }
+        ensures begins { Begins (ask_of event.now) (machine_of self.old) (machine_of self.new) self.new.heap.marking }
+        ensures blackens { BlackensNew event.now (machine_of self.old) self.old.heap.marking choice.new.chosen
+            (machine_of self.new) self.new.heap.marking }
+        ensures collects { ask_of event.now ≡ Some Ask.Collect
             → answer_of result ≡ Answer.Truth (self.old.cycle_open && not (has_grey self.old.heap.marking)) }
         ensures policy { KeepsByPolicy self.old.soft_age self.old.heap.clock (machine_of self.old) self.old.heap.marking
-            (ask_of event) choice.new.chosen }
+            (ask_of event.now) choice.new.chosen }
         ensures age { self.new.soft_age ≡ self.old.soft_age }
-        ensures clock { self.new.heap.clock ≡ clock_after (machine_of self.old) self.old.heap.clock (ask_of event)
+        ensures clock { self.new.heap.clock ≡ clock_after (machine_of self.old) self.old.heap.clock (ask_of event.now)
             (Some (answer_of result)) choice.new.chosen }
         ensures room { choice.new.cells ≡ choice.old.cells }
         ensures cells { length self.new.heap.graph.objects ≡ length self.old.heap.graph.objects }
         ensures waits { WaitsOn (machine_of self.new) self.old.cleaner self.new.cleaner }
     {
-        match event {
+        match *event {
             Event::Join { mutator } => self.join(mutator),
             Event::Leave { mutator } => self.leave(mutator),
-            Event::New { mutator, layout } => self.new_object(mutator, layout, choice),
+            Event::New {
+                mutator,
+                ref layout,
+            } => self.new_object(mutator, layout.copy(), choice),
             Event::Put {
                 mutator,
                 object,
@@ -246,11 +290,11 @@ impl<R> State<R> {
             } => self.finish(by, action, outcome),
             Event::Bind {
                 mutator,
-                name,
+                ref name,
                 object,
-            } => self.bind(mutator, &name, object),
-            Event::Find { mutator, name } => self.find(mutator, &name),
-            Event::Unbind { mutator, name } => self.unbind(mutator, &name),
+            } => self.bind(mutator, name, object),
+            Event::Find { mutator, ref name } => self.find(mutator, name),
+            Event::Unbind { mutator, ref name } => self.unbind(mutator, name),
             Event::Names { mutator } => self.names(mutator),
             Event::Full { mutator, mode } => self.full(mutator, mode, choice),
             Event::Stat { mutator } => self.stat(mutator),

@@ -1,10 +1,11 @@
 //! The core: one event at a time.
-ghost use Rattle.std.specs.Prelude.{◌≡◌, ◌≤◌, ◌↔◌, [], length, IfOk, IsTrue, None, Some};
+ghost use Rattle.std.specs.Prelude.{◌≡◌, ◌≤◌, ◌↔◌, [], length, true, IfOk, IsTrue, None, Some};
 ghost use Rattle.jlr_machine.specs.declared.machine.Machine.{Machine};
 ghost use Rattle.jlr_machine.specs.Refusals.{refusal};
 ghost use Rattle.jlr_machine.specs.Run.{no_choice};
 ghost use Rattle.jlr_event.specs.Events.{ask_of};
 ghost use Rattle.jlr_histories.specs.Collecting.{may_collect};
+ghost use Rattle.jlr_core.specs.Events.{is_plain};
 ghost use Rattle.jlr_core.specs.Steps.{IsEmpty, IsStep};
 ghost use Rattle.jlr_core.specs.TakeUps.{handed_out, take_up_answered};
 
@@ -76,6 +77,20 @@ impl<R> Core<R> {
     {
         choice.clear();
         self.state.step(event, choice)
+    }
+
+    /// One event of those that carry no resource, neither in nor out, and are no piece of marking: what `step` does for it, and what it is
+    /// answered. Nothing is moved for it.
+    #[inline(always)]
+    pub fn answer(&mut self, event: &Event<R>, choice: &mut Choice) -> Answer
+        requires plain { is_plain event.now ≡ true }
+        requires room { length self.old.machine.objects ≤ choice.old.cells }
+        ensures step { IsStep self.old event.now (Reply.Answered result None) choice.new.chosen self.new }
+        ensures room { choice.new.cells ≡ choice.old.cells }
+        ensures cells { length self.new.machine.objects ≡ length self.old.machine.objects }
+    {
+        choice.clear();
+        self.state.step_plain(event, choice)
     }
 
     /// A piece of marking of at most so many ticks: what `step` does for a `Mark`, which chooses nothing. Nothing is moved for it but its budget.

@@ -1,5 +1,5 @@
 //! What comes to the core, and what goes back: an ask or an answer with the resource that it carries.
-ghost use Rattle.std.specs.Prelude.{◌≡◌};
+ghost use Rattle.std.specs.Prelude.{◌≡◌, MatchBool, None, Some};
 ghost use Rattle.jlr_machine.specs.Data.{Brings};
 ghost use Rattle.jlr_event.specs.Events.{ask_of, answer_in, outcome_of, resource_of_event, resource_of_reply};
 
@@ -235,23 +235,37 @@ impl<R> Event<R> {
         requires { Brings room (ask_of self.now) }
         ensures { result ≡ ask_of self.now }
     {
-        Some(match *self {
-            Event::Join { mutator } => Ask::Join { mutator },
-            Event::Leave { mutator } => Ask::Leave { mutator },
+        let mut ask = Ask::HandOver;
+        if self.tell(room, &mut ask) {
+            Some(ask)
+        } else {
+            None
+        }
+    }
+
+    /// Writes the ask, as `plain` gives it, over another. Whether there is one; else the other stays.
+    #[inline(never)]
+    pub fn tell(&self, room: Option<Data>, place: &mut Ask) -> bool
+        requires { Brings room (ask_of self.now) }
+        ensures { MatchBool result (ask_of self.now ≡ Some place.new) ((ask_of self.now ≡ None) × (place.new ≡ place.old)) }
+    {
+        match *self {
+            Event::Join { mutator } => *place = Ask::Join { mutator },
+            Event::Leave { mutator } => *place = Ask::Leave { mutator },
             Event::New {
                 mutator,
                 ref layout,
-            } => Ask::New {
+            } => *place = Ask::New {
                 mutator,
                 layout: layout.copy(),
             },
-            Event::Dup { mutator, object } => Ask::Dup { mutator, object },
-            Event::Drop { mutator, object } => Ask::Drop { mutator, object },
+            Event::Dup { mutator, object } => *place = Ask::Dup { mutator, object },
+            Event::Drop { mutator, object } => *place = Ask::Drop { mutator, object },
             Event::Same {
                 mutator,
                 left,
                 right,
-            } => Ask::Same {
+            } => *place = Ask::Same {
                 mutator,
                 left,
                 right,
@@ -261,7 +275,7 @@ impl<R> Event<R> {
                 object,
                 field,
                 value,
-            } => Ask::Put {
+            } => *place = Ask::Put {
                 mutator,
                 object,
                 field,
@@ -271,7 +285,7 @@ impl<R> Event<R> {
                 mutator,
                 object,
                 field,
-            } => Ask::Get {
+            } => *place = Ask::Get {
                 mutator,
                 object,
                 field,
@@ -281,7 +295,7 @@ impl<R> Event<R> {
                 object,
                 field,
                 value,
-            } => Ask::SetInt {
+            } => *place = Ask::SetInt {
                 mutator,
                 object,
                 field,
@@ -291,7 +305,7 @@ impl<R> Event<R> {
                 mutator,
                 object,
                 field,
-            } => Ask::Int {
+            } => *place = Ask::Int {
                 mutator,
                 object,
                 field,
@@ -301,98 +315,110 @@ impl<R> Event<R> {
                 kind,
                 referent,
                 queue,
-            } => Ask::MakeRef {
+            } => *place = Ask::MakeRef {
                 mutator,
                 kind,
                 referent,
                 queue,
             },
-            Event::Deref { mutator, reference } => Ask::Deref { mutator, reference },
+            Event::Deref { mutator, reference } => *place = Ask::Deref { mutator, reference },
             Event::Refers {
                 mutator,
                 reference,
                 object,
-            } => Ask::Refers {
+            } => *place = Ask::Refers {
                 mutator,
                 reference,
                 object,
             },
-            Event::Clear { mutator, reference } => Ask::Clear { mutator, reference },
-            Event::Enqueue { mutator, reference } => Ask::Enqueue { mutator, reference },
-            Event::Enqueued { mutator, reference } => Ask::Enqueued { mutator, reference },
-            Event::MakeQueue { mutator } => Ask::MakeQueue { mutator },
-            Event::Poll { mutator, queue } => Ask::Poll { mutator, queue },
-            Event::Remove { mutator, queue } => Ask::Remove { mutator, queue },
-            Event::MakeCleaner { mutator } => Ask::MakeCleaner { mutator },
+            Event::Clear { mutator, reference } => *place = Ask::Clear { mutator, reference },
+            Event::Enqueue { mutator, reference } => *place = Ask::Enqueue { mutator, reference },
+            Event::Enqueued { mutator, reference } => *place = Ask::Enqueued { mutator, reference },
+            Event::MakeQueue { mutator } => *place = Ask::MakeQueue { mutator },
+            Event::Poll { mutator, queue } => *place = Ask::Poll { mutator, queue },
+            Event::Remove { mutator, queue } => *place = Ask::Remove { mutator, queue },
+            Event::MakeCleaner { mutator } => *place = Ask::MakeCleaner { mutator },
             Event::Register {
                 mutator,
                 cleaner,
                 object,
                 note,
-            } => Ask::Register {
+            } => *place = Ask::Register {
                 mutator,
                 cleaner,
                 object,
                 note,
             },
-            Event::Clean { mutator, cleanable } => Ask::Clean { mutator, cleanable },
+            Event::Clean { mutator, cleanable } => *place = Ask::Clean { mutator, cleanable },
             Event::Finish {
                 by,
                 action,
                 ref outcome,
-            } => Ask::Finish {
+            } => *place = Ask::Finish {
                 by,
                 action,
                 outcome: ended(outcome),
             },
-            Event::Prepare { mutator } => Ask::Prepare { mutator },
+            Event::Prepare { mutator } => *place = Ask::Prepare { mutator },
             Event::Opened {
                 mutator,
                 ref outcome,
-            } => Ask::Opened {
+            } => *place = Ask::Opened {
                 mutator,
                 outcome: ended(outcome),
             },
-            Event::CheckOut { mutator, guard } => Ask::CheckOut { mutator, guard },
+            Event::CheckOut { mutator, guard } => *place = Ask::CheckOut { mutator, guard },
             Event::CheckIn {
                 mutator,
                 ref outcome,
                 ..
-            } => Ask::CheckIn {
+            } => *place = Ask::CheckIn {
                 mutator,
                 outcome: outcome.copy_into(room),
             },
-            Event::Close { mutator, guard } => Ask::Close { mutator, guard },
+            Event::Close { mutator, guard } => *place = Ask::Close { mutator, guard },
             Event::Bind {
                 mutator,
                 ref name,
                 object,
-            } => Ask::Bind {
+            } => *place = Ask::Bind {
                 mutator,
                 name: name.copy(),
                 object,
             },
-            Event::Find { mutator, ref name } => Ask::Find {
+            Event::Find { mutator, ref name } => *place = Ask::Find {
                 mutator,
                 name: name.copy(),
             },
-            Event::Unbind { mutator, ref name } => Ask::Unbind {
+            Event::Unbind { mutator, ref name } => *place = Ask::Unbind {
                 mutator,
                 name: name.copy(),
             },
-            Event::Names { mutator } => Ask::Names { mutator },
-            Event::Full { mutator, mode } => Ask::Full { mutator, mode },
-            Event::Stat { mutator } => Ask::Stat { mutator },
-            Event::Notes { mutator } => Ask::Notes { mutator },
-            Event::Faults { mutator } => Ask::Faults { mutator },
-            Event::HandOver => Ask::HandOver,
-            Event::TakeUp => Ask::TakeUp,
-            Event::Begin => Ask::Begin,
-            Event::Collect => Ask::Collect,
-            Event::Abandon => Ask::Abandon,
-            Event::Array { mutator, length } => Ask::Array { mutator, length },
-            Event::Mark { .. } => return None,
-        })
+            Event::Names { mutator } => *place = Ask::Names { mutator },
+            Event::Full { mutator, mode } => *place = Ask::Full { mutator, mode },
+            Event::Stat { mutator } => *place = Ask::Stat { mutator },
+            Event::Notes { mutator } => *place = Ask::Notes { mutator },
+            Event::Faults { mutator } => *place = Ask::Faults { mutator },
+            Event::HandOver => *place = Ask::HandOver,
+            Event::TakeUp => *place = Ask::TakeUp,
+            Event::Begin => *place = Ask::Begin,
+            Event::Collect => *place = Ask::Collect,
+            Event::Abandon => *place = Ask::Abandon,
+            Event::Array { mutator, length } => *place = Ask::Array { mutator, length },
+            Event::Mark { .. } => return false,
+        }
+        true
+    }
+
+    /// Lets go of an event that hands in no resource, whether a resource may be dropped or not.
+    #[inline(always)]
+    pub fn let_go(self)
+        requires { resource_of_event self ≡ None }
+    {
+        match self.into_resource() {
+            None => {}
+            Some(_) => unreachable!(),
+        }
     }
 
     /// The resource that an event hands in, if one is.

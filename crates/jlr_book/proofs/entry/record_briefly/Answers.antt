@@ -1,0 +1,46 @@
+use Rattle.std.proofs.Common.{◌≡◌, ℕ, List, [], ◌∷◌, ◌++◌, Option, None, length, slice_index_or, slice_set, refl, arith, sym, ap, subst, ◌∙◌}
+use Rattle.jlr_machine.specs.declared.ask.Ask.TheVariants as ask
+use Rattle.jlr_machine.specs.declared.ask.Answer.TheVariants as answer
+use Rattle.jlr_machine.specs.declared.entry.Chosen.{Chosen}
+use Rattle.jlr_machine.specs.declared.entry.Collected.{Collected}
+use Rattle.jlr_machine.specs.declared.entry.Entry.{Entry}
+use Rattle.jlr_book.proofs.Entering.{entry_by, writes}
+use Rattle.jlr_book.proofs.entry.record_briefly.Goals as goal
+
+-- what stands behind a list is told otherwise
+told_last : (xs : List Entry) (x y : Entry) → slice_set (xs ++ x ∷ []) (length xs) y ≡ xs ++ y ∷ []
+told_last [] x y = refl
+told_last (z ∷ xs) x y = ap (λ l. z ∷ l) (told_last xs x y)
+
+got_last : (xs : List Entry) (x d : Entry) → slice_index_or (xs ++ x ∷ []) (length xs) d ≡ x
+got_last [] x d = refl
+got_last (z ∷ xs) x d = got_last xs x d
+
+-- an entry by its parts
+by_parts : (e : Entry) (seat : ℕ) → e.seat ≡ seat → e.choice.collected ≡ None → e ≡ entry_by seat e.ask e.answer (record { collected = None; fresh = e.choice.fresh })
+by_parts e seat same none =
+    ap {A = ℕ} {B = Entry} (λ s. entry_by s e.ask e.answer e.choice) same
+    ∙ ap {A = Option Collected} {B = Entry} (λ o. entry_by seat e.ask e.answer (record { collected = o; fresh = e.choice.fresh })) none
+
+pub returns-clause-writes : goal.returns-clause-writes
+returns-clause-writes g c =
+    let did = c.tell_briefly in
+    let e = did.new.entry in
+    let entries = c.args.trace.now.items in
+    let empty : Entry = entry_by c.args.seat ask.HandOver answer.Done (record { collected = None; fresh = c.new.result }) in
+    let chosen : Chosen = record { collected = None; fresh = e.choice.fresh } in
+    let last : c.len-place.result ≡ length entries = omega (arith, c.len-place.ensures, c.args.trace.now.ok.0) in
+    let behind = ap (λ l. slice_set l c.len-place.result e) c.push_reserved.ensures.items in
+    let placed = ap (λ n. slice_set (entries ++ empty ∷ []) n e) last in
+    let was = c.index_mut-entry.result.now in
+    let found : was ≡ empty =
+    c.index_mut-entry.ensures.value
+    ∙ ap (λ l. slice_index_or l c.len-place.result was) c.push_reserved.ensures.items
+    ∙ ap (λ n. slice_index_or (entries ++ empty ∷ []) n was) last
+    ∙ got_last entries empty was in
+    let seat = did.ensures.seat ∙ ap {A = Entry} {B = ℕ} (λ x. x.seat) found in
+    let none = did.ensures.collected ∙ ap {A = Entry} {B = Option Collected} (λ x. x.choice.collected) found in
+    let parts = by_parts e c.args.seat seat none in
+    let more = behind ∙ placed ∙ told_last entries empty e ∙ ap (λ x. entries ++ x ∷ []) parts in
+    writes c.args.core.now did.new.core c.args.event.now did.result e.answer None e.ask chosen entries _ c.args.seat
+    did.ensures.step did.ensures.ask more did.ensures.answer
