@@ -1,7 +1,7 @@
 -- Room for the items of a list answer, or for what a call read.
 use Rattle.std.specs.Prelude.{◌≡◌, Bool, true, false, not, [], Option, Some, None, vec_capacity}
 use Rattle.jlr_machine.specs.declared.ask.Ask.{Ask}
-use Rattle.jlr_machine.specs.declared.ask.Ask.TheVariants.{Names as AskNames, Notes as AskNotes, Faults as AskFaults, Clean as AskClean, CheckOut as AskCheckOut, Close as AskClose, TakeUp as AskTakeUp}
+use Rattle.jlr_machine.specs.declared.ask.Ask.TheVariants as ask
 use Rattle.jlr_machine.specs.declared.ask.Answer.{Answer}
 use Rattle.jlr_machine.specs.declared.ask.Answer.TheVariants.{Names as NamesAre, Notes as NotesAre, Faults as FaultsAre, Data}
 use Rattle.jlr_machine.specs.Refusals.{is_end}
@@ -32,14 +32,14 @@ IsVacant (Bytes room) = Unit {0}
 -- for no list and no resource. A piece of marking is no entry
 abbrev pub is_brief : Option Ask → Bool
 is_brief None = false
-is_brief (Some (AskNames k)) = false
-is_brief (Some (AskNotes k)) = false
-is_brief (Some (AskFaults k)) = false
-is_brief (Some (AskClean k c)) = false
-is_brief (Some (AskCheckOut k h)) = false
-is_brief (Some (AskClose k h)) = false
-is_brief (Some AskTakeUp) = false
-is_brief (Some ask) = not (is_end ask)
+is_brief (Some (ask.Names k)) = false
+is_brief (Some (ask.Notes k)) = false
+is_brief (Some (ask.Faults k)) = false
+is_brief (Some (ask.Clean k c)) = false
+is_brief (Some (ask.CheckOut k h)) = false
+is_brief (Some (ask.Close k h)) = false
+is_brief (Some ask.TakeUp) = false
+is_brief (Some a) = not (is_end a)
 
 -- the answers whose copies take room: lists, and what a call read
 abbrev pub is_long : Answer → Bool

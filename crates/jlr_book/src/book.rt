@@ -422,8 +422,8 @@ fn has_places(trace: &Vec<Entry>, limit: u32) -> bool
     trace.len() < limit as usize && trace.capacity() - trace.len() >= PLACES
 }
 
-/// Whether the entry of an event needs no more than its place, unless it collects, and no resource goes in or out: it is no end, no piece of
-/// marking, and asks for no list and no resource.
+/// Whether the entry of an event needs no more than its place, unless it collects, and no resource goes in or out: it is no end, no
+/// piece of marking, and asks for no list and no resource.
 #[inline(always)]
 fn is_brief<R>(event: &Event<R>) -> bool
     ensures { result ≡ is_brief (ask_of event.now) }

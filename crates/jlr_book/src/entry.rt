@@ -55,8 +55,8 @@ pub(crate) fn record<R: Drop>(
     }
 }
 
-/// An entry that needs its place alone, without a collection: it is told in its place, which it finds empty. The core is lent the event, and a
-/// choice.
+/// An entry that needs its place alone, without a collection: it is told in its place, which it finds empty. The core is lent the event,
+/// and a choice.
 #[inline(always)]
 pub(crate) fn record_briefly<R>(
     core: &mut Core<R>,
@@ -103,7 +103,8 @@ fn tell_briefly<R>(
     requires stands { Stands core.old }
     requires choice { length core.old.machine.objects ≤ lent.old.cells }
     requires plain { may_collect core.old.machine (ask_of event.now) ≡ false }
-    ensures step { IsStep core.old event.now (Reply.Answered result None) (record { collected = None; fresh = entry.new.choice.fresh }) core.new }
+    ensures step { IsStep core.old event.now (Reply.Answered result None)
+        (record { collected = None; fresh = entry.new.choice.fresh }) core.new }
     ensures ask { ask_of event.now ≡ Some entry.new.ask }
     ensures answer { entry.new.answer ≡ result }
     ensures seat { entry.new.seat ≡ entry.old.seat }

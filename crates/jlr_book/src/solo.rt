@@ -194,7 +194,8 @@ impl<R: Resource + Drop> Solo<R> {
 
     /// The work of a job that the cleaner took up is done, and its outcome told. What led to it is a history.
     fn finish(&mut self, seat: u8, job: Job<R>)
-        ensures told { (event : Event R) × (reply : Reply R) × TellsFinished R.handling 255 job event × BookSteps seat self.old event reply self.new }
+        ensures told { (event : Event R) × (reply : Reply R)
+            × TellsFinished R.handling 255 job event × BookSteps seat self.old event reply self.new }
         ensures before { IsHistory self.old }
     {
         self.book.is_history();

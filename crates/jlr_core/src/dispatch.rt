@@ -155,7 +155,8 @@ impl<R> State<R> {
         answer_to(self.finish(by, action, outcome))
     }
 
-    /// One event of those that carry no resource, neither in nor out, and are no piece of marking: what it is answered. The event is not moved.
+    /// One event of those that carry no resource, neither in nor out, and are no piece of marking: what it is answered. The event is not
+    /// moved.
     #[inline(never)]
     #[tactic(auto, using(crate::proofs::Shading::same_only))]
     pub(crate) fn step_plain(&mut self, event: &Event<R>, choice: &mut Choice) -> Answer
@@ -324,15 +325,9 @@ fn answer_to(outcome: Result<Answer, Refusal>) -> Answer
 fn answered<R>(outcome: Result<Answer, Refusal>) -> Reply<R>
     ensures { result ≡ Reply.Answered (answer_of outcome) None }
 {
-    match outcome {
-        Ok(answer) => Reply::Answered {
-            answer,
-            resource: None,
-        },
-        Err(refusal) => Reply::Answered {
-            answer: Answer::Refused(refusal),
-            resource: None,
-        },
+    Reply::Answered {
+        answer: answer_to(outcome),
+        resource: None,
     }
 }
 

@@ -109,8 +109,8 @@ impl<R> Core<R> {
         self.state.step_handler()
     }
 
-    /// A step of the cleaner: what `step` does for `TakeUp`, which chooses nothing. The job that was taken up, with its resource; none where
-    /// no cleanable of the line is Lined.
+    /// A step of the cleaner: what `step` does for `TakeUp`, which chooses nothing. The job that was taken up, with its resource; none
+    /// where no cleanable of the line is Lined.
     ///
     /// # Errors
     /// `Busy` where the cleaner has a job that has not ended.

@@ -1,4 +1,5 @@
-use Rattle.std.proofs.Common.{◌≡◌, ℕ, List, [], ◌∷◌, ◌++◌, Option, None, length, slice_index_or, slice_set, refl, arith, sym, ap, subst, ◌∙◌}
+use Rattle.std.proofs.Common.{◌≡◌, ℕ, List, [], ◌∷◌, ◌++◌, Option, None, length, slice_index_or, slice_set}
+use Rattle.std.proofs.Common.{refl, arith, ap, ◌∙◌}
 use Rattle.jlr_machine.specs.declared.ask.Ask.TheVariants as ask
 use Rattle.jlr_machine.specs.declared.ask.Answer.TheVariants as answer
 use Rattle.jlr_machine.specs.declared.entry.Chosen.{Chosen}
@@ -17,7 +18,8 @@ got_last [] x d = refl
 got_last (z ∷ xs) x d = got_last xs x d
 
 -- an entry by its parts
-by_parts : (e : Entry) (seat : ℕ) → e.seat ≡ seat → e.choice.collected ≡ None → e ≡ entry_by seat e.ask e.answer (record { collected = None; fresh = e.choice.fresh })
+by_parts : (e : Entry) (seat : ℕ) → e.seat ≡ seat → e.choice.collected ≡ None
+    → e ≡ entry_by seat e.ask e.answer (record { collected = None; fresh = e.choice.fresh })
 by_parts e seat same none =
     ap {A = ℕ} {B = Entry} (λ s. entry_by s e.ask e.answer e.choice) same
     ∙ ap {A = Option Collected} {B = Entry} (λ o. entry_by seat e.ask e.answer (record { collected = o; fresh = e.choice.fresh })) none

@@ -19,8 +19,9 @@ push_reserved-requires g c =
     let kept = c.self.invariant in
     let event = Finish c.args.by c.args.action c.args.outcome in
     let asked = ask.Finish c.args.by c.args.action (outcome_of c.args.outcome) in
+    let stands = stands_there old.image old.trace.items old.core kept.history.ends in
     let less = owed_less_by old.core told.new.self event (Answered told.result None) _ asked told.ensures.step refl refl
-    (λ by e. not_refused told.result by (sym c.is_refused.ensures ∙ c.if-is_refused.false) e) (stands_there old.image old.trace.items old.core kept.history.ends) in
+    (λ by e. not_refused told.result by (sym c.is_refused.ensures ∙ c.if-is_refused.false) e) stands in
     let l = old.trace.ok.0 in
     omega (arith, l, less, kept.places)
 
@@ -34,8 +35,10 @@ invariant_of-self g c =
     let event = Finish c.args.by c.args.action c.args.outcome in
     let asked = ask.Finish c.args.by c.args.action (outcome_of c.args.outcome) in
     let l = old.trace.ok.0 in
-    let away = turned_away old.core told.new.self event told.result None _ old.trace.items told.ensures.step (sym c.is_refused.ensures ∙ c.if-is_refused.true) in
-    let x = end_goes_on old.limits old.base (vec_capacity old.trace) old.image old.trace.items old.trace.items old.core told.new.self c.args.seat event
+    let entries = old.trace.items in
+    let refused = sym c.is_refused.ensures ∙ c.if-is_refused.true in
+    let away = turned_away old.core told.new.self event told.result None _ entries told.ensures.step refused in
+    let x = end_goes_on old.limits old.base (vec_capacity old.trace) old.image entries entries old.core told.new.self c.args.seat event
     (Answered told.result None) asked kept.history refl refl (inr away) told.ensures.cells (omega (arith, l, kept.places)) in
     record { history = x.0; places = omega (arith, l, x.1); choice = kept.choice }
 
@@ -45,16 +48,19 @@ returns-then-is_refused g c =
     let told' = c.finish-answer in
     let event = Finish c.args.by c.args.action c.args.outcome in
     let reply = Answered told'.result None in
-    let away = turned_away old.core told'.new.self event told'.result None _ old.trace.items told'.ensures.step (sym c.is_refused.ensures ∙ c.if-is_refused.true) in (
+    let entries = old.trace.items in
+    let refused = sym c.is_refused.ensures ∙ c.if-is_refused.true in
+    let away = turned_away old.core told'.new.self event told'.result None _ entries told'.ensures.step refused in (
       reply,
-      subst (λ h. EndsBy c.args.seat h event reply (told old.limits old.base old.image old.trace.items told'.new.self)) c.self.view_is
-          (ends_by old.limits old.base old.image old.trace.items old.trace.items old.core told'.new.self c.args.seat event reply (inr away)),
+      subst (λ h. EndsBy c.args.seat h event reply (told old.limits old.base old.image entries told'.new.self)) c.self.view_is
+          (ends_by old.limits old.base old.image entries entries old.core told'.new.self c.args.seat event reply (inr away)),
     )
 
 -- ---- Where it is an entry
 
 written : (g : Over) (c : goal.After-push_reserved g)
-    → WritesEnd c.args.seat c.self.inside.core c.self.inside.trace.items (Finish c.args.by c.args.action c.args.outcome) (Answered c.finish-answer.result None)
+    → WritesEnd c.args.seat c.self.inside.core c.self.inside.trace.items
+    (Finish c.args.by c.args.action c.args.outcome) (Answered c.finish-answer.result None)
     c.finish-answer.new.self c.push_reserved.new.self.items
 written g c =
     let old = c.self.inside in
@@ -82,8 +88,9 @@ invariant_of-self-2 g c =
     let asked = ask.Finish c.args.by c.args.action (outcome_of c.args.outcome) in
     let l = old.trace.ok.0 in
     let l' = c.push_reserved.new.self.ok.0 in
-    let x = end_goes_on old.limits old.base (vec_capacity old.trace) old.image old.trace.items entries' old.core told.new.self c.args.seat event
-    (Answered told.result None) asked kept.history refl refl (written g c) told.ensures.cells (omega (arith, l, kept.places)) in
+    let x = end_goes_on old.limits old.base (vec_capacity old.trace) old.image old.trace.items entries' old.core told.new.self
+    c.args.seat event (Answered told.result None) asked kept.history refl refl (written g c) told.ensures.cells
+    (omega (arith, l, kept.places)) in
     record { history = x.0; places = omega (arith, l', x.1, c.push_reserved.ensures.capacity); choice = kept.choice }
 
 pub returns : goal.returns

@@ -21,12 +21,15 @@ returns-in-Some-Ok-Some-clause-turn g c =
     let told = c.finish.ensures.told in
     let reply = Answered (Job job.action job.work) job.resource in
     let is = c.in-Some-Ok-Some.field-0-is ∙ ap Ok c.in-Some-Ok-Some.field-0-0-is in
-    let does = subst (λ t. BookSteps c.cleaner-seat.result c.self.inside.book TakeUp (Answered (take_up_answered t) (handed_out t)) between) is c.in-Some-Ok-Some.ensures in
+    let does = subst
+    (λ t. BookSteps c.cleaner-seat.result c.self.inside.book TakeUp (Answered (take_up_answered t) (handed_out t)) between)
+    is c.in-Some-Ok-Some.ensures in
     let there = subst (λ h. BookSteps c.cleaner-seat.result h TakeUp reply between) c.self.view_is does in
     let took = subst (λ s. BookSteps s old TakeUp reply between) c.cleaner-seat.ensures there in
     let tells = subst (λ s. BookSteps s between told.0 told.1 new) c.cleaner-seat.ensures told.3 in
     let history = subst IsHistory c.self.view_is c.is_history.ensures in
-    (worked_turn g.R.Resource.handling old between new reply told.1 job told.0 refl history c.finish.ensures.before c.requires took told.2 tells).0
+    (worked_turn g.R.Resource.handling old between new reply told.1 job told.0 refl history
+    c.finish.ensures.before c.requires took told.2 tells).0
 
 pub returns-in-Some-Ok-Some-clause-shorter : goal.returns-in-Some-Ok-Some-clause-shorter
 returns-in-Some-Ok-Some-clause-shorter g c =
@@ -37,12 +40,15 @@ returns-in-Some-Ok-Some-clause-shorter g c =
     let told = c.finish.ensures.told in
     let reply = Answered (Job job.action job.work) job.resource in
     let is = c.in-Some-Ok-Some.field-0-is ∙ ap Ok c.in-Some-Ok-Some.field-0-0-is in
-    let does = subst (λ t. BookSteps c.cleaner-seat.result c.self.inside.book TakeUp (Answered (take_up_answered t) (handed_out t)) between) is c.in-Some-Ok-Some.ensures in
+    let does = subst
+    (λ t. BookSteps c.cleaner-seat.result c.self.inside.book TakeUp (Answered (take_up_answered t) (handed_out t)) between)
+    is c.in-Some-Ok-Some.ensures in
     let there = subst (λ h. BookSteps c.cleaner-seat.result h TakeUp reply between) c.self.view_is does in
     let took = subst (λ s. BookSteps s old TakeUp reply between) c.cleaner-seat.ensures there in
     let tells = subst (λ s. BookSteps s between told.0 told.1 new) c.cleaner-seat.ensures told.3 in
     let history = subst IsHistory c.self.view_is c.is_history.ensures in
-    (worked_turn g.R.Resource.handling old between new reply told.1 job told.0 refl history c.finish.ensures.before c.requires took told.2 tells).1
+    (worked_turn g.R.Resource.handling old between new reply told.1 job told.0 refl history
+    c.finish.ensures.before c.requires took told.2 tells).1
 
 -- ---- None of the line was Lined
 
@@ -52,7 +58,9 @@ returns-in-Some-Ok-None-clause-shorter g c =
     let new = c.take_up_briefly.new.self in
     let reply = Answered (Handed Nothing) None in
     let is = c.in-Some-Ok-None.field-0-is ∙ ap Ok c.in-Some-Ok-None.field-0-0-is in
-    let does = subst (λ t. BookSteps c.cleaner-seat.result c.self.inside.book TakeUp (Answered (take_up_answered t) (handed_out t)) new) is c.in-Some-Ok-None.ensures in
+    let does = subst
+    (λ t. BookSteps c.cleaner-seat.result c.self.inside.book TakeUp (Answered (take_up_answered t) (handed_out t)) new)
+    is c.in-Some-Ok-None.ensures in
     let there = subst (λ h. BookSteps c.cleaner-seat.result h TakeUp reply new) c.self.view_is does in
     let took = subst (λ s. BookSteps s old TakeUp reply new) c.cleaner-seat.ensures there in
     let history = subst IsHistory c.self.view_is c.is_history.ensures in

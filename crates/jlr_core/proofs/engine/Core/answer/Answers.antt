@@ -65,7 +65,8 @@ returns-clause-step g c =
       marking =
           subst
           (λ b.
-          MarksBy {R = g.row.R.Denot} b c.args.self.now.soft_age c.args.self.now.clock c.args.self.now.machine c.args.self.now.marking c.args.self.now.condemned
+          MarksBy {R = g.row.R.Denot} b c.args.self.now.soft_age c.args.self.now.clock
+          c.args.self.now.machine c.args.self.now.marking c.args.self.now.condemned
           (Answered said None) new.heap.marking new.heap.condemned)
           (sym (no_budget event c.requires.plain)) tt;
       blackens =
@@ -73,8 +74,10 @@ returns-clause-step g c =
       collects =
           λ is.
           ap Some
-          (subst (λ (k : Kept g.row.R.Denot). said ≡ Truth (k.machine.cycle_open && not (has_grey k.marking))) c.self.view_is (did.collects is));
-      policy = subst (λ (k : Kept g.row.R.Denot). KeepsByPolicy k.soft_age k.clock k.machine k.marking ask chosen) c.self.view_is did.policy;
+          (subst (λ (k : Kept g.row.R.Denot). said ≡ Truth (k.machine.cycle_open && not (has_grey k.marking)))
+          c.self.view_is (did.collects is));
+      policy =
+          subst (λ (k : Kept g.row.R.Denot). KeepsByPolicy k.soft_age k.clock k.machine k.marking ask chosen) c.self.view_is did.policy;
       age = subst (λ (k : Kept g.row.R.Denot). new.soft_age ≡ k.soft_age) c.self.view_is did.age;
       clock = subst (λ (k : Kept g.row.R.Denot). new.heap.clock ≡ clock_after k.machine k.clock ask answer chosen) c.self.view_is did.clock;
     }

@@ -12,7 +12,8 @@ use Rattle.jlr_core.specs.State.{Answered, Meets, answer_of}
 use Rattle.jlr_core.proofs.Entries.{IsPlain, meets_plain, meets_refused}
 use Rattle.jlr_core.proofs.state.State.step_finish.Goals as goal
 
-meets : (m n : Machine) (ask : Ask) (result : Result Answer Refusal) → IsPlain ask → Answered m ask result n → Meets m ask (answer_of result) no_choice n
+meets : (m n : Machine) (ask : Ask) (result : Result Answer Refusal) → IsPlain ask → Answered m ask result n
+    → Meets m ask (answer_of result) no_choice n
 meets m n ask (Ok a) plain x = meets_plain m n ask a plain x.0 x.1 x.2
 meets m n ask (Err r) plain x = subst (λ k. Meets m ask (Refused r) no_choice k) (sym x.1) (meets_refused m ask r x.0)
 
