@@ -237,6 +237,11 @@ brief_tells_no_data None room is = refl
 brief_tells_no_data (Some (ask.CheckIn k outcome)) room is = absurd (both_ways false refl is)
 brief_tells_no_data (Some a) room is = refl
 
+pub brief_reads_nothing : (asked : Option Ask) → is_brief asked ≡ true → tells_data asked ≡ false
+brief_reads_nothing None is = refl
+brief_reads_nothing (Some (ask.CheckIn k outcome)) is = absurd (both_ways false refl is)
+brief_reads_nothing (Some a) is = refl
+
 -- room of both kinds is there where room is
 pub brings_as : {X Y : Type 0} (room : Option X) (part : Option Y) (asked : Option Ask) → is_some part ≡ is_some room → Brings room asked → Brings part asked
 brings_as room part asked same brings = subst (λ b. cond (tells_data asked) b true ≡ true) (sym same) brings

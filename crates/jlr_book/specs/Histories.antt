@@ -43,6 +43,10 @@ Ends image entries core = (m : Machine) × Run image entries m × StandsIn core 
 abbrev pub spare : Machine → ℕ
 spare m = owed m + 1
 
+-- the empty machine of these limits
+abbrev pub empty_of : Limits → Machine
+empty_of limits = empty limits.cells limits.sessions limits.resources
+
 -- the machine is of these limits
 pub record HasLimits (limits : Limits) (m : Machine) : Type 0 where
   pub cells : length m.objects ≡ limits.cells

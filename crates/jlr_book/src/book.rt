@@ -6,7 +6,7 @@ ghost use Rattle.jlr_event.specs.Events.{ask_of};
 ghost use Rattle.jlr_core.specs.TakeUps.{handed_out, take_up_answered};
 ghost use Rattle.jlr_book.specs.Due.{IsDue};
 ghost use Rattle.jlr_book.specs.Lists.{is_brief};
-ghost use Rattle.jlr_book.specs.Histories.{last, HasNumbers, IsHistory, IsNewBook};
+ghost use Rattle.jlr_book.specs.Histories.{empty_of, last, HasNumbers, IsHistory, IsNewBook};
 ghost use Rattle.jlr_book.specs.Rules.{AsksBy, BookSteps, Cuts, EndsBy, MarksBy};
 ghost use Rattle.jlr_book.specs.Writing.{Pieces};
 
@@ -40,20 +40,21 @@ pub struct Book<R> {
     limits: Limits,
     core: Core<R>,
     choice: Choice,
-    image: Machine,
+    /// What a cut left. Before the first one it is the empty machine, which takes no memory here.
+    image: Option<Machine>,
     base: u64,
     trace: Vec<Entry>,
 }
 
 impl<R> Model for Book<R> {
     ghost use Rattle.jlr_book.specs.Histories.{History};
-    ghost use Rattle.jlr_book.specs.Keeping.{Keeps};
+    ghost use Rattle.jlr_book.specs.Keeping.{Keeps, image_from};
 
     ghost Value = { History R };
 
-    ghost view = { λ b. record { limits = b.limits; base = b.base; image = b.image; entries = b.trace.items; core = b.core } };
+    ghost view = { λ b. record { limits = b.limits; base = b.base; image = image_from b.limits b.image; entries = b.trace.items; core = b.core } };
 
-    ghost invariant = { λ b. Keeps b.limits b.base b.image b.trace b.core b.choice.cells };
+    ghost invariant = { λ b. Keeps b.limits b.base (image_from b.limits b.image) b.trace b.core b.choice.cells };
 }
 
 impl<R: Drop> Book<R> {
@@ -66,21 +67,15 @@ impl<R: Drop> Book<R> {
     {
         let choice = Choice::new(alloc, limits.cells)?;
         let core = Core::new(alloc, limits)?;
-        match core.image(alloc) {
-            Ok(image) => Ok(Book {
-                alloc,
-                limits,
-                core,
-                choice,
-                image,
-                base: 0,
-                trace: Vec::new(alloc),
-            }),
-            Err(wanting) => {
-                drop(core);
-                Err(wanting)
-            }
-        }
+        Ok(Book {
+            alloc,
+            limits,
+            core,
+            choice,
+            image: None,
+            base: 0,
+            trace: Vec::new(alloc),
+        })
     }
 
     /// What is true of each book, for callers: the entries are a run from the image, which is a well-formed machine with no open cycle and at
@@ -117,11 +112,14 @@ impl<R: Drop> Book<R> {
         self.base
     }
 
-    /// The machine from which the trace leads on.
-    pub fn image(&self) -> &Machine
-        ensures { result.now ≡ self.now.image }
+    /// The machine from which the trace leads on; none before the first cut, where that is the empty machine of the limits.
+    pub fn image(&self) -> Option<&Machine>
+        ensures { MatchOption result (self.now.image ≡ empty_of self.now.limits) (λ image. image.now ≡ self.now.image) }
     {
-        &self.image
+        match &self.image {
+            Some(image) => Some(image),
+            None => None,
+        }
     }
 
     /// The trace.

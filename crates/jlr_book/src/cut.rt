@@ -1,5 +1,5 @@
 //! What a cut does to the trace and the core.
-ghost use Rattle.std.specs.Prelude.{◌≡◌, ◌≤◌, ◌<◌, ◌+◌, ◌^◌, true, false, cond, [], length, vec_len, vec_capacity, None, IfOk, OnOk, OnErr};
+ghost use Rattle.std.specs.Prelude.{◌≡◌, ◌≤◌, ◌<◌, ◌+◌, ◌^◌, true, false, cond, [], length, vec_len, vec_capacity, None, Some, IfOk, OnOk, OnErr};
 ghost use Rattle.jlr_core.specs.Steps.{Steps};
 ghost use Rattle.jlr_book.specs.Rules.{GivesUp};
 ghost use Rattle.jlr_book.specs.Writing.{Stands};
@@ -50,13 +50,13 @@ pub(crate) fn cut_to_image<R: Drop>(
     core: &mut Core<R>,
     choice: &mut Choice,
     trace: &mut Vec<Entry>,
-    image: &mut Machine,
+    image: &mut Option<Machine>,
 ) -> Result<u64, AllocError>
     requires fits { vec_len trace.old + 1 < 2 ^ 64 }
     requires stands { Stands core.old }
     requires choice { length core.old.machine.objects ≤ choice.old.cells }
     ensures used { IfOk result (λ used. used ≡ vec_len trace.old + cond core.old.machine.cycle_open 1 0) }
-    ensures image { OnOk result (image.new ≡ record core.old.machine { cycle_open = false }) }
+    ensures image { OnOk result (image.new ≡ Some (record core.old.machine { cycle_open = false })) }
     ensures gives_up { OnOk result (GivesUp core.old.machine.cycle_open core.old core.new) }
     ensures machine { OnOk result (core.new.machine ≡ record core.old.machine { cycle_open = false }) }
     ensures stands { OnOk result (Stands core.new) }
@@ -67,7 +67,7 @@ pub(crate) fn cut_to_image<R: Drop>(
 {
     let machine = core.image(alloc)?;
     let used = cut_trace(core, choice, trace, machine.cycle_open);
-    *image = close_cycle(machine);
+    *image = Some(close_cycle(machine));
     Ok(used)
 }
 

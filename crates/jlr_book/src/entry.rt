@@ -112,7 +112,7 @@ fn tell_briefly<R>(
     ensures cells { length core.new.machine.objects ≡ length core.old.machine.objects }
     ensures choice { lent.new.cells ≡ lent.old.cells }
 {
-    event.tell(None, &mut entry.ask);
+    event.tell(&mut entry.ask);
     let answer = core.answer(event, lent);
     entry.answer = copy_without_room(alloc, &answer);
     entry.choice.fresh = lent.take_fresh();

@@ -1,5 +1,5 @@
 -- The objects in cells, at one slot.
-use Rattle.std.proofs.Common.{◌≡◌, ◌≢◌, ℕ, zero, suc, ◌+◌, ◌<◌, Bool, true, cond, List, [], ◌∷◌, Option, Some, None, length, set, get_or, refl, ap, ◌∙◌, arith}
+use Rattle.std.proofs.Common.{◌≡◌, ◌≢◌, ℕ, zero, suc, ◌+◌, ◌<◌, Bool, true, cond, List, [], ◌∷◌, Option, Some, None, length, set, get_or, refl, ap, sym, ◌∙◌, arith}
 use Rattle.std.specs.Prelude.{slice_get, is_some, option_and_then, option_map}
 use Rattle.std.proofs.lemmas.List.{map-set, length-map}
 use Rattle.std.proofs.lemmas.Option.{slice_get_read}
@@ -8,6 +8,7 @@ use Rattle.jlr_machine.specs.declared.object.Object.{Object}
 use Rattle.jlr_machine.specs.Objects.{at, occupied, change_at, some_and}
 use Rattle.jlr_machine.specs.Refusals.{is_cleanable, is_queue, is_reference}
 use Rattle.jlr_cells.specs.declared.cell.Cell.{Cell}
+use Rattle.jlr_cells.specs.declared.cell.Cell.TheVariants.{Free}
 use Rattle.jlr_cells.specs.Contents.{object_in, objects_in, field_in}
 
 -- what is at a slot is what its cell holds
@@ -70,6 +71,15 @@ object_of_queue (Some o) h = refl
 pub at-read : (cells : List Cell) (s : ℕ) (c : Cell) → s < length cells → c ≡ get_or cells s c → at (objects_in cells) s ≡ object_in c
 at-read cells s c within read =
     at-objects_in cells s ∙ ap (option_and_then object_in) (slice_get_read cells (length cells) s c refl within read)
+
+-- what is at a slot, by the cell that was found there
+at_or_free : (cells : List Cell) (s : ℕ) → at (objects_in cells) s ≡ object_in (get_or cells s Free)
+at_or_free [] s = refl
+at_or_free (c ∷ cells) zero = refl
+at_or_free (c ∷ cells) (suc s) = at_or_free cells s
+
+pub at_gotten : (cells : List Cell) (n s : ℕ) (c : Cell) → n ≡ s → c ≡ get_or cells n Free → at (objects_in cells) s ≡ object_in c
+at_gotten cells n s c e got = ap (at (objects_in cells)) (sym e) ∙ at_or_free cells n ∙ ap object_in (sym got)
 
 -- a cell whose object is changed is put in its place
 pub change_at-objects_in :

@@ -12,6 +12,7 @@ ghost use Rattle.jlr_cells.specs.Links.{links_of, no_links};
 use crate::elements::Elements;
 use crate::fields::Fields;
 use crate::shape::{Kind, Shape};
+use jlr_column::Blank;
 use jlr_links::Links as Lists;
 use jlr_machine::object::{
     CleanState, Cleanable, Contents, Fields as PlainFields, Guard, Object, RefState, Reference,
@@ -38,6 +39,16 @@ pub(crate) enum Cell {
 
 // What the head of the crate says of the layout.
 const _: () = prove!(size_of::<Cell>() == 80);
+
+impl Blank for Cell {
+    ghost use Rattle.jlr_cells.specs.declared.cell.Cell.TheVariants.{Free};
+
+    ghost nothing = { Free };
+
+    fn blank() -> Cell {
+        Cell::Free
+    }
+}
 
 impl Cell {
     pub(crate) fn new(shape: Shape) -> Self

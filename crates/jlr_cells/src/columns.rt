@@ -1,8 +1,9 @@
 //! The links of plain objects, by slot.
 ghost use Rattle.std.specs.Prelude.{◌≡◌, ℕ, ◌++◌, ◌<◌, [], IfOk, Some, length, replicate, slice_index_or, slice_set};
-ghost use Rattle.jlr_cells.specs.Links.{four_nulls, linked, linked_in, no_links};
+ghost use Rattle.jlr_cells.specs.Links.{linked, linked_in, no_links};
 
 use crate::links::Links;
+use jlr_column::Column;
 use jlr_sets::cell_set::CellSet;
 use jlr_types::Slot;
 use std::alloc::{AllocError, Global};
@@ -12,8 +13,8 @@ use std::marker::Model;
 /// where one of them ever referred to an object.
 #[derive(Drop)]
 pub(crate) struct Columns {
-    near: Vec<Links>,
-    far: Vec<Links>,
+    near: Column<Links>,
+    far: Column<Links>,
     /// The slots of objects whose links in the second column may not all be null.
     wide: CellSet,
 }
@@ -24,9 +25,9 @@ impl Model for Columns {
 
     ghost Value = { List (List (Option ℕ)) };
 
-    ghost view = { λ c. rows c.near.items c.far.items };
+    ghost view = { λ c. rows c.near c.far };
 
-    ghost invariant = { λ c. AreColumns c.near.items c.far.items c.wide };
+    ghost invariant = { λ c. AreColumns c.near c.far c.wide };
 }
 
 impl Columns {
@@ -38,8 +39,8 @@ impl Columns {
         ensures { IfOk result (λ columns. columns ≡ replicate count no_links) }
     {
         Ok(Columns {
-            near: all_null(alloc, count)?,
-            far: all_null(alloc, count)?,
+            near: Column::new(alloc, count)?,
+            far: Column::new(alloc, count)?,
             wide: CellSet::new(alloc, count)?,
         })
     }
@@ -87,14 +88,4 @@ impl Columns {
         }
         (near, None)
     }
-}
-
-fn all_null(alloc: Global, count: u32) -> Result<Vec<Links>, AllocError>
-    ensures { IfOk result (λ links. links.items ≡ replicate count four_nulls) }
-{
-    let mut links = Vec::with_capacity(alloc, count as usize)?;
-    for _slot in 0..count {
-        links.push_reserved(Links::none());
-    }
-    Ok(links)
 }

@@ -6,6 +6,7 @@ ghost use Rattle.jlr_cells.specs.Links.{four_nulls};
 ghost use Rattle.jlr_cells.specs.Nulls.{link_of};
 
 use crate::elements::Elements;
+use jlr_column::Blank;
 use jlr_types::{FieldValue, Slot};
 use std::marker::Model;
 
@@ -27,6 +28,14 @@ impl Model for Links {
     ghost view = { λ a. map link_of a.slots };
 
     ghost invariant = { λ a. length a.slots ≡ 4 };
+}
+
+impl Blank for Links {
+    ghost nothing = { four_nulls };
+
+    fn blank() -> Links {
+        Links::none()
+    }
 }
 
 impl Links {

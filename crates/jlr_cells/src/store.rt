@@ -21,6 +21,7 @@ use crate::elements::Elements;
 use crate::kinds::Kinds;
 use crate::links::{Visited, target_of};
 use crate::shape::{Kind, Shape};
+use jlr_column::Column;
 use jlr_links::Links as Lists;
 use jlr_machine::object::{CleanState, Cleanable, Guard, Object, RefState, Reference};
 use jlr_machine::table::Table;
@@ -33,7 +34,7 @@ use std::marker::Model;
 /// only those that it has to; and so does what the fields of plain objects refer to, so that marking reads no cell of those.
 #[derive(Drop)]
 pub struct Store {
-    cells: Vec<Cell>,
+    cells: Column<Cell>,
     /// By slot, the members of the queue there from the front on; of what is no queue there are none.
     queues: Lists,
     kinds: Kinds,
@@ -49,9 +50,9 @@ impl Model for Store {
     ghost use Rattle.jlr_cells.specs.Contents.{objects_in, with_lists};
     ghost use Rattle.jlr_cells.specs.Keeping.{AreWhole};
 
-    ghost view = { λ a. with_lists (objects_in a.cells.items) a.queues.lists };
+    ghost view = { λ a. with_lists (objects_in a.cells) a.queues.lists };
 
-    ghost invariant = { λ a. AreWhole a.cells.items a.queues.lists a.queues.slots a.kinds a.links };
+    ghost invariant = { λ a. AreWhole a.cells a.queues.lists a.queues.slots a.kinds a.links };
 }
 
 impl Store {
@@ -63,7 +64,7 @@ impl Store {
         ensures { IfOk result (λ store. store ≡ replicate count None) }
     {
         Ok(Store {
-            cells: empty_cells(alloc, count)?,
+            cells: Column::new(alloc, count)?,
             queues: Lists::new(alloc, count, count)?,
             kinds: Kinds::new(alloc, count)?,
             links: Columns::new(alloc, count)?,
@@ -430,19 +431,9 @@ impl Store {
     }
 }
 
-fn empty_cells(alloc: Global, count: u32) -> Result<Vec<Cell>, AllocError>
-    ensures { IfOk result (λ cells. cells.items ≡ replicate count Cell.Free) }
-{
-    let mut cells = Vec::with_capacity(alloc, count as usize)?;
-    for _slot in 0..count {
-        cells.push_reserved(Cell::Free);
-    }
-    Ok(cells)
-}
-
 fn images(
     alloc: Global,
-    cells: &[Cell],
+    cells: &Column<Cell>,
     queues: &Lists,
     occupied: &CellSet,
 ) -> Result<Vec<Option<Object>>, AllocError>
@@ -477,7 +468,7 @@ fn image_of(
     cell.image(alloc, queues, slot)
 }
 
-fn field_of(cells: &[Cell], slot: Slot, field: usize) -> Option<FieldValue>
+fn field_of(cells: &Column<Cell>, slot: Slot, field: usize) -> Option<FieldValue>
     ensures { result ≡ field_at (objects_in cells.now) slot field }
 {
     match cells.get(slot.number() as usize) {

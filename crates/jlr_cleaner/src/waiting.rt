@@ -2,6 +2,7 @@
 ghost use Rattle.std.specs.Prelude.{◌≡◌, ◌<◌, IfOk, None, length, replicate};
 ghost use Rattle.jlr_machine.specs.Objects.{at, empty_at, set_at};
 
+use jlr_column::Column;
 use jlr_types::{ActionNo, Slot};
 use std::alloc::{AllocError, Global};
 use std::marker::Model;
@@ -9,7 +10,7 @@ use std::marker::Model;
 /// At each place the action that waits there, if one does. A place is the slot of the action's cleanable.
 #[derive(Drop)]
 pub(crate) struct Waiting {
-    actions: Vec<Option<ActionNo>>,
+    actions: Column<Option<ActionNo>>,
 }
 
 impl Model for Waiting {
@@ -17,7 +18,7 @@ impl Model for Waiting {
 
     ghost Value = { List (Option ℕ) };
 
-    ghost view = { λ a. a.actions.items };
+    ghost view = { λ a. a.actions };
 }
 
 impl Waiting {
@@ -25,9 +26,9 @@ impl Waiting {
     pub(crate) fn new(alloc: Global, cells: u32) -> Result<Self, AllocError>
         ensures { IfOk result (λ waiting. waiting ≡ replicate cells None) }
     {
-        let mut actions = Vec::new(alloc);
-        actions.resize(cells as usize, None)?;
-        Ok(Waiting { actions })
+        Ok(Waiting {
+            actions: Column::new(alloc, cells)?,
+        })
     }
 
     /// How many places there are.
@@ -41,7 +42,10 @@ impl Waiting {
     pub(crate) fn at(&self, place: Slot) -> Option<ActionNo>
         ensures { result ≡ at self.now place }
     {
-        self.actions.get(place.number() as usize).copied().flatten()
+        match self.actions.get(place.number() as usize) {
+            Some(action) => *action,
+            None => None,
+        }
     }
 
     /// From now on this action waits at a place.

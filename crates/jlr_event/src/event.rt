@@ -1,6 +1,6 @@
 //! What comes to the core, and what goes back: an ask or an answer with the resource that it carries.
-ghost use Rattle.std.specs.Prelude.{◌≡◌, MatchBool, None, Some};
-ghost use Rattle.jlr_machine.specs.Data.{Brings};
+ghost use Rattle.std.specs.Prelude.{◌≡◌, MatchBool, None, Some, false};
+ghost use Rattle.jlr_machine.specs.Data.{Brings, tells_data};
 ghost use Rattle.jlr_event.specs.Events.{ask_of, answer_in, outcome_of, resource_of_event, resource_of_reply};
 
 use jlr_machine::ask::{Answer, Ask, CallOutcome, FullMode, Outcome};
@@ -235,18 +235,33 @@ impl<R> Event<R> {
         requires { Brings room (ask_of self.now) }
         ensures { result ≡ ask_of self.now }
     {
-        let mut ask = Ask::HandOver;
-        if self.tell(room, &mut ask) {
-            Some(ask)
-        } else {
-            None
+        match *self {
+            Event::CheckIn {
+                mutator,
+                ref outcome,
+                ..
+            } => Some(Ask::CheckIn {
+                mutator,
+                outcome: outcome.copy_into(room),
+            }),
+            _ => self.plain_briefly(),
         }
     }
 
-    /// Writes the ask, as `plain` gives it, over another. Whether there is one; else the other stays.
+    /// As `plain`, of an event that tells nothing that was read.
+    #[inline(always)]
+    fn plain_briefly(&self) -> Option<Ask>
+        requires { tells_data (ask_of self.now) ≡ false }
+        ensures { result ≡ ask_of self.now }
+    {
+        let mut ask = Ask::HandOver;
+        if self.tell(&mut ask) { Some(ask) } else { None }
+    }
+
+    /// Writes the ask of an event that tells nothing that was read over another ask. Whether there is one; else the other stays.
     #[inline(never)]
-    pub fn tell(&self, room: Option<Data>, place: &mut Ask) -> bool
-        requires { Brings room (ask_of self.now) }
+    pub fn tell(&self, place: &mut Ask) -> bool
+        requires { tells_data (ask_of self.now) ≡ false }
         ensures { MatchBool result (ask_of self.now ≡ Some place.new) ((ask_of self.now ≡ None) × (place.new ≡ place.old)) }
     {
         match *self {
@@ -374,7 +389,7 @@ impl<R> Event<R> {
                 ..
             } => *place = Ask::CheckIn {
                 mutator,
-                outcome: outcome.copy_into(room),
+                outcome: outcome.copy_into(None),
             },
             Event::Close { mutator, guard } => *place = Ask::Close { mutator, guard },
             Event::Bind {

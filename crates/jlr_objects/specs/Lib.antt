@@ -1,1 +1,3 @@
+-- Which cells are occupied, and what callers see of them.
+pub mod Occupying
 pub mod Holding

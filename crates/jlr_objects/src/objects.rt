@@ -17,10 +17,10 @@ ghost use Rattle.jlr_objects.specs.Holding.{all_free, in_use};
 
 use crate::arrays::{free_array, free_arrays};
 use crate::lists::clear_lists;
+use crate::occupancy::Occupancy;
 use jlr_cells::{Elements, Kind, Shape, Store, Visited};
 use jlr_machine::object::{CleanState, Cleanable, Guard, Object, RefState, Reference};
 use jlr_machine::table::Table;
-use jlr_occupancy::Occupancy;
 use jlr_sets::cell_set::CellSet;
 use jlr_types::{FieldValue, Meter, Slot};
 use std::alloc::{AllocError, Global};

@@ -1,5 +1,5 @@
 -- The image of a book has limits that a trace file can tell.
-use Rattle.std.proofs.Common.{◌≡◌, ℕ, ◌≤◌, Bool, true, false, cond, nat_le, length, Option, None, Some, refl, sym, subst}
+use Rattle.std.proofs.Common.{◌≡◌, ℕ, ◌≤◌, Bool, true, false, cond, nat_le, Option, None, Some, refl, sym, subst}
 use Rattle.std.proofs.lemmas.Bool.{and_parts, leb-true}
 use Rattle.jlr_types.specs.declared.limits.Limits.{Limits}
 use Rattle.jlr_types.specs.declared.limits.LimitFault.{LimitFault}

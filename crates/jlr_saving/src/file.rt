@@ -1,6 +1,5 @@
 //! The trace file of a book, and its bytes.
-ghost use Rattle.std.specs.Prelude.{◌≡◌, [], IfOk};
-ghost use Rattle.jlr_fields.specs.declared.version.Version.TheVariants.{Two};
+ghost use Rattle.std.specs.Prelude.{◌≡◌, IfOk};
 ghost use Rattle.jlr_trace.specs.Files.{HasSpelling};
 ghost use Rattle.jlr_audit.specs.declared.verdict.Verdict.TheVariants.{Legal};
 ghost use Rattle.jlr_audit.specs.Verdicts.{IsFileVerdict};
@@ -11,6 +10,7 @@ use jlr_fields::version::Version;
 use jlr_machine::entry::Entry;
 use jlr_machine::items::Items;
 use jlr_machine::machine::Machine;
+use jlr_plain::empty::empty_plain;
 use jlr_ranges::fits::run_has_spelling;
 use jlr_trace::file::TraceFile;
 use jlr_trace::writing::write_trace;
@@ -26,29 +26,34 @@ fn copy_entries(alloc: Global, entries: &[Entry]) -> Result<Vec<Entry>, AllocErr
     Ok(copies)
 }
 
-/// A history of its own, with the same image and entries.
-fn copied(
-    alloc: Global,
-    base: u64,
-    image: &Machine,
-    entries: &[Entry],
-) -> Result<TraceFile, AllocError>
-    ensures { IfOk result (λ f. f ≡ record { version = Two; base = base; image = image.now; strays = []; entries = entries.now }) }
+/// The machine from which the trace of a book leads on.
+fn copy_image<R: Drop>(alloc: Global, book: &Book<R>) -> Result<Machine, AllocError>
+    ensures { IfOk result (λ m. m ≡ book.now.image) }
 {
-    let entries = copy_entries(alloc, entries)?;
-    Ok(TraceFile {
-        version: Version::Two,
-        base,
-        image: image.copy(alloc)?,
-        strays: Items::new(alloc),
-        entries: Items::from_vec(entries),
-    })
+    let limits = book.limits();
+    match book.image() {
+        Some(image) => image.copy(alloc),
+        None => empty_plain(
+            alloc,
+            limits.cells as usize,
+            limits.sessions as usize,
+            limits.resources,
+        ),
+    }
 }
 
+/// A history of its own, with the same image and entries.
 fn copy_of<R: Drop>(alloc: Global, book: &Book<R>) -> Result<TraceFile, AllocError>
     ensures { IfOk result (λ f. f ≡ file_of book.now) }
 {
-    copied(alloc, book.base(), book.image(), book.entries())
+    let entries = copy_entries(alloc, book.entries())?;
+    Ok(TraceFile {
+        version: Version::Two,
+        base: book.base(),
+        image: copy_image(alloc, book)?,
+        strays: Items::new(alloc),
+        entries: Items::from_vec(entries),
+    })
 }
 
 /// The history of a book: its image, how many entries there were before it, and its entries. Such a file has a spelling, and its verdict is legal.

@@ -96,12 +96,18 @@ fn number_of(version: Version) -> u8 {
     }
 }
 
+fn told_file(alloc: Global, count: u64, base: u64, version: Version) -> Result<String, AllocError> {
+    let version = number_of(version);
+    format!(in alloc; "{count} entries behind {base} in version {version}")
+}
+
 // What the bytes are read as.
 fn told(alloc: Global, bytes: &[u8]) -> Result<String, AllocError> {
     match read_trace(alloc, bytes) {
         Ok(file) => {
-            let (count, base, version) = (file.entries.len(), file.base, number_of(file.version));
-            format!(in alloc; "{count} entries behind {base} in version {version}")
+            let (count, base, version) = (file.entries.len(), file.base, file.version);
+            drop(file);
+            told_file(alloc, count as u64, base, version)
         }
         Err(fault) => format!(in alloc; "{fault:?}"),
     }
@@ -111,8 +117,9 @@ fn told(alloc: Global, bytes: &[u8]) -> Result<String, AllocError> {
 fn told_of_spelled(alloc: Global, bytes: &[u8]) -> Result<String, AllocError> {
     match spelled_trace(alloc, bytes) {
         Ok(trace) => {
-            let (count, base, version) = (trace.count(), trace.base(), number_of(trace.version()));
-            format!(in alloc; "{count} entries behind {base} in version {version}")
+            let (count, base, version) = (trace.count(), trace.base(), trace.version());
+            drop(trace);
+            told_file(alloc, count, base, version)
         }
         Err(fault) => format!(in alloc; "{fault:?}"),
     }
@@ -127,20 +134,35 @@ where
 
 // The file with the change that the words say.
 fn changed(alloc: Global, file: &str, change: &str) -> Result<Vec<u8>, Fail> {
-    let mut bytes = decoded(alloc, file)?;
     let mut words = change.split_whitespace();
-    match words.next() {
-        Some("front") => bytes.truncate(parsed(&mut words).ok_or("no length")?),
-        Some("bytes") => return decoded(alloc, words.next().ok_or("no bytes")?),
-        Some("behind") => bytes.push(parsed(&mut words).ok_or("no byte")?)?,
-        _ => {
-            let place: usize = parsed(&mut words).ok_or("no place")?;
-            if let Some(byte) = bytes.get_mut(place.saturating_sub(1)) {
-                *byte = parsed(&mut words).ok_or("no value")?;
-            }
-        }
+    let kind = words.next();
+    if kind == Some("bytes") {
+        return decoded(alloc, words.next().ok_or("no bytes")?);
     }
+    let mut bytes = decoded(alloc, file)?;
+    edit(&mut bytes, kind, &mut words)?;
     Ok(bytes)
+}
+
+fn edit(
+    bytes: &mut Vec<u8>,
+    kind: Option<&str>,
+    words: &mut SplitWhitespace<'_>,
+) -> Result<(), Fail> {
+    let number: usize = parsed(words).ok_or("no number")?;
+    match kind {
+        Some("front") => bytes.truncate(number),
+        Some("behind") => bytes.push(number as u8)?,
+        _ => set(bytes, number, parsed(words).ok_or("no value")?),
+    }
+    Ok(())
+}
+
+// The byte at a place, counted from 1, is another.
+fn set(bytes: &mut [u8], place: usize, value: u8) {
+    if let Some(byte) = bytes.get_mut(place.saturating_sub(1)) {
+        *byte = value;
+    }
 }
 
 fn is_read_as(alloc: Global, file: &str, change: &str, wanted: &str) -> Result<(), Fail> {

@@ -150,23 +150,31 @@ fn push_decoded(bytes: &mut Vec<u8>, words: &mut SplitWhitespace<'_>) -> Result<
 
 // The file with the change that the words say.
 fn changed(alloc: Global, file: &str, change: &str) -> Result<Vec<u8>, Fail> {
-    let mut file_words = file.split_whitespace();
-    let mut file = Vec::new(alloc);
-    push_decoded(&mut file, &mut file_words)?;
+    let mut bytes = Vec::new(alloc);
+    push_decoded(&mut bytes, &mut file.split_whitespace())?;
     let mut words = change.split_whitespace();
-    let kind = words.next();
-    if kind == Some("whole") {
-        return Ok(file);
+    match words.next() {
+        Some("whole") => Ok(bytes),
+        Some("front") => front_of(bytes, &mut words),
+        _ => spliced(alloc, bytes.as_slice(), &mut words),
     }
-    if kind == Some("front") {
-        file.truncate(parsed(&mut words).ok_or("no length")?);
-        return Ok(file);
-    }
-    let from: usize = parsed(&mut words).ok_or("no place")?;
-    let to: usize = parsed(&mut words).ok_or("no place")?;
+}
+
+// So many bytes of the file.
+fn front_of(file: Vec<u8>, words: &mut SplitWhitespace<'_>) -> Result<Vec<u8>, Fail> {
+    let length = parsed(words).ok_or("no length")?;
+    let mut front = file;
+    front.truncate(length);
+    Ok(front)
+}
+
+// The file with others in the place of some bytes.
+fn spliced(alloc: Global, file: &[u8], words: &mut SplitWhitespace<'_>) -> Result<Vec<u8>, Fail> {
+    let from: usize = parsed(words).ok_or("no place")?;
+    let to: usize = parsed(words).ok_or("no place")?;
     let mut bytes = Vec::new(alloc);
     bytes.extend_from_slice(file.get(..from.saturating_sub(1)).ok_or("no front")?)?;
-    push_decoded(&mut bytes, &mut words)?;
+    push_decoded(&mut bytes, words)?;
     bytes.extend_from_slice(file.get(to..).ok_or("no rest")?)?;
     Ok(bytes)
 }
@@ -174,9 +182,17 @@ fn changed(alloc: Global, file: &str, change: &str) -> Result<Vec<u8>, Fail> {
 // The file is written as it was read.
 fn is_written_back(alloc: Global, bytes: &[u8]) -> Result<bool, AllocError> {
     match read_trace(alloc, bytes) {
-        Ok(file) => Ok(write_trace(alloc, &file)?.as_slice() == bytes),
+        Ok(file) => {
+            let same = is_written_as(alloc, &file, bytes);
+            drop(file);
+            same
+        }
         Err(_) => Ok(true),
     }
+}
+
+fn is_written_as(alloc: Global, file: &TraceFile, bytes: &[u8]) -> Result<bool, AllocError> {
+    Ok(write_trace(alloc, file)?.as_slice() == bytes)
 }
 
 fn verdict_text(alloc: Global, verdict: Verdict, entries: u64) -> Result<String, AllocError> {
@@ -198,7 +214,11 @@ fn verdict_of_spelled(alloc: Global, trace: &SpelledTrace<'_>) -> Result<String,
 
 fn told(alloc: Global, bytes: &[u8]) -> Result<String, AllocError> {
     match read_trace(alloc, bytes) {
-        Ok(file) => verdict_of_file(alloc, &file),
+        Ok(file) => {
+            let told = verdict_of_file(alloc, &file);
+            drop(file);
+            told
+        }
         Err(fault) => format!(in alloc; "{fault:?}"),
     }
 }
@@ -206,7 +226,11 @@ fn told(alloc: Global, bytes: &[u8]) -> Result<String, AllocError> {
 // The same where the entries stay in the bytes.
 fn told_of_spelled(alloc: Global, bytes: &[u8]) -> Result<String, AllocError> {
     match spelled_trace(alloc, bytes) {
-        Ok(trace) => verdict_of_spelled(alloc, &trace),
+        Ok(trace) => {
+            let told = verdict_of_spelled(alloc, &trace);
+            drop(trace);
+            told
+        }
         Err(fault) => format!(in alloc; "{fault:?}"),
     }
 }

@@ -80,10 +80,24 @@ fn take(alloc: Global, machine: &mut Machine, entry: &Entry) -> Result<bool, All
     ensures { IsWellFormed machine.new }
 {
     let before = copy_again(alloc, machine)?;
+    let taken = take_or_stay(alloc, machine, entry, &before);
+    drop(before);
+    taken
+}
+
+fn take_or_stay(
+    alloc: Global,
+    machine: &mut Machine,
+    entry: &Entry,
+    before: &Machine,
+) -> Result<bool, AllocError>
+    requires { IsWellFormed machine.old }
+    ensures { IsWellFormed machine.new }
+{
     match step_plain(alloc, machine, entry) {
         Ok(legal) => Ok(legal),
         Err(_) => {
-            if !same_machine(machine, &before) {
+            if !same_machine(machine, before) {
                 return Ok(false);
             }
             step_plain(alloc, machine, entry)

@@ -99,6 +99,24 @@ impl Seat {
         }
     }
 
+    /// What an event is answered that brings no file.
+    fn reply_to(&mut self, event: &Event<ScriptResource>) -> Reply<ScriptResource> {
+        match event {
+            Event::Join { .. } => plain(self.joined()),
+            Event::Prepare { .. } => plain(self.prepared()),
+            Event::CheckOut { .. } => self.checked_out(),
+            Event::Close { .. } => self.closed(),
+            Event::Clean { .. } => plain(Answer::Job {
+                action: ActionNo::new(2),
+                work: Work::Note(7),
+            }),
+            Event::Finish { outcome, .. } => plain(ended(outcome)),
+            Event::Full { .. } => Reply::Marked(Progress::Done),
+            Event::Stat { .. } => plain(Answer::Handed(Handed::Nothing)),
+            _ => plain(Answer::Done),
+        }
+    }
+
     fn write_down(&mut self, name: &str) {
         if !self.asked.is_empty() {
             let _ = self.asked.push_str("; ");
@@ -131,10 +149,7 @@ impl Port<ScriptResource> for Seat {
     {
         self.write_down(name_of(&event));
         match event {
-            Event::Join { .. } => plain(self.joined()),
-            Event::Prepare { .. } => plain(self.prepared()),
             Event::Opened { outcome, .. } => self.opened(outcome),
-            Event::CheckOut { .. } => self.checked_out(),
             Event::CheckIn {
                 outcome,
                 resource,
@@ -143,15 +158,11 @@ impl Port<ScriptResource> for Seat {
                 self.file = Some(resource);
                 plain(answer_of(outcome))
             }
-            Event::Close { .. } => self.closed(),
-            Event::Clean { .. } => plain(Answer::Job {
-                action: ActionNo::new(2),
-                work: Work::Note(7),
-            }),
-            Event::Finish { outcome, .. } => plain(ended(outcome)),
-            Event::Full { .. } => Reply::Marked(Progress::Done),
-            Event::Stat { .. } => plain(Answer::Handed(Handed::Nothing)),
-            _ => plain(Answer::Done),
+            other => {
+                let reply = self.reply_to(&other);
+                drop(other);
+                reply
+            }
         }
     }
 
@@ -178,10 +189,10 @@ fn answer_of(outcome: CallOutcome) -> Answer {
 }
 
 /// What the end of a job is answered.
-fn ended(outcome: Result<(), Fault>) -> Answer {
+fn ended(outcome: &Result<(), Fault>) -> Answer {
     match outcome {
         Ok(()) => Answer::Done,
-        Err(fault) => Answer::Faulted(fault),
+        Err(fault) => Answer::Faulted(*fault),
     }
 }
 

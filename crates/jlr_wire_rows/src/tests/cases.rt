@@ -2,7 +2,7 @@
 use jlr_device::Mode;
 use jlr_machine::ask::FullMode;
 use jlr_types::{FieldKind, FieldNo, Handle, Layout};
-use jlr_wire::command::Command;
+use jlr_wire::command::{Command, Digits};
 use std::str::SplitWhitespace;
 
 /// Whether the command is the case of these words.
@@ -85,6 +85,11 @@ fn are_bytes(bytes: &[u8], words: &mut SplitWhitespace<'_>) -> bool {
         }
     }
     true
+}
+
+fn are_spelled(digits: &Digits<'_>, words: &mut SplitWhitespace<'_>) -> bool {
+    let bytes = digits.decode();
+    are_bytes(bytes.as_slice(), words)
 }
 
 // Commands about objects.
@@ -172,9 +177,7 @@ fn is_cleaning_case(command: &Command<'_>, case: &str, words: &mut SplitWhitespa
             case == "Read" && is_handle(guard, words) && is_byte(*count, words)
         }
         Command::Write { guard, bytes } => {
-            case == "Write"
-                && is_handle(guard, words)
-                && are_bytes(bytes.decode().as_slice(), words)
+            case == "Write" && is_handle(guard, words) && are_spelled(bytes, words)
         }
         Command::Close { guard } => case == "Close" && is_handle(guard, words),
         _ => is_other_case(command, case, words),

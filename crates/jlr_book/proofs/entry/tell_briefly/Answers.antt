@@ -2,8 +2,11 @@ use Rattle.std.proofs.Common.{◌≡◌, true, None, subst}
 use Rattle.jlr_event.specs.declared.event.Reply.TheVariants.{Answered}
 use Rattle.jlr_event.specs.Events.{ask_of}
 use Rattle.jlr_book.specs.Lists.{is_brief, no_room}
-use Rattle.jlr_book.proofs.Entering.{brief_asks, brief_has_room, chosen_plainly, list_fits}
+use Rattle.jlr_book.proofs.Entering.{brief_asks, brief_has_room, brief_reads_nothing, chosen_plainly, list_fits}
 use Rattle.jlr_book.proofs.entry.tell_briefly.Goals as goal
+
+pub tell-requires : goal.tell-requires
+tell-requires g c = brief_reads_nothing (ask_of c.args.event.now) c.requires.brief
 
 pub copy_without_room-requires : goal.copy_without_room-requires
 copy_without_room-requires g c =

@@ -149,6 +149,13 @@ fn shown_wait(book: &Book<u32>, wanted: &str) -> Option<bool> {
 }
 
 fn objects_in_image(book: &Book<u32>) -> usize {
-    let objects = book.image().objects.as_slice();
-    objects.iter().filter(|place| place.is_some()).count()
+    match book.image() {
+        Some(image) => image
+            .objects
+            .as_slice()
+            .iter()
+            .filter(|place| place.is_some())
+            .count(),
+        None => 0,
+    }
 }

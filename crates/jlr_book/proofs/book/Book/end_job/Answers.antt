@@ -9,6 +9,7 @@ use Rattle.jlr_book.specs.Rules.{EndsBy}
 use Rattle.jlr_book.specs.Writing.{WritesEnd}
 use Rattle.jlr_book.proofs.Entering.{not_refused, owed_less_by, stands_there, turned_away, writes}
 use Rattle.jlr_book.proofs.Histories.{end_goes_on, ends_by, told}
+use Rattle.jlr_book.specs.Keeping.{image_from}
 use Rattle.jlr_book.proofs.book.Book.end_job.Given.{Over}
 use Rattle.jlr_book.proofs.book.Book.end_job.Goals as goal
 
@@ -19,7 +20,7 @@ push_reserved-requires g c =
     let kept = c.self.invariant in
     let event = Finish c.args.by c.args.action c.args.outcome in
     let asked = ask.Finish c.args.by c.args.action (outcome_of c.args.outcome) in
-    let stands = stands_there old.image old.trace.items old.core kept.history.ends in
+    let stands = stands_there (image_from old.limits old.image) old.trace.items old.core kept.history.ends in
     let less = owed_less_by old.core told.new.self event (Answered told.result None) _ asked told.ensures.step refl refl
     (λ by e. not_refused told.result by (sym c.is_refused.ensures ∙ c.if-is_refused.false) e) stands in
     let l = old.trace.ok.0 in
@@ -38,7 +39,7 @@ invariant_of-self g c =
     let entries = old.trace.items in
     let refused = sym c.is_refused.ensures ∙ c.if-is_refused.true in
     let away = turned_away old.core told.new.self event told.result None _ entries told.ensures.step refused in
-    let x = end_goes_on old.limits old.base (vec_capacity old.trace) old.image entries entries old.core told.new.self c.args.seat event
+    let x = end_goes_on old.limits old.base (vec_capacity old.trace) (image_from old.limits old.image) entries entries old.core told.new.self c.args.seat event
     (Answered told.result None) asked kept.history refl refl (inr away) told.ensures.cells (omega (arith, l, kept.places)) in
     record { history = x.0; places = omega (arith, l, x.1); choice = kept.choice }
 
@@ -52,8 +53,8 @@ returns-then-is_refused g c =
     let refused = sym c.is_refused.ensures ∙ c.if-is_refused.true in
     let away = turned_away old.core told'.new.self event told'.result None _ entries told'.ensures.step refused in (
       reply,
-      subst (λ h. EndsBy c.args.seat h event reply (told old.limits old.base old.image entries told'.new.self)) c.self.view_is
-          (ends_by old.limits old.base old.image entries entries old.core told'.new.self c.args.seat event reply (inr away)),
+      subst (λ h. EndsBy c.args.seat h event reply (told old.limits old.base (image_from old.limits old.image) entries told'.new.self)) c.self.view_is
+          (ends_by old.limits old.base (image_from old.limits old.image) entries entries old.core told'.new.self c.args.seat event reply (inr away)),
     )
 
 -- ---- Where it is an entry
@@ -88,7 +89,7 @@ invariant_of-self-2 g c =
     let asked = ask.Finish c.args.by c.args.action (outcome_of c.args.outcome) in
     let l = old.trace.ok.0 in
     let l' = c.push_reserved.new.self.ok.0 in
-    let x = end_goes_on old.limits old.base (vec_capacity old.trace) old.image old.trace.items entries' old.core told.new.self
+    let x = end_goes_on old.limits old.base (vec_capacity old.trace) (image_from old.limits old.image) old.trace.items entries' old.core told.new.self
     c.args.seat event (Answered told.result None) asked kept.history refl refl (written g c) told.ensures.cells
     (omega (arith, l, kept.places)) in
     record { history = x.0; places = omega (arith, l', x.1, c.push_reserved.ensures.capacity); choice = kept.choice }
@@ -101,6 +102,6 @@ returns g c =
     let event = Finish c.args.by c.args.action c.args.outcome in
     let reply = Answered told'.result None in (
       reply,
-      subst (λ h. EndsBy c.args.seat h event reply (told old.limits old.base old.image entries' told'.new.self)) c.self.view_is
-          (ends_by old.limits old.base old.image old.trace.items entries' old.core told'.new.self c.args.seat event reply (written g c)),
+      subst (λ h. EndsBy c.args.seat h event reply (told old.limits old.base (image_from old.limits old.image) entries' told'.new.self)) c.self.view_is
+          (ends_by old.limits old.base (image_from old.limits old.image) old.trace.items entries' old.core told'.new.self c.args.seat event reply (written g c)),
     )

@@ -10,6 +10,7 @@ use Rattle.jlr_book.specs.Rules.{AsksBy}
 use Rattle.jlr_book.specs.Writing.{Writes}
 use Rattle.jlr_book.proofs.Entering.{writes}
 use Rattle.jlr_book.proofs.Histories.{asks_by, enter_goes_on, told}
+use Rattle.jlr_book.specs.Keeping.{image_from}
 use Rattle.jlr_book.proofs.book.Book.hand_over_briefly.Given.{Over}
 use Rattle.jlr_book.proofs.book.Book.hand_over_briefly.Goals as goal
 
@@ -40,7 +41,7 @@ invariant_of-self g c =
     let l' = c.push_reserved.new.self.ok.0 in
     let places = c.if-not-has_places.ensures in
     let numbers = subst HasNumbers (sym c.self.view_is) c.if-not-has_numbers.ensures in
-    let x = enter_goes_on old.limits old.base old.image old.trace.items entries' old.core core' c.args.seat HandOver reply
+    let x = enter_goes_on old.limits old.base (image_from old.limits old.image) old.trace.items entries' old.core core' c.args.seat HandOver reply
     kept.history (written g c) c.hand_over-handed.ensures.cells (omega (arith, numbers, l)) in
     record {
       history = x.0;
@@ -57,7 +58,7 @@ returns g c =
     let l = old.trace.ok.0 in
     let places = c.if-not-has_places.ensures in
     let numbers = subst HasNumbers (sym c.self.view_is) c.if-not-has_numbers.ensures in
-    let new = told old.limits old.base old.image entries' core' in
+    let new = told old.limits old.base (image_from old.limits old.image) entries' core' in
     subst (λ h. AsksBy c.args.seat h HandOver reply new) c.self.view_is
-    (asks_by old.limits old.base old.image old.trace.items entries' old.core core' c.args.seat HandOver reply
+    (asks_by old.limits old.base (image_from old.limits old.image) old.trace.items entries' old.core core' c.args.seat HandOver reply
     numbers (omega (arith, l, places.0)) (written g c))

@@ -6,34 +6,34 @@ use Rattle.jlr_cells.proofs.Rows.{long, row_at}
 use Rattle.jlr_cells.proofs.columns.Columns.of.Goals as goal
 
 pub index-near-requires : goal.index-near-requires
-index-near-requires c = omega (arith, c.requires, c.number-place.ensures, long c.self.inside.near.items c.self.inside.far.items c.self.inside.wide c.self.invariant c.args.self.now c.self.view_is, c.self.inside.near.ok.0)
+index-near-requires c = omega (arith, c.requires, c.number-place.ensures, long c.self.inside.near c.self.inside.far c.self.inside.wide c.self.invariant c.args.self.now c.self.view_is)
 
 pub contains-requires : goal.contains-requires
-contains-requires c = omega (arith, c.requires, long c.self.inside.near.items c.self.inside.far.items c.self.inside.wide c.self.invariant c.args.self.now c.self.view_is, c.self.invariant.places)
+contains-requires c = omega (arith, c.requires, long c.self.inside.near c.self.inside.far c.self.inside.wide c.self.invariant c.args.self.now c.self.view_is, c.self.invariant.places)
 
 pub returns-then-contains : goal.returns-then-contains
 returns-then-contains c =
-    let near = c.self.inside.near.items in
-    let far = c.self.inside.far.items in
+    let near = c.self.inside.near in
+    let far = c.self.inside.far in
     let s = c.args.slot in
     let n = c.number-place.result in
-    let below : s < length near = omega (arith, c.requires, long c.self.inside.near.items c.self.inside.far.items c.self.inside.wide c.self.invariant c.args.self.now c.self.view_is) in
+    let below : s < length near = omega (arith, c.requires, long c.self.inside.near c.self.inside.far c.self.inside.wide c.self.invariant c.args.self.now c.self.view_is) in
     let read : c.index-near.result.now ≡ get_or near n [] = get_or_read near n _ (omega (arith, below, c.number-place.ensures)) c.index-near.ensures [] in
     let read_far : c.index.result.now ≡ get_or far n [] = get_or_read far n _ (omega (arith, below, c.number-place.ensures, c.self.invariant.as_many)) c.index.ensures [] in
-    ap linked (row_at c.self.inside.near.items c.self.inside.far.items c.self.inside.wide c.self.invariant c.args.self.now c.self.view_is s below)
+    ap linked (row_at c.self.inside.near c.self.inside.far c.self.inside.wide c.self.invariant c.args.self.now c.self.view_is s below)
     ∙ filter_map-append _ (get_or near s []) (get_or far s [])
     ∙ ap (λ l. linked l ++ linked (get_or far s [])) (ap (λ k. get_or near k []) (sym c.number-place.ensures) ∙ sym read)
     ∙ ap (λ l. linked c.index-near.result.now ++ linked l) (ap (λ k. get_or far k []) (sym c.number-place.ensures) ∙ sym read_far)
 
 pub returns : goal.returns
 returns c =
-    let near = c.self.inside.near.items in
-    let far = c.self.inside.far.items in
+    let near = c.self.inside.near in
+    let far = c.self.inside.far in
     let s = c.args.slot in
     let n = c.number-place.result in
-    let below : s < length near = omega (arith, c.requires, long c.self.inside.near.items c.self.inside.far.items c.self.inside.wide c.self.invariant c.args.self.now c.self.view_is) in
+    let below : s < length near = omega (arith, c.requires, long c.self.inside.near c.self.inside.far c.self.inside.wide c.self.invariant c.args.self.now c.self.view_is) in
     let read : c.index-near.result.now ≡ get_or near n [] = get_or_read near n _ (omega (arith, below, c.number-place.ensures)) c.index-near.ensures [] in
-    ap linked (row_at c.self.inside.near.items c.self.inside.far.items c.self.inside.wide c.self.invariant c.args.self.now c.self.view_is s below)
+    ap linked (row_at c.self.inside.near c.self.inside.far c.self.inside.wide c.self.invariant c.args.self.now c.self.view_is s below)
     ∙ filter_map-append _ (get_or near s []) (get_or far s [])
     ∙ ap (λ l. linked l ++ linked (get_or far s [])) (ap (λ k. get_or near k []) (sym c.number-place.ensures) ∙ sym read)
     ∙ ap (λ l. linked c.index-near.result.now ++ linked l) (c.self.invariant.nulls s below (sym c.contains.ensures ∙ c.if-contains.false))

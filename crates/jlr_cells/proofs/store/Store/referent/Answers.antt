@@ -1,17 +1,17 @@
-use Rattle.std.proofs.Common.{◌≡◌, ◌∙◌, None, refl, sym, arith}
-use Rattle.std.proofs.lemmas.Grind.{common_steps}
-use Rattle.jlr_machine.specs.Objects.{at}
+use Rattle.std.proofs.Common.{◌∙◌, ap, refl, sym}
+use Rattle.std.specs.Prelude.{option_copied, unwrap_or}
+use Rattle.jlr_cells.specs.declared.cell.Cell.TheVariants.{Free}
 use Rattle.jlr_cells.specs.Contents.{referent_in}
-use Rattle.jlr_cells.specs.Contents.{objects_in}
 use Rattle.jlr_cells.proofs.Queues.{seen_as}
+use Rattle.jlr_cells.proofs.Slots.{at_gotten}
 use Rattle.jlr_cells.proofs.store.Store.referent.Goals as goal
 
 pub returns-in-Some : goal.returns-in-Some
 returns-in-Some c =
-    let bare : c.referent.result ≡ referent_in (at (objects_in c.self.inside.cells.items) c.args.slot) = grind (arith, common_steps) in
-    bare ∙ sym (seen_as c.self.inside.cells.items c.self.inside.queues.lists c.args.self.now c.self.view_is referent_in c.args.slot (λ l m. refl))
+    let found = at_gotten c.self.inside.cells c.number.result c.args.slot c.in-Some.cell.now c.number.ensures (sym (ap (λ o. unwrap_or (option_copied o) Free) c.in-Some.is) ∙ c.get.ensures) in
+    c.referent.ensures ∙ ap referent_in (sym found) ∙ sym (seen_as c.self.inside.cells c.self.inside.queues.lists c.args.self.now c.self.view_is referent_in c.args.slot (λ l m. refl))
 
 pub returns-in-None : goal.returns-in-None
 returns-in-None c =
-    let bare : None ≡ referent_in (at (objects_in c.self.inside.cells.items) c.args.slot) = grind (arith, common_steps) in
-    bare ∙ sym (seen_as c.self.inside.cells.items c.self.inside.queues.lists c.args.self.now c.self.view_is referent_in c.args.slot (λ l m. refl))
+    let found = at_gotten c.self.inside.cells c.number.result c.args.slot Free c.number.ensures (sym (ap (λ o. unwrap_or (option_copied o) Free) c.in-None.is) ∙ c.get.ensures) in
+    ap referent_in (sym found) ∙ sym (seen_as c.self.inside.cells c.self.inside.queues.lists c.args.self.now c.self.view_is referent_in c.args.slot (λ l m. refl))

@@ -2,7 +2,7 @@ use Rattle.std.proofs.Common.{◌∙◌, None, ap, replicate}
 use Rattle.jlr_machine.specs.Objects.{Heap}
 use Rattle.jlr_cells.specs.Showing.{shown}
 use Rattle.jlr_cells.proofs.Showing.{shown_none}
-use Rattle.jlr_occupancy.specs.Occupying.{Occupied}
+use Rattle.jlr_objects.specs.Occupying.{Occupied}
 use Rattle.jlr_objects.proofs.Shown.{new_are}
 use Rattle.jlr_objects.proofs.objects.Objects.new.Goals as goal
 

@@ -1,0 +1,2 @@
+-- Columns that are written to.
+pub mod Writing
