@@ -149,11 +149,14 @@ fn edit(
     kind: Option<&str>,
     words: &mut SplitWhitespace<'_>,
 ) -> Result<(), Fail> {
-    let number: usize = parsed(words).ok_or("no number")?;
     match kind {
-        Some("front") => bytes.truncate(number),
-        Some("behind") => bytes.push(number as u8)?,
-        _ => set(bytes, number, parsed(words).ok_or("no value")?),
+        Some("front") => bytes.truncate(parsed(words).ok_or("no length")?),
+        Some("behind") => bytes.push(parsed(words).ok_or("no byte")?)?,
+        _ => set(
+            bytes,
+            parsed(words).ok_or("no place")?,
+            parsed(words).ok_or("no value")?,
+        ),
     }
     Ok(())
 }

@@ -1,4 +1,6 @@
 //! The verdicts on two histories, one of version 1 and one of version 2, and on what changes make of them.
+ghost use Rattle.jlr_trace.specs.Files.{HasSpelling};
+
 use jlr_audit::audit::audit;
 use jlr_audit::spelled::audit_spelled;
 use jlr_audit::verdict::Verdict;
@@ -191,7 +193,9 @@ fn is_written_back(alloc: Global, bytes: &[u8]) -> Result<bool, AllocError> {
     }
 }
 
-fn is_written_as(alloc: Global, file: &TraceFile, bytes: &[u8]) -> Result<bool, AllocError> {
+fn is_written_as(alloc: Global, file: &TraceFile, bytes: &[u8]) -> Result<bool, AllocError>
+    requires { HasSpelling file.now }
+{
     Ok(write_trace(alloc, file)?.as_slice() == bytes)
 }
 
