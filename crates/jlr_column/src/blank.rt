@@ -11,6 +11,14 @@ pub trait Blank {
         ensures { result ≡ nothing };
 }
 
+impl Blank for u32 {
+    ghost nothing = { 0 };
+
+    fn blank() -> u32 {
+        0
+    }
+}
+
 impl<T> Blank for Option<T> {
     ghost nothing = { None };
 

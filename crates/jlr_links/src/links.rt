@@ -4,6 +4,7 @@ ghost use Rattle.jlr_machine.specs.Objects.{◌∈◌};
 ghost use Rattle.jlr_links.specs.Lists.{list_at};
 ghost use Rattle.jlr_links.specs.Walks.{AreLinked, ends_at, lists_in, members};
 
+use jlr_column::Column;
 use jlr_machine::items::Items;
 use jlr_types::Slot;
 use std::alloc::{AllocError, Global};
@@ -21,7 +22,7 @@ pub(crate) struct Ends {
 #[derive(Drop)]
 pub struct Links {
     /// By slot, the one after it in its list.
-    next: Vec<u32>,
+    next: Column<u32>,
     ends: Vec<Ends>,
 }
 
@@ -32,9 +33,9 @@ impl Model for Links {
 
     ghost Value = { Lists };
 
-    ghost view = { λ l. record { lists = lists_in l.next.items l.ends.items; slots = length l.next.items } };
+    ghost view = { λ l. record { lists = lists_in l.next l.ends.items; slots = length l.next } };
 
-    ghost invariant = { λ l. AreLinked l.next.items l.ends.items };
+    ghost invariant = { λ l. AreLinked l.next l.ends.items };
 }
 
 impl Links {
@@ -49,7 +50,7 @@ impl Links {
         let mut ends = Vec::new(alloc);
         ends.resize(lists as usize, NO_ENDS)?;
         Ok(Links {
-            next: vec![in alloc; 0; slots as usize]?,
+            next: Column::new(alloc, slots)?,
             ends,
         })
     }
@@ -157,7 +158,7 @@ const NO_ENDS: Ends = Ends {
     count: 0,
 };
 
-fn append(next: &mut [u32], ends: &mut [Ends], list: u32, slot: u32)
+fn append(next: &mut Column<u32>, ends: &mut [Ends], list: u32, slot: u32)
     requires linked { AreLinked next.old ends.old }
     requires list { list < length ends.old }
     requires slot { slot < length next.old }
@@ -183,7 +184,7 @@ fn append(next: &mut [u32], ends: &mut [Ends], list: u32, slot: u32)
     };
 }
 
-fn drop_front(next: &[u32], ends: &mut [Ends], list: u32)
+fn drop_front(next: &Column<u32>, ends: &mut [Ends], list: u32)
     requires linked { AreLinked next.now ends.old }
     requires list { list < length ends.old }
     requires some { (ends_at ends.old list).count ≡ 0 → ⊥ }
