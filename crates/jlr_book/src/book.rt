@@ -52,7 +52,13 @@ impl<R> Model for Book<R> {
 
     ghost Value = { History R };
 
-    ghost view = { λ b. record { limits = b.limits; base = b.base; image = image_from b.limits b.image; entries = b.trace.items; core = b.core } };
+    ghost view = { λ b. record {
+      limits = b.limits;
+      base = b.base;
+      image = image_from b.limits b.image;
+      entries = b.trace.items;
+      core = b.core;
+    } };
 
     ghost invariant = { λ b. Keeps b.limits b.base (image_from b.limits b.image) b.trace b.core b.choice.cells };
 }

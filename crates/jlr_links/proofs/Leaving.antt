@@ -1,5 +1,6 @@
 -- Slots leave one list, and the others stay.
-use Rattle.std.proofs.Common.{◌≡◌, ℕ, zero, suc, ◌-◌, ◌^◌, ◌<◌, inl, inr, not, IsTrue, List, [], ◌∷◌, ◌++◌, drop, take, length, slice_set, replicate, refl, sym, subst, ap, ◌∙◌, arith, length-set, get_or-set_same, get_or-set_other}
+use Rattle.std.proofs.Common.{◌≡◌, ℕ, zero, suc, ◌-◌, ◌^◌, ◌<◌, inl, inr, not, IsTrue, List, [], ◌∷◌, ◌++◌, drop, take, length, slice_index_or, slice_set, replicate, refl, sym, subst, ap, ◌∙◌, arith, length-set, get_or-set_same, get_or-set_other}
+use Rattle.std.proofs.lemmas.List.{get_or_read}
 use Rattle.std.proofs.lemmas.Bool.{cases_eq, and_parts}
 use Rattle.jlr_machine.specs.Objects.{◌∈◌, ◌∋◌, is_distinct}
 use Rattle.jlr_laws.proofs.Sets.{nothing, in_front, in_rest}
@@ -121,6 +122,13 @@ module _ (next : List ℕ) (ends : List Ends) (k : ℕ) (linked : AreLinked next
 
   pub rest_lists : lists_in next (slice_set ends k rest) ≡ slice_set (lists_in next ends) k (drop 1 (members next ends k))
   rest_lists = subst (λ z. lists_in next (slice_set ends k z) ≡ slice_set (lists_in next ends) k (drop 1 (members next ends k))) same_rest (dropped_lists next ends k linked inside (positive (ends_at ends k).count some).0 by_count)
+
+-- what was read behind the first is its link
+pub read_first :
+    (next : List ℕ) (ends : List Ends) (k x : ℕ) → AreLinked next ends → k < length ends → ((ends_at ends k).count ≡ 0 → ⊥)
+    → x ≡ slice_index_or next (ends_at ends k).first x → x ≡ link next (ends_at ends k).first
+read_first next ends k x linked inside some read =
+    get_or_read next (ends_at ends k).first x (first_below next ends k linked inside some) read 0
 
 -- ---- No slots yet
 

@@ -13,5 +13,6 @@ loop-front-preserved g c =
       room = c.push_reserved.ensures.capacity ∙ kept.room;
       within = kept.within;
       same = subst (IsLonger c.args.count g.T.Blank.nothing old) (sym pushed)
-          (longer old front c.args.count g.T.Blank.nothing (omega (arith, kept.within, c.loop-front-test.true, c.len.ensures, c.loop-front.front.ok.0)) kept.same);
+          (longer old front c.args.count g.T.Blank.nothing
+          (omega (arith, kept.within, c.loop-front-test.true, c.len.ensures, c.loop-front.front.ok.0)) kept.same);
     }

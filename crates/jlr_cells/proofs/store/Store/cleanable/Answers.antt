@@ -8,10 +8,16 @@ use Rattle.jlr_cells.proofs.store.Store.cleanable.Goals as goal
 
 pub returns-in-Some : goal.returns-in-Some
 returns-in-Some c =
-    let found = at_gotten c.self.inside.cells c.number.result c.args.slot c.in-Some.cell.now c.number.ensures (sym (ap (λ o. unwrap_or (option_copied o) Free) c.in-Some.is) ∙ c.get.ensures) in
-    c.cleanable.ensures ∙ ap (option_and_then as_cleanable) (sym found) ∙ sym (seen_as c.self.inside.cells c.self.inside.queues.lists c.args.self.now c.self.view_is (option_and_then as_cleanable) c.args.slot (λ l m. refl))
+    let s = c.self.inside in
+    let got = sym (ap (λ o. unwrap_or (option_copied o) Free) c.in-Some.is) ∙ c.get.ensures in
+    let found = at_gotten s.cells c.number.result c.args.slot c.in-Some.cell.now c.number.ensures got in
+    let seen = seen_as s.cells s.queues.lists c.args.self.now c.self.view_is (option_and_then as_cleanable) c.args.slot (λ l m. refl) in
+    c.cleanable.ensures ∙ ap (option_and_then as_cleanable) (sym found) ∙ sym seen
 
 pub returns-in-None : goal.returns-in-None
 returns-in-None c =
-    let found = at_gotten c.self.inside.cells c.number.result c.args.slot Free c.number.ensures (sym (ap (λ o. unwrap_or (option_copied o) Free) c.in-None.is) ∙ c.get.ensures) in
-    ap (option_and_then as_cleanable) (sym found) ∙ sym (seen_as c.self.inside.cells c.self.inside.queues.lists c.args.self.now c.self.view_is (option_and_then as_cleanable) c.args.slot (λ l m. refl))
+    let s = c.self.inside in
+    let got = sym (ap (λ o. unwrap_or (option_copied o) Free) c.in-None.is) ∙ c.get.ensures in
+    let found = at_gotten s.cells c.number.result c.args.slot Free c.number.ensures got in
+    let seen = seen_as s.cells s.queues.lists c.args.self.now c.self.view_is (option_and_then as_cleanable) c.args.slot (λ l m. refl) in
+    ap (option_and_then as_cleanable) (sym found) ∙ sym seen
