@@ -6,6 +6,7 @@ ghost use Rattle.jlr_machine.specs.WellFormed.{IsImage};
 
 use crate::verdict::{Verdict, legal_front};
 use crate::watch::{Unwatched, Watch};
+use jlr_copies::copy_machine;
 use jlr_machine::entry::Entry;
 use jlr_machine::machine::Machine;
 use jlr_plain_images::image::image_plain;
@@ -22,7 +23,7 @@ fn legal_count<W: Watch>(
     requires { IsImage image.now }
     ensures { IfOk result (λ n. IsLegalFront image.now entries.now n) }
 {
-    let machine = image.copy(alloc)?;
+    let machine = copy_machine(alloc, image)?;
     legal_front(alloc, machine, entries, watch)
 }
 

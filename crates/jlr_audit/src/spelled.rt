@@ -8,6 +8,7 @@ ghost use Rattle.jlr_plain.specs.Following.{IsFit, IsNext};
 
 use crate::verdict::Verdict;
 use crate::watch::Watch;
+use jlr_copies::copy_machine;
 use jlr_machine::entry::Entry;
 use jlr_machine::machine::Machine;
 use jlr_plain::advance::advance_plain;
@@ -68,7 +69,7 @@ fn spelled_count<W: Watch>(
     requires { IsImage trace.now.image }
     ensures { IfOk result (λ n. IsLegalFront trace.now.image trace.now.entries n) }
 {
-    let machine = trace.image().copy(alloc)?;
+    let machine = copy_machine(alloc, trace.image())?;
     spelled_front(alloc, machine, trace, watch)
 }
 

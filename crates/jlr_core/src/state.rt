@@ -39,13 +39,20 @@ impl<R> State<R> {
         ensures none_held { IfOk result (λ state. values state.cleaner.table ≡ []) }
         ensures none_waits { IfOk result (λ state. state.cleaner.waiting ≡ replicate limits.cells None) }
     {
-        Ok(State {
-            heap: Heap::new(alloc, limits)?,
-            soft_age: limits.soft_age,
-            cleaner: Cleaner::starting_at(alloc, limits, next_action)?,
-            cycle_open: false,
-            alloc,
-        })
+        let heap = Heap::new(alloc, limits)?;
+        match Cleaner::starting_at(alloc, limits, next_action) {
+            Ok(cleaner) => Ok(State {
+                heap,
+                soft_age: limits.soft_age,
+                cleaner,
+                cycle_open: false,
+                alloc,
+            }),
+            Err(error) => {
+                drop(heap);
+                Err(error)
+            }
+        }
     }
 
     /// The machine as plain data, with nothing seen.

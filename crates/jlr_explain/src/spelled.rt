@@ -6,6 +6,7 @@ ghost use Rattle.jlr_plain.specs.Following.{IsFit};
 use crate::history::{image_said, said_of};
 use jlr_audit::spelled::{advanced, spelled_front};
 use jlr_audit::watch::Unwatched;
+use jlr_copies::copy_machine;
 use jlr_machine::machine::Machine;
 use jlr_trace::spelled::{SpelledEntries, SpelledTrace};
 use std::alloc::{AllocError, Global};
@@ -57,7 +58,7 @@ fn said_at(
     requires { IsImage trace.now.image }
 {
     let mut entries = trace.entries();
-    let image = trace.image().copy(alloc)?;
+    let image = copy_machine(alloc, trace.image())?;
     match machine_before(alloc, image, number, &mut entries)? {
         Some(machine) => said_of_next(alloc, &machine, number, &mut entries),
         None => Ok(None),
@@ -68,7 +69,7 @@ fn said_at(
 fn of_spelled(alloc: Global, trace: &SpelledTrace<'_>) -> Result<Option<String>, AllocError>
     requires { IsImage trace.now.image }
 {
-    let image = trace.image().copy(alloc)?;
+    let image = copy_machine(alloc, trace.image())?;
     let legal = spelled_front(alloc, image, trace, &mut Unwatched)?;
     if legal == trace.count() {
         return Ok(None);

@@ -7,6 +7,7 @@ ghost use Rattle.jlr_hall.specs.Agreement.{rises, entries_of, Agrees};
 use crate::seat::{Item, Seat};
 use jlr_book::book::Book;
 use jlr_machine::entry::Entry;
+use jlr_same::{same_answer, same_ask};
 use std::sync::ledger::Ledger;
 
 impl<L: Ledger> Seat<L> {
@@ -74,5 +75,7 @@ fn next_after(items: &[Item], from: usize, base: u64) -> usize
 fn is_noted(noted: &Item, number: u64, entry: &Entry) -> bool
     ensures { IsTrue result ↔ (noted.now ≡ item number entry.now.ask entry.now.answer) }
 {
-    noted.number == number && noted.ask.is_same(&entry.ask) && noted.answer.is_same(&entry.answer)
+    noted.number == number
+        && same_ask(&noted.ask, &entry.ask)
+        && same_answer(&noted.answer, &entry.answer)
 }

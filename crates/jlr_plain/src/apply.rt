@@ -8,6 +8,7 @@ ghost use Rattle.jlr_plain.specs.Deciding.{carried_in, completed};
 ghost use Rattle.jlr_plain_changes.specs.Counts.{HaveRoom, HasNextAction, refuses};
 
 use crate::following::is_refusal;
+use jlr_copies::copy_machine;
 use jlr_machine::ask::{Answer, Ask};
 use jlr_machine::entry::Entry;
 use jlr_machine::items::Items;
@@ -93,7 +94,7 @@ pub fn apply_plain(alloc: Global, machine: &mut Machine, entry: &Entry) -> Resul
     ensures ok { OnOk result (machine.new ≡ apply machine.old entry.now) }
     ensures err { OnErr result (machine.new ≡ machine.old) }
 {
-    let copy = machine.copy(alloc)?;
+    let copy = copy_machine(alloc, machine)?;
     *machine = applied(alloc, copy, entry, false)?;
     Ok(())
 }

@@ -7,6 +7,7 @@ ghost use Rattle.jlr_machine.specs.declared.object.Object.TheVariants.{Reference
 
 use crate::edges::push_all;
 use crate::listed::SlotList;
+use jlr_copies::copy_machine;
 use jlr_machine::copy::copy_slice;
 use jlr_machine::entry::Collected;
 use jlr_machine::items::Items;
@@ -182,6 +183,6 @@ pub fn collected_plain(
 ) -> Result<Machine, AllocError>
     ensures { IfOk result (λ n. n ≡ with_collection machine.now collection.now) }
 {
-    let copy = machine.copy(alloc)?;
+    let copy = copy_machine(alloc, machine)?;
     collect_in(alloc, copy, collection)
 }

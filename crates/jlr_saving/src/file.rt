@@ -6,6 +6,7 @@ ghost use Rattle.jlr_audit.specs.Verdicts.{IsFileVerdict};
 ghost use Rattle.jlr_saving.specs.Saving.{file_of, IsSaved};
 
 use jlr_book::book::Book;
+use jlr_copies::{copy_entry, copy_machine};
 use jlr_fields::version::Version;
 use jlr_machine::entry::Entry;
 use jlr_machine::items::Items;
@@ -21,7 +22,7 @@ fn copy_entries(alloc: Global, entries: &[Entry]) -> Result<Vec<Entry>, AllocErr
 {
     let mut copies = Vec::with_capacity(alloc, entries.len())?;
     for entry in entries {
-        copies.push(entry.copy(alloc)?)?;
+        copies.push(copy_entry(alloc, entry)?)?;
     }
     Ok(copies)
 }
@@ -32,7 +33,7 @@ fn copy_image<R: Drop>(alloc: Global, book: &Book<R>) -> Result<Machine, AllocEr
 {
     let limits = book.limits();
     match book.image() {
-        Some(image) => image.copy(alloc),
+        Some(image) => copy_machine(alloc, image),
         None => empty_plain(
             alloc,
             limits.cells as usize,

@@ -1,5 +1,6 @@
 //! Copies of a machine with something in every part, and of its parts.
 use super::{list, slot, slots};
+use jlr_copies::copy_machine;
 use jlr_machine::copy::copy_slice;
 use jlr_machine::items::Items;
 use jlr_machine::machine::{
@@ -276,7 +277,7 @@ fn has_every_part(machine: &Machine) -> bool {
 }
 
 fn copy_has_every_part(alloc: Global, machine: &Machine) -> Result<bool, AllocError> {
-    Ok(has_every_part(&machine.copy(alloc)?))
+    Ok(has_every_part(&copy_machine(alloc, machine)?))
 }
 
 fn filled_and_copied(alloc: Global, machine: &mut Machine) -> Result<bool, Fail> {

@@ -1,6 +1,7 @@
 //! Copies of answers, choices and entries.
 use super::copies::{failure, name};
 use super::{list, slots};
+use jlr_copies::{copy_answer, copy_choice, copy_collection, copy_entry};
 use jlr_machine::ask::{Answer, Ask, Handed};
 use jlr_machine::data::Data;
 use jlr_machine::entry::{Chosen, Collected, Entry};
@@ -66,17 +67,17 @@ fn data(alloc: Global) -> Result<Answer, Fail> {
 
 fn names_are_copied(alloc: Global) -> Result<bool, Fail> {
     let answer = names(alloc)?;
-    Ok(has_the_names(&answer.copy(alloc)?))
+    Ok(has_the_names(&copy_answer(alloc, &answer)?))
 }
 
 fn faults_are_copied(alloc: Global) -> Result<bool, Fail> {
     let answer = faults(alloc)?;
-    Ok(has_the_failure(&answer.copy(alloc)?))
+    Ok(has_the_failure(&copy_answer(alloc, &answer)?))
 }
 
 fn data_are_copied(alloc: Global) -> Result<bool, Fail> {
     let answer = data(alloc)?;
-    Ok(is_the_data(&answer.copy(alloc)?))
+    Ok(is_the_data(&copy_answer(alloc, &answer)?))
 }
 
 #[test]
@@ -84,7 +85,7 @@ fn answers_are_copied(rt: HostRuntime) -> Result<(), Fail> {
     assert!(rt; names_are_copied(rt.alloc())?);
     assert!(rt; faults_are_copied(rt.alloc())?);
     assert!(rt; data_are_copied(rt.alloc())?);
-    assert!(rt; has_the_step(&Answer::Handed(Handed::Skipped).copy(rt.alloc())?));
+    assert!(rt; has_the_step(&copy_answer(rt.alloc(), &Answer::Handed(Handed::Skipped))?));
     Ok(())
 }
 
@@ -151,15 +152,15 @@ fn has_the_entry(alloc: Global, entry: &Entry) -> Result<bool, AllocError> {
 }
 
 fn copy_has_the_entry(alloc: Global, entry: &Entry) -> Result<bool, AllocError> {
-    has_the_entry(alloc, &entry.copy(alloc)?)
+    has_the_entry(alloc, &copy_entry(alloc, entry)?)
 }
 
 fn copy_has_the_choice(alloc: Global, choice: &Chosen) -> Result<bool, AllocError> {
-    has_the_choice(alloc, &choice.copy(alloc)?)
+    has_the_choice(alloc, &copy_choice(alloc, choice)?)
 }
 
 fn copy_has_the_collection(alloc: Global, collected: &Collected) -> Result<bool, AllocError> {
-    has_the_collection(alloc, Some(&collected.copy(alloc)?))
+    has_the_collection(alloc, Some(&copy_collection(alloc, collected)?))
 }
 
 fn entry_is_copied(alloc: Global) -> Result<bool, AllocError> {

@@ -2,6 +2,7 @@
 //! `with`, is written in words again, and has
 //! to be the row; where it is something else, that stands behind an arrow. Each operand of a row is another number, so that none can stand for
 //! another.
+use jlr_copies::copy_ask;
 use jlr_event::event::{Event, Reply};
 use jlr_machine::data::Data;
 use std::alloc::{AllocError, Global};
@@ -113,7 +114,7 @@ fn parts(row: &str) -> (&str, &str) {
 // The copy of an event's ask in words, with its resource.
 fn event_told(alloc: Global, event: Event<u32>) -> Result<String, AllocError> {
     let text = match event.plain(Some(Data::new(alloc)?)) {
-        Some(ask) => ask_text(alloc, &ask.copy(alloc)?)?,
+        Some(ask) => ask_text(alloc, &copy_ask(alloc, &ask)?)?,
         None => String::from_str(alloc, "none")?,
     };
     with_resource(alloc, text, event.into_resource())

@@ -4,6 +4,7 @@ ghost use Rattle.jlr_machine.specs.WellFormed.{IsWellFormed};
 
 use super::entries::entry_of;
 use super::same::same_machine;
+use jlr_copies::copy_machine;
 use jlr_machine::ask::{Answer, Ask};
 use jlr_machine::entry::{Chosen, Entry};
 use jlr_machine::fresh::FreshSlots;
@@ -67,9 +68,9 @@ fn entry_again(alloc: Global, row: &str) -> Result<Option<Entry>, AllocError> {
 
 // A copy of the machine, made again where memory was refused once.
 fn copy_again(alloc: Global, machine: &Machine) -> Result<Machine, AllocError> {
-    match machine.copy(alloc) {
+    match copy_machine(alloc, machine) {
         Ok(copy) => Ok(copy),
-        Err(_) => machine.copy(alloc),
+        Err(_) => copy_machine(alloc, machine),
     }
 }
 

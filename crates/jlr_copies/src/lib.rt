@@ -1,0 +1,12 @@
+//! Copies of machines and of entries. They stand apart from the machine, as few need them and their proofs are long.
+#![tactic(auto)]
+
+mod answer;
+mod ask;
+mod entry;
+mod machine;
+
+pub use answer::copy_answer;
+pub use ask::copy_ask;
+pub use entry::{copy_choice, copy_collection, copy_entry};
+pub use machine::copy_machine;
