@@ -1,11 +1,13 @@
 #!/usr/bin/env python3
 """Times full collections through the line protocol, beside a plain mark-sweep over the very same objects.
 
-    bench/collect.py [--program crates/refheap/out/refheap] [--objects 65528] [--rounds 101] [--shapes chain,tree,graph]
+    bench/collect.py [--program crates/refheap/out/refheap] [--cells 65536] [--new] [--rounds 101] [--shapes chain,tree,graph]
 
-Each object has three reference fields. One handle is left, from which all objects are reached. The time of a collection is that
-of `gc` less that of `same 0 0`, which does next to nothing. The two sides take turns, so that a machine that changes its speed
-changes it for both: shown are the medians of the rounds, the median of the ratios of neighbours, and the least.
+Each object has three reference fields. One handle is left, from which all objects are reached, and eight cells are free. The time of a
+collection is that of `gc` less that of `same 0 0`, which does next to nothing. With `--new` no cell but one is free, the object in it
+has just been lost, and what is timed is a `new`, which has to collect before it takes that cell. The two sides take turns, so that a
+machine that changes its speed changes it for both: shown are the medians of the rounds, the median of the ratios of neighbours, and
+the least. Where processors run at different speeds, `taskset -c 1` before it keeps both sides on one.
 """
 import argparse
 import os
@@ -18,7 +20,6 @@ import tempfile
 from session import Session
 
 HERE = os.path.dirname(os.path.abspath(__file__))
-CELLS = 65536
 FIELDS = 3
 
 
@@ -134,27 +135,42 @@ class Plain:
         self.folder.cleanup()
 
 
+def make_and_lose(session, handle):
+    """Takes the last free cell, and gives what loses the object in it, by this handle, and times a `new` of another."""
+    new = "new " + "r" * FIELDS
+    session.send(new)
+
+    def again():
+        session.send(f"drop {handle}")
+        return session.time(new)
+
+    return again
+
+
 def main():
     arguments = argparse.ArgumentParser(description=__doc__, formatter_class=argparse.RawDescriptionHelpFormatter)
     arguments.add_argument("--program", default=os.path.join(HERE, "..", "crates", "refheap", "out", "refheap"))
-    arguments.add_argument("--objects", type=int, default=CELLS - 8)
+    arguments.add_argument("--cells", type=int, default=65536)
+    arguments.add_argument("--new", action="store_true", help="time a `new` that has to collect")
     arguments.add_argument("--rounds", type=int, default=101)
     arguments.add_argument("--shapes", default="chain,tree,graph")
     given = arguments.parse_args()
+    objects = given.cells - (1 if given.new else 8)
     for shape in given.shapes.split(","):
-        session = Session(given.program, CELLS)
+        session = Session(given.program, given.cells)
         builder = Builder(session)
-        root = {"chain": chain, "tree": tree, "graph": graph}[shape](builder, given.objects)
+        root = {"chain": chain, "tree": tree, "graph": graph}[shape](builder, objects)
         idle = [session.time("same 0 0") for _ in range(200)]
         plain = Plain(builder.edges, root)
+        collect = make_and_lose(session, builder.free[-1]) if given.new else lambda: session.time("gc")
         full, other = [], []
         for _ in range(given.rounds):
-            full.append(session.time("gc") - statistics.median(idle))
+            full.append(collect() - statistics.median(idle))
             other.append(plain.time())
         session.close()
         plain.close()
-        median, plain_median = (statistics.median(times) / given.objects for times in (full, other))
-        least, plain_least = (min(times) / given.objects for times in (full, other))
+        median, plain_median = (statistics.median(times) / objects for times in (full, other))
+        least, plain_least = (min(times) / objects for times in (full, other))
         ratio = statistics.median(mine / its for mine, its in zip(full, other))
         print(
             f"{shape}: {median:.1f} ns a live object, plain mark-sweep {plain_median:.1f} ns, ratio {ratio:.2f}; "
