@@ -83,9 +83,16 @@ impl Columns {
     {
         let place = slot.number() as usize;
         let near = &self.near[place];
-        if self.wide.contains(slot) {
-            return (near, Some(&self.far[place]));
+        // Where no object had more than four references, nothing of the second column was ever written: the set is not asked then.
+        match self.far.get(place) {
+            None => (near, None),
+            Some(far) => {
+                if self.wide.contains(slot) {
+                    (near, Some(far))
+                } else {
+                    (near, None)
+                }
+            }
         }
-        (near, None)
     }
 }
