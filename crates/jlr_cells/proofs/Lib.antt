@@ -4,6 +4,7 @@ mod FieldLists
 pub mod Slots
 mod LinkLists
 mod Rows
+mod Labels
 pub mod ByKind
 pub mod Queues
 pub mod Showing

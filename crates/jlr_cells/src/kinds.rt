@@ -1,34 +1,49 @@
 //! The kinds of the objects, by slot.
 ghost use Rattle.std.specs.Prelude.{◌≡◌, ℕ, ◌<◌, ◌≤◌, IfOk, MatchOption, None, Some, false, length, replicate, slice_index_or, slice_set, true};
-ghost use Rattle.jlr_cells.specs.Kinds.{IsNoArray, IsNoCleanable};
+ghost use Rattle.jlr_cells.specs.Kinds.{IsNoArray, IsNoCleanable, shown_kind};
 ghost use Rattle.jlr_sets.specs.SlotSets.{is_in};
 
 use crate::shape::Kind;
 use jlr_sets::cell_set::CellSet;
-use jlr_types::Slot;
+use jlr_types::{RefKind, Slot};
 use std::alloc::{AllocError, Global};
 use std::marker::Model;
+
+/// What lies at a slot: one byte, where an optional kind takes three.
+#[derive(Clone, Copy)]
+enum Label {
+    Nothing,
+    Plain,
+    Array,
+    Soft,
+    Weak,
+    Phantom,
+    Queue,
+    Cleaner,
+    Cleanable,
+    Guard,
+}
 
 /// Of which kind what lies at a slot is, by slot, side by side; and sets in which the cleanables and the arrays are, so that they are found
 /// without a pass over all slots.
 #[derive(Drop)]
 pub(crate) struct Kinds {
-    kinds: Vec<Option<Kind>>,
+    labels: Vec<Label>,
     cleanables: CellSet,
     /// The arrays, and some slots at which none lies any more.
     arrays: CellSet,
 }
 
 impl Model for Kinds {
-    ghost use Rattle.std.specs.Prelude.{List, Option};
+    ghost use Rattle.std.specs.Prelude.{List, Option, map};
     ghost use Rattle.jlr_cells.specs.declared.shape.Kind.{Kind};
-    ghost use Rattle.jlr_cells.specs.Kinds.{AreFound};
+    ghost use Rattle.jlr_cells.specs.Kinds.{AreFound, shown_kind};
 
     ghost Value = { List (Option Kind) };
 
-    ghost view = { λ a. a.kinds.items };
+    ghost view = { λ a. map shown_kind a.labels.items };
 
-    ghost invariant = { λ a. AreFound a.kinds.items a.cleanables a.arrays };
+    ghost invariant = { λ a. AreFound (map shown_kind a.labels.items) a.cleanables a.arrays };
 }
 
 impl Kinds {
@@ -40,7 +55,7 @@ impl Kinds {
         ensures { IfOk result (λ kinds. kinds ≡ replicate count None) }
     {
         Ok(Kinds {
-            kinds: vec![in alloc; None; count as usize]?,
+            labels: vec![in alloc; Label::Nothing; count as usize]?,
             cleanables: CellSet::new(alloc, count)?,
             arrays: CellSet::new(alloc, count)?,
         })
@@ -50,8 +65,8 @@ impl Kinds {
     pub(crate) fn get(&self, slot: Slot) -> Option<Kind>
         ensures { result ≡ slice_index_or self.now slot None }
     {
-        match self.kinds.get(slot.number() as usize) {
-            Some(kind) => *kind,
+        match self.labels.get(slot.number() as usize) {
+            Some(label) => kind_of(*label),
             None => None,
         }
     }
@@ -61,7 +76,7 @@ impl Kinds {
         requires { slot < length self.old }
         ensures { self.new ≡ slice_set self.old slot kind }
     {
-        self.kinds[slot.number() as usize] = kind;
+        self.labels[slot.number() as usize] = label_of(kind);
         note_cleanable(&mut self.cleanables, slot, kind);
         note_array(&mut self.arrays, slot, kind);
     }
@@ -109,5 +124,41 @@ fn note_cleanable(cleanables: &mut CellSet, slot: Slot, kind: Option<Kind>)
             cleanables.insert(slot);
         }
         _ => cleanables.remove(slot),
+    }
+}
+
+/// The kind that a label stands for.
+fn kind_of(label: Label) -> Option<Kind>
+    ensures { result ≡ shown_kind label }
+{
+    match label {
+        Label::Nothing => None,
+        Label::Plain => Some(Kind::Plain),
+        Label::Array => Some(Kind::Array),
+        Label::Soft => Some(Kind::Reference(RefKind::Soft)),
+        Label::Weak => Some(Kind::Reference(RefKind::Weak)),
+        Label::Phantom => Some(Kind::Reference(RefKind::Phantom)),
+        Label::Queue => Some(Kind::Queue),
+        Label::Cleaner => Some(Kind::Cleaner),
+        Label::Cleanable => Some(Kind::Cleanable),
+        Label::Guard => Some(Kind::Guard),
+    }
+}
+
+/// The label of a kind.
+fn label_of(kind: Option<Kind>) -> Label
+    ensures { shown_kind result ≡ kind }
+{
+    match kind {
+        None => Label::Nothing,
+        Some(Kind::Plain) => Label::Plain,
+        Some(Kind::Array) => Label::Array,
+        Some(Kind::Reference(RefKind::Soft)) => Label::Soft,
+        Some(Kind::Reference(RefKind::Weak)) => Label::Weak,
+        Some(Kind::Reference(RefKind::Phantom)) => Label::Phantom,
+        Some(Kind::Queue) => Label::Queue,
+        Some(Kind::Cleaner) => Label::Cleaner,
+        Some(Kind::Cleanable) => Label::Cleanable,
+        Some(Kind::Guard) => Label::Guard,
     }
 }
