@@ -38,6 +38,7 @@ impl Heap {
     }
 
     /// The reference at a slot is registered with no queue any more, and its edge to it is gone. The queue that was ahead is shaded.
+    #[inline(always)]
     pub fn cut_queue_edge(&mut self, slot: Slot)
         requires reference { IsTrue (some_and is_reference (at self.old.graph.objects slot)) }
         requires object { (s : ℕ) → next_in (at self.old.graph.objects slot) ≡ Some s → IsObject self.old.graph.objects s }

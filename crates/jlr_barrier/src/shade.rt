@@ -45,6 +45,7 @@ pub(crate) fn shade_value(value: FieldValue, marks: &mut Marks)
 }
 
 /// Shades the queue that the reference at a slot may still be added to.
+#[inline(always)]
 pub(crate) fn shade_ahead(cells: &Objects, slot: Slot, marks: &mut Marks)
     requires reference { IsTrue (some_and is_reference (at cells.now.objects slot)) }
     requires within { (x : ℕ) → next_in (at cells.now.objects slot) ≡ Some x → x < length marks.old.bits }

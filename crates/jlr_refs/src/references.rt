@@ -55,6 +55,7 @@ pub fn clear(heap: &mut Heap, reference: Slot)
 
 /// A reference loses its referent, and goes to the end of its queue, if it has one and was not enqueued before
 /// (`Reference.enqueue`). Whether it went there. That queue is shaded.
+#[inline(always)]
 pub fn enqueue(heap: &mut Heap, reference: Slot) -> bool
     requires fit { IsFit heap.old.graph }
     requires reference { IsTrue (some_and is_reference (at heap.old.graph.objects reference)) }
