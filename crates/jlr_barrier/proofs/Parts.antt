@@ -1,5 +1,5 @@
 -- The edges ahead of a place, in parts.
-use Rattle.std.proofs.Common.{◌≡◌, IsTrue, ℕ, zero, suc, ◌+◌, ◌-◌, ◌<◌, ◌≤◌, ◌⊎◌, inl, inr, true, false, cond, List, [], ◌∷◌, ◌++◌, Option, Some, None, refl, sym, subst, ap, ◌∙◌, length, take, drop, option_and_then, arith}
+use Rattle.std.proofs.Common.{◌≡◌, Bool, IsTrue, ℕ, zero, suc, ◌+◌, ◌-◌, ◌<◌, ◌≤◌, ◌⊎◌, inl, inr, true, false, cond, List, [], ◌∷◌, ◌++◌, Option, Some, None, refl, sym, subst, ap, ◌∙◌, length, take, drop, option_and_then, arith}
 use Rattle.std.specs.Prelude.{nat_lt, nat_eq, option_to_list, is_some}
 use Rattle.std.specs.List.{flat_map}
 use Rattle.std.proofs.lemmas.List.{append-nil, length-drop, take-append-drop, take_all, drop_all}
@@ -9,7 +9,8 @@ use Rattle.std.proofs.lemmas.Bool.{cases_lt, lt-ltb, ltb-true, false_from_ne_tru
 use Rattle.jlr_machine.specs.declared.object.Contents.TheVariants.{Typed, Elements}
 use Rattle.jlr_machine.specs.declared.object.Object.{Object}
 use Rattle.jlr_machine.specs.declared.object.Object.TheVariants as object
-use Rattle.jlr_machine.specs.Objects.{Heap, at, ◌∈◌}
+use Rattle.jlr_machine.specs.Objects.{Heap, at, some_and, ◌∈◌}
+use Rattle.jlr_machine.specs.Refusals.{is_record}
 use Rattle.jlr_machine.specs.Edges.{edges, edges_from, strong_edges}
 use Rattle.jlr_machine.specs.Edges.Chain.{Strong}
 use Rattle.jlr_laws.proofs.Sets.{nothing, in_rest}
@@ -194,6 +195,20 @@ next_gives (Some (object.Cleanable c)) from p h = no_some p h
 next_gives (Some (object.Guard g)) from p h = no_some p h
 
 -- ---- What a visit lends
+
+-- a plain object with fields has no elements
+record_is_no_array : (o : Option Object) → some_and is_record o ≡ true → None ≡ option_and_then elements_of o
+record_is_no_array None h = refl
+record_is_no_array (Some (object.Plain (Typed fields))) h = refl
+record_is_no_array (Some (object.Plain (Elements e))) h = cc
+record_is_no_array (Some (object.Reference r)) h = refl
+record_is_no_array (Some (object.Queue members)) h = refl
+record_is_no_array (Some object.Cleaner) h = refl
+record_is_no_array (Some (object.Cleanable c)) h = refl
+record_is_no_array (Some (object.Guard g)) h = refl
+
+pub no_elements : (heap : Heap) (s : ℕ) {found : Bool} → found ≡ some_and is_record (at heap s) → found ≡ true → None ≡ option_and_then elements_of (at heap s)
+no_elements heap s plain is = record_is_no_array (at heap s) (sym plain ∙ is)
 
 -- of what is no array one part is all
 whole_in : (o : Option Object) (from : ℕ) → option_and_then elements_of o ≡ None → flat_map (edges_part from) (option_to_list o) ≡ flat_map (edges Strong) (option_to_list o)

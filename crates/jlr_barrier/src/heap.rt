@@ -23,15 +23,16 @@ use jlr_types::{FieldValue, Limits, Slot};
 use std::alloc::{AllocError, Global};
 use std::marker::Model;
 
-/// The objects of a heap with their roots. Contracts see the part of the machine that it keeps, its clock and its mark set.
+/// The objects of a heap with their roots. Contracts see the part of the machine that it keeps, its clock and its mark set. What the marker's loop reads
+/// stands in front, so that the instructions of the loop are short.
 #[derive(Drop)]
 pub struct Heap {
+    pub(crate) marks: Marks,
     pub(crate) cells: Objects,
     pub(crate) roots: Roots,
     pub(crate) names: Names,
     /// The pending list and the cleaner's line. A slot stands in one of them at most.
     pub(crate) lists: Links,
-    pub(crate) marks: Marks,
     /// By slot, how many collections had finished when the object was made or last gave its referent.
     pub(crate) last_gets: Vec<u64>,
     /// How many collections have finished. It saturates.

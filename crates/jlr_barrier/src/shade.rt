@@ -1,5 +1,5 @@
 //! Shading: what links, queues, roots, names and lists lead to is marked, and grey if it was not marked before.
-ghost use Rattle.std.specs.Prelude.{◌≡◌, ◌⊎◌, ℕ, ◌+◌, ◌-◌, ◌^◌, ◌<◌, ◌≤◌, ◌++◌, ◌∷◌, [], IsTrue, Some, cond, drop, is_some, length, option_and_then, take};
+ghost use Rattle.std.specs.Prelude.{◌≡◌, ◌⊎◌, ℕ, ◌+◌, ◌-◌, ◌^◌, ◌<◌, ◌≤◌, ◌++◌, ◌∷◌, [], IsTrue, Some, cond, drop, false, is_some, length, option_and_then, take};
 ghost use Rattle.jlr_machine.specs.Objects.{any_referent, at, queue_ahead, some_and, ◌∈◌};
 ghost use Rattle.jlr_machine.specs.Refusals.{is_record, is_reference};
 ghost use Rattle.jlr_machine.specs.Edges.{active_cleanables, edges_from, is_active, is_own_root};
@@ -162,7 +162,7 @@ fn follow(cells: &Objects, slot: Slot, from: u16, meter: &mut Meter, marks: &mut
     ensures ticked { meter.new ≡ meter.old + 1 }
 {
     match cells.visit(slot, meter) {
-        Visited::Plain { near, far } => {
+        Some((near, far)) => {
             shade_links(near, marks);
             shade_far(far, marks);
             Found {
@@ -170,17 +170,30 @@ fn follow(cells: &Objects, slot: Slot, from: u16, meter: &mut Meter, marks: &mut
                 next: None,
             }
         }
-        Visited::Array(elements) => Found {
+        None => Found {
             plain: false,
-            next: shade_part(elements, from, marks),
+            next: follow_other(cells, slot, from, marks),
         },
+    }
+}
+
+/// Shades what a part of the strong edges of an object that is no plain one with fields leads to, from a place on, and answers from which place on
+/// an array has more. It stands apart from the following of plain objects with fields, which are nearly all that a heap holds.
+#[inline(never)]
+fn follow_other(cells: &Objects, slot: Slot, from: u16, marks: &mut Marks) -> Option<u16>
+    requires object { IsTrue (is_some (at cells.now.objects slot)) }
+    requires other { some_and is_record (at cells.now.objects slot) ≡ false }
+    requires within { (x : ℕ) → x ∈ edges_from Strong cells.now.objects slot → x < length marks.old.bits }
+    ensures shaded { Shaded (λ x. x ∈ part_at cells.now.objects from slot) marks.old marks.new }
+    ensures next { result ≡ next_at cells.now.objects from slot }
+    ensures few { ticks_at cells.now.objects slot ≤ 64 }
+{
+    match cells.visit_other(slot) {
+        Visited::Array(elements) => shade_part(elements, from, marks),
         Visited::Other { next } => {
             shade_target(next, marks);
             shade_members(cells, slot, marks);
-            Found {
-                plain: false,
-                next: None,
-            }
+            None
         }
     }
 }

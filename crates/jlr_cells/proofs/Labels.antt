@@ -29,18 +29,26 @@ none_found count cleanables arrays places array_places =
     }
 
 -- what a kind that changed is, and that the others stay
-kind_here : (kinds : List (Option Kind)) (s : ℕ) (kind : Option Kind) {k : Option Kind} (t : ℕ) → s < length kinds → t ≡ s → slice_index_or (set kinds s kind) t None ≡ k → kind ≡ k
+kind_here :
+    (kinds : List (Option Kind)) (s : ℕ) (kind : Option Kind) {k : Option Kind} (t : ℕ)
+    → s < length kinds → t ≡ s → slice_index_or (set kinds s kind) t None ≡ k → kind ≡ k
 kind_here kinds s kind t within same e = sym (get_or-set_same kinds s kind None within) ∙ ap (λ x. slice_index_or (set kinds s kind) x None) (sym same) ∙ e
 
-kind_there : (kinds : List (Option Kind)) (s : ℕ) (kind : Option Kind) {k : Option Kind} (t : ℕ) → (t ≡ s → ⊥) → slice_index_or (set kinds s kind) t None ≡ k → slice_index_or kinds t None ≡ k
+kind_there :
+    (kinds : List (Option Kind)) (s : ℕ) (kind : Option Kind) {k : Option Kind} (t : ℕ)
+    → (t ≡ s → ⊥) → slice_index_or (set kinds s kind) t None ≡ k → slice_index_or kinds t None ≡ k
 kind_there kinds s kind t other e = sym (get_or-set_other kinds s t kind None other) ∙ e
 
 -- a kind changes, and both sets with it
 pub found_set :
     (kinds : List (Option Kind)) (cleanables arrays cleanables' arrays' : List Bool) (s : ℕ) (kind : Option Kind)
     → AreFound kinds cleanables arrays → s < length kinds
-    → (kind ≡ Some Cleanable → is_in cleanables' s ≡ true) → ((t : ℕ) → (t ≡ s → ⊥) → is_in cleanables' t ≡ is_in cleanables t) → length cleanables' ≡ length cleanables
-    → (kind ≡ Some Array → is_in arrays' s ≡ true) → ((t : ℕ) → (t ≡ s → ⊥) → is_in arrays' t ≡ is_in arrays t) → length arrays' ≡ length arrays
+    → (kind ≡ Some Cleanable → is_in cleanables' s ≡ true)
+    → ((t : ℕ) → (t ≡ s → ⊥) → is_in cleanables' t ≡ is_in cleanables t)
+    → length cleanables' ≡ length cleanables
+    → (kind ≡ Some Array → is_in arrays' s ≡ true)
+    → ((t : ℕ) → (t ≡ s → ⊥) → is_in arrays' t ≡ is_in arrays t)
+    → length arrays' ≡ length arrays
     → AreFound (set kinds s kind) cleanables' arrays'
 found_set kinds cleanables arrays cleanables' arrays' s kind found within cleanable others places array array_others array_places =
     record {

@@ -71,6 +71,14 @@ impl Kinds {
         }
     }
 
+    /// Of which kind what lies at one of their slots is, if anything does.
+    pub(crate) fn at(&self, slot: Slot) -> Option<Kind>
+        requires { slot < length self.now }
+        ensures { result ≡ slice_index_or self.now slot None }
+    {
+        kind_of(self.labels[slot.number() as usize])
+    }
+
     /// Something of another kind lies at a slot.
     pub(crate) fn set(&mut self, slot: Slot, kind: Option<Kind>)
         requires { slot < length self.old }

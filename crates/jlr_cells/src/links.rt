@@ -110,16 +110,9 @@ pub(crate) fn target_of(value: &FieldValue) -> Option<Slot>
     }
 }
 
-/// What a visit of an object tells of its strong edges.
+/// What a visit of an object that is no plain one with fields tells of its strong edges.
 #[derive(Drop)]
 pub enum Visited<'a> {
-    /// It is a plain object with fields.
-    Plain {
-        /// The links of its first four fields.
-        near: &'a Links,
-        /// The links of the others, if one of them ever referred to an object.
-        far: Option<&'a Links>,
-    },
     /// It is an array of these elements.
     Array(&'a Elements),
     /// It is of another kind. It leads to one object, or to none; a queue to its members besides.

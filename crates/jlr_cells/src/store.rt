@@ -10,16 +10,16 @@ ghost use Rattle.jlr_machine.specs.Objects.{with_cleanable, with_field, with_mem
 ghost use Rattle.jlr_machine.specs.Refusals.{is_cleanable, is_guard, is_plain, is_queue, is_record, is_reference};
 ghost use Rattle.jlr_machine.specs.Calls.{spent, unreferred};
 ghost use Rattle.jlr_cells.specs.Contents.{field_at, is_array, is_ref, in_clean_state, in_state, kind_of, member_in, members_in, object_in, object_of, objects_in, referent_in, unregistered, watching, with_list, with_lists, without_referent};
-ghost use Rattle.jlr_cells.specs.Links.{cell_links, no_links};
+ghost use Rattle.jlr_cells.specs.Links.{cell_links, linked, linked_in, no_links};
 ghost use Rattle.jlr_machine.specs.declared.object.Object.TheVariants.{Plain};
 ghost use Rattle.jlr_machine.specs.declared.object.Contents.TheVariants.{Elements as ElementsOf};
-ghost use Rattle.jlr_cells.specs.Visits.{edges_told, elements_lent, elements_of, found_plain};
+ghost use Rattle.jlr_cells.specs.Visits.{edges_told, elements_lent, elements_of};
 
 use crate::cell::Cell;
 use crate::columns::Columns;
 use crate::elements::Elements;
 use crate::kinds::Kinds;
-use crate::links::{Visited, target_of};
+use crate::links::{Links, Visited, target_of};
 use crate::shape::{Kind, Shape};
 use jlr_column::Column;
 use jlr_links::Links as Lists;
@@ -31,14 +31,15 @@ use std::alloc::{AllocError, Global};
 use std::marker::Model;
 
 /// What lies in the cells, by slot, whether it still counts or not. The kinds stand by themselves once more, side by side, so that a pass over all cells reads
-/// only those that it has to; and so does what the fields of plain objects refer to, so that marking reads no cell of those.
+/// only those that it has to; and so does what the fields of plain objects refer to, so that marking reads no cell of those. These
+/// two stand in front, so that the instructions of the marker's loop are short.
 #[derive(Drop)]
 pub struct Store {
+    links: Columns,
+    kinds: Kinds,
     cells: Column<Cell>,
     /// By slot, the members of the queue there from the front on; of what is no queue there are none.
     queues: Lists,
-    kinds: Kinds,
-    links: Columns,
 }
 
 impl Model for Store {
@@ -404,24 +405,48 @@ impl Store {
         Ok(Table::from_vec(images(alloc, &self.cells, &self.queues, occupied)?))
     }
 
-    /// Visits the object at a slot: one tick. Gives its strong edges, but those of a queue to its members: it lends the links of a
-    /// plain object with fields, whose cell it does not read, or the elements of an array, and tells the queue that a reference may still be
-    /// added to, or a guard's cleanable.
+    /// Visits the object at a slot: one tick. It lends the links of a plain object with fields, whose cell it does not read: those of its first
+    /// four fields, and those of the others, if one of them ever referred to an object. Of any other object it lends none.
     #[inline(always)]
-    pub fn visit(&self, slot: Slot, meter: &mut Meter) -> Visited<'_>
+    pub fn visit(&self, slot: Slot, meter: &mut Meter) -> Option<(&Links, Option<&Links>)>
         requires object { IsTrue (is_some (at self.now slot)) }
         requires ticks { meter.old + 1 < 2 ^ 64 }
-        ensures edges { edges_from Strong self.now slot ≡ edges_told result (members_in (at self.now slot)) }
-        ensures plain { found_plain result ≡ some_and is_record (at self.now slot) }
-        ensures array { elements_lent result ≡ option_and_then elements_of (at self.now slot) }
+        ensures plain { is_some result ≡ some_and is_record (at self.now slot) }
+        ensures edges { IfSome result (λ links. edges_from Strong self.now slot ≡ linked links.0.now ++ linked_in links.1) }
         ensures ticked { meter.new ≡ meter.old + 1 }
     {
         meter.tick();
-        let place = slot.number() as usize;
-        if self.is_record(slot) {
-            let (near, far) = self.links.of(slot);
-            return Visited::Plain { near, far };
+        if self.finds_record(slot) {
+            return Some(self.links.of(slot));
         }
+        None
+    }
+
+    /// Whether the object at a slot is a plain one with fields.
+    fn finds_record(&self, slot: Slot) -> bool
+        requires { IsTrue (is_some (at self.now slot)) }
+        ensures { result ≡ some_and is_record (at self.now slot) }
+    {
+        matches!(self.kind_here(slot), Some(Kind::Plain))
+    }
+
+    /// Of which kind the object at a slot is.
+    fn kind_here(&self, slot: Slot) -> Option<Kind>
+        requires { IsTrue (is_some (at self.now slot)) }
+        ensures { result ≡ option_map kind_of (at self.now slot) }
+    {
+        self.kinds.at(slot)
+    }
+
+    /// What the strong edges are of the object at a slot that is no plain one with fields, but those of a queue to its members: it lends the
+    /// elements of an array, and tells the queue that a reference may still be added to, or a guard's cleanable.
+    pub fn visit_other(&self, slot: Slot) -> Visited<'_>
+        requires object { IsTrue (is_some (at self.now slot)) }
+        requires other { some_and is_record (at self.now slot) ≡ false }
+        ensures edges { edges_from Strong self.now slot ≡ edges_told result (members_in (at self.now slot)) }
+        ensures array { elements_lent result ≡ option_and_then elements_of (at self.now slot) }
+    {
+        let place = slot.number() as usize;
         if self.is_array(slot) {
             return Visited::Array(self.cells[place].elements());
         }

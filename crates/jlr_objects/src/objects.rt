@@ -9,8 +9,8 @@ ghost use Rattle.jlr_machine.specs.Calls.{spent, unreferred};
 ghost use Rattle.jlr_cells.specs.Contents.{field_at, is_ref, in_clean_state, in_state, kind_of, member_in, members_in, object_of, referent_in, unregistered, watching, without_referent};
 ghost use Rattle.jlr_machine.specs.declared.object.Object.TheVariants.{Plain};
 ghost use Rattle.jlr_machine.specs.declared.object.Contents.TheVariants.{Elements as ElementsOf};
-ghost use Rattle.jlr_cells.specs.Links.{no_links};
-ghost use Rattle.jlr_cells.specs.Visits.{edges_told, elements_lent, elements_of, found_plain};
+ghost use Rattle.jlr_cells.specs.Links.{linked, linked_in, no_links};
+ghost use Rattle.jlr_cells.specs.Visits.{edges_told, elements_lent, elements_of};
 ghost use Rattle.jlr_sets.specs.SlotSets.{is_in};
 ghost use Rattle.jlr_cells.specs.Showing.{shown};
 ghost use Rattle.jlr_objects.specs.Holding.{all_free, in_use};
@@ -18,7 +18,7 @@ ghost use Rattle.jlr_objects.specs.Holding.{all_free, in_use};
 use crate::arrays::{free_array, free_arrays};
 use crate::lists::clear_lists;
 use crate::occupancy::Occupancy;
-use jlr_cells::{Elements, Kind, Shape, Store, Visited};
+use jlr_cells::{Elements, Kind, Links, Shape, Store, Visited};
 use jlr_machine::object::{CleanState, Cleanable, Guard, Object, RefState, Reference};
 use jlr_machine::table::Table;
 use jlr_sets::cell_set::CellSet;
@@ -447,18 +447,27 @@ impl Objects {
         self.store.image(alloc, self.occupancy.occupied())
     }
 
-    /// Visits the object at a slot: one tick. Gives its strong edges, but those of a queue to its members: it lends the links of a
-    /// plain object with fields, whose cell it does not read, or the elements of an array, and tells the queue that a reference may still be
-    /// added to, or a guard's cleanable.
+    /// Visits the object at a slot: one tick. It lends the links of a plain object with fields, whose cell it does not read: those of its first
+    /// four fields, and those of the others, if one of them ever referred to an object. Of any other object it lends none.
     #[inline(always)]
-    pub fn visit(&self, slot: Slot, meter: &mut Meter) -> Visited<'_>
+    pub fn visit(&self, slot: Slot, meter: &mut Meter) -> Option<(&Links, Option<&Links>)>
         requires object { IsTrue (is_some (at self.now.objects slot)) }
         requires ticks { meter.old + 1 < 2 ^ 64 }
-        ensures edges { edges_from Strong self.now.objects slot ≡ edges_told result (members_in (at self.now.objects slot)) }
-        ensures plain { found_plain result ≡ some_and is_record (at self.now.objects slot) }
-        ensures array { elements_lent result ≡ option_and_then elements_of (at self.now.objects slot) }
+        ensures plain { is_some result ≡ some_and is_record (at self.now.objects slot) }
+        ensures edges { IfSome result (λ links. edges_from Strong self.now.objects slot ≡ linked links.0.now ++ linked_in links.1) }
         ensures ticked { meter.new ≡ meter.old + 1 }
     {
         self.store.visit(slot, meter)
+    }
+
+    /// What the strong edges are of the object at a slot that is no plain one with fields, but those of a queue to its members: it lends the
+    /// elements of an array, and tells the queue that a reference may still be added to, or a guard's cleanable.
+    pub fn visit_other(&self, slot: Slot) -> Visited<'_>
+        requires object { IsTrue (is_some (at self.now.objects slot)) }
+        requires other { some_and is_record (at self.now.objects slot) ≡ false }
+        ensures edges { edges_from Strong self.now.objects slot ≡ edges_told result (members_in (at self.now.objects slot)) }
+        ensures array { elements_lent result ≡ option_and_then elements_of (at self.now.objects slot) }
+    {
+        self.store.visit_other(slot)
     }
 }

@@ -54,7 +54,7 @@ pub fn clear(heap: &mut Heap, reference: Slot)
 }
 
 /// A reference loses its referent, and goes to the end of its queue, if it has one and was not enqueued before
-/// (`Reference.enqueue`). Whether it went there. That queue is shaded.
+/// (`Reference.enqueue`). Whether it went there. That queue is shaded. It is in line, with what it calls, so that the handler reads the reference once.
 #[inline(always)]
 pub fn enqueue(heap: &mut Heap, reference: Slot) -> bool
     requires fit { IsFit heap.old.graph }

@@ -1,74 +1,30 @@
-use Rattle.std.proofs.Common.{◌≡◌, ◌∙◌, ◌++◌, ◌<◌, ◌∷◌, [], arith, false, length, refl, sym, ap, true, subst}
-use Rattle.std.specs.Prelude.{option_and_then, option_to_list, slice_index_or}
+use Rattle.std.proofs.Common.{◌∙◌, ◌∷◌, [], arith, refl, sym, ap}
+use Rattle.std.specs.Prelude.{slice_index_or}
 use Rattle.jlr_machine.specs.Objects.{at, some_and}
 use Rattle.jlr_machine.specs.Edges.{edges_from}
 use Rattle.jlr_machine.specs.Edges.Chain.{Strong}
-use Rattle.jlr_machine.specs.Refusals.{is_plain, is_record}
-use Rattle.jlr_cells.specs.Contents.{is_array, members_in, next_in, object_in, objects_in}
-use Rattle.jlr_cells.specs.Visits.{elements_of}
-use Rattle.jlr_cells.specs.Links.{linked, links_in}
-use Rattle.jlr_cells.proofs.LinkLists.{array_edges, array_is_plain, no_plain, other_edges, other_has_none, record_has_none, plain_edges_at, record_is_plain}
-use Rattle.jlr_cells.proofs.Slots.{at-read}
-use Rattle.jlr_cells.proofs.Queues.{holds_at, holds_in, link_count, plain_at, seen_in, within}
+use Rattle.jlr_machine.specs.Refusals.{is_record}
+use Rattle.jlr_cells.specs.Contents.{objects_in}
+use Rattle.jlr_cells.specs.Links.{linked}
+use Rattle.jlr_cells.proofs.LinkLists.{plain_edges_at, record_is_plain}
+use Rattle.jlr_cells.proofs.Queues.{holds_at, link_count, plain_at, within}
 use Rattle.jlr_cells.proofs.store.Store.visit.Goals as goal
 
-pub returns-then-is_record-clause-edges : goal.returns-then-is_record-clause-edges
-returns-then-is_record-clause-edges c =
-    let cells = c.self.inside.cells in
-    let place = c.number-place.result in
-    let plain = holds_at c.self.inside.cells c.self.inside.queues.lists c.args.self.now c.self.view_is (some_and is_record) c.args.slot place (λ l m. refl) c.number-place.ensures (sym c.is_record.ensures ∙ c.if-is_record.true) in
-    let edges = plain_edges_at cells place [] plain in
-    let row : slice_index_or c.self.inside.links c.args.slot [] ≡ slice_index_or (links_in cells) place [] =
-    ap (λ l. slice_index_or l c.args.slot []) c.self.invariant.kept.by_links ∙ ap (λ k. slice_index_or (links_in cells) k []) (sym c.number-place.ensures) in
-    let same = plain_at c.self.inside.cells c.self.inside.queues.lists c.args.self.now c.self.view_is c.args.slot (record_is_plain (at (objects_in cells) c.args.slot) (subst (λ s. some_and is_record (at (objects_in cells) s) ≡ true) c.number-place.ensures plain)) in
-    ap (λ o. edges_from Strong (o ∷ []) 0) same
-    ∙ subst (λ s. edges_from Strong (objects_in cells) s ≡ linked (slice_index_or c.self.inside.links c.args.slot [])) c.number-place.ensures (edges ∙ ap linked (sym row))
-    ∙ c.of.ensures
-
 pub of-requires : goal.of-requires
-of-requires c = omega (arith, c.number-place.ensures, within c.self.inside.cells c.self.inside.queues.lists c.args.self.now c.self.view_is _ _ c.number-place.ensures c.requires.object, link_count c.self.inside.cells c.self.inside.queues.lists c.self.inside.queues.slots c.self.inside.kinds c.self.inside.links c.self.invariant)
+of-requires c =
+    omega (
+      arith,
+      within c.self.inside.cells c.self.inside.queues.lists c.args.self.now c.self.view_is c.args.slot c.args.slot refl c.requires.object,
+      link_count c.self.inside.cells c.self.inside.queues.lists c.self.inside.queues.slots c.self.inside.kinds c.self.inside.links c.self.invariant,
+    )
 
-pub index-requires : goal.index-requires
-index-requires c = omega (arith, within c.self.inside.cells c.self.inside.queues.lists c.args.self.now c.self.view_is _ _ c.number-place.ensures c.requires.object)
-
-pub index-requires-2 : goal.index-requires-2
-index-requires-2 c = omega (arith, within c.self.inside.cells c.self.inside.queues.lists c.args.self.now c.self.view_is _ _ c.number-place.ensures c.requires.object)
-
-pub elements-requires : goal.elements-requires
-elements-requires c =
-    let below : c.number-place.result < length c.self.inside.cells = within c.self.inside.cells c.self.inside.queues.lists c.args.self.now c.self.view_is _ _ c.number-place.ensures c.requires.object in
-    holds_in c.self.inside.cells c.self.inside.queues.lists c.args.self.now c.self.view_is (some_and is_array) _ _ c.index.result.now (λ l m. refl) c.number-place.ensures (sym c.is_array.ensures ∙ c.if-is_array.true) below c.index.ensures
-
-pub returns-then-is_array-clause-edges : goal.returns-then-is_array-clause-edges
-returns-then-is_array-clause-edges c =
+pub returns-then-finds_record-clause-edges : goal.returns-then-finds_record-clause-edges
+returns-then-finds_record-clause-edges c =
     let cells = c.self.inside.cells in
-    let o = at c.args.self.now c.args.slot in
-    let array : some_and is_array o ≡ true = sym c.is_array.ensures ∙ c.if-is_array.true in
-    let below : c.number-place.result < length cells = within c.self.inside.cells c.self.inside.queues.lists c.args.self.now c.self.view_is _ _ c.number-place.ensures c.requires.object in
-    let plain = holds_at c.self.inside.cells c.self.inside.queues.lists c.args.self.now c.self.view_is (some_and is_plain) c.args.slot c.args.slot (λ l m. refl) refl (array_is_plain o array) in
-    let same : o ≡ object_in c.index.result.now = plain_at c.self.inside.cells c.self.inside.queues.lists c.args.self.now c.self.view_is c.args.slot plain ∙ ap (at (objects_in cells)) (sym c.number-place.ensures) ∙ at-read cells c.number-place.result c.index.result.now below c.index.ensures in
-    array_edges o c.elements.result.now (same ∙ c.elements.ensures)
-
-pub returns-clause-edges : goal.returns-clause-edges
-returns-clause-edges c =
-    let o = at c.args.self.now c.args.slot in
-    let other : some_and is_plain o ≡ false = no_plain o (sym c.is_record.ensures ∙ c.if-is_record.false) (sym c.is_array.ensures ∙ c.if-is_array.false) in
-    let below : c.number-place.result < length c.self.inside.cells = within c.self.inside.cells c.self.inside.queues.lists c.args.self.now c.self.view_is _ _ c.number-place.ensures c.requires.object in
-    let next : next_in o ≡ c.next.result = seen_in c.self.inside.cells c.self.inside.queues.lists c.args.self.now c.self.view_is next_in c.args.slot c.number-place.result c.index-2.result.now (λ l m. refl) c.number-place.ensures below c.index-2.ensures ∙ sym c.next.ensures in
-    other_edges o other ∙ ap (λ n. option_to_list n ++ members_in o) next
-
-pub returns-then-is_record-clause-array : goal.returns-then-is_record-clause-array
-returns-then-is_record-clause-array c = sym (record_has_none (at c.args.self.now c.args.slot) (sym c.is_record.ensures ∙ c.if-is_record.true))
-
-pub returns-then-is_array-clause-array : goal.returns-then-is_array-clause-array
-returns-then-is_array-clause-array c =
-    let cells = c.self.inside.cells in
-    let o = at c.args.self.now c.args.slot in
-    let array : some_and is_array o ≡ true = sym c.is_array.ensures ∙ c.if-is_array.true in
-    let below : c.number-place.result < length cells = within c.self.inside.cells c.self.inside.queues.lists c.args.self.now c.self.view_is _ _ c.number-place.ensures c.requires.object in
-    let plain = holds_at c.self.inside.cells c.self.inside.queues.lists c.args.self.now c.self.view_is (some_and is_plain) c.args.slot c.args.slot (λ l m. refl) refl (array_is_plain o array) in
-    let same : o ≡ object_in c.index.result.now = plain_at c.self.inside.cells c.self.inside.queues.lists c.args.self.now c.self.view_is c.args.slot plain ∙ ap (at (objects_in cells)) (sym c.number-place.ensures) ∙ at-read cells c.number-place.result c.index.result.now below c.index.ensures in
-    sym (ap (option_and_then elements_of) (same ∙ c.elements.ensures))
-
-pub returns-clause-array : goal.returns-clause-array
-returns-clause-array c = sym (other_has_none (at c.args.self.now c.args.slot) (sym c.is_array.ensures ∙ c.if-is_array.false))
+    let s = c.args.slot in
+    let plain = holds_at cells c.self.inside.queues.lists c.args.self.now c.self.view_is (some_and is_record) s s (λ l m. refl) refl (sym c.finds_record.ensures ∙ c.if-finds_record.true) in
+    let same = plain_at cells c.self.inside.queues.lists c.args.self.now c.self.view_is s (record_is_plain (at (objects_in cells) s) plain) in
+    ap (λ o. edges_from Strong (o ∷ []) 0) same
+    ∙ plain_edges_at cells s [] plain
+    ∙ ap (λ l. linked (slice_index_or l s [])) (sym c.self.invariant.kept.by_links)
+    ∙ c.of.ensures
