@@ -1,10 +1,11 @@
 #!/usr/bin/env python3
 """Times full collections through the line protocol, beside a plain mark-sweep over the very same objects.
 
-    bench/collect.py [--program crates/refheap/out/refheap] [--cells 65536] [--new] [--rounds 101] [--shapes chain,tree,graph]
+    bench/collect.py [--program crates/refheap/out/refheap] [--cells 65536] [--live 100] [--new] [--rounds 101] [--shapes chain,tree,graph]
 
 Each object has three reference fields. One handle is left, from which all objects are reached, and eight cells are free. The time of a
-collection is that of `gc` less that of `same 0 0`, which does next to nothing. With `--new` no cell but one is free, the object in it
+collection is that of `gc` less that of `same 0 0`, which does next to nothing. With `--live 10` ten in a hundred objects are reached, and the
+others are made and lost again before each collection. With `--new` no cell but one is free, the object in it
 has just been lost, and what is timed is a `new`, which has to collect before it takes that cell. The two sides take turns, so that a
 machine that changes its speed changes it for both: shown are the medians of the rounds, the median of the ratios of neighbours, and
 the least. Where processors run at different speeds, `taskset -c 1` before it keeps both sides on one.
@@ -107,16 +108,16 @@ def graph(builder, count):
 
 
 class Plain:
-    """A plain mark-sweep, that of the source of this name, over the same objects, one collection at a time."""
+    """A plain mark-sweep, that of the source of this name, over the same objects and so many lost ones, one collection at a time."""
 
-    def __init__(self, edges, root, source="plain_mark_sweep"):
+    def __init__(self, edges, root, source="plain_mark_sweep", lost=0):
         self.live = len(edges)
         self.folder = tempfile.TemporaryDirectory()
         program = os.path.join(self.folder.name, source)
         subprocess.run(["rustc", "-O", os.path.join(HERE, f"{source}.rs"), "-o", program], check=True)
         objects = os.path.join(self.folder.name, "objects")
         with open(objects, "w") as out:
-            for fields in edges:
+            for fields in edges + [[None] * FIELDS] * lost:
                 out.write(" ".join("-" if field is None else str(field) for field in fields) + "\n")
         self.process = subprocess.Popen([program, objects, str(root)], stdin=subprocess.PIPE, stdout=subprocess.PIPE, text=True)
 
@@ -135,6 +136,18 @@ class Plain:
         self.folder.cleanup()
 
 
+def lose_and_collect(session, handle, count):
+    """Gives what makes and loses so many objects, by the lowest free handle, and times a collection."""
+
+    def again():
+        for _ in range(count):
+            session.send("new " + "r" * FIELDS)
+            session.send(f"drop {handle}")
+        return session.time("gc")
+
+    return again
+
+
 def make_and_lose(session, handle):
     """Takes the last free cell, and gives what loses the object in it, by this handle, and times a `new` of another."""
     new = "new " + "r" * FIELDS
@@ -151,6 +164,7 @@ def main():
     arguments = argparse.ArgumentParser(description=__doc__, formatter_class=argparse.RawDescriptionHelpFormatter)
     arguments.add_argument("--program", default=os.path.join(HERE, "..", "crates", "refheap", "out", "refheap"))
     arguments.add_argument("--cells", type=int, default=65536)
+    arguments.add_argument("--live", type=int, default=100, help="of a hundred objects, how many are reached")
     arguments.add_argument("--new", action="store_true", help="time a `new` that has to collect")
     arguments.add_argument("--rounds", type=int, default=101)
     arguments.add_argument("--shapes", default="chain,tree,graph")
@@ -159,18 +173,20 @@ def main():
     for shape in given.shapes.split(","):
         session = Session(given.program, given.cells)
         builder = Builder(session)
-        root = {"chain": chain, "tree": tree, "graph": graph}[shape](builder, objects)
+        kept = objects * given.live // 100
+        root = {"chain": chain, "tree": tree, "graph": graph}[shape](builder, kept)
         idle = [session.time("same 0 0") for _ in range(200)]
-        plain = Plain(builder.edges, root)
-        collect = make_and_lose(session, builder.free[-1]) if given.new else lambda: session.time("gc")
+        plain = Plain(builder.edges, root, lost=objects - kept)
+        handle = builder.free[-1]
+        collect = make_and_lose(session, handle) if given.new else lose_and_collect(session, handle, objects - kept)
         full, other = [], []
         for _ in range(given.rounds):
             full.append(collect() - statistics.median(idle))
             other.append(plain.time())
         session.close()
         plain.close()
-        median, plain_median = (statistics.median(times) / objects for times in (full, other))
-        least, plain_least = (min(times) / objects for times in (full, other))
+        median, plain_median = (statistics.median(times) / kept for times in (full, other))
+        least, plain_least = (min(times) / kept for times in (full, other))
         ratio = statistics.median(mine / its for mine, its in zip(full, other))
         print(
             f"{shape}: {median:.1f} ns a live object, plain mark-sweep {plain_median:.1f} ns, ratio {ratio:.2f}; "

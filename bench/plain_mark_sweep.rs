@@ -3,7 +3,8 @@
 //     plain_mark_sweep OBJECTS ROOT
 //
 // OBJECTS is a file with a line for each object: its three fields, each the number of an object or `-`. For each line of the input there is one
-// collection, and one line of output: how many objects are reached from ROOT, and the time in nanoseconds.
+// collection, and one line of output: how many objects are reached from ROOT, and the time in nanoseconds. What a collection removed is there again
+// before the next.
 use std::io::Write;
 use std::time::Instant;
 
@@ -73,6 +74,9 @@ fn main() {
         free: Vec::with_capacity(count),
     };
     for _ in std::io::stdin().lines() {
+        while let Some(slot) = heap.free.pop() {
+            heap.cells[slot as usize].taken = true;
+        }
         let begin = Instant::now();
         let live = heap.collect(root);
         let took = begin.elapsed().as_nanos();
