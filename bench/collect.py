@@ -4,9 +4,9 @@
     bench/collect.py [--program crates/refheap/out/refheap] [--cells 65536] [--live 100] [--new] [--rounds 101] [--shapes chain,tree,graph]
 
 Each object has three reference fields. One handle is left, from which all objects are reached, and eight cells are free. The time of a
-collection is that of `gc` less that of `same 0 0`, which does next to nothing. With `--live 10` ten in a hundred objects are reached, and the
-others are made and lost again before each collection. With `--new` no cell but one is free, the object in it
-has just been lost, and what is timed is a `new`, which has to collect before it takes that cell. The two sides take turns, so that a
+collection is that of `gc` less that of `same 0 0`, which does next to nothing. With `--live 10` ten in a hundred objects are reached, and
+the others are made and lost again before each collection. With `--new` no cell but one is free, the object in it has just been lost, and
+what is timed is a `new`, which has to collect before it takes that cell. The two sides take turns, so that a
 machine that changes its speed changes it for both: shown are the medians of the rounds, the median of the ratios of neighbours, and
 the least. Where processors run at different speeds, `taskset -c 1` before it keeps both sides on one.
 """

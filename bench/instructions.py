@@ -1,11 +1,12 @@
 #!/usr/bin/env python3
-"""Counts the instructions that refheap takes, by callgrind (valgrind): for a command, in the mean of the mix of commands.py and by kind; for an
-object of a full collection; and for a reference or a cleanable whose object is lost, by function.
+"""Counts the instructions that refheap takes, by callgrind (valgrind): for a command, in the mean of the mix of commands.py and by kind;
+for an object of a full collection; and for a reference or a cleanable whose object is lost, by function.
 
     bench/instructions.py [--program crates/refheap/out/refheap]
 
-Each figure is the difference of two sessions, one of which does more of the same, so that neither the start nor the end of a session counts. But
-for the mix, all have so long a trace that no cut falls into them. A function that the compiler put in line counts with the one that it stands in.
+Each figure is the difference of two sessions, one of which does more of the same, so that neither the start nor the end of a session
+counts. But for the mix, all have so long a trace that no cut falls into them. A function that the compiler put in line counts with the one
+that it stands in.
 """
 import argparse
 import os
@@ -105,8 +106,12 @@ def registered(length):
 
 def settled(program, lines_of, last):
     """What each further one takes in a collection that finds it, and in all that follows, by function."""
-    found = [more(counted(program, LONG, lines_of(n) + last + ["gc", "stat"]), counted(program, LONG, lines_of(n) + last)) for n in (FEW, MANY)]
-    return {name: count / (MANY - FEW) for name, count in more(found[1], found[0]).items()}
+
+    def of(length):
+        lines = lines_of(length) + last
+        return more(counted(program, LONG, lines + ["gc", "stat"]), counted(program, LONG, lines))
+
+    return {name: count / (MANY - FEW) for name, count in more(of(MANY), of(FEW)).items()}
 
 
 def tell_settled(title, counts):

@@ -2,9 +2,9 @@
 //
 //     plain_mark_sweep OBJECTS ROOT
 //
-// OBJECTS is a file with a line for each object: its three fields, each the number of an object or `-`. For each line of the input there is one
-// collection, and one line of output: how many objects are reached from ROOT, and the time in nanoseconds. What a collection removed is there again
-// before the next.
+// OBJECTS is a file with a line for each object: its three fields, each the number of an object or `-`. For each line of the input there is
+// one collection, and one line of output: how many objects are reached from ROOT, and the time in nanoseconds. What a collection removed is
+// there again before the next.
 use std::io::Write;
 use std::time::Instant;
 
