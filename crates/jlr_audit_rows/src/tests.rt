@@ -1,4 +1,5 @@
 //! The tests, a file for each topic.
+mod copies;
 mod older;
 mod reading;
 mod verdicts;

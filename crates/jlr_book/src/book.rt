@@ -382,6 +382,7 @@ impl<R: Drop> Book<R> {
             return refuse(event, Refusal::NoMemory);
         };
         if self.trace.reserve(PLACES).is_err() {
+            drop(room);
             return refuse(event, Refusal::NoMemory);
         }
         if self.trace.len() < self.limits.trace as usize {
@@ -402,6 +403,7 @@ impl<R: Drop> Book<R> {
             &mut self.trace,
             &mut self.image,
         ) else {
+            drop(room);
             return refuse(event, Refusal::NoMemory);
         };
         self.base += used;

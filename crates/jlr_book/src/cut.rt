@@ -68,7 +68,7 @@ pub(crate) fn cut_to_image<R: Drop>(
 {
     let machine = core.image(alloc)?;
     let used = cut_trace(core, choice, trace, machine.cycle_open);
-    *image = Some(close_cycle(machine));
+    drop(image.replace(close_cycle(machine)));
     Ok(used)
 }
 

@@ -59,3 +59,17 @@ pub fn copy_entry(alloc: Global, entry: &Entry) -> Result<Entry, AllocError>
         choice: copy_choice(alloc, &entry.choice)?,
     })
 }
+
+/// The same entries, in their order.
+///
+/// # Errors
+/// `AllocError` where there is no memory.
+pub fn copy_entries(alloc: Global, entries: &[Entry]) -> Result<Vec<Entry>, AllocError>
+    ensures { IfOk result (λ v. v.items ≡ entries.now) }
+{
+    let mut copies = Vec::with_capacity(alloc, entries.len())?;
+    for entry in entries {
+        copies.push(copy_entry(alloc, entry)?)?;
+    }
+    Ok(copies)
+}

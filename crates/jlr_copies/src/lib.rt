@@ -8,5 +8,5 @@ mod machine;
 
 pub use answer::copy_answer;
 pub use ask::copy_ask;
-pub use entry::{copy_choice, copy_collection, copy_entry};
+pub use entry::{copy_choice, copy_collection, copy_entries, copy_entry};
 pub use machine::copy_machine;

@@ -1,20 +1,21 @@
 -- Legal entries, from what an ask did.
-use Rattle.std.proofs.Common.{◌≡◌, ◌+◌, ◌&&◌, ◌||◌, ◌==◌, zero, suc, ℕ, ◌<◌, Bool, true, false, not, List, [], ◌∷◌, length, replicate, Option, Some, None, IsTrue, is_some, is_none, refl, sym, ◌∙◌, ap, subst, arith, find, cond, option_and_then}
+use Rattle.std.proofs.Common.{◌≡◌, ◌+◌, ◌&&◌, ◌||◌, ◌==◌, zero, suc, ℕ, ◌<◌, Bool, true, false, not, List, [], ◌∷◌, length, replicate, Option, Some, None, Result, Ok, Err, IsTrue, is_some, is_none, refl, sym, ◌∙◌, ap, subst, arith, find, cond, map, option_and_then}
 use Rattle.std.proofs.lemmas.Bool.{both_ways, le-leb, ne_eqb}
 use Rattle.std.proofs.lemmas.List.Sums.{count_by-le-length}
+use Rattle.jlr_types.specs.declared.FieldKind.{FieldKind}
 use Rattle.jlr_types.specs.declared.RefKind.{RefKind}
 use Rattle.jlr_types.specs.declared.Refusal.{Refusal}
 use Rattle.jlr_types.specs.declared.Refusal.TheVariants.{NoMemory, NoSession, NoHandle, Null, WrongKind, Busy, HandlesFull, HeapFull}
 use Rattle.jlr_machine.specs.declared.object.Object.{Object}
 use Rattle.jlr_types.specs.declared.Work.TheVariants.{Note}
 use Rattle.jlr_machine.specs.declared.object.CleanState.TheVariants.{Armed}
-use Rattle.jlr_machine.specs.declared.object.Object.TheVariants.{Plain, Cleanable, Reference}
-use Rattle.jlr_machine.specs.declared.object.Contents.TheVariants.{Elements}
+use Rattle.jlr_machine.specs.declared.object.Object.TheVariants.{Plain, Cleanable, Cleaner, Queue, Reference}
+use Rattle.jlr_machine.specs.declared.object.Contents.TheVariants.{Elements, Typed}
 use Rattle.jlr_machine.specs.declared.object.RefState.TheVariants.{Fresh}
 use Rattle.jlr_machine.specs.declared.machine.Machine.{Machine}
 use Rattle.jlr_machine.specs.declared.machine.Session.{Session}
 use Rattle.jlr_machine.specs.declared.ask.Ask.{Ask}
-use Rattle.jlr_machine.specs.declared.ask.Ask.TheVariants.{Join, Leave, Put, Get, SetInt, Int, Dup, Drop, Same, MakeRef, Deref, Refers, Clear, Enqueue, Enqueued, Poll, Register, Clean, Prepare, Opened, CheckOut, CheckIn, Close, Finish, Remove, Bind, Find, Unbind, Names, HandOver, TakeUp, Full, Stat, Notes, Faults, Begin, Abandon, Array}
+use Rattle.jlr_machine.specs.declared.ask.Ask.TheVariants.{Join, Leave, New, Put, Get, SetInt, Int, Dup, Drop, Same, MakeRef, Deref, Refers, Clear, Enqueue, Enqueued, MakeCleaner, MakeQueue, Poll, Register, Clean, Prepare, Opened, CheckOut, CheckIn, Close, Finish, Remove, Bind, Find, Unbind, Names, HandOver, TakeUp, Full, Stat, Notes, Faults, Begin, Abandon, Array}
 use Rattle.jlr_machine.specs.declared.ask.FullMode.{FullMode}
 use Rattle.jlr_machine.specs.declared.ask.FullMode.TheVariants.{Policy, ClearAll}
 use Rattle.jlr_machine.specs.declared.ask.Answer.{Answer}
@@ -22,7 +23,7 @@ use Rattle.jlr_machine.specs.declared.ask.Answer.TheVariants.{Done, Prepared, Re
 use Rattle.jlr_machine.specs.declared.entry.Chosen.{Chosen}
 use Rattle.jlr_machine.specs.declared.entry.Collected.{Collected}
 use Rattle.jlr_machine.specs.Objects.{Heap, at, occupied, some_and, Table}
-use Rattle.jlr_machine.specs.Lookups.{with_handle, with_new, resource_at, slot_named, has_free_handle, object_named}
+use Rattle.jlr_machine.specs.Lookups.{blank, with_handle, with_new, resource_at, slot_named, has_free_handle, object_named}
 use Rattle.jlr_machine.specs.Refusals.{refusal, cells_needed, is_joined, has_call, is_any, applies, is_of_wrong_kind, listed, object_or_null, is_queue}
 use Rattle.jlr_machine.specs.Calls.{reply, after, new_handle}
 use Rattle.jlr_machine.specs.Choices.{Choosing}
@@ -31,7 +32,7 @@ use Rattle.jlr_machine.specs.Run.{has_room, MayCollect, with_collection, Answers
 use Rattle.jlr_machine.specs.Run.IsLegal.{carried_out, refused, heap_full}
 use Rattle.jlr_laws.proofs.Frames.{no_some, some_same}
 use Rattle.jlr_laws.proofs.Refused.{is_refusal, gives_no_refusal}
-use Rattle.jlr_core.specs.State.{Meets}
+use Rattle.jlr_core.specs.State.{Answered, Meets, answer_of}
 use Rattle.jlr_machine.specs.Calls.{prepared}
 use Rattle.jlr_barrier.specs.Guards.{AreFree}
 use Rattle.jlr_core.specs.Preparing.{Places}
@@ -158,6 +159,12 @@ plainly m n _ a p e r l = absurd p
 pub meets_plain : (m n : Machine) (ask : Ask) (a : Answer) → IsPlain ask → refusal m ask ≡ None → reply m ask ≡ Some a → n ≡ after m ask a [] → Meets m ask a no_choice n
 meets_plain m n ask a p e r l = plainly m n ask a p e r l
 
+-- an ask that chooses nothing, as it was answered
+pub meets_answered :
+    (m n : Machine) (ask : Ask) (result : Result Answer Refusal) → IsPlain ask → Answered m ask result n → Meets m ask (answer_of result) no_choice n
+meets_answered m n ask (Ok a) plain did = meets_plain m n ask a plain did.0 did.1 did.2
+meets_answered m n ask (Err r) plain did = subst (λ (x : Machine). Meets m ask (Refused r) no_choice x) (sym did.1) (meets_refused m ask r did.0)
+
 -- ---- No refusal of the list is for want of memory
 
 found_holds : {A : Type 0} (p : A → Bool) (xs : List A) (x : A) → find p xs ≡ Some x → p x ≡ true
@@ -283,25 +290,71 @@ allowed_reference m k kind h q j uh uq nh nq b f =
     (skip p HandlesFull (HeapFull ∷ []) None (ap not f)
     (skip p HeapFull [] None refl refl))))))
 
+-- an ask that names nothing is allowed where its mutator is joined, in no call, and has a free handle
+allowed_alone :
+    (m : Machine) (k : ℕ) (ask : Ask) → listed ask ≡ NoSession ∷ Busy ∷ HandlesFull ∷ HeapFull ∷ []
+    → applies m ask NoSession ≡ not (is_joined m k) → applies m ask Busy ≡ has_call m k
+    → applies m ask HandlesFull ≡ not (has_free_handle m k) → applies m ask HeapFull ≡ false
+    → is_joined m k ≡ true → has_call m k ≡ false → has_free_handle m k ≡ true → refusal m ask ≡ None
+allowed_alone m k ask list first second third last j b f =
+    let p = applies m ask in
+    ap (find p) list
+    ∙ skip p NoSession (Busy ∷ HandlesFull ∷ HeapFull ∷ []) None (first ∙ ap not j)
+    (skip p Busy (HandlesFull ∷ HeapFull ∷ []) None (second ∙ b)
+    (skip p HandlesFull (HeapFull ∷ []) None (third ∙ ap not f)
+    (skip p HeapFull [] None last refl)))
+
+-- a plain object, whose fields are blank
+may_collect_plain : (m : Machine) (k : ℕ) (layout : List FieldKind) (o : Option Collected) → MayMakeRoom m 1 o → MayCollect m (New k layout) o
+may_collect_plain m k layout None r = r
+may_collect_plain m k layout (Some c) r = r
+
+pub meets_new_plain :
+    (m mid n : Machine) (k slot : ℕ) (layout : List FieldKind) (new : Choosing) (a : Answer)
+    → is_joined m k ≡ true → has_call m k ≡ false → has_free_handle m k ≡ true
+    → Allocates m (Plain (Typed (map blank layout))) new slot mid → new_handle mid k ≡ Some a → n ≡ with_handle mid k slot → Meets m (New k layout) a new.chosen n
+meets_new_plain m mid n k slot layout new a joined calls room x handle left =
+    meets_new m mid n (New k layout) k slot (Plain (Typed (map blank layout))) new a
+    (allowed_alone m k (New k layout) refl refl refl refl refl joined calls room) (may_collect_plain m k layout) refl (λ y s h. (h, h)) (λ y s. refl) x handle left
+
+-- an empty queue
+may_collect_queue : (m : Machine) (k : ℕ) (o : Option Collected) → MayMakeRoom m 1 o → MayCollect m (MakeQueue k) o
+may_collect_queue m k None r = r
+may_collect_queue m k (Some c) r = r
+
+pub meets_new_queue :
+    (m mid n : Machine) (k slot : ℕ) (new : Choosing) (a : Answer)
+    → is_joined m k ≡ true → has_call m k ≡ false → has_free_handle m k ≡ true
+    → Allocates m (Queue []) new slot mid → new_handle mid k ≡ Some a → n ≡ with_handle mid k slot → Meets m (MakeQueue k) a new.chosen n
+meets_new_queue m mid n k slot new a joined calls room x handle left =
+    meets_new m mid n (MakeQueue k) k slot (Queue []) new a
+    (allowed_alone m k (MakeQueue k) refl refl refl refl refl joined calls room) (may_collect_queue m k) refl (λ y s h. (h, h)) (λ y s. refl) x handle left
+
+-- a cleaner
+may_collect_cleaner : (m : Machine) (k : ℕ) (o : Option Collected) → MayMakeRoom m 1 o → MayCollect m (MakeCleaner k) o
+may_collect_cleaner m k None r = r
+may_collect_cleaner m k (Some c) r = r
+
+pub meets_new_cleaner :
+    (m mid n : Machine) (k slot : ℕ) (new : Choosing) (a : Answer)
+    → is_joined m k ≡ true → has_call m k ≡ false → has_free_handle m k ≡ true
+    → Allocates m Cleaner new slot mid → new_handle mid k ≡ Some a → n ≡ with_handle mid k slot → Meets m (MakeCleaner k) a new.chosen n
+meets_new_cleaner m mid n k slot new a joined calls room x handle left =
+    meets_new m mid n (MakeCleaner k) k slot Cleaner new a
+    (allowed_alone m k (MakeCleaner k) refl refl refl refl refl joined calls room) (may_collect_cleaner m k) refl (λ y s h. (h, h)) (λ y s. refl) x handle left
+
 -- an array, whose elements refer to nothing
 may_collect_array : (m : Machine) (k n : ℕ) (o : Option Collected) → MayMakeRoom m 1 o → MayCollect m (Array k n) o
 may_collect_array m k n None r = r
 may_collect_array m k n (Some c) r = r
-
-allowed_array : (m : Machine) (k n : ℕ) → is_joined m k ≡ true → has_call m k ≡ false → has_free_handle m k ≡ true → refusal m (Array k n) ≡ None
-allowed_array m k n j b f =
-    let p = applies m (Array k n) in
-    skip p NoSession (Busy ∷ HandlesFull ∷ HeapFull ∷ []) None (ap not j)
-    (skip p Busy (HandlesFull ∷ HeapFull ∷ []) None b
-    (skip p HandlesFull (HeapFull ∷ []) None (ap not f)
-    (skip p HeapFull [] None refl refl)))
 
 pub meets_new_array :
     (m mid n : Machine) (k size slot : ℕ) (elements : List (Option ℕ)) (new : Choosing) (a : Answer)
     → is_joined m k ≡ true → has_call m k ≡ false → has_free_handle m k ≡ true → elements ≡ replicate size None
     → Allocates m (Plain (Elements elements)) new slot mid → new_handle mid k ≡ Some a → n ≡ with_handle mid k slot → Meets m (Array k size) a new.chosen n
 meets_new_array m mid n k size slot elements new a joined calls room null x handle left =
-    meets_new m mid n (Array k size) k slot (Plain (Elements (replicate size None))) new a (allowed_array m k size joined calls room) (may_collect_array m k size) refl (λ y s h. (h, h)) (λ y s. refl)
+    meets_new m mid n (Array k size) k slot (Plain (Elements (replicate size None))) new a
+    (allowed_alone m k (Array k size) refl refl refl refl refl joined calls room) (may_collect_array m k size) refl (λ y s h. (h, h)) (λ y s. refl)
     (subst (λ l. Allocates m (Plain (Elements l)) new slot mid) null x) handle left
 
 pub meets_new_reference :

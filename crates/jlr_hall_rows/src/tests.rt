@@ -7,7 +7,6 @@ mod forgeries;
 mod gates;
 mod listeners;
 mod loops;
-mod marker;
 mod player;
 mod removals;
 mod seats;

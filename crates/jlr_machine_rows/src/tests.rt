@@ -1,15 +1,11 @@
 //! No clause says that memory can be had, so each call that takes some is made here. What is expected is written by hand. Copies of
-//! asks are
-//! tested by the rows of `jlr_event_rows`.
-use jlr_machine::copy::copy_slice;
+//! machines and of entries are tested by `jlr_audit_rows`.
 use jlr_machine::items::Items;
 use jlr_types::Slot;
 use std::alloc::{AllocError, Global};
 
 mod cell_sets;
 mod choices;
-mod copies;
-mod entries;
 mod lists;
 mod values;
 
@@ -19,10 +15,6 @@ fn slots(alloc: Global, numbers: &[u32]) -> Result<Items<Slot>, AllocError> {
         list.push(Slot::new(number))?;
     }
     Ok(list)
-}
-
-fn list<T: Copy>(alloc: Global, items: &[T]) -> Result<Items<T>, AllocError> {
-    Ok(Items::from_vec(copy_slice(alloc, items)?))
 }
 
 fn slot(number: u32) -> Option<Slot> {

@@ -6,9 +6,8 @@ ghost use Rattle.jlr_audit.specs.Verdicts.{IsFileVerdict};
 ghost use Rattle.jlr_saving.specs.Saving.{file_of, IsSaved};
 
 use jlr_book::book::Book;
-use jlr_copies::{copy_entry, copy_machine};
+use jlr_copies::{copy_entries, copy_machine};
 use jlr_fields::version::Version;
-use jlr_machine::entry::Entry;
 use jlr_machine::items::Items;
 use jlr_machine::machine::Machine;
 use jlr_plain::empty::empty_plain;
@@ -16,16 +15,6 @@ use jlr_ranges::fits::run_has_spelling;
 use jlr_trace::file::TraceFile;
 use jlr_trace::writing::write_trace;
 use std::alloc::{AllocError, Global};
-
-fn copy_entries(alloc: Global, entries: &[Entry]) -> Result<Vec<Entry>, AllocError>
-    ensures { IfOk result (λ v. v.items ≡ entries.now) }
-{
-    let mut copies = Vec::with_capacity(alloc, entries.len())?;
-    for entry in entries {
-        copies.push(copy_entry(alloc, entry)?)?;
-    }
-    Ok(copies)
-}
 
 /// The machine from which the trace of a book leads on.
 fn copy_image<R: Drop>(alloc: Global, book: &Book<R>) -> Result<Machine, AllocError>

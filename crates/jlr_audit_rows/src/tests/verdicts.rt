@@ -1,14 +1,18 @@
 //! The verdicts on two histories, one of version 1 and one of version 2, and on what changes make of them.
+ghost use Rattle.std.specs.Prelude.{◌≡◌};
 ghost use Rattle.jlr_trace.specs.Files.{HasSpelling};
 
 use jlr_audit::audit::audit;
 use jlr_audit::spelled::audit_spelled;
 use jlr_audit::verdict::Verdict;
 use jlr_audit::watch::Unwatched;
+use jlr_copies::{copy_entries, copy_machine};
+use jlr_machine::items::Items;
 use jlr_trace::file::{TraceFile, read_trace};
 use jlr_trace::spelled::{SpelledTrace, spelled_trace};
 use jlr_trace::writing::write_trace;
 use std::alloc::{AllocError, Global};
+use std::mem;
 use std::str::{FromStr, SplitWhitespace};
 use std::test::Fail;
 
@@ -181,11 +185,12 @@ fn spliced(alloc: Global, file: &[u8], words: &mut SplitWhitespace<'_>) -> Resul
     Ok(bytes)
 }
 
-// The file is written as it was read.
+// The file is written as it was read, and once more where its parts are copies.
 fn is_written_back(alloc: Global, bytes: &[u8]) -> Result<bool, AllocError> {
     match read_trace(alloc, bytes) {
         Ok(file) => {
-            let same = is_written_as(alloc, &file, bytes);
+            let mut file = file;
+            let same = are_written_as(alloc, &mut file, bytes);
             drop(file);
             same
         }
@@ -193,10 +198,29 @@ fn is_written_back(alloc: Global, bytes: &[u8]) -> Result<bool, AllocError> {
     }
 }
 
+fn are_written_as(alloc: Global, file: &mut TraceFile, bytes: &[u8]) -> Result<bool, AllocError>
+    requires { HasSpelling file.old }
+{
+    let same = is_written_as(alloc, file, bytes)?;
+    put_copies(alloc, file)?;
+    Ok(same && is_written_as(alloc, file, bytes)?)
+}
+
 fn is_written_as(alloc: Global, file: &TraceFile, bytes: &[u8]) -> Result<bool, AllocError>
     requires { HasSpelling file.now }
 {
     Ok(write_trace(alloc, file)?.as_slice() == bytes)
+}
+
+// Copies in the place of the image and of the entries.
+fn put_copies(alloc: Global, file: &mut TraceFile) -> Result<(), AllocError>
+    ensures { file.new ≡ file.old }
+{
+    let image = copy_machine(alloc, &file.image)?;
+    drop(mem::replace(&mut file.image, image));
+    let entries = copy_entries(alloc, file.entries.as_slice())?;
+    drop(mem::replace(&mut file.entries, Items::from_vec(entries)));
+    Ok(())
 }
 
 fn verdict_text(alloc: Global, verdict: Verdict, entries: u64) -> Result<String, AllocError> {

@@ -1,6 +1,5 @@
-use Rattle.std.proofs.Common.{rules, ◌≡◌, ◌&&◌, true, false, None, Some, length, not, refl, sym, subst, ap}
+use Rattle.std.proofs.Common.{◌≡◌, ◌&&◌, true, false, None, Some, length, not, refl, sym, subst, ap}
 use Rattle.std.proofs.lemmas.Bool.{both_ways}
-use Rattle.jlr_machine.specs.declared.ask.Ask.TheVariants.{Collect}
 use Rattle.jlr_machine.specs.declared.ask.Answer.TheVariants.{Truth}
 use Rattle.jlr_event.specs.declared.event.Event.{Event}
 use Rattle.jlr_event.specs.declared.event.Event.TheVariants.{Mark}

@@ -3,12 +3,18 @@ use Rattle.std.proofs.Common.{refl, sym, subst}
 use Rattle.jlr_marks.specs.Marking.{Marking}
 use Rattle.jlr_core.specs.Machines.{machine_of}
 use Rattle.jlr_core.specs.Marks.{BlackensMade}
+use Rattle.jlr_core.proofs.Entries.{meets_new_queue}
 use Rattle.jlr_core.proofs.Shading.{given_new}
 use Rattle.jlr_core.proofs.state.State.make_queue.Goals as goal
 
 -- it refers to nothing
 pub allocate-requires-clause-held : goal.allocate-requires-clause-held
 allocate-requires-clause-held g c = λ s h. nothing s h
+
+pub returns-clause-meets : goal.returns-clause-meets
+returns-clause-meets g c =
+    meets_new_queue (machine_of c.args.self.now) (machine_of c.allocate.new.self) (machine_of c.give.new.self) c.args.by c.in_ok-slot.slot c.allocate.new.choice c.give.result
+    c.in_ok-check_session.ensures c.in_ok-check_no_call.ensures c.in_ok-check_free_handle.ensures c.in_ok-slot.ensures.allocates c.give.ensures.answer c.give.ensures.held
 
 -- it has a handle, and is black
 pub returns-clause-marks : goal.returns-clause-marks
