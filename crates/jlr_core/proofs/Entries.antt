@@ -161,9 +161,11 @@ meets_plain m n ask a p e r l = plainly m n ask a p e r l
 
 -- an ask that chooses nothing, as it was answered
 pub meets_answered :
-    (m n : Machine) (ask : Ask) (result : Result Answer Refusal) → IsPlain ask → Answered m ask result n → Meets m ask (answer_of result) no_choice n
+    (m n : Machine) (ask : Ask) (result : Result Answer Refusal) → IsPlain ask → Answered m ask result n
+    → Meets m ask (answer_of result) no_choice n
 meets_answered m n ask (Ok a) plain did = meets_plain m n ask a plain did.0 did.1 did.2
-meets_answered m n ask (Err r) plain did = subst (λ (x : Machine). Meets m ask (Refused r) no_choice x) (sym did.1) (meets_refused m ask r did.0)
+meets_answered m n ask (Err r) plain did =
+    subst (λ (x : Machine). Meets m ask (Refused r) no_choice x) (sym did.1) (meets_refused m ask r did.0)
 
 -- ---- No refusal of the list is for want of memory
 
@@ -305,17 +307,20 @@ allowed_alone m k ask list first second third last j b f =
     (skip p HeapFull [] None last refl)))
 
 -- a plain object, whose fields are blank
-may_collect_plain : (m : Machine) (k : ℕ) (layout : List FieldKind) (o : Option Collected) → MayMakeRoom m 1 o → MayCollect m (New k layout) o
+may_collect_plain :
+    (m : Machine) (k : ℕ) (layout : List FieldKind) (o : Option Collected) → MayMakeRoom m 1 o → MayCollect m (New k layout) o
 may_collect_plain m k layout None r = r
 may_collect_plain m k layout (Some c) r = r
 
 pub meets_new_plain :
     (m mid n : Machine) (k slot : ℕ) (layout : List FieldKind) (new : Choosing) (a : Answer)
     → is_joined m k ≡ true → has_call m k ≡ false → has_free_handle m k ≡ true
-    → Allocates m (Plain (Typed (map blank layout))) new slot mid → new_handle mid k ≡ Some a → n ≡ with_handle mid k slot → Meets m (New k layout) a new.chosen n
+    → Allocates m (Plain (Typed (map blank layout))) new slot mid → new_handle mid k ≡ Some a → n ≡ with_handle mid k slot
+    → Meets m (New k layout) a new.chosen n
 meets_new_plain m mid n k slot layout new a joined calls room x handle left =
     meets_new m mid n (New k layout) k slot (Plain (Typed (map blank layout))) new a
-    (allowed_alone m k (New k layout) refl refl refl refl refl joined calls room) (may_collect_plain m k layout) refl (λ y s h. (h, h)) (λ y s. refl) x handle left
+    (allowed_alone m k (New k layout) refl refl refl refl refl joined calls room)
+    (may_collect_plain m k layout) refl (λ y s h. (h, h)) (λ y s. refl) x handle left
 
 -- an empty queue
 may_collect_queue : (m : Machine) (k : ℕ) (o : Option Collected) → MayMakeRoom m 1 o → MayCollect m (MakeQueue k) o
@@ -325,10 +330,12 @@ may_collect_queue m k (Some c) r = r
 pub meets_new_queue :
     (m mid n : Machine) (k slot : ℕ) (new : Choosing) (a : Answer)
     → is_joined m k ≡ true → has_call m k ≡ false → has_free_handle m k ≡ true
-    → Allocates m (Queue []) new slot mid → new_handle mid k ≡ Some a → n ≡ with_handle mid k slot → Meets m (MakeQueue k) a new.chosen n
+    → Allocates m (Queue []) new slot mid → new_handle mid k ≡ Some a → n ≡ with_handle mid k slot
+    → Meets m (MakeQueue k) a new.chosen n
 meets_new_queue m mid n k slot new a joined calls room x handle left =
     meets_new m mid n (MakeQueue k) k slot (Queue []) new a
-    (allowed_alone m k (MakeQueue k) refl refl refl refl refl joined calls room) (may_collect_queue m k) refl (λ y s h. (h, h)) (λ y s. refl) x handle left
+    (allowed_alone m k (MakeQueue k) refl refl refl refl refl joined calls room)
+    (may_collect_queue m k) refl (λ y s h. (h, h)) (λ y s. refl) x handle left
 
 -- a cleaner
 may_collect_cleaner : (m : Machine) (k : ℕ) (o : Option Collected) → MayMakeRoom m 1 o → MayCollect m (MakeCleaner k) o
@@ -338,10 +345,12 @@ may_collect_cleaner m k (Some c) r = r
 pub meets_new_cleaner :
     (m mid n : Machine) (k slot : ℕ) (new : Choosing) (a : Answer)
     → is_joined m k ≡ true → has_call m k ≡ false → has_free_handle m k ≡ true
-    → Allocates m Cleaner new slot mid → new_handle mid k ≡ Some a → n ≡ with_handle mid k slot → Meets m (MakeCleaner k) a new.chosen n
+    → Allocates m Cleaner new slot mid → new_handle mid k ≡ Some a → n ≡ with_handle mid k slot
+    → Meets m (MakeCleaner k) a new.chosen n
 meets_new_cleaner m mid n k slot new a joined calls room x handle left =
     meets_new m mid n (MakeCleaner k) k slot Cleaner new a
-    (allowed_alone m k (MakeCleaner k) refl refl refl refl refl joined calls room) (may_collect_cleaner m k) refl (λ y s h. (h, h)) (λ y s. refl) x handle left
+    (allowed_alone m k (MakeCleaner k) refl refl refl refl refl joined calls room)
+    (may_collect_cleaner m k) refl (λ y s h. (h, h)) (λ y s. refl) x handle left
 
 -- an array, whose elements refer to nothing
 may_collect_array : (m : Machine) (k n : ℕ) (o : Option Collected) → MayMakeRoom m 1 o → MayCollect m (Array k n) o
@@ -354,7 +363,8 @@ pub meets_new_array :
     → Allocates m (Plain (Elements elements)) new slot mid → new_handle mid k ≡ Some a → n ≡ with_handle mid k slot → Meets m (Array k size) a new.chosen n
 meets_new_array m mid n k size slot elements new a joined calls room null x handle left =
     meets_new m mid n (Array k size) k slot (Plain (Elements (replicate size None))) new a
-    (allowed_alone m k (Array k size) refl refl refl refl refl joined calls room) (may_collect_array m k size) refl (λ y s h. (h, h)) (λ y s. refl)
+    (allowed_alone m k (Array k size) refl refl refl refl refl joined calls room)
+    (may_collect_array m k size) refl (λ y s h. (h, h)) (λ y s. refl)
     (subst (λ l. Allocates m (Plain (Elements l)) new slot mid) null x) handle left
 
 pub meets_new_reference :

@@ -13,8 +13,10 @@ allocate-requires-clause-held g c = λ s h. blank_refers_to_none c.args.layout s
 
 pub returns-clause-meets : goal.returns-clause-meets
 returns-clause-meets g c =
-    meets_new_plain (machine_of c.args.self.now) (machine_of c.allocate.new.self) (machine_of c.give.new.self) c.args.by c.in_ok-slot.slot c.args.layout c.allocate.new.choice c.give.result
-    c.in_ok-check_session.ensures c.in_ok-check_no_call.ensures c.in_ok-check_free_handle.ensures c.in_ok-slot.ensures.allocates c.give.ensures.answer c.give.ensures.held
+    meets_new_plain (machine_of c.args.self.now) (machine_of c.allocate.new.self) (machine_of c.give.new.self)
+    c.args.by c.in_ok-slot.slot c.args.layout c.allocate.new.choice c.give.result
+    c.in_ok-check_session.ensures c.in_ok-check_no_call.ensures c.in_ok-check_free_handle.ensures
+    c.in_ok-slot.ensures.allocates c.give.ensures.answer c.give.ensures.held
 
 -- it has a handle, and is black
 pub returns-clause-marks : goal.returns-clause-marks
