@@ -1,5 +1,5 @@
 //! What comes to the core, and what goes back: an ask or an answer with the resource that it carries.
-ghost use Rattle.std.specs.Prelude.{◌≡◌, MatchBool, None, Some, false};
+ghost use Rattle.std.specs.Prelude.{◌≡◌, MatchBool, None, Some, false, true};
 ghost use Rattle.jlr_machine.specs.Data.{Brings, tells_data};
 ghost use Rattle.jlr_event.specs.Events.{ask_of, answer_in, outcome_of, resource_of_event, resource_of_reply};
 
@@ -265,164 +265,214 @@ impl<R> Event<R> {
         ensures { MatchBool result (ask_of self.now ≡ Some place.new) ((ask_of self.now ≡ None) × (place.new ≡ place.old)) }
     {
         match *self {
-            Event::Join { mutator } => *place = Ask::Join { mutator },
-            Event::Leave { mutator } => *place = Ask::Leave { mutator },
+            Event::Join { mutator } => write(place, Ask::Join { mutator }),
+            Event::Leave { mutator } => write(place, Ask::Leave { mutator }),
             Event::New {
                 mutator,
                 ref layout,
-            } => *place = Ask::New {
-                mutator,
-                layout: layout.copy(),
-            },
-            Event::Dup { mutator, object } => *place = Ask::Dup { mutator, object },
-            Event::Drop { mutator, object } => *place = Ask::Drop { mutator, object },
+            } => write(
+                place,
+                Ask::New {
+                    mutator,
+                    layout: layout.copy(),
+                },
+            ),
+            Event::Dup { mutator, object } => write(place, Ask::Dup { mutator, object }),
+            Event::Drop { mutator, object } => write(place, Ask::Drop { mutator, object }),
             Event::Same {
                 mutator,
                 left,
                 right,
-            } => *place = Ask::Same {
-                mutator,
-                left,
-                right,
-            },
+            } => write(
+                place,
+                Ask::Same {
+                    mutator,
+                    left,
+                    right,
+                },
+            ),
             Event::Put {
                 mutator,
                 object,
                 field,
                 value,
-            } => *place = Ask::Put {
-                mutator,
-                object,
-                field,
-                value,
-            },
+            } => write(
+                place,
+                Ask::Put {
+                    mutator,
+                    object,
+                    field,
+                    value,
+                },
+            ),
             Event::Get {
                 mutator,
                 object,
                 field,
-            } => *place = Ask::Get {
-                mutator,
-                object,
-                field,
-            },
+            } => write(
+                place,
+                Ask::Get {
+                    mutator,
+                    object,
+                    field,
+                },
+            ),
             Event::SetInt {
                 mutator,
                 object,
                 field,
                 value,
-            } => *place = Ask::SetInt {
-                mutator,
-                object,
-                field,
-                value,
-            },
+            } => write(
+                place,
+                Ask::SetInt {
+                    mutator,
+                    object,
+                    field,
+                    value,
+                },
+            ),
             Event::Int {
                 mutator,
                 object,
                 field,
-            } => *place = Ask::Int {
-                mutator,
-                object,
-                field,
-            },
+            } => write(
+                place,
+                Ask::Int {
+                    mutator,
+                    object,
+                    field,
+                },
+            ),
             Event::MakeRef {
                 mutator,
                 kind,
                 referent,
                 queue,
-            } => *place = Ask::MakeRef {
-                mutator,
-                kind,
-                referent,
-                queue,
-            },
-            Event::Deref { mutator, reference } => *place = Ask::Deref { mutator, reference },
+            } => write(
+                place,
+                Ask::MakeRef {
+                    mutator,
+                    kind,
+                    referent,
+                    queue,
+                },
+            ),
+            Event::Deref { mutator, reference } => write(place, Ask::Deref { mutator, reference }),
             Event::Refers {
                 mutator,
                 reference,
                 object,
-            } => *place = Ask::Refers {
-                mutator,
-                reference,
-                object,
-            },
-            Event::Clear { mutator, reference } => *place = Ask::Clear { mutator, reference },
-            Event::Enqueue { mutator, reference } => *place = Ask::Enqueue { mutator, reference },
-            Event::Enqueued { mutator, reference } => *place = Ask::Enqueued { mutator, reference },
-            Event::MakeQueue { mutator } => *place = Ask::MakeQueue { mutator },
-            Event::Poll { mutator, queue } => *place = Ask::Poll { mutator, queue },
-            Event::Remove { mutator, queue } => *place = Ask::Remove { mutator, queue },
-            Event::MakeCleaner { mutator } => *place = Ask::MakeCleaner { mutator },
+            } => write(
+                place,
+                Ask::Refers {
+                    mutator,
+                    reference,
+                    object,
+                },
+            ),
+            Event::Clear { mutator, reference } => write(place, Ask::Clear { mutator, reference }),
+            Event::Enqueue { mutator, reference } => write(
+                place,
+                Ask::Enqueue { mutator, reference },
+            ),
+            Event::Enqueued { mutator, reference } => write(
+                place,
+                Ask::Enqueued { mutator, reference },
+            ),
+            Event::MakeQueue { mutator } => write(place, Ask::MakeQueue { mutator }),
+            Event::Poll { mutator, queue } => write(place, Ask::Poll { mutator, queue }),
+            Event::Remove { mutator, queue } => write(place, Ask::Remove { mutator, queue }),
+            Event::MakeCleaner { mutator } => write(place, Ask::MakeCleaner { mutator }),
             Event::Register {
                 mutator,
                 cleaner,
                 object,
                 note,
-            } => *place = Ask::Register {
-                mutator,
-                cleaner,
-                object,
-                note,
-            },
-            Event::Clean { mutator, cleanable } => *place = Ask::Clean { mutator, cleanable },
+            } => write(
+                place,
+                Ask::Register {
+                    mutator,
+                    cleaner,
+                    object,
+                    note,
+                },
+            ),
+            Event::Clean { mutator, cleanable } => write(place, Ask::Clean { mutator, cleanable }),
             Event::Finish {
                 by,
                 action,
                 ref outcome,
-            } => *place = Ask::Finish {
-                by,
-                action,
-                outcome: ended(outcome),
-            },
-            Event::Prepare { mutator } => *place = Ask::Prepare { mutator },
+            } => write(
+                place,
+                Ask::Finish {
+                    by,
+                    action,
+                    outcome: ended(outcome),
+                },
+            ),
+            Event::Prepare { mutator } => write(place, Ask::Prepare { mutator }),
             Event::Opened {
                 mutator,
                 ref outcome,
-            } => *place = Ask::Opened {
-                mutator,
-                outcome: ended(outcome),
-            },
-            Event::CheckOut { mutator, guard } => *place = Ask::CheckOut { mutator, guard },
+            } => write(
+                place,
+                Ask::Opened {
+                    mutator,
+                    outcome: ended(outcome),
+                },
+            ),
+            Event::CheckOut { mutator, guard } => write(place, Ask::CheckOut { mutator, guard }),
             Event::CheckIn {
                 mutator,
                 ref outcome,
                 ..
-            } => *place = Ask::CheckIn {
-                mutator,
-                outcome: outcome.copy_into(None),
-            },
-            Event::Close { mutator, guard } => *place = Ask::Close { mutator, guard },
+            } => write(
+                place,
+                Ask::CheckIn {
+                    mutator,
+                    outcome: outcome.copy_into(None),
+                },
+            ),
+            Event::Close { mutator, guard } => write(place, Ask::Close { mutator, guard }),
             Event::Bind {
                 mutator,
                 ref name,
                 object,
-            } => *place = Ask::Bind {
-                mutator,
-                name: name.copy(),
-                object,
-            },
-            Event::Find { mutator, ref name } => *place = Ask::Find {
-                mutator,
-                name: name.copy(),
-            },
-            Event::Unbind { mutator, ref name } => *place = Ask::Unbind {
-                mutator,
-                name: name.copy(),
-            },
-            Event::Names { mutator } => *place = Ask::Names { mutator },
-            Event::Full { mutator, mode } => *place = Ask::Full { mutator, mode },
-            Event::Stat { mutator } => *place = Ask::Stat { mutator },
-            Event::Notes { mutator } => *place = Ask::Notes { mutator },
-            Event::Faults { mutator } => *place = Ask::Faults { mutator },
-            Event::HandOver => *place = Ask::HandOver,
-            Event::TakeUp => *place = Ask::TakeUp,
-            Event::Begin => *place = Ask::Begin,
-            Event::Collect => *place = Ask::Collect,
-            Event::Abandon => *place = Ask::Abandon,
-            Event::Array { mutator, length } => *place = Ask::Array { mutator, length },
-            Event::Mark { .. } => return false,
+            } => write(
+                place,
+                Ask::Bind {
+                    mutator,
+                    name: name.copy(),
+                    object,
+                },
+            ),
+            Event::Find { mutator, ref name } => write(
+                place,
+                Ask::Find {
+                    mutator,
+                    name: name.copy(),
+                },
+            ),
+            Event::Unbind { mutator, ref name } => write(
+                place,
+                Ask::Unbind {
+                    mutator,
+                    name: name.copy(),
+                },
+            ),
+            Event::Names { mutator } => write(place, Ask::Names { mutator }),
+            Event::Full { mutator, mode } => write(place, Ask::Full { mutator, mode }),
+            Event::Stat { mutator } => write(place, Ask::Stat { mutator }),
+            Event::Notes { mutator } => write(place, Ask::Notes { mutator }),
+            Event::Faults { mutator } => write(place, Ask::Faults { mutator }),
+            Event::HandOver => write(place, Ask::HandOver),
+            Event::TakeUp => write(place, Ask::TakeUp),
+            Event::Begin => write(place, Ask::Begin),
+            Event::Collect => write(place, Ask::Collect),
+            Event::Abandon => write(place, Ask::Abandon),
+            Event::Array { mutator, length } => write(place, Ask::Array { mutator, length }),
+            Event::Mark { .. } => false,
         }
-        true
     }
 
     /// Lets go of an event that hands in no resource, whether a resource may be dropped or not.
@@ -508,4 +558,14 @@ fn ended<T>(outcome: &Result<T, Fault>) -> Outcome
         Ok(_) => Outcome::Ok,
         Err(fault) => Outcome::Failed(*fault),
     }
+}
+
+/// Writes an ask over another. The answer is always yes. The other is let go here, once, and not in each arm of a table that calls it.
+#[inline(always)]
+fn write(place: &mut Ask, ask: Ask) -> bool
+    ensures yes { result ≡ true }
+    ensures written { place.new ≡ ask }
+{
+    *place = ask;
+    true
 }
