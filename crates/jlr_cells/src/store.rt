@@ -64,11 +64,25 @@ impl Store {
     pub fn new(alloc: Global, count: u32) -> Result<Self, AllocError>
         ensures { IfOk result (λ store. store ≡ replicate count None) }
     {
+        // What was made is let go by a call: an exit would go through all its parts.
+        let cells = Column::new(alloc, count)?;
+        let Ok(queues) = Lists::new(alloc, count, count) else {
+            drop(cells);
+            return Err(AllocError);
+        };
+        let Ok(kinds) = Kinds::new(alloc, count) else {
+            drop((cells, queues));
+            return Err(AllocError);
+        };
+        let Ok(links) = Columns::new(alloc, count) else {
+            drop((cells, queues, kinds));
+            return Err(AllocError);
+        };
         Ok(Store {
-            cells: Column::new(alloc, count)?,
-            queues: Lists::new(alloc, count, count)?,
-            kinds: Kinds::new(alloc, count)?,
-            links: Columns::new(alloc, count)?,
+            links,
+            kinds,
+            cells,
+            queues,
         })
     }
 
