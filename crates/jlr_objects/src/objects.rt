@@ -55,10 +55,20 @@ impl Objects {
     pub fn new(alloc: Global, cells: u32) -> Result<Self, AllocError>
         ensures { IfOk result (λ objects. objects ≡ all_free cells) }
     {
+        // What was made is let go by a call: an exit would go through all its parts.
+        let listed = CellSet::new(alloc, cells)?;
+        let Ok(occupancy) = Occupancy::new(alloc, cells) else {
+            drop(listed);
+            return Err(AllocError);
+        };
+        let Ok(store) = Store::new(alloc, cells) else {
+            drop((listed, occupancy));
+            return Err(AllocError);
+        };
         Ok(Objects {
-            store: Store::new(alloc, cells)?,
-            occupancy: Occupancy::new(alloc, cells)?,
-            listed: CellSet::new(alloc, cells)?,
+            store,
+            occupancy,
+            listed,
         })
     }
 
