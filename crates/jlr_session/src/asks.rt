@@ -10,7 +10,7 @@ use crate::carry::CarryOut;
 use crate::event::event_for;
 use crate::job::{carry_out, job_of};
 use crate::port::{Port, ReadRoom};
-use crate::reply::{handed_out, prepared, say};
+use crate::reply::{handed_out, prepared, say, write_over};
 use jlr_device::{Device, Mode, Resource};
 use jlr_event::event::Event;
 use jlr_machine::ask::Answer;
@@ -62,7 +62,7 @@ fn ask_once<P: Port<R>, R: Drop>(
 {
     match event_for(mutator, command) {
         Some(event) => say(port.ask(event, None), answer),
-        None => *answer = Answer::Done,
+        None => write_over(answer, Answer::Done),
     }
 }
 
@@ -84,7 +84,7 @@ where
 {
     match prepared(port.ask(Event::Prepare { mutator }, None)) {
         Ok(()) => say(port.ask(opened(device, mutator, mode, path), None), answer),
-        Err(refused) => *answer = refused,
+        Err(refused) => write_over(answer, refused),
     }
 }
 
@@ -105,7 +105,7 @@ where
 {
     match prepared(port.ask(Event::Prepare { mutator }, None)) {
         Ok(()) => say(port.ask(connected(device, mutator, path), None), answer),
-        Err(refused) => *answer = refused,
+        Err(refused) => write_over(answer, refused),
     }
 }
 
@@ -126,7 +126,7 @@ fn read<P: Port<R>, R: Resource + Drop>(
     let ReadRoom { bytes, copies } = match port.read_room(guard) {
         Ok(room) => room,
         Err(by) => {
-            *answer = Answer::Refused(by);
+            write_over(answer, Answer::Refused(by));
             return;
         }
     };
@@ -135,7 +135,7 @@ fn read<P: Port<R>, R: Resource + Drop>(
             let told = read_back(mutator, resource, count, bytes);
             say(port.ask(told, Some(copies)), answer);
         }
-        Err(refused) => *answer = refused,
+        Err(refused) => write_over(answer, refused),
     }
 }
 
@@ -158,7 +158,7 @@ fn write<P: Port<R>, R: Resource + Drop>(
             port.ask(written_back(mutator, resource, bytes.as_slice()), None),
             answer,
         ),
-        Err(refused) => *answer = refused,
+        Err(refused) => write_over(answer, refused),
     }
 }
 
@@ -206,6 +206,6 @@ fn work<P: Port<R>, R: Resource + Drop>(
 {
     match job_of(port.ask(event, None)) {
         Ok(job) => say(port.ask(carry_out(mutator.number(), job), None), answer),
-        Err(refused) => *answer = refused,
+        Err(refused) => write_over(answer, refused),
     }
 }

@@ -23,14 +23,22 @@ pub(crate) fn said<R: Drop>(reply: Reply<R>) -> Answer
     }
 }
 
+/// Writes an answer over another, which is let go here, and not by each caller.
+#[inline(always)]
+pub(crate) fn write_over(answer: &mut Answer, said: Answer)
+    ensures { answer.new ≡ said }
+{
+    *answer = said;
+}
+
 /// Puts the answer of a reply into the place of another. A resource that comes with it is dropped.
 #[inline(always)]
 pub(crate) fn say<R: Drop>(reply: Reply<R>, answer: &mut Answer)
     ensures { answer.new ≡ said_by reply }
 {
     match reply {
-        Reply::Answered { answer: said, .. } => *answer = said,
-        Reply::Marked(_) => *answer = none(),
+        Reply::Answered { answer: said, .. } => write_over(answer, said),
+        Reply::Marked(_) => write_over(answer, none()),
     }
 }
 

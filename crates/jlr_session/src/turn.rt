@@ -4,6 +4,7 @@ ghost use Rattle.jlr_session.specs.Turns.{AnswersRead, SendsReply, TurnEnds};
 ghost use Rattle.jlr_wire.specs.declared.command.Command.TheVariants.{Bye};
 
 use crate::carry::CarryOut;
+use crate::reply::write_over;
 use crate::shell::SessionEnd;
 use jlr_machine::ask::Answer;
 use jlr_types::Refusal;
@@ -25,12 +26,12 @@ fn answer_of<C: CarryOut<H, D>, H, D>(
     match read {
         Ok(command) => {
             if is_bye(command) {
-                *answer = Answer::Done;
+                write_over(answer, Answer::Done);
                 return;
             }
             C::carry_out(heap, device, command, answer);
         }
-        Err(refusal) => *answer = Answer::Refused(*refusal),
+        Err(refusal) => write_over(answer, Answer::Refused(*refusal)),
     }
 }
 
