@@ -1,5 +1,5 @@
 //! Copies of machines.
-ghost use Rattle.std.specs.Prelude.{◌≡◌, IfOk};
+ghost use Rattle.std.specs.Prelude.{◌≡◌, [], IfOk};
 
 use jlr_machine::copy::copy_items;
 use jlr_machine::items::Items;
@@ -56,6 +56,58 @@ fn copy_bindings(alloc: Global, bindings: &[Binding]) -> Result<Vec<Binding>, Al
     Ok(out)
 }
 
+/// The same numbers, with lists and tables that are empty.
+fn without_lists(alloc: Global, machine: &Machine) -> Machine
+    ensures { result ≡ record machine.now { objects = []; mutators = []; names = []; pending = []; line = []; jobs = []; resources = []; faults = []; notes = []; seen = [] } }
+{
+    Machine {
+        objects: Table::from_vec(Vec::new(alloc)),
+        mutators: Table::from_vec(Vec::new(alloc)),
+        names: Items::new(alloc),
+        pending: Items::new(alloc),
+        line: Items::new(alloc),
+        jobs: Items::new(alloc),
+        resources: Items::new(alloc),
+        resource_limit: machine.resource_limit,
+        faults: Items::new(alloc),
+        notes: Items::new(alloc),
+        next_action: machine.next_action,
+        taken: machine.taken,
+        ok: machine.ok,
+        failed: machine.failed,
+        cycle_open: machine.cycle_open,
+        seen: Items::new(alloc),
+    }
+}
+
+/// Puts copies of the lists and tables of a machine into another, which is lent, so that no exit lets go of it.
+fn copy_lists(alloc: Global, machine: &Machine, copy: &mut Machine) -> Result<(), AllocError>
+    ensures { IfOk result (λ _. copy.new ≡ record copy.old {
+      objects = machine.now.objects;
+      mutators = machine.now.mutators;
+      names = machine.now.names;
+      pending = machine.now.pending;
+      line = machine.now.line;
+      jobs = machine.now.jobs;
+      resources = machine.now.resources;
+      faults = machine.now.faults;
+      notes = machine.now.notes;
+      seen = machine.now.seen;
+    }) }
+{
+    copy.objects = Table::from_vec(copy_places(alloc, machine.objects.as_slice())?);
+    copy.mutators = Table::from_vec(copy_seats(alloc, machine.mutators.as_slice())?);
+    copy.names = Items::from_vec(copy_bindings(alloc, machine.names.as_slice())?);
+    copy.pending = copy_items(alloc, &machine.pending)?;
+    copy.line = copy_items(alloc, &machine.line)?;
+    copy.jobs = copy_items(alloc, &machine.jobs)?;
+    copy.resources = copy_items(alloc, &machine.resources)?;
+    copy.faults = copy_items(alloc, &machine.faults)?;
+    copy.notes = copy_items(alloc, &machine.notes)?;
+    copy.seen = copy_items(alloc, &machine.seen)?;
+    Ok(())
+}
+
 /// The same machine.
 ///
 /// # Errors
@@ -63,22 +115,10 @@ fn copy_bindings(alloc: Global, bindings: &[Binding]) -> Result<Vec<Binding>, Al
 pub fn copy_machine(alloc: Global, machine: &Machine) -> Result<Machine, AllocError>
     ensures { IfOk result (λ c. c ≡ machine.now) }
 {
-    Ok(Machine {
-        objects: Table::from_vec(copy_places(alloc, machine.objects.as_slice())?),
-        mutators: Table::from_vec(copy_seats(alloc, machine.mutators.as_slice())?),
-        names: Items::from_vec(copy_bindings(alloc, machine.names.as_slice())?),
-        pending: copy_items(alloc, &machine.pending)?,
-        line: copy_items(alloc, &machine.line)?,
-        jobs: copy_items(alloc, &machine.jobs)?,
-        resources: copy_items(alloc, &machine.resources)?,
-        resource_limit: machine.resource_limit,
-        faults: copy_items(alloc, &machine.faults)?,
-        notes: copy_items(alloc, &machine.notes)?,
-        next_action: machine.next_action,
-        taken: machine.taken,
-        ok: machine.ok,
-        failed: machine.failed,
-        cycle_open: machine.cycle_open,
-        seen: copy_items(alloc, &machine.seen)?,
-    })
+    let mut copy = without_lists(alloc, machine);
+    if copy_lists(alloc, machine, &mut copy).is_err() {
+        drop(copy);
+        return Err(AllocError);
+    }
+    Ok(copy)
 }
