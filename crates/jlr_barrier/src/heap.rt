@@ -72,14 +72,35 @@ impl Heap {
         ensures { IfOk result (λ heap. heap ≡ empty_known limits.cells limits.sessions) }
     {
         let cells = cell_count(limits);
-        // What has most parts comes last: each `?` lets go what was made before it.
+        // What was made is let go by a call: an exit would go through all its parts.
+        let last_gets = vec![in alloc; 0; cells as usize]?;
+        let Ok(marks) = Marks::new(alloc, cells) else {
+            drop(last_gets);
+            return Err(AllocError);
+        };
+        let Ok(lists) = Links::new(alloc, LISTS, cells) else {
+            drop((last_gets, marks));
+            return Err(AllocError);
+        };
+        let Ok(names) = Names::new(alloc) else {
+            drop((last_gets, marks, lists));
+            return Err(AllocError);
+        };
+        let Ok(roots) = Roots::new(alloc, session_count(limits)) else {
+            drop((last_gets, marks, lists, names));
+            return Err(AllocError);
+        };
+        let Ok(cells) = Objects::new(alloc, cells) else {
+            drop((last_gets, marks, lists, names, roots));
+            return Err(AllocError);
+        };
         Ok(Heap {
-            last_gets: vec![in alloc; 0; cells as usize]?,
-            marks: Marks::new(alloc, cells)?,
-            lists: Links::new(alloc, LISTS, cells)?,
-            names: Names::new(alloc)?,
-            roots: Roots::new(alloc, session_count(limits))?,
-            cells: Objects::new(alloc, cells)?,
+            marks,
+            cells,
+            roots,
+            names,
+            lists,
+            last_gets,
             collections: 0,
             since_collection: 0,
         })
