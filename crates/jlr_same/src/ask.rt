@@ -39,10 +39,8 @@ pub fn same_ask(ask: &Ask, other: &Ask) -> bool
                 object: other_object,
                 field: other_field,
                 value: other_value,
-            } => *mutator == *other_mutator
-                && *object == *other_object
-                && *field == *other_field
-                && *value == *other_value,
+            } => (*mutator, *object, *field, *value)
+                == (*other_mutator, *other_object, *other_field, *other_value),
             _ => false,
         },
         Ask::Get {
@@ -54,7 +52,7 @@ pub fn same_ask(ask: &Ask, other: &Ask) -> bool
                 mutator: other_mutator,
                 object: other_object,
                 field: other_field,
-            } => *mutator == *other_mutator && *object == *other_object && *field == *other_field,
+            } => (*mutator, *object, *field) == (*other_mutator, *other_object, *other_field),
             _ => false,
         },
         Ask::SetInt {
@@ -68,10 +66,8 @@ pub fn same_ask(ask: &Ask, other: &Ask) -> bool
                 object: other_object,
                 field: other_field,
                 value: other_value,
-            } => *mutator == *other_mutator
-                && *object == *other_object
-                && *field == *other_field
-                && *value == *other_value,
+            } => (*mutator, *object, *field, *value)
+                == (*other_mutator, *other_object, *other_field, *other_value),
             _ => false,
         },
         Ask::Int {
@@ -83,21 +79,21 @@ pub fn same_ask(ask: &Ask, other: &Ask) -> bool
                 mutator: other_mutator,
                 object: other_object,
                 field: other_field,
-            } => *mutator == *other_mutator && *object == *other_object && *field == *other_field,
+            } => (*mutator, *object, *field) == (*other_mutator, *other_object, *other_field),
             _ => false,
         },
         Ask::Dup { mutator, object } => match other {
             Ask::Dup {
                 mutator: other_mutator,
                 object: other_object,
-            } => *mutator == *other_mutator && *object == *other_object,
+            } => (*mutator, *object) == (*other_mutator, *other_object),
             _ => false,
         },
         Ask::Drop { mutator, object } => match other {
             Ask::Drop {
                 mutator: other_mutator,
                 object: other_object,
-            } => *mutator == *other_mutator && *object == *other_object,
+            } => (*mutator, *object) == (*other_mutator, *other_object),
             _ => false,
         },
         Ask::Same {
@@ -109,7 +105,7 @@ pub fn same_ask(ask: &Ask, other: &Ask) -> bool
                 mutator: other_mutator,
                 left: other_left,
                 right: other_right,
-            } => *mutator == *other_mutator && *left == *other_left && *right == *other_right,
+            } => (*mutator, *left, *right) == (*other_mutator, *other_left, *other_right),
             _ => false,
         },
         Ask::MakeRef {
@@ -123,17 +119,15 @@ pub fn same_ask(ask: &Ask, other: &Ask) -> bool
                 kind: other_kind,
                 referent: other_referent,
                 queue: other_queue,
-            } => *mutator == *other_mutator
-                && *kind == *other_kind
-                && *referent == *other_referent
-                && *queue == *other_queue,
+            } => (*mutator, *kind, *referent, *queue)
+                == (*other_mutator, *other_kind, *other_referent, *other_queue),
             _ => false,
         },
         Ask::Deref { mutator, reference } => match other {
             Ask::Deref {
                 mutator: other_mutator,
                 reference: other_reference,
-            } => *mutator == *other_mutator && *reference == *other_reference,
+            } => (*mutator, *reference) == (*other_mutator, *other_reference),
             _ => false,
         },
         Ask::Refers {
@@ -145,30 +139,29 @@ pub fn same_ask(ask: &Ask, other: &Ask) -> bool
                 mutator: other_mutator,
                 reference: other_reference,
                 object: other_object,
-            } => *mutator == *other_mutator
-                && *reference == *other_reference
-                && *object == *other_object,
+            } => (*mutator, *reference, *object)
+                == (*other_mutator, *other_reference, *other_object),
             _ => false,
         },
         Ask::Clear { mutator, reference } => match other {
             Ask::Clear {
                 mutator: other_mutator,
                 reference: other_reference,
-            } => *mutator == *other_mutator && *reference == *other_reference,
+            } => (*mutator, *reference) == (*other_mutator, *other_reference),
             _ => false,
         },
         Ask::Enqueue { mutator, reference } => match other {
             Ask::Enqueue {
                 mutator: other_mutator,
                 reference: other_reference,
-            } => *mutator == *other_mutator && *reference == *other_reference,
+            } => (*mutator, *reference) == (*other_mutator, *other_reference),
             _ => false,
         },
         Ask::Enqueued { mutator, reference } => match other {
             Ask::Enqueued {
                 mutator: other_mutator,
                 reference: other_reference,
-            } => *mutator == *other_mutator && *reference == *other_reference,
+            } => (*mutator, *reference) == (*other_mutator, *other_reference),
             _ => false,
         },
         Ask::MakeQueue { mutator } => match other {
@@ -181,14 +174,14 @@ pub fn same_ask(ask: &Ask, other: &Ask) -> bool
             Ask::Poll {
                 mutator: other_mutator,
                 queue: other_queue,
-            } => *mutator == *other_mutator && *queue == *other_queue,
+            } => (*mutator, *queue) == (*other_mutator, *other_queue),
             _ => false,
         },
         Ask::Remove { mutator, queue } => match other {
             Ask::Remove {
                 mutator: other_mutator,
                 queue: other_queue,
-            } => *mutator == *other_mutator && *queue == *other_queue,
+            } => (*mutator, *queue) == (*other_mutator, *other_queue),
             _ => false,
         },
         Ask::MakeCleaner { mutator } => match other {
@@ -208,17 +201,15 @@ pub fn same_ask(ask: &Ask, other: &Ask) -> bool
                 cleaner: other_cleaner,
                 object: other_object,
                 note: other_note,
-            } => *mutator == *other_mutator
-                && *cleaner == *other_cleaner
-                && *object == *other_object
-                && *note == *other_note,
+            } => (*mutator, *cleaner, *object, *note)
+                == (*other_mutator, *other_cleaner, *other_object, *other_note),
             _ => false,
         },
         Ask::Clean { mutator, cleanable } => match other {
             Ask::Clean {
                 mutator: other_mutator,
                 cleanable: other_cleanable,
-            } => *mutator == *other_mutator && *cleanable == *other_cleanable,
+            } => (*mutator, *cleanable) == (*other_mutator, *other_cleanable),
             _ => false,
         },
         Ask::Prepare { mutator } => match other {
@@ -231,14 +222,14 @@ pub fn same_ask(ask: &Ask, other: &Ask) -> bool
             Ask::Opened {
                 mutator: other_mutator,
                 outcome: other_outcome,
-            } => *mutator == *other_mutator && *outcome == *other_outcome,
+            } => (*mutator, *outcome) == (*other_mutator, *other_outcome),
             _ => false,
         },
         Ask::CheckOut { mutator, guard } => match other {
             Ask::CheckOut {
                 mutator: other_mutator,
                 guard: other_guard,
-            } => *mutator == *other_mutator && *guard == *other_guard,
+            } => (*mutator, *guard) == (*other_mutator, *other_guard),
             _ => false,
         },
         Ask::CheckIn { mutator, outcome } => match other {
@@ -252,7 +243,7 @@ pub fn same_ask(ask: &Ask, other: &Ask) -> bool
             Ask::Close {
                 mutator: other_mutator,
                 guard: other_guard,
-            } => *mutator == *other_mutator && *guard == *other_guard,
+            } => (*mutator, *guard) == (*other_mutator, *other_guard),
             _ => false,
         },
         Ask::Finish {
@@ -264,7 +255,7 @@ pub fn same_ask(ask: &Ask, other: &Ask) -> bool
                 by: other_by,
                 action: other_action,
                 outcome: other_outcome,
-            } => *by == *other_by && *action == *other_action && *outcome == *other_outcome,
+            } => (*by, *action, *outcome) == (*other_by, *other_action, *other_outcome),
             _ => false,
         },
         Ask::Bind {
@@ -305,7 +296,7 @@ pub fn same_ask(ask: &Ask, other: &Ask) -> bool
             Ask::Full {
                 mutator: other_mutator,
                 mode: other_mode,
-            } => *mutator == *other_mutator && *mode == *other_mode,
+            } => (*mutator, *mode) == (*other_mutator, *other_mode),
             _ => false,
         },
         Ask::Stat { mutator } => match other {
@@ -335,7 +326,7 @@ pub fn same_ask(ask: &Ask, other: &Ask) -> bool
             Ask::Array {
                 mutator: other_mutator,
                 length: other_length,
-            } => *mutator == *other_mutator && *length == *other_length,
+            } => (*mutator, *length) == (*other_mutator, *other_length),
             _ => false,
         },
     }
