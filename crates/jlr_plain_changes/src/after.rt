@@ -34,7 +34,10 @@ use std::alloc::{AllocError, Global};
 fn join(alloc: Global, machine: Machine, mutator: Mutator) -> Result<Machine, AllocError>
     ensures { IfOk result (λ n. n ≡ record machine { mutators = set_at machine.mutators mutator fresh_session }) }
 {
-    let session = new_session(alloc)?;
+    let Ok(session) = new_session(alloc) else {
+        drop(machine);
+        return Err(AllocError);
+    };
     Ok(with_seat(machine, mutator, Some(session)))
 }
 
@@ -85,7 +88,10 @@ fn make_plain(
 ) -> Result<Machine, AllocError>
     ensures { IfOk result (λ n. n ≡ made machine mutator fresh.now (Plain (Typed (map blank layout.now)))) }
 {
-    let fields = blank_fields(alloc, layout)?;
+    let Ok(fields) = blank_fields(alloc, layout) else {
+        drop(machine);
+        return Err(AllocError);
+    };
     // At most eight, as a layout's length tells.
     let _count = layout.len();
     make(
@@ -106,7 +112,10 @@ fn make_array(
 ) -> Result<Machine, AllocError>
     ensures { IfOk result (λ n. n ≡ made machine mutator fresh.now (Plain (Elements (replicate length None)))) }
 {
-    let elements = null_elements(alloc, length)?;
+    let Ok(elements) = null_elements(alloc, length) else {
+        drop(machine);
+        return Err(AllocError);
+    };
     make(
         alloc,
         machine,
@@ -242,7 +251,10 @@ fn bind_slot(
     ensures { IfOk result (λ n. n ≡ record machine { names = bound machine.names name.now slot }) }
 {
     let mut machine = machine;
-    let names = name_bound(alloc, machine.names.as_slice(), name, slot)?;
+    let Ok(names) = name_bound(alloc, machine.names.as_slice(), name, slot) else {
+        drop(machine);
+        return Err(AllocError);
+    };
     machine.names = Items::from_vec(names);
     Ok(machine)
 }
@@ -266,7 +278,10 @@ fn unbind(alloc: Global, machine: Machine, name: &Name) -> Result<Machine, Alloc
     ensures { IfOk result (λ n. n ≡ record machine { names = unbound machine.names name.now }) }
 {
     let mut machine = machine;
-    let names = name_unbound(alloc, machine.names.as_slice(), name.as_slice())?;
+    let Ok(names) = name_unbound(alloc, machine.names.as_slice(), name.as_slice()) else {
+        drop(machine);
+        return Err(AllocError);
+    };
     machine.names = Items::from_vec(names);
     Ok(machine)
 }
@@ -274,7 +289,10 @@ fn unbind(alloc: Global, machine: Machine, name: &Name) -> Result<Machine, Alloc
 fn hand_over_first(alloc: Global, machine: Machine) -> Result<Machine, AllocError>
     ensures { IfOk result (λ n. n ≡ handed_over machine machine.pending) }
 {
-    let pending = copy_slice(alloc, machine.pending.as_slice())?;
+    let Ok(pending) = copy_slice(alloc, machine.pending.as_slice()) else {
+        drop(machine);
+        return Err(AllocError);
+    };
     hand_over(alloc, machine, pending.as_slice())
 }
 
@@ -282,7 +300,10 @@ fn take_first(alloc: Global, machine: Machine) -> Result<Machine, AllocError>
     requires { machine.taken + 1 < 2 ^ 64 }
     ensures { IfOk result (λ n. n ≡ line_taken machine (from_lined machine machine.line)) }
 {
-    let line = copy_slice(alloc, line_from(&machine, machine.line.as_slice()))?;
+    let Ok(line) = copy_slice(alloc, line_from(&machine, machine.line.as_slice())) else {
+        drop(machine);
+        return Err(AllocError);
+    };
     take_line(alloc, machine, line.as_slice())
 }
 

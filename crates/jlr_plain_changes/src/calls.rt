@@ -114,7 +114,10 @@ fn without_job_done(alloc: Global, machine: Machine, job: Job) -> Result<Machine
     ensures { IfOk result (λ n. n ≡ without_work machine job) }
 {
     let mut next = machine;
-    let jobs = job_removed(alloc, next.jobs.as_slice(), job.action)?;
+    let Ok(jobs) = job_removed(alloc, next.jobs.as_slice(), job.action) else {
+        drop(next);
+        return Err(AllocError);
+    };
     next.jobs = Items::from_vec(jobs);
     without_work_of(alloc, next, job.work)
 }
@@ -132,7 +135,10 @@ fn finish_well(alloc: Global, machine: Machine, job: Job) -> Result<Machine, All
     requires { machine.ok + 1 < 2 ^ 64 }
     ensures { IfOk result (λ n. n ≡ finished machine job OutcomeOk) }
 {
-    let notes = notes_with(alloc, machine.notes.as_slice(), job.work)?;
+    let Ok(notes) = notes_with(alloc, machine.notes.as_slice(), job.work) else {
+        drop(machine);
+        return Err(AllocError);
+    };
     let ok = machine.ok + 1;
     let mut next = without_job_done(alloc, machine, job)?;
     next.ok = ok;
@@ -153,7 +159,10 @@ fn finish_badly(
         action: job.action,
         fault,
     };
-    let faults = last_with(alloc, machine.faults.as_slice(), failure)?;
+    let Ok(faults) = last_with(alloc, machine.faults.as_slice(), failure) else {
+        drop(machine);
+        return Err(AllocError);
+    };
     let failed = machine.failed + 1;
     let mut next = without_job_done(alloc, machine, job)?;
     next.failed = failed;

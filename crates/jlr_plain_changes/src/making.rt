@@ -118,7 +118,10 @@ fn prepare_at(
         action,
         state: ResourceState::Opening,
     };
-    let resources = resource_added(alloc, machine.resources.as_slice(), resource)?;
+    let Ok(resources) = resource_added(alloc, machine.resources.as_slice(), resource) else {
+        drop(machine);
+        return Err(AllocError);
+    };
     let with_guard = with_place(
         machine,
         guard,

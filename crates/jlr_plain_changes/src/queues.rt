@@ -1,5 +1,5 @@
 //! Queues of references, and the handler's step.
-ghost use Rattle.std.specs.Prelude.{◌≡◌, option_and_then, option_map, IfOk};
+ghost use Rattle.std.specs.Prelude.{◌≡◌, [], ◌∷◌, ◌++◌, option_and_then, option_map, IfOk};
 ghost use Rattle.jlr_machine.specs.declared.ask.Handed.TheVariants.{Lined};
 ghost use Rattle.jlr_machine.specs.Objects.{at, as_reference, queue_ahead};
 ghost use Rattle.jlr_machine.specs.Calls.{with_given, to_queue, enqueued, polled, poll_given, delivered, handed, handed_over};
@@ -94,11 +94,22 @@ pub fn poll_for(
     }
 }
 
+/// A line with one more at its end.
+fn line_with(alloc: Global, line: &[Slot], slot: Slot) -> Result<Vec<Slot>, AllocError>
+    ensures { IfOk result (λ v. v.items ≡ line.now ++ slot ∷ []) }
+{
+    let mut longer = copy_slice(alloc, line)?;
+    longer.push(slot)?;
+    Ok(longer)
+}
+
 fn line_up(alloc: Global, machine: Machine, slot: Slot) -> Result<Machine, AllocError>
     ensures { IfOk result (λ n. n ≡ delivered machine slot Lined) }
 {
-    let mut line = copy_slice(alloc, machine.line.as_slice())?;
-    line.push(slot)?;
+    let Ok(line) = line_with(alloc, machine.line.as_slice(), slot) else {
+        drop(machine);
+        return Err(AllocError);
+    };
     let mut next = with_changed(machine, slot, Change::Line)?;
     next.line = Items::from_vec(line);
     Ok(next)
@@ -133,7 +144,11 @@ pub fn hand_over(alloc: Global, machine: Machine, pending: &[Slot]) -> Result<Ma
         return Ok(next);
     };
     let step = step_at(&next, slot);
-    next.pending = Items::from_vec(copy_slice(alloc, &pending[1..])?);
+    let Ok(rest) = copy_slice(alloc, &pending[1..]) else {
+        drop(next);
+        return Err(AllocError);
+    };
+    next.pending = Items::from_vec(rest);
     match step {
         Some(step) => deliver(alloc, next, slot, step),
         None => Ok(next),

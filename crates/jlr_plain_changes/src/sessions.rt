@@ -108,7 +108,10 @@ pub fn with_session_changed(
 ) -> Result<Machine, AllocError>
     ensures { IfOk result (λ n. n ≡ with_session machine mutator (session_change_of change)) }
 {
-    let seat = changed_of(alloc, &machine, mutator, change)?;
+    let Ok(seat) = changed_of(alloc, &machine, mutator, change) else {
+        drop(machine);
+        return Err(AllocError);
+    };
     Ok(with_seat(machine, mutator, seat))
 }
 

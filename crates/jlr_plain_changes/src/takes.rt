@@ -39,7 +39,10 @@ pub fn in_state(
     ensures { IfOk result (λ n. n ≡ with_state machine rid state) }
 {
     let mut machine = machine;
-    let resources = resource_moved(alloc, machine.resources.as_slice(), rid, state)?;
+    let Ok(resources) = resource_moved(alloc, machine.resources.as_slice(), rid, state) else {
+        drop(machine);
+        return Err(AllocError);
+    };
     machine.resources = Items::from_vec(resources);
     Ok(machine)
 }
@@ -49,7 +52,10 @@ pub fn without_rid(alloc: Global, machine: Machine, rid: Rid) -> Result<Machine,
     ensures { IfOk result (λ n. n ≡ without_resource machine rid) }
 {
     let mut machine = machine;
-    let resources = resource_removed(alloc, machine.resources.as_slice(), rid)?;
+    let Ok(resources) = resource_removed(alloc, machine.resources.as_slice(), rid) else {
+        drop(machine);
+        return Err(AllocError);
+    };
     machine.resources = Items::from_vec(resources);
     Ok(machine)
 }
@@ -95,7 +101,10 @@ pub fn take_up(
         by,
     };
     let mut next = with_changed(machine, slot, Change::Spend)?;
-    let jobs = job_added(alloc, next.jobs.as_slice(), job)?;
+    let Ok(jobs) = job_added(alloc, next.jobs.as_slice(), job) else {
+        drop(next);
+        return Err(AllocError);
+    };
     next.jobs = Items::from_vec(jobs);
     next.taken += 1;
     work_in_state(alloc, next, cleanable.work, ResourceState::Closing)
@@ -147,7 +156,11 @@ pub fn take_line(alloc: Global, machine: Machine, line: &[Slot]) -> Result<Machi
         return Ok(next);
     };
     let cleanable = cleanable_in(&next, slot);
-    next.line = Items::from_vec(copy_slice(alloc, &line[1..])?);
+    let Ok(rest) = copy_slice(alloc, &line[1..]) else {
+        drop(next);
+        return Err(AllocError);
+    };
+    next.line = Items::from_vec(rest);
     match cleanable {
         Some(cleanable) => take_up(alloc, next, CLEANER, slot, cleanable),
         None => Ok(next),

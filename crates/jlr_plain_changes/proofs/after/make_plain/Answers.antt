@@ -5,5 +5,5 @@ use Rattle.jlr_plain_changes.proofs.after.make_plain.Goals as goal
 
 pub unwrap-requires : goal.unwrap-requires
 unwrap-requires c =
-    let size = ap length c.in_ok-fields.ensures in
+    let size = ap length c.in-Ok.ensures in
     c.from_vec.ensures.fits.1 (omega (arith, size, length-map c.args.layout.now blank, c.len-count.ensures.count, c.len-count.ensures.at_most_eight))
