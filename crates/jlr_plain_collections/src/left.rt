@@ -110,6 +110,18 @@ fn pending_with(alloc: Global, old: &[Slot], more: &[Slot]) -> Result<Items<Slot
     Ok(Items::from_vec(out))
 }
 
+fn list_of(alloc: Global, cells: usize, slots: &[Slot]) -> Result<SlotList, AllocError>
+    ensures { IfOk result (λ l. l ≡ slots.now) }
+{
+    SlotList::from_vec(alloc, cells, copy_slice(alloc, slots)?)
+}
+
+fn kept_by(alloc: Global, cells: usize, c: &Collected) -> Result<SlotList, AllocError>
+    ensures { IfOk result (λ l. l ≡ c.now.kept) }
+{
+    SlotList::from_vec(alloc, cells, c.kept.to_vec(alloc)?)
+}
+
 /// What a collection kept, what it put behind the pending list, and the pending list that it leaves.
 fn lists_of(
     alloc: Global,
@@ -119,9 +131,15 @@ fn lists_of(
     ensures { IfOk result (λ x. (x.0 ≡ c.now.kept) × (x.1 ≡ c.now.pending) × (x.2 ≡ machine.now.pending ++ c.now.pending)) }
 {
     let cells = machine.objects.len();
-    let kept = SlotList::from_vec(alloc, cells, c.kept.to_vec(alloc)?)?;
-    let listed = SlotList::from_vec(alloc, cells, copy_slice(alloc, c.pending.as_slice())?)?;
     let pending = pending_with(alloc, machine.pending.as_slice(), c.pending.as_slice())?;
+    let Ok(kept) = kept_by(alloc, cells, c) else {
+        drop(pending);
+        return Err(AllocError);
+    };
+    let Ok(listed) = list_of(alloc, cells, c.pending.as_slice()) else {
+        drop((pending, kept));
+        return Err(AllocError);
+    };
     Ok((kept, listed, pending))
 }
 

@@ -97,17 +97,25 @@ fn push_cleanables(out: &mut Vec<Slot>, places: &[Option<Object>]) -> Result<(),
     Ok(())
 }
 
+/// The roots, behind what is there already.
+fn push_roots(out: &mut Vec<Slot>, machine: &Machine) -> Result<(), AllocError>
+    requires { length machine.now.objects ≤ 2 ^ 32 }
+    ensures { OnOk result (out.new.items ≡ out.old.items ++ roots machine.now) }
+{
+    push_all_handles(out, machine.mutators.as_slice())?;
+    push_fences(out, machine.mutators.as_slice())?;
+    push_names(out, machine.names.as_slice())?;
+    push_all(out, machine.pending.as_slice())?;
+    push_all(out, machine.line.as_slice())?;
+    push_cleanables(out, machine.objects.as_slice())
+}
+
 /// The slots that handles, fences and names stand for, the pending list, the line, and the Armed and Pending cleanables.
 pub fn roots_plain(alloc: Global, machine: &Machine) -> Result<Vec<Slot>, AllocError>
     requires { length machine.now.objects ≤ 2 ^ 32 }
     ensures { IfOk result (λ v. v.items ≡ roots machine.now) }
 {
     let mut out = Vec::new(alloc);
-    push_all_handles(&mut out, machine.mutators.as_slice())?;
-    push_fences(&mut out, machine.mutators.as_slice())?;
-    push_names(&mut out, machine.names.as_slice())?;
-    push_all(&mut out, machine.pending.as_slice())?;
-    push_all(&mut out, machine.line.as_slice())?;
-    push_cleanables(&mut out, machine.objects.as_slice())?;
+    push_roots(&mut out, machine)?;
     Ok(out)
 }
