@@ -13,6 +13,7 @@ use jlr_barrier::Heap;
 use jlr_cleaner::Cleaner;
 use jlr_machine::items::Items;
 use jlr_machine::machine::Machine;
+use jlr_machine::table::Table;
 use jlr_types::{Handle, Limits, Mutator, Refusal, Slot};
 use std::alloc::{AllocError, Global};
 
@@ -59,26 +60,73 @@ impl<R> State<R> {
     pub(crate) fn image(&self, alloc: Global) -> Result<Machine, AllocError>
         ensures { IfOk result (λ machine. machine ≡ machine_of self.now) }
     {
+        let mut machine = self.without_lists(alloc);
+        if self.copy_lists(alloc, &mut machine).is_err() {
+            drop(machine);
+            return Err(AllocError);
+        }
+        Ok(machine)
+    }
+
+    /// What takes no memory: the numbers of the machine, with lists and tables that are empty.
+    fn without_lists(&self, alloc: Global) -> Machine
+        ensures { result ≡ record (machine_of self.now) {
+          objects = [];
+          mutators = [];
+          names = [];
+          pending = [];
+          line = [];
+          jobs = [];
+          resources = [];
+          faults = [];
+          notes = [];
+        } }
+    {
         let totals = self.cleaner.totals();
-        // What has most parts comes last: the others would go through all of them where they let it go for want of memory.
-        Ok(Machine {
-            names: self.heap.names_image(alloc)?,
-            pending: self.heap.pending_image(alloc)?,
-            line: self.heap.line_image(alloc)?,
-            jobs: self.cleaner.jobs(alloc)?,
-            resources: self.cleaner.resources(alloc)?,
+        Machine {
+            objects: Table::from_vec(Vec::new(alloc)),
+            mutators: Table::from_vec(Vec::new(alloc)),
+            names: Items::new(alloc),
+            pending: Items::new(alloc),
+            line: Items::new(alloc),
+            jobs: Items::new(alloc),
+            resources: Items::new(alloc),
             resource_limit: self.cleaner.resource_limit(),
-            faults: self.cleaner.faults(alloc)?,
-            notes: self.cleaner.notes(alloc)?,
+            faults: Items::new(alloc),
+            notes: Items::new(alloc),
             next_action: self.cleaner.next_action(),
             taken: totals.taken,
             ok: totals.ok,
             failed: totals.failed,
             cycle_open: self.cycle_open,
             seen: Items::new(alloc),
-            mutators: self.heap.mutators_image(alloc)?,
-            objects: self.heap.objects_image(alloc)?,
-        })
+        }
+    }
+
+    /// Puts the lists and tables of the machine into plain data, which is lent, so that no exit lets go of it.
+    fn copy_lists(&self, alloc: Global, machine: &mut Machine) -> Result<(), AllocError>
+        ensures { IfOk result (λ _. machine.new ≡ record machine.old {
+          objects = (machine_of self.now).objects;
+          mutators = (machine_of self.now).mutators;
+          names = (machine_of self.now).names;
+          pending = (machine_of self.now).pending;
+          line = (machine_of self.now).line;
+          jobs = (machine_of self.now).jobs;
+          resources = (machine_of self.now).resources;
+          faults = (machine_of self.now).faults;
+          notes = (machine_of self.now).notes;
+        }) }
+    {
+        machine.objects = self.heap.objects_image(alloc)?;
+        machine.mutators = self.heap.mutators_image(alloc)?;
+        machine.names = self.heap.names_image(alloc)?;
+        machine.pending = self.heap.pending_image(alloc)?;
+        machine.line = self.heap.line_image(alloc)?;
+        machine.jobs = self.cleaner.jobs(alloc)?;
+        machine.resources = self.cleaner.resources(alloc)?;
+        machine.faults = self.cleaner.faults(alloc)?;
+        machine.notes = self.cleaner.notes(alloc)?;
+        Ok(())
     }
 
     /// The mutator is joined.
