@@ -23,7 +23,7 @@ use Rattle.jlr_parts.specs.Records.{PlacedFits}
 use Rattle.jlr_trace.specs.declared.file.TraceFile.{TraceFile}
 use Rattle.jlr_trace.specs.Files.{image_of}
 use Rattle.jlr_machine.specs.declared.entry.Entry.{Entry}
-use Rattle.jlr_trace.specs.Images.{listed_from, placed, held, session_text, SessionFits, ImageFits, HasShape, HasPlaces, image_text}
+use Rattle.jlr_sections.specs.Images.{listed_from, placed, held, session_text, SessionFits, ImageFits, HasShape, HasPlaces, image_text}
 use Rattle.jlr_ranges.specs.Ranges.{SeatRange, SessionRange, MachineRange, AreLimits}
 use Rattle.jlr_ranges.proofs.Counting.{short, rises}
 use Rattle.jlr_ranges.proofs.Workers.{few_jobs, few_resources}

@@ -8,7 +8,7 @@ use Rattle.jlr_fields.specs.declared.fault.ReadError.TheVariants as errors
 use Rattle.jlr_fields.specs.declared.version.Version.{Version}
 use Rattle.jlr_fields.specs.Reading.{Fails}
 use Rattle.jlr_trace.specs.declared.file.TraceFault.{TraceFault}
-use Rattle.jlr_trace.specs.Entries.{entry_read}
+use Rattle.jlr_sections.specs.Entries.{entry_read}
 use Rattle.jlr_trace.specs.Files.{◌>>>◌, entries_read, told, FileFails}
 
 -- what was read before, and what is still read

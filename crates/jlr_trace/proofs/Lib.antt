@@ -1,13 +1,7 @@
-pub mod Placing
 pub mod EntriesLoop
-pub mod ChoiceLaws
-pub mod EntryLaws
-pub mod ImageLaws
 pub mod FileLaws
-pub mod WritingLaws
 pub mod Shapes
 pub mod Counting
-pub mod Few
 pub mod SpellingLaws
 pub mod ToEnd
 pub mod VersionLaws

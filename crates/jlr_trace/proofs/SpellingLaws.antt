@@ -11,7 +11,7 @@ use Rattle.jlr_fields.specs.declared.version.Version.{Version}
 use Rattle.jlr_fields.specs.Reading.{Fails}
 use Rattle.jlr_fields.specs.Spelling.{IsBytes}
 use Rattle.jlr_trace.specs.declared.file.TraceFault.{TraceFault}
-use Rattle.jlr_trace.specs.Entries.{spelled_entry, entry_read}
+use Rattle.jlr_sections.specs.Entries.{spelled_entry, entry_read}
 use Rattle.jlr_trace.specs.Files.{◌>>>◌, in_entry, entries_read}
 use Rattle.jlr_trace.specs.Spellings.{entries_of, entries_in, AreEntries}
 use Rattle.jlr_trace.proofs.EntriesLoop.{with_entries}

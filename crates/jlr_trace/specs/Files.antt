@@ -14,9 +14,9 @@ use Rattle.jlr_fields.specs.Reading.{number_at}
 use Rattle.jlr_trace.specs.declared.file.TraceFile.{TraceFile}
 use Rattle.jlr_trace.specs.declared.file.TraceFault.{TraceFault}
 use Rattle.jlr_trace.specs.declared.file.TraceFault.TheVariants.{Truncated, BadMark, BadVersion, BadEntry, NoMemory}
-use Rattle.jlr_trace.specs.declared.image.Image.{Image}
-use Rattle.jlr_trace.specs.Entries.{spelled_entry, EntryFits, entry_read}
-use Rattle.jlr_trace.specs.Images.{ImageText, image_text, spelled_image, ImageFits, image_read, HasShape}
+use Rattle.jlr_sections.specs.declared.image.Image.{Image}
+use Rattle.jlr_sections.specs.Entries.{spelled_entry, EntryFits, entry_read}
+use Rattle.jlr_sections.specs.Images.{ImageText, image_text, spelled_image, ImageFits, image_read, HasShape}
 
 -- ---- What a file says
 

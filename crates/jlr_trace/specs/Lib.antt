@@ -1,6 +1,3 @@
-pub mod Choices
-pub mod Entries
-pub mod Images
 pub mod Files
 pub mod ToEnd
 pub mod Versions

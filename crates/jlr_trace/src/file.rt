@@ -5,13 +5,11 @@ ghost use Rattle.jlr_fields.specs.Reading.{number_at};
 ghost use Rattle.jlr_fields.specs.declared.version.Version.TheVariants.{One, Two};
 ghost use Rattle.jlr_trace.specs.declared.file.TraceFault.TheVariants.{NoMemory};
 ghost use Rattle.jlr_trace.specs.declared.file.TraceFile.{TraceFile as TraceFileOf};
-ghost use Rattle.jlr_trace.specs.Images.{image_text, image_read, HasShape};
+ghost use Rattle.jlr_sections.specs.Images.{image_text, image_read, HasShape};
 ghost use Rattle.jlr_trace.specs.Files.{FileText, image_of, file_text, spelled_file, FileFits, HasSpelling, told, expected, version_read, mark_read, in_entry, entries_read, file_read, FileGives, FileReads};
 ghost use Rattle.jlr_trace.specs.ToEnd.{entries_to_end};
 ghost use Rattle.jlr_trace.specs.Versions.{fits_version_1, in_version};
 
-use crate::entry::entry_at;
-use crate::image::{Image, image_at};
 use jlr_fields::cursor::take_u64;
 use jlr_fields::fault::{Fault, ReadError};
 use jlr_fields::version::Version;
@@ -19,6 +17,8 @@ use jlr_machine::entry::Entry;
 use jlr_machine::items::Items;
 use jlr_machine::machine::Machine;
 use jlr_parts::record::Placed;
+use jlr_sections::entry::take_entry;
+use jlr_sections::image::{Image, take_image};
 use std::alloc::{AllocError, AllocFailed, Global};
 
 /// A history: what is at its head, and what happened from there on.
@@ -124,7 +124,7 @@ pub(crate) fn image_in(
     ensures reads { FileReads image_text result bytes.new.now (in_entry 0 (image_read version bytes.old.now)) }
     ensures shape { IfOk result HasShape }
 {
-    match image_at(alloc, version, bytes) {
+    match take_image(alloc, version, bytes) {
         Ok(image) => Ok(image),
         Err(error) => Err(fault_of(error, 0)),
     }
@@ -150,7 +150,7 @@ fn entries_at(
 {
     let mut entries: Vec<Entry> = Vec::new(alloc);
     for number in 0..count {
-        match entry_at(alloc, version, bytes) {
+        match take_entry(alloc, version, bytes) {
             Ok(entry) => entries.push(entry)?,
             Err(error) => return Err(fault_of(error, number + 1)),
         }

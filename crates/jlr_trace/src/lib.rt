@@ -1,10 +1,6 @@
-//! Trace files: what the bytes of one say.
+//! Trace files: what the bytes of one say. Their sections, the image and the entries, stand in `jlr_sections`.
 #![tactic(auto)]
 
-mod choice;
-mod entry;
 pub mod file;
-mod image;
-mod places;
 pub mod spelled;
 pub mod writing;

@@ -2,20 +2,20 @@
 ghost use Rattle.std.specs.Prelude.{◌≡◌, [], ◌∷◌, ◌-◌, ◌+◌, ◌<◌, ◌^◌, Ok, IfOk, OnOk, OnErr, MatchOption, length};
 ghost use Rattle.jlr_fields.specs.declared.fault.ReadError.TheVariants.{Memory};
 ghost use Rattle.jlr_trace.specs.declared.file.TraceFile.{TraceFile as TraceFileOf};
-ghost use Rattle.jlr_trace.specs.Images.{image_text, HasShape};
+ghost use Rattle.jlr_sections.specs.Images.{image_text, HasShape};
 ghost use Rattle.jlr_trace.specs.Files.{FileText, image_of, file_text, spelled_file, FileFits, HasSpelling, entries_read, file_read, FileGives};
 ghost use Rattle.jlr_trace.specs.ToEnd.{entries_to_end};
 ghost use Rattle.jlr_trace.specs.Spellings.{entries_in, AreEntries};
 
-use crate::entry::entry_at;
 use crate::file::{TraceFault, count_in, fault_of, image_in, mark_at};
-use crate::image::Image;
 use jlr_fields::fault::ReadError;
 use jlr_fields::version::Version;
 use jlr_machine::entry::Entry;
 use jlr_machine::items::Items;
 use jlr_machine::machine::Machine;
 use jlr_parts::record::Placed;
+use jlr_sections::entry::take_entry;
+use jlr_sections::image::Image;
 use std::alloc::{AllocError, Global};
 use std::marker::Model;
 
@@ -151,7 +151,7 @@ fn first_of(
     ensures first { IfOk result (λ e. entries_in version count bytes.old.now ≡ e ∷ entries_in version (count - 1) bytes.new.now) }
     ensures others { IfOk result (λ _. AreEntries version (count - 1) bytes.new.now) }
 {
-    match entry_at(alloc, version, bytes) {
+    match take_entry(alloc, version, bytes) {
         Ok(entry) => Ok(entry),
         Err(error) => Err(memory_of(error)),
     }
@@ -171,7 +171,7 @@ fn behind_entries(
     let _length = bytes.len();
     let mut rest = bytes;
     for number in 0..count {
-        match entry_at(alloc, version, &mut rest) {
+        match take_entry(alloc, version, &mut rest) {
             Ok(_entry) => {}
             Err(error) => return Err(fault_of(error, number + 1)),
         }

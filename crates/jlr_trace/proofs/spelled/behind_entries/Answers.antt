@@ -12,7 +12,7 @@ loop-number-preserved c =
     let before = c.loop-number.invariant in
     record {
       front = before.front ++ c.in-Ok._entry ∷ [];
-      so_far = goes_on c.args.version before.front c.args.count c.loop-number.number c.loop-number.rest.now c.in-Ok._entry c.entry_at.new.bytes.now (entries_read c.args.version 1 c.args.count c.args.bytes.now) c.loop-number-test.true c.in-Ok.ensures before.so_far;
+      so_far = goes_on c.args.version before.front c.args.count c.loop-number.number c.loop-number.rest.now c.in-Ok._entry c.take_entry.new.bytes.now (entries_read c.args.version 1 c.args.count c.args.bytes.now) c.loop-number-test.true c.in-Ok.ensures before.so_far;
     }
 
 pub returns-in-Err-clause-reads : goal.returns-in-Err-clause-reads

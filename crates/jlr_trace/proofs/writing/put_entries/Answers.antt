@@ -1,6 +1,6 @@
 use Rattle.std.proofs.Common.{sym, subst}
 use Rattle.std.proofs.lemmas.List.Elements.{All-from_recursion}
-use Rattle.jlr_trace.specs.Entries.{EntryCounts}
+use Rattle.jlr_sections.specs.Entries.{EntryCounts}
 use Rattle.jlr_trace.proofs.writing.put_entries.Goals as goal
 
 pub put_entry-requires : goal.put_entry-requires

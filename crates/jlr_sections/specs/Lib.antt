@@ -1,0 +1,4 @@
+pub mod Choices
+pub mod Entries
+pub mod Images
+pub mod Writing
