@@ -76,8 +76,13 @@ pub(crate) fn choice_at(alloc: Global, bytes: &mut &[u8]) -> Result<Chosen, Read
 {
     let flags = take_within(0, 3, bytes)?;
     let collected = collection_at(alloc, flags % 2 == 1, bytes)?;
-    let fresh = fresh_at(alloc, flags >= 2, bytes)?;
-    Ok(Chosen { collected, fresh })
+    match fresh_at(alloc, flags >= 2, bytes) {
+        Ok(fresh) => Ok(Chosen { collected, fresh }),
+        Err(error) => {
+            drop(collected);
+            Err(error)
+        }
+    }
 }
 
 fn flags_of(choice: &Chosen) -> u8

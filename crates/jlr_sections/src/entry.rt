@@ -25,14 +25,26 @@ pub fn take_entry(alloc: Global, version: Version, bytes: &mut &[u8]) -> Result<
 {
     let seat = take_u8(bytes)?;
     let ask = take_ask(alloc, version, bytes)?;
-    let answer = take_answer(alloc, bytes)?;
-    let choice = choice_at(alloc, bytes)?;
-    Ok(Entry {
-        seat,
-        ask,
-        answer,
-        choice,
-    })
+    let answer = match take_answer(alloc, bytes) {
+        Ok(answer) => answer,
+        Err(error) => {
+            drop(ask);
+            return Err(error);
+        }
+    };
+    match choice_at(alloc, bytes) {
+        Ok(choice) => Ok(Entry {
+            seat,
+            ask,
+            answer,
+            choice,
+        }),
+        Err(error) => {
+            drop(ask);
+            drop(answer);
+            Err(error)
+        }
+    }
 }
 
 /// Writes an entry whose ask this version can tell, and whose lists are short enough for their counts.

@@ -1,7 +1,7 @@
 //! The image at the head of a trace file.
 ghost use Rattle.std.specs.Prelude.{◌≡◌, ◌≤◌, ◌++◌, length, map, option_map, Some, IfOk};
 ghost use Rattle.std.specs.Int.{w32};
-ghost use Rattle.jlr_fields.specs.Reading.{Reads, number_within_at};
+ghost use Rattle.jlr_fields.specs.Reading.{Reads, number_within_at, three_fields};
 ghost use Rattle.jlr_fields.specs.Items.{items_at, rising_at};
 ghost use Rattle.jlr_parts.specs.Records.{held_after};
 ghost use Rattle.jlr_sections.specs.Images.{listed_from, placed, held, head_read, session_text, joined_read, session_read, waiting_read, records_read, counts_read, image_text, made_image, image_behind, image_read, places_of, HasPlaces, HasShape};
@@ -249,6 +249,51 @@ fn image_of(
     }
 }
 
+/// The image of this head and these tables. Where what follows has a fault, what was read before is let go by calls: an exit that held it
+/// would go through each of its parts.
+fn with_tables(
+    alloc: Global,
+    head: Head,
+    objects: Objects,
+    mutators: Vec<Option<Session>>,
+    bytes: &mut &[u8],
+) -> Result<Image, ReadError>
+    requires cells { length objects.table ≡ head.cells }
+    requires sessions { length mutators.items ≡ head.sessions }
+    requires apart { AllByRecursion (λ p. length objects.table ≤ p.slot) objects.strays }
+    requires places { AllByRecursion HasPlaces mutators.items }
+    ensures reads { Reads image_text result bytes.new.now (three_fields waiting_read records_read counts_read (made_image head (listed_from placed 0 objects.table ++ objects.strays) (map (option_map session_text) mutators.items)) bytes.old.now) }
+    ensures shape { IfOk result HasShape }
+{
+    let waiting = match waiting_at(alloc, bytes) {
+        Ok(waiting) => waiting,
+        Err(error) => {
+            drop(objects);
+            drop(mutators);
+            return Err(error);
+        }
+    };
+    let records = match records_at(alloc, bytes) {
+        Ok(records) => records,
+        Err(error) => {
+            drop(objects);
+            drop(mutators);
+            drop(waiting);
+            return Err(error);
+        }
+    };
+    match counts_at(bytes) {
+        Ok(counts) => Ok(image_of(alloc, head, objects, mutators, waiting, records, counts)),
+        Err(error) => {
+            drop(objects);
+            drop(mutators);
+            drop(waiting);
+            drop(records);
+            Err(error)
+        }
+    }
+}
+
 /// The image of this head.
 fn body_at(
     alloc: Global,
@@ -260,11 +305,13 @@ fn body_at(
     ensures shape { IfOk result HasShape }
 {
     let objects = objects_at(alloc, version, head.cells, bytes)?;
-    let mutators = sessions_at(alloc, head.sessions, bytes)?;
-    let waiting = waiting_at(alloc, bytes)?;
-    let records = records_at(alloc, bytes)?;
-    let counts = counts_at(bytes)?;
-    Ok(image_of(alloc, head, objects, mutators, waiting, records, counts))
+    match sessions_at(alloc, head.sessions, bytes) {
+        Ok(mutators) => with_tables(alloc, head, objects, mutators, bytes),
+        Err(error) => {
+            drop(objects);
+            Err(error)
+        }
+    }
 }
 
 /// The image at the front of the bytes, which are then those behind it. No cycle is open in its machine, and nothing was seen; a session's
