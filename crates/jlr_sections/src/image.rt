@@ -262,7 +262,10 @@ fn with_tables(
     requires sessions { length mutators.items ≡ head.sessions }
     requires apart { AllByRecursion (λ p. length objects.table ≤ p.slot) objects.strays }
     requires places { AllByRecursion HasPlaces mutators.items }
-    ensures reads { Reads image_text result bytes.new.now (three_fields waiting_read records_read counts_read (made_image head (listed_from placed 0 objects.table ++ objects.strays) (map (option_map session_text) mutators.items)) bytes.old.now) }
+    ensures reads { Reads image_text result bytes.new.now (
+        three_fields waiting_read records_read counts_read
+        (made_image head (listed_from placed 0 objects.table ++ objects.strays) (map (option_map session_text) mutators.items))
+        bytes.old.now) }
     ensures shape { IfOk result HasShape }
 {
     let waiting = match waiting_at(alloc, bytes) {

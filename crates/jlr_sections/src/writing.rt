@@ -197,7 +197,8 @@ pub fn put_image(
     strays: &[Placed],
 ) -> Result<(), AllocError>
     requires { ImageCounts machine.now strays.now }
-    ensures { OnOk result (out.new.items ≡ out.old.items ++ spelled_image (image_text (whole_image base machine.now strays.now))) }
+    ensures { let image = whole_image base machine.now strays.now in
+        OnOk result (out.new.items ≡ out.old.items ++ spelled_image (image_text image)) }
 {
     put_head(out, machine, base)?;
     put_objects(out, &machine.objects, strays)?;

@@ -14,4 +14,7 @@ entries_count version [] all = tt
 entries_count version (x ∷ xs) all = (entry_counts version x all.0, entries_count version xs all.1)
 
 pub counts_of_spelling : (f : TraceFile) → HasSpelling f → FileCounts f
-counts_of_spelling f has = record { image = image_counts f.version (image_of f) has.text.image has.shape; entries = entries_count f.version f.entries has.text.entries }
+counts_of_spelling f has = record {
+  image = image_counts f.version (image_of f) has.text.image has.shape;
+  entries = entries_count f.version f.entries has.text.entries;
+}

@@ -11,7 +11,8 @@ use Rattle.jlr_trace.proofs.writing.put_entries.Goals as goal
 
 pub put_entry-requires : goal.put_entry-requires
 put_entry-requires c =
-    let each = All-from_recursion (EntryCounts c.args.version) c.args.entries.now c.requires c.loop-entry.entry-index c.entry-item.result c.loop-entry-test.true in
+    let i = c.loop-entry.entry-index in
+    let each = All-from_recursion (EntryCounts c.args.version) c.args.entries.now c.requires i c.entry-item.result c.loop-entry-test.true in
     subst (EntryCounts c.args.version) (sym c.entry-item.is) each
 
 one_more : (spelled : Entry → List ℕ) (xs : List Entry) (i : ℕ) (x : Entry) → i < length xs → x ≡ get_or xs i x
@@ -32,7 +33,8 @@ loop-entry-preserved c =
     let old : List ℕ = c.args.out.now.items in
     let front : List ℕ = flat_map spelled (take c.loop-entry.entry-index xs) in
     let last : List ℕ = spelled c.entry-item.result in
+    let more = one_more spelled xs c.loop-entry.entry-index c.entry-item.result c.loop-entry-test.true c.entry-item.is in
     c.in_ok-put_entry.ensures
     ∙ ap (λ (m : List ℕ). m ++ last) c.loop-entry.invariant
     ∙ append_assoc old front last
-    ∙ ap (λ (t : List ℕ). old ++ t) (sym (one_more spelled xs c.loop-entry.entry-index c.entry-item.result c.loop-entry-test.true c.entry-item.is))
+    ∙ ap (λ (t : List ℕ). old ++ t) (sym more)
