@@ -1,11 +1,17 @@
 //! Files and a pair of sockets of the system, in a folder of their own.
-use super::*;
+use super::{bytes, on_device, path};
+use crate::tests::calls::{Got, Stage, play};
+use jlr_device::guarded::guarded_open;
 use jlr_device::real::{RealDevice, RealResource};
+use jlr_device::{Device, Mode};
+use jlr_types::Fault;
 use std::fs;
 use std::fs::Permissions;
 use std::io::{Read, Write};
 use std::os::unix::fs::PermissionsExt;
 use std::os::unix::net::{UnixListener, UnixStream};
+use std::str::SplitWhitespace;
+use std::test::Fail;
 
 const FOLDER: &str = "jlr_device_rows";
 
@@ -209,7 +215,9 @@ fn files_and_sockets_answer_as_the_rows_say(rt: HostRuntime) -> Result<(), Fail>
             stream: None,
         },
     };
-    play(&mut real, rt.alloc(), LISTS)?;
+    let played = play(&mut real, rt.alloc(), LISTS);
+    drop(real);
+    played?;
     fs::remove_dir_all(&rt, FOLDER)?;
     Ok(())
 }

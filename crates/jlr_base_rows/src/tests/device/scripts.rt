@@ -1,7 +1,14 @@
 //! A device in memory whose calls go as they are scripted, and counts of failures at their last value.
-use super::*;
+use super::{bytes, on_device, on_resource};
+use crate::tests::calls::{Got, Stage, play};
+use crate::tests::words::{fault, outcome, parsed};
 use jlr_device::script::{Script, ScriptDevice, ScriptResource, Step};
+use jlr_device::{Finished, Resource};
+use jlr_types::Fault;
+use std::alloc::Global;
 use std::mem;
+use std::str::SplitWhitespace;
+use std::test::Fail;
 
 // ---- Scripts
 
@@ -9,17 +16,7 @@ fn step(alloc: Global, words: &mut SplitWhitespace<'_>) -> Option<Step> {
     match words.next()? {
         "bytes" => Some(Step::Bytes(bytes(alloc, words)?)),
         "take" => Some(Step::Take(parsed(words)?)),
-        word => Some(Step::Fail(outcome(word)?.err()?)),
-    }
-}
-
-fn outcome(word: &str) -> Option<Result<(), Fault>> {
-    match word {
-        "ok" => Some(Ok(())),
-        "NotFound" => Some(Err(Fault::NotFound)),
-        "Denied" => Some(Err(Fault::Denied)),
-        "Other" => Some(Err(Fault::Other)),
-        _ => None,
+        word => Some(Step::Fail(fault(word)?)),
     }
 }
 
@@ -52,8 +49,8 @@ impl Scripted {
 
     // With the steps before it. Its words are the outcomes of the open and of the finish.
     fn add_script(&mut self, words: &mut SplitWhitespace<'_>) -> Option<Got> {
-        let opened = outcome(words.next()?)?;
-        let finished = outcome(words.next()?)?;
+        let opened = outcome(words)?;
+        let finished = outcome(words)?;
         let script = Script {
             opened,
             steps: mem::replace(&mut self.steps, Vec::new(self.alloc)),
@@ -201,7 +198,9 @@ fn scripts_answer_as_the_rows_say(rt: HostRuntime) -> Result<(), Fail> {
         device: ScriptDevice::new(Vec::new(alloc), 0),
         opened: None,
     };
-    play(&mut scripted, alloc, LISTS)?;
+    let played = play(&mut scripted, alloc, LISTS);
+    drop(scripted);
+    played?;
     let mut single = Single {
         alloc,
         opened: None,

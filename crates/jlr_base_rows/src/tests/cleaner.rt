@@ -6,10 +6,16 @@ ghost use Rattle.jlr_resource.specs.Resources.{resource_in, state_at};
 ghost use Rattle.jlr_cleaner.specs.Cleanings.{HasWork};
 ghost use Rattle.jlr_cleaner.specs.Jobs.{is_running, runs_job};
 
-use super::*;
+use super::calls::{Got, Stage, play};
+use super::words::{action, outcome, parsed, rid};
 use jlr_cleaner::{Cleaner, Job};
 use jlr_machine::machine::Resource;
-use jlr_types::{Limits, Slot, Work};
+use jlr_resource::State;
+use jlr_types::{ActionNo, Fault, Limits, Refusal, Rid, Slot, Work};
+use std::alloc::{AllocError, Global};
+use std::fmt::Debug;
+use std::str::SplitWhitespace;
+use std::test::Fail;
 
 // The cleaner's own number as a taker.
 const ITSELF: u8 = 255;

@@ -9,6 +9,7 @@
 //! its referent last in collection 5 is kept in collection 7 at soft age 3, `gone 5 8 of 3` that it is not, and `cleared` that it
 //! is not where
 //! all are.
+use crate::tests::words::parsed;
 use jlr_soft::{Mode, Policy};
 use jlr_types::{
     ActionNo, FieldKind, Handle, Layout, LimitFault, Limits, Meter, Mutator, Refusal, Rid, Slot,
@@ -53,18 +54,6 @@ const ROWS: &str = "
     cleared 0 0 of 1000
     cleared 3 4 of 1000
 ";
-
-fn number(words: &mut SplitWhitespace<'_>) -> Option<u64> {
-    words.next()?.parse().ok()
-}
-
-fn small(words: &mut SplitWhitespace<'_>) -> Option<u32> {
-    words.next()?.parse().ok()
-}
-
-fn byte(words: &mut SplitWhitespace<'_>) -> Option<u8> {
-    words.next()?.parse().ok()
-}
 
 fn refusal(name: &str) -> Option<Refusal> {
     match name {
@@ -161,15 +150,15 @@ fn has_limits(limits: &Limits, numbers: &[u32; 6]) -> bool {
 fn are_limits(words: &mut SplitWhitespace<'_>) -> Option<bool> {
     let mut numbers = [0; 6];
     for number in &mut numbers {
-        *number = small(words)?;
+        *number = parsed(words)?;
     }
     Some(words.next()? == limits_told(&numbers))
 }
 
 fn is_kept(mode: Mode, words: &mut SplitWhitespace<'_>) -> Option<bool> {
-    let (last_get, cycle) = (number(words)?, number(words)?);
+    let (last_get, cycle) = (parsed(words)?, parsed(words)?);
     let _of = words.next()?;
-    Some(Policy::new(small(words)?, mode).keeps(last_get, cycle))
+    Some(Policy::new(parsed(words)?, mode).keeps(last_get, cycle))
 }
 
 // Whether a row is true; none where it is no row.
@@ -186,15 +175,15 @@ fn holds(name: &str, words: &mut SplitWhitespace<'_>) -> Option<bool> {
 
 fn has_number(name: &str, words: &mut SplitWhitespace<'_>) -> Option<bool> {
     if let Some(refusal) = refusal(name) {
-        return Some(refusal.number() == byte(words)?);
+        return Some(refusal.number() == parsed::<u8>(words)?);
     }
     match name {
-        "slot" => small(words).map(|number| Slot::new(number).number() == number),
-        "handle" => byte(words).map(|number| Handle::new(number).number() == number),
-        "mutator" => byte(words).map(|number| Mutator::new(number).number() == number),
-        "rid" => small(words).map(|number| Rid::new(number).number() == number),
-        "action" => number(words).map(|number| ActionNo::new(number).number() == number),
-        "ticks" => number(words).map(|count| ticks(count) == count),
+        "slot" => parsed(words).map(|number: u32| Slot::new(number).number() == number),
+        "handle" => parsed(words).map(|number: u8| Handle::new(number).number() == number),
+        "mutator" => parsed(words).map(|number: u8| Mutator::new(number).number() == number),
+        "rid" => parsed(words).map(|number: u32| Rid::new(number).number() == number),
+        "action" => parsed(words).map(|number: u64| ActionNo::new(number).number() == number),
+        "ticks" => parsed(words).map(|count: u64| ticks(count) == count),
         _ => None,
     }
 }

@@ -56,14 +56,14 @@ fn has_all(alloc: Global, collected: &Collected) -> Result<bool, AllocError> {
     )
 }
 
-fn has_all_that_was_chosen(alloc: Global, chosen: &Chosen) -> Result<bool, AllocError> {
-    match &chosen.collected {
-        Some(collected) => Ok(
-            has_all(alloc, collected)?
-                && chosen.fresh.as_slice() == [Slot::new(7), Slot::new(8)].as_slice(),
-        ),
+fn has_all_that_was_chosen(alloc: Global, chosen: Chosen) -> Result<bool, AllocError> {
+    let fresh = chosen.fresh.as_slice() == [Slot::new(7), Slot::new(8)].as_slice();
+    let collected = match &chosen.collected {
+        Some(collected) => has_all(alloc, collected),
         None => Ok(false),
-    }
+    };
+    drop(chosen);
+    Ok(collected? && fresh)
 }
 
 fn has_kept_two_alone(alloc: Global, collected: &Collected) -> Result<bool, AllocError> {
@@ -71,33 +71,40 @@ fn has_kept_two_alone(alloc: Global, collected: &Collected) -> Result<bool, Allo
     Ok(kept.as_slice() == [Slot::new(2)].as_slice() && collected.pending.len() == 0)
 }
 
-fn has_chosen_two_alone(alloc: Global, chosen: &Chosen) -> Result<bool, AllocError> {
-    match &chosen.collected {
-        Some(collected) => Ok(
-            has_kept_two_alone(alloc, collected)? && chosen.fresh.as_slice().is_empty(),
-        ),
+fn has_chosen_two_alone(alloc: Global, chosen: Chosen) -> Result<bool, AllocError> {
+    let fresh = chosen.fresh.as_slice().is_empty();
+    let collected = match &chosen.collected {
+        Some(collected) => has_kept_two_alone(alloc, collected),
         None => Ok(false),
-    }
+    };
+    drop(chosen);
+    Ok(collected? && fresh)
 }
 
 #[test]
 fn a_choice_holds_all_that_it_has_room_for(rt: HostRuntime) -> Result<(), Fail> {
+    let set = three_of(rt.alloc())?;
     let mut choice = Choice::new(rt.alloc(), 130)?;
     let was_new = is_new(&choice, 130);
-    choice.keep_all(&three_of(rt.alloc())?);
+    choice.keep_all(&set);
+    drop(set);
     let all = takes_all_that_it_has_room_for(&mut choice);
-    assert!(rt; has_all_that_was_chosen(rt.alloc(), &choice.into_chosen())? && all && was_new);
+    let has_all = has_all_that_was_chosen(rt.alloc(), choice.into_chosen());
+    assert!(rt; has_all? && all && was_new);
     Ok(())
 }
 
 #[test]
 fn a_choice_is_used_again(rt: HostRuntime) -> Result<(), Fail> {
+    let set = one_of(rt.alloc())?;
     let mut choice = Choice::new(rt.alloc(), 4)?;
     choice.collect();
     let collects = choice.collects();
     choice.clear();
     let again = is_new(&choice, 4);
-    choice.keep_all(&one_of(rt.alloc())?);
-    assert!(rt; has_chosen_two_alone(rt.alloc(), &choice.into_chosen())? && collects && again);
+    choice.keep_all(&set);
+    drop(set);
+    let has_two = has_chosen_two_alone(rt.alloc(), choice.into_chosen());
+    assert!(rt; has_two? && collects && again);
     Ok(())
 }

@@ -33,7 +33,11 @@ fn a_set_has_what_it_took_over_but_what_it_lost(rt: HostRuntime) -> Result<(), F
     let mut other = CellSet::new(rt.alloc(), 130)?;
     other.assign(&set);
     other.remove(Slot::new(64));
-    let lost = set.next_beyond(&other, 0) == slot(64) && set.next_beyond(&other, 65).is_none();
-    assert!(rt; lost && other.count() == 2);
+    let first = set.next_beyond(&other, 0);
+    let next = set.next_beyond(&other, 65);
+    let count = other.count();
+    drop(set);
+    drop(other);
+    assert!(rt; first == slot(64) && next.is_none() && count == 2);
     Ok(())
 }

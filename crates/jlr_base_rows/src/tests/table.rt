@@ -3,8 +3,13 @@ ghost use Rattle.std.specs.Prelude.{◌≡◌, Some};
 ghost use Rattle.jlr_machine.specs.declared.machine.ResourceState.TheVariants as state;
 ghost use Rattle.jlr_resource.specs.Resources.{state_at};
 
-use super::*;
-use jlr_resource::Table;
+use super::calls::{Got, Stage, play};
+use super::words::{action, parsed, rid};
+use jlr_resource::{State, Table};
+use jlr_types::{ActionNo, Refusal, Rid};
+use std::alloc::{AllocError, Global};
+use std::str::SplitWhitespace;
+use std::test::Fail;
 
 // A whole life of a resource that can be neither dropped nor copied: it comes out as it was put in.
 fn whole_life<R>(table: &mut Table<R>, rid: Rid, resource: R) -> R

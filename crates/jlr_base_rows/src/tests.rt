@@ -1,0 +1,7 @@
+//! A module for each topic. What is expected comes from the description of the calls, or is written by hand.
+mod calls;
+mod cleaner;
+mod device;
+mod machine;
+mod table;
+mod words;
