@@ -1,12 +1,4 @@
-//! Sessions spelled out. The expected texts come from the description of the protocol.
-mod devices;
-mod heap;
-mod jobs;
-mod limits;
-mod lines;
-mod play;
-mod row;
-mod script;
-mod seat;
-mod serving;
+//! Lines, and sessions of them. The expected texts come from the description of the protocol.
+mod session;
 mod streams;
+mod wire;

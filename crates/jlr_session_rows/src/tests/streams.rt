@@ -86,10 +86,11 @@ impl Read for Pieced<'_> {
     }
 }
 
-/// Takes bytes as the streams say.
+/// Takes bytes as the streams say, and counts the writes that take some or none.
 #[derive(Drop)]
 pub(super) struct Narrow {
     pub taken: Vec<u8>,
+    pub writes: usize,
     width: usize,
     room: usize,
     fails: bool,
@@ -100,6 +101,7 @@ impl Narrow {
     pub(super) fn new(alloc: Global, streams: Streams) -> Narrow {
         Narrow {
             taken: Vec::new(alloc),
+            writes: 0,
             width: streams.width,
             room: streams.room,
             fails: streams.writes_fail,
@@ -116,6 +118,7 @@ impl Write for Narrow {
         let count = self.room.min(buf.len()).min(self.width);
         self.taken.extend_from_slice(buf.split_at(count).0)?;
         self.room -= count;
+        self.writes = self.writes.saturating_add(1);
         Ok(count)
     }
 

@@ -1,47 +1,12 @@
 //! Writers that fail, or take little at a time.
-use super::spelled;
-use arrayvec::ArrayVec;
+use super::{barred, spelled};
+use crate::tests::streams::{Narrow, Streams};
 use jlr_machine::ask::Answer;
 use jlr_wire::reply::write_reply;
 use jlr_words::answer_of;
 use std::alloc::{AllocError, Global};
 use std::io::{self, Write};
 use std::test::Fail;
-
-/// Takes at most so many bytes in one write, and so many in all. It counts its writes.
-#[derive(Drop)]
-struct Narrow {
-    taken: ArrayVec<u8, 8453>,
-    step: usize,
-    room: usize,
-    writes: usize,
-}
-
-impl Narrow {
-    fn new(step: usize, room: usize) -> Self {
-        Narrow {
-            taken: ArrayVec::new(),
-            step,
-            room,
-            writes: 0,
-        }
-    }
-}
-
-impl Write for Narrow {
-    fn write(&mut self, buf: &[u8]) -> io::Result<usize> {
-        let count = self.step.min(self.room).min(buf.len());
-        let front = buf.split_at(count).0;
-        let _ = self.taken.try_extend_from_slice(front);
-        self.room -= count;
-        self.writes = self.writes.saturating_add(1);
-        Ok(count)
-    }
-
-    fn flush(&mut self) -> io::Result<()> {
-        Ok(())
-    }
-}
 
 // How many bytes are taken at a time and in all, and the answer; whether its line goes out whole, and what goes out, between bars.
 const FRONTS: &str = "
@@ -70,11 +35,6 @@ const FRONTS: &str = "
     3 4 names ab c -> cut |list|
 ";
 
-// What stands between two bars, at whose ends spaces count.
-fn barred(text: &str) -> Option<&str> {
-    text.strip_prefix("|")?.strip_suffix("|")
-}
-
 // Whether what went out is the whole line, or this front of it.
 fn is_sent(sent: &[u8], well: bool, wanted: &str) -> Option<bool> {
     match wanted.strip_prefix("whole ") {
@@ -101,11 +61,21 @@ fn numbered(row: &str) -> Option<(usize, usize, &str)> {
     Some((step.parse().ok()?, room.parse().ok()?, rest))
 }
 
+// Takes at most so many bytes in one write, and so many in all.
+fn narrow(alloc: Global, step: usize, room: usize) -> Narrow {
+    let streams = Streams {
+        width: step,
+        room,
+        ..Streams::whole()
+    };
+    Narrow::new(alloc, streams)
+}
+
 fn sends(alloc: Global, row: &str) -> Result<bool, AllocError> {
     let (given, wanted) = row.split_once(" -> ").unwrap_or((row, ""));
     let (step, room, answer) = numbered(given).unwrap_or((0, 0, ""));
     match answer_of(alloc, answer)? {
-        Some(answer) => Ok(goes_out(&mut Narrow::new(step, room), &answer, wanted)),
+        Some(answer) => Ok(goes_out(&mut narrow(alloc, step, room), &answer, wanted)),
         None => Ok(false),
     }
 }
@@ -138,7 +108,7 @@ fn takes(writer: &mut Narrow, answer: &Answer, wanted: &str) -> bool {
 fn holds(alloc: Global, row: &str) -> Result<bool, AllocError> {
     let (answer, wanted) = row.split_once(" -> ").unwrap_or((row, ""));
     match answer_of(alloc, answer)? {
-        Some(answer) => Ok(takes(&mut Narrow::new(usize::MAX, usize::MAX), &answer, wanted)),
+        Some(answer) => Ok(takes(&mut Narrow::new(alloc, Streams::whole()), &answer, wanted)),
         None => Ok(false),
     }
 }

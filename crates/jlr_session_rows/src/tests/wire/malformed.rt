@@ -1,5 +1,5 @@
 //! Lines that are nearly a command, wrong in each of their fields. A line stands between bars.
-use super::spelled;
+use super::{barred, spelled};
 use jlr_types::Refusal;
 use jlr_wire::command::read_command;
 use std::alloc::Global;
@@ -403,10 +403,6 @@ const LINES: &str = "
 
 fn is_malformed(line: &str) -> bool {
     matches!(read_command(line.as_bytes()), Err(Refusal::Malformed))
-}
-
-fn barred(row: &str) -> Option<&str> {
-    row.strip_prefix("|")?.strip_suffix("|")
 }
 
 fn holds(alloc: Global, row: &str) -> Result<bool, Fail> {

@@ -1,4 +1,4 @@
-//! Rows of text: what is given, an arrow, and what is expected, from the description of the protocol.
+//! Rows of text: what is given, an arrow, and what is expected.
 //!
 //! In a row `(p×255)` stands for 255 times the letter `p`. Answers are those of `jlr_words`.
 use std::alloc::Global;
@@ -39,4 +39,9 @@ fn repeat(text: &mut String, repeated: &str) -> Result<(), Fail> {
         text.push_str(unit)?;
     }
     Ok(())
+}
+
+// What stands between two bars, at whose ends spaces count.
+fn barred(text: &str) -> Option<&str> {
+    text.strip_prefix("|")?.strip_suffix("|")
 }
