@@ -45,3 +45,11 @@ fn repeat(text: &mut String, repeated: &str) -> Result<(), Fail> {
 fn barred(text: &str) -> Option<&str> {
     text.strip_prefix("|")?.strip_suffix("|")
 }
+
+// Whether this is the line, with its end.
+fn is_line(sent: &[u8], line: &str) -> bool {
+    match sent.split_last() {
+        Some((last, front)) => *last == b'\n' && front == line.as_bytes(),
+        None => false,
+    }
+}

@@ -20,22 +20,24 @@ impl Heap {
             settlings: 0,
         }
     }
+
+    fn answered(&mut self) -> Answer {
+        if !self.counts {
+            return Answer::Done;
+        }
+        if self.count >= 3 {
+            return Answer::Handed(Handed::Nothing);
+        }
+        self.count += 1;
+        Answer::Handle(Handle::new(self.count))
+    }
 }
 
 impl CarryOut<Heap, ()> for Heap {
     ghost carries = { record { command = λ _ _ _ _. Unit {0}; settling = λ _ _. Unit {0} } };
 
     fn carry_out(heap: &mut Heap, _device: &mut (), _command: &Command<'_>, answer: &mut Answer) {
-        if !heap.counts {
-            *answer = Answer::Done;
-            return;
-        }
-        if heap.count >= 3 {
-            *answer = Answer::Handed(Handed::Nothing);
-            return;
-        }
-        heap.count += 1;
-        *answer = Answer::Handle(Handle::new(heap.count));
+        *answer = heap.answered();
     }
 
     fn settle(heap: &mut Heap) {

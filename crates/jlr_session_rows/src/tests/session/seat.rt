@@ -140,13 +140,10 @@ impl Port<ScriptResource> for Seat {
         }
     }
 
-    fn ask(
-        &mut self,
-        event: Event<ScriptResource>,
-        _room: Option<CallRoom>,
-    ) -> Reply<ScriptResource>
+    fn ask(&mut self, event: Event<ScriptResource>, room: Option<CallRoom>) -> Reply<ScriptResource>
         ensures { Unit {0} }
     {
+        drop(room);
         self.write_down(name_of(&event));
         match event {
             Event::Opened { outcome, .. } => self.opened(outcome),

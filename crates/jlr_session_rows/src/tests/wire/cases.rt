@@ -8,9 +8,50 @@ use std::str::SplitWhitespace;
 /// Whether the command is the case of these words.
 pub(super) fn is_case(command: &Command<'_>, wanted: &str) -> bool {
     let mut words = wanted.split_whitespace();
-    match words.next() {
-        Some(case) => is_object_case(command, case, &mut words) && words.next().is_none(),
-        None => false,
+    words.next() == Some(case_of(command))
+        && has_parts(command, &mut words)
+        && words.next().is_none()
+}
+
+fn case_of(command: &Command<'_>) -> &'static str {
+    match command {
+        Command::New { .. } => "New",
+        Command::Array { .. } => "Array",
+        Command::Put { .. } => "Put",
+        Command::Get { .. } => "Get",
+        Command::SetInt { .. } => "SetInt",
+        Command::Int { .. } => "Int",
+        Command::Dup { .. } => "Dup",
+        Command::Drop { .. } => "Drop",
+        Command::Same { .. } => "Same",
+        Command::Soft { .. } => "Soft",
+        Command::Weak { .. } => "Weak",
+        Command::Phantom { .. } => "Phantom",
+        Command::Deref { .. } => "Deref",
+        Command::Refers { .. } => "Refers",
+        Command::Clear { .. } => "Clear",
+        Command::Enqueue { .. } => "Enqueue",
+        Command::Enqueued { .. } => "Enqueued",
+        Command::Queue => "Queue",
+        Command::Poll { .. } => "Poll",
+        Command::Remove { .. } => "Remove",
+        Command::Cleaner => "Cleaner",
+        Command::Register { .. } => "Register",
+        Command::Clean { .. } => "Clean",
+        Command::Open { .. } => "Open",
+        Command::Connect { .. } => "Connect",
+        Command::Read { .. } => "Read",
+        Command::Write { .. } => "Write",
+        Command::Close { .. } => "Close",
+        Command::Bind { .. } => "Bind",
+        Command::Find { .. } => "Find",
+        Command::Unbind { .. } => "Unbind",
+        Command::Names => "Names",
+        Command::Notes => "Notes",
+        Command::Faults => "Faults",
+        Command::Full { .. } => "Full",
+        Command::Stat => "Stat",
+        Command::Bye => "Bye",
     }
 }
 
@@ -24,10 +65,6 @@ fn is_number(number: u64, words: &mut SplitWhitespace<'_>) -> bool {
 
 fn is_handle(handle: &Handle, words: &mut SplitWhitespace<'_>) -> bool {
     is_number(u64::from(handle.number()), words)
-}
-
-fn is_field(field: FieldNo, words: &mut SplitWhitespace<'_>) -> bool {
-    is_number(u64::from(field.number()), words)
 }
 
 fn is_byte(byte: u8, words: &mut SplitWhitespace<'_>) -> bool {
@@ -92,96 +129,9 @@ fn are_spelled(digits: &Digits<'_>, words: &mut SplitWhitespace<'_>) -> bool {
     are_bytes(bytes.as_slice(), words)
 }
 
-// Commands about objects.
-fn is_object_case(command: &Command<'_>, case: &str, words: &mut SplitWhitespace<'_>) -> bool {
-    match command {
-        Command::New { layout } => case == "New" && is_layout(layout, words),
-        Command::Array { length } => case == "Array"
-            && is_number(u64::from(length.number()), words),
-        Command::Put {
-            object,
-            field,
-            value,
-        } => {
-            case == "Put"
-                && is_handle(object, words)
-                && is_field(*field, words)
-                && is_handle(value, words)
-        }
-        Command::Get { object, field } => {
-            case == "Get" && is_handle(object, words) && is_field(*field, words)
-        }
-        Command::SetInt {
-            object,
-            field,
-            value,
-        } => {
-            case == "SetInt"
-                && is_handle(object, words)
-                && is_field(*field, words)
-                && is_value(*value, words)
-        }
-        Command::Int { object, field } => {
-            case == "Int" && is_handle(object, words) && is_field(*field, words)
-        }
-        Command::Dup { object } => case == "Dup" && is_handle(object, words),
-        Command::Drop { object } => case == "Drop" && is_handle(object, words),
-        Command::Same { left, right } => case == "Same" && are_both(left, right, words),
-        _ => is_reference_case(command, case, words),
-    }
-}
-
-// Commands about references and queues.
-fn is_reference_case(command: &Command<'_>, case: &str, words: &mut SplitWhitespace<'_>) -> bool {
-    match command {
-        Command::Soft { referent, queue } => case == "Soft" && are_both(referent, queue, words),
-        Command::Weak { referent, queue } => case == "Weak" && are_both(referent, queue, words),
-        Command::Phantom { referent, queue } => {
-            case == "Phantom" && are_both(referent, queue, words)
-        }
-        Command::Deref { reference } => case == "Deref" && is_handle(reference, words),
-        Command::Refers { reference, object } => {
-            case == "Refers" && are_both(reference, object, words)
-        }
-        Command::Clear { reference } => case == "Clear" && is_handle(reference, words),
-        Command::Enqueue { reference } => case == "Enqueue" && is_handle(reference, words),
-        Command::Enqueued { reference } => case == "Enqueued" && is_handle(reference, words),
-        Command::Queue => case == "Queue",
-        Command::Poll { queue } => case == "Poll" && is_handle(queue, words),
-        Command::Remove { queue } => case == "Remove" && is_handle(queue, words),
-        _ => is_cleaning_case(command, case, words),
-    }
-}
-
-// Commands about cleaners, files and sockets.
-fn is_cleaning_case(command: &Command<'_>, case: &str, words: &mut SplitWhitespace<'_>) -> bool {
-    match command {
-        Command::Cleaner => case == "Cleaner",
-        Command::Register {
-            cleaner,
-            object,
-            note,
-        } => {
-            case == "Register"
-                && are_both(cleaner, object, words)
-                && is_number(u64::from(*note), words)
-        }
-        Command::Clean { cleanable } => case == "Clean" && is_handle(cleanable, words),
-        Command::Open { mode, path } => {
-            case == "Open"
-                && words.next() == Some(mode_word(mode))
-                && is_text(path.as_str().as_bytes(), words)
-        }
-        Command::Connect { path } => case == "Connect" && is_text(path.as_str().as_bytes(), words),
-        Command::Read { guard, count } => {
-            case == "Read" && is_handle(guard, words) && is_byte(*count, words)
-        }
-        Command::Write { guard, bytes } => {
-            case == "Write" && is_handle(guard, words) && are_spelled(bytes, words)
-        }
-        Command::Close { guard } => case == "Close" && is_handle(guard, words),
-        _ => is_other_case(command, case, words),
-    }
+// A handle and the number of a field.
+fn is_place(object: &Handle, field: FieldNo, words: &mut SplitWhitespace<'_>) -> bool {
+    is_handle(object, words) && is_number(u64::from(field.number()), words)
 }
 
 fn mode_word(mode: &Mode) -> &'static str {
@@ -198,20 +148,99 @@ fn full_word(mode: &FullMode) -> &'static str {
     }
 }
 
-// Commands about names, and about no single object.
-fn is_other_case(command: &Command<'_>, case: &str, words: &mut SplitWhitespace<'_>) -> bool {
+// Two parts, of which both read their words.
+fn both(first: bool, second: bool) -> bool {
+    first && second
+}
+
+// Commands without parts, and those whose parts are handles and fields.
+fn has_parts(command: &Command<'_>, words: &mut SplitWhitespace<'_>) -> bool {
     match command {
-        Command::Bind { name, object } => {
-            case == "Bind" && is_text(name.as_slice(), words) && is_handle(object, words)
+        Command::Queue
+        | Command::Cleaner
+        | Command::Names
+        | Command::Notes
+        | Command::Faults
+        | Command::Stat
+        | Command::Bye => true,
+        Command::Dup { object: handle }
+        | Command::Drop { object: handle }
+        | Command::Deref { reference: handle }
+        | Command::Clear { reference: handle }
+        | Command::Enqueue { reference: handle }
+        | Command::Enqueued { reference: handle }
+        | Command::Poll { queue: handle }
+        | Command::Remove { queue: handle }
+        | Command::Clean { cleanable: handle }
+        | Command::Close { guard: handle } => is_handle(handle, words),
+        Command::Same { left, right }
+        | Command::Soft {
+            referent: left,
+            queue: right,
         }
-        Command::Find { name } => case == "Find" && is_text(name.as_slice(), words),
-        Command::Unbind { name } => case == "Unbind" && is_text(name.as_slice(), words),
-        Command::Names => case == "Names",
-        Command::Notes => case == "Notes",
-        Command::Faults => case == "Faults",
-        Command::Full { mode } => case == "Full" && words.next() == Some(full_word(mode)),
-        Command::Stat => case == "Stat",
-        Command::Bye => case == "Bye",
+        | Command::Weak {
+            referent: left,
+            queue: right,
+        }
+        | Command::Phantom {
+            referent: left,
+            queue: right,
+        }
+        | Command::Refers {
+            reference: left,
+            object: right,
+        } => are_both(left, right, words),
+        Command::Get { object, field } | Command::Int { object, field } => is_place(
+            object, *field, words,
+        ),
+        _ => has_numbers(command, words),
+    }
+}
+
+// Commands with numbers that are no fields alone, and with layouts and modes.
+fn has_numbers(command: &Command<'_>, words: &mut SplitWhitespace<'_>) -> bool {
+    match command {
+        Command::New { layout } => is_layout(layout, words),
+        Command::Array { length } => is_number(u64::from(length.number()), words),
+        Command::Put {
+            object,
+            field,
+            value,
+        } => { both(is_place(object, *field, words), is_handle(value, words)) }
+        Command::SetInt {
+            object,
+            field,
+            value,
+        } => { both(is_place(object, *field, words), is_value(*value, words)) }
+        Command::Register {
+            cleaner,
+            object,
+            note,
+        } => {
+            both(
+                are_both(cleaner, object, words),
+                is_number(u64::from(*note), words),
+            )
+        }
+        Command::Read { guard, count } => both(is_handle(guard, words), is_byte(*count, words)),
+        Command::Full { mode } => words.next() == Some(full_word(mode)),
+        _ => has_texts(command, words),
+    }
+}
+
+// Commands with paths, names and bytes.
+fn has_texts(command: &Command<'_>, words: &mut SplitWhitespace<'_>) -> bool {
+    match command {
+        Command::Open { mode, path } => both(
+            words.next() == Some(mode_word(mode)),
+            is_text(path.as_str().as_bytes(), words),
+        ),
+        Command::Connect { path } => is_text(path.as_str().as_bytes(), words),
+        Command::Write { guard, bytes } => both(is_handle(guard, words), are_spelled(bytes, words)),
+        Command::Bind { name, object } => {
+            both(is_text(name.as_slice(), words), is_handle(object, words))
+        }
+        Command::Find { name } | Command::Unbind { name } => is_text(name.as_slice(), words),
         _ => false,
     }
 }

@@ -20,6 +20,15 @@ fn stream(alloc: Global) -> Result<Vec<u8>, AllocError> {
 /// What the stream above is answered, line by line.
 const ANSWERS: &str = "! 15\n! 16\n! 15\n! 15\n";
 
+/// Writes the refusal of a line, or `ok` where it is a command.
+fn reply(line: &[u8], out: &mut Vec<u8>) -> Result<(), WriteFault> {
+    let answer = match read_command(line) {
+        Ok(_) => Answer::Done,
+        Err(refusal) => Answer::Refused(refusal),
+    };
+    write_reply(&answer, out)
+}
+
 /// Writes a reply for each line that ends in a piece: all of them are refused.
 fn refuse(pieces: &mut Pieces, piece: &[u8], out: &mut Vec<u8>) -> Result<(), WriteFault> {
     let mut rest = piece;
@@ -29,10 +38,7 @@ fn refuse(pieces: &mut Pieces, piece: &[u8], out: &mut Vec<u8>) -> Result<(), Wr
         if fed.got == Got::More {
             return Ok(());
         }
-        match read_command(pieces.line()) {
-            Ok(_) => write_reply(&Answer::Done, out)?,
-            Err(refusal) => write_reply(&Answer::Refused(refusal), out)?,
-        }
+        reply(pieces.line(), out)?;
     }
     Ok(())
 }

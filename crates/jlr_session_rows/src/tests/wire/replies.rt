@@ -1,5 +1,5 @@
 //! Each sort of reply, and its line without its end. An answer that no command is given has no line.
-use super::spelled;
+use super::{is_line, spelled};
 use jlr_machine::ask::Answer;
 use jlr_wire::reply::write_reply;
 use jlr_words::answer_of;
@@ -51,23 +51,28 @@ const ROWS: &str = "
     job 1 note 7 -> no line
 ";
 
-fn is_sent(sent: &[u8], line: &str) -> bool {
-    match sent.split_last() {
-        Some((last, front)) => *last == b'\n' && front == line.as_bytes(),
-        None => line == "no line",
+// Whether this is what an answer is written as.
+fn is_sent(sent: &[u8], is_ok: bool, line: &str) -> bool {
+    if line == "no line" {
+        return !is_ok && sent.is_empty();
     }
+    is_ok && is_line(sent, line)
 }
 
 fn is_written(alloc: Global, answer: &Answer, line: &str) -> bool {
     let mut out = Vec::new(alloc);
     let is_ok = write_reply(answer, &mut out).is_ok();
-    is_ok == (line != "no line") && is_sent(out.as_slice(), line)
+    is_sent(out.as_slice(), is_ok, line)
 }
 
 fn holds(alloc: Global, row: &str) -> Result<bool, AllocError> {
     let (answer, line) = row.split_once(" -> ").unwrap_or((row, ""));
     match answer_of(alloc, answer)? {
-        Some(answer) => Ok(is_written(alloc, &answer, line)),
+        Some(answer) => {
+            let is_written = is_written(alloc, &answer, line);
+            drop(answer);
+            Ok(is_written)
+        }
         None => Ok(false),
     }
 }
