@@ -47,11 +47,21 @@ pub fn advance_plain(
     ensures { IfOk result (λ o. MatchOption o (¬ (IsLegal machine entry.now)) (λ n. IsNext machine entry.now n)) }
 {
     let kept = keeps_seen_plain(&machine, entry);
-    if is_declined(alloc, &machine, entry)? {
+    // The machine is let go by calls: an exit that held it would go through all its parts.
+    let Ok(declined) = is_declined(alloc, &machine, entry) else {
+        drop(machine);
+        return Err(AllocError);
+    };
+    if declined {
         let next = applied(alloc, machine, entry, kept)?;
         return Ok(Some(next));
     }
-    if !may_carry_out(alloc, &machine, entry)? {
+    let Ok(may) = may_carry_out(alloc, &machine, entry) else {
+        drop(machine);
+        return Err(AllocError);
+    };
+    if !may {
+        drop(machine);
         return Ok(None);
     }
     carry_on(alloc, machine, entry, kept)

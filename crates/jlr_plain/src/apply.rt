@@ -18,6 +18,7 @@ use jlr_plain_collections::left::collect_in;
 use jlr_plain_collections::seen::seen_plain;
 use jlr_types::Slot;
 use std::alloc::{AllocError, Global};
+use std::mem::replace;
 
 /// A refused ask changes nothing.
 fn carry_out(
@@ -95,6 +96,7 @@ pub fn apply_plain(alloc: Global, machine: &mut Machine, entry: &Entry) -> Resul
     ensures err { OnErr result (machine.new ≡ machine.old) }
 {
     let copy = copy_machine(alloc, machine)?;
-    *machine = applied(alloc, copy, entry, false)?;
+    let next = applied(alloc, copy, entry, false)?;
+    drop(replace(machine, next));
     Ok(())
 }
