@@ -49,7 +49,13 @@ pub fn spelled_front<W: Watch>(
     let count = trace.count();
     for number in 0..count {
         watch.told(number as usize);
-        let Some(entry) = entries.next(alloc)? else {
+        // The machine is let go by a call: an exit that held it would go through all its parts.
+        let Ok(next) = entries.next(alloc) else {
+            drop(machine);
+            return Err(AllocError);
+        };
+        let Some(entry) = next else {
+            drop(machine);
             return Ok(number);
         };
         match advanced(alloc, machine, entry)? {
@@ -57,6 +63,7 @@ pub fn spelled_front<W: Watch>(
             None => return Ok(number),
         }
     }
+    drop(machine);
     Ok(count)
 }
 
