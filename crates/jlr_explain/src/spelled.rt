@@ -23,7 +23,13 @@ fn machine_before(
 {
     let mut machine = machine;
     for _ in 1..number {
-        let Some(entry) = entries.next(alloc)? else {
+        // The machine is let go by a call: an exit that held it would go through all its parts.
+        let Ok(next) = entries.next(alloc) else {
+            drop(machine);
+            return Err(AllocError);
+        };
+        let Some(entry) = next else {
+            drop(machine);
             return Ok(None);
         };
         match advanced(alloc, machine, entry)? {
