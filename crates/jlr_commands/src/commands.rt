@@ -32,17 +32,37 @@ const AUDIT_EXAMPLE: &str = "Example:\n  refheap audit --explain history";
 
 /// The program's command line.
 pub fn command<'a>(alloc: Global) -> Result<Command<'a>, AllocError> {
-    let run = Command::new(alloc, "run")
-        .about("Carries out commands from standard input, a line each, and answers each by a line")
-        .after_help(RUN_EXAMPLE);
-    Command::new(alloc, "refheap")
+    let program = Command::new(alloc, "refheap")
         .about(
             "Keeps objects until nobody can reach them, with soft, weak and phantom references, queues and a cleaner",
         )
-        .subcommand_required(true)
-        .subcommand(with_heap(alloc, run)?)?
-        .subcommand(serve_command(alloc)?)?
-        .subcommand(audit_command(alloc)?)
+        .subcommand_required(true);
+    let program = with_subcommand(program, run_command(alloc))?;
+    let program = with_subcommand(program, serve_command(alloc))?;
+    with_subcommand(program, audit_command(alloc))
+}
+
+/// A command with one more below it. Where that could not be made the command is let go by a call: an exit that held it would go through all
+/// its parts.
+fn with_subcommand<'a>(
+    command: Command<'a>,
+    below: Result<Command<'a>, AllocError>,
+) -> Result<Command<'a>, AllocError> {
+    match below {
+        Ok(below) => command.subcommand(below),
+        Err(error) => {
+            drop(command);
+            Err(error)
+        }
+    }
+}
+
+/// The command of a session.
+fn run_command<'a>(alloc: Global) -> Result<Command<'a>, AllocError> {
+    let run = Command::new(alloc, "run")
+        .about("Carries out commands from standard input, a line each, and answers each by a line")
+        .after_help(RUN_EXAMPLE);
+    with_heap(alloc, run)
 }
 
 /// A command with the options of its heap, and of the history that is left.
