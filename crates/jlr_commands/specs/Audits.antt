@@ -6,8 +6,8 @@ use Rattle.jlr_trace.specs.declared.file.TraceFault.TheVariants.{Truncated, BadM
 use Rattle.jlr_trace.specs.Files.{HasSpelling, file_text, spelled_file, file_read, FileFails}
 use Rattle.jlr_audit.specs.Verdicts.{IsFileVerdict}
 use Rattle.jlr_commands.specs.declared.audit.Judged.{Judged}
-use Rattle.jlr_commands.specs.declared.fault.ProgramFault.{ProgramFault}
-use Rattle.jlr_commands.specs.declared.fault.ProgramFault.TheVariants as program
+use Rattle.jlr_command_line.specs.declared.fault.ProgramFault.{ProgramFault}
+use Rattle.jlr_command_line.specs.declared.fault.ProgramFault.TheVariants as program
 
 -- the bytes spell a history with so many entries, in this version, and this is the verdict on it
 pub record IsJudged (bytes : List ℕ) (j : Judged) : Type 0 where

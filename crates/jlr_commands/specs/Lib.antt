@@ -1,2 +1,2 @@
-pub mod Status
+pub mod Ends
 pub mod Audits

@@ -4,12 +4,12 @@ ghost use Rattle.jlr_audit.specs.Verdicts.{IsFileVerdict};
 ghost use Rattle.jlr_trace.specs.declared.file.TraceFault.TheVariants.{NoMemory};
 ghost use Rattle.jlr_commands.specs.Audits.{IsJudged, IsDamage, damage};
 
-use crate::arguments::AuditOrder;
-use crate::fault::ProgramFault;
 use crate::progress::Progress;
 use jlr_audit::spelled::audit_spelled;
 use jlr_audit::verdict::Verdict;
 use jlr_audit::watch::Watch;
+use jlr_command_line::arguments::AuditOrder;
+use jlr_command_line::fault::ProgramFault;
 use jlr_explain::spelled::explained;
 use jlr_fields::version::Version;
 use jlr_trace::file::TraceFault;

@@ -1,10 +1,10 @@
 //! What the program does: what the words of its command line ask for.
-use crate::arguments::{self, Order, RunOrder};
 use crate::audit::audit;
-use crate::fault::ProgramFault;
 use crate::save::session_saved;
 use crate::serve::serve;
 use crate::session::session;
+use jlr_command_line::arguments::{self, Order, RunOrder};
+use jlr_command_line::fault::ProgramFault;
 use jlr_device::real::RealDevice;
 use std::sync::Wait;
 use std::thread::Threads;

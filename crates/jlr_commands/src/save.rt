@@ -7,9 +7,9 @@ ghost use Rattle.jlr_saving.specs.Saving.{IsSaved};
 ghost use Rattle.jlr_session.specs.Limits.{FindsEnd, most_bytes};
 ghost use Rattle.jlr_session.specs.declared.shell.SessionEnd.{SessionEnd as SessionEndOf};
 
-use crate::fault::ProgramFault;
 use crate::session::outcome_of;
 use jlr_book::book::Book;
+use jlr_command_line::fault::ProgramFault;
 use jlr_device::Device;
 use jlr_prog::run::run_over;
 use jlr_saving::file::trace_bytes_of;

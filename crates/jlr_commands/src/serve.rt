@@ -3,10 +3,10 @@ ghost use Rattle.std.specs.Prelude.{◌≡◌, ◌↔◌, IfOk, IfSome, IsSome, 
 ghost use Rattle.jlr_book.specs.Histories.{last};
 ghost use Rattle.jlr_saving.specs.Saving.{IsSaved};
 
-use crate::arguments::Service;
-use crate::fault::ProgramFault;
 use crate::save::save;
 use jlr_book::book::Book;
+use jlr_command_line::arguments::Service;
+use jlr_command_line::fault::ProgramFault;
 use jlr_device::real::{RealDevice, RealResource};
 use jlr_hall::closing::CloseFault;
 use jlr_prog::listener::Listener;

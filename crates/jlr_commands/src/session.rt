@@ -5,9 +5,9 @@ ghost use Rattle.jlr_book.specs.Histories.{History};
 ghost use Rattle.jlr_prog.specs.Histories.{IsSession};
 ghost use Rattle.jlr_session.specs.Limits.{FindsEnd, most_bytes};
 ghost use Rattle.jlr_session.specs.declared.shell.SessionEnd.{SessionEnd};
-ghost use Rattle.jlr_commands.specs.Status.{IsOutOfMemory, IsOutcome, fault_after};
+ghost use Rattle.jlr_commands.specs.Ends.{IsOutOfMemory, IsOutcome, fault_after};
 
-use crate::fault::ProgramFault;
+use jlr_command_line::fault::ProgramFault;
 use jlr_device::Device;
 use jlr_prog::run::run_over;
 use jlr_session::shell::SessionEnd;

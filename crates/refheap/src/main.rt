@@ -3,8 +3,8 @@
 
 mod places;
 
+use jlr_command_line::report::status_after;
 use jlr_commands::program::run;
-use jlr_commands::report::status_after;
 use places::StandardPlaces;
 use std::process::ExitCode;
 

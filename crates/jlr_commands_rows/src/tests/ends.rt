@@ -4,7 +4,7 @@
 //! Lists are parted by empty lines. The first line of a list, which ends with a colon, says what its rows show, and one that begins with `#`
 //! is a remark. A row is what is read, an arrow, and, parted by bars, the status, what is said, and what is answered. A `;` ends a line.
 //! After ` to ` stands where the answers go, if they are not kept.
-use jlr_commands::report::status_after;
+use jlr_command_line::report::status_after;
 use jlr_commands::session::session;
 use jlr_device::real::RealDevice;
 use jlr_types::Limits;

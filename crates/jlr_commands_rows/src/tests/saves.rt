@@ -1,5 +1,5 @@
 //! Saved histories: each row is what a session reads, with `;` for the end of a line, an arrow, and the verdict on the history that it saved.
-use jlr_commands::arguments::AuditOrder;
+use jlr_command_line::arguments::AuditOrder;
 use jlr_commands::audit::audit;
 use jlr_commands::save::session_saved;
 use jlr_device::real::RealDevice;

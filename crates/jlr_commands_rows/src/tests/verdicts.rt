@@ -1,8 +1,8 @@
 //! Each end of an audit: the status of the program, what it says on the standard error, and what it writes.
 use super::ends::Kept;
-use jlr_commands::arguments::AuditOrder;
+use jlr_command_line::arguments::AuditOrder;
+use jlr_command_line::report::status_after;
 use jlr_commands::audit::audit;
-use jlr_commands::report::status_after;
 use std::alloc::{AllocError, Global};
 use std::cell::RefCell;
 use std::fs;

@@ -2,7 +2,7 @@ use Rattle.std.proofs.Common.{ℕ, List, Result, Ok, Err}
 use Rattle.std.specs.Prelude.{IfErr, ◌≡◌}
 use Rattle.jlr_trace.specs.declared.file.TraceFault.TheVariants.{NoMemory}
 use Rattle.jlr_commands.specs.declared.audit.Judged.{Judged}
-use Rattle.jlr_commands.specs.declared.fault.ProgramFault.{ProgramFault}
+use Rattle.jlr_command_line.specs.declared.fault.ProgramFault.{ProgramFault}
 use Rattle.jlr_commands.specs.Audits.{IsDamage, damage}
 use Rattle.jlr_commands.proofs.audit.verdict_of.Goals as goal
 

@@ -2,7 +2,7 @@
 ghost use Rattle.std.specs.Prelude.{◌≡◌, ◌≢◌, ◌⊎◌, IfOk, IfErr};
 ghost use Rattle.clap.specs.Values.{kind_of};
 ghost use Rattle.jlr_types.specs.Ranges.{first_fault};
-ghost use Rattle.jlr_commands.specs.Status.{status_of};
+ghost use Rattle.jlr_command_line.specs.Status.{status_of};
 
 use crate::commands::{
     DEFAULT_BUDGET, DEFAULT_CELLS, DEFAULT_RESOURCES, DEFAULT_SESSIONS, DEFAULT_SOFT_AGE,

@@ -1,6 +1,6 @@
 //! Why the program ends with a status other than 0.
 ghost use Rattle.std.specs.Prelude.{◌≡◌};
-ghost use Rattle.jlr_commands.specs.Status.{status_of};
+ghost use Rattle.jlr_command_line.specs.Status.{status_of};
 
 use std::alloc::AllocError;
 use thiserror::Error;

@@ -1,5 +1,5 @@
 //! Faults of the program: their statuses and their words.
-use jlr_commands::fault::ProgramFault;
+use jlr_command_line::fault::ProgramFault;
 use std::alloc::AllocError;
 use std::test::Fail;
 

@@ -1,5 +1,5 @@
 //! Command lines: each row is a line, an arrow, and what it asks for.
-use jlr_commands::arguments::{AuditOrder, Order, order_of};
+use jlr_command_line::arguments::{AuditOrder, Order, order_of};
 use jlr_types::Limits;
 use std::alloc::Global;
 use std::test::Fail;

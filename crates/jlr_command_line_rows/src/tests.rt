@@ -1,0 +1,3 @@
+//! The program's command lines and its faults.
+mod arguments;
+mod faults;
