@@ -58,7 +58,18 @@ fn copy_bindings(alloc: Global, bindings: &[Binding]) -> Result<Vec<Binding>, Al
 
 /// The same numbers, with lists and tables that are empty.
 fn without_lists(alloc: Global, machine: &Machine) -> Machine
-    ensures { result ≡ record machine.now { objects = []; mutators = []; names = []; pending = []; line = []; jobs = []; resources = []; faults = []; notes = []; seen = [] } }
+    ensures { result ≡ record machine.now {
+      objects = [];
+      mutators = [];
+      names = [];
+      pending = [];
+      line = [];
+      jobs = [];
+      resources = [];
+      faults = [];
+      notes = [];
+      seen = [];
+    } }
 {
     Machine {
         objects: Table::from_vec(Vec::new(alloc)),

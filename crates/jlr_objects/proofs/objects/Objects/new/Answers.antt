@@ -7,7 +7,9 @@ use Rattle.jlr_objects.proofs.Shown.{new_are}
 use Rattle.jlr_objects.proofs.objects.Objects.new.Goals as goal
 
 pub invariant_of-result : goal.invariant_of-result
-invariant_of-result c = new_are c.args.cells _ _ _ _ c.in-Ok-new.ensures (ap (λ (o : Occupied). o.places) c.in-Ok.ensures) (ap (λ (o : Occupied). o.used) c.in-Ok.ensures) c.in_ok-listed.ensures
+invariant_of-result c =
+    new_are c.args.cells _ _ _ _ c.in-Ok-new.ensures
+    (ap (λ (o : Occupied). o.places) c.in-Ok.ensures) (ap (λ (o : Occupied). o.used) c.in-Ok.ensures) c.in_ok-listed.ensures
 
 pub returns : goal.returns
 returns c =
