@@ -35,11 +35,15 @@ all_counts : (version : Version) (xs : List Placed) → AllByRecursion (PlacedFi
 all_counts version [] all = tt
 all_counts version (p ∷ xs) all = (object_counts version p.object all.0.object, all_counts version xs all.1)
 
-behind : (version : Version) (front back : List Placed) → AllByRecursion (PlacedFits version) (front ++ back) → AllByRecursion (PlacedFits version) back
+behind :
+    (version : Version) (front back : List Placed) → AllByRecursion (PlacedFits version) (front ++ back)
+    → AllByRecursion (PlacedFits version) back
 behind version [] back all = all
 behind version (p ∷ front) back all = behind version front back all.1
 
-table_counts : (version : Version) (n : ℕ) (places : List (Option Object)) (back : List Placed) → AllByRecursion (PlacedFits version) (listed_from placed n places ++ back) → AllByRecursion PlaceCounts places
+table_counts :
+    (version : Version) (n : ℕ) (places : List (Option Object)) (back : List Placed)
+    → AllByRecursion (PlacedFits version) (listed_from placed n places ++ back) → AllByRecursion PlaceCounts places
 table_counts version n [] back all = tt
 table_counts version n (None ∷ places) back all = (tt, table_counts version (suc n) places back all)
 table_counts version n (Some o ∷ places) back all = (object_counts version o all.0.object, table_counts version (suc n) places back all.1)
@@ -90,7 +94,10 @@ pub entry_counts : (version : Version) (e : Entry) → EntryFits version e → E
 entry_counts version e fits = record {
   ask = fits.ask;
   answer = answer_counts e.answer fits.answer;
-  choice = record { collected = collection_counts e.choice.collected fits.choice.collected; fresh = let le = fits.choice.fresh.few in omega (arith, le) };
+  choice = record {
+    collected = collection_counts e.choice.collected fits.choice.collected;
+    fresh = let le = fits.choice.fresh.few in omega (arith, le);
+  };
 }
 
 -- ---- Images

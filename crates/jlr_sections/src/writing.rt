@@ -68,7 +68,8 @@ fn put_handles(out: &mut Vec<u8>, handles: &Table<Slot>) -> Result<(), AllocErro
 
 fn put_joined(out: &mut Vec<u8>, session: &Session) -> Result<(), AllocError>
     requires { length session.now.handles ≤ 256 }
-    ensures { OnOk result (out.new.items ≡ out.old.items ++ 1 ∷ spelled_handles session.now.handles ++ spelled_option session.now.fence ++ spelled_call session.now.call) }
+    ensures { OnOk result (out.new.items ≡ out.old.items ++ 1 ∷ spelled_handles session.now.handles
+        ++ spelled_option session.now.fence ++ spelled_call session.now.call) }
 {
     put_u8(out, 1)?;
     put_handles(out, &session.handles)?;
@@ -185,8 +186,8 @@ fn put_counts(out: &mut Vec<u8>, machine: &Machine) -> Result<(), AllocError>
     put_u64(out, machine.failed)
 }
 
-/// Writes an image whose lists are short enough for their counts: a machine, how many entries there were before, and the objects in slots that
-/// are no cells of it. The places of handles that have nothing are not written, nor what was seen in a cycle.
+/// Writes an image whose lists are short enough for their counts: a machine, how many entries there were before, and the
+/// objects in slots that are no cells of it. The places of handles that have nothing are not written, nor what was seen in a cycle.
 ///
 /// # Errors
 /// `AllocError` where there is no memory.

@@ -18,9 +18,16 @@ returns c =
     let w : List ℕ = spelled_waiting (waiting_of m) in
     let r : List ℕ = spelled_records (records_of m) in
     let n : List ℕ = spelled_counts (counts_of m) in
-    let two : c.put_objects.new.out.items ≡ old ++ (h ++ o) = joined old c.put_head.new.out.items c.put_objects.new.out.items h o c.in_ok-put_head.ensures c.in_ok-put_objects.ensures in
-    let behind : c.put_sessions.new.out.items ≡ c.put_objects.new.out.items ++ s = c.in_ok-put_sessions.ensures ∙ ap (λ (t : List ℕ). c.put_objects.new.out.items ++ t) (sessions_are m.mutators) in
-    let three : c.put_sessions.new.out.items ≡ old ++ ((h ++ o) ++ s) = joined old c.put_objects.new.out.items c.put_sessions.new.out.items (h ++ o) s two behind in
-    let four : c.put_waiting.new.out.items ≡ old ++ (((h ++ o) ++ s) ++ w) = joined old c.put_sessions.new.out.items c.put_waiting.new.out.items ((h ++ o) ++ s) w three c.in_ok-put_waiting.ensures in
-    let five : c.put_records.new.out.items ≡ old ++ ((((h ++ o) ++ s) ++ w) ++ r) = joined old c.put_waiting.new.out.items c.put_records.new.out.items (((h ++ o) ++ s) ++ w) r four c.in_ok-put_records.ensures in
-    then_written c.put_counts.result old c.put_records.new.out.items c.put_counts.new.out.items ((((h ++ o) ++ s) ++ w) ++ r) n five c.put_counts.ensures
+    let two : c.put_objects.new.out.items ≡ old ++ (h ++ o) =
+    joined old c.put_head.new.out.items c.put_objects.new.out.items h o c.in_ok-put_head.ensures c.in_ok-put_objects.ensures in
+    let behind : c.put_sessions.new.out.items ≡ c.put_objects.new.out.items ++ s =
+    c.in_ok-put_sessions.ensures ∙ ap (λ (t : List ℕ). c.put_objects.new.out.items ++ t) (sessions_are m.mutators) in
+    let three : c.put_sessions.new.out.items ≡ old ++ ((h ++ o) ++ s) =
+    joined old c.put_objects.new.out.items c.put_sessions.new.out.items (h ++ o) s two behind in
+    let four : c.put_waiting.new.out.items ≡ old ++ (((h ++ o) ++ s) ++ w) =
+    joined old c.put_sessions.new.out.items c.put_waiting.new.out.items ((h ++ o) ++ s) w three c.in_ok-put_waiting.ensures in
+    let five : c.put_records.new.out.items ≡ old ++ ((((h ++ o) ++ s) ++ w) ++ r) =
+    joined old c.put_waiting.new.out.items c.put_records.new.out.items (((h ++ o) ++ s) ++ w) r
+    four c.in_ok-put_records.ensures in
+    then_written c.put_counts.result old c.put_records.new.out.items c.put_counts.new.out.items
+    ((((h ++ o) ++ s) ++ w) ++ r) n five c.put_counts.ensures
