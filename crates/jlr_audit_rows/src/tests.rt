@@ -1,5 +1,7 @@
 //! The tests, a file for each topic.
+mod changes;
 mod copies;
 mod older;
+mod player;
 mod reading;
 mod verdicts;

@@ -3,7 +3,7 @@ ghost use Rattle.std.specs.Prelude.{◌≡◌, ◌⊎◌, ◌≤◌, ◌<◌, �
 ghost use Rattle.jlr_machine.specs.Data.{Brings};
 ghost use Rattle.jlr_machine.specs.Refusals.{is_end, refusal};
 ghost use Rattle.jlr_event.specs.Events.{ask_of};
-ghost use Rattle.jlr_core.specs.TakeUps.{handed_out, take_up_answered};
+ghost use Rattle.jlr_state.specs.TakeUps.{handed_out, take_up_answered};
 ghost use Rattle.jlr_book.specs.Due.{IsDue};
 ghost use Rattle.jlr_book.specs.Lists.{is_brief};
 ghost use Rattle.jlr_book.specs.Histories.{empty_of, last, HasNumbers, IsHistory, IsNewBook};
@@ -273,7 +273,7 @@ impl<R: Drop> Book<R> {
 
     /// A step of the handler, if its entry finds its place and nothing has to be cut: what `step` does for `HandOver` then. Else
     /// nothing is done.
-    pub(crate) fn hand_over_briefly(&mut self, seat: u8) -> Option<Handed>
+    pub fn hand_over_briefly(&mut self, seat: u8) -> Option<Handed>
         ensures { MatchOption result (self.new ≡ self.old)
             (λ handed. BookSteps seat self.old Event.HandOver (Reply.Answered (Answer.Handed handed) None) self.new) }
     {
@@ -295,7 +295,7 @@ impl<R: Drop> Book<R> {
 
     /// A step of the cleaner, if its entry finds its place and nothing has to be cut: what `step` does for `TakeUp` then. Else nothing
     /// is done.
-    pub(crate) fn take_up_briefly(&mut self, seat: u8) -> Option<Result<Option<Job<R>>, Refusal>>
+    pub fn take_up_briefly(&mut self, seat: u8) -> Option<Result<Option<Job<R>>, Refusal>>
         ensures { MatchOption result (self.new ≡ self.old)
             (λ taken. BookSteps seat self.old Event.TakeUp (Reply.Answered (take_up_answered taken) (handed_out taken)) self.new) }
     {
@@ -316,7 +316,7 @@ impl<R: Drop> Book<R> {
     }
 
     /// The end of a job: what `step` does for a `Finish`, which finds its place always. Where the core refuses it, it is no entry.
-    pub(crate) fn end_job(&mut self, seat: u8, by: u8, action: ActionNo, outcome: Result<(), Fault>)
+    pub fn end_job(&mut self, seat: u8, by: u8, action: ActionNo, outcome: Result<(), Fault>)
         ensures { (reply : Reply R) × BookSteps seat self.old (Event.Finish by action outcome) reply self.new }
     {
         let answer = self.core.finish(by, action, outcome);

@@ -6,4 +6,3 @@ mod cut;
 mod entry;
 pub mod event;
 pub mod room;
-pub mod solo;

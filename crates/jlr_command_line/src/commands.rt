@@ -102,44 +102,43 @@ fn audit_command<'a>(alloc: Global) -> Result<Command<'a>, AllocError> {
 
 // ---- Options
 
+/// An option whose value is a number of this range, both bounds in it.
+fn number_option<'a>(
+    alloc: Global,
+    name: &'a str,
+    (least, most): (i64, i64),
+    help: &'a str,
+) -> Arg<'a> {
+    Arg::new(alloc, name)
+        .long(name)
+        .value_name("N")
+        .help(help)
+        .value_parser(value_parser!(u32).range(least..=most))
+}
+
 /// How many cells the heap has.
 fn cells_option<'a>(alloc: Global) -> Arg<'a> {
-    Arg::new(alloc, "cells")
-        .long("cells")
-        .value_name("N")
-        .help("Number of cells of the heap, from 16 to 65536")
-        .value_parser(value_parser!(u32).range(16..=65_536))
-        .default_value("1024")
+    let help = "Number of cells of the heap, from 16 to 65536";
+    number_option(alloc, "cells", (16, 65_536), help).default_value("1024")
 }
 
 /// How many files and sockets may be open at once.
 fn resources_option<'a>(alloc: Global) -> Arg<'a> {
-    Arg::new(alloc, "resources")
-        .long("resources")
-        .value_name("N")
-        .help("Number of files and sockets that may be open at once, from 1 to 256")
-        .value_parser(value_parser!(u32).range(1..=256))
-        .default_value("16")
+    let help = "Number of files and sockets that may be open at once, from 1 to 256";
+    number_option(alloc, "resources", (1, 256), help).default_value("16")
 }
 
 /// For how many collections a soft reference keeps its referent.
 fn soft_age_option<'a>(alloc: Global) -> Arg<'a> {
-    Arg::new(alloc, "soft-age")
-        .long("soft-age")
-        .value_name("N")
-        .help("Number of collections for which a soft reference keeps its referent, from 0 to 1000")
-        .value_parser(value_parser!(u32).range(0..=1_000))
-        .default_value("4")
+    let help =
+        "Number of collections for which a soft reference keeps its referent, from 0 to 1000";
+    number_option(alloc, "soft-age", (0, 1_000), help).default_value("4")
 }
 
 /// After how many entries the trace is cut.
 fn trace_option<'a>(alloc: Global) -> Arg<'a> {
-    Arg::new(alloc, "trace")
-        .long("trace")
-        .value_name("N")
-        .help("Number of entries after which the trace is cut, from 64 to 1000000")
-        .value_parser(value_parser!(u32).range(64..=1_000_000))
-        .default_value("10000")
+    let help = "Number of entries after which the trace is cut, from 64 to 1000000";
+    number_option(alloc, "trace", (64, 1_000_000), help).default_value("10000")
 }
 
 /// Where the history is saved.
@@ -161,34 +160,21 @@ fn socket_option<'a>(alloc: Global) -> Arg<'a> {
 
 /// After how many clients a server ends.
 fn total_option<'a>(alloc: Global) -> Arg<'a> {
-    Arg::new(alloc, "total")
-        .long("total")
-        .value_name("N")
-        .help("Number of clients after which it ends, from 1 to 1000000")
-        .value_parser(value_parser!(u32).range(1..=1_000_000))
-        .required(true)
+    let help = "Number of clients after which it ends, from 1 to 1000000";
+    number_option(alloc, "total", (1, 1_000_000), help).required(true)
 }
 
 /// How many clients are served at once.
 fn sessions_option<'a>(alloc: Global) -> Arg<'a> {
-    Arg::new(alloc, "sessions")
-        .long("sessions")
-        .value_name("N")
-        .help("Number of clients that are served at once, from 1 to 64")
-        .value_parser(value_parser!(u32).range(1..=64))
-        .default_value("4")
+    let help = "Number of clients that are served at once, from 1 to 64";
+    number_option(alloc, "sessions", (1, 64), help).default_value("4")
 }
 
 /// How many cells the background marker visits at a time.
 fn budget_option<'a>(alloc: Global) -> Arg<'a> {
-    Arg::new(alloc, "budget")
-        .long("budget")
-        .value_name("N")
-        .help(
-            "Number of cells that the background marker visits at a time while all clients wait, from 1 to 4096",
-        )
-        .value_parser(value_parser!(u32).range(1..=4_096))
-        .default_value("64")
+    let help =
+        "Number of cells that the background marker visits at a time while all clients wait, from 1 to 4096";
+    number_option(alloc, "budget", (1, 4_096), help).default_value("64")
 }
 
 /// Which history is audited.

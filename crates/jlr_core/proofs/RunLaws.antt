@@ -6,7 +6,7 @@ use Rattle.std.specs.List.Sorted.{IsPermutation}
 use Rattle.std.proofs.lemmas.List.Sorted.{IsPermutation-append_comm, IsPermutation-append_left, IsPermutation-append_right, IsPermutation-refl, IsPermutation-trans}
 use Rattle.jlr_types.specs.declared.limits.Limits.{Limits}
 use Rattle.jlr_resource.specs.Resources.{Resources, values}
-use Rattle.jlr_core.specs.Flows.{Conserves}
+use Rattle.jlr_state.specs.Flows.{Conserves}
 use Rattle.jlr_machine.specs.declared.object.Object.{Object}
 use Rattle.std.specs.Option.{option_to_list}
 use Rattle.jlr_machine.specs.declared.machine.Machine.{Machine}
@@ -20,7 +20,7 @@ use Rattle.jlr_histories.proofs.Promises.{runs_keep_the_promises}
 use Rattle.jlr_event.specs.declared.event.Event.{Event}
 use Rattle.jlr_event.specs.declared.event.Reply.{Reply}
 use Rattle.jlr_event.specs.Events.{ask_of, answer_in, resource_of_event, resource_of_reply}
-use Rattle.jlr_core.specs.Events.{entry_with, Enters}
+use Rattle.jlr_state.specs.Events.{entry_with, Enters}
 use Rattle.jlr_core.specs.Cores.{Kept, StandsIn}
 use Rattle.jlr_core.specs.Steps.{IsEmpty, IsStep}
 use Rattle.jlr_core.specs.Runs.{entries_of, AreAnswered, AreSteps, IsRunOf, resources_of_events, resources_of_replies}

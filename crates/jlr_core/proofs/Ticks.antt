@@ -25,8 +25,8 @@ use Rattle.jlr_event.specs.declared.event.Reply.{Reply}
 use Rattle.jlr_event.specs.Events.{ask_of, answer_in}
 use Rattle.jlr_core.specs.Cores.{Kept}
 use Rattle.jlr_core.specs.Cycles.{CountsItsCycles, GoesThrough, IsInCycle, TakesAtMost, blackened_in, made_in, ticks_in}
-use Rattle.jlr_core.specs.Marks.{MarksBy, MarksStay, budget_of, has_grey, ticks_between}
-use Rattle.jlr_core.specs.Policy.{KeepsByPolicy, KeepsMarked}
+use Rattle.jlr_state.specs.Marks.{MarksBy, MarksStay, budget_of, has_grey, ticks_between}
+use Rattle.jlr_state.specs.Policy.{KeepsByPolicy, KeepsMarked}
 use Rattle.jlr_core.specs.Steps.{IsStep}
 
 -- ---- How far a cell came, in ticks, where the object at a slot takes at most f of them

@@ -7,7 +7,7 @@ use Rattle.jlr_cleaner.specs.Cleanings.{Cleanings}
 use Rattle.jlr_barrier.specs.Graphs.{Clock, Known}
 use Rattle.jlr_machine.specs.StandsFor.{StandsFor}
 use Rattle.jlr_marks.specs.Marking.{Marking}
-use Rattle.jlr_core.specs.State.{machine_with, marked_in}
+use Rattle.jlr_state.specs.State.{machine_with, marked_in}
 
 pub record Kept (R : Type 0) : Type 0 where
   -- with nothing seen

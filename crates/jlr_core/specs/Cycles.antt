@@ -12,7 +12,7 @@ use Rattle.jlr_event.specs.declared.event.Event.{Event}
 use Rattle.jlr_event.specs.declared.event.Reply.{Reply}
 use Rattle.jlr_event.specs.Events.{ask_of, answer_in}
 use Rattle.jlr_core.specs.Cores.{Kept}
-use Rattle.jlr_core.specs.Marks.{blackened, budget_of, ticks_between}
+use Rattle.jlr_state.specs.Marks.{blackened, budget_of, ticks_between}
 use Rattle.jlr_core.specs.Steps.{IsStep}
 
 -- how many cells a piece of marking blackened, and how often it ticked

@@ -1,17 +1,5 @@
--- What a core's state is, what collections do to it, and what the core's events mean.
-pub mod State
-pub mod Machines
-pub mod Collecting
-pub mod Flows
-pub mod TakeUps
-pub mod Waiting
-pub mod Guards
-pub mod Preparing
-pub mod Policy
-pub mod Marks
-pub mod Events
+-- What a core is seen as, and what its steps and its runs are.
 pub mod Cores
 pub mod Steps
-pub mod Looks
 pub mod Runs
 pub mod Cycles

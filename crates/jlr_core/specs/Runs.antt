@@ -11,7 +11,7 @@ use Rattle.jlr_event.specs.declared.event.Event.{Event}
 use Rattle.jlr_event.specs.declared.event.Reply.{Reply}
 use Rattle.jlr_event.specs.Events.{ask_of, answer_in, resource_of_event, resource_of_reply}
 use Rattle.jlr_core.specs.Cores.{Kept, StandsIn}
-use Rattle.jlr_core.specs.Events.{entry_with}
+use Rattle.jlr_state.specs.Events.{entry_with}
 use Rattle.jlr_core.specs.Steps.{IsEmpty, IsStep}
 
 -- the entries of events with their replies and choices, in order. A piece of marking is none

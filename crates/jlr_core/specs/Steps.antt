@@ -12,10 +12,10 @@ use Rattle.jlr_event.specs.declared.event.Event.{Event}
 use Rattle.jlr_event.specs.declared.event.Reply.{Reply}
 use Rattle.jlr_event.specs.Events.{ask_of, answer_in, resource_of_event, resource_of_reply}
 use Rattle.jlr_core.specs.Cores.{Kept, StandsIn}
-use Rattle.jlr_core.specs.Events.{Enters, WantsMemory}
-use Rattle.jlr_core.specs.Flows.{Conserves, GoesOut, Moves}
-use Rattle.jlr_core.specs.Policy.{KeepsByPolicy, clock_after}
-use Rattle.jlr_core.specs.Marks.{Begins, BlackensNew, MarksBy, budget_of, has_grey}
+use Rattle.jlr_state.specs.Events.{Enters, WantsMemory}
+use Rattle.jlr_state.specs.Flows.{Conserves, GoesOut, Moves}
+use Rattle.jlr_state.specs.Policy.{KeepsByPolicy, clock_after}
+use Rattle.jlr_state.specs.Marks.{Begins, BlackensNew, MarksBy, budget_of, has_grey}
 
 -- The core of the empty machine of these limits, whose first action number is this one, with no file or socket.
 pub record IsEmpty {R : Type 0} (cells sessions limit soft_age first : ℕ) (core : Kept R) : Type 0 where

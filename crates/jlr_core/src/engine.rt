@@ -5,16 +5,18 @@ ghost use Rattle.jlr_machine.specs.Refusals.{refusal};
 ghost use Rattle.jlr_machine.specs.Run.{no_choice};
 ghost use Rattle.jlr_event.specs.Events.{ask_of};
 ghost use Rattle.jlr_histories.specs.Collecting.{may_collect};
-ghost use Rattle.jlr_core.specs.Events.{is_plain};
+ghost use Rattle.jlr_state.specs.Events.{is_plain};
 ghost use Rattle.jlr_core.specs.Steps.{IsEmpty, IsStep};
-ghost use Rattle.jlr_core.specs.TakeUps.{handed_out, take_up_answered};
+ghost use Rattle.jlr_state.specs.TakeUps.{handed_out, take_up_answered};
 
-use crate::state::State;
+use crate::dispatch::{step, step_cleaner, step_finish, step_handler, step_plain};
+use crate::looks;
 use jlr_cleaner::Job;
 use jlr_event::event::{Event, Reply};
 use jlr_machine::ask::{Answer, Ask, Handed};
 use jlr_machine::choice::Choice;
 use jlr_machine::machine::Machine;
+use jlr_state::state::State;
 use jlr_types::{ActionNo, Fault, Handle, Limits, Mutator, Progress, Refusal};
 use std::alloc::{AllocError, Global};
 use std::marker::Model;
@@ -27,9 +29,9 @@ pub struct Core<R> {
 
 impl<R> Model for Core<R> {
     ghost use Rattle.jlr_machine.specs.WellFormed.{IsWellFormed};
-    ghost use Rattle.jlr_core.specs.State.{machine_with};
+    ghost use Rattle.jlr_state.specs.State.{machine_with};
     ghost use Rattle.jlr_core.specs.Cores.{Kept, kept_with};
-    ghost use Rattle.jlr_core.specs.Waiting.{AllWait};
+    ghost use Rattle.jlr_state.specs.Waiting.{AllWait};
 
     ghost Value = { Kept R };
 
@@ -76,7 +78,7 @@ impl<R> Core<R> {
         ensures cells { length self.new.machine.objects ≡ length self.old.machine.objects }
     {
         choice.clear();
-        self.state.step(event, choice)
+        step(&mut self.state, event, choice)
     }
 
     /// One event of those that carry no resource, neither in nor out, and are no piece of marking: what `step` does for it, and what it is
@@ -90,7 +92,7 @@ impl<R> Core<R> {
         ensures cells { length self.new.machine.objects ≡ length self.old.machine.objects }
     {
         choice.clear();
-        self.state.step_plain(event, choice)
+        step_plain(&mut self.state, event, choice)
     }
 
     /// A piece of marking of at most so many ticks: what `step` does for a `Mark`, which chooses nothing. Nothing is moved for it but its budget.
@@ -106,7 +108,7 @@ impl<R> Core<R> {
         ensures step { IsStep self.old Event.HandOver (Reply.Answered (Answer.Handed result) None) no_choice self.new }
         ensures cells { length self.new.machine.objects ≡ length self.old.machine.objects }
     {
-        self.state.step_handler()
+        step_handler(&mut self.state)
     }
 
     /// A step of the cleaner: what `step` does for `TakeUp`, which chooses nothing. The job that was taken up, with its resource; none
@@ -118,7 +120,7 @@ impl<R> Core<R> {
         ensures step { IsStep self.old Event.TakeUp (Reply.Answered (take_up_answered result) (handed_out result)) no_choice self.new }
         ensures cells { length self.new.machine.objects ≡ length self.old.machine.objects }
     {
-        self.state.step_cleaner()
+        step_cleaner(&mut self.state)
     }
 
     /// The end of a job that a mutator took up, or, by 255, the cleaner: what `step` does for `Finish`, which chooses nothing. It is
@@ -127,7 +129,7 @@ impl<R> Core<R> {
         ensures step { IsStep self.old (Event.Finish by action outcome) (Reply.Answered result None) no_choice self.new }
         ensures cells { length self.new.machine.objects ≡ length self.old.machine.objects }
     {
-        self.state.step_finish(by, action, outcome)
+        step_finish(&mut self.state, by, action, outcome)
     }
 
     /// Whether an event may come with a collection: a full collection, a `Collect` in an open cycle, and an ask whose objects find no room.
@@ -135,28 +137,28 @@ impl<R> Core<R> {
     pub fn will_collect(&self, event: &Event<R>) -> bool
         ensures { result ≡ may_collect self.now.machine (ask_of event.now) }
     {
-        self.state.will_collect(event)
+        looks::will_collect(&self.state, event)
     }
 
     /// Whether a `Remove` of a mutator on a queue would be refused `WouldWait`.
     pub fn would_wait(&self, by: Mutator, queue: Handle) -> bool
         ensures { IsTrue result ↔ (refusal self.now.machine (Ask.Remove by queue) ≡ Some Refusal.WouldWait) }
     {
-        self.state.would_wait(by, queue)
+        looks::would_wait(&self.state, by, queue)
     }
 
     /// Whether nothing is pending, so that a step of the handler would find nothing.
     pub fn pending_empty(&self) -> bool
         ensures { IsTrue result ↔ (self.now.machine.pending ≡ []) }
     {
-        self.state.pending_empty()
+        looks::pending_empty(&self.state)
     }
 
     /// Whether nothing stands in the cleaner's line, so that the cleaner would find nothing to take up.
     pub fn line_empty(&self) -> bool
         ensures { IsTrue result ↔ (self.now.machine.line ≡ []) }
     {
-        self.state.line_empty()
+        looks::line_empty(&self.state)
     }
 
     /// Whether a cycle is open.

@@ -2,9 +2,7 @@
 #![tactic(auto)]
 
 mod cleaning;
-mod collect;
 mod counts;
-mod cycles;
 mod dispatch;
 pub mod engine;
 mod handles;
@@ -12,8 +10,5 @@ pub mod laws;
 mod looks;
 mod names;
 mod objects;
-mod prepare;
 mod references;
-mod resources;
 pub mod run;
-mod state;

@@ -5,58 +5,56 @@ ghost use Rattle.jlr_machine.specs.Run.{has_room};
 ghost use Rattle.jlr_machine.specs.WellFormed.{IsWellFormed};
 ghost use Rattle.jlr_event.specs.Events.{ask_of};
 ghost use Rattle.jlr_histories.specs.Collecting.{may_collect};
-ghost use Rattle.jlr_core.specs.Looks.{cells_for};
+ghost use Rattle.jlr_state.specs.Looks.{cells_for};
+ghost use Rattle.jlr_state.specs.Machines.{machine_of};
 
-use crate::state::State;
+use crate::references;
 use jlr_event::event::Event;
 use jlr_machine::ask::Ask;
+use jlr_state::state::State;
 use jlr_types::{Handle, Mutator, Refusal};
 
-impl<R> State<R> {
-    ghost use Rattle.jlr_core.specs.Machines.{machine_of};
-
-    /// Whether an event may come with a collection, whatever it is refused by.
-    pub(crate) fn will_collect(&self, event: &Event<R>) -> bool
-        ensures { result ≡ may_collect (machine_of self.now) (ask_of event.now) }
-    {
-        match event {
-            Event::Full { .. } => true,
-            Event::Collect => self.cycle_open,
-            _ => self.lacks_room(cells_for(event)),
-        }
+/// Whether an event may come with a collection, whatever it is refused by.
+pub(crate) fn will_collect<R>(state: &State<R>, event: &Event<R>) -> bool
+    ensures { result ≡ may_collect (machine_of state.now) (ask_of event.now) }
+{
+    match event {
+        Event::Full { .. } => true,
+        Event::Collect => state.cycle_open,
+        _ => lacks_room(state, cells_for(event)),
     }
+}
 
-    /// Whether fewer cells are free.
-    fn lacks_room(&self, cells: u32) -> bool
-        ensures { result ≡ not (has_room (machine_of self.now) cells) }
-    {
-        self.heap.vacant_count() < cells
-    }
+/// Whether fewer cells are free.
+fn lacks_room<R>(state: &State<R>, cells: u32) -> bool
+    ensures { result ≡ not (has_room (machine_of state.now) cells) }
+{
+    state.heap.vacant_count() < cells
+}
 
-    /// Whether a `Remove` would be refused because its queue is empty, and nothing that comes before it in the order of refusals.
-    pub(crate) fn would_wait(&self, by: Mutator, queue: Handle) -> bool
-        requires { IsWellFormed (machine_of self.now) }
-        ensures { IsTrue result ↔ (refusal (machine_of self.now) (Ask.Remove by queue) ≡ Some Refusal.WouldWait) }
-    {
-        match self.check_remove(by, queue) {
-            Ok(_) => false,
-            Err(refusal) => refusal == Refusal::WouldWait,
-        }
+/// Whether a `Remove` would be refused because its queue is empty, and nothing that comes before it in the order of refusals.
+pub(crate) fn would_wait<R>(state: &State<R>, by: Mutator, queue: Handle) -> bool
+    requires { IsWellFormed (machine_of state.now) }
+    ensures { IsTrue result ↔ (refusal (machine_of state.now) (Ask.Remove by queue) ≡ Some Refusal.WouldWait) }
+{
+    match references::check_remove(state, by, queue) {
+        Ok(_) => false,
+        Err(refusal) => refusal == Refusal::WouldWait,
     }
+}
 
-    /// Whether nothing is pending.
-    pub(crate) fn pending_empty(&self) -> bool
-        ensures { IsTrue result ↔ ((machine_of self.now).pending ≡ []) }
-    {
-        self.heap.first_pending().is_none()
-    }
+/// Whether nothing is pending.
+pub(crate) fn pending_empty<R>(state: &State<R>) -> bool
+    ensures { IsTrue result ↔ ((machine_of state.now).pending ≡ []) }
+{
+    state.heap.first_pending().is_none()
+}
 
-    /// Whether nothing stands in the cleaner's line.
-    pub(crate) fn line_empty(&self) -> bool
-        ensures { IsTrue result ↔ ((machine_of self.now).line ≡ []) }
-    {
-        self.heap.first_lined().is_none()
-    }
+/// Whether nothing stands in the cleaner's line.
+pub(crate) fn line_empty<R>(state: &State<R>) -> bool
+    ensures { IsTrue result ↔ ((machine_of state.now).line ≡ []) }
+{
+    state.heap.first_lined().is_none()
 }
 
 /// How many cells the objects of an event take.

@@ -22,12 +22,12 @@ use Rattle.jlr_event.specs.declared.event.Event.TheVariants as event
 use Rattle.jlr_event.specs.declared.event.Reply.{Reply}
 use Rattle.jlr_event.specs.declared.event.Reply.TheVariants.{Answered, Marked}
 use Rattle.jlr_event.specs.Events.{ask_of, answer_in, resource_of_reply, outcome_of}
-use Rattle.jlr_core.specs.Flows.{GoesOut}
-use Rattle.jlr_core.specs.State.{entry_of}
+use Rattle.jlr_state.specs.Flows.{GoesOut}
+use Rattle.jlr_state.specs.State.{entry_of}
 use Rattle.jlr_session.specs.Asks.{prepared_in, prepared_by, out_with, out_by, job_with, job_by}
 use Rattle.jlr_book.specs.Histories.{History}
 use Rattle.jlr_book.specs.Rules.{BookSteps}
-use Rattle.jlr_book.specs.Solos.{at_book, cleaner_seat, handler_seat}
+use Rattle.jlr_solo.specs.Solos.{at_book, cleaner_seat, handler_seat}
 use Rattle.jlr_prog.specs.Wholes.{Whole, WholeSteps, at_whole}
 use Rattle.jlr_prog.proofs.Staying.{Stays, entry_stays, hand_over_stays, take_up_stays, finish_stays}
 use Rattle.jlr_prog.proofs.Calls.{IsHere, WasRefused, BeginsToOpen, BeginsToCall, BeginsToWork, prepare_begins, check_out_begins, opened_ends, check_in_ends, finish_ends}

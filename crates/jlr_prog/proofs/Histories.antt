@@ -22,10 +22,10 @@ use Rattle.jlr_event.specs.declared.event.Event.TheVariants.{Join, Leave}
 use Rattle.jlr_event.specs.declared.event.Reply.{Reply}
 use Rattle.jlr_event.specs.declared.event.Reply.TheVariants.{Answered}
 use Rattle.jlr_event.specs.Events.{ask_of, answer_in, resource_of_event, resource_of_reply}
-use Rattle.jlr_core.specs.Flows.{GoesOut}
+use Rattle.jlr_state.specs.Flows.{GoesOut}
 use Rattle.jlr_core.specs.Cores.{Kept, StandsIn}
 use Rattle.jlr_core.specs.Steps.{IsStep}
-use Rattle.jlr_core.proofs.Ranges.{limits_hold}
+use Rattle.jlr_state.proofs.Ranges.{limits_hold}
 use Rattle.jlr_core.proofs.RunLaws.{stands_at_start}
 use Rattle.jlr_device.specs.Handling.{Handling}
 use Rattle.jlr_session.specs.Calls.{Opening}
@@ -34,8 +34,8 @@ use Rattle.jlr_session.specs.Serving.{Follows, IsTurnedAway, Serves}
 use Rattle.jlr_session.specs.declared.shell.SessionEnd.{SessionEnd}
 use Rattle.jlr_book.specs.Histories.{History, IsNewBook, seated}
 use Rattle.jlr_book.specs.Rules.{BookSteps, Cuts, Readies}
-use Rattle.jlr_book.specs.Settling.{Helpers, Turns, HandsOver, Works, Cleans, Settles}
-use Rattle.jlr_book.specs.Solos.{at_book, by_book}
+use Rattle.jlr_solo.specs.Settling.{Helpers, Turns, HandsOver, Works, Cleans, Settles}
+use Rattle.jlr_solo.specs.Solos.{at_book, by_book}
 use Rattle.jlr_prog.specs.Wholes.{Whole, WholeSteps, at_whole, by_whole, given_up, since_opening}
 use Rattle.jlr_prog.specs.Histories.{FromJoinToLeave, IsOk, IsSession}
 use Rattle.jlr_prog.proofs.Calls.{IsHere, joins, leaves}

@@ -11,8 +11,8 @@ use Rattle.jlr_book.specs.Histories.{History}
 use Rattle.jlr_device.specs.Handling.{Handling}
 use Rattle.jlr_session.specs.Asks.{Asking}
 use Rattle.jlr_book.specs.Rules.{BookSteps}
-use Rattle.jlr_book.specs.Settling.{Helpers, Settles}
-use Rattle.jlr_book.specs.Solos.{cleaner_seat, handler_seat}
+use Rattle.jlr_solo.specs.Settling.{Helpers, Settles}
+use Rattle.jlr_solo.specs.Solos.{cleaner_seat, handler_seat}
 
 pub record Whole (R : Type 0) : Type 0 where
   pub book : History R

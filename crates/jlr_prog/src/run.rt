@@ -5,7 +5,7 @@ ghost use Rattle.jlr_session.specs.Limits.{FindsEnd, most_bytes};
 ghost use Rattle.jlr_prog.specs.Histories.{IsSession};
 
 use jlr_book::book::Book;
-use jlr_book::solo::Solo;
+use jlr_solo::solo::Solo;
 use jlr_device::Device;
 use jlr_session::serve::serve;
 use jlr_session::shell::SessionEnd;

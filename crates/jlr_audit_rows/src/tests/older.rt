@@ -1,6 +1,6 @@
 //! Histories of version 1, as they were saved before there were arrays, by sessions of the worked examples: they stay legal.
-use super::verdicts::is_judged;
-use std::alloc::Global;
+use super::player::{Telling, is_title, is_told, nothing_is_wrong};
+use std::alloc::{AllocError, Global};
 use std::test::Fail;
 
 // Each has a name, its bytes in hexadecimal digits, and its verdict behind an arrow.
@@ -175,28 +175,42 @@ const HISTORIES: &str = "
     -> legal 8
 ";
 
-// A line of bytes is one more of the file, and an arrow ends it.
-fn play(alloc: Global, line: &str, file: &mut String) -> Result<(), Fail> {
-    if line.is_empty() || line.ends_with(":") {
-        return Ok(());
+// Whether a line is as it says: one of bytes is one more of the file, and an arrow ends it.
+fn is_so(alloc: Global, line: &str, file: &mut String) -> Result<bool, AllocError> {
+    if is_title(line) {
+        return Ok(true);
     }
     match line.strip_prefix("-> ") {
         Some(wanted) => {
-            is_judged(alloc, file.as_str(), "whole", wanted)?;
+            let judged = is_told(alloc, file.as_str(), "whole", wanted, Telling::Verdict);
             file.clear();
+            judged
         }
-        None => file.push_str(line)?,
+        None => {
+            file.push_str(line)?;
+            Ok(true)
+        }
     }
-    Ok(())
 }
 
-// Each history is judged as its arrow says.
+// The first line that is not as it says.
+fn first_wrong<'a>(
+    alloc: Global,
+    histories: &'a str,
+    file: &mut String,
+) -> Result<Option<&'a str>, AllocError> {
+    for line in histories.lines() {
+        if !is_so(alloc, line.trim(), file)? {
+            return Ok(Some(line));
+        }
+    }
+    Ok(None)
+}
+
+/// Each history is judged as its arrow says.
 pub(super) fn play_all(alloc: Global, histories: &str) -> Result<(), Fail> {
     let mut file = String::new(alloc);
-    for line in histories.lines() {
-        play(alloc, line.trim(), &mut file)?;
-    }
-    Ok(())
+    nothing_is_wrong(first_wrong(alloc, histories, &mut file)?)
 }
 
 #[test]

@@ -1,9 +1,11 @@
 //! Two histories, one of version 1 and one of version 2, their fronts, and what a byte that is changed makes of them.
+use super::changes::decoded;
+use super::player::{Telling, are_told, play_rows};
+use super::verdicts::fault_text;
 use jlr_fields::version::Version;
 use jlr_trace::file::read_trace;
 use jlr_trace::spelled::spelled_trace;
 use std::alloc::{AllocError, Global};
-use std::str::{FromStr, SplitWhitespace};
 use std::test::Fail;
 
 // The head; no objects; no session; seven empty lists; the next action and three counts; two entries: mutator 0 joins and leaves.
@@ -29,7 +31,7 @@ const ARRAY_FILE: &str = "
     00 01 00 00 00
 ";
 
-// `byte 5 2` is the file with 2 in its fifth byte, `behind 0` the file with a byte more, `front 20` its first twenty bytes; `bytes` tells all of them.
+// A change of the file, and what it is read as.
 const ROWS: &str = "
     front 103 -> 2 entries behind 0 in version 1
     byte 20 7 -> 2 entries behind 7 in version 1
@@ -76,19 +78,6 @@ const ARRAY_ROWS: &str = "
     behind 0 -> BadEntry(4)
 ";
 
-fn decoded(alloc: Global, text: &str) -> Result<Vec<u8>, Fail> {
-    let mut bytes = Vec::new(alloc);
-    for word in text.split_whitespace() {
-        for at in (0..word.len()).step_by(2) {
-            let Some(digits) = word.get(at..at + 2) else {
-                return Err(Fail::new(format_args!("no bytes: {word}")));
-            };
-            bytes.push(u8::from_str_radix(digits, 16)?)?;
-        }
-    }
-    Ok(bytes)
-}
-
 fn number_of(version: Version) -> u8 {
     match version {
         Version::One => 1,
@@ -101,102 +90,58 @@ fn told_file(alloc: Global, count: u64, base: u64, version: Version) -> Result<S
     format!(in alloc; "{count} entries behind {base} in version {version}")
 }
 
-// What the bytes are read as.
-fn told(alloc: Global, bytes: &[u8]) -> Result<String, AllocError> {
+/// What the bytes are read as.
+pub(super) fn content(alloc: Global, bytes: &[u8]) -> Result<String, AllocError> {
     match read_trace(alloc, bytes) {
         Ok(file) => {
             let (count, base, version) = (file.entries.len(), file.base, file.version);
             drop(file);
             told_file(alloc, count as u64, base, version)
         }
-        Err(fault) => format!(in alloc; "{fault:?}"),
+        Err(fault) => fault_text(alloc, fault),
     }
 }
 
-// The same where the entries stay in the bytes.
-fn told_of_spelled(alloc: Global, bytes: &[u8]) -> Result<String, AllocError> {
+/// The same where the entries stay in the bytes.
+pub(super) fn spelled_content(alloc: Global, bytes: &[u8]) -> Result<String, AllocError> {
     match spelled_trace(alloc, bytes) {
         Ok(trace) => {
             let (count, base, version) = (trace.count(), trace.base(), trace.version());
             drop(trace);
             told_file(alloc, count, base, version)
         }
-        Err(fault) => format!(in alloc; "{fault:?}"),
+        Err(fault) => fault_text(alloc, fault),
     }
 }
 
-fn parsed<T: FromStr>(words: &mut SplitWhitespace<'_>) -> Option<T>
-where
-    T::Err: Drop,
-{
-    words.next()?.parse().ok()
-}
-
-// The file with the change that the words say.
-fn changed(alloc: Global, file: &str, change: &str) -> Result<Vec<u8>, Fail> {
-    let mut words = change.split_whitespace();
-    let kind = words.next();
-    if kind == Some("bytes") {
-        return decoded(alloc, words.next().ok_or("no bytes")?);
+// Whether each proper front is truncated.
+fn are_truncated(alloc: Global, file: &[u8]) -> Result<bool, AllocError> {
+    for length in 0..file.len() {
+        if !are_told(alloc, &file[..length], "Truncated", Telling::Content)? {
+            return Ok(false);
+        }
     }
-    let mut bytes = decoded(alloc, file)?;
-    edit(&mut bytes, kind, &mut words)?;
-    Ok(bytes)
+    Ok(true)
 }
 
-fn edit(
-    bytes: &mut Vec<u8>,
-    kind: Option<&str>,
-    words: &mut SplitWhitespace<'_>,
-) -> Result<(), Fail> {
-    match kind {
-        Some("front") => bytes.truncate(parsed(words).ok_or("no length")?),
-        Some("behind") => bytes.push(parsed(words).ok_or("no byte")?)?,
-        _ => set(
-            bytes,
-            parsed(words).ok_or("no place")?,
-            parsed(words).ok_or("no value")?,
-        ),
-    }
-    Ok(())
-}
-
-// The byte at a place, counted from 1, is another.
-fn set(bytes: &mut [u8], place: usize, value: u8) {
-    if let Some(byte) = bytes.get_mut(place.saturating_sub(1)) {
-        *byte = value;
+fn fronts_are_truncated(alloc: Global, file: &str) -> Result<bool, AllocError> {
+    match decoded(alloc, file) {
+        Some(bytes) => are_truncated(alloc, bytes.as_slice()),
+        None => Ok(false),
     }
 }
 
-fn is_read_as(alloc: Global, file: &str, change: &str, wanted: &str) -> Result<(), Fail> {
-    let bytes = changed(alloc, file, change)?;
-    let told = told(alloc, bytes.as_slice())?;
-    if told.as_str() != wanted {
-        return Err(Fail::new(format_args!("{change} -> {wanted}, and not {told}")));
+// Each row is as it says, and each proper front is truncated.
+fn play(alloc: Global, file: &str, rows: &str) -> Result<(), Fail> {
+    play_rows(alloc, file, rows, Telling::Content)?;
+    if fronts_are_truncated(alloc, file)? {
+        return Ok(());
     }
-    if told_of_spelled(alloc, bytes.as_slice())?.as_str() != wanted {
-        return Err(Fail::new(format_args!("{change} is read otherwise where its entries stay")));
-    }
-    Ok(())
-}
-
-// Each row, and that each proper front is truncated.
-fn are_read_as_told(alloc: Global, file: &str, rows: &str) -> Result<(), Fail> {
-    for row in rows.trim().lines() {
-        let Some((change, wanted)) = row.trim().split_once(" -> ") else {
-            return Err(Fail::new(format_args!("no row: {row}")));
-        };
-        is_read_as(alloc, file, change, wanted)?;
-    }
-    for length in 0..decoded(alloc, file)?.len() {
-        let front = format!(in alloc; "front {length}")?;
-        is_read_as(alloc, file, front.as_str(), "Truncated")?;
-    }
-    Ok(())
+    Err(Fail::new("a front is not truncated"))
 }
 
 #[test]
 fn files_are_read_as_the_rows_say(rt: HostRuntime) -> Result<(), Fail> {
-    are_read_as_told(rt.alloc(), FILE, ROWS)?;
-    are_read_as_told(rt.alloc(), ARRAY_FILE, ARRAY_ROWS)
+    play(rt.alloc(), FILE, ROWS)?;
+    play(rt.alloc(), ARRAY_FILE, ARRAY_ROWS)
 }

@@ -2,18 +2,18 @@
 ghost use Rattle.std.specs.Prelude.{◌≡◌};
 ghost use Rattle.jlr_trace.specs.Files.{HasSpelling};
 
+use super::player::{Telling, play_rows};
 use jlr_audit::audit::audit;
 use jlr_audit::spelled::audit_spelled;
 use jlr_audit::verdict::Verdict;
 use jlr_audit::watch::Unwatched;
 use jlr_copies::{copy_entries, copy_machine};
 use jlr_machine::items::Items;
-use jlr_trace::file::{TraceFile, read_trace};
+use jlr_trace::file::{TraceFault, TraceFile, read_trace};
 use jlr_trace::spelled::{SpelledTrace, spelled_trace};
 use jlr_trace::writing::write_trace;
 use std::alloc::{AllocError, Global};
 use std::mem;
-use std::str::{FromStr, SplitWhitespace};
 use std::test::Fail;
 
 // The head; no objects; no session; seven empty lists; the next action and three counts; two entries: mutator 0 joins and leaves.
@@ -39,7 +39,7 @@ const ARRAY_FILE: &str = "
     00 01 00 00 00
 ";
 
-// `whole` is the file, `front 20` its first twenty bytes, `for 21 24 ff 00` the file with these bytes in place of those from the 21st to the 24th.
+// A change of the file, and the verdict on it.
 const ROWS: &str = "
     the file as it is, and cut:
     front 103 -> legal 2
@@ -134,59 +134,8 @@ const ARRAY_ROWS: &str = "
     for 21 24 00000001 00000001 08 -> BadEntry(0)
 ";
 
-fn parsed<T: FromStr>(words: &mut SplitWhitespace<'_>) -> Option<T>
-where
-    T::Err: Drop,
-{
-    words.next()?.parse().ok()
-}
-
-// Adds what the words say in hexadecimal digits.
-fn push_decoded(bytes: &mut Vec<u8>, words: &mut SplitWhitespace<'_>) -> Result<(), Fail> {
-    for word in words {
-        for at in (0..word.len()).step_by(2) {
-            let Some(digits) = word.get(at..at + 2) else {
-                return Err(Fail::new(format_args!("no bytes: {word}")));
-            };
-            bytes.push(u8::from_str_radix(digits, 16)?)?;
-        }
-    }
-    Ok(())
-}
-
-// The file with the change that the words say.
-fn changed(alloc: Global, file: &str, change: &str) -> Result<Vec<u8>, Fail> {
-    let mut bytes = Vec::new(alloc);
-    push_decoded(&mut bytes, &mut file.split_whitespace())?;
-    let mut words = change.split_whitespace();
-    match words.next() {
-        Some("whole") => Ok(bytes),
-        Some("front") => front_of(bytes, &mut words),
-        _ => spliced(alloc, bytes.as_slice(), &mut words),
-    }
-}
-
-// So many bytes of the file.
-fn front_of(file: Vec<u8>, words: &mut SplitWhitespace<'_>) -> Result<Vec<u8>, Fail> {
-    let length = parsed(words).ok_or("no length")?;
-    let mut front = file;
-    front.truncate(length);
-    Ok(front)
-}
-
-// The file with others in the place of some bytes.
-fn spliced(alloc: Global, file: &[u8], words: &mut SplitWhitespace<'_>) -> Result<Vec<u8>, Fail> {
-    let from: usize = parsed(words).ok_or("no place")?;
-    let to: usize = parsed(words).ok_or("no place")?;
-    let mut bytes = Vec::new(alloc);
-    bytes.extend_from_slice(file.get(..from.saturating_sub(1)).ok_or("no front")?)?;
-    push_decoded(&mut bytes, words)?;
-    bytes.extend_from_slice(file.get(to..).ok_or("no rest")?)?;
-    Ok(bytes)
-}
-
-// The file is written as it was read, and once more where its parts are copies.
-fn is_written_back(alloc: Global, bytes: &[u8]) -> Result<bool, AllocError> {
+/// The file is written as it was read, and once more where its parts are copies.
+pub(super) fn is_written_back(alloc: Global, bytes: &[u8]) -> Result<bool, AllocError> {
     match read_trace(alloc, bytes) {
         Ok(file) => {
             let mut file = file;
@@ -230,6 +179,11 @@ fn verdict_text(alloc: Global, verdict: Verdict, entries: u64) -> Result<String,
     }
 }
 
+/// A fault in words.
+pub(super) fn fault_text(alloc: Global, fault: TraceFault) -> Result<String, AllocError> {
+    format!(in alloc; "{fault:?}")
+}
+
 fn verdict_of_file(alloc: Global, file: &TraceFile) -> Result<String, AllocError> {
     let verdict = audit(alloc, file)?;
     verdict_text(alloc, verdict, file.entries.len() as u64)
@@ -240,60 +194,32 @@ fn verdict_of_spelled(alloc: Global, trace: &SpelledTrace<'_>) -> Result<String,
     verdict_text(alloc, verdict, trace.count())
 }
 
-fn told(alloc: Global, bytes: &[u8]) -> Result<String, AllocError> {
+/// The verdict on the bytes, or why they are no file.
+pub(super) fn verdict(alloc: Global, bytes: &[u8]) -> Result<String, AllocError> {
     match read_trace(alloc, bytes) {
         Ok(file) => {
             let told = verdict_of_file(alloc, &file);
             drop(file);
             told
         }
-        Err(fault) => format!(in alloc; "{fault:?}"),
+        Err(fault) => fault_text(alloc, fault),
     }
 }
 
-// The same where the entries stay in the bytes.
-fn told_of_spelled(alloc: Global, bytes: &[u8]) -> Result<String, AllocError> {
+/// The same where the entries stay in the bytes.
+pub(super) fn spelled_verdict(alloc: Global, bytes: &[u8]) -> Result<String, AllocError> {
     match spelled_trace(alloc, bytes) {
         Ok(trace) => {
             let told = verdict_of_spelled(alloc, &trace);
             drop(trace);
             told
         }
-        Err(fault) => format!(in alloc; "{fault:?}"),
+        Err(fault) => fault_text(alloc, fault),
     }
-}
-
-pub(super) fn is_judged(alloc: Global, file: &str, change: &str, wanted: &str) -> Result<(), Fail> {
-    let bytes = changed(alloc, file, change)?;
-    let told = told(alloc, bytes.as_slice())?;
-    if told.as_str() != wanted {
-        return Err(Fail::new(format_args!("{change} -> {wanted}, and not {told}")));
-    }
-    if told_of_spelled(alloc, bytes.as_slice())?.as_str() != wanted {
-        return Err(Fail::new(format_args!("{change} is judged otherwise where its entries stay")));
-    }
-    if !is_written_back(alloc, bytes.as_slice())? {
-        return Err(Fail::new(format_args!("{change} is written otherwise")));
-    }
-    Ok(())
-}
-
-fn are_judged(alloc: Global, file: &str, rows: &str) -> Result<(), Fail> {
-    for row in rows.lines() {
-        let row = row.trim();
-        if row.is_empty() || row.ends_with(":") {
-            continue;
-        }
-        let Some((change, wanted)) = row.split_once(" -> ") else {
-            return Err(Fail::new(format_args!("no row: {row}")));
-        };
-        is_judged(alloc, file, change, wanted)?;
-    }
-    Ok(())
 }
 
 #[test]
 fn files_are_judged_as_the_rows_say(rt: HostRuntime) -> Result<(), Fail> {
-    are_judged(rt.alloc(), FILE, ROWS)?;
-    are_judged(rt.alloc(), ARRAY_FILE, ARRAY_ROWS)
+    play_rows(rt.alloc(), FILE, ROWS, Telling::Verdict)?;
+    play_rows(rt.alloc(), ARRAY_FILE, ARRAY_ROWS, Telling::Verdict)
 }

@@ -53,54 +53,57 @@ pub(super) trait Stage {
     /// What a call is answered; none where the words are no call.
     fn answered(&mut self, name: &str, words: &mut SplitWhitespace<'_>) -> Option<Got>;
 
-    /// What a call that copies a list is answered.
-    fn listed(&self, _alloc: Global, _name: &str) -> Result<Option<String>, AllocError> {
-        Ok(None)
+    /// What a call that copies a list is answered; no text where the name is none of a list.
+    fn listed(&self, alloc: Global, _name: &str) -> Result<String, AllocError> {
+        Ok(String::new(alloc))
     }
 }
 
 // What the call is answered, of which no word may be left.
 fn called<S: Stage>(stage: &mut S, call: &str) -> Option<Got> {
     let mut words = call.split_whitespace();
-    let got = stage.answered(words.next()?, &mut words)?;
+    let got = match words.next() {
+        Some(name) => stage.answered(name, &mut words),
+        None => None,
+    };
     match words.next() {
         Some(_) => None,
-        None => Some(got),
+        None => got,
     }
 }
 
-fn shown<S: Stage>(stage: &mut S, alloc: Global, call: &str) -> Result<Option<String>, AllocError> {
+fn shown<S: Stage>(stage: &mut S, alloc: Global, call: &str) -> Result<String, AllocError> {
     match called(stage, call) {
-        Some(got) => Ok(Some(format!(in alloc; "{got:?}")?)),
+        Some(got) => format!(in alloc; "{got:?}"),
         None => stage.listed(alloc, call),
     }
 }
 
-// Whether the call of a row is answered as it says.
+// Whether the call of a row is answered as it says. No call is answered by no text.
 fn holds<S: Stage>(stage: &mut S, alloc: Global, row: &str) -> Result<bool, AllocError> {
-    let (call, wanted) = row.split_once(" -> ").unwrap_or((row, ""));
-    match shown(stage, alloc, call)? {
-        Some(got) => Ok(got.as_str() == wanted),
-        None => Ok(false),
-    }
+    let (call, wanted) = row.split_once(" -> ").unwrap_or((row, "no answer"));
+    let shown = shown(stage, alloc, call)?;
+    let holds = shown.as_str() == wanted;
+    drop(shown);
+    Ok(holds)
 }
 
-// Each list of the text: its name, then its rows.
+/// Each row of the text, list by list.
 pub(super) fn play<S: Stage>(stage: &mut S, alloc: Global, lists: &str) -> Result<(), Fail> {
-    for list in lists.split("# ") {
-        if let Some((name, rows)) = list.split_once("\n") {
-            play_list(stage, alloc, name, rows)?;
+    let mut list = "";
+    for line in lists.lines() {
+        let row = line.trim();
+        match row.strip_prefix("# ") {
+            Some(name) => list = name,
+            None => play_row(stage, alloc, list, row)?,
         }
     }
     Ok(())
 }
 
-fn play_list<S: Stage>(stage: &mut S, alloc: Global, list: &str, rows: &str) -> Result<(), Fail> {
-    for line in rows.lines() {
-        let row = line.trim();
-        if !row.is_empty() && !holds(stage, alloc, row)? {
-            return Err(Fail::new(format_args!("{list}: {row}")));
-        }
+fn play_row<S: Stage>(stage: &mut S, alloc: Global, list: &str, row: &str) -> Result<(), Fail> {
+    if row.is_empty() || holds(stage, alloc, row)? {
+        return Ok(());
     }
-    Ok(())
+    Err(Fail::new(format_args!("{list}: {row}")))
 }

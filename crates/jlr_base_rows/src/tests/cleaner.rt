@@ -7,8 +7,9 @@ ghost use Rattle.jlr_cleaner.specs.Cleanings.{HasWork};
 ghost use Rattle.jlr_cleaner.specs.Jobs.{is_running, runs_job};
 
 use super::calls::{Got, Stage, play};
-use super::words::{action, outcome, parsed, rid};
+use super::words::{Numbers, all_numbers, outcome, parsed, rid, small, tiny};
 use jlr_cleaner::{Cleaner, Job};
+use jlr_machine::items::Items;
 use jlr_machine::machine::Resource;
 use jlr_resource::State;
 use jlr_types::{ActionNo, Fault, Limits, Refusal, Rid, Slot, Work};
@@ -21,17 +22,6 @@ use std::test::Fail;
 const ITSELF: u8 = 255;
 
 // ---- Jobs
-
-// Whether this taker may take up this action, as far as jobs and numbers go.
-fn may_take_up(cleaner: &Cleaner<u64>, by: u8, action: ActionNo) -> bool
-    ensures not_running { result ≡ true → is_running cleaner.now.jobs action ≡ false }
-    ensures free { result ≡ true → runs_job cleaner.now.jobs by ≡ false }
-    ensures numbered { result ≡ true → cleaner.now.taken + 1 < cleaner.now.next_action }
-{
-    let next = cleaner.next_action();
-    let taken = cleaner.totals().taken;
-    !cleaner.is_running(action) && !cleaner.runs_job(by) && taken + 1 < next
-}
 
 // Registers an action at a place, if there is that place.
 fn register(cleaner: &mut Cleaner<u64>, place: Slot) -> Option<ActionNo> {
@@ -49,7 +39,9 @@ fn ready(cleaner: &Cleaner<u64>, by: u8, place: Slot) -> Option<ActionNo>
     ensures numbered { IfSome result (λ _. cleaner.now.taken + 1 < cleaner.now.next_action) }
 {
     let action = cleaner.waits(place)?;
-    if !may_take_up(cleaner, by, action) {
+    let next = cleaner.next_action();
+    let taken = cleaner.totals().taken;
+    if cleaner.is_running(action) || cleaner.runs_job(by) || taken + 1 >= next {
         return None;
     }
     Some(action)
@@ -187,16 +179,12 @@ fn check_in(cleaner: &mut Cleaner<u64>, rid: Rid, resource: u64) -> bool {
     is_out
 }
 
-fn registered(cleaner: &mut Cleaner<u64>, place: Slot) -> Option<u64> {
-    Some(register(cleaner, place)?.number())
+fn registered(cleaner: &mut Cleaner<u64>, place: u64) -> Option<u64> {
+    Some(register(cleaner, Slot::new(small(place)))?.number())
 }
 
-fn waiting(cleaner: &Cleaner<u64>, place: Slot) -> Option<u64> {
-    Some(cleaner.waits(place)?.number())
-}
-
-fn place(words: &mut SplitWhitespace<'_>) -> Option<Slot> {
-    Some(Slot::new(parsed(words)?))
+fn waiting(cleaner: &Cleaner<u64>, place: u64) -> Option<u64> {
+    Some(cleaner.waits(Slot::new(small(place)))?.number())
 }
 
 // ---- Rows
@@ -210,119 +198,150 @@ struct Cleanings {
 impl Stage for Cleanings {
     fn answered(&mut self, name: &str, words: &mut SplitWhitespace<'_>) -> Option<Got> {
         match name {
-            "new" => Some(Got::Truth(renewed(self, parsed(words)?))),
-            "open_call_close" => {
-                let (place, rid, resource) = (place(words)?, rid(words)?, parsed(words)?);
-                let given = life(&mut self.cleaner, self.alloc, place, rid, resource);
-                Some(Got::Given(given))
-            }
-            _ => match looked(&self.cleaner, name) {
-                Some(got) => Some(got),
-                None => on_job(&mut self.cleaner, name, words),
+            "many" => many_notes(&mut self.cleaner, words),
+            "finish" => finish(&mut self.cleaner, words),
+            _ => match all_numbers(words)? {
+                Numbers::None => looked(&mut self.cleaner, name),
+                Numbers::One(number) => self.with_one(name, number),
+                Numbers::Two(first, second) => with_two(&mut self.cleaner, name, first, second),
+                Numbers::Three(first, second, third) => self.with_three(name, first, second, third),
             },
         }
     }
 
-    fn listed(&self, alloc: Global, name: &str) -> Result<Option<String>, AllocError> {
+    fn listed(&self, alloc: Global, name: &str) -> Result<String, AllocError> {
         match name {
-            "jobs" => list(alloc, self.cleaner.jobs(alloc)?.as_slice()),
-            "resources" => list(alloc, self.cleaner.resources(alloc)?.as_slice()),
-            "notes" => ends(alloc, self.cleaner.notes(alloc)?.as_slice()),
-            "faults" => ends(alloc, self.cleaner.faults(alloc)?.as_slice()),
-            _ => Ok(None),
+            "jobs" => list(alloc, self.cleaner.jobs(alloc)),
+            "resources" => list(alloc, self.cleaner.resources(alloc)),
+            "notes" => ends(alloc, self.cleaner.notes(alloc)),
+            "faults" => ends(alloc, self.cleaner.faults(alloc)),
+            _ => Ok(String::new(alloc)),
         }
     }
 }
 
-// One resource at most, and the first action number.
+impl Cleanings {
+    fn with_one(&mut self, name: &str, number: u64) -> Option<Got> {
+        if name == "new" {
+            return Some(Got::Truth(renewed(self, number)));
+        }
+        with_number(&mut self.cleaner, name, number)
+    }
+
+    fn with_three(&mut self, name: &str, first: u64, second: u64, third: u64) -> Option<Got> {
+        match name {
+            "take_up" => {
+                let (by, place, number) = (tiny(first), Slot::new(small(second)), small(third));
+                Some(Got::Given(take_up(&mut self.cleaner, by, place, number)))
+            }
+            "open_call_close" => {
+                let (place, rid) = (Slot::new(small(first)), rid(second));
+                Some(Got::Given(life(&mut self.cleaner, self.alloc, place, rid, third)))
+            }
+            _ => None,
+        }
+    }
+}
+
+// One resource at most.
+fn limits() -> Option<Limits> {
+    Limits::checked(16, 2, 1, 0, 64, 1).ok()
+}
+
+// With this as the first action number.
 fn renewed(stage: &mut Cleanings, next: u64) -> bool {
-    let Ok(limits) = Limits::checked(16, 2, 1, 0, 64, 1) else {
+    let Some(limits) = limits() else {
         return false;
     };
     if next == 0 {
         return false;
     }
     match Cleaner::starting_at(stage.alloc, limits, next) {
-        Ok(cleaner) => stage.cleaner = cleaner,
-        Err(_) => return false,
+        Ok(cleaner) => {
+            stage.cleaner = cleaner;
+            true
+        }
+        Err(_) => false,
     }
-    true
 }
 
-fn list<T: Debug>(alloc: Global, items: &[T]) -> Result<Option<String>, AllocError> {
-    Ok(Some(format!(in alloc; "{items:?}")?))
+fn list<T: Debug + Drop>(
+    alloc: Global,
+    items: Result<Items<T>, AllocError>,
+) -> Result<String, AllocError> {
+    let items = items?;
+    format!(in alloc; "{:?}", items.as_slice())
 }
 
 // How many there are, and the first and the last.
-fn ends<T: Debug>(alloc: Global, items: &[T]) -> Result<Option<String>, AllocError> {
-    let (count, first, last) = (items.len(), items.first(), items.last());
-    Ok(Some(format!(in alloc; "{count} {first:?} {last:?}")?))
+fn ends<T: Debug + Drop>(
+    alloc: Global,
+    items: Result<Items<T>, AllocError>,
+) -> Result<String, AllocError> {
+    let items = items?;
+    shown_ends(alloc, items.as_slice())
 }
 
-fn looked(cleaner: &Cleaner<u64>, name: &str) -> Option<Got> {
+fn shown_ends<T: Debug>(alloc: Global, items: &[T]) -> Result<String, AllocError> {
+    let (count, first, last) = (items.len(), items.first(), items.last());
+    format!(in alloc; "{count} {first:?} {last:?}")
+}
+
+fn looked(cleaner: &mut Cleaner<u64>, name: &str) -> Option<Got> {
     match name {
         "next_action" => Some(Got::Number(cleaner.next_action())),
-        "places" => Some(Got::Number(u64::try_from(cleaner.places()).ok()?)),
+        "places" => Some(Got::Number(cleaner.places() as u64)),
         "is_exhausted" => Some(Got::Truth(cleaner.is_exhausted())),
         "totals" => {
             let totals = cleaner.totals();
             Some(Got::Totals(totals.taken, totals.ok, totals.failed))
         }
-        "count" => Some(Got::Number(u64::try_from(cleaner.count()).ok()?)),
+        "count" => Some(Got::Number(cleaner.count() as u64)),
         "limit" => Some(Got::Number(u64::from(cleaner.resource_limit()))),
         "is_full" => Some(Got::Truth(cleaner.is_full())),
+        "reserve" => Some(Got::Room(cleaner.reserve())),
+        _ => None,
+    }
+}
+
+fn many_notes(cleaner: &mut Cleaner<u64>, words: &mut SplitWhitespace<'_>) -> Option<Got> {
+    match (parsed(words), outcome(words)) {
+        (Some(count), Some(outcome)) => Some(Got::Given(many(cleaner, count, outcome))),
         _ => None,
     }
 }
 
 fn finish(cleaner: &mut Cleaner<u64>, words: &mut SplitWhitespace<'_>) -> Option<Got> {
-    let by = parsed(words)?;
-    let action = action(words)?;
-    let outcome = outcome(words)?;
-    Some(Got::Truth(cleaner.finish(by, action, outcome)))
-}
-
-fn on_job(cleaner: &mut Cleaner<u64>, name: &str, words: &mut SplitWhitespace<'_>) -> Option<Got> {
-    match name {
-        "register" => Some(Got::Given(registered(cleaner, place(words)?))),
-        "waits" => Some(Got::Given(waiting(cleaner, place(words)?))),
-        "take_up" => {
-            let (by, place, number) = (parsed(words)?, place(words)?, parsed(words)?);
-            Some(Got::Given(take_up(cleaner, by, place, number)))
+    match (parsed(words), parsed(words), outcome(words)) {
+        (Some(by), Some(action), Some(outcome)) => {
+            Some(Got::Truth(cleaner.finish(by, ActionNo::new(action), outcome)))
         }
-        "note" => Some(Got::Given(note(cleaner, parsed(words)?, parsed(words)?))),
-        "many" => Some(Got::Given(many(cleaner, parsed(words)?, outcome(words)?))),
-        "finish" => finish(cleaner, words),
-        "runs_job" => Some(Got::Truth(cleaner.runs_job(parsed(words)?))),
-        "is_running" => Some(Got::Truth(cleaner.is_running(action(words)?))),
-        _ => on_resource(cleaner, name, words),
+        _ => None,
     }
 }
 
-fn on_resource(
-    cleaner: &mut Cleaner<u64>,
-    name: &str,
-    words: &mut SplitWhitespace<'_>,
-) -> Option<Got> {
+fn with_number(cleaner: &mut Cleaner<u64>, name: &str, number: u64) -> Option<Got> {
     match name {
-        "reserve" => Some(Got::Room(cleaner.reserve())),
-        "prepare" => Some(Got::Place(prepare(cleaner, action(words)?))),
-        _ => at_place(cleaner, name, rid(words)?, words),
+        "register" => Some(Got::Given(registered(cleaner, number))),
+        "waits" => Some(Got::Given(waiting(cleaner, number))),
+        "prepare" => Some(Got::Place(prepare(cleaner, ActionNo::new(number)))),
+        "runs_job" => Some(Got::Truth(cleaner.runs_job(tiny(number)))),
+        "is_running" => Some(Got::Truth(cleaner.is_running(ActionNo::new(number)))),
+        "state" => Some(Got::State(cleaner.state(rid(number)))),
+        "check_out" => Some(Got::Given(check_out(cleaner, rid(number)))),
+        _ => None,
     }
 }
 
-fn at_place(
-    cleaner: &mut Cleaner<u64>,
-    name: &str,
-    rid: Rid,
-    words: &mut SplitWhitespace<'_>,
-) -> Option<Got> {
+fn with_two(cleaner: &mut Cleaner<u64>, name: &str, first: u64, second: u64) -> Option<Got> {
     match name {
-        "state" => Some(Got::State(cleaner.state(rid))),
-        "open_failed" => Some(Got::Truth(open_failed(cleaner, rid, place(words)?))),
-        "check_out" => Some(Got::Given(check_out(cleaner, rid))),
-        "opened" => Some(Got::Truth(opened(cleaner, rid, parsed(words)?))),
-        "check_in" => Some(Got::Truth(check_in(cleaner, rid, parsed(words)?))),
+        "note" => Some(Got::Given(note(cleaner, tiny(first), small(second)))),
+        "open_failed" => {
+            let place = Slot::new(small(second));
+            Some(Got::Truth(open_failed(cleaner, rid(first), place)))
+        }
+        "opened" => Some(Got::Truth(opened(cleaner, rid(first), second))),
+        "check_in" => Some(Got::Truth(check_in(cleaner, rid(first), second))),
         _ => None,
     }
 }
@@ -439,8 +458,10 @@ const LISTS: &str = "
 
 #[test]
 fn the_cleaner_answers_as_the_rows_say(rt: HostRuntime) -> Result<(), Fail> {
+    let limits = limits().ok_or("limits")?;
     let alloc = rt.alloc();
-    let limits = Limits::checked(16, 2, 1, 0, 64, 1).ok().ok_or("limits")?;
-    let cleaner = Cleaner::new(alloc, limits)?;
-    play(&mut Cleanings { alloc, cleaner }, alloc, LISTS)
+    match Cleaner::new(alloc, limits) {
+        Ok(cleaner) => play(&mut Cleanings { alloc, cleaner }, alloc, LISTS),
+        Err(error) => Err(Fail::from(error)),
+    }
 }

@@ -21,21 +21,24 @@ fn open<D: Device>(
     device: &mut D,
     opened: &mut Option<D::Res>,
     mode: Mode,
-    path: &str,
-) -> Result<(), Fault>
+    words: &mut SplitWhitespace<'_>,
+) -> Option<Got>
 where
     D::Res: Drop,
 {
-    *opened = Some(guarded_open(device, mode, path)?);
-    Ok(())
+    kept(opened, guarded_open(device, mode, path(words)))
 }
 
-fn connect<D: Device>(device: &mut D, opened: &mut Option<D::Res>, path: &str) -> Result<(), Fault>
-where
-    D::Res: Drop,
-{
-    *opened = Some(guarded_connect(device, path)?);
-    Ok(())
+// Keeps what was opened, in place of what was open.
+fn kept<R: Drop>(opened: &mut Option<R>, outcome: Result<R, Fault>) -> Option<Got> {
+    let outcome = match outcome {
+        Ok(resource) => {
+            drop(opened.replace(resource));
+            Ok(())
+        }
+        Err(fault) => Err(fault),
+    };
+    Some(Got::Opened(outcome))
 }
 
 // As many bytes as are asked for, at most four.
@@ -45,8 +48,22 @@ fn read<R: Resource>(resource: &mut R, count: usize) -> Got {
     Got::Read(count, buf)
 }
 
-fn write<R: Resource>(resource: &mut R, bytes: &[u8]) -> Got {
-    Got::Wrote(guarded_write(resource, bytes))
+fn write<R: Resource>(
+    alloc: Global,
+    resource: &mut R,
+    words: &mut SplitWhitespace<'_>,
+) -> Option<Got> {
+    let bytes = bytes(alloc, words)?;
+    let wrote = guarded_write(resource, bytes.as_slice());
+    drop(bytes);
+    Some(Got::Wrote(wrote))
+}
+
+fn finish<R: Resource + Drop>(opened: &mut Option<R>) -> Option<Got> {
+    match opened.take() {
+        Some(resource) => Some(Got::Ended(guarded_finish(resource))),
+        None => None,
+    }
 }
 
 // What a call on a resource is answered; none where the words are no call, or none is open.
@@ -57,12 +74,23 @@ fn on_resource<R: Resource + Drop>(
     words: &mut SplitWhitespace<'_>,
 ) -> Option<Got> {
     if name == "finish" {
-        return Some(Got::Ended(guarded_finish(opened.take()?)));
+        return finish(opened);
     }
-    let resource = opened.as_mut()?;
+    match opened {
+        Some(resource) => on_open(alloc, resource, name, words),
+        None => None,
+    }
+}
+
+fn on_open<R: Resource>(
+    alloc: Global,
+    resource: &mut R,
+    name: &str,
+    words: &mut SplitWhitespace<'_>,
+) -> Option<Got> {
     match name {
         "read" => Some(read(resource, parsed(words)?)),
-        "write" => Some(write(resource, bytes(alloc, words)?.as_slice())),
+        "write" => write(alloc, resource, words),
         "failed_calls" => Some(Got::Number(resource.failures())),
         _ => None,
     }
@@ -79,14 +107,13 @@ fn on_device<D: Device>(
 where
     D::Res: Drop,
 {
-    let outcome = match name {
-        "open_to_read" => open(device, opened, Mode::Read, path(words)),
-        "open_to_write" => open(device, opened, Mode::Write, path(words)),
-        "connect" => connect(device, opened, path(words)),
-        "failed_opens" => return Some(Got::Number(device.failures())),
-        _ => return on_resource(alloc, opened, name, words),
-    };
-    Some(Got::Opened(outcome))
+    match name {
+        "open_to_read" => open(device, opened, Mode::Read, words),
+        "open_to_write" => open(device, opened, Mode::Write, words),
+        "connect" => kept(opened, guarded_connect(device, path(words))),
+        "failed_opens" => Some(Got::Number(device.failures())),
+        _ => on_resource(alloc, opened, name, words),
+    }
 }
 
 // ---- Words
@@ -98,8 +125,15 @@ fn path<'a>(words: &mut SplitWhitespace<'a>) -> &'a str {
 // All bytes that are left.
 fn bytes(alloc: Global, words: &mut SplitWhitespace<'_>) -> Option<Vec<u8>> {
     let mut bytes = Vec::new(alloc);
+    match push_all(&mut bytes, words) {
+        Some(()) => Some(bytes),
+        None => None,
+    }
+}
+
+fn push_all(bytes: &mut Vec<u8>, words: &mut SplitWhitespace<'_>) -> Option<()> {
     for word in words {
         bytes.push(word.parse().ok()?).ok()?;
     }
-    Some(bytes)
+    Some(())
 }

@@ -4,7 +4,7 @@ ghost use Rattle.jlr_machine.specs.declared.machine.ResourceState.TheVariants as
 ghost use Rattle.jlr_resource.specs.Resources.{state_at};
 
 use super::calls::{Got, Stage, play};
-use super::words::{action, parsed, rid};
+use super::words::{Numbers, all_numbers, rid, small};
 use jlr_resource::{State, Table};
 use jlr_types::{ActionNo, Refusal, Rid};
 use std::alloc::{AllocError, Global};
@@ -87,54 +87,60 @@ struct Resources {
 
 impl Stage for Resources {
     fn answered(&mut self, name: &str, words: &mut SplitWhitespace<'_>) -> Option<Got> {
-        if name == "new" {
-            self.table = Table::new(self.alloc, parsed(words)?);
-            return Some(Got::Truth(true));
-        }
-        match looked(&self.table, name) {
-            Some(got) => Some(got),
-            None => told(&mut self.table, name, words),
+        match all_numbers(words)? {
+            Numbers::None => looked(&mut self.table, name),
+            Numbers::One(number) => self.told(name, number),
+            Numbers::Two(place, resource) => {
+                with_resource(&mut self.table, name, rid(place), resource)
+            }
+            Numbers::Three(_, _, _) => None,
         }
     }
 
-    fn listed(&self, alloc: Global, name: &str) -> Result<Option<String>, AllocError> {
-        if name != "image" {
-            return Ok(None);
+    fn listed(&self, alloc: Global, name: &str) -> Result<String, AllocError> {
+        if name == "image" {
+            image(alloc, &self.table)
+        } else {
+            Ok(String::new(alloc))
         }
-        let image = self.table.image(alloc)?;
-        Ok(Some(format!(in alloc; "{:?}", image.as_slice())?))
     }
 }
 
-fn looked(table: &Table<u64>, name: &str) -> Option<Got> {
+impl Resources {
+    fn told(&mut self, name: &str, number: u64) -> Option<Got> {
+        match name {
+            "new" => {
+                self.table = Table::new(self.alloc, small(number));
+                Some(Got::Truth(true))
+            }
+            "prepare" => Some(Got::Place(prepare(&mut self.table, ActionNo::new(number)))),
+            _ => at_place(&mut self.table, name, rid(number)),
+        }
+    }
+}
+
+fn image(alloc: Global, table: &Table<u64>) -> Result<String, AllocError> {
+    let image = table.image(alloc)?;
+    format!(in alloc; "{:?}", image.as_slice())
+}
+
+fn looked(table: &mut Table<u64>, name: &str) -> Option<Got> {
     match name {
-        "count" => Some(Got::Number(u64::try_from(table.count()).ok()?)),
+        "count" => Some(Got::Number(table.count() as u64)),
         "limit" => Some(Got::Number(u64::from(table.limit()))),
         "is_full" => Some(Got::Truth(table.is_full())),
+        "reserve" => Some(Got::Room(table.reserve())),
         _ => None,
     }
 }
 
-fn told(table: &mut Table<u64>, name: &str, words: &mut SplitWhitespace<'_>) -> Option<Got> {
-    match name {
-        "reserve" => Some(Got::Room(table.reserve())),
-        "prepare" => Some(Got::Place(prepare(table, action(words)?))),
-        _ => at_place(table, name, rid(words)?, words),
-    }
-}
-
-fn at_place(
-    table: &mut Table<u64>,
-    name: &str,
-    rid: Rid,
-    words: &mut SplitWhitespace<'_>,
-) -> Option<Got> {
+fn at_place(table: &mut Table<u64>, name: &str, rid: Rid) -> Option<Got> {
     match name {
         "state" => Some(Got::State(table.state(rid))),
         "check_out" => Some(Got::Given(check_out(table, rid))),
         "take_for_close" => Some(Got::Given(take_for_close(table, rid))),
         "closed" => Some(Got::Truth(closed(table, rid))),
-        _ => with_resource(table, name, rid, parsed(words)?),
+        _ => None,
     }
 }
 

@@ -1,42 +1,70 @@
 //! Command lines: each row is a line, an arrow, and what it asks for.
-use jlr_command_line::arguments::{AuditOrder, Order, order_of};
+use jlr_command_line::arguments::{AuditOrder, Order, RunOrder, Service, order_of};
+use jlr_command_line::fault::ProgramFault;
 use jlr_types::Limits;
-use std::alloc::Global;
+use std::alloc::{AllocError, Global};
 use std::test::Fail;
 
-/// What a command line asks for, whose words are parted by spaces: of a session the cells, the files and sockets, the soft age and
-/// the length of
-/// the trace, and where its history is saved; what a server serves, or what is audited; or the status of its fault.
+/// What a command line asks for, whose words are parted by spaces; or the status of its fault.
 fn asked(alloc: Global, line: &str) -> Result<String, Fail> {
+    let words = words_of(alloc, line)?;
+    match order_of(alloc, words.as_slice()) {
+        Ok(order) => told(alloc, order),
+        Err(fault) => refused(alloc, &fault),
+    }
+}
+
+/// The words of a line.
+fn words_of(alloc: Global, line: &str) -> Result<Vec<String>, AllocError> {
     let mut words = Vec::new(alloc);
     for word in line.split(' ') {
-        let mut text = String::new(alloc);
-        text.push_str(word)?;
-        words.push(text)?;
+        words.push(owned(alloc, word)?)?;
     }
-    match order_of(alloc, words.as_slice()) {
-        Ok(Order::Run(order)) => {
-            let (heap, end) = (numbers(alloc, &order.limits)?, ending(alloc, order.save)?);
-            Ok(format!(in alloc; "{heap}{end}")?)
-        }
-        Ok(Order::Serve(service)) => {
-            let (total, socket) = (service.total, service.socket);
-            let (sessions, budget) = (service.limits.sessions, service.limits.budget);
-            let heap = numbers(alloc, &service.limits)?;
-            let end = ending(alloc, service.save)?;
-            Ok(format!(in alloc;
-                "serve {total} on {socket}, {sessions} at once, {budget} a piece, {heap}{end}"
-            )?)
-        }
-        Ok(Order::Audit(AuditOrder { file, explain })) => {
-            let how = if explain { ", explained" } else { "" };
-            Ok(format!(in alloc; "audit of {file}{how}")?)
-        }
-        Err(fault) => {
-            let status = fault.status();
-            Ok(format!(in alloc; "status {status}")?)
-        }
+    Ok(words)
+}
+
+fn owned(alloc: Global, word: &str) -> Result<String, AllocError> {
+    let mut text = String::new(alloc);
+    text.push_str(word)?;
+    Ok(text)
+}
+
+fn told(alloc: Global, order: Order<'_>) -> Result<String, Fail> {
+    match order {
+        Order::Run(order) => told_run(alloc, order),
+        Order::Serve(service) => told_service(alloc, service),
+        Order::Audit(order) => told_audit(alloc, order),
     }
+}
+
+/// Of a session the cells, the files and sockets, the soft age and the length of the trace, and where its history is saved.
+fn told_run(alloc: Global, order: RunOrder<'_>) -> Result<String, Fail> {
+    let heap = numbers(alloc, &order.limits)?;
+    let end = ending(alloc, order.save)?;
+    Ok(format!(in alloc; "{heap}{end}")?)
+}
+
+/// What a server serves, and of its heap what is told of a session's.
+fn told_service(alloc: Global, service: Service<'_>) -> Result<String, Fail> {
+    let (total, socket) = (service.total, service.socket);
+    let (sessions, budget) = (service.limits.sessions, service.limits.budget);
+    let heap = numbers(alloc, &service.limits)?;
+    let end = ending(alloc, service.save)?;
+    Ok(format!(in alloc;
+        "serve {total} on {socket}, {sessions} at once, {budget} a piece, {heap}{end}"
+    )?)
+}
+
+/// What is audited.
+fn told_audit(alloc: Global, order: AuditOrder<'_>) -> Result<String, Fail> {
+    let file = order.file;
+    let how = if order.explain { ", explained" } else { "" };
+    Ok(format!(in alloc; "audit of {file}{how}")?)
+}
+
+fn refused(alloc: Global, fault: &ProgramFault) -> Result<String, Fail> {
+    let status = fault.status();
+    Ok(format!(in alloc; "status {status}")?)
 }
 
 /// Where a history is saved, if it is.

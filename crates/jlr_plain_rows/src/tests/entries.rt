@@ -14,22 +14,34 @@ const ARROW: &str = " -> ";
 /// The entry of a row; none where it is no entry.
 pub(super) fn entry_of(alloc: Global, row: &str) -> Result<Option<Entry>, AllocError> {
     let (ask, told) = row.split_once(ARROW).unwrap_or((row, ""));
-    let (answer, choice) = told.split_once(", ").unwrap_or((told, ""));
-    let asked = ask_of(alloc, ask)?;
-    let choice = choice_of(alloc, choice)?;
-    match answer_of(alloc, answer)? {
-        Some(answer) => Ok(entry(asked, answer, choice)),
+    match ask_of(alloc, ask)? {
+        Some(ask) => answered(alloc, ask, told),
         None => Ok(None),
     }
 }
 
-fn entry(ask: Option<Ask>, answer: Answer, choice: Chosen) -> Option<Entry> {
-    Some(Entry {
+// The entry of an ask, with the answer and the choice that are told.
+fn answered(alloc: Global, ask: Ask, told: &str) -> Result<Option<Entry>, AllocError> {
+    let (answer, choice) = told.split_once(", ").unwrap_or((told, ""));
+    match answer_of(alloc, answer)? {
+        Some(answer) => chosen(alloc, ask, answer, choice),
+        None => Ok(None),
+    }
+}
+
+fn chosen(
+    alloc: Global,
+    ask: Ask,
+    answer: Answer,
+    choice: &str,
+) -> Result<Option<Entry>, AllocError> {
+    let choice = choice_of(alloc, choice)?;
+    Ok(Some(Entry {
         seat: 0,
-        ask: ask?,
+        ask,
         answer,
         choice,
-    })
+    }))
 }
 
 fn ask_of(alloc: Global, text: &str) -> Result<Option<Ask>, AllocError> {

@@ -4,6 +4,7 @@
 //! another.
 use jlr_copies::copy_ask;
 use jlr_event::event::{Event, Reply};
+use jlr_machine::ask::{Answer, Ask};
 use jlr_machine::data::Data;
 use std::alloc::{AllocError, Global};
 use std::test::Fail;
@@ -80,52 +81,97 @@ const REPLIES: &str = "
     idle -> none
 ";
 
+// What the rows tell of.
+#[derive(Clone, Copy)]
+enum Rows {
+    Events,
+    Replies,
+}
+
 #[test]
 fn events_are_their_asks(rt: HostRuntime) -> Result<(), Fail> {
-    for row in EVENTS.lines() {
-        if !row.trim().is_empty() {
-            let (given, wanted) = parts(row.trim());
-            let event = event_of(rt.alloc(), given).ok_or("no event")?;
-            let got = event_told(rt.alloc(), event)?;
-            assert!(rt; got.as_str() == wanted, "{row} is told as {got}");
-        }
-    }
-    Ok(())
+    are_told(rt.alloc(), EVENTS, Rows::Events)
 }
 
 #[test]
 fn replies_are_their_answers(rt: HostRuntime) -> Result<(), Fail> {
-    for row in REPLIES.lines() {
-        if !row.trim().is_empty() {
-            let (given, wanted) = parts(row.trim());
-            let reply = reply_of(given).ok_or("no reply")?;
-            let got = reply_told(rt.alloc(), reply)?;
-            assert!(rt; got.as_str() == wanted, "{row} is told as {got}");
-        }
+    are_told(rt.alloc(), REPLIES, Rows::Replies)
+}
+
+fn are_told(alloc: Global, rows: &str, of: Rows) -> Result<(), Fail> {
+    for row in rows.lines() {
+        is_told(alloc, row.trim(), of)?;
     }
     Ok(())
 }
 
-// What is given, and what is wanted.
-fn parts(row: &str) -> (&str, &str) {
-    row.split_once(ARROW).unwrap_or((row, row))
+fn is_told(alloc: Global, row: &str, of: Rows) -> Result<(), Fail> {
+    if row.is_empty() {
+        return Ok(());
+    }
+    let (given, wanted) = row.split_once(ARROW).unwrap_or((row, row));
+    let got = told(alloc, given, of)?;
+    is_wanted(row, wanted, got.as_str())
+}
+
+fn is_wanted(row: &str, wanted: &str, got: &str) -> Result<(), Fail> {
+    if got == wanted {
+        return Ok(());
+    }
+    Err(Fail::new(format_args!("{row} is told as {got}")))
+}
+
+// What the words tell, in words again.
+fn told(alloc: Global, given: &str, of: Rows) -> Result<String, AllocError> {
+    match of {
+        Rows::Events => event_told(alloc, given),
+        Rows::Replies => reply_told(alloc, given),
+    }
+}
+
+fn event_told(alloc: Global, given: &str) -> Result<String, AllocError> {
+    match event_of(alloc, given) {
+        Some(event) => told_again(alloc, event),
+        None => String::from_str(alloc, "no event"),
+    }
 }
 
 // The copy of an event's ask in words, with its resource.
-fn event_told(alloc: Global, event: Event<u32>) -> Result<String, AllocError> {
-    let text = match event.plain(Some(Data::new(alloc)?)) {
-        Some(ask) => ask_text(alloc, &copy_ask(alloc, &ask)?)?,
-        None => String::from_str(alloc, "none")?,
-    };
-    with_resource(alloc, text, event.into_resource())
+fn told_again(alloc: Global, event: Event<u32>) -> Result<String, AllocError> {
+    let text = asked(alloc, &event);
+    with_resource(alloc, text?, event.into_resource())
+}
+
+fn asked(alloc: Global, event: &Event<u32>) -> Result<String, AllocError> {
+    let room = Data::new(alloc)?;
+    match event.plain(Some(room)) {
+        Some(ask) => copy_told(alloc, &ask),
+        None => String::from_str(alloc, "none"),
+    }
+}
+
+fn copy_told(alloc: Global, ask: &Ask) -> Result<String, AllocError> {
+    let copy = copy_ask(alloc, ask)?;
+    ask_text(alloc, &copy)
+}
+
+fn reply_told(alloc: Global, given: &str) -> Result<String, AllocError> {
+    match reply_of(given) {
+        Some(reply) => answered(alloc, reply),
+        None => String::from_str(alloc, "no reply"),
+    }
 }
 
 // The answer of a reply in words, with its resource.
-fn reply_told(alloc: Global, reply: Reply<u32>) -> Result<String, AllocError> {
+fn answered(alloc: Global, reply: Reply<u32>) -> Result<String, AllocError> {
     let (answer, resource) = reply.plain();
-    let text = match answer {
-        Some(answer) => answer_text(alloc, &answer)?,
-        None => String::from_str(alloc, "none")?,
-    };
+    let text = answer_told(alloc, answer)?;
     with_resource(alloc, text, resource)
+}
+
+fn answer_told(alloc: Global, answer: Option<Answer>) -> Result<String, AllocError> {
+    match answer {
+        Some(answer) => answer_text(alloc, &answer),
+        None => String::from_str(alloc, "none"),
+    }
 }

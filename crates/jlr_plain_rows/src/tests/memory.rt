@@ -40,12 +40,16 @@ fn changes(alloc: Global, machine: &mut Machine, empty: &Machine) -> Result<bool
 
 fn another_changes(alloc: Global, empty: &Machine) -> Result<bool, AllocError> {
     let mut machine = start_again(alloc)?;
-    changes(alloc, &mut machine, empty)
+    let changed = changes(alloc, &mut machine, empty);
+    drop(machine);
+    changed
 }
 
 fn row_changes(alloc: Global) -> Result<bool, AllocError> {
     let empty = start_again(alloc)?;
-    another_changes(alloc, &empty)
+    let changed = another_changes(alloc, &empty);
+    drop(empty);
+    changed
 }
 
 #[test]

@@ -106,6 +106,14 @@ fn take_or_stay(
     }
 }
 
+// The same with an entry that is let go.
+fn take_owned(alloc: Global, machine: &mut Machine, entry: Entry) -> Result<bool, AllocError>
+    requires { IsWellFormed machine.old }
+    ensures { IsWellFormed machine.new }
+{
+    take(alloc, machine, &entry)
+}
+
 // A name of two letters for each number.
 fn numbered(number: u8) -> Option<Name> {
     Name::from_slice(&[b'a' + number / 16, b'a' + number % 16])
@@ -134,7 +142,7 @@ fn bind(alloc: Global, machine: &mut Machine, number: u8) -> Result<bool, AllocE
     ensures { IsWellFormed machine.new }
 {
     match numbered(number) {
-        Some(name) => take(alloc, machine, &binding(name)),
+        Some(name) => take_owned(alloc, machine, binding(name)),
         None => Ok(false),
     }
 }
@@ -151,14 +159,19 @@ fn bind_every_name(alloc: Global, machine: &mut Machine) -> Result<bool, AllocEr
     Ok(true)
 }
 
-// Whether the entry of a row is legal, and applied.
-fn is_taken(alloc: Global, machine: &mut Machine, row: &str) -> Result<Option<bool>, AllocError>
+// Whether a row is an entry that is legal, and applied, or one that is not, as wanted.
+fn is_entry(
+    alloc: Global,
+    machine: &mut Machine,
+    row: &str,
+    legal: bool,
+) -> Result<bool, AllocError>
     requires { IsWellFormed machine.old }
     ensures { IsWellFormed machine.new }
 {
     match entry_again(alloc, row)? {
-        Some(entry) => Ok(Some(take(alloc, machine, &entry)?)),
-        None => Ok(None),
+        Some(entry) => Ok(take_owned(alloc, machine, entry)? == legal),
+        None => Ok(false),
     }
 }
 
@@ -171,8 +184,8 @@ fn holds(alloc: Global, machine: &mut Machine, row: &str) -> Result<bool, AllocE
         return bind_every_name(alloc, machine);
     }
     match row.strip_prefix("wrong ") {
-        Some(row) => Ok(is_taken(alloc, machine, row)? == Some(false)),
-        None => Ok(is_taken(alloc, machine, row)? == Some(true)),
+        Some(row) => is_entry(alloc, machine, row, false),
+        None => is_entry(alloc, machine, row, true),
     }
 }
 
@@ -205,7 +218,9 @@ fn first_wrong_of<'a>(
     rows: &'a str,
 ) -> Result<Option<&'a str>, AllocError> {
     let mut machine = start_of(alloc, title)?;
-    first_wrong(alloc, &mut machine, rows)
+    let wrong = first_wrong(alloc, &mut machine, rows);
+    drop(machine);
+    wrong
 }
 
 /// Every row of all lists is as it says.

@@ -5,6 +5,7 @@ use jlr_device::guarded::guarded_open;
 use jlr_device::real::{RealDevice, RealResource};
 use jlr_device::{Device, Mode};
 use jlr_types::Fault;
+use std::alloc::Global;
 use std::fs;
 use std::fs::Permissions;
 use std::io::{Read, Write};
@@ -36,13 +37,20 @@ impl Peer {
 
     fn read(&mut self) -> Option<Got> {
         let mut buf = [9u8; 4];
-        let count = self.stream.as_mut()?.read(&mut buf).ok()?;
-        Some(Got::Read(Ok(count), buf))
+        match self.stream.as_mut()?.read(&mut buf) {
+            Ok(count) => Some(Got::Read(Ok(count), buf)),
+            Err(_) => None,
+        }
     }
 
-    fn write(&mut self, bytes: &[u8]) -> Option<Got> {
-        self.stream.as_mut()?.write_all(bytes).ok()?;
-        Some(Got::Truth(true))
+    fn write(&mut self, alloc: Global, words: &mut SplitWhitespace<'_>) -> Option<Got> {
+        let bytes = bytes(alloc, words)?;
+        let wrote = match &mut self.stream {
+            Some(stream) => stream.write_all(bytes.as_slice()).is_ok(),
+            None => false,
+        };
+        drop(bytes);
+        Some(Got::Truth(wrote))
     }
 
     fn leave(&mut self) -> Option<Got> {
@@ -105,16 +113,17 @@ impl Real {
             "listen" => self.peer.listen(self.rt, path(words)),
             "accept" => self.peer.accept(),
             "peer_reads" => self.peer.read(),
-            "peer_writes" => self.peer.write(bytes(self.rt.alloc(), words)?.as_slice()),
+            "peer_writes" => self.peer.write(self.rt.alloc(), words),
             "peer_leaves" => self.peer.leave(),
             "stop_listening" => self.peer.stop_listening(),
-            _ => self.on_device(name, words),
+            _ => on_device(
+                self.rt.alloc(),
+                &mut self.device,
+                &mut self.opened,
+                name,
+                words,
+            ),
         }
-    }
-
-    fn on_device(&mut self, name: &str, words: &mut SplitWhitespace<'_>) -> Option<Got> {
-        let alloc = self.rt.alloc();
-        on_device(alloc, &mut self.device, &mut self.opened, name, words)
     }
 }
 

@@ -35,7 +35,7 @@ impl Stage for Scripted {
         match name {
             "step" => self.add_step(words),
             "script" => self.add_script(words),
-            "new" => self.renew(parsed(words)?),
+            "new" => self.renew(words),
             _ => on_device(self.alloc, &mut self.device, &mut self.opened, name, words),
         }
     }
@@ -61,7 +61,8 @@ impl Scripted {
     }
 
     // A device with the scripts before it.
-    fn renew(&mut self, failures: u64) -> Option<Got> {
+    fn renew(&mut self, words: &mut SplitWhitespace<'_>) -> Option<Got> {
+        let failures = parsed(words)?;
         let scripts = mem::replace(&mut self.scripts, Vec::new(self.alloc));
         self.device = ScriptDevice::new(scripts, failures);
         Some(Got::Truth(true))

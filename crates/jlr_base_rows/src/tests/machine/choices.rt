@@ -48,37 +48,44 @@ fn takes_all_that_it_has_room_for(choice: &mut Choice) -> bool {
     all && !one_more && fresh && is_filled(choice)
 }
 
-fn has_all(alloc: Global, collected: &Collected) -> Result<bool, AllocError> {
-    let kept = collected.kept.to_vec(alloc)?;
-    Ok(
-        kept.as_slice() == [Slot::new(0), Slot::new(64), Slot::new(129)].as_slice()
-            && collected.pending.as_slice().get(129).copied() == slot(0),
-    )
+// Whether so many are pending, with this one last, and these are kept.
+fn is_collected(
+    alloc: Global,
+    collected: &Collected,
+    pending: (usize, Option<Slot>),
+    kept: &[Slot],
+) -> Result<bool, AllocError> {
+    let is_pending = collected.pending.as_slice();
+    let are_pending = (is_pending.len(), is_pending.last().copied()) == pending;
+    let is_kept = collected.kept.to_vec(alloc)?;
+    Ok(are_pending && is_kept.as_slice() == kept)
+}
+
+// Whether these are fresh too.
+fn is_chosen(
+    alloc: Global,
+    chosen: Chosen,
+    pending: (usize, Option<Slot>),
+    kept: &[Slot],
+    fresh: &[Slot],
+) -> Result<bool, AllocError> {
+    let are_fresh = chosen.fresh.as_slice() == fresh;
+    let collected = match &chosen.collected {
+        Some(collected) => is_collected(alloc, collected, pending, kept),
+        None => Ok(false),
+    };
+    drop(chosen);
+    Ok(collected? && are_fresh)
 }
 
 fn has_all_that_was_chosen(alloc: Global, chosen: Chosen) -> Result<bool, AllocError> {
-    let fresh = chosen.fresh.as_slice() == [Slot::new(7), Slot::new(8)].as_slice();
-    let collected = match &chosen.collected {
-        Some(collected) => has_all(alloc, collected),
-        None => Ok(false),
-    };
-    drop(chosen);
-    Ok(collected? && fresh)
-}
-
-fn has_kept_two_alone(alloc: Global, collected: &Collected) -> Result<bool, AllocError> {
-    let kept = collected.kept.to_vec(alloc)?;
-    Ok(kept.as_slice() == [Slot::new(2)].as_slice() && collected.pending.len() == 0)
+    let kept = [Slot::new(0), Slot::new(64), Slot::new(129)];
+    let fresh = [Slot::new(7), Slot::new(8)];
+    is_chosen(alloc, chosen, (130, slot(0)), &kept, &fresh)
 }
 
 fn has_chosen_two_alone(alloc: Global, chosen: Chosen) -> Result<bool, AllocError> {
-    let fresh = chosen.fresh.as_slice().is_empty();
-    let collected = match &chosen.collected {
-        Some(collected) => has_kept_two_alone(alloc, collected),
-        None => Ok(false),
-    };
-    drop(chosen);
-    Ok(collected? && fresh)
+    is_chosen(alloc, chosen, (0, None), &[Slot::new(2)], &[])
 }
 
 #[test]

@@ -10,43 +10,69 @@ use jlr_types::Slot;
 use std::alloc::{AllocError, Global};
 use std::test::Fail;
 
-fn a_list_grows_at_its_end(alloc: Global) -> Result<bool, AllocError> {
+fn a_list_grows_at_its_end(alloc: Global) -> bool {
     let mut list = Items::new(alloc);
-    let was_empty = list.len() == 0;
-    list.push(7u32)?;
-    list.push(8)?;
-    let has_both = list.len() == 2 && list.as_slice() == [7, 8].as_slice();
+    let has_both = takes_seven_and_eight(&mut list);
     let mut items = list.into_vec();
-    items.push(9)?;
-    Ok(was_empty && has_both && Items::from_vec(items).as_slice() == [7, 8, 9].as_slice())
+    let grew = items.push(9).is_ok();
+    let list = Items::from_vec(items);
+    let has_all = list.as_slice() == [7, 8, 9].as_slice();
+    drop(list);
+    has_both && grew && has_all
+}
+
+fn takes_seven_and_eight(list: &mut Items<u32>) -> bool {
+    let was_empty = list.len() == 0;
+    let grew = (list.push(7), list.push(8)) == (Ok(()), Ok(()));
+    was_empty && grew && list.len() == 2 && list.as_slice() == [7, 8].as_slice()
 }
 
 fn a_table_has_what_is_at_each_number(alloc: Global) -> Result<bool, AllocError> {
-    let table = Table::from_vec([Some(5u32), None, Some(6)].to_vec(alloc)?);
-    let has_each = table.len() == 3
-        && table.get(0).copied() == Some(5)
-        && table.get(1).is_none()
-        && table.get(2).copied() == Some(6)
-        && table.get(3).is_none()
-        && table.as_slice() == [Some(5), None, Some(6)].as_slice();
-    Ok(has_each && table.into_vec().as_slice() == [Some(5), None, Some(6)].as_slice())
+    let table = Table::from_vec([Some(5), None, Some(6)].to_vec(alloc)?);
+    let has_each = has_each_number(&table);
+    let items = table.into_vec();
+    let has_all = items.as_slice() == [Some(5), None, Some(6)].as_slice();
+    drop(items);
+    Ok(has_each && has_all)
 }
 
-fn elements_are_copied_in_their_order(alloc: Global) -> Result<bool, AllocError> {
+fn has_each_number(table: &Table<u32>) -> bool {
+    let each = [
+        table.get(0).copied(),
+        table.get(1).copied(),
+        table.get(2).copied(),
+        table.get(3).copied(),
+    ];
+    each == [Some(5), None, Some(6), None]
+        && table.len() == 3
+        && table.as_slice() == [Some(5), None, Some(6)].as_slice()
+}
+
+fn slices_are_copied_in_their_order(alloc: Global) -> Result<bool, AllocError> {
     let numbers = copy_slice(alloc, [3u32, 1, 2].as_slice())?;
-    let copy = copy_items(alloc, &slots(alloc, &[4, 0])?)?;
-    Ok(
-        numbers.as_slice() == [3, 1, 2].as_slice()
-            && copy.as_slice() == [Slot::new(4), Slot::new(0)].as_slice(),
-    )
+    Ok(numbers.as_slice() == [3, 1, 2].as_slice())
+}
+
+fn lists_are_copied_in_their_order(alloc: Global) -> Result<bool, AllocError> {
+    let list = slots(alloc, &[4, 0])?;
+    let copied = is_copied(alloc, &list);
+    drop(list);
+    copied
+}
+
+fn is_copied(alloc: Global, list: &Items<Slot>) -> Result<bool, AllocError> {
+    let copy = copy_items(alloc, list)?;
+    Ok(copy.as_slice() == [Slot::new(4), Slot::new(0)].as_slice())
 }
 
 fn a_text_grows_until_it_is_full() -> bool {
     let mut text: Text<2> = Text::new();
     let was_empty = text.is_empty();
-    let grew = text.push(7).is_ok() && text.push(8).is_ok();
-    let is_full = text.push(9) == Err(TextFull);
-    was_empty && grew && is_full && is_seven_eight(&text) && is_seven_eight(&text.copy())
+    let pushed = [text.push(7), text.push(8), text.push(9)];
+    was_empty
+        && pushed == [Ok(()), Ok(()), Err(TextFull)]
+        && is_seven_eight(&text)
+        && is_seven_eight(&text.copy())
 }
 
 fn is_seven_eight(text: &Text<2>) -> bool {
@@ -77,19 +103,36 @@ fn can_be_kept(alloc: Global, numbers: &[u32]) -> Result<bool, AllocError> {
 
 #[test]
 fn lists_and_tables_hold_what_they_were_given(rt: HostRuntime) -> Result<(), Fail> {
-    assert!(rt; a_list_grows_at_its_end(rt.alloc())?);
-    assert!(rt; a_table_has_what_is_at_each_number(rt.alloc())?);
-    assert!(rt; elements_are_copied_in_their_order(rt.alloc())?);
+    let alloc = rt.alloc();
+    let table = a_table_has_what_is_at_each_number(alloc)?;
+    let copies = [
+        slices_are_copied_in_their_order(alloc)?,
+        lists_are_copied_in_their_order(alloc)?,
+    ];
+    assert!(rt; a_list_grows_at_its_end(alloc) && table && copies == [true, true]);
     Ok(())
+}
+
+// Data of at most 200 bytes.
+fn data_holds_what_fits(alloc: Global) -> Result<bool, AllocError> {
+    Ok((is_data(alloc, &[0; 200])?, is_data(alloc, &[0; 201])?) == (true, false))
+}
+
+// Names of small letters, at least one and at most 32.
+fn names_hold_what_fits() -> bool {
+    let others = [
+        is_name(b""),
+        is_name(b"A"),
+        is_name(b"a b"),
+        is_name(&[97; 33]),
+    ];
+    is_name(&[97; 32]) && others == [false; 4]
 }
 
 #[test]
 fn texts_hold_what_fits(rt: HostRuntime) -> Result<(), Fail> {
-    assert!(rt; a_text_grows_until_it_is_full());
-    assert!(rt; is_data(rt.alloc(), &[0; 200])?);
-    assert!(rt; !is_data(rt.alloc(), &[0; 201])?);
-    assert!(rt; is_name(&[97; 32]));
-    assert!(rt; !is_name(b"") && !is_name(b"A") && !is_name(b"a b") && !is_name(&[97; 33]));
+    let data = data_holds_what_fits(rt.alloc())?;
+    assert!(rt; data && a_text_grows_until_it_is_full() && names_hold_what_fits());
     Ok(())
 }
 

@@ -9,7 +9,7 @@
 //! its referent last in collection 5 is kept in collection 7 at soft age 3, `gone 5 8 of 3` that it is not, and `cleared` that it
 //! is not where
 //! all are.
-use crate::tests::words::parsed;
+use crate::tests::words::{parsed, small, tiny};
 use jlr_soft::{Mode, Policy};
 use jlr_types::{
     ActionNo, FieldKind, Handle, Layout, LimitFault, Limits, Meter, Mutator, Refusal, Rid, Slot,
@@ -55,16 +55,6 @@ const ROWS: &str = "
     cleared 3 4 of 1000
 ";
 
-fn refusal(name: &str) -> Option<Refusal> {
-    match name {
-        "NoMemory" => Some(Refusal::NoMemory),
-        "HeapFull" => Some(Refusal::HeapFull),
-        "NoSession" => Some(Refusal::NoSession),
-        "ResourcesFull" => Some(Refusal::ResourcesFull),
-        _ => None,
-    }
-}
-
 fn is_kind(kind: Option<FieldKind>, letter: u8) -> bool {
     match kind {
         Some(FieldKind::Ref) => letter == b'r',
@@ -99,9 +89,12 @@ fn has_fields(layout: &Layout, letters: &[u8]) -> bool {
         && layout.is_empty() == letters.is_empty()
 }
 
-fn is_layout(letters: &str) -> bool {
-    let letters = letters.trim_end_matches('-').as_bytes();
-    has_fields(&layout_of(letters), letters)
+fn is_layout(words: &mut SplitWhitespace<'_>) -> bool {
+    match words.next() {
+        Some("-") => has_fields(&Layout::new(), b""),
+        Some(letters) => has_fields(&layout_of(letters.as_bytes()), letters.as_bytes()),
+        None => false,
+    }
 }
 
 fn ticks(count: u64) -> u64 {
@@ -139,12 +132,15 @@ fn limits_told(numbers: &[u32; 6]) -> &'static str {
 }
 
 fn has_limits(limits: &Limits, numbers: &[u32; 6]) -> bool {
-    limits.cells == numbers[0]
-        && limits.sessions == numbers[1]
-        && limits.resources == numbers[2]
-        && limits.soft_age == numbers[3]
-        && limits.trace == numbers[4]
-        && limits.budget == numbers[5]
+    let kept = [
+        limits.cells,
+        limits.sessions,
+        limits.resources,
+        limits.soft_age,
+        limits.trace,
+        limits.budget,
+    ];
+    kept == *numbers
 }
 
 fn are_limits(words: &mut SplitWhitespace<'_>) -> Option<bool> {
@@ -155,35 +151,54 @@ fn are_limits(words: &mut SplitWhitespace<'_>) -> Option<bool> {
     Some(words.next()? == limits_told(&numbers))
 }
 
+// Whether a policy keeps, after `5 7 of 3`.
 fn is_kept(mode: Mode, words: &mut SplitWhitespace<'_>) -> Option<bool> {
-    let (last_get, cycle) = (parsed(words)?, parsed(words)?);
-    let _of = words.next()?;
-    Some(Policy::new(parsed(words)?, mode).keeps(last_get, cycle))
+    match (parsed(words), parsed(words), words.next(), parsed(words)) {
+        (Some(last_get), Some(cycle), Some("of"), Some(age)) => {
+            Some(Policy::new(age, mode).keeps(last_get, cycle))
+        }
+        _ => None,
+    }
 }
 
-// Whether a row is true; none where it is no row.
-fn holds(name: &str, words: &mut SplitWhitespace<'_>) -> Option<bool> {
+// Whether a row is true; not where it is no row.
+fn holds(name: &str, words: &mut SplitWhitespace<'_>) -> bool {
     match name {
-        "layout" => words.next().map(is_layout),
-        "limits" => are_limits(words),
-        "kept" => is_kept(Mode::Policy, words),
-        "gone" => is_kept(Mode::Policy, words).map(|kept| !kept),
-        "cleared" => is_kept(Mode::ClearAll, words).map(|kept| !kept),
+        "layout" => is_layout(words),
+        "limits" => are_limits(words).unwrap_or(false),
+        "kept" => matches!(is_kept(Mode::Policy, words), Some(true)),
+        "gone" => matches!(is_kept(Mode::Policy, words), Some(false)),
+        "cleared" => matches!(is_kept(Mode::ClearAll, words), Some(false)),
         _ => has_number(name, words),
     }
 }
 
-fn has_number(name: &str, words: &mut SplitWhitespace<'_>) -> Option<bool> {
-    if let Some(refusal) = refusal(name) {
-        return Some(refusal.number() == parsed::<u8>(words)?);
+fn has_number(name: &str, words: &mut SplitWhitespace<'_>) -> bool {
+    match parsed(words) {
+        Some(number) => number_of(name, number) == Some(number),
+        None => false,
     }
+}
+
+// The number of what was made of this number.
+fn number_of(name: &str, number: u64) -> Option<u64> {
     match name {
-        "slot" => parsed(words).map(|number: u32| Slot::new(number).number() == number),
-        "handle" => parsed(words).map(|number: u8| Handle::new(number).number() == number),
-        "mutator" => parsed(words).map(|number: u8| Mutator::new(number).number() == number),
-        "rid" => parsed(words).map(|number: u32| Rid::new(number).number() == number),
-        "action" => parsed(words).map(|number: u64| ActionNo::new(number).number() == number),
-        "ticks" => parsed(words).map(|count: u64| ticks(count) == count),
+        "slot" => Some(u64::from(Slot::new(small(number)).number())),
+        "handle" => Some(u64::from(Handle::new(tiny(number)).number())),
+        "mutator" => Some(u64::from(Mutator::new(tiny(number)).number())),
+        "rid" => Some(u64::from(Rid::new(small(number)).number())),
+        "action" => Some(ActionNo::new(number).number()),
+        "ticks" => Some(ticks(number)),
+        _ => Some(u64::from(refusal(name)?.number())),
+    }
+}
+
+fn refusal(name: &str) -> Option<Refusal> {
+    match name {
+        "NoMemory" => Some(Refusal::NoMemory),
+        "HeapFull" => Some(Refusal::HeapFull),
+        "NoSession" => Some(Refusal::NoSession),
+        "ResourcesFull" => Some(Refusal::ResourcesFull),
         _ => None,
     }
 }
@@ -191,7 +206,7 @@ fn has_number(name: &str, words: &mut SplitWhitespace<'_>) -> Option<bool> {
 fn is_true(row: &str) -> bool {
     let mut words = row.split_whitespace();
     match words.next() {
-        Some(name) => holds(name, &mut words) == Some(true) && words.next().is_none(),
+        Some(name) => holds(name, &mut words) && words.next().is_none(),
         None => true,
     }
 }

@@ -8,7 +8,7 @@ use Rattle.jlr_laws.proofs.Empty.{empty_is_well_formed}
 use Rattle.jlr_event.specs.declared.event.Event.{Event}
 use Rattle.jlr_event.specs.declared.event.Reply.{Reply}
 use Rattle.jlr_core.specs.Runs.{IsRunOf, resources_of_events, resources_of_replies}
-use Rattle.jlr_core.proofs.Ranges.{limits_hold}
+use Rattle.jlr_state.proofs.Ranges.{limits_hold}
 use Rattle.jlr_core.proofs.RunLaws.{run_more, flow_more, start_run, start_flow, start_cells}
 use Rattle.jlr_core.proofs.run.answer_all.Goals as goal
 

@@ -86,15 +86,17 @@ fn words_of(bytes: &[u8]) -> &str {
 }
 
 fn check_in(alloc: Global, mutator: &Mutator, how: &CallOutcome) -> Result<String, AllocError> {
-    let mutator = mutator.number();
     match how {
         CallOutcome::Data(bytes) => {
-            format!(in alloc; "by {mutator} check_in data {}", words_of(bytes.as_slice()))
+            ended(alloc, "check_in data", mutator, words_of(bytes.as_slice()))
         }
-        CallOutcome::Wrote(count) => {
-            format!(in alloc; "by {mutator} check_in wrote {}", count.number())
-        }
-        CallOutcome::Failed(of) => format!(in alloc; "by {mutator} check_in failed {}", fault(of)),
+        CallOutcome::Wrote(count) => line(
+            alloc,
+            "check_in wrote",
+            mutator,
+            &[i64::from(count.number())],
+        ),
+        CallOutcome::Failed(of) => ended(alloc, "check_in failed", mutator, fault(of)),
     }
 }
 

@@ -7,6 +7,7 @@ use crate::tests::streams::{Failing, Narrow, Pieced, Streams};
 use jlr_session::serve::serve;
 use jlr_session::shell::{SessionEnd, converse};
 use std::alloc::Global;
+use std::mem;
 use std::test::Fail;
 
 /// How the sessions of a case are played.
@@ -33,15 +34,24 @@ struct Played {
 
 /// Plays the rows, each of which must hold.
 pub(super) fn play(alloc: Global, rows: &[Row]) -> Result<(), Fail> {
-    let mut setup = case("no case");
     let mut last = None;
+    let played = play_on(alloc, &mut last, rows);
+    drop(last);
+    played
+}
+
+fn play_on(alloc: Global, last: &mut Option<Played>, rows: &[Row]) -> Result<(), Fail> {
+    let mut setup = case("no case");
     for (number, row) in rows.iter().enumerate() {
-        if !holds(alloc, &mut setup, &mut last, *row).unwrap_or(false) {
-            let name = setup.name;
-            return Err(Fail::new(format_args!("{name}: row {number} does not hold")));
+        if holds(alloc, &mut setup, last, *row) != Some(true) {
+            return Err(failed(setup.name, number));
         }
     }
     Ok(())
+}
+
+fn failed(name: &str, number: usize) -> Fail {
+    Fail::new(format_args!("{name}: row {number} does not hold"))
 }
 
 fn case(name: &'static str) -> Setup {
@@ -58,18 +68,8 @@ fn case(name: &'static str) -> Setup {
 fn holds(alloc: Global, setup: &mut Setup, last: &mut Option<Played>, row: Row) -> Option<bool> {
     match row {
         Row::Play(given, end, sent) => ends_so(alloc, setup, last, given, end, sent),
-        Row::EachReadFails(given, sent) => each_read_fails(
-            alloc,
-            setup,
-            given.as_bytes(),
-            sent.as_bytes(),
-        ),
-        Row::EachWriteFails(given, sent) => each_write_fails(
-            alloc,
-            setup,
-            given.as_bytes(),
-            sent.as_bytes(),
-        ),
+        Row::EachReadFails(given, sent) => each_read_fails(alloc, setup, given, sent),
+        Row::EachWriteFails(given, sent) => each_write_fails(alloc, setup, given, sent),
         Row::Asked(_) | Row::Settled(_) | Row::Counted(_) | Row::Unread(_) => looked_at(last, row),
         row => {
             set(setup, row);
@@ -124,15 +124,28 @@ fn ends_so(
     sent: &str,
 ) -> Option<bool> {
     let given = unfolded(alloc, given, "x", setup.long)?;
-    let sent = unfolded(alloc, sent, "ab", setup.long)?;
-    *last = run(alloc, setup, given.as_bytes(), setup.streams);
-    let Some(played) = last else {
-        return None;
+    drop(mem::replace(last, run(alloc, setup, given.as_bytes(), setup.streams)));
+    let ends_so = match last {
+        Some(played) => {
+            is_end(alloc, setup, played, end, sent)
+                && each_cut_is_like(alloc, setup, given.as_bytes(), played)
+        }
+        None => false,
     };
-    if played.end != end || played.sent.as_slice() != sent.as_bytes() {
-        return Some(false);
+    drop(given);
+    Some(ends_so)
+}
+
+/// Whether it ended so, and sent this.
+fn is_end(alloc: Global, setup: &Setup, played: &Played, end: SessionEnd, sent: &str) -> bool {
+    match unfolded(alloc, sent, "ab", setup.long) {
+        Some(sent) => {
+            let is_end = played.end == end && played.sent.as_slice() == sent.as_bytes();
+            drop(sent);
+            is_end
+        }
+        None => false,
     }
-    Some(each_cut_is_like(alloc, setup, given.as_bytes(), played))
 }
 
 fn run(alloc: Global, setup: &Setup, given: &[u8], streams: Streams) -> Option<Played> {
@@ -209,7 +222,7 @@ fn each_first_is_like(
 ) -> bool {
     for first in 0..=given.len() {
         let played = run(alloc, setup, given, Streams { first, ..streams });
-        if !is_like(&played, whole) {
+        if !is_like(played, whole) {
             return false;
         }
     }
@@ -217,33 +230,38 @@ fn each_first_is_like(
 }
 
 /// Whether nothing but the number of bytes that were read differs.
-fn is_like(played: &Option<Played>, whole: &Played) -> bool {
-    match played {
-        Some(played) => sent_the_same(played, whole) && asked_the_same(played, whole),
+fn is_like(played: Option<Played>, whole: &Played) -> bool {
+    let is_like = match &played {
+        Some(played) => compared(played) == compared(whole),
         None => false,
-    }
+    };
+    drop(played);
+    is_like
 }
 
-fn sent_the_same(played: &Played, whole: &Played) -> bool {
-    played.end == whole.end && played.sent.as_slice() == whole.sent.as_slice()
-}
-
-fn asked_the_same(played: &Played, whole: &Played) -> bool {
-    played.asked.as_str() == whole.asked.as_str()
-        && played.settled == whole.settled
-        && played.counted == whole.counted
+fn compared(played: &Played) -> (SessionEnd, &[u8], &str, [usize; 2]) {
+    let counts = [played.settled, played.counted];
+    (
+        played.end,
+        played.sent.as_slice(),
+        played.asked.as_str(),
+        counts,
+    )
 }
 
 /// The lines that were read are answered, and then the mutator leaves.
-fn each_read_fails(alloc: Global, setup: &Setup, given: &[u8], replies: &[u8]) -> Option<bool> {
+fn each_read_fails(alloc: Global, setup: &Setup, given: &str, replies: &str) -> Option<bool> {
     let streams = Streams {
         failing: Failing::Last,
         ..setup.streams
     };
     for count in 0..=given.len() {
-        let front = given.split_at(count).0;
-        let (_, settled) = broken_off(
-            &run(alloc, setup, front, streams)?,
+        let front = given.as_bytes().split_at(count).0;
+        let (_, settled) = breaks_off(
+            alloc,
+            setup,
+            front,
+            streams,
             SessionEnd::ReadFault,
             replies,
         )?;
@@ -255,7 +273,7 @@ fn each_read_fails(alloc: Global, setup: &Setup, given: &[u8], replies: &[u8]) -
 }
 
 /// What went out is a front of the replies, the command stands carried out, and then the mutator leaves.
-fn each_write_fails(alloc: Global, setup: &Setup, given: &[u8], replies: &[u8]) -> Option<bool> {
+fn each_write_fails(alloc: Global, setup: &Setup, given: &str, replies: &str) -> Option<bool> {
     for room in 0..replies.len() {
         for writes_fail in [false, true] {
             let streams = Streams {
@@ -264,8 +282,12 @@ fn each_write_fails(alloc: Global, setup: &Setup, given: &[u8], replies: &[u8]) 
                 writes_fail,
                 ..setup.streams
             };
-            let (sent, _) = broken_off(
-                &run(alloc, setup, given, streams)?,
+            let given = given.as_bytes();
+            let (sent, _) = breaks_off(
+                alloc,
+                setup,
+                given,
+                streams,
                 SessionEnd::WriteFault,
                 replies,
             )?;
@@ -275,6 +297,21 @@ fn each_write_fails(alloc: Global, setup: &Setup, given: &[u8], replies: &[u8]) 
         }
     }
     Some(true)
+}
+
+/// What `broken_off` says of a session.
+fn breaks_off(
+    alloc: Global,
+    setup: &Setup,
+    given: &[u8],
+    streams: Streams,
+    end: SessionEnd,
+    replies: &str,
+) -> Option<(usize, usize)> {
+    let played = run(alloc, setup, given, streams)?;
+    let broken_off = broken_off(&played, end, replies.as_bytes());
+    drop(played);
+    broken_off
 }
 
 /// How many bytes were sent and how many replies settled, if it ended so after a front of these replies, each of which was settled, and the

@@ -8,9 +8,12 @@ use std::str::SplitWhitespace;
 /// Whether the command is the case of these words.
 pub(super) fn is_case(command: &Command<'_>, wanted: &str) -> bool {
     let mut words = wanted.split_whitespace();
-    words.next() == Some(case_of(command))
-        && has_parts(command, &mut words)
-        && words.next().is_none()
+    match words.next() {
+        Some(name) => {
+            name == case_of(command) && has_parts(command, &mut words) && words.next().is_none()
+        }
+        None => false,
+    }
 }
 
 fn case_of(command: &Command<'_>) -> &'static str {

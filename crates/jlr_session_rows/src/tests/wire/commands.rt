@@ -1,8 +1,7 @@
 //! Each command once, and the ends of its numbers and lengths.
 use super::cases::is_case;
-use super::spelled;
+use super::{Topic, play};
 use jlr_wire::command::read_command;
-use std::alloc::Global;
 use std::test::Fail;
 
 const ROWS: &str = "
@@ -83,31 +82,15 @@ const ROWS: &str = "
     write 1 (0×400) -> Write 1( 0×200)
 ";
 
-fn is_read(line: &str, wanted: &str) -> bool {
+/// Whether a line is read as the command of these words.
+pub(super) fn is_read(line: &str, wanted: &str) -> bool {
     match read_command(line.as_bytes()) {
         Ok(command) => is_case(&command, wanted),
         Err(_) => false,
     }
 }
 
-fn holds(row: &str) -> bool {
-    match row.split_once(" -> ") {
-        Some((line, wanted)) => is_read(line, wanted),
-        None => false,
-    }
-}
-
-fn reads(alloc: Global, row: &str) -> Result<bool, Fail> {
-    let spelled = spelled(alloc, row)?;
-    Ok(holds(spelled.as_str()))
-}
-
 #[test]
 fn lines_are_read_as_their_commands(rt: HostRuntime) -> Result<(), Fail> {
-    for row in ROWS.trim().lines() {
-        if !reads(rt.alloc(), row.trim())? {
-            return Err(Fail::new(format_args!("{row}")));
-        }
-    }
-    Ok(())
+    play(rt.alloc(), Topic::Commands, ROWS)
 }

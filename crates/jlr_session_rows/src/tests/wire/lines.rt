@@ -26,7 +26,9 @@ fn reply(line: &[u8], out: &mut Vec<u8>) -> Result<(), WriteFault> {
         Ok(_) => Answer::Done,
         Err(refusal) => Answer::Refused(refusal),
     };
-    write_reply(&answer, out)
+    let written = write_reply(&answer, out);
+    drop(answer);
+    written
 }
 
 /// Writes a reply for each line that ends in a piece: all of them are refused.
@@ -44,12 +46,14 @@ fn refuse(pieces: &mut Pieces, piece: &[u8], out: &mut Vec<u8>) -> Result<(), Wr
 }
 
 /// Whether the stream, in these two parts, is answered as it has to be.
-fn is_cut_well(alloc: Global, front: &[u8], back: &[u8]) -> Result<bool, WriteFault> {
+fn is_cut_well(alloc: Global, front: &[u8], back: &[u8]) -> bool {
     let mut pieces = Pieces::new();
     let mut out = Vec::new(alloc);
-    refuse(&mut pieces, front, &mut out)?;
-    refuse(&mut pieces, back, &mut out)?;
-    Ok(ends_well(&pieces, out.as_slice()))
+    let is_cut_well = refuse(&mut pieces, front, &mut out).is_ok()
+        && refuse(&mut pieces, back, &mut out).is_ok()
+        && ends_well(&pieces, out.as_slice());
+    drop(out);
+    is_cut_well
 }
 
 /// Whether the lines were answered as they have to be, and the last one is under way.
@@ -57,11 +61,10 @@ fn ends_well(pieces: &Pieces, out: &[u8]) -> bool {
     out == ANSWERS.as_bytes() && pieces.unfinished() && pieces.line() == b"gc".as_slice()
 }
 
-fn each_cut_into_two_gives_the_same_lines(alloc: Global) -> Result<(), Fail> {
-    let bytes = stream(alloc)?;
+fn each_cut_into_two_gives_the_same_lines(alloc: Global, bytes: &[u8]) -> Result<(), Fail> {
     for cut in 0..=bytes.len() {
-        let (front, back) = bytes.as_slice().split_at(cut);
-        if !is_cut_well(alloc, front, back)? {
+        let (front, back) = bytes.split_at(cut);
+        if !is_cut_well(alloc, front, back) {
             return Err(Fail::new(format_args!("cut at {cut}")));
         }
     }
@@ -69,21 +72,31 @@ fn each_cut_into_two_gives_the_same_lines(alloc: Global) -> Result<(), Fail> {
 }
 
 /// Whether the stream, byte by byte, is answered as it has to be.
-fn is_read_well(alloc: Global, bytes: &[u8]) -> Result<bool, WriteFault> {
+fn is_read_well(alloc: Global, bytes: &[u8]) -> bool {
     let mut pieces = Pieces::new();
     let mut out = Vec::new(alloc);
+    let mut are_refused = true;
     for byte in bytes {
-        refuse(&mut pieces, &[*byte], &mut out)?;
+        are_refused = refuse(&mut pieces, &[*byte], &mut out).is_ok() && are_refused;
     }
-    Ok(ends_well(&pieces, out.as_slice()))
+    let is_read_well = are_refused && ends_well(&pieces, out.as_slice());
+    drop(out);
+    is_read_well
 }
 
-fn byte_by_byte_gives_the_same_lines(alloc: Global) -> Result<(), Fail> {
-    let bytes = stream(alloc)?;
-    if is_read_well(alloc, bytes.as_slice())? {
+fn is_read_well_in_all_parts(alloc: Global, bytes: &[u8]) -> Result<(), Fail> {
+    each_cut_into_two_gives_the_same_lines(alloc, bytes)?;
+    if is_read_well(alloc, bytes) {
         return Ok(());
     }
     Err(Fail::from("byte by byte"))
+}
+
+fn each_part_gives_the_same_lines(alloc: Global) -> Result<(), Fail> {
+    let bytes = stream(alloc)?;
+    let is_read = is_read_well_in_all_parts(alloc, bytes.as_slice());
+    drop(bytes);
+    is_read
 }
 
 /// Whether the byte alone is no command, and a line of its own where no end of a line.
@@ -143,8 +156,7 @@ fn a_line_has_at_most_512_bytes() -> Result<(), Fail> {
 
 #[test]
 fn lines_come_out_of_a_stream(rt: HostRuntime) -> Result<(), Fail> {
-    each_cut_into_two_gives_the_same_lines(rt.alloc())?;
-    byte_by_byte_gives_the_same_lines(rt.alloc())?;
+    each_part_gives_the_same_lines(rt.alloc())?;
     no_byte_alone_is_a_command()?;
     a_line_has_at_most_512_bytes()
 }

@@ -1,8 +1,7 @@
 //! Lines that are nearly a command, wrong in each of their fields. A line stands between bars.
-use super::{barred, spelled};
+use super::{Topic, barred, play};
 use jlr_types::Refusal;
 use jlr_wire::command::read_command;
-use std::alloc::Global;
 use std::test::Fail;
 
 const LINES: &str = "
@@ -401,22 +400,15 @@ const LINES: &str = "
     |unbind (_×33)|
 ";
 
-fn is_malformed(line: &str) -> bool {
-    matches!(read_command(line.as_bytes()), Err(Refusal::Malformed))
-}
-
-fn holds(alloc: Global, row: &str) -> Result<bool, Fail> {
-    let line = spelled(alloc, barred(row).unwrap_or("gc"))?;
-    Ok(is_malformed(line.as_str()))
+/// Whether a line between bars is malformed. What stands between none is none.
+pub(super) fn is_malformed(barred_line: &str) -> bool {
+    match barred(barred_line) {
+        Some(line) => matches!(read_command(line.as_bytes()), Err(Refusal::Malformed)),
+        None => false,
+    }
 }
 
 #[test]
 fn what_is_nearly_a_command_is_malformed(rt: HostRuntime) -> Result<(), Fail> {
-    for row in LINES.trim().lines() {
-        let row = row.trim();
-        if !row.starts_with("== ") && !holds(rt.alloc(), row)? {
-            return Err(Fail::new(format_args!("not malformed: {row}")));
-        }
-    }
-    Ok(())
+    play(rt.alloc(), Topic::Malformed, LINES)
 }

@@ -1,9 +1,5 @@
 //! Each sort of reply, and its line without its end. An answer that no command is given has no line.
-use super::{is_line, spelled};
-use jlr_machine::ask::Answer;
-use jlr_wire::reply::write_reply;
-use jlr_words::answer_of;
-use std::alloc::{AllocError, Global};
+use super::{Topic, is_line, play};
 use std::test::Fail;
 
 const ROWS: &str = "
@@ -51,43 +47,15 @@ const ROWS: &str = "
     job 1 note 7 -> no line
 ";
 
-// Whether this is what an answer is written as.
-fn is_sent(sent: &[u8], is_ok: bool, line: &str) -> bool {
+/// Whether this is what an answer with this line comes to.
+pub(super) fn is_told(sent: &[u8], well: bool, line: &str) -> bool {
     if line == "no line" {
-        return !is_ok && sent.is_empty();
+        return !well && sent.is_empty();
     }
-    is_ok && is_line(sent, line)
-}
-
-fn is_written(alloc: Global, answer: &Answer, line: &str) -> bool {
-    let mut out = Vec::new(alloc);
-    let is_ok = write_reply(answer, &mut out).is_ok();
-    is_sent(out.as_slice(), is_ok, line)
-}
-
-fn holds(alloc: Global, row: &str) -> Result<bool, AllocError> {
-    let (answer, line) = row.split_once(" -> ").unwrap_or((row, ""));
-    match answer_of(alloc, answer)? {
-        Some(answer) => {
-            let is_written = is_written(alloc, &answer, line);
-            drop(answer);
-            Ok(is_written)
-        }
-        None => Ok(false),
-    }
-}
-
-fn replies(alloc: Global, row: &str) -> Result<bool, Fail> {
-    let spelled = spelled(alloc, row)?;
-    Ok(holds(alloc, spelled.as_str())?)
+    well && is_line(sent, line)
 }
 
 #[test]
 fn answers_are_written_as_their_lines(rt: HostRuntime) -> Result<(), Fail> {
-    for row in ROWS.trim().lines() {
-        if !replies(rt.alloc(), row.trim())? {
-            return Err(Fail::new(format_args!("{row}")));
-        }
-    }
-    Ok(())
+    play(rt.alloc(), Topic::Replies, ROWS)
 }

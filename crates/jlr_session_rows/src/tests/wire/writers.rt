@@ -1,10 +1,9 @@
 //! Writers that fail, or take little at a time.
-use super::{barred, is_line, spelled};
-use crate::tests::streams::{Narrow, Streams};
+use super::{Topic, barred, is_line, is_written, play};
+use crate::tests::streams::Streams;
 use jlr_machine::ask::Answer;
 use jlr_wire::reply::write_reply;
-use jlr_words::answer_of;
-use std::alloc::{AllocError, Global};
+use std::alloc::Global;
 use std::io::{self, Write};
 use std::test::Fail;
 
@@ -35,50 +34,42 @@ const FRONTS: &str = "
     3 4 names ab c -> cut |list|
 ";
 
-// Whether what went out is the whole line, or this front of it.
-fn is_sent(sent: &[u8], well: bool, wanted: &str) -> Option<bool> {
-    let (end, text) = wanted.split_once(" ")?;
-    let text = barred(text)?;
-    match end {
-        "whole" => Some(well && is_line(sent, text)),
-        "cut" => Some(!well && sent == text.as_bytes()),
-        _ => None,
+/// Whether what went out is the whole line, or this front of it.
+pub(super) fn is_front(sent: &[u8], well: bool, wanted: &str) -> bool {
+    let (end, text) = wanted.split_once(" ").unwrap_or((wanted, ""));
+    match barred(text) {
+        Some(text) => is_cut(sent, well, end, text),
+        None => false,
     }
 }
 
-fn goes_out(writer: &mut Narrow, answer: &Answer, wanted: &str) -> bool {
-    let well = write_reply(answer, writer).is_ok();
-    is_sent(writer.taken.as_slice(), well, wanted) == Some(true)
+fn is_cut(sent: &[u8], well: bool, end: &str, text: &str) -> bool {
+    match end {
+        "whole" => well && is_line(sent, text),
+        "cut" => !well && sent == text.as_bytes(),
+        _ => false,
+    }
 }
 
 // The two numbers that a row begins with, and what is behind them.
 fn numbered(row: &str) -> Option<(usize, usize, &str)> {
     let (step, rest) = row.split_once(" ")?;
     let (room, rest) = rest.split_once(" ")?;
-    Some((step.parse().ok()?, room.parse().ok()?, rest))
+    match (step.parse(), room.parse()) {
+        (Ok(step), Ok(room)) => Some((step, room, rest)),
+        _ => None,
+    }
 }
 
-// Takes at most so many bytes in one write, and so many in all.
-fn narrow(alloc: Global, step: usize, room: usize) -> Narrow {
+/// Whether, with at most so many bytes in one write and so many in all, an answer goes out as this.
+pub(super) fn sends(alloc: Global, given: &str, wanted: &str) -> bool {
+    let (width, room, words) = numbered(given).unwrap_or((0, 0, ""));
     let streams = Streams {
-        width: step,
+        width,
         room,
         ..Streams::whole()
     };
-    Narrow::new(alloc, streams)
-}
-
-fn sends(alloc: Global, row: &str) -> Result<bool, AllocError> {
-    let (given, wanted) = row.split_once(" -> ").unwrap_or((row, ""));
-    let (step, room, answer) = numbered(given).unwrap_or((0, 0, ""));
-    match answer_of(alloc, answer)? {
-        Some(answer) => {
-            let goes_out = goes_out(&mut narrow(alloc, step, room), &answer, wanted);
-            drop(answer);
-            Ok(goes_out)
-        }
-        None => Ok(false),
-    }
+    is_written(alloc, streams, Topic::Fronts, words, wanted)
 }
 
 // How many writes a reply takes, and how many bytes it has. The longest lines are those of 256 names and of 256 faults.
@@ -95,32 +86,12 @@ const WRITES: &str = "
     names (a_name_of_thirty_two_characters0 ×256) -> 1 8453
 ";
 
-// Whether the answer is written by so many writes, in so many bytes.
-fn takes(writer: &mut Narrow, answer: &Answer, wanted: &str) -> bool {
-    let well = write_reply(answer, writer).is_ok();
+/// Whether a reply took so many writes, and has so many bytes.
+pub(super) fn are_counted(writes: usize, bytes: usize, wanted: &str) -> bool {
     match wanted.split_once(" ") {
-        Some((writes, bytes)) => {
-            well && writes.parse() == Ok(writer.writes) && bytes.parse() == Ok(writer.taken.len())
-        }
+        Some((first, second)) => (first.parse(), second.parse()) == (Ok(writes), Ok(bytes)),
         None => false,
     }
-}
-
-fn holds(alloc: Global, row: &str) -> Result<bool, AllocError> {
-    let (answer, wanted) = row.split_once(" -> ").unwrap_or((row, ""));
-    match answer_of(alloc, answer)? {
-        Some(answer) => {
-            let takes = takes(&mut Narrow::new(alloc, Streams::whole()), &answer, wanted);
-            drop(answer);
-            Ok(takes)
-        }
-        None => Ok(false),
-    }
-}
-
-fn writes(alloc: Global, row: &str) -> Result<bool, Fail> {
-    let spelled = spelled(alloc, row)?;
-    Ok(holds(alloc, spelled.as_str())?)
 }
 
 /// Fails at its first write, and takes all later ones.
@@ -155,28 +126,10 @@ fn is_not_tried_again() -> bool {
     failed && writer.failed && writer.taken == 0
 }
 
-fn fronts_go_out(alloc: Global) -> Result<(), Fail> {
-    for row in FRONTS.trim().lines() {
-        if !sends(alloc, row.trim())? {
-            return Err(Fail::new(format_args!("{row}")));
-        }
-    }
-    Ok(())
-}
-
-fn lines_go_out(alloc: Global) -> Result<(), Fail> {
-    for row in WRITES.trim().lines() {
-        if !writes(alloc, row.trim())? {
-            return Err(Fail::new(format_args!("{row}")));
-        }
-    }
-    Ok(())
-}
-
 #[test]
 fn replies_go_out_as_far_as_the_writer_takes_them(rt: HostRuntime) -> Result<(), Fail> {
-    fronts_go_out(rt.alloc())?;
-    lines_go_out(rt.alloc())?;
+    play(rt.alloc(), Topic::Fronts, FRONTS)?;
+    play(rt.alloc(), Topic::Writes, WRITES)?;
     if is_not_tried_again() {
         return Ok(());
     }

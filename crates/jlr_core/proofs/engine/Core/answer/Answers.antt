@@ -5,15 +5,15 @@ use Rattle.jlr_event.specs.declared.event.Event.{Event}
 use Rattle.jlr_event.specs.declared.event.Event.TheVariants.{Mark}
 use Rattle.jlr_event.specs.declared.event.Reply.TheVariants.{Answered}
 use Rattle.jlr_event.specs.Events.{ask_of, resource_of_event}
-use Rattle.jlr_core.specs.Machines.{machine_of}
-use Rattle.jlr_core.specs.Events.{WantsMemory, is_plain}
-use Rattle.jlr_core.specs.Marks.{Begins, BlackensNew, MarksBy, budget_of, has_grey}
-use Rattle.jlr_core.specs.Flows.{Conserves, GoesOut, Moves}
+use Rattle.jlr_state.specs.Machines.{machine_of}
+use Rattle.jlr_state.specs.Events.{WantsMemory, is_plain}
+use Rattle.jlr_state.specs.Marks.{Begins, BlackensNew, MarksBy, budget_of, has_grey}
+use Rattle.jlr_state.specs.Flows.{Conserves, GoesOut, Moves}
 use Rattle.jlr_core.specs.Cores.{Kept, StandsIn}
-use Rattle.jlr_core.specs.Policy.{KeepsByPolicy, clock_after}
+use Rattle.jlr_state.specs.Policy.{KeepsByPolicy, clock_after}
 use Rattle.jlr_core.specs.Steps.{LeavesRoom}
-use Rattle.jlr_core.proofs.Stepping.{well_formed_after, enters}
-use Rattle.jlr_core.proofs.Awaiting.{all_wait_after}
+use Rattle.jlr_state.proofs.Stepping.{well_formed_after, enters}
+use Rattle.jlr_state.proofs.Awaiting.{all_wait_after}
 use Rattle.jlr_core.proofs.engine.Core.answer.Goals as goal
 
 -- a plain event is no piece of marking
@@ -24,7 +24,7 @@ no_budget e is = refl
 pub invariant_of-self : goal.invariant_of-self
 invariant_of-self g c =
     let old = c.self.inside.state in
-    let new = c.step_plain.new.self in
+    let new = c.step_plain.new.state in
     let m = machine_of old in
     let n = machine_of new in
     let did = c.step_plain.ensures in
@@ -45,7 +45,7 @@ returns-clause-step g c =
     let answer = Some said in
     let chosen = c.step_plain.new.choice.chosen in
     let old = c.self.inside.state in
-    let new = c.step_plain.new.self in
+    let new = c.step_plain.new.state in
     let n = machine_of new in
     let did = c.step_plain.ensures in
     record {

@@ -5,11 +5,11 @@ use Rattle.jlr_laws.proofs.Frames.{no_some}
 use Rattle.jlr_event.specs.declared.event.Reply.TheVariants.{Marked}
 use Rattle.jlr_machine.specs.WellFormed.{IsWellFormed}
 use Rattle.jlr_machine.specs.Run.{no_choice}
-use Rattle.jlr_core.specs.Machines.{machine_of}
-use Rattle.jlr_core.specs.Waiting.{AllWait}
-use Rattle.jlr_core.specs.Marks.{MarksBy}
+use Rattle.jlr_state.specs.Machines.{machine_of}
+use Rattle.jlr_state.specs.Waiting.{AllWait}
+use Rattle.jlr_state.specs.Marks.{MarksBy}
 use Rattle.jlr_core.specs.Cores.{Kept, StandsIn}
-use Rattle.jlr_core.proofs.Stepping.{enters}
+use Rattle.jlr_state.proofs.Stepping.{enters}
 use Rattle.jlr_core.proofs.engine.Core.mark.Goals as goal
 
 pub invariant_of-self : goal.invariant_of-self

@@ -1,9 +1,9 @@
 use Rattle.std.proofs.Common.{sym, subst}
 use Rattle.jlr_machine.specs.WellFormed.{IsWellFormed}
 use Rattle.jlr_machine.specs.declared.machine.Machine.{Machine}
-use Rattle.jlr_core.specs.Waiting.{AllWait}
-use Rattle.jlr_core.proofs.Awaiting.{none_waits}
-use Rattle.jlr_core.proofs.Ranges.{limits_hold}
+use Rattle.jlr_state.specs.Waiting.{AllWait}
+use Rattle.jlr_state.proofs.Awaiting.{none_waits}
+use Rattle.jlr_state.proofs.Ranges.{limits_hold}
 use Rattle.jlr_laws.proofs.Empty.{empty_from_is_an_image}
 use Rattle.jlr_core.proofs.engine.Core.new_from.Goals as goal
 

@@ -1,22 +1,22 @@
 use Rattle.std.proofs.Common.{rules, ◌≡◌, None, Some, length, refl, sym, subst}
 use Rattle.jlr_machine.specs.declared.ask.Ask.TheVariants.{TakeUp}
 use Rattle.jlr_machine.specs.Run.{no_choice}
-use Rattle.jlr_core.specs.Machines.{machine_of}
+use Rattle.jlr_state.specs.Machines.{machine_of}
 use Rattle.jlr_event.specs.declared.event.Event.TheVariants as event
-use Rattle.jlr_core.specs.Events.{WantsMemory}
-use Rattle.jlr_core.specs.Marks.{Begins, BlackensNew}
-use Rattle.jlr_core.specs.Flows.{GoesOut, Moves}
+use Rattle.jlr_state.specs.Events.{WantsMemory}
+use Rattle.jlr_state.specs.Marks.{Begins, BlackensNew}
+use Rattle.jlr_state.specs.Flows.{GoesOut, Moves}
 use Rattle.jlr_core.specs.Cores.{Kept, StandsIn}
-use Rattle.jlr_core.specs.Policy.{KeepsByPolicy, clock_after}
-use Rattle.jlr_core.specs.TakeUps.{handed_out, take_up_answered}
-use Rattle.jlr_core.proofs.Stepping.{well_formed_after, enters}
-use Rattle.jlr_core.proofs.Awaiting.{all_wait_after}
+use Rattle.jlr_state.specs.Policy.{KeepsByPolicy, clock_after}
+use Rattle.jlr_state.specs.TakeUps.{handed_out, take_up_answered}
+use Rattle.jlr_state.proofs.Stepping.{well_formed_after, enters}
+use Rattle.jlr_state.proofs.Awaiting.{all_wait_after}
 use Rattle.jlr_core.proofs.engine.Core.take_up.Goals as goal
 
 pub invariant_of-self : goal.invariant_of-self
 invariant_of-self g c =
     let old = c.self.inside.state in
-    let new = c.step_cleaner.new.self in
+    let new = c.step_cleaner.new.state in
     let m = machine_of old in
     let n = machine_of new in
     let did = c.step_cleaner.ensures in
@@ -34,7 +34,7 @@ returns-clause-step g c =
     let out = handed_out c.step_cleaner.result in
     let chosen = no_choice in
     let old = c.self.inside.state in
-    let new = c.step_cleaner.new.self in
+    let new = c.step_cleaner.new.state in
     let n = machine_of new in
     let did = c.step_cleaner.ensures in
     let begins : Begins ask (machine_of old) n new.heap.marking = search rules in

@@ -1,7 +1,0 @@
--- What a state keeps beside its heap.
-use Rattle.jlr_machine.specs.declared.machine.Machine.{Machine}
-use Rattle.jlr_core.specs.declared.state.State.{State}
-use Rattle.jlr_core.specs.State.{frame}
-
-abbrev pub frame_of : {R : Type 0} → State R → Machine
-frame_of s = frame s.cleaner s.cycle_open

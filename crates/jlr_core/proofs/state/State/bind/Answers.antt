@@ -1,9 +1,0 @@
-use Rattle.jlr_core.specs.Machines.{machine_of}
-use Rattle.jlr_core.proofs.Hands.{held_in_hand, named_held}
-use Rattle.jlr_core.proofs.state.State.bind.Goals as goal
-
--- what a handle names is in hand
-pub bind-requires-clause-held : goal.bind-requires-clause-held
-bind-requires-clause-held g c =
-    let s = c.args.self.now in
-    held_in_hand s.heap c.in_ok-slot.slot (named_held (machine_of s) c.args.by c.args.object c.in_ok-slot.slot c.in_ok-slot.ensures.1)

@@ -1,4 +1,0 @@
-use Rattle.jlr_hall_rows.proofs.tests.player.served.Given as goal
-
-abbrev pub ghosts-serve_over : goal.ghosts-serve_over
-ghosts-serve_over g a = record { name = a.blank.name; parts = a.blank.parts }

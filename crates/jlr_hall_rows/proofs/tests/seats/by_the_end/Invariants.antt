@@ -1,4 +1,0 @@
-use Rattle.jlr_hall_rows.proofs.tests.seats.by_the_end.Given as goal
-
-abbrev pub ghosts-ended : goal.ghosts-ended
-ghosts-ended g a = record { name = a.blank.name; parts = a.blank.parts }

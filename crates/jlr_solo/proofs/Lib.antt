@@ -1,0 +1,3 @@
+pub mod HandingOver
+pub mod TakingUp
+pub mod Turning

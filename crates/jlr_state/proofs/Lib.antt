@@ -1,0 +1,16 @@
+pub mod Frames
+pub mod Named
+pub mod Hands
+pub mod Roots
+pub mod Clearings
+pub mod Rooms
+pub mod Shading
+pub mod Beginning
+pub mod Entries
+pub mod Stepping
+pub mod Ranges
+pub mod Queues
+pub mod TakeUps
+pub mod Awaiting
+pub mod Guards
+pub mod Moving

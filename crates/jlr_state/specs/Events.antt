@@ -1,0 +1,71 @@
+-- What an event and its reply are to the machine.
+use Rattle.std.specs.Prelude.{◌≡◌, ◌<◌, ◌≤◌, ◌^◌, Bool, Option, Some, None, false, length, true}
+use Rattle.jlr_types.specs.declared.Refusal.TheVariants.{NoMemory}
+use Rattle.jlr_event.specs.declared.event.Event.{Event}
+use Rattle.jlr_event.specs.declared.event.Event.TheVariants.{CheckIn, CheckOut, Clean, Close, Mark, Opened, TakeUp}
+use Rattle.jlr_machine.specs.declared.machine.Machine.{Machine}
+use Rattle.jlr_machine.specs.declared.ask.Ask.{Ask}
+use Rattle.jlr_machine.specs.declared.ask.Ask.TheVariants.{Prepare, Names, Notes, Faults, Array}
+use Rattle.jlr_machine.specs.declared.ask.Answer.{Answer}
+use Rattle.jlr_machine.specs.declared.ask.Answer.TheVariants.{Refused}
+use Rattle.jlr_machine.specs.declared.entry.Chosen.{Chosen}
+use Rattle.jlr_machine.specs.declared.entry.Entry.{Entry}
+use Rattle.jlr_machine.specs.Refusals.{refusal}
+use Rattle.jlr_machine.specs.Run.{no_choice, IsLegal, apply}
+use Rattle.jlr_marks.specs.Marking.{Marking}
+use Rattle.jlr_resource.specs.Resources.{Resources, resources}
+use Rattle.jlr_state.specs.State.{MeetsAsk, entry_of}
+
+-- an event that carries no resource, neither in nor out, and is no piece of marking
+abbrev pub is_plain : {R : Type 0} → Event R → Bool
+is_plain (Clean k c) = false
+is_plain (Opened k outcome) = false
+is_plain (CheckOut k h) = false
+is_plain (CheckIn k outcome resource) = false
+is_plain (Close k h) = false
+is_plain TakeUp = false
+is_plain (Mark budget) = false
+is_plain _ = true
+
+-- the table has room for one resource more, in a place that has a number
+abbrev pub HasRoom : {R : Type 0} → Resources R → Type 0
+HasRoom t = (length (resources t) < t.room) × (t.next < 2 ^ 32)
+
+-- The asks that may find no memory in a machine with this table, each where no refusal of its list holds: the table has no room for one
+-- resource more, a list that is not empty is copied, or the elements of an array are asked for
+abbrev pub MayWantMemory : {R : Type 0} → Machine → Resources R → Ask → Type 0
+MayWantMemory m t (Prepare k) = (refusal m (Prepare k) ≡ None) × ¬ (HasRoom t)
+MayWantMemory m t (Names k) = (refusal m (Names k) ≡ None) × (1 ≤ length m.names)
+MayWantMemory m t (Notes k) = (refusal m (Notes k) ≡ None) × (1 ≤ length m.notes)
+MayWantMemory m t (Faults k) = (refusal m (Faults k) ≡ None) × (1 ≤ length m.faults)
+MayWantMemory m t (Array k n) = refusal m (Array k n) ≡ None
+MayWantMemory m t _ = ⊥
+
+-- memory is said to be wanting only there
+abbrev pub WantsMemory : {R : Type 0} → Machine → Resources R → Option Ask → Option Answer → Type 0
+WantsMemory m t (Some ask) answer = answer ≡ Some (Refused NoMemory) → MayWantMemory m t ask
+WantsMemory m t None answer = Unit {0}
+
+-- ---- What an event and its reply are to the machine
+
+-- an ask met as its answer says; a piece of marking chooses nothing and leaves m
+abbrev pub StepsBy : Machine → Marking → Option Ask → Option Answer → Chosen → Machine → Type 0
+StepsBy m marking (Some ask) (Some answer) chosen n = MeetsAsk m marking ask answer chosen n
+StepsBy m marking (Some ask) None chosen n = ⊥
+StepsBy m marking None (Some answer) chosen n = ⊥
+StepsBy m marking None None chosen n = (chosen ≡ no_choice) × (n ≡ m)
+
+-- ---- Entries
+
+-- the entry of an ask, its answer and its choice; none where there is no ask or no answer
+abbrev pub entry_with : Option Ask → Option Answer → Chosen → Option Entry
+entry_with (Some ask) (Some answer) chosen = Some (entry_of ask answer chosen)
+entry_with (Some ask) None chosen = None
+entry_with None answer chosen = None
+
+-- an event and its reply are an entry that is legal in m and leads to n; a piece of marking is none, and leaves m
+abbrev pub Enters : Machine → Option Ask → Option Answer → Chosen → Machine → Type 0
+Enters m (Some ask) (Some answer) chosen n = IsLegal m (entry_of ask answer chosen) × (n ≡ apply m (entry_of ask answer chosen))
+Enters m (Some ask) None chosen n = ⊥
+Enters m None (Some answer) chosen n = ⊥
+Enters m None None chosen n = (chosen ≡ no_choice) × (n ≡ m)
