@@ -1,1 +1,2 @@
 mod SameLists
+mod Rebuilding

@@ -5,6 +5,8 @@
 mod answer;
 mod ask;
 mod parts;
+mod plain;
+mod texts;
 
 pub use answer::same_answer;
 pub use ask::same_ask;
