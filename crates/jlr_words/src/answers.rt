@@ -1,10 +1,10 @@
 //! Answers, read from words.
-use crate::words::{data_of, fault_of, number, refusal_of};
+use crate::words::{data_of, fault_of, handle, number, refusal_of};
 use jlr_machine::ask::{Answer, Handed, Stat};
 use jlr_machine::items::Items;
 use jlr_machine::machine::Failure;
 use jlr_machine::text::{Name, WriteCount};
-use jlr_types::{ActionNo, Handle, Rid, Work};
+use jlr_types::{ActionNo, Rid, Work};
 use std::alloc::{AllocError, Global};
 use std::str::SplitWhitespace;
 
@@ -68,9 +68,9 @@ fn rid(words: &mut SplitWhitespace<'_>) -> Option<Rid> {
 
 fn short(alloc: Global, word: &str, words: &mut SplitWhitespace<'_>) -> Option<Answer> {
     match word {
-        "handle" => number(words).map(Handle::new).map(Answer::Handle),
+        "handle" => handle(words).map(Answer::Handle),
         "int" => number(words).map(Answer::Int),
-        "data" => data_of(alloc, words.next()?).map(Answer::Data),
+        "data" => data(alloc, words),
         "wrote" => wrote(words),
         "fault" => fault(words),
         "refused" => refused(words),
@@ -82,24 +82,28 @@ fn short(alloc: Global, word: &str, words: &mut SplitWhitespace<'_>) -> Option<A
     }
 }
 
+fn data(alloc: Global, words: &mut SplitWhitespace<'_>) -> Option<Answer> {
+    data_of(alloc, words.next()?).map(Answer::Data)
+}
+
 fn wrote(words: &mut SplitWhitespace<'_>) -> Option<Answer> {
-    let count = WriteCount::new(number(words)?)?;
-    Some(Answer::Wrote(count))
+    number(words).and_then(WriteCount::new).map(Answer::Wrote)
 }
 
 fn fault(words: &mut SplitWhitespace<'_>) -> Option<Answer> {
-    let fault = fault_of(words.next()?)?;
-    Some(Answer::Faulted(fault))
+    words.next().and_then(fault_of).map(Answer::Faulted)
 }
 
 fn refused(words: &mut SplitWhitespace<'_>) -> Option<Answer> {
-    let refusal = refusal_of(words.next()?)?;
-    Some(Answer::Refused(refusal))
+    words.next().and_then(refusal_of).map(Answer::Refused)
 }
 
 fn stat(words: &mut SplitWhitespace<'_>) -> Option<Answer> {
-    let (objects, resources, taken) = (number(words)?, number(words)?, number(words)?);
-    let (ok, failed) = (number(words)?, number(words)?);
+    let mut counts = [0; 5];
+    for count in &mut counts {
+        *count = number(words)?;
+    }
+    let [objects, resources, taken, ok, failed] = counts;
     Some(Answer::Stat(Stat {
         objects,
         resources,

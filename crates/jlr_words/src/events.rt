@@ -1,26 +1,31 @@
 //! Events by their names.
 use crate::calls::{check_in, finish, opened};
+use crate::verbs::{Verb, verb_of};
 use crate::words::{byte, field, handle, layout_of, name, number};
 use jlr_event::event::Event;
-use jlr_machine::ask::FullMode;
-use jlr_types::{Handle, Length, Mutator, RefKind};
+use jlr_types::{Handle, Length, Mutator};
 use std::alloc::Global;
 use std::str::SplitWhitespace;
 
 /// The event that these words stand for.
 pub fn event_of(alloc: Global, text: &str) -> Option<Event<u32>> {
     let mut words = text.split_whitespace();
-    let first = words.next()?;
-    let event = if first == "by" {
-        let mutator = Mutator::new(byte(&mut words)?);
-        asked(alloc, mutator, words.next()?, &mut words)?
-    } else {
-        asked(alloc, Mutator::new(0), first, &mut words)?
-    };
-    if words.next().is_some() {
-        return None;
+    let event = told(alloc, &mut words);
+    match words.next() {
+        Some(_) => None,
+        None => event,
     }
-    Some(event)
+}
+
+// The event that the words begin with.
+fn told(alloc: Global, words: &mut SplitWhitespace<'_>) -> Option<Event<u32>> {
+    match words.next()? {
+        "by" => {
+            let mutator = Mutator::new(byte(words)?);
+            asked(alloc, mutator, words.next()?, words)
+        }
+        ask => asked(alloc, Mutator::new(0), ask, words),
+    }
 }
 
 fn asked(
@@ -29,22 +34,23 @@ fn asked(
     ask: &str,
     words: &mut SplitWhitespace<'_>,
 ) -> Option<Event<u32>> {
-    match ask {
-        "finish" => finish(words),
-        "opened" => opened(mutator, words),
-        "check_in" => check_in(alloc, mutator, words),
-        "new" => Some(new(mutator, words)),
-        "array" => array(mutator, words),
-        "set_int" => set_int(mutator, words),
-        "register" => register(mutator, words),
-        "bind" => bind(mutator, words),
-        "find" => name(words).map(|name| Event::Find { mutator, name }),
-        "unbind" => name(words).map(|name| Event::Unbind { mutator, name }),
-        "put" => put(mutator, words),
-        "get" => get(mutator, words),
-        "int" => int(mutator, words),
-        "mark" => mark(words),
-        _ => short(mutator, ask, words),
+    let verb = verb_of(ask)?;
+    match verb {
+        Verb::Finish => finish(words),
+        Verb::Opened => opened(mutator, words),
+        Verb::CheckIn => check_in(alloc, mutator, words),
+        Verb::New => Some(new(mutator, words)),
+        Verb::Array => array(mutator, words),
+        Verb::SetInt => set_int(mutator, words),
+        Verb::Register => register(mutator, words),
+        Verb::Bind => bind(mutator, words),
+        Verb::Find => name(words).map(|name| Event::Find { mutator, name }),
+        Verb::Unbind => name(words).map(|name| Event::Unbind { mutator, name }),
+        Verb::Put => put(mutator, words),
+        Verb::Get => get(mutator, words),
+        Verb::Int => int(mutator, words),
+        Verb::Mark => mark(words),
+        _ => short(mutator, verb, words),
     }
 }
 
@@ -54,8 +60,9 @@ fn new(mutator: Mutator, words: &mut SplitWhitespace<'_>) -> Event<u32> {
 }
 
 fn array(mutator: Mutator, words: &mut SplitWhitespace<'_>) -> Option<Event<u32>> {
-    let length = Length::new(number(words)?)?;
-    Some(Event::Array { mutator, length })
+    number(words)
+        .and_then(Length::new)
+        .map(|length| Event::Array { mutator, length })
 }
 
 fn set_int(mutator: Mutator, words: &mut SplitWhitespace<'_>) -> Option<Event<u32>> {
@@ -133,84 +140,77 @@ fn mark(words: &mut SplitWhitespace<'_>) -> Option<Event<u32>> {
 }
 
 // An ask of no, one or two numbers.
-fn short(mutator: Mutator, ask: &str, words: &mut SplitWhitespace<'_>) -> Option<Event<u32>> {
+fn short(mutator: Mutator, verb: Verb, words: &mut SplitWhitespace<'_>) -> Option<Event<u32>> {
     let Some(first) = words.next() else {
-        return alone(mutator, ask);
+        return alone(mutator, verb);
     };
     let first = first.parse().ok()?;
     match words.next() {
-        None => with_one(mutator, ask, Handle::new(first)),
-        Some(second) => with_two(mutator, ask, Handle::new(first), second.parse().ok()?),
+        None => with_one(mutator, verb, Handle::new(first)),
+        Some(second) => with_two(mutator, verb, Handle::new(first), second.parse().ok()?),
     }
 }
 
-fn alone(mutator: Mutator, ask: &str) -> Option<Event<u32>> {
-    let event = match ask {
-        "join" => Event::Join { mutator },
-        "leave" => Event::Leave { mutator },
-        "queue" => Event::MakeQueue { mutator },
-        "cleaner" => Event::MakeCleaner { mutator },
-        "prepare" => Event::Prepare { mutator },
-        "names" => Event::Names { mutator },
-        "full" => Event::Full {
-            mutator,
-            mode: FullMode::Policy,
-        },
-        "full_clearing" => Event::Full {
-            mutator,
-            mode: FullMode::ClearAll,
-        },
-        "stat" => Event::Stat { mutator },
-        "notes" => Event::Notes { mutator },
-        "faults" => Event::Faults { mutator },
-        _ => return of_loops(ask),
+fn alone(mutator: Mutator, verb: Verb) -> Option<Event<u32>> {
+    let event = match verb {
+        Verb::Join => Event::Join { mutator },
+        Verb::Leave => Event::Leave { mutator },
+        Verb::Queue => Event::MakeQueue { mutator },
+        Verb::Cleaner => Event::MakeCleaner { mutator },
+        Verb::Prepare => Event::Prepare { mutator },
+        Verb::Names => Event::Names { mutator },
+        Verb::Full(mode) => Event::Full { mutator, mode },
+        Verb::Stat => Event::Stat { mutator },
+        Verb::Notes => Event::Notes { mutator },
+        Verb::Faults => Event::Faults { mutator },
+        Verb::HandOver => Event::HandOver,
+        Verb::TakeUp => Event::TakeUp,
+        Verb::Begin => Event::Begin,
+        Verb::Collect => Event::Collect,
+        Verb::Abandon => Event::Abandon,
+        _ => return None,
     };
     Some(event)
 }
 
-fn of_loops(ask: &str) -> Option<Event<u32>> {
-    match ask {
-        "hand_over" => Some(Event::HandOver),
-        "take_up" => Some(Event::TakeUp),
-        "begin" => Some(Event::Begin),
-        "collect" => Some(Event::Collect),
-        "abandon" => Some(Event::Abandon),
-        _ => None,
-    }
-}
-
-fn with_one(mutator: Mutator, ask: &str, object: Handle) -> Option<Event<u32>> {
-    let event = match ask {
-        "dup" => Event::Dup { mutator, object },
-        "drop" => Event::Drop { mutator, object },
-        "clean" => Event::Clean {
+fn with_one(mutator: Mutator, verb: Verb, handle: Handle) -> Option<Event<u32>> {
+    let event = match verb {
+        Verb::Dup => Event::Dup {
             mutator,
-            cleanable: object,
+            object: handle,
         },
-        "check_out" => Event::CheckOut {
+        Verb::Drop => Event::Drop {
             mutator,
-            guard: object,
+            object: handle,
         },
-        "close" => Event::Close {
+        Verb::Clean => Event::Clean {
             mutator,
-            guard: object,
+            cleanable: handle,
         },
-        _ => return on_reference(mutator, ask, object),
+        Verb::CheckOut => Event::CheckOut {
+            mutator,
+            guard: handle,
+        },
+        Verb::Close => Event::Close {
+            mutator,
+            guard: handle,
+        },
+        _ => return on_reference(mutator, verb, handle),
     };
     Some(event)
 }
 
-fn on_reference(mutator: Mutator, ask: &str, reference: Handle) -> Option<Event<u32>> {
-    let event = match ask {
-        "deref" => Event::Deref { mutator, reference },
-        "clear" => Event::Clear { mutator, reference },
-        "enqueue" => Event::Enqueue { mutator, reference },
-        "enqueued" => Event::Enqueued { mutator, reference },
-        "poll" => Event::Poll {
+fn on_reference(mutator: Mutator, verb: Verb, reference: Handle) -> Option<Event<u32>> {
+    let event = match verb {
+        Verb::Deref => Event::Deref { mutator, reference },
+        Verb::Clear => Event::Clear { mutator, reference },
+        Verb::Enqueue => Event::Enqueue { mutator, reference },
+        Verb::Enqueued => Event::Enqueued { mutator, reference },
+        Verb::Poll => Event::Poll {
             mutator,
             queue: reference,
         },
-        "remove" => Event::Remove {
+        Verb::Remove => Event::Remove {
             mutator,
             queue: reference,
         },
@@ -219,31 +219,20 @@ fn on_reference(mutator: Mutator, ask: &str, reference: Handle) -> Option<Event<
     Some(event)
 }
 
-fn kind_of(ask: &str) -> Option<RefKind> {
-    match ask {
-        "soft" => Some(RefKind::Soft),
-        "weak" => Some(RefKind::Weak),
-        "phantom" => Some(RefKind::Phantom),
-        _ => None,
-    }
-}
-
-fn with_two(mutator: Mutator, ask: &str, first: Handle, second: u8) -> Option<Event<u32>> {
-    if let Some(kind) = kind_of(ask) {
-        return Some(Event::MakeRef {
+fn with_two(mutator: Mutator, verb: Verb, first: Handle, second: u8) -> Option<Event<u32>> {
+    let event = match verb {
+        Verb::Reference(kind) => Event::MakeRef {
             mutator,
             kind,
             referent: first,
             queue: Handle::new(second),
-        });
-    }
-    let event = match ask {
-        "same" => Event::Same {
+        },
+        Verb::Same => Event::Same {
             mutator,
             left: first,
             right: Handle::new(second),
         },
-        "refers" => Event::Refers {
+        Verb::Refers => Event::Refers {
             mutator,
             reference: first,
             object: Handle::new(second),

@@ -19,6 +19,7 @@ mod answers;
 mod calls;
 mod events;
 mod replies;
+mod verbs;
 mod words;
 
 pub use answers::answer_of;

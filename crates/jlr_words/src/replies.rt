@@ -5,7 +5,7 @@ use jlr_machine::ask::{Answer, Handed, Stat};
 use jlr_machine::items::Items;
 use jlr_machine::machine::Failure;
 use jlr_machine::text::Name;
-use jlr_types::{Fault, Progress, Refusal};
+use jlr_types::{ActionNo, Fault, Progress, Refusal};
 use std::str::SplitWhitespace;
 
 /// Whether a reply is the one of these words: `handle 3`, `yes`, `refused NoHandle`, `job 1 6` with the resource 6, `marked done`.
@@ -48,42 +48,69 @@ fn is_answer(
     word: &str,
     words: &mut SplitWhitespace<'_>,
 ) -> bool {
+    word == answer_word(answer) && has_parts(answer, resource, words)
+}
+
+// The word that an answer begins with.
+fn answer_word(answer: &Answer) -> &'static str {
     match answer {
-        Answer::Refused(refusal) => {
-            word == "refused" && is_refusal(*refusal, words) && number(words) == resource
-        }
-        Answer::Job { action, .. } => {
-            word == "job" && number(words) == Some(action.number()) && number(words) == resource
-        }
-        Answer::Out(_) => word == "out" && resource.is_some() && number(words) == resource,
-        _ => is_alone(answer, word, words),
+        Answer::Done => "done",
+        Answer::AlreadyDone => "already_done",
+        Answer::Refused(_) => "refused",
+        Answer::Job { .. } => "job",
+        Answer::Out(_) => "out",
+        Answer::Prepared(_) => "prepared",
+        Answer::Truth(truth) => truth_word(*truth),
+        Answer::Handed(handed) => handed_word(*handed),
+        Answer::Handle(_) => "handle",
+        Answer::Int(_) => "int",
+        Answer::Wrote(_) => "wrote",
+        Answer::Faulted(_) => "fault",
+        Answer::Data(_) => "data",
+        Answer::Stat(_) => "stat",
+        Answer::Notes(_) => "notes",
+        Answer::Faults(_) => "faults",
+        Answer::Names(_) => "names",
     }
 }
 
-fn is_alone(answer: &Answer, word: &str, words: &mut SplitWhitespace<'_>) -> bool {
+// Whether the words behind the first tell the parts of an answer.
+fn has_parts(answer: &Answer, resource: Option<u32>, words: &mut SplitWhitespace<'_>) -> bool {
     match answer {
-        Answer::Done => word == "done",
-        Answer::AlreadyDone => word == "already_done",
-        Answer::Prepared(_) => word == "prepared",
-        Answer::Truth(truth) => word == truth_word(*truth),
-        Answer::Handed(handed) => word == handed_word(*handed),
-        Answer::Handle(handle) => word == "handle" && number(words) == Some(handle.number()),
-        Answer::Int(value) => word == "int" && number(words) == Some(*value),
-        Answer::Wrote(count) => word == "wrote" && number(words) == Some(count.number()),
-        Answer::Faulted(fault) => word == "fault" && is_fault(*fault, words),
-        Answer::Data(data) => word == "data" && is_data(data.as_slice(), words),
-        _ => is_list(answer, word, words),
+        Answer::Refused(refusal) => is_refused(*refusal, resource, words),
+        Answer::Job { action, .. } => is_job(*action, resource, words),
+        Answer::Out(_) => is_out(resource, words),
+        Answer::Handle(handle) => is_number(u64::from(handle.number()), words),
+        Answer::Int(value) => is_int(*value, words),
+        Answer::Wrote(count) => is_number(u64::from(count.number()), words),
+        Answer::Faulted(fault) => is_fault(*fault, words),
+        Answer::Data(data) => is_data(data.as_slice(), words),
+        Answer::Stat(stat) => is_stat(stat, words),
+        Answer::Notes(notes) => are_notes(notes, words),
+        Answer::Faults(faults) => are_faults(faults, words),
+        Answer::Names(names) => are_names(names, words),
+        _ => true,
     }
 }
 
-fn is_list(answer: &Answer, word: &str, words: &mut SplitWhitespace<'_>) -> bool {
-    match answer {
-        Answer::Stat(stat) => word == "stat" && is_stat(stat, words),
-        Answer::Notes(notes) => word == "notes" && are_notes(notes, words),
-        Answer::Faults(faults) => word == "faults" && are_faults(faults, words),
-        Answer::Names(names) => word == "names" && are_names(names, words),
-        _ => false,
-    }
+fn is_refused(refusal: Refusal, resource: Option<u32>, words: &mut SplitWhitespace<'_>) -> bool {
+    is_refusal(refusal, words) && number(words) == resource
+}
+
+fn is_job(action: ActionNo, resource: Option<u32>, words: &mut SplitWhitespace<'_>) -> bool {
+    is_number(action.number(), words) && number(words) == resource
+}
+
+fn is_out(resource: Option<u32>, words: &mut SplitWhitespace<'_>) -> bool {
+    resource.is_some() && number(words) == resource
+}
+
+fn is_number(wanted: u64, words: &mut SplitWhitespace<'_>) -> bool {
+    number(words) == Some(wanted)
+}
+
+fn is_int(wanted: i64, words: &mut SplitWhitespace<'_>) -> bool {
+    number(words) == Some(wanted)
 }
 
 fn truth_word(truth: bool) -> &'static str {

@@ -19,7 +19,7 @@ pub(crate) fn byte(words: &mut SplitWhitespace<'_>) -> Option<u8> {
 }
 
 pub(crate) fn field(words: &mut SplitWhitespace<'_>) -> Option<FieldNo> {
-    FieldNo::new(number(words)?)
+    number(words).and_then(FieldNo::new)
 }
 
 pub(crate) fn handle(words: &mut SplitWhitespace<'_>) -> Option<Handle> {
@@ -28,6 +28,16 @@ pub(crate) fn handle(words: &mut SplitWhitespace<'_>) -> Option<Handle> {
 
 pub(crate) fn name(words: &mut SplitWhitespace<'_>) -> Option<Name> {
     Name::from_slice(words.next()?.as_bytes())
+}
+
+// What stands beside this name in a table.
+pub(crate) fn named<T: Copy>(table: &[(&str, T)], name: &str) -> Option<T> {
+    for entry in table {
+        if entry.0 == name {
+            return Some(entry.1);
+        }
+    }
+    None
 }
 
 // The fault of this name.
@@ -64,12 +74,7 @@ const REFUSALS: [(&str, Refusal); 19] = [
 
 // The refusal of this name.
 pub(crate) fn refusal_of(name: &str) -> Option<Refusal> {
-    for entry in REFUSALS {
-        if entry.0 == name {
-            return Some(entry.1);
-        }
-    }
-    None
+    named(&REFUSALS, name)
 }
 
 // A field for each letter, as far as there is room: `r` is a reference, another an integer.
