@@ -28,12 +28,13 @@ pub fn job_added(alloc: Global, jobs: &[Job], job: Job) -> Result<Vec<Job>, Allo
 {
     let mut out = Vec::new(alloc);
     for i in 0..jobs.len() {
-        if job.action.number() < jobs[i].action.number() {
+        let next = jobs[i];
+        if job.action.number() < next.action.number() {
             out.push(job)?;
             push_each(&mut out, &jobs[i..])?;
             return Ok(out);
         }
-        out.push(jobs[i])?;
+        out.push(next)?;
     }
     out.push(job)?;
     Ok(out)
@@ -62,12 +63,13 @@ pub fn resource_added(
 {
     let mut out = Vec::new(alloc);
     for i in 0..resources.len() {
-        if resource.rid.number() < resources[i].rid.number() {
+        let next = resources[i];
+        if resource.rid.number() < next.rid.number() {
             out.push(resource)?;
             push_each(&mut out, &resources[i..])?;
             return Ok(out);
         }
-        out.push(resources[i])?;
+        out.push(next)?;
     }
     out.push(resource)?;
     Ok(out)
@@ -149,12 +151,13 @@ pub fn name_bound(
 {
     let mut out = Vec::new(alloc);
     for i in 0..names.len() {
-        if names_agree(names[i].name.as_slice(), name.as_slice()) {
+        let next = &names[i];
+        if names_agree(next.name.as_slice(), name.as_slice()) {
             out.push(make_binding(name, slot))?;
             push_bindings(&mut out, &names[i + 1..])?;
             return Ok(out);
         }
-        out.push(names[i].copy())?;
+        out.push(next.copy())?;
     }
     out.push(make_binding(name, slot))?;
     Ok(out)
