@@ -50,15 +50,23 @@ slot_filtered p i now new n a =
 pub seen_by_marks : (seen reach : List ℕ) (marks : List Bool) (n : ℕ) → ((s : ℕ) → is_marked marks s ≡ (reach ∋ s)) → filter (λ s. (seen ∋ s) || is_marked marks s) (up_to 0 n) ≡ seen_with seen reach n
 seen_by_marks seen reach marks n h = filter_same (λ s. (seen ∋ s) || is_marked marks s) (λ s. (seen ∋ s) || (reach ∋ s)) (up_to 0 n) (λ s. ap (λ b. (seen ∋ s) || b) (h s))
 
-pub seen_found : (heap : Heap) (B base kept seen found : List ℕ) (marks passed : List Bool) (n : ℕ) (out : List ℕ)
-    → base ≡ B → kept ≡ up_to 0 (length heap) → found ≡ seen → passed ≡ marks → n ≡ length heap
+-- what was marked among all slots is what is reached
+pub roots_marked : (heap : Heap) (B base kept : List ℕ) (marks passed : List Bool)
+    → base ≡ B → kept ≡ up_to 0 (length heap) → passed ≡ marks
     → ((s : ℕ) → is_marked marks s ≡ (reach_set UpToSoft (only kept heap) base ∋ s))
+    → (s : ℕ) → is_marked passed s ≡ (reach_set UpToSoft heap B ∋ s)
+roots_marked heap B base kept marks passed b k p h s =
+    ap {A = List Bool} {B = Bool} (λ x. is_marked x s) p ∙ h s ∙ ap {A = List ℕ} {B = Bool} (λ x. reach_set UpToSoft (only x heap) base ∋ s) k
+    ∙ ap {A = Heap} {B = Bool} (λ x. reach_set UpToSoft x base ∋ s) (only_all heap) ∙ ap {A = List ℕ} {B = Bool} (λ x. reach_set UpToSoft heap x ∋ s) b
+
+pub seen_found : (seen reach found : List ℕ) (marks passed : List Bool) (n m : ℕ) (out : List ℕ)
+    → found ≡ seen → passed ≡ marks → n ≡ m
+    → ((s : ℕ) → is_marked marks s ≡ (reach ∋ s))
     → out ≡ filter (λ s. (found ∋ s) || is_marked passed s) (up_to 0 n)
-    → out ≡ seen_with seen (reach_set UpToSoft heap B) (length heap)
-seen_found heap B base kept seen found marks passed n out b k f p l h a =
+    → out ≡ seen_with seen reach m
+seen_found seen reach found marks passed n m out f p l h a =
     a
     ∙ ap {A = List ℕ} {B = List ℕ} (λ x. filter (λ s. (x ∋ s) || is_marked passed s) (up_to 0 n)) f
     ∙ ap {A = List Bool} {B = List ℕ} (λ x. filter (λ s. (seen ∋ s) || is_marked x s) (up_to 0 n)) p
     ∙ ap {A = ℕ} {B = List ℕ} (λ x. filter (λ s. (seen ∋ s) || is_marked marks s) (up_to 0 x)) l
-    ∙ seen_by_marks seen (reach_set UpToSoft heap B) marks (length heap)
-    (λ s. h s ∙ ap {A = List ℕ} {B = Bool} (λ x. reach_set UpToSoft (only x heap) base ∋ s) k ∙ ap {A = Heap} {B = Bool} (λ x. reach_set UpToSoft x base ∋ s) (only_all heap) ∙ ap {A = List ℕ} {B = Bool} (λ x. reach_set UpToSoft heap x ∋ s) b)
+    ∙ seen_by_marks seen reach marks m h

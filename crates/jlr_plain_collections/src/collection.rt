@@ -261,7 +261,11 @@ fn is_cut_off(
 }
 
 /// Such a list of these slots.
-fn listed(alloc: Global, objects: &Table<Object>, slots: &[Slot]) -> Result<SlotList, AllocError>
+pub(crate) fn listed(
+    alloc: Global,
+    objects: &Table<Object>,
+    slots: &[Slot],
+) -> Result<SlotList, AllocError>
     ensures { IfOk result (λ l. l ≡ slots.now) }
 {
     SlotList::from_vec(alloc, objects.len(), copy_slice(alloc, slots)?)

@@ -1,5 +1,5 @@
 //! What was seen in an open cycle.
-ghost use Rattle.std.specs.Prelude.{◌≡◌, ◌<◌, ◌≤◌, ◌^◌, ◌||◌, ◌++◌, ◌∷◌, [], cond, filter, length, IfOk, OnOk};
+ghost use Rattle.std.specs.Prelude.{◌≡◌, ℕ, ◌<◌, ◌≤◌, ◌^◌, ◌||◌, ◌++◌, ◌∷◌, [], cond, filter, length, IfOk, OnOk};
 ghost use Rattle.jlr_machine.specs.Objects.{◌∋◌};
 ghost use Rattle.jlr_machine.specs.Edges.{roots};
 ghost use Rattle.jlr_machine.specs.Edges.Chain.{UpToSoft};
@@ -8,10 +8,10 @@ ghost use Rattle.jlr_machine.specs.Run.{seen_with, now_seen};
 ghost use Rattle.jlr_laws.specs.Laws.{IsWithinHeap};
 ghost use Rattle.jlr_plain_collections.specs.Marks.{is_marked};
 
+use crate::collection::listed;
 use crate::listed::{SlotList, unmarked};
 use crate::reached::{is_marked_at, mark_reached};
 use crate::roots::roots_plain;
-use jlr_machine::copy::copy_slice;
 use jlr_machine::machine::Machine;
 use jlr_types::Slot;
 use std::alloc::{AllocError, Global};
@@ -72,21 +72,45 @@ fn seen_or_marked(
     Ok(out)
 }
 
+/// A list of all slots of so many cells.
+fn every_slot(alloc: Global, cells: usize) -> Result<SlotList, AllocError>
+    requires { cells ≤ 2 ^ 32 }
+    ensures { IfOk result (λ l. l ≡ up_to 0 cells) }
+{
+    let slots = all_slots(alloc, cells)?;
+    SlotList::from_vec(alloc, cells, slots)
+}
+
+/// The marks of what the roots now reach strongly or softly.
+fn marks_of_roots(alloc: Global, machine: &Machine) -> Result<Vec<bool>, AllocError>
+    requires cells { length machine.now.objects ≤ 2 ^ 32 }
+    requires within { IsWithinHeap machine.now.objects (roots machine.now) }
+    ensures { IfOk result (λ m. (s : ℕ) → is_marked m.items s ≡ (reach_set UpToSoft machine.now.objects (roots machine.now) ∋ s)) }
+{
+    let cells = machine.objects.len();
+    let slots = every_slot(alloc, cells)?;
+    let base = roots_plain(alloc, machine)?;
+    let mut marks = unmarked(alloc, cells)?;
+    mark_reached(
+        alloc,
+        &machine.objects,
+        base.as_slice(),
+        &slots,
+        &mut marks,
+        true,
+    )?;
+    Ok(marks)
+}
+
 /// What was seen, with what the roots now reach strongly or softly.
 fn seen_in_cycle(alloc: Global, machine: &Machine) -> Result<Vec<Slot>, AllocError>
     requires cells { length machine.now.objects ≤ 2 ^ 32 }
     requires within { IsWithinHeap machine.now.objects (roots machine.now) }
     ensures { IfOk result (λ v. v.items ≡ seen_with machine.now.seen (reach_set UpToSoft machine.now.objects (roots machine.now)) (length machine.now.objects)) }
 {
-    let objects = &machine.objects;
-    let base = roots_plain(alloc, machine)?;
-    let cells = objects.len();
-    let slots = SlotList::from_vec(alloc, cells, all_slots(alloc, cells)?)?;
-    let mut marks = unmarked(alloc, cells)?;
-    mark_reached(alloc, objects, base.as_slice(), &slots, &mut marks, true)?;
-    let seen = SlotList::from_vec(alloc, cells, copy_slice(alloc, machine.seen.as_slice())?)?;
-    let found = seen_or_marked(alloc, &seen, marks.as_slice(), cells)?;
-    Ok(found)
+    let seen = listed(alloc, &machine.objects, machine.seen.as_slice())?;
+    let marks = marks_of_roots(alloc, machine)?;
+    seen_or_marked(alloc, &seen, marks.as_slice(), machine.objects.len())
 }
 
 /// The same in an open cycle; nothing outside a cycle.
