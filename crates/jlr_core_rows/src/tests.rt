@@ -11,9 +11,9 @@
 //! says what that heap has
 //! beside: `cells 32, sessions 2, resources 4, soft_age 1, first_action 9` where it is not 16, 1, 1, 0 and 1. A line that begins with `-- ` is a comment.
 use jlr_core::engine::Core;
+use jlr_core::run::run;
 use jlr_event::event::{Event, Reply};
 use jlr_machine::machine::Machine;
-use jlr_core::run::run;
 use jlr_types::{Limits, Mutator};
 use script::events_of;
 use std::alloc::{AllocError, Global};
@@ -85,5 +85,8 @@ fn count(image: &Machine) -> usize {
 
 // How many objects there are.
 fn objects_in(alloc: Global, core: &Core<u32>) -> Result<usize, AllocError> {
-    Ok(count(&core.image(alloc)?))
+    let image = core.image(alloc)?;
+    let objects = count(&image);
+    drop(image);
+    Ok(objects)
 }

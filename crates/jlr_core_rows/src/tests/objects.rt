@@ -121,10 +121,17 @@ const TWO: &str = "
     put 1 0 2
 ";
 
+fn is_shown(alloc: Global) -> Result<bool, Fail> {
+    let limits = shape_of("sessions 2, resources 3")?.limits;
+    let image = image_after(alloc, limits, TWO)?;
+    let shows = shows_the_two(&image);
+    drop(image);
+    Ok(shows)
+}
+
 #[test]
 fn an_image_shows_what_the_core_holds(rt: HostRuntime) -> Result<(), Fail> {
-    let limits = shape_of("sessions 2, resources 3")?.limits;
-    assert!(rt; shows_the_two(&image_after(rt.alloc(), limits, TWO)?));
+    assert!(rt; is_shown(rt.alloc())?);
     Ok(())
 }
 
@@ -164,10 +171,17 @@ const EACH_KIND: &str = "
     bind x 2
 ";
 
+fn is_each_kind_shown(alloc: Global) -> Result<bool, Fail> {
+    let limits = shape_of("")?.limits;
+    let image = image_after(alloc, limits, EACH_KIND)?;
+    let shows = shows_each_kind(&image);
+    drop(image);
+    Ok(shows)
+}
+
 #[test]
 fn an_image_shows_each_kind_of_object(rt: HostRuntime) -> Result<(), Fail> {
-    let limits = shape_of("")?.limits;
-    assert!(rt; shows_each_kind(&image_after(rt.alloc(), limits, EACH_KIND)?));
+    assert!(rt; is_each_kind_shown(rt.alloc())?);
     Ok(())
 }
 
