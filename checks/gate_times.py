@@ -78,8 +78,16 @@ def tell(seen):
         print(f"{line[0]:24}" + "".join(f"{it:>9}" for it in line[1:]), file=sys.stderr)
 
 
+def processor_ticks():
+    """The ticks of all processors since the machine began, and those of them that its host gave to others."""
+    with open("/proc/stat") as file:
+        ticks = [int(it) for it in file.readline().split()[1:9]]
+    return sum(ticks), ticks[7]
+
+
 def main():
     began = time.monotonic()
+    ticks, stolen = processor_ticks()
     command = subprocess.Popen(sys.argv[1:] or ["rt", "ci"])
     seen = {}
     while command.poll() is None:
@@ -87,7 +95,9 @@ def main():
         time.sleep(0.5)
     tell(seen)
     minutes = (time.monotonic() - began) / 60
-    print(f"{minutes:.1f} minutes on {os.cpu_count()} processors", file=sys.stderr)
+    ticks_then, stolen_then = processor_ticks()
+    share = 100 * (stolen_then - stolen) / max(ticks_then - ticks, 1)
+    print(f"{minutes:.1f} minutes on {os.cpu_count()} processors, of whose time others had {share:.1f} in a hundred", file=sys.stderr)
     return command.returncode
 
 

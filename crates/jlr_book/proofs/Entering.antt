@@ -36,9 +36,9 @@ use Rattle.jlr_event.specs.declared.event.Reply.{Reply}
 use Rattle.jlr_event.specs.declared.event.Reply.TheVariants.{Answered, Marked}
 use Rattle.jlr_event.specs.Events.{ask_of, answer_in}
 use Rattle.jlr_core.specs.Cores.{Kept, StandsIn}
-use Rattle.jlr_state.specs.Events.{Enters, is_plain}
-use Rattle.jlr_state.specs.Flows.{GoesOut}
-use Rattle.jlr_state.specs.State.{entry_of}
+use Rattle.jlr_core.specs.Events.{Enters, is_plain}
+use Rattle.jlr_core.specs.Events.{GoesOut}
+use Rattle.jlr_core.specs.Events.{entry_of}
 use Rattle.jlr_core.specs.Steps.{IsStep}
 use Rattle.jlr_book.specs.Histories.{Ends, seated}
 use Rattle.jlr_book.specs.Lists.{is_brief}

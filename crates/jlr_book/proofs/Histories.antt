@@ -22,7 +22,7 @@ use Rattle.jlr_laws.proofs.Empty.{empty_is_well_formed}
 use Rattle.jlr_histories.specs.Owing.{owed, owed_by, most_owed}
 use Rattle.jlr_histories.proofs.Owing.{owed_bounded}
 use Rattle.jlr_book.proofs.Limits.{runs_keep_the_limits}
-use Rattle.jlr_state.proofs.Ranges.{limits_hold}
+use Rattle.jlr_core.proofs.Ranges.{limits_hold}
 use Rattle.jlr_core.proofs.RunLaws.{stands_at_start, start_cells}
 use Rattle.jlr_book.specs.Rules.{AsksBy, BookSteps, Cuts, EndsBy, Enters, GivesUp, Readies, StepsBy}
 use Rattle.jlr_book.specs.Writing.{Pieces, Stands, Writes, WritesEnd}

@@ -1,3 +1,4 @@
+pub mod Cores
 pub mod Entering
 pub mod Histories
 pub mod Replies

@@ -1,4 +1,5 @@
 -- Reading order.
+pub mod Cores
 pub mod Histories
 pub mod Due
 pub mod Rules

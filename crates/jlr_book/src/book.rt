@@ -3,7 +3,7 @@ ghost use Rattle.std.specs.Prelude.{◌≡◌, ◌⊎◌, ◌≤◌, ◌<◌, �
 ghost use Rattle.jlr_machine.specs.Data.{Brings};
 ghost use Rattle.jlr_machine.specs.Refusals.{is_end, refusal};
 ghost use Rattle.jlr_event.specs.Events.{ask_of};
-ghost use Rattle.jlr_state.specs.TakeUps.{handed_out, take_up_answered};
+ghost use Rattle.jlr_core.specs.Events.{handed_out, take_up_answered};
 ghost use Rattle.jlr_book.specs.Due.{IsDue};
 ghost use Rattle.jlr_book.specs.Lists.{is_brief};
 ghost use Rattle.jlr_book.specs.Histories.{empty_of, last, HasNumbers, IsHistory, IsNewBook};

@@ -2,7 +2,7 @@
 ghost use Rattle.std.specs.Prelude.{◌≡◌, ◌≤◌, ◌<◌, ◌+◌, true, false, length, vec_len, vec_capacity, None, Some};
 ghost use Rattle.jlr_machine.specs.Refusals.{is_end};
 ghost use Rattle.jlr_event.specs.Events.{ask_of, outcome_of};
-ghost use Rattle.jlr_state.specs.TakeUps.{take_up_answered};
+ghost use Rattle.jlr_core.specs.Events.{take_up_answered};
 ghost use Rattle.jlr_histories.specs.Collecting.{may_collect};
 ghost use Rattle.jlr_histories.specs.Owing.{owed};
 ghost use Rattle.jlr_histories.specs.Rooms.{HasRoomFor};

@@ -1,2 +1,3 @@
+pub mod Ranges
 pub mod RunLaws
 pub mod Ticks

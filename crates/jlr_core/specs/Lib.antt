@@ -1,4 +1,5 @@
 -- What a core is seen as, and what its steps and its runs are.
+pub mod Events
 pub mod Cores
 pub mod Steps
 pub mod Runs

@@ -18,10 +18,10 @@ use Rattle.jlr_event.specs.declared.event.Event.{Event}
 use Rattle.jlr_event.specs.declared.event.Reply.{Reply}
 use Rattle.jlr_event.specs.declared.event.Reply.TheVariants.{Answered, Marked}
 use Rattle.jlr_event.specs.Events.{ask_of, answer_in, resource_of_event, resource_of_reply}
-use Rattle.jlr_core.specs.Cores.{Kept}
-use Rattle.jlr_state.specs.Events.{Enters as EntersMachine, MayWantMemory, WantsMemory}
-use Rattle.jlr_state.specs.Flows.{GoesOut}
-use Rattle.jlr_core.specs.Steps.{IsStep}
+use Rattle.jlr_book.specs.Cores.{Kept}
+use Rattle.jlr_book.specs.Cores.{Enters as EntersMachine, MayWantMemory, WantsMemory}
+use Rattle.jlr_book.specs.Cores.{GoesOut}
+use Rattle.jlr_book.specs.Cores.{IsStep}
 use Rattle.jlr_book.specs.Histories.{History, IsHistory, last, seated}
 use Rattle.jlr_book.specs.Rules.{AsksBy, BookSteps, Cuts, EndsBy, Enters, Readies, StepsBy}
 use Rattle.jlr_book.specs.Writing.{Stands}

@@ -22,8 +22,8 @@ use Rattle.jlr_event.specs.declared.event.Event.TheVariants as event
 use Rattle.jlr_event.specs.declared.event.Reply.{Reply}
 use Rattle.jlr_event.specs.declared.event.Reply.TheVariants.{Answered, Marked}
 use Rattle.jlr_event.specs.Events.{ask_of, answer_in, resource_of_reply, outcome_of}
-use Rattle.jlr_state.specs.Flows.{GoesOut}
-use Rattle.jlr_state.specs.State.{entry_of}
+use Rattle.jlr_book.specs.Cores.{GoesOut}
+use Rattle.jlr_book.specs.Cores.{entry_of}
 use Rattle.jlr_session.specs.Asks.{prepared_in, prepared_by, out_with, out_by, job_with, job_by}
 use Rattle.jlr_book.specs.Histories.{History}
 use Rattle.jlr_book.specs.Rules.{BookSteps}

@@ -22,11 +22,11 @@ use Rattle.jlr_event.specs.declared.event.Event.TheVariants.{Join, Leave}
 use Rattle.jlr_event.specs.declared.event.Reply.{Reply}
 use Rattle.jlr_event.specs.declared.event.Reply.TheVariants.{Answered}
 use Rattle.jlr_event.specs.Events.{ask_of, answer_in, resource_of_event, resource_of_reply}
-use Rattle.jlr_state.specs.Flows.{GoesOut}
-use Rattle.jlr_core.specs.Cores.{Kept, StandsIn}
-use Rattle.jlr_core.specs.Steps.{IsStep}
-use Rattle.jlr_state.proofs.Ranges.{limits_hold}
-use Rattle.jlr_core.proofs.RunLaws.{stands_at_start}
+use Rattle.jlr_book.specs.Cores.{GoesOut}
+use Rattle.jlr_book.specs.Cores.{Kept, StandsIn}
+use Rattle.jlr_book.specs.Cores.{IsStep}
+use Rattle.jlr_book.proofs.Cores.{limits_hold}
+use Rattle.jlr_book.proofs.Cores.{stands_at_start}
 use Rattle.jlr_device.specs.Handling.{Handling}
 use Rattle.jlr_session.specs.Calls.{Opening}
 use Rattle.jlr_session.specs.Asks.{said_by}

@@ -23,10 +23,10 @@ use Rattle.jlr_event.specs.declared.event.Event.TheVariants as event
 use Rattle.jlr_event.specs.declared.event.Reply.{Reply}
 use Rattle.jlr_event.specs.declared.event.Reply.TheVariants.{Answered, Marked}
 use Rattle.jlr_event.specs.Events.{ask_of, answer_in}
-use Rattle.jlr_core.specs.Cores.{Kept, StandsIn}
-use Rattle.jlr_state.specs.Events.{Enters}
-use Rattle.jlr_state.specs.State.{entry_of}
-use Rattle.jlr_core.specs.Steps.{IsStep}
+use Rattle.jlr_book.specs.Cores.{Kept, StandsIn}
+use Rattle.jlr_book.specs.Cores.{Enters}
+use Rattle.jlr_book.specs.Cores.{entry_of}
+use Rattle.jlr_book.specs.Cores.{IsStep}
 use Rattle.jlr_book.specs.Histories.{Ends, History, seated}
 use Rattle.jlr_book.specs.Rules.{AsksBy, BookSteps, Cuts, Declines, EndsBy, GivesUp, Readies, StepsBy}
 use Rattle.jlr_book.specs.Rules as rules

@@ -8,7 +8,7 @@ use Rattle.jlr_machine.specs.declared.ask.Answer.TheVariants.{Done}
 use Rattle.jlr_machine.specs.declared.entry.Entry.{Entry}
 use Rattle.jlr_machine.specs.Run.{Run, empty}
 use Rattle.jlr_histories.specs.Promises.{KeepsPromises}
-use Rattle.jlr_core.specs.Cores.{StandsIn}
+use Rattle.jlr_book.specs.Cores.{StandsIn}
 use Rattle.jlr_device.specs.Handling.{Handling}
 use Rattle.jlr_session.specs.Calls.{Opening}
 use Rattle.jlr_session.specs.Serving.{Serves}

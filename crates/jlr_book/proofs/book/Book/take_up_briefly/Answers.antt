@@ -4,7 +4,7 @@ use Rattle.jlr_machine.specs.declared.entry.Chosen.{Chosen}
 use Rattle.jlr_event.specs.declared.event.Event.TheVariants.{TakeUp}
 use Rattle.jlr_event.specs.declared.event.Reply.TheVariants.{Answered}
 use Rattle.jlr_core.specs.Steps.{IsStep}
-use Rattle.jlr_state.specs.TakeUps.{handed_out, take_up_answered}
+use Rattle.jlr_core.specs.Events.{handed_out, take_up_answered}
 use Rattle.jlr_book.specs.Histories.{HasNumbers}
 use Rattle.jlr_book.specs.Rules.{AsksBy}
 use Rattle.jlr_book.specs.Writing.{Writes}

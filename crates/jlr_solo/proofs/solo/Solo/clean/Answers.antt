@@ -3,7 +3,7 @@ use Rattle.jlr_machine.specs.declared.ask.Answer.TheVariants.{Handed, Job}
 use Rattle.jlr_machine.specs.declared.ask.Handed.TheVariants.{Nothing}
 use Rattle.jlr_event.specs.declared.event.Event.TheVariants.{TakeUp}
 use Rattle.jlr_event.specs.declared.event.Reply.TheVariants.{Answered}
-use Rattle.jlr_state.specs.TakeUps.{handed_out, take_up_answered}
+use Rattle.jlr_book.specs.Cores.{handed_out, take_up_answered}
 use Rattle.jlr_book.specs.Histories.{IsHistory}
 use Rattle.jlr_book.specs.Rules.{BookSteps}
 use Rattle.jlr_solo.specs.declared.solo.Turn.TheVariants as turn
