@@ -1,16 +1,16 @@
 //! Saved histories: a session whose history is kept, and the file that it goes to.
 ghost use Rattle.std.specs.Prelude.{◌≡◌, ◌≤◌, List, ℕ, length, IfOk, IsErr};
 ghost use Rattle.std.specs.Io.KnownBytes.{Appends, Consumes};
-ghost use Rattle.jlr_book.specs.Histories.{History};
+ghost use Rattle.jlr_prog.specs.Books.{History};
 ghost use Rattle.jlr_prog.specs.Histories.{IsSession};
 ghost use Rattle.jlr_saving.specs.Saving.{IsSaved};
 ghost use Rattle.jlr_session.specs.Limits.{FindsEnd, most_bytes};
 ghost use Rattle.jlr_session.specs.declared.shell.SessionEnd.{SessionEnd as SessionEndOf};
 
 use crate::session::outcome_of;
-use jlr_book::book::Book;
 use jlr_command_line::fault::ProgramFault;
 use jlr_device::Device;
+use jlr_prog::Book;
 use jlr_prog::run::run_over;
 use jlr_saving::file::trace_bytes_of;
 use jlr_session::shell::SessionEnd;

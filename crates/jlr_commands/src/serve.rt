@@ -1,17 +1,17 @@
 //! A heap that clients share over a Unix socket: `refheap serve`.
 ghost use Rattle.std.specs.Prelude.{◌≡◌, ◌↔◌, IfOk, IfSome, IsSome, IsTrue};
-ghost use Rattle.jlr_book.specs.Histories.{last};
+ghost use Rattle.jlr_prog.specs.Books.{last};
 ghost use Rattle.jlr_saving.specs.Saving.{IsSaved};
 
 use crate::save::save;
-use jlr_book::book::Book;
 use jlr_command_line::arguments::Service;
 use jlr_command_line::fault::ProgramFault;
 use jlr_device::real::{RealDevice, RealResource};
-use jlr_hall::closing::CloseFault;
-use jlr_prog::listener::Listener;
-use jlr_prog::server::{ServeFault, Served, serve_over};
 use jlr_saving::file::trace_bytes_of;
+use jlr_server::Book;
+use jlr_server::hall::closing::CloseFault;
+use jlr_server::listener::Listener;
+use jlr_server::server::{ServeFault, Served, serve_over};
 use std::alloc::{AllocError, Global};
 use std::fs;
 use std::io::{self, Write};

@@ -6,3 +6,5 @@ pub mod Agreement
 pub mod Closing
 pub mod Faults
 pub mod Ports
+-- For crates above.
+pub use Rattle.jlr_book.specs.Histories

@@ -12,3 +12,5 @@ pub mod hall;
 pub mod loops;
 pub mod port;
 pub mod seat;
+
+pub use jlr_book::book::Book;

@@ -22,18 +22,15 @@ use Rattle.jlr_event.specs.declared.event.Event.TheVariants.{Join, Leave}
 use Rattle.jlr_event.specs.declared.event.Reply.{Reply}
 use Rattle.jlr_event.specs.declared.event.Reply.TheVariants.{Answered}
 use Rattle.jlr_event.specs.Events.{ask_of, answer_in, resource_of_event, resource_of_reply}
-use Rattle.jlr_book.specs.Cores.{GoesOut}
-use Rattle.jlr_book.specs.Cores.{Kept, StandsIn}
-use Rattle.jlr_book.specs.Cores.{IsStep}
-use Rattle.jlr_book.proofs.Cores.{limits_hold}
-use Rattle.jlr_book.proofs.Cores.{stands_at_start}
+use Rattle.jlr_solo.specs.Cores.{GoesOut, Kept, StandsIn, IsStep}
+use Rattle.jlr_solo.proofs.Cores.{limits_hold, stands_at_start}
 use Rattle.jlr_device.specs.Handling.{Handling}
 use Rattle.jlr_session.specs.Calls.{Opening}
 use Rattle.jlr_session.specs.Asks.{said_by}
 use Rattle.jlr_session.specs.Serving.{Follows, IsTurnedAway, Serves}
 use Rattle.jlr_session.specs.declared.shell.SessionEnd.{SessionEnd}
-use Rattle.jlr_book.specs.Histories.{History, IsNewBook, seated}
-use Rattle.jlr_book.specs.Rules.{BookSteps, Cuts, Readies}
+use Rattle.jlr_solo.specs.Histories.{History, IsNewBook, seated}
+use Rattle.jlr_solo.specs.Rules.{BookSteps, Cuts, Readies}
 use Rattle.jlr_solo.specs.Settling.{Helpers, Turns, HandsOver, Works, Cleans, Settles}
 use Rattle.jlr_solo.specs.Solos.{at_book, by_book}
 use Rattle.jlr_prog.specs.Wholes.{Whole, WholeSteps, at_whole, by_whole, given_up, since_opening}

@@ -1,3 +1,4 @@
 -- Reading order.
 pub mod Wholes
 pub mod Histories
+pub mod Books

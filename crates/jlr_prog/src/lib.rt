@@ -1,7 +1,6 @@
-//! Sessions over a heap: one that is alone, whose lines are answered one after the other over a book that is given back, and a server's, which share
-//! a heap.
+//! A session over a heap of its own: its lines are answered one after the other over a book, which is given back.
 #![tactic(auto)]
 
-pub mod listener;
 pub mod run;
-pub mod server;
+
+pub use jlr_solo::Book;

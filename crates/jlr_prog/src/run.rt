@@ -4,10 +4,10 @@ ghost use Rattle.std.specs.Io.KnownBytes.{Appends, Consumes};
 ghost use Rattle.jlr_session.specs.Limits.{FindsEnd, most_bytes};
 ghost use Rattle.jlr_prog.specs.Histories.{IsSession};
 
-use jlr_book::book::Book;
 use jlr_device::Device;
 use jlr_session::serve::serve;
 use jlr_session::shell::SessionEnd;
+use jlr_solo::Book;
 use jlr_solo::solo::Solo;
 use jlr_types::Limits;
 use std::alloc::{AllocError, Global};

@@ -2,3 +2,5 @@
 #![tactic(auto)]
 
 pub mod solo;
+
+pub use jlr_book::book::Book;

@@ -1,8 +1,8 @@
 //! Transcripts that were changed, seats that are missing: a close finds each, and names the seat.
 ghost use Rattle.std.specs.Prelude.{◌≡◌, ◌+◌};
 
-use jlr_book::book::Book;
 use jlr_event::event::Event;
+use jlr_hall::Book;
 use jlr_hall::closing::CloseFault;
 use jlr_hall::hall::Hall;
 use jlr_hall::port::SeatPort;

@@ -8,7 +8,7 @@
 //! holds; a hall has 16 cells and one resource. A line that begins with `-- ` is a comment.
 ghost use Rattle.std.specs.Prelude.{◌≡◌, ◌+◌};
 
-use jlr_book::book::Book;
+use jlr_hall::Book;
 use jlr_hall::closing::CloseFault;
 use jlr_hall::hall::Hall;
 use jlr_hall::port::SeatPort;

@@ -13,8 +13,8 @@
 //! begins with `#` is a remark.
 use super::settings::{Setting, Shown};
 use super::words::{lines, text_of};
-use jlr_book::book::Book;
 use jlr_device::Device;
+use jlr_prog::Book;
 use jlr_prog::run::run_over;
 use jlr_session::shell::SessionEnd;
 use jlr_types::Limits;

@@ -3,7 +3,7 @@ ghost use Rattle.std.specs.Prelude.{◌≡◌, ◌+◌};
 
 use super::clients::{After, Client, Clients};
 use jlr_device::script::{Script, ScriptDevice, Step};
-use jlr_prog::server::{ServeFault, Served, serve_over};
+use jlr_server::server::{ServeFault, Served, serve_over};
 use jlr_types::{Fault, Limits};
 use std::alloc::Global;
 use std::marker::Brand;

@@ -2,8 +2,8 @@
 ghost use Rattle.std.specs.Prelude.{◌≡◌, IfOk, length};
 
 use jlr_device::real::RealDevice;
-use jlr_prog::listener::Listener;
-use jlr_prog::server::{ServeFault, Served, serve_over};
+use jlr_server::listener::Listener;
+use jlr_server::server::{ServeFault, Served, serve_over};
 use jlr_types::Limits;
 use std::alloc::AllocError;
 use std::io::{Read, Write};

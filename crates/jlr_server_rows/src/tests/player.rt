@@ -2,9 +2,9 @@
 ghost use Rattle.std.specs.Prelude.{◌≡◌, IfOk, length};
 
 use super::clients::{After, Client, Clients};
-use jlr_book::book::Book;
 use jlr_device::gate::{Gate, GateDevice};
-use jlr_prog::server::{ServeFault, Served, serve_over};
+use jlr_server::Book;
+use jlr_server::server::{ServeFault, Served, serve_over};
 use jlr_types::Limits;
 use std::alloc::{AllocError, Global};
 use std::marker::Brand;

@@ -7,7 +7,7 @@
 //!
 //! A text has several lists. Each begins with `== ` and its name, and has a book of its own, with 16 cells, one session and one resource,
 //! that cuts at 64 entries. A line that begins with `-- ` is a comment.
-use jlr_book::book::Book;
+use jlr_hall::Book;
 use jlr_machine::data::CopyRoom;
 use jlr_types::{Handle, Limits, Mutator, Progress};
 use jlr_words::{event_of, is_reply};

@@ -2,15 +2,15 @@
 ghost use Rattle.std.specs.Prelude.{◌≡◌, ◌≤◌, ◌+◌, ℕ, List, IfOk, length};
 ghost use Rattle.std.specs.Io.KnownBytes.{Appends, Consumes};
 ghost use Rattle.std.specs.Thread.{IsSend, IsSync};
-ghost use Rattle.jlr_book.specs.Histories.{IsHistory};
+ghost use Rattle.jlr_hall.specs.Histories.{IsHistory};
 ghost use Rattle.jlr_session.specs.Limits.{FindsEnd, most_bytes};
 ghost use Rattle.jlr_session.specs.Serving.{Serves};
 ghost use Rattle.jlr_session.specs.declared.shell.SessionEnd.{SessionEnd};
 ghost use Rattle.jlr_hall.specs.Ports.{by_seat};
-ghost use Rattle.jlr_prog.specs.declared.server.ServeFault.TheVariants.{Close, NoMemory};
+ghost use Rattle.jlr_server.specs.declared.server.ServeFault.TheVariants.{Close, NoMemory};
 
-use jlr_book::book::Book;
 use jlr_device::{Device, Resource};
+use jlr_hall::Book;
 use jlr_hall::closing::CloseFault;
 use jlr_hall::hall::Hall;
 use jlr_hall::loops::{cleaner_loop, handler_loop, marker_loop};
