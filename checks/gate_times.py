@@ -15,6 +15,26 @@ PAGE_KIB = os.sysconf("SC_PAGE_SIZE") // 1024
 KINDS = ("proofs", "tests", "edits", "builds")
 
 
+# Processor seconds that the proofs of some crates took on 26 November 2026, on a machine as fast as the one on which the bound of
+# docs/gate.md was set. A crate is taken off the list once its files change, since it tells nothing of the machine any more.
+REFERENCE = {
+    "jlr_cycles": 9,
+    "jlr_device": 42,
+    "jlr_laws": 18,
+    "jlr_marks": 17,
+    "jlr_parts": 83,
+    "jlr_plain_answers": 47,
+    "jlr_plain_images": 102,
+    "jlr_plain_parts": 105,
+    "jlr_process": 37,
+    "jlr_resource": 31,
+    "jlr_roots": 61,
+    "jlr_soft": 9,
+    "jlr_sweep": 20,
+    "jlr_types": 32,
+}
+
+
 def words_of(pid):
     """The command line of a process, or none where it has ended."""
     try:
@@ -63,7 +83,7 @@ def look(seen):
 
 
 def tell(seen):
-    """Writes the table: a line a crate, the dearest first."""
+    """Writes the table, a line a crate, the dearest first; and how fast the machine is, where crates were proved that tell it."""
     table, peaks = {}, {}
     for (crate, kind), seconds, peak in seen.values():
         row = table.setdefault(crate, dict.fromkeys(KINDS, 0))
@@ -76,6 +96,14 @@ def tell(seen):
     lines.append(("all", *total, ""))
     for line in lines:
         print(f"{line[0]:24}" + "".join(f"{it:>9}" for it in line[1:]), file=sys.stderr)
+    proved = {crate: row["proofs"] for crate, row in table.items() if row["proofs"]}
+    if REFERENCE.keys() <= proved.keys():
+        slowness = sum(proved[crate] for crate in REFERENCE) / sum(REFERENCE.values())
+        minutes = sum(sum(row.values()) for row in table.values()) / 60
+        print(
+            f"{minutes:.0f} processor minutes; this machine takes {slowness:.2f} times as long as the one of the bound: {minutes / slowness:.0f} there",
+            file=sys.stderr,
+        )
 
 
 def processor_ticks():

@@ -23,7 +23,7 @@ use std::io::{Read, Write};
 use std::sync::ledger::{Blank, Ledger};
 use std::sync::{Condvar, Mutex, Wait};
 use std::thread;
-use std::thread::Threads;
+use std::thread::{JoinHandle, Threads};
 
 /// Gives clients, one after the other, to whoever asks.
 pub trait Acceptor {
@@ -280,29 +280,71 @@ where
         move |scope| -> Result<Vec<Seat<L>>, ServeFault>
             requires { IsSync T.row × IsSend L.row × IsSync L.row × IsSync A.row × IsSend D.row × IsSend A.In.row × IsSend A.Out.row × IsSend D.Res.row }
         {
-            let mut running = Vec::with_capacity(alloc, seats.len())?;
-            let mut back = Vec::with_capacity(alloc, seats.len())?;
+            let Ok(back) = Vec::with_capacity(alloc, seats.len()) else {
+                drop((seats, posts));
+                return Err(ServeFault::NoMemory);
+            };
+            let Ok(mut running) = Vec::with_capacity(alloc, seats.len()) else {
+                drop((seats, posts, back));
+                return Err(ServeFault::NoMemory);
+            };
             let mut all = true;
             for (seat, post) in seats.into_iter().zip(posts) {
                 match scope.spawn(move || sit(rt, hall, acceptor, accepts, seat, post)) {
-                    Ok(thread) => all = running.push(thread).is_ok() && all,
-                    Err(_) => all = false,
+                    Ok(thread) => all = is_added(&mut running, thread) && all,
+                    Err(refused) => {
+                        drop(refused);
+                        all = false;
+                    }
                 }
             }
-            accepts.begin(rt, if all { Phase::Open } else { Phase::GivenUp });
-            if !all {
-                hall.stop(rt);
-            }
-            for thread in running {
-                all = back.push(thread.join(rt)).is_ok() && all;
-            }
-            if all {
-                Ok(back)
-            } else {
-                Err(ServeFault::Start)
-            }
+            begin(rt, hall, accepts, all);
+            joined(rt, running, back, all)
         },
     )
+}
+
+/// Puts an item into a list. Whether there was room for it.
+fn is_added<I: Drop>(list: &mut Vec<I>, item: I) -> bool {
+    match list.push(item) {
+        Ok(()) => true,
+        Err(refused) => {
+            drop(refused);
+            false
+        }
+    }
+}
+
+/// Lets the workers accept where all threads are there; else they go, and the hall ends.
+fn begin<R: Drop, L: Ledger, T: Wait>(rt: &T, hall: &Hall<R, L>, accepts: &Accepts, all: bool) {
+    if all {
+        accepts.begin(rt, Phase::Open);
+    } else {
+        accepts.begin(rt, Phase::GivenUp);
+        hall.stop(rt);
+    }
+}
+
+/// The seats, as the threads left them, in a list that has room for them. All threads are waited for.
+///
+/// # Errors
+/// `Start` where not all threads are there.
+fn joined<L: Ledger + Send, T: Threads + Wait>(
+    rt: &T,
+    running: Vec<JoinHandle<Seat<L>>>,
+    back: Vec<Seat<L>>,
+    all: bool,
+) -> Result<Vec<Seat<L>>, ServeFault> {
+    let mut back = back;
+    let mut all = all;
+    for thread in running {
+        all = is_added(&mut back, thread.join(rt)) && all;
+    }
+    if all {
+        return Ok(back);
+    }
+    drop(back);
+    Err(ServeFault::Start)
 }
 
 /// Serves as many clients as `total` says, one after the other at each session's seat, over the heap of an empty machine of these limits.
@@ -337,7 +379,10 @@ where
     ensures history { IfOk result (λ served. IsHistory served.book) }
 {
     let posts = posts(alloc, devices, limits.budget)?;
-    let (hall, seats) = Hall::<D::Res, L>::open(alloc, limits, blank)?;
+    let Ok((hall, seats)) = Hall::<D::Res, L>::open(alloc, limits, blank) else {
+        drop(posts);
+        return Err(ServeFault::NoMemory);
+    };
     let accepts = Accepts::new(total, limits.sessions);
     let seats = run_threads(rt, alloc, &hall, acceptor, &accepts, seats, posts);
     close(hall, seats, accepts.made())

@@ -56,7 +56,7 @@ fn forged(items: Vec<Item>, how: Forgery) -> Vec<Item> {
         }
         Forgery::ItemLeftOut => drop(items.pop()),
         Forgery::ItemTooMany => {
-            let _ = items.push(too_many());
+            drop(items.push(too_many()));
         }
         Forgery::TwoSwapped => {
             if items.len() > 1 {
@@ -102,9 +102,9 @@ fn keep_back<L: Ledger>(seats: &mut Vec<Seat<L>>, how: Forgery) {
 // The first session joins and asks twice.
 fn begin<L: Ledger, T: Wait>(rt: &T, hall: &Hall<u32, L>, seat: Seat<L>) -> Seat<L> {
     let mut port = SeatPort::new(rt, hall, seat);
-    let _ = port.ask(Event::Join { mutator: me() }, None);
-    let _ = port.ask(Event::Stat { mutator: me() }, None);
-    let _ = port.ask(Event::Names { mutator: me() }, None);
+    drop(port.ask(Event::Join { mutator: me() }, None));
+    drop(port.ask(Event::Stat { mutator: me() }, None));
+    drop(port.ask(Event::Names { mutator: me() }, None));
     port.into_seat()
 }
 
@@ -113,7 +113,7 @@ fn go_on<L: Ledger, T: Wait>(rt: &T, hall: &Hall<u32, L>, seat: Seat<L>, times: 
     let mut port = SeatPort::new(rt, hall, seat);
     let mutator = port.mutator();
     for _ in 0..times {
-        let _ = port.ask(Event::Stat { mutator }, None);
+        drop(port.ask(Event::Stat { mutator }, None));
     }
     port.into_seat()
 }
@@ -138,7 +138,7 @@ fn play<L: Ledger, T: Wait>(
             _ => seat,
         };
         // A seat for which there is no memory is missing at the close.
-        let _ = played.push(seat);
+        drop(played.push(seat));
     }
     keep_back(&mut played, how);
     played

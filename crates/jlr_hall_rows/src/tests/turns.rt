@@ -8,6 +8,7 @@
 //! holds; a hall has 16 cells and one resource. A line that begins with `-- ` is a comment.
 ghost use Rattle.std.specs.Prelude.{◌≡◌, ◌+◌};
 
+use jlr_event::event::Event;
 use jlr_hall::Book;
 use jlr_hall::closing::CloseFault;
 use jlr_hall::hall::Hall;
@@ -38,10 +39,15 @@ pub(super) fn play_all<T: Wait>(
     for list in lists.split(TITLE).skip(1) {
         let (title, rows) = list.split_once('\n').ok_or("a list without rows")?;
         if let Some(wrong) = wrong_in(threads, alloc, title, rows)? {
-            return Err(Fail::new(format_args!("{title}, at {wrong}")));
+            return Err(told_at(title, wrong));
         }
     }
     Ok(())
+}
+
+/// Where a list is not as it says.
+fn told_at(title: &str, wrong: &str) -> Fail {
+    Fail::new(format_args!("{title}, at {wrong}"))
 }
 
 /// The first row that is not as it says.
@@ -125,12 +131,12 @@ fn in_turns<L: Ledger, T: Wait>(
 ) -> (Option<usize>, Vec<Seat<L>>) {
     let mut ports = Vec::new(alloc);
     for seat in seats {
-        let _ = ports.push(SeatPort::new(threads, hall, seat));
+        drop(ports.push(SeatPort::new(threads, hall, seat)));
     }
     let wrong = first_wrong(alloc, &mut ports, rows);
     let mut back = Vec::new(alloc);
     for port in ports {
-        let _ = back.push(port.into_seat());
+        drop(back.push(port.into_seat()));
     }
     (wrong, back)
 }
@@ -179,13 +185,28 @@ fn is_answered<L: Ledger, T: Wait>(
     ask: &str,
     wanted: &str,
 ) -> bool {
-    let Ok(room) = CallRoom::new(alloc) else {
+    let Some(event) = event_of(alloc, ask) else {
         return false;
     };
-    match event_of(alloc, ask) {
-        Some(event) => is_reply(&port.ask(event, Some(room)), wanted),
-        None => false,
+    match CallRoom::new(alloc) {
+        Ok(room) => is_told(port, event, room, wanted),
+        Err(_) => {
+            drop(event);
+            false
+        }
     }
+}
+
+fn is_told<L: Ledger, T: Wait>(
+    port: &mut SeatPort<'_, u32, L, T>,
+    event: Event<u32>,
+    room: CallRoom,
+    wanted: &str,
+) -> bool {
+    let reply = port.ask(event, Some(room));
+    let is_wanted = is_reply(&reply, wanted);
+    drop(reply);
+    is_wanted
 }
 
 /// How often an ask is made.

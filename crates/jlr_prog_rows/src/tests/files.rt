@@ -122,11 +122,19 @@ impl Read for PeerLeaves<'_> {
             return self.line.read(buf);
         }
         if let Some(listener) = self.listener.take() {
-            let (peer, _) = listener.accept()?;
-            drop(peer);
+            let left = leave(&listener);
+            drop(listener);
+            left?;
         }
         self.others.read(buf)
     }
+}
+
+/// A peer comes, and leaves.
+fn leave(listener: &UnixListener) -> io::Result<()> {
+    let (peer, _) = listener.accept()?;
+    drop(peer);
+    Ok(())
 }
 
 #[test]

@@ -91,6 +91,7 @@ fn played(alloc: Global, label: &str, row: &str, answers: &str) -> Result<(), Fa
         return Err(told(alloc, label, row, "its setting cannot be read"));
     };
     let Some(input) = lines(alloc, commands.trim()) else {
+        drop(setting);
         return Err(told(alloc, label, row, "its commands cannot be read"));
     };
     let (wanted, book) = (setting.end, setting.book);

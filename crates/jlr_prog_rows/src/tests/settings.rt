@@ -67,17 +67,16 @@ impl Setting {
     fn set(&mut self, alloc: Global, word: &str) -> Option<()> {
         let (word, value) = word.split_once(" ")?;
         match word {
-            "soft_age" => self.soft_age = number(value)?,
-            "resources" => self.resources = number(value)?,
-            "trace" => self.trace = number(value)?,
-            "scripts" => self.scripts = scripts_of(alloc, value)?,
-            "failures" if value == "most" => self.failures = u64::MAX,
-            "lines" => self.lines = number(value)?,
-            "ends" => self.end = end_of(value)?,
-            "book" => self.book = Some(book_of(value)?),
-            _ => return None,
+            "soft_age" => put(&mut self.soft_age, number(value)),
+            "resources" => put(&mut self.resources, number(value)),
+            "trace" => put(&mut self.trace, number(value)),
+            "scripts" => put(&mut self.scripts, scripts_of(alloc, value)),
+            "failures" if value == "most" => put(&mut self.failures, Some(u64::MAX)),
+            "lines" => put(&mut self.lines, number(value)),
+            "ends" => put(&mut self.end, end_of(value)),
+            "book" => put(&mut self.book, book_of(value).map(Some)),
+            _ => None,
         }
-        Some(())
     }
 
     /// What a session of this setting comes to. Its input comes in two pieces.
@@ -96,6 +95,12 @@ impl Setting {
             book,
         })
     }
+}
+
+/// Puts a value in its place, where there is one.
+fn put<V: Drop>(place: &mut V, value: Option<V>) -> Option<()> {
+    *place = value?;
+    Some(())
 }
 
 /// The limits of a session with 16 cells, and these.

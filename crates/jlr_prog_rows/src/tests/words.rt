@@ -20,10 +20,17 @@ pub(super) fn lines(alloc: Global, text: &str) -> Option<Vec<u8>> {
 /// Writes the lines, which are parted by ` / `, once for each number of a range.
 fn repeat(bytes: &mut Vec<u8>, range: &str, lines: &str) -> Option<()> {
     let (first, last) = range.split_once(" to ")?;
-    for number in number(first)?..=number(last)? {
-        for line in lines.split(" / ") {
-            put(bytes, line, number)?;
-        }
+    let (first, last) = (number(first)?, number(last)?);
+    for number in first..=last {
+        put_each(bytes, lines, number)?;
+    }
+    Some(())
+}
+
+/// Writes the lines once, with a number.
+fn put_each(bytes: &mut Vec<u8>, lines: &str, number: u32) -> Option<()> {
+    for line in lines.split(" / ") {
+        put(bytes, line, number)?;
     }
     Some(())
 }

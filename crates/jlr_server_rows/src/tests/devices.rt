@@ -193,13 +193,14 @@ fn step_of(alloc: Global, word: &str) -> Option<Step> {
 
 /// Whether the sessions of a row are served as they have to be.
 fn holds<T: Threads + Wait + Sync>(rt: HostRuntime, threads: &T, row: &Row) -> Option<bool> {
+    let device = device_of(rt.alloc(), row)?;
     let pair = [
         Client::taking(row.first.0, row.first.1, row.replies),
         Client::new(row.second.0, row.second.1),
     ];
     let clients = Clients::new(rt, &pair, After::Nothing, 0);
-    let device = device_of(rt.alloc(), row)?;
-    Some(are_served(rt, threads, &clients, device)? && clients.are_served())
+    let is_served = are_served(rt, threads, &clients, device);
+    is_served.map(|is_served| is_served && clients.are_served())
 }
 
 /// Whether clients are served at one seat, where each opens by this device.

@@ -68,15 +68,15 @@ where
             let mut back = Vec::new(alloc);
             for seat in seats {
                 if seat.index() > 1 {
-                    let _ = back.push(seat);
+                    drop(back.push(seat));
                 } else if let Ok(thread) = scope.spawn(move || session(
                     threads, hall, clients, seat,
                 )) {
-                    let _ = running.push(thread);
+                    drop(running.push(thread));
                 }
             }
             for thread in running {
-                let _ = back.push(thread.join(threads));
+                drop(back.push(thread.join(threads)));
             }
             back
         },
@@ -122,15 +122,20 @@ fn gate_two_sessions(rt: HostRuntime) -> Result<(), Fail> {
 fn is_told<L: Ledger, T: Wait>(threads: &T, hall: &Hall<u32, L>, seat: Seat<L>) -> bool {
     let mut port = SeatPort::new(threads, hall, seat);
     let mutator = port.mutator();
-    let _ = port.ask(Event::Join { mutator }, None);
-    let _ = port.ask(Event::MakeQueue { mutator }, None);
-    let reply = port.ask(
-        Event::Remove {
-            mutator,
-            queue: Handle::new(1),
-        },
-        None,
-    );
+    drop(port.ask(Event::Join { mutator }, None));
+    drop(port.ask(Event::MakeQueue { mutator }, None));
+    let remove = Event::Remove {
+        mutator,
+        queue: Handle::new(1),
+    };
+    let reply = port.ask(remove, None);
+    let is_refused = would_wait(&reply);
+    drop(reply);
+    is_refused
+}
+
+/// Whether an ask is refused that would have to wait.
+fn would_wait(reply: &Reply<u32>) -> bool {
     matches!(
         reply,
         Reply::Answered {

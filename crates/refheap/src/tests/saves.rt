@@ -1,4 +1,5 @@
 //! Saved histories: each row is what a session reads, with `;` for the end of a line, an arrow, and the verdict on the history that it saved.
+use super::verdicts::compared;
 use jlr_command_line::arguments::AuditOrder;
 use jlr_commands::audit::audit;
 use jlr_commands::save::session_saved;
@@ -33,14 +34,14 @@ fn lines(alloc: Global, text: &str) -> Result<Vec<u8>, AllocError> {
 }
 
 fn saved(rt: HostRuntime, input: &str) -> Result<(), Fail> {
-    let bytes = lines(rt.alloc(), if input == "nothing" { "" } else { input })?;
     let limits = Limits::checked(16, 1, 16, 4, 10_000, 64)
         .ok()
         .ok_or("limits")?;
+    let bytes = lines(rt.alloc(), if input == "nothing" { "" } else { input })?;
     let mut reader = bytes.as_slice();
     let mut writer = Vec::new(rt.alloc());
     let mut device = RealDevice::new(rt);
-    let _ = session_saved(&rt, PATH, limits, &mut reader, &mut writer, &mut device);
+    drop(session_saved(&rt, PATH, limits, &mut reader, &mut writer, &mut device));
     Ok(())
 }
 
@@ -50,7 +51,7 @@ fn verdict(rt: HostRuntime) -> Result<String, Fail> {
         explain: false,
     };
     let mut told = Vec::new(rt.alloc());
-    let _ = audit(&rt, asked, &mut told);
+    drop(audit(&rt, asked, &mut told));
     let mut verdict = String::new(rt.alloc());
     verdict.push_str(str::from_utf8(&told)?.trim())?;
     Ok(verdict)
@@ -61,10 +62,7 @@ fn played(rt: HostRuntime, row: &str) -> Result<(), Fail> {
     saved(rt, input)?;
     let got = verdict(rt)?;
     fs::remove_file(&rt, PATH)?;
-    if got.as_str() != wanted {
-        return Err(Fail::new(format_args!("at {row}: {got}")));
-    }
-    Ok(())
+    compared(row, got.as_str(), wanted)
 }
 
 #[test]

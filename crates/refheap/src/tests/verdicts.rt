@@ -52,17 +52,33 @@ fn push_decoded(bytes: &mut Vec<u8>, text: &str) -> Result<(), Fail> {
     Ok(())
 }
 
+/// Appends the front of the file, what stands behind it in place of as many bytes, and the rest; without anything behind it the front alone.
+fn push_changed(bytes: &mut Vec<u8>, file: &[u8], front: usize, behind: &str) -> Result<(), Fail> {
+    bytes.extend_from_slice(file.get(..front).ok_or("no front")?)?;
+    push_decoded(bytes, behind)?;
+    if !behind.is_empty() && bytes.len() < file.len() {
+        bytes.extend_from_slice(file.get(bytes.len()..).ok_or("no rest")?)?;
+    }
+    Ok(())
+}
+
 /// The file that a row asks for: whole, but for what stands in place of some bytes, or cut where nothing does.
 fn changed(alloc: Global, front: usize, behind: &str) -> Result<Vec<u8>, Fail> {
     let mut file = Vec::new(alloc);
     push_decoded(&mut file, FILE)?;
     let mut bytes = Vec::new(alloc);
-    bytes.extend_from_slice(file.get(..front).ok_or("no front")?)?;
-    push_decoded(&mut bytes, behind)?;
-    if !behind.is_empty() && bytes.len() < file.len() {
-        bytes.extend_from_slice(file.get(bytes.len()..).ok_or("no rest")?)?;
-    }
+    push_changed(&mut bytes, file.as_slice(), front, behind)?;
     Ok(bytes)
+}
+
+/// Writes the file that a row asks for, where it has bytes.
+fn lay(rt: HostRuntime, change: &str) -> Result<(), Fail> {
+    let (front, behind) = change.split_once(" ").unwrap_or((change, ""));
+    let bytes = changed(rt.alloc(), front.parse()?, behind)?;
+    if !bytes.is_empty() {
+        fs::write(&rt, PATH, bytes.as_slice())?;
+    }
+    Ok(())
 }
 
 /// A text with its line ends as spaces, without the last.
@@ -77,34 +93,47 @@ fn in_one_line(alloc: Global, text: &str) -> Result<String, AllocError> {
     Ok(line)
 }
 
-fn ending(rt: HostRuntime) -> Result<String, Fail> {
-    let alloc = rt.alloc();
+/// The status after an audit, and what was said on the standard error.
+fn audited(rt: HostRuntime, written: &mut Vec<u8>) -> (u8, String) {
     let asked = AuditOrder {
         file: PATH,
         explain: true,
     };
+    let outcome = audit(&rt, asked, written);
+    let said = RefCell::new(String::new(rt.alloc()));
+    let kept = Kept {
+        alloc: rt.alloc(),
+        text: &said,
+    };
+    let status = status_after(kept, &outcome);
+    drop(outcome);
+    (status, said.into_inner())
+}
+
+/// How an audit ends: the status, what is said, and what is written.
+fn ending(rt: HostRuntime) -> Result<String, Fail> {
+    let alloc = rt.alloc();
     let mut written = Vec::new(alloc);
-    let outcome = audit(&rt, asked, &mut written);
-    let said = RefCell::new(String::new(alloc));
-    let status = status_after(Kept { alloc, text: &said }, &outcome);
-    let said = in_one_line(alloc, said.into_inner().as_str())?;
+    let (status, said) = audited(rt, &mut written);
+    let said = in_one_line(alloc, said.as_str())?;
     let written = in_one_line(alloc, str::from_utf8(&written)?)?;
     Ok(format!(in alloc; "{status}|{said}|{written}")?)
 }
 
+/// Nothing where a row came to what is wanted, else what it came to.
+pub(super) fn compared(row: &str, got: &str, wanted: &str) -> Result<(), Fail> {
+    if got == wanted {
+        return Ok(());
+    }
+    Err(Fail::new(format_args!("at {row}: {got}")))
+}
+
 fn played(rt: HostRuntime, row: &str) -> Result<(), Fail> {
     let (change, wanted) = row.split_once(" -> ").ok_or("no row")?;
-    let (front, behind) = change.split_once(" ").unwrap_or((change, ""));
-    let bytes = changed(rt.alloc(), front.parse()?, behind)?;
-    if !bytes.is_empty() {
-        fs::write(&rt, PATH, bytes.as_slice())?;
-    }
+    lay(rt, change)?;
     let got = ending(rt)?;
-    let _ = fs::remove_file(&rt, PATH);
-    if got.as_str() != wanted {
-        return Err(Fail::new(format_args!("at {row}: {got}")));
-    }
-    Ok(())
+    drop(fs::remove_file(&rt, PATH));
+    compared(row, got.as_str(), wanted)
 }
 
 #[test]

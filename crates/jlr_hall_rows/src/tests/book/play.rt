@@ -7,6 +7,7 @@
 //!
 //! A text has several lists. Each begins with `== ` and its name, and has a book of its own, with 16 cells, one session and one resource,
 //! that cuts at 64 entries. A line that begins with `-- ` is a comment.
+use jlr_event::event::Event;
 use jlr_hall::Book;
 use jlr_machine::data::CopyRoom;
 use jlr_types::{Handle, Limits, Mutator, Progress};
@@ -81,13 +82,29 @@ fn are_answered(alloc: Global, book: &mut Book<u32>, asked: &str, wanted: &str) 
 }
 
 fn is_answered(alloc: Global, book: &mut Book<u32>, seat: u8, ask: &str, wanted: &str) -> bool {
-    let Ok(room) = CopyRoom::new(alloc) else {
+    let Some(event) = event_of(alloc, ask) else {
         return false;
     };
-    match event_of(alloc, ask) {
-        Some(event) => is_reply(&book.step(seat, event, Some(room)), wanted),
-        None => false,
+    match CopyRoom::new(alloc) {
+        Ok(room) => is_told(book, seat, event, room, wanted),
+        Err(_) => {
+            drop(event);
+            false
+        }
     }
+}
+
+fn is_told(
+    book: &mut Book<u32>,
+    seat: u8,
+    event: Event<u32>,
+    room: CopyRoom,
+    wanted: &str,
+) -> bool {
+    let reply = book.step(seat, event, Some(room));
+    let is_wanted = is_reply(&reply, wanted);
+    drop(reply);
+    is_wanted
 }
 
 // How often an ask is made.
