@@ -3,6 +3,7 @@
 
 Proofs, tests and must-fail edits are told apart: a check of tests has the flag --test, and an edit is checked in a folder rt-edit-*. The
 processes are looked at twice a second, so that of a check the last half second may be missing. The exit status is that of the command.
+Where the run proved the crates of REFERENCE, it tells as well how slow the machine is, and what the run comes to at the speed of theirs.
 """
 import os
 import re
