@@ -5,7 +5,7 @@
 
 A session makes N arrays of 4,096 elements (100,000) that are refused, since its 16 cells are full, and another as many that are given up and
 collected: the memory at the end is held against that after the first tenth. A third session, which may have 512 MB, makes arrays in 65,536 cells
-until one is refused for want of memory (`! 1`): all before it are there, with what they hold, and the session goes on.
+until one is refused because memory ran out (`! 1`): all before it are there, with what they hold, and the session goes on.
 """
 import argparse
 import resource
@@ -97,7 +97,7 @@ def made(session):
 def starved(program):
     session = Session(program, "--cells", "65536", "--trace", "1000000", limit=LIMIT)
     count, told = made(session)
-    faults = said("an array is refused for want of memory", told == "! 1", f"({count} arrays stand, then {told})")
+    faults = said("an array is refused because memory ran out", told == "! 1", f"({count} arrays stand, then {told})")
     faults += said("those before it stand", session.ask("stat")[0] == f"stat {count} 0 0 0 0")
     faults += said("what they hold is there", session.ask("get 1 0")[0].startswith("= "))
     faults += said("an object is made all the same", session.ask("new -")[0].startswith("= "))

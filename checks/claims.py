@@ -6,7 +6,7 @@ import sys
 
 ROOT = os.path.join(os.path.dirname(os.path.abspath(__file__)), "..")
 TOKEN = re.compile(r"`([^`]+)`")
-FUNCTION = re.compile(r"^(jlr_\w+|refheap)((?:::\w+)+)$")
+FUNCTION = re.compile(r"^(jlr_\w+|refheap\w*)((?:::\w+)+)$")
 
 
 def texts(folder, ending):
@@ -60,7 +60,7 @@ def missing_in(cell):
         elif token.startswith(("checks/", "docs/", "crates/")):
             if not os.path.exists(os.path.join(ROOT, token)):
                 yield f"the file {token}"
-        elif re.fullmatch(r"jlr_\w+|refheap", token):
+        elif re.fullmatch(r"jlr_\w+|refheap\w*", token):
             if not os.path.isdir(os.path.join(ROOT, "crates", token)):
                 yield f"the crate {token}"
         elif re.fullmatch(r"\w+\.\w+", token):
@@ -75,10 +75,14 @@ def missing_in(cell):
 
 def main():
     rows = failed = 0
+    carried = False
     with open(os.path.join(ROOT, "docs", "claims.md"), encoding="utf-8") as page:
         for line in page:
             cells = [cell.strip() for cell in line.strip().strip("|").split("|")]
-            if not line.startswith("| ") or len(cells) != 3 or cells[0] == "Promise":
+            if line.startswith("|") and not line.startswith("|-") and cells[-1] in ("Carried by", "Says"):
+                carried = cells[-1] == "Carried by"
+                continue
+            if not line.startswith("| ") or len(cells) != 2 or not carried:
                 continue
             rows += 1
             missing = list(missing_in(cells[1]))

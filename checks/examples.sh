@@ -4,6 +4,6 @@
 set -eu
 here=$(cd "$(dirname "$0")" && pwd)
 for example in cache pool watch; do
-    timeout 60 python3 "$here/../examples/$example.py" "$1"
+    timeout 240 python3 "$here/../examples/$example.py" "$1"
     echo "ok $example"
 done

@@ -3,7 +3,7 @@
 
     checks/lines.py PROGRAM
 
-Each byte as a line; lines about the longest one; each front of a session; a session byte by byte; input that never ends a line; the most lines and
+Each byte as a line; lines about the longest one; each prefix of a session; a session byte by byte; input that never ends a line; the most lines and
 the most bytes that a session takes; and a system that takes one byte of each write, or none.
 """
 import os

@@ -74,7 +74,7 @@ def connected(process, path):
 
 
 class Talk:
-    """A client's session, of whose commands one at most is refused for want of memory."""
+    """A client's session, of whose commands one at most is refused because memory ran out."""
 
     def __init__(self, stream):
         self.stream = stream

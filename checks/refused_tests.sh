@@ -1,5 +1,5 @@
 #!/usr/bin/env bash
-# Runs the tests on want of memory once for each of their allocations, with that one refused (failing.sh), and the events of a heap that
+# Runs the tests on running out of memory once for each of their allocations, with that one refused (failing.sh), and the events of a heap that
 # take none with all refused (starved.sh). They are the proved tests that `rt test` builds; a crate whose tests were not built is built
 # first, which takes minutes.
 # checks/refused_tests.sh

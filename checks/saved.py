@@ -211,7 +211,7 @@ def try_sessions(program, count, seed):
 
 
 def try_fronts(program, seed):
-    """Each proper front of ten histories, with and without a cut before them, is truncated."""
+    """Each proper prefix of ten histories, with and without a cut before them, is truncated."""
     fronts = 0
     with tempfile.TemporaryDirectory() as folder:
         for number in range(10):

@@ -1,18 +1,22 @@
-"""A client of `refheap serve`: each command is a method, a refusal or a fault is an exception.
+"""A client of `refheap serve`: each command is a method, a refusal or a fault is an exception that says it in words.
 
-    with Client(path) as heap:
+    with Client("/tmp/heap", seconds=10) as heap:       # tries for ten seconds to connect
         entry = heap.new("r")
         held = heap.soft(entry)
         heap.drop(entry)
 
-Commands that need no answer at once can be sent ahead: `heap.ahead("drop 1", "drop 2")` sends all of them before it reads, and gives their
-replies. `Server(program)` starts a server of its own for a test or an example.
-"""
+`ahead` sends lines before it reads and gives their replies as text; it reads while it writes, so any number of lines is right. `write_all` and `read_all` cut bytes
+into lines. After a ConnectionError `reconnect` begins a new session, without handles; `renew` goes on in a new one with those that are named, before the
+1,000,000 lines of a session are used up. `Server(program, total)` is a server of one's own, for a test or an example."""
 import os
+import secrets
+import select
 import socket
 import subprocess
+import sys
 import tempfile
 import time
+from collections import deque
 
 NAMES = {
     1: "no memory", 2: "heap full", 3: "no such handle", 4: "handles full", 5: "wrong kind", 6: "no such field", 7: "wrong type",
@@ -24,8 +28,8 @@ NAMES = {
 class Refused(Exception):
     """The heap did not do it; nothing has changed, but that after 2 the heap was collected."""
 
-    def __init__(self, number):
-        super().__init__(f"{number}: {NAMES.get(number, 'unknown')}")
+    def __init__(self, number, line=""):
+        super().__init__(f"{line + ': ' if line else ''}{number} {NAMES.get(number, 'unknown')}")
         self.number = number
 
 
@@ -34,12 +38,39 @@ class Fault(Exception):
 
 
 class Client:
-    """One session. A handle is a number; 0 is null."""
+    """One session. A handle is a number; 0 is null. `lines` counts what was sent; a session ends with its 1,000,000th."""
 
-    def __init__(self, path):
-        self.socket = socket.socket(socket.AF_UNIX)
-        self.socket.connect(path)
-        self.replies = self.socket.makefile("rb")
+    def __init__(self, path, seconds=0):
+        self.path = path
+        self.reconnect(seconds)
+
+    def reconnect(self, seconds=0):
+        """Connects, and tries again for so many seconds where nobody listens yet. The first reply shows that the session has its turn."""
+        until = time.monotonic() + seconds
+        self.lines, self.unread, self.arrived = 0, b"", deque()
+        while True:
+            self.socket = socket.socket(socket.AF_UNIX)
+            try:
+                return self.socket.connect(self.path)
+            except (FileNotFoundError, ConnectionRefusedError):
+                self.socket.close()
+                if time.monotonic() >= until:
+                    raise
+                time.sleep(0.01)
+
+    def renew(self, *handles):
+        """A new session in place of this one. Gives the new numbers of these handles; an array under a name of its own holds their objects meanwhile."""
+        name, held = f"renew_{secrets.token_hex(8)}", self.array(max(1, len(handles)))
+        for number, handle in enumerate(handles):
+            self.put(held, number, handle)
+        self.bind(name, held)
+        self.close_session()
+        self.reconnect()
+        held = self.find(name)
+        self.unbind(name)
+        renewed = [self.get(held, number) for number in range(len(handles))]
+        self.drop(held)
+        return renewed
 
     def __enter__(self):
         return self
@@ -48,19 +79,57 @@ class Client:
         self.close_session()
 
     def ahead(self, *lines):
-        """Sends all lines, then reads as many replies, as text."""
-        self.socket.sendall("".join(line + "\n" for line in lines).encode())
-        return [self._line() for _ in lines]
+        """Sends all lines, and gives as many replies, as text. It reads while it writes, so neither side waits for the other for ever."""
+        if any("\n" in line for line in lines):
+            raise ValueError("a line has no line end within")
+        data, sent = memoryview("".join(line + "\n" for line in lines).encode()), 0
+        self.lines += len(lines)
+        try:
+            while sent < len(data):
+                sent += self._send_or_receive(data[sent:sent + 65_536])
+            while len(self.arrived) < len(lines):
+                self._receive()
+        except BaseException:
+            self.socket.close()  # Replies that were not read would be taken for those of later lines.
+            raise
+        return [self.arrived.popleft().decode() for _ in lines]
 
-    def _line(self):
-        line = self.replies.readline()
-        if not line.endswith(b"\n"):
+    def _send_or_receive(self, data):
+        poll = select.poll()
+        poll.register(self.socket, select.POLLIN | select.POLLOUT)
+        ready = poll.poll()[0][1]
+        if ready & ~select.POLLOUT:
+            self._receive()
+        try:
+            return self.socket.send(data, socket.MSG_DONTWAIT) if ready & select.POLLOUT else 0
+        except BrokenPipeError:
+            return len(data)  # The session is over; what was answered before can still be read.
+
+    def _receive(self):
+        data = self.socket.recv(65_536)
+        if not data:
             raise ConnectionError("the server ended the session")
-        return line[:-1].decode()
+        *whole, self.unread = (self.unread + data).split(b"\n")
+        self.arrived.extend(whole)
 
     def ask(self, line):
         """Sends one line and gives its reply: None for ok, a bool, a number, bytes, or a list of words."""
-        return read_reply(self.ahead(line)[0])
+        return read_reply(self.ahead(line)[0], line)
+
+    def new(self, layout="-"):
+        return self.ask(f"new {layout}")
+
+    def write_all(self, guard, data):
+        """Writes all of the data, 200 bytes a line; a short write is continued."""
+        while data:
+            taken = self.write(guard, data[:200])
+            if taken == 0:
+                raise Fault("nothing was taken")
+            data = data[taken:]
+
+    def read_all(self, guard):
+        """All bytes up to the end."""
+        return b"".join(iter(lambda: self.read(guard, 200), b""))
 
     def close_session(self):
         """Says bye, and closes the connection."""
@@ -68,14 +137,13 @@ class Client:
             self.ahead("bye")
         except OSError:
             pass
-        self.replies.close()
         self.socket.close()
 
 
-def read_reply(reply):
+def read_reply(reply, line=""):
     word, _, rest = reply.partition(" ")
     if word == "!":
-        raise Refused(int(rest))
+        raise Refused(int(rest), line)
     if word == "fault":
         raise Fault(rest)
     if word in ("=", "int", "wrote"):
@@ -90,17 +158,12 @@ def read_reply(reply):
 
 
 def _command(name):
-    def call(self, *words):
-        return self.ask(" ".join([name, *[word.hex() if isinstance(word, bytes) else str(word) for word in words]]))
-
-    return call
+    return lambda self, *words: self.ask(" ".join([name, *[word.hex() if isinstance(word, bytes) else str(word) for word in words]]))
 
 
-for _name in ("put", "get", "setint", "int", "dup", "drop", "same", "deref", "refers", "clear", "enqueue", "enqueued", "queue", "poll",
-              "remove", "cleaner", "register", "clean", "open", "connect", "read", "write", "close", "bind", "find", "unbind", "names",
-              "gc", "stat", "notes", "faults"):
+for _name in ("array", "put", "get", "setint", "int", "dup", "drop", "same", "deref", "refers", "clear", "enqueue", "enqueued", "queue", "poll", "remove",
+              "cleaner", "register", "clean", "open", "connect", "read", "write", "close", "bind", "find", "unbind", "names", "gc", "stat", "notes", "faults"):
     setattr(Client, _name, _command(_name))
-Client.new = lambda self, layout="-": self.ask(f"new {layout}")
 for _name in ("soft", "weak", "phantom"):
     setattr(Client, _name, (lambda name: lambda self, handle, queue=0: self.ask(f"{name} {handle} {queue}"))(_name))
 
@@ -118,10 +181,19 @@ class Server:
             time.sleep(0.01)
 
     def client(self):
-        return Client(self.path)
+        return Client(self.path, seconds=10)
 
     def end(self):
         """Waits for the server's end. Its exit status, how many clients it served, and how many entries its history has."""
         served, entries = [int(line.split()[1]) for line in self.process.communicate()[0].splitlines()]
         self.folder.cleanup()
         return self.process.returncode, served, entries
+
+
+def program_of(words):
+    """The program that a command line names; where there is none, a sentence and the end."""
+    if len(words) != 2:
+        sys.exit(f"usage: python3 {words[0]} PROGRAM, the built refheap: crates/refheap/out/refheap")
+    if not os.path.isfile(words[1]) or not os.access(words[1], os.X_OK):
+        sys.exit(f"{words[0]}: {words[1]} is no program that can be started")
+    return os.path.abspath(words[1])

@@ -1,60 +1,100 @@
-"""A program that learns from another what has died there.
+"""Programs that learn which of another's things have died.
 
-One session keeps objects under weak references with a queue, and gives the queue a name. Another waits in `remove` on that queue. Each object that the
-first loses is told to the second, once. Run: `python3 examples/watch.py PROGRAM` (crates/refheap/out/refheap after a build).
+An owner keeps things of two kinds, each under a key. For each it makes a weak reference with the queue of its kind, and puts it into an array: the key's number is its
+place. A watcher waits in `remove` on the queue of its kind, so the kind costs nothing to tell. Which key it was it learns by `same`: it asks of all references that have
+not died yet, sent ahead, three lines a key. Arrays hold more keys than there are names.
+
+    python3 watch.py PROGRAM
 """
+import multiprocessing
+import random
 import sys
-import threading
+import time
 
-from refheap import Server
+from refheap import Client, Server, program_of, read_reply
 
-OBJECTS = 50
+KINDS, KEYS, AT_ONCE = ("user", "job"), 150, 200
+
+
+def ask_all(heap, lines):
+    return [read_reply(reply) for reply in heap.ahead(*lines)]
+
+
+def which(heap, index, places, reference):
+    """At which of these places of the index the reference stands."""
+    for start in range(0, len(places), AT_ONCE):
+        some = places[start:start + AT_ONCE]
+        known = ask_all(heap, [f"get {index} {place}" for place in some])
+        same = ask_all(heap, [f"same {reference} {handle}" for handle in known])
+        ask_all(heap, [f"drop {handle}" for handle in known])
+        if True in same:
+            return some[same.index(True)]
+    raise LookupError("a reference that is not in the index")
+
+
+def watch(path, kind, told, said):
+    """Tells of each death the key; says when it is ready, and in the end how many lines were sent."""
+    with Client(path, seconds=10) as heap:
+        queue, index, places = heap.find(f"dead_{kind}"), heap.find(f"all_{kind}"), list(range(KEYS))
+        said.put("ready")
+        while places:
+            reference = heap.remove(queue)
+            place = which(heap, index, places, reference)
+            places.remove(place)
+            heap.put(index, place, 0)
+            heap.drop(reference)
+            told.put((kind, place))
+        said.put(heap.lines)
+
+
+class Owner:
+    """Keeps the things of all kinds, each in an array of its kind."""
+
+    def __init__(self, heap):
+        self.heap, self.things = heap, {}
+        for kind in KINDS:
+            queue, index, self.things[kind] = heap.queue(), heap.array(KEYS), heap.array(KEYS)
+            heap.bind(f"dead_{kind}", queue)
+            heap.bind(f"all_{kind}", index)
+            for key in range(KEYS):
+                thing = heap.new()
+                reference = heap.weak(thing, queue)
+                ask_all(heap, [f"put {self.things[kind]} {key} {thing}", f"put {index} {key} {reference}", f"drop {reference}", f"drop {thing}"])
+
+    def lose(self, kind, key):
+        self.heap.put(self.things[kind], key, 0)
 
 
 def main(program):
-    server = Server(program, 2, "--sessions", "2")
-    told = []
-
-    owner = server.client()
-    queue = owner.queue()
-    owner.bind("deaths", queue)
-    objects = [owner.new() for _ in range(OBJECTS)]
-    for number, held in enumerate(objects):
-        weak = owner.weak(held, queue)
-        owner.bind(f"ref{number}", weak)
-        owner.drop(weak)
-
-    def watch():
-        with server.client() as watcher:
-            deaths = watcher.find("deaths")
-            for _ in range(OBJECTS):
-                reference = watcher.remove(deaths)
-                told.append(next(n for n in range(OBJECTS) if is_reference(watcher, n, reference)))
-                watcher.drop(reference)
-
-    def is_reference(client, number, reference):
-        known = client.find(f"ref{number}")
-        same = client.same(known, reference)
-        client.drop(known)
-        return same
-
-    watcher = threading.Thread(target=watch)
-    watcher.start()
-    lost = []
-    for number, held in enumerate(objects):
-        if number % 7 == 0:
-            print(f"the owner loses objects {lost[-7:]}" if lost else "the owner begins")
-            owner.gc()
-        owner.drop(held)
-        lost.append(number)
-    owner.gc()
-    watcher.join()
-    owner.close_session()
-    status, served, entries = server.end()
-    print(f"told: {len(told)} deaths, each once: {sorted(told) == lost}")
-    print(f"the server served {served} clients, in {entries} entries, status {status}")
-    return 0 if sorted(told) == lost and status == 0 else 1
+    server = Server(program, len(KINDS) + 1, "--sessions", str(len(KINDS) + 1))
+    told, said, right = multiprocessing.Queue(), multiprocessing.Queue(), True
+    with server.client() as heap:
+        owner = Owner(heap)
+        watchers = [multiprocessing.Process(target=watch, args=(server.path, kind, told, said), daemon=True) for kind in KINDS]
+        for watcher in watchers:
+            watcher.start()
+        for _ in KINDS:
+            said.get(timeout=60)
+        everything = [(kind, key) for kind in KINDS for key in range(KEYS)]
+        random.Random(3).shuffle(everything)
+        seconds = time.monotonic()
+        for start in range(0, len(everything), 50):
+            lost = everything[start:start + 50]
+            for kind, key in lost:
+                owner.lose(kind, key)
+            heap.gc()
+            found = [told.get(timeout=60) for _ in lost]
+            right &= sorted(found) == sorted(lost)
+            print(f"lost 50, the last is {lost[-1][0]} {lost[-1][1]}; told of {len(found)}, the last is {found[-1][0]} {found[-1][1]}")
+        seconds = time.monotonic() - seconds
+        lines = sum(said.get(timeout=60) for _ in KINDS)
+        for watcher in watchers:
+            watcher.join()
+    status, _, _ = server.end()
+    print(f"{len(everything)} deaths, {lines // len(everything)} lines and {1000 * seconds / len(everything):.1f} ms each")
+    print("each was told once, by its key" if right and status == 0 else f"SOMETHING IS WRONG, status {status}")
+    return 0 if right and status == 0 else 1
 
 
 if __name__ == "__main__":
-    sys.exit(main(sys.argv[1]))
+    sys.exit(main(program_of(sys.argv)))

@@ -49,7 +49,7 @@ pub fn spelled_front<W: Watch>(
     let count = trace.count();
     for number in 0..count {
         watch.told(number as usize);
-        // The machine is let go by a call: an exit that held it would go through all its parts.
+        // For the prover: dropped by a call, so that no return path proves the drop of each of its parts.
         let Ok(next) = entries.next(alloc) else {
             drop(machine);
             return Err(AllocError);

@@ -1,6 +1,6 @@
 -- Calls on mutators, names and queues keep a heap together.
 use Rattle.std.proofs.Common.{◌≡◌, ℕ, inl, inr, IsTrue, List, [], ◌∷◌, ◌++◌, Option, Some, None, drop, length, sym, subst, ◌∙◌}
-use Rattle.std.specs.Prelude.{IfNone, IfSome}
+use Rattle.std.specs.Prelude.{IfNone, IfSome, Result, Ok, Err, OnErr, OnOk}
 use Rattle.jlr_machine.specs.declared.machine.Session.{Session}
 use Rattle.jlr_machine.specs.declared.machine.Binding.{Binding}
 use Rattle.jlr_machine.specs.declared.machine.Call.{Call}
@@ -37,6 +37,12 @@ module _ (k : Known) (a b : ℕ) (f : FitsTogether k a b) where
   pub bound_fits : (names : List Binding) (name : List ℕ) (s : ℕ) → names ≡ bound k.graph.names name s → IsInHand k s → FitsTogether (with_names names) a b
   bound_fits names name s e held =
       other_names k names a b f (λ y h. or_safe k a b s y (y ∈ named k.graph.names) f held (named_by_bound k.graph.names name s y (subst (λ l. y ∈ named l) e h)))
+
+  -- also where there was no memory for a new name
+  pub bound_or_same_fits : {T E : Type 0} (Absent : Type 0) (r : Result T E) (names : List Binding) (name : List ℕ) (s : ℕ) → OnOk r (names ≡ bound k.graph.names name s)
+      → OnErr r ((names ≡ k.graph.names) × Absent) → IsInHand k s → FitsTogether (with_names names) a b
+  bound_or_same_fits Absent (Ok x) names name s ok err held = bound_fits names name s ok held
+  bound_or_same_fits Absent (Err e) names name s ok err held = subst (λ (l : List Binding). FitsTogether (with_names l) a b) (sym err.0) f
 
   pub unbound_fits : (names : List Binding) (name : List ℕ) → names ≡ unbound k.graph.names name → FitsTogether (with_names names) a b
   unbound_fits names name e = other_names k names a b f (λ y h. inl (named_by_unbound k.graph.names name y (subst (λ l. y ∈ named l) e h)))

@@ -72,7 +72,7 @@ impl Heap {
         ensures { IfOk result (λ heap. heap ≡ empty_known limits.cells limits.sessions) }
     {
         let cells = cell_count(limits);
-        // What was made is let go by a call: an exit would go through all its parts.
+        // For the prover: dropped by a call, so that no return path proves the drop of each of its parts.
         let last_gets = vec![in alloc; 0; cells as usize]?;
         let Ok(marks) = Marks::new(alloc, cells) else {
             drop(last_gets);

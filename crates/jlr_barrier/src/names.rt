@@ -1,5 +1,5 @@
 //! The names of objects.
-ghost use Rattle.std.specs.Prelude.{◌≡◌, ◌≤◌, ◌<◌, IfOk, None, OnErr, length};
+ghost use Rattle.std.specs.Prelude.{◌≡◌, ◌≤◌, IfOk, None, OnErr, OnOk, length};
 ghost use Rattle.jlr_machine.specs.Lookups.{bound, slot_bound, unbound};
 ghost use Rattle.jlr_roots.specs.Naming.{names_of};
 ghost use Rattle.jlr_barrier.specs.Graphs.{with_names};
@@ -28,16 +28,19 @@ impl Heap {
     }
 
     /// From now on a name stands for this slot, which is a root as long, so this is one of the calls that make edges. An old name
-    /// keeps its place, a new one comes last.
-    pub fn bind(&mut self, name: &Name, slot: Slot)
-        requires room { slot_bound self.old.graph.names name.now ≡ None → length self.old.graph.names < 256 }
+    /// keeps its place, and takes no memory; a new one comes last.
+    ///
+    /// # Errors
+    /// `AllocError` where the name is new and there is no memory for it. The heap stays as it is then.
+    pub fn bind(&mut self, name: &Name, slot: Slot) -> Result<(), AllocError>
         requires held { IsInHand self.old slot }
-        ensures graph { self.new.graph ≡ with_names self.old.graph (bound self.old.graph.names name.now slot) }
+        ensures graph { OnOk result (self.new.graph ≡ with_names self.old.graph (bound self.old.graph.names name.now slot)) }
         ensures clock { self.new.clock ≡ self.old.clock }
         ensures marking { self.new.marking ≡ self.old.marking }
         ensures condemned { self.new.condemned ≡ self.old.condemned }
+        ensures err { OnErr result ((self.new ≡ self.old) × (slot_bound self.old.graph.names name.now ≡ None)) }
     {
-        self.names.bind(name, slot);
+        self.names.bind(name, slot)
     }
 
     /// A name stands for nothing any more. Where it is not bound, nothing changes.

@@ -90,7 +90,7 @@ pub(crate) fn record_briefly<R>(
     tell_briefly(core, lent, alloc, entry, event)
 }
 
-/// A step of the core for an event whose entry needs its place alone, told over an entry of the same seat. The answer.
+/// A step of the core for an event whose entry needs its place alone, written over an entry of the same seat. The answer.
 #[inline(always)]
 fn tell_briefly<R>(
     core: &mut Core<R>,

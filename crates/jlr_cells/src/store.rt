@@ -64,7 +64,7 @@ impl Store {
     pub fn new(alloc: Global, count: u32) -> Result<Self, AllocError>
         ensures { IfOk result (λ store. store ≡ replicate count None) }
     {
-        // What was made is let go by a call: an exit would go through all its parts.
+        // For the prover: dropped by a call, so that no return path proves the drop of each of its parts.
         let cells = Column::new(alloc, count)?;
         let Ok(queues) = Lists::new(alloc, count, count) else {
             drop(cells);

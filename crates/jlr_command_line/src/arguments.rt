@@ -73,7 +73,7 @@ pub fn words(rt: &HostRuntime) -> Result<Vec<String>, ProgramFault>
 /// What the words ask for, the program's own name first among them.
 ///
 /// # Errors
-/// A bad command line or a call for help, with the text that is said of it, or the want of memory.
+/// A bad command line or a call for help, with the text that is said of it, or that memory ran out.
 pub fn order_of<'a>(alloc: Global, words: &'a [String]) -> Result<Order<'a>, ProgramFault>
     ensures { IfErr result (λ fault. (status_of fault ≡ 2) ⊎ (status_of fault ≡ 5)) }
 {
@@ -239,7 +239,7 @@ fn limits_with(asked: Numbers, sessions: u32, budget: u32) -> Result<Limits, Lim
     Limits::checked(cells, sessions, resources, soft_age, trace, budget)
 }
 
-/// A bad command line, with what is wrong with it, or the want of memory to say so.
+/// A bad command line, with what is wrong with it, or that memory for saying so ran out.
 fn refused(alloc: Global, message: &str) -> ProgramFault
     ensures { (status_of result ≡ 2) ⊎ (status_of result ≡ 5) }
 {
@@ -254,7 +254,7 @@ fn refusal(alloc: Global, message: &str) -> Result<clap::Error, AllocError> {
     command(alloc)?.error(ErrorKind::InvalidValue, message)
 }
 
-/// An error of the command line, or the want of memory that it stands for.
+/// An error of the command line, or the lack of memory that it stands for.
 fn told(error: clap::Error) -> ProgramFault
     ensures memory { kind_of error ≡ ErrorKind.OutOfMemory → status_of result ≡ 5 }
     ensures words { kind_of error ≢ ErrorKind.OutOfMemory → status_of result ≡ 2 }

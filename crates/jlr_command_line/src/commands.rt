@@ -42,8 +42,8 @@ pub fn command<'a>(alloc: Global) -> Result<Command<'a>, AllocError> {
     with_subcommand(program, audit_command(alloc))
 }
 
-/// A command with one more below it. Where that could not be made the command is let go by a call: an exit that held it would go
-/// through all its parts.
+/// A command with one more below it. Where that could not be made the command is dropped by a call, for the prover: no return path then
+/// proves the drop of each of its parts.
 fn with_subcommand<'a>(
     command: Command<'a>,
     below: Result<Command<'a>, AllocError>,

@@ -26,6 +26,6 @@ damage BadVersion = program.BadVersion
 damage (BadEntry k) = program.BadEntry k
 damage NoMemory = program.NoMemory alloc_error
 
--- the fault is the first one of the bytes, or the want of memory
+-- the fault is the first one of the bytes, or that memory ran out
 abbrev pub IsDamage : List ℕ → ProgramFault → Type 0
 IsDamage bytes fault = (first : TraceFault) × FileFails first (file_read bytes) × (fault ≡ damage first)

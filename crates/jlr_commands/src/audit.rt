@@ -86,7 +86,7 @@ fn contents(rt: &HostRuntime, path: &str) -> Result<Vec<u8>, ProgramFault> {
     }
 }
 
-/// That a file cannot be read, or the want of memory to say so.
+/// That a file cannot be read, or that memory for saying so ran out.
 fn unread(alloc: Global, path: &str) -> ProgramFault {
     let mut name = String::new(alloc);
     match name.push_str(path) {

@@ -106,7 +106,7 @@ pub fn save(rt: &HostRuntime, path: &str, bytes: &[u8]) -> Result<(), ProgramFau
     }
 }
 
-/// That a history cannot be saved, or the want of memory to say so.
+/// That a history cannot be saved, or that memory for saying so ran out.
 fn unsaved(alloc: Global, path: &str) -> ProgramFault {
     let mut name = String::new(alloc);
     match name.push_str(path) {

@@ -145,7 +145,7 @@ fn fault_of(alloc: Global, fault: ServeFault, path: &str) -> ProgramFault {
     }
 }
 
-/// That nothing listens on a path, or the want of memory to say so.
+/// That nothing listens on a path, or that memory for saying so ran out.
 fn unheard(alloc: Global, path: &str) -> ProgramFault {
     let mut name = String::new(alloc);
     match name.push_str(path) {

@@ -41,7 +41,7 @@ pub record IsStep {R : Type 0} (old : Kept R) (event : Event R) (reply : Reply R
   pub moves : Moves (resource_of_event event) old.table (resource_of_reply reply) new.table
   pub listed : resources new.table ≡ new.machine.resources
   pub goes_out : GoesOut old.table (resource_of_event event) (answer_in reply) (resource_of_reply reply)
-  -- where memory may be found wanting, and what room there is from then on
+  -- where memory may run out, and what room there is from then on
   pub memory : WantsMemory old.machine old.table (ask_of event) (answer_in reply)
   pub table_room : LeavesRoom (ask_of event) old.table new.table
   -- a cycle begins with its roots; a piece of marking ticks for each part that it follows, or sweeps; any other event blackens just the objects that it makes

@@ -55,6 +55,7 @@ fn check_bind<R>(
     Ok(slot)
 }
 
+/// An object is named. A name that is bound stands for it from now on; a new one may find no memory.
 pub(crate) fn bind<R>(
     state: &mut State<R>,
     by: Mutator,
@@ -62,8 +63,8 @@ pub(crate) fn bind<R>(
     object: Handle,
 ) -> Result<Answer, Refusal>
     requires { IsWellFormed (machine_of state.old) }
-    ensures answered { Answered (machine_of state.old) (Ask.Bind by name.now object) result (machine_of state.new) }
-    ensures memory { answer_of result ≡ Answer.Refused Refusal.NoMemory → ⊥ }
+    ensures meets { Meets (machine_of state.old) (Ask.Bind by name.now object) (answer_of result) no_choice (machine_of state.new) }
+    ensures memory { answer_of result ≡ Answer.Refused Refusal.NoMemory → MayWantMemory (machine_of state.old) state.old.cleaner.table (Ask.Bind by name.now object) }
     ensures cells { length state.new.heap.graph.objects ≡ length state.old.heap.graph.objects }
     ensures age { state.new.soft_age ≡ state.old.soft_age }
     ensures cleaner { state.new.cleaner ≡ state.old.cleaner }
@@ -71,8 +72,10 @@ pub(crate) fn bind<R>(
     ensures marking { state.new.heap.marking ≡ state.old.heap.marking }
 {
     let slot = check_bind(state, by, name, object)?;
-    state.heap.bind(name, slot);
-    Ok(Answer::Done)
+    match state.heap.bind(name, slot) {
+        Ok(()) => Ok(Answer::Done),
+        Err(_) => Err(Refusal::NoMemory),
+    }
 }
 
 /// A handle for what a name stands for.

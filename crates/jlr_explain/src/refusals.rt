@@ -4,7 +4,7 @@ use jlr_types::Refusal;
 /// Why an ask is refused so.
 pub(crate) fn reason(by: Refusal) -> &'static str {
     match by {
-        Refusal::NoMemory => "memory was wanting",
+        Refusal::NoMemory => "memory ran out",
         Refusal::HeapFull => "too few cells are free, also after a full collection",
         Refusal::NoHandle => "a handle that it names is not in use",
         Refusal::HandlesFull => "a handle is needed, and 250 are in use",

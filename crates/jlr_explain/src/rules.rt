@@ -46,7 +46,7 @@ fn when_answered_refused(alloc: Global, by: Refusal) -> Result<String, AllocErro
         ),
         Refusal::NoMemory => text(
             alloc,
-            "for want of memory no end of a call is refused, and nothing is collected or made",
+            "because memory runs out no end of a call is refused, and nothing is collected or made",
         ),
         _ => {
             let number = by.number();

@@ -23,7 +23,7 @@ fn machine_before(
 {
     let mut machine = machine;
     for _ in 1..number {
-        // The machine is let go by a call: an exit that held it would go through all its parts.
+        // For the prover: dropped by a call, so that no return path proves the drop of each of its parts.
         let Ok(next) = entries.next(alloc) else {
             drop(machine);
             return Err(AllocError);

@@ -37,7 +37,7 @@ pub record Notes (old : Place) (number : ℕ) (ask : Ask) (answer : Answer) (new
   pub room : is_end ask ≡ false → 2 ≤ new.room
   pub end_room : is_end ask ≡ true → old.room ≤ new.room + 1
 
--- An ask that is no end is declined for want of memory or of numbers, an end where the heap turns it away; by its seat only where no place
+-- An ask that is no end is declined because memory or numbers ran out, an end where the heap turns it away; by its seat only where no place
 -- was kept for it.
 abbrev pub DeclinedFor : Bool → ℕ → Answer → Type 0
 DeclinedFor true room answer = (by : Refusal) × (answer ≡ Refused by) × (by ≡ NoMemory → room ≡ 0)

@@ -195,7 +195,7 @@ rank NoMemory = 19
 abbrev pub ListsAreInOrder : Type 0
 ListsAreInOrder = (ask : Ask) → IsTrue (is_rising (map rank (listed ask)))
 
--- a legal entry is refused with a number that its ask lists, or for want of memory, which no end meets
+-- a legal entry is refused with a number that its ask lists, or because memory ran out, which no end meets
 abbrev pub RefusalsAreListed : Type 0
 RefusalsAreListed = (m : Machine) (e : Entry) (by : Refusal) → IsLegal m e → e.answer ≡ Refused by → Contains (listed e.ask) by ⊎ ((by ≡ NoMemory) × IsTrue (not (is_end e.ask)))
 

@@ -3,6 +3,7 @@ pub mod Same
 pub mod Deciding
 pub mod Rows
 pub mod ReferenceRows
+pub mod ArrayRows
 pub mod CleaningRows
 pub mod RefusalRows
 pub mod CycleRows

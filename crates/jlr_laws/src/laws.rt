@@ -118,7 +118,7 @@ pub fn each_list_of_refusals_is_in_order()
     ensures { ListsAreInOrder }
 {}
 
-/// A legal entry is refused only with a refusal that its ask lists, or for want of memory, which no end meets.
+/// A legal entry is refused only with a refusal that its ask lists, or because memory ran out, which no end meets.
 pub fn each_refusal_is_listed()
     ensures { RefusalsAreListed }
 {}

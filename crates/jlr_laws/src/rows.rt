@@ -3,6 +3,7 @@
 ghost use Rattle.jlr_machine.specs.Run.{IsLegal};
 ghost use Rattle.jlr_laws.specs.Rows.{IsRunFrom, after_all, start, two_sessions, one_resource, late_start};
 ghost use Rattle.jlr_laws.specs.ReferenceRows.{weak_row, two_weak_row, queue_row, self_reference_row, clear_row, phantom_row, program_first_row, soft_chain_row, soft_age_row, soft_used_row};
+ghost use Rattle.jlr_laws.specs.ArrayRows.{array_row, array_in_cycle_row};
 ghost use Rattle.jlr_laws.specs.CleaningRows.{cleaner_row, file_row, failed_cleaning_row, closed_row, rid_again_row, one_resource_row, two_sessions_row};
 ghost use Rattle.jlr_laws.specs.RefusalRows.{refused_row, wrong_moment_row, exhausted_row, full_heap_row, soft_full_row, names_row, names_full_row};
 ghost use Rattle.jlr_laws.specs.CycleRows.{cycle_row, snapshot_row, deref_in_cycle_row, seen_reference_row, soft_cleared_in_cycle_row, soft_kept_in_cycle_row, waiting_collect_row, full_heap_in_cycle_row, poll_in_cycle_row, many_dropped_row};
@@ -20,6 +21,12 @@ pub fn reference_rows_are_runs()
     ensures soft_chain { IsRunFrom start soft_chain_row }
     ensures soft_age { IsRunFrom start soft_age_row }
     ensures soft_used { IsRunFrom start soft_used_row }
+{}
+
+/// So are those on arrays.
+pub fn array_rows_are_runs()
+    ensures array { IsRunFrom start array_row }
+    ensures array_in_cycle { IsRunFrom start array_in_cycle_row }
 {}
 
 /// So are those on the cleaner, files and sockets.

@@ -55,7 +55,7 @@ impl Objects {
     pub fn new(alloc: Global, cells: u32) -> Result<Self, AllocError>
         ensures { IfOk result (λ objects. objects ≡ all_free cells) }
     {
-        // What was made is let go by a call: an exit would go through all its parts.
+        // For the prover: dropped by a call, so that no return path proves the drop of each of its parts.
         let listed = CellSet::new(alloc, cells)?;
         let Ok(occupancy) = Occupancy::new(alloc, cells) else {
             drop(listed);

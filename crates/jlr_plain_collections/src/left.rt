@@ -166,7 +166,7 @@ fn left_by(
     next
 }
 
-/// The machine that a collection leaves. The one before is let go by a call where there is no memory: it has many parts.
+/// The machine that a collection leaves. Where memory runs out, the one before is dropped by a call, for the prover.
 fn collected(alloc: Global, machine: Machine, c: &Collected) -> Result<Machine, AllocError>
     ensures { IfOk result (λ n. n ≡ after_collection machine c.now.kept c.now.pending) }
 {

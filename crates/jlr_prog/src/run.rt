@@ -18,7 +18,7 @@ use std::io::{Read, Write};
 /// handler hands over until nothing is pending, and the cleaner works until its line is empty. How the session ended, and the book.
 ///
 /// Each ask is a step of the book, and so of a core, which starts empty, and in which no file or socket is made or lost; it is one entry, or the
-/// book declines it for want of memory or of entry numbers. All entries, those among them that cuts let go, are a run of the machine of
+/// book declines it because memory or entry numbers ran out. All entries, those among them that cuts let go, are a run of the machine of
 /// java.lang.ref, which keeps the promises of its package and ends with the book's trace, where its core stands. The first entry is the join and
 /// the last the leave, which are both answered `ok`; only where there is no memory for the join's place the session is not joined, and there is no
 /// entry. What lies between belongs to the bytes that came in and went out. What is still open at the end stays in the book.

@@ -1,96 +1,105 @@
--- The place of a name among the bindings, and what a write there does.
-use Rattle.std.proofs.Common.{◌≡◌, ℕ, suc, ◌+◌, Bool, true, false, not, ◌&&◌, cond, List, [], ◌∷◌, ◌++◌, Option, Some, None, length, nat_eq, nat_lt, option_map, slice_set, refl, sym, ◌∙◌, ap, arith, lt-ltb, le-ltb, inl, inr}
-use Rattle.std.specs.Prelude.{position, find, slice_get}
+-- The entries of a map, seen as bindings.
+use Rattle.std.proofs.Common.{◌≡◌, ℕ, Bool, true, false, ◌&&◌, cond, List, [], ◌∷◌, Option, None, Some, nat_eq, slice_get, not, refl, sym, subst, ◌∙◌, ap, true≢false, Ok, Err}
+use Rattle.std.proofs.lemmas.Slice.Eq.{bytes_eq-Decides}
+use Rattle.std.proofs.lemmas.Option.{slice_get-map}
+use Rattle.std.specs.Prelude.{find, option_map}
+use Rattle.std.specs.Bool.{one_answer}
+use Rattle.std.specs.Result.{is_err, OnErr, OnOk}
+use Rattle.std.specs.Prelude.{Result}
 use Rattle.std.specs.Str.{bytes_eq}
-use Rattle.std.specs.List.{position_or_len}
-use Rattle.std.proofs.lemmas.Bool.{cases_lt}
+use Rattle.std.specs.List.{AllByRecursion, IsDistinct}
+use Rattle.std.specs.Map.{lookup, remove_entry, keys_of}
+use Rattle.indexmap.specs.IndexMap.{insert_entry}
 use Rattle.jlr_machine.specs.declared.machine.Binding.{Binding}
-use Rattle.jlr_machine.specs.Lookups.{bound, same_name, slot_bound}
-use Rattle.jlr_roots.specs.Naming.{named}
+use Rattle.jlr_machine.specs.Lookups.{bound, same_name, slot_bound, unbound}
+use Rattle.jlr_roots.specs.Naming.{bindings_of, names_of, named}
 
--- names are compared as slices of bytes are
-pub compared : (xs ys : List ℕ) → bytes_eq xs ys ≡ same_name xs ys
-compared [] [] = refl
-compared [] (y ∷ ys) = refl
-compared (x ∷ xs) [] = refl
-compared (x ∷ xs) (y ∷ ys) = ap (λ b. nat_eq x y && b) (compared xs ys)
+-- texts are compared alike, whichever comes first
+flipped : (xs ys : List ℕ) → bytes_eq xs ys ≡ bytes_eq ys xs
+flipped xs ys = one_answer (bytes_eq xs ys) (bytes_eq ys xs) (bytes_eq-Decides xs ys) ((λ h. sym ((bytes_eq-Decides ys xs).0 h)), (λ e. (bytes_eq-Decides ys xs).1 (sym e)))
 
--- ---- The first place that passes
+as_names : (xs ys : List ℕ) → bytes_eq xs ys ≡ same_name xs ys
+as_names [] [] = refl
+as_names [] (y ∷ ys) = refl
+as_names (x ∷ xs) [] = refl
+as_names (x ∷ xs) (y ∷ ys) = ap (λ b. nat_eq x y && b) (as_names xs ys)
 
-abbrev placed : ℕ → ℕ → Option ℕ
-placed n count = cond (nat_lt n count) (Some n) None
+compared : (xs ys : List ℕ) → bytes_eq xs ys ≡ same_name ys xs
+compared xs ys = flipped xs ys ∙ as_names ys xs
 
-module _ {A : Type 0} (p : A → Bool) (x : A) (xs : List A) where
-  abbrev behind : ℕ
-  behind = position_or_len p xs
-
-  first_here : p x ≡ true → position p (x ∷ xs) ≡ Some 0
-  first_here e = ap (λ c. placed (cond (not c) (1 + behind) 0) (length (x ∷ xs))) e ∙ ap {A = Bool} {B = Option ℕ} (λ c. cond c (Some 0) None) (lt-ltb 0 (length (x ∷ xs)) (omega arith))
-
-  one_on : placed (1 + behind) (length (x ∷ xs)) ≡ option_map suc (placed behind (length xs))
-  one_on = elim (cases_lt behind (length xs)) [
-    | inl within ↦ rw (lt-ltb behind (length xs) within, lt-ltb (1 + behind) (length (x ∷ xs)) (omega (arith, within))) (ap {A = ℕ} {B = Option ℕ} (λ k. Some k) (omega arith))
-    | inr past ↦ rw (le-ltb behind (length xs) past, le-ltb (1 + behind) (length (x ∷ xs)) (omega (arith, past))) refl
-  ]
-
-  first_behind : p x ≡ false → position p (x ∷ xs) ≡ option_map suc (position p xs)
-  first_behind e = ap (λ c. placed (cond (not c) (1 + behind) 0) (length (x ∷ xs))) e ∙ one_on
-
--- ---- Bindings
+abbrev binding : List ℕ × ℕ → Binding
+binding e = record { name = e.0; slot = e.1 }
 
 module _ (name : List ℕ) where
-  abbrev pub is_it : Binding → Bool
-  is_it b = same_name b.name name
+  abbrev there : List ℕ → Bool
+  there k = bytes_eq name k
 
-  abbrev slot_of : Option Binding → Option ℕ
-  slot_of b = option_map (λ b. b.slot) b
+  same_text : (k : List ℕ) → same_name k name ≡ true → k ≡ name
+  same_text k h = sym ((bytes_eq-Decides name k).0 (compared name k ∙ h))
 
-  -- the slot at a place
-  abbrev found : List Binding → Option ℕ → Option ℕ
-  found names None = None
-  found names (Some i) = slice_get (named names) i
+  -- ---- The slot that is found
 
-  found_on : (b : Binding) (names : List Binding) (o : Option ℕ) → found names o ≡ found (b ∷ names) (option_map suc o)
-  found_on b names None = refl
-  found_on b names (Some i) = refl
+  passed_on : (b : Bool) (x : Binding) (o : Option Binding) → cond b (Some x.slot) (option_map (λ y. y.slot) o) ≡ option_map (λ y. y.slot) (cond b (Some x) o)
+  passed_on true x o = refl
+  passed_on false x o = refl
 
-  found_is : (names : List Binding) → slot_bound names name ≡ found names (position is_it names)
-  found_is [] = refl
-  found_is (b ∷ names) =
-      elim (is_it b) as (λ c. is_it b ≡ c → slot_of (cond c (Some b) (find is_it names)) ≡ found (b ∷ names) (position is_it (b ∷ names))) [
-        | true ↦ λ e. ap (found (b ∷ names)) (sym (first_here is_it b names e))
-        | false ↦ λ e. found_is names ∙ found_on b names (position is_it names) ∙ ap (found (b ∷ names)) (sym (first_behind is_it b names e))
+  pub found : (es : List (List ℕ × ℕ)) → lookup there es ≡ slot_bound (bindings_of es) name
+  found [] = refl
+  found (e ∷ es) =
+      ap (λ b. cond b (Some e.1) (lookup there es)) (compared name e.0)
+      ∙ ap (λ o. cond (same_name e.0 name) (Some e.1) o) (found es)
+      ∙ passed_on (same_name e.0 name) (binding e) (find (λ b. same_name b.name name) (bindings_of es))
+
+  -- ---- A name is bound
+
+  pub placed : (es : List (List ℕ × ℕ)) (s : ℕ) → bindings_of (insert_entry bytes_eq es name s) ≡ bound (bindings_of es) name s
+  placed [] s = refl
+  placed (e ∷ es) s =
+      ap (λ b. bindings_of (cond b ((e.0, s) ∷ es) (e ∷ insert_entry bytes_eq es name s))) (compared name e.0)
+      ∙ elim (same_name e.0 name) as (λ b. same_name e.0 name ≡ b → bindings_of (cond b ((e.0, s) ∷ es) (e ∷ insert_entry bytes_eq es name s)) ≡ cond b (binding (name, s) ∷ bindings_of es) (binding e ∷ bound (bindings_of es) name s)) [
+        | true ↦ λ h. ap {A = List ℕ} {B = List Binding} (λ n. binding (n, s) ∷ bindings_of es) (same_text e.0 h)
+        | false ↦ λ h. ap {A = List Binding} {B = List Binding} (λ l. binding e ∷ l) (placed es s)
       ] refl
 
-  -- the binding at a place, or behind the others
-  abbrev written : List Binding → ℕ → Option ℕ → List Binding
-  written names s None = names ++ record { name = name; slot = s } ∷ []
-  written names s (Some i) = slice_set names i (record { name = name; slot = s })
+  -- ---- A name is unbound
 
-  written_on : (b : Binding) (names : List Binding) (s : ℕ) (o : Option ℕ) → b ∷ written names s o ≡ written (b ∷ names) s (option_map suc o)
-  written_on b names s None = refl
-  written_on b names s (Some i) = refl
+  without : (es : List (List ℕ × ℕ)) → AllByRecursion (λ y. bytes_eq name y ≡ false) (keys_of es) → bindings_of es ≡ unbound (bindings_of es) name
+  without [] h = refl
+  without (e ∷ es) h =
+      ap {A = List Binding} {B = List Binding} (λ l. binding e ∷ l) (without es h.1)
+      ∙ ap (λ b. cond (not b) (binding e ∷ unbound (bindings_of es) name) (unbound (bindings_of es) name)) (sym (sym (compared name e.0) ∙ h.0))
 
-  bound_is : (names : List Binding) (s : ℕ) → bound names name s ≡ written names s (position is_it names)
-  bound_is [] s = refl
-  bound_is (b ∷ names) s =
-      elim (is_it b) as (λ c. is_it b ≡ c → cond c (record { name = name; slot = s } ∷ names) (b ∷ bound names name s) ≡ written (b ∷ names) s (position is_it (b ∷ names))) [
-        | true ↦ λ e. ap (written (b ∷ names) s) (sym (first_here is_it b names e))
-        | false ↦ λ e. ap (λ l. b ∷ l) (bound_is names s) ∙ written_on b names s (position is_it names) ∙ ap (written (b ∷ names) s) (sym (first_behind is_it b names e))
+  pub removed : (es : List (List ℕ × ℕ)) → IsDistinct bytes_eq (keys_of es) → bindings_of (remove_entry there es) ≡ unbound (bindings_of es) name
+  unfolding IsDistinct
+  removed [] d = refl
+  removed (e ∷ es) d =
+      ap (λ b. bindings_of (cond b es (e ∷ remove_entry there es))) (compared name e.0)
+      ∙ elim (same_name e.0 name) as (λ b. same_name e.0 name ≡ b → bindings_of (cond b es (e ∷ remove_entry there es)) ≡ cond (not b) (binding e ∷ unbound (bindings_of es) name) (unbound (bindings_of es) name)) [
+        | true ↦ λ h. without es (subst (λ k. AllByRecursion (λ y. bytes_eq k y ≡ false) (keys_of es)) (same_text e.0 h) d.0)
+        | false ↦ λ h. ap {A = List Binding} {B = List Binding} (λ l. binding e ∷ l) (removed es d.1)
       ] refl
 
-  -- ---- Where a name is, and where it is not
+-- ---- What a call says of its error, or of its value
 
-  module _ (names : List Binding) (i : ℕ) (here : position is_it names ≡ Some i) where
-    pub found_there : slot_bound names name ≡ slice_get (named names) i
-    found_there = found_is names ∙ ap (found names) here
+pub on_err : {T E : Type 0} (r : Result T E) → is_err r ≡ true → (P : Type 0) → OnErr r P → P
+on_err (Ok x) h P p = absurd (true≢false (sym h))
+on_err (Err e) h P p = p
 
-    pub bound_there : (s : ℕ) → bound names name s ≡ slice_set names i (record { name = name; slot = s })
-    bound_there s = bound_is names s ∙ ap (written names s) here
+pub on_ok : {T E : Type 0} (r : Result T E) → is_err r ≡ false → (P : Type 0) → OnOk r P → P
+on_ok (Ok x) h P p = p
+on_ok (Err e) h P p = absurd (true≢false h)
 
-  module _ (names : List Binding) (absent : position is_it names ≡ None) where
-    pub not_found : slot_bound names name ≡ None
-    not_found = found_is names ∙ ap (found names) absent
+-- ---- The slot at a place
 
-    pub bound_last : (s : ℕ) → bound names name s ≡ names ++ record { name = name; slot = s } ∷ []
-    bound_last s = bound_is names s ∙ ap (written names s) absent
+composed : (o : Option (List ℕ × ℕ)) → option_map {T = Binding} (λ b. b.slot) (option_map binding o) ≡ option_map (λ e. e.1) o
+composed None = refl
+composed (Some e) = refl
+
+pub slot_there : (es : List (List ℕ × ℕ)) (i : ℕ) → slice_get (named (bindings_of es)) i ≡ option_map (λ e. e.1) (slice_get es i)
+slot_there es i = slice_get-map (λ b. b.slot) (bindings_of es) i ∙ ap (option_map {T = Binding} (λ b. b.slot)) (slice_get-map binding es i) ∙ composed (slice_get es i)
+
+-- ---- The names of the entries
+
+pub names_there : (es : List (List ℕ × ℕ)) → keys_of es ≡ names_of (bindings_of es)
+names_there [] = refl
+names_there (e ∷ es) = ap (λ l. e.0 ∷ l) (names_there es)

@@ -9,3 +9,7 @@ names_of names = map (λ b. b.name) names
 -- the slots that they stand for, in the same order
 abbrev pub named : List Binding → List ℕ
 named names = map (λ b. b.slot) names
+
+-- the bindings that the entries of a map are, in its order
+abbrev pub bindings_of : List (List ℕ × ℕ) → List Binding
+bindings_of entries = map (λ e. record { name = e.0; slot = e.1 }) entries

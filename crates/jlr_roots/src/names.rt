@@ -1,8 +1,9 @@
 //! The names of objects.
-ghost use Rattle.std.specs.Prelude.{◌≡◌, ◌≤◌, ◌<◌, ◌++◌, ◌∷◌, [], IfOk, None, OnErr, filter, length, map, not, position, slice_get, vec_capacity};
-ghost use Rattle.jlr_machine.specs.Lookups.{bound, same_name, slot_bound, unbound};
-ghost use Rattle.jlr_roots.specs.Naming.{names_of, named};
+ghost use Rattle.std.specs.Prelude.{◌≡◌, ◌≤◌, IfOk, None, OnErr, OnOk, [], length, slice_get};
+ghost use Rattle.jlr_machine.specs.Lookups.{bound, slot_bound, unbound};
+ghost use Rattle.jlr_roots.specs.Naming.{bindings_of, names_of, named};
 
+use indexmap::IndexMap;
 use jlr_machine::items::Items;
 use jlr_machine::machine::Binding;
 use jlr_machine::text::Name;
@@ -16,22 +17,21 @@ pub const NAME_LIMIT: usize = 256;
 /// Names and the slots that they stand for, in order of binding. Each slot is a root.
 #[derive(Drop)]
 pub struct Names {
-    bindings: Vec<Binding>,
+    slots: IndexMap<Name, Slot>,
 }
 
 impl Model for Names {
-    ghost use Rattle.std.specs.Prelude.{◌≤◌, List, vec_capacity};
+    ghost use Rattle.std.specs.Prelude.{List};
     ghost use Rattle.jlr_machine.specs.declared.machine.Binding.{Binding};
+    ghost use Rattle.jlr_roots.specs.Naming.{bindings_of};
 
     ghost Value = { List Binding };
 
-    ghost view = { λ a. a.bindings.items };
-
-    ghost invariant = { λ a. 256 ≤ vec_capacity a.bindings };
+    ghost view = { λ a. bindings_of a.slots.entries };
 }
 
 impl Names {
-    /// No name. The room for all that may be bound is made at once.
+    /// No name. The room for as many as may be bound is made at once.
     ///
     /// # Errors
     /// `AllocError` where the room cannot be had.
@@ -39,7 +39,7 @@ impl Names {
         ensures { IfOk result (λ names. names ≡ []) }
     {
         Ok(Names {
-            bindings: Vec::with_capacity(alloc, NAME_LIMIT)?,
+            slots: IndexMap::with_capacity(alloc, NAME_LIMIT)?,
         })
     }
 
@@ -47,36 +47,46 @@ impl Names {
     pub fn len(&self) -> usize
         ensures { result ≡ length self.now }
     {
-        self.bindings.len()
+        self.slots.len()
     }
 
     /// The slot that a name stands for, if it is bound.
     pub fn find(&self, name: &Name) -> Option<Slot>
         ensures { result ≡ slot_bound self.now name.now }
     {
-        slot_bound(&self.bindings, name)
+        self.slots.get(name).copied()
     }
 
-    /// From now on a name stands for this slot. An old name keeps its place, a new one comes last. It takes no memory.
-    pub fn bind(&mut self, name: &Name, slot: Slot)
-        requires { slot_bound self.old name.now ≡ None → length self.old < 256 }
-        ensures { self.new ≡ bound self.old name.now slot }
+    /// From now on a name stands for this slot. An old name keeps its place, and takes no memory; a new one comes last.
+    ///
+    /// # Errors
+    /// `AllocError` where the name is new and there is no memory for it. Nothing has changed then.
+    pub fn bind(&mut self, name: &Name, slot: Slot) -> Result<(), AllocError>
+        ensures ok { OnOk result (self.new ≡ bound self.old name.now slot) }
+        ensures err { OnErr result ((self.new ≡ self.old) × (slot_bound self.old name.now ≡ None)) }
     {
-        bind(&mut self.bindings, name, slot);
+        if self.slots.insert(name.copy(), slot).is_err() {
+            return Err(AllocError);
+        }
+        Ok(())
     }
 
-    /// A name stands for nothing any more. Where it is not bound, nothing changes.
+    /// A name stands for nothing any more. Where it is not bound, nothing changes. The names behind it keep their order.
     pub fn unbind(&mut self, name: &Name)
         ensures { self.new ≡ unbound self.old name.now }
     {
-        unbind(&mut self.bindings, name);
+        let _count = self.slots.len();
+        self.slots.shift_remove(name);
     }
 
     /// The slot that the name at a place stands for, if there are more names than that.
     pub fn slot_at(&self, place: usize) -> Option<Slot>
         ensures { result ≡ slice_get (named self.now) place }
     {
-        slot_at(&self.bindings, place)
+        match self.slots.get_index(place) {
+            Some(binding) => Some(slot_of(binding)),
+            None => None,
+        }
     }
 
     /// The bindings as plain data.
@@ -86,7 +96,7 @@ impl Names {
     pub fn image(&self, alloc: Global) -> Result<Items<Binding>, AllocError>
         ensures { IfOk result (λ names. names ≡ self.now) }
     {
-        Ok(Items::from_vec(copy_bindings(alloc, &self.bindings)?))
+        Ok(Items::from_vec(copy_bindings(alloc, &self.slots)?))
     }
 
     /// The names alone, in order of binding.
@@ -97,81 +107,40 @@ impl Names {
         ensures names { IfOk result (λ names. names ≡ names_of self.now) }
         ensures some { OnErr result (1 ≤ length self.now) }
     {
-        Ok(Items::from_vec(copy_names(alloc, &self.bindings)?))
+        Ok(Items::from_vec(copy_names(alloc, &self.slots)?))
     }
 }
 
-fn is_named(binding: &Binding, name: &Name) -> bool
-    ensures { result ≡ same_name binding.now.name name.now }
+fn slot_of(binding: (&Name, &Slot)) -> Slot
+    ensures { result ≡ binding.entry.1.now }
 {
-    binding.name.as_slice() == name.as_slice()
+    let (_, slot) = binding;
+    *slot
 }
 
-/// The place of a name, if it is bound.
-fn place_of(bindings: &[Binding], name: &Name) -> Option<usize>
-    ensures { result ≡ position (λ b. same_name b.name name.now) bindings.now }
+fn copy_bindings(alloc: Global, slots: &IndexMap<Name, Slot>) -> Result<Vec<Binding>, AllocError>
+    ensures { IfOk result (λ copies. copies.items ≡ bindings_of slots.now.entries) }
 {
-    bindings.iter().position(|binding| is_named(binding, name))
-}
-
-fn slot_bound(bindings: &[Binding], name: &Name) -> Option<Slot>
-    ensures { result ≡ slot_bound bindings.now name.now }
-{
-    slot_at(bindings, place_of(bindings, name)?)
-}
-
-fn bind(bindings: &mut Vec<Binding>, name: &Name, slot: Slot)
-    requires room { 256 ≤ vec_capacity bindings.old }
-    requires fits { slot_bound bindings.old.items name.now ≡ None → length bindings.old.items < 256 }
-    ensures bound { bindings.new.items ≡ bound bindings.old.items name.now slot }
-    ensures room { vec_capacity bindings.new ≡ vec_capacity bindings.old }
-{
-    let binding = Binding {
-        name: name.copy(),
-        slot,
-    };
-    match place_of(bindings, name) {
-        Some(place) => bindings[place] = binding,
-        None => bindings.push_reserved(binding),
-    }
-}
-
-fn unbind(bindings: &mut Vec<Binding>, name: &Name)
-    ensures bound { bindings.new.items ≡ unbound bindings.old.items name.now }
-    ensures room { vec_capacity bindings.new ≡ vec_capacity bindings.old }
-{
-    bindings.retain(|binding| !is_named(binding, name));
-}
-
-fn slot_at(bindings: &[Binding], place: usize) -> Option<Slot>
-    ensures { result ≡ slice_get (named bindings.now) place }
-{
-    match bindings.get(place) {
-        Some(binding) => Some(binding.slot),
-        None => None,
-    }
-}
-
-fn copy_bindings(alloc: Global, bindings: &[Binding]) -> Result<Vec<Binding>, AllocError>
-    ensures { IfOk result (λ copies. copies.items ≡ bindings.now) }
-{
-    let mut copies = Vec::with_capacity(alloc, bindings.len())?;
-    for binding in bindings {
-        copies.push(binding.copy())?;
+    let mut copies = Vec::with_capacity(alloc, slots.len())?;
+    for (name, slot) in slots.iter() {
+        copies.push(Binding {
+            name: name.copy(),
+            slot: *slot,
+        })?;
     }
     Ok(copies)
 }
 
-fn copy_names(alloc: Global, bindings: &[Binding]) -> Result<Vec<Name>, AllocError>
-    ensures names { IfOk result (λ names. names.items ≡ names_of bindings.now) }
-    ensures some { OnErr result (1 ≤ length bindings.now) }
+fn copy_names(alloc: Global, slots: &IndexMap<Name, Slot>) -> Result<Vec<Name>, AllocError>
+    ensures names { IfOk result (λ names. names.items ≡ names_of (bindings_of slots.now.entries)) }
+    ensures some { OnErr result (1 ≤ length slots.now.entries) }
 {
-    if bindings.is_empty() {
+    if slots.is_empty() {
         return Ok(Vec::new(alloc));
     }
-    let mut names = Vec::with_capacity(alloc, bindings.len())?;
-    for binding in bindings {
-        names.push(binding.name.copy())?;
+    let mut names = Vec::with_capacity(alloc, slots.len())?;
+    for name in slots.keys() {
+        names.push(name.copy())?;
     }
     Ok(names)
 }

@@ -52,7 +52,7 @@ Reads resource count old outcome new = (result : Result ℕ Fault) × (buffer : 
     × Calls (resource.count old) result (resource.count new) (resource.reads old (room_for count) result buffer new) (new ≡ old)
     × IfOk result (λ n. n ≤ count) × (outcome ≡ read_outcome result buffer)
 
--- bytes are written, or a front of them
+-- bytes are written, or a prefix of them
 abbrev pub Writes : {R : Type 0} → Handling R → List ℕ → R → CallOutcome → R → Type 0
 Writes resource bytes old outcome new = (result : Result ℕ Fault)
     × Calls (resource.count old) result (resource.count new) (resource.writes old bytes result new) (new ≡ old)

@@ -13,7 +13,7 @@ use Rattle.jlr_session.specs.Sessions.{Ended}
 use Rattle.jlr_session.specs.declared.shell.SessionEnd.{SessionEnd}
 use Rattle.jlr_session.specs.declared.shell.SessionEnd.TheVariants.{NotJoined, WriteFault}
 
--- the refusal of a join goes out, and a settling follows; or a write fails, and a front of it goes out
+-- the refusal of a join goes out, and a settling follows; or a write fails, and a prefix of it goes out
 abbrev pub IsTurnedAway : {P R : Type 0} → Asking P R → Refusal → SessionEnd → P → List ℕ → P → Type 0
 IsTurnedAway port by end p out p' =
     ((end ≡ NotJoined by) × (out ≡ reply_line (Refused by)) × port.settling p p')

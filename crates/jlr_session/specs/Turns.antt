@@ -42,7 +42,7 @@ with_end None = []
 abbrev pub reply_line : Answer → List ℕ
 reply_line answer = with_end (words answer)
 
--- known bytes grow by the reply line, or after a fault by a front of it
+-- known bytes grow by the reply line, or after a fault by a prefix of it
 abbrev pub SendsReply : {E : Type 0} → Option (List ℕ) → Option (List ℕ) → Result (Unit {0}) E → Answer → Type 0
 SendsReply old new result answer = MatchResult result
     (λ _. (words answer ≢ None) × Appends old new (reply_line answer))

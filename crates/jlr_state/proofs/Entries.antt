@@ -167,7 +167,7 @@ meets_answered m n ask (Ok a) plain did = meets_plain m n ask a plain did.0 did.
 meets_answered m n ask (Err r) plain did =
     subst (λ (x : Machine). Meets m ask (Refused r) no_choice x) (sym did.1) (meets_refused m ask r did.0)
 
--- ---- No refusal of the list is for want of memory
+-- ---- No refusal of the list is for lack of memory
 
 found_holds : {A : Type 0} (p : A → Bool) (xs : List A) (x : A) → find p xs ≡ Some x → p x ≡ true
 found_holds p [] x e = no_some x e

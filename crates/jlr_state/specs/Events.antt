@@ -5,11 +5,12 @@ use Rattle.jlr_event.specs.declared.event.Event.{Event}
 use Rattle.jlr_event.specs.declared.event.Event.TheVariants.{CheckIn, CheckOut, Clean, Close, Mark, Opened, TakeUp}
 use Rattle.jlr_machine.specs.declared.machine.Machine.{Machine}
 use Rattle.jlr_machine.specs.declared.ask.Ask.{Ask}
-use Rattle.jlr_machine.specs.declared.ask.Ask.TheVariants.{Prepare, Names, Notes, Faults, Array}
+use Rattle.jlr_machine.specs.declared.ask.Ask.TheVariants.{Prepare, Names, Notes, Faults, Array, Bind}
 use Rattle.jlr_machine.specs.declared.ask.Answer.{Answer}
 use Rattle.jlr_machine.specs.declared.ask.Answer.TheVariants.{Refused}
 use Rattle.jlr_machine.specs.declared.entry.Chosen.{Chosen}
 use Rattle.jlr_machine.specs.declared.entry.Entry.{Entry}
+use Rattle.jlr_machine.specs.Lookups.{slot_bound}
 use Rattle.jlr_machine.specs.Refusals.{refusal}
 use Rattle.jlr_machine.specs.Run.{no_choice, IsLegal, apply}
 use Rattle.jlr_marks.specs.Marking.{Marking}
@@ -32,16 +33,17 @@ abbrev pub HasRoom : {R : Type 0} → Resources R → Type 0
 HasRoom t = (length (resources t) < t.room) × (t.next < 2 ^ 32)
 
 -- The asks that may find no memory in a machine with this table, each where no refusal of its list holds: the table has no room for one
--- resource more, a list that is not empty is copied, or the elements of an array are asked for
+-- resource more, a list that is not empty is copied, the elements of an array are asked for, or a name is new
 abbrev pub MayWantMemory : {R : Type 0} → Machine → Resources R → Ask → Type 0
 MayWantMemory m t (Prepare k) = (refusal m (Prepare k) ≡ None) × ¬ (HasRoom t)
 MayWantMemory m t (Names k) = (refusal m (Names k) ≡ None) × (1 ≤ length m.names)
 MayWantMemory m t (Notes k) = (refusal m (Notes k) ≡ None) × (1 ≤ length m.notes)
 MayWantMemory m t (Faults k) = (refusal m (Faults k) ≡ None) × (1 ≤ length m.faults)
 MayWantMemory m t (Array k n) = refusal m (Array k n) ≡ None
+MayWantMemory m t (Bind k name h) = (refusal m (Bind k name h) ≡ None) × (slot_bound m.names name ≡ None)
 MayWantMemory m t _ = ⊥
 
--- memory is said to be wanting only there
+-- memory is said to have run out only there
 abbrev pub WantsMemory : {R : Type 0} → Machine → Resources R → Option Ask → Option Answer → Type 0
 WantsMemory m t (Some ask) answer = answer ≡ Some (Refused NoMemory) → MayWantMemory m t ask
 WantsMemory m t None answer = Unit {0}

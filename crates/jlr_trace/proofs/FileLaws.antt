@@ -45,13 +45,13 @@ chosen : (b : Bool) (fault : TraceFault) (x y : List ℕ) → cond b (Ok x) (Err
 chosen true fault x y e = (refl, cc)
 chosen false fault x y e = absurd cc
 
-expected_takes : (byte : ℕ) (bytes rest : List ℕ) → expected byte bytes ≡ Ok rest → bytes ≡ byte ∷ rest
+pub expected_takes : (byte : ℕ) (bytes rest : List ℕ) → expected byte bytes ≡ Ok rest → bytes ≡ byte ∷ rest
 expected_takes byte [] rest e = absurd cc
 expected_takes byte (b ∷ bytes) rest e =
     let c = chosen (nat_eq b byte) BadMark bytes rest e in
     ap (λ n. n ∷ bytes) (eqb-true b byte c.0) ∙ ap (λ (t : List ℕ). byte ∷ t) c.1
 
-abbrev Versioned : Type 0
+abbrev pub Versioned : Type 0
 Versioned = Version × List ℕ
 
 version_is : (b : ℕ) (bytes : List ℕ) (y : Versioned) (one two : Bool) → nat_eq b 1 ≡ one → nat_eq b 2 ≡ two
@@ -74,7 +74,7 @@ version_takes (b ∷ bytes) y e = version_is b bytes y (nat_eq b 1) (nat_eq b 2)
 five_bytes : (bytes a b c d rest : List ℕ) (n : ℕ) → bytes ≡ 74 ∷ a → a ≡ 76 ∷ b → b ≡ 82 ∷ c → c ≡ 84 ∷ d → d ≡ n ∷ rest → bytes ≡ 74 ∷ 76 ∷ 82 ∷ 84 ∷ n ∷ rest
 five_bytes bytes a b c d rest n p q r s t = rw (p, q, r, s, t) refl
 
-mark_takes : (bytes : List ℕ) (y : Versioned) → mark_read bytes ≡ Ok y → bytes ≡ mark y.0 ++ y.1
+pub mark_takes : (bytes : List ℕ) (y : Versioned) → mark_read bytes ≡ Ok y → bytes ≡ mark y.0 ++ y.1
 unfolding mark_read
 mark_takes bytes y e =
     let d = step_ok (expected 74 bytes >>> expected 76 >>> expected 82 >>> expected 84) version_read y e in
@@ -93,7 +93,7 @@ unfolding mark_read
 mark_again One rest = refl
 mark_again Two rest = refl
 
-mark_fits : (version : Version) (bytes rest : List ℕ) → bytes ≡ mark version ++ rest → IsBytes bytes → IsBytes rest
+pub mark_fits : (version : Version) (bytes rest : List ℕ) → bytes ≡ mark version ++ rest → IsBytes bytes → IsBytes rest
 mark_fits version bytes rest e fits i = subst (λ (b : List ℕ). IsBytes b) e fits (suc (suc (suc (suc (suc i)))))
 
 -- ---- Entries
@@ -123,10 +123,10 @@ entries_again version number (x ∷ xs) rest fits =
 
 -- ---- Files
 
-abbrev made_file : Version → ImageText → List Entry → FileText
+abbrev pub made_file : Version → ImageText → List Entry → FileText
 made_file version image entries = record { version = version; image = image; entries = entries }
 
-whole : (m i c e rest bytes b1 b2 b3 : List ℕ) → bytes ≡ m ++ b1 → b1 ≡ i ++ b2 → b2 ≡ c ++ b3 → b3 ≡ e ++ rest → bytes ≡ (((m ++ i) ++ c) ++ e) ++ rest
+pub whole : (m i c e rest bytes b1 b2 b3 : List ℕ) → bytes ≡ m ++ b1 → b1 ≡ i ++ b2 → b2 ≡ c ++ b3 → b3 ≡ e ++ rest → bytes ≡ (((m ++ i) ++ c) ++ e) ++ rest
 whole m i c e rest bytes b1 b2 b3 p q r s =
     p ∙ ap (λ (t : List ℕ). m ++ t) (q ∙ ap (λ (t : List ℕ). i ++ t) (r ∙ ap (λ (t : List ℕ). c ++ t) s)) ∙ simp append_assoc
 
@@ -162,7 +162,7 @@ front_again t rest fits =
     ap front_read (regrouped (mark t.version) i c e rest)
     ∙ rw (mark_again t.version (i ++ (c ++ (e ++ rest))), (image t.version).again t.image (c ++ (e ++ rest)) fits.image, eight_bytes.again (length t.entries) (e ++ rest) fits.count, entries_again t.version 1 t.entries rest fits.entries) refl
 
-ended : (b : Bool) (f : TraceFault) (x y : FileText) → cond b (Ok x) (Err f) ≡ Ok y → (b ≡ true) × (x ≡ y)
+pub ended : (b : Bool) (f : TraceFault) (x y : FileText) → cond b (Ok x) (Err f) ≡ Ok y → (b ≡ true) × (x ≡ y)
 ended true f x y e = (refl, cc)
 ended false f x y e = absurd cc
 

@@ -5,3 +5,4 @@ pub mod Counting
 pub mod SpellingLaws
 pub mod ToEnd
 pub mod VersionLaws
+pub mod FaultLaws

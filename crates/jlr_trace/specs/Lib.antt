@@ -3,3 +3,4 @@ pub mod ToEnd
 pub mod Versions
 pub mod Writing
 pub mod Spellings
+pub mod Faults

@@ -1,5 +1,5 @@
 //! Reading a trace file.
-ghost use Rattle.std.specs.Prelude.{◌≡◌, ◌↔◌, ℕ, [], ◌++◌, List, Ok, IfOk, IsTrue};
+ghost use Rattle.std.specs.Prelude.{◌≡◌, ◌↔◌, ℕ, [], ◌++◌, List, Ok, IfErr, IfOk, IsTrue};
 ghost use Rattle.std.specs.Int.{w64};
 ghost use Rattle.jlr_fields.specs.Reading.{number_at};
 ghost use Rattle.jlr_fields.specs.declared.version.Version.TheVariants.{One, Two};
@@ -7,6 +7,7 @@ ghost use Rattle.jlr_trace.specs.declared.file.TraceFault.TheVariants.{NoMemory}
 ghost use Rattle.jlr_trace.specs.declared.file.TraceFile.{TraceFile as TraceFileOf};
 ghost use Rattle.jlr_sections.specs.Images.{image_text, image_read, HasShape};
 ghost use Rattle.jlr_trace.specs.Files.{FileText, image_of, file_text, spelled_file, FileFits, HasSpelling, told, expected, version_read, mark_read, in_entry, entries_read, file_read, FileGives, FileReads};
+ghost use Rattle.jlr_trace.specs.Faults.{IsFault};
 ghost use Rattle.jlr_trace.specs.ToEnd.{entries_to_end};
 ghost use Rattle.jlr_trace.specs.Versions.{fits_version_1, in_version};
 
@@ -194,8 +195,8 @@ fn entries_to_end(
     Ok(entries)
 }
 
-/// All of the bytes. The image is let go by a call where the entries have a fault: it has many parts, through which an exit that held it
-/// would go.
+/// All of the bytes. Where the entries have a fault, the image is dropped by a call, for the prover: no return path then proves the drop of
+/// each of its parts.
 #[tactic(auto, unfolding(crate::specs::Files::front_read, crate::specs::Files::file_read))]
 fn all_of(alloc: Global, bytes: &[u8]) -> Result<TraceFile, TraceFault>
     ensures exact { FileGives file_text result (file_read bytes.now) }
@@ -224,6 +225,8 @@ pub fn read_trace(alloc: Global, bytes: &[u8]) -> Result<TraceFile, TraceFault>
     ensures only { (t : FileText) → FileFits t → bytes.now ≡ spelled_file t → FileGives file_text result (Ok t) }
     // Which fault it is.
     ensures exact { FileGives file_text result (file_read bytes.now) }
+    // The fault is the first one of the bytes: what stands before it is spelled, and what comes next is not.
+    ensures fault { IfErr result (λ e. IsFault e bytes.now) }
     // What its text does not say: no cycle is open, nothing was seen, strays lie in no cells, and how many places handles have.
     ensures shape { IfOk result (λ f. HasShape (image_of f)) }
     // What was written is read back as it was.

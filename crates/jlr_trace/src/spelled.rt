@@ -1,9 +1,10 @@
 //! A trace file whose entries stay in its bytes, and are read from there one at a time.
-ghost use Rattle.std.specs.Prelude.{◌≡◌, [], ◌∷◌, ◌-◌, ◌+◌, ◌<◌, ◌^◌, Ok, IfOk, OnOk, OnErr, MatchOption, length};
+ghost use Rattle.std.specs.Prelude.{◌≡◌, [], ◌∷◌, ◌-◌, ◌+◌, ◌<◌, ◌^◌, Ok, IfErr, IfOk, OnOk, OnErr, MatchOption, length};
 ghost use Rattle.jlr_fields.specs.declared.fault.ReadError.TheVariants.{Memory};
 ghost use Rattle.jlr_trace.specs.declared.file.TraceFile.{TraceFile as TraceFileOf};
 ghost use Rattle.jlr_sections.specs.Images.{image_text, HasShape};
 ghost use Rattle.jlr_trace.specs.Files.{FileText, image_of, file_text, spelled_file, FileFits, HasSpelling, entries_read, file_read, FileGives};
+ghost use Rattle.jlr_trace.specs.Faults.{IsFault};
 ghost use Rattle.jlr_trace.specs.ToEnd.{entries_to_end};
 ghost use Rattle.jlr_trace.specs.Spellings.{entries_in, AreEntries};
 
@@ -129,7 +130,7 @@ impl<'a> SpelledEntries<'a> {
     }
 }
 
-/// The want of memory that kept an entry from being read, since its bytes have no fault.
+/// The lack of memory that kept an entry from being read, since its bytes have no fault.
 fn memory_of(error: ReadError) -> AllocError
     requires { error ≡ Memory }
 {
@@ -219,8 +220,8 @@ fn spelled_to_end<'a>(
     Ok((count, rest))
 }
 
-/// All of the bytes. The image is let go by a call where the entries have a fault: it has many parts, through which an exit that held it
-/// would go.
+/// All of the bytes. Where the entries have a fault, the image is dropped by a call, for the prover: no return path then proves the drop of
+/// each of its parts.
 #[tactic(auto, unfolding(crate::specs::Files::front_read, crate::specs::Files::file_read))]
 fn all_of_spelled<'a>(alloc: Global, bytes: &'a [u8]) -> Result<SpelledTrace<'a>, TraceFault>
     ensures exact { FileGives file_text result (file_read bytes.now) }
@@ -249,6 +250,8 @@ pub fn spelled_trace<'a>(alloc: Global, bytes: &'a [u8]) -> Result<SpelledTrace<
     ensures only { (t : FileText) → FileFits t → bytes.now ≡ spelled_file t → FileGives file_text result (Ok t) }
     // Which fault it is.
     ensures exact { FileGives file_text result (file_read bytes.now) }
+    // The fault is the first one of the bytes: what stands before it is spelled, and what comes next is not.
+    ensures fault { IfErr result (λ e. IsFault e bytes.now) }
     // What its text does not say: no cycle is open, nothing was seen, strays lie in no cells, and how many places handles have.
     ensures shape { IfOk result (λ f. HasShape (image_of f)) }
     // What was written is read back as it was.

@@ -22,7 +22,7 @@ Appends-keeps (Some o) None c xs h k = absurd h
 Appends-keeps (Some o) (Some m) None xs h k = absurd k
 Appends-keeps (Some o) (Some m) (Some n) xs h k = k ∙ h
 
--- what was sent is a front of the whole
+-- what was sent is a prefix of the whole
 pub front_of : (a b : Option (List ℕ)) (sent rest bytes : List ℕ) → bytes ≡ sent ++ rest → Appends a b sent → AppendsFront a b bytes
 front_of a b sent rest bytes e h = (length sent, rw (e, take_at sent rest (length sent) refl) h)
 
@@ -40,7 +40,7 @@ pub then_sends : {E : Type 0} (a b c : Option (List ℕ)) (r : Result (Unit {0})
 then_sends a b c (Ok u) xs ys h k = Appends-then a b c xs ys h k
 then_sends a b c (Err e) xs ys h k = (length xs + k.0, rw (take-append-add xs ys k.0) (Appends-then a b c xs (take k.0 ys) h k.1))
 
--- a front of the first piece is a front of the whole
+-- a prefix of the first piece is a prefix of the whole
 pub front_first : (a b : Option (List ℕ)) (xs ys : List ℕ) → AppendsFront a b xs → AppendsFront a b (xs ++ ys)
 front_first a b xs ys h = front_of a b (take h.0 xs) (drop h.0 xs ++ ys) (xs ++ ys) (ap (λ t. t ++ ys) (sym (take-append-drop h.0 xs)) ∙ append_assoc (take h.0 xs) (drop h.0 xs) ys) h.1
 

@@ -53,10 +53,10 @@ words (StatAnswer s) = Some (stat_words s)
 words (Refused refusal) = Some (codes "! " ++ decimal (number_of refusal))
 words _ = None
 
--- known bytes grow by a front of these
+-- known bytes grow by a prefix of these
 abbrev pub AppendsFront : Option (List ℕ) → Option (List ℕ) → List ℕ → Type 0
 AppendsFront old new bytes = (n : ℕ) × Appends old new (take n bytes)
 
--- the bytes went out, or after a fault a front of them
+-- the bytes went out, or after a fault a prefix of them
 abbrev pub Sends : {E : Type 0} → Option (List ℕ) → Option (List ℕ) → Result (Unit {0}) E → List ℕ → Type 0
 Sends old new result bytes = MatchResult result (λ _. Appends old new bytes) (λ _. AppendsFront old new bytes)

@@ -1,14 +1,14 @@
 //! Commands out of lines.
 ghost use Rattle.jlr_wire.specs.declared.command.Command.{Command};
 ghost use Rattle.jlr_types.specs.declared.Refusal.TheVariants.{TooLong, Malformed};
-ghost use Rattle.std.specs.Prelude.{if◌then◌else◌, nat_lt, Ok, ◌≡◌, ◌<◌, ◌↔◌, ◌++◌, ◌∷◌, IfErr, MatchOption, length};
+ghost use Rattle.std.specs.Prelude.{if◌then◌else◌, nat_lt, Ok, ◌≡◌, ◌<◌, ◌↔◌, IfErr, MatchOption, length};
 ghost use Rattle.std.specs.List.{slice_split};
 ghost use Rattle.std.specs.Str.{bytes_eq};
 ghost use Rattle.jlr_wire.specs.Reading.{with_number, with_two_numbers, reading_1, reading_2, reading_3, reading_4, reading};
 ghost use Rattle.jlr_wire.specs.Commands.{IsCommand};
 ghost use Rattle.jlr_wire.specs.Fields.{is_space, texts};
-ghost use Rattle.jlr_wire.specs.Lines.{IsWithout};
 
+use crate::cut::cut_at;
 use crate::integer::integer;
 use crate::layout::layout;
 use crate::number::{count, field, length, note, number};
@@ -181,20 +181,6 @@ pub enum Command<'a> {
 /// The most fields of a command, its name among them.
 const FIELD_LIMIT: usize = 4;
 
-/// What stands before the first space, and what stands after it. The bytes are looked at one after the other: fields are short.
-#[inline(always)]
-fn first_field<'a>(bytes: &'a [u8]) -> Option<(&'a [u8], &'a [u8])>
-    ensures cut { MatchOption result (IsWithout 32 bytes.now)
-        (λ cut. IsWithout 32 cut.0.now × (bytes.now ≡ cut.0.now ++ 32 ∷ cut.1.now)) }
-{
-    for at in 0..bytes.len() {
-        if bytes[at] == b' ' {
-            return Some((&bytes[..at], &bytes[at + 1..]));
-        }
-    }
-    None
-}
-
 /// The fields of a line, if there are at most four.
 fn fields_of<'a>(line: &'a [u8]) -> Option<ArrayVec<&'a [u8], FIELD_LIMIT>>
     ensures { MatchOption result (4 < length (slice_split is_space line.now))
@@ -203,7 +189,7 @@ fn fields_of<'a>(line: &'a [u8]) -> Option<ArrayVec<&'a [u8], FIELD_LIMIT>>
     let mut fields = ArrayVec::new();
     let mut rest = line;
     for _ in 0..FIELD_LIMIT {
-        let Some((field, more)) = first_field(rest) else {
+        let Some((field, more)) = cut_at(rest, b' ') else {
             fields.push(rest);
             return Some(fields);
         };

@@ -26,7 +26,7 @@ const LONG_LINE_ROOM: usize = 8_453;
 #[derive(Clone, Copy, Debug, PartialEq, Eq)]
 pub struct WriteFault;
 
-/// Writes the bytes, or after a fault a front of them. A failed write is not tried again, an interrupted one is.
+/// Writes the bytes, or after a fault a prefix of them. A failed write is not tried again, an interrupted one is.
 fn send<W: Write>(bytes: &[u8], writer: &mut W) -> Result<(), WriteFault>
     ensures { Sends (W.contents writer.old) (W.contents writer.new) result bytes.now }
 {
@@ -197,7 +197,7 @@ fn write_line<W: Write>(answer: &Answer, writer: &mut W) -> Result<(), WriteFaul
 
 /// Writes the line of an answer with its end, and does not flush. It goes out by one write, where the writer takes it whole.
 ///
-/// At a fault a front of the line went out. For an answer that has no line nothing is written, and
+/// At a fault a prefix of the line went out. For an answer that has no line nothing is written, and
 /// it is a fault.
 pub fn write_reply<W: Write>(answer: &Answer, writer: &mut W) -> Result<(), WriteFault>
     ensures line { IfSome (words answer.now) (λ text. Sends (W.contents writer.old) (W.contents writer.new) result (text ++ 10 ∷ [])) }

@@ -114,7 +114,7 @@ pub(super) fn spelled_content(alloc: Global, bytes: &[u8]) -> Result<String, All
     }
 }
 
-// Whether each proper front is truncated.
+// Whether each proper prefix is truncated.
 fn are_truncated(alloc: Global, file: &[u8]) -> Result<bool, AllocError> {
     for length in 0..file.len() {
         if !are_told(alloc, &file[..length], "Truncated", Telling::Content)? {
@@ -131,7 +131,7 @@ fn fronts_are_truncated(alloc: Global, file: &str) -> Result<bool, AllocError> {
     }
 }
 
-// Each row is as it says, and each proper front is truncated.
+// Each row is as it says, and each proper prefix is truncated.
 fn play(alloc: Global, file: &str, rows: &str) -> Result<(), Fail> {
     play_rows(alloc, file, rows, Telling::Content)?;
     if fronts_are_truncated(alloc, file)? {

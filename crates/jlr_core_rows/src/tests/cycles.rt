@@ -371,6 +371,26 @@ const LISTS: &str = "
     stat -> stat 16 0 0 0 0
 
 -- What a cycle left over is swept in steps, and where an allocation finds no free cell: without a collection.
+== what a cycle left over is taken again: soft_age 4
+    join -> done
+    new -> handle 1 up to 16
+    drop 1 -> done
+    drop 2 -> done
+    drop 3 -> done
+    drop 4 -> done
+    drop 5 -> done
+    drop 6 -> done
+    drop 7 -> done
+    drop 8 -> done
+    begin -> yes
+    mark 64 -> marked done
+    collect -> yes
+    stat -> stat 8 0 0 0 0
+    mark 3 -> marked idle
+    new -> handle 1 up to 8
+    stat -> stat 16 0 0 0 0
+
+-- The same, with a look in between.
 == a cycle's cells are swept in steps: soft_age 4
     join -> done
     new -> handle 1 up to 16

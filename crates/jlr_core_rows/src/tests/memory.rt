@@ -94,8 +94,20 @@ const LISTS: &str = "
     poll 2 -> handle 0
     enqueue 4 -> no
 
--- Those events for which the table grows may be refused, and those that copy a list that is not empty, and are asked again then: nothing
--- has changed. A name takes no memory.
+== a pending reference that the program enqueues takes no memory
+    join -> done
+    queue -> handle 1
+    new -> handle 2
+    weak 2 1 -> handle 3
+    drop 2 -> done
+    full -> done
+    enqueue 3 -> yes
+    poll 1 -> handle 2
+    hand_over -> skipped
+    poll 1 -> handle 0
+
+-- Those events for which the table grows may be refused, those that bind a new name, and those that copy a list that is not empty, and are
+-- asked again then: nothing has changed.
 == a table that cannot grow is left as it was
     join -> done
     new -> handle 1
@@ -109,7 +121,7 @@ const LISTS: &str = "
     notes -> notes 0
     again prepare -> prepared
     opened NotFound -> fault NotFound
-    bind x 1 -> done
+    again bind x 1 -> done
     bind x 2 -> done
     find x -> handle 3
     same 2 3 -> yes

@@ -290,7 +290,7 @@ fn told(
     }
 }
 
-// Whether an ask is answered so, at once or after a want of memory.
+// Whether an ask is answered so, at once or after it was refused for lack of memory.
 fn is_told_again(
     alloc: Global,
     core: &mut Core<u32>,

@@ -139,6 +139,22 @@ const LISTS: &str = "
     full -> done, keeps 0 1
     deref 2 -> handle 1
     leave -> done
+
+-- `array 3; new -; put 1 2 2; drop 2; gc; get 1 2; get 1 3; put 1 3 0; int 1 0; stat; get 1 4095`
+== array
+    join -> done
+    array 3 -> handle 1, in 0
+    new -> handle 2, in 1
+    put 1 2 2 -> done
+    drop 2 -> done
+    full -> done, keeps 0 1
+    get 1 2 -> handle 2
+    get 1 3 -> refused NoField
+    put 1 3 0 -> refused NoField
+    int 1 0 -> refused WrongKind
+    stat -> stat 2 0 0 0 0
+    get 1 4095 -> refused NoField
+    leave -> done
 ";
 
 #[test]

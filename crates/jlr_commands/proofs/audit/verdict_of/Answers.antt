@@ -6,7 +6,7 @@ use Rattle.jlr_command_line.specs.declared.fault.ProgramFault.{ProgramFault}
 use Rattle.jlr_commands.specs.Audits.{IsDamage, damage}
 use Rattle.jlr_commands.proofs.audit.verdict_of.Goals as goal
 
--- the want of memory is a fault of any bytes
+-- that memory ran out is a fault of any bytes
 wants_memory : (bytes : List ℕ) (r : Result Judged ProgramFault) → IfErr r (λ e. e ≡ damage NoMemory) → IfErr r (λ e. IsDamage bytes e)
 wants_memory bytes (Ok j) h = tt
 wants_memory bytes (Err e) h = (NoMemory, tt, h)

@@ -1,4 +1,4 @@
-use Rattle.std.proofs.Common.{◌≡◌, ℕ, Bool, true, false, Option, Some, Result, Ok, ap, refl, subst, sym}
+use Rattle.std.proofs.Common.{◌≡◌, ℕ, Bool, true, false, Option, Some, Result, Ok, ap, refl, rules, subst, sym}
 use Rattle.jlr_types.specs.declared.Refusal.{Refusal}
 use Rattle.jlr_machine.specs.declared.machine.Machine.{Machine}
 use Rattle.jlr_machine.specs.declared.ask.Ask.{Ask}
@@ -190,6 +190,14 @@ returns-in-Prepare-clause-entry g c =
     met (machine_of s) (machine_of c.prepare.new.self) s.heap.marking (ask_of c.args.event.now)
     (asks.Prepare c.in-Prepare.mutator) (answer_of c.prepare.result) c.prepare.new.choice.chosen
     (ap ask_of c.in-Prepare.is) refl c.prepare.ensures.meets
+
+pub returns-in-Bind-clause-entry : goal.returns-in-Bind-clause-entry
+returns-in-Bind-clause-entry g c =
+    let s = c.args.state.now in
+    let did : Meets (machine_of s) (asks.Bind c.in-Bind.mutator c.in-Bind.name c.in-Bind.object) (answer_of c.bind.result) no_choice (machine_of c.bind.new.state) = search rules in
+    plainly (machine_of s) (machine_of c.bind.new.state) s.heap.marking (ask_of c.args.event.now)
+    (asks.Bind c.in-Bind.mutator c.in-Bind.name c.in-Bind.object) (answer_of c.bind.result)
+    c.args.choice.now (ap ask_of c.in-Bind.is) refl c.requires.nothing did
 
 pub returns-in-Names-clause-entry : goal.returns-in-Names-clause-entry
 returns-in-Names-clause-entry g c =

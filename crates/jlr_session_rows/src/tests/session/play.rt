@@ -272,7 +272,7 @@ fn each_read_fails(alloc: Global, setup: &Setup, given: &str, replies: &str) -> 
     Some(true)
 }
 
-/// What went out is a front of the replies, the command stands carried out, and then the mutator leaves.
+/// What went out is a prefix of the replies, the command stands carried out, and then the mutator leaves.
 fn each_write_fails(alloc: Global, setup: &Setup, given: &str, replies: &str) -> Option<bool> {
     for room in 0..replies.len() {
         for writes_fail in [false, true] {
@@ -314,7 +314,7 @@ fn breaks_off(
     broken_off
 }
 
-/// How many bytes were sent and how many replies settled, if it ended so after a front of these replies, each of which was settled, and the
+/// How many bytes were sent and how many replies settled, if it ended so after a prefix of these replies, each of which was settled, and the
 /// mutator left.
 fn broken_off(played: &Played, end: SessionEnd, replies: &[u8]) -> Option<(usize, usize)> {
     let sent = played.sent.as_slice();

@@ -36,9 +36,9 @@ pub(super) enum Row {
     Flushes(usize),
     /// A session over these bytes, how it ends, and what it sends.
     Play(&'static str, SessionEnd, &'static str),
-    /// Over each front of these bytes, after which a read fails: what is sent is a front of this.
+    /// Over each prefix of these bytes, after which a read fails: what is sent is a prefix of this.
     EachReadFails(&'static str, &'static str),
-    /// With room for each front of what is sent.
+    /// With room for each prefix of what is sent.
     EachWriteFails(&'static str, &'static str),
     /// What the last session asked.
     Asked(&'static str),

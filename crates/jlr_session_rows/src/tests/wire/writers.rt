@@ -34,7 +34,7 @@ const FRONTS: &str = "
     3 4 names ab c -> cut |list|
 ";
 
-/// Whether what went out is the whole line, or this front of it.
+/// Whether what went out is the whole line, or this prefix of it.
 pub(super) fn is_front(sent: &[u8], well: bool, wanted: &str) -> bool {
     let (end, text) = wanted.split_once(" ").unwrap_or((wanted, ""));
     match barred(text) {

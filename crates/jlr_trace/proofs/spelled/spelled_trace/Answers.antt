@@ -1,6 +1,7 @@
 use Rattle.std.proofs.Common.{ap, subst, ◌∙◌, arith}
 use Rattle.jlr_trace.specs.Files.{file_text, file_read, FileGives}
 use Rattle.jlr_trace.proofs.FileLaws.{is_found, file_again}
+use Rattle.jlr_trace.proofs.FaultLaws.{is_fault}
 use Rattle.jlr_trace.proofs.Shapes.{read_back}
 use Rattle.jlr_trace.proofs.spelled.spelled_trace.Goals as goal
 
@@ -12,3 +13,6 @@ returns-clause-only c = λ t fits e. subst (λ r. FileGives file_text c.all_of_s
 
 pub returns-clause-again : goal.returns-clause-again
 returns-clause-again c = λ f has e. read_back c.all_of_spelled.result f has (subst (λ r. FileGives file_text c.all_of_spelled.result r) (ap file_read e ∙ file_again (file_text f) has.text) c.all_of_spelled.ensures.exact) c.all_of_spelled.ensures.shape
+
+pub returns-clause-fault : goal.returns-clause-fault
+returns-clause-fault c = is_fault file_text c.args.bytes.now c.all_of_spelled.result (λ i. omega (arith, c.type_inv.bytes i)) c.all_of_spelled.ensures.exact

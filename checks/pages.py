@@ -1,0 +1,320 @@
+#!/usr/bin/env python3
+"""Holds the pages for readers against the repository.
+
+    checks/pages.py [PROGRAM] [--mend]
+
+Of README.md and each page in docs/: that it has no more words than it may (as `wc -w` counts them), that its first sentence says for whom it is, and that each link and anchor leads
+somewhere. Of these, checks/README.md and bench/README.md: that each crate, function, clause, definition, field, test, file, must-fail edit, option and
+command that stands in backticks exists. Of docs/claims.md: that each definition lies at the line that is given, and how many the headline rests on;
+with `--mend` both are written anew. Of docs/architecture.md: that it has each crate. Of docs/specification.md and docs/protocol.md: the asks, their refusals and numbers, and the commands. With PROGRAM, the built refheap: that docs/history.svg is what examples/timeline.py draws of the session that
+docs/trace-file.md tells. Ends with status 1 where anything is wrong.
+"""
+import glob
+import os
+import re
+import subprocess
+import sys
+import tempfile
+
+from definitions import ROOT, Specs, crates_of
+
+SIZES = {
+    "README.md": 850, "docs/protocol.md": 4500, "docs/specification.md": 6000, "docs/trace-file.md": 2000, "docs/claims.md": 2500, "docs/embedding.md": 1400, "docs/architecture.md": 2200,
+    "docs/DECISIONS.md": 1800, "docs/proof-strength.md": 1000, "docs/PERFORMANCE.md": 1000, "docs/gate.md": 800, "docs/reliability.md": 900, "docs/new-ask.md": 500,
+    "docs/README.md": 300,
+}
+IN_ALL = 25_400
+TOKEN = re.compile(r"`([^`]+)`")
+LINK = re.compile(r"\[[^\]]*\]\(([^)\s]+)\)")
+PLACE = re.compile(r"`([^`\s]+)` `(crates/[\w/.-]+):(\d+)`")
+COUNT = re.compile(r"(\d+) definitions of (\d+) crates")
+HEADLINE = ("jlr_core.Runs", "IsRunOf")
+# First words of what a session or a shell is told, of replies, and of lines on the standard error.
+SHELL = {"refheap", "rt", "python3", "cd", "perf", "taskset", "time", "ulimit", "wc", "let", "pub", "printf"}
+REPLIES = {"ok", "yes", "no", "int", "data", "end", "wrote", "list", "fault", "stat", "served", "entries", "legal", "illegal", "action:name"}
+# What is the kit's, or the system's: no name of the repository.
+FOREIGN = {"java.lang.ref", "clone", "drop", "remove", "pub use", "std::io::Read", "Debug", "match", "format!", "assert_eq!", "main", "let _ =", "#[test]", "out/", "fsync", "rt",
+           "*.Lts.oantt", "*.Proof.oantt", "records/*.Proof.decls.oantt", "out/incremental", "FILE.new0", ".new99", "strace", "valgrind", "ReadFault", "rustc", "cc",
+           "bash", "--jobs 1", "_", "crates/refheap/out/refheap", "NAME", "PATH", "FILE", "Module.name", "-", "-0", "logic dac8208d650f15bf"}
+# Behind this heading a table's first column names what the plan called so, and is not there.
+PLAN = "## Calls of the plan under another name"
+
+
+def read(path):
+    with open(os.path.join(ROOT, path), encoding="utf-8") as file:
+        return file.read()
+
+
+def files(*patterns):
+    for pattern in patterns:
+        yield from (path for path in glob.glob(os.path.join(ROOT, pattern), recursive=True) if "/out/" not in path)
+
+
+class Names:
+    """All names that the repository declares."""
+
+    def __init__(self, specs):
+        self.files = {os.path.basename(path) for path in files("**/*.*")}
+        self.crates = {name for name in os.listdir(os.path.join(ROOT, "crates"))}
+        self.edits = {os.path.basename(path)[:-5] for path in files("crates/*/must-fail/*.edit", "checks/edits/*/*.edit")}
+        self.kit = set(re.findall(r"\w+", re.sub(r"#.*", "", read("crates.txt"))))
+        self.definitions = {name for _, name in specs.texts}
+        self.modules = {(module.split(".")[-1], name) for module, name in specs.texts}
+        self.fields = set()
+        for module, name in specs.texts:
+            for field in re.findall(r"^\s*pub ([^\s:]+) :", specs.texts[module, name], re.M):
+                self.fields.add((name, field))
+        self.code, self.words, self.methods, self.data = set(), set(), set(), set()
+        for path in files("crates/*/src/**/*.rt", "bench/**/*.rt", "checks/**/*.rt"):
+            self.read_code(path)
+        for path in files("checks/*.py", "bench/*.py", "examples/*.py"):
+            self.words |= set(re.findall(r"^\s*(?:def|class) (\w+)", read(path), re.M))
+        self.options = set(re.findall(r"--[a-z][a-z-]*", "".join(read(path) for path in files("checks/*", "bench/*.py", "examples/*.py") if os.path.isfile(path))))
+        self.options |= {"--" + word for path in files("crates/jlr_command_line/src/*.rt") for word in re.findall(r'"([a-z-]+)"', read(path))}
+        self.commands = set(re.findall(r'codes "([a-z]+)" ∷', read("crates/jlr_wire/specs/Commands.antt")))
+
+    def read_code(self, path):
+        text = read(path)
+        stem = os.path.basename(path)[:-3]
+        owners = set(re.findall(r"^\s*(?:pub )?(?:impl|trait|struct|enum)\b[^{;]*?\b([A-Z]\w*)(?:<[^{;]*?)?(?: \{|\n|;|\()", text, re.M))
+        owners |= {word for line in re.findall(r"^(?:pub )?(?:impl|trait)\b.*", text, re.M) for word in re.findall(r"\b[A-Z]\w+", line)}
+        found = set(re.findall(r"\bfn (\w+)", text))
+        self.code |= set(re.findall(r"\.(\w+)\(", text))
+        self.code |= found | owners | set(re.findall(r"\b(?:ensures|requires) (\w+)", text)) | set(re.findall(r"\bpub (?:const )?(\w+):", text))
+        self.code |= set(re.findall(r"^\s+([A-Z]\w+)\b", text, re.M)) | set(re.findall(r"\b(?:struct|enum|trait|type) (\w+)", text)) | {stem}
+        variants = set(re.findall(r"^\s+([A-Z]\w+)\b", text, re.M))
+        self.methods |= {(owner, name) for owner in owners for name in found | variants}
+        self.data |= {(stem, name) for name in re.findall(r"\b(?:struct|enum|trait|type) (\w+)", text)}
+
+    def lacks(self, token, folder):
+        """What is not there of what a token names on a page of this folder, or nothing."""
+        token = token.strip()
+        if folder and os.path.exists(os.path.join(ROOT, folder, token)):
+            return None
+        if token in FOREIGN or not re.match(r"[\w.*/-]", token) or re.fullmatch(r"[0-9a-f]{2,}|\w|[\d,.]+|/.*|-.*(?<!-).|\d.*", token) and not token.startswith("--"):
+            return None
+        first = token.split()[0]
+        if " " in token or first.endswith(":"):
+            return self.lacks_words(token, first.rstrip(":"))
+        if token.startswith("--"):
+            return None if token in self.options else f"the option {token}"
+        if "/" in token:
+            return self.lacks_path(token)
+        if re.fullmatch(r"[\w-]+\.(?:rt|antt|py|sh|rs|c|md|svg|edit|txt)", token):
+            return None if token in self.files else f"the file {token}"
+        if "::" in token:
+            return self.lacks_call(token)
+        if re.fullmatch(r"[\w]+\.[^\s.]+", token):
+            pair = tuple(token.split("."))
+            return None if pair in self.fields or pair in self.modules or pair in self.data else f"the definition {token}"
+        if token.startswith("jlr_"):
+            return None if token in self.crates else f"the crate {token}"
+        name = re.sub(r"\(.*\)$", "", token)
+        known = (self.code, self.definitions, self.words, self.edits, self.kit, self.commands, REPLIES, self.crates)
+        if any(name in names for names in known) or any(name == field for _, field in self.fields):
+            return None
+        return None if name in self.files or name + ".py" in self.files else f"the name {token}"
+
+    def lacks_words(self, token, first):
+        if first in self.commands or first in REPLIES:
+            return None
+        for word in token.split():
+            if word.startswith(("checks/", "bench/", "examples/", "docs/")) and self.lacks_path(word):
+                return f"the file {word}"
+            if first == "refheap" and word.strip("[]").startswith("--") and word.strip("[]") not in self.options:
+                return f"the option {word}"
+        if first in SHELL or first.startswith(("checks/", "bench/", "crates/", "examples/", "--")):
+            return None
+        return f"what {token!r} is"
+
+    def lacks_path(self, token):
+        path = token.split(":")[0].rstrip("/")
+        if re.match(r"(crates|checks|docs|bench|examples|\.ci)(/|$)", path):
+            return None if "NAME" in path or glob.glob(os.path.join(ROOT, path)) else f"the file {token}"
+        if path.startswith(("jlr_", "refheap")):
+            return None if glob.glob(os.path.join(ROOT, "crates", path)) else f"the file {token}"
+        return None if glob.glob(os.path.join(ROOT, "crates", "*", path)) else f"the file {token}"
+
+    def lacks_call(self, token):
+        owner, _, name = token.partition("::")
+        if owner.startswith(("jlr_", "refheap")):
+            parts = name.split("::")
+            found = any(re.search(rf"\bfn {parts[-1]}\b", read(path)) for path in files(f"crates/{owner}/src/**/*.rt"))
+            return None if found else f"the function {token}"
+        return None if (owner, name) in self.methods else f"the function {token}"
+
+
+def slug(heading):
+    """The anchor of a heading, as pages on the web have it."""
+    words = re.sub(r"[`*]", "", heading).strip().lower()
+    return re.sub(r"[^\w\- ]", "", words).replace(" ", "-")
+
+
+def anchors(path):
+    return {slug(match) for match in re.findall(r"^#+ (.*)$", read(path), re.M)}
+
+
+def wrong_links(page):
+    for link in LINK.findall(read(page)):
+        if link.startswith(("http://", "https://")):
+            continue
+        target, _, anchor = link.partition("#")
+        path = os.path.normpath(os.path.join(os.path.dirname(page), target)) if target else page
+        if not os.path.exists(os.path.join(ROOT, path)):
+            yield f"the link {link} leads nowhere"
+        elif anchor and anchor not in anchors(path):
+            yield f"the anchor of {link} is not there"
+
+
+def wrong_size(page, most):
+    words = len(read(page).split())
+    if words > most:
+        yield f"it has {words} words, and may have {most}"
+
+
+def wrong_beginning(page):
+    after = re.sub(r"^#.*\n+", "", read(page)).lstrip()
+    if not re.match(r"For \w", after):
+        yield "its first sentence does not say for whom it is"
+
+
+def wrong_names(page, names):
+    text, plan, calls = read(page).partition(PLAN)
+    text += plan + re.sub(r"^\| [^|]* \|", "|", calls, flags=re.M)
+    text = re.sub(r"^    .*$", "", text, flags=re.M)
+    for token in sorted(set(TOKEN.findall(text.replace("\n", " ")))):
+        lacking = names.lacks(token, os.path.dirname(page))
+        if lacking:
+            yield f"{lacking} is not there"
+
+
+def wrong_rows(page):
+    """Rows of tables that name a function with its file, or a must-fail edit with its crate, where the one is not in the other."""
+    for line in read(page).splitlines():
+        cells = [TOKEN.findall(cell) for cell in line.strip("|").split("|")] if line.startswith("| ") else []
+        if len(cells) != 3 or not cells[1] or not cells[2]:
+            continue
+        if re.fullmatch(r"(jlr_\w+|refheap\w*)/src/\w+\.rt", cells[2][0]):
+            for name in cells[1]:
+                if not re.search(rf"\bfn {name.split('::')[-1]}\b", read(os.path.join("crates", cells[2][0]))):
+                    yield f"{name} is not in {cells[2][0]}"
+        elif cells[1][0].startswith("jlr_") and page == "docs/proof-strength.md" and re.fullmatch(r"\w+", cells[2][0]):
+            for edit in cells[2]:
+                if not any(list(files(f"crates/{crate}/must-fail/{edit}.edit", f"checks/edits/{crate}/{edit}.edit")) for crate in cells[1]):
+                    yield f"the edit {edit} is not in {', '.join(cells[1])}"
+
+
+def table_rows(page, columns):
+    """The cells of each row of tables with so many columns that begins with a number."""
+    for line in read(page).splitlines():
+        cells = [cell.strip() for cell in line.strip("|").split("|")] if line.startswith("| ") else []
+        if len(cells) == columns and cells[0].isdigit():
+            yield cells
+
+
+def wrong_refusals(page):
+    """Asks with another number or other refusals than `Refusals.listed` has, and refusals with another number than `Numbers.number_of` has."""
+    spec = read("crates/jlr_machine/specs/Refusals.antt")
+    listed = [(ask, re.findall(r"[A-Z]\w+", refusals)) for ask, refusals in re.findall(r"^listed \(?(\w+)[^=]*= (.*)$", spec, re.M)]
+    short = {"H": ["NoSession", "NoHandle", "Null"], "K": ["NoSession", "NoHandle", "Null", "WrongKind"]}
+    if page == "docs/specification.md":
+        told = [(ask, [by for word in refusals.split(", ") if word for by in short.get(word, [word])]) for _, ask, _, refusals, _, _ in table_rows(page, 6)]
+        for number, (one, other) in enumerate(zip(told, listed)):
+            if one != other:
+                yield f"ask {number} is {other[0]}, refused {', '.join(other[1])}"
+        if len(told) != len(listed):
+            yield f"there are {len(listed)} asks"
+    numbers = dict(re.findall(r"^number_of (\w+) = (\d+)$", read("crates/jlr_types/specs/Numbers.antt"), re.M))
+    for number, name, _ in table_rows(page, 3):
+        if name in numbers and numbers[name] != number:
+            yield f"{name} is {numbers[name]}"
+
+
+def wrong_commands(page, names):
+    """Commands that the table of commands has not, or has too many."""
+    rows = [line.split(" | ")[0] for line in read(page).splitlines() if line.startswith("| `") and line.count(" | ") == 3]
+    told = {token.split()[0] for row in rows for token in TOKEN.findall(row) if not token.startswith("--")}
+    for command in sorted(told ^ names.commands):
+        yield f"the command {command} is in one place and not in the other"
+
+
+def wrong_crates(page):
+    """Crates of crates.txt that the page has not."""
+    text = read(page)
+    for crate in re.findall(r"^(\w+)[^:\n]*:", read("crates.txt"), re.M):
+        if f"`{crate}`" not in text:
+            yield f"the crate {crate} is not told of"
+
+
+def wrong_places(page, specs, mend):
+    """Definitions that lie elsewhere, and a wrong count of what the headline rests on."""
+    text = read(page)
+    found = specs.below(HEADLINE)
+    told = f"{len(found)} definitions of {len(crates_of(found))} crates"
+    lines = {(name, specs.files[module]): number for (module, name), number in specs.lines.items()}
+    new = COUNT.sub(told, text)
+    new = PLACE.sub(lambda at: f"`{at[1]}` `{at[2]}:{lines.get((at[1], at[2]), at[3])}`", new)
+    if mend and new != text:
+        with open(os.path.join(ROOT, page), "w", encoding="utf-8") as file:
+            file.write(new)
+        text = new
+    if told not in text:
+        yield f"the headline rests on {told}"
+    places = PLACE.findall(text)
+    for name, path, number in places:
+        if lines.get((name, path)) != int(number):
+            yield f"{name} is not at {path}:{number}"
+    if len(places) < 40:
+        yield f"only {len(places)} definitions have their place"
+
+
+def wrong_picture(program):
+    """Whether the history is drawn as it is today."""
+    commands = next(line for line in read("docs/trace-file.md").splitlines() if line.startswith("    queue; "))
+    options = re.search(r"`refheap run (--cells [^`]*) --save FILE`", read("docs/trace-file.md"))[1].split()
+    with tempfile.TemporaryDirectory() as folder:
+        lines = "".join(command.strip() + "\n" for command in commands.split(";"))
+        saved = os.path.join(folder, "history")
+        subprocess.run([os.path.abspath(program), "run", *options, "--save", saved], input=lines, text=True, cwd=folder, check=True, stdout=subprocess.DEVNULL)
+        drawn = subprocess.run([sys.executable, os.path.join(ROOT, "examples", "timeline.py"), saved], check=True, capture_output=True, text=True).stdout
+    if drawn != read("docs/history.svg"):
+        with open(os.path.join(tempfile.gettempdir(), "history.svg"), "w", encoding="utf-8") as file:
+            file.write(drawn)
+        yield "docs/history.svg is another picture; the one of today is in the folder for what is temporary"
+
+
+def main():
+    mend = "--mend" in sys.argv
+    programs = [word for word in sys.argv[1:] if not word.startswith("--")]
+    specs = Specs()
+    names = Names(specs)
+    failed = words = 0
+    for page in [*SIZES, "checks/README.md", "bench/README.md"]:
+        wrong = [*wrong_links(page), *wrong_names(page, names), *wrong_rows(page)]
+        if page in SIZES:
+            wrong += [*wrong_size(page, SIZES[page]), *wrong_beginning(page)]
+            words += len(read(page).split())
+        if page == "docs/claims.md":
+            wrong += wrong_places(page, specs, mend)
+        if page in ("docs/specification.md", "docs/protocol.md"):
+            wrong += wrong_refusals(page)
+        if page == "docs/architecture.md":
+            wrong += wrong_crates(page)
+        if page == "docs/protocol.md":
+            wrong += wrong_commands(page, names)
+        if page == "docs/trace-file.md" and programs:
+            wrong += wrong_picture(programs[0])
+        failed += bool(wrong)
+        print("WRONG  " if wrong else "ok     ", page, "".join(f"\n        {what}" for what in wrong))
+    for page in sorted(os.path.relpath(path, ROOT) for path in files("docs/*.md")):
+        if page not in SIZES:
+            failed += 1
+            print("WRONG  ", page, "\n        it has no size")
+    if words > IN_ALL:
+        failed += 1
+        print("WRONG  ", f"all pages together have {words} words, and may have {IN_ALL}")
+    sys.exit(failed > 0)
+
+
+if __name__ == "__main__":
+    main()

@@ -1,0 +1,74 @@
+-- What a call does to the heap behind a handle.
+use Rattle.std.specs.Prelude.{◌≡◌, ℕ, Option, Some, None}
+use Rattle.jlr_types.specs.declared.Progress.{Progress}
+use Rattle.jlr_types.specs.declared.limits.LimitFault.{LimitFault}
+use Rattle.jlr_types.specs.declared.limits.LimitFault.TheVariants.{Cells, Sessions, Resources, SoftAge, Trace, Budget}
+use Rattle.jlr_machine.specs.declared.ask.Answer.{Answer}
+use Rattle.jlr_machine.specs.declared.ask.Handed.{Handed}
+use Rattle.jlr_machine.specs.declared.ask.Answer.TheVariants as answer
+use Rattle.jlr_event.specs.declared.event.Event.{Event}
+use Rattle.jlr_event.specs.declared.event.Event.TheVariants.{HandOver, Mark}
+use Rattle.jlr_event.specs.declared.event.Reply.TheVariants.{Answered, Marked}
+use Rattle.jlr_core.specs.Cores.{Kept}
+use Rattle.jlr_core.specs.Steps.{IsEmpty, Steps}
+
+-- a heap whose resources are tokens
+abbrev pub Heap : Type 0
+Heap = Kept ℕ
+
+-- ---- What a call returns beside 0 and the number of a refusal, 1 to 19
+
+-- the handle is closed
+abbrev pub closed : ℕ
+closed = 32
+
+-- an argument is out of its range
+abbrev pub range : ℕ
+range = 33
+
+-- there was nothing to do, or nothing there
+abbrev pub idle : ℕ
+idle = 34
+
+-- a limit is out of its range
+abbrev pub limit_status : LimitFault → ℕ
+limit_status Cells = 35
+limit_status Sessions = 36
+limit_status Resources = 37
+limit_status SoftAge = 38
+limit_status Trace = 33
+limit_status Budget = 33
+
+-- ---- Calls. Of a handle that is closed nothing is told, and it stays closed. A heap that is open stays open, and the call is one event
+-- of it
+
+-- an event that carries no token
+abbrev pub Calls : Option Heap → Event ℕ → Type 0 → (Answer → Type 0) → Option Heap → Type 0
+Calls None event Silent Tells new = Silent × (new ≡ None)
+Calls (Some old) event Silent Tells new = (answer : Answer) × (h : Heap) × (new ≡ Some h) × Steps old event (Answered answer None) h × Tells answer
+
+-- an event that may carry a token, in or out
+abbrev pub Carries : Option Heap → Event ℕ → Type 0 → (Answer → Option ℕ → Type 0) → Option Heap → Type 0
+Carries None event Silent Tells new = Silent × (new ≡ None)
+Carries (Some old) event Silent Tells new = (answer : Answer) × (token : Option ℕ) × (h : Heap) × (new ≡ Some h) × Steps old event (Answered answer token) h × Tells answer token
+
+-- a step of the handler
+abbrev pub HandsOver : Option Heap → Type 0 → (Handed → Type 0) → Option Heap → Type 0
+HandsOver None Silent Tells new = Silent × (new ≡ None)
+HandsOver (Some old) Silent Tells new = (what : Handed) × (h : Heap) × (new ≡ Some h) × Steps old HandOver (Answered (answer.Handed what) None) h × Tells what
+
+-- a piece of marking
+abbrev pub Marks : Option Heap → ℕ → Type 0 → (Progress → Type 0) → Option Heap → Type 0
+Marks None budget Silent Tells new = Silent × (new ≡ None)
+Marks (Some old) budget Silent Tells new = (progress : Progress) × (h : Heap) × (new ≡ Some h) × Steps old (Mark budget) (Marked progress) h × Tells progress
+
+-- ---- The life of a handle
+
+-- the empty heap of these limits is behind the handle
+abbrev pub Opens : ℕ → ℕ → ℕ → ℕ → Option Heap → Type 0
+Opens cells sessions resources soft_age new = (h : Heap) × (new ≡ Some h) × IsEmpty cells sessions resources soft_age 1 h
+
+-- the first limit that is out of its range is told
+abbrev pub TellsLimit : ℕ → Option LimitFault → Type 0
+TellsLimit status None = ⊥
+TellsLimit status (Some fault) = status ≡ limit_status fault

@@ -1,0 +1,2 @@
+-- What the arguments of calls stand for. What calls do is said by jlr_handle.
+pub mod Layouts

@@ -1,0 +1,8 @@
+(def down (fn (n) (if n (cons n (down (sub n 1))) ())))
+(def map (fn (f list) (if list (cons (f (head list)) (map f (tail list))) ())))
+(def sum (fn (list) (if list (add (head list) (sum (tail list))) 0)))
+(def twice (fn (f) (fn (x) (f (f x)))))
+(map (fn (n) (mul n n)) (down 10))
+(sum (map (fn (n) (mul n n)) (down 100)))
+((twice (twice (fn (n) (add n 3)))) 1)
+(map (twice tail) (quote ((1 2 3) (4 5) (6 7 8 9))))
