@@ -10,6 +10,7 @@ use jlr_device::real::{RealDevice, RealResource};
 use jlr_saving::file::trace_bytes_of;
 use jlr_server::Book;
 use jlr_server::hall::closing::CloseFault;
+use jlr_server::hall::history::Blank;
 use jlr_server::listener::Listener;
 use jlr_server::server::{ServeFault, Served, serve_over};
 use std::alloc::{AllocError, Global};
@@ -17,11 +18,7 @@ use std::fs;
 use std::io::{self, Write};
 use std::marker::Brand;
 use std::sync::Wait;
-use std::sync::ledger::Blank;
 use std::thread::Threads;
-
-/// The seats beside those of the sessions.
-const LOOPS: u64 = 3;
 
 /// Serves clients on a Unix socket, and writes how many and how many entries their history has, which is then saved where it is to be. The
 /// socket's file is removed at the end.
@@ -73,7 +70,7 @@ fn served<T: Threads + Wait + Sync>(
     for _ in 0..limits.sessions {
         devices.push(RealDevice::new(*rt))?;
     }
-    let blank = Blank::new(u64::from(limits.sessions) + LOOPS);
+    let blank = Blank::new(alloc)?;
     let done = serve_over::<_, _, Brand, _>(
         threads,
         alloc,

@@ -1,5 +1,5 @@
-pub mod Items
+pub mod Runs
+pub mod Steps
 pub mod Turns
-pub mod Ends
-pub mod Asking
-pub mod Giving
+pub mod Jobs
+pub mod Opening

@@ -1,61 +1,60 @@
--- What an ask does to its seat.
-use Rattle.std.specs.Prelude.{◌≡◌, ◌⊎◌, ◌<◌, ◌≤◌, ◌+◌, ℕ, Bool, true, false, [], ◌∷◌, ◌++◌, ⊤, Option, Some, None, is_some}
+-- What an ask of a seat is in the one history.
+use Rattle.std.specs.Prelude.{◌≡◌, ◌⊎◌, ◌<◌, ◌+◌, ◌&&◌, ℕ, Bool, true, false, cond, List, [], ◌∷◌, ◌++◌, Option, Some, None, is_some}
+use Rattle.jlr_types.specs.declared.limits.Limits.{Limits}
 use Rattle.jlr_types.specs.declared.Refusal.{Refusal}
 use Rattle.jlr_types.specs.declared.Refusal.TheVariants.{NoMemory, Exhausted}
 use Rattle.jlr_types.specs.declared.Work.{Work}
 use Rattle.jlr_types.specs.declared.Work.TheVariants.{Note, Resource as OnResource}
 use Rattle.jlr_machine.specs.declared.ask.Ask.{Ask}
-use Rattle.jlr_machine.specs.declared.ask.Answer.{Answer}
-use Rattle.jlr_machine.specs.declared.ask.Answer.TheVariants.{Job, Refused}
+use Rattle.jlr_machine.specs.declared.ask.Answer.TheVariants.{Job, Refused, Truth}
 use Rattle.jlr_machine.specs.declared.ask.Ask.TheVariants.{Finish, HandOver, TakeUp}
 use Rattle.jlr_machine.specs.Refusals.{asker, is_end}
-use Rattle.jlr_histories.specs.Rooms.{Rooms, HasRoomFor}
 use Rattle.jlr_event.specs.declared.event.Event.{Event}
+use Rattle.jlr_event.specs.declared.event.Event.TheVariants.{Abandon}
 use Rattle.jlr_event.specs.declared.event.Reply.{Reply}
 use Rattle.jlr_event.specs.declared.event.Reply.TheVariants.{Answered}
-use Rattle.jlr_event.specs.Events.{ask_of, answer_in}
-use Rattle.jlr_book.specs.Histories.{History, last}
-use Rattle.jlr_hall.specs.Seats.{Place, Unchanged, item, kept}
+use Rattle.jlr_event.specs.Events.{ask_of, resource_of_event}
+use Rattle.jlr_log.specs.Views.{own}
+use Rattle.jlr_log.specs.Seeing.{Seen}
+use Rattle.jlr_hall.specs.declared.step.Step.{Step}
+use Rattle.jlr_hall.specs.OneHistory.{IsHistory, seat_of, step}
 
--- the places that an ask takes or keeps: an end its own, any other also those of its call's end and of the leave
-abbrev pub needs : Option Ask → ℕ
-needs None = 0
-needs (Some ask) = elim (is_end ask) [ true ↦ 1 | false ↦ 3 ]
+-- the book cuts only before an ask that ends no call and no session
+abbrev pub may_cut : Option Ask → Bool
+may_cut None = false
+may_cut (Some ask) = elim (is_end ask) [ true ↦ false | false ↦ true ]
 
-abbrev pub HasRoomForAsk : Option Ask → Rooms → Type 0
-HasRoomForAsk None room = ⊤
-HasRoomForAsk (Some ask) room = HasRoomFor ask room
+module _ {R : Type 0} where
+  -- a cut gives an open cycle up
+  abbrev pub gave_up : ℕ → Bool → List (Step R)
+  gave_up seat cycle_open = cond cycle_open (step seat Abandon (Answered (Truth true) None) false ∷ []) []
 
--- The ask and its answer stand at the end, under one number; only items up to the base are gone, where it has risen. The share counts the entry, and with it that
--- of a cut which gave up a cycle. After an ask that is no end there is room for two ends.
-pub record Notes (old : Place) (number : ℕ) (ask : Ask) (answer : Answer) (new : Place) : Type 0 where
-  pub index : new.index ≡ old.index
-  pub sessions : new.sessions ≡ old.sessions
-  pub base : old.base ≤ new.base
-  pub items : new.items ≡ kept old.base new.base old.items ++ item number ask answer ∷ []
-  pub counted : (new.count ≡ old.count + 1) ⊎ (new.count ≡ old.count + 2)
-  pub room : is_end ask ≡ false → 2 ≤ new.room
-  pub end_room : is_end ask ≡ true → old.room ≤ new.room + 1
+  -- The event is the last step of a history that goes on from all that the seat knew: with this reply, and with the resources that came in and went out. Since
+  -- then there is nothing else of this seat, but that its cut gave a cycle up.
+  pub record Adds (limits : Limits) (old : Seen (Step R)) (event : Event R) (reply : Reply R) (new : Seen (Step R)) : Type 0 where
+    pub seat : new.seat ≡ old.seat
+    pub between : List (Step R)
+    pub others : own seat_of old.seat between ≡ []
+    pub cut : Bool
+    pub cuts : cut ≡ true → may_cut (ask_of event) ≡ true
+    pub cycle_open : Bool
+    pub known : new.known ≡ (old.known ++ between) ++ (gave_up old.seat (cut && cycle_open) ++ step old.seat event reply cut ∷ [])
+    pub legal : IsHistory limits new.known
 
--- An ask that is no end is declined because memory or numbers ran out, an end where the heap turns it away; by its seat only where no place
--- was kept for it.
-abbrev pub DeclinedFor : Bool → ℕ → Answer → Type 0
-DeclinedFor true room answer = (by : Refusal) × (answer ≡ Refused by) × (by ≡ NoMemory → room ≡ 0)
-DeclinedFor false room answer = (answer ≡ Refused NoMemory) ⊎ (answer ≡ Refused Exhausted)
+  -- The book refuses by itself an ask that ends nothing: the history has nothing of it, and what came in goes back. Only out of memory, or where entry
+  -- numbers ran out.
+  pub record Declined (old : Seen (Step R)) (event : Event R) (reply : Reply R) (new : Seen (Step R)) : Type 0 where
+    pub seat : new.seat ≡ old.seat
+    pub between : List (Step R)
+    pub others : own seat_of old.seat between ≡ []
+    pub known : new.known ≡ old.known ++ between
+    pub ends_nothing : may_cut (ask_of event) ≡ true
+    pub by : Refusal
+    pub why : (by ≡ NoMemory) ⊎ (by ≡ Exhausted)
+    pub refused : reply ≡ Answered (Refused by) (resource_of_event event)
 
-pub record Declined (old : Place) (ask : Ask) (answer : Answer) (new : Place) : Type 0 where
-  pub same : Unchanged old new
-  pub why : DeclinedFor (is_end ask) old.room answer
-
--- an ask and its answer are noted once, under one number, or declined; a piece of marking is never noted
-abbrev pub AskedFor : Option Ask → Option Answer → Place → Place → Type 0
-AskedFor (Some ask) (Some answer) old new = ((number : ℕ) × Notes old number ask answer new) ⊎ Declined old ask answer new
-AskedFor (Some ask) None old new = ⊥
-AskedFor None (Some answer) old new = ⊥
-AskedFor None None old new = Unchanged old new
-
-abbrev pub Asked : {R : Type 0} → Place → Event R → Reply R → Place → Type 0
-Asked old event reply new = AskedFor (ask_of event) (answer_in reply) old new
+  abbrev pub Asked : Limits → Seen (Step R) → Event R → Reply R → Seen (Step R) → Type 0
+  Asked limits old event reply new = Adds limits old event reply new ⊎ Declined old event reply new
 
 -- ---- Jobs
 
@@ -81,14 +80,3 @@ loop_for ask = 0
 abbrev pub IsOwn : ℕ → ℕ → Option Ask → Type 0
 IsOwn seat sessions None = seat ≡ sessions
 IsOwn seat sessions (Some ask) = elim (asker ask) [ Some k ↦ (seat ≡ k) × (seat < sessions) | None ↦ seat ≡ sessions + loop_for ask ]
-
--- ---- Under the lock
-
--- where the book has an entry more, its ask and answer stand at the end under its number; else nothing was noted
-pub record NotesWith {R : Type 0} (old : Place) (book : History R) (asked : Option Ask) (reply : Reply R) (new : Place) (book' : History R) : Type 0 where
-  pub noted : (ask : Ask) (answer : Answer) → asked ≡ Some ask → answer_in reply ≡ Some answer → last book < last book'
-      → (old.base ≤ new.base) × (new.items ≡ kept old.base new.base old.items ++ item (last book') ask answer ∷ []) × (old.room ≤ new.room + 1)
-  pub not_noted : last book' ≤ last book → new ≡ old
-  pub counted : new.count + last book ≡ old.count + last book'
-  pub index : new.index ≡ old.index
-  pub sessions : new.sessions ≡ old.sessions

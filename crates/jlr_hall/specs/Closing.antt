@@ -1,25 +1,44 @@
--- What a hall is opened with, and what its close finds.
-use Rattle.std.specs.Prelude.{ℕ, ◌==◌, ◌≡◌, Bool, true, false, ◌||◌, List, [], ◌∷◌}
+-- What a hall is opened with, and what its close tells.
+use Rattle.std.specs.Prelude.{◌≡◌, ◌==◌, ◌<◌, ◌+◌, ◌||◌, ℕ, Bool, true, false, List, [], ◌∷◌}
+use Rattle.jlr_types.specs.declared.limits.Limits.{Limits}
+use Rattle.jlr_log.specs.Rule.{Knows}
+use Rattle.jlr_log.specs.Seeing.{Seen}
 use Rattle.jlr_book.specs.Histories.{History}
-use Rattle.jlr_hall.specs.Seats.{Place}
-use Rattle.jlr_hall.specs.Agreement.{Agrees}
+use Rattle.jlr_hall.specs.declared.closing.CloseFault.{CloseFault}
+use Rattle.jlr_hall.specs.declared.closing.CloseFault.TheVariants.{Disagree}
+use Rattle.jlr_hall.specs.declared.step.Step.{Step}
+use Rattle.jlr_hall.specs.OneHistory.{IsWhole, seat_of}
 
-pub record IsNew (sessions k : ℕ) (p : Place) : Type 0 where
-  pub index : p.index ≡ k
-  pub sessions_are : p.sessions ≡ sessions
-  pub base : p.base ≡ 0
-  pub items : p.items ≡ []
-  pub count : p.count ≡ 0
+module _ {R : Type 0} where
+  -- of each of these seats the history has in order just what that seat was told
+  abbrev pub EachKnows : List (Step R) → List (Seen (Step R)) → Type 0
+  EachKnows log [] = Unit {0}
+  EachKnows log (p ∷ seats) = Knows seat_of p.seat p.known log × EachKnows log seats
 
-abbrev pub is_there : ℕ → List Place → Bool
-is_there k [] = false
-is_there k (p ∷ places) = (p.index == k) || is_there k places
+  abbrev pub is_there : ℕ → List (Seen (Step R)) → Bool
+  is_there k [] = false
+  is_there k (p ∷ seats) = (p.seat == k) || is_there k seats
 
-abbrev pub EachAgrees : {R : Type 0} → ℕ → History R → List Place → Type 0
-EachAgrees k h [] = Unit {0}
-EachAgrees k h (p ∷ places) = (p.index ≡ k → Agrees p h) × EachAgrees k h places
+  abbrev pub AllThere : Limits → List (Seen (Step R)) → Type 0
+  AllThere limits seats = (k : ℕ) → k < limits.sessions + 3 → is_there k seats ≡ true
 
--- seat k was handed in, and its transcript agrees
-pub record Stands {R : Type 0} (k : ℕ) (h : History R) (places : List Place) : Type 0 where
-  pub there : is_there k places ≡ true
-  pub agrees : EachAgrees k h places
+  -- one history ends with the book's trace, where its core stands, and has of each seat just what that seat was told
+  pub record Closes (limits : Limits) (seats : List (Seen (Step R))) (book : History R) : Type 0 where
+    pub log : List (Step R)
+    pub whole : IsWhole limits book log
+    pub told : EachKnows log seats
+    pub all_there : AllThere limits seats
+
+  -- the least seat that was not handed in
+  pub record IsLeastMissing (limits : Limits) (k : ℕ) (seats : List (Seen (Step R))) : Type 0 where
+    pub is_seat : k < limits.sessions + 3
+    pub missing : is_there k seats ≡ false
+    pub others : (j : ℕ) → j < k → is_there j seats ≡ true
+
+  -- a close fails just for a seat that was not handed in
+  abbrev pub FailsFor : Limits → List (Seen (Step R)) → CloseFault → Type 0
+  FailsFor limits seats fault = (k : ℕ) × (fault ≡ Disagree k) × IsLeastMissing limits k seats
+
+  -- a hall of these limits whose seats were all handed in was closed with this book
+  abbrev pub HasOneHistory : Limits → History R → Type 0
+  HasOneHistory limits book = (seats : List (Seen (Step R))) × Closes limits seats book

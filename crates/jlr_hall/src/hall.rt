@@ -1,33 +1,44 @@
 //! One book under one lock, asked by many seats.
-ghost use Rattle.std.specs.Prelude.{◌≡◌, ◌+◌, ◌<◌, ◌≤◌, Some};
+ghost use Rattle.std.specs.Prelude.{◌≡◌, ◌+◌, ◌<◌, ◌++◌};
 ghost use Rattle.jlr_machine.specs.Data.{Brings};
 ghost use Rattle.jlr_event.specs.Events.{ask_of};
-ghost use Rattle.jlr_event.specs.declared.event.Event.TheVariants.{Remove};
-ghost use Rattle.jlr_book.specs.Histories.{IsHistory, last};
-ghost use Rattle.jlr_book.specs.Rules.{BookSteps, MarksBy};
-ghost use Rattle.jlr_hall.specs.Asking.{Asked, HasItsResource, HasRoomForAsk, IsOwn, NotesWith, needs};
+ghost use Rattle.jlr_event.specs.declared.event.Event.TheVariants.{Mark, Remove};
+ghost use Rattle.jlr_log.specs.Rule.{Knows};
+ghost use Rattle.jlr_log.specs.Seeing.{seen, whole};
+ghost use Rattle.jlr_hall.specs.OneHistory.{IsWhole, seat_of};
+ghost use Rattle.jlr_hall.specs.Asking.{Asked, HasItsResource, IsOwn};
+ghost use Rattle.jlr_hall.specs.Telling.{added};
 
 use crate::seat::Seat;
+use crate::step::{Limited, Step};
 use jlr_book::book::Book;
-use jlr_book::event::refuse;
-use jlr_book::room::AnswerRoom;
 use jlr_event::event::{Event, Reply};
-use jlr_machine::ask::{Answer, Ask, Handed};
+use jlr_log::{Keeper, Log, Naming, Pass, Telling};
+use jlr_machine::ask::{Answer, Handed};
 use jlr_machine::data::{CallRoom, CopyRoom};
-use jlr_types::{Handle, Mutator, Progress, Refusal};
-use std::sync::ledger::{Ledger, Share};
-use std::sync::{Condvar, Mutex, MutexGuard, Wait, ledger};
+use jlr_types::{Handle, Mutator};
+use std::marker::{Brand, Model};
+use std::snapshot::Snapshot;
+use std::sync::{Condvar, Mutex, MutexGuard, Wait};
 
-/// What lies under the lock: the book, the count of all its entries, and whether the hall is to end.
+/// What lies under the lock: the book, who knows its whole history, and whether the hall is to end.
 #[derive(Drop)]
-pub(crate) struct Locked<R, L: Ledger> {
+pub(crate) struct Locked<R, L: Naming + Limited> {
     pub(crate) book: Book<R>,
-    pub(crate) ledger: ledger::Book<L>,
-    pub(crate) rest: Share<L>,
+    pub(crate) keeper: Keeper<Step<R>, L>,
     pub(crate) stopped: bool,
-    ghost counted: { ledger.total ≡ last book },
-    ghost no_part: { rest.parts ≡ 0 },
-    ghost none: { rest.amount ≡ 0 },
+}
+
+impl<R, L: Naming + Limited> Model for Locked<R, L> {
+    ghost use Rattle.std.specs.Prelude.{List};
+    ghost use Rattle.jlr_hall.specs.declared.step.Step.{Step};
+    ghost use Rattle.jlr_hall.specs.OneHistory.{IsWhole};
+
+    ghost Value = { List (Step R) };
+
+    ghost view = { λ l. l.keeper.all };
+
+    ghost invariant = { λ l. IsWhole L.limits l.book l.keeper.all };
 }
 
 /// Who would find something to do.
@@ -39,64 +50,39 @@ pub(crate) struct Looks {
     removers: bool,
 }
 
-impl<R: Drop, L: Ledger> Locked<R, L> {
-    pub(crate) fn new(book: Book<R>, ledger: ledger::Book<L>, rest: Share<L>) -> Self
-        requires count { ledger.total ≡ last book }
-        requires rest { (rest.parts ≡ 0) × (rest.amount ≡ 0) }
+impl<R: Drop, L: Naming + Limited> Locked<R, L> {
+    pub(crate) fn new(book: Book<R>, keeper: Keeper<Step<R>, L>) -> Self
+        requires { IsWhole L.limits book keeper.all }
     {
         Locked {
             book,
-            ledger,
-            rest,
+            keeper,
             stopped: false,
         }
     }
 
-    /// One event: an entry of the book and of the seat's transcript, or of neither.
+    /// One event of a seat: a step of the core, and of the one history. Or the book declines it, and it is none.
     #[inline(always)]
     pub(crate) fn ask(
         &mut self,
-        seat: &mut Seat<L>,
-        asked: Option<Ask>,
-        room: AnswerRoom,
+        log: &Log<Step<R>, L>,
+        pass: &mut Pass<Step<R>, L>,
+        seat: u8,
         event: Event<R>,
-        entry_room: Option<CopyRoom>,
+        room: Option<CopyRoom>,
     ) -> Reply<R>
-        requires asks { asked ≡ ask_of event }
-        requires brought { Brings entry_room asked }
-        requires place { needs asked ≤ seat.old.room }
-        requires list { HasRoomForAsk asked room }
-        ensures history { IsHistory self.old.book }
-        ensures steps { BookSteps seat.old.index self.old.book event result self.new.book }
-        ensures notes { NotesWith seat.old self.old.book asked result seat.new self.new.book }
+        requires brought { Brings room (ask_of event) }
+        requires seat { (pass.old.seat ≡ seat) × (seat < L.limits.sessions + 3) }
+        ensures asked { Asked L.limits pass.old event result pass.new }
+        ensures out { HasItsResource result }
     {
-        let Locked { book, ledger, .. } = self;
-        let mut room = room;
+        let Locked { book, keeper, .. } = self;
         book.is_history();
-        let before = book.last();
-        let reply = book.step(seat.index(), event, entry_room);
-        let after = book.last();
-        if before < after {
-            seat.count(ledger, after - before);
-            if let Some(ask) = asked {
-                match &reply {
-                    Reply::Answered { answer, .. } => {
-                        seat.note(after, book.base(), ask, room.copy(answer));
-                    }
-                    Reply::Marked(_) => drop(ask),
-                }
-            }
-        } else {
-            drop(asked);
-        }
+        let was = Snapshot::of(&*book);
+        let asked = Snapshot::of(&event);
+        let reply = book.step(seat, event, room);
+        note::<R, L, Brand>(log, keeper, pass, seat, &was, &asked, &reply, book);
         reply
-    }
-
-    /// A piece of marking of at most so many cells, which is no entry.
-    pub(crate) fn mark(&mut self, budget: u32) -> Progress
-        ensures { MarksBy self.old.book budget result self.new.book }
-    {
-        self.book.mark(budget)
     }
 
     /// Whether the marker would find something to do: a cycle to begin, or one that is open.
@@ -115,9 +101,32 @@ impl<R: Drop, L: Ledger> Locked<R, L> {
     }
 }
 
-/// Whether an ask may put a reference on a queue.
-pub(crate) fn fills_queue(asked: &Option<Ask>) -> bool {
-    matches!(asked, Some(Ask::Enqueue { .. } | Ask::HandOver))
+/// What the core was asked and answered stands in the history from here on.
+#[inline(always)]
+fn note<R, L: Naming, J: Telling<Step<R>>>(
+    log: &Log<Step<R>, L>,
+    keeper: &mut Keeper<Step<R>, L>,
+    pass: &mut Pass<Step<R>, L>,
+    seat: u8,
+    was: &Snapshot<Book<R>>,
+    event: &Snapshot<Event<R>>,
+    reply: &Reply<R>,
+    book: &Book<R>,
+)
+    requires told { J.told ≡ added seat was.now.value event.now.value reply.now book.now }
+    requires seat { pass.old.seat ≡ seat }
+    ensures knew { Knows seat_of seat pass.old.known keeper.old.all }
+    ensures keeper { keeper.new ≡
+        whole (keeper.old.all ++ added seat was.now.value event.now.value reply.now book.now) keeper.old.dealt }
+    ensures pass { pass.new ≡
+        seen seat (keeper.old.all ++ added seat was.now.value event.now.value reply.now book.now) }
+{
+    log.tell::<J>(keeper, pass);
+}
+
+/// Whether an event may put a reference on a queue.
+pub(crate) fn fills_queue<R>(event: &Event<R>) -> bool {
+    matches!(event, Event::Enqueue { .. } | Event::HandOver)
 }
 
 /// Whether an answer says that a reference came into its queue.
@@ -133,16 +142,18 @@ pub(crate) fn says_queued<R>(reply: &Reply<R>) -> bool {
 
 /// The book that all seats ask.
 #[derive(Drop)]
-pub struct Hall<R, L: Ledger> {
+pub struct Hall<R, L: Naming + Limited> {
     pub(crate) locked: Mutex<Locked<R, L>>,
+    pub(crate) log: Log<Step<R>, L>,
     pub(crate) marker: Condvar,
     pub(crate) handler: Condvar,
     pub(crate) cleaner: Condvar,
     pub(crate) removers: Condvar,
     pub(crate) seats: u8,
+    pub ghost count: { seats ≡ L.limits.sessions + 3 },
 }
 
-impl<R: Drop, L: Ledger> Hall<R, L> {
+impl<R: Drop, L: Naming + Limited> Hall<R, L> {
     /// Tells the loops and all who wait to end.
     pub fn stop<T: Wait>(&self, rt: &T) {
         self.locked.lock(rt).stopped = true;
@@ -189,7 +200,7 @@ impl Removal {
     }
 }
 
-impl<R: Drop, L: Ledger> Hall<R, L> {
+impl<R: Drop, L: Naming + Limited> Hall<R, L> {
     /// Takes the lock; for a `Remove` once it would not wait, or once the hall is to end.
     fn enter<T: Wait>(&self, rt: &T, removal: Option<Removal>) -> MutexGuard<'_, Locked<R, L>> {
         let locked = self.locked.lock(rt);
@@ -202,33 +213,29 @@ impl<R: Drop, L: Ledger> Hall<R, L> {
     }
 }
 
-impl<L: Ledger> Seat<L> {
-    /// One event of those that this seat may ask: a session's those of its mutator, the marker's `Begin`, `Collect`, `Abandon` and pieces of
-    /// marking, the handler's `HandOver`, the cleaner's `TakeUp` and the ends of its jobs. A `Remove` does not wait. Places in the transcript and
-    /// room for a list are made before the lock is taken, and nothing is read or written while it is held. With the end of a call that read
-    /// comes the room in which it is told again: whoever asks it makes that room before the call.
-    pub fn ask<R: Drop, T: Wait>(
+impl<R: Drop, L: Naming + Limited> Seat<R, L> {
+    /// One event of those that this seat may ask: a session's those of its mutator, the marker's `Begin`, `Collect`, `Abandon` and
+    /// pieces of marking, the handler's `HandOver`, the cleaner's `TakeUp` and the ends of its jobs. It is one step of the one history
+    /// of the hall, with its reply, and what comes back is what that step gave, the resource too; or the book declines an ask that ends
+    /// nothing, because memory or entry numbers ran out. A `Remove` does not wait. Nothing is read or written while the lock is held.
+    /// With the end of a call that read comes the room in which it is told again: whoever asks it makes that room before the call.
+    pub fn ask<T: Wait>(
         &mut self,
         rt: &T,
         hall: &Hall<R, L>,
         event: Event<R>,
         room: Option<CallRoom>,
     ) -> Reply<R>
-        requires own { IsOwn self.old.index self.old.sessions (ask_of event) }
+        requires own { IsOwn self.old.seat L.limits.sessions (ask_of event) }
         requires room { Brings room (ask_of event) }
-        ensures { Asked self.old event result self.new }
+        ensures { Asked L.limits self.old event result self.new }
     {
         self.ask_once(rt, hall, None, event, room)
     }
 
     /// One `Remove` of this seat's mutator, asked once its queue holds something, or once the hall is to end.
-    pub fn remove_waiting<R: Drop, T: Wait>(
-        &mut self,
-        rt: &T,
-        hall: &Hall<R, L>,
-        queue: Handle,
-    ) -> Reply<R>
-        ensures { Asked self.old (Remove self.old.index queue) result self.new }
+    pub fn remove_waiting<T: Wait>(&mut self, rt: &T, hall: &Hall<R, L>, queue: Handle) -> Reply<R>
+        ensures { Asked L.limits self.old (Remove self.old.seat queue) result self.new }
     {
         let mutator = Mutator::new(self.index());
         let removal = Removal { mutator, queue };
@@ -237,7 +244,7 @@ impl<L: Ledger> Seat<L> {
     }
 
     /// One event, once a `Remove` that it stands for would not wait. A job comes with its resource.
-    pub(crate) fn ask_once<R: Drop, T: Wait>(
+    pub(crate) fn ask_once<T: Wait>(
         &mut self,
         rt: &T,
         hall: &Hall<R, L>,
@@ -246,21 +253,29 @@ impl<L: Ledger> Seat<L> {
         room: Option<CallRoom>,
     ) -> Reply<R>
         requires { Brings room (ask_of event) }
-        ensures asked { Asked self.old event result self.new }
+        ensures asked { Asked L.limits self.old event result self.new }
         ensures out { HasItsResource result }
     {
-        let (entry_room, item_room) = CallRoom::split(room);
-        let (ask_room, answer_room) = CopyRoom::split(item_room);
-        let asked = event.plain(ask_room);
-        let Ok(room) = self.prepare(&asked, answer_room) else {
-            return refuse(event, Refusal::NoMemory);
-        };
-        let fills = fills_queue(&asked);
+        let (room, spare) = CallRoom::split(room);
+        drop(spare);
+        let fills = fills_queue(&event);
+        let Seat { index, pass, .. } = self;
         let mut locked = hall.enter(rt, removal);
-        let reply = locked.ask(self, asked, room, event, entry_room);
+        let reply = locked.ask(&hall.log, pass, *index, event, room);
         let looks = locked.looks(fills && says_queued(&reply));
         drop(locked);
         hall.wake(looks);
         reply
+    }
+
+    /// A piece of marking of at most so many cells, which is no entry. Nobody is woken.
+    pub(crate) fn mark<T: Wait>(&mut self, rt: &T, hall: &Hall<R, L>, budget: u32) -> Reply<R>
+        ensures { Asked L.limits self.old (Mark budget) result self.new }
+    {
+        let Seat { index, pass, .. } = self;
+        let event = Event::Mark { budget };
+        hall.locked
+            .lock(rt)
+            .ask(&hall.log, pass, *index, event, None)
     }
 }

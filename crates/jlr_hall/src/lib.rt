@@ -1,16 +1,20 @@
-//! Sessions and loops that share one heap: a seat for each, one book under one lock, and what each seat noted held against the history.
+//! Sessions and loops that share one heap: a seat for each, one book under one lock, and one history of all that was asked.
 //!
-//! A hall has a seat for each session, and one each for the marker, the handler and the cleaner. A seat asks by one event at a time: it makes its
-//! places first, takes the lock, gives the event to the book and lets the lock go. Nothing is read or written while the lock is held. What was
-//! asked and answered stands in the seat's transcript under the number of its entry, and each entry is counted in the seat's share of a ledger.
-//! `Hall::close` compares the transcripts with the history and the shares with its length.
+//! A hall has a seat for each session, and one each for the marker, the handler and the cleaner. A seat asks by one event at a
+//! time: it takes the lock, gives the event to the book and lets the lock go. Nothing is read or written while it is held.
+//!
+//! Each step of the book's core, with its reply and its resources, stands in one history, which exists in proofs alone and
+//! takes no memory. Under the lock lies a token that knows it whole: it is a run of the machine, and the book's trace is its
+//! end. Each seat has a token that knows the history up to the seat's last step. So each ask is known to be one step of one
+//! history, also where a cut takes its entry away, and `Hall::close` compares nothing.
 #![tactic(auto)]
 
-mod agreement;
 pub mod closing;
 pub mod hall;
 pub mod loops;
 pub mod port;
 pub mod seat;
+pub mod step;
 
 pub use jlr_book::book::Book;
+pub use jlr_log as history;

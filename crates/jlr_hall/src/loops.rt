@@ -1,26 +1,25 @@
 //! The loops beside the sessions. Each asks only where its look says that there is work, and ends once the hall is to end.
-ghost use Rattle.std.specs.Prelude.{◌≡◌, ℕ, true, Option, Some, None, IfErr, IfOk};
-ghost use Rattle.jlr_hall.specs.Seats.{Place};
-ghost use Rattle.jlr_machine.specs.declared.ask.Ask.{Ask};
-ghost use Rattle.jlr_cleaner.specs.declared.job.Job.{Job as JobOf};
-ghost use Rattle.jlr_event.specs.Events.{answer_in, ask_of};
-ghost use Rattle.jlr_hall.specs.Loops.{AsksOnly, CleansIn, IsHandlers, IsMarkers, is_refused};
+ghost use Rattle.std.specs.Prelude.{◌≡◌, true, Some, None, IfErr, IfOk};
+ghost use Rattle.jlr_log.specs.Seeing.{Seen};
+ghost use Rattle.jlr_hall.specs.declared.step.Step.{Step};
+ghost use Rattle.jlr_hall.specs.Loops.{AsksOnly, CleansIn, IsHandlers, IsMarkers};
 
 use crate::hall::Hall;
 use crate::seat::Seat;
+use crate::step::{Limited, Step};
 use jlr_cleaner::Job;
 use jlr_device::Resource;
 use jlr_event::event::{Event, Reply};
+use jlr_log::Naming;
 use jlr_machine::ask::Answer;
 use jlr_session::job::{carry_out, job_of};
 use jlr_types::Progress;
 use std::sync::Wait;
-use std::sync::ledger::Ledger;
 
 /// In whose name the cleaner takes jobs up.
 const CLEANER: u8 = 255;
 
-impl<R: Drop, L: Ledger> Hall<R, L> {
+impl<R: Drop, L: Naming + Limited> Hall<R, L> {
     /// Waits until something is pending. True where the hall is to end.
     fn wait_for_pending<T: Wait>(&self, rt: &T) -> bool {
         let locked = self.handler.wait_while(
@@ -73,11 +72,6 @@ impl<R: Drop, L: Ledger> Hall<R, L> {
         }
     }
 
-    /// A piece of the marking of an open cycle.
-    fn mark<T: Wait>(&self, rt: &T, budget: u32) -> Progress {
-        self.locked.lock(rt).mark(budget)
-    }
-
     /// Waits until the marker is woken, unless the hall is to end.
     fn wait_for_marker<T: Wait>(&self, rt: &T) {
         let locked = self.locked.lock(rt);
@@ -101,13 +95,13 @@ enum MarkerTask {
 /// Begins a cycle where one is due, marks it in pieces of at most so many cells, and collects it once all is marked, until the hall is to
 /// end. Each ask and each piece has the lock for itself, so that the sessions go on between them. A cycle that something else has closed
 /// is left; where an ask is refused it waits for the next event.
-pub fn marker_loop<R: Drop, L: Ledger, T: Wait>(
-    seat: Seat<L>,
+pub fn marker_loop<R: Drop, L: Naming + Limited, T: Wait>(
+    seat: Seat<R, L>,
     rt: &T,
     hall: &Hall<R, L>,
     budget: u32,
-) -> Seat<L>
-    ensures { AsksOnly IsMarkers seat result }
+) -> Seat<R, L>
+    ensures { AsksOnly L.limits IsMarkers seat result }
 {
     let mut seat = seat;
     for _ in rt.forever() {
@@ -121,28 +115,33 @@ pub fn marker_loop<R: Drop, L: Ledger, T: Wait>(
 }
 
 /// A piece of marking, and where all is marked then the collection.
-fn mark_or_collect<R: Drop, L: Ledger, T: Wait>(
-    seat: &mut Seat<L>,
+fn mark_or_collect<R: Drop, L: Naming + Limited, T: Wait>(
+    seat: &mut Seat<R, L>,
     rt: &T,
     hall: &Hall<R, L>,
     budget: u32,
 )
-    ensures { (first : Place) → AsksOnly IsMarkers first seat.old → AsksOnly IsMarkers first seat.new }
+    ensures { (first : Seen (Step R)) → AsksOnly L.limits IsMarkers first seat.old → AsksOnly L.limits IsMarkers first seat.new }
 {
-    if hall.mark(rt, budget) == Progress::Done {
+    if all_is_marked(&seat.mark(rt, hall, budget)) {
         ask_or_wait(seat, rt, hall, Event::Collect);
     }
 }
 
+/// Whether a piece of marking left nothing to mark.
+fn all_is_marked<R>(reply: &Reply<R>) -> bool {
+    matches!(reply, Reply::Marked(Progress::Done))
+}
+
 /// One ask of the marker's. Where it is refused it waits for the next event.
-fn ask_or_wait<R: Drop, L: Ledger, T: Wait>(
-    seat: &mut Seat<L>,
+fn ask_or_wait<R: Drop, L: Naming + Limited, T: Wait>(
+    seat: &mut Seat<R, L>,
     rt: &T,
     hall: &Hall<R, L>,
     event: Event<R>,
 )
-    requires { (ask : Ask) × (ask_of event ≡ Some ask) × IsMarkers ask }
-    ensures { (first : Place) → AsksOnly IsMarkers first seat.old → AsksOnly IsMarkers first seat.new }
+    requires { IsMarkers event }
+    ensures { (first : Seen (Step R)) → AsksOnly L.limits IsMarkers first seat.old → AsksOnly L.limits IsMarkers first seat.new }
 {
     if was_refused(&seat.ask_once(rt, hall, None, event, None)) {
         hall.wait_for_marker(rt);
@@ -150,12 +149,12 @@ fn ask_or_wait<R: Drop, L: Ledger, T: Wait>(
 }
 
 /// Hands over while something is pending, until the hall is to end. Where an ask is refused it waits for the next event.
-pub fn handler_loop<R: Drop, L: Ledger, T: Wait>(
-    seat: Seat<L>,
+pub fn handler_loop<R: Drop, L: Naming + Limited, T: Wait>(
+    seat: Seat<R, L>,
     rt: &T,
     hall: &Hall<R, L>,
-) -> Seat<L>
-    ensures { AsksOnly IsHandlers seat result }
+) -> Seat<R, L>
+    ensures { AsksOnly L.limits IsHandlers seat result }
 {
     let mut seat = seat;
     for _ in rt.forever() {
@@ -169,14 +168,14 @@ pub fn handler_loop<R: Drop, L: Ledger, T: Wait>(
     seat
 }
 
-/// Takes up what is Lined and does its work, until the hall is to end. It looks for that only between jobs: the outcome of each job is told. The
-/// work is done outside of the lock. Where a take-up is refused it waits for the next event.
-pub fn cleaner_loop<R: Resource + Drop, L: Ledger, T: Wait>(
-    seat: Seat<L>,
+/// Takes up what is Lined and does its work, until the hall is to end. It looks for that only between jobs: the outcome of each job is
+/// told, and none is left at the end. The work is done outside of the lock. Where a take-up is refused it waits for the next event.
+pub fn cleaner_loop<R: Resource + Drop, L: Naming + Limited, T: Wait>(
+    seat: Seat<R, L>,
     rt: &T,
     hall: &Hall<R, L>,
-) -> Seat<L>
-    ensures { (last : Option (JobOf R)) × CleansIn R.handling seat last result }
+) -> Seat<R, L>
+    ensures { CleansIn R.handling L.limits seat None result }
 {
     let mut seat = seat;
     for _ in rt.forever() {
@@ -191,13 +190,13 @@ pub fn cleaner_loop<R: Resource + Drop, L: Ledger, T: Wait>(
 }
 
 /// One take-up, and its job, if it gave one. Whether the loop goes on: it ends where the end of a job was turned away.
-fn clean<R: Resource + Drop, L: Ledger, T: Wait>(
-    seat: &mut Seat<L>,
+fn clean<R: Resource + Drop, L: Naming + Limited, T: Wait>(
+    seat: &mut Seat<R, L>,
     rt: &T,
     hall: &Hall<R, L>,
 ) -> bool
-    ensures goes_on { (first : Place) → CleansIn R.handling first None seat.old → result ≡ true → CleansIn R.handling first None seat.new }
-    ensures cleans { (first : Place) → CleansIn R.handling first None seat.old → (last : Option (JobOf R)) × CleansIn R.handling first last seat.new }
+    ensures { (first : Seen (Step R)) → CleansIn R.handling L.limits first None seat.old
+        → CleansIn R.handling L.limits first None seat.new }
 {
     match take_up(seat, rt, hall) {
         Ok(job) => finish(seat, rt, hall, job),
@@ -211,13 +210,15 @@ fn clean<R: Resource + Drop, L: Ledger, T: Wait>(
 }
 
 /// One take-up. Without a job: whether it was refused.
-fn take_up<R: Resource + Drop, L: Ledger, T: Wait>(
-    seat: &mut Seat<L>,
+fn take_up<R: Resource + Drop, L: Naming + Limited, T: Wait>(
+    seat: &mut Seat<R, L>,
     rt: &T,
     hall: &Hall<R, L>,
 ) -> Result<Job<R>, bool>
-    ensures job { (first : Place) → CleansIn R.handling first None seat.old → IfOk result (λ job. CleansIn R.handling first (Some job) seat.new) }
-    ensures none { (first : Place) → CleansIn R.handling first None seat.old → IfErr result (λ _. CleansIn R.handling first None seat.new) }
+    ensures job { (first : Seen (Step R)) → CleansIn R.handling L.limits first None seat.old
+        → IfOk result (λ job. CleansIn R.handling L.limits first (Some job) seat.new) }
+    ensures none { (first : Seen (Step R)) → CleansIn R.handling L.limits first None seat.old
+        → IfErr result (λ _. CleansIn R.handling L.limits first None seat.new) }
 {
     match job_of(seat.ask_once(rt, hall, None, Event::TakeUp, None)) {
         Ok(job) => Ok(job),
@@ -225,15 +226,15 @@ fn take_up<R: Resource + Drop, L: Ledger, T: Wait>(
     }
 }
 
-/// The work of a job, and its end. Whether that was not turned away.
-fn finish<R: Resource + Drop, L: Ledger, T: Wait>(
-    seat: &mut Seat<L>,
+/// The work of a job, and its end, which tells how it went. Whether that was not turned away.
+fn finish<R: Resource + Drop, L: Naming + Limited, T: Wait>(
+    seat: &mut Seat<R, L>,
     rt: &T,
     hall: &Hall<R, L>,
     job: Job<R>,
 ) -> bool
-    ensures goes_on { (first : Place) → CleansIn R.handling first (Some job) seat.old → result ≡ true → CleansIn R.handling first None seat.new }
-    ensures cleans { (first : Place) → CleansIn R.handling first (Some job) seat.old → (last : Option (JobOf R)) × CleansIn R.handling first last seat.new }
+    ensures { (first : Seen (Step R)) → CleansIn R.handling L.limits first (Some job) seat.old
+        → CleansIn R.handling L.limits first None seat.new }
 {
     let reply = seat.ask_once(rt, hall, None, carry_out(CLEANER, job), None);
     !was_refused(&reply)
@@ -243,9 +244,7 @@ fn refuses(answer: Answer) -> bool {
     matches!(&answer, Answer::Refused(_))
 }
 
-fn was_refused<R>(reply: &Reply<R>) -> bool
-    ensures { result ≡ is_refused (answer_in reply.now) }
-{
+fn was_refused<R>(reply: &Reply<R>) -> bool {
     match reply {
         Reply::Answered { answer, .. } => matches!(answer, Answer::Refused(_)),
         Reply::Marked(_) => false,

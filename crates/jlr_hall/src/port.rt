@@ -3,40 +3,42 @@ ghost use Rattle.std.specs.Prelude.{◌≡◌, IfErr, None};
 
 use crate::hall::{Hall, Removal};
 use crate::seat::Seat;
+use crate::step::Limited;
 use jlr_event::event::{Event, Reply};
+use jlr_log::Naming;
 use jlr_machine::data::CallRoom;
 use jlr_session::port::{Port, ReadRoom};
 use jlr_types::{Handle, Mutator, Refusal};
 use std::marker::Model;
 use std::sync::Wait;
-use std::sync::ledger::Ledger;
 
 /// A seat with its hall. Contracts see the seat.
 #[derive(Drop)]
-pub struct SeatPort<'a, R, L: Ledger, T> {
+pub struct SeatPort<'a, R, L: Naming + Limited, T> {
     rt: &'a T,
     hall: &'a Hall<R, L>,
-    seat: Seat<L>,
+    seat: Seat<R, L>,
 }
 
-impl<'a, R, L: Ledger, T> Model for SeatPort<'a, R, L, T> {
-    ghost use Rattle.jlr_hall.specs.Seats.{Place};
+impl<'a, R, L: Naming + Limited, T> Model for SeatPort<'a, R, L, T> {
+    ghost use Rattle.jlr_log.specs.Seeing.{Seen};
+    ghost use Rattle.jlr_hall.specs.declared.step.Step.{Step};
 
-    ghost Value = { Place };
+    ghost Value = { Seen (Step R) };
 
     ghost view = { λ p. p.seat };
 }
 
-impl<'a, R, L: Ledger, T> SeatPort<'a, R, L, T> {
+impl<'a, R, L: Naming + Limited, T> SeatPort<'a, R, L, T> {
     /// A seat at its hall.
-    pub fn new(rt: &'a T, hall: &'a Hall<R, L>, seat: Seat<L>) -> Self
+    pub fn new(rt: &'a T, hall: &'a Hall<R, L>, seat: Seat<R, L>) -> Self
         ensures { result ≡ seat }
     {
         SeatPort { rt, hall, seat }
     }
 
     /// The seat, as it was left.
-    pub fn into_seat(self) -> Seat<L>
+    pub fn into_seat(self) -> Seat<R, L>
         ensures { result ≡ self.entry }
     {
         let SeatPort { seat, .. } = self;
@@ -44,7 +46,7 @@ impl<'a, R, L: Ledger, T> SeatPort<'a, R, L, T> {
     }
 }
 
-impl<'a, R: Drop, L: Ledger, T: Wait> Port<R> for SeatPort<'a, R, L, T> {
+impl<'a, R: Drop, L: Naming + Limited, T: Wait> Port<R> for SeatPort<'a, R, L, T> {
     ghost use Rattle.jlr_machine.specs.declared.ask.Answer.TheVariants.{Refused};
     ghost use Rattle.jlr_machine.specs.Data.{Brings};
     ghost use Rattle.jlr_event.specs.Events.{ask_of};
@@ -53,17 +55,17 @@ impl<'a, R: Drop, L: Ledger, T: Wait> Port<R> for SeatPort<'a, R, L, T> {
     ghost use Rattle.jlr_hall.specs.Asking.{Asked};
     ghost use Rattle.jlr_hall.specs.Ports.{by_seat};
 
-    ghost asking = { by_seat };
+    ghost asking = { by_seat L.limits };
 
     fn mutator(&self) -> Mutator
-        ensures { result ≡ self.now.index }
+        ensures { result ≡ self.now.seat }
     {
         Mutator::new(self.seat.index())
     }
 
     fn read_room(&self, guard: Handle) -> Result<ReadRoom, Refusal>
         ensures declined { IfErr result (λ by.
-            Asked {R = R} self.now (CheckOut self.now.index guard) (Answered (Refused by) None) self.now) }
+            Asked L.limits self.now (CheckOut self.now.seat guard) (Answered (Refused by) None) self.now) }
     {
         let _declined = guard;
         match ReadRoom::new(self.seat.alloc()) {
@@ -74,8 +76,8 @@ impl<'a, R: Drop, L: Ledger, T: Wait> Port<R> for SeatPort<'a, R, L, T> {
 
     fn ask(&mut self, event: Event<R>, room: Option<CallRoom>) -> Reply<R>
         requires { Brings room (ask_of event) }
-        ensures asked { Asked self.old event result self.new }
-        ensures named { self.new.index ≡ self.old.index }
+        ensures asked { Asked L.limits self.old event result self.new }
+        ensures named { self.new.seat ≡ self.old.seat }
     {
         let removal = Removal::of(&event);
         self.seat.ask_once(self.rt, self.hall, removal, event, room)
@@ -83,6 +85,6 @@ impl<'a, R: Drop, L: Ledger, T: Wait> Port<R> for SeatPort<'a, R, L, T> {
 
     fn settle(&mut self)
         ensures settled { self.new ≡ self.old }
-        ensures named { self.new.index ≡ self.old.index }
+        ensures named { self.new.seat ≡ self.old.seat }
     {}
 }

@@ -1,5 +1,5 @@
 //! Asks of seats as text. The expected texts come from the description of the machine.
 mod book;
 mod cuts;
-mod forgeries;
+mod missing;
 mod turns;

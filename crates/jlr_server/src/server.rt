@@ -2,25 +2,26 @@
 ghost use Rattle.std.specs.Prelude.{◌≡◌, ◌≤◌, ◌+◌, ℕ, List, IfOk, length};
 ghost use Rattle.std.specs.Io.KnownBytes.{Appends, Consumes};
 ghost use Rattle.std.specs.Thread.{IsSend, IsSync};
-ghost use Rattle.jlr_hall.specs.Histories.{IsHistory};
 ghost use Rattle.jlr_session.specs.Limits.{FindsEnd, most_bytes};
 ghost use Rattle.jlr_session.specs.Serving.{Serves};
 ghost use Rattle.jlr_session.specs.declared.shell.SessionEnd.{SessionEnd};
 ghost use Rattle.jlr_hall.specs.Ports.{by_seat};
+ghost use Rattle.jlr_hall.specs.Closing.{HasOneHistory};
 ghost use Rattle.jlr_server.specs.declared.server.ServeFault.TheVariants.{Close, NoMemory};
 
 use jlr_device::{Device, Resource};
 use jlr_hall::Book;
 use jlr_hall::closing::CloseFault;
 use jlr_hall::hall::Hall;
+use jlr_hall::history::{Blank, Naming};
 use jlr_hall::loops::{cleaner_loop, handler_loop, marker_loop};
 use jlr_hall::port::SeatPort;
 use jlr_hall::seat::Seat;
+use jlr_hall::step::{Limited, Step};
 use jlr_session::serve::serve;
 use jlr_types::{Fault, Limits};
 use std::alloc::{AllocError, AllocFailed, Global};
 use std::io::{Read, Write};
-use std::sync::ledger::{Blank, Ledger};
 use std::sync::{Condvar, Mutex, Wait};
 use std::thread;
 use std::thread::{JoinHandle, Threads};
@@ -153,21 +154,21 @@ impl Accepts {
 
 /// A session over a seat: the client's lines are carried out in the name of the seat's mutator, and what was asked and answered stands in its
 /// transcript. The device opens the client's files and sockets.
-fn serve_seat<I: Read, O: Write, D: Device, L: Ledger, T: Wait>(
+fn serve_seat<I: Read, O: Write, D: Device, L: Naming + Limited, T: Wait>(
     rt: &T,
     hall: &Hall<D::Res, L>,
-    seat: Seat<L>,
+    seat: Seat<D::Res, L>,
     input: &mut I,
     output: &mut O,
     device: &mut D,
-) -> Seat<L>
+) -> Seat<D::Res, L>
 where
     D::Res: Drop,
     ensures { (end : SessionEnd) × (bytes : List ℕ) × (out : List ℕ)
         × Consumes (I.remaining input.old) (I.remaining input.new) bytes
         × Appends (O.contents output.old) (O.contents output.new) out
         × (length bytes ≤ most_bytes)
-        × Serves by_seat (record { count = D.count; opens = D.may_open; connects = D.may_connect; failures = D.Res.handling.count })
+        × Serves (by_seat L.limits) (record { count = D.count; opens = D.may_open; connects = D.may_connect; failures = D.Res.handling.count })
         D.Res.handling
         (FindsEnd (I.remaining input.new) bytes) end bytes seat device.old out result device.new }
 {
@@ -177,14 +178,14 @@ where
 }
 
 /// Serves clients by a seat while accepts are left. The last worker that goes ends the hall.
-fn worker<A: Acceptor, D: Device + Drop, L: Ledger, T: Wait>(
+fn worker<A: Acceptor, D: Device + Drop, L: Naming + Limited, T: Wait>(
     rt: &T,
     hall: &Hall<D::Res, L>,
     acceptor: &A,
     accepts: &Accepts,
-    seat: Seat<L>,
+    seat: Seat<D::Res, L>,
     device: D,
-) -> Seat<L>
+) -> Seat<D::Res, L>
 where
     D::Res: Drop,
 {
@@ -231,14 +232,14 @@ fn posts<D: Drop>(alloc: Global, devices: Vec<D>, budget: u32) -> Result<Vec<Pos
 }
 
 /// What a thread does on its seat, until the hall is to end.
-fn sit<A: Acceptor, D: Device + Drop, L: Ledger, T: Wait>(
+fn sit<A: Acceptor, D: Device + Drop, L: Naming + Limited, T: Wait>(
     rt: &T,
     hall: &Hall<D::Res, L>,
     acceptor: &A,
     accepts: &Accepts,
-    seat: Seat<L>,
+    seat: Seat<D::Res, L>,
     post: Post<D>,
-) -> Seat<L>
+) -> Seat<D::Res, L>
 where
     D::Res: Drop,
 {
@@ -258,7 +259,7 @@ where
 fn run_threads<
     A: Acceptor + Sync,
     D: Device + Drop + Send,
-    L: Ledger + Send + Sync,
+    L: Naming + Limited + Send + Sync,
     T: Threads + Wait + Sync,
 >(
     rt: &T,
@@ -266,9 +267,9 @@ fn run_threads<
     hall: &Hall<D::Res, L>,
     acceptor: &A,
     accepts: &Accepts,
-    seats: Vec<Seat<L>>,
+    seats: Vec<Seat<D::Res, L>>,
     posts: Vec<Post<D>>,
-) -> Result<Vec<Seat<L>>, ServeFault>
+) -> Result<Vec<Seat<D::Res, L>>, ServeFault>
 where
     A::In: Send,
     A::Out: Send,
@@ -277,7 +278,7 @@ where
     thread::scope(
         thread::scope_env(),
         rt,
-        move |scope| -> Result<Vec<Seat<L>>, ServeFault>
+        move |scope| -> Result<Vec<Seat<D::Res, L>>, ServeFault>
             requires { IsSync T.row × IsSend L.row × IsSync L.row × IsSync A.row × IsSend D.row × IsSend A.In.row × IsSend A.Out.row × IsSend D.Res.row }
         {
             let Ok(back) = Vec::with_capacity(alloc, seats.len()) else {
@@ -316,7 +317,12 @@ fn is_added<I: Drop>(list: &mut Vec<I>, item: I) -> bool {
 }
 
 /// Lets the workers accept where all threads are there; else they go, and the hall ends.
-fn begin<R: Drop, L: Ledger, T: Wait>(rt: &T, hall: &Hall<R, L>, accepts: &Accepts, all: bool) {
+fn begin<R: Drop, L: Naming + Limited, T: Wait>(
+    rt: &T,
+    hall: &Hall<R, L>,
+    accepts: &Accepts,
+    all: bool,
+) {
     if all {
         accepts.begin(rt, Phase::Open);
     } else {
@@ -329,12 +335,12 @@ fn begin<R: Drop, L: Ledger, T: Wait>(rt: &T, hall: &Hall<R, L>, accepts: &Accep
 ///
 /// # Errors
 /// `Start` where not all threads are there.
-fn joined<L: Ledger + Send, T: Threads + Wait>(
+fn joined<R: Drop + Send, L: Naming + Limited + Send, T: Threads + Wait>(
     rt: &T,
-    running: Vec<JoinHandle<Seat<L>>>,
-    back: Vec<Seat<L>>,
+    running: Vec<JoinHandle<Seat<R, L>>>,
+    back: Vec<Seat<R, L>>,
     all: bool,
-) -> Result<Vec<Seat<L>>, ServeFault> {
+) -> Result<Vec<Seat<R, L>>, ServeFault> {
     let mut back = back;
     let mut all = all;
     for thread in running {
@@ -358,7 +364,7 @@ fn joined<L: Ledger + Send, T: Threads + Wait>(
 pub fn serve_over<
     A: Acceptor + Sync,
     D: Device + Drop + Send,
-    L: Ledger + Send + Sync,
+    L: Naming + Limited + Send + Sync,
     T: Threads + Wait + Sync,
 >(
     rt: &T,
@@ -367,16 +373,16 @@ pub fn serve_over<
     total: u32,
     acceptor: &A,
     devices: Vec<D>,
-    blank: Blank,
+    blank: Blank<Step<D::Res>>,
 ) -> Result<Served<D::Res>, ServeFault>
 where
     A::In: Send,
     A::Out: Send,
     D::Res: Drop + Send,
     requires devices { length devices.items ≡ limits.sessions }
-    requires name { blank.name ≡ L.name }
-    requires parts { (blank.parts ≡ L.parts) × (blank.parts ≡ limits.sessions + 3) }
-    ensures history { IfOk result (λ served. IsHistory served.book) }
+    requires name { blank ≡ L.table }
+    requires limits { limits ≡ L.limits }
+    ensures history { IfOk result (λ served. HasOneHistory limits served.book) }
 {
     let posts = posts(alloc, devices, limits.budget)?;
     let Ok((hall, seats)) = Hall::<D::Res, L>::open(alloc, limits, blank) else {
@@ -389,12 +395,12 @@ where
 }
 
 /// What was served, where all threads ran and the seats agree.
-fn close<R: Drop, L: Ledger>(
+fn close<R: Drop, L: Naming + Limited>(
     hall: Hall<R, L>,
-    seats: Result<Vec<Seat<L>>, ServeFault>,
+    seats: Result<Vec<Seat<R, L>>, ServeFault>,
     accepts: u32,
 ) -> Result<Served<R>, ServeFault>
-    ensures history { IfOk result (λ served. IsHistory served.book) }
+    ensures history { IfOk result (λ served. HasOneHistory L.limits served.book) }
     ensures accepts { IfOk result (λ served. served.accepts ≡ accepts) }
 {
     match seats {

@@ -1,4 +1,4 @@
-//! Seats in turns, with cuts of the trace and without: each seat's transcript agrees with what is left.
+//! Seats in turns, with cuts of the trace and without: what each is answered, and what is left of the history.
 use super::turns::play_all;
 use std::test::Fail;
 
@@ -31,7 +31,7 @@ const LISTS: &str = "
     opened 5 -> handle 1
     closes 0 65
 
-== what a call read is noted as it was answered: 1 64
+== what a call read is answered: 1 64
     join -> done
     prepare -> prepared
     opened 5 -> handle 1
@@ -41,6 +41,30 @@ const LISTS: &str = "
     check_out 1 -> out 6
     check_in data - 6 -> data -
     closes 0 7
+
+-- Each session gets back what it put in, though both are open at once.
+== two sessions have a file each: 2 64
+    join -> done
+    seat 1 by 1 join -> done
+    prepare -> prepared
+    seat 1 by 1 prepare -> prepared
+    opened 5 -> handle 1
+    seat 1 by 1 opened 6 -> handle 1
+    check_out 1 -> out 5
+    seat 1 by 1 check_out 1 -> out 6
+    check_in 3 5 -> wrote 3
+    seat 1 by 1 check_in 2 6 -> wrote 2
+    seat 1 by 1 check_out 1 -> out 6
+    check_out 1 -> out 5
+    seat 1 by 1 check_in data 0606 6 -> data 0606
+    check_in data 05 5 -> data 05
+    close 1 -> job 1 5
+    seat 1 by 1 close 1 -> job 2 6
+    seat 1 by 1 finish 1 2 ok -> done
+    finish 0 1 ok -> done
+    leave -> done
+    seat 1 by 1 leave -> done
+    closes 0 20
 
 -- The leave that is refused is no entry.
 == the ask after it cuts: 2 64
@@ -100,6 +124,6 @@ const LISTS: &str = "
 ";
 
 #[test]
-fn transcripts_agree_through_cuts(rt: HostRuntime) -> Result<(), Fail> {
+fn seats_ask_through_cuts(rt: HostRuntime) -> Result<(), Fail> {
     play_all(&rt, rt.alloc(), LISTS)
 }

@@ -5,15 +5,17 @@
 //! and 8 entries.
 //!
 //! A text has several lists. Each begins with `== `, its name, a colon, and how many sessions its hall has and how many entries its trace
-//! holds; a hall has 16 cells and one resource. A line that begins with `-- ` is a comment.
-ghost use Rattle.std.specs.Prelude.{◌≡◌, ◌+◌};
+//! holds; a hall has 16 cells and two resources. A line that begins with `-- ` is a comment.
+ghost use Rattle.std.specs.Prelude.{◌≡◌};
 
 use jlr_event::event::Event;
 use jlr_hall::Book;
 use jlr_hall::closing::CloseFault;
 use jlr_hall::hall::Hall;
+use jlr_hall::history::{Blank, Naming};
 use jlr_hall::port::SeatPort;
 use jlr_hall::seat::Seat;
+use jlr_hall::step::{Limited, Step};
 use jlr_machine::data::CallRoom;
 use jlr_session::port::Port;
 use jlr_types::Limits;
@@ -21,7 +23,6 @@ use jlr_words::{event_of, is_reply};
 use std::alloc::Global;
 use std::marker::Brand;
 use std::sync::Wait;
-use std::sync::ledger::{Blank, Ledger};
 use std::test::Fail;
 
 const TITLE: &str = "== ";
@@ -71,7 +72,7 @@ fn limits_of(title: &str) -> Option<Limits> {
     let (sessions, trace) = numbers.split_once(' ')?;
     let sessions = sessions.parse().ok()?;
     let trace = trace.parse().ok()?;
-    Limits::checked(16, sessions, 1, 0, trace, 64).ok()
+    Limits::checked(16, sessions, 2, 0, trace, 64).ok()
 }
 
 /// What a close gave: the base of its book, and how many entries it has.
@@ -90,19 +91,19 @@ fn played<T: Wait>(
     limits: Limits,
     rows: &Rows,
 ) -> Result<(Option<usize>, Closed), Fail> {
-    let blank = Blank::new(u64::from(limits.sessions) + 3);
+    let blank = Blank::new(alloc)?;
     played_in::<Brand, T>(threads, alloc, limits, rows, blank)
 }
 
-fn played_in<L: Ledger, T: Wait>(
+fn played_in<L: Naming + Limited, T: Wait>(
     threads: &T,
     alloc: Global,
     limits: Limits,
     rows: &Rows,
-    blank: Blank,
+    blank: Blank<Step<u32>>,
 ) -> Result<(Option<usize>, Closed), Fail>
-    requires name { blank.name ≡ L.name }
-    requires parts { (blank.parts ≡ L.parts) × (blank.parts ≡ limits.sessions + 3) }
+    requires name { blank ≡ L.table }
+    requires limits { limits ≡ L.limits }
 {
     let (hall, seats) = Hall::<u32, L>::open(alloc, limits, blank)?;
     let (wrong, seats) = in_turns(threads, alloc, &hall, seats, rows.text);
@@ -122,13 +123,13 @@ fn told<R: Drop>(outcome: Result<Book<R>, CloseFault>) -> Closed {
 }
 
 /// Asks what the rows say. The number of the first row that is not as it says, and the seats.
-fn in_turns<L: Ledger, T: Wait>(
+fn in_turns<L: Naming + Limited, T: Wait>(
     threads: &T,
     alloc: Global,
     hall: &Hall<u32, L>,
-    seats: Vec<Seat<L>>,
+    seats: Vec<Seat<u32, L>>,
     rows: &str,
-) -> (Option<usize>, Vec<Seat<L>>) {
+) -> (Option<usize>, Vec<Seat<u32, L>>) {
     let mut ports = Vec::new(alloc);
     for seat in seats {
         drop(ports.push(SeatPort::new(threads, hall, seat)));
@@ -141,7 +142,7 @@ fn in_turns<L: Ledger, T: Wait>(
     (wrong, back)
 }
 
-fn first_wrong<L: Ledger, T: Wait>(
+fn first_wrong<L: Naming + Limited, T: Wait>(
     alloc: Global,
     ports: &mut Vec<SeatPort<'_, u32, L, T>>,
     rows: &str,
@@ -160,7 +161,7 @@ fn is_row(line: &str) -> bool {
     !line.is_empty() && !line.starts_with("-- ") && !line.starts_with(CLOSE)
 }
 
-fn are_answered<L: Ledger, T: Wait>(
+fn are_answered<L: Naming + Limited, T: Wait>(
     alloc: Global,
     ports: &mut Vec<SeatPort<'_, u32, L, T>>,
     row: &str,
@@ -179,7 +180,7 @@ fn are_answered<L: Ledger, T: Wait>(
     times > 0
 }
 
-fn is_answered<L: Ledger, T: Wait>(
+fn is_answered<L: Naming + Limited, T: Wait>(
     alloc: Global,
     port: &mut SeatPort<'_, u32, L, T>,
     ask: &str,
@@ -197,7 +198,7 @@ fn is_answered<L: Ledger, T: Wait>(
     }
 }
 
-fn is_told<L: Ledger, T: Wait>(
+fn is_told<L: Naming + Limited, T: Wait>(
     port: &mut SeatPort<'_, u32, L, T>,
     event: Event<u32>,
     room: CallRoom,

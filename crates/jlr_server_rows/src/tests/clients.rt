@@ -14,7 +14,11 @@ const TURNS: u64 = 1_000_000;
 /// How often a client asks the same until it is answered as it waits for.
 const ASKS: u64 = 65_000;
 
-/// A client: its commands and what each is answered, parted by `; `. A command that ends with ` until` is sent again until it is answered so.
+/// What ends the last of three commands that are sent again, all three, until it counts fewer objects than it did before.
+const UNTIL_FEWER: &str = " until fewer";
+
+/// A client: its commands and what each is answered, parted by `; `. A command that ends with ` until` is sent again until it is answered so;
+/// a `stat` that ends with ` until fewer`, with the two commands before it, until it counts fewer objects than it did before.
 #[derive(Drop)]
 pub(super) struct Client {
     pub commands: &'static str,
@@ -29,6 +33,10 @@ pub(super) struct Client {
     right: AtomicU64,
     /// Whether the last line came back as it was to.
     last_right: AtomicU64,
+    /// How many objects the last `stat` counted.
+    objects: AtomicU64,
+    /// How often the three commands were sent again.
+    rounds: AtomicU64,
     /// How many lines it takes: one after those fails.
     takes: u64,
 }
@@ -58,6 +66,8 @@ impl Client {
             replies: AtomicU64::new(0),
             right: AtomicU64::new(0),
             last_right: AtomicU64::new(0),
+            objects: AtomicU64::new(0),
+            rounds: AtomicU64::new(0),
             takes,
         }
     }
@@ -78,6 +88,13 @@ impl Client {
     fn next(&self) -> Option<&'static str> {
         let sent = self.sent.load(Ordering::SeqCst);
         let last = nth(self.commands, sent.wrapping_sub(1));
+        if last.is_some_and(|last| last.ends_with(UNTIL_FEWER)) {
+            if self.last_right.load(Ordering::SeqCst) == 1 {
+                self.right.fetch_add(1, Ordering::SeqCst);
+            } else if self.rounds.fetch_add(1, Ordering::SeqCst) < ASKS {
+                return self.again(sent);
+            }
+        }
         if let Some(command) = last.and_then(|last| last.strip_suffix(" until")) {
             if self.last_right.load(Ordering::SeqCst) == 1 {
                 self.right.fetch_add(1, Ordering::SeqCst);
@@ -88,20 +105,51 @@ impl Client {
         let command = nth(self.commands, sent)?;
         self.sent.store(sent.wrapping_add(1), Ordering::SeqCst);
         self.asked.store(0, Ordering::SeqCst);
+        let command = command.strip_suffix(UNTIL_FEWER).unwrap_or(command);
         Some(command.strip_suffix(" until").unwrap_or(command))
+    }
+
+    /// The first of the last three commands, from which it goes on again: the answers to the first two no longer count.
+    fn again(&self, sent: u64) -> Option<&'static str> {
+        self.sent.store(sent.wrapping_sub(2), Ordering::SeqCst);
+        self.right.fetch_sub(2, Ordering::SeqCst);
+        nth(self.commands, sent.wrapping_sub(3))
+    }
+
+    /// Whether a `stat` counts fewer objects than the one before.
+    fn counts_fewer(&self, line: &str) -> bool {
+        let Some(objects) = objects_in(line) else {
+            return false;
+        };
+        objects < self.objects.swap(objects, Ordering::SeqCst)
+    }
+
+    /// Whether a line is the answer that this command waits for.
+    fn is_right(&self, at: u64, line: &str) -> bool {
+        if nth(self.commands, at).is_some_and(|command| command.ends_with(UNTIL_FEWER)) {
+            return self.counts_fewer(line);
+        }
+        nth(self.answers, at) == Some(line)
     }
 
     /// A line came back.
     fn answered(&self, line: &str) {
         let at = self.sent.load(Ordering::SeqCst).wrapping_sub(1);
-        let is_right = nth(self.answers, at) == Some(line);
-        let waits = nth(self.commands, at).is_some_and(|command| command.ends_with(" until"));
+        let is_right = self.is_right(at, line);
+        let waits = nth(self.commands, at).is_some_and(|command| command.ends_with(" until")
+            || command.ends_with(UNTIL_FEWER));
         self.last_right.store(u64::from(is_right), Ordering::SeqCst);
         if is_right && !waits {
             self.right.fetch_add(1, Ordering::SeqCst);
         }
         self.replies.fetch_add(1, Ordering::SeqCst);
     }
+}
+
+/// How many objects an answer to `stat` counts.
+fn objects_in(line: &str) -> Option<u64> {
+    let (count, _) = line.strip_prefix("stat ")?.split_once(' ')?;
+    count.parse().ok()
 }
 
 /// The part of this number, from 0 on, of those that `; ` parts.

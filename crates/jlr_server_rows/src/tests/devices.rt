@@ -3,12 +3,12 @@ ghost use Rattle.std.specs.Prelude.{◌≡◌, ◌+◌};
 
 use super::clients::{After, Client, Clients};
 use jlr_device::script::{Script, ScriptDevice, Step};
+use jlr_server::hall::history::Blank;
 use jlr_server::server::{ServeFault, Served, serve_over};
 use jlr_types::{Fault, Limits};
 use std::alloc::Global;
 use std::marker::Brand;
 use std::sync::Wait;
-use std::sync::ledger::Blank;
 use std::test::Fail;
 use std::thread::Threads;
 
@@ -213,6 +213,7 @@ fn are_served<T: Threads + Wait + Sync>(
     let limits = Limits::checked(1_024, 1, 4, 4, 100_000, 64).ok()?;
     let mut devices = Vec::new(rt.alloc());
     devices.push(device).ok()?;
+    let blank = Blank::new(rt.alloc()).ok()?;
     let served = serve_over::<_, _, Brand, _>(
         threads,
         rt.alloc(),
@@ -220,7 +221,7 @@ fn are_served<T: Threads + Wait + Sync>(
         2,
         &clients,
         devices,
-        Blank::new(4),
+        blank,
     );
     Some(has_book(served))
 }

@@ -2,6 +2,7 @@
 ghost use Rattle.std.specs.Prelude.{◌≡◌, IfOk, length};
 
 use jlr_device::real::RealDevice;
+use jlr_server::hall::history::Blank;
 use jlr_server::listener::Listener;
 use jlr_server::server::{ServeFault, Served, serve_over};
 use jlr_types::Limits;
@@ -10,7 +11,6 @@ use std::io::{Read, Write};
 use std::marker::Brand;
 use std::os::unix::net::UnixStream;
 use std::sync::Wait;
-use std::sync::ledger::Blank;
 use std::test::Fail;
 use std::thread::Threads;
 use std::{fs, thread};
@@ -59,7 +59,7 @@ fn served<T: Threads + Wait + Sync>(
     listener: &Listener,
 ) -> Option<u32> {
     let devices = devices(rt, limits.sessions).ok()?;
-    let blank = Blank::new(u64::from(limits.sessions) + 3);
+    let blank = Blank::new(rt.alloc()).ok()?;
     accepts_of(serve_over::<_, _, Brand, _>(
         threads,
         rt.alloc(),

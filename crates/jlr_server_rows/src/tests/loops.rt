@@ -7,8 +7,8 @@ use std::test::Fail;
 #[test]
 fn loops_work(rt: HostRuntime) -> Result<(), Fail> {
     let clients = [Client::new(
-        "queue; new -; weak 2 1; drop 2; gc; poll 1 until; cleaner; new -; register 4 5 7; drop 5; gc; notes until; bye",
-        "= 1; = 2; = 3; ok; ok; = 2; = 4; = 5; = 6; ok; ok; list 7; ok",
+        "queue; new -; weak 2 1; drop 2; gc; poll 1 until; cleaner; new -; register 4 5 7; drop 5; gc; notes until; new -; drop 5; stat until fewer; bye",
+        "= 1; = 2; = 3; ok; ok; = 2; = 4; = 5; = 6; ok; ok; list 7; = 5; ok; fewer; ok",
     )];
     serve_all(rt, &rt, 65_536, &clients, After::Nothing, 0)?;
     Ok(())

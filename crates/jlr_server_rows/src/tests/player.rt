@@ -4,12 +4,12 @@ ghost use Rattle.std.specs.Prelude.{◌≡◌, IfOk, length};
 use super::clients::{After, Client, Clients};
 use jlr_device::gate::{Gate, GateDevice};
 use jlr_server::Book;
+use jlr_server::hall::history::Blank;
 use jlr_server::server::{ServeFault, Served, serve_over};
 use jlr_types::Limits;
 use std::alloc::{AllocError, Global};
 use std::marker::Brand;
 use std::sync::Wait;
-use std::sync::ledger::Blank;
 use std::test::Fail;
 use std::thread::Threads;
 
@@ -45,7 +45,7 @@ fn served<T: Threads + Wait + Sync>(
     clients: &Clients,
 ) -> Option<Entries> {
     let devices = devices(rt.alloc(), clients, limits.sessions).ok()?;
-    let blank = Blank::new(u64::from(limits.sessions) + 3);
+    let blank = Blank::new(rt.alloc()).ok()?;
     entries_of(serve_over::<_, _, Brand, _>(
         threads,
         rt.alloc(),

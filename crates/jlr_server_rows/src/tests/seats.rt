@@ -1,5 +1,5 @@
 //! Seats of a hall without a server: two sessions beside each other, and a `remove` that the end of the hall wakes.
-ghost use Rattle.std.specs.Prelude.{◌≡◌, ◌+◌};
+ghost use Rattle.std.specs.Prelude.{◌≡◌};
 ghost use Rattle.std.specs.Thread.{IsSend, IsSync};
 
 use super::clients::{After, Client, Clients};
@@ -9,8 +9,10 @@ use jlr_device::gate::{Gate, GateDevice, GateResource};
 use jlr_event::event::{Event, Reply};
 use jlr_machine::ask::Answer;
 use jlr_server::hall::hall::Hall;
+use jlr_server::hall::history::{Blank, Naming};
 use jlr_server::hall::port::SeatPort;
 use jlr_server::hall::seat::Seat;
+use jlr_server::hall::step::{Limited, Step};
 use jlr_server::server::Acceptor;
 use jlr_session::port::Port;
 use jlr_session::serve::serve;
@@ -18,18 +20,17 @@ use jlr_types::{Handle, Limits, Refusal};
 use std::alloc::Global;
 use std::marker::Brand;
 use std::sync::Wait;
-use std::sync::ledger::{Blank, Ledger};
 use std::test::Fail;
 use std::thread;
 use std::thread::Threads;
 
 /// A session of the next client at a seat.
-fn session<G: Gate + Acceptor + Copy + Drop, L: Ledger, T: Wait>(
+fn session<G: Gate + Acceptor + Copy + Drop, L: Naming + Limited, T: Wait>(
     threads: &T,
     hall: &Hall<GateResource<G>, L>,
     clients: G,
-    seat: Seat<L>,
-) -> Seat<L> {
+    seat: Seat<GateResource<G>, L>,
+) -> Seat<GateResource<G>, L> {
     let mut port = SeatPort::new(threads, hall, seat);
     if let Ok((mut lines, mut replies)) = clients.accept() {
         let _ = serve(
@@ -45,15 +46,15 @@ fn session<G: Gate + Acceptor + Copy + Drop, L: Ledger, T: Wait>(
 /// A client at each of the first two seats. The seats, as they were left.
 fn side_by_side<
     G: Gate + Acceptor + Copy + Drop + Send + Sync,
-    L: Ledger + Send + Sync,
+    L: Naming + Limited + Send + Sync,
     T: Threads + Wait + Sync,
 >(
     threads: &T,
     alloc: Global,
     hall: &Hall<GateResource<G>, L>,
     clients: G,
-    seats: Vec<Seat<L>>,
-) -> Vec<Seat<L>>
+    seats: Vec<Seat<GateResource<G>, L>>,
+) -> Vec<Seat<GateResource<G>, L>>
 where
     G::In: Send,
     G::Out: Send,
@@ -61,7 +62,7 @@ where
     thread::scope(
         thread::scope_env(),
         threads,
-        move |scope| -> Vec<Seat<L>>
+        move |scope| -> Vec<Seat<GateResource<G>, L>>
             requires { IsSync T.row × IsSend L.row × IsSync L.row × IsSend G.row × IsSync G.row × IsSend G.In.row × IsSend G.Out.row }
         {
             let mut running = Vec::new(alloc);
@@ -85,14 +86,20 @@ where
 
 fn two_sessions<
     G: Gate + Acceptor + Copy + Drop + Send + Sync,
-    L: Ledger + Send + Sync,
+    L: Naming + Limited + Send + Sync,
     T: Threads + Wait + Sync,
->(threads: &T, alloc: Global, limits: Limits, clients: G, blank: Blank) -> Result<Entries, Fail>
+>(
+    threads: &T,
+    alloc: Global,
+    limits: Limits,
+    clients: G,
+    blank: Blank<Step<GateResource<G>>>,
+) -> Result<Entries, Fail>
 where
     G::In: Send,
     G::Out: Send,
-    requires name { blank.name ≡ L.name }
-    requires parts { (blank.parts ≡ L.parts) × (blank.parts ≡ limits.sessions + 3) }
+    requires name { blank ≡ L.table }
+    requires limits { limits ≡ L.limits }
 {
     let (hall, seats) = Hall::<GateResource<G>, L>::open(alloc, limits, blank)?;
     let seats = side_by_side(threads, alloc, &hall, clients, seats);
@@ -102,7 +109,7 @@ where
             drop(book);
             Ok(entries)
         }
-        Err(_) => Err("a seat does not agree".into()),
+        Err(_) => Err("a seat is missing".into()),
     }
 }
 
@@ -111,7 +118,8 @@ fn gate_two_sessions(rt: HostRuntime) -> Result<(), Fail> {
     let pair = [Client::new(HELD.0, HELD.1), Client::new(SERVED.0, SERVED.1)];
     let clients = Clients::new(rt, &pair, After::Read, 6);
     let limits = Limits::checked(16, 2, 4, 4, 100, 64).ok().ok_or("limits")?;
-    let entries = two_sessions::<_, Brand, _>(&rt, rt.alloc(), limits, &clients, Blank::new(5))?;
+    let blank = Blank::new(rt.alloc())?;
+    let entries = two_sessions::<_, Brand, _>(&rt, rt.alloc(), limits, &clients, blank)?;
     if entries != (7, 7) || !clients.are_served() {
         return Err("the sessions went otherwise".into());
     }
@@ -119,7 +127,11 @@ fn gate_two_sessions(rt: HostRuntime) -> Result<(), Fail> {
 }
 
 /// Whether a `remove` that waits at a seat is refused once the hall is to end.
-fn is_told<L: Ledger, T: Wait>(threads: &T, hall: &Hall<u32, L>, seat: Seat<L>) -> bool {
+fn is_told<L: Naming + Limited, T: Wait>(
+    threads: &T,
+    hall: &Hall<u32, L>,
+    seat: Seat<u32, L>,
+) -> bool {
     let mut port = SeatPort::new(threads, hall, seat);
     let mutator = port.mutator();
     drop(port.ask(Event::Join { mutator }, None));
@@ -146,10 +158,10 @@ fn would_wait(reply: &Reply<u32>) -> bool {
 }
 
 /// Whether it is told so, where the hall is told to end beside it.
-fn is_stopped<L: Ledger + Send + Sync, T: Threads + Wait + Sync>(
+fn is_stopped<L: Naming + Limited + Send + Sync, T: Threads + Wait + Sync>(
     threads: &T,
     hall: &Hall<u32, L>,
-    seat: Seat<L>,
+    seat: Seat<u32, L>,
 ) -> bool {
     let (told, ()) = thread::join(
         threads,
@@ -160,14 +172,14 @@ fn is_stopped<L: Ledger + Send + Sync, T: Threads + Wait + Sync>(
 }
 
 /// The same over a hall of its own.
-fn ended<L: Ledger + Send + Sync, T: Threads + Wait + Sync>(
+fn ended<L: Naming + Limited + Send + Sync, T: Threads + Wait + Sync>(
     threads: &T,
     alloc: Global,
     limits: Limits,
-    blank: Blank,
+    blank: Blank<Step<u32>>,
 ) -> Result<bool, Fail>
-    requires name { blank.name ≡ L.name }
-    requires parts { (blank.parts ≡ L.parts) × (blank.parts ≡ limits.sessions + 3) }
+    requires name { blank ≡ L.table }
+    requires limits { limits ≡ L.limits }
 {
     let (hall, seats) = Hall::<u32, L>::open(alloc, limits, blank)?;
     let told = match seats.into_iter().next() {
@@ -181,7 +193,8 @@ fn ended<L: Ledger + Send + Sync, T: Threads + Wait + Sync>(
 #[test]
 fn by_the_end(rt: HostRuntime) -> Result<(), Fail> {
     let limits = Limits::checked(16, 1, 1, 0, 64, 1).ok().ok_or("limits")?;
-    if !ended::<Brand, _>(&rt, rt.alloc(), limits, Blank::new(4))? {
+    let blank = Blank::new(rt.alloc())?;
+    if !ended::<Brand, _>(&rt, rt.alloc(), limits, blank)? {
         return Err("it was answered otherwise".into());
     }
     Ok(())

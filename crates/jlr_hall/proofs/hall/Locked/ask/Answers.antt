@@ -1,25 +1,35 @@
-use Rattle.std.proofs.Common.{arith, subst, ◌∙◌, sym}
-use Rattle.jlr_book.specs.Rules.{BookSteps}
-use Rattle.jlr_book.proofs.Replies.{last_grows, reply_fits}
-use Rattle.jlr_hall.specs.Asking.{HasRoomForAsk}
+use Rattle.std.proofs.Common.{◌++◌, List, sym, ap, ◌∙◌, subst}
+use Rattle.jlr_event.specs.declared.event.Event.{Event}
+use Rattle.jlr_book.specs.Histories.{History}
+use Rattle.jlr_hall.specs.OneHistory.{IsWhole}
+use Rattle.jlr_hall.specs.Telling.{added}
+use Rattle.jlr_hall.proofs.Jobs.{comes_with}
+use Rattle.jlr_hall.proofs.Steps.{asked, tells, whole_now}
 use Rattle.jlr_hall.proofs.hall.Locked.ask.Goals as goal
 
-pub copy-requires : goal.copy-requires
-copy-requires g c =
-    let book = c.args.self.now.book in
+pub invariant_of-self : goal.invariant_of-self
+invariant_of-self g c =
+    let h = c.self.inside.book in
     let new = c.step-reply.new.self in
-    let asks = sym c.requires.asks ∙ c.in-Some.is in
-    let steps = subst (λ q. BookSteps c.index.result book c.args.event q new) c.in-Answered.is c.step-reply.ensures in
-    reply_fits book c.is_history.ensures new c.index.result c.args.event c.in-Some.ask c.in-Answered.answer c.in-Answered.resource c.args.room asks
-    (subst (λ o. HasRoomForAsk o c.args.room) c.in-Some.is c.requires.list) steps
+    let all = c.self.inside.keeper.all in
+    let n = c.args.seat in
+    let reply = c.step-reply.result in
+    let t = tells g.L.Limited.limits all n h new c.args.event reply c.requires.seat.1 c.is_history.ensures c.self.invariant c.step-reply.ensures in
+    let is = ap (λ (x : History g.row.R.Denot × Event g.row.R.Denot). added n x.0 x.1 reply new) (λ i. (c.of-was.ensures i, c.of-asked.ensures i)) in
+    let kept = ap (λ k. k.all) c.note.ensures.keeper ∙ ap (λ l. all ++ l) is in
+    subst (IsWhole g.L.Limited.limits new) (sym kept) (whole_now g.L.Limited.limits all (added n h c.args.event reply new) n h new c.args.event reply c.self.invariant t)
 
-pub invariant_of-self-else-before-after : goal.invariant_of-self-else-before-after
-invariant_of-self-else-before-after g c =
-    let old = c.args.self.now in
+pub returns-clause-asked : goal.returns-clause-asked
+returns-clause-asked g c =
+    let h = c.self.inside.book in
     let new = c.step-reply.new.self in
-    let grows = last_grows old.book new c.index.result c.args.event c.step-reply.result c.step-reply.ensures in
-    record {
-      counted = omega (arith, grows, old.counted, c.last-before.ensures, c.last-after.ensures, c.if-before-after.false);
-      no_part = old.no_part;
-      none = old.none;
-    }
+    let all = c.self.inside.keeper.all in
+    let n = c.args.seat in
+    let reply = c.step-reply.result in
+    let t = tells g.L.Limited.limits all n h new c.args.event reply c.requires.seat.1 c.is_history.ensures c.self.invariant c.step-reply.ensures in
+    let is = ap (λ (x : History g.row.R.Denot × Event g.row.R.Denot). added n x.0 x.1 reply new) (λ i. (c.of-was.ensures i, c.of-asked.ensures i)) in
+    let known = ap (λ p. p.known) c.note.ensures.pass ∙ ap (λ l. all ++ l) is in
+    asked g.L.Limited.limits c.args.pass.now c.note.new.pass n all (added n h c.args.event reply new) h new c.args.event reply c.requires.seat.0 c.note.ensures.knew (ap (λ p. p.seat) c.note.ensures.pass) known c.self.invariant t
+
+pub returns-clause-out : goal.returns-clause-out
+returns-clause-out g c = comes_with _ _ _ _ _ c.step-reply.ensures

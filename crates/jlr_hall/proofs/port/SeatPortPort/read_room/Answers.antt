@@ -1,10 +1,18 @@
-use Rattle.std.proofs.Common.{inl, inr, refl, arith}
+use Rattle.std.proofs.Common.{[], inl, inr, refl, sym}
+use Rattle.std.proofs.lemmas.List.{append-nil}
+use Rattle.jlr_types.specs.declared.Refusal.TheVariants.{NoMemory}
 use Rattle.jlr_hall.proofs.port.SeatPortPort.read_room.Goals as goal
 
 pub returns-in-Err : goal.returns-in-Err
 returns-in-Err g c = rw (← c.self.view_is) (record {
   declined = inr (record {
-    same = record { index = refl; sessions = refl; base = refl; items = refl; count = refl; room = omega arith };
+    seat = refl;
+    between = [];
+    others = refl;
+    known = sym (append-nil _);
+    ends_nothing = refl;
+    by = NoMemory;
     why = inl refl;
+    refused = refl;
   });
 })

@@ -1,4 +1,8 @@
 use Rattle.jlr_hall_rows.proofs.tests.turns.played.Given as goal
 
-abbrev pub ghosts-played_in : goal.ghosts-played_in
-ghosts-played_in g a = record { name = a.blank.name; parts = a.blank.parts }
+-- the history that was just opened, and its limits
+abbrev pub ghosts-played_in-L-Naming : goal.ghosts-played_in-L-Naming
+ghosts-played_in-L-Naming g a = record { table = a.blank }
+
+abbrev pub ghosts-played_in-L-Limited : goal.ghosts-played_in-L-Limited
+ghosts-played_in-L-Limited g a = record { limits = a.limits }
