@@ -2,7 +2,7 @@
 //!
 //! `weak 2 1 -> handle 3` asks for a weak reference to what handle 2 holds, on the queue that handle 1 holds, and wants handle 3 for an
 //! answer. The words of asks and answers are those of `jlr_words`. A row whose answer is `handle 2 up to 16` stands for fifteen rows, with
-//! handles from 2 to 16. An ask behind `again` may be refused because memory ran out, and is then made again. A row without an arrow is an ask
+//! handles from 2 to 16; behind `uncollected`, each is to come without a collection in its choice. An ask behind `again` may be refused because memory ran out, and is then made again. A row without an arrow is an ask
 //! whose answer is not looked at, or looks at the core: `objects 3` wants so many objects, `rests no` that something is pending or
 //! stands in
 //! the cleaner's line.

@@ -387,7 +387,7 @@ const LISTS: &str = "
     collect -> yes
     stat -> stat 8 0 0 0 0
     mark 3 -> marked idle
-    new -> handle 1 up to 8
+    uncollected new -> handle 1 up to 8
     stat -> stat 16 0 0 0 0
 
 -- The same, with a look in between.

@@ -14,6 +14,8 @@ const ARROW: &str = " -> ";
 
 const TITLE: &str = "== ";
 
+const UNCOLLECTED: &str = "uncollected ";
+
 // ---- Lists
 
 /// The heap of a list.
@@ -249,6 +251,11 @@ pub(super) fn is_answered(
     }
 }
 
+// An ask behind `uncollected` is to be answered without a collection in its choice.
+fn is_uncollected(choice: &Choice, ask: &str) -> bool {
+    !ask.starts_with(UNCOLLECTED) || !choice.collects()
+}
+
 // How an ask was answered.
 #[derive(Clone, Copy)]
 enum Outcome {
@@ -339,8 +346,11 @@ fn gives_handle(
     requires { length core.old.machine.objects ≤ choice.old.cells }
     ensures { length core.new.machine.objects ≤ choice.new.cells }
 {
-    match event_of(alloc, ask) {
-        Some(event) => handle_in(&core.step(event, choice)) == Some(number),
+    match event_of(alloc, ask.strip_prefix(UNCOLLECTED).unwrap_or(ask)) {
+        Some(event) => {
+            let handle = handle_in(&core.step(event, choice));
+            handle == Some(number) && is_uncollected(choice, ask)
+        }
         None => false,
     }
 }

@@ -40,3 +40,58 @@ fn each_cut_is_answered_alike(rt: HostRuntime) -> Result<(), Fail> {
     }
     Ok(())
 }
+
+/// The replies to the lines that end among the first bytes, so many of them, and where the last of these lines ends.
+fn replies_before(alloc: Global, count: usize) -> Result<(Vec<u8>, usize), AllocError> {
+    let mut replies = Vec::new(alloc);
+    let mut last = 0;
+    for (end, reply) in [
+        (513, "! 15\n"),
+        (1_027, "! 16\n"),
+        (1_033, "! 15\n"),
+        (1_034, "! 15\n"),
+    ] {
+        if end <= count {
+            replies.extend_from_slice(reply.as_bytes())?;
+            last = end;
+        }
+    }
+    Ok((replies, last))
+}
+
+/// How the session of the first bytes, so many of them, has to end and to be answered: an unfinished line is refused at its end.
+fn wanted(alloc: Global, count: usize) -> Result<(SessionEnd, Vec<u8>), AllocError> {
+    let (mut replies, last) = replies_before(alloc, count)?;
+    let unfinished = count.saturating_sub(last);
+    if unfinished == 0 {
+        return Ok((SessionEnd::End, replies));
+    }
+    replies.extend_from_slice(if unfinished > 512 {
+        b"! 16\n"
+    } else {
+        b"! 15\n"
+    })?;
+    Ok((SessionEnd::Truncated, replies))
+}
+
+/// The session of a prefix of the bytes ends and is answered as it has to.
+fn prefix(alloc: Global, bytes: &[u8]) -> Result<(), Fail> {
+    let setting = Setting::read(alloc, "").ok_or("setting")?;
+    let got = setting.played(alloc, b"", bytes)?;
+    let (end, replies) = wanted(alloc, bytes.len())?;
+    if got.end != end || got.out.as_slice() != replies.as_slice() {
+        let label = "each prefix is answered line by line";
+        return Err(told(alloc, label, text_of(bytes), text_of(got.out.as_slice())));
+    }
+    Ok(())
+}
+
+#[test]
+fn each_prefix_is_answered_line_by_line(rt: HostRuntime) -> Result<(), Fail> {
+    let bytes = bytes(rt.alloc())?;
+    for place in 0..=bytes.len() {
+        let (first, _) = bytes.as_slice().split_at(place);
+        prefix(rt.alloc(), first)?;
+    }
+    Ok(())
+}

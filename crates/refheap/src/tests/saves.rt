@@ -1,5 +1,5 @@
 //! Saved histories: each row is what a session reads, with `;` for the end of a line, an arrow, and the verdict on the history that it saved.
-use super::verdicts::compared;
+use super::verdicts::{compared, push_decoded};
 use jlr_command_line::arguments::AuditOrder;
 use jlr_commands::audit::audit;
 use jlr_commands::save::session_saved;
@@ -19,6 +19,12 @@ const ROWS: &str = "
     new -;bye -> legal 3 version 2
     array 2; -> legal 3 version 2
     array 3;new -;put 1 2 2;drop 2;gc;get 1 2;array 4096;put 3 4095 1;drop 1;gc; -> legal 12 version 2
+";
+
+/// What a session reads, and the bytes of the history that it saves.
+const BYTES: &str = "
+    nothing -> 4a4c5254 02 00000010 01 0010 0000000000000000 00000000 00 00000000 00000000 00000000 00000000 00000000 00000000 00000000 0000000000000001 0000000000000000 0000000000000000 0000000000000000 0000000000000002 00 0000 00 00 00 0100 00 00
+    array 2; -> 4a4c5254 02 00000010 01 0010 0000000000000000 00000000 00 00000000 00000000 00000000 00000000 00000000 00000000 00000000 0000000000000001 0000000000000000 0000000000000000 0000000000000000 0000000000000003 00 0000 00 00 00 29000002 0101 020100000000 00 0100 00 00
 ";
 
 /// Where the tests save a history.
@@ -63,6 +69,34 @@ fn played(rt: HostRuntime, row: &str) -> Result<(), Fail> {
     let got = verdict(rt)?;
     fs::remove_file(&rt, PATH)?;
     compared(row, got.as_str(), wanted)
+}
+
+/// The bytes of the file that these digits tell of.
+fn bytes_of(alloc: Global, digits: &str) -> Result<Vec<u8>, Fail> {
+    let mut bytes = Vec::new(alloc);
+    push_decoded(&mut bytes, digits)?;
+    Ok(bytes)
+}
+
+/// A session saves just these bytes, each of them.
+fn saved_bytes(rt: HostRuntime, row: &str) -> Result<(), Fail> {
+    let (input, wanted) = row.split_once(" -> ").ok_or("no row")?;
+    saved(rt, input)?;
+    let got = fs::read(&rt, PATH)?;
+    fs::remove_file(&rt, PATH)?;
+    if got.as_slice() == bytes_of(rt.alloc(), wanted)?.as_slice() {
+        return Ok(());
+    }
+    Err(Fail::new(format_args!("at {input}: other bytes are saved")))
+}
+
+#[test]
+fn a_session_saves_these_bytes(rt: HostRuntime) -> Result<(), Fail> {
+    let _ = fs::remove_file(&rt, PATH);
+    for row in BYTES.trim().lines() {
+        saved_bytes(rt, row.trim())?;
+    }
+    Ok(())
 }
 
 #[test]

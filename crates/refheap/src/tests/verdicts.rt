@@ -43,7 +43,8 @@ const ROWS: &str = "
 /// Where the tests write a history.
 const PATH: &str = "refheap_history";
 
-fn push_decoded(bytes: &mut Vec<u8>, text: &str) -> Result<(), Fail> {
+/// Appends the bytes that words of hexadecimal digits tell of.
+pub(super) fn push_decoded(bytes: &mut Vec<u8>, text: &str) -> Result<(), Fail> {
     for word in text.split_whitespace() {
         for at in (0..word.len()).step_by(2) {
             bytes.push(u8::from_str_radix(word.get(at..at + 2).ok_or("no bytes")?, 16)?)?;
