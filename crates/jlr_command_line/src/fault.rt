@@ -25,6 +25,11 @@ pub enum ProgramFault {
     CannotSave(String),
     #[error("cannot listen on {0}")]
     CannotListen(String),
+    #[error("cannot reach {0}")]
+    CannotReach(String),
+    /// A server that was asked to end did not save its history, or was cut off before it had ended.
+    #[error("the server did not end in order")]
+    NotEnded,
     /// A seat of a server does not agree with the history.
     #[error("seat {0} disagrees")]
     Disagree(u8),
@@ -53,7 +58,8 @@ impl ProgramFault {
         match self {
             ProgramFault::Read | ProgramFault::Write => 1,
             ProgramFault::CannotRead(_) | ProgramFault::CannotSave(_) => 1,
-            ProgramFault::CannotListen(_) => 1,
+            ProgramFault::CannotListen(_) | ProgramFault::CannotReach(_) => 1,
+            ProgramFault::NotEnded => 1,
             ProgramFault::CommandLine(_) => 2,
             ProgramFault::Illegal | ProgramFault::Disagree(_) => 3,
             ProgramFault::Unfinished | ProgramFault::TooManyLines => 4,

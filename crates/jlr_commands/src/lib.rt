@@ -2,8 +2,10 @@
 #![tactic(auto)]
 
 pub mod audit;
+mod descriptors;
 pub mod program;
 pub mod progress;
 pub mod save;
 pub mod serve;
 pub mod session;
+mod stop;

@@ -3,6 +3,7 @@ use crate::audit::audit;
 use crate::save::session_saved;
 use crate::serve::serve;
 use crate::session::session;
+use crate::stop::stop;
 use jlr_command_line::arguments::{self, Order, RunOrder};
 use jlr_command_line::fault::ProgramFault;
 use jlr_device::real::RealDevice;
@@ -18,6 +19,7 @@ pub fn run<T: Threads + Wait + Sync>(rt: &HostRuntime, threads: &T) -> Result<()
     match arguments::order_of(rt.alloc(), words.as_slice())? {
         Order::Run(order) => run_alone(rt, order),
         Order::Serve(service) => serve(rt, threads, service, &mut rt.stdout()),
+        Order::Stop(order) => stop(rt, order.control),
         Order::Audit(order) => audit(rt, order, &mut rt.stdout()),
     }
 }
