@@ -12,6 +12,9 @@
 mod device;
 pub mod gate;
 pub mod guarded;
+pub mod fenced;
+mod path;
+pub mod places;
 pub mod real;
 mod resource;
 pub mod retry;
