@@ -8,6 +8,7 @@ use crate::path::{self, PATH_LIMIT};
 use crate::places::Places;
 use arrayvec::ArrayString;
 use jlr_types::Fault;
+use std::os::fd::RawFd;
 
 /// Which paths are allowed.
 #[derive(Clone, Copy)]
@@ -123,5 +124,17 @@ impl<'a, D: Device, P: Places> Device for Fenced<'a, D, P> {
                 None => Err(self.deny()),
             },
         }
+    }
+
+    fn attend(&mut self, client: Option<RawFd>) {
+        self.device.attend(client);
+    }
+
+    fn read(&self, resource: &mut Self::Res, buf: &mut [u8]) -> Result<usize, Fault> {
+        self.device.read(resource, buf)
+    }
+
+    fn write(&self, resource: &mut Self::Res, bytes: &[u8]) -> Result<usize, Fault> {
+        self.device.write(resource, bytes)
     }
 }

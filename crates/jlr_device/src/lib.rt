@@ -21,6 +21,7 @@ pub mod real;
 mod resource;
 pub mod retry;
 pub mod script;
+mod waiting;
 
 pub use device::{Device, Mode};
 pub use resource::{Finished, Resource};
