@@ -5,6 +5,7 @@ pub mod audit;
 mod descriptors;
 pub mod program;
 pub mod progress;
+mod reach;
 pub mod save;
 pub mod serve;
 pub mod session;

@@ -1,12 +1,12 @@
 //! What the program does: what the words of its command line ask for.
 use crate::audit::audit;
+use crate::reach::fenced;
 use crate::save::session_saved;
 use crate::serve::serve;
 use crate::session::session;
 use crate::stop::stop;
 use jlr_command_line::arguments::{self, Order, RunOrder};
 use jlr_command_line::fault::ProgramFault;
-use jlr_device::real::RealDevice;
 use std::sync::Wait;
 use std::thread::Threads;
 
@@ -28,7 +28,7 @@ pub fn run<T: Threads + Wait + Sync>(rt: &HostRuntime, threads: &T) -> Result<()
 fn run_alone(rt: &HostRuntime, order: RunOrder<'_>) -> Result<(), ProgramFault> {
     let mut reader = rt.stdin();
     let mut writer = rt.stdout();
-    let mut device = RealDevice::new(*rt);
+    let mut device = fenced(rt, order.reach, &[]);
     match order.save {
         Some(path) => session_saved(
             rt,

@@ -4,16 +4,18 @@ ghost use Rattle.jlr_prog.specs.Books.{last};
 ghost use Rattle.jlr_saving.specs.Saving.{IsSaved};
 
 use crate::descriptors::warn_of_few;
+use crate::reach::fenced;
 use crate::save::save;
 use jlr_command_line::arguments::Service;
 use jlr_command_line::fault::ProgramFault;
-use jlr_device::real::{RealDevice, RealResource};
+use jlr_device::places::Inode;
 use jlr_saving::file::trace_bytes_of;
 use jlr_server::Book;
 use jlr_server::hall::closing::CloseFault;
 use jlr_server::hall::history::Blank;
 use jlr_server::listener::{LineWatcher, Listener, Place, SocketFiles};
 use jlr_server::server::{ServeFault, Served, Watched, serve_watched};
+use jlr_server::socket_file::remove_own;
 use std::alloc::{AllocError, Global};
 use std::io::{self, Write};
 use std::marker::Brand;
@@ -34,10 +36,11 @@ pub fn serve<T: Threads + Wait + Sync>(
 ) -> Result<(), ProgramFault> {
     warn_of_few(rt, service.limits);
     let (listener, watcher, files) = listening(rt, service)?;
-    let outcome = served(rt, threads, service, &listener, watcher);
-    files.socket.remove(rt, service.socket);
+    let own = [files.socket, files.control.unwrap_or(files.socket)];
+    let outcome = served(rt, threads, service, &listener, watcher, &own);
+    remove_own(rt, service.socket, files.socket);
     if let (Some(path), Some(file)) = (service.control, files.control) {
-        file.remove(rt, path);
+        remove_own(rt, path, file);
     }
     let (closed, mut watcher) = outcome?;
     let told = tell(rt.alloc(), writer, &closed);
@@ -94,12 +97,13 @@ fn served<T: Threads + Wait + Sync>(
     service: Service<'_>,
     listener: &Listener,
     watcher: LineWatcher,
+    own: &[Inode],
 ) -> Result<(Closed, LineWatcher), ProgramFault> {
     let alloc = rt.alloc();
     let limits = service.limits;
     let mut devices = Vec::new(alloc);
     for _ in 0..limits.sessions {
-        devices.push(RealDevice::new(*rt))?;
+        devices.push(fenced(rt, service.reach, own))?;
     }
     let blank = Blank::new(alloc)?;
     let done = serve_watched::<_, _, Brand, _, _>(

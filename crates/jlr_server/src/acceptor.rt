@@ -2,6 +2,7 @@
 use crate::watch::Closing;
 use jlr_types::Fault;
 use std::io::{Read, Write};
+use std::os::fd::RawFd;
 use std::sync::Wait;
 
 /// Gives clients, one after the other, to whoever asks.
@@ -33,6 +34,12 @@ pub trait Acceptor {
     {
         let _unwatched = (rt, client, input);
         Ok(())
+    }
+
+    /// The descriptor of a client's connection, if it has one: while that is up, calls for the client may wait.
+    fn descriptor(&self, input: &Self::In) -> Option<RawFd> {
+        let _unknown = input;
+        None
     }
 
     /// A client that was watched has left. It comes before the client's input and output are let go.

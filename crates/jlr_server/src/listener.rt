@@ -3,17 +3,17 @@ ghost use Rattle.std.specs.Prelude.{IsTrue, MatchOption};
 ghost use Rattle.jlr_server.specs.News.{TellsAsked};
 
 use crate::acceptor::Acceptor;
-use crate::socket_file::{FileId, listen};
+use crate::socket_file::{listen, remove_own};
 use crate::watch::{Closing, News, Watcher};
+use jlr_device::places::Inode;
 use jlr_types::Fault;
 use mio::unix::SourceFd;
 use mio::{Events, Interest, Poll, Registry, Token, Waker};
 use std::alloc::Global;
 use std::io::{self, Write};
-use std::net::{Net, Shutdown};
-use std::os::fd::AsRawFd;
+use std::net::Shutdown;
+use std::os::fd::{AsRawFd, RawFd};
 use std::os::unix::net::{UnixListener, UnixStream};
-use std::rt::Files;
 use std::sync::{Mutex, Wait};
 
 /// What who asked the server to end is told, once it has ended in order.
@@ -71,8 +71,8 @@ impl Lines {
 /// The files that belong to a listener. They stay when it is dropped.
 #[derive(Clone, Copy)]
 pub struct SocketFiles {
-    pub socket: FileId,
-    pub control: Option<FileId>,
+    pub socket: Inode,
+    pub control: Option<Inode>,
 }
 
 /// A Unix socket on which clients are waited for.
@@ -91,8 +91,8 @@ impl Listener {
     ///
     /// # Errors
     /// As `listen`, or where the system has no more descriptors.
-    pub fn bind<R: Files + Net>(
-        rt: &R,
+    pub fn bind(
+        rt: &HostRuntime,
         alloc: Global,
         place: Place<'_>,
         control: Option<Place<'_>>,
@@ -105,7 +105,7 @@ impl Listener {
         let (control, control_file) = match control_at(rt, alloc, poll.registry(), control) {
             Ok(control) => control,
             Err(error) => {
-                socket.remove(rt, place.path);
+                remove_own(rt, place.path, socket);
                 return Err(error);
             }
         };
@@ -136,12 +136,12 @@ impl Listener {
 }
 
 /// The socket of control at a place, if there is to be one. No file is left where it cannot be watched.
-fn control_at<R: Files + Net>(
-    rt: &R,
+fn control_at(
+    rt: &HostRuntime,
     alloc: Global,
     registry: &Registry,
     place: Option<Place<'_>>,
-) -> io::Result<(Option<UnixListener>, Option<FileId>)> {
+) -> io::Result<(Option<UnixListener>, Option<Inode>)> {
     let Some(place) = place else {
         return Ok((None, None));
     };
@@ -149,7 +149,7 @@ fn control_at<R: Files + Net>(
     match watch_control(registry, &control) {
         Ok(()) => Ok((Some(control), Some(file))),
         Err(error) => {
-            file.remove(rt, place.path);
+            remove_own(rt, place.path, file);
             Err(error)
         }
     }
@@ -199,6 +199,10 @@ impl Acceptor for Listener {
             return Err(Fault::Other);
         }
         Ok(())
+    }
+
+    fn descriptor(&self, input: &UnixStream) -> Option<RawFd> {
+        Some(input.as_raw_fd())
     }
 
     fn leave<T: Wait>(&self, rt: &T, client: u32) {

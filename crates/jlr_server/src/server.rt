@@ -123,7 +123,9 @@ where
                 hall.sit(rt, work.index(), client);
                 match acceptor.watch(rt, client, &input) {
                     Ok(()) => {
+                        device.attend(acceptor.descriptor(&input));
                         work = work.serve(rt, hall, &mut input, &mut output, &mut device);
+                        device.attend(None);
                         acceptor.leave(rt, client);
                     }
                     Err(_) => work = work.miss(),

@@ -1,38 +1,16 @@
 //! The files of listening sockets: made, found dead, and removed only where they are one's own.
+use jlr_device::places::Inode;
 use std::alloc::Global;
 use std::fs::{self, Permissions};
 use std::io::{Error, ErrorKind, Result};
-use std::net::Net;
-use std::os::unix::fs::{FileTypeExt, MetadataExt, PermissionsExt};
+use std::os::unix::fs::{FileTypeExt, PermissionsExt};
 use std::os::unix::net::{UnixListener, UnixStream};
-use std::rt::Files;
 
-/// A file, as the system names it for good: its path may lead to another one later.
-#[derive(Clone, Copy, PartialEq, Eq, Debug)]
-pub struct FileId {
-    pub device: u64,
-    pub inode: u64,
-}
-
-impl FileId {
-    /// The file to which a path leads now.
-    ///
-    /// # Errors
-    /// Where there is none, or it may not be looked at.
-    pub fn at<R: Files>(rt: &R, path: &str) -> Result<Self> {
-        let found = fs::metadata(rt, path)?;
-        Ok(FileId {
-            device: found.dev(),
-            inode: found.ino(),
-        })
-    }
-
-    /// Removes the file at a path, where it is still this one.
-    pub fn remove<R: Files>(self, rt: &R, path: &str) {
-        if let Ok(found) = FileId::at(rt, path) {
-            if found == self {
-                let _ = fs::remove_file(rt, path);
-            }
+/// Removes the file at a path, where it is still this one.
+pub fn remove_own(rt: &HostRuntime, path: &str, own: Inode) {
+    if let Ok(found) = Inode::at(rt, path) {
+        if found == own {
+            let _ = fs::remove_file(rt, path);
         }
     }
 }
@@ -43,12 +21,12 @@ impl FileId {
 /// # Errors
 /// `AddrInUse` where a file is there that is no dead socket, `InvalidInput` where the path is empty or too long, or why the system makes none. No
 /// file is left then.
-pub fn listen<R: Files + Net>(
-    rt: &R,
+pub fn listen(
+    rt: &HostRuntime,
     alloc: Global,
     path: &str,
     mode: Option<u32>,
-) -> Result<(UnixListener, FileId)> {
+) -> Result<(UnixListener, Inode)> {
     if path.is_empty() {
         return Err(Error::from(ErrorKind::InvalidInput));
     }
@@ -57,7 +35,7 @@ pub fn listen<R: Files + Net>(
         None => UnixListener::bind(rt, path)?,
         Some(mode) => bind_with(rt, alloc, path, mode)?,
     };
-    match FileId::at(rt, path) {
+    match Inode::at(rt, path) {
         Ok(file) => Ok((listener, file)),
         Err(error) => {
             let _ = fs::remove_file(rt, path);
@@ -67,7 +45,7 @@ pub fn listen<R: Files + Net>(
 }
 
 /// A socket that listens at a path, whose file gets its rights under a name of its own, and then the path as well.
-fn bind_with<R: Files + Net>(rt: &R, alloc: Global, path: &str, mode: u32) -> Result<UnixListener> {
+fn bind_with(rt: &HostRuntime, alloc: Global, path: &str, mode: u32) -> Result<UnixListener> {
     let fresh = format!(in alloc; "{path}.new")?;
     remove_dead(rt, fresh.as_str())?;
     let listener = UnixListener::bind(rt, fresh.as_str())?;
@@ -78,13 +56,13 @@ fn bind_with<R: Files + Net>(rt: &R, alloc: Global, path: &str, mode: u32) -> Re
 }
 
 /// Gives a file its rights and then a second path, at which there is no file yet.
-fn place<R: Files>(rt: &R, fresh: &str, path: &str, mode: u32) -> Result<()> {
+fn place(rt: &HostRuntime, fresh: &str, path: &str, mode: u32) -> Result<()> {
     fs::set_permissions(rt, fresh, Permissions::from_mode(mode))?;
     fs::hard_link(rt, fresh, path)
 }
 
 /// Removes the file at a path where it is a socket at which nobody listens.
-fn remove_dead<R: Files + Net>(rt: &R, path: &str) -> Result<()> {
+fn remove_dead(rt: &HostRuntime, path: &str) -> Result<()> {
     if is_dead(rt, path) {
         return fs::remove_file(rt, path);
     }
@@ -92,7 +70,7 @@ fn remove_dead<R: Files + Net>(rt: &R, path: &str) -> Result<()> {
 }
 
 /// Whether the file at a path is a socket at which nobody listens.
-fn is_dead<R: Files + Net>(rt: &R, path: &str) -> bool {
+fn is_dead(rt: &HostRuntime, path: &str) -> bool {
     let Ok(found) = fs::symlink_metadata(rt, path) else {
         return false;
     };

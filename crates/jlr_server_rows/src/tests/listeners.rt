@@ -5,6 +5,7 @@ use jlr_device::real::RealDevice;
 use jlr_server::hall::history::Blank;
 use jlr_server::listener::{LineWatcher, Listener, Place};
 use jlr_server::server::{ServeFault, Served, Watched, serve_watched};
+use jlr_server::socket_file::remove_own;
 use jlr_types::Limits;
 use std::alloc::AllocError;
 use std::io::{Read, Write};
@@ -143,7 +144,7 @@ fn serve_clients<T: Threads + Wait + Sync>(
     let other = thread::spawn(threads, move || are_answered(rt, path, second))?;
     let left = served(rt, threads, limits, total, &listener, watcher);
     let are_answered = one.join(threads) & other.join(threads);
-    files.socket.remove(&rt, path);
+    remove_own(&rt, path, files.socket);
     if !are_answered {
         return Err("a client was answered otherwise".into());
     }
@@ -220,9 +221,9 @@ fn a_server_ends_in_order(rt: HostRuntime) -> Result<(), Fail> {
     let client = thread::spawn(&rt, move || waits_and_stops(rt, path, control))?;
     let left = served(rt, &rt, limits, 1_000, &listener, watcher);
     let is_told = client.join(&rt);
-    files.socket.remove(&rt, path);
+    remove_own(&rt, path, files.socket);
     if let Some(file) = files.control {
-        file.remove(&rt, control);
+        remove_own(&rt, control, file);
     }
     if !is_told || left != Some((1, 4, 0)) {
         return Err("it did not end in order".into());
