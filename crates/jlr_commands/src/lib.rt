@@ -2,8 +2,10 @@
 #![tactic(auto)]
 
 pub mod audit;
+pub mod manual;
 pub mod program;
 pub mod progress;
 pub mod save;
 pub mod serve;
 pub mod session;
+pub mod stats;

@@ -3,9 +3,10 @@ ghost use Rattle.std.specs.Prelude.{◌≡◌, ◌↔◌, IfOk, IfSome, IsSome, 
 ghost use Rattle.jlr_prog.specs.Books.{last};
 ghost use Rattle.jlr_saving.specs.Saving.{IsSaved};
 
-use crate::save::save;
+use crate::save::{save, try_save};
 use jlr_command_line::arguments::Service;
 use jlr_command_line::fault::ProgramFault;
+use jlr_command_line::reason::{Place, Reason};
 use jlr_device::real::{RealDevice, RealResource};
 use jlr_saving::file::trace_bytes_of;
 use jlr_server::Book;
@@ -32,12 +33,18 @@ pub fn serve<T: Threads + Wait + Sync>(
     service: Service<'_>,
     writer: &mut impl Write,
 ) -> Result<(), ProgramFault> {
+    if let Some(path) = service.save {
+        try_save(rt, path)?;
+    }
     let listener = match Listener::bind(rt, service.socket) {
         Ok(listener) => listener,
         Err(error) if error.kind() == io::ErrorKind::OutOfMemory => {
             return Err(ProgramFault::NoMemory(AllocError));
         }
-        Err(_) => return Err(unheard(rt.alloc(), service.socket)),
+        Err(error) => {
+            let reason = Reason::of(error.kind());
+            return Err(unheard(rt.alloc(), service.socket, reason));
+        }
     };
     let outcome = served(rt, threads, service, &listener);
     let _ = fs::remove_file(rt, service.socket);
@@ -138,15 +145,14 @@ fn fault_of(alloc: Global, fault: ServeFault, path: &str) -> ProgramFault {
         ServeFault::Close(CloseFault::NoMemory) | ServeFault::NoMemory => {
             ProgramFault::NoMemory(AllocError)
         }
-        ServeFault::Start => unheard(alloc, path),
+        ServeFault::Start => unheard(alloc, path, Reason::NoThread),
     }
 }
 
 /// That nothing listens on a path, or that memory for saying so ran out.
-fn unheard(alloc: Global, path: &str) -> ProgramFault {
-    let mut name = String::new(alloc);
-    match name.push_str(path) {
-        Ok(()) => ProgramFault::CannotListen(name),
+fn unheard(alloc: Global, path: &str, reason: Reason) -> ProgramFault {
+    match Place::new(alloc, path, reason) {
+        Ok(place) => ProgramFault::CannotListen(place),
         Err(fault) => ProgramFault::NoMemory(fault),
     }
 }
