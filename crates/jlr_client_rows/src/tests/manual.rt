@@ -28,9 +28,9 @@ fn examples_are_commands(rt: HostRuntime) -> Result<(), Fail> {
 
 /// Each row is a word, an arrow, and how many lines its pages have.
 const PAGES: &str = "
-    new -> 11
+    new -> 10
     put -> 15
-    gc -> 13
+    gc -> 14
     gc soft -> 7
     bye -> 5
     help -> 0
