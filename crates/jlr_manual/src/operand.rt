@@ -1,4 +1,6 @@
 //! What stands behind the word of a command.
+ghost use Rattle.std.specs.Prelude.{◌≡◌};
+ghost use Rattle.jlr_manual.specs.Rows.{letter_of};
 
 /// What an operand of a command is.
 #[derive(Clone, Copy, Debug)]
@@ -43,7 +45,9 @@ pub enum Operand {
 
 impl Operand {
     /// How the manual writes it.
-    pub fn letter(self) -> &'static str {
+    pub fn letter(self) -> &'static str
+        ensures { result.now ≡ letter_of self }
+    {
         match self {
             Operand::Layout => "L",
             Operand::Length => "n",

@@ -1,14 +1,20 @@
 //! The manual as text: the table of all forms, and the page of one.
+ghost use Rattle.std.specs.Prelude.{◌≡◌, IfOk, string_bytes};
+ghost use Rattle.jlr_manual.specs.Rows.{row_of};
+
 use crate::form::{Form, forms};
 use crate::operand::OPERANDS;
 use crate::refusal::{REFUSALS, phrase};
 use std::alloc::{AllocError, Global};
 
 /// A form with its operands, as `put h k v`.
-pub fn line_of(alloc: Global, form: Form) -> Result<String, AllocError> {
+pub fn line_of(alloc: Global, form: Form) -> Result<String, AllocError>
+    ensures { IfOk result (λ line. string_bytes line ≡ row_of form) }
+{
     let mut line = String::new(alloc);
     line.push_str(form.name())?;
-    for operand in form.operands() {
+    let operands = form.operands();
+    for operand in operands {
         line.push_str(" ")?;
         line.push_str(operand.letter())?;
     }
