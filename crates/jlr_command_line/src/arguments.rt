@@ -22,6 +22,12 @@ pub enum Order<'a> {
     Serve(Service<'a>),
     Stop(StopOrder<'a>),
     Audit(AuditOrder<'a>),
+    Stats(StatsOrder<'a>),
+    /// A session with a server at this path.
+    Client(&'a str),
+    /// The manual: of one word, or of all.
+    Commands(Option<&'a str>),
+    Version,
 }
 
 /// What a `run` is to do: one session.
@@ -77,6 +83,16 @@ pub struct AuditOrder<'a> {
     pub file: &'a str,
     /// Whether it says why a history is not legal, and how far it is with a long one.
     pub explain: bool,
+    /// Whether the verdict is written as JSON.
+    pub json: bool,
+}
+
+/// What a `stats` is to do.
+#[derive(Clone, Copy)]
+pub struct StatsOrder<'a> {
+    pub file: &'a str,
+    /// Whether it writes JSON, and no table.
+    pub json: bool,
 }
 
 /// The words that the program was called with, its own name first. A word that is no text is a bad
@@ -116,8 +132,36 @@ pub fn order_of<'a>(alloc: Global, words: &'a [String]) -> Result<Order<'a>, Pro
     if let Some(audit) = matches.subcommand_matches("audit") {
         return Ok(Order::Audit(audit_of(alloc, audit)?));
     }
+    if let Some(order) = telling_of(alloc, &matches)? {
+        return Ok(order);
+    }
     let run = run_of(alloc, matches.subcommand_matches("run"))?;
     Ok(Order::Run(run))
+}
+
+/// What is asked for beside sessions, servers and audits.
+fn telling_of<'a>(
+    alloc: Global,
+    matches: &ArgMatches<'a>,
+) -> Result<Option<Order<'a>>, ProgramFault>
+    ensures { IfErr result (λ fault. (status_of fault ≡ 2) ⊎ (status_of fault ≡ 5)) }
+{
+    if let Some(stats) = matches.subcommand_matches("stats") {
+        return Ok(Some(Order::Stats(stats_of(alloc, stats)?)));
+    }
+    if let Some(client) = matches.subcommand_matches("client") {
+        let Some(path) = client.get_str("path") else {
+            return Err(refused(alloc, "a socket has to be named"));
+        };
+        return Ok(Some(Order::Client(path)));
+    }
+    if let Some(commands) = matches.subcommand_matches("commands") {
+        return Ok(Some(Order::Commands(commands.get_str("name"))));
+    }
+    if matches.subcommand_matches("version").is_some() {
+        return Ok(Some(Order::Version));
+    }
+    Ok(None)
 }
 
 /// What the words match.
@@ -202,7 +246,30 @@ fn audit_of<'a>(alloc: Global, audit: &ArgMatches<'a>) -> Result<AuditOrder<'a>,
         return Err(refused(alloc, "a file has to be named"));
     };
     let explain = audit.get_flag("explain");
-    Ok(AuditOrder { file, explain })
+    let json = audit.get_flag("json");
+    Ok(AuditOrder {
+        file,
+        explain,
+        json,
+    })
+}
+
+/// What a `stats` asks for.
+fn stats_of<'a>(alloc: Global, stats: &ArgMatches<'a>) -> Result<StatsOrder<'a>, ProgramFault>
+    ensures { IfErr result (λ fault. (status_of fault ≡ 2) ⊎ (status_of fault ≡ 5)) }
+{
+    let Some(file) = stats.get_str("file") else {
+        return Err(refused(alloc, "a file has to be named"));
+    };
+    let json = stats.get_flag("json");
+    Ok(StatsOrder { file, json })
+}
+
+/// That a word names no command of the line protocol, or that memory for saying so ran out.
+pub fn no_command(alloc: Global) -> ProgramFault
+    ensures { (status_of result ≡ 2) ⊎ (status_of result ≡ 5) }
+{
+    refused(alloc, "there is no such command of the line protocol")
 }
 
 /// What a `run` asks for: the limits that its words give, and the rest as it is usually.

@@ -37,6 +37,16 @@ const STOP_EXAMPLE: &str =
 /// An example of an `audit` that can be pasted.
 const AUDIT_EXAMPLE: &str = "Example:\n  refheap audit --explain history";
 
+/// An example of a `stats` that can be pasted.
+const STATS_EXAMPLE: &str = "Example:\n  refheap stats history";
+
+/// An example of a `client` that can be pasted.
+const CLIENT_EXAMPLE: &str =
+    "On a terminal `help` says what may be typed. Example:\n  printf 'names\\nbye\\n' | refheap client /tmp/heap";
+
+/// An example of a `commands` that can be pasted.
+const COMMANDS_EXAMPLE: &str = "Example:\n  refheap commands weak";
+
 /// The program's command line.
 pub fn command<'a>(alloc: Global) -> Result<Command<'a>, AllocError> {
     let program = Command::new(alloc, "refheap")
@@ -47,7 +57,11 @@ pub fn command<'a>(alloc: Global) -> Result<Command<'a>, AllocError> {
     let program = with_subcommand(program, run_command(alloc))?;
     let program = with_subcommand(program, serve_command(alloc))?;
     let program = with_subcommand(program, stop_command(alloc))?;
-    with_subcommand(program, audit_command(alloc))
+    let program = with_subcommand(program, audit_command(alloc))?;
+    let program = with_subcommand(program, stats_command(alloc))?;
+    let program = with_subcommand(program, client_command(alloc))?;
+    let program = with_subcommand(program, commands_command(alloc))?;
+    with_subcommand(program, version_command(alloc))
 }
 
 /// A command with one more below it. Where that could not be made the command is dropped by a call, for the prover: no return path then
@@ -120,7 +134,47 @@ fn audit_command<'a>(alloc: Global) -> Result<Command<'a>, AllocError> {
         )
         .after_help(AUDIT_EXAMPLE)
         .arg(explain_option(alloc))?
+        .arg(json_option(alloc))?
         .arg(file_argument(alloc))
+}
+
+/// The command of the figures of a history.
+fn stats_command<'a>(alloc: Global) -> Result<Command<'a>, AllocError> {
+    Command::new(alloc, "stats")
+        .about(
+            "Tells the figures of a saved history: objects, collections, references, files, asks",
+        )
+        .after_help(STATS_EXAMPLE)
+        .arg(json_option(alloc))?
+        .arg(file_argument(alloc))
+}
+
+/// The command of a session with a server.
+fn client_command<'a>(alloc: Global) -> Result<Command<'a>, AllocError> {
+    Command::new(alloc, "client")
+        .about(
+            "Sends commands from a terminal or from standard input to a server, and shows its replies",
+        )
+        .after_help(CLIENT_EXAMPLE)
+        .arg(path_argument(alloc))
+}
+
+/// The command of the manual.
+fn commands_command<'a>(alloc: Global) -> Result<Command<'a>, AllocError> {
+    Command::new(alloc, "commands")
+        .about(
+            "Lists the commands of the line protocol with their replies and refusals, or tells of one",
+        )
+        .after_help(COMMANDS_EXAMPLE)
+        .arg(name_argument(alloc))
+}
+
+/// The command of the versions.
+fn version_command<'a>(alloc: Global) -> Result<Command<'a>, AllocError> {
+    let version = Command::new(alloc, "version").about(
+        "Tells the versions of the program and of trace files",
+    );
+    Ok(version)
 }
 
 // ---- Options
@@ -255,6 +309,29 @@ fn file_argument<'a>(alloc: Global) -> Arg<'a> {
         .value_name("FILE")
         .help("A saved history")
         .required(true)
+}
+
+/// Whether what is told is JSON.
+fn json_option<'a>(alloc: Global) -> Arg<'a> {
+    Arg::new(alloc, "json")
+        .long("json")
+        .help("Writes JSON")
+        .action(ArgAction::SetTrue)
+}
+
+/// Where a client finds its server.
+fn path_argument<'a>(alloc: Global) -> Arg<'a> {
+    Arg::new(alloc, "path")
+        .value_name("PATH")
+        .help("The Unix socket of a server")
+        .required(true)
+}
+
+/// Of which command the manual tells.
+fn name_argument<'a>(alloc: Global) -> Arg<'a> {
+    Arg::new(alloc, "name")
+        .value_name("NAME")
+        .help("A command of the line protocol")
 }
 
 /// Whether an audit says why, and how far it is.

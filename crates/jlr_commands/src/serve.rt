@@ -5,15 +5,16 @@ ghost use Rattle.jlr_saving.specs.Saving.{IsSaved};
 
 use crate::descriptors::warn_of_few;
 use crate::reach::fenced;
-use crate::save::save;
+use crate::save::{save, try_save};
 use jlr_command_line::arguments::Service;
 use jlr_command_line::fault::ProgramFault;
+use jlr_command_line::reason::{Place, Reason};
 use jlr_device::places::Inode;
 use jlr_saving::file::trace_bytes_of;
 use jlr_server::Book;
 use jlr_server::hall::closing::CloseFault;
 use jlr_server::hall::history::Blank;
-use jlr_server::listener::{LineWatcher, Listener, Place, SocketFiles};
+use jlr_server::listener::{LineWatcher, Listener, SocketFiles, SocketPlace};
 use jlr_server::server::{ServeFault, Served, Watched, serve_watched};
 use jlr_server::socket_file::remove_own;
 use std::alloc::{AllocError, Global};
@@ -35,6 +36,9 @@ pub fn serve<T: Threads + Wait + Sync>(
     writer: &mut impl Write,
 ) -> Result<(), ProgramFault> {
     warn_of_few(rt, service.limits);
+    if let Some(path) = service.save {
+        try_save(rt, path)?;
+    }
     let (listener, watcher, files) = listening(rt, service)?;
     let own = [files.socket, files.control.unwrap_or(files.socket)];
     let outcome = served(rt, threads, service, &listener, watcher, &own);
@@ -58,12 +62,12 @@ fn listening(
     rt: &HostRuntime,
     service: Service<'_>,
 ) -> Result<(Listener, LineWatcher, SocketFiles), ProgramFault> {
-    let place = Place {
+    let place = SocketPlace {
         path: service.socket,
         mode: service.mode,
     };
     let control = match service.control {
-        Some(path) => Some(Place {
+        Some(path) => Some(SocketPlace {
             path,
             mode: Some(service.control_mode),
         }),
@@ -74,7 +78,10 @@ fn listening(
         Err(error) if error.kind() == io::ErrorKind::OutOfMemory => {
             Err(ProgramFault::NoMemory(AllocError))
         }
-        Err(_) => Err(unheard(rt.alloc(), service.socket)),
+        Err(error) => {
+            let reason = Reason::of(error.kind());
+            Err(unheard(rt.alloc(), service.socket, reason))
+        }
     }
 }
 
@@ -182,15 +189,14 @@ fn fault_of(alloc: Global, fault: ServeFault, path: &str) -> ProgramFault {
             ProgramFault::NoMemory(AllocError)
         }
         ServeFault::Miscounted => ProgramFault::Disagree(u8::MAX),
-        ServeFault::Start => unheard(alloc, path),
+        ServeFault::Start => unheard(alloc, path, Reason::NoThread),
     }
 }
 
 /// That nothing listens on a path, or that memory for saying so ran out.
-fn unheard(alloc: Global, path: &str) -> ProgramFault {
-    let mut name = String::new(alloc);
-    match name.push_str(path) {
-        Ok(()) => ProgramFault::CannotListen(name),
+fn unheard(alloc: Global, path: &str, reason: Reason) -> ProgramFault {
+    match Place::new(alloc, path, reason) {
+        Ok(place) => ProgramFault::CannotListen(place),
         Err(fault) => ProgramFault::NoMemory(fault),
     }
 }
