@@ -1,7 +1,8 @@
 //! A heap that several clients share: a worker for each session's seat, and the three loops beside them.
-ghost use Rattle.std.specs.Prelude.{◌≡◌, ◌⊎◌, ◌+◌, [], IfOk, length, sum, map};
+ghost use Rattle.std.specs.Prelude.{◌≡◌, ◌<◌, ◌+◌, ℕ, [], IfOk, length, sum, map, slice_index_or};
 ghost use Rattle.std.specs.Thread.{IsSend, IsSync};
-ghost use Rattle.jlr_log.specs.Seeing.{seen};
+ghost use Rattle.jlr_log.specs.Seeing.{Seen, seen};
+ghost use Rattle.jlr_hall.specs.declared.step.Step.{Step};
 ghost use Rattle.jlr_server.specs.Serving.{AllWork, IsServed, accepts_of, seat_in};
 ghost use Rattle.jlr_server.specs.declared.server.ServeFault.TheVariants.{Close, NoMemory};
 
