@@ -4,7 +4,7 @@ use libc::types::pollfd;
 use std::os::fd::RawFd;
 
 /// What is wanted of a descriptor.
-#[derive(Clone, Copy)]
+#[derive(Clone, Copy, PartialEq, Eq, Debug)]
 pub enum Way {
     Read,
     Write,
