@@ -5,8 +5,8 @@ ghost use Rattle.jlr_types.specs.Ranges.{first_fault};
 ghost use Rattle.jlr_command_line.specs.Status.{status_of};
 
 use crate::commands::{
-    DEFAULT_BUDGET, DEFAULT_CELLS, DEFAULT_RESOURCES, DEFAULT_SESSIONS, DEFAULT_SOFT_AGE,
-    DEFAULT_TRACE, command,
+    DEFAULT_BUDGET, DEFAULT_CELLS, DEFAULT_CONTROL_MODE, DEFAULT_RESOURCES, DEFAULT_SESSIONS,
+    DEFAULT_SOFT_AGE, DEFAULT_TRACE, command,
 };
 use crate::fault::ProgramFault;
 use clap::error::ErrorKind;
@@ -20,6 +20,7 @@ use std::{env, io};
 pub enum Order<'a> {
     Run(RunOrder<'a>),
     Serve(Service<'a>),
+    Stop(StopOrder<'a>),
     Audit(AuditOrder<'a>),
     Stats(StatsOrder<'a>),
     /// A session with a server at this path.
@@ -33,8 +34,20 @@ pub enum Order<'a> {
 #[derive(Clone, Copy)]
 pub struct RunOrder<'a> {
     pub limits: Limits,
+    /// What the session may open.
+    pub reach: Reach<'a>,
     /// Where the history is saved at the end, if it is.
     pub save: Option<&'a str>,
+}
+
+/// Which files and sockets the sessions may open.
+#[derive(Clone, Copy, PartialEq, Eq, Debug)]
+pub enum Reach<'a> {
+    /// All that the program's user may open.
+    Everything,
+    /// Those below this folder.
+    Below(&'a str),
+    Nothing,
 }
 
 /// What a `serve` is to do.
@@ -42,11 +55,26 @@ pub struct RunOrder<'a> {
 pub struct Service<'a> {
     /// Where it listens.
     pub socket: &'a str,
+    /// The rights of that file, where they are not to be those of the umask.
+    pub mode: Option<u32>,
+    /// Where it listens for who asks it to end, if it does.
+    pub control: Option<&'a str>,
+    /// The rights of that file.
+    pub control_mode: u32,
+    /// What its clients may open.
+    pub reach: Reach<'a>,
     /// How many clients it accepts, from 1 to 1,000,000.
     pub total: u32,
     pub limits: Limits,
     /// Where the history is saved at the end, if it is.
     pub save: Option<&'a str>,
+}
+
+/// What a `stop` is to do.
+#[derive(Clone, Copy)]
+pub struct StopOrder<'a> {
+    /// Where the server listens for who asks it to end.
+    pub control: &'a str,
 }
 
 /// What an `audit` is to do.
@@ -97,6 +125,9 @@ pub fn order_of<'a>(alloc: Global, words: &'a [String]) -> Result<Order<'a>, Pro
     let matches = parsed(command, words)?;
     if let Some(serve) = matches.subcommand_matches("serve") {
         return Ok(Order::Serve(service_of(alloc, serve)?));
+    }
+    if let Some(stop) = matches.subcommand_matches("stop") {
+        return Ok(Order::Stop(stop_of(alloc, stop)?));
     }
     if let Some(audit) = matches.subcommand_matches("audit") {
         return Ok(Order::Audit(audit_of(alloc, audit)?));
@@ -158,12 +189,53 @@ fn service_of<'a>(alloc: Global, serve: &ArgMatches<'a>) -> Result<Service<'a>, 
     let budget = number(Some(serve), "budget").unwrap_or(DEFAULT_BUDGET);
     let limits = checked(alloc, asked, sessions, budget)?;
     let total = number(Some(serve), "total").unwrap_or(1);
+    let mode = mode_of(alloc, serve, "mode")?;
+    let control_mode = mode_of(alloc, serve, "control-mode")?.unwrap_or(DEFAULT_CONTROL_MODE);
     Ok(Service {
         socket,
+        mode,
+        control: serve.get_str("control"),
+        control_mode,
+        reach: reach_of(Some(serve)),
         total,
         limits,
         save: serve.get_str("save"),
     })
+}
+
+/// The rights that an option gives a file, if it is there.
+fn mode_of(alloc: Global, serve: &ArgMatches<'_>, option: &str) -> Result<Option<u32>, ProgramFault>
+    ensures { IfErr result (λ fault. (status_of fault ≡ 2) ⊎ (status_of fault ≡ 5)) }
+{
+    match serve.get_str(option) {
+        None => Ok(None),
+        Some("600") => Ok(Some(0o600)),
+        Some("660") => Ok(Some(0o660)),
+        Some("666") => Ok(Some(0o666)),
+        Some(_) => Err(refused(alloc, "the rights of a socket are 600, 660 or 666")),
+    }
+}
+
+/// What sessions may open.
+fn reach_of<'a>(given: Option<&ArgMatches<'a>>) -> Reach<'a> {
+    match given {
+        Some(given) if given.get_flag("no-files") => Reach::Nothing,
+        Some(given) => match given.get_str("files") {
+            Some(folder) => Reach::Below(folder),
+            None => Reach::Everything,
+        },
+        None => Reach::Everything,
+    }
+}
+
+/// What a `stop` asks for.
+fn stop_of<'a>(alloc: Global, stop: &ArgMatches<'a>) -> Result<StopOrder<'a>, ProgramFault>
+    ensures { IfErr result (λ fault. (status_of fault ≡ 2) ⊎ (status_of fault ≡ 5)) }
+{
+    let Some(control) = stop.get_str("control") else {
+        return Err(refused(alloc, "a socket of control has to be named"));
+    };
+    Ok(StopOrder { control })
 }
 
 /// What an `audit` asks for.
@@ -208,7 +280,11 @@ fn run_of<'a>(alloc: Global, run: Option<&ArgMatches<'a>>) -> Result<RunOrder<'a
     let asked = numbers_asked(alloc, run)?;
     let limits = checked(alloc, asked, 1, DEFAULT_BUDGET)?;
     let save = run.and_then(|run| run.get_str("save"));
-    Ok(RunOrder { limits, save })
+    Ok(RunOrder {
+        limits,
+        reach: reach_of(run),
+        save,
+    })
 }
 
 /// The numbers that the words of a `run` or a `serve` ask for.

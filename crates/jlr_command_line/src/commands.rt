@@ -20,12 +20,19 @@ pub const DEFAULT_TRACE: u32 = 10_000;
 /// How many cells a piece of marking visits at most where the command line gives no number.
 pub const DEFAULT_BUDGET: u32 = 64;
 
+/// The rights of a socket of control where the command line gives none.
+pub const DEFAULT_CONTROL_MODE: u32 = 0o600;
+
 /// An example of a `run` that can be pasted.
 const RUN_EXAMPLE: &str =
     "Example:\n  printf 'new -\\nweak 1 0\\ndrop 1\\ngc\\nderef 2\\nbye\\n' | refheap run --cells 1024";
 
 /// An example of a `serve` that can be pasted.
 const SERVE_EXAMPLE: &str = "Example:\n  refheap serve --socket /tmp/heap --total 100 --sessions 8";
+
+/// An example of a `stop` that can be pasted.
+const STOP_EXAMPLE: &str =
+    "Example:\n  refheap serve --socket /tmp/heap --control /tmp/heap.control --total 100 &\n  refheap stop /tmp/heap.control";
 
 /// An example of an `audit` that can be pasted.
 const AUDIT_EXAMPLE: &str = "Example:\n  refheap audit --explain history";
@@ -49,6 +56,7 @@ pub fn command<'a>(alloc: Global) -> Result<Command<'a>, AllocError> {
         .subcommand_required(true);
     let program = with_subcommand(program, run_command(alloc))?;
     let program = with_subcommand(program, serve_command(alloc))?;
+    let program = with_subcommand(program, stop_command(alloc))?;
     let program = with_subcommand(program, audit_command(alloc))?;
     let program = with_subcommand(program, stats_command(alloc))?;
     let program = with_subcommand(program, client_command(alloc))?;
@@ -86,6 +94,8 @@ fn with_heap<'a>(alloc: Global, command: Command<'a>) -> Result<Command<'a>, All
         .arg(resources_option(alloc))?
         .arg(soft_age_option(alloc))?
         .arg(trace_option(alloc))?
+        .arg(files_option(alloc))?
+        .arg(no_files_option(alloc))?
         .arg(save_option(alloc))
 }
 
@@ -97,10 +107,23 @@ fn serve_command<'a>(alloc: Global) -> Result<Command<'a>, AllocError> {
         )
         .after_help(SERVE_EXAMPLE)
         .arg(socket_option(alloc))?
+        .arg(mode_option(alloc))?
+        .arg(control_option(alloc))?
+        .arg(control_mode_option(alloc))?
         .arg(total_option(alloc))?
         .arg(sessions_option(alloc))?
         .arg(budget_option(alloc))?;
     with_heap(alloc, serve)
+}
+
+/// The command that asks a server to end.
+fn stop_command<'a>(alloc: Global) -> Result<Command<'a>, AllocError> {
+    Command::new(alloc, "stop")
+        .about(
+            "Asks a server to end: it accepts no more, answers what was sent, saves, and is gone when this returns; asked twice, it cuts its clients off",
+        )
+        .after_help(STOP_EXAMPLE)
+        .arg(control_argument(alloc))
 }
 
 /// The command of an audit.
@@ -210,6 +233,55 @@ fn socket_option<'a>(alloc: Global) -> Arg<'a> {
         .value_name("PATH")
         .help("Where the Unix socket is made on which it listens")
         .required(true)
+}
+
+/// The rights of the socket's file.
+fn mode_option<'a>(alloc: Global) -> Arg<'a> {
+    Arg::new(alloc, "mode").long("mode").value_name("MODE").help(
+        "Rights of the socket's file, which say who may connect: 600, 660 or 666; else those of the umask",
+    )
+}
+
+/// Where a server is asked to end.
+fn control_option<'a>(alloc: Global) -> Arg<'a> {
+    Arg::new(alloc, "control")
+        .long("control")
+        .value_name("PATH")
+        .help(
+            "Where a second Unix socket is made, at which `refheap stop` asks the server to end; it is there once the first listens",
+        )
+}
+
+/// The rights of that file.
+fn control_mode_option<'a>(alloc: Global) -> Arg<'a> {
+    Arg::new(alloc, "control-mode")
+        .long("control-mode")
+        .value_name("MODE")
+        .help("Rights of the second socket's file: 600, the usual, 660 or 666")
+}
+
+/// Where a server is asked to end.
+fn control_argument<'a>(alloc: Global) -> Arg<'a> {
+    Arg::new(alloc, "control")
+        .value_name("PATH")
+        .help("What the server was given as --control")
+        .required(true)
+}
+
+/// Below which folder files and sockets may be opened.
+fn files_option<'a>(alloc: Global) -> Arg<'a> {
+    Arg::new(alloc, "files")
+        .long("files")
+        .value_name("DIR")
+        .help("Folder below which alone sessions open files and join sockets, by paths from there")
+}
+
+/// Whether no file and no socket may be opened.
+fn no_files_option<'a>(alloc: Global) -> Arg<'a> {
+    Arg::new(alloc, "no-files")
+        .long("no-files")
+        .help("Sessions open no file and join no socket: each try is denied")
+        .action(ArgAction::SetTrue)
 }
 
 /// After how many clients a server ends.

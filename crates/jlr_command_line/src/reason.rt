@@ -76,24 +76,24 @@ impl Reason {
 
 /// A path, and why what it names cannot be used. It is shown as the path.
 #[derive(Debug, Drop)]
-pub struct Place {
+pub struct BadPath {
     pub path: String,
     pub reason: Reason,
 }
 
-impl Place {
+impl BadPath {
     /// This path, with why what it names cannot be used.
     ///
     /// # Errors
     /// `AllocError` where there is no memory for the path.
-    pub fn new(alloc: Global, path: &str, reason: Reason) -> Result<Place, AllocError> {
+    pub fn new(alloc: Global, path: &str, reason: Reason) -> Result<BadPath, AllocError> {
         let mut text = String::new(alloc);
         text.push_str(path)?;
-        Ok(Place { path: text, reason })
+        Ok(BadPath { path: text, reason })
     }
 }
 
-impl fmt::Display for Place {
+impl fmt::Display for BadPath {
     fn fmt<W: fmt::Write>(&self, f: &mut fmt::Formatter<W>) -> fmt::Result {
         f.write_str(self.path.as_str())
     }

@@ -1,7 +1,8 @@
 //! A seat as what the asks of a session go to.
 ghost use Rattle.std.specs.Prelude.{◌≡◌, IfErr, None};
 
-use crate::hall::{Hall, Removal};
+use crate::chairs::Removal;
+use crate::hall::Hall;
 use crate::seat::Seat;
 use crate::step::Limited;
 use jlr_event::event::{Event, Reply};
@@ -79,8 +80,13 @@ impl<'a, R: Drop, L: Naming + Limited, T: Wait> Port<R> for SeatPort<'a, R, L, T
         ensures asked { Asked L.limits self.old event result self.new }
         ensures named { self.new.seat ≡ self.old.seat }
     {
-        let removal = Removal::of(&event);
-        self.seat.ask_once(self.rt, self.hall, removal, event, room)
+        match event {
+            Event::Remove { mutator, queue } => {
+                let removal = Removal { mutator, queue };
+                self.seat.remove(self.rt, self.hall, removal)
+            }
+            event => self.seat.ask_once(self.rt, self.hall, event, room),
+        }
     }
 
     fn settle(&mut self)

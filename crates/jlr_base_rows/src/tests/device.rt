@@ -12,6 +12,7 @@ use jlr_types::Fault;
 use std::alloc::Global;
 use std::str::SplitWhitespace;
 
+mod fences;
 mod real;
 mod scripts;
 
