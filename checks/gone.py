@@ -199,7 +199,7 @@ def a_stop_without_a_server(program, asked):
     folder = tempfile.mkdtemp(prefix="refheap-gone-")
     at = os.path.join(folder, "nobody")
     told = subprocess.run([program, "stop", at], capture_output=True, check=False)
-    check((told.returncode, told.stderr.splitlines()[0]) == (1, b"refheap: cannot reach " + at.encode()), "nobody there")
+    check((told.returncode, told.stderr.splitlines()[0]) == (1, b"refheap: cannot connect to " + at.encode()), "nobody there")
     shutil.rmtree(folder)
 
 

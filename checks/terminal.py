@@ -142,7 +142,7 @@ def from_pipe(program, folder):
     wants("the server ends then", server.ended()[0], 0)
     open_input = subprocess.Popen([program, "client", os.path.join(folder, "none")], stdin=subprocess.PIPE, stderr=subprocess.PIPE)
     said = open_input.communicate()[1].decode()
-    wants("nobody there", (open_input.returncode, said), (1, f"refheap: cannot reach {folder}/none\n" + MISSING))
+    wants("nobody there", (open_input.returncode, said), (1, f"refheap: cannot connect to {folder}/none\n" + MISSING))
     server = Server(program, folder, 1)
     left = subprocess.Popen([program, "client", server.path], stdin=subprocess.PIPE, stdout=subprocess.PIPE)
     left.stdin.write(b"bye\n")

@@ -2,7 +2,7 @@
 use crate::pipe::pass;
 use crate::terminal::converse;
 use jlr_command_line::fault::ProgramFault;
-use jlr_command_line::reason::{BadPath, Reason};
+use jlr_command_line::reason::{Place, Reason};
 use std::alloc::AllocError;
 use std::io::{self, IsTerminal};
 use std::os::unix::net::UnixStream;
@@ -10,7 +10,7 @@ use std::os::unix::net::UnixStream;
 /// A session with the server at a path: with a prompt and words where standard input and output are terminals; else bytes in and out.
 ///
 /// # Errors
-/// `CannotReach`; `Read` where the input, or the server's replies, cannot be read; `Write`; `NoMemory`.
+/// `CannotConnect`; `Read` where the input, or the server's replies, cannot be read; `Write`; `NoMemory`.
 pub fn client(rt: &HostRuntime, path: &str) -> Result<(), ProgramFault> {
     let stream = match UnixStream::connect(rt, path) {
         Ok(stream) => stream,
@@ -18,8 +18,8 @@ pub fn client(rt: &HostRuntime, path: &str) -> Result<(), ProgramFault> {
             return Err(ProgramFault::NoMemory(AllocError));
         }
         Err(error) => {
-            let path = BadPath::new(rt.alloc(), path, Reason::of(error.kind()))?;
-            return Err(ProgramFault::CannotReach(path));
+            let place = Place::new(rt.alloc(), path, Reason::of(error.kind()))?;
+            return Err(ProgramFault::CannotConnect(place));
         }
     };
     if rt.stdin().is_terminal() && rt.stdout().is_terminal() {

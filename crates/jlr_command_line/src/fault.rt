@@ -2,7 +2,7 @@
 ghost use Rattle.std.specs.Prelude.{◌≡◌};
 ghost use Rattle.jlr_command_line.specs.Status.{status_of};
 
-use crate::reason::{BadPath, Reason};
+use crate::reason::{Place, Reason};
 use std::alloc::AllocError;
 use thiserror::Error;
 
@@ -21,13 +21,13 @@ pub enum ProgramFault {
     #[error("too many lines")]
     TooManyLines,
     #[error("cannot read {0}")]
-    CannotRead(BadPath),
+    CannotRead(Place),
     #[error("cannot save {0}")]
-    CannotSave(BadPath),
+    CannotSave(Place),
     #[error("cannot listen on {0}")]
-    CannotListen(BadPath),
-    #[error("cannot reach {0}")]
-    CannotReach(BadPath),
+    CannotListen(Place),
+    #[error("cannot connect to {0}")]
+    CannotConnect(Place),
     /// A server that was asked to end did not save its history, or was cut off before it had ended.
     #[error("the server did not end in order")]
     NotEnded,
@@ -59,7 +59,7 @@ impl ProgramFault {
         match self {
             ProgramFault::Read | ProgramFault::Write => 1,
             ProgramFault::CannotRead(_) | ProgramFault::CannotSave(_) => 1,
-            ProgramFault::CannotListen(_) | ProgramFault::CannotReach(_) => 1,
+            ProgramFault::CannotListen(_) | ProgramFault::CannotConnect(_) => 1,
             ProgramFault::NotEnded => 1,
             ProgramFault::CommandLine(_) => 2,
             ProgramFault::Illegal | ProgramFault::Disagree(_) => 3,
@@ -73,10 +73,10 @@ impl ProgramFault {
     /// Why a file or a socket could not be used, where that ends the program.
     pub fn reason(&self) -> Option<Reason> {
         match self {
-            ProgramFault::CannotRead(path)
-            | ProgramFault::CannotSave(path)
-            | ProgramFault::CannotListen(path)
-            | ProgramFault::CannotReach(path) => Some(path.reason),
+            ProgramFault::CannotRead(place)
+            | ProgramFault::CannotSave(place)
+            | ProgramFault::CannotListen(place)
+            | ProgramFault::CannotConnect(place) => Some(place.reason),
             _ => None,
         }
     }

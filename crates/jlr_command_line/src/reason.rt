@@ -76,24 +76,24 @@ impl Reason {
 
 /// A path, and why what it names cannot be used. It is shown as the path.
 #[derive(Debug, Drop)]
-pub struct BadPath {
+pub struct Place {
     pub path: String,
     pub reason: Reason,
 }
 
-impl BadPath {
+impl Place {
     /// This path, with why what it names cannot be used.
     ///
     /// # Errors
     /// `AllocError` where there is no memory for the path.
-    pub fn new(alloc: Global, path: &str, reason: Reason) -> Result<BadPath, AllocError> {
+    pub fn new(alloc: Global, path: &str, reason: Reason) -> Result<Place, AllocError> {
         let mut text = String::new(alloc);
         text.push_str(path)?;
-        Ok(BadPath { path: text, reason })
+        Ok(Place { path: text, reason })
     }
 }
 
-impl fmt::Display for BadPath {
+impl fmt::Display for Place {
     fn fmt<W: fmt::Write>(&self, f: &mut fmt::Formatter<W>) -> fmt::Result {
         f.write_str(self.path.as_str())
     }

@@ -10,7 +10,7 @@ use jlr_audit::verdict::Verdict;
 use jlr_audit::watch::Watch;
 use jlr_command_line::arguments::AuditOrder;
 use jlr_command_line::fault::ProgramFault;
-use jlr_command_line::reason::{BadPath, Reason};
+use jlr_command_line::reason::{Place, Reason};
 use jlr_explain::spelled::explained;
 use jlr_fields::version::Version;
 use jlr_trace::file::TraceFault;
@@ -89,8 +89,8 @@ pub(crate) fn contents(rt: &HostRuntime, path: &str) -> Result<Vec<u8>, ProgramF
 
 /// That a file cannot be read, or that memory for saying so ran out.
 fn unread(alloc: Global, path: &str, reason: Reason) -> ProgramFault {
-    match BadPath::new(alloc, path, reason) {
-        Ok(path) => ProgramFault::CannotRead(path),
+    match Place::new(alloc, path, reason) {
+        Ok(place) => ProgramFault::CannotRead(place),
         Err(fault) => ProgramFault::NoMemory(fault),
     }
 }

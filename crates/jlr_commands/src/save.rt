@@ -9,7 +9,7 @@ ghost use Rattle.jlr_session.specs.declared.shell.SessionEnd.{SessionEnd as Sess
 
 use crate::session::outcome_of;
 use jlr_command_line::fault::ProgramFault;
-use jlr_command_line::reason::{BadPath, Reason};
+use jlr_command_line::reason::{Place, Reason};
 use jlr_device::Device;
 use jlr_prog::Book;
 use jlr_prog::run::run_over;
@@ -152,8 +152,8 @@ fn try_beside(rt: &HostRuntime, place: &str, permissions: Option<Permissions>) -
 
 /// That a history cannot be saved, or that memory for saying so ran out.
 fn unsaved(alloc: Global, path: &str, reason: Reason) -> ProgramFault {
-    match BadPath::new(alloc, path, reason) {
-        Ok(path) => ProgramFault::CannotSave(path),
+    match Place::new(alloc, path, reason) {
+        Ok(place) => ProgramFault::CannotSave(place),
         Err(fault) => ProgramFault::NoMemory(fault),
     }
 }

@@ -8,13 +8,13 @@ use crate::reach::fenced;
 use crate::save::{save, try_save};
 use jlr_command_line::arguments::Service;
 use jlr_command_line::fault::ProgramFault;
-use jlr_command_line::reason::{BadPath, Reason};
+use jlr_command_line::reason::{Place, Reason};
 use jlr_device::places::Inode;
 use jlr_saving::file::trace_bytes_of;
 use jlr_server::Book;
 use jlr_server::hall::closing::CloseFault;
 use jlr_server::hall::history::Blank;
-use jlr_server::listener::{LineWatcher, Listener, Place, SocketFiles};
+use jlr_server::listener::{LineWatcher, Listener, SocketFiles, SocketPlace};
 use jlr_server::server::{ServeFault, Served, Watched, serve_watched};
 use jlr_server::socket_file::remove_own;
 use std::alloc::{AllocError, Global};
@@ -35,10 +35,10 @@ pub fn serve<T: Threads + Wait + Sync>(
     service: Service<'_>,
     writer: &mut impl Write,
 ) -> Result<(), ProgramFault> {
+    warn_of_few(rt, service.limits);
     if let Some(path) = service.save {
         try_save(rt, path)?;
     }
-    warn_of_few(rt, service.limits);
     let (listener, watcher, files) = listening(rt, service)?;
     let own = [files.socket, files.control.unwrap_or(files.socket)];
     let outcome = served(rt, threads, service, &listener, watcher, &own);
@@ -62,12 +62,12 @@ fn listening(
     rt: &HostRuntime,
     service: Service<'_>,
 ) -> Result<(Listener, LineWatcher, SocketFiles), ProgramFault> {
-    let place = Place {
+    let place = SocketPlace {
         path: service.socket,
         mode: service.mode,
     };
     let control = match service.control {
-        Some(path) => Some(Place {
+        Some(path) => Some(SocketPlace {
             path,
             mode: Some(service.control_mode),
         }),
@@ -195,8 +195,8 @@ fn fault_of(alloc: Global, fault: ServeFault, path: &str) -> ProgramFault {
 
 /// That nothing listens on a path, or that memory for saying so ran out.
 fn unheard(alloc: Global, path: &str, reason: Reason) -> ProgramFault {
-    match BadPath::new(alloc, path, reason) {
-        Ok(path) => ProgramFault::CannotListen(path),
+    match Place::new(alloc, path, reason) {
+        Ok(place) => ProgramFault::CannotListen(place),
         Err(fault) => ProgramFault::NoMemory(fault),
     }
 }

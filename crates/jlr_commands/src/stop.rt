@@ -1,6 +1,6 @@
 //! Asking a server to end: `refheap stop`.
 use jlr_command_line::fault::ProgramFault;
-use jlr_command_line::reason::{BadPath, Reason};
+use jlr_command_line::reason::{Place, Reason};
 use std::io::{ErrorKind, Read};
 use std::os::unix::net::UnixStream;
 
@@ -10,11 +10,14 @@ const ENDED: u8 = b'.';
 /// Asks the server that listens at this path to end, and waits until it is gone. Asked by a second one, it cuts its clients off.
 ///
 /// # Errors
-/// `CannotReach` where nobody listens there; `NotEnded` where the server could not save its history, or went without a word.
+/// `CannotConnect` where nobody listens there; `NotEnded` where the server could not save its history, or went without a word.
 pub fn stop(rt: &HostRuntime, control: &str) -> Result<(), ProgramFault> {
     let stream = match UnixStream::connect(rt, control) {
         Ok(stream) => stream,
-        Err(error) => return Err(unreached(rt, control, Reason::of(error.kind()))),
+        Err(error) => {
+            let place = Place::new(rt.alloc(), control, Reason::of(error.kind()))?;
+            return Err(ProgramFault::CannotConnect(place));
+        }
     };
     let mut word = [0u8; 1];
     let mut has_ended = false;
@@ -34,11 +37,3 @@ pub fn stop(rt: &HostRuntime, control: &str) -> Result<(), ProgramFault> {
 
 /// More reads than an end takes: a byte and the end of the stream, and some that a signal interrupts.
 const MOST_READS: u32 = 1_000;
-
-/// That nobody listens at a path, or that memory for saying so ran out.
-fn unreached(rt: &HostRuntime, control: &str, reason: Reason) -> ProgramFault {
-    match BadPath::new(rt.alloc(), control, reason) {
-        Ok(path) => ProgramFault::CannotReach(path),
-        Err(fault) => ProgramFault::NoMemory(fault),
-    }
-}

@@ -1,5 +1,9 @@
 //! Who sits on the seats of the sessions, which of them wait in a `remove`, and how many sessions have joined. It decides who waits and who
 //! is woken, and nothing that an answer tells.
+use crate::effect::{
+    Effect, gave_handle, gave_resource, lacks_resources, says_collected, was_refused,
+};
+use jlr_event::event::Reply;
 use jlr_types::{Handle, Mutator};
 
 /// The most seats of sessions.
@@ -33,11 +37,17 @@ struct Chair {
     opened: u32,
 }
 
-/// The seats of the sessions.
+/// The seats of the sessions, and what is to come.
 #[derive(Drop)]
 pub(crate) struct Chairs {
     chairs: [Chair; MOST_SESSIONS as usize],
     joined: u32,
+    /// No `remove` waits any more.
+    nobody_waits: bool,
+    /// A cycle is owed to what sessions left open.
+    cycle_owed: bool,
+    /// How many sessions left and jobs ended, modulo 2^64.
+    closings: u64,
 }
 
 impl Chairs {
@@ -51,6 +61,9 @@ impl Chairs {
         Chairs {
             chairs: [empty; MOST_SESSIONS as usize],
             joined: 0,
+            nobody_waits: false,
+            cycle_owed: false,
+            closings: 0,
         }
     }
 
@@ -97,33 +110,64 @@ impl Chairs {
         }
     }
 
-    /// A session joined.
-    pub(crate) fn join(&mut self) {
-        self.joined = self.joined.saturating_add(1);
+    /// What an answered event of a seat changes.
+    pub(crate) fn after<R>(&mut self, seat: u8, effect: Effect, reply: &Reply<R>) {
+        match effect {
+            Effect::Joins if !was_refused(reply) => self.joined = self.joined.saturating_add(1),
+            Effect::Leaves if !was_refused(reply) => self.leave(seat),
+            Effect::Opens if gave_handle(reply) => self.open(seat),
+            Effect::Closes if gave_resource(reply) => self.close(seat),
+            Effect::Prepares if lacks_resources(reply) => self.cycle_owed = true,
+            Effect::Finishes => self.closings = self.closings.wrapping_add(1),
+            Effect::Collects if says_collected(reply) => self.cycle_owed = false,
+            _ => {}
+        }
     }
 
-    /// A session opened a resource, or closed one itself.
-    pub(crate) fn opened(&mut self, seat: u8, opens: bool) {
+    /// A session opened a resource.
+    fn open(&mut self, seat: u8) {
         if let Some(chair) = self.chairs.get_mut(usize::from(seat)) {
-            chair.opened = if opens {
-                chair.opened.saturating_add(1)
-            } else {
-                chair.opened.saturating_sub(1)
-            };
+            chair.opened = chair.opened.saturating_add(1);
         }
     }
 
-    /// A session left. Whether it left resources open.
-    pub(crate) fn leave(&mut self, seat: u8) -> bool {
-        self.joined = self.joined.saturating_sub(1);
-        match self.chairs.get_mut(usize::from(seat)) {
-            Some(chair) => {
-                let left = chair.opened > 0;
-                chair.opened = 0;
-                left
-            }
-            None => false,
+    /// A session closed a resource itself.
+    fn close(&mut self, seat: u8) {
+        if let Some(chair) = self.chairs.get_mut(usize::from(seat)) {
+            chair.opened = chair.opened.saturating_sub(1);
         }
+    }
+
+    /// A session left. What it left open owes a cycle.
+    fn leave(&mut self, seat: u8) {
+        self.joined = self.joined.saturating_sub(1);
+        self.closings = self.closings.wrapping_add(1);
+        if let Some(chair) = self.chairs.get_mut(usize::from(seat)) {
+            if chair.opened > 0 {
+                self.cycle_owed = true;
+            }
+            chair.opened = 0;
+        }
+    }
+
+    /// No `remove` waits any more.
+    pub(crate) fn call_all_off(&mut self) {
+        self.nobody_waits = true;
+    }
+
+    /// Whether no `remove` waits any more.
+    pub(crate) fn nobody_waits(&self) -> bool {
+        self.nobody_waits
+    }
+
+    /// Whether a cycle is owed to what sessions left open.
+    pub(crate) fn cycle_owed(&self) -> bool {
+        self.cycle_owed
+    }
+
+    /// How many sessions left and jobs ended, modulo 2^64.
+    pub(crate) fn closings(&self) -> u64 {
+        self.closings
     }
 
     /// Whether a session has joined and not left.

@@ -11,9 +11,7 @@ ghost use Rattle.jlr_hall.specs.Telling.{added};
 
 use crate::chairs::{Chairs, MOST_SESSIONS, Removal};
 use crate::closing::LOOPS;
-use crate::effect::{
-    Effect, gave_handle, gave_resource, lacks_resources, says_collected, says_queued, was_refused,
-};
+use crate::effect::{Effect, says_queued};
 use crate::seat::Seat;
 use crate::step::{Limited, Step};
 use jlr_book::book::Book;
@@ -33,12 +31,6 @@ pub(crate) struct Locked<R, L: Naming + Limited> {
     pub(crate) keeper: Keeper<Step<R>, L>,
     pub(crate) stopped: bool,
     chairs: Chairs,
-    /// No `remove` waits any more.
-    nobody_waits: bool,
-    /// A cycle is owed to what sessions left open.
-    cycle_owed: bool,
-    /// How many sessions left and jobs ended, round and round.
-    closings: u64,
 }
 
 impl<R, L: Naming + Limited> Model for Locked<R, L> {
@@ -74,9 +66,6 @@ impl<R: Drop, L: Naming + Limited> Locked<R, L> {
             keeper,
             stopped: false,
             chairs: Chairs::new(),
-            nobody_waits: false,
-            cycle_owed: false,
-            closings: 0,
         }
     }
 
@@ -107,13 +96,13 @@ impl<R: Drop, L: Naming + Limited> Locked<R, L> {
     /// Whether the marker would find something to do: a cycle to begin, or one that is open. One is to begin where the book says so, or
     /// where, since the last one began, a session left with resources open or there was no room for a resource.
     pub(crate) fn has_marking(&self) -> bool {
-        self.cycle_owed || self.book.marker_due() || self.book.cycle_open()
+        self.chairs.cycle_owed() || self.book.marker_due() || self.book.cycle_open()
     }
 
     /// Whether a `Remove` is to wait: its queue is empty, its client is not gone, and nothing ends.
     fn is_waiting(&self, seat: u8, removal: Removal) -> bool {
         !self.stopped
-            && !self.nobody_waits
+            && !self.chairs.nobody_waits()
             && !self.chairs.is_gone(seat)
             && self.book.would_wait(removal.mutator, removal.queue)
     }
@@ -143,20 +132,7 @@ impl<R: Drop, L: Naming + Limited> Locked<R, L> {
     fn looks(&mut self, seat: u8, effect: Effect, reply: &Reply<R>) -> Looks
         ensures { self.new ≡ self.old }
     {
-        let is_refused = was_refused(reply);
-        match effect {
-            Effect::Joins if !is_refused => self.chairs.join(),
-            Effect::Leaves if !is_refused => {
-                self.cycle_owed |= self.chairs.leave(seat);
-                self.closings = self.closings.wrapping_add(1);
-            }
-            Effect::Opens if gave_handle(reply) => self.chairs.opened(seat, true),
-            Effect::Closes if gave_resource(reply) => self.chairs.opened(seat, false),
-            Effect::Prepares => self.cycle_owed |= lacks_resources(reply),
-            Effect::Finishes => self.closings = self.closings.wrapping_add(1),
-            Effect::Collects if says_collected(reply) => self.cycle_owed = false,
-            _ => {}
-        }
+        self.chairs.after(seat, effect, reply);
         Looks {
             marker: self.has_marking(),
             handler: !self.book.pending_empty(),
@@ -247,14 +223,14 @@ impl<R: Drop, L: Naming + Limited> Hall<R, L> {
 
     /// No `remove` waits any more: each asks once, and is answered by what it finds. The loops go on.
     pub fn call_all_off<T: Wait>(&self, rt: &T) {
-        self.locked.lock(rt).nobody_waits = true;
+        self.locked.lock(rt).chairs.call_all_off();
         self.closed.notify_all();
         self.wake_removers();
     }
 
     /// How many sessions have left and jobs ended, modulo 2^64.
     pub fn closings<T: Wait>(&self, rt: &T) -> u64 {
-        self.locked.lock(rt).closings
+        self.locked.lock(rt).chairs.closings()
     }
 
     /// Waits until a session leaves or a job ends, since there were so many; not where nothing is there to be closed, nor where the hall is to
@@ -262,7 +238,10 @@ impl<R: Drop, L: Naming + Limited> Hall<R, L> {
     pub fn wait_for_closing<T: Wait>(&self, rt: &T, closings: u64) {
         drop(
             self.closed.wait_while(rt, self.locked.lock(rt), |l| {
-                !l.stopped && !l.nobody_waits && l.closings == closings && l.may_close()
+                !l.stopped
+                    && !l.chairs.nobody_waits()
+                    && l.chairs.closings() == closings
+                    && l.may_close()
             }),
         );
     }

@@ -33,7 +33,7 @@ const CLIENTS: usize = 2;
 
 /// Where a socket is made, and the rights of its file, where they are not to be those of the umask.
 #[derive(Clone, Copy)]
-pub struct Place<'a> {
+pub struct SocketPlace<'a> {
     pub path: &'a str,
     pub mode: Option<u32>,
 }
@@ -94,8 +94,8 @@ impl Listener {
     pub fn bind(
         rt: &HostRuntime,
         alloc: Global,
-        place: Place<'_>,
-        control: Option<Place<'_>>,
+        place: SocketPlace<'_>,
+        control: Option<SocketPlace<'_>>,
     ) -> io::Result<(Self, LineWatcher, SocketFiles)> {
         let poll = Poll::new(rt)?;
         let registry = poll.registry().try_clone()?;
@@ -140,7 +140,7 @@ fn control_at(
     rt: &HostRuntime,
     alloc: Global,
     registry: &Registry,
-    place: Option<Place<'_>>,
+    place: Option<SocketPlace<'_>>,
 ) -> io::Result<(Option<UnixListener>, Option<Inode>)> {
     let Some(place) = place else {
         return Ok((None, None));

@@ -1,6 +1,6 @@
 //! Faults of the program: their statuses and their words.
 use jlr_command_line::fault::ProgramFault;
-use jlr_command_line::reason::{BadPath, Reason};
+use jlr_command_line::reason::{Place, Reason};
 use std::alloc::{AllocError, Global};
 use std::io::ErrorKind;
 use std::test::Fail;
@@ -17,11 +17,11 @@ fn is_told(alloc: Global, fault: ProgramFault, status: u8, words: &str) -> Resul
 }
 
 /// The place of a file whose reason is told in these words.
-fn place(alloc: Global, reason: Reason, words: &str) -> Result<BadPath, Fail> {
+fn place(alloc: Global, reason: Reason, words: &str) -> Result<Place, Fail> {
     if reason.words() != words {
         return Err(Fail::new(format!(in alloc; "{words}: another reason")?));
     }
-    Ok(BadPath::new(alloc, "a/file", reason)?)
+    Ok(Place::new(alloc, "a/file", reason)?)
 }
 
 #[test]
@@ -39,8 +39,8 @@ fn faults_of_files_have_reasons(rt: HostRuntime) -> Result<(), Fail> {
     is_told(alloc, listen, 1, "cannot listen on a/file")?;
     let nobody = "nobody listens there: start a server";
     let kind = ErrorKind::ConnectionRefused;
-    let connect = ProgramFault::CannotReach(place(alloc, Reason::of(kind), nobody)?);
-    is_told(alloc, connect, 1, "cannot reach a/file")
+    let connect = ProgramFault::CannotConnect(place(alloc, Reason::of(kind), nobody)?);
+    is_told(alloc, connect, 1, "cannot connect to a/file")
 }
 
 #[test]

@@ -3,7 +3,7 @@ ghost use Rattle.std.specs.Prelude.{◌≡◌, IfOk, length};
 
 use jlr_device::real::RealDevice;
 use jlr_server::hall::history::Blank;
-use jlr_server::listener::{LineWatcher, Listener, Place};
+use jlr_server::listener::{LineWatcher, Listener, SocketPlace};
 use jlr_server::server::{ServeFault, Served, Watched, serve_watched};
 use jlr_server::socket_file::remove_own;
 use jlr_types::Limits;
@@ -138,7 +138,7 @@ fn serve_clients<T: Threads + Wait + Sync>(
     let limits = Limits::checked(16, sessions, 1, 4, 100, 64)
         .ok()
         .ok_or("limits")?;
-    let place = Place { path, mode: None };
+    let place = SocketPlace { path, mode: None };
     let (listener, watcher, files) = Listener::bind(&rt, rt.alloc(), place, None)?;
     let one = thread::spawn(threads, move || are_answered(rt, path, first))?;
     let other = thread::spawn(threads, move || are_answered(rt, path, second))?;
@@ -212,8 +212,8 @@ fn a_client_that_is_gone_takes_nothing(rt: HostRuntime) -> Result<(), Fail> {
 fn a_server_ends_in_order(rt: HostRuntime) -> Result<(), Fail> {
     let limits = Limits::checked(16, 1, 1, 4, 100, 64).ok().ok_or("limits")?;
     let (path, control) = ("refheap_ends", "refheap_control");
-    let place = Place { path, mode: None };
-    let beside = Place {
+    let place = SocketPlace { path, mode: None };
+    let beside = SocketPlace {
         path: control,
         mode: Some(0o600),
     };
