@@ -33,6 +33,7 @@ fn told(alloc: Global, order: Order<'_>) -> Result<String, Fail> {
     match order {
         Order::Run(order) => told_run(alloc, order),
         Order::Serve(service) => told_service(alloc, service),
+        Order::Stop(order) => Ok(format!(in alloc; "stop at {}", order.control)?),
         Order::Audit(order) => told_audit(alloc, order),
         Order::Stats(order) => told_stats(alloc, order),
         Order::Client(path) => Ok(format!(in alloc; "client of {path}")?),
