@@ -1,5 +1,5 @@
 //! A heap that several clients share: a worker for each session's seat, and the three loops beside them.
-ghost use Rattle.std.specs.Prelude.{◌≡◌, ◌<◌, ◌+◌, ℕ, [], IfOk, length, sum, map, slice_index_or};
+ghost use Rattle.std.specs.Prelude.{◌≡◌, ◌<◌, ◌+◌, ℕ, false, [], IfOk, length, sum, map, slice_index_or};
 ghost use Rattle.std.specs.Thread.{IsSend, IsSync};
 ghost use Rattle.jlr_log.specs.Seeing.{Seen, seen};
 ghost use Rattle.jlr_hall.specs.declared.step.Step.{Step};
@@ -430,7 +430,7 @@ where
     requires limits { limits ≡ L.limits }
     ensures served { IfOk result (λ served. IsServed limits
         (record { count = D.count; opens = D.may_open; connects = D.may_connect; failures = D.Res.handling.count })
-        D.Res.handling A.fails total ⊥ served.accepts served.missed served.book) }
+        D.Res.handling A.fails total false served.accepts served.missed served.book) }
 {
     let done = serve_watched::<A, D, L, NoWatcher, T>(
         rt, alloc, limits, total, acceptor, NoWatcher, devices, blank,
