@@ -1,7 +1,7 @@
-//! A heap for one program. Each call is one event of the core, which gets the room of its choice, and no history is kept of it. What guards hold
-//! stays the program's own: a file, a socket, or a number by which the program knows one. The heap hands each back once. It relies on the core
-//! alone. Memory is taken when it is made, and by the asks of which the core says so. It keeps the promise of `IsStep`, and that each answer is
-//! of the kind of its ask.
+//! A heap for one program. Each call is one event of the core, which gets the room of its choice, and no history is
+//! kept of it. What guards hold stays the program's own: a file, a socket, or a number by which the program knows one.
+//! The heap hands each back once. It relies on the core alone. Memory is taken when it is made, and by the asks of
+//! which the core says so. It keeps the promise of `IsStep`, and that each answer is of the kind of its ask.
 #![tactic(auto)]
 
 ghost use Rattle.std.specs.Prelude.{◌≡◌, ◌↔◌, [], IfOk, IsTrue, None, false, is_none, true};
@@ -12,13 +12,12 @@ ghost use Rattle.jlr_embed.specs.Kinds.{is_told, kind_asked, suits};
 
 mod unrecorded;
 
-pub use unrecorded::Unrecorded;
-
 use jlr_event::event::{Event, Reply};
 use jlr_machine::ask::{Answer, Handed};
 use jlr_types::{Limits, Progress};
 use std::alloc::{AllocError, Global};
 use std::marker::Model;
+pub use unrecorded::Unrecorded;
 
 /// A heap whose guards hold tokens, numbers by which the program knows what is its own. Contracts see the core.
 #[derive(Drop)]
@@ -58,8 +57,8 @@ impl Embedded {
         self.heap.answer(event)
     }
 
-    /// One event that makes objects: what `answer` does for it. The slots of its new objects leave the choice at once, so that the next event finds
-    /// nothing to clear.
+    /// One event that makes objects: what `answer` does for it. The slots of its new objects leave the choice at once,
+    /// so that the next event finds nothing to clear.
     #[inline(always)]
     pub fn make(&mut self, event: &Event<u64>) -> Answer
         requires plain { is_plain event.now ≡ true }

@@ -1,5 +1,6 @@
 //! A heap of which no history is kept.
-ghost use Rattle.std.specs.Prelude.{◌≡◌, ◌≢◌, ◌↔◌, ◌<◌, [], IfOk, IsTrue, None, false, is_none, length, true};
+ghost use Rattle.std.specs.Prelude.{◌≡◌, ◌≢◌, ◌↔◌, ◌<◌, [], length};
+ghost use Rattle.std.specs.Prelude.{IfOk, IsTrue, None, false, is_none, true};
 ghost use Rattle.jlr_event.specs.Events.{ask_of, resource_of_event};
 ghost use Rattle.jlr_core.specs.Events.{is_plain};
 ghost use Rattle.jlr_core.specs.Steps.{IsEmpty, Steps};
@@ -14,7 +15,8 @@ use jlr_types::{Limits, Progress};
 use std::alloc::{AllocError, Global};
 use std::marker::Model;
 
-/// A core of which each event has the room of its choice. What its guards hold is of the type `R`. Contracts see the core.
+/// A core of which each event has the room of its choice. What its guards hold is of the type `R`. Contracts see the
+/// core.
 #[derive(Drop)]
 pub struct Unrecorded<R> {
     core: Core<R>,
@@ -56,8 +58,8 @@ impl<R: Drop> Unrecorded<R> {
         self.core.answer(event, &mut self.choice)
     }
 
-    /// One event that makes objects: what `answer` does for it. The slots of its new objects leave the choice at once, so that the next event finds
-    /// nothing to clear.
+    /// One event that makes objects: what `answer` does for it. The slots of its new objects leave the choice at once,
+    /// so that the next event finds nothing to clear.
     #[inline(always)]
     pub fn make(&mut self, event: &Event<R>) -> Answer
         requires plain { is_plain event.now ≡ true }
@@ -93,7 +95,8 @@ impl<R: Drop> Unrecorded<R> {
     /// A step of the handler. Takes no memory.
     pub fn hand_over(&mut self) -> Handed
         ensures step { Steps self.old Event.HandOver (Reply.Answered (Answer.Handed result) None) self.new }
-        ensures less { self.old.machine.pending ≢ [] → length self.new.machine.pending < length self.old.machine.pending }
+        ensures less { self.old.machine.pending ≢ []
+            → length self.new.machine.pending < length self.old.machine.pending }
     {
         self.core.hand_over()
     }
@@ -105,8 +108,8 @@ impl<R: Drop> Unrecorded<R> {
         self.core.pending_empty()
     }
 
-    /// Steps of the handler, until nothing is pending: what collections cleared comes to its queues, and actions to the cleaner's line. Takes no
-    /// memory.
+    /// Steps of the handler, until nothing is pending: what collections cleared comes to its queues, and actions to
+    /// the cleaner's line. Takes no memory.
     pub fn settle(&mut self)
         ensures { Settles self.old self.new }
     {

@@ -1,8 +1,9 @@
-use Rattle.std.proofs.Common.{rules, None}
+use Rattle.std.proofs.Common.{rules, ◌≢◌, ◌<◌, [], length, None, subst}
 use Rattle.jlr_machine.specs.Run.{no_choice}
 use Rattle.jlr_machine.specs.declared.ask.Answer.TheVariants.{Handed}
 use Rattle.jlr_event.specs.declared.event.Event.TheVariants.{HandOver}
 use Rattle.jlr_event.specs.declared.event.Reply.TheVariants.{Answered}
+use Rattle.jlr_core.specs.Cores.{Kept}
 use Rattle.jlr_embed.proofs.Fitting.{stands_after}
 use Rattle.jlr_embed.proofs.Handing.{less_pending}
 use Rattle.jlr_embed.proofs.unrecorded.Unrecorded.hand_over.Goals as goal
@@ -14,4 +15,7 @@ invariant_of-self g c = (
 )
 
 pub returns-clause-less : goal.returns-clause-less
-returns-clause-less g c = less_pending c.self.inside.core c.hand_over.new.self c.hand_over.result no_choice c.hand_over.ensures.step c.self.invariant.1
+returns-clause-less g c =
+    let new = c.hand_over.new.self in
+    let less = less_pending c.self.inside.core new c.hand_over.result no_choice c.hand_over.ensures.step c.self.invariant.1 in
+    subst (λ (k : Kept g.row.R.Denot). k.machine.pending ≢ [] → length new.machine.pending < length k.machine.pending) c.self.view_is less
