@@ -1,4 +1,5 @@
-//! A cache of numbers by key. Its entries are softly reachable: the collector gives up those that nobody asked for of late, and all where the heap is full.
+//! A cache of numbers by key. Its entries are softly reachable: the collector gives up those that nobody asked for of
+//! late, and all where the heap is full.
 use jlr_heap::TokenHeap;
 use jlr_heap::handles::Reference;
 use jlr_types::{FieldKind, FieldNo, Handle, Layout, Length, Refusal};

@@ -41,7 +41,11 @@ fn show_pool(rt: &impl Print, alloc: Global) -> Result<(), Stopped> {
     let mut pool = Pool::new(alloc, 2)?;
     let first = pool.take(&mut heap)?;
     let second = pool.take(&mut heap)?;
-    println!(rt; "pool: {} free, {}", pool.free(), pool.take(&mut heap)?.is_none())?;
+    println!(rt;
+        "pool: {} free, {}",
+        pool.free(),
+        pool.take(&mut heap)?.is_none()
+    )?;
     if let Some(guard) = first {
         pool.give_back(&mut heap, guard)?;
     }

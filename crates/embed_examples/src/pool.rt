@@ -1,4 +1,5 @@
-//! A pool of things that the program knows by numbers. Each has one taker at a time, and what a taker forgets comes back by a collection.
+//! A pool of things that the program knows by numbers. Each has one taker at a time, and what a taker forgets comes
+//! back by a collection.
 use jlr_heap::TokenHeap;
 use jlr_heap::handles::Guard;
 use jlr_heap::jobs::{Declined, Job, What};

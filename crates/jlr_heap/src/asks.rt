@@ -1,6 +1,7 @@
 //! The asks of a program: a method for each.
 ghost use Rattle.std.specs.Prelude.{◌≡◌};
-ghost use Rattle.jlr_heap.specs.Entries.{IsDone, IsEntry, counts, faults, handle, handle_or_null, integer, names, notes, or_null, truth};
+ghost use Rattle.jlr_heap.specs.Entries.{IsDone, IsEntry, counts, faults, handle, handle_or_null};
+ghost use Rattle.jlr_heap.specs.Entries.{integer, names, notes, or_null, truth};
 
 use crate::handles::{Cleanable, Cleaner, Queue, Reference};
 use crate::heap::{Heap, me};
@@ -122,7 +123,8 @@ impl<K: Keeper> Heap<K> {
 
     /// A soft reference to an object, on a queue or none.
     pub fn soft(&mut self, referent: Handle, queue: Option<Queue>) -> Result<Reference, Refusal>
-        ensures { IsEntry K.asking self.old (Event.MakeRef 0 RefKind.Soft referent (or_null queue)) (handle result) self.new }
+        ensures { IsEntry K.asking self.old (Event.MakeRef 0 RefKind.Soft referent (or_null queue)) (handle result)
+            self.new }
     {
         match self.gives(Event::MakeRef {
             mutator: me(),
@@ -137,7 +139,8 @@ impl<K: Keeper> Heap<K> {
 
     /// A weak reference to an object, on a queue or none.
     pub fn weak(&mut self, referent: Handle, queue: Option<Queue>) -> Result<Reference, Refusal>
-        ensures { IsEntry K.asking self.old (Event.MakeRef 0 RefKind.Weak referent (or_null queue)) (handle result) self.new }
+        ensures { IsEntry K.asking self.old (Event.MakeRef 0 RefKind.Weak referent (or_null queue)) (handle result)
+            self.new }
     {
         match self.gives(Event::MakeRef {
             mutator: me(),
@@ -152,7 +155,8 @@ impl<K: Keeper> Heap<K> {
 
     /// A phantom reference to an object, on a queue or none.
     pub fn phantom(&mut self, referent: Handle, queue: Option<Queue>) -> Result<Reference, Refusal>
-        ensures { IsEntry K.asking self.old (Event.MakeRef 0 RefKind.Phantom referent (or_null queue)) (handle result) self.new }
+        ensures { IsEntry K.asking self.old (Event.MakeRef 0 RefKind.Phantom referent (or_null queue)) (handle result)
+            self.new }
     {
         match self.gives(Event::MakeRef {
             mutator: me(),

@@ -2,9 +2,11 @@
 ghost use Rattle.std.specs.Prelude.{◌≡◌, ◌≤◌, true, length, ⊤};
 ghost use Rattle.jlr_event.specs.declared.event.Event.TheVariants as event;
 ghost use Rattle.jlr_session.specs.Calls.{Reads, Writes};
-ghost use Rattle.jlr_session.specs.Asks.{TellsConnected, TellsFinished, TellsOpened, TellsRead, TellsWritten, job_by, out_by, prepared_by};
+ghost use Rattle.jlr_session.specs.Asks.{TellsConnected, TellsFinished, TellsOpened, TellsRead, TellsWritten};
+ghost use Rattle.jlr_session.specs.Asks.{job_by, out_by, prepared_by};
 ghost use Rattle.jlr_embed.specs.Kinds.{is_data, is_end, is_faulted, is_handle, is_told, is_wrote};
-ghost use Rattle.jlr_heap.specs.Files.{IsAskedTwice, IsEntered, IsSaid, TellsClosed, count_outcome, count_told, data_outcome, data_told, failure, finish_told, guard_told};
+ghost use Rattle.jlr_heap.specs.Files.{IsAskedTwice, IsEntered, IsSaid, TellsClosed, count_outcome, count_told};
+ghost use Rattle.jlr_heap.specs.Files.{data_outcome, data_told, failure, finish_told, guard_told};
 
 use crate::failed::Failed;
 use crate::handles::Guard;
@@ -250,8 +252,12 @@ pub(crate) fn open<K: Keeper, D: Device<Res = K::Held>>(
     mode: Mode,
     path: &str,
 ) -> Result<Guard, Failed>
+where
+    K::Held: Resource,
     ensures { IsAskedTwice K.asking (event.Prepare 0) prepared_by
-        (λ _. TellsOpened (record { count = D.count; opens = D.may_open; connects = D.may_connect; failures = D.Res.handling.count }) 0 mode path.now device.old device.new)
+        (λ _. TellsOpened
+        (record { count = D.count; opens = D.may_open; connects = D.may_connect; failures = K.Held.handling.count })
+        0 mode path.now device.old device.new)
         (device.new ≡ device.old) (λ result said. said ≡ guard_told result) keeper.old result keeper.new }
 {
     match keeper.ask(Event::Prepare { mutator: me() }) {
@@ -270,8 +276,12 @@ pub(crate) fn connect<K: Keeper, D: Device<Res = K::Held>>(
     device: &mut D,
     path: &str,
 ) -> Result<Guard, Failed>
+where
+    K::Held: Resource,
     ensures { IsAskedTwice K.asking (event.Prepare 0) prepared_by
-        (λ _. TellsConnected (record { count = D.count; opens = D.may_open; connects = D.may_connect; failures = D.Res.handling.count }) 0 path.now device.old device.new)
+        (λ _. TellsConnected
+        (record { count = D.count; opens = D.may_open; connects = D.may_connect; failures = K.Held.handling.count })
+        0 path.now device.old device.new)
         (device.new ≡ device.old) (λ result said. said ≡ guard_told result) keeper.old result keeper.new }
 {
     match keeper.ask(Event::Prepare { mutator: me() }) {
@@ -294,8 +304,8 @@ pub(crate) fn read<K: Keeper>(
 ) -> Result<Data, Failed>
 where
     K::Held: Resource,
-    ensures { IsAskedTwice K.asking (event.CheckOut 0 guard) out_by (TellsRead K.Held.handling 0 count) ⊤ (λ result said. said ≡ data_told result)
-        keeper.old result keeper.new }
+    ensures { IsAskedTwice K.asking (event.CheckOut 0 guard) out_by (TellsRead K.Held.handling 0 count) ⊤
+        (λ result said. said ≡ data_told result) keeper.old result keeper.new }
 {
     let (answer, held) = keeper.carry(
         Event::CheckOut {
@@ -327,8 +337,8 @@ pub(crate) fn write<K: Keeper>(
 where
     K::Held: Resource,
     requires { length bytes.now ≤ 200 }
-    ensures { IsAskedTwice K.asking (event.CheckOut 0 guard) out_by (TellsWritten K.Held.handling 0 bytes.now) ⊤ (λ result said. said ≡ count_told result)
-        keeper.old result keeper.new }
+    ensures { IsAskedTwice K.asking (event.CheckOut 0 guard) out_by (TellsWritten K.Held.handling 0 bytes.now) ⊤
+        (λ result said. said ≡ count_told result) keeper.old result keeper.new }
 {
     let (answer, held) = keeper.carry(
         Event::CheckOut {
@@ -355,7 +365,8 @@ where
 pub(crate) fn close<K: Keeper>(keeper: &mut K, guard: Handle) -> Result<bool, Failed>
 where
     K::Held: Resource,
-    ensures { IsAskedTwice K.asking (event.Close 0 guard) job_by (TellsFinished K.Held.handling 0) ⊤ TellsClosed keeper.old result keeper.new }
+    ensures { IsAskedTwice K.asking (event.Close 0 guard) job_by (TellsFinished K.Held.handling 0) ⊤ TellsClosed
+        keeper.old result keeper.new }
 {
     let (answer, held) = keeper.carry(
         Event::Close {

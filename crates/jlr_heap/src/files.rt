@@ -1,5 +1,5 @@
 //! Guarded files and sockets: what opens, reads, writes and closes them.
-ghost use Rattle.std.specs.Prelude.{Result, Some, take};
+ghost use Rattle.std.specs.Prelude.{Result, Some, length, min, take};
 ghost use Rattle.jlr_types.specs.declared.Fault.{Fault as Why};
 ghost use Rattle.jlr_session.specs.Calls.{Finishes};
 ghost use Rattle.jlr_heap.specs.Entries.{IsEntry};
@@ -51,7 +51,8 @@ where
         device: &mut D,
         path: &str,
     ) -> Result<Guard, Failed>
-        ensures { IsOpened K.asking (record { count = D.count; opens = D.may_open; connects = D.may_connect; failures = D.Res.handling.count })
+        ensures { IsOpened K.asking
+            (record { count = D.count; opens = D.may_open; connects = D.may_connect; failures = K.Held.handling.count })
             Mode.Read path.now device.old device.new self.old result self.new }
     {
         let result = open(&mut self.keeper, device, Mode::Read, path);
@@ -65,7 +66,8 @@ where
         device: &mut D,
         path: &str,
     ) -> Result<Guard, Failed>
-        ensures { IsOpened K.asking (record { count = D.count; opens = D.may_open; connects = D.may_connect; failures = D.Res.handling.count })
+        ensures { IsOpened K.asking
+            (record { count = D.count; opens = D.may_open; connects = D.may_connect; failures = K.Held.handling.count })
             Mode.Write path.now device.old device.new self.old result self.new }
     {
         let result = open(&mut self.keeper, device, Mode::Write, path);
@@ -79,7 +81,8 @@ where
         device: &mut D,
         path: &str,
     ) -> Result<Guard, Failed>
-        ensures { IsConnected K.asking (record { count = D.count; opens = D.may_open; connects = D.may_connect; failures = D.Res.handling.count })
+        ensures { IsConnected K.asking
+            (record { count = D.count; opens = D.may_open; connects = D.may_connect; failures = K.Held.handling.count })
             path.now device.old device.new self.old result self.new }
     {
         let result = connect(&mut self.keeper, device, path);
@@ -99,7 +102,8 @@ where
 
     /// Bytes of the front of these, of which only the first 200 are looked at, are written: how many.
     pub fn write(&mut self, guard: Guard, bytes: &[u8]) -> Result<WriteCount, Failed>
-        ensures { IsWritten K.asking K.Held.handling guard (take 200 bytes.now) self.old result self.new }
+        ensures { IsWritten K.asking K.Held.handling guard (take (min 200 (length bytes.now)) bytes.now) self.old result
+            self.new }
     {
         let front = &bytes[..CALL_LIMIT.min(bytes.len())];
         let result = write(&mut self.keeper, guard.handle(), front);
@@ -107,7 +111,8 @@ where
         result
     }
 
-    /// A guard is closed: its file's bytes go to the disk, or its socket is shut down. Whether it was now; it was before, where not.
+    /// A guard is closed: its file's bytes go to the disk, or its socket is shut down. Whether it was now; it was
+    /// before, where not.
     pub fn close(&mut self, guard: Guard) -> Result<bool, Failed>
         ensures { IsClosed K.asking K.Held.handling guard self.old result self.new }
     {

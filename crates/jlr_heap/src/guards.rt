@@ -36,7 +36,8 @@ fn nothing_written() -> WriteCount
 }
 
 impl<K: Keeper> Heap<K> {
-    /// Room is made for one thing more that a guard holds. It may take memory. Nothing else is asked before `adopt` or `give_up`.
+    /// Room is made for one thing more that a guard holds. It may take memory. Nothing else is asked before `adopt` or
+    /// `give_up`.
     pub fn prepare(&mut self) -> Result<(), Refusal>
         ensures { IsDone K.asking self.old (Event.Prepare 0) result self.new }
     {
@@ -67,7 +68,8 @@ impl<K: Keeper> Heap<K> {
 
     /// What was to be adopted could not be opened: its room is let go.
     pub fn give_up(&mut self, fault: Fault) -> Result<(), Refusal>
-        ensures { IsTold K.asking (λ result answer _. Ends result answer) self.old (Event.Opened 0 (Err fault)) result self.new }
+        ensures { IsTold K.asking (λ result answer _. Ends result answer) self.old (Event.Opened 0 (Err fault)) result
+            self.new }
     {
         let (answer, _) = self.keeper.carry(
             Event::Opened {
@@ -121,7 +123,8 @@ impl<K: Keeper> Heap<K> {
         }
     }
 
-    /// A guard is closed, and what it held given back for good; none where it was given back before. Nothing else is asked before `finish`.
+    /// A guard is closed, and what it held given back for good; none where it was given back before. Nothing else is
+    /// asked before `finish`.
     pub fn stop(&mut self, guard: Guard) -> Result<Option<Job<K::Held>>, Refusal>
         ensures { IsTold K.asking TellsJob self.old (Event.Close 0 guard) result self.new }
     {
@@ -151,7 +154,8 @@ impl<K: Keeper> Heap<K> {
         taken(&answer, held)
     }
 
-    /// The next action in line, whose object was reclaimed; none where nothing stands in line. Its end is told by `finish_cleaner`.
+    /// The next action in line, whose object was reclaimed; none where nothing stands in line. Its end is told by
+    /// `finish_cleaner`.
     pub fn next_job(&mut self) -> Result<Option<Job<K::Held>>, Refusal>
         ensures { IsTold K.asking TellsJob self.old Event.TakeUp result self.new }
     {

@@ -3,8 +3,10 @@ ghost use Rattle.std.specs.Prelude.{◌≡◌, IfOk, true};
 ghost use Rattle.jlr_event.specs.Events.{ask_of};
 ghost use Rattle.jlr_machine.specs.declared.ask.Answer.{Answer as Told};
 ghost use Rattle.jlr_core.specs.Events.{is_plain};
-ghost use Rattle.jlr_embed.specs.Kinds.{is_faults, is_handle, is_integer, is_names, is_notes, is_stat, is_truth, kind_asked};
-ghost use Rattle.jlr_heap.specs.Entries.{Follows, IsDone, IsEntry, IsJoined, counts, faults, handle, handle_or_null, integer, names, notes, truth};
+ghost use Rattle.jlr_embed.specs.Kinds.{is_faults, is_handle, is_integer, is_names, is_notes, is_stat, is_truth};
+ghost use Rattle.jlr_embed.specs.Kinds.{kind_asked};
+ghost use Rattle.jlr_heap.specs.Entries.{Follows, IsDone, IsEntry, IsJoined, counts, faults, handle};
+ghost use Rattle.jlr_heap.specs.Entries.{handle_or_null, integer, names, notes, truth};
 
 use crate::keeper::Keeper;
 use crate::told;
@@ -25,7 +27,8 @@ pub(crate) fn me() -> Mutator
     Mutator::new(0)
 }
 
-/// A heap with one mutator. After each call the handler's steps are made, until nothing is pending, unless the program makes them itself.
+/// A heap with one mutator. After each call the handler's steps are made, until nothing is pending, unless the program
+/// makes them itself.
 #[derive(Drop)]
 pub struct Heap<K> {
     pub(crate) keeper: K,
@@ -48,7 +51,8 @@ impl<R: Drop> Heap<Unrecorded<R>> {
 impl<K: Keeper> Heap<K> {
     /// A heap for which this answers, in which the mutator has joined.
     pub fn over(keeper: K) -> Self
-        ensures { (answer : Told) × IsEntry K.asking (record { keeper = keeper; settles = true }) (Event.Join 0) answer result }
+        ensures { (answer : Told)
+            × IsEntry K.asking (record { keeper = keeper; settles = true }) (Event.Join 0) answer result }
     {
         let mut heap = Heap {
             keeper,
@@ -73,7 +77,8 @@ impl<K: Keeper> Heap<K> {
         self.settles = settles;
     }
 
-    /// The handler's steps, until nothing is pending: what collections cleared comes to its queues, and actions to the cleaner's line.
+    /// The handler's steps, until nothing is pending: what collections cleared comes to its queues, and actions to the
+    /// cleaner's line.
     pub fn settle(&mut self)
         ensures settled { K.asking.settling self.old.keeper self.new.keeper }
         ensures kept { self.new.settles ≡ self.old.settles }

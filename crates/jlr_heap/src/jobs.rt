@@ -55,10 +55,7 @@ fn job_of<R: Drop>(action: ActionNo, work: Work, held: Option<R>) -> Job<R>
 }
 
 /// A job, or that there is none.
-pub(crate) fn taken<R: Drop>(
-    answer: &Answer,
-    held: Option<R>,
-) -> Result<Option<Job<R>>, Refusal>
+pub(crate) fn taken<R: Drop>(answer: &Answer, held: Option<R>) -> Result<Option<Job<R>>, Refusal>
     requires kind { is_told is_job answer.now ≡ true }
     requires suits { suits answer.now held ≡ true }
     ensures { TellsJob result answer.now held }

@@ -1,6 +1,7 @@
 //! What an answer tells.
 ghost use Rattle.std.specs.Prelude.{◌≡◌, true};
-ghost use Rattle.jlr_embed.specs.Kinds.{is_faults, is_handle, is_integer, is_names, is_notes, is_stat, is_told, is_truth};
+ghost use Rattle.jlr_embed.specs.Kinds.{is_faults, is_handle, is_integer, is_names, is_notes, is_stat, is_told};
+ghost use Rattle.jlr_embed.specs.Kinds.{is_truth};
 ghost use Rattle.jlr_heap.specs.Entries.{counts, faults, handle, integer, names, notes, truth, Ends};
 
 use jlr_machine::ask::{Answer, Stat};

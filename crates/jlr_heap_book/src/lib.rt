@@ -1,10 +1,13 @@
-//! The history of a heap in the same process: a `Heap` over a `Recorded` leaves a book of all that was asked, which an audit can read. Its methods are
-//! those of every heap, and each ask is a step of the book. It relies on the book, which takes memory for its entries.
+//! The history of a heap in the same process: a `Heap` over a `Recorded` leaves a book of all that was asked, which an
+//! audit can read. Its methods are those of every heap, and each ask is a step of the book. It relies on the book,
+//! which takes memory for its entries.
 #![tactic(auto)]
 
-ghost use Rattle.std.specs.Prelude.{◌≡◌, ◌≢◌, ◌<◌, [], IfOk, IsTrue, MatchBool, false, is_none, length, true};
+ghost use Rattle.std.specs.Prelude.{◌≡◌, ◌≢◌, ◌<◌, [], length};
+ghost use Rattle.std.specs.Prelude.{IfOk, IsTrue, MatchBool, None, false, is_none, true};
 ghost use Rattle.jlr_machine.specs.Data.{Brings};
 ghost use Rattle.jlr_event.specs.Events.{ask_of, resource_of_event};
+ghost use Rattle.jlr_core.specs.Events.{is_plain};
 ghost use Rattle.jlr_embed.specs.Kinds.{GoesBack, is_told, kind_asked, suits};
 ghost use Rattle.jlr_book.specs.Histories.{IsHistory, IsNewBook};
 ghost use Rattle.jlr_book.specs.Rules.{BookSteps};
@@ -111,12 +114,23 @@ impl<R: Drop> Keeper for Recorded<R> {
 
     ghost asking = { recorded };
 
-    fn ask(&mut self, event: Event<R>) -> Answer {
+    fn ask(&mut self, event: Event<R>) -> Answer
+        requires plain { is_plain event ≡ true }
+        ensures asked { BookSteps 0 self.old event (Reply.Answered result None) self.new }
+        ensures kind { is_told (kind_asked (ask_of event)) result ≡ true }
+    {
         let (answer, _) = self.step(0, event, None);
         answer
     }
 
-    fn carry(&mut self, event: Event<R>, room: Option<CopyRoom>) -> (Answer, Option<R>) {
+    fn carry(&mut self, event: Event<R>, room: Option<CopyRoom>) -> (Answer, Option<R>)
+        requires asks { is_none (ask_of event) ≡ false }
+        requires room { Brings room (ask_of event) }
+        ensures asked { BookSteps 0 self.old event (Reply.Answered result.0 result.1) self.new }
+        ensures kind { is_told (kind_asked (ask_of event)) result.0 ≡ true }
+        ensures suits { suits result.0 result.1 ≡ true }
+        ensures back { GoesBack (resource_of_event event) result.0 result.1 }
+    {
         self.step(0, event, room)
     }
 

@@ -3,14 +3,12 @@ use super::results::{
     back, cleanable, cleaner, done, guard, handle, handle_or_null, int, job, lent, plain, queue,
     reference, stat, truth,
 };
-use jlr_embed::Unrecorded;
 use jlr_event::event::{Event, Reply};
 use jlr_heap::Heap;
 use jlr_heap::handles::{Cleanable, Cleaner, Guard, Queue, Reference};
+use jlr_heap::keeper::Keeper;
 use jlr_machine::ask::{Answer, CallOutcome, FullMode};
 use jlr_types::{Handle, RefKind};
-
-pub(super) type Held = Heap<Unrecorded<u32>>;
 
 // The queue of a handle; none for null.
 fn queue_of(handle: Handle) -> Option<Queue> {
@@ -23,7 +21,7 @@ fn queue_of(handle: Handle) -> Option<Queue> {
 
 // ---- Objects
 
-fn object(heap: &mut Held, event: &Event<u32>) -> Option<Answer> {
+fn object<K: Keeper<Held = u32>>(heap: &mut Heap<K>, event: &Event<u32>) -> Option<Answer> {
     Some(match event {
         Event::New { layout, .. } => handle(heap.object(layout.copy())),
         Event::Array { length, .. } => handle(heap.array(*length)),
@@ -34,7 +32,7 @@ fn object(heap: &mut Held, event: &Event<u32>) -> Option<Answer> {
     })
 }
 
-fn field(heap: &mut Held, event: &Event<u32>) -> Option<Answer> {
+fn field<K: Keeper<Held = u32>>(heap: &mut Heap<K>, event: &Event<u32>) -> Option<Answer> {
     Some(match event {
         Event::Put {
             object,
@@ -56,7 +54,12 @@ fn field(heap: &mut Held, event: &Event<u32>) -> Option<Answer> {
 
 // ---- References and queues
 
-fn make(heap: &mut Held, kind: RefKind, referent: Handle, on: Handle) -> Answer {
+fn make<K: Keeper<Held = u32>>(
+    heap: &mut Heap<K>,
+    kind: RefKind,
+    referent: Handle,
+    on: Handle,
+) -> Answer {
     let on = queue_of(on);
     reference(match kind {
         RefKind::Soft => heap.soft(referent, on),
@@ -65,7 +68,7 @@ fn make(heap: &mut Held, kind: RefKind, referent: Handle, on: Handle) -> Answer 
     })
 }
 
-fn referring(heap: &mut Held, event: &Event<u32>) -> Option<Answer> {
+fn referring<K: Keeper<Held = u32>>(heap: &mut Heap<K>, event: &Event<u32>) -> Option<Answer> {
     Some(match event {
         Event::MakeRef {
             kind,
@@ -75,7 +78,9 @@ fn referring(heap: &mut Held, event: &Event<u32>) -> Option<Answer> {
         } => make(heap, *kind, *referent, *queue),
         Event::Deref { reference, .. } => handle_or_null(heap.deref(Reference::of(*reference))),
         Event::Refers {
-            reference, object, ..
+            reference,
+            object,
+            ..
         } => truth(heap.refers(Reference::of(*reference), *object)),
         Event::Clear { reference, .. } => done(heap.clear(Reference::of(*reference))),
         Event::Enqueue { reference, .. } => truth(heap.enqueue(Reference::of(*reference))),
@@ -84,7 +89,7 @@ fn referring(heap: &mut Held, event: &Event<u32>) -> Option<Answer> {
     })
 }
 
-fn queueing(heap: &mut Held, event: &Event<u32>) -> Option<Answer> {
+fn queueing<K: Keeper<Held = u32>>(heap: &mut Heap<K>, event: &Event<u32>) -> Option<Answer> {
     Some(match event {
         Event::MakeQueue { .. } => queue(heap.queue()),
         Event::Poll { queue, .. } => handle_or_null(heap.poll(Queue::of(*queue))),
@@ -95,7 +100,7 @@ fn queueing(heap: &mut Held, event: &Event<u32>) -> Option<Answer> {
 
 // ---- Cleaners, names and the rest
 
-fn registering(heap: &mut Held, event: &Event<u32>) -> Option<Answer> {
+fn registering<K: Keeper<Held = u32>>(heap: &mut Heap<K>, event: &Event<u32>) -> Option<Answer> {
     Some(match event {
         Event::MakeCleaner { .. } => cleaner(heap.cleaner()),
         Event::Register {
@@ -118,7 +123,7 @@ fn registering(heap: &mut Held, event: &Event<u32>) -> Option<Answer> {
     })
 }
 
-fn naming(heap: &mut Held, event: &Event<u32>) -> Option<Answer> {
+fn naming<K: Keeper<Held = u32>>(heap: &mut Heap<K>, event: &Event<u32>) -> Option<Answer> {
     Some(match event {
         Event::Bind { name, object, .. } => done(heap.bind(name.copy(), *object)),
         Event::Find { name, .. } => handle(heap.find(name.copy())),
@@ -132,7 +137,7 @@ fn naming(heap: &mut Held, event: &Event<u32>) -> Option<Answer> {
     })
 }
 
-fn listing(heap: &mut Held, event: &Event<u32>) -> Option<Answer> {
+fn listing<K: Keeper<Held = u32>>(heap: &mut Heap<K>, event: &Event<u32>) -> Option<Answer> {
     Some(match event {
         Event::Names { .. } => match heap.names() {
             Ok(names) => Answer::Names(names),
@@ -152,7 +157,7 @@ fn listing(heap: &mut Held, event: &Event<u32>) -> Option<Answer> {
 
 // ---- What guards hold
 
-fn guarding(heap: &mut Held, event: &Event<u32>) -> Option<Reply<u32>> {
+fn guarding<K: Keeper<Held = u32>>(heap: &mut Heap<K>, event: &Event<u32>) -> Option<Reply<u32>> {
     Some(match event {
         Event::Opened { outcome, .. } => match outcome {
             Ok(held) => guard(heap.adopt(*held)),
@@ -160,7 +165,9 @@ fn guarding(heap: &mut Held, event: &Event<u32>) -> Option<Reply<u32>> {
         },
         Event::CheckOut { guard, .. } => lent(heap.check_out(Guard::of(*guard))),
         Event::CheckIn {
-            outcome, resource, ..
+            outcome,
+            resource,
+            ..
         } => back(match outcome {
             CallOutcome::Failed(fault) => heap.check_in(*resource, Err(*fault)),
             _ => heap.check_in(*resource, Ok(())),
@@ -169,7 +176,7 @@ fn guarding(heap: &mut Held, event: &Event<u32>) -> Option<Reply<u32>> {
     })
 }
 
-fn taking_up(heap: &mut Held, event: &Event<u32>) -> Option<Reply<u32>> {
+fn taking_up<K: Keeper<Held = u32>>(heap: &mut Heap<K>, event: &Event<u32>) -> Option<Reply<u32>> {
     Some(match event {
         Event::Close { guard, .. } => job(heap.stop(Guard::of(*guard))),
         Event::Clean { cleanable, .. } => job(heap.clean(Cleanable::of(*cleanable))),
@@ -179,7 +186,10 @@ fn taking_up(heap: &mut Held, event: &Event<u32>) -> Option<Reply<u32>> {
 }
 
 /// What the call gives that stands for this ask.
-pub(super) fn called(heap: &mut Held, event: &Event<u32>) -> Option<Reply<u32>> {
+pub(super) fn called<K: Keeper<Held = u32>>(
+    heap: &mut Heap<K>,
+    event: &Event<u32>,
+) -> Option<Reply<u32>> {
     if let Some(answer) = object(heap, event) {
         return Some(plain(answer));
     }

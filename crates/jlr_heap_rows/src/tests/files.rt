@@ -16,7 +16,8 @@ use std::test::Fail;
 
 type Files = Heap<Unrecorded<ScriptResource>>;
 
-// The first file is read, then fails, and takes one byte of a write; it ends well. The second is not there. The third is denied its end.
+// The first file is read, then fails, and takes one byte of a write; it ends well. The second is not there. The third
+// is denied its end.
 const LISTS: &str = "
 == a file is read and closed once
     open_read a -> handle 1
@@ -53,9 +54,21 @@ fn scripts(alloc: Global) -> Result<Vec<Script>, AllocError> {
     let first = vec![in alloc; 1, 2, 3, 4]?;
     let steps = vec![in alloc; Step::Bytes(first), Step::Fail(Fault::Other), Step::Take(1)]?;
     Ok(vec![in alloc;
-        Script { opened: Ok(()), steps, finished: Ok(()) },
-        Script { opened: Err(Fault::NotFound), steps: Vec::new(alloc), finished: Ok(()) },
-        Script { opened: Ok(()), steps: Vec::new(alloc), finished: Err(Fault::Denied) }
+        Script {
+            opened: Ok(()),
+            steps,
+            finished: Ok(())
+        },
+        Script {
+            opened: Err(Fault::NotFound),
+            steps: Vec::new(alloc),
+            finished: Ok(())
+        },
+        Script {
+            opened: Ok(()),
+            steps: Vec::new(alloc),
+            finished: Err(Fault::Denied)
+        },
     ]?)
 }
 
