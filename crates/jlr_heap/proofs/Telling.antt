@@ -1,10 +1,11 @@
 -- Commands of two asks, from their parts.
-use Rattle.std.proofs.Common.{◌≡◌, ℕ, true, false, Option, None, Result, Ok, refl, subst}
+use Rattle.std.proofs.Common.{◌≡◌, ◌⊎◌, inl, inr, ℕ, true, false, Option, None, Result, Ok, refl, subst}
 use Rattle.std.specs.Prelude.{⊤}
 use Rattle.jlr_types.specs.declared.Fault.{Fault}
 use Rattle.jlr_types.specs.declared.Work.{Work}
 use Rattle.jlr_machine.specs.declared.ask.Answer.{Answer}
-use Rattle.jlr_machine.specs.declared.ask.Answer.TheVariants.{AlreadyDone, Done, Job}
+use Rattle.jlr_machine.specs.declared.ask.Answer.TheVariants.{AlreadyDone, Done, Handed, Job}
+use Rattle.jlr_machine.specs.declared.ask.Handed.{Handed as What}
 use Rattle.jlr_device.specs.Handling.{Handling}
 use Rattle.jlr_event.specs.declared.event.Event.{Event}
 use Rattle.jlr_event.specs.declared.event.Event.TheVariants.{Close, Finish}
@@ -27,8 +28,13 @@ module _ {K R : Type 0} (asking : Asking K R) (old new : K) where
         let first = subst (λ a. asking.asks old (Close 0 guard) (Answered a held) between) is h in
         (Done, (Answered (Job action work) held, between, first, (Finish 0 action outcome, Answered Done None, (outcome, f, refl), h', refl)), tt)
 
-    pub closed_before : asking.asks old (Close 0 guard) (Answered a held) new → a ≡ AlreadyDone
+    pub closed_before : asking.asks old (Close 0 guard) (Answered a held) new → (a ≡ AlreadyDone) ⊎ ((what : What) × (a ≡ Handed what))
         → IsAskedTwice asking (Close 0 guard) job_by (TellsFinished handling 0) ⊤ TellsClosed old (Ok false) new
-    closed_before h is =
-        let first = subst (λ a. asking.asks old (Close 0 guard) (Answered a held) new) is h in
-        (AlreadyDone, (Answered AlreadyDone held, new, first, (refl, refl, tt)), tt)
+    closed_before h is = elim is [
+      | inl e ↦
+          let first = subst (λ a. asking.asks old (Close 0 guard) (Answered a held) new) e h in
+          (AlreadyDone, (Answered AlreadyDone held, new, first, (refl, refl, tt)), tt)
+      | inr e ↦
+          let first = subst (λ a. asking.asks old (Close 0 guard) (Answered a held) new) e.1 h in
+          (Handed e.0, (Answered (Handed e.0) held, new, first, (refl, refl, tt)), tt)
+    ]
