@@ -81,7 +81,11 @@ def files(checks):
 
 def pipes(checks):
     os.mkfifo(checks.path("fifo"))
+    checks.session("a FIFO whose other end nobody has, one end after the other", [
+        ("open r fifo", "= 1"), ("read 1 3", "end"), ("open w fifo", "= 2"), ("write 2 61", "wrote 1"), ("read 1 3", "data 61"), ("close 1", "fault other"),
+        ("write 2 61", "fault other")])
     writer = subprocess.Popen(["sh", "-c", f"printf abc > {checks.path('fifo')}"])
+    time.sleep(0.3)  # by then it waits for a reader: an open that finds no writer does not wait for one
     checks.session("a FIFO whose writer goes", [
         ("open r fifo", "= 1"), ("read 1 3", "data 616263"), ("read 1 3", "end"), ("close 1", "fault other")])
     writer.wait()

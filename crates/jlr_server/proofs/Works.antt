@@ -1,5 +1,5 @@
 -- What is done at a seat, one session more.
-use Rattle.std.proofs.Common.{◌≡◌, ◌<◌, ◌+◌, ◌×◌, ℕ, List, [], ◌∷◌, ◌++◌, Option, None, length, refl, sym, ap, ◌∙◌, subst, inl, inr, length-append, arith}
+use Rattle.std.proofs.Common.{◌≡◌, ◌<◌, ◌+◌, ℕ, List, [], ◌∷◌, ◌++◌, Option, None, length, refl, sym, ap, ◌∙◌, subst, inl, inr, length-append, arith}
 use Rattle.jlr_types.specs.declared.Fault.{Fault}
 use Rattle.jlr_types.specs.declared.limits.Limits.{Limits}
 use Rattle.jlr_device.specs.Handling.{Handling}

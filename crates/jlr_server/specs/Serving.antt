@@ -68,4 +68,4 @@ module _ {D R : Type 0} (limits : Limits) (device : Opening D R) (handling : Han
       pub closes : Closes limits (map seat_in works) book
       pub accepted : accepts ≡ sum (map accepts_of works)
       pub failed : missed ≡ sum (map (λ w. w.missed) works)
-      pub total : (accepts ≡ total) ⊎ asked
+      pub as_many : (accepts ≡ total) ⊎ asked

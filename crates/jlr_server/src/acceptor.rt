@@ -29,28 +29,22 @@ pub trait Acceptor {
     ///
     /// # Errors
     /// Why it cannot be watched. Once `close` was called none can.
-    fn watch<T: Wait>(&self, rt: &T, client: u32, input: &Self::In) -> Result<(), Fault>
+    fn watch<T: Wait>(&self, _rt: &T, _client: u32, _input: &Self::In) -> Result<(), Fault>
         ensures fails { IfErr result (λ fault. fails self.now fault) }
     {
-        let _unwatched = (rt, client, input);
         Ok(())
     }
 
     /// The descriptor of a client's connection, if it has one: while that is up, calls for the client may wait.
-    fn descriptor(&self, input: &Self::In) -> Option<RawFd> {
-        let _unknown = input;
+    fn descriptor(&self, _input: &Self::In) -> Option<RawFd> {
         None
     }
 
     /// A client that was watched has left. It comes before the client's input and output are let go.
-    fn leave<T: Wait>(&self, rt: &T, client: u32) {
-        let _unwatched = (rt, client);
-    }
+    fn leave<T: Wait>(&self, _rt: &T, _client: u32) {}
 
     /// Ends the accept that is under way and all later ones, and closes the connections of the clients that are watched.
-    fn close<T: Wait>(&self, rt: &T, closing: Closing) {
-        let _unwatched = (rt, closing);
-    }
+    fn close<T: Wait>(&self, _rt: &T, _closing: Closing) {}
 
     /// Has the watcher tell that it is over.
     fn dismiss(&self) {}

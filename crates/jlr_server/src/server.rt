@@ -1,7 +1,8 @@
 //! A heap that several clients share: a worker for each session's seat, and the three loops beside them.
-ghost use Rattle.std.specs.Prelude.{◌≡◌, ◌⊎◌, ◌+◌, [], IfOk, length, sum, map};
+ghost use Rattle.std.specs.Prelude.{◌≡◌, ◌<◌, ◌+◌, ℕ, [], IfOk, length, sum, map, slice_index_or};
 ghost use Rattle.std.specs.Thread.{IsSend, IsSync};
-ghost use Rattle.jlr_log.specs.Seeing.{seen};
+ghost use Rattle.jlr_log.specs.Seeing.{Seen, seen};
+ghost use Rattle.jlr_hall.specs.declared.step.Step.{Step};
 ghost use Rattle.jlr_server.specs.Serving.{AllWork, IsServed, accepts_of, seat_in};
 ghost use Rattle.jlr_server.specs.declared.server.ServeFault.TheVariants.{Close, NoMemory};
 
@@ -91,10 +92,10 @@ enum Post<D> {
 
 /// A seat at which nothing was asked yet, and who is to sit there.
 #[derive(Drop)]
-struct Manned<D: Device, L: Naming + Limited> {
-    seat: Seat<D::Res, L>,
+struct Manned<A: Acceptor, D: Device, L: Naming + Limited> {
+    work: Worked<A, D, L>,
     post: Post<D>,
-    ghost fresh: { seat ≡ seen seat.seat [] },
+    ghost fresh: { work.seat ≡ seen work.seat.seat [] },
 }
 
 /// Serves clients by a seat while accepts are left.
@@ -195,12 +196,13 @@ fn sit<A: Acceptor, D: Device + Drop, L: Naming + Limited, T: Wait>(
     hall: &Hall<D::Res, L>,
     acceptor: &A,
     accepts: &Accepts,
-    manned: Manned<D, L>,
+    manned: Manned<A, D, L>,
 ) -> Worked<A, D, L>
 where
     D::Res: Drop,
 {
-    let Manned { seat, post } = manned;
+    let Manned { work, post } = manned;
+    let (seat, ..) = work.into_parts();
     let index = seat.index();
     let sessions = hall.sessions();
     match post {
@@ -248,11 +250,11 @@ fn posts<D: Drop>(alloc: Global, devices: Vec<D>, budget: u32) -> Result<Vec<Pos
 ///
 /// # Errors
 /// `AllocError` where there is no memory.
-fn with_posts<D: Device + Drop, L: Naming + Limited>(
+fn with_posts<A: Acceptor, D: Device + Drop, L: Naming + Limited>(
     alloc: Global,
     seats: Vec<Seat<D::Res, L>>,
     posts: Vec<Post<D>>,
-) -> Result<Vec<Manned<D, L>>, AllocError>
+) -> Result<Vec<Manned<A, D, L>>, AllocError>
 where
     D::Res: Drop,
     requires fresh { (k : ℕ) (p : Seen (Step D.Res)) → k < length seats.items → slice_index_or seats.items k p ≡ seen k [] }
@@ -266,7 +268,8 @@ where
         let (Some(seat), Some(post)) = (seats.pop(), posts.pop()) else {
             break;
         };
-        if let Err(refused) = manned.push(Manned { seat, post }) {
+        let work = Worked::new(seat);
+        if let Err(refused) = manned.push(Manned { work, post }) {
             drop(refused);
         }
     }
@@ -291,7 +294,7 @@ fn run_threads<
     hall: &Hall<D::Res, L>,
     acceptor: &A,
     accepts: &Accepts,
-    manned: Vec<Manned<D, L>>,
+    manned: Vec<Manned<A, D, L>>,
     watcher: W,
 ) -> Result<(Vec<Worked<A, D, L>>, Heard<W>), ServeFault>
 where

@@ -1,4 +1,6 @@
 //! News of clients that go, and of who asks a server to end.
+ghost use Rattle.std.specs.Prelude.{IsTrue};
+
 use std::sync::Wait;
 
 /// How the connections of all clients are closed.
@@ -39,8 +41,6 @@ pub trait Watcher {
 pub struct NoWatcher;
 
 impl Watcher for NoWatcher {
-    ghost use Rattle.std.specs.Prelude.{⊥};
-
     ghost asked = { λ _. ⊥ };
 
     fn news<T: Wait>(&mut self, _rt: &T) -> News {

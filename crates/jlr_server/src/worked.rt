@@ -1,5 +1,5 @@
 //! What is done at the seats of a hall: sessions one after the other, or a loop.
-ghost use Rattle.std.specs.Prelude.{◌≡◌, ◌≤◌, ◌<◌, ◌+◌, ◌×◌, ℕ, List, [], length};
+ghost use Rattle.std.specs.Prelude.{◌≡◌, ◌≤◌, ◌<◌, ◌+◌, ℕ, List, [], length};
 ghost use Rattle.std.specs.Io.KnownBytes.{Appends, Consumes};
 ghost use Rattle.jlr_types.specs.declared.Fault.{Fault};
 ghost use Rattle.jlr_session.specs.Limits.{FindsEnd, most_bytes};
@@ -94,7 +94,7 @@ where
         device: &mut D,
     ) -> Self
         requires { self.seat.seat < L.limits.sessions }
-        ensures { result.seat.seat ≡ self.entry.seat.seat }
+        ensures { result.seat.seat ≡ self.seat.seat }
     {
         let Worked {
             seat,
@@ -123,7 +123,7 @@ where
     pub(crate) fn miss(self) -> Self
         requires seat { self.seat.seat < L.limits.sessions }
         requires fails { (acceptor : A) × (fault : Fault) × A.fails acceptor fault }
-        ensures { result.seat.seat ≡ self.entry.seat.seat }
+        ensures { result.seat.seat ≡ self.seat.seat }
     {
         let Worked {
             seat,
@@ -189,7 +189,7 @@ where
 
     /// The seat, how many sessions were served there, and how many accepts gave none.
     pub(crate) fn into_parts(self) -> (Seat<D::Res, L>, u32, u32)
-        ensures { (result.0 ≡ self.entry.seat) × (result.1 ≡ self.entry.sessions) × (result.2 ≡ self.entry.missed) }
+        ensures { (result.0 ≡ self.seat) × (result.1 ≡ self.sessions) × (result.2 ≡ self.missed) }
     {
         let Worked {
             seat,
