@@ -129,6 +129,7 @@ fn command_lines(rt: HostRuntime) -> Result<(), Fail> {
         refheap run --save history -> 1024 16 4 10000, saved to history
         refheap run --save history --cells 16 -> 16 16 4 10000, saved to history
         refheap serve --socket s --total 7 --save history -> serve 7 on s, 4 at once, 64 a piece, 1024 16 4 10000, saved to history
+        refheap stop /tmp/control -> stop at /tmp/control
         refheap audit history -> audit of history
         refheap audit --explain history -> audit of history, explained
         refheap audit history --explain -> audit of history, explained
@@ -155,6 +156,8 @@ fn command_lines(rt: HostRuntime) -> Result<(), Fail> {
         refheap walk -> status 2
         refheap run --save -> status 2
         refheap run --save a --save b -> status 2
+        refheap stop -> status 2
+        refheap stop a b -> status 2
         refheap audit -> status 2
         refheap audit a b -> status 2
         refheap audit --json -> status 2
