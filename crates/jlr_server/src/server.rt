@@ -1,9 +1,10 @@
 //! A heap that several clients share: a worker for each session's seat, and the three loops beside them.
-ghost use Rattle.std.specs.Prelude.{◌≡◌, ◌<◌, ◌+◌, ℕ, false, [], IfOk, length, sum, map, slice_index_or};
+ghost use Rattle.std.specs.Prelude.{◌≡◌, ◌<◌, ◌+◌, ◌++◌, ◌∷◌, ℕ, false, [], IfOk, IfSome, length, map, slice_index_or};
+ghost use Rattle.std.specs.List.{sum_by};
 ghost use Rattle.std.specs.Thread.{IsSend, IsSync};
 ghost use Rattle.jlr_log.specs.Seeing.{Seen, seen};
 ghost use Rattle.jlr_hall.specs.declared.step.Step.{Step};
-ghost use Rattle.jlr_server.specs.Serving.{AllWork, IsServed, accepts_of, seat_in};
+ghost use Rattle.jlr_server.specs.Serving.{AllWork, IsServed, IsWork, accepts_of, seat_in};
 ghost use Rattle.jlr_server.specs.declared.server.ServeFault.TheVariants.{Close, NoMemory};
 
 use crate::acceptor::Acceptor;
@@ -259,22 +260,42 @@ where
     D::Res: Drop,
     requires fresh { (k : ℕ) (p : Seen (Step D.Res)) → k < length seats.items → slice_index_or seats.items k p ≡ seen k [] }
 {
-    let (mut seats, mut posts) = (seats, posts);
+    let mut seats = seats;
+    let mut posts = posts;
     let Ok(mut manned) = Vec::with_capacity(alloc, seats.len()) else {
         drop((seats, posts));
         return Err(AllocError);
     };
     for _ in 0..seats.len() {
-        let (Some(seat), Some(post)) = (seats.pop(), posts.pop()) else {
+        let Some(work) = next_seat::<A, D, L>(&mut seats) else {
             break;
         };
-        let work = Worked::new(seat);
+        let Some(post) = posts.pop() else {
+            drop(work);
+            break;
+        };
         if let Err(refused) = manned.push(Manned { work, post }) {
             drop(refused);
         }
     }
     drop((seats, posts));
     Ok(manned)
+}
+
+/// The last of these seats, if there is one. It asked nothing yet, as those that are left.
+fn next_seat<A: Acceptor, D: Device, L: Naming + Limited>(
+    seats: &mut Vec<Seat<D::Res, L>>,
+) -> Option<Worked<A, D, L>>
+where
+    D::Res: Drop,
+    requires fresh { (k : ℕ) (p : Seen (Step D.Res)) → k < length seats.old.items → slice_index_or seats.old.items k p ≡ seen k [] }
+    ensures fresh { (k : ℕ) (p : Seen (Step D.Res)) → k < length seats.new.items → slice_index_or seats.new.items k p ≡ seen k [] }
+    ensures one { IfSome result (λ work. work.seat ≡ seen work.seat.seat []) }
+{
+    match seats.pop() {
+        Some(seat) => Some(Worked::new(seat)),
+        None => None,
+    }
 }
 
 /// A thread on each seat and one for the watcher, until all are done. No client is accepted before all threads are there; where one cannot be
@@ -306,7 +327,8 @@ where
         thread::scope_env(),
         rt,
         move |scope| -> Result<(Vec<Worked<A, D, L>>, Heard<W>), ServeFault>
-            requires { IsSync T.row × IsSend L.row × IsSync L.row × IsSend A.row × IsSync A.row × IsSend D.row × IsSend W.row × IsSend A.In.row × IsSend A.Out.row × IsSend D.Res.row }
+            requires shared { IsSync T.row × IsSend L.row × IsSync L.row × IsSync A.row × IsSend D.row × IsSend A.In.row × IsSend A.Out.row × IsSend D.Res.row }
+            requires sent { IsSend A.row × IsSend W.row }
         {
             let Ok(back) = Vec::with_capacity(alloc, manned.len()) else {
                 drop((manned, watcher));
@@ -522,14 +544,15 @@ where
         drop((hall, works, watcher));
         return Err(ServeFault::Miscounted);
     }
-    let Ok((seats, made, missed)) = taken_apart(alloc, works) else {
+    let Ok(tally) = taken_apart(alloc, works) else {
         drop((hall, watcher));
         return Err(ServeFault::NoMemory);
     };
-    if made != accepts {
-        drop((hall, seats, watcher));
+    if tally.accepts != accepts {
+        drop((hall, tally, watcher));
         return Err(ServeFault::Miscounted);
     }
+    let Tally { seats, missed, .. } = tally;
     match hall.close(seats) {
         Ok(book) => Ok(Watched {
             served: Served {
@@ -546,27 +569,59 @@ where
     }
 }
 
-/// The seats, and how many accepts there were at all of them, and how many of these gave no client.
+/// The seats, how many accepts there were at all of them, and how many of these gave no client.
+#[derive(Drop)]
+struct Tally<R, L: Naming + Limited> {
+    seats: Vec<Seat<R, L>>,
+    accepts: u32,
+    missed: u32,
+}
+
+/// Adds what was done at one seat.
 ///
 /// # Errors
 /// `AllocError` where there is no memory, or there were 2^32 accepts or more.
+fn add<A: Acceptor, D: Device + Drop, L: Naming + Limited>(
+    tally: &mut Tally<D::Res, L>,
+    work: Worked<A, D, L>,
+) -> Result<(), AllocError>
+where
+    D::Res: Drop,
+    ensures seats { IfOk result (λ _. tally.new.seats.items ≡ tally.old.seats.items ++ work.seat ∷ []) }
+    ensures accepts { IfOk result (λ _. tally.new.accepts ≡ tally.old.accepts + (work.sessions + work.missed)) }
+    ensures missed { IfOk result (λ _. tally.new.missed ≡ tally.old.missed + work.missed) }
+    ensures done { IsWork L.limits (record { count = D.count; opens = D.may_open; connects = D.may_connect; failures = D.Res.handling.count })
+        D.Res.handling A.fails work }
+{
+    let (seat, sessions, missed) = work.into_parts();
+    tally.seats.push(seat)?;
+    let accepts = sessions.checked_add(missed).ok_or(AllocError)?;
+    tally.accepts = tally.accepts.checked_add(accepts).ok_or(AllocError)?;
+    tally.missed = tally.missed.checked_add(missed).ok_or(AllocError)?;
+    Ok(())
+}
+
+/// What was done at all seats.
+///
+/// # Errors
+/// As `add`.
 fn taken_apart<A: Acceptor, D: Device + Drop, L: Naming + Limited>(
     alloc: Global,
     works: Vec<Worked<A, D, L>>,
-) -> Result<(Vec<Seat<D::Res, L>>, u32, u32), AllocError>
+) -> Result<Tally<D::Res, L>, AllocError>
 where
     D::Res: Drop,
-    ensures { IfOk result (λ r. (r.0.items ≡ map seat_in works.items) × (r.1 ≡ sum (map accepts_of works.items)) × (r.2 ≡ sum (map (λ w. w.missed) works.items))
+    ensures { IfOk result (λ tally. (tally.seats.items ≡ map seat_in works.items) × (tally.accepts ≡ sum_by accepts_of works.items)
+        × (tally.missed ≡ sum_by (λ w. w.missed) works.items)
         × AllWork L.limits (record { count = D.count; opens = D.may_open; connects = D.may_connect; failures = D.Res.handling.count }) D.Res.handling A.fails works.items) }
 {
-    let mut seats = Vec::new(alloc);
-    let (mut all, mut none) = (0u32, 0u32);
+    let mut tally = Tally {
+        seats: Vec::new(alloc),
+        accepts: 0,
+        missed: 0,
+    };
     for work in works {
-        let (seat, sessions, missed) = work.into_parts();
-        seats.push(seat)?;
-        let accepts = sessions.checked_add(missed).ok_or(AllocError)?;
-        all = all.checked_add(accepts).ok_or(AllocError)?;
-        none = none.checked_add(missed).ok_or(AllocError)?;
+        add(&mut tally, work)?;
     }
-    Ok((seats, all, none))
+    Ok(tally)
 }

@@ -102,18 +102,18 @@ where
             missed,
             of,
         } = self;
-        let Some(sessions) = sessions.checked_add(1) else {
+        if sessions == u32::MAX {
             return Worked {
                 seat,
                 sessions,
                 missed,
                 of,
             };
-        };
+        }
         let seat = serve_seat(rt, hall, seat, input, output, device);
         Worked {
             seat,
-            sessions,
+            sessions: sessions + 1,
             missed,
             of,
         }
@@ -189,7 +189,9 @@ where
 
     /// The seat, how many sessions were served there, and how many accepts gave none.
     pub(crate) fn into_parts(self) -> (Seat<D::Res, L>, u32, u32)
-        ensures { (result.0 ≡ self.seat) × (result.1 ≡ self.sessions) × (result.2 ≡ self.missed) }
+        ensures parts { (result.0 ≡ self.seat) × (result.1 ≡ self.sessions) × (result.2 ≡ self.missed) }
+        ensures done { IsWork L.limits (record { count = D.count; opens = D.may_open; connects = D.may_connect; failures = D.Res.handling.count })
+            D.Res.handling A.fails self }
     {
         let Worked {
             seat,
