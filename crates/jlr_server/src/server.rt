@@ -1,5 +1,5 @@
 //! A heap that several clients share: a worker for each session's seat, and the three loops beside them.
-ghost use Rattle.std.specs.Prelude.{◌≡◌, ◌<◌, ◌+◌, ◌++◌, ◌∷◌, ℕ, false, [], IfOk, IfSome, length, map, slice_index_or};
+ghost use Rattle.std.specs.Prelude.{◌≡◌, ◌⊎◌, ◌<◌, ◌+◌, ◌++◌, ◌∷◌, ℕ, true, false, [], IfOk, IfSome, length, map, slice_index_or};
 ghost use Rattle.std.specs.List.{sum_by};
 ghost use Rattle.std.specs.Thread.{IsSend, IsSync};
 ghost use Rattle.jlr_log.specs.Seeing.{Seen, seen};
@@ -298,16 +298,16 @@ where
     }
 }
 
-/// A thread on each seat and one for the watcher, until all are done. No client is accepted before all threads are there; where one cannot be
+/// A thread on each seat, until all are done; meanwhile this one hears the watcher. No client is accepted before all threads are there; where one cannot be
 /// started, none is. What was done at the seats, those of the sessions first to be done, and what the watcher heard.
 ///
 /// # Errors
 /// `Start` where a thread cannot be started, `NoMemory` where there is no memory.
 fn run_threads<
-    A: Acceptor + Send + Sync,
+    A: Acceptor + Sync,
     D: Device + Drop + Send,
     L: Naming + Limited + Send + Sync,
-    W: Watcher + Drop + Send,
+    W: Watcher + Drop,
     T: Threads + Wait + Sync,
 >(
     rt: &T,
@@ -327,8 +327,7 @@ where
         thread::scope_env(),
         rt,
         move |scope| -> Result<(Vec<Worked<A, D, L>>, Heard<W>), ServeFault>
-            requires shared { IsSync T.row × IsSend L.row × IsSync L.row × IsSync A.row × IsSend D.row × IsSend A.In.row × IsSend A.Out.row × IsSend D.Res.row }
-            requires sent { IsSend A.row × IsSend W.row }
+            requires { IsSync T.row × IsSend L.row × IsSync L.row × IsSync A.row × IsSend D.row × IsSend A.In.row × IsSend A.Out.row × IsSend D.Res.row }
         {
             let Ok(back) = Vec::with_capacity(alloc, manned.len()) else {
                 drop((manned, watcher));
@@ -337,13 +336,6 @@ where
             let Ok(mut running) = Vec::with_capacity(alloc, manned.len()) else {
                 drop((manned, back, watcher));
                 return Err(ServeFault::NoMemory);
-            };
-            let ear = match scope.spawn(move || hear(rt, hall, acceptor, accepts, watcher)) {
-                Ok(ear) => ear,
-                Err(refused) => {
-                    drop((refused, manned, back, running));
-                    return Err(ServeFault::Start);
-                }
             };
             let mut all = true;
             for seat in manned {
@@ -356,7 +348,8 @@ where
                 }
             }
             begin(rt, hall, acceptor, accepts, all);
-            joined(rt, running, back, ear, all)
+            let heard = hear(rt, hall, acceptor, accepts, watcher);
+            joined(rt, running, back, heard, all)
         },
     )
 }
@@ -394,19 +387,20 @@ fn begin<A: Acceptor, R: Drop, L: Naming + Limited, T: Wait>(
 /// # Errors
 /// `Start` where not all threads are there.
 fn joined<
-    A: Acceptor + Send,
+    A: Acceptor,
     D: Device + Drop + Send,
     L: Naming + Limited + Send,
-    W: Watcher + Drop + Send,
+    W: Watcher + Drop,
     T: Threads + Wait,
 >(
     rt: &T,
     running: Vec<JoinHandle<Worked<A, D, L>>>,
     back: Vec<Worked<A, D, L>>,
-    ear: JoinHandle<Heard<W>>,
+    heard: Heard<W>,
     all: bool,
 ) -> Result<(Vec<Worked<A, D, L>>, Heard<W>), ServeFault>
 where
+    A::In: Send,
     D::Res: Drop + Send,
 {
     let mut back = back;
@@ -414,7 +408,6 @@ where
     for thread in running {
         all = is_added(&mut back, thread.join(rt)) && all;
     }
-    let heard = ear.join(rt);
     if all {
         return Ok((back, heard));
     }
@@ -430,7 +423,7 @@ where
 /// # Errors
 /// `Start` where a thread cannot be started, `NoMemory` where there is no room for the heap, its seats or its threads: then no client was accepted.
 pub fn serve_over<
-    A: Acceptor + Send + Sync,
+    A: Acceptor + Sync,
     D: Device + Drop + Send,
     L: Naming + Limited + Send + Sync,
     T: Threads + Wait + Sync,
@@ -469,10 +462,10 @@ where
 /// # Errors
 /// As `serve_over`.
 pub fn serve_watched<
-    A: Acceptor + Send + Sync,
+    A: Acceptor + Sync,
     D: Device + Drop + Send,
     L: Naming + Limited + Send + Sync,
-    W: Watcher + Drop + Send,
+    W: Watcher + Drop,
     T: Threads + Wait + Sync,
 >(
     rt: &T,
@@ -540,7 +533,11 @@ where
 {
     let Heard { watcher, asked } = heard;
     let count = hall.sessions() + 3;
-    if works.len() != usize::from(count) || (accepts != total && !asked) {
+    if works.len() != usize::from(count) {
+        drop((hall, works, watcher));
+        return Err(ServeFault::Miscounted);
+    }
+    if !are_enough(accepts, total, asked) {
         drop((hall, works, watcher));
         return Err(ServeFault::Miscounted);
     }
@@ -567,6 +564,13 @@ where
             Err(ServeFault::Close(fault))
         }
     }
+}
+
+/// Whether as many accepts were made as were to be, or the server was asked to end.
+fn are_enough(accepts: u32, total: u32, asked: bool) -> bool
+    ensures { result ≡ true → (accepts ≡ total) ⊎ (asked ≡ true) }
+{
+    accepts == total || asked
 }
 
 /// The seats, how many accepts there were at all of them, and how many of these gave no client.

@@ -54,7 +54,7 @@ pub struct Worked<A: Acceptor, D: Device, L: Naming + Limited> {
     seat: Seat<D::Res, L>,
     sessions: u32,
     missed: u32,
-    of: PhantomData<(A, D)>,
+    of: PhantomData<(A::In, D)>,
 }
 
 impl<A: Acceptor, D: Device, L: Naming + Limited> Model for Worked<A, D, L> {

@@ -3,6 +3,7 @@ use Rattle.std.proofs.lemmas.List.{map-append, map-id}
 use Rattle.std.proofs.lemmas.Iterator.Consumers.{YieldsList-end}
 use Rattle.std.proofs.lemmas.Iterator.Adapters.{YieldsList-from_vec}
 use Rattle.std.specs.List.{sum_by}
+use Rattle.jlr_session.specs.Calls.{Opening}
 use Rattle.jlr_server.specs.Serving.{AllWork, Work, accepts_of, seat_in}
 use Rattle.jlr_server.proofs.Works.{all_more, sum_more}
 use Rattle.jlr_server.proofs.server.taken_apart.Goals as goal
@@ -21,6 +22,7 @@ loop-work-preserved g c =
 
 pub returns : goal.returns
 returns g c =
+    let device : Opening g.row.D.Denot g.row.D-Res.Denot = record { count = g.D.Device.count; opens = g.D.Device.may_open; connects = g.D.Device.may_connect; failures = g.D.Res.Resource.handling.count } in
     let i = c.loop-work.invariant in
     let from = c.into_iter-work-iterator.ensures.into_iter_gives in
     let length_is : c.into_iter-work-iterator.result.rest.len ≡ length c.args.works.items = omega arith in
@@ -29,5 +31,5 @@ returns g c =
       i.seats ∙ ap (map seat_in) all,
       i.accepts ∙ ap (sum_by accepts_of) all,
       i.missed ∙ ap (sum_by (λ w. w.missed)) all,
-      subst (λ (works : List (Work g.row.D-Res.Denot)). AllWork _ _ _ g.A.Acceptor.fails works) all i.done,
+      subst (λ (works : List (Work g.row.D-Res.Denot)). AllWork g.L.Limited.limits device g.D.Res.Resource.handling g.A.Acceptor.fails works) all i.done,
     )
