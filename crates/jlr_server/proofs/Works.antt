@@ -1,5 +1,10 @@
 -- What is done at a seat, one session more.
 use Rattle.std.proofs.Common.{◌≡◌, ◌<◌, ◌+◌, ℕ, List, [], ◌∷◌, ◌++◌, Option, None, length, refl, sym, ap, ◌∙◌, subst, inl, inr, length-append, arith}
+use Rattle.std.specs.List.{sum_by}
+use Rattle.std.specs.Prelude.{slice_index_or}
+use Rattle.std.proofs.lemmas.List.{get_or_append_left}
+use Rattle.std.proofs.lemmas.List.Sums.{sum_by-append}
+use Rattle.std.proofs.Math.Seq.{get_or-append_seam}
 use Rattle.jlr_types.specs.declared.Fault.{Fault}
 use Rattle.jlr_types.specs.declared.limits.Limits.{Limits}
 use Rattle.jlr_device.specs.Handling.{Handling}
@@ -11,6 +16,30 @@ use Rattle.jlr_hall.specs.declared.step.Step.{Step}
 use Rattle.jlr_hall.specs.Loops.{AsksOnly, Chain, CleansIn, IsHandlers, IsMarkers}
 use Rattle.jlr_hall.proofs.Turns.{same_seat, asks_none, cleans_none}
 use Rattle.jlr_server.specs.Serving.{AllWork, IsSession, IsWork, ServesSessions, Sessions, Work}
+
+pub sum_more : {X : Type 0} (f : X → ℕ) (xs : List X) (x : X) → sum_by f (xs ++ x ∷ []) ≡ sum_by f xs + f x
+sum_more f xs x = omega (arith, sum_by-append f xs (x ∷ []))
+
+-- ---- Seats that asked nothing yet, the last one first
+
+module _ {R : Type 0} where
+  abbrev pub AllFresh : List (Seen (Step R)) → Type 0
+  AllFresh seats = (k : ℕ) (p : Seen (Step R)) → k < length seats → slice_index_or seats k p ≡ seen k []
+
+  fresh_at : (x : Seen (Step R)) (k : ℕ) → x ≡ seen k [] → x ≡ seen x.seat []
+  fresh_at x k is = is ∙ ap (λ (n : ℕ). seen n []) (sym (ap (λ (p : Seen (Step R)). p.seat) is))
+
+  pub last_is_fresh : (old new : List (Seen (Step R))) (x : Seen (Step R)) → old ≡ new ++ x ∷ [] → AllFresh old → x ≡ seen x.seat []
+  last_is_fresh old new x is fresh =
+      let there = ap (λ (l : List (Seen (Step R))). slice_index_or l (length new) x) is ∙ get_or-append_seam new x [] x in
+      fresh_at x (length new) (sym there ∙ fresh (length new) x (omega (arith, ap length is, length-append new (x ∷ []))))
+
+  pub rest_is_fresh : (old new : List (Seen (Step R))) (x : Seen (Step R)) → old ≡ new ++ x ∷ [] → AllFresh old → AllFresh new
+  rest_is_fresh old new x is fresh k p lt =
+      let there = ap (λ (l : List (Seen (Step R))). slice_index_or l k p) is ∙ get_or_append_left new (x ∷ []) p k lt in
+      sym there ∙ fresh k p (omega (arith, lt, ap length is, length-append new (x ∷ [])))
+
+-- ---- What is done at a seat
 
 module _ {R : Type 0} (limits : Limits) where
   -- asks leave a seat the one that it is
@@ -39,7 +68,7 @@ module _ {R : Type 0} (limits : Limits) where
 
       -- ---- One seat
 
-      work : Seen (Step R) → ℕ → ℕ → Work R
+      abbrev work : Seen (Step R) → ℕ → ℕ → Work R
       work p sessions missed = record { seat = p; sessions = sessions; missed = missed }
 
       -- nothing was done there

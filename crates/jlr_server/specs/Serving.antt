@@ -1,5 +1,6 @@
 -- What a server did: sessions at the seats of one hall, and the loops beside them, in one history.
-use Rattle.std.specs.Prelude.{◌≡◌, ◌<◌, ◌≤◌, ◌+◌, ◌⊎◌, ℕ, List, [], ◌∷◌, Option, None, length, map, sum}
+use Rattle.std.specs.Prelude.{◌≡◌, ◌<◌, ◌≤◌, ◌+◌, ◌⊎◌, ℕ, Bool, true, List, [], ◌∷◌, Option, None, length, map}
+use Rattle.std.specs.List.{sum_by}
 use Rattle.jlr_types.specs.declared.Fault.{Fault}
 use Rattle.jlr_types.specs.declared.limits.Limits.{Limits}
 use Rattle.jlr_device.specs.Handling.{Handling}
@@ -61,11 +62,11 @@ module _ {D R : Type 0} (limits : Limits) (device : Opening D R) (handling : Han
 
     -- One history, a run of the machine that keeps the promises of the package, ends with this book's trace. It has of each seat just what that seat did, and
     -- each accept is a session or one that gave no client. There were as many as were to be, unless the server was asked to end.
-    pub record IsServed (total : ℕ) (asked : Type 0) (accepts : ℕ) (missed : ℕ) (book : History R) : Type 0 where
+    pub record IsServed (total : ℕ) (asked : Bool) (accepts : ℕ) (missed : ℕ) (book : History R) : Type 0 where
       pub works : List (Work R)
       pub all : AllWork works
       pub one_each : length works ≡ limits.sessions + 3
       pub closes : Closes limits (map seat_in works) book
-      pub accepted : accepts ≡ sum (map accepts_of works)
-      pub failed : missed ≡ sum (map (λ w. w.missed) works)
-      pub as_many : (accepts ≡ total) ⊎ asked
+      pub accepted : accepts ≡ sum_by accepts_of works
+      pub failed : missed ≡ sum_by (λ w. w.missed) works
+      pub as_many : (accepts ≡ total) ⊎ (asked ≡ true)

@@ -1,5 +1,5 @@
 //! Clients that come over a Unix socket, and who watches them.
-ghost use Rattle.std.specs.Prelude.{IsTrue, MatchOption};
+ghost use Rattle.std.specs.Prelude.{◌≡◌, true, MatchOption};
 ghost use Rattle.jlr_server.specs.News.{TellsAsked};
 
 use crate::acceptor::Acceptor;
@@ -255,8 +255,8 @@ impl LineWatcher {
 
     /// What the next event tells, if it is news. A wait that fails is the last one.
     fn next(&mut self) -> Option<News>
-        ensures told { MatchOption result (Unit {0}) (λ news. TellsAsked news (IsTrue self.new.is_asked)) }
-        ensures stays { IsTrue self.old.is_asked → IsTrue self.new.is_asked }
+        ensures told { MatchOption result (Unit {0}) (λ news. TellsAsked news self.new.is_asked) }
+        ensures stays { self.old.is_asked ≡ true → self.new.is_asked ≡ true }
     {
         if self.ready {
             return self.order();
@@ -282,8 +282,8 @@ impl LineWatcher {
 
     /// What the next one who waits at the socket of control asks for: the first that the server ends, any other that it ends at once.
     fn order(&mut self) -> Option<News>
-        ensures told { MatchOption result (Unit {0}) (λ news. TellsAsked news (IsTrue self.new.is_asked)) }
-        ensures stays { IsTrue self.old.is_asked → IsTrue self.new.is_asked }
+        ensures told { MatchOption result (Unit {0}) (λ news. TellsAsked news self.new.is_asked) }
+        ensures stays { self.old.is_asked ≡ true → self.new.is_asked ≡ true }
     {
         let control = self.control.as_ref()?;
         let Ok((asker, _)) = control.accept() else {
@@ -309,9 +309,7 @@ fn client_of(token: usize) -> u32 {
 }
 
 impl Watcher for LineWatcher {
-    ghost use Rattle.std.specs.Prelude.{IsTrue};
-
-    ghost asked = { λ w. IsTrue w.is_asked };
+    ghost asked = { λ w. w.is_asked };
 
     fn news<T: Wait>(&mut self, rt: &T) -> News {
         for _ in rt.forever() {

@@ -1,9 +1,10 @@
 //! A heap that several clients share: a worker for each session's seat, and the three loops beside them.
-ghost use Rattle.std.specs.Prelude.{◌≡◌, ◌<◌, ◌+◌, ℕ, [], IfOk, length, sum, map, slice_index_or};
+ghost use Rattle.std.specs.Prelude.{◌≡◌, ◌⊎◌, ◌<◌, ◌+◌, ◌++◌, ◌∷◌, ℕ, true, false, [], IfOk, IfSome, length, map, slice_index_or};
+ghost use Rattle.std.specs.List.{sum_by};
 ghost use Rattle.std.specs.Thread.{IsSend, IsSync};
 ghost use Rattle.jlr_log.specs.Seeing.{Seen, seen};
 ghost use Rattle.jlr_hall.specs.declared.step.Step.{Step};
-ghost use Rattle.jlr_server.specs.Serving.{AllWork, IsServed, accepts_of, seat_in};
+ghost use Rattle.jlr_server.specs.Serving.{AllWork, IsServed, IsWork, accepts_of, seat_in};
 ghost use Rattle.jlr_server.specs.declared.server.ServeFault.TheVariants.{Close, NoMemory};
 
 use crate::acceptor::Acceptor;
@@ -259,16 +260,20 @@ where
     D::Res: Drop,
     requires fresh { (k : ℕ) (p : Seen (Step D.Res)) → k < length seats.items → slice_index_or seats.items k p ≡ seen k [] }
 {
-    let (mut seats, mut posts) = (seats, posts);
+    let mut seats = seats;
+    let mut posts = posts;
     let Ok(mut manned) = Vec::with_capacity(alloc, seats.len()) else {
         drop((seats, posts));
         return Err(AllocError);
     };
     for _ in 0..seats.len() {
-        let (Some(seat), Some(post)) = (seats.pop(), posts.pop()) else {
+        let Some(work) = next_seat::<A, D, L>(&mut seats) else {
             break;
         };
-        let work = Worked::new(seat);
+        let Some(post) = posts.pop() else {
+            drop(work);
+            break;
+        };
         if let Err(refused) = manned.push(Manned { work, post }) {
             drop(refused);
         }
@@ -277,16 +282,32 @@ where
     Ok(manned)
 }
 
-/// A thread on each seat and one for the watcher, until all are done. No client is accepted before all threads are there; where one cannot be
+/// The last of these seats, if there is one. It asked nothing yet, as those that are left.
+fn next_seat<A: Acceptor, D: Device, L: Naming + Limited>(
+    seats: &mut Vec<Seat<D::Res, L>>,
+) -> Option<Worked<A, D, L>>
+where
+    D::Res: Drop,
+    requires fresh { (k : ℕ) (p : Seen (Step D.Res)) → k < length seats.old.items → slice_index_or seats.old.items k p ≡ seen k [] }
+    ensures fresh { (k : ℕ) (p : Seen (Step D.Res)) → k < length seats.new.items → slice_index_or seats.new.items k p ≡ seen k [] }
+    ensures one { IfSome result (λ work. work.seat ≡ seen work.seat.seat []) }
+{
+    match seats.pop() {
+        Some(seat) => Some(Worked::new(seat)),
+        None => None,
+    }
+}
+
+/// A thread on each seat, until all are done; meanwhile this one hears the watcher. No client is accepted before all threads are there; where one cannot be
 /// started, none is. What was done at the seats, those of the sessions first to be done, and what the watcher heard.
 ///
 /// # Errors
 /// `Start` where a thread cannot be started, `NoMemory` where there is no memory.
 fn run_threads<
-    A: Acceptor + Send + Sync,
+    A: Acceptor + Sync,
     D: Device + Drop + Send,
     L: Naming + Limited + Send + Sync,
-    W: Watcher + Drop + Send,
+    W: Watcher + Drop,
     T: Threads + Wait + Sync,
 >(
     rt: &T,
@@ -306,7 +327,7 @@ where
         thread::scope_env(),
         rt,
         move |scope| -> Result<(Vec<Worked<A, D, L>>, Heard<W>), ServeFault>
-            requires { IsSync T.row × IsSend L.row × IsSync L.row × IsSend A.row × IsSync A.row × IsSend D.row × IsSend W.row × IsSend A.In.row × IsSend A.Out.row × IsSend D.Res.row }
+            requires { IsSync T.row × IsSend L.row × IsSync L.row × IsSync A.row × IsSend D.row × IsSend A.In.row × IsSend A.Out.row × IsSend D.Res.row }
         {
             let Ok(back) = Vec::with_capacity(alloc, manned.len()) else {
                 drop((manned, watcher));
@@ -315,13 +336,6 @@ where
             let Ok(mut running) = Vec::with_capacity(alloc, manned.len()) else {
                 drop((manned, back, watcher));
                 return Err(ServeFault::NoMemory);
-            };
-            let ear = match scope.spawn(move || hear(rt, hall, acceptor, accepts, watcher)) {
-                Ok(ear) => ear,
-                Err(refused) => {
-                    drop((refused, manned, back, running));
-                    return Err(ServeFault::Start);
-                }
             };
             let mut all = true;
             for seat in manned {
@@ -334,7 +348,8 @@ where
                 }
             }
             begin(rt, hall, acceptor, accepts, all);
-            joined(rt, running, back, ear, all)
+            let heard = hear(rt, hall, acceptor, accepts, watcher);
+            joined(rt, running, back, heard, all)
         },
     )
 }
@@ -372,19 +387,20 @@ fn begin<A: Acceptor, R: Drop, L: Naming + Limited, T: Wait>(
 /// # Errors
 /// `Start` where not all threads are there.
 fn joined<
-    A: Acceptor + Send,
+    A: Acceptor,
     D: Device + Drop + Send,
     L: Naming + Limited + Send,
-    W: Watcher + Drop + Send,
+    W: Watcher + Drop,
     T: Threads + Wait,
 >(
     rt: &T,
     running: Vec<JoinHandle<Worked<A, D, L>>>,
     back: Vec<Worked<A, D, L>>,
-    ear: JoinHandle<Heard<W>>,
+    heard: Heard<W>,
     all: bool,
 ) -> Result<(Vec<Worked<A, D, L>>, Heard<W>), ServeFault>
 where
+    A::In: Send,
     D::Res: Drop + Send,
 {
     let mut back = back;
@@ -392,7 +408,6 @@ where
     for thread in running {
         all = is_added(&mut back, thread.join(rt)) && all;
     }
-    let heard = ear.join(rt);
     if all {
         return Ok((back, heard));
     }
@@ -408,7 +423,7 @@ where
 /// # Errors
 /// `Start` where a thread cannot be started, `NoMemory` where there is no room for the heap, its seats or its threads: then no client was accepted.
 pub fn serve_over<
-    A: Acceptor + Send + Sync,
+    A: Acceptor + Sync,
     D: Device + Drop + Send,
     L: Naming + Limited + Send + Sync,
     T: Threads + Wait + Sync,
@@ -430,7 +445,7 @@ where
     requires limits { limits ≡ L.limits }
     ensures served { IfOk result (λ served. IsServed limits
         (record { count = D.count; opens = D.may_open; connects = D.may_connect; failures = D.Res.handling.count })
-        D.Res.handling A.fails total ⊥ served.accepts served.missed served.book) }
+        D.Res.handling A.fails total false served.accepts served.missed served.book) }
 {
     let done = serve_watched::<A, D, L, NoWatcher, T>(
         rt, alloc, limits, total, acceptor, NoWatcher, devices, blank,
@@ -447,10 +462,10 @@ where
 /// # Errors
 /// As `serve_over`.
 pub fn serve_watched<
-    A: Acceptor + Send + Sync,
+    A: Acceptor + Sync,
     D: Device + Drop + Send,
     L: Naming + Limited + Send + Sync,
-    W: Watcher + Drop + Send,
+    W: Watcher + Drop,
     T: Threads + Wait + Sync,
 >(
     rt: &T,
@@ -518,18 +533,23 @@ where
 {
     let Heard { watcher, asked } = heard;
     let count = hall.sessions() + 3;
-    if works.len() != usize::from(count) || (accepts != total && !asked) {
+    if works.len() != usize::from(count) {
         drop((hall, works, watcher));
         return Err(ServeFault::Miscounted);
     }
-    let Ok((seats, made, missed)) = taken_apart(alloc, works) else {
+    if !are_enough(accepts, total, asked) {
+        drop((hall, works, watcher));
+        return Err(ServeFault::Miscounted);
+    }
+    let Ok(tally) = taken_apart(alloc, works) else {
         drop((hall, watcher));
         return Err(ServeFault::NoMemory);
     };
-    if made != accepts {
-        drop((hall, seats, watcher));
+    if tally.accepts != accepts {
+        drop((hall, tally, watcher));
         return Err(ServeFault::Miscounted);
     }
+    let Tally { seats, missed, .. } = tally;
     match hall.close(seats) {
         Ok(book) => Ok(Watched {
             served: Served {
@@ -546,27 +566,66 @@ where
     }
 }
 
-/// The seats, and how many accepts there were at all of them, and how many of these gave no client.
+/// Whether as many accepts were made as were to be, or the server was asked to end.
+fn are_enough(accepts: u32, total: u32, asked: bool) -> bool
+    ensures { result ≡ true → (accepts ≡ total) ⊎ (asked ≡ true) }
+{
+    accepts == total || asked
+}
+
+/// The seats, how many accepts there were at all of them, and how many of these gave no client.
+#[derive(Drop)]
+struct Tally<R, L: Naming + Limited> {
+    seats: Vec<Seat<R, L>>,
+    accepts: u32,
+    missed: u32,
+}
+
+/// Adds what was done at one seat.
 ///
 /// # Errors
 /// `AllocError` where there is no memory, or there were 2^32 accepts or more.
+fn add<A: Acceptor, D: Device + Drop, L: Naming + Limited>(
+    tally: &mut Tally<D::Res, L>,
+    work: Worked<A, D, L>,
+) -> Result<(), AllocError>
+where
+    D::Res: Drop,
+    ensures seats { IfOk result (λ _. tally.new.seats.items ≡ tally.old.seats.items ++ work.seat ∷ []) }
+    ensures accepts { IfOk result (λ _. tally.new.accepts ≡ tally.old.accepts + (work.sessions + work.missed)) }
+    ensures missed { IfOk result (λ _. tally.new.missed ≡ tally.old.missed + work.missed) }
+    ensures done { IsWork L.limits (record { count = D.count; opens = D.may_open; connects = D.may_connect; failures = D.Res.handling.count })
+        D.Res.handling A.fails work }
+{
+    let (seat, sessions, missed) = work.into_parts();
+    tally.seats.push(seat)?;
+    let accepts = sessions.checked_add(missed).ok_or(AllocError)?;
+    tally.accepts = tally.accepts.checked_add(accepts).ok_or(AllocError)?;
+    tally.missed = tally.missed.checked_add(missed).ok_or(AllocError)?;
+    Ok(())
+}
+
+/// What was done at all seats.
+///
+/// # Errors
+/// As `add`.
 fn taken_apart<A: Acceptor, D: Device + Drop, L: Naming + Limited>(
     alloc: Global,
     works: Vec<Worked<A, D, L>>,
-) -> Result<(Vec<Seat<D::Res, L>>, u32, u32), AllocError>
+) -> Result<Tally<D::Res, L>, AllocError>
 where
     D::Res: Drop,
-    ensures { IfOk result (λ r. (r.0.items ≡ map seat_in works.items) × (r.1 ≡ sum (map accepts_of works.items)) × (r.2 ≡ sum (map (λ w. w.missed) works.items))
+    ensures { IfOk result (λ tally. (tally.seats.items ≡ map seat_in works.items) × (tally.accepts ≡ sum_by accepts_of works.items)
+        × (tally.missed ≡ sum_by (λ w. w.missed) works.items)
         × AllWork L.limits (record { count = D.count; opens = D.may_open; connects = D.may_connect; failures = D.Res.handling.count }) D.Res.handling A.fails works.items) }
 {
-    let mut seats = Vec::new(alloc);
-    let (mut all, mut none) = (0u32, 0u32);
+    let mut tally = Tally {
+        seats: Vec::new(alloc),
+        accepts: 0,
+        missed: 0,
+    };
     for work in works {
-        let (seat, sessions, missed) = work.into_parts();
-        seats.push(seat)?;
-        let accepts = sessions.checked_add(missed).ok_or(AllocError)?;
-        all = all.checked_add(accepts).ok_or(AllocError)?;
-        none = none.checked_add(missed).ok_or(AllocError)?;
+        add(&mut tally, work)?;
     }
-    Ok((seats, all, none))
+    Ok(tally)
 }

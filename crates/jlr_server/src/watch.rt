@@ -1,5 +1,5 @@
 //! News of clients that go, and of who asks a server to end.
-ghost use Rattle.std.specs.Prelude.{IsTrue};
+ghost use Rattle.std.specs.Prelude.{◌≡◌, true};
 
 use std::sync::Wait;
 
@@ -25,15 +25,16 @@ pub enum News {
 
 /// Tells of clients that go, and of who asks the server to end.
 pub trait Watcher {
+    ghost use Rattle.std.specs.Prelude.{◌≡◌, Bool, true};
     ghost use Rattle.jlr_server.specs.News.{TellsAsked};
 
-    // it has told that the server is asked to end
-    ghost asked: { Self → Type 0 };
+    // whether it has told that the server is asked to end
+    ghost asked: { Self → Bool };
 
     /// Waits for news.
     fn news<T: Wait>(&mut self, rt: &T) -> News
         ensures told { TellsAsked result (asked self.new) }
-        ensures stays { asked self.old → asked self.new };
+        ensures stays { asked self.old ≡ true → asked self.new ≡ true };
 }
 
 /// Tells nothing.
@@ -41,7 +42,9 @@ pub trait Watcher {
 pub struct NoWatcher;
 
 impl Watcher for NoWatcher {
-    ghost asked = { λ _. ⊥ };
+    ghost use Rattle.std.specs.Prelude.{false};
+
+    ghost asked = { λ _. false };
 
     fn news<T: Wait>(&mut self, _rt: &T) -> News {
         News::Over
@@ -53,5 +56,5 @@ impl Watcher for NoWatcher {
 pub(crate) struct Heard<W: Watcher> {
     pub(crate) watcher: W,
     pub(crate) asked: bool,
-    pub ghost told: { IsTrue asked → W.asked watcher },
+    pub ghost told: { asked ≡ true → W.asked watcher ≡ true },
 }

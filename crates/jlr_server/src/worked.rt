@@ -7,6 +7,7 @@ ghost use Rattle.jlr_session.specs.Serving.{Serves};
 ghost use Rattle.jlr_session.specs.declared.shell.SessionEnd.{SessionEnd};
 ghost use Rattle.jlr_log.specs.Seeing.{seen};
 ghost use Rattle.jlr_hall.specs.Ports.{by_seat};
+ghost use Rattle.jlr_server.specs.Serving.{IsWork};
 
 use crate::acceptor::Acceptor;
 use jlr_device::{Device, Resource};
@@ -53,7 +54,7 @@ pub struct Worked<A: Acceptor, D: Device, L: Naming + Limited> {
     seat: Seat<D::Res, L>,
     sessions: u32,
     missed: u32,
-    of: PhantomData<(A, D)>,
+    of: PhantomData<(A::In, D)>,
 }
 
 impl<A: Acceptor, D: Device, L: Naming + Limited> Model for Worked<A, D, L> {
@@ -102,18 +103,18 @@ where
             missed,
             of,
         } = self;
-        let Some(sessions) = sessions.checked_add(1) else {
+        if sessions == u32::MAX {
             return Worked {
                 seat,
                 sessions,
                 missed,
                 of,
             };
-        };
+        }
         let seat = serve_seat(rt, hall, seat, input, output, device);
         Worked {
             seat,
-            sessions,
+            sessions: sessions + 1,
             missed,
             of,
         }
@@ -189,7 +190,9 @@ where
 
     /// The seat, how many sessions were served there, and how many accepts gave none.
     pub(crate) fn into_parts(self) -> (Seat<D::Res, L>, u32, u32)
-        ensures { (result.0 ≡ self.seat) × (result.1 ≡ self.sessions) × (result.2 ≡ self.missed) }
+        ensures parts { (result.0 ≡ self.seat) × (result.1 ≡ self.sessions) × (result.2 ≡ self.missed) }
+        ensures done { IsWork L.limits (record { count = D.count; opens = D.may_open; connects = D.may_connect; failures = D.Res.handling.count })
+            D.Res.handling A.fails self }
     {
         let Worked {
             seat,
