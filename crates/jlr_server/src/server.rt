@@ -96,7 +96,18 @@ enum Post<D> {
 struct Manned<A: Acceptor, D: Device, L: Naming + Limited> {
     work: Worked<A, D, L>,
     post: Post<D>,
-    ghost fresh: { work.seat ≡ seen work.seat.seat [] },
+}
+
+impl<A: Acceptor, D: Device, L: Naming + Limited> Model for Manned<A, D, L> {
+    ghost use Rattle.std.specs.Prelude.{◌≡◌, []};
+    ghost use Rattle.jlr_log.specs.Seeing.{seen};
+    ghost use Rattle.jlr_server.specs.Serving.{Work};
+
+    ghost Value = { Work D.Res };
+
+    ghost view = { λ m. m.work };
+
+    ghost invariant = { λ m. m.work.seat ≡ seen m.work.seat.seat [] };
 }
 
 /// Serves clients by a seat while accepts are left.

@@ -1,6 +1,7 @@
 //! News of clients that go, and of who asks a server to end.
 ghost use Rattle.std.specs.Prelude.{◌≡◌, true};
 
+use std::marker::Model;
 use std::sync::Wait;
 
 /// How the connections of all clients are closed.
@@ -51,10 +52,17 @@ impl Watcher for NoWatcher {
     }
 }
 
-/// A watcher, once it has told its last, and whether it told that the server is asked to end.
+/// A watcher, once it has told its last, and whether it told that the server is asked to end. Contracts see the watcher.
 #[derive(Drop)]
 pub(crate) struct Heard<W: Watcher> {
     pub(crate) watcher: W,
     pub(crate) asked: bool,
-    pub ghost told: { asked ≡ true → W.asked watcher ≡ true },
+}
+
+impl<W: Watcher> Model for Heard<W> {
+    ghost Value = { W };
+
+    ghost view = { λ h. h.watcher };
+
+    ghost invariant = { λ h. h.asked ≡ true → W.asked h.watcher ≡ true };
 }

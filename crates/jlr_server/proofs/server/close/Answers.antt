@@ -16,6 +16,6 @@ returns-in-Ok-close g c =
         closes = subst (λ (seats : List (Seen (Step g.row.D-Res.Denot))). Closes g.L.Limited.limits seats c.in-Ok-close.book) told.0 c.in-Ok-close.ensures.closes;
         accepted = search (rules, arith);
         failed = told.2;
-        as_many = or_then (c.are_enough.ensures c.if-not-are_enough.false) c.args.heard.told;
+        as_many = or_then (c.are_enough.ensures c.if-not-are_enough.false) c.heard.invariant;
       };
     }
