@@ -37,7 +37,7 @@ use Rattle.jlr_event.specs.Events.{ask_of, resource_of_event}
 use Rattle.jlr_core.specs.Cores.{Kept}
 use Rattle.jlr_core.specs.Events.{Enters, GoesOut, entry_of}
 use Rattle.jlr_core.specs.Steps.{IsEmpty, IsStep}
-use Rattle.jlr_embed.specs.Kinds.{is_end, is_handle, is_job, is_integer, is_told, kind_of, kind_of_open, kind_asked, suits}
+use Rattle.jlr_embed.specs.Kinds.{GoesBack, is_end, is_faulted, is_prepared, kind_of_call, kind_of_finish, is_handle, is_job, is_integer, is_told, kind_of, kind_of_open, kind_asked, suits}
 use Rattle.jlr_embed.specs.Standing.{Stands}
 
 -- ---- The answers of asks that are carried out
@@ -65,15 +65,15 @@ number None a e = no_some a e
 number (Some (IntValue n)) a e = plainly is_integer (answer.Int n) a e refl
 number (Some (RefValue s)) a e = no_some a e
 
-ended : (outcome : Outcome) (a : Answer) → outcome_answer outcome (Some answer.Done) ≡ Some a → is_end a ≡ true
+ended : (outcome : Outcome) (a : Answer) → outcome_answer outcome (Some answer.Done) ≡ Some a → kind_of_finish outcome a ≡ true
 ended OutcomeOk a e = plainly is_end answer.Done a e refl
-ended (Failed fault) a e = plainly is_end (answer.Faulted fault) a e refl
+ended (Failed fault) a e = plainly is_faulted (answer.Faulted fault) a e refl
 
 opened : (m : Machine) (k : ℕ) (outcome : Outcome) (a : Answer) → outcome_answer outcome (new_handle m k) ≡ Some a → kind_of_open outcome a ≡ true
 opened m k OutcomeOk a e = handle m k a e
-opened m k (Failed fault) a e = plainly is_end (answer.Faulted fault) a e refl
+opened m k (Failed fault) a e = plainly is_faulted (answer.Faulted fault) a e refl
 
-called : (outcome : CallOutcome) → is_end (call_answer outcome) ≡ true
+called : (outcome : CallOutcome) → kind_of_call outcome (call_answer outcome) ≡ true
 called (GotData bytes) = refl
 called (GotWrote n) = refl
 called (GotFailed fault) = refl
@@ -109,10 +109,10 @@ answered m (Remove k q) o a e = handle_or_null m k (given m (Remove k q)) a e
 answered m (MakeCleaner k) o a e = handle m k a e
 answered m (Register k d h note) o a e = handle m k a e
 answered m (Clean k d) o a e = mapped is_job take_up_answer _ a taken_up e
-answered m (Prepare k) o a e = subst (λ x. is_end x ≡ true) (sym e.3) refl
+answered m (Prepare k) o a e = subst (λ x. is_prepared x ≡ true) (sym e.3) refl
 answered m (Opened k outcome) o a e = opened m k outcome a e
 answered m (CheckOut k h) o a e = mapped (kind_of (CheckOut k h)) _ _ a (λ _. refl) e
-answered m (CheckIn k outcome) o a e = plainly is_end (call_answer outcome) a e (called outcome)
+answered m (CheckIn k outcome) o a e = plainly (kind_of_call outcome) (call_answer outcome) a e (called outcome)
 answered m (Close k h) o a e = mapped is_job take_up_answer _ a taken_up e
 answered m (Finish by action outcome) o a e = ended outcome a e
 answered m (Bind k name h) o a e = plainly is_end answer.Done a e refl
@@ -163,26 +163,26 @@ entered m n None a chosen e = absurd e
 
 -- ---- Steps
 
-module _ (old new : Kept ℕ) (event : Event ℕ) (reply : Reply ℕ) (chosen : Chosen) (step : IsStep old event reply chosen new) where
+module _ {R : Type 0} (old new : Kept R) (event : Event R) (reply : Reply R) (chosen : Chosen) (step : IsStep old event reply chosen new) where
   pub stands_after : Stands old → Stands new
   stands_after s = let x = step.entry s.0 s.1 in (x.0, x.2)
 
-pub kind_told : (old new : Kept ℕ) (event : Event ℕ) (a : Answer) (out : Option ℕ) (chosen : Chosen) → IsStep old event (Answered a out) chosen new → Stands old → is_told (kind_asked (ask_of event)) a ≡ true
+pub kind_told : {R : Type 0} (old new : Kept R) (event : Event R) (a : Answer) (out : Option R) (chosen : Chosen) → IsStep old event (Answered a out) chosen new → Stands old → is_told (kind_asked (ask_of event)) a ≡ true
 kind_told old new event a out chosen step s = let x = step.entry s.0 s.1 in entered s.0 x.0 (ask_of event) a chosen x.1
 
 -- ---- What goes out
 
-job_goes : (t : Resources ℕ) (came : Option ℕ) (action : ℕ) (work : Work) (out : Option ℕ) → GoesOut t came (Some (answer.Job action work)) out → suits (answer.Job action work) out ≡ true
+job_goes : {R : Type 0} (t : Resources R) (came : Option R) (action : ℕ) (work : Work) (out : Option R) → GoesOut t came (Some (answer.Job action work)) out → suits (answer.Job action work) out ≡ true
 job_goes t came action (Note n) None g = refl
 job_goes t came action (Note n) (Some v) g = no_some v (sym g)
 job_goes t came action (WorkOn rid) None g = absurd g
 job_goes t came action (WorkOn rid) (Some v) g = refl
 
-out_goes : (t : Resources ℕ) (came : Option ℕ) (rid : ℕ) (out : Option ℕ) → GoesOut t came (Some (answer.Out rid)) out → suits (answer.Out rid) out ≡ true
+out_goes : {R : Type 0} (t : Resources R) (came : Option R) (rid : ℕ) (out : Option R) → GoesOut t came (Some (answer.Out rid)) out → suits (answer.Out rid) out ≡ true
 out_goes t came rid None g = absurd g
 out_goes t came rid (Some v) g = refl
 
-pub goes : (t : Resources ℕ) (came : Option ℕ) (a : Answer) (out : Option ℕ) → GoesOut t came (Some a) out → suits a out ≡ true
+pub goes : {R : Type 0} (t : Resources R) (came : Option R) (a : Answer) (out : Option R) → GoesOut t came (Some a) out → suits a out ≡ true
 goes t came (answer.Job action work) out g = job_goes t came action work out g
 goes t came (answer.Out rid) out g = out_goes t came rid out g
 goes t came (answer.Refused by) out g = refl
@@ -201,20 +201,42 @@ goes t came answer.AlreadyDone out g = refl
 goes t came (answer.Prepared rid) out g = refl
 goes t came (answer.Handed what) out g = refl
 
+pub goes_back : {R : Type 0} (t : Resources R) (came : Option R) (a : Answer) (out : Option R) → GoesOut t came (Some a) out → GoesBack came a out
+goes_back t came (answer.Refused by) out g = g
+goes_back t came (answer.Job action work) out g = tt
+goes_back t came (answer.Out rid) out g = tt
+goes_back t came answer.Done out g = g
+goes_back t came (answer.Handle h) out g = g
+goes_back t came (answer.Truth b) out g = g
+goes_back t came (answer.Int n) out g = g
+goes_back t came (answer.Data bytes) out g = g
+goes_back t came (answer.Wrote n) out g = g
+goes_back t came (answer.Faulted fault) out g = g
+goes_back t came (answer.Names names) out g = g
+goes_back t came (answer.Notes notes) out g = g
+goes_back t came (answer.Faults faults) out g = g
+goes_back t came (answer.Stat stat) out g = g
+goes_back t came answer.AlreadyDone out g = g
+goes_back t came (answer.Prepared rid) out g = g
+goes_back t came (answer.Handed what) out g = g
+
 -- ---- The empty heap
 
-pub stands_empty : (core : Kept ℕ) (cells sessions limit soft_age first : ℕ) → IsEmpty cells sessions limit soft_age first core → Stands core
+pub stands_empty : {R : Type 0} (core : Kept R) (cells sessions limit soft_age first : ℕ) → IsEmpty cells sessions limit soft_age first core → Stands core
 stands_empty core cells sessions limit soft_age first e =
     (empty_from cells sessions limit first, record { same = e.machine; seen = λ is_open. absurd (both_ways false refl is_open); outside = λ _. refl })
 
 -- ---- Replies of which the kind is known
 
-module _ (old new : Kept ℕ) (event : Event ℕ) (reply : Reply ℕ) (chosen : Chosen) (step : IsStep old event reply chosen new) (s : Stands old) where
-  pub kind_carried : (a : Answer) (out : Option ℕ) → reply ≡ Answered a out → is_told (kind_asked (ask_of event)) a ≡ true
+module _ {R : Type 0} (old new : Kept R) (event : Event R) (reply : Reply R) (chosen : Chosen) (step : IsStep old event reply chosen new) (s : Stands old) where
+  pub kind_carried : (a : Answer) (out : Option R) → reply ≡ Answered a out → is_told (kind_asked (ask_of event)) a ≡ true
   kind_carried a out e = kind_told old new event a out chosen (subst (λ r. IsStep old event r chosen new) e step) s
 
-  pub suits_carried : (a : Answer) (out : Option ℕ) → reply ≡ Answered a out → suits a out ≡ true
+  pub suits_carried : (a : Answer) (out : Option R) → reply ≡ Answered a out → suits a out ≡ true
   suits_carried a out e = let known : IsStep old event (Answered a out) chosen new = subst (λ r. IsStep old event r chosen new) e step in goes old.table (resource_of_event event) a out known.goes_out
+
+  pub back_carried : (a : Answer) (out : Option R) → reply ≡ Answered a out → GoesBack (resource_of_event event) a out
+  back_carried a out e = let known : IsStep old event (Answered a out) chosen new = subst (λ r. IsStep old event r chosen new) e step in goes_back old.table (resource_of_event event) a out known.goes_out
 
   none_marked : (m n : Machine) (ask : Option Ask) → Enters m ask None chosen n → is_none ask ≡ false → ⊥
   none_marked m n (Some ask) e is_some = e
@@ -228,7 +250,7 @@ module _ (old new : Kept ℕ) (event : Event ℕ) (reply : Reply ℕ) (chosen : 
 
 -- ---- Room for choices
 
-pub room_for_all : (core : Kept ℕ) (choice : Choosing) (cells sessions limit soft_age first : ℕ) → IsEmpty cells sessions limit soft_age first core → choice ≡ nothing_chosen cells → length core.machine.objects ≤ choice.cells
+pub room_for_all : {R : Type 0} (core : Kept R) (choice : Choosing) (cells sessions limit soft_age first : ℕ) → IsEmpty cells sessions limit soft_age first core → choice ≡ nothing_chosen cells → length core.machine.objects ≤ choice.cells
 room_for_all core choice cells sessions limit soft_age first e c =
     let none : Option Object = None in
     let long : length core.machine.objects ≡ cells = ap (λ (m : Machine). length m.objects) e.machine ∙ length-replicate cells none in

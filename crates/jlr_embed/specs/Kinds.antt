@@ -1,9 +1,11 @@
 -- Which kind of answer each ask has, and what goes out with it.
-use Rattle.std.specs.Prelude.{ℕ, Bool, true, false, ◌||◌, Option, Some, None}
+use Rattle.std.specs.Prelude.{◌≡◌, Bool, true, false, ◌||◌, Option, Some, None}
 use Rattle.jlr_types.specs.declared.Work.{Work}
 use Rattle.jlr_types.specs.declared.Work.TheVariants.{Note, Resource as WorkOn}
 use Rattle.jlr_machine.specs.declared.ask.Outcome.{Outcome}
 use Rattle.jlr_machine.specs.declared.ask.Outcome.TheVariants.{Ok as Well, Failed}
+use Rattle.jlr_machine.specs.declared.ask.CallOutcome.{CallOutcome}
+use Rattle.jlr_machine.specs.declared.ask.CallOutcome.TheVariants as call
 use Rattle.jlr_machine.specs.declared.ask.Handed.TheVariants.{Nothing}
 use Rattle.jlr_machine.specs.declared.ask.Ask.{Ask}
 use Rattle.jlr_machine.specs.declared.ask.Ask.TheVariants.{Join, Leave, New, Put, Get, SetInt, Int as AskInt, Dup, Drop, Same, MakeRef, Deref, Refers, Clear, Enqueue, Enqueued, MakeQueue, Poll, Remove, MakeCleaner, Register, Clean, Prepare, Opened, CheckOut, CheckIn, Close, Finish, Bind, Find, Unbind, Names as AskNames, Full, Stat as AskStat, Notes as AskNotes, Faults as AskFaults, HandOver, TakeUp, Begin, Collect, Abandon, Array}
@@ -19,11 +21,23 @@ is_refused _ = false
 -- nothing but that the ask was carried out
 abbrev pub is_end : Answer → Bool
 is_end Done = true
-is_end (Data bytes) = true
-is_end (Wrote n) = true
-is_end (Faulted fault) = true
-is_end (Prepared rid) = true
 is_end _ = false
+
+abbrev pub is_faulted : Answer → Bool
+is_faulted (Faulted fault) = true
+is_faulted _ = false
+
+abbrev pub is_prepared : Answer → Bool
+is_prepared (Prepared rid) = true
+is_prepared _ = false
+
+abbrev pub is_data : Answer → Bool
+is_data (Data bytes) = true
+is_data _ = false
+
+abbrev pub is_wrote : Answer → Bool
+is_wrote (Wrote n) = true
+is_wrote _ = false
 
 abbrev pub is_handle : Answer → Bool
 is_handle (Handle h) = true
@@ -72,7 +86,16 @@ is_stat _ = false
 
 abbrev pub kind_of_open : Outcome → Answer → Bool
 kind_of_open Well = is_handle
-kind_of_open (Failed fault) = is_end
+kind_of_open (Failed fault) = is_faulted
+
+abbrev pub kind_of_call : CallOutcome → Answer → Bool
+kind_of_call (call.Data bytes) = is_data
+kind_of_call (call.Wrote n) = is_wrote
+kind_of_call (call.Failed fault) = is_faulted
+
+abbrev pub kind_of_finish : Outcome → Answer → Bool
+kind_of_finish Well = is_end
+kind_of_finish (Failed fault) = is_faulted
 
 abbrev pub kind_of : Ask → Answer → Bool
 kind_of (Join k) = is_end
@@ -97,12 +120,12 @@ kind_of (Remove k q) = is_handle
 kind_of (MakeCleaner k) = is_handle
 kind_of (Register k c h note) = is_handle
 kind_of (Clean k c) = is_job
-kind_of (Prepare k) = is_end
+kind_of (Prepare k) = is_prepared
 kind_of (Opened k outcome) = kind_of_open outcome
 kind_of (CheckOut k h) = is_out
-kind_of (CheckIn k outcome) = is_end
+kind_of (CheckIn k outcome) = kind_of_call outcome
 kind_of (Close k h) = is_job
-kind_of (Finish by action outcome) = is_end
+kind_of (Finish by action outcome) = kind_of_finish outcome
 kind_of (Bind k name h) = is_end
 kind_of (Find k name) = is_handle
 kind_of (Unbind k name) = is_end
@@ -129,17 +152,24 @@ is_told kind answer = is_refused answer || kind answer
 -- ---- What goes out
 
 -- with a job on a resource and with a call a token goes out, and with a note none
-abbrev pub job_suits : Work → Option ℕ → Bool
+abbrev pub job_suits : {R : Type 0} → Work → Option R → Bool
 job_suits (Note n) None = true
 job_suits (Note n) (Some token) = false
 job_suits (WorkOn rid) None = false
 job_suits (WorkOn rid) (Some token) = true
 
-abbrev pub call_suits : Option ℕ → Bool
+abbrev pub call_suits : {R : Type 0} → Option R → Bool
 call_suits None = false
 call_suits (Some token) = true
 
-abbrev pub suits : Answer → Option ℕ → Bool
+abbrev pub suits : {R : Type 0} → Answer → Option R → Bool
 suits (Job action work) token = job_suits work token
 suits (Out rid) token = call_suits token
 suits answer token = true
+
+-- with a refusal what came in goes back, and with an answer that is neither a job nor a call nothing goes out
+abbrev pub GoesBack : {R : Type 0} → Option R → Answer → Option R → Type 0
+GoesBack came (Refused by) out = out ≡ came
+GoesBack came (Job action work) out = Unit {0}
+GoesBack came (Out rid) out = Unit {0}
+GoesBack came answer out = out ≡ None

@@ -1,5 +1,5 @@
--- A call is an entry: one step of the heap, whose answer is what the call gives.
-use Rattle.std.specs.Prelude.{◌≡◌, ℕ, ℤ, Bool, List, Option, Some, None, Result, Ok, Err}
+-- A call is an entry, whose answer is what the call gives; and then the heap is settled, unless the program settles it itself.
+use Rattle.std.specs.Prelude.{◌≡◌, ℕ, ℤ, Bool, true, List, Option, Some, None, MatchBool, Result, Ok, Err}
 use Rattle.jlr_types.specs.declared.Refusal.{Refusal}
 use Rattle.jlr_machine.specs.declared.ask.Stat.{Stat as Counts}
 use Rattle.jlr_machine.specs.declared.machine.Failure.{Failure}
@@ -7,17 +7,30 @@ use Rattle.jlr_machine.specs.declared.ask.Answer.{Answer}
 use Rattle.jlr_machine.specs.declared.ask.Answer.TheVariants as answer
 use Rattle.jlr_event.specs.declared.event.Event.{Event}
 use Rattle.jlr_event.specs.declared.event.Event.TheVariants.{Join}
+use Rattle.jlr_event.specs.declared.event.Reply.{Reply}
 use Rattle.jlr_event.specs.declared.event.Reply.TheVariants.{Answered}
 use Rattle.jlr_core.specs.Cores.{Kept}
 use Rattle.jlr_core.specs.Steps.{IsEmpty, Steps}
+use Rattle.jlr_session.specs.Asks.{Asking}
+use Rattle.jlr_embed.specs.Settling.{Settles}
+use Rattle.jlr_heap.specs.declared.heap.Heap.{Heap}
 
--- an event without a token, with its answer, leads from a heap to a heap
-abbrev pub IsEntry : Kept ℕ → Event ℕ → Answer → Kept ℕ → Type 0
-IsEntry old event answer new = Steps old event (Answered answer None) new
+-- with no history an ask and its reply are a step of the core
+abbrev pub unrecorded : {R : Type 0} → Asking (Kept R) R
+unrecorded = record { mutator = λ _. 0; asks = Steps; settling = Settles }
 
--- the same of one that may carry a token: what went out
-abbrev pub IsEntryWith : Kept ℕ → Event ℕ → Answer → Option ℕ → Kept ℕ → Type 0
-IsEntryWith old event answer token new = Steps old event (Answered answer token) new
+module _ {K R : Type 0} (asking : Asking K R) where
+  -- what follows a call
+  abbrev pub Follows : Heap K → K → Heap K → Type 0
+  Follows old between new = MatchBool old.settles (asking.settling between new.keeper) (new.keeper ≡ between) × (new.settles ≡ old.settles)
+
+  -- an event with its reply leads from a heap to a heap
+  abbrev pub IsReplied : Heap K → Event R → Reply R → Heap K → Type 0
+  IsReplied old event reply new = (between : K) × asking.asks old.keeper event reply between × Follows old between new
+
+  -- the same of one with which nothing goes out
+  abbrev pub IsEntry : Heap K → Event R → Answer → Heap K → Type 0
+  IsEntry old event answer new = IsReplied old event (Answered answer None) new
 
 -- the handle that a call was given for null
 abbrev pub or_null : Option ℕ → ℕ
@@ -46,6 +59,18 @@ abbrev pub counts : Result Counts Refusal → Answer
 counts (Ok stat) = answer.Stat stat
 counts (Err by) = answer.Refused by
 
+abbrev pub names : Result (List (List ℕ)) Refusal → Answer
+names (Ok told) = answer.Names told
+names (Err by) = answer.Refused by
+
+abbrev pub notes : Result (List ℕ) Refusal → Answer
+notes (Ok told) = answer.Notes told
+notes (Err by) = answer.Refused by
+
+abbrev pub faults : Result (List Failure) Refusal → Answer
+faults (Ok told) = answer.Faults told
+faults (Err by) = answer.Refused by
+
 -- ---- A call that gives nothing
 
 abbrev pub Ends : Result (Unit {0}) Refusal → Answer → Type 0
@@ -53,10 +78,11 @@ Ends (Err by) told = told ≡ answer.Refused by
 Ends (Ok done) (answer.Refused by) = ⊥
 Ends (Ok done) told = Unit {0}
 
-abbrev pub IsDone : Kept ℕ → Event ℕ → Result (Unit {0}) Refusal → Kept ℕ → Type 0
-IsDone old event result new = (answer : Answer) × IsEntry old event answer new × Ends result answer
+abbrev pub IsDone : {K R : Type 0} → Asking K R → Heap K → Event R → Result (Unit {0}) Refusal → Heap K → Type 0
+IsDone asking old event result new = (answer : Answer) × IsEntry asking old event answer new × Ends result answer
 
 -- ---- The beginning: the empty heap of the limits, in which mutator 0 joins
 
-abbrev pub IsJoined : ℕ → ℕ → ℕ → ℕ → Kept ℕ → Type 0
-IsJoined cells sessions resources soft_age heap = (empty : Kept ℕ) × (answer : Answer) × IsEmpty cells sessions resources soft_age 1 empty × IsEntry empty (Join 0) answer heap
+abbrev pub IsJoined : {R : Type 0} → ℕ → ℕ → ℕ → ℕ → Heap (Kept R) → Type 0
+IsJoined {R} cells sessions resources soft_age heap = (empty : Kept R) × (answer : Answer) × IsEmpty cells sessions resources soft_age 1 empty
+    × IsEntry unrecorded (record { keeper = empty; settles = true }) (Join 0) answer heap

@@ -1,4 +1,4 @@
--- Calls whose event may carry a token.
+-- Calls with which something goes in that a guard is to hold, or goes out that one held.
 use Rattle.std.specs.Prelude.{◌≡◌, ℕ, Option, Some, None, Result, Ok, Err}
 use Rattle.jlr_types.specs.declared.Fault.{Fault}
 use Rattle.jlr_types.specs.declared.Refusal.{Refusal}
@@ -9,44 +9,51 @@ use Rattle.jlr_machine.specs.declared.ask.Answer.TheVariants as answer
 use Rattle.jlr_machine.specs.declared.ask.CallOutcome.{CallOutcome}
 use Rattle.jlr_machine.specs.declared.ask.CallOutcome.TheVariants.{Failed, Wrote}
 use Rattle.jlr_event.specs.declared.event.Event.{Event}
-use Rattle.jlr_core.specs.Cores.{Kept}
-use Rattle.jlr_heap.specs.declared.guards.Job.{Job}
-use Rattle.jlr_heap.specs.declared.guards.What.TheVariants.{Note, Token}
-use Rattle.jlr_heap.specs.Entries.{Ends, IsEntryWith, handle}
+use Rattle.jlr_event.specs.declared.event.Reply.{Reply}
+use Rattle.jlr_event.specs.declared.event.Reply.TheVariants.{Answered}
+use Rattle.jlr_session.specs.Asks.{Asking}
+use Rattle.jlr_heap.specs.declared.heap.Heap.{Heap}
+use Rattle.jlr_heap.specs.declared.jobs.Declined.{Declined}
+use Rattle.jlr_heap.specs.declared.jobs.Job.{Job}
+use Rattle.jlr_heap.specs.declared.jobs.What.TheVariants.{Held, Note}
+use Rattle.jlr_heap.specs.Entries.{IsReplied}
 
--- to the heap a call on what a token stands for wrote nothing, or failed
+-- to the heap a call that the program made wrote nothing, or failed
 abbrev pub call_outcome : Result (Unit {0}) Fault → CallOutcome
 call_outcome (Ok done) = Wrote 0
 call_outcome (Err fault) = Failed fault
 
-abbrev pub TellsWork : Job → ℕ → Work → Option ℕ → Type 0
-TellsWork job action w (Some token) = job ≡ record { action = action; what = Token token }
-TellsWork job action (work.Note n) None = job ≡ record { action = action; what = Note n }
-TellsWork job action (work.Resource rid) None = ⊥
+module _ {R : Type 0} where
+  abbrev pub TellsWork : Job R → ℕ → Work → Option R → Type 0
+  TellsWork job action w (Some held) = job ≡ record { action = action; what = Held held }
+  TellsWork job action (work.Note n) None = job ≡ record { action = action; what = Note n }
+  TellsWork job action (work.Resource rid) None = ⊥
 
--- a job with what goes out with it, or that there is none
-abbrev pub TellsJob : Result (Option Job) Refusal → Answer → Option ℕ → Type 0
-TellsJob (Ok (Some job)) (answer.Job action w) token = TellsWork job action w token
-TellsJob (Ok None) answer.AlreadyDone token = Unit {0}
-TellsJob (Ok None) (answer.Handed what) token = Unit {0}
-TellsJob (Err by) (answer.Refused reason) token = by ≡ reason
-TellsJob _ _ _ = ⊥
+  -- a job with what goes out with it, or that there is none
+  abbrev pub TellsJob : Result (Option (Job R)) Refusal → Answer → Option R → Type 0
+  TellsJob (Ok (Some job)) (answer.Job action w) out = TellsWork job action w out
+  TellsJob (Ok None) answer.AlreadyDone out = Unit {0}
+  TellsJob (Ok None) (answer.Handed what) out = Unit {0}
+  TellsJob (Err by) (answer.Refused reason) out = by ≡ reason
+  TellsJob _ _ _ = ⊥
 
-abbrev pub TellsLent : Result ℕ Refusal → Answer → Option ℕ → Type 0
-TellsLent (Ok lent) (answer.Out rid) (Some token) = lent ≡ token
-TellsLent (Err by) (answer.Refused reason) token = by ≡ reason
-TellsLent _ _ _ = ⊥
+  abbrev pub TellsLent : Result R Refusal → Answer → Option R → Type 0
+  TellsLent (Ok lent) (answer.Out rid) (Some held) = lent ≡ held
+  TellsLent (Err by) (answer.Refused reason) out = by ≡ reason
+  TellsLent _ _ _ = ⊥
 
--- ---- A call is an entry, and tells its answer
+  -- what was handed in is held, or it goes back
+  abbrev pub TellsGuarded : Result ℕ (Declined R) → Answer → Option R → Type 0
+  TellsGuarded (Ok guard) (answer.Handle h) out = guard ≡ h
+  TellsGuarded (Err declined) (answer.Refused reason) (Some held) = declined ≡ record { by = reason; held = held }
+  TellsGuarded _ _ _ = ⊥
 
-abbrev pub IsDoneWith : Kept ℕ → Event ℕ → Result (Unit {0}) Refusal → Kept ℕ → Type 0
-IsDoneWith old event result new = (answer : Answer) × (token : Option ℕ) × IsEntryWith old event answer token new × Ends result answer
+  abbrev pub TellsBack : Result (Unit {0}) (Declined R) → Answer → Option R → Type 0
+  TellsBack (Err declined) (answer.Refused reason) (Some held) = declined ≡ record { by = reason; held = held }
+  TellsBack (Err declined) _ _ = ⊥
+  TellsBack (Ok done) (answer.Refused reason) out = ⊥
+  TellsBack (Ok done) told out = Unit {0}
 
-abbrev pub IsGuarded : Kept ℕ → Event ℕ → Result ℕ Refusal → Kept ℕ → Type 0
-IsGuarded old event result new = (token : Option ℕ) × IsEntryWith old event (handle result) token new
-
-abbrev pub IsLent : Kept ℕ → Event ℕ → Result ℕ Refusal → Kept ℕ → Type 0
-IsLent old event result new = (answer : Answer) × (token : Option ℕ) × IsEntryWith old event answer token new × TellsLent result answer token
-
-abbrev pub IsTaken : Kept ℕ → Event ℕ → Result (Option Job) Refusal → Kept ℕ → Type 0
-IsTaken old event result new = (answer : Answer) × (token : Option ℕ) × IsEntryWith old event answer token new × TellsJob result answer token
+-- a call is an entry, and its result tells the answer and what went out
+abbrev pub IsTold : {K R T : Type 0} → Asking K R → (T → Answer → Option R → Type 0) → Heap K → Event R → T → Heap K → Type 0
+IsTold {K} {R} {T} asking tells old event result new = (answer : Answer) × (out : Option R) × IsReplied asking old event (Answered answer out) new × tells result answer out

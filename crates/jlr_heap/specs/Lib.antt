@@ -1,7 +1,9 @@
 -- What a call on a heap in the same process is.
 pub mod Entries
 pub mod Guards
-pub mod Settling
+pub mod Files
 -- For crates above.
 pub use Rattle.jlr_core.specs.Cores
 pub use Rattle.jlr_core.specs.Steps
+pub use Rattle.jlr_embed.specs.Kinds
+pub use Rattle.jlr_embed.specs.Settling

@@ -1,20 +1,23 @@
-//! A heap with one mutator, 0.
-ghost use Rattle.std.specs.Prelude.{◌≡◌, ◌≤◌, IfOk, true, false};
+//! A heap with one mutator, 0, and what each kind of call on it is.
+ghost use Rattle.std.specs.Prelude.{◌≡◌, IfOk, true};
 ghost use Rattle.jlr_event.specs.Events.{ask_of};
+ghost use Rattle.jlr_machine.specs.declared.ask.Answer.{Answer as Told};
 ghost use Rattle.jlr_core.specs.Events.{is_plain};
-ghost use Rattle.jlr_embed.specs.Kinds.{is_handle, is_integer, is_stat, is_truth, kind_asked};
-ghost use Rattle.jlr_heap.specs.Entries.{IsDone, IsEntry, IsJoined, counts, handle, handle_or_null, integer, or_null, truth};
+ghost use Rattle.jlr_embed.specs.Kinds.{is_faults, is_handle, is_integer, is_names, is_notes, is_stat, is_truth};
+ghost use Rattle.jlr_embed.specs.Kinds.{kind_asked};
+ghost use Rattle.jlr_heap.specs.Entries.{Follows, IsDone, IsEntry, IsJoined, counts, faults, handle};
+ghost use Rattle.jlr_heap.specs.Entries.{handle_or_null, integer, names, notes, truth};
 
-use crate::handles::{Cleanable, Cleaner, Queue, Reference};
+use crate::keeper::Keeper;
 use crate::told;
-use jlr_embed::Embedded;
+use jlr_embed::Unrecorded;
 use jlr_event::event::Event;
-use jlr_machine::ask::{FullMode, Stat};
+use jlr_machine::ask::Stat;
+use jlr_machine::items::Items;
+use jlr_machine::machine::Failure;
 use jlr_machine::text::Name;
-use jlr_types::{FieldNo, Handle, Layout, Length, Limits, Mutator, RefKind, Refusal};
+use jlr_types::{Handle, Limits, Mutator, Refusal};
 use std::alloc::{AllocError, Global};
-use std::marker::Model;
-use std::mem;
 
 /// In whose name all is asked.
 #[inline(always)]
@@ -24,109 +27,106 @@ pub(crate) fn me() -> Mutator
     Mutator::new(0)
 }
 
-/// A heap with one mutator. Contracts see the core.
+/// A heap with one mutator. After each call the handler's steps are made, until nothing is pending, unless the program
+/// makes them itself.
 #[derive(Drop)]
-pub struct Heap {
-    pub(crate) open: Embedded,
+pub struct Heap<K> {
+    pub(crate) keeper: K,
+    settles: bool,
 }
 
-impl Model for Heap {
-    ghost use Rattle.std.specs.Prelude.{ℕ};
-    ghost use Rattle.jlr_core.specs.Cores.{Kept};
-
-    ghost Value = { Kept ℕ };
-
-    ghost view = { λ h. h.open };
-}
-
-/// The handle of a thing, or null.
-fn null_or(queue: Option<Queue>) -> Handle
-    ensures { result ≡ or_null queue }
-{
-    match queue {
-        Some(queue) => queue.handle(),
-        None => Handle::new(0),
-    }
-}
-
-impl Heap {
-    /// The empty heap of the limits, in which the mutator has joined.
+impl<R: Drop> Heap<Unrecorded<R>> {
+    /// The empty heap of the limits, of which no history is kept, and in which the mutator has joined.
     ///
     /// # Errors
     /// `AllocError` where the room cannot be had.
     pub fn new(alloc: Global, limits: Limits) -> Result<Self, AllocError>
         ensures { IfOk result (λ heap. IsJoined limits.cells limits.sessions limits.resources limits.soft_age heap) }
     {
-        let mut open = Embedded::new(alloc, limits)?;
-        let _ = open.answer(&Event::Join { mutator: me() });
-        Ok(Heap { open })
+        let empty = Unrecorded::new(alloc, limits)?;
+        Ok(Heap::over(empty))
+    }
+}
+
+impl<K: Keeper> Heap<K> {
+    /// A heap for which this answers, in which the mutator has joined.
+    pub fn over(keeper: K) -> Self
+        ensures { (answer : Told)
+            × IsEntry K.asking (record { keeper = keeper; settles = true }) (Event.Join 0) answer result }
+    {
+        let mut heap = Heap {
+            keeper,
+            settles: true,
+        };
+        let _ = heap.does(Event::Join { mutator: me() });
+        heap
     }
 
-    /// An event that gives nothing.
-    #[inline(always)]
-    pub(crate) fn does(&mut self, event: Event<u64>) -> Result<(), Refusal>
-        requires plain { is_plain event ≡ true }
-        ensures { IsDone self.old event result self.new }
+    /// What answered for it. Its handles are lost.
+    pub fn into_keeper(self) -> K
+        ensures { result ≡ self.keeper }
     {
-        let answer = self.open.answer(&event);
-        mem::forget(event);
+        self.keeper
+    }
+
+    /// Whether the handler's steps are made after each call from now on. Where they are not, `settle` makes them.
+    pub fn settle_after_calls(&mut self, settles: bool)
+        ensures kept { self.new.keeper ≡ self.old.keeper }
+        ensures set { self.new.settles ≡ settles }
+    {
+        self.settles = settles;
+    }
+
+    /// The handler's steps, until nothing is pending: what collections cleared comes to its queues, and actions to the
+    /// cleaner's line.
+    pub fn settle(&mut self)
+        ensures settled { K.asking.settling self.old.keeper self.new.keeper }
+        ensures kept { self.new.settles ≡ self.old.settles }
+    {
+        self.keeper.settle();
+    }
+
+    /// What follows a call.
+    #[inline]
+    pub(crate) fn follow(&mut self)
+        ensures { Follows K.asking self.old self.old.keeper self.new }
+    {
+        if self.settles {
+            self.keeper.settle();
+        }
+    }
+}
+
+impl<K: Keeper> Heap<K> {
+    /// An event that gives nothing.
+    #[inline]
+    pub(crate) fn does(&mut self, event: Event<K::Held>) -> Result<(), Refusal>
+        requires plain { is_plain event ≡ true }
+        ensures { IsDone K.asking self.old event result self.new }
+    {
+        let answer = self.keeper.ask(event);
+        self.follow();
         told::end(&answer)
     }
 
     /// An event that gives a handle.
-    #[inline(always)]
-    fn gives(&mut self, event: Event<u64>) -> Result<Handle, Refusal>
+    #[inline]
+    pub(crate) fn gives(&mut self, event: Event<K::Held>) -> Result<Handle, Refusal>
         requires plain { is_plain event ≡ true }
         requires kind { kind_asked (ask_of event) ≡ is_handle }
-        ensures { IsEntry self.old event (handle result) self.new }
+        ensures { IsEntry K.asking self.old event (handle result) self.new }
     {
-        let answer = self.open.answer(&event);
-        mem::forget(event);
+        let answer = self.keeper.ask(event);
+        self.follow();
         told::handle(&answer)
     }
 
-    /// An event that tells a truth.
-    #[inline(always)]
-    fn tells(&mut self, event: Event<u64>) -> Result<bool, Refusal>
-        requires plain { is_plain event ≡ true }
-        requires kind { kind_asked (ask_of event) ≡ is_truth }
-        ensures { IsEntry self.old event (truth result) self.new }
-    {
-        let answer = self.open.answer(&event);
-        mem::forget(event);
-        told::truth(&answer)
-    }
-
-    /// An event that reads an integer.
-    #[inline(always)]
-    fn reads(&mut self, event: Event<u64>) -> Result<i64, Refusal>
-        requires plain { is_plain event ≡ true }
-        requires kind { kind_asked (ask_of event) ≡ is_integer }
-        ensures { IsEntry self.old event (integer result) self.new }
-    {
-        let answer = self.open.answer(&event);
-        mem::forget(event);
-        told::integer(&answer)
-    }
-
-    /// An event that tells counts.
-    #[inline(always)]
-    fn counted(&mut self, event: Event<u64>) -> Result<Stat, Refusal>
-        requires plain { is_plain event ≡ true }
-        requires kind { kind_asked (ask_of event) ≡ is_stat }
-        ensures { IsEntry self.old event (counts result) self.new }
-    {
-        let answer = self.open.answer(&event);
-        mem::forget(event);
-        told::counts(&answer)
-    }
-
     /// An event that gives a handle, or null.
-    #[inline(always)]
-    fn gives_or_null(&mut self, event: Event<u64>) -> Result<Option<Handle>, Refusal>
+    #[inline]
+    pub(crate) fn gives_or_null(&mut self, event: Event<K::Held>) -> Result<Option<Handle>, Refusal>
         requires plain { is_plain event ≡ true }
         requires kind { kind_asked (ask_of event) ≡ is_handle }
-        ensures { IsEntry self.old event (handle_or_null result) self.new }
+        ensures { IsEntry K.asking self.old event (handle_or_null result) self.new }
     {
         let handle = self.gives(event)?;
         if handle.number() == 0 {
@@ -135,307 +135,72 @@ impl Heap {
             Ok(Some(handle))
         }
     }
-}
 
-impl Heap {
-    /// A plain object of a layout: its reference fields null, its integer fields 0.
-    pub fn object(&mut self, layout: Layout) -> Result<Handle, Refusal>
-        ensures { IsEntry self.old (Event.New 0 layout) (handle result) self.new }
+    /// An event that tells a truth.
+    #[inline]
+    pub(crate) fn tells(&mut self, event: Event<K::Held>) -> Result<bool, Refusal>
+        requires plain { is_plain event ≡ true }
+        requires kind { kind_asked (ask_of event) ≡ is_truth }
+        ensures { IsEntry K.asking self.old event (truth result) self.new }
     {
-        self.gives(Event::New {
-            mutator: me(),
-            layout,
-        })
+        let answer = self.keeper.ask(event);
+        self.follow();
+        told::truth(&answer)
     }
 
-    /// An array of references, each element null. It takes memory.
-    pub fn array(&mut self, length: Length) -> Result<Handle, Refusal>
-        ensures { IsEntry self.old (Event.Array 0 length) (handle result) self.new }
+    /// An event that reads an integer.
+    #[inline]
+    pub(crate) fn reads(&mut self, event: Event<K::Held>) -> Result<i64, Refusal>
+        requires plain { is_plain event ≡ true }
+        requires kind { kind_asked (ask_of event) ≡ is_integer }
+        ensures { IsEntry K.asking self.old event (integer result) self.new }
     {
-        self.gives(Event::Array {
-            mutator: me(),
-            length,
-        })
+        let answer = self.keeper.ask(event);
+        self.follow();
+        told::integer(&answer)
     }
 
-    /// A second handle for an object.
-    pub fn dup(&mut self, object: Handle) -> Result<Handle, Refusal>
-        ensures { IsEntry self.old (Event.Dup 0 object) (handle result) self.new }
+    /// An event that tells counts.
+    pub(crate) fn counted(&mut self, event: Event<K::Held>) -> Result<Stat, Refusal>
+        requires plain { is_plain event ≡ true }
+        requires kind { kind_asked (ask_of event) ≡ is_stat }
+        ensures { IsEntry K.asking self.old event (counts result) self.new }
     {
-        self.gives(Event::Dup {
-            mutator: me(),
-            object,
-        })
+        let answer = self.keeper.ask(event);
+        self.follow();
+        told::counts(&answer)
     }
 
-    /// A handle is dropped.
-    pub fn drop(&mut self, object: Handle) -> Result<(), Refusal>
-        ensures { IsDone self.old (Event.Drop 0 object) result self.new }
+    /// An event that lists names.
+    pub(crate) fn named(&mut self, event: Event<K::Held>) -> Result<Items<Name>, Refusal>
+        requires plain { is_plain event ≡ true }
+        requires kind { kind_asked (ask_of event) ≡ is_names }
+        ensures { IsEntry K.asking self.old event (names result) self.new }
     {
-        self.does(Event::Drop {
-            mutator: me(),
-            object,
-        })
+        let answer = self.keeper.ask(event);
+        self.follow();
+        told::names(answer)
     }
 
-    /// Whether two handles name one object.
-    pub fn same(&mut self, left: Handle, right: Handle) -> Result<bool, Refusal>
-        ensures { IsEntry self.old (Event.Same 0 left right) (truth result) self.new }
+    /// An event that lists notes.
+    pub(crate) fn noted(&mut self, event: Event<K::Held>) -> Result<Items<u32>, Refusal>
+        requires plain { is_plain event ≡ true }
+        requires kind { kind_asked (ask_of event) ≡ is_notes }
+        ensures { IsEntry K.asking self.old event (notes result) self.new }
     {
-        self.tells(Event::Same {
-            mutator: me(),
-            left,
-            right,
-        })
+        let answer = self.keeper.ask(event);
+        self.follow();
+        told::notes(answer)
     }
 
-    /// A reference field or an element is written. Null is handle 0.
-    pub fn put(&mut self, object: Handle, field: FieldNo, value: Handle) -> Result<(), Refusal>
-        ensures { IsDone self.old (Event.Put 0 object field value) result self.new }
+    /// An event that lists failures.
+    pub(crate) fn failed(&mut self, event: Event<K::Held>) -> Result<Items<Failure>, Refusal>
+        requires plain { is_plain event ≡ true }
+        requires kind { kind_asked (ask_of event) ≡ is_faults }
+        ensures { IsEntry K.asking self.old event (faults result) self.new }
     {
-        self.does(Event::Put {
-            mutator: me(),
-            object,
-            field,
-            value,
-        })
-    }
-
-    /// A reference field or an element is read.
-    pub fn get(&mut self, object: Handle, field: FieldNo) -> Result<Option<Handle>, Refusal>
-        ensures { IsEntry self.old (Event.Get 0 object field) (handle_or_null result) self.new }
-    {
-        self.gives_or_null(Event::Get {
-            mutator: me(),
-            object,
-            field,
-        })
-    }
-
-    /// An integer field is written.
-    pub fn set_int(&mut self, object: Handle, field: FieldNo, value: i64) -> Result<(), Refusal>
-        ensures { IsDone self.old (Event.SetInt 0 object field value) result self.new }
-    {
-        self.does(Event::SetInt {
-            mutator: me(),
-            object,
-            field,
-            value,
-        })
-    }
-
-    /// An integer field is read.
-    pub fn int(&mut self, object: Handle, field: FieldNo) -> Result<i64, Refusal>
-        ensures { IsEntry self.old (Event.Int 0 object field) (integer result) self.new }
-    {
-        self.reads(Event::Int {
-            mutator: me(),
-            object,
-            field,
-        })
-    }
-
-    /// A soft reference to an object, on a queue or none.
-    pub fn soft(&mut self, referent: Handle, queue: Option<Queue>) -> Result<Reference, Refusal>
-        ensures { IsEntry self.old (Event.MakeRef 0 RefKind.Soft referent (or_null queue)) (handle result) self.new }
-    {
-        match self.gives(Event::MakeRef {
-            mutator: me(),
-            kind: RefKind::Soft,
-            referent,
-            queue: null_or(queue),
-        }) {
-            Ok(handle) => Ok(Reference::of(handle)),
-            Err(by) => Err(by),
-        }
-    }
-
-    /// A weak reference to an object, on a queue or none.
-    pub fn weak(&mut self, referent: Handle, queue: Option<Queue>) -> Result<Reference, Refusal>
-        ensures { IsEntry self.old (Event.MakeRef 0 RefKind.Weak referent (or_null queue)) (handle result) self.new }
-    {
-        match self.gives(Event::MakeRef {
-            mutator: me(),
-            kind: RefKind::Weak,
-            referent,
-            queue: null_or(queue),
-        }) {
-            Ok(handle) => Ok(Reference::of(handle)),
-            Err(by) => Err(by),
-        }
-    }
-
-    /// A phantom reference to an object, on a queue or none.
-    pub fn phantom(&mut self, referent: Handle, queue: Option<Queue>) -> Result<Reference, Refusal>
-        ensures { IsEntry self.old (Event.MakeRef 0 RefKind.Phantom referent (or_null queue)) (handle result) self.new }
-    {
-        match self.gives(Event::MakeRef {
-            mutator: me(),
-            kind: RefKind::Phantom,
-            referent,
-            queue: null_or(queue),
-        }) {
-            Ok(handle) => Ok(Reference::of(handle)),
-            Err(by) => Err(by),
-        }
-    }
-
-    /// What a reference refers to; none where it is cleared, and of a phantom one always.
-    pub fn deref(&mut self, reference: Reference) -> Result<Option<Handle>, Refusal>
-        ensures { IsEntry self.old (Event.Deref 0 reference) (handle_or_null result) self.new }
-    {
-        self.gives_or_null(Event::Deref {
-            mutator: me(),
-            reference: reference.handle(),
-        })
-    }
-
-    /// Whether a reference refers to this object, or, for handle 0, to none.
-    pub fn refers(&mut self, reference: Reference, object: Handle) -> Result<bool, Refusal>
-        ensures { IsEntry self.old (Event.Refers 0 reference object) (truth result) self.new }
-    {
-        self.tells(Event::Refers {
-            mutator: me(),
-            reference: reference.handle(),
-            object,
-        })
-    }
-
-    /// A reference is cleared, and comes to no queue.
-    pub fn clear(&mut self, reference: Reference) -> Result<(), Refusal>
-        ensures { IsDone self.old (Event.Clear 0 reference) result self.new }
-    {
-        self.does(Event::Clear {
-            mutator: me(),
-            reference: reference.handle(),
-        })
-    }
-
-    /// A reference is cleared and put on its queue: whether it had one that it was never on.
-    pub fn enqueue(&mut self, reference: Reference) -> Result<bool, Refusal>
-        ensures { IsEntry self.old (Event.Enqueue 0 reference) (truth result) self.new }
-    {
-        self.tells(Event::Enqueue {
-            mutator: me(),
-            reference: reference.handle(),
-        })
-    }
-
-    /// Whether a reference is on its queue.
-    pub fn enqueued(&mut self, reference: Reference) -> Result<bool, Refusal>
-        ensures { IsEntry self.old (Event.Enqueued 0 reference) (truth result) self.new }
-    {
-        self.tells(Event::Enqueued {
-            mutator: me(),
-            reference: reference.handle(),
-        })
-    }
-
-    /// A queue.
-    pub fn queue(&mut self) -> Result<Queue, Refusal>
-        ensures { IsEntry self.old (Event.MakeQueue 0) (handle result) self.new }
-    {
-        match self.gives(Event::MakeQueue { mutator: me() }) {
-            Ok(handle) => Ok(Queue::of(handle)),
-            Err(by) => Err(by),
-        }
-    }
-
-    /// The oldest member is taken off a queue, if there is one.
-    pub fn poll(&mut self, queue: Queue) -> Result<Option<Handle>, Refusal>
-        ensures { IsEntry self.old (Event.Poll 0 queue) (handle_or_null result) self.new }
-    {
-        self.gives_or_null(Event::Poll {
-            mutator: me(),
-            queue: queue.handle(),
-        })
-    }
-
-    /// A cleaner.
-    pub fn cleaner(&mut self) -> Result<Cleaner, Refusal>
-        ensures { IsEntry self.old (Event.MakeCleaner 0) (handle result) self.new }
-    {
-        match self.gives(Event::MakeCleaner { mutator: me() }) {
-            Ok(handle) => Ok(Cleaner::of(handle)),
-            Err(by) => Err(by),
-        }
-    }
-
-    /// An action that is known by a note is registered on an object.
-    pub fn register(
-        &mut self,
-        cleaner: Cleaner,
-        object: Handle,
-        note: u32,
-    ) -> Result<Cleanable, Refusal>
-        ensures { IsEntry self.old (Event.Register 0 cleaner object note) (handle result) self.new }
-    {
-        match self.gives(Event::Register {
-            mutator: me(),
-            cleaner: cleaner.handle(),
-            object,
-            note,
-        }) {
-            Ok(handle) => Ok(Cleanable::of(handle)),
-            Err(by) => Err(by),
-        }
-    }
-
-    /// A full collection, which keeps soft references by their age.
-    pub fn gc(&mut self) -> Result<(), Refusal>
-        ensures { IsDone self.old (Event.Full 0 FullMode.Policy) result self.new }
-    {
-        self.does(Event::Full {
-            mutator: me(),
-            mode: FullMode::Policy,
-        })
-    }
-
-    /// A full collection that clears all soft references that it may.
-    pub fn gc_soft(&mut self) -> Result<(), Refusal>
-        ensures { IsDone self.old (Event.Full 0 FullMode.ClearAll) result self.new }
-    {
-        self.does(Event::Full {
-            mutator: me(),
-            mode: FullMode::ClearAll,
-        })
-    }
-
-    /// A name is bound to an object.
-    pub fn bind(&mut self, name: Name, object: Handle) -> Result<(), Refusal>
-        ensures { IsDone self.old (Event.Bind 0 name object) result self.new }
-    {
-        self.does(Event::Bind {
-            mutator: me(),
-            name,
-            object,
-        })
-    }
-
-    /// A handle for what a name stands for.
-    pub fn find(&mut self, name: Name) -> Result<Handle, Refusal>
-        ensures { IsEntry self.old (Event.Find 0 name) (handle result) self.new }
-    {
-        self.gives(Event::Find {
-            mutator: me(),
-            name,
-        })
-    }
-
-    /// A name is given up.
-    pub fn unbind(&mut self, name: Name) -> Result<(), Refusal>
-        ensures { IsDone self.old (Event.Unbind 0 name) result self.new }
-    {
-        self.does(Event::Unbind {
-            mutator: me(),
-            name,
-        })
-    }
-
-    /// Counts.
-    pub fn stat(&mut self) -> Result<Stat, Refusal>
-        ensures { IsEntry self.old (Event.Stat 0) (counts result) self.new }
-    {
-        self.counted(Event::Stat { mutator: me() })
+        let answer = self.keeper.ask(event);
+        self.follow();
+        told::faults(answer)
     }
 }

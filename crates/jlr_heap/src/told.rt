@@ -1,9 +1,13 @@
 //! What an answer tells.
 ghost use Rattle.std.specs.Prelude.{◌≡◌, true};
-ghost use Rattle.jlr_embed.specs.Kinds.{is_handle, is_integer, is_stat, is_told, is_truth};
-ghost use Rattle.jlr_heap.specs.Entries.{counts, handle, integer, truth, Ends};
+ghost use Rattle.jlr_embed.specs.Kinds.{is_faults, is_handle, is_integer, is_names, is_notes, is_stat, is_told};
+ghost use Rattle.jlr_embed.specs.Kinds.{is_truth};
+ghost use Rattle.jlr_heap.specs.Entries.{counts, faults, handle, integer, names, notes, truth, Ends};
 
 use jlr_machine::ask::{Answer, Stat};
+use jlr_machine::items::Items;
+use jlr_machine::machine::Failure;
+use jlr_machine::text::Name;
 use jlr_types::{Handle, Refusal};
 
 /// Nothing but how it ended.
@@ -65,6 +69,42 @@ pub(crate) fn counts(answer: &Answer) -> Result<Stat, Refusal>
     match answer {
         Answer::Stat(told) => Ok(*told),
         Answer::Refused(by) => Err(*by),
+        _ => unreachable!(),
+    }
+}
+
+/// Names.
+pub(crate) fn names(answer: Answer) -> Result<Items<Name>, Refusal>
+    requires { is_told is_names answer ≡ true }
+    ensures { names result ≡ answer }
+{
+    match answer {
+        Answer::Names(told) => Ok(told),
+        Answer::Refused(by) => Err(by),
+        _ => unreachable!(),
+    }
+}
+
+/// Notes.
+pub(crate) fn notes(answer: Answer) -> Result<Items<u32>, Refusal>
+    requires { is_told is_notes answer ≡ true }
+    ensures { notes result ≡ answer }
+{
+    match answer {
+        Answer::Notes(told) => Ok(told),
+        Answer::Refused(by) => Err(by),
+        _ => unreachable!(),
+    }
+}
+
+/// Failures.
+pub(crate) fn faults(answer: Answer) -> Result<Items<Failure>, Refusal>
+    requires { is_told is_faults answer ≡ true }
+    ensures { faults result ≡ answer }
+{
+    match answer {
+        Answer::Faults(told) => Ok(told),
+        Answer::Refused(by) => Err(by),
         _ => unreachable!(),
     }
 }

@@ -1,0 +1,11 @@
+use Rattle.std.proofs.Common.{rules, ◌≡◌, refl}
+use Rattle.jlr_machine.specs.declared.ask.CallOutcome.TheVariants.{Failed}
+use Rattle.jlr_session.specs.Calls.{read_outcome}
+use Rattle.jlr_session.proofs.Calling.{reads}
+use Rattle.jlr_heap.proofs.commands.read_of.Goals as goal
+
+pub returns-in-Err : goal.returns-in-Err
+returns-in-Err g c =
+    let e = c.guarded_read.ensures in
+    let is : Failed c.in-Err.fault ≡ read_outcome c.guarded_read.result c.guarded_read.new.buf = rw c.in-Err.is refl in
+    reads g.R.Resource.handling c.args.count _ _ c.guarded_read.result _ c.guarded_read.new.buf _ (search rules) e.either e.counted e.told e.uncalled e.bound is

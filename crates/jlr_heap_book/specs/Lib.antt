@@ -1,0 +1,2 @@
+-- What a heap with a history is.
+pub mod Recording
