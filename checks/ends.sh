@@ -6,6 +6,12 @@ here=$(cd "$(dirname "$0")" && pwd)
 program=${1:-$here/../crates/refheap/out/refheap}
 failed=0
 
+# The second lines, with reasons.
+in_use='refheap: it is in use: remove it if no server runs there, or name another path'
+missing='refheap: there is no such file or folder: check the path'
+too_long='refheap: the name is too long: a socket'"'"'s path has at most 107 bytes'
+no_thread='refheap: no thread can be started: raise the limit of processes'
+
 # ends NAME STATUS LINE: a case, the status that is due, and the line that is due on the standard error. The case is read from the
 # file that `try` wrote.
 check() {
@@ -106,21 +112,21 @@ check "a server whose output is full" 1 "refheap: write failed" $?
 gone "a server whose output is full"
 echo "mine" >"$folder/file"
 "$program" serve --socket "$folder/file" --total 1 2>"$errors"
-check "a server where a file is" 1 "refheap: cannot listen on $folder/file" $?
+check "a server where a file is" 1 "refheap: cannot listen on $folder/file"$'\n'"$in_use" $?
 if [ "$(cat "$folder/file")" != "mine" ]; then
     echo "WRONG   a server where a file is: the file is not left alone"
     failed=1
 fi
 "$program" serve --socket "$folder/none/socket" --total 1 2>"$errors"
-check "a server where no folder is" 1 "refheap: cannot listen on $folder/none/socket" $?
+check "a server where no folder is" 1 "refheap: cannot listen on $folder/none/socket"$'\n'"$missing" $?
 long=$folder/$(printf 'x%.0s' {1..200})
 "$program" serve --socket "$long" --total 1 2>"$errors"
-check "a server at a path that is too long" 1 "refheap: cannot listen on $long" $?
+check "a server at a path that is too long" 1 "refheap: cannot listen on $long"$'\n'"$too_long" $?
 (
     ulimit -v 200000
     exec "$program" serve --socket "$socket" --total 1 --sessions 64 2>"$errors"
 )
-check "a server whose threads cannot be started" 1 "refheap: cannot listen on $socket" $?
+check "a server whose threads cannot be started" 1 "refheap: cannot listen on $socket"$'\n'"$no_thread" $?
 gone "a server whose threads cannot be started"
 for words in "--total 1" "--socket $socket" "--socket $socket --total 0" "--socket $socket --total 1000001" "--socket $socket --total 01" \
     "--socket $socket --total 1 --sessions 0" "--socket $socket --total 1 --sessions 65" "--socket $socket --total 1 --cells 15" "--help"; do

@@ -21,6 +21,15 @@ NOBODY = 65_534
 NO_MEMORY = (5, b"refheap: no memory\n")
 
 
+# The second lines of faults, with reasons.
+DENIED = b"refheap: permission is denied: check the rights of the file and of its folder\n"
+NO_ROOM = b"refheap: no room is left: make room, or name another place\n"
+IN_USE = b"refheap: it is in use: remove it if no server runs there, or name another path\n"
+TOO_LONG = b"refheap: the name is too long: a socket's path has at most 107 bytes\n"
+FOLDER = b"refheap: it is a folder: name a file\n"
+MISSING = b"refheap: there is no such file or folder: check the path\n"
+
+
 class Checks(lines.Checks):
     def __init__(self, program):
         super().__init__(program)
@@ -72,7 +81,11 @@ def files(checks):
 
 def pipes(checks):
     os.mkfifo(checks.path("fifo"))
+    checks.session("a FIFO whose other end nobody has, one end after the other", [
+        ("open r fifo", "= 1"), ("read 1 3", "end"), ("open w fifo", "= 2"), ("write 2 61", "wrote 1"), ("read 1 3", "data 61"), ("close 1", "fault other"),
+        ("write 2 61", "fault other")])
     writer = subprocess.Popen(["sh", "-c", f"printf abc > {checks.path('fifo')}"])
+    time.sleep(0.3)  # by then it waits for a reader: an open that finds no writer does not wait for one
     checks.session("a FIFO whose writer goes", [
         ("open r fifo", "= 1"), ("read 1 3", "data 616263"), ("read 1 3", "end"), ("close 1", "fault other")])
     writer.wait()
@@ -109,9 +122,9 @@ def rights(checks):
     checks.session("a file and a folder without rights", [
         ("open r closed", "fault denied"), ("open w closed", "fault denied"), ("open w locked/file", "fault denied"), ("connect locked/peer", "fault denied")],
         as_nobody)
-    wanted = (1, b"", f"refheap: cannot listen on {checks.path('locked')}/s\n".encode())
+    wanted = (1, b"", f"refheap: cannot listen on {checks.path('locked')}/s\n".encode() + DENIED)
     checks.said("a server in a folder without rights", checks.run(["serve", "--socket", checks.path("locked") + "/s", "--total", "1"], "", as_nobody), wanted)
-    wanted = (1, b"", b"refheap: cannot read closed\n")
+    wanted = (1, b"", b"refheap: cannot read closed\n" + DENIED)
     checks.said("the audit of a file without rights", checks.run(["audit", "closed"], "", as_nobody), wanted)
 
 
@@ -131,7 +144,7 @@ def full_disk(checks):
                     (status, said, took == size, replies[1], "fault other" in replies), (0, b"", True, "wrote 200", True))
         saved = checks.run(["run", "--save", "small/history"], "new -\n" * 400)
         checks.said("a history that finds no place", (saved[0], saved[2], os.listdir(checks.path("small"))),
-                    (1, b"refheap: cannot save small/history\n", ["file"]))
+                    (1, b"refheap: cannot save small/history\n" + NO_ROOM, ["file"]))
     finally:
         subprocess.run(["umount", checks.path("small")], check=True)
 
@@ -142,16 +155,16 @@ def servers(checks):
         make(path)
         got = checks.run(["serve", "--socket", path, "--total", "1"])
         checks.said(f"a server at a path that is {name}, which is left", (got, os.path.lexists(path)),
-                    ((1, b"", f"refheap: cannot listen on {path}\n".encode()), True))
+                    ((1, b"", f"refheap: cannot listen on {path}\n".encode() + IN_USE), True))
         os.rmdir(path) if os.path.isdir(path) else os.unlink(path)
     far = checks.path("n" * 120)
     checks.said("a server at a path that is too long", checks.run(["serve", "--socket", far, "--total", "1"])[::2],
-                (1, f"refheap: cannot listen on {far}\n".encode()))
+                (1, f"refheap: cannot listen on {far}\n".encode() + TOO_LONG))
 
 
 def audits(checks):
-    checks.said("the audit of a directory", checks.run(["audit", "inner"]), (1, b"", b"refheap: cannot read inner\n"))
-    checks.said("the audit of what is not there", checks.run(["audit", "none"]), (1, b"", b"refheap: cannot read none\n"))
+    checks.said("the audit of a directory", checks.run(["audit", "inner"]), (1, b"", b"refheap: cannot read inner\n" + FOLDER))
+    checks.said("the audit of what is not there", checks.run(["audit", "none"]), (1, b"", b"refheap: cannot read none\n" + MISSING))
     checks.said("the audit of an empty device", checks.run(["audit", "/dev/null"]), (4, b"", b"refheap: trace truncated\n"))
     checks.run(["run", "--cells", "16", "--save", "history"], "new -\n")
     writer = subprocess.Popen(["sh", "-c", f"cat {checks.path('history')} > {checks.path('fifo')}"])

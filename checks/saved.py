@@ -254,16 +254,25 @@ def is_saved(program, folder, name):
     return audit(program, name, folder)[:2] == (0, "legal 3 version 2\n")
 
 
+# The second lines, with reasons.
+MISSING = "refheap: there is no such file or folder: check the path\n"
+FOLDER = "refheap: it is a folder: name a file\n"
+NO_ROOM = "refheap: no room is left: make room, or name another place\n"
+NO_NAME = "refheap: all names from .new0 to .new99 beside it are taken: remove them\n"
+DENIED = "refheap: permission is denied: check the rights of the file and of its folder\n"
+
+
 def try_places(program):
     """Saves that have to fail, and saves over what stands there. Each session has one command."""
     save = lambda folder, path: run(program, ["run", "--cells", "16", "--save", path], "new -\n", folder)
     with tempfile.TemporaryDirectory() as folder:
         there = lambda name: os.path.join(folder, name)
         os.mkdir(there("directory"))
-        for path in ["directory", "none/saved", "/dev/full", "/proc/saved", ""]:
-            wants(f"no save to '{path}'", save(folder, path), (1, "= 1\n", f"refheap: cannot save {path}\n"))
+        for path, why in [("directory", FOLDER), ("none/saved", MISSING), ("/proc/saved", MISSING), ("", MISSING)]:
+            wants(f"no save to '{path}', which is told at the start", save(folder, path), (1, "", f"refheap: cannot save {path}\n{why}"))
+        wants("no save to a full device", save(folder, "/dev/full"), (1, "= 1\n", f"refheap: cannot save /dev/full\n{NO_ROOM}"))
         os.symlink("nowhere", there("dangling"))
-        wants("no save to a link that leads nowhere", save(folder, "dangling"), (1, "= 1\n", "refheap: cannot save dangling\n"))
+        wants("no save to a link that leads nowhere", save(folder, "dangling"), (1, "", f"refheap: cannot save dangling\n{MISSING}"))
         wants("a save to nowhere", save(folder, "/dev/null"), (0, "= 1\n", ""))
         wants("nowhere stays what it is", stat.S_ISCHR(os.stat("/dev/null").st_mode), True)
 
@@ -284,7 +293,7 @@ def try_places(program):
             file.write(b"kept")
         for number in range(100):
             os.link(there("other"), there(f"busy.new{number}"))
-        wants("no save where all names for a new file are taken", save(folder, "busy"), (1, "= 1\n", "refheap: cannot save busy\n"))
+        wants("no save where all names for a new file are taken", save(folder, "busy"), (1, "", f"refheap: cannot save busy\n{NO_NAME}"))
         wants("what has those names stays", open(there("other"), "rb").read(), b"kept")
         for number in range(100):
             os.remove(there(f"busy.new{number}"))
@@ -293,7 +302,7 @@ def try_places(program):
         wants("and is legal", audit(program, "failed", folder)[:2], (0, "legal 2 version 2\n"))
         if os.geteuid() != 0:
             os.chmod(folder, 0o500)
-            wants("no save in a folder that is only read", save(folder, "saved"), (1, "= 1\n", "refheap: cannot save saved\n"))
+            wants("no save in a folder that is only read", save(folder, "saved"), (1, "", f"refheap: cannot save saved\n{DENIED}"))
             os.chmod(folder, 0o700)
 
 
@@ -330,8 +339,8 @@ def try_servers(program):
             entries = out.split()[-1] if out else ""
             wants(f"a server {words} ends well", (status, out, said), (0, f"served 2\nentries {entries}\n", ""))
             wants("its history is saved and legal", audit(program, "saved", folder), (0, f"legal {entries} version 2\n", ""))
-        status, out, said = serve(program, folder, ["--save", "none/saved"])
-        wants("a server that cannot save says so", (status, out.startswith("served 2\n"), said), (1, True, "refheap: cannot save none/saved\n"))
+        wants("a server that cannot save does not begin", run(program, ["serve", "--socket", "socket", "--total", "2", "--save", "none/saved"], "", folder),
+              (1, "", f"refheap: cannot save none/saved\n{MISSING}"))
 
 
 def main():

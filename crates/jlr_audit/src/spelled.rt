@@ -47,6 +47,7 @@ pub fn spelled_front<W: Watch>(
     let mut machine = machine;
     let mut entries = trace.entries();
     let count = trace.count();
+    watch.counts(count);
     for number in 0..count {
         watch.told(number as usize);
         // For the prover: dropped by a call, so that no return path proves the drop of each of its parts.
@@ -58,11 +59,13 @@ pub fn spelled_front<W: Watch>(
             drop(machine);
             return Ok(number);
         };
+        watch.sees(&machine, &entry);
         match advanced(alloc, machine, entry)? {
             Some(next) => machine = next,
             None => return Ok(number),
         }
     }
+    watch.leaves(&machine);
     drop(machine);
     Ok(count)
 }

@@ -1,7 +1,7 @@
 -- The exit statuses.
 use Rattle.std.specs.Prelude.{ℕ}
 use Rattle.jlr_command_line.specs.declared.fault.ProgramFault.{ProgramFault}
-use Rattle.jlr_command_line.specs.declared.fault.ProgramFault.TheVariants.{Read, Write, CommandLine, Unfinished, TooManyLines, CannotRead, CannotSave, CannotListen, Disagree, Illegal, TraceTruncated, BadMark, BadVersion, BadEntry, NotJoined, NoMemory}
+use Rattle.jlr_command_line.specs.declared.fault.ProgramFault.TheVariants.{Read, Write, CommandLine, Unfinished, TooManyLines, CannotRead, CannotSave, CannotListen, CannotConnect, NotEnded, Disagree, Illegal, TraceTruncated, BadMark, BadVersion, BadEntry, NotJoined, NoMemory}
 
 -- the status that the program ends with
 abbrev pub status_of : ProgramFault → ℕ
@@ -13,6 +13,8 @@ status_of TooManyLines = 4
 status_of (CannotRead path) = 1
 status_of (CannotSave path) = 1
 status_of (CannotListen path) = 1
+status_of (CannotConnect path) = 1
+status_of NotEnded = 1
 status_of (Disagree seat) = 3
 status_of Illegal = 3
 status_of TraceTruncated = 4

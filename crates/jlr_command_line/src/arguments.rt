@@ -5,8 +5,8 @@ ghost use Rattle.jlr_types.specs.Ranges.{first_fault};
 ghost use Rattle.jlr_command_line.specs.Status.{status_of};
 
 use crate::commands::{
-    DEFAULT_BUDGET, DEFAULT_CELLS, DEFAULT_RESOURCES, DEFAULT_SESSIONS, DEFAULT_SOFT_AGE,
-    DEFAULT_TRACE, command,
+    DEFAULT_BUDGET, DEFAULT_CELLS, DEFAULT_CONTROL_MODE, DEFAULT_RESOURCES, DEFAULT_SESSIONS,
+    DEFAULT_SOFT_AGE, DEFAULT_TRACE, command,
 };
 use crate::fault::ProgramFault;
 use clap::error::ErrorKind;
@@ -20,15 +20,34 @@ use std::{env, io};
 pub enum Order<'a> {
     Run(RunOrder<'a>),
     Serve(Service<'a>),
+    Stop(StopOrder<'a>),
     Audit(AuditOrder<'a>),
+    Stats(StatsOrder<'a>),
+    /// A session with a server at this path.
+    Client(&'a str),
+    /// The manual: of one word, or of all.
+    Commands(Option<&'a str>),
+    Version,
 }
 
 /// What a `run` is to do: one session.
 #[derive(Clone, Copy)]
 pub struct RunOrder<'a> {
     pub limits: Limits,
+    /// What the session may open.
+    pub reach: Reach<'a>,
     /// Where the history is saved at the end, if it is.
     pub save: Option<&'a str>,
+}
+
+/// Which files and sockets the sessions may open.
+#[derive(Clone, Copy, PartialEq, Eq, Debug)]
+pub enum Reach<'a> {
+    /// All that the program's user may open.
+    Everything,
+    /// Those below this folder.
+    Below(&'a str),
+    Nothing,
 }
 
 /// What a `serve` is to do.
@@ -36,11 +55,26 @@ pub struct RunOrder<'a> {
 pub struct Service<'a> {
     /// Where it listens.
     pub socket: &'a str,
+    /// The rights of that file, where they are not to be those of the umask.
+    pub mode: Option<u32>,
+    /// Where it listens for who asks it to end, if it does.
+    pub control: Option<&'a str>,
+    /// The rights of that file.
+    pub control_mode: u32,
+    /// What its clients may open.
+    pub reach: Reach<'a>,
     /// How many clients it accepts, from 1 to 1,000,000.
     pub total: u32,
     pub limits: Limits,
     /// Where the history is saved at the end, if it is.
     pub save: Option<&'a str>,
+}
+
+/// What a `stop` is to do.
+#[derive(Clone, Copy)]
+pub struct StopOrder<'a> {
+    /// Where the server listens for who asks it to end.
+    pub control: &'a str,
 }
 
 /// What an `audit` is to do.
@@ -49,6 +83,16 @@ pub struct AuditOrder<'a> {
     pub file: &'a str,
     /// Whether it says why a history is not legal, and how far it is with a long one.
     pub explain: bool,
+    /// Whether the verdict is written as JSON.
+    pub json: bool,
+}
+
+/// What a `stats` is to do.
+#[derive(Clone, Copy)]
+pub struct StatsOrder<'a> {
+    pub file: &'a str,
+    /// Whether it writes JSON, and no table.
+    pub json: bool,
 }
 
 /// The words that the program was called with, its own name first. A word that is no text is a bad
@@ -82,11 +126,42 @@ pub fn order_of<'a>(alloc: Global, words: &'a [String]) -> Result<Order<'a>, Pro
     if let Some(serve) = matches.subcommand_matches("serve") {
         return Ok(Order::Serve(service_of(alloc, serve)?));
     }
+    if let Some(stop) = matches.subcommand_matches("stop") {
+        return Ok(Order::Stop(stop_of(alloc, stop)?));
+    }
     if let Some(audit) = matches.subcommand_matches("audit") {
         return Ok(Order::Audit(audit_of(alloc, audit)?));
     }
+    if let Some(order) = telling_of(alloc, &matches)? {
+        return Ok(order);
+    }
     let run = run_of(alloc, matches.subcommand_matches("run"))?;
     Ok(Order::Run(run))
+}
+
+/// What is asked for beside sessions, servers and audits.
+fn telling_of<'a>(
+    alloc: Global,
+    matches: &ArgMatches<'a>,
+) -> Result<Option<Order<'a>>, ProgramFault>
+    ensures { IfErr result (λ fault. (status_of fault ≡ 2) ⊎ (status_of fault ≡ 5)) }
+{
+    if let Some(stats) = matches.subcommand_matches("stats") {
+        return Ok(Some(Order::Stats(stats_of(alloc, stats)?)));
+    }
+    if let Some(client) = matches.subcommand_matches("client") {
+        let Some(path) = client.get_str("path") else {
+            return Err(refused(alloc, "a socket has to be named"));
+        };
+        return Ok(Some(Order::Client(path)));
+    }
+    if let Some(commands) = matches.subcommand_matches("commands") {
+        return Ok(Some(Order::Commands(commands.get_str("name"))));
+    }
+    if matches.subcommand_matches("version").is_some() {
+        return Ok(Some(Order::Version));
+    }
+    Ok(None)
 }
 
 /// What the words match.
@@ -114,12 +189,53 @@ fn service_of<'a>(alloc: Global, serve: &ArgMatches<'a>) -> Result<Service<'a>, 
     let budget = number(Some(serve), "budget").unwrap_or(DEFAULT_BUDGET);
     let limits = checked(alloc, asked, sessions, budget)?;
     let total = number(Some(serve), "total").unwrap_or(1);
+    let mode = mode_of(alloc, serve, "mode")?;
+    let control_mode = mode_of(alloc, serve, "control-mode")?.unwrap_or(DEFAULT_CONTROL_MODE);
     Ok(Service {
         socket,
+        mode,
+        control: serve.get_str("control"),
+        control_mode,
+        reach: reach_of(Some(serve)),
         total,
         limits,
         save: serve.get_str("save"),
     })
+}
+
+/// The rights that an option gives a file, if it is there.
+fn mode_of(alloc: Global, serve: &ArgMatches<'_>, option: &str) -> Result<Option<u32>, ProgramFault>
+    ensures { IfErr result (λ fault. (status_of fault ≡ 2) ⊎ (status_of fault ≡ 5)) }
+{
+    match serve.get_str(option) {
+        None => Ok(None),
+        Some("600") => Ok(Some(0o600)),
+        Some("660") => Ok(Some(0o660)),
+        Some("666") => Ok(Some(0o666)),
+        Some(_) => Err(refused(alloc, "the rights of a socket are 600, 660 or 666")),
+    }
+}
+
+/// What sessions may open.
+fn reach_of<'a>(given: Option<&ArgMatches<'a>>) -> Reach<'a> {
+    match given {
+        Some(given) if given.get_flag("no-files") => Reach::Nothing,
+        Some(given) => match given.get_str("files") {
+            Some(folder) => Reach::Below(folder),
+            None => Reach::Everything,
+        },
+        None => Reach::Everything,
+    }
+}
+
+/// What a `stop` asks for.
+fn stop_of<'a>(alloc: Global, stop: &ArgMatches<'a>) -> Result<StopOrder<'a>, ProgramFault>
+    ensures { IfErr result (λ fault. (status_of fault ≡ 2) ⊎ (status_of fault ≡ 5)) }
+{
+    let Some(control) = stop.get_str("control") else {
+        return Err(refused(alloc, "a socket of control has to be named"));
+    };
+    Ok(StopOrder { control })
 }
 
 /// What an `audit` asks for.
@@ -130,7 +246,30 @@ fn audit_of<'a>(alloc: Global, audit: &ArgMatches<'a>) -> Result<AuditOrder<'a>,
         return Err(refused(alloc, "a file has to be named"));
     };
     let explain = audit.get_flag("explain");
-    Ok(AuditOrder { file, explain })
+    let json = audit.get_flag("json");
+    Ok(AuditOrder {
+        file,
+        explain,
+        json,
+    })
+}
+
+/// What a `stats` asks for.
+fn stats_of<'a>(alloc: Global, stats: &ArgMatches<'a>) -> Result<StatsOrder<'a>, ProgramFault>
+    ensures { IfErr result (λ fault. (status_of fault ≡ 2) ⊎ (status_of fault ≡ 5)) }
+{
+    let Some(file) = stats.get_str("file") else {
+        return Err(refused(alloc, "a file has to be named"));
+    };
+    let json = stats.get_flag("json");
+    Ok(StatsOrder { file, json })
+}
+
+/// That a word names no command of the line protocol, or that memory for saying so ran out.
+pub fn no_command(alloc: Global) -> ProgramFault
+    ensures { (status_of result ≡ 2) ⊎ (status_of result ≡ 5) }
+{
+    refused(alloc, "there is no such command of the line protocol")
 }
 
 /// What a `run` asks for: the limits that its words give, and the rest as it is usually.
@@ -141,7 +280,11 @@ fn run_of<'a>(alloc: Global, run: Option<&ArgMatches<'a>>) -> Result<RunOrder<'a
     let asked = numbers_asked(alloc, run)?;
     let limits = checked(alloc, asked, 1, DEFAULT_BUDGET)?;
     let save = run.and_then(|run| run.get_str("save"));
-    Ok(RunOrder { limits, save })
+    Ok(RunOrder {
+        limits,
+        reach: reach_of(run),
+        save,
+    })
 }
 
 /// The numbers that the words of a `run` or a `serve` ask for.

@@ -2,6 +2,7 @@
 ghost use Rattle.std.specs.Prelude.{◌≡◌};
 ghost use Rattle.jlr_command_line.specs.Status.{status_of};
 
+use crate::reason::{Place, Reason};
 use std::alloc::AllocError;
 use thiserror::Error;
 
@@ -20,11 +21,16 @@ pub enum ProgramFault {
     #[error("too many lines")]
     TooManyLines,
     #[error("cannot read {0}")]
-    CannotRead(String),
+    CannotRead(Place),
     #[error("cannot save {0}")]
-    CannotSave(String),
+    CannotSave(Place),
     #[error("cannot listen on {0}")]
-    CannotListen(String),
+    CannotListen(Place),
+    #[error("cannot connect to {0}")]
+    CannotConnect(Place),
+    /// A server that was asked to end did not save its history, or was cut off before it had ended.
+    #[error("the server did not end in order")]
+    NotEnded,
     /// A seat of a server does not agree with the history.
     #[error("seat {0} disagrees")]
     Disagree(u8),
@@ -53,13 +59,25 @@ impl ProgramFault {
         match self {
             ProgramFault::Read | ProgramFault::Write => 1,
             ProgramFault::CannotRead(_) | ProgramFault::CannotSave(_) => 1,
-            ProgramFault::CannotListen(_) => 1,
+            ProgramFault::CannotListen(_) | ProgramFault::CannotConnect(_) => 1,
+            ProgramFault::NotEnded => 1,
             ProgramFault::CommandLine(_) => 2,
             ProgramFault::Illegal | ProgramFault::Disagree(_) => 3,
             ProgramFault::Unfinished | ProgramFault::TooManyLines => 4,
             ProgramFault::TraceTruncated | ProgramFault::BadMark => 4,
             ProgramFault::BadVersion | ProgramFault::BadEntry(_) => 4,
             ProgramFault::NoMemory(_) | ProgramFault::NotJoined => 5,
+        }
+    }
+
+    /// Why a file or a socket could not be used, where that ends the program.
+    pub fn reason(&self) -> Option<Reason> {
+        match self {
+            ProgramFault::CannotRead(place)
+            | ProgramFault::CannotSave(place)
+            | ProgramFault::CannotListen(place)
+            | ProgramFault::CannotConnect(place) => Some(place.reason),
+            _ => None,
         }
     }
 }

@@ -4,4 +4,5 @@
 pub mod arguments;
 mod commands;
 pub mod fault;
+pub mod reason;
 pub mod report;

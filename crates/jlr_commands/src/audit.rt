@@ -10,6 +10,7 @@ use jlr_audit::verdict::Verdict;
 use jlr_audit::watch::Watch;
 use jlr_command_line::arguments::AuditOrder;
 use jlr_command_line::fault::ProgramFault;
+use jlr_command_line::reason::{Place, Reason};
 use jlr_explain::spelled::explained;
 use jlr_fields::version::Version;
 use jlr_trace::file::TraceFault;
@@ -27,7 +28,7 @@ pub struct Judged {
 }
 
 /// Why a file that is no trace file ends the program.
-fn damage_of(fault: TraceFault) -> ProgramFault
+pub(crate) fn damage_of(fault: TraceFault) -> ProgramFault
     ensures { result ≡ damage fault }
 {
     match fault {
@@ -76,21 +77,20 @@ pub fn verdict_of<W: Watch>(
 }
 
 /// What a file contains.
-fn contents(rt: &HostRuntime, path: &str) -> Result<Vec<u8>, ProgramFault> {
+pub(crate) fn contents(rt: &HostRuntime, path: &str) -> Result<Vec<u8>, ProgramFault> {
     match fs::read(rt, path) {
         Ok(bytes) => Ok(bytes),
         Err(error) if error.kind() == io::ErrorKind::OutOfMemory => {
             Err(ProgramFault::NoMemory(AllocError))
         }
-        Err(_) => Err(unread(rt.alloc(), path)),
+        Err(error) => Err(unread(rt.alloc(), path, Reason::of(error.kind()))),
     }
 }
 
 /// That a file cannot be read, or that memory for saying so ran out.
-fn unread(alloc: Global, path: &str) -> ProgramFault {
-    let mut name = String::new(alloc);
-    match name.push_str(path) {
-        Ok(()) => ProgramFault::CannotRead(name),
+fn unread(alloc: Global, path: &str, reason: Reason) -> ProgramFault {
+    match Place::new(alloc, path, reason) {
+        Ok(place) => ProgramFault::CannotRead(place),
         Err(fault) => ProgramFault::NoMemory(fault),
     }
 }
@@ -136,12 +136,45 @@ fn why_illegal(alloc: Global, bytes: &[u8]) -> Result<Option<String>, ProgramFau
     }
 }
 
+/// Why a history is not legal, where that is asked for and it is not.
+fn explanation(
+    alloc: Global,
+    asked: AuditOrder<'_>,
+    judged: Judged,
+    bytes: &[u8],
+) -> Result<Option<String>, ProgramFault> {
+    if asked.explain && judged.verdict != Verdict::Legal {
+        return why_illegal(alloc, bytes);
+    }
+    Ok(None)
+}
+
 /// Writes why a history is not legal, as one line.
-fn explain(alloc: Global, writer: &mut impl Write, bytes: &[u8]) -> Result<(), ProgramFault> {
-    let Some(why) = why_illegal(alloc, bytes)? else {
-        return Ok(());
-    };
+fn explain(alloc: Global, writer: &mut impl Write, why: &str) -> Result<(), ProgramFault> {
     let line = format!(in alloc; "{why}\n")?;
+    if writer.write_all(line.as_bytes()).is_err() || writer.flush().is_err() {
+        return Err(ProgramFault::Write);
+    }
+    Ok(())
+}
+
+/// Writes the verdict, the version of the file and why it is not legal, as JSON in one line. No sentence has a character that JSON escapes.
+fn tell_json(
+    alloc: Global,
+    writer: &mut impl Write,
+    judged: Judged,
+    why: &str,
+) -> Result<(), ProgramFault> {
+    let entries = judged.entries;
+    let version = version_number(judged.version);
+    let line = match judged.verdict {
+        Verdict::Legal => {
+            format!(in alloc; "{{\"legal\":true,\"entries\":{entries},\"version\":{version}}}\n")?
+        }
+        Verdict::Illegal(number) => format!(in alloc;
+            "{{\"legal\":false,\"entry\":{number},\"entries\":{entries},\"version\":{version},\"why\":\"{why}\"}}\n"
+        )?,
+    };
     if writer.write_all(line.as_bytes()).is_err() || writer.flush().is_err() {
         return Err(ProgramFault::Write);
     }
@@ -158,11 +191,22 @@ pub fn audit(
     writer: &mut impl Write,
 ) -> Result<(), ProgramFault> {
     let bytes = contents(rt, asked.file)?;
-    let mut progress = Progress::new(*rt, asked.explain);
-    let judged = verdict_of(rt.alloc(), bytes.as_slice(), &mut progress)?;
-    tell(rt.alloc(), writer, judged)?;
-    if asked.explain && judged.verdict != Verdict::Legal {
-        explain(rt.alloc(), writer, bytes.as_slice())?;
+    let alloc = rt.alloc();
+    let mut progress = Progress::new(*rt);
+    let judged = verdict_of(alloc, bytes.as_slice(), &mut progress)?;
+    if asked.json {
+        let why = explanation(alloc, asked, judged, bytes.as_slice())?;
+        tell_json(
+            alloc,
+            writer,
+            judged,
+            why.as_ref().map_or("", |why| why.as_str()),
+        )?;
+        return outcome_of(judged.verdict);
+    }
+    tell(alloc, writer, judged)?;
+    if let Some(why) = explanation(alloc, asked, judged, bytes.as_slice())? {
+        explain(alloc, writer, why.as_str())?;
     }
     outcome_of(judged.verdict)
 }

@@ -9,6 +9,7 @@ ghost use Rattle.jlr_session.specs.declared.shell.SessionEnd.{SessionEnd as Sess
 
 use crate::session::outcome_of;
 use jlr_command_line::fault::ProgramFault;
+use jlr_command_line::reason::{Place, Reason};
 use jlr_device::Device;
 use jlr_prog::Book;
 use jlr_prog::run::run_over;
@@ -67,7 +68,7 @@ where
     }
 }
 
-/// A session whose history is saved when it ends, however it ends.
+/// A session whose history is saved when it ends, however it ends. Where that cannot be, it does not begin.
 ///
 /// # Errors
 /// `CannotSave`, or `NoMemory` where there is no memory for the heap or the history; else the fault of the session's end.
@@ -82,6 +83,7 @@ pub fn session_saved<R: Read, W: Write, D: Device>(
 where
     D::Res: Drop,
 {
+    try_save(rt, path)?;
     let Recording { end, history } = recorded(rt.alloc(), limits, reader, writer, device)?;
     save(rt, path, history?.as_slice())?;
     outcome_of(end)
@@ -102,15 +104,56 @@ pub fn save(rt: &HostRuntime, path: &str, bytes: &[u8]) -> Result<(), ProgramFau
         Err(error) if error.kind() == io::ErrorKind::OutOfMemory => {
             Err(ProgramFault::NoMemory(AllocError))
         }
-        Err(_) => Err(unsaved(rt.alloc(), path)),
+        Err(error) => Err(unsaved(rt.alloc(), path, Reason::of(error.kind()))),
     }
 }
 
+/// Tries whether something can be saved to a place, and leaves there what it found: a new file is made beside it, with the rights that the saved one
+/// will have, and removed. What is neither a file nor a directory is not tried.
+///
+/// # Errors
+/// `CannotSave`, or `NoMemory`.
+pub fn try_save(rt: &HostRuntime, path: &str) -> Result<(), ProgramFault> {
+    match try_put(rt, path) {
+        Ok(()) => Ok(()),
+        Err(error) if error.kind() == io::ErrorKind::OutOfMemory => {
+            Err(ProgramFault::NoMemory(AllocError))
+        }
+        Err(error) => Err(unsaved(rt.alloc(), path, Reason::of(error.kind()))),
+    }
+}
+
+fn try_put(rt: &HostRuntime, path: &str) -> io::Result<()> {
+    if path.is_empty() {
+        return Err(io::Error::from(io::ErrorKind::NotFound));
+    }
+    match fs::metadata(rt, path) {
+        Ok(there) if there.is_file() => {
+            let place = fs::canonicalize(rt, path)?;
+            try_beside(rt, place.as_str(), Some(there.permissions()))
+        }
+        Ok(there) if there.is_dir() => Err(io::Error::from(io::ErrorKind::IsADirectory)),
+        Ok(_) => Ok(()),
+        Err(error) if error.kind() == io::ErrorKind::NotFound && is_free(rt, path) => {
+            try_beside(rt, path, None)
+        }
+        Err(error) => Err(error),
+    }
+}
+
+/// Makes a new file beside a place, with its final rights, and removes it.
+fn try_beside(rt: &HostRuntime, place: &str, permissions: Option<Permissions>) -> io::Result<()> {
+    let (file, beside) = new_beside(rt, place)?;
+    let tried = write_whole(file, permissions, b"");
+    let removed = fs::remove_file(rt, beside.as_str());
+    tried?;
+    removed
+}
+
 /// That a history cannot be saved, or that memory for saying so ran out.
-fn unsaved(alloc: Global, path: &str) -> ProgramFault {
-    let mut name = String::new(alloc);
-    match name.push_str(path) {
-        Ok(()) => ProgramFault::CannotSave(name),
+fn unsaved(alloc: Global, path: &str, reason: Reason) -> ProgramFault {
+    match Place::new(alloc, path, reason) {
+        Ok(place) => ProgramFault::CannotSave(place),
         Err(fault) => ProgramFault::NoMemory(fault),
     }
 }

@@ -3,28 +3,31 @@ ghost use Rattle.std.specs.Prelude.{◌≡◌, ◌↔◌, IfOk, IfSome, IsSome, 
 ghost use Rattle.jlr_prog.specs.Books.{last};
 ghost use Rattle.jlr_saving.specs.Saving.{IsSaved};
 
-use crate::save::save;
+use crate::descriptors::warn_of_few;
+use crate::reach::fenced;
+use crate::save::{save, try_save};
 use jlr_command_line::arguments::Service;
 use jlr_command_line::fault::ProgramFault;
-use jlr_device::real::{RealDevice, RealResource};
+use jlr_command_line::reason::{Place, Reason};
+use jlr_device::places::Inode;
 use jlr_saving::file::trace_bytes_of;
 use jlr_server::Book;
 use jlr_server::hall::closing::CloseFault;
 use jlr_server::hall::history::Blank;
-use jlr_server::listener::Listener;
-use jlr_server::server::{ServeFault, Served, serve_over};
+use jlr_server::listener::{LineWatcher, Listener, SocketFiles, SocketPlace};
+use jlr_server::server::{ServeFault, Served, Watched, serve_watched};
+use jlr_server::socket_file::remove_own;
 use std::alloc::{AllocError, Global};
-use std::fs;
 use std::io::{self, Write};
 use std::marker::Brand;
 use std::sync::Wait;
 use std::thread::Threads;
 
 /// Serves clients on a Unix socket, and writes how many and how many entries their history has, which is then saved where it is to be. The
-/// socket's file is removed at the end.
+/// files of its sockets are removed at the end, where they are still its own. Who asked it to end is told whether the history was saved.
 ///
 /// # Errors
-/// `CannotListen` where the socket cannot be made, also where its file exists, which is left alone, and where a thread cannot be started;
+/// `CannotListen` where a socket cannot be made, also where its file exists, which is left alone, and where a thread cannot be started;
 /// `Disagree`, `Write`, `NoMemory`; `CannotSave`, also where the lines could not be written.
 pub fn serve<T: Threads + Wait + Sync>(
     rt: &HostRuntime,
@@ -32,19 +35,54 @@ pub fn serve<T: Threads + Wait + Sync>(
     service: Service<'_>,
     writer: &mut impl Write,
 ) -> Result<(), ProgramFault> {
-    let listener = match Listener::bind(rt, service.socket) {
-        Ok(listener) => listener,
-        Err(error) if error.kind() == io::ErrorKind::OutOfMemory => {
-            return Err(ProgramFault::NoMemory(AllocError));
-        }
-        Err(_) => return Err(unheard(rt.alloc(), service.socket)),
-    };
-    let outcome = served(rt, threads, service, &listener);
-    let _ = fs::remove_file(rt, service.socket);
-    let closed = outcome?;
+    warn_of_few(rt, service.limits);
+    if let Some(path) = service.save {
+        try_save(rt, path)?;
+    }
+    let (listener, watcher, files) = listening(rt, service)?;
+    let own = [files.socket, files.control.unwrap_or(files.socket)];
+    let outcome = served(rt, threads, service, &listener, watcher, &own);
+    remove_own(rt, service.socket, files.socket);
+    if let (Some(path), Some(file)) = (service.control, files.control) {
+        remove_own(rt, path, file);
+    }
+    let (closed, mut watcher) = outcome?;
     let told = tell(rt.alloc(), writer, &closed);
-    save_at(rt, service.save, closed.history)?;
+    if closed.missed > 0 {
+        let _ = eprintln!(rt; "refheap: {} of the accepts failed", closed.missed);
+    }
+    let saved = save_at(rt, service.save, closed.history);
+    watcher.tell_askers(saved.is_ok());
+    saved?;
     told
+}
+
+/// The sockets of a server, and who watches its clients.
+fn listening(
+    rt: &HostRuntime,
+    service: Service<'_>,
+) -> Result<(Listener, LineWatcher, SocketFiles), ProgramFault> {
+    let place = SocketPlace {
+        path: service.socket,
+        mode: service.mode,
+    };
+    let control = match service.control {
+        Some(path) => Some(SocketPlace {
+            path,
+            mode: Some(service.control_mode),
+        }),
+        None => None,
+    };
+    match Listener::bind(rt, rt.alloc(), place, control) {
+        Ok(bound) => Ok(bound),
+        Err(error) if error.kind() == io::ErrorKind::OutOfMemory => {
+            Err(ProgramFault::NoMemory(AllocError))
+        }
+        Err(error) => {
+            let reason = Reason::of(error.kind());
+            Err(unheard(rt.alloc(), service.socket, reason))
+        }
+    }
 }
 
 /// What a server leaves.
@@ -52,6 +90,8 @@ pub fn serve<T: Threads + Wait + Sync>(
 struct Closed {
     /// How many clients were waited for.
     accepts: u32,
+    /// How many of these did not come.
+    missed: u32,
     /// How many entries the history has since the heap was opened.
     entries: u64,
     /// The bytes of the history, if it is to be saved and there was memory for them.
@@ -63,41 +103,51 @@ fn served<T: Threads + Wait + Sync>(
     threads: &T,
     service: Service<'_>,
     listener: &Listener,
-) -> Result<Closed, ProgramFault> {
+    watcher: LineWatcher,
+    own: &[Inode],
+) -> Result<(Closed, LineWatcher), ProgramFault> {
     let alloc = rt.alloc();
     let limits = service.limits;
     let mut devices = Vec::new(alloc);
     for _ in 0..limits.sessions {
-        devices.push(RealDevice::new(*rt))?;
+        devices.push(fenced(rt, service.reach, own))?;
     }
     let blank = Blank::new(alloc)?;
-    let done = serve_over::<_, _, Brand, _>(
+    let done = serve_watched::<_, _, Brand, _, _>(
         threads,
         alloc,
         limits,
         service.total,
         listener,
+        watcher,
         devices,
         blank,
     );
     match done {
-        Ok(served) => Ok(closed_of(alloc, served, service.save.is_some())),
+        Ok(Watched { served, watcher }) => {
+            Ok((closed_of(alloc, served, service.save.is_some()), watcher))
+        }
         Err(fault) => Err(fault_of(alloc, fault, service.socket)),
     }
 }
 
 /// What is left of what was served. The book is let go.
 fn closed_of<R: Drop>(alloc: Global, served: Served<R>, saves: bool) -> Closed
-    ensures accepts { result.accepts ≡ served.accepts }
+    ensures accepts { (result.accepts ≡ served.accepts) × (result.missed ≡ served.missed) }
     ensures entries { result.entries ≡ last served.book }
     ensures history { IfSome result.history (λ made. IfOk made (λ bytes. IsSaved served.book bytes.items)) }
 {
-    let Served { accepts, book } = served;
+    let Served {
+        accepts,
+        missed,
+        book,
+    } = served;
     let entries = book.last();
     let history = history_of(alloc, &book, saves);
     drop(book);
     Closed {
         accepts,
+        missed,
         entries,
         history,
     }
@@ -138,15 +188,15 @@ fn fault_of(alloc: Global, fault: ServeFault, path: &str) -> ProgramFault {
         ServeFault::Close(CloseFault::NoMemory) | ServeFault::NoMemory => {
             ProgramFault::NoMemory(AllocError)
         }
-        ServeFault::Start => unheard(alloc, path),
+        ServeFault::Miscounted => ProgramFault::Disagree(u8::MAX),
+        ServeFault::Start => unheard(alloc, path, Reason::NoThread),
     }
 }
 
 /// That nothing listens on a path, or that memory for saying so ran out.
-fn unheard(alloc: Global, path: &str) -> ProgramFault {
-    let mut name = String::new(alloc);
-    match name.push_str(path) {
-        Ok(()) => ProgramFault::CannotListen(name),
+fn unheard(alloc: Global, path: &str, reason: Reason) -> ProgramFault {
+    match Place::new(alloc, path, reason) {
+        Ok(place) => ProgramFault::CannotListen(place),
         Err(fault) => ProgramFault::NoMemory(fault),
     }
 }

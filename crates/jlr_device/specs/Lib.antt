@@ -5,3 +5,5 @@ pub mod Faults
 pub mod Scripts
 pub mod Queues
 pub mod Gates
+pub mod Paths
+pub mod Fences

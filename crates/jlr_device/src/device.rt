@@ -2,6 +2,7 @@
 
 use crate::resource::Resource;
 use jlr_types::Fault;
+use std::os::fd::RawFd;
 
 /// What a file is opened for.
 #[derive(Clone, Copy, PartialEq, Eq, Debug)]
@@ -14,7 +15,7 @@ pub enum Mode {
 
 /// What opens files and joins sockets.
 pub trait Device {
-    ghost use Rattle.std.specs.Prelude.{◌≡◌, ℕ, ◌+◌, ◌^◌, ◌<◌, List, Result, IfOk};
+    ghost use Rattle.std.specs.Prelude.{◌≡◌, ℕ, ◌+◌, ◌^◌, ◌<◌, ◌≤◌, List, Result, IfOk, length};
     ghost use Rattle.jlr_types.specs.declared.Fault.{Fault};
     ghost use Rattle.jlr_device.specs.Failures.{Counts};
     ghost use Rattle.jlr_device.specs.declared.device.Mode.{Mode};
@@ -47,4 +48,29 @@ pub trait Device {
         ensures counted { Counts (count self.old) result (count self.new) }
         ensures fresh { IfOk result (λ resource. Self.Res.handling.count resource ≡ 0) }
         ensures told { may_connect self.old path.now result self.new };
+
+    /// From now on the calls are made for the client of this connection, if there is one. The descriptor stays open as long.
+    fn attend(&mut self, _client: Option<RawFd>)
+        ensures { count self.new ≡ count self.old }
+    {}
+
+    /// Reads of a resource as it reads itself. Where it would have to wait, and the client goes meanwhile, it fails, and nothing is read.
+    fn read(&self, resource: &mut Self::Res, buf: &mut [u8]) -> Result<usize, Fault>
+        requires { Self.Res.handling.count resource.old + 1 < 2 ^ 64 }
+        ensures bound { IfOk result (λ n. n ≤ length buf.old) }
+        ensures counted { Counts (Self.Res.handling.count resource.old) result (Self.Res.handling.count resource.new) }
+        ensures told { Self.Res.handling.reads resource.old buf.old result buf.new resource.new }
+    {
+        resource.read(buf)
+    }
+
+    /// Writes to a resource as it writes itself. Where it would have to wait, and the client goes meanwhile, it fails, and nothing is written.
+    fn write(&self, resource: &mut Self::Res, bytes: &[u8]) -> Result<usize, Fault>
+        requires { Self.Res.handling.count resource.old + 1 < 2 ^ 64 }
+        ensures bound { IfOk result (λ n. n ≤ length bytes.now) }
+        ensures counted { Counts (Self.Res.handling.count resource.old) result (Self.Res.handling.count resource.new) }
+        ensures told { Self.Res.handling.writes resource.old bytes.now result resource.new }
+    {
+        resource.write(bytes)
+    }
 }

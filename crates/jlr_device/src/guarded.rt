@@ -37,31 +37,39 @@ pub fn guarded_connect<D: Device>(device: &mut D, path: &str) -> Result<D::Res, 
 }
 
 /// Reads bytes to the front of `buf`, and answers how many; 0 at the end.
-pub fn guarded_read<R: Resource>(resource: &mut R, buf: &mut [u8]) -> Result<usize, Fault>
+pub fn guarded_read<D: Device>(
+    device: &D,
+    resource: &mut D::Res,
+    buf: &mut [u8],
+) -> Result<usize, Fault>
     ensures bound { IfOk result (λ n. n ≤ length buf.old) }
-    ensures either { Fits (R.handling.count resource.old) ⊎ IsHighest (R.handling.count resource.old) }
-    ensures counted { Fits (R.handling.count resource.old) → Counts (R.handling.count resource.old) result (R.handling.count resource.new) }
-    ensures told { Fits (R.handling.count resource.old) → R.handling.reads resource.old buf.old result buf.new resource.new }
-    ensures uncalled { IsHighest (R.handling.count resource.old) → (result ≡ Err fault.Other) × (buf.new ≡ buf.old) × (resource.new ≡ resource.old) }
+    ensures either { Fits (D.Res.handling.count resource.old) ⊎ IsHighest (D.Res.handling.count resource.old) }
+    ensures counted { Fits (D.Res.handling.count resource.old) → Counts (D.Res.handling.count resource.old) result (D.Res.handling.count resource.new) }
+    ensures told { Fits (D.Res.handling.count resource.old) → D.Res.handling.reads resource.old buf.old result buf.new resource.new }
+    ensures uncalled { IsHighest (D.Res.handling.count resource.old) → (result ≡ Err fault.Other) × (buf.new ≡ buf.old) × (resource.new ≡ resource.old) }
 {
     if resource.failures() == u64::MAX {
         return Err(Fault::Other);
     }
-    resource.read(buf)
+    device.read(resource, buf)
 }
 
 /// Writes bytes of the front of `bytes`, and answers how many, which may be fewer than there are.
-pub fn guarded_write<R: Resource>(resource: &mut R, bytes: &[u8]) -> Result<usize, Fault>
+pub fn guarded_write<D: Device>(
+    device: &D,
+    resource: &mut D::Res,
+    bytes: &[u8],
+) -> Result<usize, Fault>
     ensures bound { IfOk result (λ n. n ≤ length bytes.now) }
-    ensures either { Fits (R.handling.count resource.old) ⊎ IsHighest (R.handling.count resource.old) }
-    ensures counted { Fits (R.handling.count resource.old) → Counts (R.handling.count resource.old) result (R.handling.count resource.new) }
-    ensures told { Fits (R.handling.count resource.old) → R.handling.writes resource.old bytes.now result resource.new }
-    ensures uncalled { IsHighest (R.handling.count resource.old) → (result ≡ Err fault.Other) × (resource.new ≡ resource.old) }
+    ensures either { Fits (D.Res.handling.count resource.old) ⊎ IsHighest (D.Res.handling.count resource.old) }
+    ensures counted { Fits (D.Res.handling.count resource.old) → Counts (D.Res.handling.count resource.old) result (D.Res.handling.count resource.new) }
+    ensures told { Fits (D.Res.handling.count resource.old) → D.Res.handling.writes resource.old bytes.now result resource.new }
+    ensures uncalled { IsHighest (D.Res.handling.count resource.old) → (result ≡ Err fault.Other) × (resource.new ≡ resource.old) }
 {
     if resource.failures() == u64::MAX {
         return Err(Fault::Other);
     }
-    resource.write(bytes)
+    device.write(resource, bytes)
 }
 
 /// Ends a resource. Where its count is at its last value it is dropped without its `finish`.

@@ -7,16 +7,24 @@ ghost use Rattle.jlr_device.specs.Faults.{fault_of_kind};
 use crate::device::{Device, Mode};
 use crate::resource::{Finished, Resource};
 use crate::retry;
+use crate::waiting::{Way, is_ready};
 use jlr_types::Fault;
-use std::fs::{File, OpenOptions};
-use std::io::{Error, ErrorKind};
+use std::fs::{self, File, OpenOptions};
+use std::io::{self, Error, ErrorKind};
 use std::net::Shutdown;
+use std::os::fd::{AsRawFd, RawFd};
+use std::os::unix::fs::FileTypeExt;
 use std::os::unix::net::UnixStream;
 
 /// The files and Unix stream sockets of the system.
+///
+/// No open waits for the other end of a FIFO, and no joining for a place; a FIFO is opened only where it may be both read and written. What is
+/// read before anybody writes is the end, and what is written before anybody reads fails. While a client is attended, a read or a write that
+/// would have to wait ends with its going; but one that others outrun, since they read or write the same, may wait.
 #[derive(Drop)]
 pub struct RealDevice {
     rt: HostRuntime,
+    client: Option<RawFd>,
     failures: u64,
 }
 
@@ -25,7 +33,11 @@ impl RealDevice {
     pub fn new(rt: HostRuntime) -> RealDevice
         ensures { result.failures ≡ 0 }
     {
-        RealDevice { rt, failures: 0 }
+        RealDevice {
+            rt,
+            client: None,
+            failures: 0,
+        }
     }
 }
 
@@ -39,20 +51,31 @@ impl Device for RealDevice {
     }
 
     fn open(&mut self, mode: Mode, path: &str) -> Result<RealResource, Fault> {
-        let mut options = OpenOptions::new();
-        match mode {
-            Mode::Read => options.read(true),
-            Mode::Write => options.write(true).create(true).truncate(true),
-        };
-        let done = options.open(&self.rt, path);
-        let file = counted(done, &mut self.failures)?;
+        let file = counted(opened(&self.rt, mode, path), &mut self.failures)?;
         Ok(RealResource::new(Handle::File(file)))
     }
 
     fn connect(&mut self, path: &str) -> Result<RealResource, Fault> {
-        let done = UnixStream::connect(&self.rt, path);
-        let stream = counted(done, &mut self.failures)?;
+        let stream = counted(joined(&self.rt, path), &mut self.failures)?;
         Ok(RealResource::new(Handle::Socket(stream)))
+    }
+
+    fn attend(&mut self, client: Option<RawFd>) {
+        self.client = client;
+    }
+
+    fn read(&self, resource: &mut RealResource, buf: &mut [u8]) -> Result<usize, Fault> {
+        if !is_ready(resource.descriptor(), Way::Read, self.client) {
+            return Err(resource.called_off());
+        }
+        resource.read(buf)
+    }
+
+    fn write(&self, resource: &mut RealResource, bytes: &[u8]) -> Result<usize, Fault> {
+        if !is_ready(resource.descriptor(), Way::Write, self.client) {
+            return Err(resource.called_off());
+        }
+        resource.write(bytes)
     }
 }
 
@@ -77,6 +100,22 @@ impl RealResource {
             handle,
             failures: 0,
         }
+    }
+
+    fn descriptor(&self) -> RawFd {
+        match &self.handle {
+            Handle::File(file) => file.as_raw_fd(),
+            Handle::Socket(stream) => stream.as_raw_fd(),
+        }
+    }
+
+    /// The fault of a call that was not made since its client is gone. It is counted.
+    fn called_off(&mut self) -> Fault
+        requires { self.old.failures + 1 < 2 ^ 64 }
+        ensures { self.new.failures ≡ self.old.failures + 1 }
+    {
+        self.failures += 1;
+        Fault::Other
     }
 }
 
@@ -115,6 +154,27 @@ impl Resource for RealResource {
         let outcome = counted(done, &mut failures);
         Finished { outcome, failures }
     }
+}
+
+/// Opens a file. A FIFO is first opened both ways, so that the open in its mode finds its other end and does not wait.
+fn opened(rt: &HostRuntime, mode: Mode, path: &str) -> io::Result<File> {
+    let _both_ends = match fs::metadata(rt, path) {
+        Ok(found) if found.file_type().is_fifo() => {
+            Some(OpenOptions::new().read(true).write(true).open(rt, path)?)
+        }
+        _ => None,
+    };
+    match mode {
+        Mode::Read => File::open(rt, path),
+        Mode::Write => File::create(rt, path),
+    }
+}
+
+/// Joins a socket. It fails where it would have to wait, since too many wait to be accepted there.
+fn joined(rt: &HostRuntime, path: &str) -> io::Result<UnixStream> {
+    let stream = UnixStream::from(mio::net::UnixStream::connect(rt, path)?);
+    stream.set_nonblocking(false)?;
+    Ok(stream)
 }
 
 /// What a call of the system gave, told as a session is told it. A fault is counted.

@@ -1,7 +1,7 @@
 //! Asks and answers in words.
-use jlr_machine::ask::{Answer, Ask, FullMode};
+use jlr_machine::ask::{Answer, Ask, FullMode, Handed};
 use jlr_plain_asks::operands::{asker_of, name_of};
-use jlr_types::{FieldNo, Handle, RefKind};
+use jlr_types::{FieldKind, FieldNo, Handle, Layout, RefKind};
 use std::alloc::{AllocError, Global};
 use std::str;
 
@@ -134,7 +134,31 @@ fn words_of(ask: &Ask) -> Words {
     }
 }
 
-/// An ask as a command, as far as it is one, and the mutator that asks.
+/// Adds the letters of a layout.
+fn push_layout(said: &mut String, layout: &Layout) -> Result<(), AllocError> {
+    if layout.is_empty() {
+        return said.push_str(" -");
+    }
+    said.push_str(" ")?;
+    for field in 0..layout.len() {
+        match layout.get(field) {
+            Some(FieldKind::Ref) => said.push_str("r")?,
+            _ => said.push_str("i")?,
+        }
+    }
+    Ok(())
+}
+
+/// Adds what an ask names beside numbers and a name: the layout of an object, or the integer of a field.
+fn push_operand(alloc: Global, said: &mut String, ask: &Ask) -> Result<(), AllocError> {
+    match ask {
+        Ask::New { layout, .. } => push_layout(said, layout),
+        Ask::SetInt { value, .. } => said.push_str(format!(in alloc; " {value}")?.as_str()),
+        _ => Ok(()),
+    }
+}
+
+/// An ask as the command that asks it, if one does, and the mutator that asks.
 pub(crate) fn ask_said(alloc: Global, ask: &Ask) -> Result<String, AllocError> {
     let (name, numbers) = words_of(ask);
     let mut said = String::new(alloc);
@@ -148,11 +172,21 @@ pub(crate) fn ask_said(alloc: Global, ask: &Ask) -> Result<String, AllocError> {
             said.push_str(format!(in alloc; " {number}")?.as_str())?;
         }
     }
+    push_operand(alloc, &mut said, ask)?;
     if let Some(mutator) = asker_of(ask) {
         let number = mutator.number();
         said.push_str(format!(in alloc; " of mutator {number}")?.as_str())?;
     }
     Ok(said)
+}
+
+fn handed_said(handed: Handed) -> &'static str {
+    match handed {
+        Handed::Queued => "a reference went to its queue",
+        Handed::Lined => "a cleanable went into the cleaner's line",
+        Handed::Skipped => "the first one was skipped",
+        Handed::Nothing => "there was nothing",
+    }
 }
 
 /// An answer in words.
@@ -162,6 +196,8 @@ pub(crate) fn answer_said(alloc: Global, answer: &Answer) -> Result<String, Allo
             let number = handle.number();
             return Ok(format!(in alloc; "handle {number}")?);
         }
+        Answer::Int(number) => return Ok(format!(in alloc; "int {number}")?),
+        Answer::Handed(handed) => handed_said(*handed),
         Answer::Refused(by) => {
             let number = by.number();
             return Ok(format!(in alloc; "refused {number}")?);
@@ -169,7 +205,6 @@ pub(crate) fn answer_said(alloc: Global, answer: &Answer) -> Result<String, Allo
         Answer::Done => "ok",
         Answer::Truth(true) => "yes",
         Answer::Truth(false) => "no",
-        Answer::Int(_) => "a number",
         Answer::Data(_) => "data",
         Answer::Wrote(_) => "what was written",
         Answer::Faulted(_) => "a fault",
@@ -179,7 +214,6 @@ pub(crate) fn answer_said(alloc: Global, answer: &Answer) -> Result<String, Allo
         Answer::AlreadyDone => "done before",
         Answer::Prepared(_) => "a place for a resource",
         Answer::Out(_) => "a resource",
-        Answer::Handed(_) => "what was handed over",
     };
     let mut said = String::new(alloc);
     said.push_str(name)?;

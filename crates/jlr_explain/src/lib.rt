@@ -2,6 +2,7 @@
 #![tactic(auto)]
 
 mod asks;
+mod due;
 mod history;
 mod refusals;
 mod rules;

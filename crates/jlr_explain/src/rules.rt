@@ -2,6 +2,8 @@
 ghost use Rattle.std.specs.Prelude.{◌≡◌, IfOk};
 ghost use Rattle.jlr_machine.specs.WellFormed.{IsWellFormed};
 
+use crate::asks::answer_said;
+use crate::due::due_answer;
 use crate::refusals::reason;
 use jlr_machine::ask::{Answer, Ask};
 use jlr_machine::entry::{Chosen, Entry};
@@ -56,6 +58,17 @@ fn when_answered_refused(alloc: Global, by: Refusal) -> Result<String, AllocErro
     }
 }
 
+/// Which other answer is due, where that can be said in few words.
+fn another_is_due(alloc: Global, machine: &Machine, ask: &Ask) -> Result<String, AllocError> {
+    let Some(due) = due_answer(machine, ask) else {
+        return text(alloc, "another answer is due");
+    };
+    let said = answer_said(alloc, &due);
+    drop(due);
+    let said = said?;
+    Ok(format!(in alloc; "another answer is due: {said}")?)
+}
+
 fn is_answered_by_choice(ask: &Ask) -> bool {
     matches!(ask, Ask::Prepare { .. } | Ask::Collect)
 }
@@ -69,7 +82,7 @@ fn when_carried_out(alloc: Global, machine: &Machine, entry: &Entry) -> Result<S
         )?);
     }
     if !is_answered_by_choice(&entry.ask) && !is_reply(machine, &entry.ask, &entry.answer) {
-        return text(alloc, "another answer is due");
+        return another_is_due(alloc, machine, &entry.ask);
     }
     text(alloc, "its answer is none that may be given")
 }

@@ -23,7 +23,7 @@ pub enum CloseFault {
 }
 
 /// The seats beside those of the sessions: the marker's, the handler's and the cleaner's.
-const LOOPS: u8 = 3;
+pub(crate) const LOOPS: u8 = 3;
 
 impl<R: Drop, L: Naming + Limited> Hall<R, L> {
     /// A hall over an empty heap of these limits, with its seats: one for each session, then those of the marker, the handler and the
@@ -49,12 +49,17 @@ impl<R: Drop, L: Naming + Limited> Hall<R, L> {
             let pass = log.deal(&mut keeper);
             seats.push(Seat::new(alloc, index, pass))?;
         }
+        let mut removers = Vec::with_capacity(alloc, usize::from(count))?;
+        for _ in 0..limits.sessions {
+            removers.push(Condvar::new())?;
+        }
         let book = Book::new(alloc, limits)?;
-        Ok((Hall::over(Locked::new(book, keeper), log, count), seats))
+        let locked = Locked::new(book, keeper);
+        Ok((Hall::over(locked, log, removers, count), seats))
     }
 
     /// A hall with so many seats over what lies under its lock.
-    fn over(locked: Locked<R, L>, log: Log<Step<R>, L>, seats: u8) -> Self
+    fn over(locked: Locked<R, L>, log: Log<Step<R>, L>, removers: Vec<Condvar>, seats: u8) -> Self
         requires { seats ≡ L.limits.sessions + 3 }
     {
         Hall {
@@ -63,7 +68,8 @@ impl<R: Drop, L: Naming + Limited> Hall<R, L> {
             marker: Condvar::new(),
             handler: Condvar::new(),
             cleaner: Condvar::new(),
-            removers: Condvar::new(),
+            removers,
+            closed: Condvar::new(),
             seats,
         }
     }

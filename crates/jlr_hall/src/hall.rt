@@ -1,5 +1,5 @@
 //! One book under one lock, asked by many seats.
-ghost use Rattle.std.specs.Prelude.{◌≡◌, ◌+◌, ◌<◌, ◌++◌};
+ghost use Rattle.std.specs.Prelude.{◌≡◌, ◌+◌, ◌^◌, ◌<◌, ◌++◌};
 ghost use Rattle.jlr_machine.specs.Data.{Brings};
 ghost use Rattle.jlr_event.specs.Events.{ask_of};
 ghost use Rattle.jlr_event.specs.declared.event.Event.TheVariants.{Mark, Remove};
@@ -9,24 +9,28 @@ ghost use Rattle.jlr_hall.specs.OneHistory.{IsWhole, seat_of};
 ghost use Rattle.jlr_hall.specs.Asking.{Asked, HasItsResource, IsOwn};
 ghost use Rattle.jlr_hall.specs.Telling.{added};
 
+use crate::chairs::{Chairs, MOST_SESSIONS, Removal};
+use crate::closing::LOOPS;
+use crate::effect::{Effect, says_queued};
 use crate::seat::Seat;
 use crate::step::{Limited, Step};
 use jlr_book::book::Book;
+use jlr_book::event::refuse;
 use jlr_event::event::{Event, Reply};
 use jlr_log::{Keeper, Log, Naming, Pass, Telling};
-use jlr_machine::ask::{Answer, Handed};
 use jlr_machine::data::{CallRoom, CopyRoom};
-use jlr_types::{Handle, Mutator};
+use jlr_types::{Handle, Mutator, Refusal};
 use std::marker::{Brand, Model};
 use std::snapshot::Snapshot;
 use std::sync::{Condvar, Mutex, MutexGuard, Wait};
 
-/// What lies under the lock: the book, who knows its whole history, and whether the hall is to end.
+/// What lies under the lock: the book, who knows its whole history, who sits where, and what is to come.
 #[derive(Drop)]
 pub(crate) struct Locked<R, L: Naming + Limited> {
     pub(crate) book: Book<R>,
     pub(crate) keeper: Keeper<Step<R>, L>,
     pub(crate) stopped: bool,
+    chairs: Chairs,
 }
 
 impl<R, L: Naming + Limited> Model for Locked<R, L> {
@@ -47,7 +51,10 @@ pub(crate) struct Looks {
     marker: bool,
     handler: bool,
     cleaner: bool,
-    removers: bool,
+    /// The seats whose `remove` need not wait any more, a bit for each.
+    removers: u64,
+    /// Whoever waits until something is closed.
+    closed: bool,
 }
 
 impl<R: Drop, L: Naming + Limited> Locked<R, L> {
@@ -58,6 +65,7 @@ impl<R: Drop, L: Naming + Limited> Locked<R, L> {
             book,
             keeper,
             stopped: false,
+            chairs: Chairs::new(),
         }
     }
 
@@ -85,18 +93,58 @@ impl<R: Drop, L: Naming + Limited> Locked<R, L> {
         reply
     }
 
-    /// Whether the marker would find something to do: a cycle to begin, or one that is open.
+    /// Whether the marker would find something to do: a cycle to begin, or one that is open. One is to begin where the book says so, or
+    /// where, since the last one began, a session left with resources open or there was no room for a resource.
     pub(crate) fn has_marking(&self) -> bool {
-        self.book.marker_due() || self.book.cycle_open()
+        self.chairs.cycle_owed() || self.book.marker_due() || self.book.cycle_open()
     }
 
-    /// Who would find something to do, where something may just have come into a queue.
-    pub(crate) fn looks(&self, queued: bool) -> Looks {
+    /// Whether a `Remove` is to wait: its queue is empty, its client is not gone, and nothing ends.
+    fn is_waiting(&self, seat: u8, removal: Removal) -> bool {
+        !self.stopped
+            && !self.chairs.nobody_waits()
+            && !self.chairs.is_gone(seat)
+            && self.book.would_wait(removal.mutator, removal.queue)
+    }
+
+    /// The seats that wait in a `Remove` and need not any more, a bit for each.
+    fn satisfied(&self) -> u64 {
+        let mut seats = 0;
+        for seat in 0..MOST_SESSIONS {
+            if let Some(removal) = self.chairs.removal(seat) {
+                if !self.is_waiting(seat, removal) {
+                    seats |= 1 << seat;
+                }
+            }
+        }
+        seats
+    }
+
+    /// Whether something may still be closed: a session's connection, or what a cycle or the cleaner would find.
+    fn may_close(&self) -> bool {
+        self.chairs.is_any_joined()
+            || self.has_marking()
+            || !self.book.pending_empty()
+            || !self.book.line_empty()
+    }
+
+    /// What an answered event of a seat means for who waits. Who would find something to do now.
+    fn looks(&mut self, seat: u8, effect: Effect, reply: &Reply<R>) -> Looks
+        ensures { self.new ≡ self.old }
+    {
+        self.chairs.after(seat, effect, reply);
         Looks {
             marker: self.has_marking(),
             handler: !self.book.pending_empty(),
             cleaner: !self.book.line_empty(),
-            removers: queued,
+            removers: match effect {
+                Effect::Queues if says_queued(reply) => self.satisfied(),
+                _ => 0,
+            },
+            closed: matches!(
+                effect,
+                Effect::Leaves | Effect::Finishes | Effect::Collects | Effect::Queues
+            ),
         }
     }
 }
@@ -124,22 +172,6 @@ fn note<R, L: Naming, J: Telling<Step<R>>>(
     log.tell::<J>(keeper, pass);
 }
 
-/// Whether an event may put a reference on a queue.
-pub(crate) fn fills_queue<R>(event: &Event<R>) -> bool {
-    matches!(event, Event::Enqueue { .. } | Event::HandOver)
-}
-
-/// Whether an answer says that a reference came into its queue.
-pub(crate) fn says_queued<R>(reply: &Reply<R>) -> bool {
-    match reply {
-        Reply::Answered { answer, .. } => matches!(
-            answer,
-            Answer::Truth(true) | Answer::Handed(Handed::Queued)
-        ),
-        Reply::Marked(_) => false,
-    }
-}
-
 /// The book that all seats ask.
 #[derive(Drop)]
 pub struct Hall<R, L: Naming + Limited> {
@@ -148,7 +180,10 @@ pub struct Hall<R, L: Naming + Limited> {
     pub(crate) marker: Condvar,
     pub(crate) handler: Condvar,
     pub(crate) cleaner: Condvar,
-    pub(crate) removers: Condvar,
+    /// For each session's seat: who waits in a `remove` there.
+    pub(crate) removers: Vec<Condvar>,
+    /// Whoever waits until something is closed.
+    pub(crate) closed: Condvar,
     pub(crate) seats: u8,
     pub ghost count: { seats ≡ L.limits.sessions + 3 },
 }
@@ -160,7 +195,55 @@ impl<R: Drop, L: Naming + Limited> Hall<R, L> {
         self.marker.notify_all();
         self.handler.notify_all();
         self.cleaner.notify_all();
-        self.removers.notify_all();
+        self.closed.notify_all();
+        self.wake_removers();
+    }
+
+    /// How many of its seats are of sessions.
+    pub fn sessions(&self) -> u8
+        ensures sessions { result ≡ L.limits.sessions }
+        ensures fits { result + 3 < 2 ^ 8 }
+    {
+        self.seats - LOOPS
+    }
+
+    /// A client of this number sits down on the seat of a session: from now on a `remove` of that seat waits.
+    pub fn sit<T: Wait>(&self, rt: &T, seat: u8, client: u32) {
+        self.locked.lock(rt).chairs.sit(seat, client);
+    }
+
+    /// The client of this number is gone: a `remove` in which its seat waits ends and takes nothing, and so does each later one, until
+    /// another client sits there. Where it sits no more, nothing changes.
+    pub fn call_off<T: Wait>(&self, rt: &T, client: u32) {
+        let waits = self.locked.lock(rt).chairs.call_off(client);
+        if let Some(seat) = waits {
+            self.wake_remover(seat);
+        }
+    }
+
+    /// No `remove` waits any more: each asks once, and is answered by what it finds. The loops go on.
+    pub fn call_all_off<T: Wait>(&self, rt: &T) {
+        self.locked.lock(rt).chairs.call_all_off();
+        self.closed.notify_all();
+        self.wake_removers();
+    }
+
+    /// How many sessions have left and jobs ended, modulo 2^64.
+    pub fn closings<T: Wait>(&self, rt: &T) -> u64 {
+        self.locked.lock(rt).chairs.closings()
+    }
+
+    /// Waits until a session leaves or a job ends, since there were so many; not where nothing is there to be closed, nor where the hall is to
+    /// end.
+    pub fn wait_for_closing<T: Wait>(&self, rt: &T, closings: u64) {
+        drop(
+            self.closed.wait_while(rt, self.locked.lock(rt), |l| {
+                !l.stopped
+                    && !l.chairs.nobody_waits()
+                    && l.chairs.closings() == closings
+                    && l.may_close()
+            }),
+        );
     }
 
     /// Wakes those who would find something to do. Nobody else is woken; who waits looks again under the lock.
@@ -174,42 +257,49 @@ impl<R: Drop, L: Naming + Limited> Hall<R, L> {
         if looks.cleaner {
             self.cleaner.notify_all();
         }
-        if looks.removers {
-            self.removers.notify_all();
+        if looks.closed {
+            self.closed.notify_all();
+        }
+        if looks.removers != 0 {
+            for seat in 0..MOST_SESSIONS {
+                if looks.removers >> seat & 1 == 1 {
+                    self.wake_remover(seat);
+                }
+            }
         }
     }
-}
 
-/// A `Remove` that waits until its queue holds something.
-#[derive(Clone, Copy)]
-pub(crate) struct Removal {
-    pub(crate) mutator: Mutator,
-    pub(crate) queue: Handle,
-}
-
-impl Removal {
-    /// What an event waits for, if it is a `Remove`.
-    pub(crate) fn of<R>(event: &Event<R>) -> Option<Self> {
-        match event {
-            Event::Remove { mutator, queue } => Some(Removal {
-                mutator: *mutator,
-                queue: *queue,
-            }),
-            _ => None,
+    /// Whoever waits at a seat looks again.
+    fn wake_remover(&self, seat: u8) {
+        if let Some(bell) = self.removers.get(usize::from(seat)) {
+            bell.notify_all();
         }
     }
-}
 
-impl<R: Drop, L: Naming + Limited> Hall<R, L> {
-    /// Takes the lock; for a `Remove` once it would not wait, or once the hall is to end.
-    fn enter<T: Wait>(&self, rt: &T, removal: Option<Removal>) -> MutexGuard<'_, Locked<R, L>> {
-        let locked = self.locked.lock(rt);
-        match removal {
-            None => locked,
-            Some(removal) => self.removers.wait_while(rt, locked, |l| {
-                !l.stopped && l.book.would_wait(removal.mutator, removal.queue)
-            }),
+    /// Whoever waits at any seat looks again.
+    fn wake_removers(&self) {
+        for bell in &self.removers {
+            bell.notify_all();
         }
+    }
+
+    /// Takes the lock once a `Remove` of a seat need not wait, or its client is gone, or the hall is to end. None where the client is gone.
+    fn enter<T: Wait>(
+        &self,
+        rt: &T,
+        seat: u8,
+        removal: Removal,
+    ) -> Option<MutexGuard<'_, Locked<R, L>>> {
+        let mut locked = self.locked.lock(rt);
+        if let Some(bell) = self.removers.get(usize::from(seat)) {
+            locked.chairs.waits(seat, Some(removal));
+            locked = bell.wait_while(rt, locked, |l| l.is_waiting(seat, removal));
+            locked.chairs.waits(seat, None);
+        }
+        if locked.chairs.is_gone(seat) {
+            return None;
+        }
+        Some(locked)
     }
 }
 
@@ -230,25 +320,41 @@ impl<R: Drop, L: Naming + Limited> Seat<R, L> {
         requires room { Brings room (ask_of event) }
         ensures { Asked L.limits self.old event result self.new }
     {
-        self.ask_once(rt, hall, None, event, room)
+        self.ask_once(rt, hall, event, room)
     }
 
-    /// One `Remove` of this seat's mutator, asked once its queue holds something, or once the hall is to end.
+    /// One `Remove` of this seat's mutator, asked once its queue holds something, or once the hall is to end. Where the client at the seat is
+    /// gone it is declined: nothing is taken off the queue.
     pub fn remove_waiting<T: Wait>(&mut self, rt: &T, hall: &Hall<R, L>, queue: Handle) -> Reply<R>
         ensures { Asked L.limits self.old (Remove self.old.seat queue) result self.new }
     {
         let mutator = Mutator::new(self.index());
-        let removal = Removal { mutator, queue };
-        let event = Event::Remove { mutator, queue };
-        self.ask_once(rt, hall, Some(removal), event, None)
+        self.remove(rt, hall, Removal { mutator, queue })
     }
 
-    /// One event, once a `Remove` that it stands for would not wait. A job comes with its resource.
+    /// The same of any mutator.
+    pub(crate) fn remove<T: Wait>(
+        &mut self,
+        rt: &T,
+        hall: &Hall<R, L>,
+        removal: Removal,
+    ) -> Reply<R>
+        ensures asked { Asked L.limits self.old (Remove removal.mutator removal.queue) result self.new }
+        ensures out { HasItsResource result }
+    {
+        let Removal { mutator, queue } = removal;
+        let event = Event::Remove { mutator, queue };
+        match hall.enter(rt, self.index, removal) {
+            Some(locked) => self.ask_under(hall, locked, event, None),
+            None => refuse(event, Refusal::NoMemory),
+        }
+    }
+
+    /// One event. A job comes with its resource.
     pub(crate) fn ask_once<T: Wait>(
         &mut self,
         rt: &T,
         hall: &Hall<R, L>,
-        removal: Option<Removal>,
         event: Event<R>,
         room: Option<CallRoom>,
     ) -> Reply<R>
@@ -258,11 +364,26 @@ impl<R: Drop, L: Naming + Limited> Seat<R, L> {
     {
         let (room, spare) = CallRoom::split(room);
         drop(spare);
-        let fills = fills_queue(&event);
+        self.ask_under(hall, hall.locked.lock(rt), event, room)
+    }
+
+    /// One event under the lock, which is let go. Who would find something to do is woken.
+    #[inline(always)]
+    fn ask_under(
+        &mut self,
+        hall: &Hall<R, L>,
+        mut locked: MutexGuard<'_, Locked<R, L>>,
+        event: Event<R>,
+        room: Option<CopyRoom>,
+    ) -> Reply<R>
+        requires { Brings room (ask_of event) }
+        ensures asked { Asked L.limits self.old event result self.new }
+        ensures out { HasItsResource result }
+    {
+        let effect = Effect::of(&event);
         let Seat { index, pass, .. } = self;
-        let mut locked = hall.enter(rt, removal);
         let reply = locked.ask(&hall.log, pass, *index, event, room);
-        let looks = locked.looks(fills && says_queued(&reply));
+        let looks = locked.looks(*index, effect, &reply);
         drop(locked);
         hall.wake(looks);
         reply

@@ -9,7 +9,9 @@
 //! history, also where a cut takes its entry away, and `Hall::close` compares nothing.
 #![tactic(auto)]
 
+mod chairs;
 pub mod closing;
+mod effect;
 pub mod hall;
 pub mod loops;
 pub mod port;

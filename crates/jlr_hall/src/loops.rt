@@ -4,6 +4,7 @@ ghost use Rattle.jlr_log.specs.Seeing.{Seen};
 ghost use Rattle.jlr_hall.specs.declared.step.Step.{Step};
 ghost use Rattle.jlr_hall.specs.Loops.{AsksOnly, CleansIn, IsHandlers, IsMarkers};
 
+use crate::effect::was_refused;
 use crate::hall::Hall;
 use crate::seat::Seat;
 use crate::step::{Limited, Step};
@@ -143,7 +144,7 @@ fn ask_or_wait<R: Drop, L: Naming + Limited, T: Wait>(
     requires { IsMarkers event }
     ensures { (first : Seen (Step R)) → AsksOnly L.limits IsMarkers first seat.old → AsksOnly L.limits IsMarkers first seat.new }
 {
-    if was_refused(&seat.ask_once(rt, hall, None, event, None)) {
+    if was_refused(&seat.ask_once(rt, hall, event, None)) {
         hall.wait_for_marker(rt);
     }
 }
@@ -161,7 +162,7 @@ pub fn handler_loop<R: Drop, L: Naming + Limited, T: Wait>(
         if hall.wait_for_pending(rt) {
             break;
         }
-        if was_refused(&seat.ask_once(rt, hall, None, Event::HandOver, None)) {
+        if was_refused(&seat.ask_once(rt, hall, Event::HandOver, None)) {
             hall.wait_for_handler(rt);
         }
     }
@@ -220,7 +221,7 @@ fn take_up<R: Resource + Drop, L: Naming + Limited, T: Wait>(
     ensures none { (first : Seen (Step R)) → CleansIn R.handling L.limits first None seat.old
         → IfErr result (λ _. CleansIn R.handling L.limits first None seat.new) }
 {
-    match job_of(seat.ask_once(rt, hall, None, Event::TakeUp, None)) {
+    match job_of(seat.ask_once(rt, hall, Event::TakeUp, None)) {
         Ok(job) => Ok(job),
         Err(answer) => Err(refuses(answer)),
     }
@@ -236,17 +237,10 @@ fn finish<R: Resource + Drop, L: Naming + Limited, T: Wait>(
     ensures { (first : Seen (Step R)) → CleansIn R.handling L.limits first (Some job) seat.old
         → CleansIn R.handling L.limits first None seat.new }
 {
-    let reply = seat.ask_once(rt, hall, None, carry_out(CLEANER, job), None);
+    let reply = seat.ask_once(rt, hall, carry_out(CLEANER, job), None);
     !was_refused(&reply)
 }
 
 fn refuses(answer: Answer) -> bool {
     matches!(&answer, Answer::Refused(_))
-}
-
-fn was_refused<R>(reply: &Reply<R>) -> bool {
-    match reply {
-        Reply::Answered { answer, .. } => matches!(answer, Answer::Refused(_)),
-        Reply::Marked(_) => false,
-    }
 }

@@ -1,7 +1,14 @@
 //! A seat as what the asks of a session go to.
 ghost use Rattle.std.specs.Prelude.{◌≡◌, IfErr, None};
+ghost use Rattle.jlr_machine.specs.Data.{Brings};
+ghost use Rattle.jlr_event.specs.Events.{ask_of};
+ghost use Rattle.jlr_event.specs.declared.event.Event.TheVariants.{CheckOut, Remove};
+ghost use Rattle.jlr_event.specs.declared.event.Reply.TheVariants.{Answered};
+ghost use Rattle.jlr_machine.specs.declared.ask.Answer.TheVariants.{Refused};
+ghost use Rattle.jlr_hall.specs.Asking.{Asked};
 
-use crate::hall::{Hall, Removal};
+use crate::chairs::Removal;
+use crate::hall::Hall;
 use crate::seat::Seat;
 use crate::step::Limited;
 use jlr_event::event::{Event, Reply};
@@ -46,6 +53,25 @@ impl<'a, R, L: Naming + Limited, T> SeatPort<'a, R, L, T> {
     }
 }
 
+impl<'a, R: Drop, L: Naming + Limited, T: Wait> SeatPort<'a, R, L, T> {
+    /// A `Remove`, which waits.
+    fn remove(&mut self, removal: Removal) -> Reply<R>
+        ensures asked { Asked L.limits self.old (Remove removal.mutator removal.queue) result self.new }
+        ensures named { self.new.seat ≡ self.old.seat }
+    {
+        self.seat.remove(self.rt, self.hall, removal)
+    }
+
+    /// Any other event.
+    fn ask_once(&mut self, event: Event<R>, room: Option<CallRoom>) -> Reply<R>
+        requires { Brings room (ask_of event) }
+        ensures asked { Asked L.limits self.old event result self.new }
+        ensures named { self.new.seat ≡ self.old.seat }
+    {
+        self.seat.ask_once(self.rt, self.hall, event, room)
+    }
+}
+
 impl<'a, R: Drop, L: Naming + Limited, T: Wait> Port<R> for SeatPort<'a, R, L, T> {
     ghost use Rattle.jlr_machine.specs.declared.ask.Answer.TheVariants.{Refused};
     ghost use Rattle.jlr_machine.specs.Data.{Brings};
@@ -79,8 +105,10 @@ impl<'a, R: Drop, L: Naming + Limited, T: Wait> Port<R> for SeatPort<'a, R, L, T
         ensures asked { Asked L.limits self.old event result self.new }
         ensures named { self.new.seat ≡ self.old.seat }
     {
-        let removal = Removal::of(&event);
-        self.seat.ask_once(self.rt, self.hall, removal, event, room)
+        match event {
+            Event::Remove { mutator, queue } => self.remove(Removal { mutator, queue }),
+            event => self.ask_once(event, room),
+        }
     }
 
     fn settle(&mut self)

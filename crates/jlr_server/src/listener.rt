@@ -1,27 +1,167 @@
-//! Clients that come over a Unix socket.
-use crate::server::Acceptor;
+//! Clients that come over a Unix socket, and who watches them.
+ghost use Rattle.std.specs.Prelude.{◌≡◌, true, MatchOption};
+ghost use Rattle.jlr_server.specs.News.{TellsAsked};
+
+use crate::acceptor::Acceptor;
+use crate::socket_file::{listen, remove_own};
+use crate::watch::{Closing, News, Watcher};
+use jlr_device::places::Inode;
 use jlr_types::Fault;
-use std::io;
-use std::net::Net;
+use mio::unix::SourceFd;
+use mio::{Events, Interest, Poll, Registry, Token, Waker};
+use std::alloc::Global;
+use std::io::{self, Write};
+use std::net::Shutdown;
+use std::os::fd::{AsRawFd, RawFd};
 use std::os::unix::net::{UnixListener, UnixStream};
-use std::rt::Files;
+use std::sync::{Mutex, Wait};
+
+/// What who asked the server to end is told, once it has ended in order.
+const ENDED: &[u8] = b".";
+
+/// More than can wait at the socket of control.
+const MOST_ASKERS: u32 = 10_000;
+
+/// The token of the bell that dismisses the watcher.
+const OVER: usize = 0;
+
+/// The token of the socket on which the server is asked to end.
+const CONTROL: usize = 1;
+
+/// The first token of a client, that of number 0.
+const CLIENTS: usize = 2;
+
+/// Where a socket is made, and the rights of its file, where they are not to be those of the umask.
+#[derive(Clone, Copy)]
+pub struct SocketPlace<'a> {
+    pub path: &'a str,
+    pub mode: Option<u32>,
+}
+
+/// The connection of a client that is watched.
+#[derive(Drop)]
+struct Line {
+    client: u32,
+    stream: UnixStream,
+}
+
+/// The connections of the clients that are watched, and whether they were closed.
+#[derive(Drop)]
+struct Lines {
+    closing: Option<Closing>,
+    open: Vec<Line>,
+}
+
+impl Lines {
+    fn close(&mut self, closing: Closing) {
+        self.closing = Some(closing);
+        for line in &self.open {
+            let _ = line.stream.shutdown(match closing {
+                Closing::Drained => Shutdown::Read,
+                Closing::Cut => Shutdown::Both,
+            });
+        }
+    }
+
+    fn leave(&mut self, client: u32) {
+        self.open.retain(|line| line.client != client);
+    }
+}
+
+/// The files that belong to a listener. They stay when it is dropped.
+#[derive(Clone, Copy)]
+pub struct SocketFiles {
+    pub socket: Inode,
+    pub control: Option<Inode>,
+}
 
 /// A Unix socket on which clients are waited for.
 #[derive(Drop)]
 pub struct Listener {
     listener: UnixListener,
+    registry: Registry,
+    over: Waker,
+    lines: Mutex<Lines>,
 }
 
 impl Listener {
-    /// A socket at this path. Its file is made, and stays when the listener is dropped.
+    /// A socket for clients, and who watches them. Where there is a place of control, another socket is made there, once the first listens:
+    /// who connects to it asks the server to end, and the second one to end at once. Where the second cannot be made, the file of the first
+    /// is removed.
     ///
     /// # Errors
-    /// Where the file cannot be made, also where there is one.
-    pub fn bind<R: Files + Net>(rt: &R, path: &str) -> io::Result<Self> {
-        Ok(Listener {
-            listener: UnixListener::bind(rt, path)?,
-        })
+    /// As `listen`, or where the system has no more descriptors.
+    pub fn bind(
+        rt: &HostRuntime,
+        alloc: Global,
+        place: SocketPlace<'_>,
+        control: Option<SocketPlace<'_>>,
+    ) -> io::Result<(Self, LineWatcher, SocketFiles)> {
+        let poll = Poll::new(rt)?;
+        let registry = poll.registry().try_clone()?;
+        let over = Waker::new(poll.registry(), Token(OVER))?;
+        let events = Events::with_capacity(alloc, 1)?;
+        let (listener, socket) = listen(rt, alloc, place.path, place.mode)?;
+        let (control, control_file) = match control_at(rt, alloc, poll.registry(), control) {
+            Ok(control) => control,
+            Err(error) => {
+                remove_own(rt, place.path, socket);
+                return Err(error);
+            }
+        };
+        Ok((
+            Listener {
+                listener,
+                registry,
+                over,
+                lines: Mutex::new(Lines {
+                    closing: None,
+                    open: Vec::new(alloc),
+                }),
+            },
+            LineWatcher {
+                poll,
+                events,
+                control,
+                is_asked: false,
+                ready: false,
+                askers: Vec::new(alloc),
+            },
+            SocketFiles {
+                socket,
+                control: control_file,
+            },
+        ))
     }
+}
+
+/// The socket of control at a place, if there is to be one. No file is left where it cannot be watched.
+fn control_at(
+    rt: &HostRuntime,
+    alloc: Global,
+    registry: &Registry,
+    place: Option<SocketPlace<'_>>,
+) -> io::Result<(Option<UnixListener>, Option<Inode>)> {
+    let Some(place) = place else {
+        return Ok((None, None));
+    };
+    let (control, file) = listen(rt, alloc, place.path, place.mode)?;
+    match watch_control(registry, &control) {
+        Ok(()) => Ok((Some(control), Some(file))),
+        Err(error) => {
+            remove_own(rt, place.path, file);
+            Err(error)
+        }
+    }
+}
+
+fn watch_control(registry: &Registry, control: &UnixListener) -> io::Result<()> {
+    control.set_nonblocking(true)?;
+    registry.register(
+        &mut SourceFd(&control.as_raw_fd()),
+        Token(CONTROL),
+        Interest::READABLE,
+    )
 }
 
 impl Acceptor for Listener {
@@ -37,5 +177,146 @@ impl Acceptor for Listener {
             Ok(replies) => Ok((stream, replies)),
             Err(_) => Err(Fault::Other),
         }
+    }
+
+    fn watch<T: Wait>(&self, rt: &T, client: u32, input: &UnixStream) -> Result<(), Fault> {
+        let Ok(stream) = input.try_clone() else {
+            return Err(Fault::Other);
+        };
+        let mut lines = self.lines.lock(rt);
+        let lines = &mut *lines;
+        if lines.closing.is_some() || lines.open.push(Line { client, stream }).is_err() {
+            return Err(Fault::Other);
+        }
+        let token = Token(CLIENTS + client as usize);
+        let watched = self.registry.register(
+            &mut SourceFd(&input.as_raw_fd()),
+            token,
+            Interest::PRIORITY,
+        );
+        if watched.is_err() {
+            lines.leave(client);
+            return Err(Fault::Other);
+        }
+        Ok(())
+    }
+
+    fn descriptor(&self, input: &UnixStream) -> Option<RawFd> {
+        Some(input.as_raw_fd())
+    }
+
+    fn leave<T: Wait>(&self, rt: &T, client: u32) {
+        self.lines.lock(rt).leave(client);
+    }
+
+    fn close<T: Wait>(&self, rt: &T, closing: Closing) {
+        self.lines.lock(rt).close(closing);
+        libc::net::shutdown(self.listener.as_raw_fd(), libc::net::SHUT_RDWR);
+    }
+
+    fn dismiss(&self) {
+        let _ = self.over.wake();
+    }
+}
+
+/// Waits for clients that go, and for who asks the server to end.
+#[derive(Drop)]
+pub struct LineWatcher {
+    poll: Poll,
+    events: Events,
+    control: Option<UnixListener>,
+    // Whether the server was asked to end.
+    is_asked: bool,
+    // Whether somebody may wait at the socket of control.
+    ready: bool,
+    // Who asked. They are connected until the watcher is dropped.
+    askers: Vec<UnixStream>,
+}
+
+impl LineWatcher {
+    /// Says to who asked the server to end whether it ended in order, and lets them go.
+    pub fn tell_askers(&mut self, in_order: bool) {
+        if let Some(control) = &self.control {
+            for _ in 0..MOST_ASKERS {
+                let Ok((asker, _)) = control.accept() else {
+                    break;
+                };
+                if let Err(refused) = self.askers.push(asker) {
+                    drop(refused);
+                }
+            }
+        }
+        for asker in &self.askers {
+            if in_order {
+                let _ = (&mut &*asker).write(ENDED);
+            }
+        }
+    }
+
+    /// What the next event tells, if it is news. A wait that fails is the last one.
+    fn next(&mut self) -> Option<News>
+        ensures told { MatchOption result (Unit {0}) (λ news. TellsAsked news self.new.is_asked) }
+        ensures stays { self.old.is_asked ≡ true → self.new.is_asked ≡ true }
+    {
+        if self.ready {
+            return self.order();
+        }
+        if self.poll.poll(&mut self.events, None).is_err() {
+            return Some(News::Over);
+        }
+        let event = self.events.iter().next()?;
+        match event.token().0 {
+            OVER => Some(News::Over),
+            CONTROL => {
+                self.ready = true;
+                None
+            }
+            token => {
+                if event.is_write_closed() || event.is_error() {
+                    return Some(News::Gone(client_of(token)));
+                }
+                None
+            }
+        }
+    }
+
+    /// What the next one who waits at the socket of control asks for: the first that the server ends, any other that it ends at once.
+    fn order(&mut self) -> Option<News>
+        ensures told { MatchOption result (Unit {0}) (λ news. TellsAsked news self.new.is_asked) }
+        ensures stays { self.old.is_asked ≡ true → self.new.is_asked ≡ true }
+    {
+        let control = self.control.as_ref()?;
+        let Ok((asker, _)) = control.accept() else {
+            self.ready = false;
+            return None;
+        };
+        let closing = if self.is_asked {
+            Closing::Cut
+        } else {
+            Closing::Drained
+        };
+        self.is_asked = true;
+        if let Err(refused) = self.askers.push(asker) {
+            drop(refused);
+        }
+        Some(News::Asked(closing))
+    }
+}
+
+/// The client that has this token.
+fn client_of(token: usize) -> u32 {
+    u32::try_from(token.saturating_sub(CLIENTS)).unwrap_or(u32::MAX)
+}
+
+impl Watcher for LineWatcher {
+    ghost asked = { λ w. w.is_asked };
+
+    fn news<T: Wait>(&mut self, rt: &T) -> News {
+        for _ in rt.forever() {
+            if let Some(news) = self.next() {
+                return news;
+            }
+        }
+        News::Over
     }
 }

@@ -1,61 +1,50 @@
 //! A heap that several clients share: a worker for each session's seat, and the three loops beside them.
-ghost use Rattle.std.specs.Prelude.{◌≡◌, ◌≤◌, ◌+◌, ℕ, List, IfOk, length};
-ghost use Rattle.std.specs.Io.KnownBytes.{Appends, Consumes};
+ghost use Rattle.std.specs.Prelude.{◌≡◌, ◌⊎◌, ◌<◌, ◌+◌, ◌++◌, ◌∷◌, ℕ, true, false, [], IfOk, IfSome, length, map, slice_index_or};
+ghost use Rattle.std.specs.List.{sum_by};
 ghost use Rattle.std.specs.Thread.{IsSend, IsSync};
-ghost use Rattle.jlr_session.specs.Limits.{FindsEnd, most_bytes};
-ghost use Rattle.jlr_session.specs.Serving.{Serves};
-ghost use Rattle.jlr_session.specs.declared.shell.SessionEnd.{SessionEnd};
-ghost use Rattle.jlr_hall.specs.Ports.{by_seat};
-ghost use Rattle.jlr_hall.specs.Closing.{HasOneHistory};
+ghost use Rattle.jlr_log.specs.Seeing.{Seen, seen};
+ghost use Rattle.jlr_hall.specs.declared.step.Step.{Step};
+ghost use Rattle.jlr_server.specs.Serving.{AllWork, IsServed, IsWork, accepts_of, seat_in};
 ghost use Rattle.jlr_server.specs.declared.server.ServeFault.TheVariants.{Close, NoMemory};
 
+use crate::acceptor::Acceptor;
+use crate::accepts::{Accepts, Phase};
+use crate::watch::{Heard, News, NoWatcher, Watcher};
+use crate::worked::Worked;
 use jlr_device::{Device, Resource};
 use jlr_hall::Book;
 use jlr_hall::closing::CloseFault;
 use jlr_hall::hall::Hall;
 use jlr_hall::history::{Blank, Naming};
-use jlr_hall::loops::{cleaner_loop, handler_loop, marker_loop};
-use jlr_hall::port::SeatPort;
 use jlr_hall::seat::Seat;
 use jlr_hall::step::{Limited, Step};
-use jlr_session::serve::serve;
 use jlr_types::{Fault, Limits};
 use std::alloc::{AllocError, AllocFailed, Global};
-use std::io::{Read, Write};
-use std::sync::{Condvar, Mutex, Wait};
+use std::marker::Model;
+use std::sync::Wait;
 use std::thread;
 use std::thread::{JoinHandle, Threads};
-
-/// Gives clients, one after the other, to whoever asks.
-pub trait Acceptor {
-    /// What a client sends.
-    type In: Read + Drop;
-    /// Where its replies go.
-    type Out: Write + Drop;
-
-    /// The next client. It may wait for one.
-    ///
-    /// # Errors
-    /// Why none came.
-    fn accept(&self) -> Result<(Self::In, Self::Out), Fault>;
-}
 
 /// What was served.
 #[derive(Drop)]
 pub struct Served<R> {
-    /// How many clients were waited for, those that failed among them.
+    /// How many clients were waited for, those that did not come among them.
     pub accepts: u32,
-    /// The history, with which each seat agrees.
+    /// How many of these did not come, or could not be watched.
+    pub missed: u32,
+    /// The end of the one history.
     pub book: Book<R>,
 }
 
 /// Why nothing is given back of what was served.
 #[derive(Clone, Copy, PartialEq, Eq, Debug)]
 pub enum ServeFault {
-    /// A seat does not agree with the history.
+    /// A seat was not handed back. It never comes.
     Close(CloseFault),
     /// A thread could not be started.
     Start,
+    /// The sessions that were served do not come to the accepts that were made. It never comes.
+    Miscounted,
     /// There was no memory.
     NoMemory,
 }
@@ -84,125 +73,11 @@ impl From<CloseFault> for ServeFault {
     }
 }
 
-/// Whether the workers may accept.
-#[derive(Clone, Copy, PartialEq, Eq)]
-enum Phase {
-    Starting,
-    Open,
-    GivenUp,
-}
-
-/// How many accepts were made and may be, and how many workers are not out yet.
+/// What was served, and who watched, as it was left.
 #[derive(Drop)]
-struct Numbers {
-    phase: Phase,
-    made: u32,
-    total: u32,
-    workers: u32,
-}
-
-/// The numbers under their lock.
-#[derive(Drop)]
-struct Accepts {
-    numbers: Mutex<Numbers>,
-    opened: Condvar,
-}
-
-impl Accepts {
-    fn new(total: u32, workers: u32) -> Self {
-        Accepts {
-            numbers: Mutex::new(Numbers {
-                phase: Phase::Starting,
-                made: 0,
-                total,
-                workers,
-            }),
-            opened: Condvar::new(),
-        }
-    }
-
-    /// Lets the workers begin, or go.
-    fn begin<T: Wait>(&self, rt: &T, phase: Phase) {
-        self.numbers.lock(rt).phase = phase;
-        self.opened.notify_all();
-    }
-
-    /// Takes one of the accepts, if one is left. It waits until all threads are there.
-    fn take<T: Wait>(&self, rt: &T) -> bool {
-        let mut numbers = self
-            .opened
-            .wait_while(rt, self.numbers.lock(rt), |n| n.phase == Phase::Starting);
-        if numbers.phase == Phase::GivenUp || numbers.made >= numbers.total {
-            return false;
-        }
-        numbers.made += 1;
-        true
-    }
-
-    /// How many accepts were made.
-    fn made(self) -> u32 {
-        self.numbers.into_inner().made
-    }
-
-    /// A worker goes. Whether it was the last.
-    fn go<T: Wait>(&self, rt: &T) -> bool {
-        let mut numbers = self.numbers.lock(rt);
-        numbers.workers = numbers.workers.saturating_sub(1);
-        numbers.workers == 0
-    }
-}
-
-/// A session over a seat: the client's lines are carried out in the name of the seat's mutator, and what was asked and answered stands in its
-/// transcript. The device opens the client's files and sockets.
-fn serve_seat<I: Read, O: Write, D: Device, L: Naming + Limited, T: Wait>(
-    rt: &T,
-    hall: &Hall<D::Res, L>,
-    seat: Seat<D::Res, L>,
-    input: &mut I,
-    output: &mut O,
-    device: &mut D,
-) -> Seat<D::Res, L>
-where
-    D::Res: Drop,
-    ensures { (end : SessionEnd) × (bytes : List ℕ) × (out : List ℕ)
-        × Consumes (I.remaining input.old) (I.remaining input.new) bytes
-        × Appends (O.contents output.old) (O.contents output.new) out
-        × (length bytes ≤ most_bytes)
-        × Serves (by_seat L.limits) (record { count = D.count; opens = D.may_open; connects = D.may_connect; failures = D.Res.handling.count })
-        D.Res.handling
-        (FindsEnd (I.remaining input.new) bytes) end bytes seat device.old out result device.new }
-{
-    let mut port = SeatPort::new(rt, hall, seat);
-    let _end = serve(input, output, &mut port, device);
-    port.into_seat()
-}
-
-/// Serves clients by a seat while accepts are left. The last worker that goes ends the hall.
-fn worker<A: Acceptor, D: Device + Drop, L: Naming + Limited, T: Wait>(
-    rt: &T,
-    hall: &Hall<D::Res, L>,
-    acceptor: &A,
-    accepts: &Accepts,
-    seat: Seat<D::Res, L>,
-    device: D,
-) -> Seat<D::Res, L>
-where
-    D::Res: Drop,
-{
-    let mut seat = seat;
-    let mut device = device;
-    for _ in rt.forever() {
-        if !accepts.take(rt) {
-            break;
-        }
-        if let Ok((mut input, mut output)) = acceptor.accept() {
-            seat = serve_seat(rt, hall, seat, &mut input, &mut output, &mut device);
-        }
-    }
-    if accepts.go(rt) {
-        hall.stop(rt);
-    }
-    seat
+pub struct Watched<R, W> {
+    pub served: Served<R>,
+    pub watcher: W,
 }
 
 /// Who sits on a seat.
@@ -214,6 +89,147 @@ enum Post<D> {
     Marker(u32),
     Handler,
     Cleaner,
+}
+
+/// A seat at which nothing was asked yet, and who is to sit there.
+#[derive(Drop)]
+struct Manned<A: Acceptor, D: Device, L: Naming + Limited> {
+    work: Worked<A, D, L>,
+    post: Post<D>,
+    ghost fresh: { work.seat ≡ seen work.seat.seat [] },
+}
+
+/// Serves clients by a seat while accepts are left.
+fn worker<A: Acceptor, D: Device + Drop, L: Naming + Limited, T: Wait>(
+    rt: &T,
+    hall: &Hall<D::Res, L>,
+    acceptor: &A,
+    accepts: &Accepts,
+    seat: Seat<D::Res, L>,
+    device: D,
+) -> Worked<A, D, L>
+where
+    D::Res: Drop,
+    requires fresh { seat ≡ seen seat.seat [] }
+    requires session { seat.seat < L.limits.sessions }
+{
+    let mut work = Worked::new(seat);
+    let mut device = device;
+    for _ in rt.forever() {
+        let closings = hall.closings(rt);
+        let Some(client) = accepts.take(rt) else {
+            break;
+        };
+        match acceptor.accept() {
+            Ok((mut input, mut output)) => {
+                hall.sit(rt, work.index(), client);
+                match acceptor.watch(rt, client, &input) {
+                    Ok(()) => {
+                        device.attend(acceptor.descriptor(&input));
+                        work = work.serve(rt, hall, &mut input, &mut output, &mut device);
+                        device.attend(None);
+                        acceptor.leave(rt, client);
+                    }
+                    Err(_) => work = work.miss(),
+                }
+            }
+            Err(_) => {
+                if accepts.counts(rt) {
+                    work = work.miss();
+                    hall.wait_for_closing(rt, closings);
+                }
+            }
+        }
+    }
+    work
+}
+
+/// A worker's seat until no accepts are left. The last worker that goes ends the hall and dismisses the watcher.
+fn serve_at<A: Acceptor, D: Device + Drop, L: Naming + Limited, T: Wait>(
+    rt: &T,
+    hall: &Hall<D::Res, L>,
+    acceptor: &A,
+    accepts: &Accepts,
+    seat: Seat<D::Res, L>,
+    device: D,
+) -> Worked<A, D, L>
+where
+    D::Res: Drop,
+    requires fresh { seat ≡ seen seat.seat [] }
+    requires session { seat.seat < L.limits.sessions }
+{
+    let work = worker(rt, hall, acceptor, accepts, seat, device);
+    if accepts.go(rt) {
+        hall.stop(rt);
+        acceptor.dismiss();
+    }
+    work
+}
+
+/// Hears what a watcher tells until it is over, and tells it to the hall and the workers.
+fn hear<A: Acceptor, R: Drop, L: Naming + Limited, W: Watcher, T: Wait>(
+    rt: &T,
+    hall: &Hall<R, L>,
+    acceptor: &A,
+    accepts: &Accepts,
+    watcher: W,
+) -> Heard<W> {
+    let mut watcher = watcher;
+    let mut asked = false;
+    for _ in rt.forever() {
+        match watcher.news(rt) {
+            News::Gone(client) => hall.call_off(rt, client),
+            News::Asked(closing) => {
+                asked = true;
+                accepts.begin(rt, Phase::Over);
+                hall.call_all_off(rt);
+                acceptor.close(rt, closing);
+            }
+            News::Over => break,
+        }
+    }
+    Heard { watcher, asked }
+}
+
+/// What a thread does on its seat, until the hall is to end.
+fn sit<A: Acceptor, D: Device + Drop, L: Naming + Limited, T: Wait>(
+    rt: &T,
+    hall: &Hall<D::Res, L>,
+    acceptor: &A,
+    accepts: &Accepts,
+    manned: Manned<A, D, L>,
+) -> Worked<A, D, L>
+where
+    D::Res: Drop,
+{
+    let Manned { work, post } = manned;
+    let (seat, ..) = work.into_parts();
+    let index = seat.index();
+    let sessions = hall.sessions();
+    match post {
+        Post::Session(device) => {
+            if index < sessions {
+                return serve_at(rt, hall, acceptor, accepts, seat, device);
+            }
+            drop(device);
+        }
+        Post::Marker(budget) => {
+            if index == sessions {
+                return Worked::mark(rt, hall, seat, budget);
+            }
+        }
+        Post::Handler => {
+            if index == sessions + 1 {
+                return Worked::hand_over(rt, hall, seat);
+            }
+        }
+        Post::Cleaner => {
+            if index == sessions + 2 {
+                return Worked::clean(rt, hall, seat);
+            }
+        }
+    }
+    Worked::new(seat)
 }
 
 /// Who sits on each seat of a hall: a session for each device, then the loops. A piece of marking has this budget.
@@ -231,28 +247,59 @@ fn posts<D: Drop>(alloc: Global, devices: Vec<D>, budget: u32) -> Result<Vec<Pos
     Ok(posts)
 }
 
-/// What a thread does on its seat, until the hall is to end.
-fn sit<A: Acceptor, D: Device + Drop, L: Naming + Limited, T: Wait>(
-    rt: &T,
-    hall: &Hall<D::Res, L>,
-    acceptor: &A,
-    accepts: &Accepts,
-    seat: Seat<D::Res, L>,
-    post: Post<D>,
-) -> Seat<D::Res, L>
+/// The seats with who is to sit there, the last first.
+///
+/// # Errors
+/// `AllocError` where there is no memory.
+fn with_posts<A: Acceptor, D: Device + Drop, L: Naming + Limited>(
+    alloc: Global,
+    seats: Vec<Seat<D::Res, L>>,
+    posts: Vec<Post<D>>,
+) -> Result<Vec<Manned<A, D, L>>, AllocError>
 where
     D::Res: Drop,
+    requires fresh { (k : ℕ) (p : Seen (Step D.Res)) → k < length seats.items → slice_index_or seats.items k p ≡ seen k [] }
 {
-    match post {
-        Post::Session(device) => worker(rt, hall, acceptor, accepts, seat, device),
-        Post::Marker(budget) => marker_loop(seat, rt, hall, budget),
-        Post::Handler => handler_loop(seat, rt, hall),
-        Post::Cleaner => cleaner_loop(seat, rt, hall),
+    let mut seats = seats;
+    let mut posts = posts;
+    let Ok(mut manned) = Vec::with_capacity(alloc, seats.len()) else {
+        drop((seats, posts));
+        return Err(AllocError);
+    };
+    for _ in 0..seats.len() {
+        let Some(work) = next_seat::<A, D, L>(&mut seats) else {
+            break;
+        };
+        let Some(post) = posts.pop() else {
+            drop(work);
+            break;
+        };
+        if let Err(refused) = manned.push(Manned { work, post }) {
+            drop(refused);
+        }
+    }
+    drop((seats, posts));
+    Ok(manned)
+}
+
+/// The last of these seats, if there is one. It asked nothing yet, as those that are left.
+fn next_seat<A: Acceptor, D: Device, L: Naming + Limited>(
+    seats: &mut Vec<Seat<D::Res, L>>,
+) -> Option<Worked<A, D, L>>
+where
+    D::Res: Drop,
+    requires fresh { (k : ℕ) (p : Seen (Step D.Res)) → k < length seats.old.items → slice_index_or seats.old.items k p ≡ seen k [] }
+    ensures fresh { (k : ℕ) (p : Seen (Step D.Res)) → k < length seats.new.items → slice_index_or seats.new.items k p ≡ seen k [] }
+    ensures one { IfSome result (λ work. work.seat ≡ seen work.seat.seat []) }
+{
+    match seats.pop() {
+        Some(seat) => Some(Worked::new(seat)),
+        None => None,
     }
 }
 
-/// A thread on each seat, until all are done. No client is accepted before all threads are there; where one cannot be started, none is. The
-/// seats, as the threads left them: first those of the sessions, which are done first.
+/// A thread on each seat, until all are done; meanwhile this one hears the watcher. No client is accepted before all threads are there; where one cannot be
+/// started, none is. What was done at the seats, those of the sessions first to be done, and what the watcher heard.
 ///
 /// # Errors
 /// `Start` where a thread cannot be started, `NoMemory` where there is no memory.
@@ -260,6 +307,7 @@ fn run_threads<
     A: Acceptor + Sync,
     D: Device + Drop + Send,
     L: Naming + Limited + Send + Sync,
+    W: Watcher + Drop,
     T: Threads + Wait + Sync,
 >(
     rt: &T,
@@ -267,9 +315,9 @@ fn run_threads<
     hall: &Hall<D::Res, L>,
     acceptor: &A,
     accepts: &Accepts,
-    seats: Vec<Seat<D::Res, L>>,
-    posts: Vec<Post<D>>,
-) -> Result<Vec<Seat<D::Res, L>>, ServeFault>
+    manned: Vec<Manned<A, D, L>>,
+    watcher: W,
+) -> Result<(Vec<Worked<A, D, L>>, Heard<W>), ServeFault>
 where
     A::In: Send,
     A::Out: Send,
@@ -278,20 +326,20 @@ where
     thread::scope(
         thread::scope_env(),
         rt,
-        move |scope| -> Result<Vec<Seat<D::Res, L>>, ServeFault>
+        move |scope| -> Result<(Vec<Worked<A, D, L>>, Heard<W>), ServeFault>
             requires { IsSync T.row × IsSend L.row × IsSync L.row × IsSync A.row × IsSend D.row × IsSend A.In.row × IsSend A.Out.row × IsSend D.Res.row }
         {
-            let Ok(back) = Vec::with_capacity(alloc, seats.len()) else {
-                drop((seats, posts));
+            let Ok(back) = Vec::with_capacity(alloc, manned.len()) else {
+                drop((manned, watcher));
                 return Err(ServeFault::NoMemory);
             };
-            let Ok(mut running) = Vec::with_capacity(alloc, seats.len()) else {
-                drop((seats, posts, back));
+            let Ok(mut running) = Vec::with_capacity(alloc, manned.len()) else {
+                drop((manned, back, watcher));
                 return Err(ServeFault::NoMemory);
             };
             let mut all = true;
-            for (seat, post) in seats.into_iter().zip(posts) {
-                match scope.spawn(move || sit(rt, hall, acceptor, accepts, seat, post)) {
+            for seat in manned {
+                match scope.spawn(move || sit(rt, hall, acceptor, accepts, seat)) {
                     Ok(thread) => all = is_added(&mut running, thread) && all,
                     Err(refused) => {
                         drop(refused);
@@ -299,8 +347,9 @@ where
                     }
                 }
             }
-            begin(rt, hall, accepts, all);
-            joined(rt, running, back, all)
+            begin(rt, hall, acceptor, accepts, all);
+            let heard = hear(rt, hall, acceptor, accepts, watcher);
+            joined(rt, running, back, heard, all)
         },
     )
 }
@@ -317,50 +366,62 @@ fn is_added<I: Drop>(list: &mut Vec<I>, item: I) -> bool {
 }
 
 /// Lets the workers accept where all threads are there; else they go, and the hall ends.
-fn begin<R: Drop, L: Naming + Limited, T: Wait>(
+fn begin<A: Acceptor, R: Drop, L: Naming + Limited, T: Wait>(
     rt: &T,
     hall: &Hall<R, L>,
+    acceptor: &A,
     accepts: &Accepts,
     all: bool,
 ) {
     if all {
         accepts.begin(rt, Phase::Open);
     } else {
-        accepts.begin(rt, Phase::GivenUp);
+        accepts.begin(rt, Phase::Over);
         hall.stop(rt);
+        acceptor.dismiss();
     }
 }
 
-/// The seats, as the threads left them, in a list that has room for them. All threads are waited for.
+/// What the threads did, in a list that has room for it. All threads are waited for.
 ///
 /// # Errors
 /// `Start` where not all threads are there.
-fn joined<R: Drop + Send, L: Naming + Limited + Send, T: Threads + Wait>(
+fn joined<
+    A: Acceptor,
+    D: Device + Drop + Send,
+    L: Naming + Limited + Send,
+    W: Watcher + Drop,
+    T: Threads + Wait,
+>(
     rt: &T,
-    running: Vec<JoinHandle<Seat<R, L>>>,
-    back: Vec<Seat<R, L>>,
+    running: Vec<JoinHandle<Worked<A, D, L>>>,
+    back: Vec<Worked<A, D, L>>,
+    heard: Heard<W>,
     all: bool,
-) -> Result<Vec<Seat<R, L>>, ServeFault> {
+) -> Result<(Vec<Worked<A, D, L>>, Heard<W>), ServeFault>
+where
+    A::In: Send,
+    D::Res: Drop + Send,
+{
     let mut back = back;
     let mut all = all;
     for thread in running {
         all = is_added(&mut back, thread.join(rt)) && all;
     }
     if all {
-        return Ok(back);
+        return Ok((back, heard));
     }
-    drop(back);
+    drop((back, heard));
     Err(ServeFault::Start)
 }
 
 /// Serves as many clients as `total` says, one after the other at each session's seat, over the heap of an empty machine of these limits.
 /// A worker accepts clients for each seat, and opens their files and sockets by its device; the three loops run beside them, the marker's
-/// with the budget of the limits. An accept that fails is one of them too. The last worker that goes ends the hall; then its transcripts
-/// are held against the history. No client is accepted before all threads run.
+/// with the budget of the limits. An accept that fails is one of them too. The last worker that goes ends the hall. No client is accepted
+/// before all threads run.
 ///
 /// # Errors
 /// `Start` where a thread cannot be started, `NoMemory` where there is no room for the heap, its seats or its threads: then no client was accepted.
-/// `Close` where a seat does not agree with the history.
 pub fn serve_over<
     A: Acceptor + Sync,
     D: Device + Drop + Send,
@@ -382,35 +443,189 @@ where
     requires devices { length devices.items ≡ limits.sessions }
     requires name { blank ≡ L.table }
     requires limits { limits ≡ L.limits }
-    ensures history { IfOk result (λ served. HasOneHistory limits served.book) }
+    ensures served { IfOk result (λ served. IsServed limits
+        (record { count = D.count; opens = D.may_open; connects = D.may_connect; failures = D.Res.handling.count })
+        D.Res.handling A.fails total false served.accepts served.missed served.book) }
 {
-    let posts = posts(alloc, devices, limits.budget)?;
+    let done = serve_watched::<A, D, L, NoWatcher, T>(
+        rt, alloc, limits, total, acceptor, NoWatcher, devices, blank,
+    );
+    match done {
+        Ok(Watched { served, .. }) => Ok(served),
+        Err(fault) => Err(fault),
+    }
+}
+
+/// The same with a watcher, who tells of clients that go, whose waiting `remove`s then end, and of who asks the server to end. Then no client
+/// is accepted any more, no `remove` waits, and the clients that are there are answered what they sent.
+///
+/// # Errors
+/// As `serve_over`.
+pub fn serve_watched<
+    A: Acceptor + Sync,
+    D: Device + Drop + Send,
+    L: Naming + Limited + Send + Sync,
+    W: Watcher + Drop,
+    T: Threads + Wait + Sync,
+>(
+    rt: &T,
+    alloc: Global,
+    limits: Limits,
+    total: u32,
+    acceptor: &A,
+    watcher: W,
+    devices: Vec<D>,
+    blank: Blank<Step<D::Res>>,
+) -> Result<Watched<D::Res, W>, ServeFault>
+where
+    A::In: Send,
+    A::Out: Send,
+    D::Res: Drop + Send,
+    requires devices { length devices.items ≡ limits.sessions }
+    requires name { blank ≡ L.table }
+    requires limits { limits ≡ L.limits }
+    ensures served { IfOk result (λ watched. IsServed limits
+        (record { count = D.count; opens = D.may_open; connects = D.may_connect; failures = D.Res.handling.count })
+        D.Res.handling A.fails total (W.asked watched.watcher) watched.served.accepts watched.served.missed watched.served.book) }
+{
+    let posts = match posts(alloc, devices, limits.budget) {
+        Ok(posts) => posts,
+        Err(_) => {
+            drop(watcher);
+            return Err(ServeFault::NoMemory);
+        }
+    };
     let Ok((hall, seats)) = Hall::<D::Res, L>::open(alloc, limits, blank) else {
-        drop(posts);
+        drop((posts, watcher));
+        return Err(ServeFault::NoMemory);
+    };
+    let Ok(manned) = with_posts(alloc, seats, posts) else {
+        drop((hall, watcher));
         return Err(ServeFault::NoMemory);
     };
     let accepts = Accepts::new(total, limits.sessions);
-    let seats = run_threads(rt, alloc, &hall, acceptor, &accepts, seats, posts);
-    close(hall, seats, accepts.made())
-}
-
-/// What was served, where all threads ran and the seats agree.
-fn close<R: Drop, L: Naming + Limited>(
-    hall: Hall<R, L>,
-    seats: Result<Vec<Seat<R, L>>, ServeFault>,
-    accepts: u32,
-) -> Result<Served<R>, ServeFault>
-    ensures history { IfOk result (λ served. HasOneHistory L.limits served.book) }
-    ensures accepts { IfOk result (λ served. served.accepts ≡ accepts) }
-{
-    match seats {
-        Ok(seats) => Ok(Served {
-            accepts,
-            book: hall.close(seats)?,
-        }),
+    match run_threads(rt, alloc, &hall, acceptor, &accepts, manned, watcher) {
+        Ok((works, heard)) => close(alloc, hall, works, heard, accepts.made(), total),
         Err(fault) => {
-            drop(hall);
+            drop((hall, accepts));
             Err(fault)
         }
     }
+}
+
+/// What was served, where all seats are there and what was done at them comes to the accepts that were made.
+///
+/// # Errors
+/// `Miscounted` and `Close`, which never come, and `NoMemory`.
+fn close<A: Acceptor, D: Device + Drop, L: Naming + Limited, W: Watcher + Drop>(
+    alloc: Global,
+    hall: Hall<D::Res, L>,
+    works: Vec<Worked<A, D, L>>,
+    heard: Heard<W>,
+    accepts: u32,
+    total: u32,
+) -> Result<Watched<D::Res, W>, ServeFault>
+where
+    D::Res: Drop,
+    ensures served { IfOk result (λ watched. IsServed L.limits
+        (record { count = D.count; opens = D.may_open; connects = D.may_connect; failures = D.Res.handling.count })
+        D.Res.handling A.fails total (W.asked watched.watcher) watched.served.accepts watched.served.missed watched.served.book) }
+{
+    let Heard { watcher, asked } = heard;
+    let count = hall.sessions() + 3;
+    if works.len() != usize::from(count) {
+        drop((hall, works, watcher));
+        return Err(ServeFault::Miscounted);
+    }
+    if !are_enough(accepts, total, asked) {
+        drop((hall, works, watcher));
+        return Err(ServeFault::Miscounted);
+    }
+    let Ok(tally) = taken_apart(alloc, works) else {
+        drop((hall, watcher));
+        return Err(ServeFault::NoMemory);
+    };
+    if tally.accepts != accepts {
+        drop((hall, tally, watcher));
+        return Err(ServeFault::Miscounted);
+    }
+    let Tally { seats, missed, .. } = tally;
+    match hall.close(seats) {
+        Ok(book) => Ok(Watched {
+            served: Served {
+                accepts,
+                missed,
+                book,
+            },
+            watcher,
+        }),
+        Err(fault) => {
+            drop(watcher);
+            Err(ServeFault::Close(fault))
+        }
+    }
+}
+
+/// Whether as many accepts were made as were to be, or the server was asked to end.
+fn are_enough(accepts: u32, total: u32, asked: bool) -> bool
+    ensures { result ≡ true → (accepts ≡ total) ⊎ (asked ≡ true) }
+{
+    accepts == total || asked
+}
+
+/// The seats, how many accepts there were at all of them, and how many of these gave no client.
+#[derive(Drop)]
+struct Tally<R, L: Naming + Limited> {
+    seats: Vec<Seat<R, L>>,
+    accepts: u32,
+    missed: u32,
+}
+
+/// Adds what was done at one seat.
+///
+/// # Errors
+/// `AllocError` where there is no memory, or there were 2^32 accepts or more.
+fn add<A: Acceptor, D: Device + Drop, L: Naming + Limited>(
+    tally: &mut Tally<D::Res, L>,
+    work: Worked<A, D, L>,
+) -> Result<(), AllocError>
+where
+    D::Res: Drop,
+    ensures seats { IfOk result (λ _. tally.new.seats.items ≡ tally.old.seats.items ++ work.seat ∷ []) }
+    ensures accepts { IfOk result (λ _. tally.new.accepts ≡ tally.old.accepts + (work.sessions + work.missed)) }
+    ensures missed { IfOk result (λ _. tally.new.missed ≡ tally.old.missed + work.missed) }
+    ensures done { IsWork L.limits (record { count = D.count; opens = D.may_open; connects = D.may_connect; failures = D.Res.handling.count })
+        D.Res.handling A.fails work }
+{
+    let (seat, sessions, missed) = work.into_parts();
+    tally.seats.push(seat)?;
+    let accepts = sessions.checked_add(missed).ok_or(AllocError)?;
+    tally.accepts = tally.accepts.checked_add(accepts).ok_or(AllocError)?;
+    tally.missed = tally.missed.checked_add(missed).ok_or(AllocError)?;
+    Ok(())
+}
+
+/// What was done at all seats.
+///
+/// # Errors
+/// As `add`.
+fn taken_apart<A: Acceptor, D: Device + Drop, L: Naming + Limited>(
+    alloc: Global,
+    works: Vec<Worked<A, D, L>>,
+) -> Result<Tally<D::Res, L>, AllocError>
+where
+    D::Res: Drop,
+    ensures { IfOk result (λ tally. (tally.seats.items ≡ map seat_in works.items) × (tally.accepts ≡ sum_by accepts_of works.items)
+        × (tally.missed ≡ sum_by (λ w. w.missed) works.items)
+        × AllWork L.limits (record { count = D.count; opens = D.may_open; connects = D.may_connect; failures = D.Res.handling.count }) D.Res.handling A.fails works.items) }
+{
+    let mut tally = Tally {
+        seats: Vec::new(alloc),
+        accepts: 0,
+        missed: 0,
+    };
+    for work in works {
+        add(&mut tally, work)?;
+    }
+    Ok(tally)
 }

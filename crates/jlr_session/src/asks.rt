@@ -37,8 +37,8 @@ where
                 open(heap, device, mutator, *mode, path.as_str(), answer)
             }
             Command::Connect { path } => connect(heap, device, mutator, path.as_str(), answer),
-            Command::Read { guard, count } => read(heap, mutator, *guard, *count, answer),
-            Command::Write { guard, bytes } => write(heap, mutator, *guard, bytes, answer),
+            Command::Read { guard, count } => read(heap, device, mutator, *guard, *count, answer),
+            Command::Write { guard, bytes } => write(heap, device, mutator, *guard, bytes, answer),
             Command::Clean { cleanable } => clean(heap, mutator, *cleanable, answer),
             Command::Close { guard } => close(heap, mutator, *guard, answer),
             command => ask_once(heap, mutator, command, answer),
@@ -111,16 +111,19 @@ where
 
 /// Reads from a file or a socket.
 #[inline(never)]
-fn read<P: Port<R>, R: Resource + Drop>(
+fn read<P: Port<D::Res>, D: Device>(
     port: &mut P,
+    device: &D,
     mutator: Mutator,
     guard: Handle,
     count: u8,
     answer: &mut Answer,
 )
+where
+    D::Res: Drop,
     requires { mutator ≡ P.asking.mutator port.old }
     ensures { AsksTwice P.asking (event.CheckOut mutator guard) out_by
-        (TellsRead R.handling mutator count)
+        (TellsRead D.Res.handling mutator count)
         ⊤ port.old answer.new port.new }
 {
     let ReadRoom { bytes, copies } = match port.read_room(guard) {
@@ -132,7 +135,7 @@ fn read<P: Port<R>, R: Resource + Drop>(
     };
     match handed_out(port.ask(Event::CheckOut { mutator, guard }, None)) {
         Ok(resource) => {
-            let told = read_back(mutator, resource, count, bytes);
+            let told = read_back(device, mutator, resource, count, bytes);
             say(port.ask(told, Some(copies)), answer);
         }
         Err(refused) => write_over(answer, refused),
@@ -141,21 +144,24 @@ fn read<P: Port<R>, R: Resource + Drop>(
 
 /// Writes to a file or a socket.
 #[inline(never)]
-fn write<P: Port<R>, R: Resource + Drop>(
+fn write<P: Port<D::Res>, D: Device>(
     port: &mut P,
+    device: &D,
     mutator: Mutator,
     guard: Handle,
     digits: &Digits<'_>,
     answer: &mut Answer,
 )
+where
+    D::Res: Drop,
     ensures { AsksTwice P.asking (event.CheckOut mutator guard) out_by
-        (TellsWritten R.handling mutator digits.now)
+        (TellsWritten D.Res.handling mutator digits.now)
         ⊤ port.old answer.new port.new }
 {
     let bytes = digits.decode();
     match handed_out(port.ask(Event::CheckOut { mutator, guard }, None)) {
         Ok(resource) => say(
-            port.ask(written_back(mutator, resource, bytes.as_slice()), None),
+            port.ask(written_back(device, mutator, resource, bytes.as_slice()), None),
             answer,
         ),
         Err(refused) => write_over(answer, refused),

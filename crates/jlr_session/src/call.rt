@@ -5,7 +5,7 @@ ghost use Rattle.jlr_session.specs.Asks.{TellsOpened, TellsConnected, TellsRead,
 ghost use Rattle.jlr_session.specs.Calls.{Reads, Writes};
 
 use jlr_device::guarded::{guarded_connect, guarded_open, guarded_read, guarded_write};
-use jlr_device::{Device, Mode, Resource};
+use jlr_device::{Device, Mode};
 use jlr_event::event::Event;
 use jlr_machine::ask::CallOutcome;
 use jlr_machine::data::Data;
@@ -43,30 +43,31 @@ pub(crate) fn connected<D: Device>(device: &mut D, mutator: Mutator, path: &str)
 }
 
 /// Reads at most so many bytes of a resource, 200 at most, into the room for them, and gives the event that tells them and hands it back.
-pub(crate) fn read_back<R: Resource>(
+pub(crate) fn read_back<D: Device>(
+    device: &D,
     mutator: Mutator,
-    resource: R,
+    resource: D::Res,
     count: u8,
     room: Data,
-) -> Event<R>
-    ensures { TellsRead R.handling
+) -> Event<D::Res>
+    ensures { TellsRead D.Res.handling
         mutator count resource result }
 {
     let mut resource = resource;
     Event::CheckIn {
         mutator,
-        outcome: read_of(&mut resource, count, room),
+        outcome: read_of(device, &mut resource, count, room),
         resource,
     }
 }
 
-fn read_of<R: Resource>(resource: &mut R, count: u8, room: Data) -> CallOutcome
-    ensures { Reads R.handling
+fn read_of<D: Device>(device: &D, resource: &mut D::Res, count: u8, room: Data) -> CallOutcome
+    ensures { Reads D.Res.handling
         count resource.old result resource.new }
 {
     let mut buffer = [0u8; CALL_LIMIT];
     let bytes = &mut buffer[..CALL_LIMIT.min(usize::from(count))];
-    match guarded_read(resource, bytes) {
+    match guarded_read(device, resource, bytes) {
         Ok(n) => {
             let mut room = room;
             room.fill(&bytes[..n]);
@@ -77,25 +78,30 @@ fn read_of<R: Resource>(resource: &mut R, count: u8, room: Data) -> CallOutcome
 }
 
 /// Writes bytes to a resource, at most 200, and gives the event that tells how many it took and hands it back.
-pub(crate) fn written_back<R: Resource>(mutator: Mutator, resource: R, bytes: &[u8]) -> Event<R>
+pub(crate) fn written_back<D: Device>(
+    device: &D,
+    mutator: Mutator,
+    resource: D::Res,
+    bytes: &[u8],
+) -> Event<D::Res>
     requires { length bytes.now ≤ 200 }
-    ensures { TellsWritten R.handling
+    ensures { TellsWritten D.Res.handling
         mutator bytes.now resource result }
 {
     let mut resource = resource;
     Event::CheckIn {
         mutator,
-        outcome: write_of(&mut resource, bytes),
+        outcome: write_of(device, &mut resource, bytes),
         resource,
     }
 }
 
-fn write_of<R: Resource>(resource: &mut R, bytes: &[u8]) -> CallOutcome
+fn write_of<D: Device>(device: &D, resource: &mut D::Res, bytes: &[u8]) -> CallOutcome
     requires { length bytes.now ≤ 200 }
-    ensures { Writes R.handling
+    ensures { Writes D.Res.handling
         bytes.now resource.old result resource.new }
 {
-    match guarded_write(resource, bytes) {
+    match guarded_write(device, resource, bytes) {
         Ok(n) => CallOutcome::Wrote(WriteCount::new(n as u8).unwrap()),
         Err(fault) => CallOutcome::Failed(fault),
     }

@@ -12,6 +12,8 @@ use jlr_types::Fault;
 use std::alloc::Global;
 use std::str::SplitWhitespace;
 
+mod clients;
+mod fences;
 mod real;
 mod scripts;
 
@@ -42,19 +44,20 @@ fn kept<R: Drop>(opened: &mut Option<R>, outcome: Result<R, Fault>) -> Option<Go
 }
 
 // As many bytes as are asked for, at most four.
-fn read<R: Resource>(resource: &mut R, count: usize) -> Got {
+fn read<D: Device>(device: &D, resource: &mut D::Res, count: usize) -> Got {
     let mut buf = [9u8; 4];
-    let count = guarded_read(resource, &mut buf[..count.min(4)]);
+    let count = guarded_read(device, resource, &mut buf[..count.min(4)]);
     Got::Read(count, buf)
 }
 
-fn write<R: Resource>(
+fn write<D: Device>(
     alloc: Global,
-    resource: &mut R,
+    device: &D,
+    resource: &mut D::Res,
     words: &mut SplitWhitespace<'_>,
 ) -> Option<Got> {
     let bytes = bytes(alloc, words)?;
-    let wrote = guarded_write(resource, bytes.as_slice());
+    let wrote = guarded_write(device, resource, bytes.as_slice());
     drop(bytes);
     Some(Got::Wrote(wrote))
 }
@@ -67,30 +70,35 @@ fn finish<R: Resource + Drop>(opened: &mut Option<R>) -> Option<Got> {
 }
 
 // What a call on a resource is answered; none where the words are no call, or none is open.
-fn on_resource<R: Resource + Drop>(
+fn on_resource<D: Device>(
     alloc: Global,
-    opened: &mut Option<R>,
+    device: &D,
+    opened: &mut Option<D::Res>,
     name: &str,
     words: &mut SplitWhitespace<'_>,
-) -> Option<Got> {
+) -> Option<Got>
+where
+    D::Res: Drop,
+{
     if name == "finish" {
         return finish(opened);
     }
     match opened {
-        Some(resource) => on_open(alloc, resource, name, words),
+        Some(resource) => on_open(alloc, device, resource, name, words),
         None => None,
     }
 }
 
-fn on_open<R: Resource>(
+fn on_open<D: Device>(
     alloc: Global,
-    resource: &mut R,
+    device: &D,
+    resource: &mut D::Res,
     name: &str,
     words: &mut SplitWhitespace<'_>,
 ) -> Option<Got> {
     match name {
-        "read" => Some(read(resource, parsed(words)?)),
-        "write" => write(alloc, resource, words),
+        "read" => Some(read(device, resource, parsed(words)?)),
+        "write" => write(alloc, device, resource, words),
         "failed_calls" => Some(Got::Number(resource.failures())),
         _ => None,
     }
@@ -112,7 +120,7 @@ where
         "open_to_write" => open(device, opened, Mode::Write, words),
         "connect" => kept(opened, guarded_connect(device, path(words))),
         "failed_opens" => Some(Got::Number(device.failures())),
-        _ => on_resource(alloc, opened, name, words),
+        _ => on_resource(alloc, device, opened, name, words),
     }
 }
 

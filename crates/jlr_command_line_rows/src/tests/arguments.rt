@@ -1,5 +1,5 @@
 //! Command lines: each row is a line, an arrow, and what it asks for.
-use jlr_command_line::arguments::{AuditOrder, Order, RunOrder, Service, order_of};
+use jlr_command_line::arguments::{AuditOrder, Order, RunOrder, Service, StatsOrder, order_of};
 use jlr_command_line::fault::ProgramFault;
 use jlr_types::Limits;
 use std::alloc::{AllocError, Global};
@@ -33,7 +33,13 @@ fn told(alloc: Global, order: Order<'_>) -> Result<String, Fail> {
     match order {
         Order::Run(order) => told_run(alloc, order),
         Order::Serve(service) => told_service(alloc, service),
+        Order::Stop(order) => Ok(format!(in alloc; "stop at {}", order.control)?),
         Order::Audit(order) => told_audit(alloc, order),
+        Order::Stats(order) => told_stats(alloc, order),
+        Order::Client(path) => Ok(format!(in alloc; "client of {path}")?),
+        Order::Commands(Some(name)) => Ok(format!(in alloc; "the command {name}")?),
+        Order::Commands(None) => Ok(owned(alloc, "all commands")?),
+        Order::Version => Ok(owned(alloc, "version")?),
     }
 }
 
@@ -59,7 +65,19 @@ fn told_service(alloc: Global, service: Service<'_>) -> Result<String, Fail> {
 fn told_audit(alloc: Global, order: AuditOrder<'_>) -> Result<String, Fail> {
     let file = order.file;
     let how = if order.explain { ", explained" } else { "" };
-    Ok(format!(in alloc; "audit of {file}{how}")?)
+    let form = form_of(order.json);
+    Ok(format!(in alloc; "audit of {file}{how}{form}")?)
+}
+
+/// Of what figures are told.
+fn told_stats(alloc: Global, order: StatsOrder<'_>) -> Result<String, Fail> {
+    let file = order.file;
+    let form = form_of(order.json);
+    Ok(format!(in alloc; "figures of {file}{form}")?)
+}
+
+fn form_of(json: bool) -> &'static str {
+    if json { ", as JSON" } else { "" }
 }
 
 fn refused(alloc: Global, fault: &ProgramFault) -> Result<String, Fail> {
@@ -111,9 +129,18 @@ fn command_lines(rt: HostRuntime) -> Result<(), Fail> {
         refheap run --save history -> 1024 16 4 10000, saved to history
         refheap run --save history --cells 16 -> 16 16 4 10000, saved to history
         refheap serve --socket s --total 7 --save history -> serve 7 on s, 4 at once, 64 a piece, 1024 16 4 10000, saved to history
+        refheap stop /tmp/control -> stop at /tmp/control
         refheap audit history -> audit of history
         refheap audit --explain history -> audit of history, explained
         refheap audit history --explain -> audit of history, explained
+        refheap audit --json history -> audit of history, as JSON
+        refheap audit --explain --json history -> audit of history, explained, as JSON
+        refheap stats history -> figures of history
+        refheap stats --json history -> figures of history, as JSON
+        refheap client /tmp/heap -> client of /tmp/heap
+        refheap commands -> all commands
+        refheap commands weak -> the command weak
+        refheap version -> version
         refheap serve --socket s --total 7 -> serve 7 on s, 4 at once, 64 a piece, 1024 16 4 10000
         refheap serve --total 1000000 --socket /tmp/s --sessions 64 --cells 16 -> serve 1000000 on /tmp/s, 64 at once, 64 a piece, 16 16 4 10000
         refheap serve --trace 64 --soft-age 0 --resources 1 --cells 16 --sessions 1 --total 1 --socket s -> serve 1 on s, 1 at once, 64 a piece, 16 1 0 64
@@ -129,8 +156,23 @@ fn command_lines(rt: HostRuntime) -> Result<(), Fail> {
         refheap walk -> status 2
         refheap run --save -> status 2
         refheap run --save a --save b -> status 2
+        refheap stop -> status 2
+        refheap stop a b -> status 2
         refheap audit -> status 2
         refheap audit a b -> status 2
+        refheap audit --json -> status 2
+        refheap audit --json --json a -> status 2
+        refheap stats -> status 2
+        refheap stats a b -> status 2
+        refheap stats --explain a -> status 2
+        refheap client -> status 2
+        refheap client a b -> status 2
+        refheap commands a b -> status 2
+        refheap version a -> status 2
+        refheap stats --help -> status 2
+        refheap client --help -> status 2
+        refheap commands --help -> status 2
+        refheap version --help -> status 2
         refheap --help -> status 2
         refheap run --help -> status 2
         refheap serve --help -> status 2

@@ -1,6 +1,8 @@
 //! Faults of the program: their statuses and their words.
 use jlr_command_line::fault::ProgramFault;
+use jlr_command_line::reason::{Place, Reason};
 use std::alloc::{AllocError, Global};
+use std::io::ErrorKind;
 use std::test::Fail;
 
 /// A fault ends the program with this status and is told in these words.
@@ -12,6 +14,33 @@ fn is_told(alloc: Global, fault: ProgramFault, status: u8, words: &str) -> Resul
         return Err(Fail::new(format!(in alloc; "{words}: other words")?));
     }
     Ok(())
+}
+
+/// The place of a file whose reason is told in these words.
+fn place(alloc: Global, reason: Reason, words: &str) -> Result<Place, Fail> {
+    if reason.words() != words {
+        return Err(Fail::new(format!(in alloc; "{words}: another reason")?));
+    }
+    Ok(Place::new(alloc, "a/file", reason)?)
+}
+
+#[test]
+fn faults_of_files_have_reasons(rt: HostRuntime) -> Result<(), Fail> {
+    let alloc = rt.alloc();
+    let missing = "there is no such file or folder: check the path";
+    let read = ProgramFault::CannotRead(place(alloc, Reason::of(ErrorKind::NotFound), missing)?);
+    is_told(alloc, read, 1, "cannot read a/file")?;
+    let denied = "permission is denied: check the rights of the file and of its folder";
+    let kind = ErrorKind::PermissionDenied;
+    let save = ProgramFault::CannotSave(place(alloc, Reason::of(kind), denied)?);
+    is_told(alloc, save, 1, "cannot save a/file")?;
+    let taken = "it is in use: remove it if no server runs there, or name another path";
+    let listen = ProgramFault::CannotListen(place(alloc, Reason::of(ErrorKind::AddrInUse), taken)?);
+    is_told(alloc, listen, 1, "cannot listen on a/file")?;
+    let nobody = "nobody listens there: start a server";
+    let kind = ErrorKind::ConnectionRefused;
+    let connect = ProgramFault::CannotConnect(place(alloc, Reason::of(kind), nobody)?);
+    is_told(alloc, connect, 1, "cannot connect to a/file")
 }
 
 #[test]

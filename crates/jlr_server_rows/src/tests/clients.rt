@@ -1,6 +1,6 @@
 //! Clients that send lines and look at what they are answered.
 use jlr_device::gate::Gate;
-use jlr_server::server::Acceptor;
+use jlr_server::acceptor::Acceptor;
 use jlr_types::Fault;
 use std::alloc::Global;
 use std::io::{self, ErrorKind, Read, Write};

@@ -4,6 +4,7 @@ ghost use Rattle.std.specs.Prelude.{◌≡◌, IfOk, length};
 use super::clients::{After, Client, Clients};
 use jlr_device::gate::{Gate, GateDevice};
 use jlr_server::Book;
+use jlr_server::acceptor::Acceptor;
 use jlr_server::hall::history::Blank;
 use jlr_server::server::{ServeFault, Served, serve_over};
 use jlr_types::Limits;
@@ -30,7 +31,7 @@ pub(super) fn serve_all<T: Threads + Wait + Sync>(
         .ok()
         .ok_or("limits")?;
     let clients = Clients::new(rt, clients, after, opens_at);
-    let entries = served(rt, threads, limits, &clients).ok_or("it was not served")?;
+    let entries = served(rt.alloc(), threads, limits, &clients).ok_or("it was not served")?;
     if !clients.are_served() {
         return Err("a client was answered otherwise".into());
     }
@@ -38,17 +39,21 @@ pub(super) fn serve_all<T: Threads + Wait + Sync>(
 }
 
 /// How many entries the first two seats have, where the clients were served.
-fn served<T: Threads + Wait + Sync>(
-    rt: HostRuntime,
+fn served<G: Gate + Acceptor + Copy + Drop + Send + Sync, T: Threads + Wait + Sync>(
+    alloc: Global,
     threads: &T,
     limits: Limits,
-    clients: &Clients,
-) -> Option<Entries> {
-    let devices = devices(rt.alloc(), clients, limits.sessions).ok()?;
-    let blank = Blank::new(rt.alloc()).ok()?;
-    entries_of(serve_over::<_, _, Brand, _>(
+    clients: G,
+) -> Option<Entries>
+where
+    G::In: Send,
+    G::Out: Send,
+{
+    let devices = devices(alloc, clients, limits.sessions).ok()?;
+    let blank = Blank::new(alloc).ok()?;
+    entries_of(serve_over::<G, GateDevice<G>, Brand, T>(
         threads,
-        rt.alloc(),
+        alloc,
         limits,
         limits.sessions,
         &clients,

@@ -8,12 +8,12 @@ use super::player::{Entries, entries};
 use jlr_device::gate::{Gate, GateDevice, GateResource};
 use jlr_event::event::{Event, Reply};
 use jlr_machine::ask::Answer;
+use jlr_server::acceptor::Acceptor;
 use jlr_server::hall::hall::Hall;
 use jlr_server::hall::history::{Blank, Naming};
 use jlr_server::hall::port::SeatPort;
 use jlr_server::hall::seat::Seat;
 use jlr_server::hall::step::{Limited, Step};
-use jlr_server::server::Acceptor;
 use jlr_session::port::Port;
 use jlr_session::serve::serve;
 use jlr_types::{Handle, Limits, Refusal};
@@ -113,13 +113,27 @@ where
     }
 }
 
+/// The same over a hall of its own.
+fn gated<G: Gate + Acceptor + Copy + Drop + Send + Sync, T: Threads + Wait + Sync>(
+    threads: &T,
+    alloc: Global,
+    limits: Limits,
+    clients: G,
+) -> Result<Entries, Fail>
+where
+    G::In: Send,
+    G::Out: Send,
+{
+    let blank = Blank::new(alloc)?;
+    two_sessions::<G, Brand, T>(threads, alloc, limits, clients, blank)
+}
+
 #[test]
 fn gate_two_sessions(rt: HostRuntime) -> Result<(), Fail> {
     let pair = [Client::new(HELD.0, HELD.1), Client::new(SERVED.0, SERVED.1)];
     let clients = Clients::new(rt, &pair, After::Read, 6);
     let limits = Limits::checked(16, 2, 4, 4, 100, 64).ok().ok_or("limits")?;
-    let blank = Blank::new(rt.alloc())?;
-    let entries = two_sessions::<_, Brand, _>(&rt, rt.alloc(), limits, &clients, blank)?;
+    let entries = gated(&rt, rt.alloc(), limits, &clients)?;
     if entries != (7, 7) || !clients.are_served() {
         return Err("the sessions went otherwise".into());
     }

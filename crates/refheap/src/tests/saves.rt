@@ -55,6 +55,7 @@ fn verdict(rt: HostRuntime) -> Result<String, Fail> {
     let asked = AuditOrder {
         file: PATH,
         explain: false,
+        json: false,
     };
     let mut told = Vec::new(rt.alloc());
     drop(audit(&rt, asked, &mut told));

@@ -20,11 +20,11 @@ const FILE: &str = "
 ";
 
 /// Each row says how many bytes of the file stand at the front, what stands behind them in place of as many, an arrow, and how the audit ends: the status, what is said, and
-/// what is written. Without bytes there is no file.
+/// what is written. Without bytes there is no file. A row with `json` in front asks for JSON.
 const ROWS: &str = "
     103 -> 0||legal 2 version 1
     100 01 -> 3||illegal 2 version 1 entry 2 of seat 0, leave of mutator 1, answered ok: it has to be refused 13, since the mutator is not joined, or may not join
-    96 0c -> 3||illegal 1 version 1 entry 1 of seat 0, join of mutator 0, answered done before: another answer is due
+    96 0c -> 3||illegal 1 version 1 entry 1 of seat 0, join of mutator 0, answered done before: another answer is due: ok
     93 00 0000 100d 00 00 0100 00 00 -> 3||illegal 1 version 1 entry 1 of seat 0, join of mutator 0, answered refused 13: refused 13 says that the mutator is not joined, or may not join, and that is not so
     93 00 0000 00 01 00000000 00000000 00 0100 00 00 -> 3||illegal 1 version 1 entry 1 of seat 0, join of mutator 0, answered ok: its collection may not come here, or keeps or hands over other objects than it may
     93 00 0000 00 02 01 00000000 00 0100 00 00 -> 3||illegal 1 version 1 entry 1 of seat 0, join of mutator 0, answered ok: it makes 0 objects, each in a free cell of its own, and the entry tells others
@@ -37,7 +37,10 @@ const ROWS: &str = "
     103 00 -> 4|refheap: bad entry 3|
     94 29 -> 4|refheap: bad entry 1|
     24 02 -> 4|refheap: bad entry 0|
-    0 -> 1|refheap: cannot read refheap_history|
+    0 -> 1|refheap: cannot read refheap_history refheap: there is no such file or folder: check the path|
+    json 103 -> 0||{\"legal\":true,\"entries\":2,\"version\":1}
+    json 96 0c -> 3||{\"legal\":false,\"entry\":1,\"entries\":2,\"version\":1,\"why\":\"entry 1 of seat 0, join of mutator 0, answered done before: another answer is due: ok\"}
+    json 1 58 -> 4|refheap: bad mark|
 ";
 
 /// Where the tests write a history.
@@ -95,10 +98,11 @@ fn in_one_line(alloc: Global, text: &str) -> Result<String, AllocError> {
 }
 
 /// The status after an audit, and what was said on the standard error.
-fn audited(rt: HostRuntime, written: &mut Vec<u8>) -> (u8, String) {
+fn audited(rt: HostRuntime, json: bool, written: &mut Vec<u8>) -> (u8, String) {
     let asked = AuditOrder {
         file: PATH,
         explain: true,
+        json,
     };
     let outcome = audit(&rt, asked, written);
     let said = RefCell::new(String::new(rt.alloc()));
@@ -112,10 +116,10 @@ fn audited(rt: HostRuntime, written: &mut Vec<u8>) -> (u8, String) {
 }
 
 /// How an audit ends: the status, what is said, and what is written.
-fn ending(rt: HostRuntime) -> Result<String, Fail> {
+fn ending(rt: HostRuntime, json: bool) -> Result<String, Fail> {
     let alloc = rt.alloc();
     let mut written = Vec::new(alloc);
-    let (status, said) = audited(rt, &mut written);
+    let (status, said) = audited(rt, json, &mut written);
     let said = in_one_line(alloc, said.as_str())?;
     let written = in_one_line(alloc, str::from_utf8(&written)?)?;
     Ok(format!(in alloc; "{status}|{said}|{written}")?)
@@ -131,8 +135,9 @@ pub(super) fn compared(row: &str, got: &str, wanted: &str) -> Result<(), Fail> {
 
 fn played(rt: HostRuntime, row: &str) -> Result<(), Fail> {
     let (change, wanted) = row.split_once(" -> ").ok_or("no row")?;
-    lay(rt, change)?;
-    let got = ending(rt)?;
+    let json = change.strip_prefix("json ");
+    lay(rt, json.unwrap_or(change))?;
+    let got = ending(rt, json.is_some())?;
     drop(fs::remove_file(&rt, PATH));
     compared(row, got.as_str(), wanted)
 }

@@ -3,7 +3,7 @@ use super::{bytes, on_device, on_resource};
 use crate::tests::calls::{Got, Stage, play};
 use crate::tests::words::{fault, outcome, parsed};
 use jlr_device::script::{Script, ScriptDevice, ScriptResource, Step};
-use jlr_device::{Finished, Resource};
+use jlr_device::{Device, Finished, Mode, Resource};
 use jlr_types::Fault;
 use std::alloc::Global;
 use std::mem;
@@ -100,9 +100,36 @@ impl Resource for Worn {
     }
 }
 
+// A device that opens nothing.
+#[derive(Drop)]
+struct Shut {
+    failures: u64,
+}
+
+impl Device for Shut {
+    type Res = Worn;
+
+    ghost count = { λ d. d.failures };
+
+    fn failures(&self) -> u64 {
+        self.failures
+    }
+
+    fn open(&mut self, _mode: Mode, _path: &str) -> Result<Worn, Fault> {
+        self.failures += 1;
+        Err(Fault::Other)
+    }
+
+    fn connect(&mut self, _path: &str) -> Result<Worn, Fault> {
+        self.failures += 1;
+        Err(Fault::Other)
+    }
+}
+
 #[derive(Drop)]
 struct Single {
     alloc: Global,
+    device: Shut,
     opened: Option<Worn>,
 }
 
@@ -113,7 +140,7 @@ impl Stage for Single {
             self.opened = Some(Worn { failures });
             return Some(Got::Truth(true));
         }
-        on_resource(self.alloc, &mut self.opened, name, words)
+        on_resource(self.alloc, &self.device, &mut self.opened, name, words)
     }
 }
 
@@ -204,6 +231,7 @@ fn scripts_answer_as_the_rows_say(rt: HostRuntime) -> Result<(), Fail> {
     played?;
     let mut single = Single {
         alloc,
+        device: Shut { failures: 0 },
         opened: None,
     };
     play(&mut single, alloc, WORN)

@@ -22,7 +22,7 @@ new-requires g c =
     let i = c.loop-index.invariant in
     (ap (λ p. p.seat) c.deal-pass.ensures.pass ∙ ap (λ k. k.dealt) i.keeper, subst (λ (x : Limits). c.loop-index.index < x.sessions + 3) c.requires.limits c.loop-index-test.true)
 
-pub new-requires-3 : goal.new-requires-3
-new-requires-3 g c =
+pub new-locked-requires : goal.new-locked-requires
+new-locked-requires g c =
     subst (λ (x : Limits × List (Step g.row.R.Denot)). IsWhole x.0 c.in_ok-book.book x.1) (λ i. (c.requires.limits i, sym (ap (λ k. k.all) c.loop-index.invariant.keeper) i))
     (new_whole c.args.limits c.in_ok-book.book c.in_ok-book.ensures)

@@ -1,0 +1,202 @@
+#!/usr/bin/env python3
+"""Clients of a server that go while a call of theirs waits, and calls that do not wait.
+
+    checks/blocking.py PROGRAM [ROUNDS]
+
+A read of a peer or a FIFO that says nothing, and a write to one that is full, end with their client, and its seat is free within a second; descriptors and threads
+stay as many. A client that only sends no more has its answer. A FIFO without another end is opened at once, and a socket where too many wait is not joined.
+"""
+import fcntl
+import os
+import random
+import shutil
+import socket
+import sys
+import tempfile
+import threading
+import time
+
+import peers
+from peers import connected, is_served, say
+
+SEATS = 2
+SLOWEST = 1.0
+BYTES = "00" * 200
+
+
+class Place:
+    """A folder with a socket whose peers say and read nothing, one where too many wait, and FIFOs, two of them with another end that does nothing."""
+
+    def __init__(self):
+        self.folder = tempfile.mkdtemp()
+        self.listener = self.listens("silent", 128)
+        self.met = None
+        threading.Thread(target=self.accept, daemon=True).start()
+        self.crowded = self.listens("crowded", 0)
+        self.waiting = list(self.crowd())
+        for name in ("alone", "silent_fifo", "full_fifo"):
+            os.mkfifo(self.path(name))
+        self.ends = [os.open(self.path(name), os.O_RDWR) for name in ("silent_fifo", "full_fifo")]
+        fcntl.fcntl(self.ends[1], fcntl.F_SETPIPE_SZ, 4096)
+
+    def path(self, name):
+        return os.path.join(self.folder, name)
+
+    def listens(self, name, most):
+        listener = socket.socket(socket.AF_UNIX)
+        listener.bind(self.path(name))
+        listener.listen(most)
+        return listener
+
+    def accept(self):
+        """Keeps the peer that came last."""
+        while True:
+            peer, _ = self.listener.accept()
+            self.met = peer
+
+    def crowd(self):
+        """Joins the crowded socket until no more may wait there."""
+        while True:
+            stream = socket.socket(socket.AF_UNIX)
+            stream.setblocking(False)
+            try:
+                stream.connect(self.path("crowded"))
+            except BlockingIOError:
+                return
+            yield stream
+
+
+class Lines:
+    """A connection to the server, line by line."""
+
+    def __init__(self, server):
+        self.stream = connected(server)
+        self.replies = self.stream.makefile("rb")
+
+    def send(self, line):
+        self.stream.sendall(line.encode() + b"\n")
+
+    def reply(self):
+        return self.replies.readline().decode().strip()
+
+    def ask(self, line):
+        self.send(line)
+        return self.reply()
+
+    def close(self):
+        self.replies.close()
+        self.stream.close()
+
+
+def until_one_waits(lines):
+    """Sends writes, a few at a time, until their replies stay away."""
+    lines.stream.settimeout(0.3)
+    for _ in range(1000):
+        lines.stream.sendall(f"write 1 {BYTES}\n".encode() * 16)
+        for _ in range(16):
+            try:
+                lines.stream.recv(len("wrote 200\n"), socket.MSG_WAITALL)
+            except TimeoutError:
+                return
+    raise AssertionError("no write waits")
+
+
+def reading_a_silent_peer(server, place):
+    lines = Lines(server)
+    assert lines.ask(f"connect {place.path('silent')}") == "= 1"
+    lines.send("read 1 9")
+    return lines
+
+
+def writing_to_a_full_peer(server, place):
+    lines = Lines(server)
+    assert lines.ask(f"connect {place.path('silent')}") == "= 1"
+    until_one_waits(lines)
+    return lines
+
+
+def reading_a_silent_fifo(server, place):
+    lines = Lines(server)
+    assert lines.ask(f"open r {place.path('silent_fifo')}") == "= 1"
+    lines.send("read 1 9")
+    return lines
+
+
+def writing_to_a_full_fifo(server, place):
+    lines = Lines(server)
+    assert lines.ask(f"open w {place.path('full_fifo')}") == "= 1"
+    until_one_waits(lines)
+    return lines
+
+
+CALLS = (reading_a_silent_peer, writing_to_a_full_peer, reading_a_silent_fifo, writing_to_a_full_fifo)
+
+
+def counts(server):
+    """How many descriptors and threads the server has."""
+    return [len(os.listdir(f"/proc/{server.process.pid}/{kind}")) for kind in ("fd", "task")]
+
+
+def gone(server, place, witness, call, rounds):
+    """Whether so many clients that go in a call leave their seat at once, and nothing open behind them."""
+    before = counts(server)
+    right = True
+    for _ in range(rounds):
+        lines = call(server, place)
+        time.sleep(random.random() / 200)
+        lines.close()
+        right = is_served(server) and right
+        witness.gc()
+    for _ in range(100):
+        witness.gc()
+        if counts(server) == before:
+            return right
+        time.sleep(0.02)
+    return False
+
+
+def half_closed(server, place):
+    lines = Lines(server)
+    assert lines.ask(f"connect {place.path('silent')}") == "= 1"
+    lines.send("read 1 9")
+    lines.stream.shutdown(socket.SHUT_WR)
+    time.sleep(0.3)
+    place.met.sendall(b"abc")
+    right = lines.reply() == "data 616263" and lines.reply() == ""
+    lines.close()
+    return right
+
+
+def at_once(server, place):
+    """Calls that do not wait, and their replies."""
+    lines = Lines(server)
+    start = time.time()
+    replies = [lines.ask(line) for line in (
+        f"open r {place.path('alone')}", "read 1 9", f"open w {place.path('alone')}", "write 2 00", "drop 1", "drop 2", f"connect {place.path('crowded')}")]
+    lines.close()
+    # both ends of the FIFO are open at the write
+    return replies == ["= 1", "end", "= 2", "wrote 1", "ok", "ok", "fault other"] and time.time() - start < SLOWEST
+
+
+def main(program, rounds):
+    place = Place()
+    total = 1 + 2 * rounds * len(CALLS) + 2
+    server = peers.Server(program, total, "--sessions", str(SEATS), "--resources", "64")
+    try:
+        witness = server.client()
+        right = True
+        for call in CALLS:
+            name = call.__name__.replace("_", " ")
+            right = say(f"{rounds} clients that go while {name} leave their seats", gone(server, place, witness, call, rounds)) and right
+        right = say("a client that only sends no more has its answer", half_closed(server, place)) and right
+        right = say("a FIFO without another end and a crowded socket do not wait", at_once(server, place)) and right
+        witness.close_session()
+        status, served, _ = server.end()
+        return say("the server ended by itself, after all clients", status == 0 and served == total) and right
+    finally:
+        server.process.kill()
+        shutil.rmtree(place.folder)
+
+
+if __name__ == "__main__":
+    sys.exit(0 if main(os.path.abspath(sys.argv[1]), int(sys.argv[2]) if len(sys.argv) > 2 else 50) else 1)

@@ -1,0 +1,287 @@
+#!/usr/bin/env python3
+"""Clients of a server that are gone while they wait, and servers that are asked to end.
+
+    checks/gone.py PROGRAM [--clients N] [--stops N]
+
+Clients that vanish in `remove`, at random moments: each gives its seat back and takes no reference, so a death goes to the next who waits; a
+client that is only half-closed is still answered; descriptors, threads and memory stay flat over N of them (2,000). What a client left
+open is closed on a quiet server, and `open` finds room again. A server that is asked to end answers `! 18` to who waits and all that was
+sent, saves, removes its files and only then lets go who asked: with 64 clients, while it starts, while it saves, asked twice, with its socket of
+control deleted, and N times at random moments (40). A socket's file of a server that was killed is replaced, one of a server that lives
+is left alone, and so is a file that is not the server's own at its end.
+"""
+import argparse
+import os
+import random
+import shutil
+import socket
+import stat
+import subprocess
+import sys
+import tempfile
+import threading
+import time
+
+TIMEOUT = 30
+
+
+class Peer:
+    """A connection, line by line."""
+
+    def __init__(self, path):
+        self.stream = socket.socket(socket.AF_UNIX)
+        self.stream.settimeout(TIMEOUT)
+        self.stream.connect(path)
+        self.lines = self.stream.makefile("rb")
+
+    def send(self, *lines):
+        self.stream.sendall("".join(line + "\n" for line in lines).encode())
+
+    def line(self):
+        return self.lines.readline().decode().rstrip("\n")
+
+    def ask(self, line):
+        self.send(line)
+        return self.line()
+
+    def all(self, *lines):
+        return [self.ask(line) for line in lines]
+
+    def close(self):
+        self.lines.close()
+        self.stream.close()
+
+
+class Server:
+    """A server in a folder of its own, with a socket of control and a history that is saved."""
+
+    def __init__(self, program, total, seats, *more):
+        self.program = program
+        self.folder = tempfile.mkdtemp(prefix="refheap-gone-")
+        self.path, self.control, self.history = (os.path.join(self.folder, name) for name in ("heap", "control", "history"))
+        self.process = subprocess.Popen(
+            [program, "serve", "--socket", self.path, "--control", self.control, "--total", str(total), "--sessions", str(seats),
+             "--save", self.history, *more], stdout=subprocess.PIPE, stderr=subprocess.PIPE, cwd=self.folder)
+        wait_until(lambda: os.path.exists(self.control))
+
+    def peer(self):
+        return Peer(self.path)
+
+    def stop(self):
+        return subprocess.run([self.program, "stop", self.control], capture_output=True, timeout=TIMEOUT)
+
+    def counts(self):
+        at = f"/proc/{self.process.pid}"
+        return len(os.listdir(at + "/fd")), len(os.listdir(at + "/task"))
+
+    def memory(self):
+        with open(f"/proc/{self.process.pid}/statm", encoding="ascii") as file:
+            return int(file.read().split()[1])
+
+    def end(self):
+        """Its status, what stands in its folder then, and the verdict on its history."""
+        _, errors = self.process.communicate(timeout=TIMEOUT)
+        left = sorted(name for name in os.listdir(self.folder) if name in ("heap", "control", "history"))
+        verdict = subprocess.run([self.program, "audit", self.history], capture_output=True, check=False).stdout.split()[:1]
+        shutil.rmtree(self.folder)
+        return self.process.returncode, left, verdict, errors
+
+
+ENDED = (0, ["history"], [b"legal"], b"")
+
+
+def wait_until(holds, seconds=TIMEOUT):
+    end = time.time() + seconds
+    while not holds():
+        if time.time() > end:
+            raise AssertionError("it did not come in time")
+        time.sleep(0.005)
+
+
+def check(holds, what):
+    if not holds:
+        raise AssertionError(what)
+
+
+def a_death_goes_to_the_next(program, asked):
+    server = Server(program, 3, 2)
+    one = server.peer()
+    check(one.all("queue", "bind q 1") == ["= 1", "ok"], "a queue")
+    one.send("remove 1")
+    time.sleep(0.1)
+    one.close()
+    next_one = server.peer()
+    check(next_one.all("find q", "new -", "weak 2 1", "drop 2", "gc") == ["= 1", "= 2", "= 3", "ok", "ok"], "a death")
+    check(next_one.ask("remove 1") == "= 2", "the death is told to the next")
+    next_one.ask("bye")
+    server.peer().ask("bye")
+    check(server.end() == ENDED, "an end in order")
+
+
+def gone_clients_brick_nothing(program, asked):
+    server = Server(program, asked.clients + 1, 4)
+    steady = server.peer()
+    steady.ask("stat")
+    before, memory = server.counts(), None
+    for number in range(asked.clients):
+        peer = server.peer()
+        peer.ask("queue")
+        peer.send("remove 1")
+        if number % 3 == 0:
+            time.sleep(random.random() / 1000)
+        peer.close()
+        if number == asked.clients // 2:
+            memory = server.memory()
+    wait_until(lambda: server.counts() == before)
+    check(server.memory() <= memory + 256, "memory stays flat")
+    check(steady.ask("bye") == "ok", "the others go on")
+    check(server.end() == ENDED, "it ends by itself once all are gone")
+
+
+def a_half_closed_client_is_answered(program, asked):
+    server = Server(program, 2, 2)
+    one, other = server.peer(), server.peer()
+    one.all("queue", "bind q 1")
+    other.send("find q", "remove 1", "stat")
+    other.stream.shutdown(socket.SHUT_WR)
+    check(other.line() == "= 1", "a handle")
+    time.sleep(0.2)
+    one.all("new -", "weak 2 1", "drop 2", "gc")
+    check(other.line() == "= 2" and other.line().startswith("stat ") and other.line() == "", "it is answered to the end")
+    one.ask("bye")
+    check(server.end() == ENDED, "an end in order")
+
+
+def what_a_client_left_is_closed(program, asked):
+    server = Server(program, 3, 2, "--resources", "1")
+    keeper = server.peer()
+    one = server.peer()
+    check(one.ask("open w left") == "= 1", "a file")
+    one.close()
+    wait_until(lambda: keeper.ask("stat").split()[2] == "0")
+    check(keeper.ask("open w again") == "= 1", "there is room again")
+    keeper.ask("drop 1")
+    check(keeper.ask("open w more") in ("! 19", "= 1"), "none, or room already")
+    wait_until(lambda: keeper.ask("stat").split()[2] == "0" or keeper.ask("open w more") == "= 1")
+    keeper.ask("bye")
+    server.peer().ask("bye")
+    check(server.end() == ENDED, "an end in order")
+
+
+def a_stop_answers_what_is_owed(program, asked):
+    server = Server(program, 100_000, 64)
+    peers = [server.peer() for _ in range(64)]
+    for number, peer in enumerate(peers):
+        peer.ask("queue")
+        peer.send("remove 1", "same 0 0") if number % 2 else peer.send(*["same 0 0"] * 20)
+    time.sleep(0.2)
+    stopped = server.stop()
+    check((stopped.returncode, stopped.stdout, stopped.stderr) == (0, b"", b""), "a stop")
+    for number, peer in enumerate(peers):
+        owed = ["! 18", "yes"] if number % 2 else ["yes"] * 20
+        check([peer.line() for _ in owed] == owed and peer.line() == "", "what is owed is answered")
+    check(server.end() == ENDED, "an end in order")
+
+
+def a_second_stop_cuts(program, asked):
+    server = Server(program, 100, 2)
+    peer = server.peer()
+    peer.ask("new -")
+    stream = socket.socket(socket.AF_UNIX)
+    stream.connect(server.control)
+    stream.settimeout(TIMEOUT)
+    again = server.stop()
+    check(again.returncode == 0 and stream.recv(2) == b".", "both are told")
+    check(server.end() == ENDED, "an end in order")
+
+
+def a_stop_without_a_server(program, asked):
+    folder = tempfile.mkdtemp(prefix="refheap-gone-")
+    at = os.path.join(folder, "nobody")
+    told = subprocess.run([program, "stop", at], capture_output=True, check=False)
+    check((told.returncode, told.stderr.splitlines()[0]) == (1, b"refheap: cannot connect to " + at.encode()), "nobody there")
+    shutil.rmtree(folder)
+
+
+def a_deleted_socket_of_control(program, asked):
+    server = Server(program, 1, 1)
+    os.remove(server.control)
+    check(server.peer().ask("bye") == "ok", "it goes on")
+    check(server.end() == ENDED, "and ends by itself")
+
+
+def stops_at_any_moment(program, asked):
+    for number in range(asked.stops):
+        server = Server(program, 100_000, 4)
+        halt = threading.Event()
+
+        def goer():
+            while not halt.is_set():
+                try:
+                    peer = server.peer()
+                    peer.ask("queue")
+                    peer.send("remove 1")
+                    if number % 2:
+                        peer.line()
+                    peer.close()
+                except OSError:
+                    time.sleep(0.002)
+
+        goers = [threading.Thread(target=goer) for _ in range(6)]
+        for thread in goers:
+            thread.start()
+        time.sleep(0.004 * (number % 10))
+        check(server.stop().returncode == 0, "a stop")
+        halt.set()
+        for thread in goers:
+            thread.join()
+        check(server.end() == ENDED, "an end in order")
+
+
+def files_of_sockets(program, asked):
+    server = Server(program, 9, 1, "--mode", "660", "--control-mode", "600")
+    rights = [stat.S_IMODE(os.stat(at).st_mode) for at in (server.path, server.control)]
+    check(rights == [0o660, 0o600], "rights of the sockets")
+    other = subprocess.run([program, "serve", "--socket", server.path, "--total", "1"], capture_output=True, check=False)
+    check(other.returncode == 1 and b"cannot listen" in other.stderr, "one that lives is left alone")
+    server.process.kill()
+    server.process.wait()
+    check(os.path.exists(server.path), "a killed server leaves its file")
+    later = subprocess.Popen([program, "serve", "--socket", server.path, "--total", "1"], stdout=subprocess.PIPE)
+    deadline = time.time() + TIMEOUT
+    peer = None
+    while peer is None and time.time() < deadline:
+        try:
+            peer = Peer(server.path)
+        except OSError:
+            time.sleep(0.01)
+    os.rename(server.path, server.path + ".mine")
+    with open(server.path, "w", encoding="ascii") as file:
+        file.write("another's")
+    check(peer.ask("bye") == "ok" and later.wait(TIMEOUT) == 0, "the next one serves")
+    check(os.path.isfile(server.path), "what is not its own stays")
+    empty = subprocess.run([program, "serve", "--socket", "", "--total", "1"], capture_output=True, check=False)
+    check(empty.returncode == 1 and b"cannot listen" in empty.stderr, "no path")
+    shutil.rmtree(server.folder)
+
+
+def main():
+    parser = argparse.ArgumentParser(description=__doc__.splitlines()[0])
+    parser.add_argument("program")
+    parser.add_argument("--clients", type=int, default=2_000)
+    parser.add_argument("--stops", type=int, default=40)
+    asked = parser.parse_args()
+    program = os.path.abspath(asked.program)
+    for case in (a_death_goes_to_the_next, gone_clients_brick_nothing, a_half_closed_client_is_answered, what_a_client_left_is_closed,
+                 a_stop_answers_what_is_owed, a_second_stop_cuts, a_stop_without_a_server, a_deleted_socket_of_control,
+                 stops_at_any_moment, files_of_sockets):
+        try:
+            case(program, asked)
+        except (AssertionError, OSError, subprocess.SubprocessError) as error:
+            print(f"WRONG   {case.__name__}: {error}")
+            sys.exit(1)
+        print(f"ok      {case.__name__}", flush=True)
+
+
+if __name__ == "__main__":
+    main()

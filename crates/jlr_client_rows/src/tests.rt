@@ -1,0 +1,3 @@
+//! Tests of the manual and of the client.
+mod lines;
+mod manual;

@@ -1,0 +1,39 @@
+//! Asking a server to end: `refheap stop`.
+use jlr_command_line::fault::ProgramFault;
+use jlr_command_line::reason::{Place, Reason};
+use std::io::{ErrorKind, Read};
+use std::os::unix::net::UnixStream;
+
+/// What a server says to who asked it to end, once its history is saved, where it is to be.
+const ENDED: u8 = b'.';
+
+/// Asks the server that listens at this path to end, and waits until it is gone. Asked by a second one, it cuts its clients off.
+///
+/// # Errors
+/// `CannotConnect` where nobody listens there; `NotEnded` where the server could not save its history, or went without a word.
+pub fn stop(rt: &HostRuntime, control: &str) -> Result<(), ProgramFault> {
+    let stream = match UnixStream::connect(rt, control) {
+        Ok(stream) => stream,
+        Err(error) => {
+            let place = Place::new(rt.alloc(), control, Reason::of(error.kind()))?;
+            return Err(ProgramFault::CannotConnect(place));
+        }
+    };
+    let mut word = [0u8; 1];
+    let mut has_ended = false;
+    for _ in 0..MOST_READS {
+        match (&stream).read(&mut word) {
+            Ok(0) => break,
+            Ok(_) => has_ended = word[0] == ENDED,
+            Err(error) if error.kind() == ErrorKind::Interrupted => {}
+            Err(_) => return Err(ProgramFault::NotEnded),
+        }
+    }
+    if has_ended {
+        return Ok(());
+    }
+    Err(ProgramFault::NotEnded)
+}
+
+/// More reads than an end takes: a byte and the end of the stream, and some that a signal interrupts.
+const MOST_READS: u32 = 1_000;

@@ -1,0 +1,177 @@
+//! Who sits on the seats of the sessions, which of them wait in a `remove`, and how many sessions have joined. It decides who waits and who
+//! is woken, and nothing that an answer tells.
+use crate::effect::{
+    Effect, gave_handle, gave_resource, lacks_resources, says_collected, was_refused,
+};
+use jlr_event::event::Reply;
+use jlr_types::{Handle, Mutator};
+
+/// The most seats of sessions.
+pub(crate) const MOST_SESSIONS: u8 = 64;
+
+/// Who sits on the seat of a session.
+#[derive(Clone, Copy, PartialEq, Eq)]
+enum Sitter {
+    /// Nobody who could be called off: a `remove` waits.
+    Unnamed,
+    /// The client of this number: a `remove` waits.
+    Client(u32),
+    /// A client that is gone: a `remove` does not wait, and takes nothing.
+    Gone,
+}
+
+/// A `Remove` that waits until its queue holds something.
+#[derive(Clone, Copy)]
+pub(crate) struct Removal {
+    pub(crate) mutator: Mutator,
+    pub(crate) queue: Handle,
+}
+
+/// The seat of a session.
+#[derive(Clone, Copy)]
+struct Chair {
+    sitter: Sitter,
+    /// The `remove` in which it waits.
+    waits: Option<Removal>,
+    /// How many resources the session opened, less those that it closed itself.
+    opened: u32,
+}
+
+/// The seats of the sessions, and what is to come.
+#[derive(Drop)]
+pub(crate) struct Chairs {
+    chairs: [Chair; MOST_SESSIONS as usize],
+    joined: u32,
+    /// No `remove` waits any more.
+    nobody_waits: bool,
+    /// A cycle is owed to what sessions left open.
+    cycle_owed: bool,
+    /// How many sessions left and jobs ended, modulo 2^64.
+    closings: u64,
+}
+
+impl Chairs {
+    /// Nobody has sat down, and nobody has joined.
+    pub(crate) fn new() -> Self {
+        let empty = Chair {
+            sitter: Sitter::Unnamed,
+            waits: None,
+            opened: 0,
+        };
+        Chairs {
+            chairs: [empty; MOST_SESSIONS as usize],
+            joined: 0,
+            nobody_waits: false,
+            cycle_owed: false,
+            closings: 0,
+        }
+    }
+
+    /// A client of this number sits down.
+    pub(crate) fn sit(&mut self, seat: u8, client: u32) {
+        if let Some(chair) = self.chairs.get_mut(usize::from(seat)) {
+            chair.sitter = Sitter::Client(client);
+        }
+    }
+
+    /// The client of this number is gone. The seat that waits for it, if one does.
+    pub(crate) fn call_off(&mut self, client: u32) -> Option<u8> {
+        for seat in 0..MOST_SESSIONS {
+            if let Some(chair) = self.chairs.get_mut(usize::from(seat)) {
+                if chair.sitter == Sitter::Client(client) {
+                    chair.sitter = Sitter::Gone;
+                    return chair.waits.map(|_| seat);
+                }
+            }
+        }
+        None
+    }
+
+    /// Whether the client at a seat is gone.
+    pub(crate) fn is_gone(&self, seat: u8) -> bool {
+        match self.chairs.get(usize::from(seat)) {
+            Some(chair) => chair.sitter == Sitter::Gone,
+            None => false,
+        }
+    }
+
+    /// A seat begins to wait, or has waited.
+    pub(crate) fn waits(&mut self, seat: u8, removal: Option<Removal>) {
+        if let Some(chair) = self.chairs.get_mut(usize::from(seat)) {
+            chair.waits = removal;
+        }
+    }
+
+    /// In which `remove` a seat waits.
+    pub(crate) fn removal(&self, seat: u8) -> Option<Removal> {
+        match self.chairs.get(usize::from(seat)) {
+            Some(chair) => chair.waits,
+            None => None,
+        }
+    }
+
+    /// What an answered event of a seat changes.
+    pub(crate) fn after<R>(&mut self, seat: u8, effect: Effect, reply: &Reply<R>) {
+        match effect {
+            Effect::Joins if !was_refused(reply) => self.joined = self.joined.saturating_add(1),
+            Effect::Leaves if !was_refused(reply) => self.leave(seat),
+            Effect::Opens if gave_handle(reply) => self.open(seat),
+            Effect::Closes if gave_resource(reply) => self.close(seat),
+            Effect::Prepares if lacks_resources(reply) => self.cycle_owed = true,
+            Effect::Finishes => self.closings = self.closings.wrapping_add(1),
+            Effect::Collects if says_collected(reply) => self.cycle_owed = false,
+            _ => {}
+        }
+    }
+
+    /// A session opened a resource.
+    fn open(&mut self, seat: u8) {
+        if let Some(chair) = self.chairs.get_mut(usize::from(seat)) {
+            chair.opened = chair.opened.saturating_add(1);
+        }
+    }
+
+    /// A session closed a resource itself.
+    fn close(&mut self, seat: u8) {
+        if let Some(chair) = self.chairs.get_mut(usize::from(seat)) {
+            chair.opened = chair.opened.saturating_sub(1);
+        }
+    }
+
+    /// A session left. What it left open owes a cycle.
+    fn leave(&mut self, seat: u8) {
+        self.joined = self.joined.saturating_sub(1);
+        self.closings = self.closings.wrapping_add(1);
+        if let Some(chair) = self.chairs.get_mut(usize::from(seat)) {
+            if chair.opened > 0 {
+                self.cycle_owed = true;
+            }
+            chair.opened = 0;
+        }
+    }
+
+    /// No `remove` waits any more.
+    pub(crate) fn call_all_off(&mut self) {
+        self.nobody_waits = true;
+    }
+
+    /// Whether no `remove` waits any more.
+    pub(crate) fn nobody_waits(&self) -> bool {
+        self.nobody_waits
+    }
+
+    /// Whether a cycle is owed to what sessions left open.
+    pub(crate) fn cycle_owed(&self) -> bool {
+        self.cycle_owed
+    }
+
+    /// How many sessions left and jobs ended, modulo 2^64.
+    pub(crate) fn closings(&self) -> u64 {
+        self.closings
+    }
+
+    /// Whether a session has joined and not left.
+    pub(crate) fn is_any_joined(&self) -> bool {
+        self.joined > 0
+    }
+}

@@ -1,0 +1,124 @@
+//! A `remove` of a seat whose client is gone takes nothing, and one of the next client there does; once nobody waits any more it is refused.
+ghost use Rattle.std.specs.Prelude.{◌≡◌};
+
+use jlr_event::event::{Event, Reply};
+use jlr_hall::hall::Hall;
+use jlr_hall::history::{Blank, Naming};
+use jlr_hall::port::SeatPort;
+use jlr_hall::seat::Seat;
+use jlr_hall::step::{Limited, Step};
+use jlr_machine::ask::Answer;
+use jlr_session::port::Port;
+use jlr_types::{Handle, Layout, Limits, RefKind, Refusal};
+use std::alloc::Global;
+use std::marker::Brand;
+use std::sync::Wait;
+use std::test::Fail;
+
+/// The client that sits there first, and the next one.
+const FIRST: u32 = 7;
+
+const NEXT: u32 = 8;
+
+/// How a `remove` on the queue 1 ends.
+fn remove<L: Naming + Limited, T: Wait>(port: &mut SeatPort<'_, u32, L, T>) -> Option<Refusal> {
+    let mutator = port.mutator();
+    let queue = Handle::new(1);
+    let reply = port.ask(Event::Remove { mutator, queue }, None);
+    let refusal = match &reply {
+        Reply::Answered { answer, .. } => match answer {
+            Answer::Refused(refusal) => Some(*refusal),
+            _ => None,
+        },
+        Reply::Marked(_) => None,
+    };
+    drop(reply);
+    refusal
+}
+
+/// The mutator joins, and makes a queue.
+fn begin<L: Naming + Limited, T: Wait>(port: &mut SeatPort<'_, u32, L, T>) {
+    let mutator = port.mutator();
+    drop(port.ask(Event::Join { mutator }, None));
+    drop(port.ask(Event::MakeQueue { mutator }, None));
+}
+
+/// A reference comes into the queue.
+fn enqueue<L: Naming + Limited, T: Wait>(port: &mut SeatPort<'_, u32, L, T>, layout: Layout) {
+    let mutator = port.mutator();
+    let referent = Handle::new(2);
+    let queue = Handle::new(1);
+    let reference = Handle::new(3);
+    let kind = RefKind::Weak;
+    drop(port.ask(Event::New { mutator, layout }, None));
+    drop(port.ask(
+        Event::MakeRef {
+            mutator,
+            kind,
+            referent,
+            queue,
+        },
+        None,
+    ));
+    drop(port.ask(Event::Enqueue { mutator, reference }, None));
+}
+
+/// How the `remove`s of one seat end.
+fn removals<L: Naming + Limited, T: Wait>(
+    rt: &T,
+    hall: &Hall<u32, L>,
+    seat: Seat<u32, L>,
+    layout: Layout,
+) -> [Option<Refusal>; 4] {
+    let mut port = SeatPort::new(rt, hall, seat);
+    begin(&mut port);
+    hall.sit(rt, 0, FIRST);
+    hall.call_off(rt, FIRST);
+    enqueue(&mut port, layout);
+    let gone = remove(&mut port);
+    hall.sit(rt, 0, NEXT);
+    hall.call_off(rt, FIRST);
+    let next = remove(&mut port);
+    hall.call_all_off(rt);
+    let empty = remove(&mut port);
+    hall.call_off(rt, NEXT);
+    let gone_too = remove(&mut port);
+    drop(port.into_seat());
+    [gone, next, empty, gone_too]
+}
+
+fn called_off_in<L: Naming + Limited, T: Wait>(
+    rt: &T,
+    alloc: Global,
+    limits: Limits,
+    blank: Blank<Step<u32>>,
+) -> Result<Option<[Option<Refusal>; 4]>, Fail>
+    requires name { blank ≡ L.table }
+    requires limits { limits ≡ L.limits }
+{
+    let (hall, seats) = Hall::<u32, L>::open(alloc, limits, blank)?;
+    let layout = Layout::new();
+    let told = match seats.into_iter().next() {
+        Some(seat) => Some(removals(rt, &hall, seat, layout)),
+        None => None,
+    };
+    drop(hall);
+    Ok(told)
+}
+
+#[test]
+fn called_off(rt: HostRuntime) -> Result<(), Fail> {
+    let limits = Limits::checked(16, 1, 1, 0, 64, 1).ok().ok_or("limits")?;
+    let blank = Blank::new(rt.alloc())?;
+    let told = called_off_in::<Brand, _>(&rt, rt.alloc(), limits, blank)?;
+    let wanted = [
+        Some(Refusal::NoMemory),
+        None,
+        Some(Refusal::WouldWait),
+        Some(Refusal::NoMemory),
+    ];
+    if told != Some(wanted) {
+        return Err("a `remove` ended otherwise".into());
+    }
+    Ok(())
+}

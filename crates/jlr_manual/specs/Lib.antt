@@ -1,0 +1,4 @@
+pub mod Forms
+pub mod Refusals
+pub mod Lines
+pub mod Rows

@@ -1,0 +1,27 @@
+use Rattle.std.proofs.Common.{◌≡◌, ◌∙◌, ap}
+use Rattle.jlr_session.specs.Calls.{Opening}
+use Rattle.jlr_session.specs.Limits.{FindsEnd}
+use Rattle.jlr_server.specs.Serving.{IsSession, Work}
+use Rattle.jlr_server.proofs.Seats.{session_stays}
+use Rattle.jlr_server.proofs.Works.{one_session}
+use Rattle.jlr_server.proofs.worked.Worked.serve.Goals as goal
+
+pub invariant_of-result-2 : goal.invariant_of-result-2
+invariant_of-result-2 g c =
+    let device : Opening g.row.D.Denot g.row.D-Res.Denot = record { count = g.D.Device.count; opens = g.D.Device.may_open; connects = g.D.Device.may_connect; failures = g.D.Res.Resource.handling.count } in
+    let resource = g.D.Res.Resource.handling in
+    let p = c.self.inside.seat in
+    let q = c.serve_seat-seat.result in
+    let v = c.serve_seat-seat.ensures in
+    let remaining = g.A.In.Read.remaining c.serve_seat-seat.new.input in
+    let stays : q.seat ≡ p.seat = session_stays g.L.Limited.limits device resource (FindsEnd remaining v.1) v.0 v.1 p c.args.device.now v.2 q c.serve_seat-seat.new.device v.6 in
+    one_session g.L.Limited.limits device resource g.A.Acceptor.fails p q c.self.inside.sessions c.self.inside.missed (rw (← c.self.view_is) at c.requires) stays c.self.invariant
+    (c.args.device.now, c.serve_seat-seat.new.device, remaining, v.1, v.2, v.0, v.5, v.6)
+
+pub returns : goal.returns
+returns g c =
+    let device : Opening g.row.D.Denot g.row.D-Res.Denot = record { count = g.D.Device.count; opens = g.D.Device.may_open; connects = g.D.Device.may_connect; failures = g.D.Res.Resource.handling.count } in
+    let v = c.serve_seat-seat.ensures in
+    let remaining = g.A.In.Read.remaining c.serve_seat-seat.new.input in
+    session_stays g.L.Limited.limits device g.D.Res.Resource.handling (FindsEnd remaining v.1) v.0 v.1 c.self.inside.seat c.args.device.now v.2 c.serve_seat-seat.result c.serve_seat-seat.new.device v.6
+    ∙ ap (λ (w : Work g.row.D-Res.Denot). w.seat.seat) c.self.view_is

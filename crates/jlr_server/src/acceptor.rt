@@ -1,0 +1,51 @@
+//! Who gives clients to a server.
+use crate::watch::Closing;
+use jlr_types::Fault;
+use std::io::{Read, Write};
+use std::os::fd::RawFd;
+use std::sync::Wait;
+
+/// Gives clients, one after the other, to whoever asks.
+pub trait Acceptor {
+    ghost use Rattle.std.specs.Prelude.{IfErr};
+    ghost use Rattle.jlr_types.specs.declared.Fault.{Fault};
+
+    /// What a client sends.
+    type In: Read + Drop;
+    /// Where its replies go.
+    type Out: Write + Drop;
+
+    // that it gives no client, and why
+    ghost fails: { Self → Fault → Type 0 } = { λ _ _. Unit {0} };
+
+    /// The next client. It may wait for one.
+    ///
+    /// # Errors
+    /// Why none came.
+    fn accept(&self) -> Result<(Self::In, Self::Out), Fault>
+        ensures fails { IfErr result (λ fault. fails self.now fault) };
+
+    /// Watches a client under this number until it leaves. Its watcher tells where it goes, also where it is gone already.
+    ///
+    /// # Errors
+    /// Why it cannot be watched. Once `close` was called none can.
+    fn watch<T: Wait>(&self, _rt: &T, _client: u32, _input: &Self::In) -> Result<(), Fault>
+        ensures fails { IfErr result (λ fault. fails self.now fault) }
+    {
+        Ok(())
+    }
+
+    /// The descriptor of a client's connection, if it has one: while that is up, calls for the client may wait.
+    fn descriptor(&self, _input: &Self::In) -> Option<RawFd> {
+        None
+    }
+
+    /// A client that was watched has left. It comes before the client's input and output are let go.
+    fn leave<T: Wait>(&self, _rt: &T, _client: u32) {}
+
+    /// Ends the accept that is under way and all later ones, and closes the connections of the clients that are watched.
+    fn close<T: Wait>(&self, _rt: &T, _closing: Closing) {}
+
+    /// Has the watcher tell that it is over.
+    fn dismiss(&self) {}
+}

@@ -1,0 +1,205 @@
+//! What is done at the seats of a hall: sessions one after the other, or a loop.
+ghost use Rattle.std.specs.Prelude.{◌≡◌, ◌≤◌, ◌<◌, ◌+◌, ℕ, List, [], length};
+ghost use Rattle.std.specs.Io.KnownBytes.{Appends, Consumes};
+ghost use Rattle.jlr_types.specs.declared.Fault.{Fault};
+ghost use Rattle.jlr_session.specs.Limits.{FindsEnd, most_bytes};
+ghost use Rattle.jlr_session.specs.Serving.{Serves};
+ghost use Rattle.jlr_session.specs.declared.shell.SessionEnd.{SessionEnd};
+ghost use Rattle.jlr_log.specs.Seeing.{seen};
+ghost use Rattle.jlr_hall.specs.Ports.{by_seat};
+ghost use Rattle.jlr_server.specs.Serving.{IsWork};
+
+use crate::acceptor::Acceptor;
+use jlr_device::{Device, Resource};
+use jlr_hall::hall::Hall;
+use jlr_hall::history::Naming;
+use jlr_hall::loops::{cleaner_loop, handler_loop, marker_loop};
+use jlr_hall::port::SeatPort;
+use jlr_hall::seat::Seat;
+use jlr_hall::step::Limited;
+use jlr_session::serve::serve;
+use std::io::{Read, Write};
+use std::marker::{Model, PhantomData};
+use std::sync::Wait;
+
+/// A session over a seat: the client's lines are carried out in the name of the seat's mutator, each ask a step of the one history. The device
+/// opens the client's files and sockets.
+fn serve_seat<I: Read, O: Write, D: Device, L: Naming + Limited, T: Wait>(
+    rt: &T,
+    hall: &Hall<D::Res, L>,
+    seat: Seat<D::Res, L>,
+    input: &mut I,
+    output: &mut O,
+    device: &mut D,
+) -> Seat<D::Res, L>
+where
+    D::Res: Drop,
+    ensures { (end : SessionEnd) × (bytes : List ℕ) × (out : List ℕ)
+        × Consumes (I.remaining input.old) (I.remaining input.new) bytes
+        × Appends (O.contents output.old) (O.contents output.new) out
+        × (length bytes ≤ most_bytes)
+        × Serves (by_seat L.limits) (record { count = D.count; opens = D.may_open; connects = D.may_connect; failures = D.Res.handling.count })
+        D.Res.handling
+        (FindsEnd (I.remaining input.new) bytes) end bytes seat device.old out result device.new }
+{
+    let mut port = SeatPort::new(rt, hall, seat);
+    let _end = serve(input, output, &mut port, device);
+    port.into_seat()
+}
+
+/// A seat, and what was done there since its hall was opened: how many sessions were served, one after the other, and how many accepts gave
+/// no client. At a seat of a loop it is what that loop did.
+#[derive(Drop)]
+pub struct Worked<A: Acceptor, D: Device, L: Naming + Limited> {
+    seat: Seat<D::Res, L>,
+    sessions: u32,
+    missed: u32,
+    of: PhantomData<(A::In, D)>,
+}
+
+impl<A: Acceptor, D: Device, L: Naming + Limited> Model for Worked<A, D, L> {
+    ghost use Rattle.jlr_server.specs.Serving.{IsWork, Work};
+
+    ghost Value = { Work D.Res };
+
+    ghost view = { λ w. record { seat = w.seat; sessions = w.sessions; missed = w.missed } };
+
+    ghost invariant = { λ w. IsWork L.limits (record { count = D.count; opens = D.may_open; connects = D.may_connect; failures = D.Res.handling.count })
+        D.Res.handling A.fails (record { seat = w.seat; sessions = w.sessions; missed = w.missed }) };
+}
+
+impl<A: Acceptor, D: Device, L: Naming + Limited> Worked<A, D, L>
+where
+    D::Res: Drop,
+{
+    /// A seat at which nothing was done.
+    pub(crate) fn new(seat: Seat<D::Res, L>) -> Self
+        requires { seat ≡ seen seat.seat [] }
+        ensures { result ≡ record { seat = seat; sessions = 0; missed = 0 } }
+    {
+        Worked {
+            seat,
+            sessions: 0,
+            missed: 0,
+            of: PhantomData,
+        }
+    }
+
+    /// A session more. A seat at which 2^32 - 1 were served serves none.
+    pub(crate) fn serve<T: Wait>(
+        self,
+        rt: &T,
+        hall: &Hall<D::Res, L>,
+        input: &mut A::In,
+        output: &mut A::Out,
+        device: &mut D,
+    ) -> Self
+        requires { self.seat.seat < L.limits.sessions }
+        ensures { result.seat.seat ≡ self.seat.seat }
+    {
+        let Worked {
+            seat,
+            sessions,
+            missed,
+            of,
+        } = self;
+        if sessions == u32::MAX {
+            return Worked {
+                seat,
+                sessions,
+                missed,
+                of,
+            };
+        }
+        let seat = serve_seat(rt, hall, seat, input, output, device);
+        Worked {
+            seat,
+            sessions: sessions + 1,
+            missed,
+            of,
+        }
+    }
+
+    /// An accept that gave no client: it failed, or the client could not be watched. At 2^32 - 1 it is not counted.
+    pub(crate) fn miss(self) -> Self
+        requires seat { self.seat.seat < L.limits.sessions }
+        requires fails { (acceptor : A) × (fault : Fault) × A.fails acceptor fault }
+        ensures { result.seat.seat ≡ self.seat.seat }
+    {
+        let Worked {
+            seat,
+            sessions,
+            missed,
+            of,
+        } = self;
+        Worked {
+            seat,
+            sessions,
+            missed: missed.saturating_add(1),
+            of,
+        }
+    }
+
+    /// What the marker's loop does, by pieces of at most so many cells, until the hall is to end.
+    pub(crate) fn mark<T: Wait>(
+        rt: &T,
+        hall: &Hall<D::Res, L>,
+        seat: Seat<D::Res, L>,
+        budget: u32,
+    ) -> Self
+        requires { seat ≡ seen L.limits.sessions [] }
+    {
+        Worked {
+            seat: marker_loop(seat, rt, hall, budget),
+            sessions: 0,
+            missed: 0,
+            of: PhantomData,
+        }
+    }
+
+    /// What the handler's loop does, until the hall is to end.
+    pub(crate) fn hand_over<T: Wait>(rt: &T, hall: &Hall<D::Res, L>, seat: Seat<D::Res, L>) -> Self
+        requires { seat ≡ seen (L.limits.sessions + 1) [] }
+    {
+        Worked {
+            seat: handler_loop(seat, rt, hall),
+            sessions: 0,
+            missed: 0,
+            of: PhantomData,
+        }
+    }
+
+    /// What the cleaner's loop does, until the hall is to end.
+    pub(crate) fn clean<T: Wait>(rt: &T, hall: &Hall<D::Res, L>, seat: Seat<D::Res, L>) -> Self
+        requires { seat ≡ seen (L.limits.sessions + 2) [] }
+    {
+        Worked {
+            seat: cleaner_loop(seat, rt, hall),
+            sessions: 0,
+            missed: 0,
+            of: PhantomData,
+        }
+    }
+
+    /// Which seat it is.
+    pub(crate) fn index(&self) -> u8
+        ensures { result ≡ self.now.seat.seat }
+    {
+        self.seat.index()
+    }
+
+    /// The seat, how many sessions were served there, and how many accepts gave none.
+    pub(crate) fn into_parts(self) -> (Seat<D::Res, L>, u32, u32)
+        ensures parts { (result.0 ≡ self.seat) × (result.1 ≡ self.sessions) × (result.2 ≡ self.missed) }
+        ensures done { IsWork L.limits (record { count = D.count; opens = D.may_open; connects = D.may_connect; failures = D.Res.handling.count })
+            D.Res.handling A.fails self }
+    {
+        let Worked {
+            seat,
+            sessions,
+            missed,
+            ..
+        } = self;
+        (seat, sessions, missed)
+    }
+}
