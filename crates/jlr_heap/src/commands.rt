@@ -217,12 +217,17 @@ pub(crate) fn finished<K: Keeper>(
 // ---- Calls of the system
 
 /// Reads at most so many bytes, 200 at most, into the room for them.
-fn read_of<R: Resource>(resource: &mut R, count: u8, room: Data) -> Result<Data, Fault>
-    ensures { Reads R.handling count resource.old (data_outcome result) resource.new }
+fn read_of<D: Device>(
+    device: &D,
+    resource: &mut D::Res,
+    count: u8,
+    room: Data,
+) -> Result<Data, Fault>
+    ensures { Reads D.Res.handling count resource.old (data_outcome result) resource.new }
 {
     let mut buffer = [0u8; CALL_LIMIT];
     let bytes = &mut buffer[..CALL_LIMIT.min(usize::from(count))];
-    match guarded_read(resource, bytes) {
+    match guarded_read(device, resource, bytes) {
         Ok(n) => {
             let mut room = room;
             room.fill(&bytes[..n]);
@@ -233,11 +238,11 @@ fn read_of<R: Resource>(resource: &mut R, count: u8, room: Data) -> Result<Data,
 }
 
 /// Writes bytes, at most 200, or a prefix of them.
-fn write_of<R: Resource>(resource: &mut R, bytes: &[u8]) -> Result<WriteCount, Fault>
+fn write_of<D: Device>(device: &D, resource: &mut D::Res, bytes: &[u8]) -> Result<WriteCount, Fault>
     requires { length bytes.now ≤ 200 }
-    ensures { Writes R.handling bytes.now resource.old (count_outcome result) resource.new }
+    ensures { Writes D.Res.handling bytes.now resource.old (count_outcome result) resource.new }
 {
-    match guarded_write(resource, bytes) {
+    match guarded_write(device, resource, bytes) {
         Ok(n) => Ok(WriteCount::new(n as u8).unwrap()),
         Err(fault) => Err(fault),
     }
@@ -295,8 +300,9 @@ where
 }
 
 /// Reads from a file or a socket.
-pub(crate) fn read<K: Keeper>(
+pub(crate) fn read<K: Keeper, D: Device<Res = K::Held>>(
     keeper: &mut K,
+    device: &D,
     guard: Handle,
     count: u8,
     room: Data,
@@ -318,7 +324,7 @@ where
         Answer::Out(_) => match held {
             Some(held) => {
                 let mut held = held;
-                let outcome = read_of(&mut held, count, room);
+                let outcome = read_of(device, &mut held, count, room);
                 was_read(keeper, held, outcome, copies)
             }
             None => unreachable!(),
@@ -329,8 +335,9 @@ where
 }
 
 /// Writes to a file or a socket.
-pub(crate) fn write<K: Keeper>(
+pub(crate) fn write<K: Keeper, D: Device<Res = K::Held>>(
     keeper: &mut K,
+    device: &D,
     guard: Handle,
     bytes: &[u8],
 ) -> Result<WriteCount, Failed>
@@ -351,7 +358,7 @@ where
         Answer::Out(_) => match held {
             Some(held) => {
                 let mut held = held;
-                let outcome = write_of(&mut held, bytes);
+                let outcome = write_of(device, &mut held, bytes);
                 was_written(keeper, held, outcome)
             }
             None => unreachable!(),

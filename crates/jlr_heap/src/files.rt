@@ -91,22 +91,40 @@ where
     }
 
     /// At most so many bytes are read, 200 at most; none at the end.
-    pub fn read(&mut self, guard: Guard, count: u8, room: ReadRoom) -> Result<Data, Failed>
+    pub fn read<D: Device<Res = K::Held>>(
+        &mut self,
+        device: &D,
+        guard: Guard,
+        count: u8,
+        room: ReadRoom,
+    ) -> Result<Data, Failed>
         ensures { IsRead K.asking K.Held.handling guard count self.old result self.new }
     {
         let ReadRoom { bytes, copies } = room;
-        let result = read(&mut self.keeper, guard.handle(), count, bytes, copies);
+        let result = read(
+            &mut self.keeper,
+            device,
+            guard.handle(),
+            count,
+            bytes,
+            copies,
+        );
         self.follow();
         result
     }
 
     /// Bytes of the front of these, of which only the first 200 are looked at, are written: how many.
-    pub fn write(&mut self, guard: Guard, bytes: &[u8]) -> Result<WriteCount, Failed>
+    pub fn write<D: Device<Res = K::Held>>(
+        &mut self,
+        device: &D,
+        guard: Guard,
+        bytes: &[u8],
+    ) -> Result<WriteCount, Failed>
         ensures { IsWritten K.asking K.Held.handling guard (take (min 200 (length bytes.now)) bytes.now) self.old result
             self.new }
     {
         let front = &bytes[..CALL_LIMIT.min(bytes.len())];
-        let result = write(&mut self.keeper, guard.handle(), front);
+        let result = write(&mut self.keeper, device, guard.handle(), front);
         self.follow();
         result
     }
