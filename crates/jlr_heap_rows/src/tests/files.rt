@@ -77,19 +77,28 @@ fn guard(words: &mut SplitWhitespace<'_>) -> Option<Guard> {
     Some(Guard::of(Handle::new(number)))
 }
 
-fn read(alloc: Global, heap: &mut Files, words: &mut SplitWhitespace<'_>) -> Option<Answer> {
+fn read(
+    alloc: Global,
+    heap: &mut Files,
+    device: &ScriptDevice,
+    words: &mut SplitWhitespace<'_>,
+) -> Option<Answer> {
     let guard = guard(words)?;
     let count = words.next()?.parse().ok()?;
     let room = ReadRoom::new(alloc).ok()?;
-    Some(data(heap.read(guard, count, room)))
+    Some(data(heap.read(device, guard, count, room)))
 }
 
 // One byte for each two letters, all 1: what is written is told by its count.
-fn write(heap: &mut Files, words: &mut SplitWhitespace<'_>) -> Option<Answer> {
+fn write(
+    heap: &mut Files,
+    device: &ScriptDevice,
+    words: &mut SplitWhitespace<'_>,
+) -> Option<Answer> {
     let guard = guard(words)?;
     let bytes = [1; 8];
     let length = (words.next()?.len() / 2).min(8);
-    Some(count(heap.write(guard, &bytes[..length])))
+    Some(count(heap.write(device, guard, &bytes[..length])))
 }
 
 // The next job of the cleaner is done.
@@ -117,8 +126,8 @@ fn called(
         "open_read" => opened(heap.open_read(device, words.next()?)),
         "create" => opened(heap.create(device, words.next()?)),
         "connect" => opened(heap.connect(device, words.next()?)),
-        "read" => return read(alloc, heap, words),
-        "write" => return write(heap, words),
+        "read" => return read(alloc, heap, device, words),
+        "write" => return write(heap, device, words),
         "close" => closed(heap.close(guard(words)?)),
         "drop" => done(heap.drop(guard(words)?.handle())),
         "gc" => done(heap.gc()),
