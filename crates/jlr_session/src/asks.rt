@@ -161,7 +161,10 @@ where
     let bytes = digits.decode();
     match handed_out(port.ask(Event::CheckOut { mutator, guard }, None)) {
         Ok(resource) => say(
-            port.ask(written_back(device, mutator, resource, bytes.as_slice()), None),
+            port.ask(
+                written_back(device, mutator, resource, bytes.as_slice()),
+                None,
+            ),
             answer,
         ),
         Err(refused) => write_over(answer, refused),
