@@ -119,7 +119,7 @@ def a_death_goes_to_the_next(program, asked):
 
 
 def gone_clients_brick_nothing(program, asked):
-    server = Server(program, asked.clients + 1, 4)
+    server = Server(program, asked.clients + 100, 4)
     steady = server.peer()
     steady.ask("stat")
     before, memory = server.counts(), None
@@ -135,7 +135,8 @@ def gone_clients_brick_nothing(program, asked):
     wait_until(lambda: server.counts() == before)
     check(server.memory() <= memory + 256, "memory stays flat")
     check(steady.ask("bye") == "ok", "the others go on")
-    check(server.end() == ENDED, "it ends by itself once all are gone")
+    check(server.stop().returncode == 0, "a stop")
+    check(server.end() == ENDED, "an end in order")
 
 
 def a_half_closed_client_is_answered(program, asked):
@@ -187,6 +188,12 @@ def a_second_stop_cuts(program, asked):
     server = Server(program, 100, 2)
     peer = server.peer()
     peer.ask("new -")
+    peer.stream.settimeout(0.5)
+    try:
+        while True:
+            peer.send(*["names"] * 1_000)
+    except TimeoutError:
+        pass
     stream = socket.socket(socket.AF_UNIX)
     stream.connect(server.control)
     stream.settimeout(TIMEOUT)
