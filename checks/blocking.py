@@ -101,32 +101,33 @@ def until_one_waits(lines):
     raise AssertionError("no write waits")
 
 
-def reading_a_silent_peer(server, place):
-    lines = Lines(server)
-    assert lines.ask(f"connect {place.path('silent')}") == "= 1"
+def until_it_reads(lines):
+    """Sends a read of what is silent."""
     lines.send("read 1 9")
+
+
+def waiting(server, opening, until):
+    """A session that has opened a resource, and waits in a call on it."""
+    lines = Lines(server)
+    assert lines.ask(opening) == "= 1"
+    until(lines)
     return lines
+
+
+def reading_a_silent_peer(server, place):
+    return waiting(server, f"connect {place.path('silent')}", until_it_reads)
 
 
 def writing_to_a_full_peer(server, place):
-    lines = Lines(server)
-    assert lines.ask(f"connect {place.path('silent')}") == "= 1"
-    until_one_waits(lines)
-    return lines
+    return waiting(server, f"connect {place.path('silent')}", until_one_waits)
 
 
 def reading_a_silent_fifo(server, place):
-    lines = Lines(server)
-    assert lines.ask(f"open r {place.path('silent_fifo')}") == "= 1"
-    lines.send("read 1 9")
-    return lines
+    return waiting(server, f"open r {place.path('silent_fifo')}", until_it_reads)
 
 
 def writing_to_a_full_fifo(server, place):
-    lines = Lines(server)
-    assert lines.ask(f"open w {place.path('full_fifo')}") == "= 1"
-    until_one_waits(lines)
-    return lines
+    return waiting(server, f"open w {place.path('full_fifo')}", until_one_waits)
 
 
 CALLS = (reading_a_silent_peer, writing_to_a_full_peer, reading_a_silent_fifo, writing_to_a_full_fifo)
