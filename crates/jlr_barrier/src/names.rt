@@ -27,8 +27,8 @@ impl Heap {
         self.names.find(name)
     }
 
-    /// From now on a name stands for this slot, which is a root as long, so this is one of the calls that make edges. An old name
-    /// keeps its place, and takes no memory; a new one comes last.
+    /// From now on a name stands for this slot, which is a root as long, so this is one of the calls that make edges.
+    /// An old name keeps its place, and takes no memory; a new one comes last.
     ///
     /// # Errors
     /// `AllocError` where the name is new and there is no memory for it. The heap stays as it is then.

@@ -55,8 +55,8 @@ pub(crate) fn record<R: Drop>(
     }
 }
 
-/// An entry that needs its place alone, without a collection: it is told in its place, which it finds empty. The core is lent the event,
-/// and a choice.
+/// An entry that needs its place alone, without a collection: it is told in its place, which it finds empty. The core
+/// is lent the event, and a choice.
 #[inline(always)]
 pub(crate) fn record_briefly<R>(
     core: &mut Core<R>,
@@ -90,7 +90,8 @@ pub(crate) fn record_briefly<R>(
     tell_briefly(core, lent, alloc, entry, event)
 }
 
-/// A step of the core for an event whose entry needs its place alone, written over an entry of the same seat. The answer.
+/// A step of the core for an event whose entry needs its place alone, written over an entry of the same seat. The
+/// answer.
 #[inline(always)]
 fn tell_briefly<R>(
     core: &mut Core<R>,

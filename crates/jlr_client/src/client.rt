@@ -7,7 +7,8 @@ use std::alloc::AllocError;
 use std::io::{self, IsTerminal};
 use std::os::unix::net::UnixStream;
 
-/// A session with the server at a path: with a prompt and words where standard input and output are terminals; else bytes in and out.
+/// A session with the server at a path: with a prompt and words where standard input and output are terminals; else
+/// bytes in and out.
 ///
 /// # Errors
 /// `CannotConnect`; `Read` where the input, or the server's replies, cannot be read; `Write`; `NoMemory`.

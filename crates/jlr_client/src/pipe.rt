@@ -146,8 +146,8 @@ fn received(
     }
 }
 
-/// Sends the bytes of the standard input to the server and writes those that come back to the standard output, until the server closes. At the
-/// end of the input the server is told that no more comes.
+/// Sends the bytes of the standard input to the server and writes those that come back to the standard output, until
+/// the server closes. At the end of the input the server is told that no more comes.
 pub fn pass(rt: &HostRuntime, stream: &UnixStream) -> Result<(), ProgramFault> {
     if stream.set_nonblocking(true).is_err() {
         return Err(ProgramFault::Read);

@@ -21,7 +21,8 @@ enum Next {
     NoMore,
 }
 
-/// A session from a terminal, which ends with its input, at `.quit`, or behind `bye`: then what the server still says is shown.
+/// A session from a terminal, which ends with its input, at `.quit`, or behind `bye`: then what the server still says
+/// is shown.
 pub fn converse(rt: &HostRuntime, stream: &UnixStream) -> Result<(), ProgramFault> {
     let alloc = rt.alloc();
     let Ok(mut replies) = BufReader::new(alloc, stream) else {

@@ -19,8 +19,8 @@ pub enum Typed<'a> {
     Unknown,
 }
 
-/// What a line, without its end, asks for. Where it begins with a dot, or its first word is `help`, it is for the client and never goes to the
-/// server; every other line goes there as it is.
+/// What a line, without its end, asks for. Where it begins with a dot, or its first word is `help`, it is for the
+/// client and never goes to the server; every other line goes there as it is.
 pub fn meant<'a>(line: &'a [u8]) -> Typed<'a>
     ensures { IsMeant line.now result }
 {

@@ -64,8 +64,8 @@ pub fn command<'a>(alloc: Global) -> Result<Command<'a>, AllocError> {
     with_subcommand(program, version_command(alloc))
 }
 
-/// A command with one more below it. Where that could not be made the command is dropped by a call, for the prover: no return path then
-/// proves the drop of each of its parts.
+/// A command with one more below it. Where that could not be made the command is dropped by a call, for the prover: no
+/// return path then proves the drop of each of its parts.
 fn with_subcommand<'a>(
     command: Command<'a>,
     below: Result<Command<'a>, AllocError>,

@@ -158,7 +158,8 @@ fn explain(alloc: Global, writer: &mut impl Write, why: &str) -> Result<(), Prog
     Ok(())
 }
 
-/// Writes the verdict, the version of the file and why it is not legal, as JSON in one line. No sentence has a character that JSON escapes.
+/// Writes the verdict, the version of the file and why it is not legal, as JSON in one line. No sentence has a
+/// character that JSON escapes.
 fn tell_json(
     alloc: Global,
     writer: &mut impl Write,

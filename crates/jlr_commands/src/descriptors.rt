@@ -2,8 +2,8 @@
 use jlr_types::Limits;
 use libc::types::rlimit;
 
-/// The descriptors that a server has beside those of its clients and its resources: the standard three, two sockets and four of its watcher,
-/// and a file that is saved.
+/// The descriptors that a server has beside those of its clients and its resources: the standard three, two sockets and
+/// four of its watcher, and a file that is saved.
 const OWN: u64 = 10;
 
 /// The descriptors that a client takes: its connection, one for its replies and one to end it.

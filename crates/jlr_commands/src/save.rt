@@ -93,8 +93,8 @@ where
 
 /// Saves bytes to a file: whole, or what stood there stays.
 ///
-/// A file is written anew beside its place and then put there. Where a link leads to a file, that file is replaced, and the link stays.
-/// What is neither a file nor a directory, as a terminal or a pipe, is written to as it is.
+/// A file is written anew beside its place and then put there. Where a link leads to a file, that file is replaced, and
+/// the link stays. What is neither a file nor a directory, as a terminal or a pipe, is written to as it is.
 ///
 /// # Errors
 /// `CannotSave`, or `NoMemory`.
@@ -108,8 +108,8 @@ pub fn save(rt: &HostRuntime, path: &str, bytes: &[u8]) -> Result<(), ProgramFau
     }
 }
 
-/// Tries whether something can be saved to a place, and leaves there what it found: a new file is made beside it, with the rights that the saved one
-/// will have, and removed. What is neither a file nor a directory is not tried.
+/// Tries whether something can be saved to a place, and leaves there what it found: a new file is made beside it, with
+/// the rights that the saved one will have, and removed. What is neither a file nor a directory is not tried.
 ///
 /// # Errors
 /// `CannotSave`, or `NoMemory`.

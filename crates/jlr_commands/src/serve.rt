@@ -23,8 +23,9 @@ use std::marker::Brand;
 use std::sync::Wait;
 use std::thread::Threads;
 
-/// Serves clients on a Unix socket, and writes how many and how many entries their history has, which is then saved where it is to be. The
-/// files of its sockets are removed at the end, where they are still its own. Who asked it to end is told whether the history was saved.
+/// Serves clients on a Unix socket, and writes how many and how many entries their history has, which is then saved
+/// where it is to be. The files of its sockets are removed at the end, where they are still its own. Who asked it to
+/// end is told whether the history was saved.
 ///
 /// # Errors
 /// `CannotListen` where a socket cannot be made, also where its file exists, which is left alone, and where a thread cannot be started;

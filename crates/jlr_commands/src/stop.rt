@@ -7,7 +7,8 @@ use std::os::unix::net::UnixStream;
 /// What a server says to who asked it to end, once its history is saved, where it is to be.
 const ENDED: u8 = b'.';
 
-/// Asks the server that listens at this path to end, and waits until it is gone. Asked by a second one, it cuts its clients off.
+/// Asks the server that listens at this path to end, and waits until it is gone. Asked by a second one, it cuts its
+/// clients off.
 ///
 /// # Errors
 /// `CannotConnect` where nobody listens there; `NotEnded` where the server could not save its history, or went without a word.

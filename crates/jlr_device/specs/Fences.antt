@@ -9,8 +9,8 @@ use Rattle.jlr_device.specs.declared.fenced.Fenced.{Fenced}
 
 -- ---- Which path is called
 
--- Either the call at a path or a denial. Below a folder the call is made at the path joined to it, where the text allows it and the way is told
--- to be straight: the whole path, how many bytes of it are the folder, and what is told.
+-- Either the call at a path or a denial. Below a folder the call is made at the path joined to it, where the text
+-- allows it and the way is told to be straight: the whole path, how many bytes of it are the folder, and what is told.
 abbrev pub Lets : (List ℕ → ℕ → Bool → Type 0) → (List ℕ → Type 0) → Type 0 → Fence → List ℕ → Type 0
 Lets straight call denial Everything path = call path
 Lets straight call denial Nothing path = denial

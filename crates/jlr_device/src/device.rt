@@ -49,12 +49,14 @@ pub trait Device {
         ensures fresh { IfOk result (λ resource. Self.Res.handling.count resource ≡ 0) }
         ensures told { may_connect self.old path.now result self.new };
 
-    /// From now on the calls are made for the client of this connection, if there is one. The descriptor stays open as long.
+    /// From now on the calls are made for the client of this connection, if there is one. The descriptor stays open as
+    /// long.
     fn attend(&mut self, _client: Option<RawFd>)
         ensures { count self.new ≡ count self.old }
     {}
 
-    /// Reads of a resource as it reads itself. Where it would have to wait, and the client goes meanwhile, it fails, and nothing is read.
+    /// Reads of a resource as it reads itself. Where it would have to wait, and the client goes meanwhile, it fails,
+    /// and nothing is read.
     fn read(&self, resource: &mut Self::Res, buf: &mut [u8]) -> Result<usize, Fault>
         requires { Self.Res.handling.count resource.old + 1 < 2 ^ 64 }
         ensures bound { IfOk result (λ n. n ≤ length buf.old) }
@@ -64,7 +66,8 @@ pub trait Device {
         resource.read(buf)
     }
 
-    /// Writes to a resource as it writes itself. Where it would have to wait, and the client goes meanwhile, it fails, and nothing is written.
+    /// Writes to a resource as it writes itself. Where it would have to wait, and the client goes meanwhile, it fails,
+    /// and nothing is written.
     fn write(&self, resource: &mut Self::Res, bytes: &[u8]) -> Result<usize, Fault>
         requires { Self.Res.handling.count resource.old + 1 < 2 ^ 64 }
         ensures bound { IfOk result (λ n. n ≤ length bytes.now) }

@@ -17,14 +17,15 @@ pub enum Fence<'a> {
     Everything,
     /// None.
     Nothing,
-    /// A path below this folder, at which it starts: it is not empty, does not start at the root, no part of it is `..`, and joined to the
-    /// folder it has at most 4,095 bytes. Nothing is below the folder of the empty name.
+    /// A path below this folder, at which it starts: it is not empty, does not start at the root, no part of it is
+    /// `..`, and joined to the folder it has at most 4,095 bytes. Nothing is below the folder of the empty name.
     Below(&'a str),
 }
 
-/// A device that lets calls through to the one below: an open with an allowed path, a `connect` with an allowed path that leads to no socket of
-/// the program's own. All others are `Denied`, without a call below. Below a folder a path with a link on its way is denied too: the two
-/// questions that the system is asked, and what their answers do not cover, stand in `places`.
+/// A device that lets calls through to the one below: an open with an allowed path, a `connect` with an allowed path
+/// that leads to no socket of the program's own. All others are `Denied`, without a call below. Below a folder a path
+/// with a link on its way is denied too: the two questions that the system is asked, and what their answers do not
+/// cover, stand in `places`.
 #[derive(Drop)]
 pub struct Fenced<'a, D, P> {
     device: D,

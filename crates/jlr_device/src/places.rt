@@ -4,11 +4,13 @@ use std::fs;
 use std::io::{self, ErrorKind};
 use std::os::unix::fs::MetadataExt;
 
-/// What is told of a path before a call is made with it. Where others change folders meanwhile, the call may find another thing there.
+/// What is told of a path before a call is made with it. Where others change folders meanwhile, the call may find
+/// another thing there.
 pub trait Places {
     ghost use Rattle.std.specs.Prelude.{ℕ, Bool, List, length};
 
-    // what may be told of links on a path: the path, how many bytes of it are the folder below which they count, and the answer
+    // what may be told of links on a path: the path, how many bytes of it are the folder below which they count, and
+    // the answer
     ghost may_be_straight: { Self → List ℕ → ℕ → Bool → Type 0 } = { λ _ _ _ _. Unit {0} };
 
     // what may be told of a socket: its path, and the answer
@@ -48,9 +50,10 @@ impl Inode {
 
 /// What the system tells.
 ///
-/// A path is straight where none of its parts behind the folder is a symbolic link, as far as parts exist; where one cannot be looked at, it is
-/// not straight. This does not cover: another process that puts a link there between the look and the call; files with a second name (hard
-/// links) and file systems mounted below the folder, which count as below it; links in the path of the folder itself, which are followed.
+/// A path is straight where none of its parts behind the folder is a symbolic link, as far as parts exist; where one
+/// cannot be looked at, it is not straight. This does not cover: another process that puts a link there between the
+/// look and the call; files with a second name (hard links) and file systems mounted below the folder, which count as
+/// below it; links in the path of the folder itself, which are followed.
 #[derive(Drop)]
 pub struct SystemPlaces<'a> {
     rt: HostRuntime,

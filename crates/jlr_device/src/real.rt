@@ -18,9 +18,10 @@ use std::os::unix::net::UnixStream;
 
 /// The files and Unix stream sockets of the system.
 ///
-/// No open waits for the other end of a FIFO, and no joining for a place; a FIFO is opened only where it may be both read and written. What is
-/// read before anybody writes is the end, and what is written before anybody reads fails. While a client is attended, a read or a write that
-/// would have to wait ends with its going; but one that others outrun, since they read or write the same, may wait.
+/// No open waits for the other end of a FIFO, and no joining for a place; a FIFO is opened only where it may be both
+/// read and written. What is read before anybody writes is the end, and what is written before anybody reads fails.
+/// While a client is attended, a read or a write that would have to wait ends with its going; but one that others
+/// outrun, since they read or write the same, may wait.
 #[derive(Drop)]
 pub struct RealDevice {
     rt: HostRuntime,

@@ -10,8 +10,8 @@ pub enum Way {
     Write,
 }
 
-/// Waits until a read or a write of a descriptor would not wait, or the client of a connection is gone. Whether the first came. A client that
-/// only sends no more is not gone. Without a client nothing is waited for here.
+/// Waits until a read or a write of a descriptor would not wait, or the client of a connection is gone. Whether the
+/// first came. A client that only sends no more is not gone. Without a client nothing is waited for here.
 pub fn is_ready(descriptor: RawFd, way: Way, client: Option<RawFd>) -> bool {
     let Some(client) = client else {
         return true;

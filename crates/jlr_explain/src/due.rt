@@ -57,7 +57,8 @@ fn due_integer(machine: &Machine, ask: &Ask) -> Option<Answer>
     }
 }
 
-/// An answer of few words that is due: that an ask was carried out, or before; yes, no; a fault; or what a step of the handler did.
+/// An answer of few words that is due: that an ask was carried out, or before; yes, no; a fault; or what a step of the
+/// handler did.
 fn due_word(machine: &Machine, ask: &Ask, number: u8) -> Option<Answer>
     ensures { IfSome result (λ a. some_and (same_answer a) (reply machine.now ask.now) ≡ true) }
 {

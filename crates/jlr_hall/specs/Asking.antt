@@ -29,8 +29,9 @@ module _ {R : Type 0} where
   abbrev pub gave_up : ℕ → Bool → List (Step R)
   gave_up seat cycle_open = cond cycle_open (step seat Abandon (Answered (Truth true) None) false ∷ []) []
 
-  -- The event is the last step of a history that goes on from all that the seat knew: with this reply, and with the resources that came in and went out. Since
-  -- then there is nothing else of this seat, but that its cut gave a cycle up.
+  -- The event is the last step of a history that goes on from all that the seat knew: with this reply, and with the
+  -- resources that came in and went out. Since then there is nothing else of this seat, but that its cut gave a cycle
+  -- up.
   pub record Adds (limits : Limits) (old : Seen (Step R)) (event : Event R) (reply : Reply R) (new : Seen (Step R)) : Type 0 where
     pub seat : new.seat ≡ old.seat
     pub between : List (Step R)
@@ -41,8 +42,8 @@ module _ {R : Type 0} where
     pub known : new.known ≡ (old.known ++ between) ++ (gave_up old.seat (cut && cycle_open) ++ step old.seat event reply cut ∷ [])
     pub legal : IsHistory limits new.known
 
-  -- The book refuses by itself an ask that ends nothing: the history has nothing of it, and what came in goes back. Only out of memory, or where entry
-  -- numbers ran out.
+  -- The book refuses by itself an ask that ends nothing: the history has nothing of it, and what came in goes back.
+  -- Only out of memory, or where entry numbers ran out.
   pub record Declined (old : Seen (Step R)) (event : Event R) (reply : Reply R) (new : Seen (Step R)) : Type 0 where
     pub seat : new.seat ≡ old.seat
     pub between : List (Step R)
@@ -76,7 +77,8 @@ loop_for TakeUp = 2
 loop_for (Finish by action outcome) = 2
 loop_for ask = 0
 
--- A session's seat asks in the name of its mutator, and each of the three seats after those what is its loop's; pieces of marking are the marker's.
+-- A session's seat asks in the name of its mutator, and each of the three seats after those what is its loop's; pieces
+-- of marking are the marker's.
 abbrev pub IsOwn : ℕ → ℕ → Option Ask → Type 0
 IsOwn seat sessions None = seat ≡ sessions
 IsOwn seat sessions (Some ask) = elim (asker ask) [ Some k ↦ (seat ≡ k) × (seat < sessions) | None ↦ seat ≡ sessions + loop_for ask ]

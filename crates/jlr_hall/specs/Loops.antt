@@ -45,9 +45,9 @@ job_in (Ok job) = Some job
 job_in (Err answer) = None
 
 module _ {R : Type 0} (handling : Handling R) where
-  -- With this job running, then with that one: while none runs it takes up, and a job that runs is ended before the next take-up, by the event that tells
-  -- what its resource answered to its finish, in which the count of failures rose where it is a fault; ok for a note. A job comes with a
-  -- resource just where its work is on one.
+  -- With this job running, then with that one: while none runs it takes up, and a job that runs is ended before the
+  -- next take-up, by the event that tells what its resource answered to its finish, in which the count of failures rose
+  -- where it is a fault; ok for a note. A job comes with a resource just where its work is on one.
   abbrev pub Cleans : Option (Job R) → List (Event R × Reply R) → Option (Job R) → Type 0
   Cleans running [] last = last ≡ running
   Cleans None (x ∷ asks) last = (x.0 ≡ TakeUp) × HasItsResource x.1 × Cleans (job_in (job_by x.1)) asks last

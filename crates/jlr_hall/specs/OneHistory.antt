@@ -71,8 +71,9 @@ module _ {R : Type 0} where
 
   -- ---- Under the lock
 
-  -- The steps are a run from the empty machine of the limits, with their resources, that keeps what the package promises and ends where the book's
-  -- core stands; the entries of those since the last cut, with the run's own choices, are the book's trace, and those before give its base.
+  -- The steps are a run from the empty machine of the limits, with their resources, that keeps what the package
+  -- promises and ends where the book's core stands; the entries of those since the last cut, with the run's own
+  -- choices, are the book's trace, and those before give its base.
   pub record IsWhole (limits : Limits) (book : History R) (log : List (Step R)) : Type 0 where
     pub formed : IsWellFormed (empty_of limits)
     pub run : IsRunOf limits (events_of log) (replies_of log) book.core

@@ -6,6 +6,7 @@ use Rattle.jlr_log.specs.Seeing.{Seen}
 use Rattle.jlr_hall.specs.declared.step.Step.{Step}
 use Rattle.jlr_hall.specs.Asking.{Asked}
 
--- the mutator of its number asks, each ask is a step of the one history or is declined, and a settling does nothing: the loops hand over and clean
+-- the mutator of its number asks, each ask is a step of the one history or is declined, and a settling does nothing:
+-- the loops hand over and clean
 abbrev pub by_seat : {R : Type 0} → Limits → Asking (Seen (Step R)) R
 by_seat limits = record { mutator = λ p. p.seat; asks = Asked limits; settling = λ old new. new ≡ old }

@@ -1,5 +1,5 @@
-//! Who sits on the seats of the sessions, which of them wait in a `remove`, and how many sessions have joined. It decides who waits and who
-//! is woken, and nothing that an answer tells.
+//! Who sits on the seats of the sessions, which of them wait in a `remove`, and how many sessions have joined. It
+//! decides who waits and who is woken, and nothing that an answer tells.
 use crate::effect::{
     Effect, gave_handle, gave_resource, lacks_resources, says_collected, was_refused,
 };

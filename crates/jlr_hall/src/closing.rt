@@ -26,8 +26,8 @@ pub enum CloseFault {
 pub(crate) const LOOPS: u8 = 3;
 
 impl<R: Drop, L: Naming + Limited> Hall<R, L> {
-    /// A hall over an empty heap of these limits, with its seats: one for each session, then those of the marker, the handler and the
-    /// cleaner. None of them has asked anything, and the history has no step.
+    /// A hall over an empty heap of these limits, with its seats: one for each session, then those of the marker, the
+    /// handler and the cleaner. None of them has asked anything, and the history has no step.
     ///
     /// # Errors
     /// `AllocError` where there is no memory.
@@ -74,8 +74,9 @@ impl<R: Drop, L: Naming + Limited> Hall<R, L> {
         }
     }
 
-    /// The book, where each seat is there. One history, a run of the machine from the empty heap, ends where the book's core stands and
-    /// with its trace, and has of each seat just what that seat asked and was told. Nothing is compared for that.
+    /// The book, where each seat is there. One history, a run of the machine from the empty heap, ends where the book's
+    /// core stands and with its trace, and has of each seat just what that seat asked and was told. Nothing is compared
+    /// for that.
     ///
     /// # Errors
     /// `Disagree` with the least seat that was not handed in: nothing is known of its entries.

@@ -93,8 +93,9 @@ impl<R: Drop, L: Naming + Limited> Locked<R, L> {
         reply
     }
 
-    /// Whether the marker would find something to do: a cycle to begin, or one that is open. One is to begin where the book says so, or
-    /// where, since the last one began, a session left with resources open or there was no room for a resource.
+    /// Whether the marker would find something to do: a cycle to begin, or one that is open. One is to begin where the
+    /// book says so, or where, since the last one began, a session left with resources open or there was no room for a
+    /// resource.
     pub(crate) fn has_marking(&self) -> bool {
         self.chairs.cycle_owed() || self.book.marker_due() || self.book.cycle_open()
     }
@@ -212,8 +213,8 @@ impl<R: Drop, L: Naming + Limited> Hall<R, L> {
         self.locked.lock(rt).chairs.sit(seat, client);
     }
 
-    /// The client of this number is gone: a `remove` in which its seat waits ends and takes nothing, and so does each later one, until
-    /// another client sits there. Where it sits no more, nothing changes.
+    /// The client of this number is gone: a `remove` in which its seat waits ends and takes nothing, and so does each
+    /// later one, until another client sits there. Where it sits no more, nothing changes.
     pub fn call_off<T: Wait>(&self, rt: &T, client: u32) {
         let waits = self.locked.lock(rt).chairs.call_off(client);
         if let Some(seat) = waits {
@@ -233,8 +234,8 @@ impl<R: Drop, L: Naming + Limited> Hall<R, L> {
         self.locked.lock(rt).chairs.closings()
     }
 
-    /// Waits until a session leaves or a job ends, since there were so many; not where nothing is there to be closed, nor where the hall is to
-    /// end.
+    /// Waits until a session leaves or a job ends, since there were so many; not where nothing is there to be closed,
+    /// nor where the hall is to end.
     pub fn wait_for_closing<T: Wait>(&self, rt: &T, closings: u64) {
         drop(
             self.closed.wait_while(rt, self.locked.lock(rt), |l| {
@@ -283,7 +284,8 @@ impl<R: Drop, L: Naming + Limited> Hall<R, L> {
         }
     }
 
-    /// Takes the lock once a `Remove` of a seat need not wait, or its client is gone, or the hall is to end. None where the client is gone.
+    /// Takes the lock once a `Remove` of a seat need not wait, or its client is gone, or the hall is to end. None where
+    /// the client is gone.
     fn enter<T: Wait>(
         &self,
         rt: &T,
@@ -304,11 +306,12 @@ impl<R: Drop, L: Naming + Limited> Hall<R, L> {
 }
 
 impl<R: Drop, L: Naming + Limited> Seat<R, L> {
-    /// One event of those that this seat may ask: a session's those of its mutator, the marker's `Begin`, `Collect`, `Abandon` and
-    /// pieces of marking, the handler's `HandOver`, the cleaner's `TakeUp` and the ends of its jobs. It is one step of the one history
-    /// of the hall, with its reply, and what comes back is what that step gave, the resource too; or the book declines an ask that ends
-    /// nothing, because memory or entry numbers ran out. A `Remove` does not wait. Nothing is read or written while the lock is held.
-    /// With the end of a call that read comes the room in which it is told again: whoever asks it makes that room before the call.
+    /// One event of those that this seat may ask: a session's those of its mutator, the marker's `Begin`, `Collect`,
+    /// `Abandon` and pieces of marking, the handler's `HandOver`, the cleaner's `TakeUp` and the ends of its jobs. It
+    /// is one step of the one history of the hall, with its reply, and what comes back is what that step gave, the
+    /// resource too; or the book declines an ask that ends nothing, because memory or entry numbers ran out. A `Remove`
+    /// does not wait. Nothing is read or written while the lock is held. With the end of a call that read comes the
+    /// room in which it is told again: whoever asks it makes that room before the call.
     pub fn ask<T: Wait>(
         &mut self,
         rt: &T,
@@ -323,8 +326,8 @@ impl<R: Drop, L: Naming + Limited> Seat<R, L> {
         self.ask_once(rt, hall, event, room)
     }
 
-    /// One `Remove` of this seat's mutator, asked once its queue holds something, or once the hall is to end. Where the client at the seat is
-    /// gone it is declined: nothing is taken off the queue.
+    /// One `Remove` of this seat's mutator, asked once its queue holds something, or once the hall is to end. Where the
+    /// client at the seat is gone it is declined: nothing is taken off the queue.
     pub fn remove_waiting<T: Wait>(&mut self, rt: &T, hall: &Hall<R, L>, queue: Handle) -> Reply<R>
         ensures { Asked L.limits self.old (Remove self.old.seat queue) result self.new }
     {

@@ -1,4 +1,5 @@
-//! The loops beside the sessions. Each asks only where its look says that there is work, and ends once the hall is to end.
+//! The loops beside the sessions. Each asks only where its look says that there is work, and ends once the hall is to
+//! end.
 ghost use Rattle.std.specs.Prelude.{◌≡◌, true, Some, None, IfErr, IfOk};
 ghost use Rattle.jlr_log.specs.Seeing.{Seen};
 ghost use Rattle.jlr_hall.specs.declared.step.Step.{Step};
@@ -93,9 +94,9 @@ enum MarkerTask {
     End,
 }
 
-/// Begins a cycle where one is due, marks it in pieces of at most so many cells, and collects it once all is marked, until the hall is to
-/// end. Each ask and each piece has the lock for itself, so that the sessions go on between them. A cycle that something else has closed
-/// is left; where an ask is refused it waits for the next event.
+/// Begins a cycle where one is due, marks it in pieces of at most so many cells, and collects it once all is marked,
+/// until the hall is to end. Each ask and each piece has the lock for itself, so that the sessions go on between them.
+/// A cycle that something else has closed is left; where an ask is refused it waits for the next event.
 pub fn marker_loop<R: Drop, L: Naming + Limited, T: Wait>(
     seat: Seat<R, L>,
     rt: &T,
@@ -149,7 +150,8 @@ fn ask_or_wait<R: Drop, L: Naming + Limited, T: Wait>(
     }
 }
 
-/// Hands over while something is pending, until the hall is to end. Where an ask is refused it waits for the next event.
+/// Hands over while something is pending, until the hall is to end. Where an ask is refused it waits for the next
+/// event.
 pub fn handler_loop<R: Drop, L: Naming + Limited, T: Wait>(
     seat: Seat<R, L>,
     rt: &T,
@@ -169,8 +171,9 @@ pub fn handler_loop<R: Drop, L: Naming + Limited, T: Wait>(
     seat
 }
 
-/// Takes up what is Lined and does its work, until the hall is to end. It looks for that only between jobs: the outcome of each job is
-/// told, and none is left at the end. The work is done outside of the lock. Where a take-up is refused it waits for the next event.
+/// Takes up what is Lined and does its work, until the hall is to end. It looks for that only between jobs: the outcome
+/// of each job is told, and none is left at the end. The work is done outside of the lock. Where a take-up is refused
+/// it waits for the next event.
 pub fn cleaner_loop<R: Resource + Drop, L: Naming + Limited, T: Wait>(
     seat: Seat<R, L>,
     rt: &T,

@@ -6,8 +6,8 @@ use jlr_log::{Naming, Pass};
 use std::alloc::Global;
 use std::marker::Model;
 
-/// The seat of a session, of the marker, the handler or the cleaner. Contracts see its number, and the history of its hall up to its
-/// last step.
+/// The seat of a session, of the marker, the handler or the cleaner. Contracts see its number, and the history of its
+/// hall up to its last step.
 #[derive(Drop)]
 pub struct Seat<R, L: Naming + Limited> {
     alloc: Global,

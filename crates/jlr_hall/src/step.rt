@@ -3,8 +3,8 @@ use jlr_event::event::{Event, Reply};
 use jlr_log::Owned;
 use std::marker::Brand;
 
-/// A step of the core: which seat's it was, what came, what went back, and whether the book was cut right before it. No value of it
-/// is made.
+/// A step of the core: which seat's it was, what came, what went back, and whether the book was cut right before it. No
+/// value of it is made.
 pub struct Step<R> {
     pub seat: u8,
     pub event: Event<R>,

@@ -1,5 +1,5 @@
--- The ways in which a call tells its answer: what the heap behind the handle was, the event, what the call returns, what stood behind its out pointer and
--- what stands there, and what the heap is.
+-- The ways in which a call tells its answer: what the heap behind the handle was, the event, what the call returns,
+-- what stood behind its out pointer and what stands there, and what the heap is.
 use Rattle.std.specs.Prelude.{◌≡◌, ℕ, ℤ, Bool, List, Option}
 use Rattle.jlr_event.specs.declared.event.Event.{Event}
 use Rattle.jlr_handle.specs.declared.out.Counts.{Counts}

@@ -9,8 +9,8 @@ use jlr_embed::Embedded;
 use jlr_types::Limits;
 use std::alloc::Global;
 
-/// Opens a heap of these limits: 0, 1 where there is no memory, or which limit is the first that is out of its range. What the handle held
-/// before is let go, where it returns 0.
+/// Opens a heap of these limits: 0, 1 where there is no memory, or which limit is the first that is out of its range.
+/// What the handle held before is let go, where it returns 0.
 pub fn open(
     alloc: Global,
     heap: &mut Heap,

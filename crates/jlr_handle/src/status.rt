@@ -13,7 +13,8 @@ pub const RANGE: u32 = 33;
 /// There was nothing to do, or nothing there.
 pub const IDLE: u32 = 34;
 
-/// Which limit is out of its range, the first in the order in which they are given: 35 to 38. The last two of a heap are fixed here.
+/// Which limit is out of its range, the first in the order in which they are given: 35 to 38. The last two of a heap
+/// are fixed here.
 pub fn limit(fault: LimitFault) -> u32
     ensures { result ≡ limit_status fault }
 {

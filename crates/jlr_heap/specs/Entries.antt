@@ -1,4 +1,5 @@
--- A call is an entry, whose answer is what the call gives; and then the heap is settled, unless the program settles it itself.
+-- A call is an entry, whose answer is what the call gives; and then the heap is settled, unless the program settles it
+-- itself.
 use Rattle.std.specs.Prelude.{◌≡◌, ℕ, ℤ, Bool, true, List, Option, Some, None, MatchBool, Result, Ok, Err}
 use Rattle.jlr_types.specs.declared.Refusal.{Refusal}
 use Rattle.jlr_machine.specs.declared.ask.Stat.{Stat as Counts}

@@ -7,7 +7,8 @@ use Rattle.jlr_machine.specs.declared.ask.Answer.TheVariants.{Done, Handle, Trut
 use Rattle.jlr_machine.specs.declared.entry.Entry.{Entry}
 use Rattle.jlr_laws.specs.Rows.{entry, making, collecting, stat}
 
--- `array 3; new -; put 1 2 2; drop 2; gc; get 1 2; get 1 3; put 1 3 0; int 1 0; stat; get 1 4095`: an element holds what it refers to
+-- `array 3; new -; put 1 2 2; drop 2; gc; get 1 2; get 1 3; put 1 3 0; int 1 0; stat; get 1 4095`: an element holds
+-- what it refers to
 abbrev pub array_row : List Entry
 array_row =
     entry (Join 0) Done

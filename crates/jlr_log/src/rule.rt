@@ -36,7 +36,8 @@ impl<E> Telling<E> for Brand {
     ghost told = { [] };
 }
 
-/// What a token knows: the keeper's all entries and how many seats were dealt, a seat's its number and what it has seen. No value of it is made.
+/// What a token knows: the keeper's all entries and how many seats were dealt, a seat's its number and what it has
+/// seen. No value of it is made.
 pub struct View<E> {
     pub keeps: bool,
     pub all: LinkedList<E>,

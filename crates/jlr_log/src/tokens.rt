@@ -119,7 +119,8 @@ impl<E: Owned, B: Naming> Log<E, B> {
         }
     }
 
-    /// Entries are added to the history, all of one seat, which has then seen all. Up to then it knew all that was its own.
+    /// Entries are added to the history, all of one seat, which has then seen all. Up to then it knew all that was its
+    /// own.
     pub fn tell<J: Telling<E>>(&self, keeper: &mut Keeper<E, B>, pass: &mut Pass<E, B>)
         requires { AllOf E.owner pass.old.seat J.told }
         ensures knew { Knows E.owner pass.old.seat pass.old.known keeper.old.all }

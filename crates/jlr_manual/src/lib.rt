@@ -1,4 +1,5 @@
-//! The manual of the line protocol: the forms of commands, with their operands, replies and refusals, as a table and as pages.
+//! The manual of the line protocol: the forms of commands, with their operands, replies and refusals, as a table and as
+//! pages.
 //!
 //! The lines of the forms are proved to be those that the protocol reads.
 #![tactic(auto)]

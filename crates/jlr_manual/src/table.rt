@@ -61,7 +61,8 @@ fn push_refusals(alloc: Global, text: &mut String) -> Result<(), AllocError> {
     Ok(())
 }
 
-/// The table of all forms: a line each, with its operands, its reply and the numbers of its refusals; then what these stand for.
+/// The table of all forms: a line each, with its operands, its reply and the numbers of its refusals; then what these
+/// stand for.
 ///
 /// # Errors
 /// `AllocError` where memory ran out.

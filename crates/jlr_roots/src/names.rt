@@ -71,7 +71,8 @@ impl Names {
         Ok(())
     }
 
-    /// A name stands for nothing any more. Where it is not bound, nothing changes. The names behind it keep their order.
+    /// A name stands for nothing any more. Where it is not bound, nothing changes. The names behind it keep their
+    /// order.
     pub fn unbind(&mut self, name: &Name)
         ensures { self.new ≡ unbound self.old name.now }
     {

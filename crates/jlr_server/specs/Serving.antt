@@ -15,7 +15,8 @@ use Rattle.jlr_hall.specs.Loops.{AsksOnly, CleansIn, IsHandlers, IsMarkers}
 use Rattle.jlr_hall.specs.Ports.{by_seat}
 use Rattle.jlr_book.specs.Histories.{History}
 
--- What was done at a seat: the seat as it was left, how many sessions were served there, and how many accepts gave none.
+-- What was done at a seat: the seat as it was left, how many sessions were served there, and how many accepts gave
+-- none.
 pub record Work (R : Type 0) : Type 0 where
   pub seat : Seen (Step R)
   pub sessions : ℕ
@@ -30,8 +31,8 @@ module _ {R : Type 0} where
   accepts_of w = w.sessions + w.missed
 
 module _ {D R : Type 0} (limits : Limits) (device : Opening D R) (handling : Handling R) where
-  -- A session at a seat: some bytes came, its lines were carried out by asks of the seat, each a step of the one history, with the files and sockets of a
-  -- device, and the replies went out.
+  -- A session at a seat: some bytes came, its lines were carried out by asks of the seat, each a step of the one
+  -- history, with the files and sockets of a device, and the replies went out.
   abbrev pub IsSession : Seen (Step R) → Seen (Step R) → Type 0
   IsSession old new =
       (before : D) × (after : D) × (remaining : Option (List ℕ)) × (bytes : List ℕ) × (out : List ℕ) × (end : SessionEnd)
@@ -47,7 +48,8 @@ module _ {D R : Type 0} (limits : Limits) (device : Opening D R) (handling : Han
   ServesSessions count p = (left : List (Seen (Step R))) × Sessions (seen p.seat []) left p × (length left ≡ count)
 
   module _ {A : Type 0} (fails : A → Fault → Type 0) where
-    -- the seats of sessions serve, the three others are the marker's, the handler's and the cleaner's; an accept is missed only by an acceptor that fails
+    -- the seats of sessions serve, the three others are the marker's, the handler's and the cleaner's; an accept is
+    -- missed only by an acceptor that fails
     pub record IsWork (w : Work R) : Type 0 where
       pub sessions : w.seat.seat < limits.sessions → ServesSessions w.sessions w.seat
       pub marker : w.seat.seat ≡ limits.sessions → AsksOnly limits IsMarkers (seen w.seat.seat []) w.seat
@@ -60,8 +62,9 @@ module _ {D R : Type 0} (limits : Limits) (device : Opening D R) (handling : Han
     AllWork [] = Unit {0}
     AllWork (w ∷ works) = IsWork w × AllWork works
 
-    -- One history, a run of the machine that keeps the promises of the package, ends with this book's trace. It has of each seat just what that seat did, and
-    -- each accept is a session or one that gave no client. There were as many as were to be, unless the server was asked to end.
+    -- One history, a run of the machine that keeps the promises of the package, ends with this book's trace. It has of
+    -- each seat just what that seat did, and each accept is a session or one that gave no client. There were as many as
+    -- were to be, unless the server was asked to end.
     pub record IsServed (total : ℕ) (asked : Bool) (accepts : ℕ) (missed : ℕ) (book : History R) : Type 0 where
       pub works : List (Work R)
       pub all : AllWork works

@@ -25,7 +25,8 @@ pub trait Acceptor {
     fn accept(&self) -> Result<(Self::In, Self::Out), Fault>
         ensures fails { IfErr result (λ fault. fails self.now fault) };
 
-    /// Watches a client under this number until it leaves. Its watcher tells where it goes, also where it is gone already.
+    /// Watches a client under this number until it leaves. Its watcher tells where it goes, also where it is gone
+    /// already.
     ///
     /// # Errors
     /// Why it cannot be watched. Once `close` was called none can.
@@ -43,7 +44,8 @@ pub trait Acceptor {
     /// A client that was watched has left. It comes before the client's input and output are let go.
     fn leave<T: Wait>(&self, _rt: &T, _client: u32) {}
 
-    /// Ends the accept that is under way and all later ones, and closes the connections of the clients that are watched.
+    /// Ends the accept that is under way and all later ones, and closes the connections of the clients that are
+    /// watched.
     fn close<T: Wait>(&self, _rt: &T, _closing: Closing) {}
 
     /// Has the watcher tell that it is over.

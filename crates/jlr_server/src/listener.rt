@@ -85,9 +85,9 @@ pub struct Listener {
 }
 
 impl Listener {
-    /// A socket for clients, and who watches them. Where there is a place of control, another socket is made there, once the first listens:
-    /// who connects to it asks the server to end, and the second one to end at once. Where the second cannot be made, the file of the first
-    /// is removed.
+    /// A socket for clients, and who watches them. Where there is a place of control, another socket is made there,
+    /// once the first listens: who connects to it asks the server to end, and the second one to end at once. Where the
+    /// second cannot be made, the file of the first is removed.
     ///
     /// # Errors
     /// As `listen`, or where the system has no more descriptors.
@@ -280,7 +280,8 @@ impl LineWatcher {
         }
     }
 
-    /// What the next one who waits at the socket of control asks for: the first that the server ends, any other that it ends at once.
+    /// What the next one who waits at the socket of control asks for: the first that the server ends, any other that it
+    /// ends at once.
     fn order(&mut self) -> Option<News>
         ensures told { MatchOption result (Unit {0}) (λ news. TellsAsked news self.new.is_asked) }
         ensures stays { self.old.is_asked ≡ true → self.new.is_asked ≡ true }

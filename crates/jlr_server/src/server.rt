@@ -309,8 +309,9 @@ where
     }
 }
 
-/// A thread on each seat, until all are done; meanwhile this one hears the watcher. No client is accepted before all threads are there; where one cannot be
-/// started, none is. What was done at the seats, those of the sessions first to be done, and what the watcher heard.
+/// A thread on each seat, until all are done; meanwhile this one hears the watcher. No client is accepted before all
+/// threads are there; where one cannot be started, none is. What was done at the seats, those of the sessions first to
+/// be done, and what the watcher heard.
 ///
 /// # Errors
 /// `Start` where a thread cannot be started, `NoMemory` where there is no memory.
@@ -426,10 +427,10 @@ where
     Err(ServeFault::Start)
 }
 
-/// Serves as many clients as `total` says, one after the other at each session's seat, over the heap of an empty machine of these limits.
-/// A worker accepts clients for each seat, and opens their files and sockets by its device; the three loops run beside them, the marker's
-/// with the budget of the limits. An accept that fails is one of them too. The last worker that goes ends the hall. No client is accepted
-/// before all threads run.
+/// Serves as many clients as `total` says, one after the other at each session's seat, over the heap of an empty
+/// machine of these limits. A worker accepts clients for each seat, and opens their files and sockets by its device;
+/// the three loops run beside them, the marker's with the budget of the limits. An accept that fails is one of them
+/// too. The last worker that goes ends the hall. No client is accepted before all threads run.
 ///
 /// # Errors
 /// `Start` where a thread cannot be started, `NoMemory` where there is no room for the heap, its seats or its threads: then no client was accepted.
@@ -467,8 +468,9 @@ where
     }
 }
 
-/// The same with a watcher, who tells of clients that go, whose waiting `remove`s then end, and of who asks the server to end. Then no client
-/// is accepted any more, no `remove` waits, and the clients that are there are answered what they sent.
+/// The same with a watcher, who tells of clients that go, whose waiting `remove`s then end, and of who asks the server
+/// to end. Then no client is accepted any more, no `remove` waits, and the clients that are there are answered what
+/// they sent.
 ///
 /// # Errors
 /// As `serve_over`.

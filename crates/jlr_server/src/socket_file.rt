@@ -15,8 +15,9 @@ pub fn remove_own(rt: &HostRuntime, path: &str, own: Inode) {
     }
 }
 
-/// A socket that listens at a path, and its file. A file that a server left behind that is no more, so that nobody listens there, is
-/// replaced. With a mode, 0 to 0o777, the file has these rights before anybody can connect; else its rights are those of the umask.
+/// A socket that listens at a path, and its file. A file that a server left behind that is no more, so that nobody
+/// listens there, is replaced. With a mode, 0 to 0o777, the file has these rights before anybody can connect; else its
+/// rights are those of the umask.
 ///
 /// # Errors
 /// `AddrInUse` where a file is there that is no dead socket, `InvalidInput` where the path is empty or too long, or why the system makes none. No

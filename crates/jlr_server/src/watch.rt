@@ -52,7 +52,8 @@ impl Watcher for NoWatcher {
     }
 }
 
-/// A watcher, once it has told its last, and whether it told that the server is asked to end. Contracts see the watcher.
+/// A watcher, once it has told its last, and whether it told that the server is asked to end. Contracts see the
+/// watcher.
 #[derive(Drop)]
 pub(crate) struct Heard<W: Watcher> {
     pub(crate) watcher: W,

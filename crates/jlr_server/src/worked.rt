@@ -22,8 +22,8 @@ use std::io::{Read, Write};
 use std::marker::{Model, PhantomData};
 use std::sync::Wait;
 
-/// A session over a seat: the client's lines are carried out in the name of the seat's mutator, each ask a step of the one history. The device
-/// opens the client's files and sockets.
+/// A session over a seat: the client's lines are carried out in the name of the seat's mutator, each ask a step of the
+/// one history. The device opens the client's files and sockets.
 fn serve_seat<I: Read, O: Write, D: Device, L: Naming + Limited, T: Wait>(
     rt: &T,
     hall: &Hall<D::Res, L>,
@@ -47,8 +47,8 @@ where
     port.into_seat()
 }
 
-/// A seat, and what was done there since its hall was opened: how many sessions were served, one after the other, and how many accepts gave
-/// no client. At a seat of a loop it is what that loop did.
+/// A seat, and what was done there since its hall was opened: how many sessions were served, one after the other, and
+/// how many accepts gave no client. At a seat of a loop it is what that loop did.
 #[derive(Drop)]
 pub struct Worked<A: Acceptor, D: Device, L: Naming + Limited> {
     seat: Seat<D::Res, L>,

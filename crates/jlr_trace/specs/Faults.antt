@@ -1,4 +1,5 @@
--- Why bytes are no trace file: what stands before the first fault is spelled as the format says, and what comes next is not.
+-- Why bytes are no trace file: what stands before the first fault is spelled as the format says, and what comes next is
+-- not.
 use Rattle.std.specs.Prelude.{◌≡◌, ◌≢◌, ◌⊎◌, ℕ, suc, ◌<◌, List, [], ◌∷◌, ◌++◌, length, Err}
 use Rattle.std.specs.List.{flat_map, AllByRecursion}
 use Rattle.std.specs.Int.{w64}
@@ -43,7 +44,8 @@ pub record HasNoVersion (bytes : List ℕ) : Type 0 where
   pub is : bytes ≡ letters ++ number ∷ rest
   pub unknown : (version : Version) → number ≢ version_number version
 
--- behind the mark the fields of an image have this fault; or behind an image, which is spelled there, the count of the entries has
+-- behind the mark the fields of an image have this fault; or behind an image, which is spelled there, the count of the
+-- entries has
 pub record FailsInHead (fault : Fault) (bytes : List ℕ) : Type 0 where
   pub version : Version
   pub behind : List ℕ

@@ -46,7 +46,8 @@ pub enum TraceFault {
     BadMark,
     /// The version is not known.
     BadVersion,
-    /// A value is out of its range or order: in this entry, or 0 before the entries, or one more than there are after them.
+    /// A value is out of its range or order: in this entry, or 0 before the entries, or one more than there are after
+    /// them.
     BadEntry(u64),
     /// There is no memory.
     NoMemory,
@@ -195,8 +196,8 @@ fn entries_to_end(
     Ok(entries)
 }
 
-/// All of the bytes. Where the entries have a fault, the image is dropped by a call, for the prover: no return path then proves the drop of
-/// each of its parts.
+/// All of the bytes. Where the entries have a fault, the image is dropped by a call, for the prover: no return path
+/// then proves the drop of each of its parts.
 #[tactic(auto, unfolding(crate::specs::Files::front_read, crate::specs::Files::file_read))]
 fn all_of(alloc: Global, bytes: &[u8]) -> Result<TraceFile, TraceFault>
     ensures exact { FileGives file_text result (file_read bytes.now) }
@@ -227,7 +228,8 @@ pub fn read_trace(alloc: Global, bytes: &[u8]) -> Result<TraceFile, TraceFault>
     ensures exact { FileGives file_text result (file_read bytes.now) }
     // The fault is the first one of the bytes: what stands before it is spelled, and what comes next is not.
     ensures fault { IfErr result (λ e. IsFault e bytes.now) }
-    // What its text does not say: no cycle is open, nothing was seen, strays lie in no cells, and how many places handles have.
+    // What its text does not say: no cycle is open, nothing was seen, strays lie in no cells, and how many places
+    // handles have.
     ensures shape { IfOk result (λ f. HasShape (image_of f)) }
     // What was written is read back as it was.
     ensures again { (f : TraceFileOf) → HasSpelling f → bytes.now ≡ spelled_file (file_text f) → FileGives (λ x. x) result (Ok f) }
@@ -235,12 +237,14 @@ pub fn read_trace(alloc: Global, bytes: &[u8]) -> Result<TraceFile, TraceFault>
     all_of(alloc, bytes)
 }
 
-/// A file that begins with another is that other: what was written is read back, and never as a part of something longer.
+/// A file that begins with another is that other: what was written is read back, and never as a part of something
+/// longer.
 pub fn no_file_begins_another()
     ensures { (t u : FileText) (rest : List ℕ) → FileFits t → FileFits u → spelled_file t ++ rest ≡ spelled_file u → (rest ≡ []) × (t ≡ u) }
 {}
 
-/// Version 1 can tell a history where version 2 can, no object is an array, no ask makes one, and no field's number is above 255.
+/// Version 1 can tell a history where version 2 can, no object is an array, no ask makes one, and no field's number is
+/// above 255.
 pub fn what_version_1_can_tell()
     ensures { (t : FileText) → FileFits (in_version One t) ↔ (FileFits (in_version Two t) × IsTrue (fits_version_1 t)) }
 {}

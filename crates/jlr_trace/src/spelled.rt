@@ -201,7 +201,8 @@ fn trace_of<'a>(version: Version, image: Image, count: u64, bytes: &'a [u8]) -> 
     }
 }
 
-/// How many entries stand behind an image, and where their bytes begin, which go up to the end. Each entry is read once, and let go.
+/// How many entries stand behind an image, and where their bytes begin, which go up to the end. Each entry is read
+/// once, and let go.
 #[tactic(auto, unfolding(crate::specs::ToEnd::entries_to_end))]
 fn spelled_to_end<'a>(
     alloc: Global,
@@ -220,8 +221,8 @@ fn spelled_to_end<'a>(
     Ok((count, rest))
 }
 
-/// All of the bytes. Where the entries have a fault, the image is dropped by a call, for the prover: no return path then proves the drop of
-/// each of its parts.
+/// All of the bytes. Where the entries have a fault, the image is dropped by a call, for the prover: no return path
+/// then proves the drop of each of its parts.
 #[tactic(auto, unfolding(crate::specs::Files::front_read, crate::specs::Files::file_read))]
 fn all_of_spelled<'a>(alloc: Global, bytes: &'a [u8]) -> Result<SpelledTrace<'a>, TraceFault>
     ensures exact { FileGives file_text result (file_read bytes.now) }
@@ -239,7 +240,8 @@ fn all_of_spelled<'a>(alloc: Global, bytes: &'a [u8]) -> Result<SpelledTrace<'a>
     }
 }
 
-/// The history that the bytes spell, all of the bytes, with its entries left in them. Each entry is read once for it, and let go.
+/// The history that the bytes spell, all of the bytes, with its entries left in them. Each entry is read once for it,
+/// and let go.
 ///
 /// # Errors
 /// The first fault from the front, or `NoMemory`. Memory is taken for the image and for one entry at a time.
@@ -252,7 +254,8 @@ pub fn spelled_trace<'a>(alloc: Global, bytes: &'a [u8]) -> Result<SpelledTrace<
     ensures exact { FileGives file_text result (file_read bytes.now) }
     // The fault is the first one of the bytes: what stands before it is spelled, and what comes next is not.
     ensures fault { IfErr result (λ e. IsFault e bytes.now) }
-    // What its text does not say: no cycle is open, nothing was seen, strays lie in no cells, and how many places handles have.
+    // What its text does not say: no cycle is open, nothing was seen, strays lie in no cells, and how many places
+    // handles have.
     ensures shape { IfOk result (λ f. HasShape (image_of f)) }
     // What was written is read back as it was.
     ensures again { (f : TraceFileOf) → HasSpelling f → bytes.now ≡ spelled_file (file_text f) → FileGives (λ x. x) result (Ok f) }

@@ -1,4 +1,5 @@
-//! Cleaners, and guards over tokens: numbers by which the program knows its own files, sockets and the like. A heap gives a token back once.
+//! Cleaners, and guards over tokens: numbers by which the program knows its own files, sockets and the like. A heap
+//! gives a token back once.
 ghost use Rattle.std.specs.Prelude.{◌≡◌, Err, MatchOption, Ok};
 ghost use Rattle.jlr_handle.specs.Tells.{fault_numbered, outcome_numbered};
 ghost use Rattle.jlr_handle.specs.Ways.{Adopts, Ends, EndsCarrying, GivesHandle, GivesJob, GivesToken, IsOutOfRange};
@@ -46,7 +47,8 @@ pub extern "C" fn refheap_register(
     calls::makes(alloc, heap, event, out)
 }
 
-/// An action is taken up by the program, which does it now and tells its end by `refheap_finish`: its job, or 34 where it was taken up before.
+/// An action is taken up by the program, which does it now and tells its end by `refheap_finish`: its job, or 34 where
+/// it was taken up before.
 #[unsafe(no_mangle)]
 pub extern "C" fn refheap_clean(
     alloc: Global,
@@ -64,8 +66,8 @@ pub extern "C" fn refheap_clean(
     calls::takes(alloc, heap, event, out)
 }
 
-/// Room is made for a token that is about to be adopted. It may take memory. The mutator then asks nothing else before `refheap_adopt` or
-/// `refheap_give_up`.
+/// Room is made for a token that is about to be adopted. It may take memory. The mutator then asks nothing else before
+/// `refheap_adopt` or `refheap_give_up`.
 #[unsafe(no_mangle)]
 pub extern "C" fn refheap_prepare(alloc: Global, heap: &mut Heap, by: u8) -> u32
     ensures { Ends heap.old.value (Event.Prepare by) result heap.new.value }
@@ -76,7 +78,8 @@ pub extern "C" fn refheap_prepare(alloc: Global, heap: &mut Heap, by: u8) -> u32
     calls::does(alloc, heap, event)
 }
 
-/// A token is handed in after `refheap_prepare`: its guard. Where it returns anything but 0, the program has the token still.
+/// A token is handed in after `refheap_prepare`: its guard. Where it returns anything but 0, the program has the token
+/// still.
 #[unsafe(no_mangle)]
 pub extern "C" fn refheap_adopt(
     alloc: Global,
@@ -94,7 +97,8 @@ pub extern "C" fn refheap_adopt(
     calls::adopts(alloc, heap, event, out)
 }
 
-/// What was to be adopted could not be opened, by a fault, 1 to 3, and else it returns 33: the room that was prepared is let go.
+/// What was to be adopted could not be opened, by a fault, 1 to 3, and else it returns 33: the room that was prepared
+/// is let go.
 #[unsafe(no_mangle)]
 pub extern "C" fn refheap_give_up(alloc: Global, heap: &mut Heap, by: u8, fault: u32) -> u32
     ensures { MatchOption (fault_numbered fault) (IsOutOfRange heap.old.value result heap.new.value)
@@ -128,8 +132,8 @@ pub extern "C" fn refheap_check_out(
     calls::lends(alloc, heap, event, out)
 }
 
-/// A call ended, well by 0 or by a fault, 1 to 3, and else it returns 33: the token comes back. Where it returns anything but 0, the
-/// program has the token still.
+/// A call ended, well by 0 or by a fault, 1 to 3, and else it returns 33: the token comes back. Where it returns
+/// anything but 0, the program has the token still.
 #[unsafe(no_mangle)]
 pub extern "C" fn refheap_check_in(
     alloc: Global,
@@ -169,8 +173,8 @@ fn nothing_written() -> WriteCount
     WriteCount::new(0).unwrap()
 }
 
-/// A guard is closed: its token is given back for good, with the number of the action, whose end the program tells by `refheap_finish`; or 34 where
-/// it was taken up before.
+/// A guard is closed: its token is given back for good, with the number of the action, whose end the program tells by
+/// `refheap_finish`; or 34 where it was taken up before.
 #[unsafe(no_mangle)]
 pub extern "C" fn refheap_stop(
     alloc: Global,
@@ -188,8 +192,9 @@ pub extern "C" fn refheap_stop(
     calls::takes(alloc, heap, event, out)
 }
 
-/// A step of the cleaner: the next action in line is taken up, with its note or its token, or 34 where nothing stands in line. The program does it
-/// and tells its end by `refheap_finish` in the name of 255; until then it returns 11, busy.
+/// A step of the cleaner: the next action in line is taken up, with its note or its token, or 34 where nothing stands
+/// in line. The program does it and tells its end by `refheap_finish` in the name of 255; until then it returns 11,
+/// busy.
 #[unsafe(no_mangle)]
 pub extern "C" fn refheap_take_up(alloc: Global, heap: &mut Heap, out: &mut Taken) -> u32
     ensures { GivesJob heap.old.value Event.TakeUp result out.old out.new heap.new.value }
@@ -197,7 +202,8 @@ pub extern "C" fn refheap_take_up(alloc: Global, heap: &mut Heap, out: &mut Take
     calls::takes(alloc, heap, Event::TakeUp, out)
 }
 
-/// An action that was taken up ended, well by 0 or by a fault, 1 to 3, and else it returns 33. `by` is the mutator that took it up, or 255 for the cleaner.
+/// An action that was taken up ended, well by 0 or by a fault, 1 to 3, and else it returns 33. `by` is the mutator that
+/// took it up, or 255 for the cleaner.
 #[unsafe(no_mangle)]
 pub extern "C" fn refheap_finish(
     alloc: Global,

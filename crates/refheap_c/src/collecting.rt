@@ -35,7 +35,8 @@ pub extern "C" fn refheap_gc_soft(alloc: Global, heap: &mut Heap, by: u8) -> u32
     calls::does(alloc, heap, event)
 }
 
-/// A step of the handler: what a collection left pending goes to its queue, or into the cleaner's line. It returns 34 where nothing is pending.
+/// A step of the handler: what a collection left pending goes to its queue, or into the cleaner's line. It returns 34
+/// where nothing is pending.
 #[unsafe(no_mangle)]
 pub extern "C" fn refheap_hand_over(alloc: Global, heap: &mut Heap) -> u32
     ensures { HandsOver heap.old.value (result ≡ 32) (TellsHanded result) heap.new.value }
@@ -70,8 +71,9 @@ pub extern "C" fn refheap_abandon(alloc: Global, heap: &mut Heap, out: &mut bool
     calls::tells(alloc, heap, event, out)
 }
 
-/// A piece of marking of at most so many ticks, one for each cell and of an array one for each 64 elements: whether marking is done. It returns
-/// 34 where no cycle is open, and then as many cells that a collection condemned become free.
+/// A piece of marking of at most so many ticks, one for each cell and of an array one for each 64 elements: whether
+/// marking is done. It returns 34 where no cycle is open, and then as many cells that a collection condemned become
+/// free.
 #[unsafe(no_mangle)]
 pub extern "C" fn refheap_mark(alloc: Global, heap: &mut Heap, budget: u32, done: &mut bool) -> u32
     ensures { Marks heap.old.value budget ((result ≡ 32) × (done.new ≡ done.old))
@@ -91,7 +93,8 @@ pub extern "C" fn refheap_stat(alloc: Global, heap: &mut Heap, by: u8, out: &mut
     calls::counts(alloc, heap, event, out)
 }
 
-/// The note of this index of the last 256 that actions told which ended well, the oldest at 0, or 34 where there are fewer. It takes memory for the list.
+/// The note of this index of the last 256 that actions told which ended well, the oldest at 0, or 34 where there are
+/// fewer. It takes memory for the list.
 #[unsafe(no_mangle)]
 pub extern "C" fn refheap_note(
     alloc: Global,
@@ -108,7 +111,8 @@ pub extern "C" fn refheap_note(
     calls::notes(alloc, heap, event, index, out)
 }
 
-/// The failure of this index of the last 256, the oldest at 0, or 34 where there are fewer. It takes memory for the list.
+/// The failure of this index of the last 256, the oldest at 0, or 34 where there are fewer. It takes memory for the
+/// list.
 #[unsafe(no_mangle)]
 pub extern "C" fn refheap_failure(
     alloc: Global,

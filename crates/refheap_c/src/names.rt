@@ -10,8 +10,8 @@ use jlr_machine::text::Name;
 use jlr_types::{Handle, Mutator};
 use std::alloc::Global;
 
-/// A name, 1 to 32 small letters, digits and underscores, is bound to an object, which it keeps alive; one that is bound already keeps its place. It
-/// returns 33 where the bytes are no name.
+/// A name, 1 to 32 small letters, digits and underscores, is bound to an object, which it keeps alive; one that is
+/// bound already keeps its place. It returns 33 where the bytes are no name.
 #[unsafe(no_mangle)]
 pub extern "C" fn refheap_bind(
     alloc: Global,
@@ -72,7 +72,8 @@ pub extern "C" fn refheap_unbind(alloc: Global, heap: &mut Heap, by: u8, name: &
     calls::does(alloc, heap, event)
 }
 
-/// The name of this index, in order of binding, with zeros behind it, or 34 where there are fewer. It takes memory for the list.
+/// The name of this index, in order of binding, with zeros behind it, or 34 where there are fewer. It takes memory for
+/// the list.
 #[unsafe(no_mangle)]
 pub extern "C" fn refheap_name(
     alloc: Global,

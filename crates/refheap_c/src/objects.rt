@@ -10,8 +10,8 @@ use jlr_handle::{Heap, calls};
 use jlr_types::{FieldNo, Handle, Length, Mutator};
 use std::alloc::Global;
 
-/// A plain object with so many fields, at most eight. Of a field i the bit i of `references` says whether it is a reference field, null at first, or
-/// an integer field, 0 at first. It returns 33 where there are more than eight.
+/// A plain object with so many fields, at most eight. Of a field i the bit i of `references` says whether it is a
+/// reference field, null at first, or an integer field, 0 at first. It returns 33 where there are more than eight.
 #[unsafe(no_mangle)]
 pub extern "C" fn refheap_new(
     alloc: Global,
