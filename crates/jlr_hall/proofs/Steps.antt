@@ -1,5 +1,5 @@
 -- A step of a book is told whole.
-use Rattle.std.proofs.Common.{◌≡◌, ◌⊎◌, ◌<◌, ◌≤◌, ◌+◌, ◌&&◌, ◌||◌, ℕ, Bool, true, false, not, cond, List, [], ◌∷◌, ◌++◌, length, map, length-append, Option, Some, None, inl, inr, refl, sym, ◌∙◌, ap, subst, arith, nat_lt, append_assoc}
+use Rattle.std.proofs.Common.{◌≡◌, ◌⊎◌, ◌<◌, ◌+◌, ◌&&◌, ℕ, Bool, true, false, not, cond, List, [], ◌∷◌, ◌++◌, length, length-append, Option, Some, None, inl, inr, refl, sym, ◌∙◌, ap, subst, arith, nat_lt, append_assoc}
 use Rattle.std.specs.Option.{option_to_list}
 use Rattle.std.proofs.lemmas.List.{append-nil, map-append}
 use Rattle.std.proofs.lemmas.Bool.{lt-ltb}
@@ -27,13 +27,13 @@ use Rattle.jlr_book.specs.Cores.{IsStep}
 use Rattle.jlr_book.specs.Histories.{History, IsHistory, empty_of, last, seated}
 use Rattle.jlr_book.specs.Rules.{AsksBy, BookSteps, Cuts, GivesUp, EndsBy, Enters, Readies, StepsBy, was_refused}
 use Rattle.jlr_book.specs.Writing.{Stands}
-use Rattle.jlr_book.proofs.Replies.{ready_stands, stands_here}
+use Rattle.jlr_book.proofs.Replies.{ready_stands}
 use Rattle.jlr_log.specs.Rule.{Knows}
 use Rattle.jlr_log.specs.Views.{own}
 use Rattle.jlr_log.specs.Seeing.{Seen, AllOf}
 use Rattle.jlr_hall.specs.declared.step.Step.{Step}
 use Rattle.jlr_hall.specs.OneHistory.{AllSit, IsWhole, Trace, add, entry_of, events_of, is_ending, is_refused, replies_of, seat_of, step, trace, trace_of}
-use Rattle.jlr_hall.specs.Asking.{Adds, Asked, Declined, gave_up, may_cut}
+use Rattle.jlr_hall.specs.Asking.{Asked, gave_up, may_cut}
 use Rattle.jlr_hall.specs.Telling.{added, is_full, with_cut}
 
 -- ---- How the number of the last entry goes on

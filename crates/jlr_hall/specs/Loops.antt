@@ -1,5 +1,5 @@
 -- What a loop asks.
-use Rattle.std.specs.Prelude.{◌≡◌, ◌⊎◌, ℕ, List, [], ◌∷◌, map, Option, Some, None, Result, Ok, Err}
+use Rattle.std.specs.Prelude.{◌≡◌, ◌⊎◌, ℕ, List, [], ◌∷◌, Option, Some, None, Result, Ok, Err}
 use Rattle.jlr_types.specs.declared.limits.Limits.{Limits}
 use Rattle.jlr_machine.specs.declared.ask.Answer.{Answer}
 use Rattle.jlr_cleaner.specs.declared.job.Job.{Job}
@@ -23,9 +23,9 @@ module _ {R : Type 0} (limits : Limits) where
 -- ---- The marker and the handler
 
 module _ {R : Type 0} where
-  -- what a loop may ask
-  abbrev pub IsMarkers : Event R → Type 0
-  IsMarkers event = (event ≡ Begin) ⊎ (event ≡ Collect) ⊎ ((budget : ℕ) × (event ≡ Mark budget))
+  -- what a loop may ask, the marker with this budget
+  abbrev pub IsMarkers : ℕ → Event R → Type 0
+  IsMarkers budget event = (event ≡ Begin) ⊎ (event ≡ Collect) ⊎ (event ≡ Mark budget)
 
   abbrev pub IsHandlers : Event R → Type 0
   IsHandlers event = event ≡ HandOver

@@ -1,5 +1,5 @@
 -- What a step of a book adds to the one history.
-use Rattle.std.specs.Prelude.{◌&&◌, ℕ, Bool, true, false, not, cond, nat_lt, List, [], ◌∷◌, ◌++◌, length}
+use Rattle.std.specs.Prelude.{◌&&◌, ℕ, Bool, false, not, cond, nat_lt, List, [], ◌∷◌, ◌++◌, length}
 use Rattle.jlr_event.specs.declared.event.Event.{Event}
 use Rattle.jlr_event.specs.declared.event.Reply.{Reply}
 use Rattle.jlr_event.specs.Events.{ask_of}

@@ -208,6 +208,13 @@ impl<R: Drop, L: Naming + Limited> Hall<R, L> {
         self.seats - LOOPS
     }
 
+    /// The budget of a piece of marking.
+    pub fn budget<T: Wait>(&self, rt: &T) -> u32
+        ensures { result ≡ L.limits.budget }
+    {
+        self.locked.lock(rt).book.limits().budget
+    }
+
     /// A client of this number sits down on the seat of a session: from now on a `remove` of that seat waits.
     pub fn sit<T: Wait>(&self, rt: &T, seat: u8, client: u32) {
         self.locked.lock(rt).chairs.sit(seat, client);

@@ -1,6 +1,7 @@
 //! The loops beside the sessions. Each asks only where its look says that there is work, and ends once the hall is to
 //! end.
-ghost use Rattle.std.specs.Prelude.{◌≡◌, true, Some, None, IfErr, IfOk};
+ghost use Rattle.std.specs.Prelude.{◌≡◌, ◌⊎◌, ℕ, true, Some, None, IfErr, IfOk};
+ghost use Rattle.jlr_event.specs.declared.event.Event.TheVariants.{Begin, Collect};
 ghost use Rattle.jlr_log.specs.Seeing.{Seen};
 ghost use Rattle.jlr_hall.specs.declared.step.Step.{Step};
 ghost use Rattle.jlr_hall.specs.Loops.{AsksOnly, CleansIn, IsHandlers, IsMarkers};
@@ -103,7 +104,7 @@ pub fn marker_loop<R: Drop, L: Naming + Limited, T: Wait>(
     hall: &Hall<R, L>,
     budget: u32,
 ) -> Seat<R, L>
-    ensures { AsksOnly L.limits IsMarkers seat result }
+    ensures { AsksOnly L.limits (IsMarkers budget) seat result }
 {
     let mut seat = seat;
     for _ in rt.forever() {
@@ -123,7 +124,8 @@ fn mark_or_collect<R: Drop, L: Naming + Limited, T: Wait>(
     hall: &Hall<R, L>,
     budget: u32,
 )
-    ensures { (first : Seen (Step R)) → AsksOnly L.limits IsMarkers first seat.old → AsksOnly L.limits IsMarkers first seat.new }
+    ensures { (first : Seen (Step R)) → AsksOnly L.limits (IsMarkers budget) first seat.old
+        → AsksOnly L.limits (IsMarkers budget) first seat.new }
 {
     if all_is_marked(&seat.mark(rt, hall, budget)) {
         ask_or_wait(seat, rt, hall, Event::Collect);
@@ -142,8 +144,9 @@ fn ask_or_wait<R: Drop, L: Naming + Limited, T: Wait>(
     hall: &Hall<R, L>,
     event: Event<R>,
 )
-    requires { IsMarkers event }
-    ensures { (first : Seen (Step R)) → AsksOnly L.limits IsMarkers first seat.old → AsksOnly L.limits IsMarkers first seat.new }
+    requires { (event ≡ Begin) ⊎ (event ≡ Collect) }
+    ensures { (budget : ℕ) (first : Seen (Step R)) → AsksOnly L.limits (IsMarkers budget) first seat.old
+        → AsksOnly L.limits (IsMarkers budget) first seat.new }
 {
     if was_refused(&seat.ask_once(rt, hall, event, None)) {
         hall.wait_for_marker(rt);

@@ -1,11 +1,10 @@
 -- What is done at a seat, one session more.
-use Rattle.std.proofs.Common.{◌≡◌, ◌⊎◌, ◌<◌, ◌+◌, ℕ, List, [], ◌∷◌, ◌++◌, Option, None, length, refl, sym, ap, ◌∙◌, subst, inl, inr, length-append, arith}
+use Rattle.std.proofs.Common.{◌≡◌, ◌⊎◌, ◌<◌, ◌+◌, ℕ, List, [], ◌∷◌, ◌++◌, Option, Some, None, length, refl, sym, ap, ◌∙◌, subst, inl, inr, length-append, arith}
 use Rattle.std.specs.List.{sum_by}
 use Rattle.std.specs.Prelude.{slice_index_or}
 use Rattle.std.proofs.lemmas.List.{get_or_append_left}
-use Rattle.std.proofs.lemmas.List.Sums.{sum_by-append}
+use Rattle.std.proofs.lemmas.List.Sums.{sum_by-append, sum_by-cons}
 use Rattle.std.proofs.Math.Seq.{get_or-append_seam}
-use Rattle.jlr_types.specs.declared.Fault.{Fault}
 use Rattle.jlr_types.specs.declared.limits.Limits.{Limits}
 use Rattle.jlr_device.specs.Handling.{Handling}
 use Rattle.jlr_event.specs.declared.event.Event.{Event}
@@ -15,11 +14,20 @@ use Rattle.jlr_log.specs.Seeing.{Seen, seen}
 use Rattle.jlr_hall.specs.declared.step.Step.{Step}
 use Rattle.jlr_hall.specs.Loops.{AsksOnly, Chain, CleansIn, IsHandlers, IsMarkers}
 use Rattle.jlr_hall.proofs.Turns.{same_seat, asks_none, cleans_none}
-use Rattle.jlr_server.specs.Serving.{AllWork, IsSession, IsWork, ServesSessions, Sessions, Work}
+use Rattle.jlr_server.specs.Giving.{Giving}
+use Rattle.jlr_server.specs.declared.acceptor.AcceptId.{AcceptId}
+use Rattle.jlr_server.specs.Serving.{Accepts, AllWork, IsMiss, IsSession, IsWork, ServesClients, Work, accept_at, served, unserved}
 
 pub or_then : {A B C : Type 0} → A ⊎ B → (B → C) → A ⊎ C
 or_then (inl a) f = inl a
 or_then (inr b) f = inr (f b)
+
+pub served_or_not : {R : Type 0} (xs : List (Option (Seen (Step R)))) → sum_by served xs + sum_by unserved xs ≡ length xs
+served_or_not [] = refl
+served_or_not (Some x ∷ xs) = omega (arith, sum_by-cons served (Some x) xs, sum_by-cons unserved (Some x) xs, served_or_not xs)
+served_or_not {R = R} (None ∷ xs) =
+    let nobody : Option (Seen (Step R)) = None in
+    omega (arith, sum_by-cons served nobody xs, sum_by-cons unserved nobody xs, served_or_not xs)
 
 pub sum_more : {X : Type 0} (f : X → ℕ) (xs : List X) (x : X) → sum_by f (xs ++ x ∷ []) ≡ sum_by f xs + f x
 sum_more f xs x = omega (arith, sum_by-append f xs (x ∷ []))
@@ -52,21 +60,49 @@ module _ {R : Type 0} (limits : Limits) where
   chain_stays p (x ∷ asks) q c = chain_stays c.0 asks q c.2 ∙ same_seat limits p c.0 x.0 x.1 c.1
 
   module _ {D : Type 0} (device : Opening D R) (handling : Handling R) where
-    sessions_more : (p : Seen (Step R)) (left : List (Seen (Step R))) (q r : Seen (Step R)) → Sessions limits device handling p left q → IsSession limits device handling q r
-        → Sessions limits device handling p (left ++ r ∷ []) r
-    sessions_more p [] q r s one = (subst (λ (x : Seen (Step R)). IsSession limits device handling x r) s one, refl)
-    sessions_more p (x ∷ left) q r s one = (s.0, sessions_more x left q r s.1 one)
+    module _ {A I O : Type 0} (giving : Giving A I O) (remaining : I → Option (List ℕ)) (contents : O → Option (List ℕ)) where
+      abbrev AcceptsHere : ℕ → Seen (Step R) → List (Option (Seen (Step R))) → Seen (Step R) → Type 0
+      AcceptsHere = Accepts limits device handling giving remaining contents
 
-    pub one_more : (count : ℕ) (q r : Seen (Step R)) → r.seat ≡ q.seat → ServesSessions limits device handling count q → IsSession limits device handling q r
-        → ServesSessions limits device handling (count + 1) r
-    one_more count q r same s one = (
-      s.0 ++ r ∷ [],
-      subst (λ (n : ℕ). Sessions limits device handling (seen n []) (s.0 ++ r ∷ []) r) (sym same) (sessions_more (seen q.seat []) s.0 q r s.1 one),
-      omega (arith, length-append s.0 (r ∷ []), s.2),
-    )
+      abbrev IsSessionHere : AcceptId → Seen (Step R) → Seen (Step R) → Type 0
+      IsSessionHere = IsSession limits device handling giving remaining contents
 
-    module _ {A : Type 0} (fails : A → Fault → Type 0) where
-      pub all_more : (works : List (Work R)) (w : Work R) → AllWork limits device handling fails works → IsWork limits device handling fails w → AllWork limits device handling fails (works ++ w ∷ [])
+      abbrev IsMissHere : AcceptId → Type 0
+      IsMissHere = IsMiss limits device handling giving remaining contents
+
+      session_more : (n : ℕ) (p : Seen (Step R)) (xs : List (Option (Seen (Step R)))) (q r : Seen (Step R)) → AcceptsHere n p xs q
+          → IsSessionHere (accept_at q (n + length xs)) q r → AcceptsHere n p (xs ++ Some r ∷ []) r
+      session_more n p [] q r s one = (subst (λ (x : Seen (Step R)). IsSessionHere (accept_at x n) x r) s (subst (λ (k : ℕ). IsSessionHere (accept_at q k) q r) (omega arith) one), refl)
+      session_more n p (Some x ∷ xs) q r s one = (s.0, session_more (n + 1) x xs q r s.1 (subst (λ (k : ℕ). IsSessionHere (accept_at q k) q r) (omega arith) one))
+      session_more n p (None ∷ xs) q r s one = (s.0, session_more (n + 1) p xs q r s.1 (subst (λ (k : ℕ). IsSessionHere (accept_at q k) q r) (omega arith) one))
+
+      miss_more : (n : ℕ) (p : Seen (Step R)) (xs : List (Option (Seen (Step R)))) (q : Seen (Step R)) → AcceptsHere n p xs q
+          → IsMissHere (accept_at q (n + length xs)) → AcceptsHere n p (xs ++ None ∷ []) q
+      miss_more n p [] q s one = (subst (λ (x : Seen (Step R)). IsMissHere (accept_at x n)) s (subst (λ (k : ℕ). IsMissHere (accept_at q k)) (omega arith) one), s)
+      miss_more n p (Some x ∷ xs) q s one = (s.0, miss_more (n + 1) x xs q s.1 (subst (λ (k : ℕ). IsMissHere (accept_at q k)) (omega arith) one))
+      miss_more n p (None ∷ xs) q s one = (s.0, miss_more (n + 1) p xs q s.1 (subst (λ (k : ℕ). IsMissHere (accept_at q k)) (omega arith) one))
+
+      pub one_more : (sessions missed : ℕ) (q r : Seen (Step R)) → r.seat ≡ q.seat → ServesClients limits device handling giving remaining contents sessions missed q
+          → IsSessionHere (accept_at q (sessions + missed)) q r → ServesClients limits device handling giving remaining contents (sessions + 1) missed r
+      one_more sessions missed q r same s one =
+          let here : sessions + missed ≡ 0 + length s.0 = omega (arith, s.2, s.3, served_or_not s.0) in (
+            s.0 ++ Some r ∷ [],
+            subst (λ (n : ℕ). AcceptsHere 0 (seen n []) (s.0 ++ Some r ∷ []) r) (sym same) (session_more 0 (seen q.seat []) s.0 q r s.1 (subst (λ (k : ℕ). IsSessionHere (accept_at q k) q r) here one)),
+            omega (arith, sum_more served s.0 (Some r), s.2),
+            omega (arith, sum_more unserved s.0 (Some r), s.3),
+          )
+
+      pub one_less : (sessions missed : ℕ) (q : Seen (Step R)) → ServesClients limits device handling giving remaining contents sessions missed q
+          → IsMissHere (accept_at q (sessions + missed)) → ServesClients limits device handling giving remaining contents sessions (missed + 1) q
+      one_less sessions missed q s one =
+          let here : sessions + missed ≡ 0 + length s.0 = omega (arith, s.2, s.3, served_or_not s.0) in (
+            s.0 ++ None ∷ [],
+            miss_more 0 (seen q.seat []) s.0 q s.1 (subst (λ (k : ℕ). IsMissHere (accept_at q k)) here one),
+            omega (arith, sum_more served s.0 None, s.2),
+            omega (arith, sum_more unserved s.0 None, s.3),
+          )
+
+      pub all_more : (works : List (Work R)) (w : Work R) → AllWork limits device handling giving remaining contents works → IsWork limits device handling giving remaining contents w → AllWork limits device handling giving remaining contents (works ++ w ∷ [])
       all_more [] w all is = (is, tt)
       all_more (x ∷ works) w all is = (all.0, all_more works w all.1 is)
 
@@ -76,55 +112,51 @@ module _ {R : Type 0} (limits : Limits) where
       work p sessions missed = record { seat = p; sessions = sessions; missed = missed }
 
       -- nothing was done there
-      pub no_work : (p : Seen (Step R)) → p ≡ seen p.seat [] → IsWork limits device handling fails (work p 0 0)
+      pub no_work : (p : Seen (Step R)) → p ≡ seen p.seat [] → IsWork limits device handling giving remaining contents (work p 0 0)
       no_work p fresh = record {
-        sessions = λ is. ([], fresh, refl);
-        marker = λ is. subst (λ (x : Seen (Step R)). AsksOnly limits IsMarkers x p) fresh (asks_none limits IsMarkers p);
+        sessions = λ is. ([], fresh, refl, refl);
+        marker = λ is. subst (λ (x : Seen (Step R)). AsksOnly limits (IsMarkers limits.budget) x p) fresh (asks_none limits (IsMarkers limits.budget) p);
         handler = λ is. subst (λ (x : Seen (Step R)). AsksOnly limits IsHandlers x p) fresh (asks_none limits IsHandlers p);
         cleaner = λ is. subst (λ (x : Seen (Step R)). CleansIn handling limits x None p) fresh (cleans_none handling limits p);
         only_sessions = λ is. refl;
-        missed = inl refl;
       }
 
       -- a session more, at a session's seat
-      pub one_session : (p q : Seen (Step R)) (sessions missed : ℕ) → p.seat < limits.sessions → q.seat ≡ p.seat → IsWork limits device handling fails (work p sessions missed)
-          → IsSession limits device handling p q → IsWork limits device handling fails (work q (sessions + 1) missed)
+      pub one_session : (p q : Seen (Step R)) (sessions missed : ℕ) → p.seat < limits.sessions → q.seat ≡ p.seat → IsWork limits device handling giving remaining contents (work p sessions missed)
+          → IsSessionHere (accept_at p (sessions + missed)) p q → IsWork limits device handling giving remaining contents (work q (sessions + 1) missed)
       one_session p q sessions missed at same w one = record {
-        sessions = λ is. one_more sessions p q same (w.sessions at) one;
+        sessions = λ is. one_more sessions missed p q same (w.sessions at) one;
         marker = λ is. absurd (omega (arith, at, same, is));
         handler = λ is. absurd (omega (arith, at, same, is));
         cleaner = λ is. absurd (omega (arith, at, same, is));
         only_sessions = λ is. absurd (omega (arith, at, same, is));
-        missed = w.missed;
       }
 
-      -- an accept that gave no client, at a session's seat
-      pub one_missed : (p : Seen (Step R)) (sessions missed more : ℕ) → p.seat < limits.sessions → IsWork limits device handling fails (work p sessions missed)
-          → (acceptor : A) × (fault : Fault) × fails acceptor fault → IsWork limits device handling fails (work p sessions more)
-      one_missed p sessions missed more at w failed = record {
-        sessions = w.sessions;
+      -- an accept more that gave nobody, at a session's seat
+      pub one_missed : (p : Seen (Step R)) (sessions missed : ℕ) → p.seat < limits.sessions → IsWork limits device handling giving remaining contents (work p sessions missed)
+          → IsMissHere (accept_at p (sessions + missed)) → IsWork limits device handling giving remaining contents (work p sessions (missed + 1))
+      one_missed p sessions missed at w one = record {
+        sessions = λ is. one_less sessions missed p (w.sessions at) one;
         marker = w.marker;
         handler = w.handler;
         cleaner = w.cleaner;
         only_sessions = λ is. absurd (omega (arith, at, is));
-        missed = inr failed;
       }
 
       -- what the loops did
-      pub marked : (p q : Seen (Step R)) → p ≡ seen limits.sessions [] → AsksOnly limits IsMarkers p q → IsWork limits device handling fails (work q 0 0)
+      pub marked : (p q : Seen (Step R)) → p ≡ seen limits.sessions [] → AsksOnly limits (IsMarkers limits.budget) p q → IsWork limits device handling giving remaining contents (work q 0 0)
       marked p q fresh did =
           let at : q.seat ≡ limits.sessions = chain_stays p did.0 q did.1 ∙ ap (λ (x : Seen (Step R)). x.seat) fresh in
-          let from = subst (λ (x : Seen (Step R)). AsksOnly limits IsMarkers x q) fresh did in
+          let from = subst (λ (x : Seen (Step R)). AsksOnly limits (IsMarkers limits.budget) x q) fresh did in
           record {
             sessions = λ is. absurd (omega (arith, at, is));
-            marker = λ is. subst (λ (n : ℕ). AsksOnly limits IsMarkers (seen n []) q) (sym at) from;
+            marker = λ is. subst (λ (n : ℕ). AsksOnly limits (IsMarkers limits.budget) (seen n []) q) (sym at) from;
             handler = λ is. absurd (omega (arith, at, is));
             cleaner = λ is. absurd (omega (arith, at, is));
             only_sessions = λ is. refl;
-            missed = inl refl;
           }
 
-      pub handed_over : (p q : Seen (Step R)) → p ≡ seen (limits.sessions + 1) [] → AsksOnly limits IsHandlers p q → IsWork limits device handling fails (work q 0 0)
+      pub handed_over : (p q : Seen (Step R)) → p ≡ seen (limits.sessions + 1) [] → AsksOnly limits IsHandlers p q → IsWork limits device handling giving remaining contents (work q 0 0)
       handed_over p q fresh did =
           let at : q.seat ≡ limits.sessions + 1 = chain_stays p did.0 q did.1 ∙ ap (λ (x : Seen (Step R)). x.seat) fresh in
           let from = subst (λ (x : Seen (Step R)). AsksOnly limits IsHandlers x q) fresh did in
@@ -134,10 +166,9 @@ module _ {R : Type 0} (limits : Limits) where
             handler = λ is. subst (λ (n : ℕ). AsksOnly limits IsHandlers (seen n []) q) (sym at) from;
             cleaner = λ is. absurd (omega (arith, at, is));
             only_sessions = λ is. refl;
-            missed = inl refl;
           }
 
-      pub cleaned : (p q : Seen (Step R)) → p ≡ seen (limits.sessions + 2) [] → CleansIn handling limits p None q → IsWork limits device handling fails (work q 0 0)
+      pub cleaned : (p q : Seen (Step R)) → p ≡ seen (limits.sessions + 2) [] → CleansIn handling limits p None q → IsWork limits device handling giving remaining contents (work q 0 0)
       cleaned p q fresh did =
           let at : q.seat ≡ limits.sessions + 2 = chain_stays p did.0 q did.1 ∙ ap (λ (x : Seen (Step R)). x.seat) fresh in
           let from = subst (λ (x : Seen (Step R)). CleansIn handling limits x None q) fresh did in
@@ -147,5 +178,4 @@ module _ {R : Type 0} (limits : Limits) where
             handler = λ is. absurd (omega (arith, at, is));
             cleaner = λ is. subst (λ (n : ℕ). CleansIn handling limits (seen n []) None q) (sym at) from;
             only_sessions = λ is. refl;
-            missed = inl refl;
           }

@@ -1,3 +1,4 @@
 -- Reading order.
 pub mod News
+pub mod Giving
 pub mod Serving

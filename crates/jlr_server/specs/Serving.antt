@@ -1,6 +1,7 @@
 -- What a server did: sessions at the seats of one hall, and the loops beside them, in one history.
-use Rattle.std.specs.Prelude.{◌≡◌, ◌<◌, ◌≤◌, ◌+◌, ◌⊎◌, ℕ, Bool, true, List, [], ◌∷◌, Option, None, length, map}
+use Rattle.std.specs.Prelude.{◌≡◌, ◌<◌, ◌≤◌, ◌+◌, ◌⊎◌, ℕ, Bool, true, List, [], ◌∷◌, Option, Some, None, length, map}
 use Rattle.std.specs.List.{sum_by}
+use Rattle.std.specs.Io.KnownBytes.{Appends, Consumes}
 use Rattle.jlr_types.specs.declared.Fault.{Fault}
 use Rattle.jlr_types.specs.declared.limits.Limits.{Limits}
 use Rattle.jlr_device.specs.Handling.{Handling}
@@ -14,6 +15,8 @@ use Rattle.jlr_hall.specs.Closing.{Closes}
 use Rattle.jlr_hall.specs.Loops.{AsksOnly, CleansIn, IsHandlers, IsMarkers}
 use Rattle.jlr_hall.specs.Ports.{by_seat}
 use Rattle.jlr_book.specs.Histories.{History}
+use Rattle.jlr_server.specs.Giving.{Giving}
+use Rattle.jlr_server.specs.declared.acceptor.AcceptId.{AcceptId}
 
 -- What was done at a seat: the seat as it was left, how many sessions were served there, and how many accepts gave
 -- none.
@@ -30,33 +33,58 @@ module _ {R : Type 0} where
   abbrev pub accepts_of : Work R → ℕ
   accepts_of w = w.sessions + w.missed
 
+  -- the accept of this number at a seat
+  abbrev pub accept_at : Seen (Step R) → ℕ → AcceptId
+  accept_at p number = record { seat = p.seat; number = number }
+
+  abbrev pub next_of : Work R → AcceptId
+  next_of w = accept_at w.seat (accepts_of w)
+
+  -- an accept led to a session, which left the seat so, or to none
+  abbrev pub served : Option (Seen (Step R)) → ℕ
+  served (Some left) = 1
+  served None = 0
+
+  abbrev pub unserved : Option (Seen (Step R)) → ℕ
+  unserved (Some left) = 0
+  unserved None = 1
+
 module _ {D R : Type 0} (limits : Limits) (device : Opening D R) (handling : Handling R) where
-  -- A session at a seat: some bytes came, its lines were carried out by asks of the seat, each a step of the one
-  -- history, with the files and sockets of a device, and the replies went out.
-  abbrev pub IsSession : Seen (Step R) → Seen (Step R) → Type 0
-  IsSession old new =
-      (before : D) × (after : D) × (remaining : Option (List ℕ)) × (bytes : List ℕ) × (out : List ℕ) × (end : SessionEnd)
-      × (length bytes ≤ most_bytes) × Serves (by_seat limits) device handling (FindsEnd remaining bytes) end bytes old before out new after
+  module _ {A I O : Type 0} (giving : Giving A I O) (remaining : I → Option (List ℕ)) (contents : O → Option (List ℕ)) where
+    -- A session at a seat, with the client that an acceptor gave at this accept: what it sent is carried out by asks of
+    -- the seat, each a step of the one history, with the files and sockets of a device, and it gets the replies.
+    abbrev pub IsSession : AcceptId → Seen (Step R) → Seen (Step R) → Type 0
+    IsSession id old new =
+        (acceptor : A) × (input : I) × (output : O) × giving.gives acceptor id input output
+        × (input' : I) × (output' : O) × (bytes : List ℕ) × (out : List ℕ)
+        × Consumes (remaining input) (remaining input') bytes × Appends (contents output) (contents output') out
+        × (length bytes ≤ most_bytes)
+        × (before : D) × (after : D) × (end : SessionEnd)
+        × Serves (by_seat limits) device handling (FindsEnd (remaining input') bytes) end bytes old before out new after
 
-  -- sessions one after the other, each with the seat that it left
-  abbrev pub Sessions : Seen (Step R) → List (Seen (Step R)) → Seen (Step R) → Type 0
-  Sessions old [] new = new ≡ old
-  Sessions old (next ∷ later) new = IsSession old next × Sessions next later new
+    -- nobody came at this accept
+    abbrev pub IsMiss : AcceptId → Type 0
+    IsMiss id = (acceptor : A) × (fault : Fault) × giving.fails acceptor id fault
 
-  -- a seat asked nothing but what so many sessions ask, since the hall was opened
-  abbrev pub ServesSessions : ℕ → Seen (Step R) → Type 0
-  ServesSessions count p = (left : List (Seen (Step R))) × Sessions (seen p.seat []) left p × (length left ≡ count)
+    -- accepts one after the other, the first of them of this number
+    abbrev pub Accepts : ℕ → Seen (Step R) → List (Option (Seen (Step R))) → Seen (Step R) → Type 0
+    Accepts number old [] new = new ≡ old
+    Accepts number old (Some left ∷ later) new = IsSession (accept_at old number) old left × Accepts (number + 1) left later new
+    Accepts number old (None ∷ later) new = IsMiss (accept_at old number) × Accepts (number + 1) old later new
 
-  module _ {A : Type 0} (fails : A → Fault → Type 0) where
-    -- the seats of sessions serve, the three others are the marker's, the handler's and the cleaner's; an accept is
-    -- missed only by an acceptor that fails
+    -- a seat asked nothing but what sessions ask, since the hall was opened: so many, and so many accepts gave nobody
+    abbrev pub ServesClients : ℕ → ℕ → Seen (Step R) → Type 0
+    ServesClients sessions missed p =
+        (accepts : List (Option (Seen (Step R)))) × Accepts 0 (seen p.seat []) accepts p
+        × (sessions ≡ sum_by served accepts) × (missed ≡ sum_by unserved accepts)
+
+    -- the seats of sessions serve, the three others are the marker's, the handler's and the cleaner's
     pub record IsWork (w : Work R) : Type 0 where
-      pub sessions : w.seat.seat < limits.sessions → ServesSessions w.sessions w.seat
-      pub marker : w.seat.seat ≡ limits.sessions → AsksOnly limits IsMarkers (seen w.seat.seat []) w.seat
+      pub sessions : w.seat.seat < limits.sessions → ServesClients w.sessions w.missed w.seat
+      pub marker : w.seat.seat ≡ limits.sessions → AsksOnly limits (IsMarkers limits.budget) (seen w.seat.seat []) w.seat
       pub handler : w.seat.seat ≡ limits.sessions + 1 → AsksOnly limits IsHandlers (seen w.seat.seat []) w.seat
       pub cleaner : w.seat.seat ≡ limits.sessions + 2 → CleansIn handling limits (seen w.seat.seat []) None w.seat
       pub only_sessions : limits.sessions ≤ w.seat.seat → accepts_of w ≡ 0
-      pub missed : (w.missed ≡ 0) ⊎ ((acceptor : A) × (fault : Fault) × fails acceptor fault)
 
     abbrev pub AllWork : List (Work R) → Type 0
     AllWork [] = Unit {0}

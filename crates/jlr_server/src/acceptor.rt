@@ -5,33 +5,47 @@ use std::io::{Read, Write};
 use std::os::fd::RawFd;
 use std::sync::Wait;
 
+/// Which accept it is: the one of this number, from 0, at this seat.
+#[derive(Clone, Copy, PartialEq, Eq, Debug)]
+pub struct AcceptId {
+    pub seat: u8,
+    pub number: u64,
+}
+
 /// Gives clients, one after the other, to whoever asks.
 pub trait Acceptor {
-    ghost use Rattle.std.specs.Prelude.{IfErr};
-    ghost use Rattle.jlr_types.specs.declared.Fault.{Fault};
+    ghost use Rattle.std.specs.Prelude.{IfErr, IfOk};
+    ghost use Rattle.jlr_server.specs.Giving.{Giving};
 
     /// What a client sends.
     type In: Read + Drop;
     /// Where its replies go.
     type Out: Write + Drop;
 
-    // that it gives no client, and why
-    ghost fails: { Self → Fault → Type 0 } = { λ _ _. Unit {0} };
+    // whom an accept gives, and why it gives nobody
+    ghost giving: { Giving Self Self.In Self.Out } = { record { gives = λ _ _ _ _. Unit {0}; fails = λ _ _ _. Unit {0} } };
 
     /// The next client. It may wait for one.
     ///
     /// # Errors
     /// Why none came.
-    fn accept(&self) -> Result<(Self::In, Self::Out), Fault>
-        ensures fails { IfErr result (λ fault. fails self.now fault) };
+    fn accept(&self, id: AcceptId) -> Result<(Self::In, Self::Out), Fault>
+        ensures gives { IfOk result (λ client. giving.gives self.now id client.0 client.1) }
+        ensures fails { IfErr result (λ fault. giving.fails self.now id fault) };
 
     /// Watches a client under this number until it leaves. Its watcher tells where it goes, also where it is gone
     /// already.
     ///
     /// # Errors
     /// Why it cannot be watched. Once `close` was called none can.
-    fn watch<T: Wait>(&self, _rt: &T, _client: u32, _input: &Self::In) -> Result<(), Fault>
-        ensures fails { IfErr result (λ fault. fails self.now fault) }
+    fn watch<T: Wait>(
+        &self,
+        _rt: &T,
+        _id: AcceptId,
+        _client: u32,
+        _input: &Self::In,
+    ) -> Result<(), Fault>
+        ensures fails { IfErr result (λ fault. giving.fails self.now _id fault) }
     {
         Ok(())
     }

@@ -2,7 +2,7 @@
 ghost use Rattle.std.specs.Prelude.{◌≡◌, true, MatchOption};
 ghost use Rattle.jlr_server.specs.News.{TellsAsked};
 
-use crate::acceptor::Acceptor;
+use crate::acceptor::{AcceptId, Acceptor};
 use crate::socket_file::{listen, remove_own};
 use crate::watch::{Closing, News, Watcher};
 use jlr_device::places::Inode;
@@ -63,7 +63,14 @@ impl Lines {
         }
     }
 
+    /// A client leaves. Its connection is shut, so that it ends for the client at once: the system closes it late where
+    /// the watcher looks at it meanwhile.
     fn leave(&mut self, client: u32) {
+        for line in &self.open {
+            if line.client == client {
+                let _ = line.stream.shutdown(Shutdown::Both);
+            }
+        }
         self.open.retain(|line| line.client != client);
     }
 }
@@ -169,7 +176,7 @@ impl Acceptor for Listener {
 
     type Out = UnixStream;
 
-    fn accept(&self) -> Result<(UnixStream, UnixStream), Fault> {
+    fn accept(&self, _id: AcceptId) -> Result<(UnixStream, UnixStream), Fault> {
         let Ok((stream, _)) = self.listener.accept() else {
             return Err(Fault::Other);
         };
@@ -179,7 +186,13 @@ impl Acceptor for Listener {
         }
     }
 
-    fn watch<T: Wait>(&self, rt: &T, client: u32, input: &UnixStream) -> Result<(), Fault> {
+    fn watch<T: Wait>(
+        &self,
+        rt: &T,
+        _id: AcceptId,
+        client: u32,
+        input: &UnixStream,
+    ) -> Result<(), Fault> {
         let Ok(stream) = input.try_clone() else {
             return Err(Fault::Other);
         };

@@ -85,8 +85,7 @@ pub struct Watched<R, W> {
 enum Post<D> {
     /// A session, whose clients' files and sockets this device opens.
     Session(D),
-    /// The marker, which marks at most so many cells in a piece.
-    Marker(u32),
+    Marker,
     Handler,
     Cleaner,
 }
@@ -131,17 +130,22 @@ where
         let Some(client) = accepts.take(rt) else {
             break;
         };
-        match acceptor.accept() {
+        let id = work.next_accept();
+        match acceptor.accept(id) {
             Ok((mut input, mut output)) => {
                 hall.sit(rt, work.index(), client);
-                match acceptor.watch(rt, client, &input) {
+                match acceptor.watch(rt, id, client, &input) {
                     Ok(()) => {
                         device.attend(acceptor.descriptor(&input));
                         work = work.serve(rt, hall, &mut input, &mut output, &mut device);
                         device.attend(None);
                         acceptor.leave(rt, client);
                     }
-                    Err(_) => work = work.miss(),
+                    Err(_) => {
+                        if accepts.counts(rt) {
+                            work = work.miss();
+                        }
+                    }
                 }
             }
             Err(_) => {
@@ -224,9 +228,9 @@ where
             }
             drop(device);
         }
-        Post::Marker(budget) => {
+        Post::Marker => {
             if index == sessions {
-                return Worked::mark(rt, hall, seat, budget);
+                return Worked::mark(rt, hall, seat);
             }
         }
         Post::Handler => {
@@ -243,16 +247,16 @@ where
     Worked::new(seat)
 }
 
-/// Who sits on each seat of a hall: a session for each device, then the loops. A piece of marking has this budget.
+/// Who sits on each seat of a hall: a session for each device, then the loops.
 ///
 /// # Errors
 /// `AllocError` where there is no memory.
-fn posts<D: Drop>(alloc: Global, devices: Vec<D>, budget: u32) -> Result<Vec<Post<D>>, AllocError> {
+fn posts<D: Drop>(alloc: Global, devices: Vec<D>) -> Result<Vec<Post<D>>, AllocError> {
     let mut posts = Vec::new(alloc);
     for device in devices {
         posts.push(Post::Session(device))?;
     }
-    posts.push(Post::Marker(budget))?;
+    posts.push(Post::Marker)?;
     posts.push(Post::Handler)?;
     posts.push(Post::Cleaner)?;
     Ok(posts)
@@ -457,7 +461,7 @@ where
     requires limits { limits ≡ L.limits }
     ensures served { IfOk result (λ served. IsServed limits
         (record { count = D.count; opens = D.may_open; connects = D.may_connect; failures = D.Res.handling.count })
-        D.Res.handling A.fails total false served.accepts served.missed served.book) }
+        D.Res.handling A.giving A.In.remaining A.Out.contents total false served.accepts served.missed served.book) }
 {
     let done = serve_watched::<A, D, L, NoWatcher, T>(
         rt, alloc, limits, total, acceptor, NoWatcher, devices, blank,
@@ -499,9 +503,9 @@ where
     requires limits { limits ≡ L.limits }
     ensures served { IfOk result (λ watched. IsServed limits
         (record { count = D.count; opens = D.may_open; connects = D.may_connect; failures = D.Res.handling.count })
-        D.Res.handling A.fails total (W.asked watched.watcher) watched.served.accepts watched.served.missed watched.served.book) }
+        D.Res.handling A.giving A.In.remaining A.Out.contents total (W.asked watched.watcher) watched.served.accepts watched.served.missed watched.served.book) }
 {
-    let posts = match posts(alloc, devices, limits.budget) {
+    let posts = match posts(alloc, devices) {
         Ok(posts) => posts,
         Err(_) => {
             drop(watcher);
@@ -542,7 +546,7 @@ where
     D::Res: Drop,
     ensures served { IfOk result (λ watched. IsServed L.limits
         (record { count = D.count; opens = D.may_open; connects = D.may_connect; failures = D.Res.handling.count })
-        D.Res.handling A.fails total (W.asked watched.watcher) watched.served.accepts watched.served.missed watched.served.book) }
+        D.Res.handling A.giving A.In.remaining A.Out.contents total (W.asked watched.watcher) watched.served.accepts watched.served.missed watched.served.book) }
 {
     let Heard { watcher, asked } = heard;
     let count = hall.sessions() + 3;
@@ -608,7 +612,7 @@ where
     ensures accepts { IfOk result (λ _. tally.new.accepts ≡ tally.old.accepts + (work.sessions + work.missed)) }
     ensures missed { IfOk result (λ _. tally.new.missed ≡ tally.old.missed + work.missed) }
     ensures done { IsWork L.limits (record { count = D.count; opens = D.may_open; connects = D.may_connect; failures = D.Res.handling.count })
-        D.Res.handling A.fails work }
+        D.Res.handling A.giving A.In.remaining A.Out.contents work }
 {
     let (seat, sessions, missed) = work.into_parts();
     tally.seats.push(seat)?;
@@ -630,7 +634,7 @@ where
     D::Res: Drop,
     ensures { IfOk result (λ tally. (tally.seats.items ≡ map seat_in works.items) × (tally.accepts ≡ sum_by accepts_of works.items)
         × (tally.missed ≡ sum_by (λ w. w.missed) works.items)
-        × AllWork L.limits (record { count = D.count; opens = D.may_open; connects = D.may_connect; failures = D.Res.handling.count }) D.Res.handling A.fails works.items) }
+        × AllWork L.limits (record { count = D.count; opens = D.may_open; connects = D.may_connect; failures = D.Res.handling.count }) D.Res.handling A.giving A.In.remaining A.Out.contents works.items) }
 {
     let mut tally = Tally {
         seats: Vec::new(alloc),

@@ -7,9 +7,9 @@ ghost use Rattle.jlr_session.specs.Serving.{Serves};
 ghost use Rattle.jlr_session.specs.declared.shell.SessionEnd.{SessionEnd};
 ghost use Rattle.jlr_log.specs.Seeing.{seen};
 ghost use Rattle.jlr_hall.specs.Ports.{by_seat};
-ghost use Rattle.jlr_server.specs.Serving.{IsWork};
+ghost use Rattle.jlr_server.specs.Serving.{IsWork, accepts_of, next_of};
 
-use crate::acceptor::Acceptor;
+use crate::acceptor::{AcceptId, Acceptor};
 use jlr_device::{Device, Resource};
 use jlr_hall::hall::Hall;
 use jlr_hall::history::Naming;
@@ -65,7 +65,7 @@ impl<A: Acceptor, D: Device, L: Naming + Limited> Model for Worked<A, D, L> {
     ghost view = { λ w. record { seat = w.seat; sessions = w.sessions; missed = w.missed } };
 
     ghost invariant = { λ w. IsWork L.limits (record { count = D.count; opens = D.may_open; connects = D.may_connect; failures = D.Res.handling.count })
-        D.Res.handling A.fails (record { seat = w.seat; sessions = w.sessions; missed = w.missed }) };
+        D.Res.handling A.giving A.In.remaining A.Out.contents (record { seat = w.seat; sessions = w.sessions; missed = w.missed }) };
 }
 
 impl<A: Acceptor, D: Device, L: Naming + Limited> Worked<A, D, L>
@@ -85,7 +85,17 @@ where
         }
     }
 
-    /// A session more. A seat at which 2^32 - 1 were served serves none.
+    /// Which accept the next one at this seat is.
+    pub(crate) fn next_accept(&self) -> AcceptId
+        ensures { result ≡ next_of self.now }
+    {
+        AcceptId {
+            seat: self.seat.index(),
+            number: u64::from(self.sessions) + u64::from(self.missed),
+        }
+    }
+
+    /// A session more, with the client that came. A seat at which 2^32 - 1 were served serves none.
     pub(crate) fn serve<T: Wait>(
         self,
         rt: &T,
@@ -94,7 +104,8 @@ where
         output: &mut A::Out,
         device: &mut D,
     ) -> Self
-        requires { self.seat.seat < L.limits.sessions }
+        requires seat { self.seat.seat < L.limits.sessions }
+        requires came { (acceptor : A) × A.giving.gives acceptor (next_of self) input.old output.old }
         ensures { result.seat.seat ≡ self.seat.seat }
     {
         let Worked {
@@ -120,10 +131,11 @@ where
         }
     }
 
-    /// An accept that gave no client: it failed, or the client could not be watched. At 2^32 - 1 it is not counted.
+    /// An accept more, that gave no client: it failed, or the client could not be watched. A seat at which 2^32 - 1 did
+    /// counts none.
     pub(crate) fn miss(self) -> Self
         requires seat { self.seat.seat < L.limits.sessions }
-        requires fails { (acceptor : A) × (fault : Fault) × A.fails acceptor fault }
+        requires fails { (acceptor : A) × (fault : Fault) × A.giving.fails acceptor (next_of self) fault }
         ensures { result.seat.seat ≡ self.seat.seat }
     {
         let Worked {
@@ -132,23 +144,27 @@ where
             missed,
             of,
         } = self;
+        if missed == u32::MAX {
+            return Worked {
+                seat,
+                sessions,
+                missed,
+                of,
+            };
+        }
         Worked {
             seat,
             sessions,
-            missed: missed.saturating_add(1),
+            missed: missed + 1,
             of,
         }
     }
 
-    /// What the marker's loop does, by pieces of at most so many cells, until the hall is to end.
-    pub(crate) fn mark<T: Wait>(
-        rt: &T,
-        hall: &Hall<D::Res, L>,
-        seat: Seat<D::Res, L>,
-        budget: u32,
-    ) -> Self
+    /// What the marker's loop does, by pieces of the budget of the limits, until the hall is to end.
+    pub(crate) fn mark<T: Wait>(rt: &T, hall: &Hall<D::Res, L>, seat: Seat<D::Res, L>) -> Self
         requires { seat ≡ seen L.limits.sessions [] }
     {
+        let budget = hall.budget(rt);
         Worked {
             seat: marker_loop(seat, rt, hall, budget),
             sessions: 0,
@@ -192,7 +208,7 @@ where
     pub(crate) fn into_parts(self) -> (Seat<D::Res, L>, u32, u32)
         ensures parts { (result.0 ≡ self.seat) × (result.1 ≡ self.sessions) × (result.2 ≡ self.missed) }
         ensures done { IsWork L.limits (record { count = D.count; opens = D.may_open; connects = D.may_connect; failures = D.Res.handling.count })
-            D.Res.handling A.fails self }
+            D.Res.handling A.giving A.In.remaining A.Out.contents self }
     {
         let Worked {
             seat,

@@ -1,6 +1,6 @@
 //! Clients that send lines and look at what they are answered.
 use jlr_device::gate::Gate;
-use jlr_server::acceptor::Acceptor;
+use jlr_server::acceptor::{AcceptId, Acceptor};
 use jlr_types::Fault;
 use std::alloc::Global;
 use std::io::{self, ErrorKind, Read, Write};
@@ -310,7 +310,7 @@ impl<'a> Acceptor for &Clients<'a> {
 
     type Out = Replies<'a>;
 
-    fn accept(&self) -> Result<(Lines<'a>, Replies<'a>), Fault> {
+    fn accept(&self, _id: AcceptId) -> Result<(Lines<'a>, Replies<'a>), Fault> {
         let number = self.come.fetch_add(1, Ordering::SeqCst);
         if number > 0 && !self.wait() {
             return Err(Fault::Other);

@@ -117,8 +117,8 @@ const ROWS: &[Row] = &[
         script: "ok unfinished",
         first: ("open w a; write 1 0102; bye", "= 1; wrote 2; ok"),
         second: (
-            "gc; stat until; faults; bye",
-            "ok; stat 1 0 1 0 1; list 1:other; ok",
+            "gc; faults until; gc; stat; bye",
+            "ok; list 1:other; ok; stat 0 0 1 0 1; ok",
         ),
         ..ALONE
     },

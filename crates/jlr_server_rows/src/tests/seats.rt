@@ -8,7 +8,7 @@ use super::player::{Entries, entries};
 use jlr_device::gate::{Gate, GateDevice, GateResource};
 use jlr_event::event::{Event, Reply};
 use jlr_machine::ask::Answer;
-use jlr_server::acceptor::Acceptor;
+use jlr_server::acceptor::{AcceptId, Acceptor};
 use jlr_server::hall::hall::Hall;
 use jlr_server::hall::history::{Blank, Naming};
 use jlr_server::hall::port::SeatPort;
@@ -31,8 +31,12 @@ fn session<G: Gate + Acceptor + Copy + Drop, L: Naming + Limited, T: Wait>(
     clients: G,
     seat: Seat<GateResource<G>, L>,
 ) -> Seat<GateResource<G>, L> {
+    let id = AcceptId {
+        seat: seat.index(),
+        number: 0,
+    };
     let mut port = SeatPort::new(threads, hall, seat);
-    if let Ok((mut lines, mut replies)) = clients.accept() {
+    if let Ok((mut lines, mut replies)) = clients.accept(id) {
         let _ = serve(
             &mut lines,
             &mut replies,

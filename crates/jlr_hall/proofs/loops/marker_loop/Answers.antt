@@ -7,4 +7,4 @@ pub ask_or_wait-requires : goal.ask_or_wait-requires
 ask_or_wait-requires g c = inl refl
 
 pub loop-init : goal.loop-init
-loop-init g c = asks_none g.L.Limited.limits IsMarkers c.args.seat
+loop-init g c = asks_none g.L.Limited.limits (IsMarkers c.args.budget) c.args.seat

@@ -1,4 +1,4 @@
-use Rattle.std.proofs.Common.{◌≡◌, List, arith, subst, sym, rules}
+use Rattle.std.proofs.Common.{List, arith, subst, rules}
 use Rattle.jlr_log.specs.Seeing.{Seen}
 use Rattle.jlr_hall.specs.declared.step.Step.{Step}
 use Rattle.jlr_hall.specs.Closing.{Closes}

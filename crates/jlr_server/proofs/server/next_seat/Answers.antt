@@ -1,5 +1,5 @@
 use Rattle.std.proofs.Common.{◌∙◌, ap, option_to_list, ◌++◌}
-use Rattle.jlr_server.proofs.Works.{last_is_fresh, rest_is_fresh}
+use Rattle.jlr_server.proofs.Works.{last_is_fresh}
 use Rattle.jlr_server.proofs.server.next_seat.Goals as goal
 
 pub new-requires : goal.new-requires

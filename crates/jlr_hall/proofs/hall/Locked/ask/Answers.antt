@@ -1,4 +1,4 @@
-use Rattle.std.proofs.Common.{◌++◌, List, sym, ap, ◌∙◌, subst}
+use Rattle.std.proofs.Common.{◌++◌, sym, ap, ◌∙◌, subst}
 use Rattle.jlr_event.specs.declared.event.Event.{Event}
 use Rattle.jlr_book.specs.Histories.{History}
 use Rattle.jlr_hall.specs.OneHistory.{IsWhole}

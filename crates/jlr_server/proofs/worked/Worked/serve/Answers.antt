@@ -1,7 +1,7 @@
 use Rattle.std.proofs.Common.{◌≡◌, ◌∙◌, ap}
 use Rattle.jlr_session.specs.Calls.{Opening}
 use Rattle.jlr_session.specs.Limits.{FindsEnd}
-use Rattle.jlr_server.specs.Serving.{IsSession, Work}
+use Rattle.jlr_server.specs.Serving.{Work}
 use Rattle.jlr_server.proofs.Seats.{session_stays}
 use Rattle.jlr_server.proofs.Works.{one_session}
 use Rattle.jlr_server.proofs.worked.Worked.serve.Goals as goal
@@ -14,9 +14,10 @@ invariant_of-result-2 g c =
     let q = c.serve_seat-seat.result in
     let v = c.serve_seat-seat.ensures in
     let remaining = g.A.In.Read.remaining c.serve_seat-seat.new.input in
+    let given = rw (← c.self.view_is) at c.requires.came in
     let stays : q.seat ≡ p.seat = session_stays g.L.Limited.limits device resource (FindsEnd remaining v.1) v.0 v.1 p c.args.device.now v.2 q c.serve_seat-seat.new.device v.6 in
-    one_session g.L.Limited.limits device resource g.A.Acceptor.fails p q c.self.inside.sessions c.self.inside.missed (rw (← c.self.view_is) at c.requires) stays c.self.invariant
-    (c.args.device.now, c.serve_seat-seat.new.device, remaining, v.1, v.2, v.0, v.5, v.6)
+    one_session g.L.Limited.limits device resource g.A.Acceptor.giving g.A.In.Read.remaining g.A.Out.Write.contents p q c.self.inside.sessions c.self.inside.missed (rw (← c.self.view_is) at c.requires.seat) stays c.self.invariant
+    (given.0, c.args.input.now, c.args.output.now, given.1, c.serve_seat-seat.new.input, c.serve_seat-seat.new.output, v.1, v.2, v.3, v.4, v.5, c.args.device.now, c.serve_seat-seat.new.device, v.0, v.6)
 
 pub returns : goal.returns
 returns g c =
