@@ -1,6 +1,6 @@
 //! What a line that was typed asks for.
 ghost use Rattle.std.specs.Prelude.{◌≡◌, take};
-ghost use Rattle.jlr_client.specs.Typing.{is_own as own, IsForClient, IsMeant};
+ghost use Rattle.jlr_client.specs.Typing.{is_own as own, IsOwnWord, IsMeant};
 
 /// What a line that was typed asks for.
 #[derive(Clone, Copy, Debug)]
@@ -51,7 +51,7 @@ fn is_own(line: &[u8]) -> bool
 
 /// What a line that is for the client asks for.
 fn own_word<'a>(line: &'a [u8]) -> Typed<'a>
-    ensures { IsForClient result }
+    ensures { IsOwnWord line.now result }
 {
     if line == b"help".as_slice() {
         return Typed::Help;

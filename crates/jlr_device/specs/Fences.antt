@@ -1,5 +1,5 @@
 -- Which calls a fence lets through.
-use Rattle.std.specs.Prelude.{◌≡◌, ℕ, ◌+◌, Bool, List, length, Result, Err, MatchOption, MatchBool}
+use Rattle.std.specs.Prelude.{◌≡◌, ◌⊎◌, ℕ, ◌+◌, Bool, List, length, Result, Err, MatchOption, MatchBool}
 use Rattle.jlr_types.specs.declared.Fault.{Fault}
 use Rattle.jlr_types.specs.declared.Fault.TheVariants.{Denied}
 use Rattle.jlr_device.specs.Paths.{placed}
@@ -22,6 +22,10 @@ abbrev pub Joins : (List ℕ → Bool → Type 0) → (List ℕ → Type 0) → 
 Joins own call denial path = (told : Bool) × own path told × MatchBool told denial (call path)
 
 -- ---- What becomes of the device
+
+-- the device below attends, which may do so much, and nothing else
+abbrev pub IsAttended : {D P : Type 0} → (D → D → Type 0) → Fenced D P → Fenced D P → Type 0
+IsAttended may old new = ((new.device ≡ old.device) ⊎ may old.device new.device) × (new ≡ record old { device = new.device })
 
 module _ {D P R : Type 0} where
   -- no call below, and one failure more

@@ -15,7 +15,7 @@ pub enum Mode {
 
 /// What opens files and joins sockets.
 pub trait Device {
-    ghost use Rattle.std.specs.Prelude.{◌≡◌, ℕ, ◌+◌, ◌^◌, ◌<◌, ◌≤◌, List, Result, IfOk, length};
+    ghost use Rattle.std.specs.Prelude.{◌≡◌, ◌⊎◌, ℕ, ◌+◌, ◌^◌, ◌<◌, ◌≤◌, List, Result, IfOk, length};
     ghost use Rattle.jlr_types.specs.declared.Fault.{Fault};
     ghost use Rattle.jlr_device.specs.Failures.{Counts};
     ghost use Rattle.jlr_device.specs.declared.device.Mode.{Mode};
@@ -30,6 +30,9 @@ pub trait Device {
 
     // what joining a socket may do: the device before, the path, the answer, and the device after
     ghost may_connect: { Self → List ℕ → Result Self.Res Fault → Self → Type 0 } = { λ _ _ _ _. Unit {0} };
+
+    // what attending a client may do, if anything: the device before, and after
+    ghost may_attend: { Self → Self → Type 0 } = { λ _ _. Unit {0} };
 
     /// How many calls failed.
     fn failures(&self) -> u64
@@ -52,7 +55,8 @@ pub trait Device {
     /// From now on the calls are made for the client of this connection, if there is one. The descriptor stays open as
     /// long.
     fn attend(&mut self, _client: Option<RawFd>)
-        ensures { count self.new ≡ count self.old }
+        ensures count { count self.new ≡ count self.old }
+        ensures told { (self.new ≡ self.old) ⊎ may_attend self.old self.new }
     {}
 
     /// Reads of a resource as it reads itself. Where it would have to wait, and the client goes meanwhile, it fails,

@@ -90,7 +90,7 @@ impl<'a, D: Device, P: Places> Fenced<'a, D, P> {
 
 impl<'a, D: Device, P: Places> Device for Fenced<'a, D, P> {
     ghost use Rattle.std.specs.Prelude.{◌≡◌, ◌+◌, ◌-◌, ◌^◌, min, Err};
-    ghost use Rattle.jlr_device.specs.Fences.{Lets, Joins, IsDenied, IsCalled};
+    ghost use Rattle.jlr_device.specs.Fences.{Lets, Joins, IsDenied, IsCalled, IsAttended};
 
     type Res = D::Res;
 
@@ -100,6 +100,8 @@ impl<'a, D: Device, P: Places> Device for Fenced<'a, D, P> {
     ghost may_open = { λ old mode path result new. Lets (P.may_be_straight old.places) (λ at. IsCalled (λ d. D.may_open d mode) old at result new) (IsDenied old result new) old.fence path };
 
     ghost may_connect = { λ old path result new. Lets (P.may_be_straight old.places) (λ at. Joins (P.may_be_own old.places) (λ at. IsCalled D.may_connect old at result new) (IsDenied old result new) at) (IsDenied old result new) old.fence path };
+
+    ghost may_attend = { IsAttended D.may_attend };
 
     fn failures(&self) -> u64 {
         self.device.failures().saturating_add(self.denied)

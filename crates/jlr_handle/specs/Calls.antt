@@ -45,28 +45,35 @@ limit_status Budget = 33
 -- an event that carries no token
 abbrev pub Calls : Option Heap → Event ℕ → Type 0 → (Answer → Type 0) → Option Heap → Type 0
 Calls None event Silent Tells new = Silent × (new ≡ None)
-Calls (Some old) event Silent Tells new = (answer : Answer) × (h : Heap) × (new ≡ Some h) × Steps old event (Answered answer None) h × Tells answer
+Calls (Some old) event Silent Tells new =
+    (answer : Answer) × (h : Heap) × (new ≡ Some h) × Steps old event (Answered answer None) h × Tells answer
 
 -- an event that may carry a token, in or out
 abbrev pub Carries : Option Heap → Event ℕ → Type 0 → (Answer → Option ℕ → Type 0) → Option Heap → Type 0
 Carries None event Silent Tells new = Silent × (new ≡ None)
-Carries (Some old) event Silent Tells new = (answer : Answer) × (token : Option ℕ) × (h : Heap) × (new ≡ Some h) × Steps old event (Answered answer token) h × Tells answer token
+Carries (Some old) event Silent Tells new =
+    (answer : Answer) × (token : Option ℕ) × (h : Heap) × (new ≡ Some h) × Steps old event (Answered answer token) h
+    × Tells answer token
 
 -- a step of the handler
 abbrev pub HandsOver : Option Heap → Type 0 → (Handed → Type 0) → Option Heap → Type 0
 HandsOver None Silent Tells new = Silent × (new ≡ None)
-HandsOver (Some old) Silent Tells new = (what : Handed) × (h : Heap) × (new ≡ Some h) × Steps old HandOver (Answered (answer.Handed what) None) h × Tells what
+HandsOver (Some old) Silent Tells new =
+    (what : Handed) × (h : Heap) × (new ≡ Some h) × Steps old HandOver (Answered (answer.Handed what) None) h
+    × Tells what
 
 -- a piece of marking
 abbrev pub Marks : Option Heap → ℕ → Type 0 → (Progress → Type 0) → Option Heap → Type 0
 Marks None budget Silent Tells new = Silent × (new ≡ None)
-Marks (Some old) budget Silent Tells new = (progress : Progress) × (h : Heap) × (new ≡ Some h) × Steps old (Mark budget) (Marked progress) h × Tells progress
+Marks (Some old) budget Silent Tells new =
+    (progress : Progress) × (h : Heap) × (new ≡ Some h) × Steps old (Mark budget) (Marked progress) h × Tells progress
 
 -- ---- The life of a handle
 
 -- the empty heap of these limits is behind the handle
 abbrev pub Opens : ℕ → ℕ → ℕ → ℕ → Option Heap → Type 0
-Opens cells sessions resources soft_age new = (h : Heap) × (new ≡ Some h) × IsEmpty cells sessions resources soft_age 1 h
+Opens cells sessions resources soft_age new =
+    (h : Heap) × (new ≡ Some h) × IsEmpty cells sessions resources soft_age 1 h
 
 -- the first limit that is out of its range is told
 abbrev pub TellsLimit : ℕ → Option LimitFault → Type 0

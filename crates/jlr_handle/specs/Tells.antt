@@ -39,7 +39,9 @@ TellsInteger status old new (Refused by) = (status ≡ number_of by) × (new ≡
 TellsInteger status old new _ = ⊥
 
 abbrev pub TellsCounts : ℕ → Counts → Counts → Answer → Type 0
-TellsCounts status old new (Stat s) = (status ≡ 0) × (new ≡ record { objects = s.objects; resources = s.resources; taken = s.taken; ok = s.ok; failed = s.failed })
+TellsCounts status old new (Stat s) =
+    (status ≡ 0)
+    × (new ≡ record { objects = s.objects; resources = s.resources; taken = s.taken; ok = s.ok; failed = s.failed })
 TellsCounts status old new (Refused by) = (status ≡ number_of by) × (new ≡ old)
 TellsCounts status old new _ = ⊥
 
@@ -61,8 +63,10 @@ TellsProgress status old new Idle = (status ≡ idle) × (new ≡ old)
 
 -- the work of a job: its note, or the token that goes out with it
 abbrev pub TellsWork : ℕ → Taken → ℕ → Work → Option ℕ → Type 0
-TellsWork status new action work (Some token) = (status ≡ 0) × (new ≡ record { action = action; value = token; is_token = true })
-TellsWork status new action (Note n) None = (status ≡ 0) × (new ≡ record { action = action; value = n; is_token = false })
+TellsWork status new action work (Some token) =
+    (status ≡ 0) × (new ≡ record { action = action; value = token; is_token = true })
+TellsWork status new action (Note n) None =
+    (status ≡ 0) × (new ≡ record { action = action; value = n; is_token = false })
 TellsWork status new action (Resource rid) None = ⊥
 
 abbrev pub TellsJob : ℕ → Taken → Taken → Answer → Option ℕ → Type 0

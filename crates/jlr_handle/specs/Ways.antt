@@ -17,26 +17,32 @@ abbrev pub Ends : Option Heap → Event ℕ → ℕ → Option Heap → Type 0
 Ends old event status new = Calls old event (status ≡ closed) (TellsEnd status) new
 
 abbrev pub GivesHandle : Option Heap → Event ℕ → ℕ → ℕ → ℕ → Option Heap → Type 0
-GivesHandle old event status was is new = Calls old event ((status ≡ closed) × (is ≡ was)) (TellsHandle status was is) new
+GivesHandle old event status was is new =
+    Calls old event ((status ≡ closed) × (is ≡ was)) (TellsHandle status was is) new
 
 abbrev pub GivesTruth : Option Heap → Event ℕ → ℕ → Bool → Bool → Option Heap → Type 0
 GivesTruth old event status was is new = Calls old event ((status ≡ closed) × (is ≡ was)) (TellsTruth status was is) new
 
 abbrev pub GivesInteger : Option Heap → Event ℕ → ℕ → ℤ → ℤ → Option Heap → Type 0
-GivesInteger old event status was is new = Calls old event ((status ≡ closed) × (is ≡ was)) (TellsInteger status was is) new
+GivesInteger old event status was is new =
+    Calls old event ((status ≡ closed) × (is ≡ was)) (TellsInteger status was is) new
 
 abbrev pub GivesCounts : Option Heap → Event ℕ → ℕ → Counts → Counts → Option Heap → Type 0
-GivesCounts old event status was is new = Calls old event ((status ≡ closed) × (is ≡ was)) (TellsCounts status was is) new
+GivesCounts old event status was is new =
+    Calls old event ((status ≡ closed) × (is ≡ was)) (TellsCounts status was is) new
 
 -- the item of an index
 abbrev pub GivesName : ℕ → Option Heap → Event ℕ → ℕ → List ℕ → List ℕ → Option Heap → Type 0
-GivesName index old event status was is new = Calls old event ((status ≡ closed) × (is ≡ was)) (TellsName status was is index) new
+GivesName index old event status was is new =
+    Calls old event ((status ≡ closed) × (is ≡ was)) (TellsName status was is index) new
 
 abbrev pub GivesNote : ℕ → Option Heap → Event ℕ → ℕ → ℕ → ℕ → Option Heap → Type 0
-GivesNote index old event status was is new = Calls old event ((status ≡ closed) × (is ≡ was)) (TellsNote status was is index) new
+GivesNote index old event status was is new =
+    Calls old event ((status ≡ closed) × (is ≡ was)) (TellsNote status was is index) new
 
 abbrev pub GivesFailure : ℕ → Option Heap → Event ℕ → ℕ → Failed → Failed → Option Heap → Type 0
-GivesFailure index old event status was is new = Calls old event ((status ≡ closed) × (is ≡ was)) (TellsFault status was is index) new
+GivesFailure index old event status was is new =
+    Calls old event ((status ≡ closed) × (is ≡ was)) (TellsFault status was is index) new
 
 -- ---- Of an event that may carry a token
 
@@ -44,10 +50,12 @@ abbrev pub EndsCarrying : Option Heap → Event ℕ → ℕ → Option Heap → 
 EndsCarrying old event status new = Carries old event (status ≡ closed) (λ answer token. TellsEnd status answer) new
 
 abbrev pub Adopts : Option Heap → Event ℕ → ℕ → ℕ → ℕ → Option Heap → Type 0
-Adopts old event status was is new = Carries old event ((status ≡ closed) × (is ≡ was)) (λ answer token. TellsHandle status was is answer) new
+Adopts old event status was is new =
+    Carries old event ((status ≡ closed) × (is ≡ was)) (λ answer token. TellsHandle status was is answer) new
 
 abbrev pub GivesJob : Option Heap → Event ℕ → ℕ → Taken → Taken → Option Heap → Type 0
 GivesJob old event status was is new = Carries old event ((status ≡ closed) × (is ≡ was)) (TellsJob status was is) new
 
 abbrev pub GivesToken : Option Heap → Event ℕ → ℕ → ℕ → ℕ → Option Heap → Type 0
-GivesToken old event status was is new = Carries old event ((status ≡ closed) × (is ≡ was)) (TellsToken status was is) new
+GivesToken old event status was is new =
+    Carries old event ((status ≡ closed) × (is ≡ was)) (TellsToken status was is) new
