@@ -61,7 +61,9 @@ impl Reason {
             }
             Reason::Taken =>
                 "it is in use: remove it if no server runs there, or name another path",
-            Reason::NoNameFree => "all names from .new0 to .new99 beside it are taken: remove them",
+            Reason::NoNameFree => {
+                "all names from .refheap-new0 to .refheap-new99 beside it are taken: remove them"
+            }
             Reason::NobodyListens => "nobody listens there: start a server",
             Reason::Folder => "it is a folder: name a file",
             Reason::NoFolder => "a part of the path is no folder: check the path",

@@ -9,13 +9,14 @@ use Rattle.jlr_commands.specs.declared.audit.Judged.{Judged}
 use Rattle.jlr_command_line.specs.declared.fault.ProgramFault.{ProgramFault}
 use Rattle.jlr_command_line.specs.declared.fault.ProgramFault.TheVariants as program
 
--- the bytes spell a history with so many entries, in this version, and this is the verdict on it
+-- the bytes spell a history with so many entries behind so many others, in this version, and this is the verdict on it
 pub record IsJudged (bytes : List ℕ) (j : Judged) : Type 0 where
   pub file : TraceFile
   pub spelling : HasSpelling file
   pub spelled : bytes ≡ spelled_file (file_text file)
   pub verdict : IsFileVerdict file j.verdict
   pub entries : j.entries ≡ length file.entries
+  pub base : j.base ≡ file.base
   pub version : j.version ≡ file.version
 
 -- what a fault of a trace file is to the program

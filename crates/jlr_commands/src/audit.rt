@@ -4,26 +4,26 @@ ghost use Rattle.jlr_audit.specs.Verdicts.{IsFileVerdict};
 ghost use Rattle.jlr_trace.specs.declared.file.TraceFault.TheVariants.{NoMemory};
 ghost use Rattle.jlr_commands.specs.Audits.{IsJudged, IsDamage, damage};
 
+use crate::history_file::contents;
 use crate::progress::Progress;
 use jlr_audit::spelled::audit_spelled;
 use jlr_audit::verdict::Verdict;
 use jlr_audit::watch::Watch;
 use jlr_command_line::arguments::AuditOrder;
 use jlr_command_line::fault::ProgramFault;
-use jlr_command_line::reason::{Place, Reason};
 use jlr_explain::spelled::explained;
 use jlr_fields::version::Version;
 use jlr_trace::file::TraceFault;
 use jlr_trace::spelled::{SpelledTrace, spelled_trace};
 use std::alloc::{AllocError, Global};
-use std::fs;
-use std::io::{self, Write};
+use std::io::Write;
 
-/// A verdict on a history, how many entries it has, and the version of its file.
+/// A verdict on a history, how many entries it has and how many came before, and the version of its file.
 #[derive(Clone, Copy)]
 pub struct Judged {
     pub verdict: Verdict,
     pub entries: u64,
+    pub base: u64,
     pub version: Version,
 }
 
@@ -45,13 +45,15 @@ fn verdict_of_trace<W: Watch>(
     trace: &SpelledTrace<'_>,
     watch: &mut W,
 ) -> Result<Judged, ProgramFault>
-    ensures verdict { IfOk result (λ j. IsFileVerdict trace.now j.verdict × (j.entries ≡ length trace.now.entries) × (j.version ≡ trace.now.version)) }
+    ensures verdict { IfOk result (λ j. IsFileVerdict trace.now j.verdict × (j.entries ≡ length trace.now.entries)
+        × (j.base ≡ trace.now.base) × (j.version ≡ trace.now.version)) }
     ensures memory { IfErr result (λ e. e ≡ damage NoMemory) }
 {
     match audit_spelled(alloc, trace, watch) {
         Ok(verdict) => Ok(Judged {
             verdict,
             entries: trace.count(),
+            base: trace.base(),
             version: trace.version(),
         }),
         Err(fault) => Err(ProgramFault::NoMemory(fault)),
@@ -73,25 +75,6 @@ pub fn verdict_of<W: Watch>(
     match spelled_trace(alloc, bytes) {
         Ok(trace) => verdict_of_trace(alloc, &trace, watch),
         Err(fault) => Err(damage_of(fault)),
-    }
-}
-
-/// What a file contains.
-pub(crate) fn contents(rt: &HostRuntime, path: &str) -> Result<Vec<u8>, ProgramFault> {
-    match fs::read(rt, path) {
-        Ok(bytes) => Ok(bytes),
-        Err(error) if error.kind() == io::ErrorKind::OutOfMemory => {
-            Err(ProgramFault::NoMemory(AllocError))
-        }
-        Err(error) => Err(unread(rt.alloc(), path, Reason::of(error.kind()))),
-    }
-}
-
-/// That a file cannot be read, or that memory for saying so ran out.
-fn unread(alloc: Global, path: &str, reason: Reason) -> ProgramFault {
-    match Place::new(alloc, path, reason) {
-        Ok(place) => ProgramFault::CannotRead(place),
-        Err(fault) => ProgramFault::NoMemory(fault),
     }
 }
 
@@ -149,7 +132,19 @@ fn explanation(
     Ok(None)
 }
 
-/// Writes why a history is not legal, as one line.
+/// What a legal history is relative to, where entries came before it: they are not in the file.
+fn beginning(alloc: Global, judged: Judged) -> Result<Option<String>, ProgramFault> {
+    let base = judged.base;
+    if base == 0 || judged.verdict != Verdict::Legal {
+        return Ok(None);
+    }
+    let line = format!(in alloc;
+        "it goes on from the machine in the file, after {base} entries that are not"
+    )?;
+    Ok(Some(line))
+}
+
+/// Writes what is said of a verdict, as one line.
 fn explain(alloc: Global, writer: &mut impl Write, why: &str) -> Result<(), ProgramFault> {
     let line = format!(in alloc; "{why}\n")?;
     if writer.write_all(line.as_bytes()).is_err() || writer.flush().is_err() {
@@ -166,14 +161,14 @@ fn tell_json(
     judged: Judged,
     why: &str,
 ) -> Result<(), ProgramFault> {
-    let entries = judged.entries;
+    let Judged { entries, base, .. } = judged;
     let version = version_number(judged.version);
     let line = match judged.verdict {
-        Verdict::Legal => {
-            format!(in alloc; "{{\"legal\":true,\"entries\":{entries},\"version\":{version}}}\n")?
-        }
+        Verdict::Legal => format!(in alloc;
+            "{{\"legal\":true,\"entries\":{entries},\"before\":{base},\"version\":{version}}}\n"
+        )?,
         Verdict::Illegal(number) => format!(in alloc;
-            "{{\"legal\":false,\"entry\":{number},\"entries\":{entries},\"version\":{version},\"why\":\"{why}\"}}\n"
+            "{{\"legal\":false,\"entry\":{number},\"entries\":{entries},\"before\":{base},\"version\":{version},\"why\":\"{why}\"}}\n"
         )?,
     };
     if writer.write_all(line.as_bytes()).is_err() || writer.flush().is_err() {
@@ -208,6 +203,11 @@ pub fn audit(
     tell(alloc, writer, judged)?;
     if let Some(why) = explanation(alloc, asked, judged, bytes.as_slice())? {
         explain(alloc, writer, why.as_str())?;
+    }
+    if asked.explain {
+        if let Some(beginning) = beginning(alloc, judged)? {
+            explain(alloc, writer, beginning.as_str())?;
+        }
     }
     outcome_of(judged.verdict)
 }

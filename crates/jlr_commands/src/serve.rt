@@ -136,6 +136,7 @@ fn served<T: Threads + Wait + Sync>(
 fn closed_of<R: Drop>(alloc: Global, served: Served<R>, saves: bool) -> Closed
     ensures accepts { (result.accepts ≡ served.accepts) × (result.missed ≡ served.missed) }
     ensures entries { result.entries ≡ last served.book }
+    ensures saved { IsTrue saves ↔ IsSome result.history }
     ensures history { IfSome result.history (λ made. IfOk made (λ bytes. IsSaved served.book bytes.items)) }
 {
     let Served {

@@ -1,5 +1,6 @@
 //! The figures of a saved history: `refheap stats FILE`.
-use crate::audit::{contents, damage_of};
+use crate::audit::damage_of;
+use crate::history_file::contents;
 use jlr_audit::verdict::Verdict;
 use jlr_command_line::arguments::StatsOrder;
 use jlr_command_line::fault::ProgramFault;

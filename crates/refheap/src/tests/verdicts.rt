@@ -38,8 +38,8 @@ const ROWS: &str = "
     94 29 -> 4|refheap: bad entry 1|
     24 02 -> 4|refheap: bad entry 0|
     0 -> 1|refheap: cannot read refheap_history refheap: there is no such file or folder: check the path|
-    json 103 -> 0||{\"legal\":true,\"entries\":2,\"version\":1}
-    json 96 0c -> 3||{\"legal\":false,\"entry\":1,\"entries\":2,\"version\":1,\"why\":\"entry 1 of seat 0, join of mutator 0, answered done before: another answer is due: ok\"}
+    json 103 -> 0||{\"legal\":true,\"entries\":2,\"before\":0,\"version\":1}
+    json 96 0c -> 3||{\"legal\":false,\"entry\":1,\"entries\":2,\"before\":0,\"version\":1,\"why\":\"entry 1 of seat 0, join of mutator 0, answered done before: another answer is due: ok\"}
     json 1 58 -> 4|refheap: bad mark|
 ";
 
