@@ -82,8 +82,18 @@ Ends (Ok done) told = Unit {0}
 abbrev pub IsDone : {K R : Type 0} → Asking K R → Heap K → Event R → Result (Unit {0}) Refusal → Heap K → Type 0
 IsDone asking old event result new = (answer : Answer) × IsEntry asking old event answer new × Ends result answer
 
--- ---- The beginning: the empty heap of the limits, in which mutator 0 joins
+-- ---- The beginning: mutator 0 joins
 
+-- a heap for which this answers, in which the mutator has joined
+abbrev pub HasJoined : {K R : Type 0} → Asking K R → K → Heap K → Type 0
+HasJoined asking keeper heap = IsDone asking (record { keeper = keeper; settles = true }) (Join 0) (Ok tt) heap
+
+-- the join was refused, and left what answers so
+abbrev pub CannotJoin : {K R : Type 0} → Asking K R → K → Refusal → K → Type 0
+CannotJoin asking keeper by left =
+    IsDone asking (record { keeper = keeper; settles = true }) (Join 0) (Err by) (record { keeper = left; settles = true })
+
+-- it has joined the empty heap of the limits
 abbrev pub IsJoined : {R : Type 0} → ℕ → ℕ → ℕ → ℕ → Heap (Kept R) → Type 0
-IsJoined {R} cells sessions resources soft_age heap = (empty : Kept R) × (answer : Answer) × IsEmpty cells sessions resources soft_age 1 empty
-    × IsEntry unrecorded (record { keeper = empty; settles = true }) (Join 0) answer heap
+IsJoined {R} cells sessions resources soft_age heap =
+    (empty : Kept R) × IsEmpty cells sessions resources soft_age 1 empty × HasJoined unrecorded empty heap

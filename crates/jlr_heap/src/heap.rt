@@ -1,13 +1,13 @@
 //! A heap with one mutator, 0, and what each kind of call on it is.
-ghost use Rattle.std.specs.Prelude.{◌≡◌, IfOk, true};
+ghost use Rattle.std.specs.Prelude.{◌≡◌, IfOk, MatchResult, true};
 ghost use Rattle.jlr_event.specs.Events.{ask_of};
-ghost use Rattle.jlr_machine.specs.declared.ask.Answer.{Answer as Told};
 ghost use Rattle.jlr_core.specs.Events.{is_plain};
 ghost use Rattle.jlr_embed.specs.Kinds.{is_faults, is_handle, is_integer, is_names, is_notes, is_stat, is_truth};
 ghost use Rattle.jlr_embed.specs.Kinds.{kind_asked};
-ghost use Rattle.jlr_heap.specs.Entries.{Follows, IsDone, IsEntry, IsJoined, counts, faults, handle};
+ghost use Rattle.jlr_heap.specs.Entries.{CannotJoin, Follows, HasJoined, IsDone, IsEntry, IsJoined, counts, faults, handle};
 ghost use Rattle.jlr_heap.specs.Entries.{handle_or_null, integer, names, notes, truth};
 
+use crate::jobs::Declined;
 use crate::keeper::Keeper;
 use crate::told;
 use jlr_embed::Unrecorded;
@@ -44,22 +44,36 @@ impl<R: Drop> Heap<Unrecorded<R>> {
         ensures { IfOk result (λ heap. IsJoined limits.cells limits.sessions limits.resources limits.soft_age heap) }
     {
         let empty = Unrecorded::new(alloc, limits)?;
-        Ok(Heap::over(empty))
+        match Heap::over(empty) {
+            Ok(heap) => Ok(heap),
+            Err(declined) => {
+                drop(declined);
+                Err(AllocError)
+            }
+        }
     }
 }
 
 impl<K: Keeper> Heap<K> {
     /// A heap for which this answers, in which the mutator has joined.
-    pub fn over(keeper: K) -> Self
-        ensures { (answer : Told)
-            × IsEntry K.asking (record { keeper = keeper; settles = true }) (Event.Join 0) answer result }
+    ///
+    /// # Errors
+    /// Why it cannot join: there is no memory, or too few entry numbers are left. What answers is given back.
+    pub fn over(keeper: K) -> Result<Self, Declined<K>>
+        ensures { MatchResult result (λ heap. HasJoined K.asking keeper heap)
+            (λ declined. CannotJoin K.asking keeper declined.by declined.held) }
     {
         let mut heap = Heap {
             keeper,
             settles: true,
         };
-        let _ = heap.does(Event::Join { mutator: me() });
-        heap
+        match heap.does(Event::Join { mutator: me() }) {
+            Ok(()) => Ok(heap),
+            Err(by) => Err(Declined {
+                by,
+                held: heap.into_keeper(),
+            }),
+        }
     }
 
     /// What answered for it. Its handles are lost.

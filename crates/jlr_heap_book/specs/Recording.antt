@@ -16,7 +16,9 @@ handler_seat h = h.limits.sessions + 1
 module _ {R : Type 0} where
   -- a step of the handler, which handed something over
   abbrev pub HandsOne : History R → History R → Type 0
-  HandsOne old new = (reply : Reply R) × (what : Handed) × BookSteps (handler_seat old) old HandOver reply new × (answer_in reply ≡ Some (answer.Handed what))
+  HandsOne old new =
+      (reply : Reply R) × (what : Handed) × BookSteps (handler_seat old) old HandOver reply new
+      × (answer_in reply ≡ Some (answer.Handed what))
 
   -- or was refused
   abbrev pub CannotHand : History R → History R → Type 0

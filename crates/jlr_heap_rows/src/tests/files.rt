@@ -146,22 +146,46 @@ fn holds(alloc: Global, heap: &mut Files, device: &mut ScriptDevice, row: &str) 
     }
 }
 
-fn first_wrong<'a>(alloc: Global, rows: &'a str) -> Result<Option<&'a str>, AllocError> {
-    let mut device = ScriptDevice::new(scripts(alloc)?, 0);
-    let mut heap: Files = Heap::new(alloc, limits()?)?;
+// The first row that is not as it says.
+fn first_wrong<'a>(
+    alloc: Global,
+    heap: &mut Files,
+    device: &mut ScriptDevice,
+    rows: &'a str,
+) -> Option<&'a str> {
     for row in rows.lines() {
         let row = row.trim();
-        if is_row(row) && !holds(alloc, &mut heap, &mut device, row) {
-            return Ok(Some(row));
+        if is_row(row) && !holds(alloc, heap, device, row) {
+            return Some(row);
         }
     }
-    Ok(None)
+    None
+}
+
+// The same on a heap of its own.
+fn wrong_on<'a>(
+    alloc: Global,
+    device: &mut ScriptDevice,
+    rows: &'a str,
+) -> Result<Option<&'a str>, AllocError> {
+    let mut heap: Files = Heap::new(alloc, limits()?)?;
+    let wrong = first_wrong(alloc, &mut heap, device, rows);
+    drop(heap);
+    Ok(wrong)
+}
+
+// The same with a device of its own.
+fn wrong_in<'a>(alloc: Global, rows: &'a str) -> Result<Option<&'a str>, AllocError> {
+    let mut device = ScriptDevice::new(scripts(alloc)?, 0);
+    let wrong = wrong_on(alloc, &mut device, rows);
+    drop(device);
+    wrong
 }
 
 fn play_all(alloc: Global, lists: &str) -> Result<(), Fail> {
     for list in lists.split(TITLE).skip(1) {
         let (title, rows) = list.split_once('\n').ok_or("a list without rows")?;
-        if let Some(row) = first_wrong(alloc, rows)? {
+        if let Some(row) = wrong_in(alloc, rows)? {
             return Err(Fail::new(format_args!("{title}: {row}")));
         }
     }

@@ -65,20 +65,30 @@ fn first_wrong<'a, K: Keeper<Held = u32>>(
 // The same on a heap of its own, of which no history is kept.
 fn wrong_unrecorded<'a>(alloc: Global, rows: &'a str) -> Result<Option<&'a str>, AllocError> {
     let mut heap: Heap<Unrecorded<u32>> = Heap::new(alloc, limits()?)?;
-    Ok(first_wrong(alloc, &mut heap, rows))
+    let wrong = first_wrong(alloc, &mut heap, rows);
+    drop(heap);
+    Ok(wrong)
 }
 
-// The same on one that leaves a book.
+// A heap that leaves a book.
+fn recorded_heap(alloc: Global) -> Result<Heap<Recorded<u32>>, AllocError> {
+    match Heap::over(Recorded::new(alloc, limits()?)?) {
+        Ok(heap) => Ok(heap),
+        Err(declined) => {
+            drop(declined);
+            Err(AllocError)
+        }
+    }
+}
+
+// The same on such a heap.
 fn wrong_recorded<'a>(alloc: Global, rows: &'a str) -> Result<Option<&'a str>, AllocError> {
-    let recorded: Recorded<u32> = Recorded::new(alloc, limits()?)?;
-    let mut heap = Heap::over(recorded);
+    let mut heap = recorded_heap(alloc)?;
     let wrong = first_wrong(alloc, &mut heap, rows);
     let book = heap.into_keeper().into_book();
-    Ok(wrong.or(if book.last() == 0 {
-        Some("no entry")
-    } else {
-        None
-    }))
+    let is_empty = book.last() == 0;
+    drop(book);
+    Ok(wrong.or(if is_empty { Some("no entry") } else { None }))
 }
 
 /// The rows of all lists are as they say.

@@ -1,4 +1,4 @@
-use Rattle.std.proofs.Common.{Ok, None, subst}
+use Rattle.std.proofs.Common.{None, subst}
 use Rattle.jlr_event.specs.declared.event.Event.TheVariants.{Close, Finish}
 use Rattle.jlr_event.specs.declared.event.Reply.TheVariants.{Answered}
 use Rattle.jlr_heap.specs.Files.{finish_told}
