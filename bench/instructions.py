@@ -39,6 +39,7 @@ KINDS = {
     "poll, of an empty queue": ["poll 1"],
     "stat": ["stat"],
 }
+NAMES = (1, 256)
 
 
 def counted(program, options, lines):
@@ -131,6 +132,10 @@ def main():
     for name, lines in KINDS.items():
         took = total(more(counted(program, LONG, STAGE + lines * 2 * TURNS), counted(program, LONG, STAGE + lines * TURNS)))
         print(f"    {took / TURNS:5.0f}  {name}")
+    for names in NAMES:
+        bound, found = [f"bind n{place} 2" for place in range(names)], [f"find n{names - 1}", "drop 4"]
+        took = total(more(counted(program, LONG, STAGE + bound + found * 2 * TURNS), counted(program, LONG, STAGE + bound + found * TURNS)))
+        print(f"    {took / TURNS:5.0f}  find of the last of {names} names, and drop")
     took = total(more(counted(program, LONG, chain() + ["gc"] * COLLECTIONS), counted(program, LONG, chain())))
     print(f"an object of a chain in a full collection: {took / COLLECTIONS / OBJECTS:.1f}")
     tell_settled("a weak reference that a collection clears, and that is handed over", settled(program, held, ["drop 2"]))

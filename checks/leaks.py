@@ -19,9 +19,9 @@ import threading
 sys.path.insert(0, os.path.join(os.path.dirname(os.path.abspath(__file__)), "..", "examples"))
 from refheap import Server  # noqa: E402
 
-CALLS = "open,openat,socket,accept,accept4,dup,fcntl,close,read,write,recvfrom,sendto,fsync,shutdown,connect"
-GIVES = {"open", "openat", "socket", "accept", "accept4", "dup", "copy"}
-LINE = re.compile(r"^(\d+) +(?:<\.\.\. )?([a-z0-9]+)(?:\((\d+)?| resumed>)(.*)$")
+CALLS = "open,openat,socket,accept,accept4,dup,fcntl,epoll_create1,eventfd2,close,read,write,recvfrom,sendto,fsync,shutdown,connect"
+GIVES = {"open", "openat", "socket", "accept", "accept4", "dup", "copy", "epoll_create1", "eventfd2"}
+LINE = re.compile(r"^(\d+) +(?:<\.\.\. )?([a-z0-9_]+)(?:\((\d+)?| resumed>)(.*)$")
 RESULT = re.compile(r"= (-?\d+)(?: E[A-Z]+ .*)?$")
 
 

@@ -34,7 +34,7 @@ SHELL = {"refheap", "rt", "python3", "cd", "perf", "taskset", "time", "ulimit", 
 REPLIES = {"ok", "yes", "no", "int", "data", "end", "wrote", "list", "fault", "stat", "served", "entries", "legal", "illegal", "action:name"}
 # What is the kit's, or the system's: no name of the repository.
 FOREIGN = {"java.lang.ref", "clone", "drop", "remove", "pub use", "std::io::Read", "Debug", "match", "format!", "assert_eq!", "main", "let _ =", "#[test]", "out/", "fsync", "rt",
-           "*.Lts.oantt", "*.Proof.oantt", "records/*.Proof.decls.oantt", "out/incremental", "FILE.new0", ".new99", "strace", "valgrind", "ReadFault", "rustc", "cc",
+           "*.Lts.oantt", "*.Proof.oantt", "records/*.Proof.decls.oantt", "out/incremental", ".refheap-new0", ".refheap-new99", "strace", "valgrind", "ReadFault", "rustc", "cc",
            "bash", "--jobs 1", "_", "crates/refheap/out/refheap", "NAME", "PATH", "FILE", "Module.name", "-", "-0", "logic dac8208d650f15bf"}
 # Behind this heading a table's first column names what the plan called so, and is not there.
 PLAN = "## Calls of the plan under another name"

@@ -159,6 +159,11 @@ def is_legal(program, file):
     return verdict.returncode == 0 and verdict.stdout.startswith(b"legal ")
 
 
+# A client that cannot be watched is let go, and counted.
+LET_GO = ["refheap: 1 of the accepts failed"]
+ACCEPT = "in its accept"
+
+
 def check_unserved(ended):
     """Checks the end of a server that had no client."""
     ended.check(ended.out == [], "no client was served")
@@ -176,8 +181,8 @@ def check_closed(program, ended, folder):
     saved = os.path.join(folder, "saved")
     if ended.status == 0:
         ended.check(len(ended.out) == 2 and ended.out[0] == "served 1" and ended.out[1].startswith("entries "), "the lines at the end")
-        ended.check(ended.errors == [] and is_legal(program, saved), "the close")
-        return None
+        ended.check(ended.errors in ([], LET_GO) and is_legal(program, saved), "the close")
+        return ACCEPT if ended.errors else None
     ended.check(ended.status == 5 and ended.errors == ["refheap: no memory"], "a close without memory")
     if ended.out == []:
         ended.check(is_legal(program, saved), "what is saved where the lines are refused")
@@ -205,7 +210,7 @@ def served(program, library, session, number):
             place = check_unserved(ended)
         else:
             place = check_closed(program, ended, folder) or place
-            ended.check((place == GONE) == ("entries 0" in ended.out), "a session that ended at once")
+            ended.check((place in (GONE, ACCEPT)) == ("entries 0" in ended.out), "a session that ended at once")
         ended.check(not os.path.exists(path), "the socket is left")
         ended.check(ended.was_refused or place == ELSEWHERE, "with ample memory")
         return place if ended.was_refused else None

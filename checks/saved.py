@@ -4,17 +4,20 @@
     checks/saved.py [PROGRAM] [SESSIONS] [SEED]
 
 SESSIONS is 1,000 where nothing is said. A saved history is `legal N version 2`, N its entries. A changed one is legal, illegal or damaged, with status 0, 3 or 4, and no
-crash; how often which is printed. Then saves that have to fail, those over what stands there, and those of servers.
+crash; how often which is printed. Before, saves that have to fail, those over what stands there and at places of every kind, and those of servers.
 """
 import collections
 import os
 import random
+import resource
+import signal
 import socket
 import stat
 import struct
 import subprocess
 import sys
 import tempfile
+import threading
 import time
 
 import refused
@@ -258,7 +261,7 @@ def is_saved(program, folder, name):
 MISSING = "refheap: there is no such file or folder: check the path\n"
 FOLDER = "refheap: it is a folder: name a file\n"
 NO_ROOM = "refheap: no room is left: make room, or name another place\n"
-NO_NAME = "refheap: all names from .new0 to .new99 beside it are taken: remove them\n"
+NO_NAME = "refheap: all names from .refheap-new0 to .refheap-new99 beside it are taken: remove them\n"
 DENIED = "refheap: permission is denied: check the rights of the file and of its folder\n"
 
 
@@ -292,11 +295,11 @@ def try_places(program):
         with open(there("other"), "wb") as file:
             file.write(b"kept")
         for number in range(100):
-            os.link(there("other"), there(f"busy.new{number}"))
+            os.link(there("other"), there(f".refheap-new{number}"))
         wants("no save where all names for a new file are taken", save(folder, "busy"), (1, "", f"refheap: cannot save busy\n{NO_NAME}"))
         wants("what has those names stays", open(there("other"), "rb").read(), b"kept")
         for number in range(100):
-            os.remove(there(f"busy.new{number}"))
+            os.remove(there(f".refheap-new{number}"))
         wants("no new file is left", sorted(os.listdir(folder)), ["dangling", "directory", "link", "other", "saved"])
         wants("a session that fails is saved too", run(program, ["run", "--cells", "16", "--save", "failed"], "new -", folder)[::2], (4, "refheap: unfinished line\n"))
         wants("and is legal", audit(program, "failed", folder)[:2], (0, "legal 2 version 2\n"))
@@ -304,6 +307,232 @@ def try_places(program):
             os.chmod(folder, 0o500)
             wants("no save in a folder that is only read", save(folder, "saved"), (1, "", f"refheap: cannot save saved\n{DENIED}"))
             os.chmod(folder, 0o700)
+
+
+def saves(program, folder, path, before=None, **how):
+    """A session of one command that is saved: its status, and what it wrote."""
+    how = {"stdout": subprocess.PIPE, "stderr": subprocess.PIPE, "timeout": 60, **how}
+    words = [program, "run", "--cells", "16", "--save", path]
+    done = subprocess.run(words, input=b"new -\n", cwd=folder, preexec_fn=before, **how)
+    return done.returncode, done.stdout, done.stderr
+
+
+def cannot_save(name, got, path, reply=b"= 1\n"):
+    """A save that cannot be is told in the first line of the standard error, and why in the second."""
+    status, out, said = got
+    begins = said.startswith(f"refheap: cannot save {path}\nrefheap: ".encode())
+    wants(name, (status, out, begins, said.count(b"\n")), (1, reply, True, 2))
+
+
+def is_history(program, folder, data):
+    with open(os.path.join(folder, "tail"), "wb") as file:
+        file.write(data)
+    return is_saved(program, folder, "tail")
+
+
+def contents(path):
+    with open(path, "rb") as file:
+        return file.read()
+
+
+class Watch(threading.Thread):
+    """Looks again and again at those files of a folder whose names are not known: with which rights they are seen."""
+
+    def __init__(self, folder, known):
+        super().__init__()
+        self.folder, self.known, self.seen, self.ended = folder, known, set(), False
+
+    def run(self):
+        while not self.ended:
+            for name in os.listdir(self.folder):
+                if name not in self.known:
+                    try:
+                        self.seen.add(stat.S_IMODE(os.lstat(os.path.join(self.folder, name)).st_mode))
+                    except FileNotFoundError:
+                        pass
+
+    def __enter__(self):
+        self.start()
+        return self
+
+    def __exit__(self, *_):
+        self.ended = True
+        self.join()
+
+
+def short_files():
+    """At most 64 bytes go into a file, and a write of more is a fault."""
+    signal.signal(signal.SIGXFSZ, signal.SIG_IGN)
+    resource.setrlimit(resource.RLIMIT_FSIZE, (64, 64))
+
+
+def try_rights(program):
+    """A new file has its rights before its first byte, and a save that fails leaves what stood there, and no file."""
+    with tempfile.TemporaryDirectory() as folder:
+        there = lambda name: os.path.join(folder, name)
+        mode = lambda name: stat.S_IMODE(os.stat(there(name)).st_mode)
+        wants("a save where the umask is 027", saves(program, folder, "new", umask=0o027), (0, b"= 1\n", b""))
+        wants("has the rights that it leaves", mode("new"), 0o640)
+        for rights in 0o600, 0o400, 0o666:
+            with open(there("kept"), "wb") as file:
+                file.write(b"kept")
+            os.chmod(there("kept"), rights)
+            with Watch(folder, ["new", "kept"]) as watch:
+                ended = {saves(program, folder, "kept", umask=0) for _ in range(20)}
+            wants(f"20 saves over a file of mode {rights:o}", ended, {(0, b"= 1\n", b"")})
+            wants("it is legal", is_saved(program, folder, "kept"), True)
+            wants("it has that mode", mode("kept"), rights)
+            wants("no new file was open to more", [seen for seen in watch.seen if seen & ~(rights | 0o600)], [])
+            os.remove(there("kept"))
+        with open(there("kept"), "wb") as file:
+            file.write(b"kept")
+        cannot_save("a save that fails halfway", saves(program, folder, "kept", short_files), "kept")
+        wants("leaves what stood there", contents(there("kept")), b"kept")
+        cannot_save("a first save that fails halfway", saves(program, folder, "none", short_files), "none")
+        wants("and no file", sorted(os.listdir(folder)), ["kept", "new"])
+
+
+def try_names(program):
+    """The longest names, folders whose names are no UTF-8, and chains of links."""
+    with tempfile.TemporaryDirectory() as folder:
+        long = "n" * 255
+        for which in "a first", "a second":
+            wants(f"{which} save to a name of 255 bytes", saves(program, folder, long), (0, b"= 1\n", b""))
+            wants("is legal", is_saved(program, folder, long), True)
+        cannot_save("no save to a name of 256 bytes", saves(program, folder, "n" * 256), "n" * 256, b"")
+        wants("no other file is left", os.listdir(folder), [long])
+    with tempfile.TemporaryDirectory() as folder:
+        inner = os.path.join(os.fsencode(folder), b"\xff\xfe")
+        os.makedirs(os.path.join(inner, b"below"))
+        os.symlink("below/file", os.path.join(inner, b"link"))
+        for path in "saved", "below/saved", "./saved", "below/../saved":
+            for which in "a first", "a second":
+                wants(f"{which} save to {path} in a folder of no UTF-8", saves(program, inner, path), (0, b"= 1\n", b""))
+        with open(os.path.join(inner, b"below/file"), "wb") as file:
+            file.write(b"old")
+        wants("a save there through a link", saves(program, inner, "link"), (0, b"= 1\n", b""))
+        for path in b"saved", b"below/saved", b"link":
+            wants(f"{path} is legal", is_history(program, folder, contents(os.path.join(inner, path))), True)
+        wants("no other file is left", sorted(os.listdir(inner)), [b"below", b"link", b"saved"])
+        wants("nor below", sorted(os.listdir(os.path.join(inner, b"below"))), [b"file", b"saved"])
+
+
+def try_links(program):
+    """Links to links are followed, each from its own folder, up to 40."""
+    with tempfile.TemporaryDirectory() as folder:
+        there = lambda name: os.path.join(folder, name)
+        os.makedirs(there("a/b"))
+        with open(there("a/file"), "wb") as file:
+            file.write(b"old")
+        os.symlink("a/b/second", there("first"))
+        os.symlink("../third", there("a/b/second"))
+        os.symlink(there("a/file"), there("a/third"))
+        wants("a save through three links", saves(program, folder, "first"), (0, b"= 1\n", b""))
+        wants("its file is new", is_saved(program, folder, "a/file"), True)
+        links = [name for name in ("first", "a/b/second", "a/third") if os.path.islink(there(name))]
+        wants("the links stay", links, ["first", "a/b/second", "a/third"])
+        os.symlink("a/file", there("link1"))
+        for number in range(2, 42):
+            os.symlink(f"link{number - 1}", there(f"link{number}"))
+        os.truncate(there("a/file"), 0)
+        wants("a save through 40 links", saves(program, folder, "link40"), (0, b"= 1\n", b""))
+        wants("its file is new too", is_saved(program, folder, "a/file"), True)
+        os.symlink("round", there("round"))
+        for path in "link41", "round":
+            cannot_save(f"no save through {path}", saves(program, folder, path), path, b"")
+        wants("no new file is left", sorted(os.listdir(there("a"))), ["b", "file", "third"])
+        wants("nor above", [name for name in os.listdir(folder) if "new" in name], [])
+
+
+def try_descriptors(program):
+    """Paths of open descriptors: a pipe gets the bytes, and a file gets them behind its own."""
+    with tempfile.TemporaryDirectory() as folder:
+        out = os.path.join(folder, "out")
+        for link, leads in ("link", "/dev/stdout"), ("far", "link"), ("own", "/proc/self/fd/1"):
+            os.symlink(leads, os.path.join(folder, link))
+        for path in "/dev/stdout", "/dev/fd/1", "/proc/self/fd/1", "/proc/thread-self/fd/1", "link", "far", "own":
+            for mode in "wb", "ab":
+                before = contents(out) if mode == "ab" else b""
+                with open(out, mode) as file:
+                    number = os.fstat(file.fileno()).st_ino
+                    told = saves(program, folder, path, stdout=file)
+                wants(f"a save to {path}, a file that is open to {mode}", told, (0, None, b""))
+                data = contents(out)
+                wants("it is the same file", os.stat(out).st_ino, number)
+                wants("the reply comes after what stood there", data[:len(before) + 4], before + b"= 1\n")
+                wants("then the history", is_history(program, folder, data[len(before) + 4:]), True)
+            status, data, said = saves(program, folder, path)
+            wants(f"a save to {path}, a pipe", (status, data[:4], said), (0, b"= 1\n", b""))
+            wants("the history comes after the reply", is_history(program, folder, data[4:]), True)
+        with open(out, "wb") as file:
+            told = saves(program, folder, "/dev/stderr", stderr=file)
+        wants("a save to /dev/stderr, a file", told, (0, b"= 1\n", None))
+        wants("it has the history", is_history(program, folder, contents(out)), True)
+        with open(out, "wb") as file:
+            file.write(b"front")
+            file.flush()
+            for path in f"/dev/fd/{file.fileno()}", f"/proc/self/fd/{file.fileno()}":
+                os.truncate(out, 5)
+                told = saves(program, folder, path, pass_fds=[file.fileno()])
+                wants(f"a save to {path}, a file", told, (0, b"= 1\n", b""))
+                wants("what stood there stays", contents(out)[:5], b"front")
+                wants("then comes the history", is_history(program, folder, contents(out)[5:]), True)
+        cannot_save("no save to a descriptor that is not open", saves(program, folder, "/dev/fd/77"), "/dev/fd/77", b"")
+        wants("no new file is left", sorted(os.listdir(folder)), ["far", "link", "out", "own", "tail"])
+    if os.path.isdir("/dev/shm"):
+        with tempfile.TemporaryDirectory(dir="/dev/shm") as folder:
+            path = os.path.join(folder, "saved")
+            for which in "a first", "a second":
+                wants(f"{which} save to shared memory", saves(program, folder, path), (0, b"= 1\n", b""))
+                wants("is legal, and alone", (is_saved(program, folder, path), os.listdir(folder)), (True, ["saved"]))
+
+
+def try_pipes(program):
+    """A FIFO: with a reader all bytes arrive, and at the start it is left alone; without one nothing waits."""
+    with tempfile.TemporaryDirectory() as folder:
+        there = lambda name: os.path.join(folder, name)
+        os.mkfifo(there("fifo"))
+        os.symlink("fifo", there("link"))
+        for path in "fifo", "link":
+            cannot_save(f"no save to a {path} that nobody reads", saves(program, folder, path), path)
+            with open(there("read"), "wb") as file:
+                reader = subprocess.Popen(["cat", there("fifo")], stdout=file)
+            words, pipe = [program, "run", "--cells", "16", "--save", path], subprocess.PIPE
+            session = subprocess.Popen(words, cwd=folder, stdin=pipe, stdout=pipe, stderr=pipe)
+            session.stdin.write(b"new -\n")
+            session.stdin.flush()
+            wants("a session that a FIFO waits for", session.stdout.readline(), b"= 1\n")
+            time.sleep(0.2)
+            wants("its reader still waits", reader.poll(), None)
+            wants("it is saved", (*session.communicate(timeout=60), session.returncode), (b"", b"", 0))
+            wants("and read", (reader.wait(timeout=60), is_saved(program, folder, "read")), (0, True))
+        wants("no new file is left", sorted(os.listdir(folder)), ["fifo", "link", "read"])
+        lines = b"new rrrrrrrr\ndrop 1\n" * 4_500
+        with open(there("read"), "wb") as file:
+            reader = subprocess.Popen(["cat", there("fifo")], stdout=file)
+        words = [program, "run", "--cells", "16", "--trace", "10000", "--save", "fifo"]
+        done = subprocess.run(words, input=lines, capture_output=True, cwd=folder, timeout=60)
+        wants("a history longer than a pipe", (done.returncode, done.stderr, reader.wait(timeout=60)), (0, b"", 0))
+        wants("is read whole", audit(program, "read", folder)[0], 0)
+        wants("and was longer", os.path.getsize(there("read")) > 65_536, True)
+
+
+def try_mounts(program):
+    """A file on which another is mounted cannot be replaced, and stays."""
+    with tempfile.TemporaryDirectory() as folder:
+        there = lambda name: os.path.join(folder, name)
+        for name in "below", "above":
+            with open(there(name), "wb") as file:
+                file.write(name.encode())
+        if subprocess.run(["mount", "--bind", there("above"), there("below")], stderr=subprocess.DEVNULL).returncode:
+            print("left    a file on which another is mounted: nothing can be mounted here")
+            return
+        try:
+            cannot_save("no save to a file on which another is mounted", saves(program, folder, "below"), "below")
+            wants("it stays", contents(there("below")), b"above")
+            wants("no new file is left", sorted(os.listdir(folder)), ["above", "below"])
+        finally:
+            subprocess.run(["umount", there("below")], check=True)
 
 
 def said_by(stream, lines):
@@ -328,7 +557,7 @@ def serve(program, folder, words):
             with client.makefile("rwb") as stream:
                 said_by(stream, lines)
     out, said = server.communicate(timeout=60)
-    return server.returncode, out.decode(), said.decode()
+    return server.returncode, out.decode(errors="surrogateescape"), said.decode()
 
 
 def try_servers(program):
@@ -339,6 +568,13 @@ def try_servers(program):
             entries = out.split()[-1] if out else ""
             wants(f"a server {words} ends well", (status, out, said), (0, f"served 2\nentries {entries}\n", ""))
             wants("its history is saved and legal", audit(program, "saved", folder), (0, f"legal {entries} version 2\n", ""))
+        status, out, said = serve(program, folder, ["--save", "/dev/stdout"])
+        first, second, data = out.split("\n", 2)
+        wants("a server whose history goes to its output ends well", (status, first, said), (0, "served 2", ""))
+        with open(os.path.join(folder, "tail"), "wb") as file:
+            file.write(data.encode(errors="surrogateescape"))
+        legal = f"legal {second.split()[-1]} version 2\n"
+        wants("the history comes after its lines, and is legal", audit(program, "tail", folder), (0, legal, ""))
         wants("a server that cannot save does not begin", run(program, ["serve", "--socket", "socket", "--total", "2", "--save", "none/saved"], "", folder),
               (1, "", f"refheap: cannot save none/saved\n{MISSING}"))
 
@@ -349,6 +585,12 @@ def main():
     seed = sys.argv[3] if len(sys.argv) > 3 else "1"
     try:
         try_places(program)
+        try_rights(program)
+        try_names(program)
+        try_links(program)
+        try_descriptors(program)
+        try_pipes(program)
+        try_mounts(program)
         try_servers(program)
         try_worked(program)
         try_fronts(program, seed)

@@ -2,7 +2,7 @@
 """Loads a server: many clients of random commands with files and sockets, clients that go at any moment, collections beside them; then many sessions one
 after the other. The server ends by itself with status 0, no descriptor stays open, its memory stays flat, and its history has at least the asks that clients
 counted. Before, each seat notes a whole trace, so that what follows finds all the room that it needs. Then clients whose entries can be told from outside:
-the history has exactly as many. Then a server under `strace`: no descriptor is closed twice.
+the history has as many, and those of cycles that are due once a session has left with resources open. Then a server under `strace`: no descriptor is closed twice.
 
     checks/serve.py PROGRAM [--clients N] [--seconds N] [--sessions N]
 
@@ -23,6 +23,10 @@ from refheap import Client, Fault, Refused, Server  # noqa: E402
 
 SESSIONS_A_SECOND = 500
 TRACE = 1000
+# Descriptors of a client: what it sends, where its replies go, and the connection that is watched.
+OF_A_CLIENT = 3
+# Entries of a cycle that is due since a session left with resources open: its beginning and its collection.
+OF_A_CYCLE = 2
 
 
 class Tally:
@@ -212,7 +216,7 @@ def load(program, clients, seconds, sessions):
     print(f"status {status}, served {served}, entries {entries}, at least {tally.asks} by clients; wrong replies {tally.wrong}")
     return all([
         say("each command of each session was answered", tally.wrong == 0),
-        say("all that was lost was closed, and no descriptor is left", open_now == 0 and taken == well + failed and at_end == at_start + 2),
+        say("all that was lost was closed, and no descriptor is left", open_now == 0 and taken == well + failed and at_end == at_start + OF_A_CLIENT),
         say("the memory is flat", last_memory <= early * 1.1),
         say("the server ended by itself, after all sessions", status == 0 and served == total),
         say("the history has no fewer entries than clients asked for", entries >= tally.asks),
@@ -339,7 +343,9 @@ def counted(program, clients, rounds):
     shutil.rmtree(folder)
     wanted = sum(one.entries for one in sessions) + 2 + asked
     print(f"entries {entries}, clients and loops made {wanted}; {sum(one.cleaned for one in sessions)} things were lost, {taken} actions taken up")
-    return say("the history has exactly the entries that were made", status == 0 and entries == wanted and taken == well)
+    cycles = entries - wanted
+    exact = 0 <= cycles <= OF_A_CYCLE * (clients + 1)
+    return say("the history has the entries that were made, and those of cycles that leaves brought", status == 0 and exact and taken == well)
 
 
 def closed_once(program):

@@ -193,7 +193,7 @@ gc soft
 poll 1
 cleaner
 open w file
-drop 4
+drop 6
 gc
 close 9
 array 3
@@ -207,7 +207,7 @@ def figures(program, folder):
     wants("figures as JSON", (status, said), (0, ""))
     told = json.loads(text)
     entries = json.loads(run(program, ["audit", "--json", "history"], folder=folder)[1])
-    wants("the verdict as JSON", entries, {"legal": True, "entries": told["entries"], "version": 2})
+    wants("the verdict as JSON", entries, {"legal": True, "entries": told["entries"], "before": 0, "version": 2})
     asks = told["asks"]["0"]
     wants("asks", (asks["queue"], asks["gc"], asks["gc soft"], asks["poll"], asks["array"], asks["all"] >= 16), (1, 2, 1, 1, 1, True))
     wants("all asks", sum(seat["all"] for seat in told["asks"].values()), told["entries"])
