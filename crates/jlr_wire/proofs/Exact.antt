@@ -161,6 +161,3 @@ read_is_command line c short e = record {
 
 pub command_is_read : (line : List ℕ) (c : Command) → IsCommand line c → reading (slice_split is_space line) ≡ Some c
 command_is_read line c h = ap reading (parts_are line c h).0 ∙ complete c h.fields h.each
-
-pub many_no_command : (line : List ℕ) (c : Command) → 4 < length (slice_split is_space line) → IsCommand line c → ⊥
-many_no_command line c many h = let p = parts_are line c h in omega (arith, many, p.1, ap length p.0)

@@ -11,7 +11,7 @@ use Rattle.itoa.proofs.Decimal.{decimal_two}
 use Rattle.std.proofs.lemmas.Option.{cond_some, none-some}
 use Rattle.std.proofs.lemmas.Bool.{ltb-true, lt-ltb}
 use Rattle.jlr_wire.proofs.Options.{and_parts}
-use Rattle.jlr_wire.specs.Fields.{number_below, byte_of, field_of, note_of}
+use Rattle.jlr_wire.specs.Fields.{number_below, byte_of, note_of}
 
 pub number_below_decimal : (limit n : ℕ) → limit ≤ 2 ^ 64 → n < limit → number_below limit (decimal n) ≡ Some n
 unfolding number_below

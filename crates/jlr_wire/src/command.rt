@@ -1,12 +1,12 @@
 //! Commands out of lines.
 ghost use Rattle.jlr_wire.specs.declared.command.Command.{Command};
 ghost use Rattle.jlr_types.specs.declared.Refusal.TheVariants.{TooLong, Malformed};
-ghost use Rattle.std.specs.Prelude.{if◌then◌else◌, nat_lt, Ok, ◌≡◌, ◌<◌, ◌↔◌, IfErr, MatchOption, length};
+ghost use Rattle.std.specs.Prelude.{if◌then◌else◌, nat_lt, Ok, ◌≡◌, ◌<◌, ◌↔◌, IfErr, length};
 ghost use Rattle.std.specs.List.{slice_split};
 ghost use Rattle.std.specs.Str.{bytes_eq};
 ghost use Rattle.jlr_wire.specs.Reading.{with_number, with_two_numbers, reading_1, reading_2, reading_3, reading_4, reading};
 ghost use Rattle.jlr_wire.specs.Commands.{IsCommand};
-ghost use Rattle.jlr_wire.specs.Fields.{is_space, texts};
+ghost use Rattle.jlr_wire.specs.Fields.{is_space};
 
 use crate::cut::cut_at;
 use crate::integer::integer;
@@ -16,7 +16,6 @@ use crate::path::Path;
 use crate::pieces::LINE_LIMIT;
 pub use crate::word::Digits;
 use crate::word::{mode, name};
-use arrayvec::ArrayVec;
 use jlr_device::Mode;
 use jlr_machine::ask::FullMode;
 use jlr_machine::text::Name;
@@ -176,27 +175,6 @@ pub enum Command<'a> {
     Array {
         length: Length,
     },
-}
-
-/// The most fields of a command, its name among them.
-const FIELD_LIMIT: usize = 4;
-
-/// The fields of a line, if there are at most four.
-fn fields_of<'a>(line: &'a [u8]) -> Option<ArrayVec<&'a [u8], FIELD_LIMIT>>
-    ensures { MatchOption result (4 < length (slice_split is_space line.now))
-        (λ fields. texts fields.items ≡ slice_split is_space line.now) }
-{
-    let mut fields = ArrayVec::new();
-    let mut rest = line;
-    for _ in 0..FIELD_LIMIT {
-        let Some((field, more)) = cut_at(rest, b' ') else {
-            fields.push(rest);
-            return Some(fields);
-        };
-        fields.push(field);
-        rest = more;
-    }
-    None
 }
 
 /// Whether a field is this word. Most are told apart by their lengths.
@@ -423,17 +401,22 @@ fn four_fields<'a>(word: &[u8], a: &[u8], b: &[u8], c: &[u8]) -> Option<Command<
     None
 }
 
-/// The command that these fields are.
-#[tactic(auto, unfolding(crate::specs::Reading::reading))]
-fn command_of<'a>(fields: &[&'a [u8]]) -> Option<Command<'a>>
-    ensures { result ≡ reading (texts fields.now) }
+/// The command that the fields of a line are. A space parts two fields.
+fn command_in<'a>(line: &'a [u8]) -> Option<Command<'a>>
+    ensures { result ≡ reading (slice_split is_space line.now) }
 {
-    match fields {
-        [word] => one_field(word),
-        [word, a] => two_fields(word, a),
-        [word, a, b] => three_fields(word, a, b),
-        [word, a, b, c] => four_fields(word, a, b, c),
-        _ => None,
+    let Some((word, rest)) = cut_at(line, b' ') else {
+        return one_field(line);
+    };
+    let Some((a, rest)) = cut_at(rest, b' ') else {
+        return two_fields(word, rest);
+    };
+    let Some((b, rest)) = cut_at(rest, b' ') else {
+        return three_fields(word, a, rest);
+    };
+    match cut_at(rest, b' ') {
+        Some(_) => None,
+        None => four_fields(word, a, b, rest),
     }
 }
 
@@ -448,10 +431,7 @@ pub fn read_command<'a>(line: &'a [u8]) -> Result<Command<'a>, Refusal>
     if line.len() > LINE_LIMIT {
         return Err(Refusal::TooLong);
     }
-    let Some(fields) = fields_of(line) else {
-        return Err(Refusal::Malformed);
-    };
-    match command_of(fields.as_slice()) {
+    match command_in(line) {
         Some(command) => Ok(command),
         None => Err(Refusal::Malformed),
     }

@@ -1,25 +1,22 @@
 use Rattle.std.proofs.Common.{◌≡◌, Some, None, Ok, sym, ◌∙◌, ap}
 use Rattle.std.specs.List.{slice_split}
 use Rattle.std.proofs.lemmas.Option.{same_Some, none-some}
-use Rattle.jlr_wire.specs.Fields.{is_space, texts}
+use Rattle.jlr_wire.specs.Fields.{is_space}
 use Rattle.jlr_wire.specs.Reading.{reading}
-use Rattle.jlr_wire.proofs.Exact.{read_is_command, command_is_read, many_no_command}
+use Rattle.jlr_wire.proofs.Exact.{read_is_command, command_is_read}
 use Rattle.jlr_wire.proofs.command.read_command.Goals as goal
 
-pub returns-in_default-clause-exact : goal.returns-in_default-clause-exact
-returns-in_default-clause-exact c = λ k. (λ e. absurd cc, λ h. absurd (many_no_command c.args.line.now k c.in_default.ensures h))
-
-pub returns-in-Some-command_of-clause-exact : goal.returns-in-Some-command_of-clause-exact
-returns-in-Some-command_of-clause-exact c =
-    let read : Some c.in-Some-command_of.command ≡ reading (slice_split is_space c.args.line.now) =
-    sym c.in-Some-command_of.is ∙ c.command_of.ensures ∙ ap (λ xs. reading (texts xs)) c.as_slice.ensures.value ∙ ap reading c.in-Some.ensures in
+pub returns-in-Some-clause-exact : goal.returns-in-Some-clause-exact
+returns-in-Some-clause-exact c =
+    let read : Some c.in-Some.command ≡ reading (slice_split is_space c.args.line.now) =
+    sym c.in-Some.is ∙ c.command_in.ensures in
     λ k. (
-      λ e. read_is_command c.args.line.now k c.if-line-gt-LINE_LIMIT.false (sym read ∙ (let same : c.in-Some-command_of.command ≡ k = cc in ap Some same)),
+      λ e. read_is_command c.args.line.now k c.if-line-gt-LINE_LIMIT.false (sym read ∙ (let same : c.in-Some.command ≡ k = cc in ap Some same)),
       λ h. let same = same_Some _ _ (read ∙ command_is_read c.args.line.now k h) in ap Ok same,
     )
 
 pub returns-in-None-clause-exact : goal.returns-in-None-clause-exact
 returns-in-None-clause-exact c =
     let read : None ≡ reading (slice_split is_space c.args.line.now) =
-    sym c.in-None.is ∙ c.command_of.ensures ∙ ap (λ xs. reading (texts xs)) c.as_slice.ensures.value ∙ ap reading c.in-Some.ensures in
+    sym c.in-None.is ∙ c.command_in.ensures in
     λ k. (λ e. absurd cc, λ h. absurd (none-some k (read ∙ command_is_read c.args.line.now k h)))
