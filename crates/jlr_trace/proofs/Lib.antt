@@ -2,7 +2,9 @@ pub mod EntriesLoop
 pub mod FileLaws
 pub mod Shapes
 pub mod Counting
-pub mod SpellingLaws
 pub mod ToEnd
+pub mod Stillness
+pub mod Windows
+pub mod StreamLaws
 pub mod VersionLaws
 pub mod FaultLaws

@@ -2,5 +2,5 @@ pub mod Files
 pub mod ToEnd
 pub mod Versions
 pub mod Writing
-pub mod Spellings
 pub mod Faults
+pub mod Streams

@@ -2,5 +2,6 @@
 #![tactic(auto)]
 
 pub mod file;
-pub mod spelled;
+pub mod streamed;
+pub mod window;
 pub mod writing;

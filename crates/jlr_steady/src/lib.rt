@@ -1,0 +1,4 @@
+//! What is read from a beginning of the bytes is read from all of them: so a file is read as it comes.
+#![tactic(auto)]
+
+pub mod laws;

@@ -1,0 +1,6 @@
+use Rattle.std.specs.Io.KnownBytes.{Keeps}
+use Rattle.jlr_trace.specs.Streams.{known}
+use Rattle.jlr_trace.proofs.streamed.next_heading.Given as goal
+
+abbrev pub invariant-loop : goal.invariant-loop
+invariant-loop g l = Keeps (known l.fn.window) (known l.window)
