@@ -162,6 +162,12 @@ def servers(checks):
                 (1, f"refheap: cannot listen on {far}\n".encode() + TOO_LONG))
 
 
+# The head of a history with one entry, which tells 67,108,864 notes.
+LARGE_ENTRY = bytes.fromhex(
+    "4a4c5254 02 00000010 01 0010 0000000000000000 00000000 00" + "00000000" * 7 + "0000000000000001" + "00" * 24 + "0000000000000001" + "00 2200 08 04000000"
+)
+
+
 def audits(checks):
     checks.said("the audit of a directory", checks.run(["audit", "inner"]), (1, b"", b"refheap: cannot read inner\n" + FOLDER))
     checks.said("the audit of what is not there", checks.run(["audit", "none"]), (1, b"", b"refheap: cannot read none\n" + MISSING))
@@ -170,10 +176,15 @@ def audits(checks):
     writer = subprocess.Popen(["sh", "-c", f"cat {checks.path('history')} > {checks.path('fifo')}"])
     checks.said("the audit of a FIFO", checks.run(["audit", "fifo"]), (0, b"legal 3 version 2\n", b""))
     writer.wait()
-    with open(checks.path("large"), "wb") as file:
-        file.write(open(checks.path("history"), "rb").read()[:8])
-        file.truncate(300_000_000)
-    checks.said("the audit of a file that memory does not hold", checks.run(["audit", "large"], "", limited(resource.RLIMIT_AS, 60_000_000)), (5, b"", NO_MEMORY[1]))
+    history = open(checks.path("history"), "rb").read()
+    for name, front, due in (
+        ("the audit of a large file in little memory", history[:8], (4, b"", b"refheap: bad entry 0\n")),
+        ("the audit of an entry that memory does not hold", LARGE_ENTRY, (5, b"", NO_MEMORY[1])),
+    ):
+        with open(checks.path("large"), "wb") as file:
+            file.write(front)
+            file.truncate(300_000_000)
+        checks.said(name, checks.run(["audit", "large"], "", limited(resource.RLIMIT_AS, 60_000_000)), due)
 
 
 def signals(checks):

@@ -4,4 +4,5 @@ mod copies;
 mod older;
 mod player;
 mod reading;
+mod streams;
 mod verdicts;

@@ -1,8 +1,10 @@
 -- What the audit of bytes comes to.
-use Rattle.std.specs.Prelude.{◌≡◌, ℕ, List, length, alloc_error}
+use Rattle.std.specs.Prelude.{◌≡◌, ◌⊎◌, ℕ, List, Option, Some, None, length, alloc_error}
 use Rattle.jlr_trace.specs.declared.file.TraceFile.{TraceFile}
 use Rattle.jlr_trace.specs.declared.file.TraceFault.{TraceFault}
 use Rattle.jlr_trace.specs.declared.file.TraceFault.TheVariants.{Truncated, BadMark, BadVersion, BadEntry, NoMemory}
+use Rattle.jlr_trace.specs.declared.window.StreamFault.{StreamFault}
+use Rattle.jlr_trace.specs.declared.window.StreamFault.TheVariants.{Unread, Damaged}
 use Rattle.jlr_trace.specs.Files.{HasSpelling, file_text, spelled_file, file_read, FileFails}
 use Rattle.jlr_audit.specs.Verdicts.{IsFileVerdict}
 use Rattle.jlr_commands.specs.declared.audit.Judged.{Judged}
@@ -30,3 +32,24 @@ damage NoMemory = program.NoMemory alloc_error
 -- the fault is the first one of the bytes, or that memory ran out
 abbrev pub IsDamage : List ℕ → ProgramFault → Type 0
 IsDamage bytes fault = (first : TraceFault) × FileFails first (file_read bytes) × (fault ≡ damage first)
+
+-- a read failed, or there was no memory
+abbrev pub IsUnread : ProgramFault → Type 0
+IsUnread (program.CannotRead place) = Unit {0}
+IsUnread (program.NoMemory error) = Unit {0}
+IsUnread _ = ⊥
+
+-- what a fault of a stream is to the program
+abbrev pub IsTold : StreamFault → ProgramFault → Type 0
+IsTold (Unread kind) fault = IsUnread fault
+IsTold (Damaged first) fault = fault ≡ damage first
+
+-- ---- Of all bytes that a reader gives, where they are known
+
+abbrev pub IsStreamJudged : Option (List ℕ) → Judged → Type 0
+IsStreamJudged None j = Unit {0}
+IsStreamJudged (Some bytes) j = IsJudged bytes j
+
+abbrev pub IsStreamDamage : Option (List ℕ) → ProgramFault → Type 0
+IsStreamDamage None fault = Unit {0}
+IsStreamDamage (Some bytes) fault = IsUnread fault ⊎ IsDamage bytes fault

@@ -1,22 +1,23 @@
 //! The audit of a saved history: `refheap audit FILE`.
-ghost use Rattle.std.specs.Prelude.{◌≡◌, IfOk, IfErr, length};
-ghost use Rattle.jlr_audit.specs.Verdicts.{IsFileVerdict};
-ghost use Rattle.jlr_trace.specs.declared.file.TraceFault.TheVariants.{NoMemory};
-ghost use Rattle.jlr_commands.specs.Audits.{IsJudged, IsDamage, damage};
+ghost use Rattle.std.specs.Prelude.{◌≡◌, option_map, IfOk, IfErr, OnOk};
+ghost use Rattle.jlr_audit.specs.Streams.{IsStreamVerdict};
+ghost use Rattle.jlr_trace.specs.Files.{file_read};
+ghost use Rattle.jlr_trace.specs.Streams.{FailsOn, AllAreBytes};
+ghost use Rattle.jlr_commands.specs.Audits.{IsStreamJudged, IsStreamDamage};
 
-use crate::history_file::contents;
+use crate::history_file::{fault_of, opened};
 use crate::progress::Progress;
-use jlr_audit::spelled::audit_spelled;
+use jlr_audit::streamed::audit_streamed;
 use jlr_audit::verdict::Verdict;
 use jlr_audit::watch::Watch;
 use jlr_command_line::arguments::AuditOrder;
 use jlr_command_line::fault::ProgramFault;
-use jlr_explain::spelled::explained;
+use jlr_explain::explainer::Explainer;
 use jlr_fields::version::Version;
-use jlr_trace::file::TraceFault;
-use jlr_trace::spelled::{SpelledTrace, spelled_trace};
+use jlr_trace::streamed::{StreamedTrace, streamed_trace};
+use jlr_trace::window::StreamFault;
 use std::alloc::{AllocError, Global};
-use std::io::Write;
+use std::io::{Read, Write};
 
 /// A verdict on a history, how many entries it has and how many came before, and the version of its file.
 #[derive(Clone, Copy)]
@@ -27,54 +28,63 @@ pub struct Judged {
     pub version: Version,
 }
 
-/// Why a file that is no trace file ends the program.
-pub(crate) fn damage_of(fault: TraceFault) -> ProgramFault
-    ensures { result ≡ damage fault }
-{
-    match fault {
-        TraceFault::Truncated => ProgramFault::TraceTruncated,
-        TraceFault::BadMark => ProgramFault::BadMark,
-        TraceFault::BadVersion => ProgramFault::BadVersion,
-        TraceFault::BadEntry(number) => ProgramFault::BadEntry(number),
-        TraceFault::NoMemory => ProgramFault::NoMemory(AllocError),
-    }
-}
-
-fn verdict_of_trace<W: Watch>(
+/// The verdict on a history whose entries are still to be read.
+fn verdict_of_trace<R: Read + Drop, W: Watch>(
     alloc: Global,
-    trace: &SpelledTrace<'_>,
+    trace: StreamedTrace<R>,
     watch: &mut W,
-) -> Result<Judged, ProgramFault>
-    ensures verdict { IfOk result (λ j. IsFileVerdict trace.now j.verdict × (j.entries ≡ length trace.now.entries)
-        × (j.base ≡ trace.now.base) × (j.version ≡ trace.now.version)) }
-    ensures memory { IfErr result (λ e. e ≡ damage NoMemory) }
+) -> Result<Judged, StreamFault>
+    ensures verdict { IfOk result (λ j. IsStreamVerdict trace.strays trace.image trace.entries.entries j.verdict
+        × (j.entries ≡ trace.count) × (j.base ≡ trace.base) × (j.version ≡ trace.version)) }
+    ensures bytes { OnOk result (AllAreBytes trace.entries.rest) }
+    ensures fault { IfErr result (λ f. FailsOn f trace.entries.entries) }
 {
-    match audit_spelled(alloc, trace, watch) {
+    let version = trace.version;
+    let base = trace.base;
+    let entries = trace.count;
+    match audit_streamed(alloc, trace, watch) {
         Ok(verdict) => Ok(Judged {
             verdict,
-            entries: trace.count(),
-            base: trace.base(),
-            version: trace.version(),
+            entries,
+            base,
+            version,
         }),
-        Err(fault) => Err(ProgramFault::NoMemory(fault)),
+        Err(fault) => Err(fault),
     }
 }
 
-/// The verdict on the history that the bytes spell, whose entries are read one at a time.
+/// The verdict on the history that a stream spells, which is read to its end, with one entry in memory at a time.
 ///
 /// # Errors
-/// The first fault of the bytes, where they spell none, or `NoMemory`.
-pub fn verdict_of<W: Watch>(
+/// `Unread` where a read fails, and `Damaged` with the first fault of all bytes, where they spell none, or where there is
+/// no memory.
+pub fn verdict_of<R: Read + Drop, W: Watch>(
     alloc: Global,
-    bytes: &[u8],
+    reader: R,
+    watch: &mut W,
+) -> Result<Judged, StreamFault>
+    ensures verdict { IfOk result (λ j. IsStreamJudged (R.remaining reader) j) }
+    ensures fault { IfErr result (λ f. FailsOn f (option_map file_read (R.remaining reader))) }
+{
+    match streamed_trace(alloc, reader) {
+        Ok(trace) => verdict_of_trace(alloc, trace, watch),
+        Err(fault) => Err(fault),
+    }
+}
+
+/// The same with why the program ends, where there is no verdict.
+fn judged_file<R: Read + Drop, W: Watch>(
+    alloc: Global,
+    path: &str,
+    reader: R,
     watch: &mut W,
 ) -> Result<Judged, ProgramFault>
-    ensures verdict { IfOk result (λ j. IsJudged bytes.now j) }
-    ensures fault { IfErr result (λ e. IsDamage bytes.now e) }
+    ensures verdict { IfOk result (λ j. IsStreamJudged (R.remaining reader) j) }
+    ensures fault { IfErr result (λ e. IsStreamDamage (R.remaining reader) e) }
 {
-    match spelled_trace(alloc, bytes) {
-        Ok(trace) => verdict_of_trace(alloc, &trace, watch),
-        Err(fault) => Err(damage_of(fault)),
+    match verdict_of(alloc, reader, watch) {
+        Ok(judged) => Ok(judged),
+        Err(fault) => Err(fault_of(alloc, path, fault)),
     }
 }
 
@@ -107,29 +117,33 @@ fn outcome_of(verdict: Verdict) -> Result<(), ProgramFault> {
     }
 }
 
-/// Why the history that the bytes spell is not legal, in one sentence; none where it is.
-fn why_illegal(alloc: Global, bytes: &[u8]) -> Result<Option<String>, ProgramFault> {
-    match spelled_trace(alloc, bytes) {
-        Ok(trace) => {
-            let why = explained(alloc, &trace);
-            drop(trace);
-            Ok(why?)
-        }
-        Err(fault) => Err(damage_of(fault)),
-    }
-}
-
-/// Why a history is not legal, where that is asked for and it is not.
-fn explanation(
-    alloc: Global,
+/// The verdict on a file, and why it is not legal, where that is asked for and it is not.
+fn explained(
+    rt: &HostRuntime,
     asked: AuditOrder<'_>,
-    judged: Judged,
-    bytes: &[u8],
-) -> Result<Option<String>, ProgramFault> {
-    if asked.explain && judged.verdict != Verdict::Legal {
-        return why_illegal(alloc, bytes);
+) -> Result<(Judged, Result<Option<String>, AllocError>), ProgramFault> {
+    let alloc = rt.alloc();
+    let file = opened(rt, asked.file)?;
+    let mut progress = Progress::new(*rt);
+    if !asked.explain {
+        let judged = judged_file(alloc, asked.file, file, &mut progress)?;
+        return Ok((judged, Ok(None)));
     }
-    Ok(None)
+    let mut explainer = Explainer::new(alloc, progress);
+    match judged_file(alloc, asked.file, file, &mut explainer) {
+        Ok(judged) => {
+            let said = explainer.said();
+            if judged.verdict == Verdict::Legal {
+                drop(said);
+                return Ok((judged, Ok(None)));
+            }
+            Ok((judged, said))
+        }
+        Err(fault) => {
+            drop(explainer);
+            Err(fault)
+        }
+    }
 }
 
 /// What a legal history is relative to, where entries came before it: they are not in the file.
@@ -177,7 +191,8 @@ fn tell_json(
     Ok(())
 }
 
-/// Audits a file, and writes the verdict; where it is to be explained, also why it is not legal.
+/// Audits a file, and writes the verdict; where it is to be explained, also why it is not legal. The file is read once, as it
+/// comes, so it may as well be a pipe.
 ///
 /// # Errors
 /// `CannotRead` where the file cannot be read, the fault of a damaged file, `Illegal` where the verdict is not legal, `Write`, `NoMemory`.
@@ -186,12 +201,10 @@ pub fn audit(
     asked: AuditOrder<'_>,
     writer: &mut impl Write,
 ) -> Result<(), ProgramFault> {
-    let bytes = contents(rt, asked.file)?;
     let alloc = rt.alloc();
-    let mut progress = Progress::new(*rt);
-    let judged = verdict_of(alloc, bytes.as_slice(), &mut progress)?;
+    let (judged, why) = explained(rt, asked)?;
     if asked.json {
-        let why = explanation(alloc, asked, judged, bytes.as_slice())?;
+        let why = why?;
         tell_json(
             alloc,
             writer,
@@ -201,7 +214,7 @@ pub fn audit(
         return outcome_of(judged.verdict);
     }
     tell(alloc, writer, judged)?;
-    if let Some(why) = explanation(alloc, asked, judged, bytes.as_slice())? {
+    if let Some(why) = why? {
         explain(alloc, writer, why.as_str())?;
     }
     if asked.explain {

@@ -1,41 +1,45 @@
 //! The figures of a saved history: `refheap stats FILE`.
-use crate::audit::damage_of;
-use crate::history_file::contents;
+use crate::history_file::{fault_of, opened};
 use jlr_audit::verdict::Verdict;
 use jlr_command_line::arguments::StatsOrder;
 use jlr_command_line::fault::ProgramFault;
-use jlr_stats::figures::{Judged, figures_of};
+use jlr_stats::figures::{Figures, Judged, figures_of};
 use jlr_stats::json::json_of;
 use jlr_stats::table::table_of;
-use jlr_trace::spelled::{SpelledTrace, spelled_trace};
-use std::alloc::Global;
-use std::io::Write;
+use jlr_trace::streamed::streamed_trace;
+use jlr_trace::window::StreamFault;
+use std::alloc::{AllocError, Global};
+use std::io::{Read, Write};
 
-/// The figures in words, and the verdict.
-fn told(
-    alloc: Global,
-    trace: &SpelledTrace<'_>,
-    is_json: bool,
-) -> Result<(Verdict, String), ProgramFault> {
-    let Judged { verdict, figures } = figures_of(alloc, trace)?;
-    let text = if is_json {
-        json_of(alloc, &figures)
+/// The figures in words.
+fn told(alloc: Global, figures: &Figures, is_json: bool) -> Result<String, AllocError> {
+    if is_json {
+        json_of(alloc, figures)
     } else {
-        table_of(alloc, &figures)
-    };
-    drop(figures);
-    Ok((verdict, text?))
+        table_of(alloc, figures)
+    }
 }
 
-/// Reads a history, and tells its figures.
-fn read(alloc: Global, bytes: &[u8], is_json: bool) -> Result<(Verdict, String), ProgramFault> {
-    match spelled_trace(alloc, bytes) {
-        Ok(trace) => {
-            let told = told(alloc, &trace, is_json);
-            drop(trace);
-            told
+/// Reads a history as it comes, and takes its figures.
+fn figures<R: Read + Drop>(alloc: Global, reader: R) -> Result<Judged, StreamFault> {
+    match streamed_trace(alloc, reader) {
+        Ok(trace) => figures_of(alloc, trace),
+        Err(fault) => Err(fault),
+    }
+}
+
+/// Reads a file, and tells its figures, and the verdict.
+fn read(rt: &HostRuntime, asked: StatsOrder<'_>) -> Result<(Verdict, String), ProgramFault> {
+    let alloc = rt.alloc();
+    let file = opened(rt, asked.file)?;
+    match figures(alloc, file) {
+        Ok(judged) => {
+            let Judged { verdict, figures } = judged;
+            let text = told(alloc, &figures, asked.json);
+            drop(figures);
+            Ok((verdict, text?))
         }
-        Err(fault) => Err(damage_of(fault)),
+        Err(fault) => Err(fault_of(alloc, asked.file, fault)),
     }
 }
 
@@ -48,8 +52,7 @@ pub fn stats(
     asked: StatsOrder<'_>,
     writer: &mut impl Write,
 ) -> Result<(), ProgramFault> {
-    let bytes = contents(rt, asked.file)?;
-    let (verdict, text) = read(rt.alloc(), bytes.as_slice(), asked.json)?;
+    let (verdict, text) = read(rt, asked)?;
     if writer.write_all(text.as_bytes()).is_err() || writer.flush().is_err() {
         return Err(ProgramFault::Write);
     }

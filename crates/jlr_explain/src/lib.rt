@@ -3,7 +3,7 @@
 
 mod asks;
 mod due;
+pub mod explainer;
 mod history;
 mod refusals;
 mod rules;
-pub mod spelled;

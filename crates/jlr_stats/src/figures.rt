@@ -1,12 +1,13 @@
 //! The figures of a history, taken while it is audited.
-ghost use Rattle.std.specs.Prelude.{◌≡◌, IfOk};
-ghost use Rattle.jlr_audit.specs.Verdicts.{IsFileVerdict};
+ghost use Rattle.std.specs.Prelude.{IfOk, IfErr};
+ghost use Rattle.jlr_audit.specs.Streams.{IsStreamVerdict};
+ghost use Rattle.jlr_trace.specs.Streams.{FailsOn};
 
 use crate::asks::AskCounts;
 pub use crate::collections::Collection;
 use crate::collections::{collection_of, mark};
 use crate::kinds::Sample;
-use jlr_audit::spelled::audit_spelled;
+use jlr_audit::streamed::audit_streamed;
 use jlr_audit::verdict::Verdict;
 use jlr_audit::watch::Watch;
 use jlr_machine::ask::{Answer, Ask, Handed, Outcome};
@@ -14,9 +15,12 @@ use jlr_machine::entry::{Collected, Entry};
 use jlr_machine::machine::Machine;
 use jlr_machine::object::Object;
 use jlr_plain_asks::lookups::named_reference;
-use jlr_trace::spelled::SpelledTrace;
+use jlr_trace::file::TraceFault;
+use jlr_trace::streamed::StreamedTrace;
+use jlr_trace::window::StreamFault;
 use jlr_types::{Fault, Slot};
 use std::alloc::{AllocError, Global};
+use std::io::Read;
 
 /// How many times the objects are counted on the way.
 const SAMPLES: u64 = 20;
@@ -190,24 +194,32 @@ pub struct Judged {
     pub figures: Figures,
 }
 
-/// Audits a history, and takes its figures on the way.
+/// Audits a history as it is read, and takes its figures on the way.
 ///
 /// # Errors
-/// `AllocError` where there is no memory.
-pub fn figures_of(alloc: Global, trace: &SpelledTrace<'_>) -> Result<Judged, AllocError>
-    ensures { IfOk result (λ judged. IsFileVerdict trace.now judged.verdict) }
+/// As for an audit: `Unread` where a read fails, and `Damaged` with the first fault of the bytes, or where there is no memory.
+pub fn figures_of<R: Read + Drop>(
+    alloc: Global,
+    trace: StreamedTrace<R>,
+) -> Result<Judged, StreamFault>
+    ensures verdict { IfOk result (λ judged. IsStreamVerdict trace.strays trace.image
+        trace.entries.entries judged.verdict) }
+    ensures fault { IfErr result (λ f. FailsOn f trace.entries.entries) }
 {
-    let mut figures = Figures::new(alloc, trace.image())?;
-    let verdict = match audit_spelled(alloc, trace, &mut figures) {
+    let Ok(mut figures) = Figures::new(alloc, &trace.image) else {
+        drop(trace);
+        return Err(StreamFault::Damaged(TraceFault::NoMemory));
+    };
+    let verdict = match audit_streamed(alloc, trace, &mut figures) {
         Ok(verdict) => verdict,
-        Err(error) => {
+        Err(fault) => {
             drop(figures);
-            return Err(error);
+            return Err(fault);
         }
     };
     if figures.is_short {
         drop(figures);
-        return Err(AllocError);
+        return Err(StreamFault::Damaged(TraceFault::NoMemory));
     }
     Ok(Judged { verdict, figures })
 }

@@ -3,7 +3,7 @@ use jlr_audit::verdict::Verdict;
 use jlr_stats::figures::{Judged, figures_of};
 use jlr_stats::json::json_of;
 use jlr_stats::table::table_of;
-use jlr_trace::spelled::spelled_trace;
+use jlr_trace::streamed::streamed_trace;
 use std::alloc::Global;
 use std::test::Fail;
 
@@ -37,12 +37,10 @@ fn decoded(alloc: Global, text: &str) -> Result<Vec<u8>, Fail> {
 
 /// The figures of the history that these bytes spell.
 fn judged(alloc: Global, bytes: &[u8]) -> Result<Judged, Fail> {
-    let Ok(trace) = spelled_trace(alloc, bytes) else {
+    let Ok(trace) = streamed_trace(alloc, bytes) else {
         return Err(Fail::from("no history"));
     };
-    let judged = figures_of(alloc, &trace);
-    drop(trace);
-    Ok(judged?)
+    figures_of(alloc, trace).map_err(|_| Fail::from("no figures"))
 }
 
 #[test]

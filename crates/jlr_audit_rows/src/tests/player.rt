@@ -1,7 +1,8 @@
 //! Playing rows: each has a change of a file, and behind an arrow what the bytes are told to be. A row that ends with a colon is a title.
 use super::changes::changed;
-use super::reading::{content, spelled_content};
-use super::verdicts::{is_written_back, spelled_verdict, verdict};
+use super::reading::content;
+use super::streams::streams_are_told;
+use super::verdicts::{is_written_back, verdict};
 use std::alloc::{AllocError, Global};
 use std::test::Fail;
 
@@ -19,19 +20,11 @@ fn told(alloc: Global, bytes: &[u8], telling: Telling) -> Result<String, AllocEr
     }
 }
 
-// The same where the entries stay in the bytes.
-fn told_of_spelled(alloc: Global, bytes: &[u8], telling: Telling) -> Result<String, AllocError> {
-    match telling {
-        Telling::Content => spelled_content(alloc, bytes),
-        Telling::Verdict => spelled_verdict(alloc, bytes),
-    }
-}
-
 fn is_wanted(told: String, wanted: &str) -> bool {
     told.as_str() == wanted
 }
 
-/// Whether the bytes are told to be what is wanted, whether their entries are taken out of them or stay, and are written as they were read.
+/// Whether the bytes are told to be what is wanted, at once and as streams, and are written as they were read.
 pub(super) fn are_told(
     alloc: Global,
     bytes: &[u8],
@@ -40,7 +33,7 @@ pub(super) fn are_told(
 ) -> Result<bool, AllocError> {
     Ok(
         is_wanted(told(alloc, bytes, telling)?, wanted)
-            && is_wanted(told_of_spelled(alloc, bytes, telling)?, wanted)
+            && streams_are_told(alloc, bytes, wanted, telling)?
             && is_written_back(alloc, bytes)?,
     )
 }

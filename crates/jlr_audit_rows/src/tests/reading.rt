@@ -4,7 +4,6 @@ use super::player::{Telling, are_told, play_rows};
 use super::verdicts::fault_text;
 use jlr_fields::version::Version;
 use jlr_trace::file::read_trace;
-use jlr_trace::spelled::spelled_trace;
 use std::alloc::{AllocError, Global};
 use std::test::Fail;
 
@@ -85,7 +84,13 @@ fn number_of(version: Version) -> u8 {
     }
 }
 
-fn told_file(alloc: Global, count: u64, base: u64, version: Version) -> Result<String, AllocError> {
+/// How many entries a file has, behind how many others, and in which version.
+pub(super) fn told_file(
+    alloc: Global,
+    count: u64,
+    base: u64,
+    version: Version,
+) -> Result<String, AllocError> {
     let version = number_of(version);
     format!(in alloc; "{count} entries behind {base} in version {version}")
 }
@@ -97,18 +102,6 @@ pub(super) fn content(alloc: Global, bytes: &[u8]) -> Result<String, AllocError>
             let (count, base, version) = (file.entries.len(), file.base, file.version);
             drop(file);
             told_file(alloc, count as u64, base, version)
-        }
-        Err(fault) => fault_text(alloc, fault),
-    }
-}
-
-/// The same where the entries stay in the bytes.
-pub(super) fn spelled_content(alloc: Global, bytes: &[u8]) -> Result<String, AllocError> {
-    match spelled_trace(alloc, bytes) {
-        Ok(trace) => {
-            let (count, base, version) = (trace.count(), trace.base(), trace.version());
-            drop(trace);
-            told_file(alloc, count, base, version)
         }
         Err(fault) => fault_text(alloc, fault),
     }

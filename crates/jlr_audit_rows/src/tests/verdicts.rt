@@ -4,13 +4,10 @@ ghost use Rattle.jlr_trace.specs.Files.{HasSpelling};
 
 use super::player::{Telling, play_rows};
 use jlr_audit::audit::audit;
-use jlr_audit::spelled::audit_spelled;
 use jlr_audit::verdict::Verdict;
-use jlr_audit::watch::Unwatched;
 use jlr_copies::{copy_entries, copy_machine};
 use jlr_machine::items::Items;
 use jlr_trace::file::{TraceFault, TraceFile, read_trace};
-use jlr_trace::spelled::{SpelledTrace, spelled_trace};
 use jlr_trace::writing::write_trace;
 use std::alloc::{AllocError, Global};
 use std::mem;
@@ -89,6 +86,13 @@ const ROWS: &str = "
 
     a history without an entry:
     for 93 103 00 -> legal 0
+
+    damage behind an entry that is not legal, and behind an image that is none:
+    for 96 102 01 00 00 00 01 00 11 -> BadEntry(2)
+    for 96 103 01 00 00 00 01 00 00 -> Truncated
+    for 96 103 01 00 00 00 01 00 00 00 00 -> BadEntry(3)
+    for 61 103 00 0000000000000000 0000000000000000 0000000000000000 0000000000000002 00 00 00 00 00 00 2a -> BadEntry(2)
+    for 61 103 00 0000000000000000 0000000000000000 0000000000000000 0000000000000002 00 00 00 00 00 00 -> Truncated
 
     an array, and a field's number of two bytes, of which version 1 reads the first:
     for 21 24 00000001 00000000 07 0001 ffffffff -> BadEntry(0)
@@ -172,7 +176,12 @@ fn put_copies(alloc: Global, file: &mut TraceFile) -> Result<(), AllocError>
     Ok(())
 }
 
-fn verdict_text(alloc: Global, verdict: Verdict, entries: u64) -> Result<String, AllocError> {
+/// A verdict in words.
+pub(super) fn verdict_text(
+    alloc: Global,
+    verdict: Verdict,
+    entries: u64,
+) -> Result<String, AllocError> {
     match verdict {
         Verdict::Legal => format!(in alloc; "legal {entries}"),
         Verdict::Illegal(number) => format!(in alloc; "illegal {number}"),
@@ -189,29 +198,12 @@ fn verdict_of_file(alloc: Global, file: &TraceFile) -> Result<String, AllocError
     verdict_text(alloc, verdict, file.entries.len() as u64)
 }
 
-fn verdict_of_spelled(alloc: Global, trace: &SpelledTrace<'_>) -> Result<String, AllocError> {
-    let verdict = audit_spelled(alloc, trace, &mut Unwatched)?;
-    verdict_text(alloc, verdict, trace.count())
-}
-
 /// The verdict on the bytes, or why they are no file.
 pub(super) fn verdict(alloc: Global, bytes: &[u8]) -> Result<String, AllocError> {
     match read_trace(alloc, bytes) {
         Ok(file) => {
             let told = verdict_of_file(alloc, &file);
             drop(file);
-            told
-        }
-        Err(fault) => fault_text(alloc, fault),
-    }
-}
-
-/// The same where the entries stay in the bytes.
-pub(super) fn spelled_verdict(alloc: Global, bytes: &[u8]) -> Result<String, AllocError> {
-    match spelled_trace(alloc, bytes) {
-        Ok(trace) => {
-            let told = verdict_of_spelled(alloc, &trace);
-            drop(trace);
             told
         }
         Err(fault) => fault_text(alloc, fault),

@@ -1,7 +1,0 @@
-use Rattle.std.proofs.Common.{sym, subst, ◌∙◌}
-use Rattle.jlr_plain.specs.Following.{IsFit}
-use Rattle.jlr_plain.proofs.Followed.{image_is_fit}
-use Rattle.jlr_explain.proofs.spelled.of_spelled.Goals as goal
-
-pub spelled_front-requires : goal.spelled_front-requires
-spelled_front-requires c = subst IsFit (sym (c.in_ok-image.ensures ∙ c.image.ensures)) (image_is_fit c.args.trace.now.image c.requires)
