@@ -35,7 +35,12 @@ fn carry_out(
     if is_refusal(answer) {
         return Ok(machine);
     }
-    after_plain(alloc, machine, ask, answer, fresh)
+    let mut next = machine;
+    if after_plain(alloc, &mut next, ask, answer, fresh).is_err() {
+        drop(next);
+        return Err(AllocError);
+    }
+    Ok(next)
 }
 
 /// The machine after an entry, made of the one that its collection left. What was seen is left as it is where it is known to be kept.

@@ -1,5 +1,5 @@
 //! The empty machine.
-ghost use Rattle.std.specs.Prelude.{◌≡◌, replicate, None, IfOk};
+ghost use Rattle.std.specs.Prelude.{ℕ, ◌≡◌, replicate, None, IfOk};
 ghost use Rattle.jlr_machine.specs.Run.{empty, empty_from};
 
 use jlr_machine::items::Items;
@@ -56,9 +56,27 @@ pub fn empty_plain_from(
 ) -> Result<Machine, AllocError>
     ensures { IfOk result (λ m. m ≡ empty_from cells sessions resources next_action) }
 {
-    Ok(Machine {
-        objects: Table::from_vec(no_objects(alloc, cells)?),
-        mutators: Table::from_vec(no_sessions(alloc, sessions)?),
+    let objects = no_objects(alloc, cells)?;
+    let Ok(seats) = no_sessions(alloc, sessions) else {
+        drop(objects);
+        return Err(AllocError);
+    };
+    Ok(machine_of(alloc, objects, seats, resources, next_action))
+}
+
+/// The machine of such tables, without anything else.
+fn machine_of(
+    alloc: Global,
+    objects: Vec<Option<Object>>,
+    seats: Vec<Option<Session>>,
+    resources: u32,
+    next_action: u64,
+) -> Machine
+    ensures { result ≡ record (empty_from 0 0 resources next_action) { objects = objects.items; mutators = seats.items } }
+{
+    Machine {
+        objects: Table::from_vec(objects),
+        mutators: Table::from_vec(seats),
         names: Items::new(alloc),
         pending: Items::new(alloc),
         line: Items::new(alloc),
@@ -73,5 +91,24 @@ pub fn empty_plain_from(
         failed: 0,
         cycle_open: false,
         seen: Items::new(alloc),
-    })
+    }
+}
+
+/// The empty machine of so many sessions and resources with these cells, none of which is taken. The next action is 1.
+///
+/// # Errors
+/// `AllocError` where there is no memory.
+pub fn empty_plain_with(
+    alloc: Global,
+    objects: Vec<Option<Object>>,
+    sessions: usize,
+    resources: u32,
+) -> Result<Machine, AllocError>
+    ensures { (cells : ℕ) → objects.items ≡ replicate cells None → IfOk result (λ m. m ≡ empty cells sessions resources) }
+{
+    let Ok(seats) = no_sessions(alloc, sessions) else {
+        drop(objects);
+        return Err(AllocError);
+    };
+    Ok(machine_of(alloc, objects, seats, resources, 1))
 }

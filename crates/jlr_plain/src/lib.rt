@@ -6,6 +6,7 @@ pub mod apply;
 pub mod collecting;
 pub mod empty;
 pub mod entry;
+pub mod follow;
 pub mod following;
 pub mod room;
 pub mod run;

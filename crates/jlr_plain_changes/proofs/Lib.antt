@@ -1,3 +1,4 @@
 pub mod Blanks
 pub mod Changing
+pub mod Orders
 pub mod Steps

@@ -1,12 +1,12 @@
 //! Calls on resources, and the ends of jobs.
-ghost use Rattle.std.specs.Prelude.{◌≡◌, ◌+◌, ◌^◌, ◌<◌, IfOk};
+ghost use Rattle.std.specs.Prelude.{◌≡◌, ◌+◌, ◌^◌, ◌<◌, IfOk, OnOk, OnErr};
 ghost use Rattle.jlr_machine.specs.declared.ask.Outcome.TheVariants.{Ok as OutcomeOk, Failed};
-ghost use Rattle.jlr_machine.specs.Calls.{fence_of, guard_fenced, opened, checked_out, checked_in, without_work, noted, finished, free_again};
+ghost use Rattle.jlr_machine.specs.Calls.{fence_of, guard_fenced, opened, checked_out, checked_in, noted, finished, free_again};
 
 use crate::lists::{job_removed, last_with};
-use crate::objects::{Change, with_changed};
+use crate::objects::{Change, change_in};
 use crate::queues::hold;
-use crate::takes::{in_call, in_state, without_rid, without_work_of};
+use crate::takes::{move_resource, put_in_call, remove_resource, remove_work};
 use jlr_machine::ask::Outcome;
 use jlr_machine::copy::copy_slice;
 use jlr_machine::items::Items;
@@ -41,41 +41,49 @@ pub fn fenced_guard(machine: &Machine, mutator: Mutator) -> Option<Guard>
 
 fn open_well(
     alloc: Global,
-    machine: Machine,
+    machine: &mut Machine,
     mutator: Mutator,
     guard: Guard,
-) -> Result<Machine, AllocError>
-    ensures { IfOk result (λ n. n ≡ opened machine mutator guard OutcomeOk) }
+) -> Result<(), AllocError>
+    ensures ok { OnOk result (machine.new ≡ opened machine.old mutator guard OutcomeOk) }
+    ensures err { OnErr result (machine.new ≡ machine.old) }
 {
-    let fence = fence_held(&machine, mutator);
-    let idle = in_state(alloc, machine, guard.rid, ResourceState::Idle)?;
-    let next = in_call(alloc, idle, mutator, None, Call::Free)?;
-    hold(alloc, next, mutator, fence)
+    let fence = fence_held(machine, mutator);
+    move_resource(alloc, machine, guard.rid, ResourceState::Idle)?;
+    put_in_call(alloc, machine, mutator, None, Call::Free);
+    hold(alloc, machine, mutator, fence);
+    Ok(())
 }
 
 fn open_badly(
     alloc: Global,
-    machine: Machine,
+    machine: &mut Machine,
     mutator: Mutator,
     guard: Guard,
     fault: Fault,
-) -> Result<Machine, AllocError>
-    ensures { IfOk result (λ n. n ≡ opened machine mutator guard (Failed fault)) }
+) -> Result<(), AllocError>
+    ensures ok { OnOk result (machine.new ≡ opened machine.old mutator guard (Failed fault)) }
+    ensures err { OnErr result (machine.new ≡ machine.old) }
 {
-    let gone = without_rid(alloc, machine, guard.rid)?;
-    let next = with_changed(gone, guard.cleanable, Change::Spend)?;
-    in_call(alloc, next, mutator, None, Call::Free)
+    remove_resource(alloc, machine, guard.rid)?;
+    change_in(alloc, machine, guard.cleanable, Change::Spend);
+    put_in_call(alloc, machine, mutator, None, Call::Free);
+    Ok(())
 }
 
-/// An open that ended.
+/// An open ends.
+///
+/// # Errors
+/// `AllocError` where there is no memory. The machine is then as it was.
 pub fn open(
     alloc: Global,
-    machine: Machine,
+    machine: &mut Machine,
     mutator: Mutator,
     guard: Guard,
     outcome: Outcome,
-) -> Result<Machine, AllocError>
-    ensures { IfOk result (λ n. n ≡ opened machine mutator guard outcome) }
+) -> Result<(), AllocError>
+    ensures ok { OnOk result (machine.new ≡ opened machine.old mutator guard outcome) }
+    ensures err { OnErr result (machine.new ≡ machine.old) }
 {
     match outcome {
         Outcome::Ok => open_well(alloc, machine, mutator, guard),
@@ -83,43 +91,41 @@ pub fn open(
     }
 }
 
-/// A call that begins, with this fence.
+/// A call begins, with this fence.
+///
+/// # Errors
+/// `AllocError` where there is no memory. The machine is then as it was.
 pub fn check_out(
     alloc: Global,
-    machine: Machine,
+    machine: &mut Machine,
     mutator: Mutator,
     fence: Option<Slot>,
     guard: Guard,
-) -> Result<Machine, AllocError>
-    ensures { IfOk result (λ n. n ≡ checked_out machine mutator fence guard) }
+) -> Result<(), AllocError>
+    ensures ok { OnOk result (machine.new ≡ checked_out machine.old mutator fence guard) }
+    ensures err { OnErr result (machine.new ≡ machine.old) }
 {
-    let next = in_state(alloc, machine, guard.rid, ResourceState::Out)?;
-    in_call(alloc, next, mutator, fence, Call::Out(guard.rid))
+    move_resource(alloc, machine, guard.rid, ResourceState::Out)?;
+    put_in_call(alloc, machine, mutator, fence, Call::Out(guard.rid));
+    Ok(())
 }
 
-/// A call that ended.
+/// A call ends.
+///
+/// # Errors
+/// `AllocError` where there is no memory. The machine is then as it was.
 pub fn check_in(
     alloc: Global,
-    machine: Machine,
+    machine: &mut Machine,
     mutator: Mutator,
     guard: Guard,
-) -> Result<Machine, AllocError>
-    ensures { IfOk result (λ n. n ≡ checked_in machine mutator guard) }
+) -> Result<(), AllocError>
+    ensures ok { OnOk result (machine.new ≡ checked_in machine.old mutator guard) }
+    ensures err { OnErr result (machine.new ≡ machine.old) }
 {
-    let next = in_state(alloc, machine, guard.rid, ResourceState::Idle)?;
-    in_call(alloc, next, mutator, None, Call::Free)
-}
-
-fn without_job_done(alloc: Global, machine: Machine, job: Job) -> Result<Machine, AllocError>
-    ensures { IfOk result (λ n. n ≡ without_work machine job) }
-{
-    let mut next = machine;
-    let Ok(jobs) = job_removed(alloc, next.jobs.as_slice(), job.action) else {
-        drop(next);
-        return Err(AllocError);
-    };
-    next.jobs = Items::from_vec(jobs);
-    without_work_of(alloc, next, job.work)
+    move_resource(alloc, machine, guard.rid, ResourceState::Idle)?;
+    put_in_call(alloc, machine, mutator, None, Call::Free);
+    Ok(())
 }
 
 fn notes_with(alloc: Global, notes: &[u32], work: Work) -> Result<Vec<u32>, AllocError>
@@ -131,54 +137,53 @@ fn notes_with(alloc: Global, notes: &[u32], work: Work) -> Result<Vec<u32>, Allo
     }
 }
 
-fn finish_well(alloc: Global, machine: Machine, job: Job) -> Result<Machine, AllocError>
-    requires { machine.ok + 1 < 2 ^ 64 }
-    ensures { IfOk result (λ n. n ≡ finished machine job OutcomeOk) }
+fn finish_well(alloc: Global, machine: &mut Machine, job: Job) -> Result<(), AllocError>
+    requires { machine.old.ok + 1 < 2 ^ 64 }
+    ensures ok { OnOk result (machine.new ≡ finished machine.old job OutcomeOk) }
+    ensures err { OnErr result (machine.new ≡ machine.old) }
 {
-    let Ok(notes) = notes_with(alloc, machine.notes.as_slice(), job.work) else {
-        drop(machine);
-        return Err(AllocError);
-    };
-    let ok = machine.ok + 1;
-    let mut next = without_job_done(alloc, machine, job)?;
-    next.ok = ok;
-    next.notes = Items::from_vec(notes);
-    Ok(next)
+    let notes = notes_with(alloc, machine.notes.as_slice(), job.work)?;
+    let jobs = job_removed(alloc, machine.jobs.as_slice(), job.action)?;
+    remove_work(alloc, machine, job.work)?;
+    machine.jobs = Items::from_vec(jobs);
+    machine.ok += 1;
+    machine.notes = Items::from_vec(notes);
+    Ok(())
 }
 
 fn finish_badly(
     alloc: Global,
-    machine: Machine,
+    machine: &mut Machine,
     job: Job,
     fault: Fault,
-) -> Result<Machine, AllocError>
-    requires { machine.failed + 1 < 2 ^ 64 }
-    ensures { IfOk result (λ n. n ≡ finished machine job (Failed fault)) }
+) -> Result<(), AllocError>
+    requires { machine.old.failed + 1 < 2 ^ 64 }
+    ensures ok { OnOk result (machine.new ≡ finished machine.old job (Failed fault)) }
+    ensures err { OnErr result (machine.new ≡ machine.old) }
 {
     let failure = Failure {
         action: job.action,
         fault,
     };
-    let Ok(faults) = last_with(alloc, machine.faults.as_slice(), failure) else {
-        drop(machine);
-        return Err(AllocError);
-    };
-    let failed = machine.failed + 1;
-    let mut next = without_job_done(alloc, machine, job)?;
-    next.failed = failed;
-    next.faults = Items::from_vec(faults);
-    Ok(next)
+    let faults = last_with(alloc, machine.faults.as_slice(), failure)?;
+    let jobs = job_removed(alloc, machine.jobs.as_slice(), job.action)?;
+    remove_work(alloc, machine, job.work)?;
+    machine.jobs = Items::from_vec(jobs);
+    machine.failed += 1;
+    machine.faults = Items::from_vec(faults);
+    Ok(())
 }
 
 fn finish_job(
     alloc: Global,
-    machine: Machine,
+    machine: &mut Machine,
     job: Job,
     outcome: Outcome,
-) -> Result<Machine, AllocError>
-    requires ok { machine.ok + 1 < 2 ^ 64 }
-    requires failed { machine.failed + 1 < 2 ^ 64 }
-    ensures { IfOk result (λ n. n ≡ finished machine job outcome) }
+) -> Result<(), AllocError>
+    requires ok { machine.old.ok + 1 < 2 ^ 64 }
+    requires failed { machine.old.failed + 1 < 2 ^ 64 }
+    ensures ok { OnOk result (machine.new ≡ finished machine.old job outcome) }
+    ensures err { OnErr result (machine.new ≡ machine.old) }
 {
     match outcome {
         Outcome::Ok => finish_well(alloc, machine, job),
@@ -186,27 +191,31 @@ fn finish_job(
     }
 }
 
-fn free(alloc: Global, machine: Machine, by: u8) -> Result<Machine, AllocError>
-    ensures { IfOk result (λ n. n ≡ free_again machine by) }
+fn free(alloc: Global, machine: &mut Machine, by: u8)
+    ensures { machine.new ≡ free_again machine.old by }
 {
-    if by == CLEANER {
-        return Ok(machine);
+    if by != CLEANER {
+        put_in_call(alloc, machine, Mutator::new(by), None, Call::Free);
     }
-    in_call(alloc, machine, Mutator::new(by), None, Call::Free)
 }
 
-/// A job that ended, whose taker is free again.
+/// A job ends, whose taker is free again.
+///
+/// # Errors
+/// `AllocError` where there is no memory. The machine is then as it was.
 pub fn finish(
     alloc: Global,
-    machine: Machine,
+    machine: &mut Machine,
     by: u8,
     job: Job,
     outcome: Outcome,
-) -> Result<Machine, AllocError>
-    requires ok { machine.ok + 1 < 2 ^ 64 }
-    requires failed { machine.failed + 1 < 2 ^ 64 }
-    ensures { IfOk result (λ n. n ≡ free_again (finished machine job outcome) by) }
+) -> Result<(), AllocError>
+    requires ok { machine.old.ok + 1 < 2 ^ 64 }
+    requires failed { machine.old.failed + 1 < 2 ^ 64 }
+    ensures ok { OnOk result (machine.new ≡ free_again (finished machine.old job outcome) by) }
+    ensures err { OnErr result (machine.new ≡ machine.old) }
 {
-    let next = finish_job(alloc, machine, job, outcome)?;
-    free(alloc, next, by)
+    finish_job(alloc, machine, job, outcome)?;
+    free(alloc, machine, by);
+    Ok(())
 }

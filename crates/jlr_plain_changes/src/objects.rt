@@ -1,9 +1,9 @@
 //! Changes of one object.
-ghost use Rattle.std.specs.Prelude.{◌≡◌, ◌++◌, ◌∷◌, [], None, drop, slice_set, IfOk, OnOk};
+ghost use Rattle.std.specs.Prelude.{◌≡◌, [], None, drop, option_map, slice_set, OnOk, OnErr};
 ghost use Rattle.jlr_machine.specs.declared.object.Object.TheVariants.{Plain, Queue, Reference as ReferenceObject, Cleanable as CleanableObject};
 ghost use Rattle.jlr_machine.specs.Objects.{at, change_at, with_element, with_value};
 ghost use Rattle.jlr_machine.specs.Lookups.{with_object};
-ghost use Rattle.jlr_plain_changes.specs.Changes.{change_of};
+ghost use Rattle.jlr_plain_changes.specs.Changes.{appended, change_of};
 
 use jlr_machine::items::Items;
 use jlr_machine::machine::Machine;
@@ -12,7 +12,8 @@ use jlr_machine::object::{
 };
 use jlr_machine::table::Table;
 use jlr_types::{FieldNo, FieldValue, Slot};
-use std::alloc::AllocError;
+use std::alloc::{AllocError, Global};
+use std::mem::replace;
 
 /// A change of an object of the kind that it is for.
 #[derive(Clone, Copy)]
@@ -25,8 +26,6 @@ pub enum Change {
     Enqueue,
     /// A reference is removed from its queue.
     Remove,
-    /// A queue gets a last member.
-    Append(Slot),
     /// A queue loses its first member.
     DropFirst,
     /// A cleanable is taken up.
@@ -108,37 +107,27 @@ fn changed_reference(r: Reference, change: Change) -> Reference
     }
 }
 
-fn without_first(members: Vec<Slot>) -> Vec<Slot>
-    ensures { result.items ≡ drop 1 members.items }
+/// A list of slots without its first.
+pub fn drop_first(alloc: Global, slots: &mut Items<Slot>)
+    ensures { slots.new ≡ drop 1 slots.old }
 {
-    let mut members = members;
-    if !members.is_empty() {
-        drop(members.remove(0));
+    let mut left = replace(slots, Items::new(alloc)).into_vec();
+    if !left.is_empty() {
+        drop(left.remove(0));
     }
-    members
+    *slots = Items::from_vec(left);
 }
 
-fn appended(members: Vec<Slot>, slot: Slot) -> Result<Vec<Slot>, AllocError>
-    ensures { IfOk result (λ v. v.items ≡ members.items ++ slot ∷ []) }
+fn changed_queue(alloc: Global, members: Items<Slot>, change: Change) -> Object
+    ensures { result ≡ change_of change (Queue members) }
 {
     let mut members = members;
-    members.push(slot)?;
-    Ok(members)
-}
-
-fn changed_queue(members: Items<Slot>, change: Change) -> Result<Object, AllocError>
-    ensures { IfOk result (λ o. o ≡ change_of change (Queue members)) }
-{
     match change {
-        Change::Append(slot) => {
-            let longer = appended(members.into_vec(), slot)?;
-            Ok(Object::Queue(Items::from_vec(longer)))
-        }
         Change::DropFirst => {
-            let rest = without_first(members.into_vec());
-            Ok(Object::Queue(Items::from_vec(rest)))
+            drop_first(alloc, &mut members);
+            Object::Queue(members)
         }
-        _ => Ok(Object::Queue(members)),
+        _ => Object::Queue(members),
     }
 }
 
@@ -162,19 +151,32 @@ fn changed_cleanable(c: Cleanable, change: Change) -> Cleanable
     }
 }
 
-/// The object after the change. What it holds stays where it lies; only a queue that grows takes memory.
-fn changed(object: Object, change: Change) -> Result<Object, AllocError>
-    ensures { IfOk result (λ o. o ≡ change_of change object) }
+/// The object after the change. What it holds stays where it lies.
+fn changed(alloc: Global, object: Object, change: Change) -> Object
+    ensures { result ≡ change_of change object }
 {
     match object {
-        Object::Plain(contents) => Ok(changed_plain(contents, change)),
-        Object::Reference(r) => Ok(Object::Reference(changed_reference(r, change))),
-        Object::Queue(members) => changed_queue(members, change),
-        Object::Cleaner => Ok(Object::Cleaner),
-        Object::Cleanable(c) => Ok(Object::Cleanable(changed_cleanable(c, change))),
-        Object::Guard(g) => Ok(Object::Guard(g)),
+        Object::Plain(contents) => changed_plain(contents, change),
+        Object::Reference(r) => Object::Reference(changed_reference(r, change)),
+        Object::Queue(members) => changed_queue(alloc, members, change),
+        Object::Cleaner => Object::Cleaner,
+        Object::Cleanable(c) => Object::Cleanable(changed_cleanable(c, change)),
+        Object::Guard(g) => Object::Guard(g),
     }
 }
+
+/// Puts a last member to a queue, which may take memory. Of another object nothing changes.
+fn append_to(place: &mut Option<Object>, slot: Slot) -> Result<(), AllocError>
+    ensures ok { OnOk result (place.new ≡ option_map (appended slot) place.old) }
+    ensures err { OnErr result (place.new ≡ place.old) }
+{
+    match place {
+        Some(Object::Queue(members)) => members.push(slot),
+        _ => Ok(()),
+    }
+}
+
+// ---- The objects of a machine
 
 fn put_object(places: &mut Vec<Option<Object>>, number: usize, place: Option<Object>)
     ensures { places.new.items ≡ slice_set places.old.items number place }
@@ -182,17 +184,6 @@ fn put_object(places: &mut Vec<Option<Object>>, number: usize, place: Option<Obj
     if number < places.len() {
         places[number] = place;
     }
-}
-
-/// The machine with this at the slot.
-pub fn with_place(machine: Machine, slot: Slot, place: Option<Object>) -> Machine
-    ensures { result ≡ record machine { objects = slice_set machine.objects slot place } }
-{
-    let mut machine = machine;
-    let mut places = machine.objects.into_vec();
-    put_object(&mut places, slot.number() as usize, place);
-    machine.objects = Table::from_vec(places);
-    machine
 }
 
 /// Takes out what lies at a place.
@@ -207,28 +198,68 @@ fn take_object(places: &mut Vec<Option<Object>>, number: usize) -> Option<Object
 }
 
 /// Changes the object at a place, if there is one.
-fn change_object(
-    places: &mut Vec<Option<Object>>,
-    number: usize,
-    change: Change,
-) -> Result<(), AllocError>
-    ensures { OnOk result (places.new.items ≡ change_at places.old.items number (change_of change)) }
+fn change_object(alloc: Global, places: &mut Vec<Option<Object>>, number: usize, change: Change)
+    ensures { places.new.items ≡ change_at places.old.items number (change_of change) }
 {
     let place = match take_object(places, number) {
-        Some(object) => Some(changed(object, change)?),
+        Some(object) => Some(changed(alloc, object, change)),
         None => None,
     };
     put_object(places, number, place);
-    Ok(())
 }
 
-/// The machine with the object at the slot changed.
-pub fn with_changed(machine: Machine, slot: Slot, change: Change) -> Result<Machine, AllocError>
-    ensures { IfOk result (λ n. n ≡ with_object machine slot (change_of change)) }
+/// Puts a last member to the queue at a place, if there is one.
+fn append_at(places: &mut Vec<Option<Object>>, number: usize, slot: Slot) -> Result<(), AllocError>
+    ensures ok { OnOk result (places.new.items ≡ change_at places.old.items number (appended slot)) }
+    ensures err { OnErr result (places.new.items ≡ places.old.items) }
 {
-    let mut machine = machine;
-    let mut places = machine.objects.into_vec();
-    let done = change_object(&mut places, slot.number() as usize, change);
+    let mut place = take_object(places, number);
+    let done = append_to(&mut place, slot);
+    put_object(places, number, place);
+    done
+}
+
+/// Takes the places of all objects out of the machine, so that they are changed where they lie.
+fn take_places(alloc: Global, machine: &mut Machine) -> Vec<Option<Object>>
+    ensures places { result.items ≡ machine.old.objects }
+    ensures left { machine.new ≡ record machine.old { objects = [] } }
+{
+    replace(&mut machine.objects, Table::from_vec(Vec::new(alloc))).into_vec()
+}
+
+/// Puts this at the slot.
+pub fn put_place(alloc: Global, machine: &mut Machine, slot: Slot, place: Option<Object>)
+    ensures { machine.new ≡ record machine.old { objects = slice_set machine.old.objects slot place } }
+{
+    let mut places = take_places(alloc, machine);
+    put_object(&mut places, slot.number() as usize, place);
     machine.objects = Table::from_vec(places);
-    done.map(|()| machine)
+}
+
+/// Changes the object at the slot. Takes no memory.
+pub fn change_in(alloc: Global, machine: &mut Machine, slot: Slot, change: Change)
+    ensures { machine.new ≡ with_object machine.old slot (change_of change) }
+{
+    let mut places = take_places(alloc, machine);
+    change_object(alloc, &mut places, slot.number() as usize, change);
+    machine.objects = Table::from_vec(places);
+}
+
+/// Puts a last member to the queue at a slot.
+///
+/// # Errors
+/// `AllocError` where there is no memory. The machine is then as it was.
+pub fn append(
+    alloc: Global,
+    machine: &mut Machine,
+    queue: Slot,
+    slot: Slot,
+) -> Result<(), AllocError>
+    ensures ok { OnOk result (machine.new ≡ with_object machine.old queue (appended slot)) }
+    ensures err { OnErr result (machine.new ≡ machine.old) }
+{
+    let mut places = take_places(alloc, machine);
+    let done = append_at(&mut places, queue.number() as usize, slot);
+    machine.objects = Table::from_vec(places);
+    done
 }

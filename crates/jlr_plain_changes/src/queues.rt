@@ -1,43 +1,26 @@
 //! Queues of references, and the handler's step.
-ghost use Rattle.std.specs.Prelude.{◌≡◌, [], ◌∷◌, ◌++◌, option_and_then, option_map, IfOk};
+ghost use Rattle.std.specs.Prelude.{◌≡◌, drop, option_and_then, option_map, OnOk, OnErr};
 ghost use Rattle.jlr_machine.specs.declared.ask.Handed.TheVariants.{Lined};
 ghost use Rattle.jlr_machine.specs.Objects.{at, as_reference, queue_ahead};
-ghost use Rattle.jlr_machine.specs.Calls.{with_given, to_queue, enqueued, polled, poll_given, delivered, handed, handed_over};
+ghost use Rattle.jlr_machine.specs.Calls.{with_given, enqueued, polled, poll_given, delivered, handed, handed_over};
+ghost use Rattle.jlr_plain_changes.specs.Changes.{delivered_if};
 
-use crate::objects::{Change, with_changed};
-use crate::sessions::{SessionChange, with_session_changed};
+use crate::objects::{Change, append, change_in, drop_first};
+use crate::sessions::{SessionChange, change_seat};
 use jlr_machine::ask::Handed;
-use jlr_machine::copy::copy_slice;
-use jlr_machine::items::Items;
 use jlr_machine::machine::Machine;
 use jlr_plain_answers::handing::step_for;
 use jlr_plain_asks::lookups::{named_slot, object_at, queue_of, reference_of};
 use jlr_types::{Handle, Mutator, Slot};
 use std::alloc::{AllocError, Global};
 
-/// The mutator holds this, if there is something to hold.
-pub fn hold(
-    alloc: Global,
-    machine: Machine,
-    mutator: Mutator,
-    slot: Option<Slot>,
-) -> Result<Machine, AllocError>
-    ensures { IfOk result (λ n. n ≡ with_given machine mutator slot) }
+/// Lets the mutator hold this, if there is something to hold. Takes no memory.
+pub fn hold(alloc: Global, machine: &mut Machine, mutator: Mutator, slot: Option<Slot>)
+    ensures { machine.new ≡ with_given machine.old mutator slot }
 {
-    match slot {
-        Some(slot) => with_session_changed(alloc, machine, mutator, SessionChange::Hold(slot)),
-        None => Ok(machine),
+    if let Some(slot) = slot {
+        change_seat(alloc, machine, mutator, SessionChange::Hold(slot));
     }
-}
-
-fn add_to_queue(machine: Machine, slot: Slot, queue: Option<Slot>) -> Result<Machine, AllocError>
-    ensures { IfOk result (λ n. n ≡ to_queue machine slot queue) }
-{
-    let Some(queue) = queue else {
-        return Ok(machine);
-    };
-    let next = with_changed(machine, slot, Change::Enqueue)?;
-    with_changed(next, queue, Change::Append(slot))
 }
 
 fn queue_ahead_at(machine: &Machine, slot: Slot) -> Option<Slot>
@@ -52,77 +35,68 @@ fn queue_ahead_at(machine: &Machine, slot: Slot) -> Option<Slot>
     }
 }
 
-/// The reference at the slot loses its referent, and goes to the end of its queue, if it may.
-pub fn enqueue(machine: Machine, slot: Slot) -> Result<Machine, AllocError>
-    ensures { IfOk result (λ n. n ≡ enqueued machine slot) }
+/// Takes the referent from the reference at the slot, and puts it to the end of its queue, if it may. The queue grows first.
+///
+/// # Errors
+/// `AllocError` where there is no memory. The machine is then as it was.
+pub fn enqueue(alloc: Global, machine: &mut Machine, slot: Slot) -> Result<(), AllocError>
+    ensures ok { OnOk result (machine.new ≡ enqueued machine.old slot) }
+    ensures err { OnErr result (machine.new ≡ machine.old) }
 {
-    let queue = queue_ahead_at(&machine, slot);
-    let next = with_changed(machine, slot, Change::Unrefer)?;
-    add_to_queue(next, slot, queue)
+    let Some(queue) = queue_ahead_at(machine, slot) else {
+        change_in(alloc, machine, slot, Change::Unrefer);
+        return Ok(());
+    };
+    append(alloc, machine, queue, slot)?;
+    change_in(alloc, machine, slot, Change::Unrefer);
+    change_in(alloc, machine, slot, Change::Enqueue);
+    Ok(())
 }
 
-fn poll_to(
-    alloc: Global,
-    machine: Machine,
-    mutator: Mutator,
-    queue: Slot,
-    slot: Option<Slot>,
-) -> Result<Machine, AllocError>
-    ensures { IfOk result (λ n. n ≡ with_given (polled machine queue slot) mutator slot) }
+fn poll_to(alloc: Global, machine: &mut Machine, mutator: Mutator, queue: Slot, slot: Option<Slot>)
+    ensures { machine.new ≡ with_given (polled machine.old queue slot) mutator slot }
 {
     let Some(slot) = slot else {
-        return Ok(machine);
+        return;
     };
-    let shorter = with_changed(machine, queue, Change::DropFirst)?;
-    let next = with_changed(shorter, slot, Change::Remove)?;
-    with_session_changed(alloc, next, mutator, SessionChange::Hold(slot))
+    change_in(alloc, machine, queue, Change::DropFirst);
+    change_in(alloc, machine, slot, Change::Remove);
+    change_seat(alloc, machine, mutator, SessionChange::Hold(slot));
 }
 
-/// The front of a queue is removed from it and given to the mutator.
+/// Removes the front of a queue from it and gives it to the mutator. Takes no memory.
 pub fn poll_for(
     alloc: Global,
-    machine: Machine,
+    machine: &mut Machine,
     mutator: Mutator,
     queue: Handle,
     slot: Option<Slot>,
-) -> Result<Machine, AllocError>
-    ensures { IfOk result (λ n. n ≡ poll_given machine mutator queue slot) }
+)
+    ensures { machine.new ≡ poll_given machine.old mutator queue slot }
 {
-    match named_slot(&machine, mutator, queue) {
-        Some(queue) => poll_to(alloc, machine, mutator, queue, slot),
-        None => Ok(machine),
+    if let Some(queue) = named_slot(machine, mutator, queue) {
+        poll_to(alloc, machine, mutator, queue, slot);
     }
 }
 
-/// A line with one more at its end.
-fn line_with(alloc: Global, line: &[Slot], slot: Slot) -> Result<Vec<Slot>, AllocError>
-    ensures { IfOk result (λ v. v.items ≡ line.now ++ slot ∷ []) }
+fn line_up(alloc: Global, machine: &mut Machine, slot: Slot) -> Result<(), AllocError>
+    ensures ok { OnOk result (machine.new ≡ delivered machine.old slot Lined) }
+    ensures err { OnErr result (machine.new ≡ machine.old) }
 {
-    let mut longer = copy_slice(alloc, line)?;
-    longer.push(slot)?;
-    Ok(longer)
+    machine.line.push(slot)?;
+    change_in(alloc, machine, slot, Change::Line);
+    Ok(())
 }
 
-fn line_up(alloc: Global, machine: Machine, slot: Slot) -> Result<Machine, AllocError>
-    ensures { IfOk result (λ n. n ≡ delivered machine slot Lined) }
-{
-    let Ok(line) = line_with(alloc, machine.line.as_slice(), slot) else {
-        drop(machine);
-        return Err(AllocError);
-    };
-    let mut next = with_changed(machine, slot, Change::Line)?;
-    next.line = Items::from_vec(line);
-    Ok(next)
-}
-
-fn deliver(alloc: Global, machine: Machine, slot: Slot, step: Handed) -> Result<Machine, AllocError>
-    ensures { IfOk result (λ n. n ≡ delivered machine slot step) }
+fn deliver(alloc: Global, machine: &mut Machine, slot: Slot, step: Handed) -> Result<(), AllocError>
+    ensures ok { OnOk result (machine.new ≡ delivered machine.old slot step) }
+    ensures err { OnErr result (machine.new ≡ machine.old) }
 {
     match step {
-        Handed::Queued => enqueue(machine, slot),
+        Handed::Queued => enqueue(alloc, machine, slot),
         Handed::Lined => line_up(alloc, machine, slot),
-        Handed::Skipped => Ok(machine),
-        Handed::Nothing => Ok(machine),
+        Handed::Skipped => Ok(()),
+        Handed::Nothing => Ok(()),
     }
 }
 
@@ -135,22 +109,34 @@ fn step_at(machine: &Machine, slot: Slot) -> Option<Handed>
     }
 }
 
-/// The handler's step, with the first of the pending list.
-pub fn hand_over(alloc: Global, machine: Machine, pending: &[Slot]) -> Result<Machine, AllocError>
-    ensures { IfOk result (λ n. n ≡ handed_over machine pending.now) }
+fn deliver_if(
+    alloc: Global,
+    machine: &mut Machine,
+    slot: Slot,
+    step: Option<Handed>,
+) -> Result<(), AllocError>
+    ensures ok { OnOk result (machine.new ≡ delivered_if machine.old slot step) }
+    ensures err { OnErr result (machine.new ≡ machine.old) }
 {
-    let mut next = machine;
-    let Some(slot) = pending.first().copied() else {
-        return Ok(next);
-    };
-    let step = step_at(&next, slot);
-    let Ok(rest) = copy_slice(alloc, &pending[1..]) else {
-        drop(next);
-        return Err(AllocError);
-    };
-    next.pending = Items::from_vec(rest);
     match step {
-        Some(step) => deliver(alloc, next, slot, step),
-        None => Ok(next),
+        Some(step) => deliver(alloc, machine, slot, step),
+        None => Ok(()),
     }
+}
+
+/// The handler's step, with the first of the pending list, which leaves it.
+///
+/// # Errors
+/// `AllocError` where there is no memory. The machine is then as it was.
+pub fn hand_over(alloc: Global, machine: &mut Machine) -> Result<(), AllocError>
+    ensures ok { OnOk result (machine.new ≡ handed_over machine.old machine.old.pending) }
+    ensures err { OnErr result (machine.new ≡ machine.old) }
+{
+    let Some(slot) = machine.pending.as_slice().first().copied() else {
+        return Ok(());
+    };
+    let step = step_at(machine, slot);
+    deliver_if(alloc, machine, slot, step)?;
+    drop_first(alloc, &mut machine.pending);
+    Ok(())
 }

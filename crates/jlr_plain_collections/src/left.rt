@@ -16,6 +16,7 @@ use jlr_machine::object::{CleanState, Cleanable, Object, RefState, Reference};
 use jlr_machine::table::Table;
 use jlr_types::Slot;
 use std::alloc::{AllocError, Global};
+use std::mem::replace;
 
 /// A referent that is kept.
 fn kept_referent(kept: &SlotList, referent: Option<Slot>) -> Option<Slot>
@@ -122,13 +123,20 @@ fn kept_by(alloc: Global, cells: usize, c: &Collected) -> Result<SlotList, Alloc
     SlotList::from_vec(alloc, cells, c.kept.to_vec(alloc)?)
 }
 
-/// What a collection kept, what it put behind the pending list, and the pending list that it leaves.
-fn lists_of(
-    alloc: Global,
-    machine: &Machine,
-    c: &Collected,
-) -> Result<(SlotList, SlotList, Items<Slot>), AllocError>
-    ensures { IfOk result (λ x. (x.0 ≡ c.now.kept) × (x.1 ≡ c.now.pending) × (x.2 ≡ machine.now.pending ++ c.now.pending)) }
+/// What a collection leaves, made before anything changes: what it kept, what it put behind the pending list, and that list then.
+#[derive(Drop)]
+pub struct Leaving {
+    kept: SlotList,
+    listed: SlotList,
+    pending: Items<Slot>,
+}
+
+/// What a collection takes memory for.
+///
+/// # Errors
+/// `AllocError` where there is no memory.
+pub fn make_leaving(alloc: Global, machine: &Machine, c: &Collected) -> Result<Leaving, AllocError>
+    ensures { IfOk result (λ l. (l.kept ≡ c.now.kept) × (l.listed ≡ c.now.pending) × (l.pending ≡ machine.now.pending ++ c.now.pending)) }
 {
     let cells = machine.objects.len();
     let pending = pending_with(alloc, machine.pending.as_slice(), c.pending.as_slice())?;
@@ -140,40 +148,46 @@ fn lists_of(
         drop((pending, kept));
         return Err(AllocError);
     };
-    Ok((kept, listed, pending))
+    Ok(Leaving {
+        kept,
+        listed,
+        pending,
+    })
 }
 
-/// The machine that is left, where so much is kept and listed.
-fn left_by(
-    alloc: Global,
-    machine: Machine,
-    kept: &SlotList,
-    listed: &SlotList,
-    pending: Items<Slot>,
-) -> Machine
-    ensures { result ≡ record machine {
-      objects = places_left kept.now listed.now 0 machine.objects;
-      pending = pending;
+/// Collects, where so much is kept and listed. Takes no memory.
+pub fn leave_in(alloc: Global, machine: &mut Machine, leaving: Leaving)
+    ensures { machine.new ≡ record machine.old {
+      objects = places_left leaving.kept leaving.listed 0 machine.old.objects;
+      pending = leaving.pending;
       cycle_open = false;
       seen = [];
     } }
 {
-    let mut next = machine;
-    next.pending = pending;
-    next.objects = objects_left(kept, listed, next.objects);
-    next.cycle_open = false;
-    next.seen = Items::new(alloc);
-    next
+    let Leaving {
+        kept,
+        listed,
+        pending,
+    } = leaving;
+    let objects = replace(&mut machine.objects, Table::from_vec(Vec::new(alloc)));
+    machine.objects = objects_left(&kept, &listed, objects);
+    machine.pending = pending;
+    machine.cycle_open = false;
+    machine.seen = Items::new(alloc);
 }
 
 /// The machine that a collection leaves. Where memory runs out, the one before is dropped by a call, for the prover.
 fn collected(alloc: Global, machine: Machine, c: &Collected) -> Result<Machine, AllocError>
     ensures { IfOk result (λ n. n ≡ after_collection machine c.now.kept c.now.pending) }
 {
-    match lists_of(alloc, &machine, c) {
-        Ok((kept, listed, pending)) => Ok(left_by(alloc, machine, &kept, &listed, pending)),
+    let mut next = machine;
+    match make_leaving(alloc, &next, c) {
+        Ok(leaving) => {
+            leave_in(alloc, &mut next, leaving);
+            Ok(next)
+        }
         Err(fault) => {
-            drop(machine);
+            drop(next);
             Err(fault)
         }
     }
