@@ -18,5 +18,4 @@ for file in "$folder"/*.rattle; do
     cp "$file" "crates/$name/src/$(basename "$file" .rattle).rt"
 done
 echo "$name: $(cat "$folder/uses")" >> crates.txt
-cd "crates/$name"
-rt run
+(cd "crates/$name" && rt run)

@@ -6,31 +6,13 @@ ghost use Rattle.jlr_audit.specs.Verdicts.{IsFileVerdict};
 ghost use Rattle.jlr_saving.specs.Saving.{file_of, IsSaved};
 
 use jlr_book::book::Book;
-use jlr_copies::{copy_entries, copy_machine};
+use jlr_copies::copy_entries;
 use jlr_fields::version::Version;
 use jlr_machine::items::Items;
-use jlr_machine::machine::Machine;
-use jlr_plain::empty::empty_plain;
 use jlr_ranges::fits::run_has_spelling;
 use jlr_trace::file::TraceFile;
 use jlr_trace::writing::write_trace;
 use std::alloc::{AllocError, Global};
-
-/// The machine from which the trace of a book leads on.
-fn copy_image<R: Drop>(alloc: Global, book: &Book<R>) -> Result<Machine, AllocError>
-    ensures { IfOk result (λ m. m ≡ book.now.image) }
-{
-    let limits = book.limits();
-    match book.image() {
-        Some(image) => copy_machine(alloc, image),
-        None => empty_plain(
-            alloc,
-            limits.cells as usize,
-            limits.sessions as usize,
-            limits.resources,
-        ),
-    }
-}
 
 /// A history of its own, with the same image and entries.
 fn copy_of<R: Drop>(alloc: Global, book: &Book<R>) -> Result<TraceFile, AllocError>
@@ -40,7 +22,7 @@ fn copy_of<R: Drop>(alloc: Global, book: &Book<R>) -> Result<TraceFile, AllocErr
     Ok(TraceFile {
         version: Version::Two,
         base: book.base(),
-        image: copy_image(alloc, book)?,
+        image: book.image()?,
         strays: Items::new(alloc),
         entries: Items::from_vec(entries),
     })

@@ -1,0 +1,14 @@
+use Rattle.std.proofs.Common.{◌≡◌, [], List, drop, sym, ap, subst, arith}
+use Rattle.jlr_machine.specs.declared.entry.Entry.{Entry}
+use Rattle.jlr_image.specs.Led.{LeadsOn}
+use Rattle.jlr_image.proofs.Keeping.{starts}
+use Rattle.jlr_image.proofs.image.Image.new.Goals as goal
+
+pub invariant_of-result : goal.invariant_of-result
+invariant_of-result c =
+    let none : drop 0 c.new-2.result.items ≡ [] = ap {A = List Entry} {B = List Entry} (drop 0) c.new-2.ensures.items in
+    record {
+      leads = subst (LeadsOn _) (sym none) (starts c.args.limits);
+      free = record { nothing = let a = c.new.ensures.items in let b = c.new.ensures.len in cc; few = let b = c.new.ensures.len in omega (arith, b) };
+      within = omega arith;
+    }

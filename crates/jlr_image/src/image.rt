@@ -1,0 +1,336 @@
+//! The machine before a trace.
+ghost use Rattle.std.specs.Prelude.{◌≡◌, ◌≤◌, false, [], IfOk, OnOk, OnErr, None, option_map, vec_capacity};
+ghost use Rattle.jlr_machine.specs.declared.machine.Machine.{Machine as MachineOf};
+ghost use Rattle.jlr_machine.specs.Run.{Run, empty};
+ghost use Rattle.jlr_machine.specs.WellFormed.{IsImage, IsWellFormed};
+ghost use Rattle.jlr_plain.specs.Unseen.{unseen};
+ghost use Rattle.jlr_image.specs.Led.{closed, shut, LeadsOn};
+ghost use Rattle.jlr_image.specs.Keeping.{kept_from};
+
+use crate::cells::add_cells;
+use crate::following::{follow_all, follow_at, make_array, work_of};
+use jlr_copies::copy_machine;
+use jlr_machine::entry::Entry;
+use jlr_machine::items::Items;
+use jlr_machine::machine::Machine;
+use jlr_machine::object::Object;
+use jlr_plain::empty::{empty_plain, empty_plain_with};
+use jlr_types::Limits;
+use std::alloc::{AllocError, Global};
+use std::marker::Model;
+use std::mem::{replace, swap};
+
+/// A heap of more cells is never copied at a cut, since all would wait for it.
+const COPIED_CELLS: u32 = 2_048;
+
+/// So many entries are followed at once.
+const FOLLOWED: usize = 2;
+
+/// So many entries that were followed are let go at once.
+const LET_GO: usize = 8;
+
+/// To copy so many cells is a unit of work.
+const CELLS_COPIED: usize = 4;
+
+/// At least so many cells of the empty machine are made at once.
+const CELLS_MADE: usize = 64;
+
+/// The machine before a trace. At a cut it takes the trace over, and follows it, entry by entry, with the calls that come then. Contracts
+/// see the machine to which the entries lead that are left, with no cycle open and nothing seen.
+#[derive(Drop)]
+pub struct Image {
+    alloc: Global,
+    limits: Limits,
+    /// Before the first cut it is the empty machine, which takes no memory here.
+    machine: Option<Machine>,
+    /// The cells of that machine, as far as they are made.
+    cells: Vec<Option<Object>>,
+    /// What was taken over: those before the place are followed.
+    entries: Vec<Entry>,
+    place: usize,
+    /// Whether an array was made.
+    arrays: bool,
+    /// The work beyond the ordinary that the entries took which were followed since the last cut.
+    work: usize,
+}
+
+impl Model for Image {
+    ghost use Rattle.std.specs.Prelude.{drop};
+    ghost use Rattle.jlr_machine.specs.declared.machine.Machine.{Machine as MachineOf};
+    ghost use Rattle.jlr_image.specs.Keeping.{image_from, Keeps};
+
+    ghost Value = { MachineOf };
+
+    ghost view = { λ i. image_from i.limits i.machine (drop i.place i.entries.items) };
+
+    ghost invariant = { λ i. Keeps i.limits i.machine i.cells i.entries i.place };
+}
+
+impl Image {
+    /// The empty machine of the limits.
+    pub fn new(alloc: Global, limits: Limits) -> Self
+        ensures { result ≡ empty limits.cells limits.sessions limits.resources }
+    {
+        Image {
+            alloc,
+            limits,
+            machine: None,
+            cells: Vec::new(alloc),
+            entries: Vec::new(alloc),
+            place: 0,
+            arrays: false,
+            work: 0,
+        }
+    }
+
+    /// Whether something is left to be followed, or to be let go.
+    #[inline(always)]
+    pub fn is_behind(&self) -> bool {
+        !self.entries.is_empty()
+    }
+
+    /// Follows a few entries of those that are left. Where there is no memory the next call tries again.
+    #[inline(never)]
+    pub fn follow_some(&mut self)
+        ensures { self.new ≡ self.old }
+    {
+        let _done = self.go_on();
+    }
+
+    /// Whether a cut is to be followed, and not copied: where a copy would be long, as the trace may tell by an array that was made, or costs
+    /// more than to follow the entries, since they are fewer than the cells. It is copied where following has become more work than that.
+    pub fn is_followed(&mut self, trace: &[Entry]) -> bool
+        ensures { self.new ≡ self.old }
+    {
+        let gives_up = self.has_given_up();
+        self.work = 0;
+        if gives_up {
+            return false;
+        }
+        let cells = self.limits.cells;
+        if cells > COPIED_CELLS || cells > self.limits.trace {
+            return true;
+        }
+        if !self.arrays {
+            self.arrays = make_array(trace);
+        }
+        self.arrays
+    }
+
+    /// Takes a trace over that leads on from the image, and gives an empty one with at least its room back. The image is then where the
+    /// trace led.
+    ///
+    /// # Errors
+    /// `AllocError` where there is no memory, for that room or for what is left to be followed. Nothing has changed then.
+    pub fn lead_on(&mut self, trace: &mut Vec<Entry>) -> Result<(), AllocError>
+        requires image { IsImage self.old }
+        requires run { (m : MachineOf) × Run self.old trace.old.items m }
+        ensures image { OnOk result ((m : MachineOf) → Run self.old trace.old.items m → self.new ≡ shut m) }
+        ensures items { OnOk result (trace.new.items ≡ []) }
+        ensures room { vec_capacity trace.old ≤ vec_capacity trace.new }
+        ensures err { OnErr result ((self.new ≡ self.old) × (trace.new ≡ trace.old)) }
+    {
+        self.settle()?;
+        self.take_over(trace)
+    }
+
+    /// Makes this the image, a machine that is well-formed but for what was seen, with its cycle closed.
+    pub fn put(&mut self, machine: Machine)
+        requires { (m : MachineOf) × IsWellFormed m × (machine ≡ unseen m) }
+        ensures { self.new ≡ shut machine }
+    {
+        self.entries.clear();
+        self.place = 0;
+        drop(replace(&mut self.cells, Vec::new(self.alloc)));
+        drop(self.machine.replace(machine));
+    }
+
+    /// The image, as a machine of its own.
+    ///
+    /// # Errors
+    /// `AllocError` where there is no memory.
+    pub fn copy(&self, alloc: Global) -> Result<Machine, AllocError>
+        ensures { IfOk result (λ m. m ≡ self.now) }
+    {
+        let mut machine = copy_kept(alloc, self.limits, &self.machine)?;
+        if follow_all(alloc, &mut machine, &self.entries[self.place..]).is_err() {
+            drop(machine);
+            return Err(AllocError);
+        }
+        machine.cycle_open = false;
+        machine.seen = Items::new(alloc);
+        Ok(machine)
+    }
+}
+
+impl Image {
+    /// Makes a piece of the empty machine, or follows a few entries, or lets a few go that were followed.
+    fn go_on(&mut self) -> Result<(), AllocError>
+        ensures { self.new ≡ self.old }
+    {
+        if self.machine.is_none() {
+            let piece = self.piece();
+            return self.make_cells(piece);
+        }
+        if self.place < self.entries.len() {
+            return self.follow_if_quick();
+        }
+        self.let_go();
+        Ok(())
+    }
+
+    /// Whether following has become more work than a copy. Then the next cut copies, and nothing more is followed until then.
+    fn has_given_up(&self) -> bool {
+        self.work >= self.limits.cells as usize / CELLS_COPIED
+    }
+
+    /// Follows a few entries, unless it has been given up.
+    fn follow_if_quick(&mut self) -> Result<(), AllocError>
+        ensures { self.new ≡ self.old }
+    {
+        for _ in 0..FOLLOWED {
+            self.note_work();
+            if self.has_given_up() {
+                return Ok(());
+            }
+            self.follow_one()?;
+        }
+        Ok(())
+    }
+
+    /// Notes how much work the next entry is.
+    fn note_work(&mut self)
+        ensures { self.new ≡ self.old }
+    {
+        let (Some(machine), Some(entry)) = (&self.machine, self.entries.get(self.place)) else {
+            return;
+        };
+        self.work = self.work.saturating_add(work_of(machine, entry));
+    }
+
+    /// So many cells are made at once: all of them while a quarter of a trace is written.
+    fn piece(&self) -> usize {
+        let cells = self.limits.cells as usize;
+        let steps = self.limits.trace as usize / 4;
+        match cells.checked_div(steps) {
+            Some(piece) => piece + CELLS_MADE,
+            None => cells,
+        }
+    }
+
+    /// Makes so many cells of the empty machine, and the machine once they are all there.
+    fn make_cells(&mut self, more: usize) -> Result<(), AllocError>
+        ensures { self.new ≡ self.old }
+    {
+        if self.machine.is_some() {
+            return Ok(());
+        }
+        let limit = self.limits.cells as usize;
+        add_cells(&mut self.cells, limit, more)?;
+        if self.cells.len() < limit {
+            return Ok(());
+        }
+        let cells = replace(&mut self.cells, Vec::new(self.alloc));
+        let sessions = self.limits.sessions as usize;
+        let machine = empty_plain_with(self.alloc, cells, sessions, self.limits.resources)?;
+        drop(self.machine.replace(machine));
+        Ok(())
+    }
+
+    /// Follows the first entry that is left, if there is one and the machine is there.
+    fn follow_one(&mut self) -> Result<(), AllocError>
+        ensures { self.new ≡ self.old }
+    {
+        if self.entries.len() <= self.place {
+            return Ok(());
+        }
+        let Some(machine) = &mut self.machine else {
+            return Ok(());
+        };
+        follow_at(self.alloc, machine, self.entries.as_slice(), self.place)?;
+        self.place += 1;
+        Ok(())
+    }
+
+    fn follow_many(&mut self, count: usize) -> Result<(), AllocError>
+        ensures { self.new ≡ self.old }
+    {
+        for _ in 0..count {
+            self.follow_one()?;
+        }
+        Ok(())
+    }
+
+    /// Lets a few entries go, the last first, if all are followed.
+    fn let_go(&mut self)
+        ensures { self.new ≡ self.old }
+    {
+        if self.place < self.entries.len() {
+            return;
+        }
+        let left = self.entries.len().saturating_sub(LET_GO);
+        self.entries.truncate(left);
+        self.place = left;
+    }
+
+    /// Follows all entries that are left.
+    fn settle(&mut self) -> Result<(), AllocError>
+        ensures { self.new ≡ self.old }
+    {
+        if self.entries.is_empty() {
+            return Ok(());
+        }
+        let cells = self.limits.cells as usize;
+        let count = self.entries.len();
+        self.make_cells(cells)?;
+        self.follow_many(count)
+    }
+
+    /// Takes the trace over, where nothing is left.
+    fn take_over(&mut self, trace: &mut Vec<Entry>) -> Result<(), AllocError>
+        requires image { IsImage self.old }
+        requires run { (m : MachineOf) × Run self.old trace.old.items m }
+        ensures image { OnOk result ((m : MachineOf) → Run self.old trace.old.items m → self.new ≡ shut m) }
+        ensures items { OnOk result (trace.new.items ≡ []) }
+        ensures room { vec_capacity trace.old ≤ vec_capacity trace.new }
+        ensures err { OnErr result ((self.new ≡ self.old) × (trace.new ≡ trace.old)) }
+    {
+        if self.place < self.entries.len() {
+            return Err(AllocError);
+        }
+        self.entries.clear();
+        self.place = 0;
+        self.entries.reserve(trace.capacity())?;
+        close(&mut self.machine);
+        swap(&mut self.entries, trace);
+        Ok(())
+    }
+}
+
+/// A copy of the machine that is kept, or the empty one of the limits.
+fn copy_kept(
+    alloc: Global,
+    limits: Limits,
+    machine: &Option<Machine>,
+) -> Result<Machine, AllocError>
+    ensures { IfOk result (λ m. m ≡ kept_from limits machine.now) }
+{
+    match machine {
+        Some(machine) => copy_machine(alloc, machine),
+        None => empty_plain(
+            alloc,
+            limits.cells as usize,
+            limits.sessions as usize,
+            limits.resources,
+        ),
+    }
+}
+
+/// Closes the cycle of a machine.
+fn close(machine: &mut Option<Machine>)
+    ensures { machine.new ≡ option_map closed machine.old }
+{
+    if let Some(machine) = machine {
+        machine.cycle_open = false;
+    }
+}
