@@ -12,17 +12,17 @@ ghost use Rattle.jlr_machine.specs.Calls.{finished, spent, taken_up};
 ghost use Rattle.jlr_resource.specs.declared.place.Kept.TheVariants as kept;
 ghost use Rattle.jlr_resource.specs.Resources.{changed, kept_at, opening, removed, resource_in, resources, state_at, values};
 ghost use Rattle.jlr_cleaner.specs.Jobs.{is_job_of, is_running, job_in, runs_job};
-ghost use Rattle.jlr_cleaner.specs.Outcomes.{outcome_of};
 ghost use Rattle.jlr_cleaner.specs.Cleanings.{HandsOut, HasWork, IsInState, after_finish, after_register, after_take_up, fresh, machine_with, table_closed, table_closing};
 
 use crate::job::Job;
 use crate::outcomes::Outcomes;
 use crate::running::Running;
 use crate::waiting::Waiting;
+use jlr_machine::ask::Outcome;
 use jlr_machine::items::Items;
 use jlr_machine::machine::{Failure, Job as RunningJob, Resource};
 use jlr_resource::{State, Table};
-use jlr_types::{ActionNo, Fault, Limits, Refusal, Rid, Slot, Work};
+use jlr_types::{ActionNo, Limits, Refusal, Rid, Slot, Work};
 use std::alloc::{AllocError, Global};
 use std::marker::Model;
 
@@ -183,11 +183,11 @@ impl<R> Cleaner<R> {
 
     /// The taker tells the outcome of its job: the job is over, and so is its resource, which it finished. Answers whether
     /// there was such a job; else nothing has changed.
-    pub fn finish(&mut self, by: u8, action: ActionNo, outcome: Result<(), Fault>) -> bool
+    pub fn finish(&mut self, by: u8, action: ActionNo, outcome: Outcome) -> bool
         ensures answer { result ≡ is_job_of self.old.jobs by action }
         ensures refused { result ≡ false → self.new ≡ self.old }
-        ensures finished { (job : RunningJob) → job_in self.old.jobs action ≡ Some job → job.by ≡ by → self.new ≡ after_finish self.old job (outcome_of outcome) }
-        ensures machine { (m : Machine) (job : RunningJob) → job_in self.old.jobs action ≡ Some job → job.by ≡ by → machine_with self.new m ≡ finished (machine_with self.old m) job (outcome_of outcome) }
+        ensures finished { (job : RunningJob) → job_in self.old.jobs action ≡ Some job → job.by ≡ by → self.new ≡ after_finish self.old job outcome }
+        ensures machine { (m : Machine) (job : RunningJob) → job_in self.old.jobs action ≡ Some job → job.by ≡ by → machine_with self.new m ≡ finished (machine_with self.old m) job outcome }
         ensures values { values self.new.table ≡ values self.old.table }
     {
         let Some(job) = self.running.end(by, action) else {

@@ -1,11 +1,12 @@
 //! What became of the jobs that are over.
 ghost use Rattle.std.specs.Prelude.{◌≡◌, ◌+◌, ◌^◌, ◌<◌, IfOk};
 ghost use Rattle.jlr_machine.specs.Calls.{noted};
-ghost use Rattle.jlr_cleaner.specs.Outcomes.{no_outcomes, outcome_of, recorded};
+ghost use Rattle.jlr_cleaner.specs.Outcomes.{no_outcomes, recorded};
 
 use crate::latest::Latest;
+use jlr_machine::ask::Outcome;
 use jlr_machine::machine::Failure;
-use jlr_types::{ActionNo, Fault, Work};
+use jlr_types::{ActionNo, Work};
 use std::alloc::{AllocError, Global};
 
 /// How many jobs ended well and how many failed, and the last notes and faults.
@@ -31,17 +32,17 @@ impl Outcomes {
     }
 
     /// A job is over.
-    pub(crate) fn record(&mut self, action: ActionNo, work: Work, outcome: Result<(), Fault>)
+    pub(crate) fn record(&mut self, action: ActionNo, work: Work, outcome: Outcome)
         requires ok_fits { self.old.ok + 1 < 2 ^ 64 }
         requires failed_fits { self.old.failed + 1 < 2 ^ 64 }
-        ensures { self.new ≡ recorded self.old action work (outcome_of outcome) }
+        ensures { self.new ≡ recorded self.old action work outcome }
     {
         match outcome {
-            Ok(()) => {
+            Outcome::Ok => {
                 self.ok += 1;
                 note(&mut self.notes, work);
             }
-            Err(fault) => {
+            Outcome::Failed(fault) => {
                 self.failed += 1;
                 self.faults.add(Failure { action, fault });
             }

@@ -12,7 +12,6 @@ ghost use Rattle.jlr_machine.specs.Run.{no_choice};
 ghost use Rattle.jlr_machine.specs.Choices.{nothing_chosen};
 ghost use Rattle.jlr_machine.specs.WellFormed.{IsWellFormed};
 ghost use Rattle.jlr_resource.specs.Resources.{values};
-ghost use Rattle.jlr_cleaner.specs.Outcomes.{outcome_of};
 ghost use Rattle.jlr_state.specs.Events.{MayWantMemory};
 ghost use Rattle.jlr_state.specs.Collecting.{after_choice};
 ghost use Rattle.jlr_state.specs.State.{Checks, Answered, Meets, answer_of};
@@ -24,10 +23,10 @@ ghost use Rattle.jlr_state.specs.Machines.{machine_of};
 
 use jlr_cells::Shape;
 use jlr_cleaner::Job;
-use jlr_machine::ask::{Answer, Ask};
+use jlr_machine::ask::{Answer, Ask, Outcome};
 use jlr_machine::choice::Choice;
 use jlr_machine::object::Cleanable;
-use jlr_types::{ActionNo, Fault, Handle, Mutator, Refusal, Slot, Work};
+use jlr_types::{ActionNo, Handle, Mutator, Refusal, Slot, Work};
 
 /// The taker of the actions that the cleaner takes up.
 const CLEANER: u8 = 255;
@@ -228,10 +227,10 @@ pub(crate) fn finish<R>(
     state: &mut State<R>,
     by: u8,
     action: ActionNo,
-    outcome: Result<(), Fault>,
+    outcome: Outcome,
 ) -> Result<Answer, Refusal>
     requires { IsWellFormed (machine_of state.old) }
-    ensures answered { Answered (machine_of state.old) (Ask.Finish by action (outcome_of outcome)) result (machine_of state.new) }
+    ensures answered { Answered (machine_of state.old) (Ask.Finish by action outcome) result (machine_of state.new) }
     ensures memory { answer_of result ≡ Answer.Refused Refusal.NoMemory → ⊥ }
     ensures values { values state.new.cleaner.table ≡ values state.old.cleaner.table }
     ensures lies { LieAsBefore state.old.cleaner.table state.new.cleaner.table }
@@ -257,10 +256,10 @@ fn end_job<R>(
     state: &mut State<R>,
     by: u8,
     action: ActionNo,
-    outcome: Result<(), Fault>,
+    outcome: Outcome,
 ) -> Result<Answer, Refusal>
     ensures ended { MatchResult result
-        (λ answer. (is_job_of (machine_of state.old).jobs by action ≡ true) × (outcome_answer (outcome_of outcome) (Some Answer.Done) ≡ Some answer) × (machine_of state.new ≡ on (job_of (machine_of state.old) action) (λ job. finished (machine_of state.old) job (outcome_of outcome)) (machine_of state.old)))
+        (λ answer. (is_job_of (machine_of state.old).jobs by action ≡ true) × (outcome_answer outcome (Some Answer.Done) ≡ Some answer) × (machine_of state.new ≡ on (job_of (machine_of state.old) action) (λ job. finished (machine_of state.old) job outcome) (machine_of state.old)))
         (λ r. (r ≡ Refusal.NotOut) × (is_job_of (machine_of state.old).jobs by action ≡ false) × (machine_of state.new ≡ machine_of state.old)) }
     ensures values { values state.new.cleaner.table ≡ values state.old.cleaner.table }
     ensures lies { LieAsBefore state.old.cleaner.table state.new.cleaner.table }
@@ -302,11 +301,11 @@ pub(crate) fn faults<R>(state: &State<R>, by: Mutator) -> Result<Answer, Refusal
 }
 
 /// What the end of a job is answered.
-fn ended(outcome: Result<(), Fault>) -> Answer
-    ensures { outcome_answer (outcome_of outcome) (Some Answer.Done) ≡ Some result }
+fn ended(outcome: Outcome) -> Answer
+    ensures { outcome_answer outcome (Some Answer.Done) ≡ Some result }
 {
     match outcome {
-        Ok(()) => Answer::Done,
-        Err(fault) => Answer::Faulted(fault),
+        Outcome::Ok => Answer::Done,
+        Outcome::Failed(fault) => Answer::Faulted(fault),
     }
 }

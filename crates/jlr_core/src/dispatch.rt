@@ -1,27 +1,27 @@
 //! Which ask an event is.
-ghost use Rattle.std.specs.Prelude.{◌≡◌, ◌≤◌, ◌&&◌, length, not, true, None, Some};
+ghost use Rattle.std.specs.Prelude.{◌≡◌, ◌≤◌, ◌&&◌, length, not, true, false, None, Some};
 ghost use Rattle.jlr_machine.specs.Choices.{nothing_chosen};
 ghost use Rattle.jlr_machine.specs.Run.{no_choice};
 ghost use Rattle.jlr_machine.specs.WellFormed.{IsWellFormed};
 ghost use Rattle.jlr_state.specs.State.{answer_of};
 ghost use Rattle.jlr_state.specs.Machines.{machine_of};
+ghost use Rattle.jlr_event.specs.Asks.{hands_in};
 ghost use Rattle.jlr_event.specs.Events.{ask_of, answer_in, resource_of_event, resource_of_reply};
-ghost use Rattle.jlr_state.specs.Events.{StepsBy, WantsMemory, is_plain};
+ghost use Rattle.jlr_state.specs.Events.{StepsBy, WantsMemory, carries_none};
 ghost use Rattle.jlr_state.specs.Marks.{Begins, BlackensNew, MarksBy, MarksReached, budget_of, has_grey};
 ghost use Rattle.jlr_state.specs.Flows.{Conserves, GoesOut, Moves};
 ghost use Rattle.jlr_core.specs.Steps.{LeavesRoom};
 ghost use Rattle.jlr_state.specs.TakeUps.{clean_answer, handed_out, take_up_answered};
 ghost use Rattle.jlr_state.specs.Policy.{KeepsByPolicy, clock_after};
 ghost use Rattle.jlr_state.specs.Waiting.{AllWait, WaitsOn};
-ghost use Rattle.jlr_cleaner.specs.Outcomes.{outcome_of};
 
 use crate::{cleaning, counts, handles, names, objects, references};
 use jlr_cleaner::Job;
 use jlr_event::event::{Event, Reply};
-use jlr_machine::ask::{Answer, Ask, Handed};
+use jlr_machine::ask::{Answer, Ask, Handed, Outcome};
 use jlr_machine::choice::Choice;
 use jlr_state::state::State;
-use jlr_types::{ActionNo, Fault, Refusal};
+use jlr_types::{ActionNo, Refusal};
 
 /// One event.
 #[tactic(auto, using(jlr_state::proofs::Shading::same_only))]
@@ -49,25 +49,57 @@ pub(crate) fn step<R>(state: &mut State<R>, event: Event<R>, choice: &mut Choice
     ensures waits { WaitsOn (machine_of state.new) state.old.cleaner state.new.cleaner }
 {
     match event {
-        Event::Clean { mutator, cleanable } => cleaned(cleaning::clean(state, mutator, cleanable)),
+        Event::Ask(ask) => step_ask(state, ask.get(), choice),
         Event::Opened { mutator, outcome } => state.opened(mutator, outcome),
-        Event::CheckOut { mutator, guard } => state.check_out(mutator, guard),
         Event::CheckIn {
             mutator,
             outcome,
             resource,
         } => state.check_in(mutator, outcome, resource),
-        Event::Close { mutator, guard } => cleaned(state.close(mutator, guard)),
-        Event::TakeUp => taken_up(cleaning::take_up(state)),
         Event::Mark { budget } => Reply::Marked(state.mark(budget)),
-        event => {
-            let answer = step_plain(state, &event, choice);
-            event.let_go();
-            Reply::Answered {
-                answer,
-                resource: None,
-            }
-        }
+    }
+}
+
+/// One ask that hands in no resource. It is lent.
+#[inline(always)]
+#[tactic(auto, using(jlr_state::proofs::Shading::same_only))]
+pub(crate) fn step_ask<R>(state: &mut State<R>, ask: &Ask, choice: &mut Choice) -> Reply<R>
+    requires plain { hands_in ask.now ≡ false }
+    requires fit { IsWellFormed (machine_of state.old) }
+    requires waits { AllWait (machine_of state.old) state.old.cleaner.waiting }
+    requires nothing { choice.old ≡ nothing_chosen choice.old.cells }
+    requires room { length state.old.heap.graph.objects ≤ choice.old.cells }
+    ensures entry { StepsBy (machine_of state.old) state.old.heap.marking (Some ask.now)
+        (answer_in result) choice.new.chosen (machine_of state.new) }
+    ensures flow { Conserves None state.old.cleaner.table (resource_of_reply result) state.new.cleaner.table }
+    ensures moves { Moves None state.old.cleaner.table (resource_of_reply result) state.new.cleaner.table }
+    ensures goes_out { GoesOut state.old.cleaner.table None (answer_in result) (resource_of_reply result) }
+    ensures memory { WantsMemory (machine_of state.old) state.old.cleaner.table (Some ask.now) (answer_in result) }
+    ensures table_room { LeavesRoom (Some ask.now) state.old.cleaner.table state.new.cleaner.table }
+    ensures reached { MarksReached (machine_of state.old) state.old.heap.marking (machine_of state.new) state.new.heap.marking }
+    ensures begins { Begins (Some ask.now) (machine_of state.old) (machine_of state.new) state.new.heap.marking }
+    ensures blackens { BlackensNew {R = R} (Event.Ask ask.now) (machine_of state.old) state.old.heap.marking choice.new.chosen
+        (machine_of state.new) state.new.heap.marking }
+    ensures collects { Some ask.now ≡ Some Ask.Collect
+        → answer_in result ≡ Some (Answer.Truth (state.old.cycle_open && not (has_grey state.old.heap.marking))) }
+    ensures policy { KeepsByPolicy state.old.soft_age state.old.heap.clock (machine_of state.old) state.old.heap.marking
+        (Some ask.now) choice.new.chosen }
+    ensures age { state.new.soft_age ≡ state.old.soft_age }
+    ensures clock { state.new.heap.clock ≡ clock_after (machine_of state.old) state.old.heap.clock (Some ask.now)
+        (answer_in result) choice.new.chosen }
+    ensures room { choice.new.cells ≡ choice.old.cells }
+    ensures cells { length state.new.heap.graph.objects ≡ length state.old.heap.graph.objects }
+    ensures waits { WaitsOn (machine_of state.new) state.old.cleaner state.new.cleaner }
+{
+    match *ask {
+        Ask::Clean { mutator, cleanable } => cleaned(cleaning::clean(state, mutator, cleanable)),
+        Ask::CheckOut { mutator, guard } => state.check_out(mutator, guard),
+        Ask::Close { mutator, guard } => cleaned(state.close(mutator, guard)),
+        Ask::TakeUp => taken_up(cleaning::take_up(state)),
+        _ => Reply::Answered {
+            answer: step_plain(state, ask, choice),
+            resource: None,
+        },
     }
 }
 
@@ -83,7 +115,7 @@ pub(crate) fn step_handler<R>(state: &mut State<R>) -> Handed
     ensures memory { WantsMemory (machine_of state.old) state.old.cleaner.table (Some Ask.HandOver) (Some (Answer.Handed result)) }
     ensures table_room { LeavesRoom (Some Ask.HandOver) state.old.cleaner.table state.new.cleaner.table }
     ensures reached { MarksReached (machine_of state.old) state.old.heap.marking (machine_of state.new) state.new.heap.marking }
-    ensures blackens { BlackensNew {R = R} Event.HandOver (machine_of state.old) state.old.heap.marking no_choice
+    ensures blackens { BlackensNew {R = R} (Event.Ask Ask.HandOver) (machine_of state.old) state.old.heap.marking no_choice
         (machine_of state.new) state.new.heap.marking }
     ensures policy { KeepsByPolicy state.old.soft_age state.old.heap.clock (machine_of state.old) state.old.heap.marking
         (Some Ask.HandOver) no_choice }
@@ -109,7 +141,7 @@ pub(crate) fn step_cleaner<R>(state: &mut State<R>) -> Result<Option<Job<R>>, Re
     ensures memory { WantsMemory (machine_of state.old) state.old.cleaner.table (Some Ask.TakeUp) (Some (take_up_answered result)) }
     ensures table_room { LeavesRoom (Some Ask.TakeUp) state.old.cleaner.table state.new.cleaner.table }
     ensures reached { MarksReached (machine_of state.old) state.old.heap.marking (machine_of state.new) state.new.heap.marking }
-    ensures blackens { BlackensNew {R = R} Event.TakeUp (machine_of state.old) state.old.heap.marking no_choice
+    ensures blackens { BlackensNew {R = R} (Event.Ask Ask.TakeUp) (machine_of state.old) state.old.heap.marking no_choice
         (machine_of state.new) state.new.heap.marking }
     ensures policy { KeepsByPolicy state.old.soft_age state.old.heap.clock (machine_of state.old) state.old.heap.marking
         (Some Ask.TakeUp) no_choice }
@@ -128,182 +160,181 @@ pub(crate) fn step_finish<R>(
     state: &mut State<R>,
     by: u8,
     action: ActionNo,
-    outcome: Result<(), Fault>,
+    outcome: Outcome,
 ) -> Answer
     requires fit { IsWellFormed (machine_of state.old) }
     requires waits { AllWait (machine_of state.old) state.old.cleaner.waiting }
-    ensures entry { StepsBy (machine_of state.old) state.old.heap.marking (Some (Ask.Finish by action (outcome_of outcome)))
+    ensures entry { StepsBy (machine_of state.old) state.old.heap.marking (Some (Ask.Finish by action outcome))
         (Some result) no_choice (machine_of state.new) }
     ensures flow { Conserves None state.old.cleaner.table None state.new.cleaner.table }
     ensures moves { Moves None state.old.cleaner.table None state.new.cleaner.table }
     ensures goes_out { GoesOut state.old.cleaner.table None (Some result) None }
-    ensures memory { WantsMemory (machine_of state.old) state.old.cleaner.table (Some (Ask.Finish by action (outcome_of outcome)))
+    ensures memory { WantsMemory (machine_of state.old) state.old.cleaner.table (Some (Ask.Finish by action outcome))
         (Some result) }
-    ensures table_room { LeavesRoom (Some (Ask.Finish by action (outcome_of outcome))) state.old.cleaner.table state.new.cleaner.table }
+    ensures table_room { LeavesRoom (Some (Ask.Finish by action outcome)) state.old.cleaner.table state.new.cleaner.table }
     ensures reached { MarksReached (machine_of state.old) state.old.heap.marking (machine_of state.new) state.new.heap.marking }
-    ensures blackens { BlackensNew {R = R} (Event.Finish by action outcome) (machine_of state.old) state.old.heap.marking no_choice
+    ensures blackens { BlackensNew {R = R} (Event.Ask (Ask.Finish by action outcome)) (machine_of state.old) state.old.heap.marking no_choice
         (machine_of state.new) state.new.heap.marking }
     ensures policy { KeepsByPolicy state.old.soft_age state.old.heap.clock (machine_of state.old) state.old.heap.marking
-        (Some (Ask.Finish by action (outcome_of outcome))) no_choice }
+        (Some (Ask.Finish by action outcome)) no_choice }
     ensures age { state.new.soft_age ≡ state.old.soft_age }
     ensures clock { state.new.heap.clock ≡ clock_after (machine_of state.old) state.old.heap.clock
-        (Some (Ask.Finish by action (outcome_of outcome))) (Some result) no_choice }
+        (Some (Ask.Finish by action outcome)) (Some result) no_choice }
     ensures cells { length state.new.heap.graph.objects ≡ length state.old.heap.graph.objects }
     ensures waits { WaitsOn (machine_of state.new) state.old.cleaner state.new.cleaner }
 {
     answer_to(cleaning::finish(state, by, action, outcome))
 }
 
-/// One event of those that carry no resource, neither in nor out, and are no piece of marking: what it is answered. The event is not
-/// moved.
+/// One ask of those that carry no resource, neither in nor out: what it is answered. It is lent.
 #[inline(never)]
 #[tactic(auto, using(jlr_state::proofs::Shading::same_only))]
-pub(crate) fn step_plain<R>(state: &mut State<R>, event: &Event<R>, choice: &mut Choice) -> Answer
-    requires plain { is_plain event.now ≡ true }
+pub(crate) fn step_plain<R>(state: &mut State<R>, ask: &Ask, choice: &mut Choice) -> Answer
+    requires plain { carries_none ask.now ≡ true }
     requires fit { IsWellFormed (machine_of state.old) }
     requires waits { AllWait (machine_of state.old) state.old.cleaner.waiting }
     requires nothing { choice.old ≡ nothing_chosen choice.old.cells }
     requires room { length state.old.heap.graph.objects ≤ choice.old.cells }
-    ensures entry { StepsBy (machine_of state.old) state.old.heap.marking (ask_of event.now)
+    ensures entry { StepsBy (machine_of state.old) state.old.heap.marking (Some ask.now)
         (Some result) choice.new.chosen (machine_of state.new) }
-    ensures flow { Conserves (resource_of_event event.now) state.old.cleaner.table None state.new.cleaner.table }
-    ensures moves { Moves (resource_of_event event.now) state.old.cleaner.table None state.new.cleaner.table }
-    ensures goes_out { GoesOut state.old.cleaner.table (resource_of_event event.now) (Some result) None }
-    ensures memory { WantsMemory (machine_of state.old) state.old.cleaner.table (ask_of event.now) (Some result) }
-    ensures table_room { LeavesRoom (ask_of event.now) state.old.cleaner.table state.new.cleaner.table }
+    ensures flow { Conserves None state.old.cleaner.table None state.new.cleaner.table }
+    ensures moves { Moves None state.old.cleaner.table None state.new.cleaner.table }
+    ensures goes_out { GoesOut state.old.cleaner.table None (Some result) None }
+    ensures memory { WantsMemory (machine_of state.old) state.old.cleaner.table (Some ask.now) (Some result) }
+    ensures table_room { LeavesRoom (Some ask.now) state.old.cleaner.table state.new.cleaner.table }
     ensures reached { MarksReached (machine_of state.old) state.old.heap.marking (machine_of state.new) state.new.heap.marking }
-    ensures begins { Begins (ask_of event.now) (machine_of state.old) (machine_of state.new) state.new.heap.marking }
-    ensures blackens { BlackensNew event.now (machine_of state.old) state.old.heap.marking choice.new.chosen
+    ensures begins { Begins (Some ask.now) (machine_of state.old) (machine_of state.new) state.new.heap.marking }
+    ensures blackens { BlackensNew {R = R} (Event.Ask ask.now) (machine_of state.old) state.old.heap.marking choice.new.chosen
         (machine_of state.new) state.new.heap.marking }
-    ensures collects { ask_of event.now ≡ Some Ask.Collect
+    ensures collects { Some ask.now ≡ Some Ask.Collect
         → result ≡ Answer.Truth (state.old.cycle_open && not (has_grey state.old.heap.marking)) }
     ensures policy { KeepsByPolicy state.old.soft_age state.old.heap.clock (machine_of state.old) state.old.heap.marking
-        (ask_of event.now) choice.new.chosen }
+        (Some ask.now) choice.new.chosen }
     ensures age { state.new.soft_age ≡ state.old.soft_age }
-    ensures clock { state.new.heap.clock ≡ clock_after (machine_of state.old) state.old.heap.clock (ask_of event.now)
+    ensures clock { state.new.heap.clock ≡ clock_after (machine_of state.old) state.old.heap.clock (Some ask.now)
         (Some result) choice.new.chosen }
     ensures room { choice.new.cells ≡ choice.old.cells }
     ensures cells { length state.new.heap.graph.objects ≡ length state.old.heap.graph.objects }
     ensures waits { WaitsOn (machine_of state.new) state.old.cleaner state.new.cleaner }
 {
-    answer_to(answer(state, event, choice))
+    answer_to(answer(state, ask, choice))
 }
 
-/// One event of those that carry no resource, neither in nor out, and are no piece of marking.
+/// One ask of those that carry no resource, neither in nor out.
 #[inline(always)]
 #[tactic(auto, using(jlr_state::proofs::Shading::same_only))]
-fn answer<R>(state: &mut State<R>, event: &Event<R>, choice: &mut Choice) -> Result<Answer, Refusal>
-    requires plain { is_plain event.now ≡ true }
+fn answer<R>(state: &mut State<R>, ask: &Ask, choice: &mut Choice) -> Result<Answer, Refusal>
+    requires plain { carries_none ask.now ≡ true }
     requires fit { IsWellFormed (machine_of state.old) }
     requires waits { AllWait (machine_of state.old) state.old.cleaner.waiting }
     requires nothing { choice.old ≡ nothing_chosen choice.old.cells }
     requires room { length state.old.heap.graph.objects ≤ choice.old.cells }
-    ensures entry { StepsBy (machine_of state.old) state.old.heap.marking (ask_of event.now)
+    ensures entry { StepsBy (machine_of state.old) state.old.heap.marking (Some ask.now)
         (Some (answer_of result)) choice.new.chosen (machine_of state.new) }
-    ensures flow { Conserves (resource_of_event event.now) state.old.cleaner.table None state.new.cleaner.table }
-    ensures moves { Moves (resource_of_event event.now) state.old.cleaner.table None state.new.cleaner.table }
-    ensures goes_out { GoesOut state.old.cleaner.table (resource_of_event event.now) (Some (answer_of result)) None }
-    ensures memory { WantsMemory (machine_of state.old) state.old.cleaner.table (ask_of event.now) (Some (answer_of result)) }
-    ensures table_room { LeavesRoom (ask_of event.now) state.old.cleaner.table state.new.cleaner.table }
+    ensures flow { Conserves None state.old.cleaner.table None state.new.cleaner.table }
+    ensures moves { Moves None state.old.cleaner.table None state.new.cleaner.table }
+    ensures goes_out { GoesOut state.old.cleaner.table None (Some (answer_of result)) None }
+    ensures memory { WantsMemory (machine_of state.old) state.old.cleaner.table (Some ask.now) (Some (answer_of result)) }
+    ensures table_room { LeavesRoom (Some ask.now) state.old.cleaner.table state.new.cleaner.table }
     ensures reached { MarksReached (machine_of state.old) state.old.heap.marking (machine_of state.new) state.new.heap.marking }
-    ensures begins { Begins (ask_of event.now) (machine_of state.old) (machine_of state.new) state.new.heap.marking }
-    ensures blackens { BlackensNew event.now (machine_of state.old) state.old.heap.marking choice.new.chosen
+    ensures begins { Begins (Some ask.now) (machine_of state.old) (machine_of state.new) state.new.heap.marking }
+    ensures blackens { BlackensNew {R = R} (Event.Ask ask.now) (machine_of state.old) state.old.heap.marking choice.new.chosen
         (machine_of state.new) state.new.heap.marking }
-    ensures collects { ask_of event.now ≡ Some Ask.Collect
+    ensures collects { Some ask.now ≡ Some Ask.Collect
         → answer_of result ≡ Answer.Truth (state.old.cycle_open && not (has_grey state.old.heap.marking)) }
     ensures policy { KeepsByPolicy state.old.soft_age state.old.heap.clock (machine_of state.old) state.old.heap.marking
-        (ask_of event.now) choice.new.chosen }
+        (Some ask.now) choice.new.chosen }
     ensures age { state.new.soft_age ≡ state.old.soft_age }
-    ensures clock { state.new.heap.clock ≡ clock_after (machine_of state.old) state.old.heap.clock (ask_of event.now)
+    ensures clock { state.new.heap.clock ≡ clock_after (machine_of state.old) state.old.heap.clock (Some ask.now)
         (Some (answer_of result)) choice.new.chosen }
     ensures room { choice.new.cells ≡ choice.old.cells }
     ensures cells { length state.new.heap.graph.objects ≡ length state.old.heap.graph.objects }
     ensures waits { WaitsOn (machine_of state.new) state.old.cleaner state.new.cleaner }
 {
-    match *event {
-        Event::Join { mutator } => handles::join(state, mutator),
-        Event::Leave { mutator } => handles::leave(state, mutator),
-        Event::New {
+    match *ask {
+        Ask::Join { mutator } => handles::join(state, mutator),
+        Ask::Leave { mutator } => handles::leave(state, mutator),
+        Ask::New {
             mutator,
             ref layout,
         } => objects::new_object(state, mutator, layout.copy(), choice),
-        Event::Put {
+        Ask::Put {
             mutator,
             object,
             field,
             value,
         } => objects::put(state, mutator, object, field, value),
-        Event::Get {
+        Ask::Get {
             mutator,
             object,
             field,
         } => objects::get(state, mutator, object, field),
-        Event::SetInt {
+        Ask::SetInt {
             mutator,
             object,
             field,
             value,
         } => objects::set_int(state, mutator, object, field, value),
-        Event::Int {
+        Ask::Int {
             mutator,
             object,
             field,
         } => objects::int(state, mutator, object, field),
-        Event::Dup { mutator, object } => handles::dup(state, mutator, object),
-        Event::Drop { mutator, object } => handles::drop_handle(state, mutator, object),
-        Event::Same {
+        Ask::Dup { mutator, object } => handles::dup(state, mutator, object),
+        Ask::Drop { mutator, object } => handles::drop_handle(state, mutator, object),
+        Ask::Same {
             mutator,
             left,
             right,
         } => handles::same(state, mutator, left, right),
-        Event::MakeRef {
+        Ask::MakeRef {
             mutator,
             kind,
             referent,
             queue,
         } => references::make_reference(state, mutator, kind, referent, queue, choice),
-        Event::Deref { mutator, reference } => references::deref(state, mutator, reference),
-        Event::Refers {
+        Ask::Deref { mutator, reference } => references::deref(state, mutator, reference),
+        Ask::Refers {
             mutator,
             reference,
             object,
         } => references::refers(state, mutator, reference, object),
-        Event::Clear { mutator, reference } => references::clear(state, mutator, reference),
-        Event::Enqueue { mutator, reference } => references::enqueue(state, mutator, reference),
-        Event::Enqueued { mutator, reference } => references::enqueued(state, mutator, reference),
-        Event::MakeQueue { mutator } => references::make_queue(state, mutator, choice),
-        Event::Poll { mutator, queue } => references::poll(state, mutator, queue),
-        Event::HandOver => Ok(Answer::Handed(references::hand_over(state))),
-        Event::Remove { mutator, queue } => references::remove(state, mutator, queue),
-        Event::MakeCleaner { mutator } => cleaning::make_cleaner(state, mutator, choice),
-        Event::Register {
+        Ask::Clear { mutator, reference } => references::clear(state, mutator, reference),
+        Ask::Enqueue { mutator, reference } => references::enqueue(state, mutator, reference),
+        Ask::Enqueued { mutator, reference } => references::enqueued(state, mutator, reference),
+        Ask::MakeQueue { mutator } => references::make_queue(state, mutator, choice),
+        Ask::Poll { mutator, queue } => references::poll(state, mutator, queue),
+        Ask::HandOver => Ok(Answer::Handed(references::hand_over(state))),
+        Ask::Remove { mutator, queue } => references::remove(state, mutator, queue),
+        Ask::MakeCleaner { mutator } => cleaning::make_cleaner(state, mutator, choice),
+        Ask::Register {
             mutator,
             cleaner,
             object,
             note,
         } => cleaning::register(state, mutator, cleaner, object, note, choice),
-        Event::Prepare { mutator } => state.prepare(mutator, choice),
-        Event::Finish {
+        Ask::Prepare { mutator } => state.prepare(mutator, choice),
+        Ask::Finish {
             by,
             action,
             outcome,
         } => cleaning::finish(state, by, action, outcome),
-        Event::Bind {
+        Ask::Bind {
             mutator,
             ref name,
             object,
         } => names::bind(state, mutator, name, object),
-        Event::Find { mutator, ref name } => names::find(state, mutator, name),
-        Event::Unbind { mutator, ref name } => names::unbind(state, mutator, name),
-        Event::Names { mutator } => names::names(state, mutator),
-        Event::Full { mutator, mode } => state.full(mutator, mode, choice),
-        Event::Stat { mutator } => counts::stat(state, mutator),
-        Event::Notes { mutator } => cleaning::notes(state, mutator),
-        Event::Faults { mutator } => cleaning::faults(state, mutator),
-        Event::Begin => Ok(Answer::Truth(state.begin())),
-        Event::Collect => Ok(Answer::Truth(state.collect_cycle(choice))),
-        Event::Abandon => Ok(Answer::Truth(state.abandon())),
-        Event::Array { mutator, length } => objects::new_array(state, mutator, length, choice),
+        Ask::Find { mutator, ref name } => names::find(state, mutator, name),
+        Ask::Unbind { mutator, ref name } => names::unbind(state, mutator, name),
+        Ask::Names { mutator } => names::names(state, mutator),
+        Ask::Full { mutator, mode } => state.full(mutator, mode, choice),
+        Ask::Stat { mutator } => counts::stat(state, mutator),
+        Ask::Notes { mutator } => cleaning::notes(state, mutator),
+        Ask::Faults { mutator } => cleaning::faults(state, mutator),
+        Ask::Begin => Ok(Answer::Truth(state.begin())),
+        Ask::Collect => Ok(Answer::Truth(state.collect_cycle(choice))),
+        Ask::Abandon => Ok(Answer::Truth(state.abandon())),
+        Ask::Array { mutator, length } => objects::new_array(state, mutator, length, choice),
         _ => unreachable!(),
     }
 }

@@ -1,23 +1,23 @@
 //! The core: one event at a time.
-ghost use Rattle.std.specs.Prelude.{◌≡◌, ◌≤◌, ◌↔◌, [], length, true, IfOk, IsTrue, None, Some};
+ghost use Rattle.std.specs.Prelude.{◌≡◌, ◌≤◌, ◌↔◌, [], length, true, false, IfOk, IsTrue, None, Some};
 ghost use Rattle.jlr_machine.specs.declared.machine.Machine.{Machine};
 ghost use Rattle.jlr_machine.specs.Refusals.{refusal};
 ghost use Rattle.jlr_machine.specs.Run.{no_choice};
-ghost use Rattle.jlr_event.specs.Events.{ask_of};
+ghost use Rattle.jlr_event.specs.Asks.{hands_in};
 ghost use Rattle.jlr_histories.specs.Collecting.{may_collect};
-ghost use Rattle.jlr_state.specs.Events.{is_plain};
+ghost use Rattle.jlr_state.specs.Events.{carries_none};
 ghost use Rattle.jlr_core.specs.Steps.{IsEmpty, IsStep};
 ghost use Rattle.jlr_state.specs.TakeUps.{handed_out, take_up_answered};
 
-use crate::dispatch::{step, step_cleaner, step_finish, step_handler, step_plain};
+use crate::dispatch::{step, step_ask, step_cleaner, step_finish, step_handler, step_plain};
 use crate::looks;
 use jlr_cleaner::Job;
 use jlr_event::event::{Event, Reply};
-use jlr_machine::ask::{Answer, Ask, Handed};
+use jlr_machine::ask::{Answer, Ask, Handed, Outcome};
 use jlr_machine::choice::Choice;
 use jlr_machine::machine::Machine;
 use jlr_state::state::State;
-use jlr_types::{ActionNo, Fault, Handle, Limits, Mutator, Progress, Refusal};
+use jlr_types::{ActionNo, Handle, Limits, Mutator, Progress, Refusal};
 use std::alloc::{AllocError, Global};
 use std::marker::Model;
 
@@ -81,18 +81,30 @@ impl<R> Core<R> {
         step(&mut self.state, event, choice)
     }
 
-    /// One event of those that carry no resource, neither in nor out, and are no piece of marking: what `step` does for it, and what it is
-    /// answered. Nothing is moved for it.
+    /// One ask that hands in no resource: what `step` does for it. It is lent.
     #[inline(always)]
-    pub fn answer(&mut self, event: &Event<R>, choice: &mut Choice) -> Answer
-        requires plain { is_plain event.now ≡ true }
+    pub fn step_ask(&mut self, ask: &Ask, choice: &mut Choice) -> Reply<R>
+        requires plain { hands_in ask.now ≡ false }
         requires room { length self.old.machine.objects ≤ choice.old.cells }
-        ensures step { IsStep self.old event.now (Reply.Answered result None) choice.new.chosen self.new }
+        ensures step { IsStep self.old (Event.Ask ask.now) result choice.new.chosen self.new }
         ensures room { choice.new.cells ≡ choice.old.cells }
         ensures cells { length self.new.machine.objects ≡ length self.old.machine.objects }
     {
         choice.clear();
-        step_plain(&mut self.state, event, choice)
+        step_ask(&mut self.state, ask, choice)
+    }
+
+    /// One ask of those that carry no resource, neither in nor out: what `step` does for it, and what it is answered. It is lent.
+    #[inline(always)]
+    pub fn answer(&mut self, ask: &Ask, choice: &mut Choice) -> Answer
+        requires plain { carries_none ask.now ≡ true }
+        requires room { length self.old.machine.objects ≤ choice.old.cells }
+        ensures step { IsStep self.old (Event.Ask ask.now) (Reply.Answered result None) choice.new.chosen self.new }
+        ensures room { choice.new.cells ≡ choice.old.cells }
+        ensures cells { length self.new.machine.objects ≡ length self.old.machine.objects }
+    {
+        choice.clear();
+        step_plain(&mut self.state, ask, choice)
     }
 
     /// A piece of marking of at most so many ticks: what `step` does for a `Mark`, which chooses nothing. Nothing is moved for it but its budget.
@@ -105,7 +117,7 @@ impl<R> Core<R> {
 
     /// A step of the handler: what `step` does for `HandOver`, which chooses nothing and is never refused.
     pub fn hand_over(&mut self) -> Handed
-        ensures step { IsStep self.old Event.HandOver (Reply.Answered (Answer.Handed result) None) no_choice self.new }
+        ensures step { IsStep self.old (Event.Ask Ask.HandOver) (Reply.Answered (Answer.Handed result) None) no_choice self.new }
         ensures cells { length self.new.machine.objects ≡ length self.old.machine.objects }
     {
         step_handler(&mut self.state)
@@ -117,7 +129,7 @@ impl<R> Core<R> {
     /// # Errors
     /// `Busy` where the cleaner has a job that has not ended.
     pub fn take_up(&mut self) -> Result<Option<Job<R>>, Refusal>
-        ensures step { IsStep self.old Event.TakeUp (Reply.Answered (take_up_answered result) (handed_out result)) no_choice self.new }
+        ensures step { IsStep self.old (Event.Ask Ask.TakeUp) (Reply.Answered (take_up_answered result) (handed_out result)) no_choice self.new }
         ensures cells { length self.new.machine.objects ≡ length self.old.machine.objects }
     {
         step_cleaner(&mut self.state)
@@ -125,19 +137,19 @@ impl<R> Core<R> {
 
     /// The end of a job that a mutator took up, or, by 255, the cleaner: what `step` does for `Finish`, which chooses nothing. It is
     /// refused `NoSession` where the taker is no joined mutator, and `NotOut` where it runs no such job.
-    pub fn finish(&mut self, by: u8, action: ActionNo, outcome: Result<(), Fault>) -> Answer
-        ensures step { IsStep self.old (Event.Finish by action outcome) (Reply.Answered result None) no_choice self.new }
+    pub fn finish(&mut self, by: u8, action: ActionNo, outcome: Outcome) -> Answer
+        ensures step { IsStep self.old (Event.Ask (Ask.Finish by action outcome)) (Reply.Answered result None) no_choice self.new }
         ensures cells { length self.new.machine.objects ≡ length self.old.machine.objects }
     {
         step_finish(&mut self.state, by, action, outcome)
     }
 
-    /// Whether an event may come with a collection: a full collection, a `Collect` in an open cycle, and an ask whose objects find no room.
-    /// It looks at no refusal. A step of an event for which it answers no chooses no collection.
-    pub fn will_collect(&self, event: &Event<R>) -> bool
-        ensures { result ≡ may_collect self.now.machine (ask_of event.now) }
+    /// Whether an ask may come with a collection: a full collection, a `Collect` in an open cycle, and an ask whose objects find no room.
+    /// It looks at no refusal. A step of an ask for which it answers no chooses no collection.
+    pub fn will_collect(&self, ask: &Ask) -> bool
+        ensures { result ≡ may_collect self.now.machine (Some ask.now) }
     {
-        looks::will_collect(&self.state, event)
+        looks::will_collect(&self.state, ask)
     }
 
     /// Whether a `Remove` of a mutator on a queue would be refused `WouldWait`.

@@ -3,25 +3,23 @@ ghost use Rattle.std.specs.Prelude.{◌≡◌, ◌↔◌, IsTrue, Some, [], not}
 ghost use Rattle.jlr_machine.specs.Refusals.{refusal};
 ghost use Rattle.jlr_machine.specs.Run.{has_room};
 ghost use Rattle.jlr_machine.specs.WellFormed.{IsWellFormed};
-ghost use Rattle.jlr_event.specs.Events.{ask_of};
 ghost use Rattle.jlr_histories.specs.Collecting.{may_collect};
 ghost use Rattle.jlr_state.specs.Looks.{cells_for};
 ghost use Rattle.jlr_state.specs.Machines.{machine_of};
 
 use crate::references;
-use jlr_event::event::Event;
 use jlr_machine::ask::Ask;
 use jlr_state::state::State;
 use jlr_types::{Handle, Mutator, Refusal};
 
-/// Whether an event may come with a collection, whatever it is refused by.
-pub(crate) fn will_collect<R>(state: &State<R>, event: &Event<R>) -> bool
-    ensures { result ≡ may_collect (machine_of state.now) (ask_of event.now) }
+/// Whether an ask may come with a collection, whatever it is refused by.
+pub(crate) fn will_collect<R>(state: &State<R>, ask: &Ask) -> bool
+    ensures { result ≡ may_collect (machine_of state.now) (Some ask.now) }
 {
-    match event {
-        Event::Full { .. } => true,
-        Event::Collect => state.cycle_open,
-        _ => lacks_room(state, cells_for(event)),
+    match ask {
+        Ask::Full { .. } => true,
+        Ask::Collect => state.cycle_open,
+        _ => lacks_room(state, cells_for(ask)),
     }
 }
 
@@ -57,18 +55,18 @@ pub(crate) fn line_empty<R>(state: &State<R>) -> bool
     state.heap.first_lined().is_none()
 }
 
-/// How many cells the objects of an event take.
-fn cells_for<R>(event: &Event<R>) -> u32
-    ensures { result ≡ cells_for (ask_of event.now) }
+/// How many cells the objects of an ask take.
+fn cells_for(ask: &Ask) -> u32
+    ensures { result ≡ cells_for (Some ask.now) }
 {
-    match event {
-        Event::New { .. }
-        | Event::Array { .. }
-        | Event::MakeRef { .. }
-        | Event::MakeQueue { .. }
-        | Event::MakeCleaner { .. }
-        | Event::Register { .. } => 1,
-        Event::Prepare { .. } => 2,
+    match ask {
+        Ask::New { .. }
+        | Ask::Array { .. }
+        | Ask::MakeRef { .. }
+        | Ask::MakeQueue { .. }
+        | Ask::MakeCleaner { .. }
+        | Ask::Register { .. } => 1,
+        Ask::Prepare { .. } => 2,
         _ => 0,
     }
 }

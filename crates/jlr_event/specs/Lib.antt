@@ -1,2 +1,3 @@
--- What events and replies are without their resources.
+-- Which asks hand in a resource, and what events and replies are without theirs.
+pub mod Asks
 pub mod Events

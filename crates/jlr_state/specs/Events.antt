@@ -1,11 +1,9 @@
 -- What an event and its reply are to the machine.
 use Rattle.std.specs.Prelude.{◌≡◌, ◌<◌, ◌≤◌, ◌^◌, Bool, Option, Some, None, false, length, true}
 use Rattle.jlr_types.specs.declared.Refusal.TheVariants.{NoMemory}
-use Rattle.jlr_event.specs.declared.event.Event.{Event}
-use Rattle.jlr_event.specs.declared.event.Event.TheVariants.{CheckIn, CheckOut, Clean, Close, Mark, Opened, TakeUp}
 use Rattle.jlr_machine.specs.declared.machine.Machine.{Machine}
 use Rattle.jlr_machine.specs.declared.ask.Ask.{Ask}
-use Rattle.jlr_machine.specs.declared.ask.Ask.TheVariants.{Prepare, Names, Notes, Faults, Array, Bind}
+use Rattle.jlr_machine.specs.declared.ask.Ask.TheVariants.{Array, Bind, CheckIn, CheckOut, Clean, Close, Faults, Names, Notes, Opened, Prepare, TakeUp}
 use Rattle.jlr_machine.specs.declared.ask.Answer.{Answer}
 use Rattle.jlr_machine.specs.declared.ask.Answer.TheVariants.{Refused}
 use Rattle.jlr_machine.specs.declared.entry.Chosen.{Chosen}
@@ -17,16 +15,15 @@ use Rattle.jlr_marks.specs.Marking.{Marking}
 use Rattle.jlr_resource.specs.Resources.{Resources, resources}
 use Rattle.jlr_state.specs.State.{MeetsAsk, entry_of}
 
--- an event that carries no resource, neither in nor out, and is no piece of marking
-abbrev pub is_plain : {R : Type 0} → Event R → Bool
-is_plain (Clean k c) = false
-is_plain (Opened k outcome) = false
-is_plain (CheckOut k h) = false
-is_plain (CheckIn k outcome resource) = false
-is_plain (Close k h) = false
-is_plain TakeUp = false
-is_plain (Mark budget) = false
-is_plain _ = true
+-- an ask that carries no resource, neither in nor out
+abbrev pub carries_none : Ask → Bool
+carries_none (Clean k c) = false
+carries_none (Opened k outcome) = false
+carries_none (CheckOut k h) = false
+carries_none (CheckIn k outcome) = false
+carries_none (Close k h) = false
+carries_none TakeUp = false
+carries_none ask = true
 
 -- the table has room for one resource more, in a place that has a number
 abbrev pub HasRoom : {R : Type 0} → Resources R → Type 0

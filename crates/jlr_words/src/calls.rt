@@ -1,16 +1,16 @@
 //! Events with an outcome.
 use crate::words::{byte, data_of, fault_of, number};
 use jlr_event::event::Event;
-use jlr_machine::ask::CallOutcome;
+use jlr_machine::ask::{Ask, CallOutcome, Outcome};
 use jlr_machine::text::WriteCount;
 use jlr_types::{ActionNo, Fault, Mutator};
 use std::alloc::Global;
 use std::str::SplitWhitespace;
 
-fn ended(word: &str) -> Option<Result<(), Fault>> {
+fn ended(word: &str) -> Option<Outcome> {
     match word {
-        "ok" => Some(Ok(())),
-        _ => fault_of(word).map(Err),
+        "ok" => Some(Outcome::Ok),
+        _ => fault_of(word).map(Outcome::Failed),
     }
 }
 
@@ -18,11 +18,11 @@ pub(crate) fn finish(words: &mut SplitWhitespace<'_>) -> Option<Event<u32>> {
     let by = byte(words)?;
     let action = ActionNo::new(number(words)?);
     let outcome = ended(words.next()?)?;
-    Some(Event::Finish {
+    Some(Event::ask(Ask::Finish {
         by,
         action,
         outcome,
-    })
+    }))
 }
 
 fn opening(word: &str) -> Option<Result<u32, Fault>> {

@@ -2,7 +2,8 @@
 use crate::calls::{check_in, finish, opened};
 use crate::verbs::{Verb, verb_of};
 use crate::words::{byte, field, handle, layout_of, name, number};
-use jlr_event::event::Event;
+use jlr_event::event::{Event, ended};
+use jlr_machine::ask::Ask;
 use jlr_types::{Handle, Length, Mutator};
 use std::alloc::Global;
 use std::str::SplitWhitespace;
@@ -14,6 +15,27 @@ pub fn event_of(alloc: Global, text: &str) -> Option<Event<u32>> {
     match words.next() {
         Some(_) => None,
         None => event,
+    }
+}
+
+/// The ask of an event, and what it hands in.
+pub fn parts_of(event: Event<u32>) -> (Option<Ask>, Option<u32>) {
+    match event {
+        Event::Ask(ask) => (Some(ask.into_ask()), None),
+        Event::Opened { mutator, outcome } => {
+            let ended = ended(&outcome);
+            let ask = Ask::Opened {
+                mutator,
+                outcome: ended,
+            };
+            (Some(ask), outcome.ok())
+        }
+        Event::CheckIn {
+            mutator,
+            outcome,
+            resource,
+        } => (Some(Ask::CheckIn { mutator, outcome }), Some(resource)),
+        Event::Mark { .. } => (None, None),
     }
 }
 
@@ -44,8 +66,8 @@ fn asked(
         Verb::SetInt => set_int(mutator, words),
         Verb::Register => register(mutator, words),
         Verb::Bind => bind(mutator, words),
-        Verb::Find => name(words).map(|name| Event::Find { mutator, name }),
-        Verb::Unbind => name(words).map(|name| Event::Unbind { mutator, name }),
+        Verb::Find => name(words).map(|name| Event::ask(Ask::Find { mutator, name })),
+        Verb::Unbind => name(words).map(|name| Event::ask(Ask::Unbind { mutator, name })),
         Verb::Put => put(mutator, words),
         Verb::Get => get(mutator, words),
         Verb::Int => int(mutator, words),
@@ -56,79 +78,79 @@ fn asked(
 
 fn new(mutator: Mutator, words: &mut SplitWhitespace<'_>) -> Event<u32> {
     let layout = layout_of(words.next().unwrap_or(""));
-    Event::New { mutator, layout }
+    Event::ask(Ask::New { mutator, layout })
 }
 
 fn array(mutator: Mutator, words: &mut SplitWhitespace<'_>) -> Option<Event<u32>> {
     number(words)
         .and_then(Length::new)
-        .map(|length| Event::Array { mutator, length })
+        .map(|length| Event::ask(Ask::Array { mutator, length }))
 }
 
 fn set_int(mutator: Mutator, words: &mut SplitWhitespace<'_>) -> Option<Event<u32>> {
     let object = handle(words)?;
     let field = field(words)?;
     let value = number(words)?;
-    Some(Event::SetInt {
+    Some(Event::ask(Ask::SetInt {
         mutator,
         object,
         field,
         value,
-    })
+    }))
 }
 
 fn put(mutator: Mutator, words: &mut SplitWhitespace<'_>) -> Option<Event<u32>> {
     let object = handle(words)?;
     let field = field(words)?;
     let value = handle(words)?;
-    Some(Event::Put {
+    Some(Event::ask(Ask::Put {
         mutator,
         object,
         field,
         value,
-    })
+    }))
 }
 
 fn get(mutator: Mutator, words: &mut SplitWhitespace<'_>) -> Option<Event<u32>> {
     let object = handle(words)?;
     let field = field(words)?;
-    Some(Event::Get {
+    Some(Event::ask(Ask::Get {
         mutator,
         object,
         field,
-    })
+    }))
 }
 
 fn int(mutator: Mutator, words: &mut SplitWhitespace<'_>) -> Option<Event<u32>> {
     let object = handle(words)?;
     let field = field(words)?;
-    Some(Event::Int {
+    Some(Event::ask(Ask::Int {
         mutator,
         object,
         field,
-    })
+    }))
 }
 
 fn register(mutator: Mutator, words: &mut SplitWhitespace<'_>) -> Option<Event<u32>> {
     let cleaner = handle(words)?;
     let object = handle(words)?;
     let note = number(words)?;
-    Some(Event::Register {
+    Some(Event::ask(Ask::Register {
         mutator,
         cleaner,
         object,
         note,
-    })
+    }))
 }
 
 fn bind(mutator: Mutator, words: &mut SplitWhitespace<'_>) -> Option<Event<u32>> {
     let name = name(words)?;
     let object = handle(words)?;
-    Some(Event::Bind {
+    Some(Event::ask(Ask::Bind {
         mutator,
         name,
         object,
-    })
+    }))
 }
 
 fn mark(words: &mut SplitWhitespace<'_>) -> Option<Event<u32>> {
@@ -153,21 +175,21 @@ fn short(mutator: Mutator, verb: Verb, words: &mut SplitWhitespace<'_>) -> Optio
 
 fn alone(mutator: Mutator, verb: Verb) -> Option<Event<u32>> {
     let event = match verb {
-        Verb::Join => Event::Join { mutator },
-        Verb::Leave => Event::Leave { mutator },
-        Verb::Queue => Event::MakeQueue { mutator },
-        Verb::Cleaner => Event::MakeCleaner { mutator },
-        Verb::Prepare => Event::Prepare { mutator },
-        Verb::Names => Event::Names { mutator },
-        Verb::Full(mode) => Event::Full { mutator, mode },
-        Verb::Stat => Event::Stat { mutator },
-        Verb::Notes => Event::Notes { mutator },
-        Verb::Faults => Event::Faults { mutator },
-        Verb::HandOver => Event::HandOver,
-        Verb::TakeUp => Event::TakeUp,
-        Verb::Begin => Event::Begin,
-        Verb::Collect => Event::Collect,
-        Verb::Abandon => Event::Abandon,
+        Verb::Join => Event::ask(Ask::Join { mutator }),
+        Verb::Leave => Event::ask(Ask::Leave { mutator }),
+        Verb::Queue => Event::ask(Ask::MakeQueue { mutator }),
+        Verb::Cleaner => Event::ask(Ask::MakeCleaner { mutator }),
+        Verb::Prepare => Event::ask(Ask::Prepare { mutator }),
+        Verb::Names => Event::ask(Ask::Names { mutator }),
+        Verb::Full(mode) => Event::ask(Ask::Full { mutator, mode }),
+        Verb::Stat => Event::ask(Ask::Stat { mutator }),
+        Verb::Notes => Event::ask(Ask::Notes { mutator }),
+        Verb::Faults => Event::ask(Ask::Faults { mutator }),
+        Verb::HandOver => Event::ask(Ask::HandOver),
+        Verb::TakeUp => Event::ask(Ask::TakeUp),
+        Verb::Begin => Event::ask(Ask::Begin),
+        Verb::Collect => Event::ask(Ask::Collect),
+        Verb::Abandon => Event::ask(Ask::Abandon),
         _ => return None,
     };
     Some(event)
@@ -175,26 +197,26 @@ fn alone(mutator: Mutator, verb: Verb) -> Option<Event<u32>> {
 
 fn with_one(mutator: Mutator, verb: Verb, handle: Handle) -> Option<Event<u32>> {
     let event = match verb {
-        Verb::Dup => Event::Dup {
+        Verb::Dup => Event::ask(Ask::Dup {
             mutator,
             object: handle,
-        },
-        Verb::Drop => Event::Drop {
+        }),
+        Verb::Drop => Event::ask(Ask::Drop {
             mutator,
             object: handle,
-        },
-        Verb::Clean => Event::Clean {
+        }),
+        Verb::Clean => Event::ask(Ask::Clean {
             mutator,
             cleanable: handle,
-        },
-        Verb::CheckOut => Event::CheckOut {
+        }),
+        Verb::CheckOut => Event::ask(Ask::CheckOut {
             mutator,
             guard: handle,
-        },
-        Verb::Close => Event::Close {
+        }),
+        Verb::Close => Event::ask(Ask::Close {
             mutator,
             guard: handle,
-        },
+        }),
         _ => return on_reference(mutator, verb, handle),
     };
     Some(event)
@@ -202,18 +224,18 @@ fn with_one(mutator: Mutator, verb: Verb, handle: Handle) -> Option<Event<u32>> 
 
 fn on_reference(mutator: Mutator, verb: Verb, reference: Handle) -> Option<Event<u32>> {
     let event = match verb {
-        Verb::Deref => Event::Deref { mutator, reference },
-        Verb::Clear => Event::Clear { mutator, reference },
-        Verb::Enqueue => Event::Enqueue { mutator, reference },
-        Verb::Enqueued => Event::Enqueued { mutator, reference },
-        Verb::Poll => Event::Poll {
+        Verb::Deref => Event::ask(Ask::Deref { mutator, reference }),
+        Verb::Clear => Event::ask(Ask::Clear { mutator, reference }),
+        Verb::Enqueue => Event::ask(Ask::Enqueue { mutator, reference }),
+        Verb::Enqueued => Event::ask(Ask::Enqueued { mutator, reference }),
+        Verb::Poll => Event::ask(Ask::Poll {
             mutator,
             queue: reference,
-        },
-        Verb::Remove => Event::Remove {
+        }),
+        Verb::Remove => Event::ask(Ask::Remove {
             mutator,
             queue: reference,
-        },
+        }),
         _ => return None,
     };
     Some(event)
@@ -221,22 +243,22 @@ fn on_reference(mutator: Mutator, verb: Verb, reference: Handle) -> Option<Event
 
 fn with_two(mutator: Mutator, verb: Verb, first: Handle, second: u8) -> Option<Event<u32>> {
     let event = match verb {
-        Verb::Reference(kind) => Event::MakeRef {
+        Verb::Reference(kind) => Event::ask(Ask::MakeRef {
             mutator,
             kind,
             referent: first,
             queue: Handle::new(second),
-        },
-        Verb::Same => Event::Same {
+        }),
+        Verb::Same => Event::ask(Ask::Same {
             mutator,
             left: first,
             right: Handle::new(second),
-        },
-        Verb::Refers => Event::Refers {
+        }),
+        Verb::Refers => Event::ask(Ask::Refers {
             mutator,
             reference: first,
             object: Handle::new(second),
-        },
+        }),
         _ => return None,
     };
     Some(event)

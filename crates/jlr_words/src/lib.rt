@@ -23,5 +23,5 @@ mod verbs;
 mod words;
 
 pub use answers::answer_of;
-pub use events::event_of;
+pub use events::{event_of, parts_of};
 pub use replies::{handle_in, is_reply};

@@ -9,10 +9,11 @@ ghost use Rattle.jlr_cleaner.specs.Jobs.{is_running, runs_job};
 use super::calls::{Got, Stage, play};
 use super::words::{Numbers, all_numbers, outcome, parsed, rid, small, tiny};
 use jlr_cleaner::{Cleaner, Job};
+use jlr_machine::ask::Outcome;
 use jlr_machine::items::Items;
 use jlr_machine::machine::Resource;
 use jlr_resource::State;
-use jlr_types::{ActionNo, Fault, Limits, Refusal, Rid, Slot, Work};
+use jlr_types::{ActionNo, Limits, Refusal, Rid, Slot, Work};
 use std::alloc::{AllocError, Global};
 use std::fmt::Debug;
 use std::str::SplitWhitespace;
@@ -62,7 +63,7 @@ fn note(cleaner: &mut Cleaner<u64>, by: u8, number: u32) -> Option<u64> {
 }
 
 // So many notes, each taken up by the cleaner and over before the next. Gives the number of the last.
-fn many(cleaner: &mut Cleaner<u64>, count: u32, outcome: Result<(), Fault>) -> Option<u64> {
+fn many(cleaner: &mut Cleaner<u64>, count: u32, outcome: Outcome) -> Option<u64> {
     let mut last = 0;
     for number in 0..count {
         last = note(cleaner, ITSELF, number)?;

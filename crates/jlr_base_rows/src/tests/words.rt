@@ -1,4 +1,5 @@
 //! Words of rows.
+use jlr_machine::ask::Outcome;
 use jlr_types::{Fault, Rid};
 use std::str::{FromStr, SplitWhitespace};
 
@@ -51,10 +52,10 @@ where
     words.next()?.parse().ok()
 }
 
-pub(super) fn outcome(words: &mut SplitWhitespace<'_>) -> Option<Result<(), Fault>> {
+pub(super) fn outcome(words: &mut SplitWhitespace<'_>) -> Option<Outcome> {
     match words.next()? {
-        "ok" => Some(Ok(())),
-        word => Some(Err(fault(word)?)),
+        "ok" => Some(Outcome::Ok),
+        word => Some(Outcome::Failed(fault(word)?)),
     }
 }
 

@@ -2,6 +2,7 @@
 use super::script::{play_all, shape_of};
 use super::{me, replies_to};
 use jlr_event::event::{Event, Reply};
+use jlr_machine::ask::{Ask, Outcome};
 use jlr_types::{ActionNo, Handle};
 use jlr_words::is_reply;
 use std::alloc::{AllocError, Global};
@@ -221,36 +222,36 @@ fn lists_of_cleaning(rt: HostRuntime) -> Result<(), Fail> {
 
 // The asks by which an action with this note is registered and carried out, and its cleanable let go.
 fn push_noted(events: &mut Vec<Event<u32>>, note: u32) -> Result<(), AllocError> {
-    events.push(Event::Register {
+    events.push(Event::ask(Ask::Register {
         mutator: me(),
         cleaner: Handle::new(1),
         object: Handle::new(1),
         note,
-    })?;
-    events.push(Event::Clean {
+    }))?;
+    events.push(Event::ask(Ask::Clean {
         mutator: me(),
         cleanable: Handle::new(2),
-    })?;
-    events.push(Event::Finish {
+    }))?;
+    events.push(Event::ask(Ask::Finish {
         by: 0,
         action: ActionNo::new(u64::from(note) + 1),
-        outcome: Ok(()),
-    })?;
-    events.push(Event::Drop {
+        outcome: Outcome::Ok,
+    }))?;
+    events.push(Event::ask(Ask::Drop {
         mutator: me(),
         object: Handle::new(2),
-    })?;
+    }))?;
     Ok(())
 }
 
 // The asks that record the notes from 0 to 256, and ask for them.
 fn ask_notes(events: &mut Vec<Event<u32>>) -> Result<(), AllocError> {
-    events.push(Event::Join { mutator: me() })?;
-    events.push(Event::MakeCleaner { mutator: me() })?;
+    events.push(Event::ask(Ask::Join { mutator: me() }))?;
+    events.push(Event::ask(Ask::MakeCleaner { mutator: me() }))?;
     for note in 0u32..257 {
         push_noted(events, note)?;
     }
-    events.push(Event::Notes { mutator: me() })?;
+    events.push(Event::ask(Ask::Notes { mutator: me() }))?;
     Ok(())
 }
 

@@ -5,6 +5,7 @@ use super::script::{is_answered, ready, shape_of};
 use super::{let_go, me};
 use jlr_core::engine::Core;
 use jlr_event::event::Event;
+use jlr_machine::ask::Ask;
 use jlr_machine::choice::Choice;
 use jlr_types::{Handle, RefKind};
 use jlr_words::{handle_in, is_reply};
@@ -39,10 +40,10 @@ fn is_dropped(core: &mut Core<u32>, choice: &mut Choice, object: u8) -> bool
     requires { length core.old.machine.objects ≤ choice.old.cells }
     ensures { length core.new.machine.objects ≤ choice.new.cells }
 {
-    let drop = Event::Drop {
+    let drop = Event::ask(Ask::Drop {
         mutator: me(),
         object: Handle::new(object),
-    };
+    });
     is_told(core, choice, drop, "done")
 }
 
@@ -51,17 +52,17 @@ fn put(core: &mut Core<u32>, choice: &mut Choice) -> Option<u8>
     requires { length core.old.machine.objects ≤ choice.old.cells }
     ensures { length core.new.machine.objects ≤ choice.new.cells }
 {
-    let weak = Event::MakeRef {
+    let weak = Event::ask(Ask::MakeRef {
         mutator: me(),
         kind: RefKind::Weak,
         referent: Handle::new(2),
         queue: Handle::new(1),
-    };
+    });
     let made = handle_in(&core.step(weak, choice))?;
-    let enqueue = Event::Enqueue {
+    let enqueue = Event::ask(Ask::Enqueue {
         mutator: me(),
         reference: Handle::new(made),
-    };
+    });
     if !is_told(core, choice, enqueue, "yes") {
         return None;
     }
@@ -112,18 +113,18 @@ fn takes_one(core: &mut Core<u32>, choice: &mut Choice, kept: u8, wanted: &str) 
     requires { length core.old.machine.objects ≤ choice.old.cells }
     ensures { length core.new.machine.objects ≤ choice.new.cells }
 {
-    let poll = Event::Poll {
+    let poll = Event::ask(Ask::Poll {
         mutator: me(),
         queue: Handle::new(1),
-    };
+    });
     let Some(front) = handle_in(&core.step(poll, choice)) else {
         return false;
     };
-    let same = Event::Same {
+    let same = Event::ask(Ask::Same {
         mutator: me(),
         left: Handle::new(front),
         right: Handle::new(kept),
-    };
+    });
     if !is_told(core, choice, same, wanted) {
         return false;
     }

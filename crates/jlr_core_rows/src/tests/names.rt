@@ -2,6 +2,7 @@
 use super::script::{play_all, shape_of};
 use super::{me, replies_to};
 use jlr_event::event::{Event, Reply};
+use jlr_machine::ask::Ask;
 use jlr_machine::text::Name;
 use jlr_types::Handle;
 use jlr_words::{event_of, is_reply};
@@ -52,11 +53,11 @@ fn lists_of_names(rt: HostRuntime) -> Result<(), Fail> {
 // A name of its own for each number.
 fn numbered(number: u8) -> Option<Event<u32>> {
     let name = Name::from_slice(&[b'a' + number / 16, b'a' + number % 16])?;
-    Some(Event::Bind {
+    Some(Event::ask(Ask::Bind {
         mutator: me(),
         name,
         object: Handle::new(1),
-    })
+    }))
 }
 
 fn push(events: &mut Vec<Event<u32>>, event: Option<Event<u32>>) -> Result<(), AllocError> {

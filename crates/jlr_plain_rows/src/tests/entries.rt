@@ -1,12 +1,11 @@
 //! Entries, read from words.
 use jlr_machine::ask::{Answer, Ask};
-use jlr_machine::data::Data;
 use jlr_machine::entry::{Chosen, Collected, Entry};
 use jlr_machine::fresh::FreshSlots;
 use jlr_machine::items::Items;
 use jlr_machine::kept::KeptSlots;
 use jlr_types::Slot;
-use jlr_words::{answer_of, event_of};
+use jlr_words::{answer_of, event_of, parts_of};
 use std::alloc::{AllocError, Global};
 
 const ARROW: &str = " -> ";
@@ -14,7 +13,7 @@ const ARROW: &str = " -> ";
 /// The entry of a row; none where it is no entry.
 pub(super) fn entry_of(alloc: Global, row: &str) -> Result<Option<Entry>, AllocError> {
     let (ask, told) = row.split_once(ARROW).unwrap_or((row, ""));
-    match ask_of(alloc, ask)? {
+    match ask_of(alloc, ask) {
         Some(ask) => answered(alloc, ask, told),
         None => Ok(None),
     }
@@ -44,12 +43,8 @@ fn chosen(
     }))
 }
 
-fn ask_of(alloc: Global, text: &str) -> Result<Option<Ask>, AllocError> {
-    let room = Data::new(alloc)?;
-    match event_of(alloc, text) {
-        Some(event) => Ok(event.plain(Some(room))),
-        None => Ok(None),
-    }
+fn ask_of(alloc: Global, text: &str) -> Option<Ask> {
+    parts_of(event_of(alloc, text)?).0
 }
 
 // ---- Choices

@@ -5,14 +5,13 @@
 use jlr_copies::copy_ask;
 use jlr_event::event::{Event, Reply};
 use jlr_machine::ask::{Answer, Ask};
-use jlr_machine::data::Data;
 use std::alloc::{AllocError, Global};
 use std::test::Fail;
 
 mod replies;
 mod writing;
 
-use jlr_words::event_of;
+use jlr_words::{event_of, parts_of};
 use replies::reply_of;
 use writing::{answer_text, ask_text, with_resource};
 
@@ -138,13 +137,12 @@ fn event_told(alloc: Global, given: &str) -> Result<String, AllocError> {
 
 // The copy of an event's ask in words, with its resource.
 fn told_again(alloc: Global, event: Event<u32>) -> Result<String, AllocError> {
-    let text = asked(alloc, &event);
-    with_resource(alloc, text?, event.into_resource())
+    let (ask, resource) = parts_of(event);
+    with_resource(alloc, asked(alloc, ask)?, resource)
 }
 
-fn asked(alloc: Global, event: &Event<u32>) -> Result<String, AllocError> {
-    let room = Data::new(alloc)?;
-    match event.plain(Some(room)) {
+fn asked(alloc: Global, ask: Option<Ask>) -> Result<String, AllocError> {
+    match ask {
         Some(ask) => copy_told(alloc, &ask),
         None => String::from_str(alloc, "none"),
     }

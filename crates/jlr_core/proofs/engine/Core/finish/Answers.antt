@@ -1,7 +1,6 @@
 use Rattle.std.proofs.Common.{rules, ◌≡◌, None, Some, length, refl, sym, subst}
 use Rattle.jlr_machine.specs.declared.ask.Ask.TheVariants.{Finish}
 use Rattle.jlr_machine.specs.Run.{no_choice}
-use Rattle.jlr_cleaner.specs.Outcomes.{outcome_of}
 use Rattle.jlr_state.specs.Machines.{machine_of}
 use Rattle.jlr_event.specs.declared.event.Event.TheVariants as event
 use Rattle.jlr_state.specs.Events.{WantsMemory}
@@ -20,7 +19,7 @@ invariant_of-self g c =
     let m = machine_of old in
     let n = machine_of new in
     let did = c.step_finish.ensures in
-    let ask = Some (Finish c.args.by c.args.action (outcome_of c.args.outcome)) in
+    let ask = Some (Finish c.args.by c.args.action c.args.outcome) in
     let answer = Some c.step_finish.result in
     let formed = well_formed_after m n old.heap.marking ask answer no_choice refl refl c.self.invariant.0 did.entry in (
       formed,
@@ -30,7 +29,7 @@ invariant_of-self g c =
 
 pub returns-clause-step : goal.returns-clause-step
 returns-clause-step g c =
-    let ask = Some (Finish c.args.by c.args.action (outcome_of c.args.outcome)) in
+    let ask = Some (Finish c.args.by c.args.action c.args.outcome) in
     let answer = Some c.step_finish.result in
     let chosen = no_choice in
     let old = c.self.inside.state in
@@ -55,7 +54,7 @@ returns-clause-step g c =
       blackens =
           subst
           (λ (k : Kept g.row.R.Denot).
-          BlackensNew {R = g.row.R.Denot} (event.Finish c.args.by c.args.action c.args.outcome)
+          BlackensNew {R = g.row.R.Denot} (event.Ask (Finish c.args.by c.args.action c.args.outcome))
           k.machine k.marking chosen n new.heap.marking)
           c.self.view_is did.blackens;
       collects = search rules;
