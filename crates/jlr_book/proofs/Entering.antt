@@ -34,9 +34,10 @@ use Rattle.jlr_event.specs.declared.event.Event.{Event}
 use Rattle.jlr_event.specs.declared.event.Event.TheVariants as event
 use Rattle.jlr_event.specs.declared.event.Reply.{Reply}
 use Rattle.jlr_event.specs.declared.event.Reply.TheVariants.{Answered, Marked}
+use Rattle.jlr_event.specs.Asks.{hands_in}
 use Rattle.jlr_event.specs.Events.{ask_of, answer_in}
 use Rattle.jlr_core.specs.Cores.{Kept, StandsIn}
-use Rattle.jlr_core.specs.Events.{Enters, is_plain}
+use Rattle.jlr_core.specs.Events.{Enters, carries_none}
 use Rattle.jlr_core.specs.Events.{GoesOut}
 use Rattle.jlr_core.specs.Events.{entry_of}
 use Rattle.jlr_core.specs.Steps.{IsStep}
@@ -203,44 +204,37 @@ end_has_room (ask.Finish by action outcome) brought room is brings holds = tt
 end_has_room a brought room is brings holds = absurd (both_ways false refl is)
 
 -- an ask whose entry takes its place alone is no end, and needs no room
-pub brief_is_no_end : (asked : Ask) → is_brief (Some asked) ≡ true → is_end asked ≡ false
+pub brief_is_no_end : (asked : Ask) → is_brief asked ≡ true → is_end asked ≡ false
 brief_is_no_end (ask.Leave k) is = absurd (both_ways false refl is)
 brief_is_no_end (ask.Opened k outcome) is = absurd (both_ways false refl is)
 brief_is_no_end (ask.CheckIn k outcome) is = absurd (both_ways false refl is)
 brief_is_no_end (ask.Finish by action outcome) is = absurd (both_ways false refl is)
 brief_is_no_end a is = refl
 
-pub brief_has_room : (asked : Ask) (room : Rooms) → is_brief (Some asked) ≡ true → HasRoomFor asked room
+pub brief_has_room : (asked : Ask) (room : Rooms) → is_brief asked ≡ true → HasRoomFor asked room
 brief_has_room (ask.Names k) room is = absurd (both_ways false refl is)
 brief_has_room (ask.Notes k) room is = absurd (both_ways false refl is)
 brief_has_room (ask.Faults k) room is = absurd (both_ways false refl is)
 brief_has_room (ask.CheckIn k outcome) room is = absurd (both_ways false refl is)
 brief_has_room a room is = tt
 
--- no file or socket goes in or out with its event, and that is no piece of marking
-pub brief_is_plain : {R : Type 0} (e : Event R) → is_brief (ask_of e) ≡ true → is_plain e ≡ true
-brief_is_plain (event.Clean k c) is = absurd (both_ways false refl is)
-brief_is_plain (event.Opened k outcome) is = absurd (both_ways false refl is)
-brief_is_plain (event.CheckOut k h) is = absurd (both_ways false refl is)
-brief_is_plain (event.CheckIn k outcome resource) is = absurd (both_ways false refl is)
-brief_is_plain (event.Close k h) is = absurd (both_ways false refl is)
-brief_is_plain event.TakeUp is = absurd (both_ways false refl is)
-brief_is_plain (event.Mark budget) is = absurd (both_ways false refl is)
-brief_is_plain e is = refl
+-- no file or socket goes in or out with it
+pub brief_carries_none : (asked : Ask) → is_brief asked ≡ true → carries_none asked ≡ true
+brief_carries_none (ask.Clean k c) is = absurd (both_ways false refl is)
+brief_carries_none (ask.Opened k outcome) is = absurd (both_ways false refl is)
+brief_carries_none (ask.CheckOut k h) is = absurd (both_ways false refl is)
+brief_carries_none (ask.CheckIn k outcome) is = absurd (both_ways false refl is)
+brief_carries_none (ask.Close k h) is = absurd (both_ways false refl is)
+brief_carries_none ask.TakeUp is = absurd (both_ways false refl is)
+brief_carries_none a is = refl
 
-pub brief_asks : (asked : Option Ask) → is_brief asked ≡ true → (some : Ask) × (asked ≡ Some some)
-brief_asks None is = absurd (both_ways false refl is)
-brief_asks (Some a) is = (a, refl)
-
-pub brief_tells_no_data : {X : Type 0} (asked : Option Ask) (room : Option X) → is_brief asked ≡ true → Brings room asked
-brief_tells_no_data None room is = refl
-brief_tells_no_data (Some (ask.CheckIn k outcome)) room is = absurd (both_ways false refl is)
-brief_tells_no_data (Some a) room is = refl
-
-pub brief_reads_nothing : (asked : Option Ask) → is_brief asked ≡ true → tells_data asked ≡ false
-brief_reads_nothing None is = refl
-brief_reads_nothing (Some (ask.CheckIn k outcome)) is = absurd (both_ways false refl is)
-brief_reads_nothing (Some a) is = refl
+-- an end that hands in nothing needs no room
+pub asked_end_has_room : (asked : Ask) (room : Rooms) → hands_in asked ≡ false → is_end asked ≡ true → HasRoomFor asked room
+asked_end_has_room (ask.Leave k) room plain is = tt
+asked_end_has_room (ask.Finish by action outcome) room plain is = tt
+asked_end_has_room (ask.Opened k outcome) room plain is = absurd (both_ways true plain refl)
+asked_end_has_room (ask.CheckIn k outcome) room plain is = absurd (both_ways true plain refl)
+asked_end_has_room a room plain is = absurd (both_ways false refl is)
 
 -- room of both kinds is there where room is
 pub brings_as : {X Y : Type 0} (room : Option X) (part : Option Y) (asked : Option Ask) → is_some part ≡ is_some room → Brings room asked → Brings part asked
@@ -267,7 +261,7 @@ closed_collects m (Some (ask.Full k mode)) e = e
 closed_collects m (Some ask.Collect) e = refl
 closed_collects m (Some a) e = e
 
-pub abandons : {R : Type 0} (h k : Kept R) (reply : Reply R) (chosen : Chosen) → IsStep h event.Abandon reply chosen k → Stands h → h.machine.cycle_open ≡ true
+pub abandons : {R : Type 0} (h k : Kept R) (reply : Reply R) (chosen : Chosen) → IsStep h (event.Ask ask.Abandon) reply chosen k → Stands h → h.machine.cycle_open ≡ true
     → (reply ≡ Answered (Truth true) None) × (k.machine ≡ closed h.machine) × Stands k
 abandons h k (Marked progress) chosen s st was = (let x = s.entry st.0 st.1 in absurd x.1)
 abandons {R} h k (Answered answer resource) chosen s st was =

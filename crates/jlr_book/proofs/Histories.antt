@@ -225,6 +225,13 @@ steps_as_asked {R} seat old new e reply asked is end by =
     subst (λ o. StepsBy seat o old e reply new) (sym is)
     (subst (λ b. elim b as (λ _. Type 0) [ true ↦ EndsBy seat old e reply new | false ↦ AsksBy seat old e reply new ]) (sym end) by)
 
+-- an end
+pub steps_as_ended : {R : Type 0} (seat : ℕ) (old new : History R) (e : Event R) (reply : Reply R) (asked : Ask)
+    → ask_of e ≡ Some asked → is_end asked ≡ true → EndsBy seat old e reply new → BookSteps seat old e reply new
+steps_as_ended {R} seat old new e reply asked is end by =
+    subst (λ o. StepsBy seat o old e reply new) (sym is)
+    (subst (λ b. elim b as (λ _. Type 0) [ true ↦ EndsBy seat old e reply new | false ↦ AsksBy seat old e reply new ]) (sym end) by)
+
 -- ---- Cuts
 
 -- a cut, between the core before and the one after it

@@ -2,12 +2,13 @@
 use Rattle.std.proofs.Common.{◌≡◌, ℕ, ◌≤◌, Bool, true, false, nat_lt, List, ◌++◌, length, length-append, inl, inr, Option, Some, None, sym, ap, subst, arith}
 use Rattle.jlr_types.specs.declared.Refusal.{Refusal}
 use Rattle.jlr_machine.specs.declared.ask.Ask.{Ask}
+use Rattle.jlr_machine.specs.declared.ask.Ask.TheVariants.{Abandon}
 use Rattle.jlr_machine.specs.declared.ask.Answer.{Answer}
 use Rattle.jlr_machine.specs.declared.ask.Answer.TheVariants.{Refused, Truth}
 use Rattle.jlr_machine.specs.Refusals.{is_end}
 use Rattle.jlr_laws.proofs.Frames.{some_same}
 use Rattle.jlr_event.specs.declared.event.Event.{Event}
-use Rattle.jlr_event.specs.declared.event.Event.TheVariants.{Abandon}
+use Rattle.jlr_event.specs.declared.event.Event.TheVariants.{Ask as Asks}
 use Rattle.jlr_event.specs.declared.event.Reply.{Reply}
 use Rattle.jlr_event.specs.declared.event.Reply.TheVariants.{Answered}
 use Rattle.jlr_event.specs.Events.{ask_of, answer_in}
@@ -28,7 +29,7 @@ module _ {R : Type 0} (h : History R) (is : IsHistory h) where
 
   -- so it does after an open cycle was given up
   given_up : (b : Bool) (core : Kept R) → GivesUp b h.core core → Stands core
-  given_up true core s = stands_after h.image h.entries h.core core Abandon (Answered (Truth true) None) s.0 s.1 is.ends
+  given_up true core s = stands_after h.image h.entries h.core core (Asks Abandon) (Answered (Truth true) None) s.0 s.1 is.ends
   given_up false core same = subst Stands (sym same) stands_here
 
   pub ready_stands : (ready : History R) → Readies h ready → Stands ready.core

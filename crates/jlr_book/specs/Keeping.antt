@@ -1,5 +1,5 @@
 -- The invariant of a book: what it tells, the room of its trace, and that of its choice.
-use Rattle.std.specs.Prelude.{ℕ, ◌+◌, ◌≤◌, Option, Some, None, vec_capacity}
+use Rattle.std.specs.Prelude.{ℕ, ◌+◌, ◌≤◌, vec_capacity}
 use Rattle.std.specs.Global.{Vec}
 use Rattle.std.specs.Vec.{vec_len}
 use Rattle.jlr_types.specs.declared.limits.Limits.{Limits}
@@ -7,12 +7,7 @@ use Rattle.jlr_machine.specs.declared.machine.Machine.{Machine}
 use Rattle.jlr_machine.specs.declared.entry.Entry.{Entry}
 use Rattle.jlr_histories.specs.Owing.{owed}
 use Rattle.jlr_core.specs.Cores.{Kept}
-use Rattle.jlr_book.specs.Histories.{IsHistory, empty_of}
-
--- the machine that a cut left; before the first cut the empty one of the limits, which is not kept
-abbrev pub image_from : Limits → Option Machine → Machine
-image_from limits None = empty_of limits
-image_from limits (Some image) = image
+use Rattle.jlr_book.specs.Histories.{IsHistory}
 
 pub record Keeps {R : Type 0} (limits : Limits) (base : ℕ) (image : Machine) (trace : Vec Entry) (core : Kept R) (cells : ℕ) : Type 0 where
   pub history : IsHistory (record { limits = limits; base = base; image = image; entries = trace.items; core = core })

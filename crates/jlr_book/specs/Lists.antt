@@ -1,10 +1,12 @@
 -- Room for the items of a list answer, or for what a call read.
-use Rattle.std.specs.Prelude.{◌≡◌, Bool, true, false, not, [], Option, Some, None, vec_capacity}
+use Rattle.std.specs.Prelude.{◌≡◌, Bool, true, false, not, [], vec_capacity}
 use Rattle.jlr_machine.specs.declared.ask.Ask.{Ask}
 use Rattle.jlr_machine.specs.declared.ask.Ask.TheVariants as ask
 use Rattle.jlr_machine.specs.declared.ask.Answer.{Answer}
 use Rattle.jlr_machine.specs.declared.ask.Answer.TheVariants.{Names as NamesAre, Notes as NotesAre, Faults as FaultsAre, Data}
 use Rattle.jlr_machine.specs.Refusals.{is_end}
+use Rattle.jlr_event.specs.declared.event.Event.{Event}
+use Rattle.jlr_event.specs.declared.event.Event.TheVariants.{Ask as Asks}
 use Rattle.jlr_histories.specs.Rooms.{Rooms}
 use Rattle.jlr_book.specs.declared.room.ItemRoom.{ItemRoom}
 use Rattle.jlr_book.specs.declared.room.ItemRoom.TheVariants.{None as NoList, Names, Notes, Faults, Bytes}
@@ -29,17 +31,21 @@ IsVacant (Faults room) = room.items ≡ []
 IsVacant (Bytes room) = Unit {0}
 
 -- the entry of this ask takes its place alone, where nothing is collected, and no file or socket goes in or out: it is no end, and asks
--- for no list and no resource. A piece of marking is no entry
-abbrev pub is_brief : Option Ask → Bool
-is_brief None = false
-is_brief (Some (ask.Names k)) = false
-is_brief (Some (ask.Notes k)) = false
-is_brief (Some (ask.Faults k)) = false
-is_brief (Some (ask.Clean k c)) = false
-is_brief (Some (ask.CheckOut k h)) = false
-is_brief (Some (ask.Close k h)) = false
-is_brief (Some ask.TakeUp) = false
-is_brief (Some a) = not (is_end a)
+-- for no list and no resource
+abbrev pub is_brief : Ask → Bool
+is_brief (ask.Names k) = false
+is_brief (ask.Notes k) = false
+is_brief (ask.Faults k) = false
+is_brief (ask.Clean k c) = false
+is_brief (ask.CheckOut k h) = false
+is_brief (ask.Close k h) = false
+is_brief ask.TakeUp = false
+is_brief a = not (is_end a)
+
+-- an event that is no plain ask: the end of an open or a call, or a piece of marking
+abbrev pub hands_in_or_marks : {R : Type 0} → Event R → Bool
+hands_in_or_marks (Asks a) = false
+hands_in_or_marks event = true
 
 -- the answers whose copies take room: lists, and what a call read
 abbrev pub is_long : Answer → Bool

@@ -5,11 +5,12 @@ use Rattle.jlr_types.specs.declared.Progress.{Progress}
 use Rattle.jlr_types.specs.declared.Refusal.{Refusal}
 use Rattle.jlr_types.specs.declared.Refusal.TheVariants.{NoMemory, Exhausted}
 use Rattle.jlr_machine.specs.declared.ask.Ask.{Ask}
+use Rattle.jlr_machine.specs.declared.ask.Ask.TheVariants.{Abandon}
 use Rattle.jlr_machine.specs.declared.ask.Answer.TheVariants.{Refused, Truth}
 use Rattle.jlr_machine.specs.declared.entry.Chosen.{Chosen}
 use Rattle.jlr_machine.specs.Refusals.{is_end}
 use Rattle.jlr_event.specs.declared.event.Event.{Event}
-use Rattle.jlr_event.specs.declared.event.Event.TheVariants.{Abandon, Mark}
+use Rattle.jlr_event.specs.declared.event.Event.TheVariants.{Ask as Asks, Mark}
 use Rattle.jlr_event.specs.declared.event.Reply.{Reply}
 use Rattle.jlr_event.specs.declared.event.Reply.TheVariants.{Answered, Marked}
 use Rattle.jlr_event.specs.Events.{ask_of, answer_in, resource_of_event}
@@ -21,7 +22,7 @@ use Rattle.jlr_book.specs.Histories.{History, HasNumbers, last, seated}
 
 -- an open cycle is given up
 abbrev pub GivesUp : {R : Type 0} → Bool → Kept R → Kept R → Type 0
-GivesUp true core new = Steps core Abandon (Answered (Truth true) None) new
+GivesUp true core new = Steps core (Asks Abandon) (Answered (Truth true) None) new
 GivesUp false core new = new ≡ core
 
 -- The core's machine becomes the image, with no cycle open. The entries are let go, and with them the one that gave up an open cycle.

@@ -2,28 +2,32 @@
 ghost use Rattle.std.specs.Prelude.{◌≡◌, ◌⊎◌, ◌≤◌, ◌<◌, ◌+◌, ◌^◌, ◌↔◌, true, false, [], IfOk, IsErr, IsTrue, MatchBool, MatchOption, OnOk, OnErr, None, Some, vec_len, vec_capacity};
 ghost use Rattle.jlr_machine.specs.Data.{Brings};
 ghost use Rattle.jlr_machine.specs.Refusals.{is_end, refusal};
+ghost use Rattle.jlr_event.specs.Asks.{hands_in};
 ghost use Rattle.jlr_event.specs.Events.{ask_of};
 ghost use Rattle.jlr_core.specs.Events.{handed_out, take_up_answered};
 ghost use Rattle.jlr_book.specs.Due.{IsDue};
-ghost use Rattle.jlr_book.specs.Lists.{is_brief};
-ghost use Rattle.jlr_book.specs.Histories.{empty_of, last, HasNumbers, IsHistory, IsNewBook};
+ghost use Rattle.jlr_book.specs.Lists.{hands_in_or_marks, is_brief};
+ghost use Rattle.jlr_book.specs.Histories.{last, HasNumbers, IsHistory, IsNewBook};
 ghost use Rattle.jlr_book.specs.Rules.{AsksBy, BookSteps, Cuts, EndsBy, MarksBy};
 ghost use Rattle.jlr_book.specs.Writing.{Pieces};
 
 use crate::cut::cut_to_image;
-use crate::entry::{ended, is_refused, record, record_briefly, record_end, take_up_answer};
-use crate::event::{is_end, refuse};
+use crate::entry::{
+    is_refused, record, record_asked_end, record_briefly, record_end, take_up_answer,
+};
+use crate::event::{decline, is_end};
 use crate::room::{AnswerRoom, EntryRoom};
 use jlr_cleaner::Job;
 use jlr_core::engine::Core;
-use jlr_event::event::{Event, Reply};
-use jlr_machine::ask::{Answer, Ask, Handed};
+use jlr_event::event::{Event, Reply, ended};
+use jlr_image::image::Image;
+use jlr_machine::ask::{Answer, Ask, Handed, Outcome};
 use jlr_machine::choice::Choice;
 use jlr_machine::data::{CopyRoom, Data};
 use jlr_machine::entry::{Chosen, Entry};
 use jlr_machine::fresh::FreshSlots;
 use jlr_machine::machine::Machine;
-use jlr_types::{ActionNo, Fault, Handle, Limits, Mutator, Progress, Refusal};
+use jlr_types::{ActionNo, Handle, Limits, Mutator, Progress, Refusal};
 use std::alloc::{AllocError, Global};
 use std::marker::Model;
 
@@ -40,27 +44,27 @@ pub struct Book<R> {
     limits: Limits,
     core: Core<R>,
     choice: Choice,
-    /// What a cut left. Before the first one it is the empty machine, which takes no memory here.
-    image: Option<Machine>,
+    /// What a cut left, as far as it is followed.
+    image: Image,
     base: u64,
     trace: Vec<Entry>,
 }
 
 impl<R> Model for Book<R> {
     ghost use Rattle.jlr_book.specs.Histories.{History};
-    ghost use Rattle.jlr_book.specs.Keeping.{Keeps, image_from};
+    ghost use Rattle.jlr_book.specs.Keeping.{Keeps};
 
     ghost Value = { History R };
 
     ghost view = { λ b. record {
       limits = b.limits;
       base = b.base;
-      image = image_from b.limits b.image;
+      image = b.image;
       entries = b.trace.items;
       core = b.core;
     } };
 
-    ghost invariant = { λ b. Keeps b.limits b.base (image_from b.limits b.image) b.trace b.core b.choice.cells };
+    ghost invariant = { λ b. Keeps b.limits b.base b.image b.trace b.core b.choice.cells };
 }
 
 impl<R: Drop> Book<R> {
@@ -78,7 +82,7 @@ impl<R: Drop> Book<R> {
             limits,
             core,
             choice,
-            image: None,
+            image: Image::new(alloc, limits),
             base: 0,
             trace: Vec::new(alloc),
         })
@@ -118,14 +122,14 @@ impl<R: Drop> Book<R> {
         self.base
     }
 
-    /// The machine from which the trace leads on; none before the first cut, where that is the empty machine of the limits.
-    pub fn image(&self) -> Option<&Machine>
-        ensures { MatchOption result (self.now.image ≡ empty_of self.now.limits) (λ image. image.now ≡ self.now.image) }
+    /// A copy of the machine from which the trace leads on.
+    ///
+    /// # Errors
+    /// `AllocError` where there is no memory for it.
+    pub fn image(&self) -> Result<Machine, AllocError>
+        ensures { IfOk result (λ image. image ≡ self.now.image) }
     {
-        match &self.image {
-            Some(image) => Some(image),
-            None => None,
-        }
+        self.image.copy(self.alloc)
     }
 
     /// The trace.
@@ -181,10 +185,34 @@ impl<R: Drop> Book<R> {
         requires { Brings room (ask_of event) }
         ensures { BookSteps seat self.old event result self.new }
     {
-        if is_brief(&event)
+        if self.image.is_behind() {
+            self.follow_some();
+        }
+        self.step_on(seat, event, room)
+    }
+
+    /// The image follows a few entries that a cut let go. Nothing of it is seen.
+    #[inline(never)]
+    fn follow_some(&mut self)
+        ensures { self.new ≡ self.old }
+    {
+        self.image.follow_some();
+    }
+
+    /// An event of a seat, without a look at the image.
+    #[inline(always)]
+    fn step_on(&mut self, seat: u8, event: Event<R>, room: Option<CopyRoom>) -> Reply<R>
+        requires { Brings room (ask_of event) }
+        ensures { BookSteps seat self.old event result self.new }
+    {
+        let Event::Ask(ask) = event else {
+            return self.step_with_resource(seat, event, room);
+        };
+        let ask = ask.into_ask();
+        if is_brief(&ask)
             && self.has_numbers()
             && has_places(&self.trace, self.limits.trace)
-            && !self.core.will_collect(&event)
+            && !self.core.will_collect(&ask)
         {
             let answer = record_briefly(
                 &mut self.core,
@@ -192,30 +220,41 @@ impl<R: Drop> Book<R> {
                 self.alloc,
                 &mut self.trace,
                 seat,
-                &event,
+                ask,
             );
             return Reply::Answered {
                 answer,
                 resource: None,
             };
         }
-        self.step_at_length(seat, event, room)
+        self.step_at_length(seat, ask)
     }
 
-    /// The same for any event: the room of its entry is made first, and the trace is cut where it is as long as it may be.
+    /// The same for any ask that hands in no resource: the room of its entry is made first, and the trace is cut where it is as long as it
+    /// may be.
     #[inline(never)]
-    fn step_at_length(&mut self, seat: u8, event: Event<R>, room: Option<CopyRoom>) -> Reply<R>
-        requires { Brings room (ask_of event) }
+    fn step_at_length(&mut self, seat: u8, ask: Ask) -> Reply<R>
+        requires plain { hands_in ask ≡ false }
+        ensures { BookSteps seat self.old (Event.Ask ask) result self.new }
+    {
+        if is_end(&ask) {
+            return self.end_asked(seat, ask);
+        }
+        self.enter_with_room(seat, ask)
+    }
+
+    /// The same for the end of an open or a call, and for a piece of marking.
+    #[inline(never)]
+    fn step_with_resource(&mut self, seat: u8, event: Event<R>, room: Option<CopyRoom>) -> Reply<R>
+        requires brought { Brings room (ask_of event) }
+        requires hands_in { hands_in_or_marks event ≡ true }
         ensures { BookSteps seat self.old event result self.new }
     {
         let (ask_room, answer_room) = CopyRoom::split(room);
-        let Some(ask) = event.plain(ask_room) else {
+        let Some(ask) = end_of(&event, ask_room) else {
             return self.mark_piece(event);
         };
-        if is_end(&ask) {
-            return self.end(seat, ask, answer_room, event);
-        }
-        self.enter_with_room(seat, ask, event)
+        self.end(seat, ask, answer_room, event)
     }
 
     /// A piece of marking of at most so many cells, which is no entry. Takes no memory.
@@ -275,7 +314,19 @@ impl<R: Drop> Book<R> {
     /// nothing is done.
     pub fn hand_over_briefly(&mut self, seat: u8) -> Option<Handed>
         ensures { MatchOption result (self.new ≡ self.old)
-            (λ handed. BookSteps seat self.old Event.HandOver (Reply.Answered (Answer.Handed handed) None) self.new) }
+            (λ handed. BookSteps seat self.old (Event.Ask Ask.HandOver) (Reply.Answered (Answer.Handed handed) None) self.new) }
+    {
+        if self.image.is_behind() {
+            self.follow_some();
+        }
+        self.hand_over_on(seat)
+    }
+
+    /// The same, without a look at the image.
+    #[inline(always)]
+    fn hand_over_on(&mut self, seat: u8) -> Option<Handed>
+        ensures { MatchOption result (self.new ≡ self.old)
+            (λ handed. BookSteps seat self.old (Event.Ask Ask.HandOver) (Reply.Answered (Answer.Handed handed) None) self.new) }
     {
         if !self.has_numbers() || !has_places(&self.trace, self.limits.trace) {
             return None;
@@ -297,7 +348,19 @@ impl<R: Drop> Book<R> {
     /// is done.
     pub fn take_up_briefly(&mut self, seat: u8) -> Option<Result<Option<Job<R>>, Refusal>>
         ensures { MatchOption result (self.new ≡ self.old)
-            (λ taken. BookSteps seat self.old Event.TakeUp (Reply.Answered (take_up_answered taken) (handed_out taken)) self.new) }
+            (λ taken. BookSteps seat self.old (Event.Ask Ask.TakeUp) (Reply.Answered (take_up_answered taken) (handed_out taken)) self.new) }
+    {
+        if self.image.is_behind() {
+            self.follow_some();
+        }
+        self.take_up_on(seat)
+    }
+
+    /// The same, without a look at the image.
+    #[inline(always)]
+    fn take_up_on(&mut self, seat: u8) -> Option<Result<Option<Job<R>>, Refusal>>
+        ensures { MatchOption result (self.new ≡ self.old)
+            (λ taken. BookSteps seat self.old (Event.Ask Ask.TakeUp) (Reply.Answered (take_up_answered taken) (handed_out taken)) self.new) }
     {
         if !self.has_numbers() || !has_places(&self.trace, self.limits.trace) {
             return None;
@@ -316,8 +379,8 @@ impl<R: Drop> Book<R> {
     }
 
     /// The end of a job: what `step` does for a `Finish`, which finds its place always. Where the core refuses it, it is no entry.
-    pub fn end_job(&mut self, seat: u8, by: u8, action: ActionNo, outcome: Result<(), Fault>)
-        ensures { (reply : Reply R) × BookSteps seat self.old (Event.Finish by action outcome) reply self.new }
+    pub fn end_job(&mut self, seat: u8, by: u8, action: ActionNo, outcome: Outcome)
+        ensures { (reply : Reply R) × BookSteps seat self.old (Event.Ask (Ask.Finish by action outcome)) reply self.new }
     {
         let answer = self.core.finish(by, action, outcome);
         if is_refused(&answer) {
@@ -328,7 +391,7 @@ impl<R: Drop> Book<R> {
             ask: Ask::Finish {
                 by,
                 action,
-                outcome: ended(outcome),
+                outcome,
             },
             answer,
             choice: Chosen {
@@ -347,7 +410,24 @@ impl<R: Drop> Book<R> {
         self.core.step(event, &mut self.choice)
     }
 
-    /// An end has its place and its number, or is refused by the core.
+    /// The end of a session or a job has its place and its number, or is refused by the core.
+    #[inline(never)]
+    fn end_asked(&mut self, seat: u8, ask: Ask) -> Reply<R>
+        requires plain { hands_in ask ≡ false }
+        requires end { is_end ask ≡ true }
+        ensures { EndsBy seat self.old (Event.Ask ask) result self.new }
+    {
+        record_asked_end(
+            &mut self.core,
+            &mut self.choice,
+            self.alloc,
+            &mut self.trace,
+            seat,
+            ask,
+        )
+    }
+
+    /// The end of an open or a call has its place and its number, or is refused by the core.
     #[inline(never)]
     fn end(&mut self, seat: u8, ask: Ask, room: Option<Data>, event: Event<R>) -> Reply<R>
         requires ask { ask_of event ≡ Some ask }
@@ -369,21 +449,20 @@ impl<R: Drop> Book<R> {
 
     /// The room of its entry, its place, and one for each end that may be owed then are made before anything changes.
     #[inline(never)]
-    fn enter_with_room(&mut self, seat: u8, ask: Ask, event: Event<R>) -> Reply<R>
-        requires ask { ask_of event ≡ Some ask }
+    fn enter_with_room(&mut self, seat: u8, ask: Ask) -> Reply<R>
+        requires plain { hands_in ask ≡ false }
         requires end { is_end ask ≡ false }
-        ensures { AsksBy seat self.old event result self.new }
+        ensures { AsksBy seat self.old (Event.Ask ask) result self.new }
     {
         if !self.has_numbers() {
-            return refuse(event, Refusal::Exhausted);
+            return decline(Refusal::Exhausted);
         }
-        let Ok(room) = EntryRoom::for_event(self.alloc, &self.core, self.limits.cells, &ask, &event)
-        else {
-            return refuse(event, Refusal::NoMemory);
+        let Ok(room) = EntryRoom::for_ask(self.alloc, &self.core, self.limits.cells, &ask) else {
+            return decline(Refusal::NoMemory);
         };
         if self.trace.reserve(PLACES).is_err() {
             drop(room);
-            return refuse(event, Refusal::NoMemory);
+            return decline(Refusal::NoMemory);
         }
         if self.trace.len() < self.limits.trace as usize {
             return record(
@@ -393,7 +472,6 @@ impl<R: Drop> Book<R> {
                 &mut self.trace,
                 seat,
                 ask,
-                event,
             );
         }
         let Ok(used) = cut_to_image(
@@ -404,7 +482,7 @@ impl<R: Drop> Book<R> {
             &mut self.image,
         ) else {
             drop(room);
-            return refuse(event, Refusal::NoMemory);
+            return decline(Refusal::NoMemory);
         };
         self.base += used;
         record(
@@ -414,7 +492,6 @@ impl<R: Drop> Book<R> {
             &mut self.trace,
             seat,
             ask,
-            event,
         )
     }
 }
@@ -428,17 +505,41 @@ fn has_places(trace: &Vec<Entry>, limit: u32) -> bool
     trace.len() < limit as usize && trace.capacity() - trace.len() >= PLACES
 }
 
-/// Whether the entry of an event needs no more than its place, unless it collects, and no resource goes in or out: it is no end, no
-/// piece of marking, and asks for no list and no resource.
+/// Whether the entry of an ask needs no more than its place, unless it collects, and no resource goes in or out: it is no end, and asks
+/// for no list and no resource.
 #[inline(always)]
-fn is_brief<R>(event: &Event<R>) -> bool
-    ensures { result ≡ is_brief (ask_of event.now) }
+fn is_brief(ask: &Ask) -> bool
+    ensures { result ≡ is_brief ask.now }
+{
+    match ask {
+        Ask::Names { .. } | Ask::Notes { .. } | Ask::Faults { .. } => false,
+        Ask::Leave { .. } | Ask::Opened { .. } | Ask::CheckIn { .. } | Ask::Finish { .. } => false,
+        Ask::Clean { .. } | Ask::CheckOut { .. } | Ask::Close { .. } | Ask::TakeUp => false,
+        _ => true,
+    }
+}
+
+/// The end of an open or a call, which an event tells; none of a piece of marking. Takes no memory, and the room where it tells what a
+/// call read.
+fn end_of<R>(event: &Event<R>, room: Option<Data>) -> Option<Ask>
+    requires brought { Brings room (ask_of event.now) }
+    requires hands_in { hands_in_or_marks event.now ≡ true }
+    ensures { result ≡ ask_of event.now }
 {
     match event {
-        Event::Names { .. } | Event::Notes { .. } | Event::Faults { .. } => false,
-        Event::Leave { .. } | Event::Opened { .. } | Event::CheckIn { .. } => false,
-        Event::Finish { .. } | Event::Mark { .. } => false,
-        Event::Clean { .. } | Event::CheckOut { .. } | Event::Close { .. } | Event::TakeUp => false,
-        _ => true,
+        Event::Opened { mutator, outcome } => Some(Ask::Opened {
+            mutator: *mutator,
+            outcome: ended(outcome),
+        }),
+        Event::CheckIn {
+            mutator,
+            outcome,
+            ..
+        } => Some(Ask::CheckIn {
+            mutator: *mutator,
+            outcome: outcome.copy_into(room),
+        }),
+        Event::Mark { .. } => None,
+        Event::Ask(_) => unreachable!(),
     }
 }

@@ -1,7 +1,8 @@
 //! One step of the core, and its entry behind the others.
 ghost use Rattle.std.specs.Prelude.{◌≡◌, ◌≤◌, ◌<◌, ◌+◌, true, false, length, vec_len, vec_capacity, None, Some};
 ghost use Rattle.jlr_machine.specs.Refusals.{is_end};
-ghost use Rattle.jlr_event.specs.Events.{ask_of, outcome_of};
+ghost use Rattle.jlr_event.specs.Asks.{hands_in};
+ghost use Rattle.jlr_event.specs.Events.{ask_of};
 ghost use Rattle.jlr_core.specs.Events.{take_up_answered};
 ghost use Rattle.jlr_histories.specs.Collecting.{may_collect};
 ghost use Rattle.jlr_histories.specs.Owing.{owed};
@@ -15,14 +16,14 @@ use crate::room::{AnswerRoom, ChoiceRoom, EntryRoom, copy_without_room};
 use jlr_cleaner::Job;
 use jlr_core::engine::Core;
 use jlr_event::event::{Event, Reply};
-use jlr_machine::ask::{Answer, Ask, Handed, Outcome};
+use jlr_machine::ask::{Answer, Ask, Handed};
 use jlr_machine::choice::Choice;
 use jlr_machine::entry::{Chosen, Entry};
 use jlr_machine::fresh::FreshSlots;
-use jlr_types::{Fault, Refusal};
+use jlr_types::Refusal;
 use std::alloc::Global;
 
-/// An ask that is no end: one entry, in a place that is there.
+/// An ask that is no end: one entry, in a place that is there. The core is lent the ask.
 #[inline(always)]
 pub(crate) fn record<R: Drop>(
     core: &mut Core<R>,
@@ -31,14 +32,13 @@ pub(crate) fn record<R: Drop>(
     trace: &mut Vec<Entry>,
     seat: u8,
     ask: Ask,
-    event: Event<R>,
 ) -> Reply<R>
-    requires ask { ask_of event ≡ Some ask }
+    requires plain { hands_in ask ≡ false }
     requires place { vec_len trace.old < vec_capacity trace.old }
     requires stands { Stands core.old }
     requires choice { length core.old.machine.objects ≤ choice.old.cells }
     requires room { SuitsEntry core.old.machine ask room }
-    ensures writes { Writes seat core.old trace.old.items event result core.new trace.new.items }
+    ensures writes { Writes seat core.old trace.old.items (Event.Ask ask) result core.new trace.new.items }
     ensures cells { length core.new.machine.objects ≡ length core.old.machine.objects }
     ensures room { vec_capacity trace.new ≡ vec_capacity trace.old }
     ensures choice { choice.new.cells ≡ choice.old.cells }
@@ -48,15 +48,13 @@ pub(crate) fn record<R: Drop>(
         answer,
     } = room;
     match own {
-        ChoiceRoom::Plain => record_plainly(core, choice, answer, trace, seat, ask, event),
-        ChoiceRoom::Collecting(own) => {
-            record_collecting(core, own, answer, trace, seat, ask, event)
-        }
+        ChoiceRoom::Plain => record_plainly(core, choice, answer, trace, seat, ask),
+        ChoiceRoom::Collecting(own) => record_collecting(core, own, answer, trace, seat, ask),
     }
 }
 
-/// An entry that needs its place alone, without a collection: it is told in its place, which it finds empty. The core
-/// is lent the event, and a choice.
+/// An entry that needs its place alone, without a collection: its ask is moved there, and the core is lent it. The core
+/// is lent a choice too.
 #[inline(always)]
 pub(crate) fn record_briefly<R>(
     core: &mut Core<R>,
@@ -64,14 +62,14 @@ pub(crate) fn record_briefly<R>(
     alloc: Global,
     trace: &mut Vec<Entry>,
     seat: u8,
-    event: &Event<R>,
+    ask: Ask,
 ) -> Answer
-    requires brief { is_brief (ask_of event.now) ≡ true }
+    requires brief { is_brief ask ≡ true }
     requires place { vec_len trace.old < vec_capacity trace.old }
     requires stands { Stands core.old }
     requires choice { length core.old.machine.objects ≤ lent.old.cells }
-    requires plain { may_collect core.old.machine (ask_of event.now) ≡ false }
-    ensures writes { Writes seat core.old trace.old.items event.now (Reply.Answered result None) core.new trace.new.items }
+    requires plain { may_collect core.old.machine (Some ask) ≡ false }
+    ensures writes { Writes seat core.old trace.old.items (Event.Ask ask) (Reply.Answered result None) core.new trace.new.items }
     ensures cells { length core.new.machine.objects ≡ length core.old.machine.objects }
     ensures room { vec_capacity trace.new ≡ vec_capacity trace.old }
     ensures choice { lent.new.cells ≡ lent.old.cells }
@@ -79,7 +77,7 @@ pub(crate) fn record_briefly<R>(
     let place = trace.len();
     trace.push_reserved(Entry {
         seat,
-        ask: Ask::HandOver,
+        ask,
         answer: Answer::Done,
         choice: Chosen {
             collected: None,
@@ -87,10 +85,10 @@ pub(crate) fn record_briefly<R>(
         },
     });
     let entry = &mut trace[place];
-    tell_briefly(core, lent, alloc, entry, event)
+    tell_briefly(core, lent, alloc, entry)
 }
 
-/// A step of the core for an event whose entry needs its place alone, written over an entry of the same seat. The
+/// A step of the core for the ask of an entry that needs its place alone: its answer and its choice are told there. The
 /// answer.
 #[inline(always)]
 fn tell_briefly<R>(
@@ -98,23 +96,21 @@ fn tell_briefly<R>(
     lent: &mut Choice,
     alloc: Global,
     entry: &mut Entry,
-    event: &Event<R>,
 ) -> Answer
-    requires brief { is_brief (ask_of event.now) ≡ true }
+    requires brief { is_brief entry.old.ask ≡ true }
     requires stands { Stands core.old }
     requires choice { length core.old.machine.objects ≤ lent.old.cells }
-    requires plain { may_collect core.old.machine (ask_of event.now) ≡ false }
-    ensures step { IsStep core.old event.now (Reply.Answered result None)
+    requires plain { may_collect core.old.machine (Some entry.old.ask) ≡ false }
+    ensures step { IsStep core.old (Event.Ask entry.old.ask) (Reply.Answered result None)
         (record { collected = None; fresh = entry.new.choice.fresh }) core.new }
-    ensures ask { ask_of event.now ≡ Some entry.new.ask }
+    ensures ask { entry.new.ask ≡ entry.old.ask }
     ensures answer { entry.new.answer ≡ result }
     ensures seat { entry.new.seat ≡ entry.old.seat }
     ensures collected { entry.new.choice.collected ≡ entry.old.choice.collected }
     ensures cells { length core.new.machine.objects ≡ length core.old.machine.objects }
     ensures choice { lent.new.cells ≡ lent.old.cells }
 {
-    event.tell(&mut entry.ask);
-    let answer = core.answer(event, lent);
+    let answer = core.answer(&entry.ask, lent);
     entry.answer = copy_without_room(alloc, &answer);
     entry.choice.fresh = lent.take_fresh();
     answer
@@ -129,21 +125,20 @@ pub(crate) fn record_plainly<R: Drop>(
     trace: &mut Vec<Entry>,
     seat: u8,
     ask: Ask,
-    event: Event<R>,
 ) -> Reply<R>
-    requires ask { ask_of event ≡ Some ask }
+    requires hands_in { hands_in ask ≡ false }
     requires place { vec_len trace.old < vec_capacity trace.old }
     requires stands { Stands core.old }
     requires choice { length core.old.machine.objects ≤ lent.old.cells }
     requires room { HasRoomFor ask room }
     requires plain { may_collect core.old.machine (Some ask) ≡ false }
-    ensures writes { Writes seat core.old trace.old.items event result core.new trace.new.items }
+    ensures writes { Writes seat core.old trace.old.items (Event.Ask ask) result core.new trace.new.items }
     ensures cells { length core.new.machine.objects ≡ length core.old.machine.objects }
     ensures room { vec_capacity trace.new ≡ vec_capacity trace.old }
     ensures choice { lent.new.cells ≡ lent.old.cells }
 {
     let mut room = room;
-    let reply = core.step(event, lent);
+    let reply = core.step_ask(&ask, lent);
     trace.push_reserved(Entry {
         seat,
         ask,
@@ -165,20 +160,19 @@ fn record_collecting<R: Drop>(
     trace: &mut Vec<Entry>,
     seat: u8,
     ask: Ask,
-    event: Event<R>,
 ) -> Reply<R>
-    requires ask { ask_of event ≡ Some ask }
+    requires hands_in { hands_in ask ≡ false }
     requires place { vec_len trace.old < vec_capacity trace.old }
     requires stands { Stands core.old }
     requires choice { length core.old.machine.objects ≤ own.value.cells }
     requires room { HasRoomFor ask room }
-    ensures writes { Writes seat core.old trace.old.items event result core.new trace.new.items }
+    ensures writes { Writes seat core.old trace.old.items (Event.Ask ask) result core.new trace.new.items }
     ensures cells { length core.new.machine.objects ≡ length core.old.machine.objects }
     ensures room { vec_capacity trace.new ≡ vec_capacity trace.old }
 {
     let mut own = Box::into_inner(own);
     let mut room = room;
-    let reply = core.step(event, &mut own);
+    let reply = core.step_ask(&ask, &mut own);
     let answer = room.copy_of(&reply);
     trace.push_reserved(Entry {
         seat,
@@ -189,7 +183,46 @@ fn record_collecting<R: Drop>(
     reply
 }
 
-/// An end: one entry, in the place that was kept for it, unless the core refuses it.
+/// The end of a session or of a job: one entry, in the place that was kept for it, unless the core refuses it.
+pub(crate) fn record_asked_end<R: Drop>(
+    core: &mut Core<R>,
+    choice: &mut Choice,
+    alloc: Global,
+    trace: &mut Vec<Entry>,
+    seat: u8,
+    ask: Ask,
+) -> Reply<R>
+    requires plain { hands_in ask ≡ false }
+    requires end { is_end ask ≡ true }
+    requires places { vec_len trace.old + owed core.old.machine ≤ vec_capacity trace.old }
+    requires stands { Stands core.old }
+    requires choice { length core.old.machine.objects ≤ choice.old.cells }
+    ensures writes { WritesEnd seat core.old trace.old.items (Event.Ask ask) result core.new trace.new.items }
+    ensures cells { length core.new.machine.objects ≡ length core.old.machine.objects }
+    ensures room { vec_capacity trace.new ≡ vec_capacity trace.old }
+    ensures choice { choice.new.cells ≡ choice.old.cells }
+{
+    match core.step_ask(&ask, choice) {
+        Reply::Answered { answer, resource } => {
+            if is_refused(&answer) {
+                return Reply::Answered { answer, resource };
+            }
+            trace.push_reserved(Entry {
+                seat,
+                ask,
+                answer: copy_without_room(alloc, &answer),
+                choice: Chosen {
+                    collected: None,
+                    fresh: FreshSlots::new(),
+                },
+            });
+            Reply::Answered { answer, resource }
+        }
+        Reply::Marked(progress) => Reply::Marked(progress),
+    }
+}
+
+/// The end of an open or of a call: one entry, in the place that was kept for it, unless the core refuses it.
 pub(crate) fn record_end<R: Drop>(
     core: &mut Core<R>,
     choice: &mut Choice,
@@ -249,15 +282,5 @@ pub(crate) fn take_up_answer<R>(taken: &Result<Option<Job<R>>, Refusal>) -> Answ
         },
         Ok(None) => Answer::Handed(Handed::Nothing),
         Err(refusal) => Answer::Refused(*refusal),
-    }
-}
-
-/// How a job ended, as its entry tells it.
-pub(crate) fn ended(outcome: Result<(), Fault>) -> Outcome
-    ensures { result ≡ outcome_of outcome }
-{
-    match outcome {
-        Ok(()) => Outcome::Ok,
-        Err(fault) => Outcome::Failed(fault),
     }
 }

@@ -1,5 +1,5 @@
 //! What a book has to know of an ask, and how it refuses one by itself.
-ghost use Rattle.std.specs.Prelude.{◌≡◌};
+ghost use Rattle.std.specs.Prelude.{◌≡◌, None};
 ghost use Rattle.jlr_machine.specs.Refusals.{is_end};
 ghost use Rattle.jlr_event.specs.Events.{resource_of_event};
 ghost use Rattle.jlr_event.specs.declared.event.Reply.TheVariants.{Answered};
@@ -26,5 +26,15 @@ pub fn refuse<R>(event: Event<R>, by: Refusal) -> Reply<R>
     Reply::Answered {
         answer: Answer::Refused(by),
         resource: event.into_resource(),
+    }
+}
+
+/// The same of an ask that hands in nothing.
+pub fn decline<R>(by: Refusal) -> Reply<R>
+    ensures { result ≡ Answered (Refused by) None }
+{
+    Reply::Answered {
+        answer: Answer::Refused(by),
+        resource: None,
     }
 }

@@ -2,13 +2,13 @@
 ghost use Rattle.std.specs.Prelude.{◌≡◌, ◌≤◌, true, false, [], IfOk, Some, is_some, length, vec_capacity};
 ghost use Rattle.jlr_machine.specs.declared.ask.Answer.{Answer as AnswerOf};
 ghost use Rattle.jlr_machine.specs.Refusals.{is_end};
-ghost use Rattle.jlr_event.specs.Events.{ask_of, answer_in};
+ghost use Rattle.jlr_event.specs.Events.{answer_in};
 ghost use Rattle.jlr_histories.specs.Rooms.{Fits, HasRoomFor};
 ghost use Rattle.jlr_book.specs.Lists.{is_long, no_room};
 ghost use Rattle.jlr_book.specs.Making.{SuitsChoice, SuitsEntry};
 
 use jlr_core::engine::Core;
-use jlr_event::event::{Event, Reply};
+use jlr_event::event::Reply;
 use jlr_machine::ask::{Answer, Ask};
 use jlr_machine::choice::Choice;
 use jlr_machine::data::Data;
@@ -252,21 +252,16 @@ pub(crate) enum ChoiceRoom {
 }
 
 impl ChoiceRoom {
-    /// Room for what an event may choose. Only where it may collect it is a whole choice.
+    /// Room for what an ask may choose. Only where it may collect it is a whole choice.
     ///
     /// # Errors
     /// `AllocError` where the room cannot be had.
     #[inline(always)]
-    fn for_event<R>(
-        alloc: Global,
-        core: &Core<R>,
-        cells: u32,
-        event: &Event<R>,
-    ) -> Result<Self, AllocError>
+    fn for_ask<R>(alloc: Global, core: &Core<R>, cells: u32, ask: &Ask) -> Result<Self, AllocError>
         requires { length core.now.machine.objects ≤ cells }
-        ensures { IfOk result (λ room. SuitsChoice core.now.machine (ask_of event.now) room) }
+        ensures { IfOk result (λ room. SuitsChoice core.now.machine (Some ask.now) room) }
     {
-        if core.will_collect(event) {
+        if core.will_collect(ask) {
             let choice = Choice::new(alloc, cells)?;
             return Ok(ChoiceRoom::Collecting(Box::new(alloc, choice)?));
         }
@@ -284,25 +279,23 @@ pub(crate) struct EntryRoom {
 }
 
 impl EntryRoom {
-    /// Room for the entry of an event, in a core with so many cells.
+    /// Room for the entry of an ask, in a core with so many cells.
     ///
     /// # Errors
     /// `AllocError` where the room cannot be had.
     #[inline(always)]
-    pub(crate) fn for_event<R>(
+    pub(crate) fn for_ask<R>(
         alloc: Global,
         core: &Core<R>,
         cells: u32,
         ask: &Ask,
-        event: &Event<R>,
     ) -> Result<Self, AllocError>
-        requires ask { ask_of event.now ≡ Some ask.now }
         requires end { is_end ask.now ≡ false }
         requires cells { length core.now.machine.objects ≤ cells }
         ensures { IfOk result (λ room. SuitsEntry core.now.machine ask.now room) }
     {
         Ok(EntryRoom {
-            choice: ChoiceRoom::for_event(alloc, core, cells, event)?,
+            choice: ChoiceRoom::for_ask(alloc, core, cells, ask)?,
             answer: AnswerRoom::for_ask(alloc, ask)?,
         })
     }

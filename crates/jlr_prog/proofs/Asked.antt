@@ -6,6 +6,7 @@ use Rattle.jlr_types.specs.declared.Refusal.{Refusal}
 use Rattle.jlr_machine.specs.declared.machine.Machine.{Machine}
 use Rattle.jlr_machine.specs.declared.machine.Call.TheVariants.{Free, Opening as CallOpening, Out as CallOut, Job as CallJob}
 use Rattle.jlr_machine.specs.declared.ask.CallOutcome.{CallOutcome}
+use Rattle.jlr_machine.specs.declared.ask.Outcome.{Outcome}
 use Rattle.jlr_machine.specs.declared.ask.Ask.{Ask}
 use Rattle.jlr_machine.specs.declared.ask.Ask.TheVariants as ask
 use Rattle.jlr_machine.specs.declared.ask.Answer.{Answer}
@@ -20,7 +21,7 @@ use Rattle.jlr_cleaner.specs.declared.job.Job.{Job as JobOf}
 use Rattle.jlr_event.specs.declared.event.Event.{Event}
 use Rattle.jlr_event.specs.declared.event.Event.TheVariants as event
 use Rattle.jlr_event.specs.declared.event.Reply.{Reply}
-use Rattle.jlr_event.specs.declared.event.Reply.TheVariants.{Answered, Marked}
+use Rattle.jlr_event.specs.declared.event.Reply.TheVariants.{Answered}
 use Rattle.jlr_event.specs.Events.{ask_of, answer_in, resource_of_reply, outcome_of}
 use Rattle.jlr_solo.specs.Cores.{GoesOut, entry_of}
 use Rattle.jlr_session.specs.Asks.{prepared_in, prepared_by, out_with, out_by, job_with, job_by}
@@ -79,14 +80,14 @@ module _ {R : Type 0} (m : Machine) (front : List Entry) where
   pub settled_along : IsSettledAlong {R = R} at_book at_whole (IsWhole m front IsHere)
   settled_along = record {
     hands_over = λ h k x reply steps w.
-        let d = stays_along (handler_seat h) event.HandOver ask.HandOver refl refl (hand_over_stays Free) h k x reply steps w in
-        (d.0, of_handler h x event.HandOver reply d.0 w.is d.1, d.2);
+        let d = stays_along (handler_seat h) (event.Ask ask.HandOver) ask.HandOver refl refl (hand_over_stays Free) h k x reply steps w in
+        (d.0, of_handler h x (event.Ask ask.HandOver) reply d.0 w.is d.1, d.2);
     takes_up = λ h k x reply steps w.
-        let d = stays_along (cleaner_seat h) event.TakeUp ask.TakeUp refl refl (take_up_stays Free) h k x reply steps w in
-        (d.0, of_cleaner h x event.TakeUp reply d.0 w.is d.1, d.2);
+        let d = stays_along (cleaner_seat h) (event.Ask ask.TakeUp) ask.TakeUp refl refl (take_up_stays Free) h k x reply steps w in
+        (d.0, of_cleaner h x (event.Ask ask.TakeUp) reply d.0 w.is d.1, d.2);
     finishes = λ action outcome h k x reply steps w.
-        let e : Event R = event.Finish 255 action outcome in
-        let d = end_stays_along (cleaner_seat h) e (ask.Finish 255 action (outcome_of outcome)) refl refl (finish_stays Free action (outcome_of outcome)) h k x reply steps w in
+        let e : Event R = event.Ask (ask.Finish 255 action outcome) in
+        let d = end_stays_along (cleaner_seat h) e (ask.Finish 255 action outcome) refl refl (finish_stays Free action outcome) h k x reply steps w in
         (d.0, of_cleaner h x e reply d.0 w.is d.1, d.2);
     same_pending = λ h x w. ap {A = History R} {B = List ℕ} (λ b. b.core.machine.pending) w.is;
     same_line = λ h x w. ap {A = History R} {B = List ℕ} (λ b. b.core.machine.line) w.is;
@@ -107,11 +108,11 @@ module _ {R : Type 0} (m : Machine) (front : List Entry) where
       (λ h k chosen s n answer resource r w busy l. opened_ends n (outcome_of outcome) answer chosen busy.0 w busy.1 l) a
 
   pub opens_along : (comes_to : Unit {0} → Event R → Type 0) → ((u : Unit {0}) (e : Event R) → comes_to u e → (outcome : Result R Fault) × (e ≡ event.Opened 0 outcome))
-      → IsCallAlong (event.Prepare 0) prepared_by comes_to (λ u. IsOpening)
+      → IsCallAlong (event.Ask (ask.Prepare 0)) prepared_by comes_to (λ u. IsOpening)
   opens_along comes_to second = record {
     begins = λ h k x reply steps a.
         let Q : Machine → Type 0 = λ n. MatchResult (prepared_by reply) (λ _. IsOpening n) (λ _. IsHere n) in
-        from_here Q (event.Prepare 0) (ask.Prepare 0) refl refl 0 h k x reply steps
+        from_here Q (event.Ask (ask.Prepare 0)) (ask.Prepare 0) refl refl 0 h k x reply steps
         (λ h k chosen s n answer resource r w here l.
         let o : Machine = apply n (entry_of (ask.Prepare 0) answer chosen) in
         subst (λ q. MatchResult (prepared_by q) (λ _. IsOpening o) (λ _. IsHere o)) (sym r) (prepared_leads answer o (prepare_begins n answer chosen here l)))
@@ -143,11 +144,11 @@ module _ {R : Type 0} (m : Machine) (front : List Entry) where
       (λ h k chosen s n answer resource r w busy l. check_in_ends n outcome answer chosen busy.0 w busy.1 l) a
 
   pub calls_along : (guard : ℕ) (comes_to : R → Event R → Type 0) → ((value : R) (e : Event R) → comes_to value e → (outcome : CallOutcome) × (back : R) × (e ≡ event.CheckIn 0 outcome back))
-      → IsCallAlong (event.CheckOut 0 guard) out_by comes_to (λ value. IsOut)
+      → IsCallAlong (event.Ask (ask.CheckOut 0 guard)) out_by comes_to (λ value. IsOut)
   calls_along guard comes_to second = record {
     begins = λ h k x reply steps a.
         let Q : Machine → Type 0 = λ n. MatchResult (out_by reply) (λ _. IsOut n) (λ _. IsHere n) in
-        from_here Q (event.CheckOut 0 guard) (ask.CheckOut 0 guard) refl refl 0 h k x reply steps
+        from_here Q (event.Ask (ask.CheckOut 0 guard)) (ask.CheckOut 0 guard) refl refl 0 h k x reply steps
         (λ h k chosen s n answer resource r w here l.
         let o : Machine = apply n (entry_of (ask.CheckOut 0 guard) answer chosen) in
         let goes = subst (λ q. GoesOut h.table None (answer_in q) (resource_of_reply q)) r s.goes_out in
@@ -168,14 +169,14 @@ module _ {R : Type 0} (m : Machine) (front : List Entry) where
     | inr refused ↦ subst (λ a. MatchResult (job_with a resource) (λ job. IsAtWork job n) (λ _. IsHere n)) (sym refused.1) r.1
   ]
 
-  finished_along : (job : JobOf R) (outcome : Result (Unit {0}) Fault) → IsAskFrom (IsAtWork job) IsHere (event.Finish 0 job.action outcome)
+  finished_along : (job : JobOf R) (outcome : Outcome) → IsAskFrom (IsAtWork job) IsHere (event.Ask (ask.Finish 0 job.action outcome))
   finished_along job outcome h k x reply steps a =
-      end_recorded m front (IsAtWork job) IsHere (event.Finish 0 job.action outcome) (ask.Finish 0 job.action (outcome_of outcome)) refl refl 0 h k x reply steps
-      (λ h k chosen s n answer resource r w busy l. finish_ends n job.action (outcome_of outcome) answer chosen w busy l) a
+      end_recorded m front (IsAtWork job) IsHere (event.Ask (ask.Finish 0 job.action outcome)) (ask.Finish 0 job.action outcome) refl refl 0 h k x reply steps
+      (λ h k chosen s n answer resource r w busy l. finish_ends n job.action outcome answer chosen w busy l) a
 
   pub works_along : (first : Event R) (asked : Ask) → ask_of first ≡ Some asked → is_end asked ≡ false
       → ((n : Machine) (answer : Answer) (chosen : Chosen) → IsHere n → IsLegal n (entry_of asked answer chosen) → BeginsToWork answer (apply n (entry_of asked answer chosen)))
-      → (comes_to : JobOf R → Event R → Type 0) → ((job : JobOf R) (e : Event R) → comes_to job e → (outcome : Result (Unit {0}) Fault) × (e ≡ event.Finish 0 job.action outcome))
+      → (comes_to : JobOf R → Event R → Type 0) → ((job : JobOf R) (e : Event R) → comes_to job e → (outcome : Outcome) × (e ≡ event.Ask (ask.Finish 0 job.action outcome)))
       → IsCallAlong first job_by comes_to IsAtWork
   works_along first asked is end starts comes_to second = record {
     begins = λ h k x reply steps a.

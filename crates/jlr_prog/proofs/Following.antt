@@ -1,5 +1,5 @@
 -- What a session does over a book it does over the book with its earlier entries as well, and mutator 0 stays joined.
-use Rattle.std.proofs.Common.{◌≡◌, false, ℕ, List, Option, Some, None, Result, Ok, Err, refl, sym, ◌∙◌, ap, subst, option_and_then}
+use Rattle.std.proofs.Common.{◌≡◌, false, ℕ, List, Option, Some, None, Result, Ok, Err, refl, sym, ◌∙◌, ap, subst}
 use Rattle.std.specs.Prelude.{MatchResult, ⊤}
 use Rattle.jlr_types.specs.declared.RefKind.TheVariants as kind
 use Rattle.jlr_machine.specs.declared.machine.Machine.{Machine}
@@ -14,13 +14,13 @@ use Rattle.jlr_laws.proofs.Frames.{no_some}
 use Rattle.jlr_event.specs.declared.event.Event.{Event}
 use Rattle.jlr_event.specs.declared.event.Event.TheVariants as event
 use Rattle.jlr_event.specs.declared.event.Reply.{Reply}
-use Rattle.jlr_event.specs.Events.{ask_of}
+use Rattle.jlr_event.specs.Events.{ask_of, outcome_of}
 use Rattle.jlr_wire.specs.declared.command.Command.{Command}
 use Rattle.jlr_wire.specs.declared.command.Command.TheVariants.{New, Put, Get, SetInt, Int, Dup, Drop, Same, Soft, Weak, Phantom, Deref, Refers, Clear, Enqueue, Enqueued, Queue, Poll, Remove, Cleaner, Register, Clean, Open, Connect, Read, Write, Close, Bind, Find, Unbind, Names, Full, Stat, Notes, Faults, Array}
 use Rattle.jlr_cleaner.specs.declared.job.Job.{Job as JobOf}
 use Rattle.jlr_device.specs.Handling.{Handling}
 use Rattle.jlr_session.specs.Calls.{Opening}
-use Rattle.jlr_session.specs.Asks.{AsksOnce, AsksTwice, CarriesOut, by_asks, event_of, said_by, prepared_by, out_by, job_by, TellsOpened, TellsConnected, TellsRead, TellsWritten, TellsFinished}
+use Rattle.jlr_session.specs.Asks.{AsksOnce, AsksTwice, CarriesOut, by_asks, ask_by, said_by, prepared_by, out_by, job_by, TellsOpened, TellsConnected, TellsRead, TellsWritten, TellsFinished}
 use Rattle.jlr_session.specs.Sessions.{Ended}
 use Rattle.jlr_session.specs.declared.shell.SessionEnd.{SessionEnd}
 use Rattle.jlr_session.proofs.Following.{IsFollowed, ended_along}
@@ -41,43 +41,43 @@ abbrev StaysIn : Option Ask → Type 0
 StaysIn (Some asked) = (is_end asked ≡ false) × Stays Free asked
 StaysIn None = ⊥
 
-abbrev AsksQuietly : {R : Type 0} → Option (Event R) → Type 0
-AsksQuietly {R} o = (e : Event R) → o ≡ Some e → StaysIn (ask_of e)
+abbrev AsksQuietly : Option Ask → Type 0
+AsksQuietly o = (a : Ask) → o ≡ Some a → StaysIn (Some a)
 
-quietly : {R : Type 0} (e : Event R) → StaysIn (ask_of e) → AsksQuietly (Some e)
-quietly e stays d is = subst (λ o. StaysIn (option_and_then ask_of o)) is stays
+quietly : (a : Ask) → StaysIn (Some a) → AsksQuietly (Some a)
+quietly a stays b is = subst StaysIn is stays
 
-asks_quietly : {R : Type 0} (c : Command) → AsksQuietly {R = R} (event_of 0 c)
-asks_quietly (New layout) = quietly (event.New 0 layout) (refl, λ m a fresh x. made_stays Free m _ fresh x)
-asks_quietly (Array length) = quietly (event.Array 0 length) (refl, λ m a fresh x. made_stays Free m _ fresh x)
-asks_quietly (Put h f v) = quietly (event.Put 0 h f v) (refl, λ m a fresh x. put_stays Free m _ (slot_named m 0 h) x)
-asks_quietly (Get h f) = quietly (event.Get 0 h f) (refl, λ m a fresh x. given_stays Free m (given m (ask.Get 0 h f)) x)
-asks_quietly (SetInt h f n) = quietly (event.SetInt 0 h f n) (refl, λ m a fresh x. put_stays Free m _ (slot_named m 0 h) x)
-asks_quietly (Int h f) = quietly (event.Int 0 h f) (refl, λ m a fresh x. x)
-asks_quietly (Dup h) = quietly (event.Dup 0 h) (refl, λ m a fresh x. given_stays Free m (given m (ask.Dup 0 h)) x)
-asks_quietly (Drop h) = quietly (event.Drop 0 h) (refl, λ m a fresh x. changed Free m _ (λ s. refl) x)
-asks_quietly (Same a b) = quietly (event.Same 0 a b) (refl, λ m a fresh x. x)
-asks_quietly (Soft h q) = quietly (event.MakeRef 0 kind.Soft h q) (refl, λ m a fresh x. made_stays Free m _ fresh x)
-asks_quietly (Weak h q) = quietly (event.MakeRef 0 kind.Weak h q) (refl, λ m a fresh x. made_stays Free m _ fresh x)
-asks_quietly (Phantom h q) = quietly (event.MakeRef 0 kind.Phantom h q) (refl, λ m a fresh x. made_stays Free m _ fresh x)
-asks_quietly (Deref r) = quietly (event.Deref 0 r) (refl, λ m a fresh x. given_stays Free m (given m (ask.Deref 0 r)) x)
-asks_quietly (Refers r h) = quietly (event.Refers 0 r h) (refl, λ m a fresh x. x)
-asks_quietly (Clear r) = quietly (event.Clear 0 r) (refl, λ m a fresh x. put_stays Free m _ (slot_named m 0 r) x)
-asks_quietly (Enqueue r) = quietly (event.Enqueue 0 r) (refl, λ m a fresh x. asked_enqueue_stays Free m (slot_named m 0 r) x)
-asks_quietly (Enqueued r) = quietly (event.Enqueued 0 r) (refl, λ m a fresh x. x)
-asks_quietly Queue = quietly (event.MakeQueue 0) (refl, λ m a fresh x. made_stays Free m _ fresh x)
-asks_quietly (Poll q) = quietly (event.Poll 0 q) (refl, λ m a fresh x. asked_poll_stays Free m (slot_named m 0 q) (given m (ask.Poll 0 q)) x)
-asks_quietly (Remove q) = quietly (event.Remove 0 q) (refl, λ m a fresh x. asked_poll_stays Free m (slot_named m 0 q) (given m (ask.Remove 0 q)) x)
-asks_quietly Cleaner = quietly (event.MakeCleaner 0) (refl, λ m a fresh x. made_stays Free m _ fresh x)
-asks_quietly (Register c h note) = quietly (event.Register 0 c h note) (refl, λ m a fresh x. made_stays Free m _ fresh x)
-asks_quietly (Bind name h) = quietly (event.Bind 0 name h) (refl, λ m a fresh x. bound_stays Free m _ (slot_named m 0 h) (λ s y. y) x)
-asks_quietly (Find name) = quietly (event.Find 0 name) (refl, λ m a fresh x. given_stays Free m (given m (ask.Find 0 name)) x)
-asks_quietly (Unbind name) = quietly (event.Unbind 0 name) (refl, λ m a fresh x. x)
-asks_quietly Names = quietly (event.Names 0) (refl, λ m a fresh x. x)
-asks_quietly (Full mode) = quietly (event.Full 0 mode) (refl, λ m a fresh x. x)
-asks_quietly Stat = quietly (event.Stat 0) (refl, λ m a fresh x. x)
-asks_quietly Notes = quietly (event.Notes 0) (refl, λ m a fresh x. x)
-asks_quietly Faults = quietly (event.Faults 0) (refl, λ m a fresh x. x)
+asks_quietly : (c : Command) → AsksQuietly (ask_by 0 c)
+asks_quietly (New layout) = quietly (ask.New 0 layout) (refl, λ m a fresh x. made_stays Free m _ fresh x)
+asks_quietly (Array length) = quietly (ask.Array 0 length) (refl, λ m a fresh x. made_stays Free m _ fresh x)
+asks_quietly (Put h f v) = quietly (ask.Put 0 h f v) (refl, λ m a fresh x. put_stays Free m _ (slot_named m 0 h) x)
+asks_quietly (Get h f) = quietly (ask.Get 0 h f) (refl, λ m a fresh x. given_stays Free m (given m (ask.Get 0 h f)) x)
+asks_quietly (SetInt h f n) = quietly (ask.SetInt 0 h f n) (refl, λ m a fresh x. put_stays Free m _ (slot_named m 0 h) x)
+asks_quietly (Int h f) = quietly (ask.Int 0 h f) (refl, λ m a fresh x. x)
+asks_quietly (Dup h) = quietly (ask.Dup 0 h) (refl, λ m a fresh x. given_stays Free m (given m (ask.Dup 0 h)) x)
+asks_quietly (Drop h) = quietly (ask.Drop 0 h) (refl, λ m a fresh x. changed Free m _ (λ s. refl) x)
+asks_quietly (Same a b) = quietly (ask.Same 0 a b) (refl, λ m a fresh x. x)
+asks_quietly (Soft h q) = quietly (ask.MakeRef 0 kind.Soft h q) (refl, λ m a fresh x. made_stays Free m _ fresh x)
+asks_quietly (Weak h q) = quietly (ask.MakeRef 0 kind.Weak h q) (refl, λ m a fresh x. made_stays Free m _ fresh x)
+asks_quietly (Phantom h q) = quietly (ask.MakeRef 0 kind.Phantom h q) (refl, λ m a fresh x. made_stays Free m _ fresh x)
+asks_quietly (Deref r) = quietly (ask.Deref 0 r) (refl, λ m a fresh x. given_stays Free m (given m (ask.Deref 0 r)) x)
+asks_quietly (Refers r h) = quietly (ask.Refers 0 r h) (refl, λ m a fresh x. x)
+asks_quietly (Clear r) = quietly (ask.Clear 0 r) (refl, λ m a fresh x. put_stays Free m _ (slot_named m 0 r) x)
+asks_quietly (Enqueue r) = quietly (ask.Enqueue 0 r) (refl, λ m a fresh x. asked_enqueue_stays Free m (slot_named m 0 r) x)
+asks_quietly (Enqueued r) = quietly (ask.Enqueued 0 r) (refl, λ m a fresh x. x)
+asks_quietly Queue = quietly (ask.MakeQueue 0) (refl, λ m a fresh x. made_stays Free m _ fresh x)
+asks_quietly (Poll q) = quietly (ask.Poll 0 q) (refl, λ m a fresh x. asked_poll_stays Free m (slot_named m 0 q) (given m (ask.Poll 0 q)) x)
+asks_quietly (Remove q) = quietly (ask.Remove 0 q) (refl, λ m a fresh x. asked_poll_stays Free m (slot_named m 0 q) (given m (ask.Remove 0 q)) x)
+asks_quietly Cleaner = quietly (ask.MakeCleaner 0) (refl, λ m a fresh x. made_stays Free m _ fresh x)
+asks_quietly (Register c h note) = quietly (ask.Register 0 c h note) (refl, λ m a fresh x. made_stays Free m _ fresh x)
+asks_quietly (Bind name h) = quietly (ask.Bind 0 name h) (refl, λ m a fresh x. bound_stays Free m _ (slot_named m 0 h) (λ s y. y) x)
+asks_quietly (Find name) = quietly (ask.Find 0 name) (refl, λ m a fresh x. given_stays Free m (given m (ask.Find 0 name)) x)
+asks_quietly (Unbind name) = quietly (ask.Unbind 0 name) (refl, λ m a fresh x. x)
+asks_quietly Names = quietly (ask.Names 0) (refl, λ m a fresh x. x)
+asks_quietly (Full mode) = quietly (ask.Full 0 mode) (refl, λ m a fresh x. x)
+asks_quietly Stat = quietly (ask.Stat 0) (refl, λ m a fresh x. x)
+asks_quietly Notes = quietly (ask.Notes 0) (refl, λ m a fresh x. x)
+asks_quietly Faults = quietly (ask.Faults 0) (refl, λ m a fresh x. x)
 asks_quietly c = λ e is. no_some e is
 
 module _ {R : Type 0} (m : Machine) (front : List Entry) where
@@ -86,10 +86,10 @@ module _ {R : Type 0} (m : Machine) (front : List Entry) where
   quiet_along e None is stays = absurd stays
 
   module _ {D : Type 0} (device : Opening D R) (resource : Handling R) where
-    once_along : (first : Option (Event R)) → AsksQuietly first → (h k : History R) (said : Answer) (x : Whole R) → AsksOnce (by_book resource) first h said k → IsWhole m front IsHere h x
+    once_along : (first : Option Ask) → AsksQuietly first → (h k : History R) (said : Answer) (x : Whole R) → AsksOnce (by_book resource) first h said k → IsWhole m front IsHere h x
         → (y : Whole R) × AsksOnce (by_whole resource) first x said y × IsWhole m front IsHere k y
     once_along None quiet h k said x a s = (x, (a.0, refl), subst (λ l. IsWhole m front IsHere l x) (sym a.1) s)
-    once_along (Some first) quiet h k said x a s = let d = quiet_along first (ask_of first) refl (quiet first refl) h k x a.0 a.1 s in (d.0, (a.0, d.1, a.2), d.2)
+    once_along (Some first) quiet h k said x a s = let d = quiet_along (event.Ask first) (Some first) refl (quiet first refl) h k x a.0 a.1 s in (d.0, (a.0, d.1, a.2), d.2)
 
     -- ---- Commands that ask twice
 
@@ -102,12 +102,12 @@ module _ {R : Type 0} (m : Machine) (front : List Entry) where
     second_along first leads comes_to T f rests (Ok w) h k said x a s = let d = f.ends w a.0 a.2 h k x a.1 a.3 s in (d.0, (a.0, a.1, a.2, d.1, a.4), d.2)
     second_along first leads comes_to T f rests (Err answer) h k said x a s = (x, (a.0, refl, a.2), subst (λ l. IsWhole m front IsHere l x) (sym a.1) s)
 
-    twice_along : {Y : Type 0} (first : Event R) (leads : Reply R → Result Y Answer) (comes_to : Y → Event R → Type 0) (T : Y → Machine → Type 0) → IsCallAlong m front first leads comes_to T
+    twice_along : {Y : Type 0} (first : Ask) (leads : Reply R → Result Y Answer) (comes_to : Y → Event R → Type 0) (T : Y → Machine → Type 0) → IsCallAlong m front (event.Ask first) leads comes_to T
         → (rests : Type 0) (h k : History R) (said : Answer) (x : Whole R) → AsksTwice (by_book resource) first leads comes_to rests h said k → IsWhole m front IsHere h x
         → (y : Whole R) × AsksTwice (by_whole resource) first leads comes_to rests x said y × IsWhole m front IsHere k y
     twice_along first leads comes_to T f rests h k said x a s =
         let d = f.begins h a.1 x a.0 a.2 s in
-        let e = second_along first leads comes_to T f rests (leads a.0) a.1 k said d.0 a.3 d.2 in
+        let e = second_along (event.Ask first) leads comes_to T f rests (leads a.0) a.1 k said d.0 a.3 d.2 in
         (e.0, (a.0, d.0, d.1, e.1), e.2)
 
     -- ---- Commands
@@ -116,27 +116,27 @@ module _ {R : Type 0} (m : Machine) (front : List Entry) where
         → (y : Whole R) × CarriesOut (by_whole resource) device resource 0 c x d said y d' × IsWhole m front IsHere k y
     carried_along (Open mode path) h k d d' said x a s =
         let comes_to : Unit {0} → Event R → Type 0 = λ u. TellsOpened device 0 mode path d d' in
-        twice_along (event.Prepare 0) prepared_by comes_to _ (opens_along m front comes_to (λ u e t. (t.0, t.2))) (d' ≡ d) h k said x a s
+        twice_along (ask.Prepare 0) prepared_by comes_to _ (opens_along m front comes_to (λ u e t. (t.0, t.2))) (d' ≡ d) h k said x a s
     carried_along (Connect path) h k d d' said x a s =
         let comes_to : Unit {0} → Event R → Type 0 = λ u. TellsConnected device 0 path d d' in
-        twice_along (event.Prepare 0) prepared_by comes_to _ (opens_along m front comes_to (λ u e t. (t.0, t.2))) (d' ≡ d) h k said x a s
+        twice_along (ask.Prepare 0) prepared_by comes_to _ (opens_along m front comes_to (λ u e t. (t.0, t.2))) (d' ≡ d) h k said x a s
     carried_along (Read g count) h k d d' said x a s =
         let comes_to : R → Event R → Type 0 = TellsRead resource 0 count in
-        let t = twice_along (event.CheckOut 0 g) out_by comes_to _ (calls_along m front g comes_to (λ value e t. (t.0, t.1, t.3))) ⊤ h k said x a.0 s in
+        let t = twice_along (ask.CheckOut 0 g) out_by comes_to _ (calls_along m front g comes_to (λ value e t. (t.0, t.1, t.3))) ⊤ h k said x a.0 s in
         (t.0, (t.1, a.1), t.2)
     carried_along (Write g bytes) h k d d' said x a s =
         let comes_to : R → Event R → Type 0 = TellsWritten resource 0 bytes in
-        let t = twice_along (event.CheckOut 0 g) out_by comes_to _ (calls_along m front g comes_to (λ value e t. (t.0, t.1, t.3))) ⊤ h k said x a.0 s in
+        let t = twice_along (ask.CheckOut 0 g) out_by comes_to _ (calls_along m front g comes_to (λ value e t. (t.0, t.1, t.3))) ⊤ h k said x a.0 s in
         (t.0, (t.1, a.1), t.2)
     carried_along (Clean c) h k d d' said x a s =
         let comes_to : JobOf R → Event R → Type 0 = TellsFinished resource 0 in
-        let t = twice_along (event.Clean 0 c) job_by comes_to _ (works_along m front (event.Clean 0 c) (ask.Clean 0 c) refl refl (λ n answer chosen. clean_begins n c answer chosen) comes_to (λ job e t. (t.0, t.2))) ⊤ h k said x a.0 s in
+        let t = twice_along (ask.Clean 0 c) job_by comes_to _ (works_along m front (event.Ask (ask.Clean 0 c)) (ask.Clean 0 c) refl refl (λ n answer chosen. clean_begins n c answer chosen) comes_to (λ job e t. (outcome_of t.0, t.2))) ⊤ h k said x a.0 s in
         (t.0, (t.1, a.1), t.2)
     carried_along (Close g) h k d d' said x a s =
         let comes_to : JobOf R → Event R → Type 0 = TellsFinished resource 0 in
-        let t = twice_along (event.Close 0 g) job_by comes_to _ (works_along m front (event.Close 0 g) (ask.Close 0 g) refl refl (λ n answer chosen. close_begins n g answer chosen) comes_to (λ job e t. (t.0, t.2))) ⊤ h k said x a.0 s in
+        let t = twice_along (ask.Close 0 g) job_by comes_to _ (works_along m front (event.Ask (ask.Close 0 g)) (ask.Close 0 g) refl refl (λ n answer chosen. close_begins n g answer chosen) comes_to (λ job e t. (outcome_of t.0, t.2))) ⊤ h k said x a.0 s in
         (t.0, (t.1, a.1), t.2)
-    carried_along c h k d d' said x a s = let t = once_along (event_of 0 c) (asks_quietly c) h k said x a.0 s in (t.0, (t.1, a.1), t.2)
+    carried_along c h k d d' said x a s = let t = once_along (ask_by 0 c) (asks_quietly c) h k said x a.0 s in (t.0, (t.1, a.1), t.2)
 
     -- a device is the same in both
     abbrev pub Along : History R × D → Whole R × D → Type 0

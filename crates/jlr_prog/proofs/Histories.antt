@@ -1,5 +1,5 @@
 -- A session over a book is a session of which the history is told: the join and the leave are answered ok.
-use Rattle.std.proofs.Common.{◌≡◌, ◌≢◌, ◌⊎◌, inl, inr, ℕ, zero, suc, ◌≤◌, Bool, true, false, cond, nat_le, nat_lt, List, [], ◌∷◌, ◌++◌, Option, None, Some, replicate, length, refl, sym, ◌∙◌, ap, subst, arith, option_to_list, append-nil, append_assoc}
+use Rattle.std.proofs.Common.{◌≡◌, ◌⊎◌, inl, inr, ℕ, zero, suc, ◌≤◌, Bool, true, false, cond, nat_lt, List, [], ◌∷◌, ◌++◌, Option, None, Some, replicate, length, refl, sym, ◌∙◌, ap, subst, arith, append-nil, append_assoc}
 use Rattle.std.proofs.lemmas.Bool.{lt-ltb}
 use Rattle.jlr_types.specs.declared.Refusal.{Refusal}
 use Rattle.jlr_types.specs.declared.Refusal.TheVariants.{NoMemory}
@@ -18,23 +18,23 @@ use Rattle.jlr_machine.specs.WellFormed.{IsWellFormed}
 use Rattle.jlr_laws.proofs.Empty.{empty_is_well_formed}
 use Rattle.jlr_histories.proofs.Promises.{runs_keep_the_promises}
 use Rattle.jlr_event.specs.declared.event.Event.{Event}
-use Rattle.jlr_event.specs.declared.event.Event.TheVariants.{Join, Leave}
+use Rattle.jlr_event.specs.declared.event.Event.TheVariants.{Ask as Asks}
 use Rattle.jlr_event.specs.declared.event.Reply.{Reply}
 use Rattle.jlr_event.specs.declared.event.Reply.TheVariants.{Answered}
-use Rattle.jlr_event.specs.Events.{ask_of, answer_in, resource_of_event, resource_of_reply}
-use Rattle.jlr_solo.specs.Cores.{GoesOut, Kept, StandsIn, IsStep}
+use Rattle.jlr_event.specs.Events.{answer_in, resource_of_event, resource_of_reply}
+use Rattle.jlr_solo.specs.Cores.{GoesOut, Kept, IsStep}
 use Rattle.jlr_solo.proofs.Cores.{limits_hold, stands_at_start}
 use Rattle.jlr_device.specs.Handling.{Handling}
 use Rattle.jlr_session.specs.Calls.{Opening}
 use Rattle.jlr_session.specs.Asks.{said_by}
 use Rattle.jlr_session.specs.Serving.{Follows, IsTurnedAway, Serves}
 use Rattle.jlr_session.specs.declared.shell.SessionEnd.{SessionEnd}
-use Rattle.jlr_solo.specs.Histories.{History, IsNewBook, seated}
+use Rattle.jlr_solo.specs.Histories.{History, IsNewBook}
 use Rattle.jlr_solo.specs.Rules.{BookSteps, Cuts, Readies}
 use Rattle.jlr_solo.specs.Settling.{Helpers, Turns, HandsOver, Works, Cleans, Settles}
 use Rattle.jlr_solo.specs.Solos.{at_book, by_book}
 use Rattle.jlr_prog.specs.Wholes.{Whole, WholeSteps, at_whole, by_whole, given_up, since_opening}
-use Rattle.jlr_prog.specs.Histories.{FromJoinToLeave, IsOk, IsSession}
+use Rattle.jlr_prog.specs.Histories.{FromJoinToLeave, IsSession}
 use Rattle.jlr_prog.proofs.Calls.{IsHere, joins, leaves}
 use Rattle.jlr_prog.proofs.Recorded.{IsWhole, recorded, end_recorded, stayed}
 use Rattle.jlr_prog.proofs.Recorded as rec
@@ -92,20 +92,20 @@ abbrev Joins : {R : Type 0} → History R → History R → Reply R → Machine 
 Joins {R} h k reply n = ((reply ≡ answered_ok) × IsHere n) ⊎ ((k ≡ h) × (by : Refusal) × (resource : Option R) × (reply ≡ Answered (Refused by) resource))
 
 module _ {R : Type 0} (m : Machine) where
-  joined : (h k : History R) (reply : Reply R) (x : Whole R) → BookSteps 0 h (Join 0) reply k → IsWhole m [] (λ n. refusal n (ask.Join 0) ≡ None) h x → rec.Follows m [] (Joins h k reply) 0 (Join 0) reply k x
+  joined : (h k : History R) (reply : Reply R) (x : Whole R) → BookSteps 0 h (Asks (ask.Join 0)) reply k → IsWhole m [] (λ n. refusal n (ask.Join 0) ≡ None) h x → rec.Follows m [] (Joins h k reply) 0 (Asks (ask.Join 0)) reply k x
   joined h k reply x steps w =
-      recorded m [] (λ n. refusal n (ask.Join 0) ≡ None) (Joins h k reply) (Join 0) (ask.Join 0) refl refl (λ n seen free. free) 0 h k x reply steps
+      recorded m [] (λ n. refusal n (ask.Join 0) ≡ None) (Joins h k reply) (Asks (ask.Join 0)) (ask.Join 0) refl refl (λ n seen free. free) 0 h k x reply steps
       (λ core core' chosen s n answer resource is well free l.
       let memory : answer ≡ Refused NoMemory → ⊥ = λ e. s.memory (ap answer_in is ∙ ap (λ a. Some a) e) in
       let j = joins n answer chosen free memory l in
-      inl (only_ok core core' (Join 0) reply answer resource chosen s is j.0, j.1))
+      inl (only_ok core core' (Asks (ask.Join 0)) reply answer resource chosen s is j.0, j.1))
       (λ n by resource same said free. inr (same, by, resource, said)) w
 
   -- the leave of a mutator that is there
-  left : (front : List Entry) (h k : History R) (reply : Reply R) (x : Whole R) → BookSteps 0 h (Leave 0) reply k → IsWhole m front IsHere h x → rec.Follows m front (λ n. reply ≡ answered_ok) 0 (Leave 0) reply k x
+  left : (front : List Entry) (h k : History R) (reply : Reply R) (x : Whole R) → BookSteps 0 h (Asks (ask.Leave 0)) reply k → IsWhole m front IsHere h x → rec.Follows m front (λ n. reply ≡ answered_ok) 0 (Asks (ask.Leave 0)) reply k x
   left front h k reply x steps w =
-      end_recorded m front IsHere (λ n. reply ≡ answered_ok) (Leave 0) (ask.Leave 0) refl refl 0 h k x reply steps
-      (λ core core' chosen s n answer resource is well here l. only_ok core core' (Leave 0) reply answer resource chosen s is (leaves n answer chosen here l)) w
+      end_recorded m front IsHere (λ n. reply ≡ answered_ok) (Asks (ask.Leave 0)) (ask.Leave 0) refl refl 0 h k x reply steps
+      (λ core core' chosen s n answer resource is well here l. only_ok core core' (Asks (ask.Leave 0)) reply answer resource chosen s is (leaves n answer chosen here l)) w
 
 -- ---- The first entry, and the last
 
@@ -129,7 +129,7 @@ nothing_let_go true = refl
 nothing_let_go false = refl
 
 -- where nothing was recorded, and no cycle is open
-join_is_first : {R : Type 0} (x y : Whole R) → x.earlier ≡ [] → x.book.entries ≡ [] → x.book.core.machine.cycle_open ≡ false → WholeSteps 0 x (Join 0) answered_ok y
+join_is_first : {R : Type 0} (x y : Whole R) → x.earlier ≡ [] → x.book.entries ≡ [] → x.book.core.machine.cycle_open ≡ false → WholeSteps 0 x (Asks (ask.Join 0)) answered_ok y
     → (chosen : Chosen) × (since_opening y ≡ ok_entry (ask.Join 0) chosen ∷ [])
 join_is_first {R} x y before trace shut steps = elim (steps.book) [
   | inl s ↦
@@ -149,7 +149,7 @@ join_is_first {R} x y before trace shut steps = elim (steps.book) [
   ]
 ]
 
-leave_is_last : {R : Type 0} (x y : Whole R) → WholeSteps 0 x (Leave 0) answered_ok y → (chosen : Chosen) × (since_opening y ≡ since_opening x ++ ok_entry (ask.Leave 0) chosen ∷ [])
+leave_is_last : {R : Type 0} (x y : Whole R) → WholeSteps 0 x (Asks (ask.Leave 0)) answered_ok y → (chosen : Chosen) × (since_opening y ≡ since_opening x ++ ok_entry (ask.Leave 0) chosen ∷ [])
 leave_is_last {R} x y steps = elim (steps.book) [
   | inl s ↦
       let chosen = s.0.chosen in
@@ -217,7 +217,7 @@ module _ {D R : Type 0} (device : Opening D R) (resource : Handling R) (limits :
       }
 
   -- the join was answered ok
-  served : (now : History R) (y : Whole R) → WholeSteps 0 whole_at_start (Join 0) answered_ok y → IsWhole nothing_yet [] IsHere now y → Follows (by_book resource) device resource Done at_end end bytes now d out over d'
+  served : (now : History R) (y : Whole R) → WholeSteps 0 whole_at_start (Asks (ask.Join 0)) answered_ok y → IsWhole nothing_yet [] IsHere now y → Follows (by_book resource) device resource Done at_end end bytes now d out over d'
       → IsSession device resource limits at_end end bytes d out d' over
   served now y steps w follows =
       let shut : start.core.machine.cycle_open ≡ false = ap {A = Machine} {B = Bool} (λ n. n.cycle_open) begins.core.machine in
@@ -226,7 +226,7 @@ module _ {D R : Type 0} (device : Opening D R) (resource : Handling R) (limits :
       let here : IsWhole nothing_yet front IsHere now y = record { is = w.is; numbered = w.numbered; begins = ([], sym (since_is now y w.is) ∙ one.1); after = w.after } in
       let t = lines_along nothing_yet front device resource at_end end bytes now follows.0 d d' out y follows.2 here in
       let l = left nothing_yet front follows.0 over follows.1 t.0 follows.3 t.2 in
-      let end_is = leave_is_last t.0 l.0 (subst (λ q. WholeSteps 0 t.0 (Leave 0) q l.0) l.2.after.5 l.1) in
+      let end_is = leave_is_last t.0 l.0 (subst (λ q. WholeSteps 0 t.0 (Asks (ask.Leave 0)) q l.0) l.2.after.5 l.1) in
       let all : since_opening l.0 ≡ ok_entry (ask.Join 0) one.0 ∷ (t.2.begins.0 ++ ok_entry (ask.Leave 0) end_is.0 ∷ []) =
       end_is.1 ∙ ap {A = List Entry} {B = List Entry} (λ l. l ++ ok_entry (ask.Leave 0) end_is.0 ∷ []) (since_is follows.0 t.0 t.2.is ∙ t.2.begins.1) in
       keeps (λ n. follows.1 ≡ answered_ok) front l.0 l.2 (answered_ok, y, steps, (t.0, follows.1, t.1, l.1))
@@ -245,7 +245,7 @@ module _ {D R : Type 0} (device : Opening D R) (resource : Handling R) (limits :
         | inr f ↦ (f.3, inr (f.0, f.1, f.2, refl))
       ]
 
-  declined : (by : Refusal) (back : Option R) (now : History R) (y : Whole R) → WholeSteps 0 whole_at_start (Join 0) (Answered (Refused by) back) y → y.book ≡ now → length y.earlier ≡ now.base → now ≡ start
+  declined : (by : Refusal) (back : Option R) (now : History R) (y : Whole R) → WholeSteps 0 whole_at_start (Asks (ask.Join 0)) (Answered (Refused by) back) y → y.book ≡ now → length y.earlier ≡ now.base → now ≡ start
       → Follows (by_book resource) device resource (Refused by) at_end end bytes now d out over d' → IsSession device resource limits at_end end bytes d out d' over
   declined by back now y steps is numbered same follows =
       let t = turned_away by now y is same follows.0 in
@@ -277,11 +277,11 @@ module _ {D R : Type 0} (device : Opening D R) (resource : Handling R) (limits :
       elim (j.2.after.5) [
         | inl ok ↦
             let a = j.2.after in
-            served serves.1 j.0 (subst (λ q. WholeSteps 0 whole_at_start (Join 0) q j.0) ok.0 j.1)
+            served serves.1 j.0 (subst (λ q. WholeSteps 0 whole_at_start (Asks (ask.Join 0)) q j.0) ok.0 j.1)
             (record { is = j.2.is; numbered = j.2.numbered; begins = j.2.begins; after = (a.0, a.1, a.2, a.3, a.4, ok.1) })
             (subst (λ q. Follows (by_book resource) device resource (said_by q) at_end end bytes serves.1 d out over d') ok.0 serves.3)
         | inr x ↦
-            declined x.1 x.2 serves.1 j.0 (subst (λ q. WholeSteps 0 whole_at_start (Join 0) q j.0) x.3 j.1) j.2.is j.2.numbered x.0
+            declined x.1 x.2 serves.1 j.0 (subst (λ q. WholeSteps 0 whole_at_start (Asks (ask.Join 0)) q j.0) x.3 j.1) j.2.is j.2.numbered x.0
             (subst (λ q. Follows (by_book resource) device resource (said_by q) at_end end bytes serves.1 d out over d') x.3 serves.3)
       ]
 

@@ -24,7 +24,7 @@ use Rattle.jlr_event.specs.declared.event.Reply.{Reply}
 use Rattle.jlr_event.specs.declared.event.Reply.TheVariants.{Answered, Marked}
 use Rattle.jlr_event.specs.Events.{ask_of, answer_in}
 use Rattle.jlr_solo.specs.Cores.{Kept, StandsIn, Enters, entry_of, IsStep}
-use Rattle.jlr_solo.specs.Histories.{Ends, History, seated}
+use Rattle.jlr_solo.specs.Histories.{History, seated}
 use Rattle.jlr_solo.specs.Rules.{AsksBy, BookSteps, Cuts, Declines, EndsBy, GivesUp, Readies, StepsBy}
 use Rattle.jlr_solo.specs.Rules as rules
 use Rattle.jlr_solo.proofs.Entering.{abandon_answers, end_chooses}
@@ -143,8 +143,8 @@ module _ {R : Type 0} (m : Machine) where
   gave_up P closed seat h k entries true was g a =
       let x = g.1.entry a.0 a.2 in
       let none = (abandon_answers a.0 (Truth true) g.0 (λ e. cc e) x.1.0).1 in
-      let s : IsStep h event.Abandon (Answered (Truth true) None) no_choice k = subst (λ c. IsStep h event.Abandon (Answered (Truth true) None) c k) none g.1 in
-      told P P event.Abandon ask.Abandon refl seat h k entries (Answered (Truth true) None) no_choice s
+      let s : IsStep h (event.Ask ask.Abandon) (Answered (Truth true) None) no_choice k = subst (λ c. IsStep h (event.Ask ask.Abandon) (Answered (Truth true) None) c k) none g.1 in
+      told P P (event.Ask ask.Abandon) ask.Abandon refl seat h k entries (Answered (Truth true) None) no_choice s
       (λ n answer resource is w p l.
       let said : Truth true ≡ answer = cc is in
       subst (λ l. P (apply n (entry_of ask.Abandon l no_choice))) said (closed n _ p)) a

@@ -1,8 +1,10 @@
 -- What follows each reply, in one way and in another along a relation between the two.
-use Rattle.std.proofs.Common.{◌≡◌, ◌≢◌, ℕ, List, [], ◌∷◌, Result, inl, inr, refl, sym, ◌∙◌, subst}
-use Rattle.jlr_types.specs.declared.Fault.{Fault}
+use Rattle.std.proofs.Common.{◌≡◌, ◌≢◌, ℕ, List, [], ◌∷◌, inl, inr, refl, sym, ◌∙◌, subst}
 use Rattle.jlr_event.specs.declared.event.Event.{Event}
-use Rattle.jlr_event.specs.declared.event.Event.TheVariants.{Finish, HandOver, TakeUp}
+use Rattle.jlr_machine.specs.declared.ask.Outcome.{Outcome}
+use Rattle.jlr_machine.specs.declared.ask.Ask.TheVariants.{Finish, HandOver, TakeUp}
+use Rattle.jlr_event.specs.declared.event.Event.TheVariants.{Ask as Asks}
+use Rattle.jlr_event.specs.Events.{outcome_of}
 use Rattle.jlr_event.specs.declared.event.Reply.{Reply}
 use Rattle.jlr_device.specs.Handling.{Handling}
 use Rattle.jlr_solo.specs.Settling.{Helpers, Turns, TurnsToTheEnd, TurnsUntilRefused, HandsOver, DoesJob, Works, Cleans, Settles}
@@ -16,9 +18,9 @@ IsAskAlong {H} {X} {R} asks tells S event = (h k : H) (x : X) (reply : Reply R) 
 
 -- and so are all events of a settling, over the same lists
 pub record IsSettledAlong {H X R : Type 0} (helpers : Helpers H R) (others : Helpers X R) (S : H → X → Type 0) : Type 0 where
-  pub hands_over : IsAskAlong helpers.hands others.hands S HandOver
-  pub takes_up : IsAskAlong helpers.cleans others.cleans S TakeUp
-  pub finishes : (action : ℕ) (outcome : Result (Unit {0}) Fault) → IsAskAlong helpers.cleans others.cleans S (Finish 255 action outcome)
+  pub hands_over : IsAskAlong helpers.hands others.hands S (Asks HandOver)
+  pub takes_up : IsAskAlong helpers.cleans others.cleans S (Asks TakeUp)
+  pub finishes : (action : ℕ) (outcome : Outcome) → IsAskAlong helpers.cleans others.cleans S (Asks (Finish 255 action outcome))
   pub same_pending : (h : H) (x : X) → S h x → others.pending x ≡ helpers.pending h
   pub same_line : (h : H) (x : X) → S h x → others.line x ≡ helpers.line h
 
@@ -56,8 +58,8 @@ module _ {H X R : Type 0} (helpers : Helpers H R) (others : Helpers X R) (S : H 
   job_along : (resource : Handling R) → IsTurnAlong (DoesJob helpers resource) (DoesJob others resource) S
   job_along resource h k x t s =
       let taken = f.takes_up h t.2 x t.0 t.5 s in
-      let is : t.3 ≡ Finish 255 t.1.action t.7.0 = t.7.2 in
-      let finished = subst (IsAskAlong helpers.cleans others.cleans S) (sym is) (f.finishes t.1.action t.7.0) in
+      let is : t.3 ≡ Asks (Finish 255 t.1.action (outcome_of t.7.0)) = t.7.2 in
+      let finished = subst (IsAskAlong helpers.cleans others.cleans S) (sym is) (f.finishes t.1.action (outcome_of t.7.0)) in
       let told = finished t.2 k taken.0 t.4 t.8 taken.2 in
       (told.0, (t.0, t.1, taken.0, t.3, t.4, taken.1, t.6, t.7, told.1), told.2)
 
@@ -73,7 +75,7 @@ module _ {H X R : Type 0} (helpers : Helpers H R) (others : Helpers X R) (S : H 
   cleans_along resource h k x t s = elim t [
     | inl u ↦ let d = to_the_end_along (Works helpers resource) (Works others resource) helpers.line others.line S (works_along resource) f.same_line h k x u s in (d.0, inl d.1, d.2)
     | inr u ↦
-        let d = until_refused_along (Works helpers resource) (Works others resource) helpers.line others.line S (works_along resource) f.same_line helpers.cleans others.cleans TakeUp f.takes_up h k x u s in
+        let d = until_refused_along (Works helpers resource) (Works others resource) helpers.line others.line S (works_along resource) f.same_line helpers.cleans others.cleans (Asks TakeUp) f.takes_up h k x u s in
         (d.0, inr d.1, d.2)
   ]
 
@@ -84,6 +86,6 @@ module _ {H X R : Type 0} (helpers : Helpers H R) (others : Helpers X R) (S : H 
         let e = cleans_along resource u.0 k d.0 u.2 d.2 in
         (e.0, inl (d.0, d.1, e.1), e.2)
     | inr u ↦
-        let d = until_refused_along (HandsOver helpers) (HandsOver others) helpers.pending others.pending S hands_over_along f.same_pending helpers.hands others.hands HandOver f.hands_over h k x u s in
+        let d = until_refused_along (HandsOver helpers) (HandsOver others) helpers.pending others.pending S hands_over_along f.same_pending helpers.hands others.hands (Asks HandOver) f.hands_over h k x u s in
         (d.0, inr d.1, d.2)
   ]

@@ -6,13 +6,13 @@ use Rattle.jlr_wire.specs.declared.command.Command.{Command}
 use Rattle.jlr_wire.specs.declared.command.Command.TheVariants.{New, Put, Get, SetInt, Int, Dup, Drop, Same, Soft, Weak, Phantom, Deref, Refers, Clear, Enqueue, Enqueued, Queue, Poll, Remove, Cleaner, Register, Clean, Open, Connect, Read, Write, Close, Bind, Find, Unbind, Names, Full, Stat, Notes, Faults, Bye, Array}
 use Rattle.jlr_device.specs.Handling.{Handling}
 use Rattle.jlr_session.specs.Calls.{Opening}
-use Rattle.jlr_session.specs.Asks.{Asking, AsksOnce, CarriesOut, event_of}
+use Rattle.jlr_session.specs.Asks.{Asking, AsksOnce, CarriesOut, ask_by}
 
 -- a command that is none of those that may ask twice
 pub carried_once : {P D R : Type 0} (port : Asking P R) (device : Opening D R) (resource : Handling R) (m : ℕ) (command : Command) (p p' : P) (d : D) (said : Answer)
     → ((mode : Mode) (path : List ℕ) → command ≡ Open mode path → ⊥) → ((path : List ℕ) → command ≡ Connect path → ⊥) → ((h count : ℕ) → command ≡ Read h count → ⊥)
     → ((h : ℕ) (bytes : List ℕ) → command ≡ Write h bytes → ⊥) → ((h : ℕ) → command ≡ Clean h → ⊥) → ((h : ℕ) → command ≡ Close h → ⊥)
-    → AsksOnce port (event_of m command) p said p' → CarriesOut port device resource m command p d said p' d
+    → AsksOnce port (ask_by m command) p said p' → CarriesOut port device resource m command p d said p' d
 carried_once port device resource m (New layout) p p' d said no_open no_connect no_read no_write no_clean no_close asks = (asks, refl)
 carried_once port device resource m (Array length) p p' d said no_open no_connect no_read no_write no_clean no_close asks = (asks, refl)
 carried_once port device resource m (Put h k v) p p' d said no_open no_connect no_read no_write no_clean no_close asks = (asks, refl)

@@ -2,6 +2,8 @@
 use Rattle.std.specs.Prelude.{◌≡◌, ℕ, List, Option, Some, None, Result, Ok, Err, MatchResult, ⊤}
 use Rattle.jlr_types.specs.declared.Fault.{Fault}
 use Rattle.jlr_types.specs.declared.RefKind.TheVariants as kind
+use Rattle.jlr_machine.specs.declared.ask.Ask.{Ask}
+use Rattle.jlr_machine.specs.declared.ask.Ask.TheVariants as ask
 use Rattle.jlr_machine.specs.declared.ask.Answer.{Answer}
 use Rattle.jlr_machine.specs.declared.ask.Answer.TheVariants as answer
 use Rattle.jlr_machine.specs.declared.ask.CallOutcome.{CallOutcome}
@@ -10,6 +12,7 @@ use Rattle.jlr_device.specs.declared.device.Mode.{Mode}
 use Rattle.jlr_cleaner.specs.declared.job.Job.{Job}
 use Rattle.jlr_event.specs.declared.event.Event.{Event}
 use Rattle.jlr_event.specs.declared.event.Event.TheVariants as event
+use Rattle.jlr_event.specs.Events.{outcome_of}
 use Rattle.jlr_event.specs.declared.event.Reply.{Reply}
 use Rattle.jlr_event.specs.declared.event.Reply.TheVariants.{Answered, Marked}
 use Rattle.jlr_wire.specs.declared.command.Command.{Command}
@@ -64,44 +67,44 @@ job_by (Marked progress) = Err no_answer
 -- ---- What commands ask
 
 -- the ask of a command that asks once, in the name of m; none for a command that may ask twice, and for bye
-abbrev pub event_of : {R : Type 0} → ℕ → Command → Option (Event R)
-event_of m (New layout) = Some (event.New m layout)
-event_of m (Array length) = Some (event.Array m length)
-event_of m (Put h k v) = Some (event.Put m h k v)
-event_of m (Get h k) = Some (event.Get m h k)
-event_of m (SetInt h k n) = Some (event.SetInt m h k n)
-event_of m (Int h k) = Some (event.Int m h k)
-event_of m (Dup h) = Some (event.Dup m h)
-event_of m (Drop h) = Some (event.Drop m h)
-event_of m (Same a b) = Some (event.Same m a b)
-event_of m (Soft h q) = Some (event.MakeRef m kind.Soft h q)
-event_of m (Weak h q) = Some (event.MakeRef m kind.Weak h q)
-event_of m (Phantom h q) = Some (event.MakeRef m kind.Phantom h q)
-event_of m (Deref r) = Some (event.Deref m r)
-event_of m (Refers r h) = Some (event.Refers m r h)
-event_of m (Clear r) = Some (event.Clear m r)
-event_of m (Enqueue r) = Some (event.Enqueue m r)
-event_of m (Enqueued r) = Some (event.Enqueued m r)
-event_of m Queue = Some (event.MakeQueue m)
-event_of m (Poll q) = Some (event.Poll m q)
-event_of m (Remove q) = Some (event.Remove m q)
-event_of m Cleaner = Some (event.MakeCleaner m)
-event_of m (Register c h note) = Some (event.Register m c h note)
-event_of m (Bind name h) = Some (event.Bind m name h)
-event_of m (Find name) = Some (event.Find m name)
-event_of m (Unbind name) = Some (event.Unbind m name)
-event_of m Names = Some (event.Names m)
-event_of m (Full mode) = Some (event.Full m mode)
-event_of m Stat = Some (event.Stat m)
-event_of m Notes = Some (event.Notes m)
-event_of m Faults = Some (event.Faults m)
-event_of m (Open mode path) = None
-event_of m (Connect path) = None
-event_of m (Read h count) = None
-event_of m (Write h bytes) = None
-event_of m (Clean c) = None
-event_of m (Close h) = None
-event_of m Bye = None
+abbrev pub ask_by : ℕ → Command → Option Ask
+ask_by m (New layout) = Some (ask.New m layout)
+ask_by m (Array length) = Some (ask.Array m length)
+ask_by m (Put h k v) = Some (ask.Put m h k v)
+ask_by m (Get h k) = Some (ask.Get m h k)
+ask_by m (SetInt h k n) = Some (ask.SetInt m h k n)
+ask_by m (Int h k) = Some (ask.Int m h k)
+ask_by m (Dup h) = Some (ask.Dup m h)
+ask_by m (Drop h) = Some (ask.Drop m h)
+ask_by m (Same a b) = Some (ask.Same m a b)
+ask_by m (Soft h q) = Some (ask.MakeRef m kind.Soft h q)
+ask_by m (Weak h q) = Some (ask.MakeRef m kind.Weak h q)
+ask_by m (Phantom h q) = Some (ask.MakeRef m kind.Phantom h q)
+ask_by m (Deref r) = Some (ask.Deref m r)
+ask_by m (Refers r h) = Some (ask.Refers m r h)
+ask_by m (Clear r) = Some (ask.Clear m r)
+ask_by m (Enqueue r) = Some (ask.Enqueue m r)
+ask_by m (Enqueued r) = Some (ask.Enqueued m r)
+ask_by m Queue = Some (ask.MakeQueue m)
+ask_by m (Poll q) = Some (ask.Poll m q)
+ask_by m (Remove q) = Some (ask.Remove m q)
+ask_by m Cleaner = Some (ask.MakeCleaner m)
+ask_by m (Register c h note) = Some (ask.Register m c h note)
+ask_by m (Bind name h) = Some (ask.Bind m name h)
+ask_by m (Find name) = Some (ask.Find m name)
+ask_by m (Unbind name) = Some (ask.Unbind m name)
+ask_by m Names = Some (ask.Names m)
+ask_by m (Full mode) = Some (ask.Full m mode)
+ask_by m Stat = Some (ask.Stat m)
+ask_by m Notes = Some (ask.Notes m)
+ask_by m Faults = Some (ask.Faults m)
+ask_by m (Open mode path) = None
+ask_by m (Connect path) = None
+ask_by m (Read h count) = None
+ask_by m (Write h bytes) = None
+ask_by m (Clean c) = None
+ask_by m (Close h) = None
+ask_by m Bye = None
 
 -- ---- What a device or a resource is asked between two asks, and the second ask that tells it
 
@@ -123,20 +126,20 @@ TellsWritten {R} resource m bytes r second = (outcome : CallOutcome) × (r' : R)
 
 -- the work of a job that by took up was done
 abbrev pub TellsFinished : {R : Type 0} → Handling R → ℕ → Job R → Event R → Type 0
-TellsFinished resource by job second = (outcome : Result (Unit {0}) Fault) × Finishes resource job.resource outcome × (second ≡ event.Finish by job.action outcome)
+TellsFinished resource by job second = (outcome : Result (Unit {0}) Fault) × Finishes resource job.resource outcome × (second ≡ event.Ask (ask.Finish by job.action (outcome_of outcome)))
 
 -- ---- How commands are carried out
 
 module _ {P R : Type 0} (port : Asking P R) where
   -- one ask, whose answer is the last; where nothing is asked the answer is ok
-  abbrev pub AsksOnce : Option (Event R) → P → Answer → P → Type 0
+  abbrev pub AsksOnce : Option Ask → P → Answer → P → Type 0
   AsksOnce None p said p' = (said ≡ answer.Done) × (p' ≡ p)
-  AsksOnce (Some first) p said p' = (reply : Reply R) × port.asks p first reply p' × (said ≡ said_by reply)
+  AsksOnce (Some first) p said p' = (reply : Reply R) × port.asks p (event.Ask first) reply p' × (said ≡ said_by reply)
 
   -- An ask. Where its reply leads on, what it gives comes to a second ask, whose answer is the last; else the first answer is the
   -- last, and rests holds
-  abbrev pub AsksTwice : {X : Type 0} → Event R → (Reply R → Result X Answer) → (X → Event R → Type 0) → Type 0 → P → Answer → P → Type 0
-  AsksTwice {X} first leads comes_to rests p said p' = (reply : Reply R) × (between : P) × port.asks p first reply between
+  abbrev pub AsksTwice : {X : Type 0} → Ask → (Reply R → Result X Answer) → (X → Event R → Type 0) → Type 0 → P → Answer → P → Type 0
+  AsksTwice {X} first leads comes_to rests p said p' = (reply : Reply R) × (between : P) × port.asks p (event.Ask first) reply between
       × MatchResult (leads reply)
       (λ x. (second : Event R) × (last : Reply R) × comes_to x second × port.asks between second last p' × (said ≡ said_by last))
       (λ answer. (said ≡ answer) × (p' ≡ between) × rests)
@@ -145,14 +148,14 @@ module _ {P D R : Type 0} (port : Asking P R) (device : Opening D R) (resource :
   -- A command in the name of m: at most two asks, and at most one call of the device or of a resource between them
   abbrev pub CarriesOut : ℕ → Command → P → D → Answer → P → D → Type 0
   CarriesOut m (Open mode path) p d said p' d' =
-      AsksTwice port (event.Prepare m) prepared_by (λ u. TellsOpened device m mode path d d') (d' ≡ d) p said p'
+      AsksTwice port (ask.Prepare m) prepared_by (λ u. TellsOpened device m mode path d d') (d' ≡ d) p said p'
   CarriesOut m (Connect path) p d said p' d' =
-      AsksTwice port (event.Prepare m) prepared_by (λ u. TellsConnected device m path d d') (d' ≡ d) p said p'
-  CarriesOut m (Read h count) p d said p' d' = AsksTwice port (event.CheckOut m h) out_by (TellsRead resource m count) ⊤ p said p' × (d' ≡ d)
-  CarriesOut m (Write h bytes) p d said p' d' = AsksTwice port (event.CheckOut m h) out_by (TellsWritten resource m bytes) ⊤ p said p' × (d' ≡ d)
-  CarriesOut m (Clean c) p d said p' d' = AsksTwice port (event.Clean m c) job_by (TellsFinished resource m) ⊤ p said p' × (d' ≡ d)
-  CarriesOut m (Close h) p d said p' d' = AsksTwice port (event.Close m h) job_by (TellsFinished resource m) ⊤ p said p' × (d' ≡ d)
-  CarriesOut m command p d said p' d' = AsksOnce port (event_of m command) p said p' × (d' ≡ d)
+      AsksTwice port (ask.Prepare m) prepared_by (λ u. TellsConnected device m path d d') (d' ≡ d) p said p'
+  CarriesOut m (Read h count) p d said p' d' = AsksTwice port (ask.CheckOut m h) out_by (TellsRead resource m count) ⊤ p said p' × (d' ≡ d)
+  CarriesOut m (Write h bytes) p d said p' d' = AsksTwice port (ask.CheckOut m h) out_by (TellsWritten resource m bytes) ⊤ p said p' × (d' ≡ d)
+  CarriesOut m (Clean c) p d said p' d' = AsksTwice port (ask.Clean m c) job_by (TellsFinished resource m) ⊤ p said p' × (d' ≡ d)
+  CarriesOut m (Close h) p d said p' d' = AsksTwice port (ask.Close m h) job_by (TellsFinished resource m) ⊤ p said p' × (d' ≡ d)
+  CarriesOut m command p d said p' d' = AsksOnce port (ask_by m command) p said p' × (d' ≡ d)
 
   -- each command is carried out in the name of the port's mutator, and a settling is the port's
   abbrev pub by_asks : Carrying (P × D)

@@ -3,7 +3,8 @@ use Rattle.std.specs.Prelude.{◌≡◌, ℕ, ◌⊎◌, List, [], take}
 use Rattle.jlr_types.specs.declared.Refusal.{Refusal}
 use Rattle.jlr_machine.specs.declared.ask.Answer.{Answer}
 use Rattle.jlr_machine.specs.declared.ask.Answer.TheVariants.{Refused}
-use Rattle.jlr_event.specs.declared.event.Event.TheVariants.{Join, Leave}
+use Rattle.jlr_machine.specs.declared.ask.Ask.TheVariants.{Join, Leave}
+use Rattle.jlr_event.specs.declared.event.Event.TheVariants.{Ask as Asks}
 use Rattle.jlr_event.specs.declared.event.Reply.{Reply}
 use Rattle.jlr_device.specs.Handling.{Handling}
 use Rattle.jlr_session.specs.Calls.{Opening}
@@ -25,9 +26,9 @@ module _ {P D R : Type 0} (port : Asking P R) (device : Opening D R) (resource :
   Follows (Refused by) at_end end bytes p d out p' d' = IsTurnedAway port by end p out p' × (bytes ≡ []) × (d' ≡ d)
   Follows answer at_end end bytes p d out p' d' =
       (left : P) × (last : Reply R) × Ended (by_asks port device resource) at_end end bytes (p, d) out (left, d')
-      × port.asks left (Leave (port.mutator left)) last p'
+      × port.asks left (Asks (Leave (port.mutator left))) last p'
 
   -- the mutator joins, and the session follows
   abbrev pub Serves : Type 0 → SessionEnd → List ℕ → P → D → List ℕ → P → D → Type 0
   Serves at_end end bytes p d out p' d' =
-      (reply : Reply R) × (joined : P) × port.asks p (Join (port.mutator p)) reply joined × Follows (said_by reply) at_end end bytes joined d out p' d'
+      (reply : Reply R) × (joined : P) × port.asks p (Asks (Join (port.mutator p))) reply joined × Follows (said_by reply) at_end end bytes joined d out p' d'

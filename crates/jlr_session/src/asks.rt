@@ -1,19 +1,18 @@
 //! Commands carried out by the asks of a port.
 ghost use Rattle.std.specs.Prelude.{◌≡◌, false, ⊤};
-ghost use Rattle.jlr_machine.specs.Data.{tells_data};
-ghost use Rattle.jlr_event.specs.Events.{ask_of};
-ghost use Rattle.jlr_event.specs.declared.event.Event.TheVariants as event;
-ghost use Rattle.jlr_session.specs.Asks.{AsksOnce, AsksTwice, TellsOpened, TellsConnected, TellsRead, TellsWritten, TellsFinished, prepared_by, out_by, job_by, event_of};
+ghost use Rattle.jlr_machine.specs.declared.ask.Ask.TheVariants as ask;
+ghost use Rattle.jlr_event.specs.Asks.{hands_in};
+ghost use Rattle.jlr_session.specs.Asks.{AsksOnce, AsksTwice, TellsOpened, TellsConnected, TellsRead, TellsWritten, TellsFinished, prepared_by, out_by, job_by, ask_by};
 
 use crate::call::{connected, opened, read_back, written_back};
 use crate::carry::CarryOut;
-use crate::event::event_for;
+use crate::event::ask_for;
 use crate::job::{carry_out, job_of};
 use crate::port::{Port, ReadRoom};
 use crate::reply::{handed_out, prepared, say, write_over};
 use jlr_device::{Device, Mode, Resource};
 use jlr_event::event::Event;
-use jlr_machine::ask::Answer;
+use jlr_machine::ask::{Answer, Ask};
 use jlr_types::{Handle, Mutator};
 use jlr_wire::command::{Command, Digits};
 
@@ -58,10 +57,10 @@ fn ask_once<P: Port<R>, R: Drop>(
     command: &Command<'_>,
     answer: &mut Answer,
 )
-    ensures { AsksOnce P.asking (event_of mutator command.now) port.old answer.new port.new }
+    ensures { AsksOnce P.asking (ask_by mutator command.now) port.old answer.new port.new }
 {
-    match event_for(mutator, command) {
-        Some(event) => say(port.ask(event, None), answer),
+    match ask_for(mutator, command) {
+        Some(ask) => say(port.ask(Event::ask(ask), None), answer),
         None => write_over(answer, Answer::Done),
     }
 }
@@ -78,11 +77,11 @@ fn open<P: Port<D::Res>, D: Device>(
 )
 where
     D::Res: Drop,
-    ensures { AsksTwice P.asking (event.Prepare mutator) prepared_by
+    ensures { AsksTwice P.asking (ask.Prepare mutator) prepared_by
         (λ _. TellsOpened (record { count = D.count; opens = D.may_open; connects = D.may_connect; failures = D.Res.handling.count }) mutator mode path.now device.old device.new)
         (device.new ≡ device.old) port.old answer.new port.new }
 {
-    match prepared(port.ask(Event::Prepare { mutator }, None)) {
+    match prepared(port.ask(Event::ask(Ask::Prepare { mutator }), None)) {
         Ok(()) => say(port.ask(opened(device, mutator, mode, path), None), answer),
         Err(refused) => write_over(answer, refused),
     }
@@ -99,11 +98,11 @@ fn connect<P: Port<D::Res>, D: Device>(
 )
 where
     D::Res: Drop,
-    ensures { AsksTwice P.asking (event.Prepare mutator) prepared_by
+    ensures { AsksTwice P.asking (ask.Prepare mutator) prepared_by
         (λ _. TellsConnected (record { count = D.count; opens = D.may_open; connects = D.may_connect; failures = D.Res.handling.count }) mutator path.now device.old device.new)
         (device.new ≡ device.old) port.old answer.new port.new }
 {
-    match prepared(port.ask(Event::Prepare { mutator }, None)) {
+    match prepared(port.ask(Event::ask(Ask::Prepare { mutator }), None)) {
         Ok(()) => say(port.ask(connected(device, mutator, path), None), answer),
         Err(refused) => write_over(answer, refused),
     }
@@ -122,7 +121,7 @@ fn read<P: Port<D::Res>, D: Device>(
 where
     D::Res: Drop,
     requires { mutator ≡ P.asking.mutator port.old }
-    ensures { AsksTwice P.asking (event.CheckOut mutator guard) out_by
+    ensures { AsksTwice P.asking (ask.CheckOut mutator guard) out_by
         (TellsRead D.Res.handling mutator count)
         ⊤ port.old answer.new port.new }
 {
@@ -133,7 +132,7 @@ where
             return;
         }
     };
-    match handed_out(port.ask(Event::CheckOut { mutator, guard }, None)) {
+    match handed_out(port.ask(Event::ask(Ask::CheckOut { mutator, guard }), None)) {
         Ok(resource) => {
             let told = read_back(device, mutator, resource, count, bytes);
             say(port.ask(told, Some(copies)), answer);
@@ -154,12 +153,12 @@ fn write<P: Port<D::Res>, D: Device>(
 )
 where
     D::Res: Drop,
-    ensures { AsksTwice P.asking (event.CheckOut mutator guard) out_by
+    ensures { AsksTwice P.asking (ask.CheckOut mutator guard) out_by
         (TellsWritten D.Res.handling mutator digits.now)
         ⊤ port.old answer.new port.new }
 {
     let bytes = digits.decode();
-    match handed_out(port.ask(Event::CheckOut { mutator, guard }, None)) {
+    match handed_out(port.ask(Event::ask(Ask::CheckOut { mutator, guard }), None)) {
         Ok(resource) => say(
             port.ask(
                 written_back(device, mutator, resource, bytes.as_slice()),
@@ -179,11 +178,11 @@ fn clean<P: Port<R>, R: Resource + Drop>(
     cleanable: Handle,
     answer: &mut Answer,
 )
-    ensures { AsksTwice P.asking (event.Clean mutator cleanable) job_by
+    ensures { AsksTwice P.asking (ask.Clean mutator cleanable) job_by
         (TellsFinished R.handling mutator)
         ⊤ port.old answer.new port.new }
 {
-    work(port, mutator, Event::Clean { mutator, cleanable }, answer);
+    work(port, mutator, Ask::Clean { mutator, cleanable }, answer);
 }
 
 /// Takes up the finishing of a resource, and does it.
@@ -194,26 +193,26 @@ fn close<P: Port<R>, R: Resource + Drop>(
     guard: Handle,
     answer: &mut Answer,
 )
-    ensures { AsksTwice P.asking (event.Close mutator guard) job_by
+    ensures { AsksTwice P.asking (ask.Close mutator guard) job_by
         (TellsFinished R.handling mutator)
         ⊤ port.old answer.new port.new }
 {
-    work(port, mutator, Event::Close { mutator, guard }, answer);
+    work(port, mutator, Ask::Close { mutator, guard }, answer);
 }
 
 /// Takes up a cleaning action and does its work.
 fn work<P: Port<R>, R: Resource + Drop>(
     port: &mut P,
     mutator: Mutator,
-    event: Event<R>,
+    ask: Ask,
     answer: &mut Answer,
 )
-    requires { tells_data (ask_of event) ≡ false }
-    ensures { AsksTwice P.asking event job_by
+    requires { hands_in ask ≡ false }
+    ensures { AsksTwice P.asking ask job_by
         (TellsFinished R.handling mutator)
         ⊤ port.old answer.new port.new }
 {
-    match job_of(port.ask(event, None)) {
+    match job_of(port.ask(Event::ask(ask), None)) {
         Ok(job) => say(port.ask(carry_out(mutator.number(), job), None), answer),
         Err(refused) => write_over(answer, refused),
     }

@@ -1,29 +1,28 @@
 //! The ask of a command that asks once.
 ghost use Rattle.std.specs.Prelude.{◌≡◌, false, IfSome};
-ghost use Rattle.jlr_machine.specs.Data.{tells_data};
-ghost use Rattle.jlr_event.specs.Events.{ask_of};
-ghost use Rattle.jlr_event.specs.declared.event.Event.TheVariants.{MakeRef};
-ghost use Rattle.jlr_session.specs.Asks.{event_of};
+ghost use Rattle.jlr_machine.specs.declared.ask.Ask.TheVariants.{MakeRef};
+ghost use Rattle.jlr_event.specs.Asks.{hands_in};
+ghost use Rattle.jlr_session.specs.Asks.{ask_by};
 
-use jlr_event::event::Event;
+use jlr_machine::ask::Ask;
 use jlr_types::{Handle, Mutator, RefKind};
 use jlr_wire::command::Command;
 
 /// What a command that asks once asks in the name of a mutator. There is none for one that may ask twice, and for `bye`.
 #[inline(always)]
-pub(crate) fn event_for<R>(mutator: Mutator, command: &Command<'_>) -> Option<Event<R>>
-    ensures event { result ≡ event_of mutator command.now }
-    ensures told { IfSome result (λ event. tells_data (ask_of event) ≡ false) }
+pub(crate) fn ask_for(mutator: Mutator, command: &Command<'_>) -> Option<Ask>
+    ensures ask { result ≡ ask_by mutator command.now }
+    ensures plain { IfSome result (λ ask. hands_in ask ≡ false) }
 {
     Some(match *command {
-        Command::New { ref layout } => Event::New {
+        Command::New { ref layout } => Ask::New {
             mutator,
             layout: layout.copy(),
         },
-        Command::Array { length } => Event::Array { mutator, length },
-        Command::Dup { object } => Event::Dup { mutator, object },
-        Command::Drop { object } => Event::Drop { mutator, object },
-        Command::Same { left, right } => Event::Same {
+        Command::Array { length } => Ask::Array { mutator, length },
+        Command::Dup { object } => Ask::Dup { mutator, object },
+        Command::Drop { object } => Ask::Drop { mutator, object },
+        Command::Same { left, right } => Ask::Same {
             mutator,
             left,
             right,
@@ -32,13 +31,13 @@ pub(crate) fn event_for<R>(mutator: Mutator, command: &Command<'_>) -> Option<Ev
             object,
             field,
             value,
-        } => Event::Put {
+        } => Ask::Put {
             mutator,
             object,
             field,
             value,
         },
-        Command::Get { object, field } => Event::Get {
+        Command::Get { object, field } => Ask::Get {
             mutator,
             object,
             field,
@@ -47,13 +46,13 @@ pub(crate) fn event_for<R>(mutator: Mutator, command: &Command<'_>) -> Option<Ev
             object,
             field,
             value,
-        } => Event::SetInt {
+        } => Ask::SetInt {
             mutator,
             object,
             field,
             value,
         },
-        Command::Int { object, field } => Event::Int {
+        Command::Int { object, field } => Ask::Int {
             mutator,
             object,
             field,
@@ -61,47 +60,47 @@ pub(crate) fn event_for<R>(mutator: Mutator, command: &Command<'_>) -> Option<Ev
         Command::Soft { referent, queue } => make(mutator, RefKind::Soft, referent, queue),
         Command::Weak { referent, queue } => make(mutator, RefKind::Weak, referent, queue),
         Command::Phantom { referent, queue } => make(mutator, RefKind::Phantom, referent, queue),
-        Command::Deref { reference } => Event::Deref { mutator, reference },
-        Command::Refers { reference, object } => Event::Refers {
+        Command::Deref { reference } => Ask::Deref { mutator, reference },
+        Command::Refers { reference, object } => Ask::Refers {
             mutator,
             reference,
             object,
         },
-        Command::Clear { reference } => Event::Clear { mutator, reference },
-        Command::Enqueue { reference } => Event::Enqueue { mutator, reference },
-        Command::Enqueued { reference } => Event::Enqueued { mutator, reference },
-        Command::Queue => Event::MakeQueue { mutator },
-        Command::Poll { queue } => Event::Poll { mutator, queue },
-        Command::Remove { queue } => Event::Remove { mutator, queue },
-        Command::Cleaner => Event::MakeCleaner { mutator },
+        Command::Clear { reference } => Ask::Clear { mutator, reference },
+        Command::Enqueue { reference } => Ask::Enqueue { mutator, reference },
+        Command::Enqueued { reference } => Ask::Enqueued { mutator, reference },
+        Command::Queue => Ask::MakeQueue { mutator },
+        Command::Poll { queue } => Ask::Poll { mutator, queue },
+        Command::Remove { queue } => Ask::Remove { mutator, queue },
+        Command::Cleaner => Ask::MakeCleaner { mutator },
         Command::Register {
             cleaner,
             object,
             note,
-        } => Event::Register {
+        } => Ask::Register {
             mutator,
             cleaner,
             object,
             note,
         },
-        Command::Bind { ref name, object } => Event::Bind {
+        Command::Bind { ref name, object } => Ask::Bind {
             mutator,
             name: name.copy(),
             object,
         },
-        Command::Find { ref name } => Event::Find {
+        Command::Find { ref name } => Ask::Find {
             mutator,
             name: name.copy(),
         },
-        Command::Unbind { ref name } => Event::Unbind {
+        Command::Unbind { ref name } => Ask::Unbind {
             mutator,
             name: name.copy(),
         },
-        Command::Names => Event::Names { mutator },
-        Command::Full { mode } => Event::Full { mutator, mode },
-        Command::Stat => Event::Stat { mutator },
-        Command::Notes => Event::Notes { mutator },
-        Command::Faults => Event::Faults { mutator },
+        Command::Names => Ask::Names { mutator },
+        Command::Full { mode } => Ask::Full { mutator, mode },
+        Command::Stat => Ask::Stat { mutator },
+        Command::Notes => Ask::Notes { mutator },
+        Command::Faults => Ask::Faults { mutator },
         Command::Open { .. }
         | Command::Connect { .. }
         | Command::Read { .. }
@@ -114,10 +113,10 @@ pub(crate) fn event_for<R>(mutator: Mutator, command: &Command<'_>) -> Option<Ev
 
 /// A reference of a kind is made.
 #[inline(always)]
-fn make<R>(mutator: Mutator, kind: RefKind, referent: Handle, queue: Handle) -> Event<R>
+fn make(mutator: Mutator, kind: RefKind, referent: Handle, queue: Handle) -> Ask
     ensures { result ≡ MakeRef mutator kind referent queue }
 {
-    Event::MakeRef {
+    Ask::MakeRef {
         mutator,
         kind,
         referent,

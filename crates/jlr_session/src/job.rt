@@ -7,8 +7,8 @@ use crate::reply::none;
 use jlr_cleaner::Job;
 use jlr_device::Resource;
 use jlr_device::guarded::guarded_finish;
-use jlr_event::event::{Event, Reply};
-use jlr_machine::ask::Answer;
+use jlr_event::event::{Event, Reply, ended};
+use jlr_machine::ask::{Answer, Ask};
 use jlr_types::Fault;
 
 /// The job of a cleaning action that was taken up.
@@ -43,11 +43,11 @@ pub fn carry_out<R: Resource + Drop>(by: u8, job: Job<R>) -> Event<R>
         resource,
         ..
     } = job;
-    Event::Finish {
+    Event::ask(Ask::Finish {
         by,
         action,
-        outcome: finish(resource),
-    }
+        outcome: ended(&finish(resource)),
+    })
 }
 
 /// Does the work of a job: finishes its resource, once, where it has one. A note, which has none, ends well.

@@ -1,7 +1,8 @@
 //! A whole session over a port and a device.
 ghost use Rattle.std.specs.Prelude.{◌≡◌, ◌≤◌, ℕ, List, [], length};
 ghost use Rattle.std.specs.Io.KnownBytes.{Appends, Consumes};
-ghost use Rattle.jlr_event.specs.declared.event.Event.TheVariants.{Join, Leave};
+ghost use Rattle.jlr_machine.specs.declared.ask.Ask.TheVariants.{Join, Leave};
+ghost use Rattle.jlr_event.specs.declared.event.Event.TheVariants.{Ask as Asks};
 ghost use Rattle.jlr_event.specs.declared.event.Reply.{Reply};
 ghost use Rattle.jlr_session.specs.Asks.{said_by};
 ghost use Rattle.jlr_session.specs.Limits.{FindsEnd, most_bytes};
@@ -14,7 +15,7 @@ use crate::shell::{SessionEnd, converse};
 use crate::turn::reply;
 use jlr_device::Device;
 use jlr_event::event::Event;
-use jlr_machine::ask::Answer;
+use jlr_machine::ask::{Answer, Ask};
 use jlr_types::Refusal;
 use std::io::{Read, Write};
 
@@ -55,19 +56,19 @@ where
 /// The mutator joins.
 #[inline(never)]
 fn join<P: Port<R>, R: Drop>(port: &mut P) -> Answer
-    ensures { (reply : Reply R) × P.asking.asks port.old (Join (P.asking.mutator port.old)) reply port.new × (result ≡ said_by reply) }
+    ensures { (reply : Reply R) × P.asking.asks port.old (Asks (Join (P.asking.mutator port.old))) reply port.new × (result ≡ said_by reply) }
 {
     let mutator = port.mutator();
-    said(port.ask(Event::Join { mutator }, None))
+    said(port.ask(Event::ask(Ask::Join { mutator }), None))
 }
 
 /// The mutator leaves.
 #[inline(never)]
 fn leave<P: Port<R>, R: Drop>(port: &mut P)
-    ensures { (reply : Reply R) × P.asking.asks port.old (Leave (P.asking.mutator port.old)) reply port.new }
+    ensures { (reply : Reply R) × P.asking.asks port.old (Asks (Leave (P.asking.mutator port.old))) reply port.new }
 {
     let mutator = port.mutator();
-    let _ = port.ask(Event::Leave { mutator }, None);
+    let _ = port.ask(Event::ask(Ask::Leave { mutator }), None);
 }
 
 /// Tells why the mutator could not join.

@@ -27,6 +27,7 @@ use Rattle.jlr_laws.proofs.Frames.{some_same}
 use Rattle.jlr_laws.proofs.LegalKept.{no_need}
 use Rattle.jlr_event.specs.declared.event.Event.{Event}
 use Rattle.jlr_event.specs.declared.event.Event.TheVariants as event
+use Rattle.jlr_machine.specs.declared.ask.Ask.TheVariants as ask
 use Rattle.jlr_event.specs.declared.event.Reply.{Reply}
 use Rattle.jlr_event.specs.declared.event.Reply.TheVariants.{Answered, Marked}
 use Rattle.jlr_event.specs.Events.{ask_of, answer_in}
@@ -207,12 +208,12 @@ stepped old new answer some x =
     ]
 
 -- the same over a book
-handed_there : {R : Type 0} (seat : ℕ) (old new : History R) (reply : Reply R) → IsHistory old → old.core.machine.pending ≢ [] → BookSteps seat old event.HandOver reply new
+handed_there : {R : Type 0} (seat : ℕ) (old new : History R) (reply : Reply R) → IsHistory old → old.core.machine.pending ≢ [] → BookSteps seat old (event.Ask ask.HandOver) reply new
     → ((handed : HandedOver) × (handed ≢ Nothing) × (answer_in reply ≡ Some (Handed handed)) × (length new.core.machine.pending < length old.core.machine.pending)) ⊎ was_refused reply
-handed_there seat old new reply h some steps = elim (asked seat old new event.HandOver reply HandOver refl refl h steps) [
+handed_there seat old new reply h some steps = elim (asked seat old new (event.Ask ask.HandOver) reply HandOver refl refl h steps) [
   | inl x ↦
       let same : x.0.machine.pending ≡ old.core.machine.pending = ap {A = Machine} {B = List ℕ} (λ n. n.pending) x.1.0 in
-      let y = entered x.0 new.core event.HandOver reply HandOver refl x.1.1 x.2 in
+      let y = entered x.0 new.core (event.Ask ask.HandOver) reply HandOver refl x.1.1 x.2 in
       elim (stepped x.0 new.core y.0 (λ e. some (sym same ∙ e)) y.2) [
         | inl w ↦ inl (w.0.0, w.0.1, y.1 ∙ ap Some w.0.2, omega (arith, w.1, ap length same))
         | inr r ↦ inr (r.0, y.1 ∙ ap Some r.1)
@@ -246,18 +247,18 @@ no_turn asks works old new e reply answer t is which s r {P} =
     (subst (λ t. IsTurn asks works e t old new) (sym same) (reply, s, r), λ w. refusal_worked (sym same ∙ w))
 
 pub handed_turn : {R : Type 0} (old new : History R) (reply : Reply R) (answer : Answer) (t : Turn) → answer_in reply ≡ Some answer → t ≡ turn_by answer
-    → IsHistory old → old.core.machine.pending ≢ [] → BookSteps (handler_seat old) old event.HandOver reply new
-    → IsTurn (at_book {R = R}).hands (HandsOver at_book) event.HandOver t old new × (t ≡ turn.Worked → length new.core.machine.pending < length old.core.machine.pending)
+    → IsHistory old → old.core.machine.pending ≢ [] → BookSteps (handler_seat old) old (event.Ask ask.HandOver) reply new
+    → IsTurn (at_book {R = R}).hands (HandsOver at_book) (event.Ask ask.HandOver) t old new × (t ≡ turn.Worked → length new.core.machine.pending < length old.core.machine.pending)
 handed_turn old new reply answer t is which h some s =
     elim (handed_there (handler_seat old) old new reply h some s) [
       | inl w ↦
           let said : answer ≡ Handed w.0 = some_same answer (Handed w.0) (sym is ∙ w.2) in
           let worked : t ≡ turn.Worked = which ∙ ap turn_by said ∙ took_turn w.0 in
-          (subst (λ t. IsTurn at_book.hands (HandsOver at_book) event.HandOver t old new) (sym worked) (some, reply, s, (w.0, w.1, w.2)), λ _. w.3)
-      | inr r ↦ no_turn at_book.hands (HandsOver at_book) old new event.HandOver reply answer t is which s r
+          (subst (λ t. IsTurn at_book.hands (HandsOver at_book) (event.Ask ask.HandOver) t old new) (sym worked) (some, reply, s, (w.0, w.1, w.2)), λ _. w.3)
+      | inr r ↦ no_turn at_book.hands (HandsOver at_book) old new (event.Ask ask.HandOver) reply answer t is which s r
     ]
 
-pub never_marked : {R P : Type 0} (old new : History R) (reply : Reply R) → answer_in reply ≡ None → IsHistory old → old.core.machine.pending ≢ [] → BookSteps (handler_seat old) old event.HandOver reply new → P
+pub never_marked : {R P : Type 0} (old new : History R) (reply : Reply R) → answer_in reply ≡ None → IsHistory old → old.core.machine.pending ≢ [] → BookSteps (handler_seat old) old (event.Ask ask.HandOver) reply new → P
 never_marked old new reply none h some s =
     elim (handed_there (handler_seat old) old new reply h some s) [
       | inl w ↦ cc (none, w.2)

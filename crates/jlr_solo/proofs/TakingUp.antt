@@ -28,6 +28,7 @@ use Rattle.jlr_laws.proofs.LegalKept.{no_need}
 use Rattle.jlr_cleaner.specs.declared.job.Job.{Job}
 use Rattle.jlr_event.specs.declared.event.Event.{Event}
 use Rattle.jlr_event.specs.declared.event.Event.TheVariants as event
+use Rattle.jlr_machine.specs.declared.ask.Ask.TheVariants as ask
 use Rattle.jlr_event.specs.declared.event.Reply.{Reply}
 use Rattle.jlr_event.specs.declared.event.Reply.TheVariants.{Answered, Marked}
 use Rattle.jlr_event.specs.Events.{answer_in, ask_of, outcome_of}
@@ -137,12 +138,12 @@ stepped old new answer some x =
     ]
 
 -- the same over a book
-taken_there : {R : Type 0} (seat : ℕ) (old new : History R) (reply : Reply R) → IsHistory old → old.core.machine.line ≢ [] → BookSteps seat old event.TakeUp reply new
+taken_there : {R : Type 0} (seat : ℕ) (old new : History R) (reply : Reply R) → IsHistory old → old.core.machine.line ≢ [] → BookSteps seat old (event.Ask ask.TakeUp) reply new
     → ((answer : Answer) × (answer_in reply ≡ Some answer) × (GaveJob answer ⊎ (answer ≡ Handed Nothing)) × (length new.core.machine.line < length old.core.machine.line)) ⊎ was_refused reply
-taken_there seat old new reply h some steps = elim (asked seat old new event.TakeUp reply TakeUp refl refl h steps) [
+taken_there seat old new reply h some steps = elim (asked seat old new (event.Ask ask.TakeUp) reply TakeUp refl refl h steps) [
   | inl x ↦
       let same : x.0.machine.line ≡ old.core.machine.line = ap {A = Machine} {B = List ℕ} (λ n. n.line) x.1.0 in
-      let y = entered x.0 new.core event.TakeUp reply TakeUp refl x.1.1 x.2 in
+      let y = entered x.0 new.core (event.Ask ask.TakeUp) reply TakeUp refl x.1.1 x.2 in
       elim (stepped x.0 new.core y.0 (λ e. some (sym same ∙ e)) y.2) [
         | inl w ↦ inl (y.0, y.1, w.0, omega (arith, w.1, ap length same))
         | inr r ↦ inr (r.0, y.1 ∙ ap Some r.1)
@@ -211,12 +212,12 @@ err_same : {R : Type 0} (a b : Answer) → ◌≡◌ {A = Result (Job R) Answer}
 err_same a b e = cc e
 
 pub worked_turn : {R : Type 0} (resource : Handling R) (old between new : History R) (reply told : Reply R) (job : Job R) (finish : Event R)
-    → job_by reply ≡ Ok job → IsHistory old → IsHistory between → old.core.machine.line ≢ [] → BookSteps (cleaner_seat old) old event.TakeUp reply between
+    → job_by reply ≡ Ok job → IsHistory old → IsHistory between → old.core.machine.line ≢ [] → BookSteps (cleaner_seat old) old (event.Ask ask.TakeUp) reply between
     → TellsFinished resource 255 job finish → BookSteps (cleaner_seat old) between finish told new
-    → IsTurn (at_book {R = R}).cleans (Works at_book resource) event.TakeUp turn.Worked old new × (turn.Worked ≡ turn.Worked → length new.core.machine.line < length old.core.machine.line)
+    → IsTurn (at_book {R = R}).cleans (Works at_book resource) (event.Ask ask.TakeUp) turn.Worked old new × (turn.Worked ≡ turn.Worked → length new.core.machine.line < length old.core.machine.line)
 worked_turn resource old between new reply told job finish took h h' some s tells t =
     let same = told_line resource (cleaner_seat old) between new job finish told tells h' t in
-    let limits = same_limits (cleaner_seat old) old between event.TakeUp reply TakeUp refl refl s in
+    let limits = same_limits (cleaner_seat old) old between (event.Ask ask.TakeUp) reply TakeUp refl refl s in
     let finished : BookSteps (cleaner_seat between) between finish told new = subst (λ (l : Limits). BookSteps (l.sessions + 2) between finish told new) (sym limits) t in (
       (some, inl (reply, job, between, finish, told, s, took, tells, finished)),
       λ _. elim (taken_there (cleaner_seat old) old between reply h some s) [
@@ -227,8 +228,8 @@ worked_turn resource old between new reply told job finish took h h' some s tell
 
 -- an answer that gave no job
 pub idle_turn : {R : Type 0} (resource : Handling R) (old new : History R) (reply : Reply R) (answer : Answer) (t : Turn)
-    → job_by reply ≡ Err answer → t ≡ turn_by answer → IsHistory old → old.core.machine.line ≢ [] → BookSteps (cleaner_seat old) old event.TakeUp reply new
-    → IsTurn (at_book {R = R}).cleans (Works at_book resource) event.TakeUp t old new × (t ≡ turn.Worked → length new.core.machine.line < length old.core.machine.line)
+    → job_by reply ≡ Err answer → t ≡ turn_by answer → IsHistory old → old.core.machine.line ≢ [] → BookSteps (cleaner_seat old) old (event.Ask ask.TakeUp) reply new
+    → IsTurn (at_book {R = R}).cleans (Works at_book resource) (event.Ask ask.TakeUp) t old new × (t ≡ turn.Worked → length new.core.machine.line < length old.core.machine.line)
 idle_turn resource old new reply answer t none which h some s =
     elim (taken_there (cleaner_seat old) old new reply h some s) [
       | inl w ↦ (let d = job_in reply w.0 w.1 in elim (w.2) [
@@ -236,10 +237,10 @@ idle_turn resource old new reply answer t none which h some s =
         | inr n ↦
             let same : Handed Nothing ≡ answer = err_same (Handed Nothing) answer (sym (ap (λ a. job_with a d.0) n) ∙ sym d.1 ∙ none) in
             let worked : t ≡ turn.Worked = which ∙ ap turn_by (sym same) in
-            (subst (λ t. IsTurn at_book.cleans (Works at_book resource) event.TakeUp t old new) (sym worked) (some, inr (reply, s, w.1 ∙ ap Some n)), λ _. w.3)
+            (subst (λ t. IsTurn at_book.cleans (Works at_book resource) (event.Ask ask.TakeUp) t old new) (sym worked) (some, inr (reply, s, w.1 ∙ ap Some n)), λ _. w.3)
       ])
       | inr r ↦
           let d = job_in reply (Refused r.0) r.1 in
           let same : Refused r.0 ≡ answer = err_same (Refused r.0) answer (sym d.1 ∙ none) in
-          no_turn at_book.cleans (Works at_book resource) old new event.TakeUp reply answer t (r.1 ∙ ap Some same) which s r
+          no_turn at_book.cleans (Works at_book resource) old new (event.Ask ask.TakeUp) reply answer t (r.1 ∙ ap Some same) which s r
     ]

@@ -6,7 +6,8 @@ use Rattle.jlr_machine.specs.declared.ask.Handed.TheVariants.{Nothing}
 use Rattle.jlr_machine.specs.declared.ask.Answer.TheVariants.{Handed}
 use Rattle.jlr_cleaner.specs.declared.job.Job.{Job}
 use Rattle.jlr_event.specs.declared.event.Event.{Event}
-use Rattle.jlr_event.specs.declared.event.Event.TheVariants.{HandOver, TakeUp}
+use Rattle.jlr_machine.specs.declared.ask.Ask.TheVariants.{HandOver, TakeUp}
+use Rattle.jlr_event.specs.declared.event.Event.TheVariants.{Ask as Asks}
 use Rattle.jlr_event.specs.declared.event.Reply.{Reply}
 use Rattle.jlr_event.specs.Events.{answer_in}
 use Rattle.jlr_device.specs.Handling.{Handling}
@@ -56,28 +57,28 @@ pub record TurnsUntilRefused {H R : Type 0} (asks : H → Event R → Reply R �
 module _ {H R : Type 0} (helpers : Helpers H R) where
   -- a turn of the handler, where something is pending: a step took something off the pending list
   abbrev pub HandsOver : H → H → Type 0
-  HandsOver old new = (helpers.pending old ≢ []) × (reply : Reply R) × helpers.hands old HandOver reply new × TookOne reply
+  HandsOver old new = (helpers.pending old ≢ []) × (reply : Reply R) × helpers.hands old (Asks HandOver) reply new × TookOne reply
 
   abbrev pub HandsAllOver : H → H → Type 0
   HandsAllOver = TurnsToTheEnd HandsOver helpers.pending
 
   -- or the handler is refused
   abbrev pub CannotHandOver : H → H → Type 0
-  CannotHandOver = TurnsUntilRefused helpers.hands HandsOver HandOver helpers.pending
+  CannotHandOver = TurnsUntilRefused helpers.hands HandsOver (Asks HandOver) helpers.pending
 
 module _ {H R : Type 0} (helpers : Helpers H R) (resource : Handling R) where
   -- the cleaner, which is 255, took a job up, its work was done, and its outcome told
   abbrev pub DoesJob : H → H → Type 0
   DoesJob old new = (reply : Reply R) × (job : Job R) × (between : H) × (finish : Event R) × (told : Reply R)
-      × helpers.cleans old TakeUp reply between × (job_by reply ≡ Ok job) × TellsFinished resource 255 job finish × helpers.cleans between finish told new
+      × helpers.cleans old (Asks TakeUp) reply between × (job_by reply ≡ Ok job) × TellsFinished resource 255 job finish × helpers.cleans between finish told new
 
   -- a turn of the cleaner, where its line is not empty: a job, or none of the line was Lined
   abbrev pub Works : H → H → Type 0
-  Works old new = (helpers.line old ≢ []) × (DoesJob old new ⊎ ((reply : Reply R) × helpers.cleans old TakeUp reply new × FoundNothing reply))
+  Works old new = (helpers.line old ≢ []) × (DoesJob old new ⊎ ((reply : Reply R) × helpers.cleans old (Asks TakeUp) reply new × FoundNothing reply))
 
   -- until the line is empty, or a take-up is refused
   abbrev pub Cleans : H → H → Type 0
-  Cleans old new = TurnsToTheEnd Works helpers.line old new ⊎ TurnsUntilRefused helpers.cleans Works TakeUp helpers.line old new
+  Cleans old new = TurnsToTheEnd Works helpers.line old new ⊎ TurnsUntilRefused helpers.cleans Works (Asks TakeUp) helpers.line old new
 
   -- the handler's turns until nothing is pending, and then the cleaner's; or until the handler is refused
   abbrev pub Settles : H → H → Type 0

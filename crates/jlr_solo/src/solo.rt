@@ -3,7 +3,8 @@ ghost use Rattle.std.specs.Prelude.{◌≡◌, ◌≢◌, ◌<◌, false, [], If
 ghost use Rattle.jlr_machine.specs.Data.{Brings, tells_data};
 ghost use Rattle.jlr_machine.specs.declared.ask.Answer.TheVariants.{Refused};
 ghost use Rattle.jlr_event.specs.Events.{ask_of};
-ghost use Rattle.jlr_event.specs.declared.event.Event.TheVariants.{CheckOut, HandOver};
+ghost use Rattle.jlr_machine.specs.declared.ask.Ask.TheVariants.{CheckOut, HandOver};
+ghost use Rattle.jlr_event.specs.declared.event.Event.TheVariants.{Ask as Asks};
 ghost use Rattle.jlr_event.specs.declared.event.Reply.TheVariants.{Answered};
 ghost use Rattle.jlr_session.specs.Asks.{TellsFinished};
 ghost use Rattle.jlr_book.specs.Histories.{IsHistory, IsNewBook};
@@ -15,8 +16,8 @@ ghost use Rattle.jlr_solo.specs.OneTurn.{IsTurn, turn_by};
 use jlr_book::book::Book;
 use jlr_cleaner::Job;
 use jlr_device::Resource;
-use jlr_event::event::{Event, Reply};
-use jlr_machine::ask::Answer;
+use jlr_event::event::{Event, Reply, ended};
+use jlr_machine::ask::{Answer, Ask};
 use jlr_machine::data::CallRoom;
 use jlr_session::job::{finish, job_of};
 use jlr_session::port::{Port, ReadRoom};
@@ -118,7 +119,7 @@ impl<R: Resource + Drop> Solo<R> {
     #[inline(never)]
     fn hand_over(&mut self) -> Turn
         requires { self.old.core.machine.pending ≢ [] }
-        ensures turn { IsTurn at_book.hands (HandsOver at_book) HandOver result self.old self.new }
+        ensures turn { IsTurn at_book.hands (HandsOver at_book) (Asks HandOver) result self.old self.new }
         ensures shorter { result ≡ Turn.Worked → length self.new.core.machine.pending < length self.old.core.machine.pending }
     {
         let seat = self.handler();
@@ -133,11 +134,11 @@ impl<R: Resource + Drop> Solo<R> {
     #[inline(never)]
     fn hand_over_at_length(&mut self) -> Turn
         requires { self.old.core.machine.pending ≢ [] }
-        ensures turn { IsTurn at_book.hands (HandsOver at_book) HandOver result self.old self.new }
+        ensures turn { IsTurn at_book.hands (HandsOver at_book) (Asks HandOver) result self.old self.new }
         ensures shorter { result ≡ Turn.Worked → length self.new.core.machine.pending < length self.old.core.machine.pending }
     {
         let seat = self.handler();
-        match self.step(seat, Event::HandOver) {
+        match self.step(seat, Event::ask(Ask::HandOver)) {
             Reply::Answered { answer, .. } => turn_after(&answer),
             Reply::Marked(_) => Turn::Refused,
         }
@@ -159,7 +160,7 @@ impl<R: Resource + Drop> Solo<R> {
     #[inline(never)]
     fn clean(&mut self) -> Turn
         requires { self.old.core.machine.line ≢ [] }
-        ensures turn { IsTurn at_book.cleans (Works at_book R.handling) Event.TakeUp result self.old self.new }
+        ensures turn { IsTurn at_book.cleans (Works at_book R.handling) (Event.Ask Ask.TakeUp) result self.old self.new }
         ensures shorter { result ≡ Turn.Worked → length self.new.core.machine.line < length self.old.core.machine.line }
     {
         let seat = self.cleaner();
@@ -179,11 +180,11 @@ impl<R: Resource + Drop> Solo<R> {
     #[inline(never)]
     fn clean_at_length(&mut self) -> Turn
         requires { self.old.core.machine.line ≢ [] }
-        ensures turn { IsTurn at_book.cleans (Works at_book R.handling) Event.TakeUp result self.old self.new }
+        ensures turn { IsTurn at_book.cleans (Works at_book R.handling) (Event.Ask Ask.TakeUp) result self.old self.new }
         ensures shorter { result ≡ Turn.Worked → length self.new.core.machine.line < length self.old.core.machine.line }
     {
         let seat = self.cleaner();
-        match job_of(self.step(seat, Event::TakeUp)) {
+        match job_of(self.step(seat, Event::ask(Ask::TakeUp))) {
             Ok(job) => {
                 self.finish(seat, job);
                 Turn::Worked
@@ -204,7 +205,8 @@ impl<R: Resource + Drop> Solo<R> {
             resource,
             ..
         } = job;
-        self.book.end_job(seat, CLEANER, action, finish(resource));
+        let outcome = ended(&finish(resource));
+        self.book.end_job(seat, CLEANER, action, outcome);
     }
 }
 
@@ -216,7 +218,7 @@ impl<R: Resource + Drop> Port<R> for Solo<R> {
     }
 
     fn read_room(&self, guard: Handle) -> Result<ReadRoom, Refusal>
-        ensures declined { IfErr result (λ by. BookSteps 0 self.now (CheckOut 0 guard) (Answered (Refused by) None) self.now) }
+        ensures declined { IfErr result (λ by. BookSteps 0 self.now (Asks (CheckOut 0 guard)) (Answered (Refused by) None) self.now) }
     {
         let _declined = guard;
         match ReadRoom::new(self.book.alloc()) {

@@ -1,10 +1,13 @@
-use Rattle.std.proofs.Common.{◌≡◌, ℕ, List, [], ◌∷◌, ◌++◌, Option, None, length, slice_index_or, slice_set}
-use Rattle.std.proofs.Common.{refl, arith, ap, ◌∙◌}
-use Rattle.jlr_machine.specs.declared.ask.Ask.TheVariants as ask
+use Rattle.std.proofs.Common.{◌≡◌, ℕ, List, [], ◌∷◌, ◌++◌, Option, Some, None, length, slice_index_or, slice_set}
+use Rattle.std.proofs.Common.{refl, sym, subst, arith, ap, ◌∙◌}
+use Rattle.jlr_machine.specs.declared.ask.Ask.{Ask}
 use Rattle.jlr_machine.specs.declared.ask.Answer.TheVariants as answer
 use Rattle.jlr_machine.specs.declared.entry.Chosen.{Chosen}
 use Rattle.jlr_machine.specs.declared.entry.Collected.{Collected}
 use Rattle.jlr_machine.specs.declared.entry.Entry.{Entry}
+use Rattle.jlr_event.specs.declared.event.Event.TheVariants.{Ask as Asks}
+use Rattle.jlr_event.specs.declared.event.Reply.TheVariants.{Answered}
+use Rattle.jlr_core.specs.Steps.{IsStep}
 use Rattle.jlr_book.proofs.Entering.{entry_by, writes}
 use Rattle.jlr_book.proofs.entry.record_briefly.Goals as goal
 
@@ -29,7 +32,7 @@ returns-clause-writes g c =
     let did = c.tell_briefly in
     let e = did.new.entry in
     let entries = c.args.trace.now.items in
-    let empty : Entry = entry_by c.args.seat ask.HandOver answer.Done (record { collected = None; fresh = c.new.result }) in
+    let empty : Entry = entry_by c.args.seat c.args.ask answer.Done (record { collected = None; fresh = c.new.result }) in
     let chosen : Chosen = record { collected = None; fresh = e.choice.fresh } in
     let last : c.len-place.result ≡ length entries = omega (arith, c.len-place.ensures, c.args.trace.now.ok.0) in
     let behind = ap (λ l. slice_set l c.len-place.result e) c.push_reserved.ensures.items in
@@ -40,9 +43,13 @@ returns-clause-writes g c =
     ∙ ap (λ l. slice_index_or l c.len-place.result was) c.push_reserved.ensures.items
     ∙ ap (λ n. slice_index_or (entries ++ empty ∷ []) n was) last
     ∙ got_last entries empty was in
+    let same : was.ask ≡ c.args.ask = ap {A = Entry} {B = Ask} (λ x. x.ask) found in
+    let asked : e.ask ≡ c.args.ask = did.ensures.ask ∙ same in
+    let step =
+    subst (λ a. IsStep c.args.core.now (Asks a) (Answered did.result None) chosen did.new.core) same did.ensures.step in
     let seat = did.ensures.seat ∙ ap {A = Entry} {B = ℕ} (λ x. x.seat) found in
     let none = did.ensures.collected ∙ ap {A = Entry} {B = Option Collected} (λ x. x.choice.collected) found in
     let parts = by_parts e c.args.seat seat none in
     let more = behind ∙ placed ∙ told_last entries empty e ∙ ap (λ x. entries ++ x ∷ []) parts in
-    writes c.args.core.now did.new.core c.args.event.now did.result e.answer None e.ask chosen entries _ c.args.seat
-    did.ensures.step did.ensures.ask more did.ensures.answer
+    writes c.args.core.now did.new.core (Asks c.args.ask) did.result e.answer None e.ask chosen entries _ c.args.seat
+    step (ap (λ a. Some a) (sym asked)) more did.ensures.answer

@@ -5,25 +5,24 @@ use jlr_device::Mode;
 use jlr_device::guarded::guarded_open;
 use jlr_device::script::ScriptResource;
 use jlr_event::event::Event;
+use jlr_machine::ask::{Ask, Outcome};
 use jlr_session::job::carry_out;
 use jlr_types::{ActionNo, Fault, Work};
 use std::alloc::Global;
 use std::test::Fail;
 
 /// Whether a note or a resource is told to have ended so, by whom its job was done and by its number.
-fn tells(
-    by: u8,
-    action: u64,
-    resource: Option<ScriptResource>,
-    outcome: Result<(), Fault>,
-) -> bool {
+fn tells(by: u8, action: u64, resource: Option<ScriptResource>, outcome: Outcome) -> bool {
     let job = Job {
         action: ActionNo::new(action),
         work: Work::Note(5),
         resource,
     };
-    match carry_out(by, job) {
-        Event::Finish {
+    let Event::Ask(ask) = carry_out(by, job) else {
+        return false;
+    };
+    match ask.into_ask() {
+        Ask::Finish {
             by: teller,
             action: number,
             outcome: end,
@@ -45,7 +44,7 @@ fn a_job_tells_how_its_resource_ended(rt: HostRuntime) -> Result<(), Fail> {
     };
     // Without its resource the second job would end well.
     let resource = opened(rt.alloc(), &plan);
-    if tells(2, 9, resource, Err(Fault::Denied)) && tells(255, 8, None, Ok(())) {
+    if tells(2, 9, resource, Outcome::Failed(Fault::Denied)) && tells(255, 8, None, Outcome::Ok) {
         return Ok(());
     }
     Err(Fail::from("a job is told otherwise"))

@@ -1,7 +1,7 @@
 //! A port that plays a heap with one file.
 use jlr_device::script::ScriptResource;
 use jlr_event::event::{Event, Reply};
-use jlr_machine::ask::{Answer, CallOutcome, Handed};
+use jlr_machine::ask::{Answer, Ask, CallOutcome, Handed, Outcome};
 use jlr_machine::data::CallRoom;
 use jlr_session::port::{Port, ReadRoom};
 use jlr_types::{ActionNo, Fault, Handle, Mutator, Progress, Refusal, Rid, Work};
@@ -99,20 +99,20 @@ impl Seat {
         }
     }
 
-    /// What an event is answered that brings no file.
-    fn reply_to(&mut self, event: &Event<ScriptResource>) -> Reply<ScriptResource> {
-        match event {
-            Event::Join { .. } => plain(self.joined()),
-            Event::Prepare { .. } => plain(self.prepared()),
-            Event::CheckOut { .. } => self.checked_out(),
-            Event::Close { .. } => self.closed(),
-            Event::Clean { .. } => plain(Answer::Job {
+    /// What an ask is answered that brings no file.
+    fn reply_to(&mut self, ask: &Ask) -> Reply<ScriptResource> {
+        match ask {
+            Ask::Join { .. } => plain(self.joined()),
+            Ask::Prepare { .. } => plain(self.prepared()),
+            Ask::CheckOut { .. } => self.checked_out(),
+            Ask::Close { .. } => self.closed(),
+            Ask::Clean { .. } => plain(Answer::Job {
                 action: ActionNo::new(2),
                 work: Work::Note(7),
             }),
-            Event::Finish { outcome, .. } => plain(ended(outcome)),
-            Event::Full { .. } => Reply::Marked(Progress::Done),
-            Event::Stat { .. } => plain(Answer::Handed(Handed::Nothing)),
+            Ask::Finish { outcome, .. } => plain(ended(outcome)),
+            Ask::Full { .. } => Reply::Marked(Progress::Done),
+            Ask::Stat { .. } => plain(Answer::Handed(Handed::Nothing)),
             _ => plain(Answer::Done),
         }
     }
@@ -155,11 +155,8 @@ impl Port<ScriptResource> for Seat {
                 self.file = Some(resource);
                 plain(answer_of(outcome))
             }
-            other => {
-                let reply = self.reply_to(&other);
-                drop(other);
-                reply
-            }
+            Event::Ask(ask) => self.reply_to(ask.get()),
+            Event::Mark { .. } => plain(Answer::Done),
         }
     }
 
@@ -186,30 +183,37 @@ fn answer_of(outcome: CallOutcome) -> Answer {
 }
 
 /// What the end of a job is answered.
-fn ended(outcome: &Result<(), Fault>) -> Answer {
+fn ended(outcome: &Outcome) -> Answer {
     match outcome {
-        Ok(()) => Answer::Done,
-        Err(fault) => Answer::Faulted(*fault),
+        Outcome::Ok => Answer::Done,
+        Outcome::Failed(fault) => Answer::Faulted(*fault),
     }
 }
 
 /// How an event is written down.
 fn name_of(event: &Event<ScriptResource>) -> &'static str {
     match event {
-        Event::Join { .. } => "Join",
-        Event::Leave { .. } => "Leave",
-        Event::Prepare { .. } => "Prepare",
+        Event::Ask(ask) => ask_name(ask.get()),
         Event::Opened { outcome, .. } => opened_name(outcome),
-        Event::CheckOut { .. } => "Out",
         Event::CheckIn { outcome, .. } => call_name(outcome),
-        Event::Close { .. } => "Close",
-        Event::Clean { .. } => "Clean",
-        Event::Finish { outcome, .. } => finish_name(outcome),
-        Event::Full { .. } => "Full",
-        Event::Stat { .. } => "Stat",
-        Event::MakeQueue { .. } => "MakeQueue",
-        Event::Names { .. } => "Names",
-        Event::Bind { .. } => "Bind",
+        Event::Mark { .. } => "other",
+    }
+}
+
+fn ask_name(ask: &Ask) -> &'static str {
+    match ask {
+        Ask::Join { .. } => "Join",
+        Ask::Leave { .. } => "Leave",
+        Ask::Prepare { .. } => "Prepare",
+        Ask::CheckOut { .. } => "Out",
+        Ask::Close { .. } => "Close",
+        Ask::Clean { .. } => "Clean",
+        Ask::Finish { outcome, .. } => finish_name(outcome),
+        Ask::Full { .. } => "Full",
+        Ask::Stat { .. } => "Stat",
+        Ask::MakeQueue { .. } => "MakeQueue",
+        Ask::Names { .. } => "Names",
+        Ask::Bind { .. } => "Bind",
         _ => "other",
     }
 }
@@ -231,9 +235,9 @@ fn call_name(outcome: &CallOutcome) -> &'static str {
     }
 }
 
-fn finish_name(outcome: &Result<(), Fault>) -> &'static str {
+fn finish_name(outcome: &Outcome) -> &'static str {
     match outcome {
-        Ok(()) => "Finish ok",
-        Err(_) => "Finish other",
+        Outcome::Ok => "Finish ok",
+        Outcome::Failed(_) => "Finish other",
     }
 }

@@ -2,7 +2,6 @@ use Rattle.std.proofs.Common.{◌+◌, arith, subst, ap, length, sym}
 use Rattle.jlr_book.specs.Histories.{HasNumbers, IsHistory}
 use Rattle.jlr_book.specs.Rules.{Cuts}
 use Rattle.jlr_book.proofs.Histories.{cut_is_history, cut_owes, cuts, told, IsCut}
-use Rattle.jlr_book.specs.Keeping.{image_from}
 use Rattle.jlr_book.proofs.book.Book.cut.Goals as goal
 
 pub cut_to_image-requires-clause-stands : goal.cut_to_image-requires-clause-stands
@@ -12,22 +11,22 @@ pub invariant_of-self-2 : goal.invariant_of-self-2
 invariant_of-self-2 g c =
     let old = c.self.inside in
     let l = old.trace.ok.0 in
-    let x : IsCut old.limits old.base c.in-Ok.used (image_from old.limits old.image) (image_from old.limits c.cut_to_image.new.image) old.trace.items old.core c.cut_to_image.new.core =
+    let x : IsCut old.limits old.base c.in-Ok.used old.image c.cut_to_image.new.image old.trace.items old.core c.cut_to_image.new.core =
     record {
       history = c.self.invariant.history;
       numbers = subst HasNumbers (sym c.self.view_is) c.if-not-has_numbers.ensures;
-      image_is = ap (image_from old.limits) c.in-Ok.ensures.image;
+      image_is = c.in-Ok.ensures.image;
       machine = c.in-Ok.ensures.machine;
       gives_up = c.in-Ok.ensures.gives_up;
       stands = c.in-Ok.ensures.stands;
       used_is = omega (arith, l, c.in-Ok.ensures.used);
     } in
-    let owes = cut_owes old.limits old.base c.in-Ok.used (image_from old.limits old.image) (image_from old.limits c.cut_to_image.new.image) old.trace.items old.core c.cut_to_image.new.core x in
-    let is = cut_is_history old.limits old.base c.in-Ok.used (image_from old.limits old.image) (image_from old.limits c.cut_to_image.new.image) old.trace.items old.core c.cut_to_image.new.core x in
+    let owes = cut_owes old.limits old.base c.in-Ok.used old.image c.cut_to_image.new.image old.trace.items old.core c.cut_to_image.new.core x in
+    let is = cut_is_history old.limits old.base c.in-Ok.used old.image c.cut_to_image.new.image old.trace.items old.core c.cut_to_image.new.core x in
     let none = ap length c.in-Ok.ensures.items in
     let l' = c.cut_to_image.new.trace.ok.0 in
     record {
-      history = subst (λ xs. IsHistory (told old.limits (old.base + c.in-Ok.used) (image_from old.limits c.cut_to_image.new.image) xs c.cut_to_image.new.core)) (sym c.in-Ok.ensures.items) is;
+      history = subst (λ xs. IsHistory (told old.limits (old.base + c.in-Ok.used) c.cut_to_image.new.image xs c.cut_to_image.new.core)) (sym c.in-Ok.ensures.items) is;
       places = omega (arith, l, l', none, owes, c.self.invariant.places, c.cut_to_image.ensures.room);
       choice = omega (arith, c.self.invariant.choice, c.cut_to_image.ensures.choice);
     }
@@ -36,17 +35,17 @@ pub returns-clause-ok : goal.returns-clause-ok
 returns-clause-ok g c =
     let old = c.self.inside in
     let l = old.trace.ok.0 in
-    let x : IsCut old.limits old.base c.in-Ok.used (image_from old.limits old.image) (image_from old.limits c.cut_to_image.new.image) old.trace.items old.core c.cut_to_image.new.core =
+    let x : IsCut old.limits old.base c.in-Ok.used old.image c.cut_to_image.new.image old.trace.items old.core c.cut_to_image.new.core =
     record {
       history = c.self.invariant.history;
       numbers = subst HasNumbers (sym c.self.view_is) c.if-not-has_numbers.ensures;
-      image_is = ap (image_from old.limits) c.in-Ok.ensures.image;
+      image_is = c.in-Ok.ensures.image;
       machine = c.in-Ok.ensures.machine;
       gives_up = c.in-Ok.ensures.gives_up;
       stands = c.in-Ok.ensures.stands;
       used_is = omega (arith, l, c.in-Ok.ensures.used);
     } in
-    let is = cuts old.limits old.base c.in-Ok.used (image_from old.limits old.image) (image_from old.limits c.cut_to_image.new.image) old.trace.items old.core c.cut_to_image.new.core x in
-    let here = told old.limits old.base (image_from old.limits old.image) old.trace.items old.core in
-    subst (λ h. Cuts h (told old.limits (old.base + c.in-Ok.used) (image_from old.limits c.cut_to_image.new.image) c.cut_to_image.new.trace.items c.cut_to_image.new.core)) c.self.view_is
-    (subst (λ xs. Cuts here (told old.limits (old.base + c.in-Ok.used) (image_from old.limits c.cut_to_image.new.image) xs c.cut_to_image.new.core)) (sym c.in-Ok.ensures.items) is)
+    let is = cuts old.limits old.base c.in-Ok.used old.image c.cut_to_image.new.image old.trace.items old.core c.cut_to_image.new.core x in
+    let here = told old.limits old.base old.image old.trace.items old.core in
+    subst (λ h. Cuts h (told old.limits (old.base + c.in-Ok.used) c.cut_to_image.new.image c.cut_to_image.new.trace.items c.cut_to_image.new.core)) c.self.view_is
+    (subst (λ xs. Cuts here (told old.limits (old.base + c.in-Ok.used) c.cut_to_image.new.image xs c.cut_to_image.new.core)) (sym c.in-Ok.ensures.items) is)

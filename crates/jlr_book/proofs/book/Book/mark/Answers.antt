@@ -4,7 +4,6 @@ use Rattle.jlr_event.specs.declared.event.Event.TheVariants.{Mark}
 use Rattle.jlr_event.specs.declared.event.Reply.TheVariants.{Marked}
 use Rattle.jlr_book.specs.Rules.{MarksBy}
 use Rattle.jlr_book.proofs.Histories.{mark_goes_on, told}
-use Rattle.jlr_book.specs.Keeping.{image_from}
 use Rattle.jlr_book.proofs.book.Book.mark.Goals as goal
 
 pub invariant_of-self : goal.invariant_of-self
@@ -13,7 +12,7 @@ invariant_of-self g c =
     let new = c.mark.new in
     let l = old.trace.ok.0 in
     let kept = c.self.invariant in
-    let x = mark_goes_on old.limits old.base (vec_capacity old.trace) (image_from old.limits old.image) old.trace.items old.core new.self (Mark c.args.budget) (Marked c.mark.result) no_choice
+    let x = mark_goes_on old.limits old.base (vec_capacity old.trace) old.image old.trace.items old.core new.self (Mark c.args.budget) (Marked c.mark.result) no_choice
     kept.history c.mark.ensures.step refl c.mark.ensures.cells (omega (arith, l, kept.places)) in
     record { history = x.0; places = omega (arith, l, x.1); choice = omega (arith, kept.choice, c.mark.ensures.cells) }
 
@@ -21,5 +20,5 @@ pub returns : goal.returns
 returns g c =
     let old = c.self.inside in
     let new = c.mark.new in
-    subst (λ h. MarksBy h c.args.budget c.mark.result (told old.limits old.base (image_from old.limits old.image) old.trace.items new.self)) c.self.view_is
+    subst (λ h. MarksBy h c.args.budget c.mark.result (told old.limits old.base old.image old.trace.items new.self)) c.self.view_is
     (record { steps = (no_choice, c.mark.ensures.step); stays = refl })

@@ -1,48 +1,48 @@
 use Rattle.std.proofs.Common.{ℕ, List, None, arith, sym, subst, ap, refl}
 use Rattle.jlr_machine.specs.declared.ask.Ask.TheVariants as ask
-use Rattle.jlr_machine.specs.declared.ask.Answer.TheVariants.{Handed}
 use Rattle.jlr_machine.specs.declared.entry.Chosen.{Chosen}
-use Rattle.jlr_event.specs.declared.event.Event.TheVariants.{HandOver}
+use Rattle.jlr_event.specs.declared.event.Event.TheVariants.{Ask as Asks}
 use Rattle.jlr_event.specs.declared.event.Reply.TheVariants.{Answered}
 use Rattle.jlr_core.specs.Steps.{IsStep}
+use Rattle.jlr_core.specs.Events.{handed_out, take_up_answered}
 use Rattle.jlr_book.specs.Histories.{HasNumbers}
 use Rattle.jlr_book.specs.Rules.{AsksBy}
 use Rattle.jlr_book.specs.Writing.{Writes}
 use Rattle.jlr_book.proofs.Entering.{writes}
 use Rattle.jlr_book.proofs.Histories.{asks_by, enter_goes_on, told}
-use Rattle.jlr_book.specs.Keeping.{image_from}
-use Rattle.jlr_book.proofs.book.Book.hand_over_briefly.Given.{Over}
-use Rattle.jlr_book.proofs.book.Book.hand_over_briefly.Goals as goal
+use Rattle.jlr_book.proofs.book.Book.take_up_on.Given.{Over}
+use Rattle.jlr_book.proofs.book.Book.take_up_on.Goals as goal
 
 written : (g : Over) (c : goal.After-push_reserved g)
-    → Writes c.args.seat c.self.inside.core c.self.inside.trace.items HandOver (Answered (Handed c.hand_over-handed.result) None)
-    c.hand_over-handed.new.self c.push_reserved.new.self.items
+    → Writes c.args.seat c.self.inside.core c.self.inside.trace.items (Asks ask.TakeUp)
+    (Answered (take_up_answered c.take_up-taken.result) (handed_out c.take_up-taken.result))
+    c.take_up-taken.new.self c.push_reserved.new.self.items
 written g c =
     let core = c.self.inside.core in
-    let core' = c.hand_over-handed.new.self in
+    let core' = c.take_up-taken.new.self in
     let entries = c.self.inside.trace.items in
     let entries' = c.push_reserved.new.self.items in
-    let answer = Handed c.hand_over-handed.result in
-    let reply = Answered answer None in
+    let answer = take_up_answered c.take_up-taken.result in
+    let out = handed_out c.take_up-taken.result in
     let chosen : Chosen = record { collected = None; fresh = c.new.result } in
     let none = ap {A = List ℕ} {B = Chosen} (λ l. record { collected = None; fresh = l }) c.new.ensures in
-    let step = subst (λ x. IsStep core HandOver reply x core') (sym none) c.hand_over-handed.ensures.step in
-    writes core core' HandOver answer answer None ask.HandOver chosen entries entries' c.args.seat
-    step refl c.push_reserved.ensures.items refl
+    let step = subst (λ x. IsStep core (Asks ask.TakeUp) (Answered answer out) x core') (sym none) c.take_up-taken.ensures.step in
+    writes core core' (Asks ask.TakeUp) answer c.take_up_answer.result out ask.TakeUp chosen entries entries' c.args.seat
+    step refl c.push_reserved.ensures.items c.take_up_answer.ensures
 
 pub invariant_of-self : goal.invariant_of-self
 invariant_of-self g c =
     let old = c.self.inside in
     let kept = c.self.invariant in
-    let core' = c.hand_over-handed.new.self in
+    let core' = c.take_up-taken.new.self in
     let entries' = c.push_reserved.new.self.items in
-    let reply = Answered (Handed c.hand_over-handed.result) None in
+    let reply = Answered (take_up_answered c.take_up-taken.result) (handed_out c.take_up-taken.result) in
     let l = old.trace.ok.0 in
     let l' = c.push_reserved.new.self.ok.0 in
     let places = c.if-not-has_places.ensures in
     let numbers = subst HasNumbers (sym c.self.view_is) c.if-not-has_numbers.ensures in
-    let x = enter_goes_on old.limits old.base (image_from old.limits old.image) old.trace.items entries' old.core core' c.args.seat HandOver reply
-    kept.history (written g c) c.hand_over-handed.ensures.cells (omega (arith, numbers, l)) in
+    let x = enter_goes_on old.limits old.base old.image old.trace.items entries' old.core core' c.args.seat (Asks ask.TakeUp) reply
+    kept.history (written g c) c.take_up-taken.ensures.cells (omega (arith, numbers, l)) in
     record {
       history = x.0;
       places = omega (arith, l, l', x.1, x.2, places.1, c.push_reserved.ensures.capacity);
@@ -52,13 +52,13 @@ invariant_of-self g c =
 pub returns : goal.returns
 returns g c =
     let old = c.self.inside in
-    let core' = c.hand_over-handed.new.self in
+    let core' = c.take_up-taken.new.self in
     let entries' = c.push_reserved.new.self.items in
-    let reply = Answered (Handed c.hand_over-handed.result) None in
+    let reply = Answered (take_up_answered c.take_up-taken.result) (handed_out c.take_up-taken.result) in
     let l = old.trace.ok.0 in
     let places = c.if-not-has_places.ensures in
     let numbers = subst HasNumbers (sym c.self.view_is) c.if-not-has_numbers.ensures in
-    let new = told old.limits old.base (image_from old.limits old.image) entries' core' in
-    subst (λ h. AsksBy c.args.seat h HandOver reply new) c.self.view_is
-    (asks_by old.limits old.base (image_from old.limits old.image) old.trace.items entries' old.core core' c.args.seat HandOver reply
+    let new = told old.limits old.base old.image entries' core' in
+    subst (λ h. AsksBy c.args.seat h (Asks ask.TakeUp) reply new) c.self.view_is
+    (asks_by old.limits old.base old.image old.trace.items entries' old.core core' c.args.seat (Asks ask.TakeUp) reply
     numbers (omega (arith, l, places.0)) (written g c))

@@ -1,13 +1,12 @@
-use Rattle.std.proofs.Common.{◌≡◌, true, None, arith, sym, subst}
+use Rattle.std.proofs.Common.{◌≡◌, None, refl, arith, sym, subst, ap, ◌∙◌}
+use Rattle.jlr_event.specs.declared.event.Event.{Event}
+use Rattle.jlr_event.specs.declared.event.Event.TheVariants.{Ask as Asks}
 use Rattle.jlr_event.specs.declared.event.Reply.TheVariants.{Answered}
-use Rattle.jlr_event.specs.Events.{ask_of}
 use Rattle.jlr_book.specs.Histories.{HasNumbers}
-use Rattle.jlr_book.specs.Lists.{is_brief}
-use Rattle.jlr_book.specs.Rules.{AsksBy}
-use Rattle.jlr_book.proofs.Entering.{brief_asks, brief_is_no_end}
+use Rattle.jlr_book.specs.Rules.{AsksBy, BookSteps}
+use Rattle.jlr_book.proofs.Entering.{brief_is_no_end}
 use Rattle.jlr_book.proofs.Histories.{asks_by, enter_goes_on, steps_as_asked, told}
-use Rattle.jlr_book.specs.Keeping.{image_from}
-use Rattle.jlr_book.proofs.book.Book.step.Goals as goal
+use Rattle.jlr_book.proofs.book.Book.step_on.Goals as goal
 
 pub record_briefly-answer-requires-clause-place : goal.record_briefly-answer-requires-clause-place
 record_briefly-answer-requires-clause-place g c =
@@ -24,7 +23,7 @@ invariant_of-self g c =
     let places = c.if-has_places.ensures in
     let numbers = subst HasNumbers (sym c.self.view_is) c.if-has_numbers.ensures in
     let reply = Answered c.record_briefly-answer.result None in
-    let x = enter_goes_on old.limits old.base (image_from old.limits old.image) old.trace.items new.trace.items old.core new.core c.args.seat c.args.event reply
+    let x = enter_goes_on old.limits old.base old.image old.trace.items new.trace.items old.core new.core c.args.seat (Asks c.into_ask-ask.result) reply
     kept.history c.record_briefly-answer.ensures.writes c.record_briefly-answer.ensures.cells (omega (arith, numbers, l)) in
     record {
       history = x.0;
@@ -39,12 +38,13 @@ returns-then-not-will_collect g c =
     let l = old.trace.ok.0 in
     let places = c.if-has_places.ensures in
     let numbers = subst HasNumbers (sym c.self.view_is) c.if-has_numbers.ensures in
+    let ask = c.into_ask-ask.result in
     let brief = sym c.if-is_brief.ensures in
-    let asked = brief_asks (ask_of c.args.event) brief in
-    let end = brief_is_no_end asked.0 (subst (λ o. is_brief o ≡ true) asked.1 brief) in
-    let here = told old.limits old.base (image_from old.limits old.image) new.trace.items new.core in
+    let here = told old.limits old.base old.image new.trace.items new.core in
     let reply = Answered c.record_briefly-answer.result None in
-    let asks = subst (λ h. AsksBy c.args.seat h c.args.event reply here) c.self.view_is
-    (asks_by old.limits old.base (image_from old.limits old.image) old.trace.items new.trace.items old.core new.core c.args.seat c.args.event reply
+    let asks = subst (λ h. AsksBy c.args.seat h (Asks ask) reply here) c.self.view_is
+    (asks_by old.limits old.base old.image old.trace.items new.trace.items old.core new.core c.args.seat (Asks ask) reply
     numbers (omega (arith, l, places.0)) c.record_briefly-answer.ensures.writes) in
-    steps_as_asked c.args.seat c.args.self.now here c.args.event reply asked.0 asked.1 end asks
+    let is : Asks ask ≡ c.args.event = ap Asks c.into_ask-ask.ensures.ask ∙ sym c.in-Ask.is in
+    subst (λ (event : Event g.row.R.Denot). BookSteps c.args.seat c.args.self.now event reply here) is
+    (steps_as_asked c.args.seat c.args.self.now here (Asks ask) reply ask refl (brief_is_no_end ask brief) asks)
