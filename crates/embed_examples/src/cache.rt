@@ -1,7 +1,7 @@
 //! A cache of numbers by key. Its entries are softly reachable: the collector gives up those that nobody asked for of
 //! late, and all where the heap is full.
 ghost use Rattle.jlr_heap.specs.Entries.{IsEntry, handle, unrecorded};
-ghost use Rattle.jlr_event.specs.declared.event.Event.TheVariants.{Array, MakeRef};
+ghost use Rattle.jlr_machine.specs.declared.ask.Ask.TheVariants.{Array, MakeRef};
 ghost use Rattle.std.specs.Prelude.{IfOk, Ok};
 ghost use Rattle.jlr_types.specs.declared.RefKind.TheVariants.{Soft};
 

@@ -1,6 +1,6 @@
 //! A watcher: it keeps no object, and tells which of those that it was shown have died.
 ghost use Rattle.jlr_heap.specs.Entries.{IsEntry, handle, unrecorded};
-ghost use Rattle.jlr_event.specs.declared.event.Event.TheVariants.{MakeQueue, MakeRef};
+ghost use Rattle.jlr_machine.specs.declared.ask.Ask.TheVariants.{MakeQueue, MakeRef};
 ghost use Rattle.jlr_types.specs.declared.RefKind.TheVariants.{Weak};
 ghost use Rattle.std.specs.Prelude.{◌<◌, IfOk, IfSome, Ok, vec_len};
 

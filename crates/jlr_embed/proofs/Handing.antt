@@ -14,7 +14,7 @@ use Rattle.jlr_machine.specs.Calls.{handed, handed_over, delivered, to_queue}
 use Rattle.jlr_machine.specs.Run.{IsLegal, MayCollect, apply}
 use Rattle.jlr_machine.specs.Run.IsLegal.{carried_out, refused, heap_full, out_of_memory}
 use Rattle.jlr_laws.proofs.LegalKept.{no_need}
-use Rattle.jlr_event.specs.declared.event.Event.TheVariants.{HandOver}
+use Rattle.jlr_event.specs.declared.event.Event.TheVariants.{Ask as Asks}
 use Rattle.jlr_event.specs.declared.event.Reply.TheVariants.{Answered}
 use Rattle.jlr_core.specs.Cores.{Kept, StandsIn}
 use Rattle.jlr_core.specs.Events.{entry_of}
@@ -64,7 +64,7 @@ shorter m what chosen some (out_of_memory r) = cc r.answers
 same_pending : {R : Type 0} (core : Kept R) (m : Machine) → StandsIn core m → core.machine.pending ≡ m.pending
 same_pending core m s = ap {A = Machine} {B = List ℕ} (λ n. n.pending) s.same
 
-pub less_pending : {R : Type 0} (old new : Kept R) (what : Handed) (chosen : Chosen) → IsStep old HandOver (Answered (answer.Handed what) None) chosen new → Stands old → old.machine.pending ≢ []
+pub less_pending : {R : Type 0} (old new : Kept R) (what : Handed) (chosen : Chosen) → IsStep old (Asks ask.HandOver) (Answered (answer.Handed what) None) chosen new → Stands old → old.machine.pending ≢ []
     → length new.machine.pending < length old.machine.pending
 less_pending old new what chosen step stands some =
     let m = stands.0 in
@@ -76,6 +76,6 @@ less_pending old new what chosen step stands some =
 
 -- ---- One step more
 
-pub more : {R : Type 0} (all : List Handed) (what : Handed) (old mid new : Kept R) → HandsOver all old mid → Steps mid HandOver (Answered (answer.Handed what) None) new → HandsOver (all ++ what ∷ []) old new
-more [] what old mid new h s = (new, subst (λ m. Steps m HandOver (Answered (answer.Handed what) None) new) h s, refl)
+pub more : {R : Type 0} (all : List Handed) (what : Handed) (old mid new : Kept R) → HandsOver all old mid → Steps mid (Asks ask.HandOver) (Answered (answer.Handed what) None) new → HandsOver (all ++ what ∷ []) old new
+more [] what old mid new h s = (new, subst (λ m. Steps m (Asks ask.HandOver) (Answered (answer.Handed what) None) new) h s, refl)
 more (x ∷ all) what old mid new h s = (h.0, h.1, more all what h.0 mid new h.2 s)

@@ -2,7 +2,8 @@
 use Rattle.std.specs.Prelude.{◌≡◌, List, [], ◌∷◌, None}
 use Rattle.jlr_machine.specs.declared.ask.Handed.{Handed}
 use Rattle.jlr_machine.specs.declared.ask.Answer.TheVariants as answer
-use Rattle.jlr_event.specs.declared.event.Event.TheVariants.{HandOver}
+use Rattle.jlr_machine.specs.declared.ask.Ask.TheVariants.{HandOver}
+use Rattle.jlr_event.specs.declared.event.Event.TheVariants.{Ask as Asks}
 use Rattle.jlr_event.specs.declared.event.Reply.TheVariants.{Answered}
 use Rattle.jlr_core.specs.Cores.{Kept}
 use Rattle.jlr_core.specs.Steps.{Steps}
@@ -10,7 +11,7 @@ use Rattle.jlr_core.specs.Steps.{Steps}
 -- steps of the handler, one after the other, which handed these over
 abbrev pub HandsOver : {R : Type 0} → List Handed → Kept R → Kept R → Type 0
 HandsOver [] old new = new ≡ old
-HandsOver {R} (what ∷ later) old new = (next : Kept R) × Steps old HandOver (Answered (answer.Handed what) None) next × HandsOver later next new
+HandsOver {R} (what ∷ later) old new = (next : Kept R) × Steps old (Asks HandOver) (Answered (answer.Handed what) None) next × HandsOver later next new
 
 -- such steps, until nothing is pending
 abbrev pub Settles : {R : Type 0} → Kept R → Kept R → Type 0

@@ -4,16 +4,16 @@
 //! which the core says so. It keeps the promise of `IsStep`, and that each answer is of the kind of its ask.
 #![tactic(auto)]
 
-ghost use Rattle.std.specs.Prelude.{◌≡◌, ◌↔◌, [], IfOk, IsTrue, None, false, is_none, true};
+ghost use Rattle.std.specs.Prelude.{◌≡◌, ◌↔◌, [], IfOk, IsTrue, None, Some, false, is_none, true};
 ghost use Rattle.jlr_event.specs.Events.{ask_of};
-ghost use Rattle.jlr_core.specs.Events.{is_plain};
+ghost use Rattle.jlr_core.specs.Events.{carries_none};
 ghost use Rattle.jlr_core.specs.Steps.{IsEmpty, Steps};
 ghost use Rattle.jlr_embed.specs.Kinds.{is_told, kind_asked, suits};
 
 mod unrecorded;
 
 use jlr_event::event::{Event, Reply};
-use jlr_machine::ask::{Answer, Handed};
+use jlr_machine::ask::{Answer, Ask, Handed};
 use jlr_types::{Limits, Progress};
 use std::alloc::{AllocError, Global};
 use std::marker::Model;
@@ -47,25 +47,25 @@ impl Embedded {
         })
     }
 
-    /// One event that carries no token, neither in nor out, and is no piece of marking.
+    /// One ask that carries no token, neither in nor out. It is lent.
     #[inline(always)]
-    pub fn answer(&mut self, event: &Event<u64>) -> Answer
-        requires plain { is_plain event.now ≡ true }
-        ensures step { Steps self.old event.now (Reply.Answered result None) self.new }
-        ensures kind { is_told (kind_asked (ask_of event.now)) result ≡ true }
+    pub fn answer(&mut self, ask: &Ask) -> Answer
+        requires plain { carries_none ask.now ≡ true }
+        ensures step { Steps self.old (Event.Ask ask.now) (Reply.Answered result None) self.new }
+        ensures kind { is_told (kind_asked (Some ask.now)) result ≡ true }
     {
-        self.heap.answer(event)
+        self.heap.answer(ask)
     }
 
-    /// One event that makes objects: what `answer` does for it. The slots of its new objects leave the choice at once,
-    /// so that the next event finds nothing to clear.
+    /// One ask that makes objects: what `answer` does for it. The slots of its new objects leave the choice at once,
+    /// so that the next ask finds nothing to clear.
     #[inline(always)]
-    pub fn make(&mut self, event: &Event<u64>) -> Answer
-        requires plain { is_plain event.now ≡ true }
-        ensures step { Steps self.old event.now (Reply.Answered result None) self.new }
-        ensures kind { is_told (kind_asked (ask_of event.now)) result ≡ true }
+    pub fn make(&mut self, ask: &Ask) -> Answer
+        requires plain { carries_none ask.now ≡ true }
+        ensures step { Steps self.old (Event.Ask ask.now) (Reply.Answered result None) self.new }
+        ensures kind { is_told (kind_asked (Some ask.now)) result ≡ true }
     {
-        self.heap.make(event)
+        self.heap.make(ask)
     }
 
     /// One event of any other kind, but no piece of marking: its answer, and the token that goes out with it.
@@ -87,7 +87,7 @@ impl Embedded {
 
     /// A step of the handler. Takes no memory.
     pub fn hand_over(&mut self) -> Handed
-        ensures { Steps self.old Event.HandOver (Reply.Answered (Answer.Handed result) None) self.new }
+        ensures { Steps self.old (Event.Ask Ask.HandOver) (Reply.Answered (Answer.Handed result) None) self.new }
     {
         self.heap.hand_over()
     }

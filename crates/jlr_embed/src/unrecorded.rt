@@ -1,15 +1,15 @@
 //! A heap of which no history is kept.
 ghost use Rattle.std.specs.Prelude.{◌≡◌, ◌≢◌, ◌↔◌, ◌<◌, [], length};
-ghost use Rattle.std.specs.Prelude.{IfOk, IsTrue, None, false, is_none, true};
+ghost use Rattle.std.specs.Prelude.{IfOk, IsTrue, None, Some, false, is_none, true};
 ghost use Rattle.jlr_event.specs.Events.{ask_of, resource_of_event};
-ghost use Rattle.jlr_core.specs.Events.{is_plain};
+ghost use Rattle.jlr_core.specs.Events.{carries_none};
 ghost use Rattle.jlr_core.specs.Steps.{IsEmpty, Steps};
 ghost use Rattle.jlr_embed.specs.Kinds.{GoesBack, is_told, kind_asked, suits};
 ghost use Rattle.jlr_embed.specs.Settling.{Settles};
 
 use jlr_core::engine::Core;
 use jlr_event::event::{Event, Reply};
-use jlr_machine::ask::{Answer, Handed};
+use jlr_machine::ask::{Answer, Ask, Handed};
 use jlr_machine::choice::Choice;
 use jlr_types::{Limits, Progress};
 use std::alloc::{AllocError, Global};
@@ -48,25 +48,25 @@ impl<R: Drop> Unrecorded<R> {
         Ok(Unrecorded { core, choice })
     }
 
-    /// One event that carries nothing that a guard holds, neither in nor out, and is no piece of marking.
+    /// One ask that carries nothing that a guard holds, neither in nor out. It is lent.
     #[inline(always)]
-    pub fn answer(&mut self, event: &Event<R>) -> Answer
-        requires plain { is_plain event.now ≡ true }
-        ensures step { Steps self.old event.now (Reply.Answered result None) self.new }
-        ensures kind { is_told (kind_asked (ask_of event.now)) result ≡ true }
+    pub fn answer(&mut self, ask: &Ask) -> Answer
+        requires plain { carries_none ask.now ≡ true }
+        ensures step { Steps self.old (Event.Ask ask.now) (Reply.Answered result None) self.new }
+        ensures kind { is_told (kind_asked (Some ask.now)) result ≡ true }
     {
-        self.core.answer(event, &mut self.choice)
+        self.core.answer(ask, &mut self.choice)
     }
 
-    /// One event that makes objects: what `answer` does for it. The slots of its new objects leave the choice at once,
-    /// so that the next event finds nothing to clear.
+    /// One ask that makes objects: what `answer` does for it. The slots of its new objects leave the choice at once,
+    /// so that the next ask finds nothing to clear.
     #[inline(always)]
-    pub fn make(&mut self, event: &Event<R>) -> Answer
-        requires plain { is_plain event.now ≡ true }
-        ensures step { Steps self.old event.now (Reply.Answered result None) self.new }
-        ensures kind { is_told (kind_asked (ask_of event.now)) result ≡ true }
+    pub fn make(&mut self, ask: &Ask) -> Answer
+        requires plain { carries_none ask.now ≡ true }
+        ensures step { Steps self.old (Event.Ask ask.now) (Reply.Answered result None) self.new }
+        ensures kind { is_told (kind_asked (Some ask.now)) result ≡ true }
     {
-        let answer = self.core.answer(event, &mut self.choice);
+        let answer = self.core.answer(ask, &mut self.choice);
         let _ = self.choice.take_fresh();
         answer
     }
@@ -94,7 +94,7 @@ impl<R: Drop> Unrecorded<R> {
 
     /// A step of the handler. Takes no memory.
     pub fn hand_over(&mut self) -> Handed
-        ensures step { Steps self.old Event.HandOver (Reply.Answered (Answer.Handed result) None) self.new }
+        ensures step { Steps self.old (Event.Ask Ask.HandOver) (Reply.Answered (Answer.Handed result) None) self.new }
         ensures less { self.old.machine.pending ≢ []
             → length self.new.machine.pending < length self.old.machine.pending }
     {

@@ -7,7 +7,8 @@ use Rattle.jlr_machine.specs.declared.ask.Answer.{Answer}
 use Rattle.jlr_machine.specs.declared.ask.Handed.{Handed}
 use Rattle.jlr_machine.specs.declared.ask.Answer.TheVariants as answer
 use Rattle.jlr_event.specs.declared.event.Event.{Event}
-use Rattle.jlr_event.specs.declared.event.Event.TheVariants.{HandOver, Mark}
+use Rattle.jlr_machine.specs.declared.ask.Ask.TheVariants.{HandOver}
+use Rattle.jlr_event.specs.declared.event.Event.TheVariants.{Ask as Asks, Mark}
 use Rattle.jlr_event.specs.declared.event.Reply.TheVariants.{Answered, Marked}
 use Rattle.jlr_core.specs.Cores.{Kept}
 use Rattle.jlr_core.specs.Steps.{IsEmpty, Steps}
@@ -59,7 +60,7 @@ Carries (Some old) event Silent Tells new =
 abbrev pub HandsOver : Option Heap → Type 0 → (Handed → Type 0) → Option Heap → Type 0
 HandsOver None Silent Tells new = Silent × (new ≡ None)
 HandsOver (Some old) Silent Tells new =
-    (what : Handed) × (h : Heap) × (new ≡ Some h) × Steps old HandOver (Answered (answer.Handed what) None) h
+    (what : Handed) × (h : Heap) × (new ≡ Some h) × Steps old (Asks HandOver) (Answered (answer.Handed what) None) h
     × Tells what
 
 -- a piece of marking

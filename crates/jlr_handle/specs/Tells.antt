@@ -1,5 +1,5 @@
 -- How an answer is told: what a call returns, and what stands behind its out pointer, which was `old` and is `new`.
-use Rattle.std.specs.Prelude.{◌≡◌, ◌-◌, ◌==◌, ◌++◌, ℕ, ℤ, Bool, true, false, cond, List, Option, Some, None, Result, Ok, Err, length, replicate, slice_get}
+use Rattle.std.specs.Prelude.{◌≡◌, ◌-◌, ◌==◌, ◌++◌, ℕ, ℤ, Bool, true, false, cond, List, Option, Some, None, length, replicate, slice_get}
 use Rattle.jlr_types.specs.Numbers.{number_of}
 use Rattle.jlr_types.specs.declared.Fault.{Fault}
 use Rattle.jlr_types.specs.declared.Fault.TheVariants.{NotFound, Denied, Other}
@@ -8,6 +8,8 @@ use Rattle.jlr_types.specs.declared.Progress.TheVariants.{More, Done as Marked, 
 use Rattle.jlr_types.specs.declared.Work.{Work}
 use Rattle.jlr_types.specs.declared.Work.TheVariants.{Note, Resource}
 use Rattle.jlr_machine.specs.declared.machine.Failure.{Failure}
+use Rattle.jlr_machine.specs.declared.ask.Outcome.{Outcome}
+use Rattle.jlr_machine.specs.declared.ask.Outcome.TheVariants as outcome
 use Rattle.jlr_machine.specs.declared.ask.Handed.{Handed as HandedOver}
 use Rattle.jlr_machine.specs.declared.ask.Handed.TheVariants.{Queued, Lined, Skipped, Nothing}
 use Rattle.jlr_machine.specs.declared.ask.Answer.{Answer}
@@ -129,9 +131,9 @@ TellsFault status old new index _ = ⊥
 abbrev pub fault_numbered : ℕ → Option Fault
 fault_numbered n = cond (n == 1) (Some NotFound) (cond (n == 2) (Some Denied) (cond (n == 3) (Some Other) None))
 
-abbrev pub failed_by : Option Fault → Option (Result (Unit {0}) Fault)
+abbrev pub failed_by : Option Fault → Option Outcome
 failed_by None = None
-failed_by (Some fault) = Some (Err fault)
+failed_by (Some fault) = Some (outcome.Failed fault)
 
-abbrev pub outcome_numbered : ℕ → Option (Result (Unit {0}) Fault)
-outcome_numbered n = cond (n == 0) (Some (Ok tt)) (failed_by (fault_numbered n))
+abbrev pub outcome_numbered : ℕ → Option Outcome
+outcome_numbered n = cond (n == 0) (Some outcome.Ok) (failed_by (fault_numbered n))

@@ -1,7 +1,7 @@
 //! Calls by kind: each is one event of the heap, and tells its answer.
 ghost use Rattle.std.specs.Prelude.{◌≡◌, MatchOption, IfSome, None, Some, false, is_none, true};
 ghost use Rattle.jlr_event.specs.Events.{ask_of};
-ghost use Rattle.jlr_core.specs.Events.{is_plain};
+ghost use Rattle.jlr_core.specs.Events.{carries_none};
 ghost use Rattle.jlr_embed.specs.Kinds.{is_faults, is_handle, is_integer, is_job, is_names, is_notes, is_out, is_stat};
 ghost use Rattle.jlr_embed.specs.Kinds.{is_told, is_truth, kind_asked, suits};
 ghost use Rattle.jlr_handle.specs.Calls.{HandsOver, Marks};
@@ -15,21 +15,21 @@ use crate::out::{Counts, Failed, Taken};
 use crate::status::CLOSED;
 use crate::tell;
 use jlr_event::event::Event;
-use jlr_machine::ask::Answer;
+use jlr_machine::ask::{Answer, Ask};
 use std::alloc::Global;
 use std::mem;
 
-/// One event that carries no token, where the handle is open.
+/// One ask that carries no token, where the handle is open.
 #[inline(always)]
-fn ask(alloc: Global, heap: &mut Heap, event: &Event<u64>) -> Option<Answer>
-    requires plain { is_plain event.now ≡ true }
+fn ask(alloc: Global, heap: &mut Heap, asked: &Ask) -> Option<Answer>
+    requires plain { carries_none asked.now ≡ true }
     ensures asked { MatchOption result ((heap.old.value ≡ None) × (heap.new.value ≡ None))
-        (λ answer. Asked heap.old.value event.now answer heap.new.value) }
-    ensures kind { IfSome result (λ answer. is_told (kind_asked (ask_of event.now)) answer ≡ true) }
+        (λ answer. Asked heap.old.value (Event.Ask asked.now) answer heap.new.value) }
+    ensures kind { IfSome result (λ answer. is_told (kind_asked (Some asked.now)) answer ≡ true) }
 {
     match heap.take(alloc) {
         Some(mut open) => {
-            let answer = open.answer(event);
+            let answer = open.answer(asked);
             heap.hold(open);
             Some(answer)
         }
@@ -39,15 +39,15 @@ fn ask(alloc: Global, heap: &mut Heap, event: &Event<u64>) -> Option<Answer>
 
 /// The same for one that makes objects.
 #[inline(always)]
-fn make(alloc: Global, heap: &mut Heap, event: &Event<u64>) -> Option<Answer>
-    requires plain { is_plain event.now ≡ true }
+fn make(alloc: Global, heap: &mut Heap, asked: &Ask) -> Option<Answer>
+    requires plain { carries_none asked.now ≡ true }
     ensures asked { MatchOption result ((heap.old.value ≡ None) × (heap.new.value ≡ None))
-        (λ answer. Asked heap.old.value event.now answer heap.new.value) }
-    ensures kind { IfSome result (λ answer. is_told (kind_asked (ask_of event.now)) answer ≡ true) }
+        (λ answer. Asked heap.old.value (Event.Ask asked.now) answer heap.new.value) }
+    ensures kind { IfSome result (λ answer. is_told (kind_asked (Some asked.now)) answer ≡ true) }
 {
     match heap.take(alloc) {
         Some(mut open) => {
-            let answer = open.make(event);
+            let answer = open.make(asked);
             heap.hold(open);
             Some(answer)
         }
@@ -75,143 +75,131 @@ fn carry(alloc: Global, heap: &mut Heap, event: Event<u64>) -> Option<(Answer, O
 
 /// A call that tells nothing but how it ended.
 #[inline(always)]
-pub fn does(alloc: Global, heap: &mut Heap, event: Event<u64>) -> u32
-    requires plain { is_plain event ≡ true }
-    ensures { Ends heap.old.value event result heap.new.value }
+pub fn does(alloc: Global, heap: &mut Heap, asked: Ask) -> u32
+    requires plain { carries_none asked ≡ true }
+    ensures { Ends heap.old.value (Event.Ask asked) result heap.new.value }
 {
-    let told = match ask(alloc, heap, &event) {
+    let told = match ask(alloc, heap, &asked) {
         Some(answer) => tell::end(&answer),
         None => CLOSED,
     };
-    mem::forget(event);
+    mem::forget(asked);
     told
 }
 
 /// A call that gives a handle.
 #[inline(always)]
-pub fn gives(alloc: Global, heap: &mut Heap, event: Event<u64>, out: &mut u8) -> u32
-    requires plain { is_plain event ≡ true }
-    requires kind { kind_asked (ask_of event) ≡ is_handle }
-    ensures { GivesHandle heap.old.value event result out.old out.new heap.new.value }
+pub fn gives(alloc: Global, heap: &mut Heap, asked: Ask, out: &mut u8) -> u32
+    requires plain { carries_none asked ≡ true }
+    requires kind { kind_asked (Some asked) ≡ is_handle }
+    ensures { GivesHandle heap.old.value (Event.Ask asked) result out.old out.new heap.new.value }
 {
-    let told = match ask(alloc, heap, &event) {
+    let told = match ask(alloc, heap, &asked) {
         Some(answer) => tell::handle(&answer, out),
         None => CLOSED,
     };
-    mem::forget(event);
+    mem::forget(asked);
     told
 }
 
 /// A call that makes an object, and gives a handle for it.
 #[inline(always)]
-pub fn makes(alloc: Global, heap: &mut Heap, event: Event<u64>, out: &mut u8) -> u32
-    requires plain { is_plain event ≡ true }
-    requires kind { kind_asked (ask_of event) ≡ is_handle }
-    ensures { GivesHandle heap.old.value event result out.old out.new heap.new.value }
+pub fn makes(alloc: Global, heap: &mut Heap, asked: Ask, out: &mut u8) -> u32
+    requires plain { carries_none asked ≡ true }
+    requires kind { kind_asked (Some asked) ≡ is_handle }
+    ensures { GivesHandle heap.old.value (Event.Ask asked) result out.old out.new heap.new.value }
 {
-    let told = match make(alloc, heap, &event) {
+    let told = match make(alloc, heap, &asked) {
         Some(answer) => tell::handle(&answer, out),
         None => CLOSED,
     };
-    mem::forget(event);
+    mem::forget(asked);
     told
 }
 
 /// A call that tells a truth.
 #[inline(always)]
-pub fn tells(alloc: Global, heap: &mut Heap, event: Event<u64>, out: &mut bool) -> u32
-    requires plain { is_plain event ≡ true }
-    requires kind { kind_asked (ask_of event) ≡ is_truth }
-    ensures { GivesTruth heap.old.value event result out.old out.new heap.new.value }
+pub fn tells(alloc: Global, heap: &mut Heap, asked: Ask, out: &mut bool) -> u32
+    requires plain { carries_none asked ≡ true }
+    requires kind { kind_asked (Some asked) ≡ is_truth }
+    ensures { GivesTruth heap.old.value (Event.Ask asked) result out.old out.new heap.new.value }
 {
-    let told = match ask(alloc, heap, &event) {
+    let told = match ask(alloc, heap, &asked) {
         Some(answer) => tell::truth(&answer, out),
         None => CLOSED,
     };
-    mem::forget(event);
+    mem::forget(asked);
     told
 }
 
 /// A call that reads an integer.
 #[inline(always)]
-pub fn reads(alloc: Global, heap: &mut Heap, event: Event<u64>, out: &mut i64) -> u32
-    requires plain { is_plain event ≡ true }
-    requires kind { kind_asked (ask_of event) ≡ is_integer }
-    ensures { GivesInteger heap.old.value event result out.old out.new heap.new.value }
+pub fn reads(alloc: Global, heap: &mut Heap, asked: Ask, out: &mut i64) -> u32
+    requires plain { carries_none asked ≡ true }
+    requires kind { kind_asked (Some asked) ≡ is_integer }
+    ensures { GivesInteger heap.old.value (Event.Ask asked) result out.old out.new heap.new.value }
 {
-    let told = match ask(alloc, heap, &event) {
+    let told = match ask(alloc, heap, &asked) {
         Some(answer) => tell::integer(&answer, out),
         None => CLOSED,
     };
-    mem::forget(event);
+    mem::forget(asked);
     told
 }
 
 /// A call that tells counts.
-pub fn counts(alloc: Global, heap: &mut Heap, event: Event<u64>, out: &mut Counts) -> u32
-    requires plain { is_plain event ≡ true }
-    requires kind { kind_asked (ask_of event) ≡ is_stat }
-    ensures { GivesCounts heap.old.value event result out.old out.new heap.new.value }
+pub fn counts(alloc: Global, heap: &mut Heap, asked: Ask, out: &mut Counts) -> u32
+    requires plain { carries_none asked ≡ true }
+    requires kind { kind_asked (Some asked) ≡ is_stat }
+    ensures { GivesCounts heap.old.value (Event.Ask asked) result out.old out.new heap.new.value }
 {
-    let told = match ask(alloc, heap, &event) {
+    let told = match ask(alloc, heap, &asked) {
         Some(answer) => tell::counts(&answer, out),
         None => CLOSED,
     };
-    mem::forget(event);
+    mem::forget(asked);
     told
 }
 
 /// A call that tells the name of an index, with zeros behind it.
-pub fn names(
-    alloc: Global,
-    heap: &mut Heap,
-    event: Event<u64>,
-    index: usize,
-    out: &mut [u8; 33],
-) -> u32
-    requires plain { is_plain event ≡ true }
-    requires kind { kind_asked (ask_of event) ≡ is_names }
-    ensures { GivesName index heap.old.value event result out.old out.new heap.new.value }
+pub fn names(alloc: Global, heap: &mut Heap, asked: Ask, index: usize, out: &mut [u8; 33]) -> u32
+    requires plain { carries_none asked ≡ true }
+    requires kind { kind_asked (Some asked) ≡ is_names }
+    ensures { GivesName index heap.old.value (Event.Ask asked) result out.old out.new heap.new.value }
 {
-    let told = match ask(alloc, heap, &event) {
+    let told = match ask(alloc, heap, &asked) {
         Some(answer) => tell::name(&answer, index, out),
         None => CLOSED,
     };
-    mem::forget(event);
+    mem::forget(asked);
     told
 }
 
 /// A call that tells the note of an index.
-pub fn notes(alloc: Global, heap: &mut Heap, event: Event<u64>, index: usize, out: &mut u32) -> u32
-    requires plain { is_plain event ≡ true }
-    requires kind { kind_asked (ask_of event) ≡ is_notes }
-    ensures { GivesNote index heap.old.value event result out.old out.new heap.new.value }
+pub fn notes(alloc: Global, heap: &mut Heap, asked: Ask, index: usize, out: &mut u32) -> u32
+    requires plain { carries_none asked ≡ true }
+    requires kind { kind_asked (Some asked) ≡ is_notes }
+    ensures { GivesNote index heap.old.value (Event.Ask asked) result out.old out.new heap.new.value }
 {
-    let told = match ask(alloc, heap, &event) {
+    let told = match ask(alloc, heap, &asked) {
         Some(answer) => tell::note(&answer, index, out),
         None => CLOSED,
     };
-    mem::forget(event);
+    mem::forget(asked);
     told
 }
 
 /// A call that tells the failure of an index.
-pub fn failures(
-    alloc: Global,
-    heap: &mut Heap,
-    event: Event<u64>,
-    index: usize,
-    out: &mut Failed,
-) -> u32
-    requires plain { is_plain event ≡ true }
-    requires kind { kind_asked (ask_of event) ≡ is_faults }
-    ensures { GivesFailure index heap.old.value event result out.old out.new heap.new.value }
+pub fn failures(alloc: Global, heap: &mut Heap, asked: Ask, index: usize, out: &mut Failed) -> u32
+    requires plain { carries_none asked ≡ true }
+    requires kind { kind_asked (Some asked) ≡ is_faults }
+    ensures { GivesFailure index heap.old.value (Event.Ask asked) result out.old out.new heap.new.value }
 {
-    let told = match ask(alloc, heap, &event) {
+    let told = match ask(alloc, heap, &asked) {
         Some(answer) => tell::failure(&answer, index, out),
         None => CLOSED,
     };
-    mem::forget(event);
+    mem::forget(asked);
     told
 }
 

@@ -5,7 +5,7 @@ ghost use Rattle.jlr_handle.specs.Tells.{TellsCounts, TellsEnd, TellsFault, Tell
 
 use crate::out::{Counts, Failed, Taken};
 use crate::status::IDLE;
-use jlr_machine::ask::{Answer, Handed};
+use jlr_machine::ask::{Answer, Handed, Outcome};
 use jlr_types::{ActionNo, Fault, Progress, Work};
 
 /// How a call ended.
@@ -261,14 +261,14 @@ pub fn fault(number: u32) -> Option<Fault>
 }
 
 /// How something ended: well, by 0, or by the fault of a number, 1 to 3.
-pub fn outcome(number: u32) -> Option<Result<(), Fault>>
+pub fn outcome(number: u32) -> Option<Outcome>
     ensures { result ≡ outcome_numbered number }
 {
     if number == 0 {
-        return Some(Ok(()));
+        return Some(Outcome::Ok);
     }
     match fault(number) {
-        Some(fault) => Some(Err(fault)),
+        Some(fault) => Some(Outcome::Failed(fault)),
         None => None,
     }
 }

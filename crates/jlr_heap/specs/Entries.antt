@@ -4,10 +4,12 @@ use Rattle.std.specs.Prelude.{◌≡◌, ℕ, ℤ, Bool, true, List, Option, Som
 use Rattle.jlr_types.specs.declared.Refusal.{Refusal}
 use Rattle.jlr_machine.specs.declared.ask.Stat.{Stat as Counts}
 use Rattle.jlr_machine.specs.declared.machine.Failure.{Failure}
+use Rattle.jlr_machine.specs.declared.ask.Ask.{Ask}
+use Rattle.jlr_machine.specs.declared.ask.Ask.TheVariants.{Join}
 use Rattle.jlr_machine.specs.declared.ask.Answer.{Answer}
 use Rattle.jlr_machine.specs.declared.ask.Answer.TheVariants as answer
 use Rattle.jlr_event.specs.declared.event.Event.{Event}
-use Rattle.jlr_event.specs.declared.event.Event.TheVariants.{Join}
+use Rattle.jlr_event.specs.declared.event.Event.TheVariants.{Ask as Asks}
 use Rattle.jlr_event.specs.declared.event.Reply.{Reply}
 use Rattle.jlr_event.specs.declared.event.Reply.TheVariants.{Answered}
 use Rattle.jlr_core.specs.Cores.{Kept}
@@ -29,9 +31,9 @@ module _ {K R : Type 0} (asking : Asking K R) where
   abbrev pub IsReplied : Heap K → Event R → Reply R → Heap K → Type 0
   IsReplied old event reply new = (between : K) × asking.asks old.keeper event reply between × Follows old between new
 
-  -- the same of one with which nothing goes out
-  abbrev pub IsEntry : Heap K → Event R → Answer → Heap K → Type 0
-  IsEntry old event answer new = IsReplied old event (Answered answer None) new
+  -- the same of an ask with which nothing comes in or goes out
+  abbrev pub IsEntry : Heap K → Ask → Answer → Heap K → Type 0
+  IsEntry old ask answer new = IsReplied old (Asks ask) (Answered answer None) new
 
 -- the handle that a call was given for null
 abbrev pub or_null : Option ℕ → ℕ
@@ -79,8 +81,8 @@ Ends (Err by) told = told ≡ answer.Refused by
 Ends (Ok done) (answer.Refused by) = ⊥
 Ends (Ok done) told = Unit {0}
 
-abbrev pub IsDone : {K R : Type 0} → Asking K R → Heap K → Event R → Result (Unit {0}) Refusal → Heap K → Type 0
-IsDone asking old event result new = (answer : Answer) × IsEntry asking old event answer new × Ends result answer
+abbrev pub IsDone : {K R : Type 0} → Asking K R → Heap K → Ask → Result (Unit {0}) Refusal → Heap K → Type 0
+IsDone asking old ask result new = (answer : Answer) × IsEntry asking old ask answer new × Ends result answer
 
 -- ---- The beginning: mutator 0 joins
 

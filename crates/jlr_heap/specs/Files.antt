@@ -1,6 +1,7 @@
 -- Calls on guarded files and sockets: the two asks of their command, and between them one call of the system.
 use Rattle.std.specs.Prelude.{◌≡◌, ℕ, Bool, true, false, List, None, Result, Ok, Err, ⊤}
 use Rattle.jlr_types.specs.declared.Fault.{Fault}
+use Rattle.jlr_machine.specs.declared.ask.Ask.{Ask}
 use Rattle.jlr_machine.specs.declared.ask.Answer.{Answer}
 use Rattle.jlr_machine.specs.declared.ask.Answer.TheVariants as answer
 use Rattle.jlr_machine.specs.declared.ask.CallOutcome.{CallOutcome}
@@ -8,7 +9,7 @@ use Rattle.jlr_machine.specs.declared.ask.CallOutcome.TheVariants.{Data, Failed,
 use Rattle.jlr_device.specs.Handling.{Handling}
 use Rattle.jlr_device.specs.declared.device.Mode.{Mode}
 use Rattle.jlr_event.specs.declared.event.Event.{Event}
-use Rattle.jlr_event.specs.declared.event.Event.TheVariants.{CheckOut, Close, Prepare}
+use Rattle.jlr_machine.specs.declared.ask.Ask.TheVariants.{CheckOut, Close, Prepare}
 use Rattle.jlr_event.specs.declared.event.Reply.{Reply}
 use Rattle.jlr_event.specs.declared.event.Reply.TheVariants.{Answered}
 use Rattle.jlr_session.specs.Calls.{Opening}
@@ -70,11 +71,11 @@ module _ {K R : Type 0} (asking : Asking K R) where
   IsEntered said_of old event result new = asking.asks old event (Answered (said_of result) None) new
 
   -- An ask. Where its reply leads on, what it gives comes to a second ask. The result tells the last answer
-  abbrev pub IsAskedTwice : {X T : Type 0} → Event R → (Reply R → Result X Answer) → (X → Event R → Type 0) → Type 0 → (T → Answer → Type 0) → K → T → K → Type 0
+  abbrev pub IsAskedTwice : {X T : Type 0} → Ask → (Reply R → Result X Answer) → (X → Event R → Type 0) → Type 0 → (T → Answer → Type 0) → K → T → K → Type 0
   IsAskedTwice first leads comes_to rests tells old result new = (said : Answer) × AsksTwice asking first leads comes_to rests old said new × tells result said
 
   -- that, and what follows a call
-  abbrev pub IsCommand : {X T : Type 0} → Event R → (Reply R → Result X Answer) → (X → Event R → Type 0) → Type 0 → (T → Answer → Type 0) → Heap K → T → Heap K → Type 0
+  abbrev pub IsCommand : {X T : Type 0} → Ask → (Reply R → Result X Answer) → (X → Event R → Type 0) → Type 0 → (T → Answer → Type 0) → Heap K → T → Heap K → Type 0
   IsCommand first leads comes_to rests tells old result new =
       (between : K) × IsAskedTwice first leads comes_to rests tells old.keeper result between × Follows asking old between new
 

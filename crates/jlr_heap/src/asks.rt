@@ -6,8 +6,7 @@ ghost use Rattle.jlr_heap.specs.Entries.{integer, names, notes, or_null, truth};
 use crate::handles::{Cleanable, Cleaner, Queue, Reference};
 use crate::heap::{Heap, me};
 use crate::keeper::Keeper;
-use jlr_event::event::Event;
-use jlr_machine::ask::{FullMode, Stat};
+use jlr_machine::ask::{Ask, FullMode, Stat};
 use jlr_machine::items::Items;
 use jlr_machine::machine::Failure;
 use jlr_machine::text::Name;
@@ -26,9 +25,9 @@ fn null_or(queue: Option<Queue>) -> Handle
 impl<K: Keeper> Heap<K> {
     /// A plain object of a layout: its reference fields null, its integer fields 0.
     pub fn object(&mut self, layout: Layout) -> Result<Handle, Refusal>
-        ensures { IsEntry K.asking self.old (Event.New 0 layout) (handle result) self.new }
+        ensures { IsEntry K.asking self.old (Ask.New 0 layout) (handle result) self.new }
     {
-        self.gives(Event::New {
+        self.gives(Ask::New {
             mutator: me(),
             layout,
         })
@@ -36,9 +35,9 @@ impl<K: Keeper> Heap<K> {
 
     /// An array of references, each element null. It takes memory.
     pub fn array(&mut self, length: Length) -> Result<Handle, Refusal>
-        ensures { IsEntry K.asking self.old (Event.Array 0 length) (handle result) self.new }
+        ensures { IsEntry K.asking self.old (Ask.Array 0 length) (handle result) self.new }
     {
-        self.gives(Event::Array {
+        self.gives(Ask::Array {
             mutator: me(),
             length,
         })
@@ -46,9 +45,9 @@ impl<K: Keeper> Heap<K> {
 
     /// A second handle for an object.
     pub fn dup(&mut self, object: Handle) -> Result<Handle, Refusal>
-        ensures { IsEntry K.asking self.old (Event.Dup 0 object) (handle result) self.new }
+        ensures { IsEntry K.asking self.old (Ask.Dup 0 object) (handle result) self.new }
     {
-        self.gives(Event::Dup {
+        self.gives(Ask::Dup {
             mutator: me(),
             object,
         })
@@ -56,9 +55,9 @@ impl<K: Keeper> Heap<K> {
 
     /// A handle is dropped.
     pub fn drop(&mut self, object: Handle) -> Result<(), Refusal>
-        ensures { IsDone K.asking self.old (Event.Drop 0 object) result self.new }
+        ensures { IsDone K.asking self.old (Ask.Drop 0 object) result self.new }
     {
-        self.does(Event::Drop {
+        self.does(Ask::Drop {
             mutator: me(),
             object,
         })
@@ -66,9 +65,9 @@ impl<K: Keeper> Heap<K> {
 
     /// Whether two handles name one object.
     pub fn same(&mut self, left: Handle, right: Handle) -> Result<bool, Refusal>
-        ensures { IsEntry K.asking self.old (Event.Same 0 left right) (truth result) self.new }
+        ensures { IsEntry K.asking self.old (Ask.Same 0 left right) (truth result) self.new }
     {
-        self.tells(Event::Same {
+        self.tells(Ask::Same {
             mutator: me(),
             left,
             right,
@@ -77,9 +76,9 @@ impl<K: Keeper> Heap<K> {
 
     /// A reference field or an element is written. Null is handle 0.
     pub fn put(&mut self, object: Handle, field: FieldNo, value: Handle) -> Result<(), Refusal>
-        ensures { IsDone K.asking self.old (Event.Put 0 object field value) result self.new }
+        ensures { IsDone K.asking self.old (Ask.Put 0 object field value) result self.new }
     {
-        self.does(Event::Put {
+        self.does(Ask::Put {
             mutator: me(),
             object,
             field,
@@ -89,9 +88,9 @@ impl<K: Keeper> Heap<K> {
 
     /// A reference field or an element is read.
     pub fn get(&mut self, object: Handle, field: FieldNo) -> Result<Option<Handle>, Refusal>
-        ensures { IsEntry K.asking self.old (Event.Get 0 object field) (handle_or_null result) self.new }
+        ensures { IsEntry K.asking self.old (Ask.Get 0 object field) (handle_or_null result) self.new }
     {
-        self.gives_or_null(Event::Get {
+        self.gives_or_null(Ask::Get {
             mutator: me(),
             object,
             field,
@@ -100,9 +99,9 @@ impl<K: Keeper> Heap<K> {
 
     /// An integer field is written.
     pub fn set_int(&mut self, object: Handle, field: FieldNo, value: i64) -> Result<(), Refusal>
-        ensures { IsDone K.asking self.old (Event.SetInt 0 object field value) result self.new }
+        ensures { IsDone K.asking self.old (Ask.SetInt 0 object field value) result self.new }
     {
-        self.does(Event::SetInt {
+        self.does(Ask::SetInt {
             mutator: me(),
             object,
             field,
@@ -112,9 +111,9 @@ impl<K: Keeper> Heap<K> {
 
     /// An integer field is read.
     pub fn int(&mut self, object: Handle, field: FieldNo) -> Result<i64, Refusal>
-        ensures { IsEntry K.asking self.old (Event.Int 0 object field) (integer result) self.new }
+        ensures { IsEntry K.asking self.old (Ask.Int 0 object field) (integer result) self.new }
     {
-        self.reads(Event::Int {
+        self.reads(Ask::Int {
             mutator: me(),
             object,
             field,
@@ -123,10 +122,10 @@ impl<K: Keeper> Heap<K> {
 
     /// A soft reference to an object, on a queue or none.
     pub fn soft(&mut self, referent: Handle, queue: Option<Queue>) -> Result<Reference, Refusal>
-        ensures { IsEntry K.asking self.old (Event.MakeRef 0 RefKind.Soft referent (or_null queue)) (handle result)
+        ensures { IsEntry K.asking self.old (Ask.MakeRef 0 RefKind.Soft referent (or_null queue)) (handle result)
             self.new }
     {
-        match self.gives(Event::MakeRef {
+        match self.gives(Ask::MakeRef {
             mutator: me(),
             kind: RefKind::Soft,
             referent,
@@ -139,10 +138,10 @@ impl<K: Keeper> Heap<K> {
 
     /// A weak reference to an object, on a queue or none.
     pub fn weak(&mut self, referent: Handle, queue: Option<Queue>) -> Result<Reference, Refusal>
-        ensures { IsEntry K.asking self.old (Event.MakeRef 0 RefKind.Weak referent (or_null queue)) (handle result)
+        ensures { IsEntry K.asking self.old (Ask.MakeRef 0 RefKind.Weak referent (or_null queue)) (handle result)
             self.new }
     {
-        match self.gives(Event::MakeRef {
+        match self.gives(Ask::MakeRef {
             mutator: me(),
             kind: RefKind::Weak,
             referent,
@@ -155,10 +154,10 @@ impl<K: Keeper> Heap<K> {
 
     /// A phantom reference to an object, on a queue or none.
     pub fn phantom(&mut self, referent: Handle, queue: Option<Queue>) -> Result<Reference, Refusal>
-        ensures { IsEntry K.asking self.old (Event.MakeRef 0 RefKind.Phantom referent (or_null queue)) (handle result)
+        ensures { IsEntry K.asking self.old (Ask.MakeRef 0 RefKind.Phantom referent (or_null queue)) (handle result)
             self.new }
     {
-        match self.gives(Event::MakeRef {
+        match self.gives(Ask::MakeRef {
             mutator: me(),
             kind: RefKind::Phantom,
             referent,
@@ -171,9 +170,9 @@ impl<K: Keeper> Heap<K> {
 
     /// What a reference refers to; none where it is cleared, and of a phantom one always.
     pub fn deref(&mut self, reference: Reference) -> Result<Option<Handle>, Refusal>
-        ensures { IsEntry K.asking self.old (Event.Deref 0 reference) (handle_or_null result) self.new }
+        ensures { IsEntry K.asking self.old (Ask.Deref 0 reference) (handle_or_null result) self.new }
     {
-        self.gives_or_null(Event::Deref {
+        self.gives_or_null(Ask::Deref {
             mutator: me(),
             reference: reference.handle(),
         })
@@ -181,9 +180,9 @@ impl<K: Keeper> Heap<K> {
 
     /// Whether a reference refers to this object, or, for handle 0, to none.
     pub fn refers(&mut self, reference: Reference, object: Handle) -> Result<bool, Refusal>
-        ensures { IsEntry K.asking self.old (Event.Refers 0 reference object) (truth result) self.new }
+        ensures { IsEntry K.asking self.old (Ask.Refers 0 reference object) (truth result) self.new }
     {
-        self.tells(Event::Refers {
+        self.tells(Ask::Refers {
             mutator: me(),
             reference: reference.handle(),
             object,
@@ -192,9 +191,9 @@ impl<K: Keeper> Heap<K> {
 
     /// A reference is cleared, and comes to no queue.
     pub fn clear(&mut self, reference: Reference) -> Result<(), Refusal>
-        ensures { IsDone K.asking self.old (Event.Clear 0 reference) result self.new }
+        ensures { IsDone K.asking self.old (Ask.Clear 0 reference) result self.new }
     {
-        self.does(Event::Clear {
+        self.does(Ask::Clear {
             mutator: me(),
             reference: reference.handle(),
         })
@@ -202,9 +201,9 @@ impl<K: Keeper> Heap<K> {
 
     /// A reference is cleared and put on its queue: whether it had one that it was never on.
     pub fn enqueue(&mut self, reference: Reference) -> Result<bool, Refusal>
-        ensures { IsEntry K.asking self.old (Event.Enqueue 0 reference) (truth result) self.new }
+        ensures { IsEntry K.asking self.old (Ask.Enqueue 0 reference) (truth result) self.new }
     {
-        self.tells(Event::Enqueue {
+        self.tells(Ask::Enqueue {
             mutator: me(),
             reference: reference.handle(),
         })
@@ -212,9 +211,9 @@ impl<K: Keeper> Heap<K> {
 
     /// Whether a reference is on its queue.
     pub fn enqueued(&mut self, reference: Reference) -> Result<bool, Refusal>
-        ensures { IsEntry K.asking self.old (Event.Enqueued 0 reference) (truth result) self.new }
+        ensures { IsEntry K.asking self.old (Ask.Enqueued 0 reference) (truth result) self.new }
     {
-        self.tells(Event::Enqueued {
+        self.tells(Ask::Enqueued {
             mutator: me(),
             reference: reference.handle(),
         })
@@ -222,9 +221,9 @@ impl<K: Keeper> Heap<K> {
 
     /// A queue.
     pub fn queue(&mut self) -> Result<Queue, Refusal>
-        ensures { IsEntry K.asking self.old (Event.MakeQueue 0) (handle result) self.new }
+        ensures { IsEntry K.asking self.old (Ask.MakeQueue 0) (handle result) self.new }
     {
-        match self.gives(Event::MakeQueue { mutator: me() }) {
+        match self.gives(Ask::MakeQueue { mutator: me() }) {
             Ok(handle) => Ok(Queue::of(handle)),
             Err(by) => Err(by),
         }
@@ -232,9 +231,9 @@ impl<K: Keeper> Heap<K> {
 
     /// The oldest member is taken off a queue, if there is one.
     pub fn poll(&mut self, queue: Queue) -> Result<Option<Handle>, Refusal>
-        ensures { IsEntry K.asking self.old (Event.Poll 0 queue) (handle_or_null result) self.new }
+        ensures { IsEntry K.asking self.old (Ask.Poll 0 queue) (handle_or_null result) self.new }
     {
-        self.gives_or_null(Event::Poll {
+        self.gives_or_null(Ask::Poll {
             mutator: me(),
             queue: queue.handle(),
         })
@@ -242,9 +241,9 @@ impl<K: Keeper> Heap<K> {
 
     /// The oldest member is taken off a queue. On an empty queue it is refused `WouldWait`.
     pub fn remove(&mut self, queue: Queue) -> Result<Handle, Refusal>
-        ensures { IsEntry K.asking self.old (Event.Remove 0 queue) (handle result) self.new }
+        ensures { IsEntry K.asking self.old (Ask.Remove 0 queue) (handle result) self.new }
     {
-        self.gives(Event::Remove {
+        self.gives(Ask::Remove {
             mutator: me(),
             queue: queue.handle(),
         })
@@ -252,9 +251,9 @@ impl<K: Keeper> Heap<K> {
 
     /// A cleaner.
     pub fn cleaner(&mut self) -> Result<Cleaner, Refusal>
-        ensures { IsEntry K.asking self.old (Event.MakeCleaner 0) (handle result) self.new }
+        ensures { IsEntry K.asking self.old (Ask.MakeCleaner 0) (handle result) self.new }
     {
-        match self.gives(Event::MakeCleaner { mutator: me() }) {
+        match self.gives(Ask::MakeCleaner { mutator: me() }) {
             Ok(handle) => Ok(Cleaner::of(handle)),
             Err(by) => Err(by),
         }
@@ -267,9 +266,9 @@ impl<K: Keeper> Heap<K> {
         object: Handle,
         note: u32,
     ) -> Result<Cleanable, Refusal>
-        ensures { IsEntry K.asking self.old (Event.Register 0 cleaner object note) (handle result) self.new }
+        ensures { IsEntry K.asking self.old (Ask.Register 0 cleaner object note) (handle result) self.new }
     {
-        match self.gives(Event::Register {
+        match self.gives(Ask::Register {
             mutator: me(),
             cleaner: cleaner.handle(),
             object,
@@ -282,9 +281,9 @@ impl<K: Keeper> Heap<K> {
 
     /// A full collection, which keeps soft references by their age.
     pub fn gc(&mut self) -> Result<(), Refusal>
-        ensures { IsDone K.asking self.old (Event.Full 0 FullMode.Policy) result self.new }
+        ensures { IsDone K.asking self.old (Ask.Full 0 FullMode.Policy) result self.new }
     {
-        self.does(Event::Full {
+        self.does(Ask::Full {
             mutator: me(),
             mode: FullMode::Policy,
         })
@@ -292,9 +291,9 @@ impl<K: Keeper> Heap<K> {
 
     /// A full collection that clears all soft references that it may.
     pub fn gc_soft(&mut self) -> Result<(), Refusal>
-        ensures { IsDone K.asking self.old (Event.Full 0 FullMode.ClearAll) result self.new }
+        ensures { IsDone K.asking self.old (Ask.Full 0 FullMode.ClearAll) result self.new }
     {
-        self.does(Event::Full {
+        self.does(Ask::Full {
             mutator: me(),
             mode: FullMode::ClearAll,
         })
@@ -302,9 +301,9 @@ impl<K: Keeper> Heap<K> {
 
     /// A name is bound to an object.
     pub fn bind(&mut self, name: Name, object: Handle) -> Result<(), Refusal>
-        ensures { IsDone K.asking self.old (Event.Bind 0 name object) result self.new }
+        ensures { IsDone K.asking self.old (Ask.Bind 0 name object) result self.new }
     {
-        self.does(Event::Bind {
+        self.does(Ask::Bind {
             mutator: me(),
             name,
             object,
@@ -313,9 +312,9 @@ impl<K: Keeper> Heap<K> {
 
     /// A handle for what a name stands for.
     pub fn find(&mut self, name: Name) -> Result<Handle, Refusal>
-        ensures { IsEntry K.asking self.old (Event.Find 0 name) (handle result) self.new }
+        ensures { IsEntry K.asking self.old (Ask.Find 0 name) (handle result) self.new }
     {
-        self.gives(Event::Find {
+        self.gives(Ask::Find {
             mutator: me(),
             name,
         })
@@ -323,9 +322,9 @@ impl<K: Keeper> Heap<K> {
 
     /// A name is given up.
     pub fn unbind(&mut self, name: Name) -> Result<(), Refusal>
-        ensures { IsDone K.asking self.old (Event.Unbind 0 name) result self.new }
+        ensures { IsDone K.asking self.old (Ask.Unbind 0 name) result self.new }
     {
-        self.does(Event::Unbind {
+        self.does(Ask::Unbind {
             mutator: me(),
             name,
         })
@@ -333,29 +332,29 @@ impl<K: Keeper> Heap<K> {
 
     /// Counts.
     pub fn stat(&mut self) -> Result<Stat, Refusal>
-        ensures { IsEntry K.asking self.old (Event.Stat 0) (counts result) self.new }
+        ensures { IsEntry K.asking self.old (Ask.Stat 0) (counts result) self.new }
     {
-        self.counted(Event::Stat { mutator: me() })
+        self.counted(Ask::Stat { mutator: me() })
     }
 
     /// The names that are bound. It takes memory.
     pub fn names(&mut self) -> Result<Items<Name>, Refusal>
-        ensures { IsEntry K.asking self.old (Event.Names 0) (names result) self.new }
+        ensures { IsEntry K.asking self.old (Ask.Names 0) (names result) self.new }
     {
-        self.named(Event::Names { mutator: me() })
+        self.named(Ask::Names { mutator: me() })
     }
 
     /// The notes of the actions that ended, in the order in which they did. It takes memory.
     pub fn notes(&mut self) -> Result<Items<u32>, Refusal>
-        ensures { IsEntry K.asking self.old (Event.Notes 0) (notes result) self.new }
+        ensures { IsEntry K.asking self.old (Ask.Notes 0) (notes result) self.new }
     {
-        self.noted(Event::Notes { mutator: me() })
+        self.noted(Ask::Notes { mutator: me() })
     }
 
     /// The actions that failed, and how. It takes memory.
     pub fn faults(&mut self) -> Result<Items<Failure>, Refusal>
-        ensures { IsEntry K.asking self.old (Event.Faults 0) (faults result) self.new }
+        ensures { IsEntry K.asking self.old (Ask.Faults 0) (faults result) self.new }
     {
-        self.failed(Event::Faults { mutator: me() })
+        self.failed(Ask::Faults { mutator: me() })
     }
 }

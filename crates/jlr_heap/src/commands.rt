@@ -1,6 +1,8 @@
 //! The commands on files and sockets: at most two asks, and between them one call of the system.
 ghost use Rattle.std.specs.Prelude.{◌≡◌, ◌≤◌, true, length, ⊤};
 ghost use Rattle.jlr_event.specs.declared.event.Event.TheVariants as event;
+ghost use Rattle.jlr_machine.specs.declared.ask.Ask.TheVariants as ask;
+ghost use Rattle.jlr_event.specs.Events.{outcome_of};
 ghost use Rattle.jlr_session.specs.Calls.{Reads, Writes};
 ghost use Rattle.jlr_session.specs.Asks.{TellsConnected, TellsFinished, TellsOpened, TellsRead, TellsWritten};
 ghost use Rattle.jlr_session.specs.Asks.{job_by, out_by, prepared_by};
@@ -15,7 +17,7 @@ use crate::keeper::Keeper;
 use jlr_device::guarded::{guarded_connect, guarded_open, guarded_read, guarded_write};
 use jlr_device::{Device, Mode, Resource};
 use jlr_event::event::Event;
-use jlr_machine::ask::{Answer, CallOutcome};
+use jlr_machine::ask::{Answer, Ask, CallOutcome, Outcome};
 use jlr_machine::data::{CopyRoom, Data};
 use jlr_machine::text::WriteCount;
 use jlr_session::job::finish;
@@ -192,22 +194,22 @@ pub(crate) fn finished<K: Keeper>(
     action: ActionNo,
     outcome: Result<(), Fault>,
 ) -> Result<(), Failed>
-    ensures { IsEntered K.asking finish_told keeper.old (event.Finish by action outcome) result keeper.new }
+    ensures { IsEntered K.asking finish_told keeper.old (event.Ask (ask.Finish by action (outcome_of outcome))) result keeper.new }
 {
     match outcome {
         Ok(()) => {
-            let answer = keeper.ask(Event::Finish {
+            let answer = keeper.ask(Ask::Finish {
                 by,
                 action,
-                outcome: Ok(()),
+                outcome: Outcome::Ok,
             });
             done(&answer)
         }
         Err(fault) => {
-            let answer = keeper.ask(Event::Finish {
+            let answer = keeper.ask(Ask::Finish {
                 by,
                 action,
-                outcome: Err(fault),
+                outcome: Outcome::Failed(fault),
             });
             Err(failure(&answer))
         }
@@ -259,13 +261,13 @@ pub(crate) fn open<K: Keeper, D: Device<Res = K::Held>>(
 ) -> Result<Guard, Failed>
 where
     K::Held: Resource,
-    ensures { IsAskedTwice K.asking (event.Prepare 0) prepared_by
+    ensures { IsAskedTwice K.asking (ask.Prepare 0) prepared_by
         (λ _. TellsOpened
         (record { count = D.count; opens = D.may_open; connects = D.may_connect; failures = K.Held.handling.count })
         0 mode path.now device.old device.new)
         (device.new ≡ device.old) (λ result said. said ≡ guard_told result) keeper.old result keeper.new }
 {
-    match keeper.ask(Event::Prepare { mutator: me() }) {
+    match keeper.ask(Ask::Prepare { mutator: me() }) {
         Answer::Prepared(_) => {
             let outcome = guarded_open(device, mode, path);
             opened(keeper, outcome)
@@ -283,13 +285,13 @@ pub(crate) fn connect<K: Keeper, D: Device<Res = K::Held>>(
 ) -> Result<Guard, Failed>
 where
     K::Held: Resource,
-    ensures { IsAskedTwice K.asking (event.Prepare 0) prepared_by
+    ensures { IsAskedTwice K.asking (ask.Prepare 0) prepared_by
         (λ _. TellsConnected
         (record { count = D.count; opens = D.may_open; connects = D.may_connect; failures = K.Held.handling.count })
         0 path.now device.old device.new)
         (device.new ≡ device.old) (λ result said. said ≡ guard_told result) keeper.old result keeper.new }
 {
-    match keeper.ask(Event::Prepare { mutator: me() }) {
+    match keeper.ask(Ask::Prepare { mutator: me() }) {
         Answer::Prepared(_) => {
             let outcome = guarded_connect(device, path);
             opened(keeper, outcome)
@@ -310,14 +312,14 @@ pub(crate) fn read<K: Keeper, D: Device<Res = K::Held>>(
 ) -> Result<Data, Failed>
 where
     K::Held: Resource,
-    ensures { IsAskedTwice K.asking (event.CheckOut 0 guard) out_by (TellsRead K.Held.handling 0 count) ⊤
+    ensures { IsAskedTwice K.asking (ask.CheckOut 0 guard) out_by (TellsRead K.Held.handling 0 count) ⊤
         (λ result said. said ≡ data_told result) keeper.old result keeper.new }
 {
     let (answer, held) = keeper.carry(
-        Event::CheckOut {
+        Event::ask(Ask::CheckOut {
             mutator: me(),
             guard,
-        },
+        }),
         None,
     );
     match answer {
@@ -344,14 +346,14 @@ pub(crate) fn write<K: Keeper, D: Device<Res = K::Held>>(
 where
     K::Held: Resource,
     requires { length bytes.now ≤ 200 }
-    ensures { IsAskedTwice K.asking (event.CheckOut 0 guard) out_by (TellsWritten K.Held.handling 0 bytes.now) ⊤
+    ensures { IsAskedTwice K.asking (ask.CheckOut 0 guard) out_by (TellsWritten K.Held.handling 0 bytes.now) ⊤
         (λ result said. said ≡ count_told result) keeper.old result keeper.new }
 {
     let (answer, held) = keeper.carry(
-        Event::CheckOut {
+        Event::ask(Ask::CheckOut {
             mutator: me(),
             guard,
-        },
+        }),
         None,
     );
     match answer {
@@ -372,14 +374,14 @@ where
 pub(crate) fn close<K: Keeper>(keeper: &mut K, guard: Handle) -> Result<bool, Failed>
 where
     K::Held: Resource,
-    ensures { IsAskedTwice K.asking (event.Close 0 guard) job_by (TellsFinished K.Held.handling 0) ⊤ TellsClosed
+    ensures { IsAskedTwice K.asking (ask.Close 0 guard) job_by (TellsFinished K.Held.handling 0) ⊤ TellsClosed
         keeper.old result keeper.new }
 {
     let (answer, held) = keeper.carry(
-        Event::Close {
+        Event::ask(Ask::Close {
             mutator: me(),
             guard,
-        },
+        }),
         None,
     );
     match answer {

@@ -1,6 +1,7 @@
 //! Guarded files and sockets: what opens, reads, writes and closes them.
 ghost use Rattle.std.specs.Prelude.{Result, Some, length, min, take};
 ghost use Rattle.jlr_types.specs.declared.Fault.{Fault as Why};
+ghost use Rattle.jlr_event.specs.Events.{outcome_of};
 ghost use Rattle.jlr_session.specs.Calls.{Finishes};
 ghost use Rattle.jlr_heap.specs.Entries.{IsEntry};
 ghost use Rattle.jlr_heap.specs.Files.{IsClosed, IsConnected, IsOpened, IsRead, IsWritten, finish_told};
@@ -11,7 +12,7 @@ use crate::handles::Guard;
 use crate::heap::Heap;
 use crate::keeper::Keeper;
 use jlr_device::{Device, Mode, Resource};
-use jlr_event::event::Event;
+use jlr_machine::ask::Ask;
 use jlr_machine::data::{CopyRoom, Data};
 use jlr_machine::text::WriteCount;
 use jlr_session::job::finish;
@@ -142,7 +143,7 @@ where
     /// A job of `next_job` is done: what a guard that was reclaimed held is finished, and how that ended is told.
     pub fn finish_held(&mut self, action: ActionNo, held: K::Held) -> Result<(), Failed>
         ensures { (outcome : Result (Unit {0}) Why) × Finishes K.Held.handling (Some held) outcome
-            × IsEntry K.asking self.old (Event.Finish 255 action outcome) (finish_told result) self.new }
+            × IsEntry K.asking self.old (Ask.Finish 255 action (outcome_of outcome)) (finish_told result) self.new }
     {
         let outcome = finish(Some(held));
         let result = finished(&mut self.keeper, 255, action, outcome);

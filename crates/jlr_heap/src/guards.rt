@@ -1,6 +1,7 @@
 //! Guards over what is the program's own, and jobs.
 ghost use Rattle.std.specs.Prelude.{◌≡◌, Err, Ok, false};
 ghost use Rattle.jlr_machine.specs.Data.{is_data};
+ghost use Rattle.jlr_event.specs.Events.{outcome_of};
 ghost use Rattle.jlr_heap.specs.Entries.{Ends, IsDone};
 ghost use Rattle.jlr_heap.specs.Guards.{IsTold, TellsBack, TellsGuarded, TellsJob, TellsLent, call_outcome};
 
@@ -9,8 +10,8 @@ use crate::heap::{Heap, me};
 use crate::jobs::{Declined, Job, given_back, lent, taken};
 use crate::keeper::Keeper;
 use crate::told;
-use jlr_event::event::Event;
-use jlr_machine::ask::{Answer, CallOutcome};
+use jlr_event::event::{Event, ended};
+use jlr_machine::ask::{Answer, Ask, CallOutcome};
 use jlr_machine::text::WriteCount;
 use jlr_types::{ActionNo, Fault, Refusal};
 
@@ -39,9 +40,9 @@ impl<K: Keeper> Heap<K> {
     /// Room is made for one thing more that a guard holds. It may take memory. Nothing else is asked before `adopt` or
     /// `give_up`.
     pub fn prepare(&mut self) -> Result<(), Refusal>
-        ensures { IsDone K.asking self.old (Event.Prepare 0) result self.new }
+        ensures { IsDone K.asking self.old (Ask.Prepare 0) result self.new }
     {
-        self.does(Event::Prepare { mutator: me() })
+        self.does(Ask::Prepare { mutator: me() })
     }
 
     /// Something is handed in: its guard.
@@ -84,13 +85,13 @@ impl<K: Keeper> Heap<K> {
 
     /// What a guard holds is lent, and nothing else asked, until `check_in`.
     pub fn check_out(&mut self, guard: Guard) -> Result<K::Held, Refusal>
-        ensures { IsTold K.asking TellsLent self.old (Event.CheckOut 0 guard) result self.new }
+        ensures { IsTold K.asking TellsLent self.old (Event.Ask (Ask.CheckOut 0 guard)) result self.new }
     {
         let (answer, held) = self.keeper.carry(
-            Event::CheckOut {
+            Event::ask(Ask::CheckOut {
                 mutator: me(),
                 guard: guard.handle(),
-            },
+            }),
             None,
         );
         self.follow();
@@ -126,13 +127,13 @@ impl<K: Keeper> Heap<K> {
     /// A guard is closed, and what it held given back for good; none where it was given back before. Nothing else is
     /// asked before `finish`.
     pub fn stop(&mut self, guard: Guard) -> Result<Option<Job<K::Held>>, Refusal>
-        ensures { IsTold K.asking TellsJob self.old (Event.Close 0 guard) result self.new }
+        ensures { IsTold K.asking TellsJob self.old (Event.Ask (Ask.Close 0 guard)) result self.new }
     {
         let (answer, held) = self.keeper.carry(
-            Event::Close {
+            Event::ask(Ask::Close {
                 mutator: me(),
                 guard: guard.handle(),
-            },
+            }),
             None,
         );
         self.follow();
@@ -141,13 +142,13 @@ impl<K: Keeper> Heap<K> {
 
     /// An action is taken up now; none where it was taken up before. Nothing else is asked before `finish`.
     pub fn clean(&mut self, cleanable: Cleanable) -> Result<Option<Job<K::Held>>, Refusal>
-        ensures { IsTold K.asking TellsJob self.old (Event.Clean 0 cleanable) result self.new }
+        ensures { IsTold K.asking TellsJob self.old (Event.Ask (Ask.Clean 0 cleanable)) result self.new }
     {
         let (answer, held) = self.keeper.carry(
-            Event::Clean {
+            Event::ask(Ask::Clean {
                 mutator: me(),
                 cleanable: cleanable.handle(),
-            },
+            }),
             None,
         );
         self.follow();
@@ -157,9 +158,9 @@ impl<K: Keeper> Heap<K> {
     /// The next action in line, whose object was reclaimed; none where nothing stands in line. Its end is told by
     /// `finish_cleaner`.
     pub fn next_job(&mut self) -> Result<Option<Job<K::Held>>, Refusal>
-        ensures { IsTold K.asking TellsJob self.old Event.TakeUp result self.new }
+        ensures { IsTold K.asking TellsJob self.old (Event.Ask Ask.TakeUp) result self.new }
     {
-        let (answer, held) = self.keeper.carry(Event::TakeUp, None);
+        let (answer, held) = self.keeper.carry(Event::ask(Ask::TakeUp), None);
         self.follow();
         taken(&answer, held)
     }
@@ -168,25 +169,25 @@ impl<K: Keeper> Heap<K> {
     pub fn finish_cleaner(
         &mut self,
         action: ActionNo,
-        ended: Result<(), Fault>,
+        outcome: Result<(), Fault>,
     ) -> Result<(), Refusal>
-        ensures { IsDone K.asking self.old (Event.Finish 255 action ended) result self.new }
+        ensures { IsDone K.asking self.old (Ask.Finish 255 action (outcome_of outcome)) result self.new }
     {
-        self.does(Event::Finish {
+        self.does(Ask::Finish {
             by: CLEANER,
             action,
-            outcome: ended,
+            outcome: ended(&outcome),
         })
     }
 
     /// The end of a job of `stop` or `clean`.
-    pub fn finish(&mut self, action: ActionNo, ended: Result<(), Fault>) -> Result<(), Refusal>
-        ensures { IsDone K.asking self.old (Event.Finish 0 action ended) result self.new }
+    pub fn finish(&mut self, action: ActionNo, outcome: Result<(), Fault>) -> Result<(), Refusal>
+        ensures { IsDone K.asking self.old (Ask.Finish 0 action (outcome_of outcome)) result self.new }
     {
-        self.does(Event::Finish {
+        self.does(Ask::Finish {
             by: 0,
             action,
-            outcome: ended,
+            outcome: ended(&outcome),
         })
     }
 }

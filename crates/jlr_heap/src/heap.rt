@@ -1,7 +1,6 @@
 //! A heap with one mutator, 0, and what each kind of call on it is.
-ghost use Rattle.std.specs.Prelude.{◌≡◌, IfOk, MatchResult, true};
-ghost use Rattle.jlr_event.specs.Events.{ask_of};
-ghost use Rattle.jlr_core.specs.Events.{is_plain};
+ghost use Rattle.std.specs.Prelude.{◌≡◌, IfOk, MatchResult, Some, true};
+ghost use Rattle.jlr_core.specs.Events.{carries_none};
 ghost use Rattle.jlr_embed.specs.Kinds.{is_faults, is_handle, is_integer, is_names, is_notes, is_stat, is_truth};
 ghost use Rattle.jlr_embed.specs.Kinds.{kind_asked};
 ghost use Rattle.jlr_heap.specs.Entries.{CannotJoin, Follows, HasJoined, IsDone, IsEntry, IsJoined, counts, faults, handle};
@@ -11,8 +10,7 @@ use crate::jobs::Declined;
 use crate::keeper::Keeper;
 use crate::told;
 use jlr_embed::Unrecorded;
-use jlr_event::event::Event;
-use jlr_machine::ask::Stat;
+use jlr_machine::ask::{Ask, Stat};
 use jlr_machine::items::Items;
 use jlr_machine::machine::Failure;
 use jlr_machine::text::Name;
@@ -67,7 +65,7 @@ impl<K: Keeper> Heap<K> {
             keeper,
             settles: true,
         };
-        match heap.does(Event::Join { mutator: me() }) {
+        match heap.does(Ask::Join { mutator: me() }) {
             Ok(()) => Ok(heap),
             Err(by) => Err(Declined {
                 by,
@@ -112,37 +110,37 @@ impl<K: Keeper> Heap<K> {
 }
 
 impl<K: Keeper> Heap<K> {
-    /// An event that gives nothing.
+    /// An ask that gives nothing.
     #[inline]
-    pub(crate) fn does(&mut self, event: Event<K::Held>) -> Result<(), Refusal>
-        requires plain { is_plain event ≡ true }
-        ensures { IsDone K.asking self.old event result self.new }
+    pub(crate) fn does(&mut self, ask: Ask) -> Result<(), Refusal>
+        requires plain { carries_none ask ≡ true }
+        ensures { IsDone K.asking self.old ask result self.new }
     {
-        let answer = self.keeper.ask(event);
+        let answer = self.keeper.ask(ask);
         self.follow();
         told::end(&answer)
     }
 
-    /// An event that gives a handle.
+    /// An ask that gives a handle.
     #[inline]
-    pub(crate) fn gives(&mut self, event: Event<K::Held>) -> Result<Handle, Refusal>
-        requires plain { is_plain event ≡ true }
-        requires kind { kind_asked (ask_of event) ≡ is_handle }
-        ensures { IsEntry K.asking self.old event (handle result) self.new }
+    pub(crate) fn gives(&mut self, ask: Ask) -> Result<Handle, Refusal>
+        requires plain { carries_none ask ≡ true }
+        requires kind { kind_asked (Some ask) ≡ is_handle }
+        ensures { IsEntry K.asking self.old ask (handle result) self.new }
     {
-        let answer = self.keeper.ask(event);
+        let answer = self.keeper.ask(ask);
         self.follow();
         told::handle(&answer)
     }
 
-    /// An event that gives a handle, or null.
+    /// An ask that gives a handle, or null.
     #[inline]
-    pub(crate) fn gives_or_null(&mut self, event: Event<K::Held>) -> Result<Option<Handle>, Refusal>
-        requires plain { is_plain event ≡ true }
-        requires kind { kind_asked (ask_of event) ≡ is_handle }
-        ensures { IsEntry K.asking self.old event (handle_or_null result) self.new }
+    pub(crate) fn gives_or_null(&mut self, ask: Ask) -> Result<Option<Handle>, Refusal>
+        requires plain { carries_none ask ≡ true }
+        requires kind { kind_asked (Some ask) ≡ is_handle }
+        ensures { IsEntry K.asking self.old ask (handle_or_null result) self.new }
     {
-        let handle = self.gives(event)?;
+        let handle = self.gives(ask)?;
         if handle.number() == 0 {
             Ok(None)
         } else {
@@ -150,70 +148,70 @@ impl<K: Keeper> Heap<K> {
         }
     }
 
-    /// An event that tells a truth.
+    /// An ask that tells a truth.
     #[inline]
-    pub(crate) fn tells(&mut self, event: Event<K::Held>) -> Result<bool, Refusal>
-        requires plain { is_plain event ≡ true }
-        requires kind { kind_asked (ask_of event) ≡ is_truth }
-        ensures { IsEntry K.asking self.old event (truth result) self.new }
+    pub(crate) fn tells(&mut self, ask: Ask) -> Result<bool, Refusal>
+        requires plain { carries_none ask ≡ true }
+        requires kind { kind_asked (Some ask) ≡ is_truth }
+        ensures { IsEntry K.asking self.old ask (truth result) self.new }
     {
-        let answer = self.keeper.ask(event);
+        let answer = self.keeper.ask(ask);
         self.follow();
         told::truth(&answer)
     }
 
-    /// An event that reads an integer.
+    /// An ask that reads an integer.
     #[inline]
-    pub(crate) fn reads(&mut self, event: Event<K::Held>) -> Result<i64, Refusal>
-        requires plain { is_plain event ≡ true }
-        requires kind { kind_asked (ask_of event) ≡ is_integer }
-        ensures { IsEntry K.asking self.old event (integer result) self.new }
+    pub(crate) fn reads(&mut self, ask: Ask) -> Result<i64, Refusal>
+        requires plain { carries_none ask ≡ true }
+        requires kind { kind_asked (Some ask) ≡ is_integer }
+        ensures { IsEntry K.asking self.old ask (integer result) self.new }
     {
-        let answer = self.keeper.ask(event);
+        let answer = self.keeper.ask(ask);
         self.follow();
         told::integer(&answer)
     }
 
-    /// An event that tells counts.
-    pub(crate) fn counted(&mut self, event: Event<K::Held>) -> Result<Stat, Refusal>
-        requires plain { is_plain event ≡ true }
-        requires kind { kind_asked (ask_of event) ≡ is_stat }
-        ensures { IsEntry K.asking self.old event (counts result) self.new }
+    /// An ask that tells counts.
+    pub(crate) fn counted(&mut self, ask: Ask) -> Result<Stat, Refusal>
+        requires plain { carries_none ask ≡ true }
+        requires kind { kind_asked (Some ask) ≡ is_stat }
+        ensures { IsEntry K.asking self.old ask (counts result) self.new }
     {
-        let answer = self.keeper.ask(event);
+        let answer = self.keeper.ask(ask);
         self.follow();
         told::counts(&answer)
     }
 
-    /// An event that lists names.
-    pub(crate) fn named(&mut self, event: Event<K::Held>) -> Result<Items<Name>, Refusal>
-        requires plain { is_plain event ≡ true }
-        requires kind { kind_asked (ask_of event) ≡ is_names }
-        ensures { IsEntry K.asking self.old event (names result) self.new }
+    /// An ask that lists names.
+    pub(crate) fn named(&mut self, ask: Ask) -> Result<Items<Name>, Refusal>
+        requires plain { carries_none ask ≡ true }
+        requires kind { kind_asked (Some ask) ≡ is_names }
+        ensures { IsEntry K.asking self.old ask (names result) self.new }
     {
-        let answer = self.keeper.ask(event);
+        let answer = self.keeper.ask(ask);
         self.follow();
         told::names(answer)
     }
 
-    /// An event that lists notes.
-    pub(crate) fn noted(&mut self, event: Event<K::Held>) -> Result<Items<u32>, Refusal>
-        requires plain { is_plain event ≡ true }
-        requires kind { kind_asked (ask_of event) ≡ is_notes }
-        ensures { IsEntry K.asking self.old event (notes result) self.new }
+    /// An ask that lists notes.
+    pub(crate) fn noted(&mut self, ask: Ask) -> Result<Items<u32>, Refusal>
+        requires plain { carries_none ask ≡ true }
+        requires kind { kind_asked (Some ask) ≡ is_notes }
+        ensures { IsEntry K.asking self.old ask (notes result) self.new }
     {
-        let answer = self.keeper.ask(event);
+        let answer = self.keeper.ask(ask);
         self.follow();
         told::notes(answer)
     }
 
-    /// An event that lists failures.
-    pub(crate) fn failed(&mut self, event: Event<K::Held>) -> Result<Items<Failure>, Refusal>
-        requires plain { is_plain event ≡ true }
-        requires kind { kind_asked (ask_of event) ≡ is_faults }
-        ensures { IsEntry K.asking self.old event (faults result) self.new }
+    /// An ask that lists failures.
+    pub(crate) fn failed(&mut self, ask: Ask) -> Result<Items<Failure>, Refusal>
+        requires plain { carries_none ask ≡ true }
+        requires kind { kind_asked (Some ask) ≡ is_faults }
+        ensures { IsEntry K.asking self.old ask (faults result) self.new }
     {
-        let answer = self.keeper.ask(event);
+        let answer = self.keeper.ask(ask);
         self.follow();
         told::faults(answer)
     }

@@ -1,24 +1,26 @@
 //! What answers for a heap: with a history of what was asked, or with none.
-ghost use Rattle.std.specs.Prelude.{◌≡◌, false, is_none, true, None};
+ghost use Rattle.std.specs.Prelude.{◌≡◌, false, is_none, true, None, Some};
 ghost use Rattle.jlr_machine.specs.Data.{Brings};
-ghost use Rattle.jlr_core.specs.Events.{is_plain};
+ghost use Rattle.jlr_core.specs.Events.{carries_none};
 ghost use Rattle.jlr_core.specs.Steps.{Steps};
 ghost use Rattle.jlr_event.specs.Events.{ask_of, resource_of_event};
+ghost use Rattle.jlr_event.specs.declared.event.Event.TheVariants.{Ask as Asks};
 ghost use Rattle.jlr_event.specs.declared.event.Reply.TheVariants.{Answered};
 ghost use Rattle.jlr_embed.specs.Kinds.{GoesBack, is_told, kind_asked, suits};
 
 use jlr_embed::Unrecorded;
 use jlr_event::event::Event;
-use jlr_machine::ask::Answer;
+use jlr_machine::ask::{Answer, Ask};
 use jlr_machine::data::CopyRoom;
 use std::mem;
 
 /// What answers for a heap with one mutator, 0. `Unrecorded` keeps no history.
 pub trait Keeper {
-    ghost use Rattle.std.specs.Prelude.{◌≡◌, false, is_none, true, None};
+    ghost use Rattle.std.specs.Prelude.{◌≡◌, false, is_none, true, None, Some};
     ghost use Rattle.jlr_machine.specs.Data.{Brings};
-    ghost use Rattle.jlr_core.specs.Events.{is_plain};
+    ghost use Rattle.jlr_core.specs.Events.{carries_none};
     ghost use Rattle.jlr_event.specs.Events.{ask_of, resource_of_event};
+    ghost use Rattle.jlr_event.specs.declared.event.Event.TheVariants.{Ask as Asks};
     ghost use Rattle.jlr_event.specs.declared.event.Reply.TheVariants.{Answered};
     ghost use Rattle.jlr_embed.specs.Kinds.{GoesBack, is_told, kind_asked, suits};
     ghost use Rattle.jlr_session.specs.Asks.{Asking};
@@ -29,12 +31,11 @@ pub trait Keeper {
     // what an ask and its reply do, and what a settling does
     ghost asking: { Asking Self Self.Held };
 
-    /// One event that carries nothing that a guard holds, neither in nor out, and is no piece of marking. The answer
-    /// is of the event's kind.
-    fn ask(&mut self, event: Event<Self::Held>) -> Answer
-        requires plain { is_plain event ≡ true }
-        ensures asked { asking.asks self.old event (Answered result None) self.new }
-        ensures kind { is_told (kind_asked (ask_of event)) result ≡ true };
+    /// One ask that carries nothing that a guard holds, neither in nor out. The answer is of the ask's kind.
+    fn ask(&mut self, ask: Ask) -> Answer
+        requires plain { carries_none ask ≡ true }
+        ensures asked { asking.asks self.old (Asks ask) (Answered result None) self.new }
+        ensures kind { is_told (kind_asked (Some ask)) result ≡ true };
 
     /// One event of any other kind, but no piece of marking: its answer, and what goes out with it. With the end of a
     /// call that read comes the room in which a history tells what was read.
@@ -63,13 +64,13 @@ impl<R: Drop> Keeper for Unrecorded<R> {
     ghost asking = { unrecorded };
 
     #[inline(always)]
-    fn ask(&mut self, event: Event<R>) -> Answer
-        requires plain { is_plain event ≡ true }
-        ensures asked { Steps self.old event (Answered result None) self.new }
-        ensures kind { is_told (kind_asked (ask_of event)) result ≡ true }
+    fn ask(&mut self, ask: Ask) -> Answer
+        requires plain { carries_none ask ≡ true }
+        ensures asked { Steps self.old (Asks ask) (Answered result None) self.new }
+        ensures kind { is_told (kind_asked (Some ask)) result ≡ true }
     {
-        let answer = self.answer(&event);
-        mem::forget(event);
+        let answer = self.answer(&ask);
+        mem::forget(ask);
         answer
     }
 

@@ -1,10 +1,10 @@
 -- Steps of the handler over a book.
-use Rattle.std.proofs.Common.{◌≡◌, ◌≢◌, ◌⊎◌, inl, inr, ℕ, ◌<◌, arith, List, [], ◌∷◌, ◌++◌, Option, None, length, refl, sym, ◌∙◌, ap, subst}
+use Rattle.std.proofs.Common.{◌≡◌, ◌≢◌, inl, inr, ℕ, ◌<◌, arith, List, [], ◌∷◌, ◌++◌, Option, None, length, refl, sym, ◌∙◌, ap, subst}
 use Rattle.jlr_machine.specs.declared.machine.Machine.{Machine}
 use Rattle.jlr_machine.specs.declared.ask.Handed.{Handed}
 use Rattle.jlr_machine.specs.declared.ask.Ask.TheVariants as ask
 use Rattle.jlr_machine.specs.declared.ask.Answer.TheVariants as answer
-use Rattle.jlr_event.specs.declared.event.Event.TheVariants.{HandOver}
+use Rattle.jlr_event.specs.declared.event.Event.TheVariants.{Ask as Asks}
 use Rattle.jlr_event.specs.declared.event.Reply.TheVariants.{Answered}
 use Rattle.jlr_core.specs.Cores.{Kept}
 use Rattle.jlr_core.specs.Steps.{IsStep, Steps}
@@ -13,20 +13,20 @@ use Rattle.jlr_embed.proofs.Handing.{less_pending}
 use Rattle.jlr_book.specs.Histories.{History, IsHistory}
 use Rattle.jlr_book.specs.Rules.{BookSteps}
 use Rattle.jlr_heap_book.specs.Recording.{HandsOne, HandsOver}
-use Rattle.jlr_heap_book.proofs.Stepping.{Asked, IsReady, asked}
+use Rattle.jlr_heap_book.proofs.Stepping.{IsReady, asked}
 
-ready_less : {R : Type 0} (old : History R) (core new : Kept R) (what : Handed) (out : Option R) → IsReady old core → Steps core HandOver (Answered (answer.Handed what) out) new → old.core.machine.pending ≢ []
+ready_less : {R : Type 0} (old : History R) (core new : Kept R) (what : Handed) (out : Option R) → IsReady old core → Steps core (Asks ask.HandOver) (Answered (answer.Handed what) out) new → old.core.machine.pending ≢ []
     → length new.machine.pending < length old.core.machine.pending
 ready_less {R} old core new what out ready steps some =
     let same : core.machine.pending ≡ old.core.machine.pending = ap {A = Machine} {B = List ℕ} (λ n. n.pending) ready.0 in
     let nothing : out ≡ None = goes_back core.table None (answer.Handed what) out steps.1.goes_out in
-    let step : IsStep core HandOver (Answered (answer.Handed what) None) steps.0 new = subst (λ o. IsStep core HandOver (Answered (answer.Handed what) o) steps.0 new) nothing steps.1 in
+    let step : IsStep core (Asks ask.HandOver) (Answered (answer.Handed what) None) steps.0 new = subst (λ o. IsStep core (Asks ask.HandOver) (Answered (answer.Handed what) o) steps.0 new) nothing steps.1 in
     let less = less_pending core new what steps.0 step (ready.1.0, ready.1.1) (λ e. some (sym same ∙ e)) in
     omega (arith, less, ap length same)
 
-pub less_handed : {R : Type 0} (seat : ℕ) (old new : History R) (what : Handed) (out : Option R) → IsHistory old → BookSteps seat old HandOver (Answered (answer.Handed what) out) new → old.core.machine.pending ≢ []
+pub less_handed : {R : Type 0} (seat : ℕ) (old new : History R) (what : Handed) (out : Option R) → IsHistory old → BookSteps seat old (Asks ask.HandOver) (Answered (answer.Handed what) out) new → old.core.machine.pending ≢ []
     → length new.core.machine.pending < length old.core.machine.pending
-less_handed {R} seat old new what out h steps some = elim (asked seat old new HandOver (Answered (answer.Handed what) out) ask.HandOver refl h steps) [
+less_handed {R} seat old new what out h steps some = elim (asked seat old new (Asks ask.HandOver) (Answered (answer.Handed what) out) ask.HandOver refl h steps) [
   | inl c ↦ ready_less old c.0 new.core what out c.1 c.2 some
   | inr d ↦ cc d.1
 ]

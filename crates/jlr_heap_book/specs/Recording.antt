@@ -2,7 +2,8 @@
 use Rattle.std.specs.Prelude.{◌≡◌, ◌⊎◌, ℕ, ◌+◌, List, [], ◌∷◌, Some}
 use Rattle.jlr_machine.specs.declared.ask.Handed.{Handed}
 use Rattle.jlr_machine.specs.declared.ask.Answer.TheVariants as answer
-use Rattle.jlr_event.specs.declared.event.Event.TheVariants.{HandOver}
+use Rattle.jlr_machine.specs.declared.ask.Ask.TheVariants.{HandOver}
+use Rattle.jlr_event.specs.declared.event.Event.TheVariants.{Ask as Asks}
 use Rattle.jlr_event.specs.declared.event.Reply.{Reply}
 use Rattle.jlr_event.specs.Events.{answer_in}
 use Rattle.jlr_session.specs.Asks.{Asking}
@@ -17,12 +18,12 @@ module _ {R : Type 0} where
   -- a step of the handler, which handed something over
   abbrev pub HandsOne : History R → History R → Type 0
   HandsOne old new =
-      (reply : Reply R) × (what : Handed) × BookSteps (handler_seat old) old HandOver reply new
+      (reply : Reply R) × (what : Handed) × BookSteps (handler_seat old) old (Asks HandOver) reply new
       × (answer_in reply ≡ Some (answer.Handed what))
 
   -- or was refused
   abbrev pub CannotHand : History R → History R → Type 0
-  CannotHand old new = (reply : Reply R) × BookSteps (handler_seat old) old HandOver reply new × was_refused reply
+  CannotHand old new = (reply : Reply R) × BookSteps (handler_seat old) old (Asks HandOver) reply new × was_refused reply
 
   -- such steps, which led to these
   abbrev pub HandsOver : List (History R) → History R → History R → Type 0

@@ -4,10 +4,10 @@
 #![tactic(auto)]
 
 ghost use Rattle.std.specs.Prelude.{◌≡◌, ◌≢◌, ◌<◌, [], length};
-ghost use Rattle.std.specs.Prelude.{IfOk, IsTrue, MatchBool, None, false, is_none, true};
+ghost use Rattle.std.specs.Prelude.{IfOk, IsTrue, MatchBool, None, Some, false, is_none, true};
 ghost use Rattle.jlr_machine.specs.Data.{Brings};
 ghost use Rattle.jlr_event.specs.Events.{ask_of, resource_of_event};
-ghost use Rattle.jlr_core.specs.Events.{is_plain};
+ghost use Rattle.jlr_core.specs.Events.{carries_none};
 ghost use Rattle.jlr_embed.specs.Kinds.{GoesBack, is_told, kind_asked, suits};
 ghost use Rattle.jlr_book.specs.Histories.{IsHistory, IsNewBook};
 ghost use Rattle.jlr_book.specs.Rules.{BookSteps};
@@ -16,7 +16,7 @@ ghost use Rattle.jlr_heap_book.specs.Recording.{CannotHand, HandsOne, SettlesBoo
 use jlr_book::book::Book;
 use jlr_event::event::{Event, Reply};
 use jlr_heap::keeper::Keeper;
-use jlr_machine::ask::Answer;
+use jlr_machine::ask::{Answer, Ask};
 use jlr_machine::data::CopyRoom;
 use jlr_types::Limits;
 use std::alloc::{AllocError, Global};
@@ -87,7 +87,7 @@ impl<R: Drop> Recorded<R> {
         ensures less { IsTrue result → length self.new.core.machine.pending < length self.old.core.machine.pending }
     {
         let seat = self.handler();
-        let (answer, _) = self.step(seat, Event::HandOver, None);
+        let (answer, _) = self.step(seat, Event::ask(Ask::HandOver), None);
         match answer {
             Answer::Handed(_) => true,
             Answer::Refused(_) => false,
@@ -114,12 +114,12 @@ impl<R: Drop> Keeper for Recorded<R> {
 
     ghost asking = { recorded };
 
-    fn ask(&mut self, event: Event<R>) -> Answer
-        requires plain { is_plain event ≡ true }
-        ensures asked { BookSteps 0 self.old event (Reply.Answered result None) self.new }
-        ensures kind { is_told (kind_asked (ask_of event)) result ≡ true }
+    fn ask(&mut self, ask: Ask) -> Answer
+        requires plain { carries_none ask ≡ true }
+        ensures asked { BookSteps 0 self.old (Event.Ask ask) (Reply.Answered result None) self.new }
+        ensures kind { is_told (kind_asked (Some ask)) result ≡ true }
     {
-        let (answer, _) = self.step(0, event, None);
+        let (answer, _) = self.step(0, Event::ask(ask), None);
         answer
     }
 

@@ -9,20 +9,20 @@ use jlr_event::event::Event;
 use jlr_handle::out::Taken;
 use jlr_handle::status::RANGE;
 use jlr_handle::{Heap, calls, tell};
-use jlr_machine::ask::CallOutcome;
+use jlr_machine::ask::{Ask, CallOutcome, Outcome};
 use jlr_machine::text::WriteCount;
-use jlr_types::{ActionNo, Fault, Handle, Mutator};
+use jlr_types::{ActionNo, Handle, Mutator};
 use std::alloc::Global;
 
 /// A cleaner.
 #[unsafe(no_mangle)]
 pub extern "C" fn refheap_cleaner(alloc: Global, heap: &mut Heap, by: u8, out: &mut u8) -> u32
-    ensures { GivesHandle heap.old.value (Event.MakeCleaner by) result out.old out.new heap.new.value }
+    ensures { GivesHandle heap.old.value (Event.Ask (Ask.MakeCleaner by)) result out.old out.new heap.new.value }
 {
-    let event = Event::MakeCleaner {
+    let ask = Ask::MakeCleaner {
         mutator: Mutator::new(by),
     };
-    calls::makes(alloc, heap, event, out)
+    calls::makes(alloc, heap, ask, out)
 }
 
 /// An action that is known by a note is registered on an object: its cleanable.
@@ -36,15 +36,15 @@ pub extern "C" fn refheap_register(
     note: u32,
     out: &mut u8,
 ) -> u32
-    ensures { GivesHandle heap.old.value (Event.Register by cleaner object note) result out.old out.new heap.new.value }
+    ensures { GivesHandle heap.old.value (Event.Ask (Ask.Register by cleaner object note)) result out.old out.new heap.new.value }
 {
-    let event = Event::Register {
+    let ask = Ask::Register {
         mutator: Mutator::new(by),
         cleaner: Handle::new(cleaner),
         object: Handle::new(object),
         note,
     };
-    calls::makes(alloc, heap, event, out)
+    calls::makes(alloc, heap, ask, out)
 }
 
 /// An action is taken up by the program, which does it now and tells its end by `refheap_finish`: its job, or 34 where
@@ -57,12 +57,12 @@ pub extern "C" fn refheap_clean(
     cleanable: u8,
     out: &mut Taken,
 ) -> u32
-    ensures { GivesJob heap.old.value (Event.Clean by cleanable) result out.old out.new heap.new.value }
+    ensures { GivesJob heap.old.value (Event.Ask (Ask.Clean by cleanable)) result out.old out.new heap.new.value }
 {
-    let event = Event::Clean {
+    let event = Event::ask(Ask::Clean {
         mutator: Mutator::new(by),
         cleanable: Handle::new(cleanable),
-    };
+    });
     calls::takes(alloc, heap, event, out)
 }
 
@@ -70,12 +70,12 @@ pub extern "C" fn refheap_clean(
 /// `refheap_adopt` or `refheap_give_up`.
 #[unsafe(no_mangle)]
 pub extern "C" fn refheap_prepare(alloc: Global, heap: &mut Heap, by: u8) -> u32
-    ensures { Ends heap.old.value (Event.Prepare by) result heap.new.value }
+    ensures { Ends heap.old.value (Event.Ask (Ask.Prepare by)) result heap.new.value }
 {
-    let event = Event::Prepare {
+    let ask = Ask::Prepare {
         mutator: Mutator::new(by),
     };
-    calls::does(alloc, heap, event)
+    calls::does(alloc, heap, ask)
 }
 
 /// A token is handed in after `refheap_prepare`: its guard. Where it returns anything but 0, the program has the token
@@ -123,12 +123,12 @@ pub extern "C" fn refheap_check_out(
     guard: u8,
     out: &mut u64,
 ) -> u32
-    ensures { GivesToken heap.old.value (Event.CheckOut by guard) result out.old out.new heap.new.value }
+    ensures { GivesToken heap.old.value (Event.Ask (Ask.CheckOut by guard)) result out.old out.new heap.new.value }
 {
-    let event = Event::CheckOut {
+    let event = Event::ask(Ask::CheckOut {
         mutator: Mutator::new(by),
         guard: Handle::new(guard),
-    };
+    });
     calls::lends(alloc, heap, event, out)
 }
 
@@ -157,12 +157,12 @@ pub extern "C" fn refheap_check_in(
 }
 
 /// How a call ended.
-fn call_ended(ended: Result<(), Fault>) -> CallOutcome
+fn call_ended(ended: Outcome) -> CallOutcome
     ensures { result ≡ call_outcome ended }
 {
     match ended {
-        Ok(()) => CallOutcome::Wrote(nothing_written()),
-        Err(fault) => CallOutcome::Failed(fault),
+        Outcome::Ok => CallOutcome::Wrote(nothing_written()),
+        Outcome::Failed(fault) => CallOutcome::Failed(fault),
     }
 }
 
@@ -183,12 +183,12 @@ pub extern "C" fn refheap_stop(
     guard: u8,
     out: &mut Taken,
 ) -> u32
-    ensures { GivesJob heap.old.value (Event.Close by guard) result out.old out.new heap.new.value }
+    ensures { GivesJob heap.old.value (Event.Ask (Ask.Close by guard)) result out.old out.new heap.new.value }
 {
-    let event = Event::Close {
+    let event = Event::ask(Ask::Close {
         mutator: Mutator::new(by),
         guard: Handle::new(guard),
-    };
+    });
     calls::takes(alloc, heap, event, out)
 }
 
@@ -197,9 +197,9 @@ pub extern "C" fn refheap_stop(
 /// busy.
 #[unsafe(no_mangle)]
 pub extern "C" fn refheap_take_up(alloc: Global, heap: &mut Heap, out: &mut Taken) -> u32
-    ensures { GivesJob heap.old.value Event.TakeUp result out.old out.new heap.new.value }
+    ensures { GivesJob heap.old.value (Event.Ask Ask.TakeUp) result out.old out.new heap.new.value }
 {
-    calls::takes(alloc, heap, Event::TakeUp, out)
+    calls::takes(alloc, heap, Event::ask(Ask::TakeUp), out)
 }
 
 /// An action that was taken up ended, well by 0 or by a fault, 1 to 3, and else it returns 33. `by` is the mutator that
@@ -213,15 +213,15 @@ pub extern "C" fn refheap_finish(
     fault: u32,
 ) -> u32
     ensures { MatchOption (outcome_numbered fault) (IsOutOfRange heap.old.value result heap.new.value)
-        (λ ended. Ends heap.old.value (Event.Finish by action ended) result heap.new.value) }
+        (λ ended. Ends heap.old.value (Event.Ask (Ask.Finish by action ended)) result heap.new.value) }
 {
     let Some(ended) = tell::outcome(fault) else {
         return RANGE;
     };
-    let event = Event::Finish {
+    let ask = Ask::Finish {
         by,
         action: ActionNo::new(action),
         outcome: ended,
     };
-    calls::does(alloc, heap, event)
+    calls::does(alloc, heap, ask)
 }

@@ -6,6 +6,7 @@ ghost use Rattle.jlr_handle.specs.Ways.{Ends};
 
 use jlr_event::event::Event;
 use jlr_handle::{Heap, calls, open};
+use jlr_machine::ask::Ask;
 use jlr_types::Mutator;
 use std::alloc::Global;
 
@@ -40,21 +41,21 @@ pub extern "C" fn refheap_close(alloc: Global, heap: &mut Heap)
 /// A mutator joins.
 #[unsafe(no_mangle)]
 pub extern "C" fn refheap_join(alloc: Global, heap: &mut Heap, by: u8) -> u32
-    ensures { Ends heap.old.value (Event.Join by) result heap.new.value }
+    ensures { Ends heap.old.value (Event.Ask (Ask.Join by)) result heap.new.value }
 {
-    let event = Event::Join {
+    let ask = Ask::Join {
         mutator: Mutator::new(by),
     };
-    calls::does(alloc, heap, event)
+    calls::does(alloc, heap, ask)
 }
 
 /// A mutator leaves: its handles are dropped.
 #[unsafe(no_mangle)]
 pub extern "C" fn refheap_leave(alloc: Global, heap: &mut Heap, by: u8) -> u32
-    ensures { Ends heap.old.value (Event.Leave by) result heap.new.value }
+    ensures { Ends heap.old.value (Event.Ask (Ask.Leave by)) result heap.new.value }
 {
-    let event = Event::Leave {
+    let ask = Ask::Leave {
         mutator: Mutator::new(by),
     };
-    calls::does(alloc, heap, event)
+    calls::does(alloc, heap, ask)
 }

@@ -6,6 +6,7 @@ ghost use Rattle.jlr_handle.specs.Ways.{Ends, GivesHandle, GivesName, IsOutOfRan
 use jlr_event::event::Event;
 use jlr_handle::status::RANGE;
 use jlr_handle::{Heap, calls};
+use jlr_machine::ask::Ask;
 use jlr_machine::text::Name;
 use jlr_types::{Handle, Mutator};
 use std::alloc::Global;
@@ -21,17 +22,17 @@ pub extern "C" fn refheap_bind(
     object: u8,
 ) -> u32
     ensures { ((is_name name.now ≡ false) × IsOutOfRange heap.old.value result heap.new.value)
-        ⊎ ((is_name name.now ≡ true) × Ends heap.old.value (Event.Bind by name.now object) result heap.new.value) }
+        ⊎ ((is_name name.now ≡ true) × Ends heap.old.value (Event.Ask (Ask.Bind by name.now object)) result heap.new.value) }
 {
     let Some(name) = Name::from_slice(name) else {
         return RANGE;
     };
-    let event = Event::Bind {
+    let ask = Ask::Bind {
         mutator: Mutator::new(by),
         name,
         object: Handle::new(object),
     };
-    calls::does(alloc, heap, event)
+    calls::does(alloc, heap, ask)
 }
 
 /// A handle for the object that is bound to a name. It returns 33 where the bytes are no name.
@@ -44,32 +45,32 @@ pub extern "C" fn refheap_find(
     out: &mut u8,
 ) -> u32
     ensures { ((is_name name.now ≡ false) × IsOutOfRange heap.old.value result heap.new.value × (out.new ≡ out.old))
-        ⊎ ((is_name name.now ≡ true) × GivesHandle heap.old.value (Event.Find by name.now) result out.old out.new heap.new.value) }
+        ⊎ ((is_name name.now ≡ true) × GivesHandle heap.old.value (Event.Ask (Ask.Find by name.now)) result out.old out.new heap.new.value) }
 {
     let Some(name) = Name::from_slice(name) else {
         return RANGE;
     };
-    let event = Event::Find {
+    let ask = Ask::Find {
         mutator: Mutator::new(by),
         name,
     };
-    calls::gives(alloc, heap, event, out)
+    calls::gives(alloc, heap, ask, out)
 }
 
 /// A name is given up. It returns 33 where the bytes are no name.
 #[unsafe(no_mangle)]
 pub extern "C" fn refheap_unbind(alloc: Global, heap: &mut Heap, by: u8, name: &[u8]) -> u32
     ensures { ((is_name name.now ≡ false) × IsOutOfRange heap.old.value result heap.new.value)
-        ⊎ ((is_name name.now ≡ true) × Ends heap.old.value (Event.Unbind by name.now) result heap.new.value) }
+        ⊎ ((is_name name.now ≡ true) × Ends heap.old.value (Event.Ask (Ask.Unbind by name.now)) result heap.new.value) }
 {
     let Some(name) = Name::from_slice(name) else {
         return RANGE;
     };
-    let event = Event::Unbind {
+    let ask = Ask::Unbind {
         mutator: Mutator::new(by),
         name,
     };
-    calls::does(alloc, heap, event)
+    calls::does(alloc, heap, ask)
 }
 
 /// The name of this index, in order of binding, with zeros behind it, or 34 where there are fewer. It takes memory for
@@ -82,10 +83,10 @@ pub extern "C" fn refheap_name(
     index: usize,
     out: &mut [u8; 33],
 ) -> u32
-    ensures { GivesName index heap.old.value (Event.Names by) result out.old out.new heap.new.value }
+    ensures { GivesName index heap.old.value (Event.Ask (Ask.Names by)) result out.old out.new heap.new.value }
 {
-    let event = Event::Names {
+    let ask = Ask::Names {
         mutator: Mutator::new(by),
     };
-    calls::names(alloc, heap, event, index, out)
+    calls::names(alloc, heap, ask, index, out)
 }

@@ -7,6 +7,7 @@ use crate::layout::layout;
 use jlr_event::event::Event;
 use jlr_handle::status::RANGE;
 use jlr_handle::{Heap, calls};
+use jlr_machine::ask::Ask;
 use jlr_types::{FieldNo, Handle, Length, Mutator};
 use std::alloc::Global;
 
@@ -22,16 +23,16 @@ pub extern "C" fn refheap_new(
     out: &mut u8,
 ) -> u32
     ensures { ((8 < fields) × IsOutOfRange heap.old.value result heap.new.value × (out.new ≡ out.old))
-        ⊎ GivesHandle heap.old.value (Event.New by (layout_of fields references)) result out.old out.new heap.new.value }
+        ⊎ GivesHandle heap.old.value (Event.Ask (Ask.New by (layout_of fields references))) result out.old out.new heap.new.value }
 {
     if fields > 8 {
         return RANGE;
     }
-    let event = Event::New {
+    let ask = Ask::New {
         mutator: Mutator::new(by),
         layout: layout(fields, references),
     };
-    calls::makes(alloc, heap, event, out)
+    calls::makes(alloc, heap, ask, out)
 }
 
 /// An array of references, each element null: 1 to 4,096 elements, and else it returns 33. Its elements take memory.
@@ -44,16 +45,16 @@ pub extern "C" fn refheap_array(
     out: &mut u8,
 ) -> u32
     ensures { (((length < 1) ⊎ (4096 < length)) × IsOutOfRange heap.old.value result heap.new.value × (out.new ≡ out.old))
-        ⊎ GivesHandle heap.old.value (Event.Array by length) result out.old out.new heap.new.value }
+        ⊎ GivesHandle heap.old.value (Event.Ask (Ask.Array by length)) result out.old out.new heap.new.value }
 {
     let Some(length) = Length::new(length) else {
         return RANGE;
     };
-    let event = Event::Array {
+    let ask = Ask::Array {
         mutator: Mutator::new(by),
         length,
     };
-    calls::makes(alloc, heap, event, out)
+    calls::makes(alloc, heap, ask, out)
 }
 
 /// A second handle for an object.
@@ -65,25 +66,25 @@ pub extern "C" fn refheap_dup(
     object: u8,
     out: &mut u8,
 ) -> u32
-    ensures { GivesHandle heap.old.value (Event.Dup by object) result out.old out.new heap.new.value }
+    ensures { GivesHandle heap.old.value (Event.Ask (Ask.Dup by object)) result out.old out.new heap.new.value }
 {
-    let event = Event::Dup {
+    let ask = Ask::Dup {
         mutator: Mutator::new(by),
         object: Handle::new(object),
     };
-    calls::gives(alloc, heap, event, out)
+    calls::gives(alloc, heap, ask, out)
 }
 
 /// A handle is dropped.
 #[unsafe(no_mangle)]
 pub extern "C" fn refheap_drop(alloc: Global, heap: &mut Heap, by: u8, object: u8) -> u32
-    ensures { Ends heap.old.value (Event.Drop by object) result heap.new.value }
+    ensures { Ends heap.old.value (Event.Ask (Ask.Drop by object)) result heap.new.value }
 {
-    let event = Event::Drop {
+    let ask = Ask::Drop {
         mutator: Mutator::new(by),
         object: Handle::new(object),
     };
-    calls::does(alloc, heap, event)
+    calls::does(alloc, heap, ask)
 }
 
 /// Whether two handles name one object, or are both null.
@@ -96,14 +97,14 @@ pub extern "C" fn refheap_same(
     right: u8,
     out: &mut bool,
 ) -> u32
-    ensures { GivesTruth heap.old.value (Event.Same by left right) result out.old out.new heap.new.value }
+    ensures { GivesTruth heap.old.value (Event.Ask (Ask.Same by left right)) result out.old out.new heap.new.value }
 {
-    let event = Event::Same {
+    let ask = Ask::Same {
         mutator: Mutator::new(by),
         left: Handle::new(left),
         right: Handle::new(right),
     };
-    calls::tells(alloc, heap, event, out)
+    calls::tells(alloc, heap, ask, out)
 }
 
 /// A reference field, or an element of an array, is written. The value may be null, 0.
@@ -117,18 +118,18 @@ pub extern "C" fn refheap_put(
     value: u8,
 ) -> u32
     ensures { ((4096 ≤ field) × IsOutOfRange heap.old.value result heap.new.value)
-        ⊎ Ends heap.old.value (Event.Put by object field value) result heap.new.value }
+        ⊎ Ends heap.old.value (Event.Ask (Ask.Put by object field value)) result heap.new.value }
 {
     let Some(field) = FieldNo::new(field) else {
         return RANGE;
     };
-    let event = Event::Put {
+    let ask = Ask::Put {
         mutator: Mutator::new(by),
         object: Handle::new(object),
         field,
         value: Handle::new(value),
     };
-    calls::does(alloc, heap, event)
+    calls::does(alloc, heap, ask)
 }
 
 /// A reference field, or an element of an array, is read: a handle for what it refers to, or 0 for null.
@@ -142,17 +143,17 @@ pub extern "C" fn refheap_get(
     out: &mut u8,
 ) -> u32
     ensures { ((4096 ≤ field) × IsOutOfRange heap.old.value result heap.new.value × (out.new ≡ out.old))
-        ⊎ GivesHandle heap.old.value (Event.Get by object field) result out.old out.new heap.new.value }
+        ⊎ GivesHandle heap.old.value (Event.Ask (Ask.Get by object field)) result out.old out.new heap.new.value }
 {
     let Some(field) = FieldNo::new(field) else {
         return RANGE;
     };
-    let event = Event::Get {
+    let ask = Ask::Get {
         mutator: Mutator::new(by),
         object: Handle::new(object),
         field,
     };
-    calls::gives(alloc, heap, event, out)
+    calls::gives(alloc, heap, ask, out)
 }
 
 /// An integer field is written.
@@ -166,18 +167,18 @@ pub extern "C" fn refheap_set_int(
     value: i64,
 ) -> u32
     ensures { ((4096 ≤ field) × IsOutOfRange heap.old.value result heap.new.value)
-        ⊎ Ends heap.old.value (Event.SetInt by object field value) result heap.new.value }
+        ⊎ Ends heap.old.value (Event.Ask (Ask.SetInt by object field value)) result heap.new.value }
 {
     let Some(field) = FieldNo::new(field) else {
         return RANGE;
     };
-    let event = Event::SetInt {
+    let ask = Ask::SetInt {
         mutator: Mutator::new(by),
         object: Handle::new(object),
         field,
         value,
     };
-    calls::does(alloc, heap, event)
+    calls::does(alloc, heap, ask)
 }
 
 /// An integer field is read.
@@ -191,15 +192,15 @@ pub extern "C" fn refheap_int(
     out: &mut i64,
 ) -> u32
     ensures { ((4096 ≤ field) × IsOutOfRange heap.old.value result heap.new.value × (out.new ≡ out.old))
-        ⊎ GivesInteger heap.old.value (Event.Int by object field) result out.old out.new heap.new.value }
+        ⊎ GivesInteger heap.old.value (Event.Ask (Ask.Int by object field)) result out.old out.new heap.new.value }
 {
     let Some(field) = FieldNo::new(field) else {
         return RANGE;
     };
-    let event = Event::Int {
+    let ask = Ask::Int {
         mutator: Mutator::new(by),
         object: Handle::new(object),
         field,
     };
-    calls::reads(alloc, heap, event, out)
+    calls::reads(alloc, heap, ask, out)
 }

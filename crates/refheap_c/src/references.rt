@@ -4,6 +4,7 @@ ghost use Rattle.jlr_handle.specs.Ways.{Ends, GivesHandle, GivesTruth};
 
 use jlr_event::event::Event;
 use jlr_handle::{Heap, calls};
+use jlr_machine::ask::Ask;
 use jlr_types::{Handle, Mutator, RefKind};
 use std::alloc::Global;
 
@@ -17,15 +18,15 @@ pub extern "C" fn refheap_soft(
     queue: u8,
     out: &mut u8,
 ) -> u32
-    ensures { GivesHandle heap.old.value (Event.MakeRef by RefKind.Soft referent queue) result out.old out.new heap.new.value }
+    ensures { GivesHandle heap.old.value (Event.Ask (Ask.MakeRef by RefKind.Soft referent queue)) result out.old out.new heap.new.value }
 {
-    let event = Event::MakeRef {
+    let ask = Ask::MakeRef {
         mutator: Mutator::new(by),
         kind: RefKind::Soft,
         referent: Handle::new(referent),
         queue: Handle::new(queue),
     };
-    calls::makes(alloc, heap, event, out)
+    calls::makes(alloc, heap, ask, out)
 }
 
 /// A weak reference to an object, on a queue, or on none, 0.
@@ -38,15 +39,15 @@ pub extern "C" fn refheap_weak(
     queue: u8,
     out: &mut u8,
 ) -> u32
-    ensures { GivesHandle heap.old.value (Event.MakeRef by RefKind.Weak referent queue) result out.old out.new heap.new.value }
+    ensures { GivesHandle heap.old.value (Event.Ask (Ask.MakeRef by RefKind.Weak referent queue)) result out.old out.new heap.new.value }
 {
-    let event = Event::MakeRef {
+    let ask = Ask::MakeRef {
         mutator: Mutator::new(by),
         kind: RefKind::Weak,
         referent: Handle::new(referent),
         queue: Handle::new(queue),
     };
-    calls::makes(alloc, heap, event, out)
+    calls::makes(alloc, heap, ask, out)
 }
 
 /// A phantom reference to an object, on a queue, or on none, 0.
@@ -59,15 +60,15 @@ pub extern "C" fn refheap_phantom(
     queue: u8,
     out: &mut u8,
 ) -> u32
-    ensures { GivesHandle heap.old.value (Event.MakeRef by RefKind.Phantom referent queue) result out.old out.new heap.new.value }
+    ensures { GivesHandle heap.old.value (Event.Ask (Ask.MakeRef by RefKind.Phantom referent queue)) result out.old out.new heap.new.value }
 {
-    let event = Event::MakeRef {
+    let ask = Ask::MakeRef {
         mutator: Mutator::new(by),
         kind: RefKind::Phantom,
         referent: Handle::new(referent),
         queue: Handle::new(queue),
     };
-    calls::makes(alloc, heap, event, out)
+    calls::makes(alloc, heap, ask, out)
 }
 
 /// What a reference refers to: a handle for it, or 0 where it is cleared. A phantom one never gives it.
@@ -79,13 +80,13 @@ pub extern "C" fn refheap_deref(
     reference: u8,
     out: &mut u8,
 ) -> u32
-    ensures { GivesHandle heap.old.value (Event.Deref by reference) result out.old out.new heap.new.value }
+    ensures { GivesHandle heap.old.value (Event.Ask (Ask.Deref by reference)) result out.old out.new heap.new.value }
 {
-    let event = Event::Deref {
+    let ask = Ask::Deref {
         mutator: Mutator::new(by),
         reference: Handle::new(reference),
     };
-    calls::gives(alloc, heap, event, out)
+    calls::gives(alloc, heap, ask, out)
 }
 
 /// Whether a reference refers to this object, or, for 0, to none.
@@ -98,26 +99,26 @@ pub extern "C" fn refheap_refers(
     object: u8,
     out: &mut bool,
 ) -> u32
-    ensures { GivesTruth heap.old.value (Event.Refers by reference object) result out.old out.new heap.new.value }
+    ensures { GivesTruth heap.old.value (Event.Ask (Ask.Refers by reference object)) result out.old out.new heap.new.value }
 {
-    let event = Event::Refers {
+    let ask = Ask::Refers {
         mutator: Mutator::new(by),
         reference: Handle::new(reference),
         object: Handle::new(object),
     };
-    calls::tells(alloc, heap, event, out)
+    calls::tells(alloc, heap, ask, out)
 }
 
 /// A reference is cleared, and not put on its queue.
 #[unsafe(no_mangle)]
 pub extern "C" fn refheap_clear(alloc: Global, heap: &mut Heap, by: u8, reference: u8) -> u32
-    ensures { Ends heap.old.value (Event.Clear by reference) result heap.new.value }
+    ensures { Ends heap.old.value (Event.Ask (Ask.Clear by reference)) result heap.new.value }
 {
-    let event = Event::Clear {
+    let ask = Ask::Clear {
         mutator: Mutator::new(by),
         reference: Handle::new(reference),
     };
-    calls::does(alloc, heap, event)
+    calls::does(alloc, heap, ask)
 }
 
 /// A reference is cleared, and put on its queue, if it has one that it was never on: whether it was.
@@ -129,13 +130,13 @@ pub extern "C" fn refheap_enqueue(
     reference: u8,
     out: &mut bool,
 ) -> u32
-    ensures { GivesTruth heap.old.value (Event.Enqueue by reference) result out.old out.new heap.new.value }
+    ensures { GivesTruth heap.old.value (Event.Ask (Ask.Enqueue by reference)) result out.old out.new heap.new.value }
 {
-    let event = Event::Enqueue {
+    let ask = Ask::Enqueue {
         mutator: Mutator::new(by),
         reference: Handle::new(reference),
     };
-    calls::tells(alloc, heap, event, out)
+    calls::tells(alloc, heap, ask, out)
 }
 
 /// Whether a reference is on its queue.
@@ -147,24 +148,24 @@ pub extern "C" fn refheap_enqueued(
     reference: u8,
     out: &mut bool,
 ) -> u32
-    ensures { GivesTruth heap.old.value (Event.Enqueued by reference) result out.old out.new heap.new.value }
+    ensures { GivesTruth heap.old.value (Event.Ask (Ask.Enqueued by reference)) result out.old out.new heap.new.value }
 {
-    let event = Event::Enqueued {
+    let ask = Ask::Enqueued {
         mutator: Mutator::new(by),
         reference: Handle::new(reference),
     };
-    calls::tells(alloc, heap, event, out)
+    calls::tells(alloc, heap, ask, out)
 }
 
 /// A queue.
 #[unsafe(no_mangle)]
 pub extern "C" fn refheap_queue(alloc: Global, heap: &mut Heap, by: u8, out: &mut u8) -> u32
-    ensures { GivesHandle heap.old.value (Event.MakeQueue by) result out.old out.new heap.new.value }
+    ensures { GivesHandle heap.old.value (Event.Ask (Ask.MakeQueue by)) result out.old out.new heap.new.value }
 {
-    let event = Event::MakeQueue {
+    let ask = Ask::MakeQueue {
         mutator: Mutator::new(by),
     };
-    calls::makes(alloc, heap, event, out)
+    calls::makes(alloc, heap, ask, out)
 }
 
 /// The oldest member is taken off a queue: a handle for it, or 0 where the queue is empty.
@@ -176,13 +177,13 @@ pub extern "C" fn refheap_poll(
     queue: u8,
     out: &mut u8,
 ) -> u32
-    ensures { GivesHandle heap.old.value (Event.Poll by queue) result out.old out.new heap.new.value }
+    ensures { GivesHandle heap.old.value (Event.Ask (Ask.Poll by queue)) result out.old out.new heap.new.value }
 {
-    let event = Event::Poll {
+    let ask = Ask::Poll {
         mutator: Mutator::new(by),
         queue: Handle::new(queue),
     };
-    calls::gives(alloc, heap, event, out)
+    calls::gives(alloc, heap, ask, out)
 }
 
 /// The same, but of an empty queue it returns 18, would wait: it never waits.
@@ -194,11 +195,11 @@ pub extern "C" fn refheap_remove(
     queue: u8,
     out: &mut u8,
 ) -> u32
-    ensures { GivesHandle heap.old.value (Event.Remove by queue) result out.old out.new heap.new.value }
+    ensures { GivesHandle heap.old.value (Event.Ask (Ask.Remove by queue)) result out.old out.new heap.new.value }
 {
-    let event = Event::Remove {
+    let ask = Ask::Remove {
         mutator: Mutator::new(by),
         queue: Handle::new(queue),
     };
-    calls::gives(alloc, heap, event, out)
+    calls::gives(alloc, heap, ask, out)
 }
