@@ -1,5 +1,8 @@
 pub mod Runs
 pub mod Steps
+pub mod Owing
+pub mod Counting
 pub mod Turns
 pub mod Jobs
 pub mod Opening
+pub mod Plain

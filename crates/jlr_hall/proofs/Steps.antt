@@ -15,7 +15,8 @@ use Rattle.jlr_machine.specs.declared.entry.Entry.{Entry}
 use Rattle.jlr_machine.specs.Refusals.{is_end}
 use Rattle.jlr_machine.specs.WellFormed.{IsWellFormed}
 use Rattle.jlr_event.specs.declared.event.Event.{Event}
-use Rattle.jlr_event.specs.declared.event.Event.TheVariants.{Abandon}
+use Rattle.jlr_machine.specs.declared.ask.Ask.TheVariants.{Abandon}
+use Rattle.jlr_event.specs.declared.event.Event.TheVariants.{Ask as Asks}
 use Rattle.jlr_event.specs.declared.event.Reply.{Reply}
 use Rattle.jlr_event.specs.declared.event.Reply.TheVariants.{Answered}
 use Rattle.jlr_event.specs.Events.{ask_of, answer_in, resource_of_event}
@@ -33,8 +34,11 @@ use Rattle.jlr_log.specs.Views.{own}
 use Rattle.jlr_log.specs.Seeing.{Seen, AllOf}
 use Rattle.jlr_hall.specs.declared.step.Step.{Step}
 use Rattle.jlr_hall.specs.OneHistory.{AllSit, IsWhole, Trace, add, entry_of, events_of, is_ending, is_refused, replies_of, seat_of, step, trace, trace_of}
-use Rattle.jlr_hall.specs.Asking.{Asked, gave_up, may_cut}
+use Rattle.jlr_hall.specs.Asking.{AskedIn, gave_up, may_cut}
+use Rattle.jlr_hall.specs.Locking.{IsLocked, after, effect_of}
 use Rattle.jlr_hall.specs.Telling.{added, is_full, with_cut}
+use Rattle.jlr_hall.specs.declared.dues.Dues.{Dues}
+use Rattle.jlr_hall.proofs.Owing.{shown_declined, shown_now}
 
 -- ---- How the number of the last entry goes on
 
@@ -161,15 +165,15 @@ module _ {R : Type 0} (limits : Limits) (formed : IsWellFormed (empty_of limits)
 
   -- and after one that gave one up
   after_open : (h new : History R) (mid : Kept R) (e : Event R) (reply : Reply R) (chosen chosen' : Chosen) → Leads limits log h.core (trace h.base h.entries)
-      → IsStep h.core Abandon (Answered (Truth true) None) chosen' mid → IsStep mid e reply chosen new.core
+      → IsStep h.core (Asks Abandon) (Answered (Truth true) None) chosen' mid → IsStep mid e reply chosen new.core
       → new.base ≡ last h + 1 → new.entries ≡ entry_of (step seat e reply true) chosen → new.limits ≡ limits → may_cut (ask_of e) ≡ true
       → added seat h e reply new ≡ gave_up seat true ++ step seat e reply true ∷ []
       → Tells limits log seat e reply (added seat h e reply new) new
   after_open h new mid e reply chosen chosen' run gives now base entries limits_are may is =
-      let up : Step R = step seat Abandon (Answered (Truth true) None) false in
+      let up : Step R = step seat (Asks Abandon) (Answered (Truth true) None) false in
       let s = step seat e reply true in
       let given = h.entries ++ entry_of up chosen' in
-      let first = one log h.core mid (trace h.base h.entries) Abandon (Answered (Truth true) None) false chosen' run gives in
+      let first = one log h.core mid (trace h.base h.entries) (Asks Abandon) (Answered (Truth true) None) false chosen' run gives in
       let second = one (log ++ up ∷ []) mid new.core (trace h.base given) e reply true chosen first now in
       let long : length given ≡ length h.entries + 1 = length-append h.entries (entry_of up chosen') in
       let higher : h.base + length given ≡ new.base = omega (arith, base, long) in
@@ -280,6 +284,16 @@ tells limits log seat h new e reply sits is w steps = tells_by limits w.formed l
 pub whole_now : {R : Type 0} (limits : Limits) (log now : List (Step R)) (seat : ℕ) (h new : History R) (e : Event R) (reply : Reply R) → IsWhole limits h log → Tells limits log seat e reply now new → IsWhole limits new (log ++ now)
 whole_now limits log now seat h new e reply w t = record { formed = w.formed; run = t.leads.0; traced = t.leads.1; limits_are = t.limits_are; seats = t.seats }
 
+pub locked_now : {R : Type 0} (limits : Limits) (d : Dues) (log now : List (Step R)) (seat : ℕ) (h new : History R) (e : Event R) (reply : Reply R) → seat < 256 → IsLocked limits h d log → Tells limits log seat e reply now new
+    → IsLocked limits new (after seat (effect_of e) reply d) (log ++ now)
+locked_now limits d log now seat h new e reply sits l t = record {
+  whole = whole_now limits log now seat h new e reply l.whole t;
+  shows = elim t.fate [
+    | inl x ↦ shown_now d log now seat e reply x.0 (x.0 && x.1) sits x.3 l.shows
+    | inr x ↦ shown_declined d log now seat e reply x.2 x.0 x.3 x.4 l.shows
+  ];
+}
+
 -- all of it is the seat's
 pub all_added : {R : Type 0} (seat : ℕ) (h : History R) (e : Event R) (reply : Reply R) (new : History R) → AllOf seat_of seat (added seat h e reply new)
 all_added seat h e reply new =
@@ -298,27 +312,33 @@ all_added seat h e reply new =
 -- ---- What an ask is then known to be
 
 pub asked : {R : Type 0} (limits : Limits) (old new : Seen (Step R)) (n : ℕ) (all now : List (Step R)) (h book : History R) (e : Event R) (reply : Reply R)
-    → old.seat ≡ n → Knows seat_of n old.known all → new.seat ≡ n → new.known ≡ all ++ now → IsWhole limits h all → Tells limits all n e reply now book → Asked limits old e reply new
+    → old.seat ≡ n → Knows seat_of n old.known all → new.seat ≡ n → new.known ≡ all ++ now → IsWhole limits h all → Tells limits all n e reply now book → AskedIn limits all old e reply new
 asked {R} limits old new n all now h book e reply is knows seat known w t = elim t.fate [
-  | inl x ↦ inl (record {
-    seat = seat ∙ sym is;
-    between = knows.0;
-    others = ap (λ k. own seat_of k knows.0) is ∙ knows.2;
-    cut = x.0;
-    cuts = x.2;
-    cycle_open = x.1;
-    known = known ∙ ap (λ l. all ++ l) x.3 ∙ ap (λ l. l ++ (gave_up n (x.0 && x.1) ++ step n e reply x.0 ∷ [])) knows.1
-        ∙ ap (λ k. (old.known ++ knows.0) ++ (gave_up k (x.0 && x.1) ++ step k e reply x.0 ∷ [])) (sym is);
-    legal = (book, subst (IsWhole limits book) (sym known) (whole_now limits all now n h book e reply w t));
-  })
-  | inr x ↦ inr (record {
-    seat = seat ∙ sym is;
-    between = knows.0;
-    others = ap (λ k. own seat_of k knows.0) is ∙ knows.2;
-    known = known ∙ ap (λ l. all ++ l) x.0 ∙ append-nil all ∙ knows.1;
-    ends_nothing = x.1;
-    by = x.2;
-    why = x.3;
-    refused = x.4;
-  })
+  | inl x ↦ (
+    inl (record {
+      seat = seat ∙ sym is;
+      between = knows.0;
+      others = ap (λ k. own seat_of k knows.0) is ∙ knows.2;
+      cut = x.0;
+      cuts = x.2;
+      cycle_open = x.1;
+      known = known ∙ ap (λ l. all ++ l) x.3 ∙ ap (λ l. l ++ (gave_up n (x.0 && x.1) ++ step n e reply x.0 ∷ [])) knows.1
+          ∙ ap (λ k. (old.known ++ knows.0) ++ (gave_up k (x.0 && x.1) ++ step k e reply x.0 ∷ [])) (sym is);
+      legal = (book, subst (IsWhole limits book) (sym known) (whole_now limits all now n h book e reply w t));
+    }),
+    sym knows.1,
+  )
+  | inr x ↦ (
+    inr (record {
+      seat = seat ∙ sym is;
+      between = knows.0;
+      others = ap (λ k. own seat_of k knows.0) is ∙ knows.2;
+      known = known ∙ ap (λ l. all ++ l) x.0 ∙ append-nil all ∙ knows.1;
+      ends_nothing = x.1;
+      by = x.2;
+      why = x.3;
+      refused = x.4;
+    }),
+    sym knows.1,
+  )
 ]

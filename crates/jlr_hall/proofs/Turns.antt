@@ -1,23 +1,55 @@
 -- One ask more of a loop.
-use Rattle.std.proofs.Common.{◌≡◌, List, [], ◌∷◌, ◌++◌, Option, Some, None, Result, Ok, Err, refl, inl, inr, subst}
+use Rattle.std.proofs.Common.{◌≡◌, ◌≢◌, List, [], ◌∷◌, ◌++◌, Option, Some, None, Result, Ok, Err, refl, sym, inl, inr, subst}
 use Rattle.jlr_types.specs.declared.limits.Limits.{Limits}
 use Rattle.jlr_machine.specs.declared.ask.Answer.{Answer}
 use Rattle.jlr_cleaner.specs.declared.job.Job.{Job}
 use Rattle.jlr_device.specs.Handling.{Handling}
 use Rattle.jlr_event.specs.declared.event.Event.{Event}
-use Rattle.jlr_event.specs.declared.event.Event.TheVariants.{TakeUp}
+use Rattle.jlr_machine.specs.declared.ask.Ask.TheVariants.{TakeUp}
+use Rattle.jlr_event.specs.declared.event.Event.TheVariants.{Ask as Asks}
 use Rattle.jlr_event.specs.declared.event.Reply.{Reply}
 use Rattle.jlr_session.specs.Asks.{TellsFinished, job_by}
 use Rattle.jlr_log.specs.Seeing.{Seen}
 use Rattle.jlr_hall.specs.declared.step.Step.{Step}
-use Rattle.jlr_hall.specs.Asking.{Asked, HasItsResource}
-use Rattle.jlr_hall.specs.Loops.{AllAsk, AsksOnly, Chain, Cleans, CleansIn, job_in}
+use Rattle.jlr_hall.specs.OneHistory.{IsWhole}
+use Rattle.jlr_hall.specs.Asking.{Asked, AskedIn, HasItsResource, found}
+use Rattle.jlr_hall.specs.Due.{HasLine, HasPending, IsDueAt, IsDueIn}
+use Rattle.jlr_hall.specs.Locking.{Under}
+use Rattle.jlr_hall.specs.Loops.{AsksOnly, Chain, Cleans, CleansIn, IsCleaners, job_in}
 
 module _ {R : Type 0} (limits : Limits) where
-  chain_more : (p : Seen (Step R)) (asks : List (Event R × Reply R)) (q r : Seen (Step R)) (e : Event R) (reply : Reply R) → Chain limits p asks q → Asked limits q e reply r
-      → Chain limits p (asks ++ (e, reply) ∷ []) r
-  chain_more p [] q r e reply c a = (r, subst (λ (x : Seen (Step R)). Asked limits x e reply r) c a, refl)
-  chain_more p (x ∷ asks) q r e reply c a = (c.0, c.1, chain_more c.0 asks q r e reply c.2 a)
+  -- an ask where it may be asked in the history that it found
+  pub record AskedAt (may : List (Step R) → Event R → Type 0) (old : Seen (Step R)) (e : Event R) (reply : Reply R) (new : Seen (Step R)) : Type 0 where
+    pub asked : Asked limits old e reply new
+    pub may_be : may (found limits old e reply new asked) e
+
+  -- one that may be asked in any
+  pub asked_anywhere : (may : List (Step R) → Event R → Type 0) (old : Seen (Step R)) (e : Event R) (reply : Reply R) (new : Seen (Step R))
+      → ((log : List (Step R)) → may log e) → Asked limits old e reply new → AskedAt may old e reply new
+  asked_anywhere may old e reply new is a = record { asked = a; may_be = is (found limits old e reply new a) }
+
+  -- one that may be asked in the history that lay under the lock
+  pub asked_there : (may : List (Step R) → Event R → Type 0) (log : List (Step R)) (old : Seen (Step R)) (e : Event R) (reply : Reply R) (new : Seen (Step R))
+      → may log e → AskedIn limits log old e reply new → AskedAt may old e reply new
+  asked_there may log old e reply new is a = record { asked = a.0; may_be = subst (λ (l : List (Step R)). may l e) (sym a.1) is }
+
+  chain_more : (may : List (Step R) → Event R → Type 0) (p : Seen (Step R)) (asks : List (Event R × Reply R)) (q r : Seen (Step R)) (e : Event R) (reply : Reply R) → Chain limits may p asks q
+      → AskedAt may q e reply r → Chain limits may p (asks ++ (e, reply) ∷ []) r
+  chain_more may p [] q r e reply c a =
+      let b = subst (λ (x : Seen (Step R)). AskedAt may x e reply r) c a in
+      (r, b.asked, b.may_be, refl)
+  chain_more may p (x ∷ asks) q r e reply c a = (c.0, c.1, c.2, chain_more may c.0 asks q r e reply c.3 a)
+
+  -- ---- What a look at the book under the lock tells
+
+  pub due_there : (u v : Under R) → u ≡ v → IsWhole limits u.book u.log → IsDueIn u.book u.log → IsDueAt limits v.log
+  due_there u v is whole due = subst (λ (w : Under R). IsDueAt limits w.log) is (u.book, whole, due)
+
+  pub pending_there : (u v : Under R) → u ≡ v → IsWhole limits u.book u.log → (u.book.core.machine.pending ≢ []) → HasPending limits v.log
+  pending_there u v is whole some = subst (λ (w : Under R). HasPending limits w.log) is (u.book, whole, some)
+
+  pub line_there : (u v : Under R) → u ≡ v → IsWhole limits u.book u.log → (u.book.core.machine.line ≢ []) → HasLine limits v.log
+  line_there u v is whole some = subst (λ (w : Under R). HasLine limits w.log) is (u.book, whole, some)
 
   -- a seat stays the one that it is
   pub same_seat : (old new : Seen (Step R)) (e : Event R) (reply : Reply R) → Asked limits old e reply new → new.seat ≡ old.seat
@@ -26,15 +58,11 @@ module _ {R : Type 0} (limits : Limits) where
 
   -- ---- The marker and the handler
 
-  pub asks_none : (may : Event R → Type 0) (p : Seen (Step R)) → AsksOnly limits may p p
-  asks_none may p = ([], refl, tt)
+  pub asks_none : (may : List (Step R) → Event R → Type 0) (p : Seen (Step R)) → AsksOnly limits may p p
+  asks_none may p = ([], refl)
 
-  all_more : (may : Event R → Type 0) (asks : List (Event R × Reply R)) (x : Event R × Reply R) → AllAsk may asks → may x.0 → AllAsk may (asks ++ x ∷ [])
-  all_more may [] x all is = (is, tt)
-  all_more may (y ∷ asks) x all is = (all.0, all_more may asks x all.1 is)
-
-  pub asks_more : (may : Event R → Type 0) (e : Event R) → may e → (reply : Reply R) (old mid new : Seen (Step R)) → AsksOnly limits may old mid → Asked limits mid e reply new → AsksOnly limits may old new
-  asks_more may e is reply old mid new h asked = (h.0 ++ (e, reply) ∷ [], chain_more old h.0 mid new e reply h.1 asked, all_more may h.0 (e, reply) h.2 is)
+  pub asks_more : (may : List (Step R) → Event R → Type 0) (e : Event R) (reply : Reply R) (old mid new : Seen (Step R)) → AsksOnly limits may old mid → AskedAt may mid e reply new → AsksOnly limits may old new
+  asks_more may e reply old mid new h a = (h.0 ++ (e, reply) ∷ [], chain_more may old h.0 mid new e reply h.1 a)
 
 -- ---- The cleaner
 
@@ -48,23 +76,34 @@ module _ {R : Type 0} (handling : Handling R) (limits : Limits) where
   cleans_more (Some job) mid last (y ∷ asks) x c d = (c.0, cleans_more None mid last asks x c.1 d)
 
   -- a take-up, and the job that it gave, if any
-  takes : (reply : Reply R) (old mid new : Seen (Step R)) → CleansIn handling limits old None mid → Asked limits mid TakeUp reply new → HasItsResource reply → CleansIn handling limits old (job_in (job_by reply)) new
+  takes : (reply : Reply R) (old mid new : Seen (Step R)) → CleansIn handling limits old None mid → AskedAt limits (IsCleaners limits) mid (Asks TakeUp) reply new → HasItsResource reply → CleansIn handling limits old (job_in (job_by reply)) new
   takes reply old mid new h asked its = (
-    h.0 ++ (TakeUp, reply) ∷ [],
-    chain_more limits old h.0 mid new TakeUp reply h.1 asked,
-    cleans_more None None (job_in (job_by reply)) h.0 (TakeUp, reply) h.2 (refl, its, refl),
+    h.0 ++ (Asks TakeUp, reply) ∷ [],
+    chain_more limits (IsCleaners limits) old h.0 mid new (Asks TakeUp) reply h.1 asked,
+    cleans_more None None (job_in (job_by reply)) h.0 (Asks TakeUp, reply) h.2 (refl, its, refl),
   )
 
-  pub takes_job : (reply : Reply R) (job : Job R) (old mid new : Seen (Step R)) → CleansIn handling limits old None mid → Asked limits mid TakeUp reply new → HasItsResource reply → job_by reply ≡ Ok job → CleansIn handling limits old (Some job) new
-  takes_job reply job old mid new h asked its is = subst (λ (r : Result (Job R) Answer). CleansIn handling limits old (job_in r) new) is (takes reply old mid new h asked its)
+  -- where something stood in the line
+  taken_up : (log : List (Step R)) (reply : Reply R) (mid new : Seen (Step R)) → HasLine limits log → AskedIn limits log mid (Asks TakeUp) reply new → AskedAt limits (IsCleaners limits) mid (Asks TakeUp) reply new
+  taken_up log reply mid new line a = asked_there limits (IsCleaners limits) log mid (Asks TakeUp) reply new (λ _. line) a
 
-  pub takes_none : (reply : Reply R) (answer : Answer) (old mid new : Seen (Step R)) → CleansIn handling limits old None mid → Asked limits mid TakeUp reply new → HasItsResource reply → job_by reply ≡ Err answer → CleansIn handling limits old None new
-  takes_none reply answer old mid new h asked its is = subst (λ (r : Result (Job R) Answer). CleansIn handling limits old (job_in r) new) is (takes reply old mid new h asked its)
+  pub takes_job : (log : List (Step R)) (reply : Reply R) (job : Job R) (old mid new : Seen (Step R)) → CleansIn handling limits old None mid → HasLine limits log → AskedIn limits log mid (Asks TakeUp) reply new → HasItsResource reply → job_by reply ≡ Ok job
+      → CleansIn handling limits old (Some job) new
+  takes_job log reply job old mid new h line asked its is =
+      subst (λ (r : Result (Job R) Answer). CleansIn handling limits old (job_in r) new) is (takes reply old mid new h (taken_up log reply mid new line asked) its)
+
+  pub takes_none : (log : List (Step R)) (reply : Reply R) (answer : Answer) (old mid new : Seen (Step R)) → CleansIn handling limits old None mid → HasLine limits log → AskedIn limits log mid (Asks TakeUp) reply new → HasItsResource reply → job_by reply ≡ Err answer
+      → CleansIn handling limits old None new
+  takes_none log reply answer old mid new h line asked its is =
+      subst (λ (r : Result (Job R) Answer). CleansIn handling limits old (job_in r) new) is (takes reply old mid new h (taken_up log reply mid new line asked) its)
 
   -- the end of the job that runs
+  no_take_up : (job : Job R) (event : Event R) → TellsFinished handling 255 job event → (log : List (Step R)) → IsCleaners limits log event
+  no_take_up job event told log is = absurd (cc (told.2, is))
+
   pub finishes : (job : Job R) (event : Event R) (reply : Reply R) → TellsFinished handling 255 job event → (old mid new : Seen (Step R)) → CleansIn handling limits old (Some job) mid → Asked limits mid event reply new → CleansIn handling limits old None new
   finishes job event reply told old mid new h asked = (
     h.0 ++ (event, reply) ∷ [],
-    chain_more limits old h.0 mid new event reply h.1 asked,
+    chain_more limits (IsCleaners limits) old h.0 mid new event reply h.1 (asked_anywhere limits (IsCleaners limits) mid event reply new (no_take_up job event told) asked),
     cleans_more None (Some job) None h.0 (event, reply) h.2 (told, refl),
   )

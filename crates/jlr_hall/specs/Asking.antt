@@ -1,5 +1,6 @@
 -- What an ask of a seat is in the one history.
 use Rattle.std.specs.Prelude.{◌≡◌, ◌⊎◌, ◌<◌, ◌+◌, ◌&&◌, ℕ, Bool, true, false, cond, List, [], ◌∷◌, ◌++◌, Option, Some, None, is_some}
+use mathlib.Core.Logic.{inl, inr}
 use Rattle.jlr_types.specs.declared.limits.Limits.{Limits}
 use Rattle.jlr_types.specs.declared.Refusal.{Refusal}
 use Rattle.jlr_types.specs.declared.Refusal.TheVariants.{NoMemory, Exhausted}
@@ -10,7 +11,8 @@ use Rattle.jlr_machine.specs.declared.ask.Answer.TheVariants.{Job, Refused, Trut
 use Rattle.jlr_machine.specs.declared.ask.Ask.TheVariants.{Finish, HandOver, TakeUp}
 use Rattle.jlr_machine.specs.Refusals.{asker, is_end}
 use Rattle.jlr_event.specs.declared.event.Event.{Event}
-use Rattle.jlr_event.specs.declared.event.Event.TheVariants.{Abandon}
+use Rattle.jlr_machine.specs.declared.ask.Ask.TheVariants.{Abandon}
+use Rattle.jlr_event.specs.declared.event.Event.TheVariants.{Ask as Asks}
 use Rattle.jlr_event.specs.declared.event.Reply.{Reply}
 use Rattle.jlr_event.specs.declared.event.Reply.TheVariants.{Answered}
 use Rattle.jlr_event.specs.Events.{ask_of, resource_of_event}
@@ -27,7 +29,7 @@ may_cut (Some ask) = elim (is_end ask) [ true ↦ false | false ↦ true ]
 module _ {R : Type 0} where
   -- a cut gives an open cycle up
   abbrev pub gave_up : ℕ → Bool → List (Step R)
-  gave_up seat cycle_open = cond cycle_open (step seat Abandon (Answered (Truth true) None) false ∷ []) []
+  gave_up seat cycle_open = cond cycle_open (step seat (Asks Abandon) (Answered (Truth true) None) false ∷ []) []
 
   -- The event is the last step of a history that goes on from all that the seat knew: with this reply, and with the
   -- resources that came in and went out. Since then there is nothing else of this seat, but that its cut gave a cycle
@@ -56,6 +58,15 @@ module _ {R : Type 0} where
 
   abbrev pub Asked : Limits → Seen (Step R) → Event R → Reply R → Seen (Step R) → Type 0
   Asked limits old event reply new = Adds limits old event reply new ⊎ Declined old event reply new
+
+  -- the history that an ask found under the lock
+  abbrev pub found : (limits : Limits) (old : Seen (Step R)) (event : Event R) (reply : Reply R) (new : Seen (Step R)) → Asked limits old event reply new → List (Step R)
+  found limits old event reply new (inl x) = old.known ++ x.between
+  found limits old event reply new (inr x) = old.known ++ x.between
+
+  -- it found this one
+  abbrev pub AskedIn : Limits → List (Step R) → Seen (Step R) → Event R → Reply R → Seen (Step R) → Type 0
+  AskedIn limits log old event reply new = (asked : Asked limits old event reply new) × (found limits old event reply new asked ≡ log)
 
 -- ---- Jobs
 

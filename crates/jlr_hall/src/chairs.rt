@@ -1,8 +1,6 @@
 //! Who sits on the seats of the sessions, which of them wait in a `remove`, and how many sessions have joined. It
 //! decides who waits and who is woken, and nothing that an answer tells.
-use crate::effect::{
-    Effect, gave_handle, gave_resource, lacks_resources, says_collected, was_refused,
-};
+use crate::effect::{Effect, was_refused};
 use jlr_event::event::Reply;
 use jlr_types::{Handle, Mutator};
 
@@ -33,8 +31,6 @@ struct Chair {
     sitter: Sitter,
     /// The `remove` in which it waits.
     waits: Option<Removal>,
-    /// How many resources the session opened, less those that it closed itself.
-    opened: u32,
 }
 
 /// The seats of the sessions, and what is to come.
@@ -44,8 +40,6 @@ pub(crate) struct Chairs {
     joined: u32,
     /// No `remove` waits any more.
     nobody_waits: bool,
-    /// A cycle is owed to what sessions left open.
-    cycle_owed: bool,
     /// How many sessions left and jobs ended, modulo 2^64.
     closings: u64,
 }
@@ -56,13 +50,11 @@ impl Chairs {
         let empty = Chair {
             sitter: Sitter::Unnamed,
             waits: None,
-            opened: 0,
         };
         Chairs {
             chairs: [empty; MOST_SESSIONS as usize],
             joined: 0,
             nobody_waits: false,
-            cycle_owed: false,
             closings: 0,
         }
     }
@@ -110,44 +102,20 @@ impl Chairs {
         }
     }
 
-    /// What an answered event of a seat changes.
-    pub(crate) fn after<R>(&mut self, seat: u8, effect: Effect, reply: &Reply<R>) {
+    /// What an answered event changes.
+    pub(crate) fn after<R>(&mut self, effect: Effect, reply: &Reply<R>) {
         match effect {
             Effect::Joins if !was_refused(reply) => self.joined = self.joined.saturating_add(1),
-            Effect::Leaves if !was_refused(reply) => self.leave(seat),
-            Effect::Opens if gave_handle(reply) => self.open(seat),
-            Effect::Closes if gave_resource(reply) => self.close(seat),
-            Effect::Prepares if lacks_resources(reply) => self.cycle_owed = true,
+            Effect::Leaves if !was_refused(reply) => self.leave(),
             Effect::Finishes => self.closings = self.closings.wrapping_add(1),
-            Effect::Collects if says_collected(reply) => self.cycle_owed = false,
             _ => {}
         }
     }
 
-    /// A session opened a resource.
-    fn open(&mut self, seat: u8) {
-        if let Some(chair) = self.chairs.get_mut(usize::from(seat)) {
-            chair.opened = chair.opened.saturating_add(1);
-        }
-    }
-
-    /// A session closed a resource itself.
-    fn close(&mut self, seat: u8) {
-        if let Some(chair) = self.chairs.get_mut(usize::from(seat)) {
-            chair.opened = chair.opened.saturating_sub(1);
-        }
-    }
-
-    /// A session left. What it left open owes a cycle.
-    fn leave(&mut self, seat: u8) {
+    /// A session left.
+    fn leave(&mut self) {
         self.joined = self.joined.saturating_sub(1);
         self.closings = self.closings.wrapping_add(1);
-        if let Some(chair) = self.chairs.get_mut(usize::from(seat)) {
-            if chair.opened > 0 {
-                self.cycle_owed = true;
-            }
-            chair.opened = 0;
-        }
     }
 
     /// No `remove` waits any more.
@@ -158,11 +126,6 @@ impl Chairs {
     /// Whether no `remove` waits any more.
     pub(crate) fn nobody_waits(&self) -> bool {
         self.nobody_waits
-    }
-
-    /// Whether a cycle is owed to what sessions left open.
-    pub(crate) fn cycle_owed(&self) -> bool {
-        self.cycle_owed
     }
 
     /// How many sessions left and jobs ended, modulo 2^64.

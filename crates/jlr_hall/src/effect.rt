@@ -1,9 +1,15 @@
-//! What an event may change of who waits, and what its reply says of that.
+//! What an event may change of who waits and of what is owed, and what its reply says of that.
+ghost use Rattle.std.specs.Prelude.{◌≡◌, is_some, MatchOption, None, Some};
+ghost use Rattle.jlr_event.specs.Events.{answer_in, resource_of_reply};
+ghost use Rattle.jlr_hall.specs.OneHistory.{is_refused};
+ghost use Rattle.jlr_hall.specs.Due.{is_collected, is_full, is_handle};
+ghost use Rattle.jlr_hall.specs.Locking.{effect_of, effect_of_ask};
+
 use jlr_event::event::{Event, Reply};
-use jlr_machine::ask::{Answer, Handed};
+use jlr_machine::ask::{Answer, Ask, Handed};
 use jlr_types::Refusal;
 
-/// What an event may change of who waits.
+/// What an event may change of who waits and of what is owed.
 #[derive(Clone, Copy)]
 pub(crate) enum Effect {
     Nothing,
@@ -25,23 +31,37 @@ pub(crate) enum Effect {
 
 impl Effect {
     /// That of an event.
-    pub(crate) fn of<R>(event: &Event<R>) -> Self {
+    pub(crate) fn of<R>(event: &Event<R>) -> Self
+        ensures { result ≡ effect_of event.now }
+    {
         match event {
-            Event::Enqueue { .. } | Event::HandOver => Effect::Queues,
-            Event::Join { .. } => Effect::Joins,
-            Event::Leave { .. } => Effect::Leaves,
+            Event::Ask(ask) => Effect::of_ask(ask.get()),
             Event::Opened { .. } => Effect::Opens,
-            Event::Prepare { .. } => Effect::Prepares,
-            Event::Clean { .. } | Event::Close { .. } => Effect::Closes,
-            Event::Finish { .. } => Effect::Finishes,
-            Event::Begin | Event::Full { .. } => Effect::Collects,
+            Event::CheckIn { .. } | Event::Mark { .. } => Effect::Nothing,
+        }
+    }
+
+    /// That of an ask that hands in no resource.
+    fn of_ask(ask: &Ask) -> Self
+        ensures { result ≡ effect_of_ask ask.now }
+    {
+        match ask {
+            Ask::Enqueue { .. } | Ask::HandOver => Effect::Queues,
+            Ask::Join { .. } => Effect::Joins,
+            Ask::Leave { .. } => Effect::Leaves,
+            Ask::Prepare { .. } => Effect::Prepares,
+            Ask::Clean { .. } | Ask::Close { .. } => Effect::Closes,
+            Ask::Finish { .. } => Effect::Finishes,
+            Ask::Begin | Ask::Full { .. } => Effect::Collects,
             _ => Effect::Nothing,
         }
     }
 }
 
 /// The answer of a reply; a piece of marking has none.
-fn answer_of<R>(reply: &Reply<R>) -> Option<&Answer> {
+fn answer_of<R>(reply: &Reply<R>) -> Option<&Answer>
+    ensures { MatchOption result (answer_in reply.now ≡ None) (λ answer. answer_in reply.now ≡ Some answer.now) }
+{
     match reply {
         Reply::Answered { answer, .. } => Some(answer),
         Reply::Marked(_) => None,
@@ -49,7 +69,9 @@ fn answer_of<R>(reply: &Reply<R>) -> Option<&Answer> {
 }
 
 /// Whether an event was refused.
-pub(crate) fn was_refused<R>(reply: &Reply<R>) -> bool {
+pub(crate) fn was_refused<R>(reply: &Reply<R>) -> bool
+    ensures { result ≡ is_refused (answer_in reply.now) }
+{
     matches!(answer_of(reply), Some(Answer::Refused(_)))
 }
 
@@ -62,17 +84,23 @@ pub(crate) fn says_queued<R>(reply: &Reply<R>) -> bool {
 }
 
 /// Whether a cycle began, or a whole collection was done.
-pub(crate) fn says_collected<R>(reply: &Reply<R>) -> bool {
+pub(crate) fn says_collected<R>(reply: &Reply<R>) -> bool
+    ensures { result ≡ is_collected (answer_in reply.now) }
+{
     matches!(answer_of(reply), Some(Answer::Truth(true) | Answer::Done))
 }
 
 /// Whether a handle was given.
-pub(crate) fn gave_handle<R>(reply: &Reply<R>) -> bool {
+pub(crate) fn gave_handle<R>(reply: &Reply<R>) -> bool
+    ensures { result ≡ is_handle (answer_in reply.now) }
+{
     matches!(answer_of(reply), Some(Answer::Handle(_)))
 }
 
 /// Whether a resource was handed out.
-pub(crate) fn gave_resource<R>(reply: &Reply<R>) -> bool {
+pub(crate) fn gave_resource<R>(reply: &Reply<R>) -> bool
+    ensures { result ≡ is_some (resource_of_reply reply.now) }
+{
     matches!(
         reply,
         Reply::Answered {
@@ -83,7 +111,9 @@ pub(crate) fn gave_resource<R>(reply: &Reply<R>) -> bool {
 }
 
 /// Whether there was no room for a resource.
-pub(crate) fn lacks_resources<R>(reply: &Reply<R>) -> bool {
+pub(crate) fn lacks_resources<R>(reply: &Reply<R>) -> bool
+    ensures { result ≡ is_full (answer_in reply.now) }
+{
     matches!(
         answer_of(reply),
         Some(Answer::Refused(Refusal::ResourcesFull))

@@ -1,48 +1,55 @@
 //! One book under one lock, asked by many seats.
-ghost use Rattle.std.specs.Prelude.{◌≡◌, ◌+◌, ◌^◌, ◌<◌, ◌++◌};
+ghost use Rattle.std.specs.Prelude.{◌≡◌, ◌≢◌, ◌↔◌, ◌+◌, ◌^◌, ◌<◌, ◌++◌, [], IsTrue, false};
+ghost use Rattle.std.specs.Sync.Mutex.{mutex_guard_value};
 ghost use Rattle.jlr_machine.specs.Data.{Brings};
+ghost use Rattle.jlr_event.specs.Asks.{hands_in};
 ghost use Rattle.jlr_event.specs.Events.{ask_of};
-ghost use Rattle.jlr_event.specs.declared.event.Event.TheVariants.{Mark, Remove};
+ghost use Rattle.jlr_machine.specs.declared.ask.Ask.TheVariants.{Remove};
+ghost use Rattle.jlr_event.specs.declared.event.Event.TheVariants.{Ask as Asks, Mark};
 ghost use Rattle.jlr_log.specs.Rule.{Knows};
 ghost use Rattle.jlr_log.specs.Seeing.{seen, whole};
 ghost use Rattle.jlr_hall.specs.OneHistory.{IsWhole, seat_of};
-ghost use Rattle.jlr_hall.specs.Asking.{Asked, HasItsResource, IsOwn};
+ghost use Rattle.jlr_hall.specs.Asking.{Asked, AskedIn, HasItsResource, IsOwn};
+ghost use Rattle.jlr_hall.specs.Due.{HasMarking, IsDueIn};
+ghost use Rattle.jlr_hall.specs.Locking.{effect_of};
 ghost use Rattle.jlr_hall.specs.Telling.{added};
 
 use crate::chairs::{Chairs, MOST_SESSIONS, Removal};
 use crate::closing::LOOPS;
+use crate::dues::Dues;
 use crate::effect::{Effect, says_queued};
 use crate::seat::Seat;
 use crate::step::{Limited, Step};
 use jlr_book::book::Book;
-use jlr_book::event::refuse;
+use jlr_book::event::decline;
 use jlr_event::event::{Event, Reply};
 use jlr_log::{Keeper, Log, Naming, Pass, Telling};
+use jlr_machine::ask::Ask;
 use jlr_machine::data::{CallRoom, CopyRoom};
 use jlr_types::{Handle, Mutator, Refusal};
 use std::marker::{Brand, Model};
 use std::snapshot::Snapshot;
 use std::sync::{Condvar, Mutex, MutexGuard, Wait};
 
-/// What lies under the lock: the book, who knows its whole history, who sits where, and what is to come.
+/// What lies under the lock: the book, who knows its whole history, who sits where, what is to come, and what that
+/// history says of the resources that are open. Contracts see the book and the history.
 #[derive(Drop)]
 pub(crate) struct Locked<R, L: Naming + Limited> {
     pub(crate) book: Book<R>,
     pub(crate) keeper: Keeper<Step<R>, L>,
     pub(crate) stopped: bool,
     chairs: Chairs,
+    dues: Dues,
 }
 
 impl<R, L: Naming + Limited> Model for Locked<R, L> {
-    ghost use Rattle.std.specs.Prelude.{List};
-    ghost use Rattle.jlr_hall.specs.declared.step.Step.{Step};
-    ghost use Rattle.jlr_hall.specs.OneHistory.{IsWhole};
+    ghost use Rattle.jlr_hall.specs.Locking.{IsLocked, Under, under};
 
-    ghost Value = { List (Step R) };
+    ghost Value = { Under R };
 
-    ghost view = { λ l. l.keeper.all };
+    ghost view = { λ l. under l.book l.keeper.all };
 
-    ghost invariant = { λ l. IsWhole L.limits l.book l.keeper.all };
+    ghost invariant = { λ l. IsLocked L.limits l.book l.dues l.keeper.all };
 }
 
 /// Who would find something to do.
@@ -59,17 +66,20 @@ pub(crate) struct Looks {
 
 impl<R: Drop, L: Naming + Limited> Locked<R, L> {
     pub(crate) fn new(book: Book<R>, keeper: Keeper<Step<R>, L>) -> Self
-        requires { IsWhole L.limits book keeper.all }
+        requires whole { IsWhole L.limits book keeper.all }
+        requires none { keeper.all ≡ [] }
     {
         Locked {
             book,
             keeper,
             stopped: false,
             chairs: Chairs::new(),
+            dues: Dues::new(),
         }
     }
 
-    /// One event of a seat: a step of the core, and of the one history. Or the book declines it, and it is none.
+    /// One event of a seat, of this effect: a step of the core, and of the one history. Or the book declines it, and it
+    /// is none.
     #[inline(always)]
     pub(crate) fn ask(
         &mut self,
@@ -77,27 +87,60 @@ impl<R: Drop, L: Naming + Limited> Locked<R, L> {
         pass: &mut Pass<Step<R>, L>,
         seat: u8,
         event: Event<R>,
+        effect: Effect,
         room: Option<CopyRoom>,
     ) -> Reply<R>
         requires brought { Brings room (ask_of event) }
         requires seat { (pass.old.seat ≡ seat) × (seat < L.limits.sessions + 3) }
-        ensures asked { Asked L.limits pass.old event result pass.new }
+        requires effect { effect ≡ effect_of event }
+        ensures asked { AskedIn L.limits self.old.log pass.old event result pass.new }
         ensures out { HasItsResource result }
     {
-        let Locked { book, keeper, .. } = self;
+        let Locked {
+            book,
+            keeper,
+            dues,
+            ..
+        } = self;
         book.is_history();
         let was = Snapshot::of(&*book);
         let asked = Snapshot::of(&event);
         let reply = book.step(seat, event, room);
         note::<R, L, Brand>(log, keeper, pass, seat, &was, &asked, &reply, book);
+        dues.after(seat, effect, &reply);
         reply
     }
 
-    /// Whether the marker would find something to do: a cycle to begin, or one that is open. One is to begin where the
-    /// book says so, or where, since the last one began, a session left with resources open or there was no room for a
-    /// resource.
-    pub(crate) fn has_marking(&self) -> bool {
-        self.chairs.cycle_owed() || self.book.marker_due() || self.book.cycle_open()
+    /// Whether a cycle is to begin: none is open, and the book says that one is due, or since the last one began a
+    /// session left with resources open or there was no room for a resource.
+    pub(crate) fn is_due(&self) -> bool
+        ensures due { IsTrue result ↔ IsDueIn self.now.book self.now.log }
+        ensures whole { IsWhole L.limits self.now.book self.now.log }
+    {
+        self.book.marker_due() || self.dues.owed() && !self.book.cycle_open()
+    }
+
+    /// Whether the marker would find something to do: a cycle that is open, or one to begin.
+    pub(crate) fn has_marking(&self) -> bool
+        ensures { IsTrue result ↔ HasMarking self.now.book self.now.log }
+    {
+        self.book.cycle_open() || self.is_due()
+    }
+
+    /// Whether something is pending, for the handler.
+    pub(crate) fn has_pending(&self) -> bool
+        ensures pending { IsTrue result ↔ (self.now.book.core.machine.pending ≢ []) }
+        ensures whole { IsWhole L.limits self.now.book self.now.log }
+    {
+        !self.book.pending_empty()
+    }
+
+    /// Whether something stands in the cleaner's line.
+    pub(crate) fn has_line(&self) -> bool
+        ensures line { IsTrue result ↔ (self.now.book.core.machine.line ≢ []) }
+        ensures whole { IsWhole L.limits self.now.book self.now.log }
+    {
+        !self.book.line_empty()
     }
 
     /// Whether a `Remove` is to wait: its queue is empty, its client is not gone, and nothing ends.
@@ -123,21 +166,18 @@ impl<R: Drop, L: Naming + Limited> Locked<R, L> {
 
     /// Whether something may still be closed: a session's connection, or what a cycle or the cleaner would find.
     fn may_close(&self) -> bool {
-        self.chairs.is_any_joined()
-            || self.has_marking()
-            || !self.book.pending_empty()
-            || !self.book.line_empty()
+        self.chairs.is_any_joined() || self.has_marking() || self.has_pending() || self.has_line()
     }
 
-    /// What an answered event of a seat means for who waits. Who would find something to do now.
-    fn looks(&mut self, seat: u8, effect: Effect, reply: &Reply<R>) -> Looks
+    /// What an answered event means for who waits. Who would find something to do now.
+    fn looks(&mut self, effect: Effect, reply: &Reply<R>) -> Looks
         ensures { self.new ≡ self.old }
     {
-        self.chairs.after(seat, effect, reply);
+        self.chairs.after(effect, reply);
         Looks {
             marker: self.has_marking(),
-            handler: !self.book.pending_empty(),
-            cleaner: !self.book.line_empty(),
+            handler: self.has_pending(),
+            cleaner: self.has_line(),
             removers: match effect {
                 Effect::Queues if says_queued(reply) => self.satisfied(),
                 _ => 0,
@@ -336,7 +376,7 @@ impl<R: Drop, L: Naming + Limited> Seat<R, L> {
     /// One `Remove` of this seat's mutator, asked once its queue holds something, or once the hall is to end. Where the
     /// client at the seat is gone it is declined: nothing is taken off the queue.
     pub fn remove_waiting<T: Wait>(&mut self, rt: &T, hall: &Hall<R, L>, queue: Handle) -> Reply<R>
-        ensures { Asked L.limits self.old (Remove self.old.seat queue) result self.new }
+        ensures { Asked L.limits self.old (Asks (Remove self.old.seat queue)) result self.new }
     {
         let mutator = Mutator::new(self.index());
         self.remove(rt, hall, Removal { mutator, queue })
@@ -349,15 +389,38 @@ impl<R: Drop, L: Naming + Limited> Seat<R, L> {
         hall: &Hall<R, L>,
         removal: Removal,
     ) -> Reply<R>
-        ensures asked { Asked L.limits self.old (Remove removal.mutator removal.queue) result self.new }
+        ensures asked { Asked L.limits self.old (Asks (Remove removal.mutator removal.queue)) result self.new }
         ensures out { HasItsResource result }
     {
         let Removal { mutator, queue } = removal;
-        let event = Event::Remove { mutator, queue };
         match hall.enter(rt, self.index, removal) {
-            Some(locked) => self.ask_under(hall, locked, event, None),
-            None => refuse(event, Refusal::NoMemory),
+            Some(locked) => self.ask_plain_under(hall, locked, Ask::Remove { mutator, queue }),
+            None => decline(Refusal::NoMemory),
         }
+    }
+
+    /// One ask that hands in no resource. A job comes with its resource.
+    pub(crate) fn ask_plain<T: Wait>(&mut self, rt: &T, hall: &Hall<R, L>, ask: Ask) -> Reply<R>
+        requires plain { hands_in ask ≡ false }
+        ensures asked { Asked L.limits self.old (Asks ask) result self.new }
+        ensures out { HasItsResource result }
+    {
+        self.ask_once(rt, hall, Event::ask(ask), None)
+    }
+
+    /// The same under the lock, which is let go.
+    #[inline(always)]
+    pub(crate) fn ask_plain_under(
+        &mut self,
+        hall: &Hall<R, L>,
+        locked: MutexGuard<'_, Locked<R, L>>,
+        ask: Ask,
+    ) -> Reply<R>
+        requires plain { hands_in ask ≡ false }
+        ensures asked { AskedIn L.limits (mutex_guard_value locked.entry).log self.old (Asks ask) result self.new }
+        ensures out { HasItsResource result }
+    {
+        self.ask_under(hall, locked, Event::ask(ask), None)
     }
 
     /// One event. A job comes with its resource.
@@ -379,7 +442,7 @@ impl<R: Drop, L: Naming + Limited> Seat<R, L> {
 
     /// One event under the lock, which is let go. Who would find something to do is woken.
     #[inline(always)]
-    fn ask_under(
+    pub(crate) fn ask_under(
         &mut self,
         hall: &Hall<R, L>,
         mut locked: MutexGuard<'_, Locked<R, L>>,
@@ -387,13 +450,13 @@ impl<R: Drop, L: Naming + Limited> Seat<R, L> {
         room: Option<CopyRoom>,
     ) -> Reply<R>
         requires { Brings room (ask_of event) }
-        ensures asked { Asked L.limits self.old event result self.new }
+        ensures asked { AskedIn L.limits (mutex_guard_value locked.entry).log self.old event result self.new }
         ensures out { HasItsResource result }
     {
         let effect = Effect::of(&event);
         let Seat { index, pass, .. } = self;
-        let reply = locked.ask(&hall.log, pass, *index, event, room);
-        let looks = locked.looks(*index, effect, &reply);
+        let reply = locked.ask(&hall.log, pass, *index, event, effect, room);
+        let looks = locked.looks(effect, &reply);
         drop(locked);
         hall.wake(looks);
         reply
@@ -407,6 +470,6 @@ impl<R: Drop, L: Naming + Limited> Seat<R, L> {
         let event = Event::Mark { budget };
         hall.locked
             .lock(rt)
-            .ask(&hall.log, pass, *index, event, None)
+            .ask(&hall.log, pass, *index, event, Effect::Nothing, None)
     }
 }

@@ -13,6 +13,7 @@
 
 mod chairs;
 pub mod closing;
+mod dues;
 mod effect;
 pub mod hall;
 pub mod loops;

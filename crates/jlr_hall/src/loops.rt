@@ -1,36 +1,42 @@
 //! The loops beside the sessions. Each asks only where its look says that there is work, and ends once the hall is to
 //! end.
-ghost use Rattle.std.specs.Prelude.{◌≡◌, ◌⊎◌, ℕ, true, Some, None, IfErr, IfOk};
-ghost use Rattle.jlr_event.specs.declared.event.Event.TheVariants.{Begin, Collect};
+ghost use Rattle.std.specs.Prelude.{ℕ, Some, None, IfErr, IfOk, IfSome};
+ghost use Rattle.std.specs.Sync.Mutex.{mutex_guard_value};
 ghost use Rattle.jlr_log.specs.Seeing.{Seen};
 ghost use Rattle.jlr_hall.specs.declared.step.Step.{Step};
+ghost use Rattle.jlr_hall.specs.Due.{HasLine, HasPending, IsDueAt};
 ghost use Rattle.jlr_hall.specs.Loops.{AsksOnly, CleansIn, IsHandlers, IsMarkers};
 
 use crate::effect::was_refused;
-use crate::hall::Hall;
+use crate::hall::{Hall, Locked};
 use crate::seat::Seat;
 use crate::step::{Limited, Step};
 use jlr_cleaner::Job;
 use jlr_device::Resource;
-use jlr_event::event::{Event, Reply};
+use jlr_event::event::Reply;
 use jlr_log::Naming;
-use jlr_machine::ask::Answer;
+use jlr_machine::ask::{Answer, Ask};
 use jlr_session::job::{carry_out, job_of};
 use jlr_types::Progress;
-use std::sync::Wait;
+use std::sync::{MutexGuard, Wait};
 
 /// In whose name the cleaner takes jobs up.
 const CLEANER: u8 = 255;
 
 impl<R: Drop, L: Naming + Limited> Hall<R, L> {
-    /// Waits until something is pending. True where the hall is to end.
-    fn wait_for_pending<T: Wait>(&self, rt: &T) -> bool {
+    /// Takes the lock once something is pending. None where the hall is to end.
+    fn wait_for_pending<T: Wait>(&self, rt: &T) -> Option<MutexGuard<'_, Locked<R, L>>>
+        ensures { IfSome result (λ locked. HasPending L.limits (mutex_guard_value locked).log) }
+    {
         let locked = self.handler.wait_while(
             rt,
             self.locked.lock(rt),
-            |l| !l.stopped && l.book.pending_empty(),
+            |l| !l.stopped && !l.has_pending(),
         );
-        locked.stopped
+        if locked.stopped || !locked.has_pending() {
+            return None;
+        }
+        Some(locked)
     }
 
     /// Waits until the handler is woken, unless the hall is to end.
@@ -41,14 +47,17 @@ impl<R: Drop, L: Naming + Limited> Hall<R, L> {
         }
     }
 
-    /// Waits until something stands in the cleaner's line. True where the hall is to end.
-    fn wait_for_line<T: Wait>(&self, rt: &T) -> bool {
-        let locked = self.cleaner.wait_while(
-            rt,
-            self.locked.lock(rt),
-            |l| !l.stopped && l.book.line_empty(),
-        );
-        locked.stopped
+    /// Takes the lock once something stands in the cleaner's line. None where the hall is to end.
+    fn wait_for_line<T: Wait>(&self, rt: &T) -> Option<MutexGuard<'_, Locked<R, L>>>
+        ensures { IfSome result (λ locked. HasLine L.limits (mutex_guard_value locked).log) }
+    {
+        let locked = self
+            .cleaner
+            .wait_while(rt, self.locked.lock(rt), |l| !l.stopped && !l.has_line());
+        if locked.stopped || !locked.has_line() {
+            return None;
+        }
+        Some(locked)
     }
 
     /// Waits until the cleaner is woken, unless the hall is to end.
@@ -59,20 +68,17 @@ impl<R: Drop, L: Naming + Limited> Hall<R, L> {
         }
     }
 
-    /// Waits until the marker has something to do, and says what.
-    fn wait_for_marking<T: Wait>(&self, rt: &T) -> MarkerTask {
+    /// Takes the lock once the marker has something to do. None where the hall is to end.
+    fn wait_for_marking<T: Wait>(&self, rt: &T) -> Option<MutexGuard<'_, Locked<R, L>>> {
         let locked = self.marker.wait_while(
             rt,
             self.locked.lock(rt),
             |l| !l.stopped && !l.has_marking(),
         );
         if locked.stopped {
-            MarkerTask::End
-        } else if locked.book.cycle_open() {
-            MarkerTask::Mark
-        } else {
-            MarkerTask::Begin
+            return None;
         }
+        Some(locked)
     }
 
     /// Waits until the marker is woken, unless the hall is to end.
@@ -84,37 +90,47 @@ impl<R: Drop, L: Naming + Limited> Hall<R, L> {
     }
 }
 
-/// What the marker is to do.
-#[derive(Clone, Copy)]
-enum MarkerTask {
-    /// A cycle is to begin.
-    Begin,
-    /// One is open: a piece of it is to be marked.
-    Mark,
-    /// Nothing more: the hall is to end.
-    End,
-}
-
-/// Begins a cycle where one is due, marks it in pieces of at most so many cells, and collects it once all is marked,
-/// until the hall is to end. Each ask and each piece has the lock for itself, so that the sessions go on between them.
-/// A cycle that something else has closed is left; where an ask is refused it waits for the next event.
+/// Begins a cycle where one is due, which it looks at and asks under one taking of the lock. Marks it in pieces of at
+/// most so many cells, and collects it once all is marked, until the hall is to end. Each ask and each piece has the
+/// lock for itself, so that the sessions go on between them. A cycle that something else has closed is left; where an
+/// ask is refused it waits for the next event.
 pub fn marker_loop<R: Drop, L: Naming + Limited, T: Wait>(
     seat: Seat<R, L>,
     rt: &T,
     hall: &Hall<R, L>,
     budget: u32,
 ) -> Seat<R, L>
-    ensures { AsksOnly L.limits (IsMarkers budget) seat result }
+    ensures { AsksOnly L.limits (IsMarkers L.limits budget) seat result }
 {
     let mut seat = seat;
     for _ in rt.forever() {
-        match hall.wait_for_marking(rt) {
-            MarkerTask::Begin => ask_or_wait(&mut seat, rt, hall, Event::Begin),
-            MarkerTask::Mark => mark_or_collect(&mut seat, rt, hall, budget),
-            MarkerTask::End => break,
+        let Some(locked) = hall.wait_for_marking(rt) else {
+            break;
+        };
+        if locked.is_due() {
+            begin(&mut seat, rt, hall, locked);
+        } else {
+            drop(locked);
+            mark_or_collect(&mut seat, rt, hall, budget);
         }
     }
     seat
+}
+
+/// Begins the cycle that is due. Where that is refused it waits for the next event.
+fn begin<R: Drop, L: Naming + Limited, T: Wait>(
+    seat: &mut Seat<R, L>,
+    rt: &T,
+    hall: &Hall<R, L>,
+    locked: MutexGuard<'_, Locked<R, L>>,
+)
+    requires { IsDueAt L.limits (mutex_guard_value locked).log }
+    ensures { (budget : ℕ) (first : Seen (Step R)) → AsksOnly L.limits (IsMarkers L.limits budget) first seat.old
+        → AsksOnly L.limits (IsMarkers L.limits budget) first seat.new }
+{
+    if was_refused(&seat.ask_plain_under(hall, locked, Ask::Begin)) {
+        hall.wait_for_marker(rt);
+    }
 }
 
 /// A piece of marking, and where all is marked then the collection.
@@ -124,11 +140,11 @@ fn mark_or_collect<R: Drop, L: Naming + Limited, T: Wait>(
     hall: &Hall<R, L>,
     budget: u32,
 )
-    ensures { (first : Seen (Step R)) → AsksOnly L.limits (IsMarkers budget) first seat.old
-        → AsksOnly L.limits (IsMarkers budget) first seat.new }
+    ensures { (first : Seen (Step R)) → AsksOnly L.limits (IsMarkers L.limits budget) first seat.old
+        → AsksOnly L.limits (IsMarkers L.limits budget) first seat.new }
 {
     if all_is_marked(&seat.mark(rt, hall, budget)) {
-        ask_or_wait(seat, rt, hall, Event::Collect);
+        collect(seat, rt, hall);
     }
 }
 
@@ -137,46 +153,54 @@ fn all_is_marked<R>(reply: &Reply<R>) -> bool {
     matches!(reply, Reply::Marked(Progress::Done))
 }
 
-/// One ask of the marker's. Where it is refused it waits for the next event.
-fn ask_or_wait<R: Drop, L: Naming + Limited, T: Wait>(
-    seat: &mut Seat<R, L>,
-    rt: &T,
-    hall: &Hall<R, L>,
-    event: Event<R>,
-)
-    requires { (event ≡ Begin) ⊎ (event ≡ Collect) }
-    ensures { (budget : ℕ) (first : Seen (Step R)) → AsksOnly L.limits (IsMarkers budget) first seat.old
-        → AsksOnly L.limits (IsMarkers budget) first seat.new }
+/// The collection of a cycle. Where it is refused it waits for the next event.
+fn collect<R: Drop, L: Naming + Limited, T: Wait>(seat: &mut Seat<R, L>, rt: &T, hall: &Hall<R, L>)
+    ensures { (budget : ℕ) (first : Seen (Step R)) → AsksOnly L.limits (IsMarkers L.limits budget) first seat.old
+        → AsksOnly L.limits (IsMarkers L.limits budget) first seat.new }
 {
-    if was_refused(&seat.ask_once(rt, hall, event, None)) {
+    if was_refused(&seat.ask_plain(rt, hall, Ask::Collect)) {
         hall.wait_for_marker(rt);
     }
 }
 
-/// Hands over while something is pending, until the hall is to end. Where an ask is refused it waits for the next
-/// event.
+/// Hands over where something is pending, which it looks at and asks under one taking of the lock, until the hall is to
+/// end. Where an ask is refused it waits for the next event.
 pub fn handler_loop<R: Drop, L: Naming + Limited, T: Wait>(
     seat: Seat<R, L>,
     rt: &T,
     hall: &Hall<R, L>,
 ) -> Seat<R, L>
-    ensures { AsksOnly L.limits IsHandlers seat result }
+    ensures { AsksOnly L.limits (IsHandlers L.limits) seat result }
 {
     let mut seat = seat;
     for _ in rt.forever() {
-        if hall.wait_for_pending(rt) {
+        let Some(locked) = hall.wait_for_pending(rt) else {
             break;
-        }
-        if was_refused(&seat.ask_once(rt, hall, Event::HandOver, None)) {
-            hall.wait_for_handler(rt);
-        }
+        };
+        hand_over(&mut seat, rt, hall, locked);
     }
     seat
 }
 
-/// Takes up what is Lined and does its work, until the hall is to end. It looks for that only between jobs: the outcome
-/// of each job is told, and none is left at the end. The work is done outside of the lock. Where a take-up is refused
-/// it waits for the next event.
+/// Hands over what is pending. Where that is refused it waits for the next event.
+fn hand_over<R: Drop, L: Naming + Limited, T: Wait>(
+    seat: &mut Seat<R, L>,
+    rt: &T,
+    hall: &Hall<R, L>,
+    locked: MutexGuard<'_, Locked<R, L>>,
+)
+    requires { HasPending L.limits (mutex_guard_value locked).log }
+    ensures { (first : Seen (Step R)) → AsksOnly L.limits (IsHandlers L.limits) first seat.old
+        → AsksOnly L.limits (IsHandlers L.limits) first seat.new }
+{
+    if was_refused(&seat.ask_plain_under(hall, locked, Ask::HandOver)) {
+        hall.wait_for_handler(rt);
+    }
+}
+
+/// Takes up what is Lined, which it looks at and asks under one taking of the lock, and does its work, until the hall
+/// is to end. It looks for that only between jobs: the outcome of each job is told, and none is left at the end. The
+/// work is done outside of the lock. Where a take-up is refused it waits for the next event.
 pub fn cleaner_loop<R: Resource + Drop, L: Naming + Limited, T: Wait>(
     seat: Seat<R, L>,
     rt: &T,
@@ -186,10 +210,10 @@ pub fn cleaner_loop<R: Resource + Drop, L: Naming + Limited, T: Wait>(
 {
     let mut seat = seat;
     for _ in rt.forever() {
-        if hall.wait_for_line(rt) {
+        let Some(locked) = hall.wait_for_line(rt) else {
             break;
-        }
-        if !clean(&mut seat, rt, hall) {
+        };
+        if !clean(&mut seat, rt, hall, locked) {
             break;
         }
     }
@@ -201,11 +225,13 @@ fn clean<R: Resource + Drop, L: Naming + Limited, T: Wait>(
     seat: &mut Seat<R, L>,
     rt: &T,
     hall: &Hall<R, L>,
+    locked: MutexGuard<'_, Locked<R, L>>,
 ) -> bool
+    requires { HasLine L.limits (mutex_guard_value locked).log }
     ensures { (first : Seen (Step R)) → CleansIn R.handling L.limits first None seat.old
         → CleansIn R.handling L.limits first None seat.new }
 {
-    match take_up(seat, rt, hall) {
+    match take_up(seat, hall, locked) {
         Ok(job) => finish(seat, rt, hall, job),
         Err(refused) => {
             if refused {
@@ -217,17 +243,18 @@ fn clean<R: Resource + Drop, L: Naming + Limited, T: Wait>(
 }
 
 /// One take-up. Without a job: whether it was refused.
-fn take_up<R: Resource + Drop, L: Naming + Limited, T: Wait>(
+fn take_up<R: Resource + Drop, L: Naming + Limited>(
     seat: &mut Seat<R, L>,
-    rt: &T,
     hall: &Hall<R, L>,
+    locked: MutexGuard<'_, Locked<R, L>>,
 ) -> Result<Job<R>, bool>
+    requires { HasLine L.limits (mutex_guard_value locked).log }
     ensures job { (first : Seen (Step R)) → CleansIn R.handling L.limits first None seat.old
         → IfOk result (λ job. CleansIn R.handling L.limits first (Some job) seat.new) }
     ensures none { (first : Seen (Step R)) → CleansIn R.handling L.limits first None seat.old
         → IfErr result (λ _. CleansIn R.handling L.limits first None seat.new) }
 {
-    match job_of(seat.ask_once(rt, hall, Event::TakeUp, None)) {
+    match job_of(seat.ask_plain_under(hall, locked, Ask::TakeUp)) {
         Ok(job) => Ok(job),
         Err(answer) => Err(refuses(answer)),
     }

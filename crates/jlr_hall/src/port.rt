@@ -1,8 +1,9 @@
 //! A seat as what the asks of a session go to.
-ghost use Rattle.std.specs.Prelude.{◌≡◌, IfErr, None};
+ghost use Rattle.std.specs.Prelude.{◌≡◌, IfErr, IfSome, None};
 ghost use Rattle.jlr_machine.specs.Data.{Brings};
 ghost use Rattle.jlr_event.specs.Events.{ask_of};
-ghost use Rattle.jlr_event.specs.declared.event.Event.TheVariants.{CheckOut, Remove};
+ghost use Rattle.jlr_machine.specs.declared.ask.Ask.TheVariants.{CheckOut, Remove};
+ghost use Rattle.jlr_event.specs.declared.event.Event.TheVariants.{Ask as Asks};
 ghost use Rattle.jlr_event.specs.declared.event.Reply.TheVariants.{Answered};
 ghost use Rattle.jlr_machine.specs.declared.ask.Answer.TheVariants.{Refused};
 ghost use Rattle.jlr_hall.specs.Asking.{Asked};
@@ -13,6 +14,7 @@ use crate::seat::Seat;
 use crate::step::Limited;
 use jlr_event::event::{Event, Reply};
 use jlr_log::Naming;
+use jlr_machine::ask::Ask;
 use jlr_machine::data::CallRoom;
 use jlr_session::port::{Port, ReadRoom};
 use jlr_types::{Handle, Mutator, Refusal};
@@ -56,7 +58,7 @@ impl<'a, R, L: Naming + Limited, T> SeatPort<'a, R, L, T> {
 impl<'a, R: Drop, L: Naming + Limited, T: Wait> SeatPort<'a, R, L, T> {
     /// A `Remove`, which waits.
     fn remove(&mut self, removal: Removal) -> Reply<R>
-        ensures asked { Asked L.limits self.old (Remove removal.mutator removal.queue) result self.new }
+        ensures asked { Asked L.limits self.old (Asks (Remove removal.mutator removal.queue)) result self.new }
         ensures named { self.new.seat ≡ self.old.seat }
     {
         self.seat.remove(self.rt, self.hall, removal)
@@ -76,7 +78,7 @@ impl<'a, R: Drop, L: Naming + Limited, T: Wait> Port<R> for SeatPort<'a, R, L, T
     ghost use Rattle.jlr_machine.specs.declared.ask.Answer.TheVariants.{Refused};
     ghost use Rattle.jlr_machine.specs.Data.{Brings};
     ghost use Rattle.jlr_event.specs.Events.{ask_of};
-    ghost use Rattle.jlr_event.specs.declared.event.Event.TheVariants.{CheckOut};
+    ghost use Rattle.jlr_event.specs.declared.event.Event.TheVariants.{Ask as Asks};
     ghost use Rattle.jlr_event.specs.declared.event.Reply.TheVariants.{Answered};
     ghost use Rattle.jlr_hall.specs.Asking.{Asked};
     ghost use Rattle.jlr_hall.specs.Ports.{by_seat};
@@ -91,7 +93,7 @@ impl<'a, R: Drop, L: Naming + Limited, T: Wait> Port<R> for SeatPort<'a, R, L, T
 
     fn read_room(&self, guard: Handle) -> Result<ReadRoom, Refusal>
         ensures declined { IfErr result (λ by.
-            Asked L.limits self.now (CheckOut self.now.seat guard) (Answered (Refused by) None) self.now) }
+            Asked L.limits self.now (Asks (CheckOut self.now.seat guard)) (Answered (Refused by) None) self.now) }
     {
         let _declined = guard;
         match ReadRoom::new(self.seat.alloc()) {
@@ -105,14 +107,30 @@ impl<'a, R: Drop, L: Naming + Limited, T: Wait> Port<R> for SeatPort<'a, R, L, T
         ensures asked { Asked L.limits self.old event result self.new }
         ensures named { self.new.seat ≡ self.old.seat }
     {
-        match event {
-            Event::Remove { mutator, queue } => self.remove(Removal { mutator, queue }),
-            event => self.ask_once(event, room),
+        if let Some(removal) = removal_of(&event) {
+            return self.remove(removal);
         }
+        self.ask_once(event, room)
     }
 
     fn settle(&mut self)
         ensures settled { self.new ≡ self.old }
         ensures named { self.new.seat ≡ self.old.seat }
     {}
+}
+
+/// The `Remove` that an event is.
+fn removal_of<R>(event: &Event<R>) -> Option<Removal>
+    ensures { IfSome result (λ removal. event.now ≡ Asks (Remove removal.mutator removal.queue)) }
+{
+    let Event::Ask(ask) = event else {
+        return None;
+    };
+    match ask.get() {
+        Ask::Remove { mutator, queue } => Some(Removal {
+            mutator: *mutator,
+            queue: *queue,
+        }),
+        _ => None,
+    }
 }

@@ -12,7 +12,7 @@ use Rattle.jlr_event.specs.declared.event.Reply.{Reply}
 use Rattle.jlr_session.specs.Calls.{Opening}
 use Rattle.jlr_log.specs.Seeing.{Seen, seen}
 use Rattle.jlr_hall.specs.declared.step.Step.{Step}
-use Rattle.jlr_hall.specs.Loops.{AsksOnly, Chain, CleansIn, IsHandlers, IsMarkers}
+use Rattle.jlr_hall.specs.Loops.{AsksOnly, Chain, CleansIn, IsCleaners, IsHandlers, IsMarkers}
 use Rattle.jlr_hall.proofs.Turns.{same_seat, asks_none, cleans_none}
 use Rattle.jlr_server.specs.Giving.{Giving}
 use Rattle.jlr_server.specs.declared.acceptor.AcceptId.{AcceptId}
@@ -55,9 +55,9 @@ module _ {R : Type 0} where
 
 module _ {R : Type 0} (limits : Limits) where
   -- asks leave a seat the one that it is
-  pub chain_stays : (p : Seen (Step R)) (asks : List (Event R × Reply R)) (q : Seen (Step R)) → Chain limits p asks q → q.seat ≡ p.seat
-  chain_stays p [] q c = ap (λ (x : Seen (Step R)). x.seat) c
-  chain_stays p (x ∷ asks) q c = chain_stays c.0 asks q c.2 ∙ same_seat limits p c.0 x.0 x.1 c.1
+  pub chain_stays : (may : List (Step R) → Event R → Type 0) (p : Seen (Step R)) (asks : List (Event R × Reply R)) (q : Seen (Step R)) → Chain limits may p asks q → q.seat ≡ p.seat
+  chain_stays may p [] q c = ap (λ (x : Seen (Step R)). x.seat) c
+  chain_stays may p (x ∷ asks) q c = chain_stays may c.0 asks q c.3 ∙ same_seat limits p c.0 x.0 x.1 c.1
 
   module _ {D : Type 0} (device : Opening D R) (handling : Handling R) where
     module _ {A I O : Type 0} (giving : Giving A I O) (remaining : I → Option (List ℕ)) (contents : O → Option (List ℕ)) where
@@ -115,8 +115,8 @@ module _ {R : Type 0} (limits : Limits) where
       pub no_work : (p : Seen (Step R)) → p ≡ seen p.seat [] → IsWork limits device handling giving remaining contents (work p 0 0)
       no_work p fresh = record {
         sessions = λ is. ([], fresh, refl, refl);
-        marker = λ is. subst (λ (x : Seen (Step R)). AsksOnly limits (IsMarkers limits.budget) x p) fresh (asks_none limits (IsMarkers limits.budget) p);
-        handler = λ is. subst (λ (x : Seen (Step R)). AsksOnly limits IsHandlers x p) fresh (asks_none limits IsHandlers p);
+        marker = λ is. subst (λ (x : Seen (Step R)). AsksOnly limits (IsMarkers limits limits.budget) x p) fresh (asks_none limits (IsMarkers limits limits.budget) p);
+        handler = λ is. subst (λ (x : Seen (Step R)). AsksOnly limits (IsHandlers limits) x p) fresh (asks_none limits (IsHandlers limits) p);
         cleaner = λ is. subst (λ (x : Seen (Step R)). CleansIn handling limits x None p) fresh (cleans_none handling limits p);
         only_sessions = λ is. refl;
       }
@@ -144,33 +144,33 @@ module _ {R : Type 0} (limits : Limits) where
       }
 
       -- what the loops did
-      pub marked : (p q : Seen (Step R)) → p ≡ seen limits.sessions [] → AsksOnly limits (IsMarkers limits.budget) p q → IsWork limits device handling giving remaining contents (work q 0 0)
+      pub marked : (p q : Seen (Step R)) → p ≡ seen limits.sessions [] → AsksOnly limits (IsMarkers limits limits.budget) p q → IsWork limits device handling giving remaining contents (work q 0 0)
       marked p q fresh did =
-          let at : q.seat ≡ limits.sessions = chain_stays p did.0 q did.1 ∙ ap (λ (x : Seen (Step R)). x.seat) fresh in
-          let from = subst (λ (x : Seen (Step R)). AsksOnly limits (IsMarkers limits.budget) x q) fresh did in
+          let at : q.seat ≡ limits.sessions = chain_stays (IsMarkers limits limits.budget) p did.0 q did.1 ∙ ap (λ (x : Seen (Step R)). x.seat) fresh in
+          let from = subst (λ (x : Seen (Step R)). AsksOnly limits (IsMarkers limits limits.budget) x q) fresh did in
           record {
             sessions = λ is. absurd (omega (arith, at, is));
-            marker = λ is. subst (λ (n : ℕ). AsksOnly limits (IsMarkers limits.budget) (seen n []) q) (sym at) from;
+            marker = λ is. subst (λ (n : ℕ). AsksOnly limits (IsMarkers limits limits.budget) (seen n []) q) (sym at) from;
             handler = λ is. absurd (omega (arith, at, is));
             cleaner = λ is. absurd (omega (arith, at, is));
             only_sessions = λ is. refl;
           }
 
-      pub handed_over : (p q : Seen (Step R)) → p ≡ seen (limits.sessions + 1) [] → AsksOnly limits IsHandlers p q → IsWork limits device handling giving remaining contents (work q 0 0)
+      pub handed_over : (p q : Seen (Step R)) → p ≡ seen (limits.sessions + 1) [] → AsksOnly limits (IsHandlers limits) p q → IsWork limits device handling giving remaining contents (work q 0 0)
       handed_over p q fresh did =
-          let at : q.seat ≡ limits.sessions + 1 = chain_stays p did.0 q did.1 ∙ ap (λ (x : Seen (Step R)). x.seat) fresh in
-          let from = subst (λ (x : Seen (Step R)). AsksOnly limits IsHandlers x q) fresh did in
+          let at : q.seat ≡ limits.sessions + 1 = chain_stays (IsHandlers limits) p did.0 q did.1 ∙ ap (λ (x : Seen (Step R)). x.seat) fresh in
+          let from = subst (λ (x : Seen (Step R)). AsksOnly limits (IsHandlers limits) x q) fresh did in
           record {
             sessions = λ is. absurd (omega (arith, at, is));
             marker = λ is. absurd (omega (arith, at, is));
-            handler = λ is. subst (λ (n : ℕ). AsksOnly limits IsHandlers (seen n []) q) (sym at) from;
+            handler = λ is. subst (λ (n : ℕ). AsksOnly limits (IsHandlers limits) (seen n []) q) (sym at) from;
             cleaner = λ is. absurd (omega (arith, at, is));
             only_sessions = λ is. refl;
           }
 
       pub cleaned : (p q : Seen (Step R)) → p ≡ seen (limits.sessions + 2) [] → CleansIn handling limits p None q → IsWork limits device handling giving remaining contents (work q 0 0)
       cleaned p q fresh did =
-          let at : q.seat ≡ limits.sessions + 2 = chain_stays p did.0 q did.1 ∙ ap (λ (x : Seen (Step R)). x.seat) fresh in
+          let at : q.seat ≡ limits.sessions + 2 = chain_stays (IsCleaners limits) p did.0 q did.1 ∙ ap (λ (x : Seen (Step R)). x.seat) fresh in
           let from = subst (λ (x : Seen (Step R)). CleansIn handling limits x None q) fresh did in
           record {
             sessions = λ is. absurd (omega (arith, at, is));

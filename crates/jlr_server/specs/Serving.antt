@@ -81,8 +81,8 @@ module _ {D R : Type 0} (limits : Limits) (device : Opening D R) (handling : Han
     -- the seats of sessions serve, the three others are the marker's, the handler's and the cleaner's
     pub record IsWork (w : Work R) : Type 0 where
       pub sessions : w.seat.seat < limits.sessions → ServesClients w.sessions w.missed w.seat
-      pub marker : w.seat.seat ≡ limits.sessions → AsksOnly limits (IsMarkers limits.budget) (seen w.seat.seat []) w.seat
-      pub handler : w.seat.seat ≡ limits.sessions + 1 → AsksOnly limits IsHandlers (seen w.seat.seat []) w.seat
+      pub marker : w.seat.seat ≡ limits.sessions → AsksOnly limits (IsMarkers limits limits.budget) (seen w.seat.seat []) w.seat
+      pub handler : w.seat.seat ≡ limits.sessions + 1 → AsksOnly limits (IsHandlers limits) (seen w.seat.seat []) w.seat
       pub cleaner : w.seat.seat ≡ limits.sessions + 2 → CleansIn handling limits (seen w.seat.seat []) None w.seat
       pub only_sessions : limits.sessions ≤ w.seat.seat → accepts_of w ≡ 0
 

@@ -520,22 +520,27 @@ where
         drop((hall, watcher));
         return Err(ServeFault::NoMemory);
     };
+    let Ok(room) = Vec::with_capacity(alloc, manned.len()) else {
+        drop((hall, manned, watcher));
+        return Err(ServeFault::NoMemory);
+    };
     let accepts = Accepts::new(total, limits.sessions);
     match run_threads(rt, alloc, &hall, acceptor, &accepts, manned, watcher) {
-        Ok((works, heard)) => close(alloc, hall, works, heard, accepts.made(), total),
+        Ok((works, heard)) => close(room, hall, works, heard, accepts.made(), total),
         Err(fault) => {
-            drop((hall, accepts));
+            drop((hall, accepts, room));
             Err(fault)
         }
     }
 }
 
-/// What was served, where all seats are there and what was done at them comes to the accepts that were made.
+/// What was served, where all seats are there and what was done at them comes to the accepts that were made. The room for
+/// the seats was made before anybody was served, so that this takes no memory.
 ///
 /// # Errors
-/// `Miscounted` and `Close`, which never come, and `NoMemory`.
+/// `Miscounted` and `Close`, which never come, and `NoMemory`, where there were 2^32 accepts or more.
 fn close<A: Acceptor, D: Device + Drop, L: Naming + Limited, W: Watcher + Drop>(
-    alloc: Global,
+    room: Vec<Seat<D::Res, L>>,
     hall: Hall<D::Res, L>,
     works: Vec<Worked<A, D, L>>,
     heard: Heard<W>,
@@ -544,6 +549,7 @@ fn close<A: Acceptor, D: Device + Drop, L: Naming + Limited, W: Watcher + Drop>(
 ) -> Result<Watched<D::Res, W>, ServeFault>
 where
     D::Res: Drop,
+    requires { room.items ≡ [] }
     ensures served { IfOk result (λ watched. IsServed L.limits
         (record { count = D.count; opens = D.may_open; connects = D.may_connect; failures = D.Res.handling.count })
         D.Res.handling A.giving A.In.remaining A.Out.contents total (W.asked watched.watcher) watched.served.accepts watched.served.missed watched.served.book) }
@@ -551,14 +557,14 @@ where
     let Heard { watcher, asked } = heard;
     let count = hall.sessions() + 3;
     if works.len() != usize::from(count) {
-        drop((hall, works, watcher));
+        drop((room, hall, works, watcher));
         return Err(ServeFault::Miscounted);
     }
     if !are_enough(accepts, total, asked) {
-        drop((hall, works, watcher));
+        drop((room, hall, works, watcher));
         return Err(ServeFault::Miscounted);
     }
-    let Ok(tally) = taken_apart(alloc, works) else {
+    let Ok(tally) = taken_apart(room, works) else {
         drop((hall, watcher));
         return Err(ServeFault::NoMemory);
     };
@@ -622,22 +628,23 @@ where
     Ok(())
 }
 
-/// What was done at all seats.
+/// What was done at all seats, which go to the room for them.
 ///
 /// # Errors
 /// As `add`.
 fn taken_apart<A: Acceptor, D: Device + Drop, L: Naming + Limited>(
-    alloc: Global,
+    room: Vec<Seat<D::Res, L>>,
     works: Vec<Worked<A, D, L>>,
 ) -> Result<Tally<D::Res, L>, AllocError>
 where
     D::Res: Drop,
+    requires { room.items ≡ [] }
     ensures { IfOk result (λ tally. (tally.seats.items ≡ map seat_in works.items) × (tally.accepts ≡ sum_by accepts_of works.items)
         × (tally.missed ≡ sum_by (λ w. w.missed) works.items)
         × AllWork L.limits (record { count = D.count; opens = D.may_open; connects = D.may_connect; failures = D.Res.handling.count }) D.Res.handling A.giving A.In.remaining A.Out.contents works.items) }
 {
     let mut tally = Tally {
-        seats: Vec::new(alloc),
+        seats: room,
         accepts: 0,
         missed: 0,
     };

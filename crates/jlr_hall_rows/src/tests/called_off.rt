@@ -7,7 +7,7 @@ use jlr_hall::history::{Blank, Naming};
 use jlr_hall::port::SeatPort;
 use jlr_hall::seat::Seat;
 use jlr_hall::step::{Limited, Step};
-use jlr_machine::ask::Answer;
+use jlr_machine::ask::{Answer, Ask};
 use jlr_session::port::Port;
 use jlr_types::{Handle, Layout, Limits, RefKind, Refusal};
 use std::alloc::Global;
@@ -24,7 +24,7 @@ const NEXT: u32 = 8;
 fn remove<L: Naming + Limited, T: Wait>(port: &mut SeatPort<'_, u32, L, T>) -> Option<Refusal> {
     let mutator = port.mutator();
     let queue = Handle::new(1);
-    let reply = port.ask(Event::Remove { mutator, queue }, None);
+    let reply = port.ask(Event::ask(Ask::Remove { mutator, queue }), None);
     let refusal = match &reply {
         Reply::Answered { answer, .. } => match answer {
             Answer::Refused(refusal) => Some(*refusal),
@@ -39,8 +39,8 @@ fn remove<L: Naming + Limited, T: Wait>(port: &mut SeatPort<'_, u32, L, T>) -> O
 /// The mutator joins, and makes a queue.
 fn begin<L: Naming + Limited, T: Wait>(port: &mut SeatPort<'_, u32, L, T>) {
     let mutator = port.mutator();
-    drop(port.ask(Event::Join { mutator }, None));
-    drop(port.ask(Event::MakeQueue { mutator }, None));
+    drop(port.ask(Event::ask(Ask::Join { mutator }), None));
+    drop(port.ask(Event::ask(Ask::MakeQueue { mutator }), None));
 }
 
 /// A reference comes into the queue.
@@ -50,17 +50,17 @@ fn enqueue<L: Naming + Limited, T: Wait>(port: &mut SeatPort<'_, u32, L, T>, lay
     let queue = Handle::new(1);
     let reference = Handle::new(3);
     let kind = RefKind::Weak;
-    drop(port.ask(Event::New { mutator, layout }, None));
+    drop(port.ask(Event::ask(Ask::New { mutator, layout }), None));
     drop(port.ask(
-        Event::MakeRef {
+        Event::ask(Ask::MakeRef {
             mutator,
             kind,
             referent,
             queue,
-        },
+        }),
         None,
     ));
-    drop(port.ask(Event::Enqueue { mutator, reference }, None));
+    drop(port.ask(Event::ask(Ask::Enqueue { mutator, reference }), None));
 }
 
 /// How the `remove`s of one seat end.

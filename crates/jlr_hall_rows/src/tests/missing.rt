@@ -9,6 +9,7 @@ use jlr_hall::history::{Blank, Naming};
 use jlr_hall::port::SeatPort;
 use jlr_hall::seat::Seat;
 use jlr_hall::step::{Limited, Step};
+use jlr_machine::ask::Ask;
 use jlr_session::port::Port;
 use jlr_types::Limits;
 use std::alloc::Global;
@@ -117,10 +118,10 @@ fn ask<L: Naming + Limited, T: Wait>(
     let mut port = SeatPort::new(rt, hall, seat);
     let mutator = port.mutator();
     if times > 0 {
-        drop(port.ask(Event::Join { mutator }, None));
+        drop(port.ask(Event::ask(Ask::Join { mutator }), None));
     }
     for _ in 1..times {
-        drop(port.ask(Event::Stat { mutator }, None));
+        drop(port.ask(Event::ask(Ask::Stat { mutator }), None));
     }
     port.into_seat()
 }

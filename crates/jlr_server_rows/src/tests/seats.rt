@@ -7,7 +7,7 @@ use super::gates::{HELD, SERVED};
 use super::player::{Entries, entries};
 use jlr_device::gate::{Gate, GateDevice, GateResource};
 use jlr_event::event::{Event, Reply};
-use jlr_machine::ask::Answer;
+use jlr_machine::ask::{Answer, Ask};
 use jlr_server::acceptor::{AcceptId, Acceptor};
 use jlr_server::hall::hall::Hall;
 use jlr_server::hall::history::{Blank, Naming};
@@ -152,12 +152,12 @@ fn is_told<L: Naming + Limited, T: Wait>(
 ) -> bool {
     let mut port = SeatPort::new(threads, hall, seat);
     let mutator = port.mutator();
-    drop(port.ask(Event::Join { mutator }, None));
-    drop(port.ask(Event::MakeQueue { mutator }, None));
-    let remove = Event::Remove {
+    drop(port.ask(Event::ask(Ask::Join { mutator }), None));
+    drop(port.ask(Event::ask(Ask::MakeQueue { mutator }), None));
+    let remove = Event::ask(Ask::Remove {
         mutator,
         queue: Handle::new(1),
-    };
+    });
     let reply = port.ask(remove, None);
     let is_refused = would_wait(&reply);
     drop(reply);

@@ -163,7 +163,118 @@ const LISTS: &str = "
     last 5
 ";
 
+// Lists over more cells than a cut copies. After a cut the image is asked for while its entries are followed, as a save does.
+const WIDE: &str = "
+== the image of a cut is followed
+    join -> done
+    queue -> handle 1
+    cleaner -> handle 2
+    new -> handle 3
+    array 8 -> handle 4
+    put 4 3 3 -> done
+    weak 3 1 -> handle 5
+    register 2 3 7 -> handle 6
+    bind a 4 -> done
+    image 0
+    cut
+    trace 9 0
+    image 6
+    stat -> stat 6
+    image 6
+    put 4 3 0 -> done
+    drop 3 -> done
+    new -> handle 3
+    full -> done
+    pending yes
+    image 6
+    cut
+    trace 14 0
+    image 6
+    seat 2 hand_over -> queued
+    seat 2 hand_over -> lined
+    seat 3 take_up -> job 1
+    image 6
+    seat 3 finish 255 1 ok -> done
+    20 times stat -> stat 6
+    poll 1 -> handle 7
+    image 6
+    cut
+    30 times stat -> stat 6
+    image 6
+    last 69
+
+== a cut follows what is left before
+    join -> done
+    new r -> handle 1
+    begin -> yes
+    new -> handle 2
+    put 1 0 2 -> done
+    cut
+    trace 6 0
+    image 2
+    drop 2 -> done
+    cut
+    trace 7 0
+    image 2
+    put 1 0 0 -> done
+    full -> done
+    cut
+    image 1
+    cut
+    image 1
+    prepare -> prepared
+    opened 5 -> handle 2
+    cut
+    check_out 2 -> out 5
+    cut
+    check_in data 00ff 6 -> data 00ff
+    cut
+    image 3
+
+== where following takes long the next cut copies
+    join -> done
+    new -> handle 1
+    cut
+    40 times full -> done
+    cut
+    image 1
+    40 times full -> done
+    new -> handle 2
+    image 1
+    cut
+    image 2
+    60 times stat -> stat 2
+    cut
+    image 2
+
+== cuts follow one upon another
+    join -> done
+    cleaner -> handle 1
+    array 16 -> handle 2
+    200 times stat -> stat 2
+    image 2
+    array 16 -> handle 3
+    put 2 0 3 -> done
+    drop 3 -> done
+    200 times stat -> stat 3
+    image 3
+    put 2 0 0 -> done
+    full -> done
+    300 times stat -> stat 2
+    image 2
+";
+
 #[test]
 fn entries_are_numbered_through_cuts(rt: HostRuntime) -> Result<(), Fail> {
-    play_all(rt.alloc(), LISTS)
+    play_all(rt.alloc(), 16, LISTS)
+}
+
+#[test]
+fn images_are_followed_in_a_wide_heap(rt: HostRuntime) -> Result<(), Fail> {
+    play_all(rt.alloc(), 4_096, WIDE)
+}
+
+#[test]
+fn images_are_followed_where_the_trace_is_short(rt: HostRuntime) -> Result<(), Fail> {
+    play_all(rt.alloc(), 65, WIDE)
 }

@@ -5,8 +5,8 @@
 //! the image, `pending yes` that something is pending, `line no` that nothing stands in the cleaner's line, `waits 1 yes` that a `Remove`
 //! on handle 1 would wait. `cut` cuts, and `mark idle` marks a piece.
 //!
-//! A text has several lists. Each begins with `== ` and its name, and has a book of its own, with 16 cells, one session and one resource,
-//! that cuts at 64 entries. A line that begins with `-- ` is a comment.
+//! A text has several lists. Each begins with `== ` and its name, and has a book of its own, with one session and one resource, that cuts at
+//! 64 entries: with 16 cells, which a cut copies, or with so many that it is followed. A line that begins with `-- ` is a comment.
 use jlr_event::event::Event;
 use jlr_hall::Book;
 use jlr_machine::data::CopyRoom;
@@ -19,17 +19,17 @@ const TITLE: &str = "== ";
 
 const ARROW: &str = " -> ";
 
-// Every row of all lists is as it says.
-pub(super) fn play_all(alloc: Global, lists: &str) -> Result<(), Fail> {
+// Every row of all lists is as it says, with so many cells.
+pub(super) fn play_all(alloc: Global, cells: u32, lists: &str) -> Result<(), Fail> {
     for list in lists.split(TITLE).skip(1) {
         let (title, rows) = list.split_once('\n').ok_or("a list without rows")?;
-        play(alloc, title, rows)?;
+        play(alloc, cells, title, rows)?;
     }
     Ok(())
 }
 
-fn play(alloc: Global, title: &str, rows: &str) -> Result<(), Fail> {
-    let limits = Limits::checked(16, 1, 1, 0, 64, 1).ok().ok_or("limits")?;
+fn play(alloc: Global, cells: u32, title: &str, rows: &str) -> Result<(), Fail> {
+    let limits = Limits::checked(cells, 1, 1, 0, 64, 1).ok().ok_or("limits")?;
     match first_wrong_of(alloc, limits, rows)? {
         Some(row) => Err(Fail::new(format_args!("{title}: {row}"))),
         None => Ok(()),
@@ -145,7 +145,7 @@ fn is_idle(book: &mut Book<u32>) -> bool {
 fn shown(book: &Book<u32>, name: &str, wanted: &str) -> Option<bool> {
     match name {
         "last" => Some(wanted.parse() == Ok(book.last())),
-        "image" => Some(wanted.parse() == Ok(objects_in_image(book))),
+        "image" => Some(wanted.parse().ok() == objects_in_image(book)),
         "pending" => Some(book.pending_empty() == (wanted == "no")),
         "line" => Some(book.line_empty() == (wanted == "no")),
         "trace" => shown_trace(book, wanted),
@@ -165,14 +165,15 @@ fn shown_wait(book: &Book<u32>, wanted: &str) -> Option<bool> {
     Some(book.would_wait(Mutator::new(0), queue) == (wanted == "yes"))
 }
 
-fn objects_in_image(book: &Book<u32>) -> usize {
-    match book.image() {
-        Some(image) => image
-            .objects
-            .as_slice()
-            .iter()
-            .filter(|place| place.is_some())
-            .count(),
-        None => 0,
-    }
+// None where there is no memory for the image.
+fn objects_in_image(book: &Book<u32>) -> Option<usize> {
+    let image = book.image().ok()?;
+    let count = image
+        .objects
+        .as_slice()
+        .iter()
+        .filter(|place| place.is_some())
+        .count();
+    drop(image);
+    Some(count)
 }

@@ -24,5 +24,9 @@ new-requires g c =
 
 pub new-locked-requires : goal.new-locked-requires
 new-locked-requires g c =
-    subst (λ (x : Limits × List (Step g.row.R.Denot)). IsWhole x.0 c.in_ok-book.book x.1) (λ i. (c.requires.limits i, sym (ap (λ k. k.all) c.loop-index.invariant.keeper) i))
-    (new_whole c.args.limits c.in_ok-book.book c.in_ok-book.ensures)
+    let none = ap (λ k. k.all) c.loop-index.invariant.keeper in
+    record {
+      whole = subst (λ (x : Limits × List (Step g.row.R.Denot)). IsWhole x.0 c.in_ok-book.book x.1) (λ i. (c.requires.limits i, sym none i))
+          (new_whole c.args.limits c.in_ok-book.book c.in_ok-book.ensures);
+      none = none;
+    }

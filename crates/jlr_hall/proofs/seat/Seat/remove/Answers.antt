@@ -5,7 +5,7 @@ use Rattle.jlr_hall.proofs.seat.Seat.remove.Goals as goal
 
 -- the client is gone: the seat declines by itself
 pub returns-in-None-clause-asked : goal.returns-in-None-clause-asked
-returns-in-None-clause-asked g c = rw c.refuse.ensures (inr (record {
+returns-in-None-clause-asked g c = rw c.decline.ensures (inr (record {
   seat = refl;
   between = [];
   others = refl;
