@@ -59,6 +59,14 @@ pub(super) fn outcome(words: &mut SplitWhitespace<'_>) -> Option<Outcome> {
     }
 }
 
+// How a call on a device goes.
+pub(super) fn called(words: &mut SplitWhitespace<'_>) -> Option<Result<(), Fault>> {
+    match words.next()? {
+        "ok" => Some(Ok(())),
+        word => Some(Err(fault(word)?)),
+    }
+}
+
 pub(super) fn fault(word: &str) -> Option<Fault> {
     match word {
         "NotFound" => Some(Fault::NotFound),

@@ -1,7 +1,7 @@
 //! Devices that let through only allowed paths: over a device in memory, and over the files of the system in a folder of their own.
 use super::{on_device, path};
 use crate::tests::calls::{Got, Stage, play};
-use crate::tests::words::{outcome, parsed};
+use crate::tests::words::{called, parsed};
 use jlr_device::fenced::{Fence, Fenced};
 use jlr_device::places::{Inode, Places, SystemPlaces};
 use jlr_device::real::{RealDevice, RealResource};
@@ -51,7 +51,7 @@ impl Stage for Scripted {
 impl Scripted {
     // Its words are the outcome of the open.
     fn add_script(&mut self, words: &mut SplitWhitespace<'_>) -> Option<Got> {
-        let opened = outcome(words)?;
+        let opened = called(words)?;
         let script = Script {
             opened,
             steps: Vec::new(self.alloc),

@@ -1,7 +1,7 @@
 //! A device in memory whose calls go as they are scripted, and counts of failures at their last value.
 use super::{bytes, on_device, on_resource};
 use crate::tests::calls::{Got, Stage, play};
-use crate::tests::words::{fault, outcome, parsed};
+use crate::tests::words::{called, fault, parsed};
 use jlr_device::script::{Script, ScriptDevice, ScriptResource, Step};
 use jlr_device::{Device, Finished, Mode, Resource};
 use jlr_types::Fault;
@@ -49,8 +49,8 @@ impl Scripted {
 
     // With the steps before it. Its words are the outcomes of the open and of the finish.
     fn add_script(&mut self, words: &mut SplitWhitespace<'_>) -> Option<Got> {
-        let opened = outcome(words)?;
-        let finished = outcome(words)?;
+        let opened = called(words)?;
+        let finished = called(words)?;
         let script = Script {
             opened,
             steps: mem::replace(&mut self.steps, Vec::new(self.alloc)),
