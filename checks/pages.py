@@ -23,7 +23,7 @@ SIZES = {
     "docs/DECISIONS.md": 1800, "docs/proof-strength.md": 1000, "docs/PERFORMANCE.md": 1000, "docs/gate.md": 800, "docs/reliability.md": 900, "docs/new-ask.md": 500,
     "docs/README.md": 300,
 }
-IN_ALL = 25_400
+IN_ALL = 24_000
 TOKEN = re.compile(r"`([^`]+)`")
 LINK = re.compile(r"\[[^\]]*\]\(([^)\s]+)\)")
 PLACE = re.compile(r"`([^`\s]+)` `(crates/[\w/.-]+):(\d+)`")
@@ -205,10 +205,10 @@ def wrong_rows(page):
 
 
 def table_rows(page, columns):
-    """The cells of each row of tables with so many columns that begins with a number."""
+    """The cells of each row of tables with so many columns."""
     for line in read(page).splitlines():
         cells = [cell.strip() for cell in line.strip("|").split("|")] if line.startswith("| ") else []
-        if len(cells) == columns and cells[0].isdigit():
+        if len(cells) == columns:
             yield cells
 
 
@@ -218,7 +218,7 @@ def wrong_refusals(page):
     listed = [(ask, re.findall(r"[A-Z]\w+", refusals)) for ask, refusals in re.findall(r"^listed \(?(\w+)[^=]*= (.*)$", spec, re.M)]
     short = {"H": ["NoSession", "NoHandle", "Null"], "K": ["NoSession", "NoHandle", "Null", "WrongKind"]}
     if page == "docs/specification.md":
-        told = [(ask, [by for word in refusals.split(", ") if word for by in short.get(word, [word])]) for _, ask, _, refusals, _, _ in table_rows(page, 6)]
+        told = [(ask, [by for word in refusals.split(", ") if word for by in short.get(word, [word])]) for ask, _, refusals, _, _ in table_rows(page, 5) if ask in dict(listed)]
         for number, (one, other) in enumerate(zip(told, listed)):
             if one != other:
                 yield f"ask {number} is {other[0]}, refused {', '.join(other[1])}"
