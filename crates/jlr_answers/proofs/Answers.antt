@@ -2,11 +2,14 @@
 use Rattle.std.proofs.Common.{◌≡◌, ℕ, List, [], ◌∷◌, Ok, refl, ◌∙◌}
 use Rattle.jlr_types.specs.Numbers.{number_of}
 use Rattle.jlr_types.specs.declared.Refusal.{Refusal}
-use Rattle.jlr_types.specs.declared.Refusal.TheVariants.{NoMemory, HeapFull, NoHandle, HandlesFull, WrongKind, NoField, WrongType, Null, NoName, NamesFull, Busy, Closed, NoSession, Exhausted, Malformed, TooLong, NotOut, WouldWait, ResourcesFull}
+use Rattle.jlr_types.specs.declared.Refusal.TheVariants.{NoMemory, HeapFull, NoHandle, HandlesFull, WrongKind, NoField, WrongType, Null}
+use Rattle.jlr_types.specs.declared.Refusal.TheVariants.{NoName, NamesFull, Busy, Closed, NoSession, Exhausted, Malformed, TooLong, NotOut}
+use Rattle.jlr_types.specs.declared.Refusal.TheVariants.{WouldWait, ResourcesFull}
 use Rattle.jlr_machine.specs.declared.ask.Handed.{Handed as HandedOf}
 use Rattle.jlr_machine.specs.declared.ask.Handed.TheVariants.{Queued, Lined, Skipped, Nothing}
 use Rattle.jlr_machine.specs.declared.ask.Stat.{Stat as StatOf}
-use Rattle.jlr_machine.specs.declared.ask.Answer.TheVariants.{Done, Handle, Truth, Int, Data, Wrote, Faulted, Names, Notes, Faults, Stat, Job, AlreadyDone, Prepared, Out, Handed, Refused}
+use Rattle.jlr_machine.specs.declared.ask.Answer.TheVariants.{Done, Handle, Truth, Int, Data, Wrote, Faulted, Names, Notes, Faults, Stat}
+use Rattle.jlr_machine.specs.declared.ask.Answer.TheVariants.{Job, AlreadyDone, Prepared, Out, Handed, Refused}
 use Rattle.jlr_fields.specs.Reading.{picked_at}
 use Rattle.jlr_fields.specs.Spelling.{spelled_8}
 use Rattle.jlr_fields.specs.Laws.{TakesBehind, TakesSpelled, ReadsAgain, IsField}
@@ -19,8 +22,13 @@ use Rattle.jlr_parts.proofs.TableLaws.{fault}
 use Rattle.jlr_parts.proofs.Objects.{work}
 use Rattle.jlr_parts.proofs.Records.{name, name_least, failure, failure_least}
 use Rattle.jlr_answers.specs.declared.tag.Tag.{Tag}
-use Rattle.jlr_answers.specs.declared.tag.Tag.TheVariants.{Done as TagDone, Handle as TagHandle, Truth as TagTruth, Int as TagInt, Data as TagData, Wrote as TagWrote, Faulted as TagFaulted, Names as TagNames, Notes as TagNotes, Faults as TagFaults, Stat as TagStat, Job as TagJob, AlreadyDone as TagAlreadyDone, Prepared as TagPrepared, Out as TagOut, Handed as TagHanded, Refused as TagRefused}
-use Rattle.jlr_answers.specs.Answers.{refusals, handings, handing_number, spelled_stat, StatFits, stat_read, spelled_answer, AnswerFits, tags, body_of, answer_read}
+use Rattle.jlr_answers.specs.declared.tag.Tag.TheVariants.{Done as TagDone, Handle as TagHandle, Truth as TagTruth, Int as TagInt}
+use Rattle.jlr_answers.specs.declared.tag.Tag.TheVariants.{Data as TagData, Wrote as TagWrote, Faulted as TagFaulted, Names as TagNames}
+use Rattle.jlr_answers.specs.declared.tag.Tag.TheVariants.{Notes as TagNotes, Faults as TagFaults, Stat as TagStat, Job as TagJob}
+use Rattle.jlr_answers.specs.declared.tag.Tag.TheVariants.{AlreadyDone as TagAlreadyDone, Prepared as TagPrepared, Out as TagOut}
+use Rattle.jlr_answers.specs.declared.tag.Tag.TheVariants.{Handed as TagHanded, Refused as TagRefused}
+use Rattle.jlr_answers.specs.Answers.{refusals, handings, handing_number, spelled_stat, StatFits, stat_read, spelled_answer, AnswerFits}
+use Rattle.jlr_answers.specs.Answers.{tags, body_of, answer_read}
 
 -- ---- Tables
 
@@ -62,15 +70,18 @@ handed = picked 0 handings handing_number refl handed_again
 -- ---- Counts
 
 abbrev made_stat : ℕ → ℕ → ℕ → ℕ → ℕ → StatOf
-made_stat objects resources taken good failed = record { objects = objects; resources = resources; taken = taken; ok = good; failed = failed }
+made_stat objects resources taken good failed =
+    record { objects = objects; resources = resources; taken = taken; ok = good; failed = failed }
 
 stat_takes : TakesSpelled stat_read spelled_stat StatFits
 unfolding stat_read
-stat_takes = five_takes eight_bytes eight_bytes eight_bytes eight_bytes eight_bytes [] made_stat spelled_stat StatFits (λ a b c d e. refl) (λ a b c d e p q r s t. record { objects = p; resources = q; taken = r; ended_well = s; failed = t })
+stat_takes = five_takes eight_bytes eight_bytes eight_bytes eight_bytes eight_bytes [] made_stat spelled_stat StatFits (λ a b c d e. refl)
+    (λ a b c d e p q r s t. record { objects = p; resources = q; taken = r; ended_well = s; failed = t })
 
 stat_again : ReadsAgain stat_read spelled_stat StatFits
 unfolding stat_read
-stat_again s rest fits = five_again eight_bytes eight_bytes eight_bytes eight_bytes eight_bytes made_stat s.objects s.resources s.taken s.ok s.failed fits.objects fits.resources fits.taken fits.ended_well fits.failed rest
+stat_again s rest fits = five_again eight_bytes eight_bytes eight_bytes eight_bytes eight_bytes made_stat s.objects s.resources s.taken s.ok
+    s.failed fits.objects fits.resources fits.taken fits.ended_well fits.failed rest
 
 stat : IsField stat_read spelled_stat StatFits
 stat = record { takes = stat_takes; again = stat_again }

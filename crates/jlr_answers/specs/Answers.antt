@@ -3,26 +3,39 @@ use Rattle.std.specs.Prelude.{ℕ, ◌<◌, ◌^◌, List, [], ◌∷◌, ◌++�
 use Rattle.std.specs.Int.{w32, w64}
 use Rattle.jlr_types.specs.Numbers.{number_of}
 use Rattle.jlr_types.specs.declared.Refusal.{Refusal}
-use Rattle.jlr_types.specs.declared.Refusal.TheVariants.{NoMemory, HeapFull, NoHandle, HandlesFull, WrongKind, NoField, WrongType, Null, NoName, NamesFull, Busy, Closed, NoSession, Exhausted, Malformed, TooLong, NotOut, WouldWait, ResourcesFull}
+use Rattle.jlr_types.specs.declared.Refusal.TheVariants.{NoMemory, HeapFull, NoHandle, HandlesFull, WrongKind, NoField}
+use Rattle.jlr_types.specs.declared.Refusal.TheVariants.{WrongType, Null, NoName, NamesFull, Busy, Closed, NoSession}
+use Rattle.jlr_types.specs.declared.Refusal.TheVariants.{Exhausted, Malformed, TooLong, NotOut, WouldWait}
+use Rattle.jlr_types.specs.declared.Refusal.TheVariants.{ResourcesFull}
 use Rattle.jlr_machine.specs.declared.ask.Handed.{Handed as HandedOf}
 use Rattle.jlr_machine.specs.declared.ask.Handed.TheVariants.{Queued, Lined, Skipped, Nothing}
 use Rattle.jlr_machine.specs.declared.ask.Stat.{Stat as StatOf}
 use Rattle.jlr_machine.specs.declared.ask.Answer.{Answer}
-use Rattle.jlr_machine.specs.declared.ask.Answer.TheVariants.{Done, Handle, Truth, Int, Data, Wrote, Faulted, Names, Notes, Faults, Stat, Job, AlreadyDone, Prepared, Out, Handed, Refused}
-use Rattle.jlr_fields.specs.Spelling.{spelled_flag, spelled_32, spelled_64, spelled_signed, spelled_text, IsSigned, IsText, IsWithin}
-use Rattle.jlr_fields.specs.Reading.{Reader, ◌>>=◌, one_field, two_fields, five_fields, byte_at, byte_within_at, number_at, signed_at, flag_at, picked_at, bytes_at, text_at, is_name_byte}
+use Rattle.jlr_machine.specs.declared.ask.Answer.TheVariants.{Done, Handle, Truth, Int, Data, Wrote, Faulted, Names}
+use Rattle.jlr_machine.specs.declared.ask.Answer.TheVariants.{Notes, Faults, Stat, Job, AlreadyDone, Prepared, Out}
+use Rattle.jlr_machine.specs.declared.ask.Answer.TheVariants.{Handed, Refused}
+use Rattle.jlr_fields.specs.Spelling.{spelled_flag, spelled_32, spelled_64, spelled_signed, spelled_text, IsSigned}
+use Rattle.jlr_fields.specs.Spelling.{IsText, IsWithin}
+use Rattle.jlr_fields.specs.Reading.{Reader, ◌>>=◌, one_field, two_fields, five_fields, byte_at, byte_within_at}
+use Rattle.jlr_fields.specs.Reading.{number_at, signed_at, flag_at, picked_at, bytes_at, text_at, is_name_byte}
 use Rattle.jlr_fields.specs.Items.{list_at, spelled_list, IsListed}
 use Rattle.jlr_parts.specs.Tables.{faults, fault_number}
 use Rattle.jlr_parts.specs.Objects.{spelled_work, WorkFits, work_read}
 use Rattle.jlr_parts.specs.Records.{NameFits, spelled_failure, FailureFits, failure_read}
 use Rattle.jlr_answers.specs.declared.tag.Tag.{Tag}
-use Rattle.jlr_answers.specs.declared.tag.Tag.TheVariants.{Done as TagDone, Handle as TagHandle, Truth as TagTruth, Int as TagInt, Data as TagData, Wrote as TagWrote, Faulted as TagFaulted, Names as TagNames, Notes as TagNotes, Faults as TagFaults, Stat as TagStat, Job as TagJob, AlreadyDone as TagAlreadyDone, Prepared as TagPrepared, Out as TagOut, Handed as TagHanded, Refused as TagRefused}
+use Rattle.jlr_answers.specs.declared.tag.Tag.TheVariants.{Done as TagDone, Handle as TagHandle, Truth as TagTruth}
+use Rattle.jlr_answers.specs.declared.tag.Tag.TheVariants.{Int as TagInt, Data as TagData, Wrote as TagWrote}
+use Rattle.jlr_answers.specs.declared.tag.Tag.TheVariants.{Faulted as TagFaulted, Names as TagNames, Notes as TagNotes}
+use Rattle.jlr_answers.specs.declared.tag.Tag.TheVariants.{Faults as TagFaults, Stat as TagStat, Job as TagJob}
+use Rattle.jlr_answers.specs.declared.tag.Tag.TheVariants.{AlreadyDone as TagAlreadyDone, Prepared as TagPrepared}
+use Rattle.jlr_answers.specs.declared.tag.Tag.TheVariants.{Out as TagOut, Handed as TagHanded, Refused as TagRefused}
 
 -- ---- Tables
 
 -- counted from 1, each at its number
 abbrev pub refusals : List Refusal
-refusals = NoMemory ∷ HeapFull ∷ NoHandle ∷ HandlesFull ∷ WrongKind ∷ NoField ∷ WrongType ∷ Null ∷ NoName ∷ NamesFull ∷ Busy ∷ Closed ∷ NoSession ∷ Exhausted ∷ Malformed ∷ TooLong ∷ NotOut ∷ WouldWait ∷ ResourcesFull ∷ []
+refusals = NoMemory ∷ HeapFull ∷ NoHandle ∷ HandlesFull ∷ WrongKind ∷ NoField ∷ WrongType ∷ Null ∷ NoName ∷ NamesFull
+    ∷ Busy ∷ Closed ∷ NoSession ∷ Exhausted ∷ Malformed ∷ TooLong ∷ NotOut ∷ WouldWait ∷ ResourcesFull ∷ []
 
 abbrev pub handings : List HandedOf
 handings = Queued ∷ Lined ∷ Skipped ∷ Nothing ∷ []
@@ -36,7 +49,8 @@ handing_number Nothing = 3
 -- ---- Counts
 
 abbrev pub spelled_stat : StatOf → List ℕ
-spelled_stat s = spelled_64 s.objects ++ spelled_64 s.resources ++ spelled_64 s.taken ++ spelled_64 s.ok ++ spelled_64 s.failed
+spelled_stat s = spelled_64 s.objects ++ spelled_64 s.resources ++ spelled_64 s.taken ++ spelled_64 s.ok
+    ++ spelled_64 s.failed
 
 pub record StatFits (s : StatOf) : Type 0 where
   pub objects : s.objects < 2 ^ 64
@@ -46,7 +60,9 @@ pub record StatFits (s : StatOf) : Type 0 where
   pub failed : s.failed < 2 ^ 64
 
 unfoldable pub stat_read : Reader StatOf
-stat_read = five_fields (number_at w64) (number_at w64) (number_at w64) (number_at w64) (number_at w64) (λ objects resources taken good failed. record { objects = objects; resources = resources; taken = taken; ok = good; failed = failed })
+stat_read = five_fields (number_at w64) (number_at w64) (number_at w64) (number_at w64) (number_at w64)
+    (λ objects resources taken good failed.
+    record { objects = objects; resources = resources; taken = taken; ok = good; failed = failed })
 
 -- ---- Answers: a number, and the fields in order
 
@@ -96,7 +112,8 @@ AnswerCounts (Faults x) = length x < 2 ^ 32
 AnswerCounts _ = Unit {0}
 
 abbrev pub tags : List Tag
-tags = TagDone ∷ TagHandle ∷ TagTruth ∷ TagInt ∷ TagData ∷ TagWrote ∷ TagFaulted ∷ TagNames ∷ TagNotes ∷ TagFaults ∷ TagStat ∷ TagJob ∷ TagAlreadyDone ∷ TagPrepared ∷ TagOut ∷ TagHanded ∷ TagRefused ∷ []
+tags = TagDone ∷ TagHandle ∷ TagTruth ∷ TagInt ∷ TagData ∷ TagWrote ∷ TagFaulted ∷ TagNames ∷ TagNotes ∷ TagFaults
+    ∷ TagStat ∷ TagJob ∷ TagAlreadyDone ∷ TagPrepared ∷ TagOut ∷ TagHanded ∷ TagRefused ∷ []
 
 -- what stands behind the number of an answer
 abbrev pub body_of : Tag → Reader Answer

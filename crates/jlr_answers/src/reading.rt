@@ -1,7 +1,13 @@
 //! Reads answers.
 ghost use Rattle.std.specs.Prelude.{◌≡◌};
 ghost use Rattle.jlr_fields.specs.Reading.{Reads};
-ghost use Rattle.jlr_answers.specs.declared.tag.Tag.TheVariants.{Handle as TagHandle, Truth as TagTruth, Int as TagInt, Data as TagData, Wrote as TagWrote, Faulted as TagFaulted, Names as TagNames, Notes as TagNotes, Faults as TagFaults, Stat as TagStat, Job as TagJob, Prepared as TagPrepared, Out as TagOut, Handed as TagHanded, Refused as TagRefused};
+ghost use Rattle.jlr_answers.specs.declared.tag.Tag.TheVariants.{Handle as TagHandle, Truth as TagTruth, Int as TagInt};
+ghost use Rattle.jlr_answers.specs.declared.tag.Tag.TheVariants.{Data as TagData, Wrote as TagWrote};
+ghost use Rattle.jlr_answers.specs.declared.tag.Tag.TheVariants.{Faulted as TagFaulted, Names as TagNames};
+ghost use Rattle.jlr_answers.specs.declared.tag.Tag.TheVariants.{Notes as TagNotes, Faults as TagFaults};
+ghost use Rattle.jlr_answers.specs.declared.tag.Tag.TheVariants.{Stat as TagStat, Job as TagJob};
+ghost use Rattle.jlr_answers.specs.declared.tag.Tag.TheVariants.{Prepared as TagPrepared, Out as TagOut};
+ghost use Rattle.jlr_answers.specs.declared.tag.Tag.TheVariants.{Handed as TagHanded, Refused as TagRefused};
 ghost use Rattle.jlr_answers.specs.Answers.{answer_read, body_of};
 
 use crate::detail::{handed_at, refusal_at, stat_at};

@@ -1,5 +1,6 @@
 -- Asks: what is read is what was written, and what was written is read again.
-use Rattle.std.proofs.Common.{◌≡◌, ℕ, zero, suc, ◌≤◌, ◌^◌, Bool, true, false, cond, List, [], ◌∷◌, ◌++◌, length, Result, Ok, Err, refl, sym, ap, subst, ◌∙◌, arith}
+use Rattle.std.proofs.Common.{◌≡◌, ℕ, zero, suc, ◌≤◌, ◌^◌, Bool, true, false, cond, List, [], ◌∷◌, ◌++◌, length, Result, Ok, Err, refl, sym}
+use Rattle.std.proofs.Common.{ap, subst, ◌∙◌, arith}
 use Rattle.std.specs.Prelude.{nat_eq}
 use Rattle.std.specs.Int.{w16}
 use Rattle.std.specs.List.{flat_map, AllByRecursion}
@@ -12,7 +13,10 @@ use Rattle.jlr_machine.specs.declared.ask.Outcome.TheVariants.{Ok as OutcomeOk, 
 use Rattle.jlr_machine.specs.declared.ask.FullMode.{FullMode}
 use Rattle.jlr_machine.specs.declared.ask.FullMode.TheVariants.{Policy, ClearAll}
 use Rattle.jlr_machine.specs.declared.ask.CallOutcome.TheVariants.{Data as GotData, Wrote as GotWrote, Failed as GotFailed}
-use Rattle.jlr_machine.specs.declared.ask.Ask.TheVariants.{Join, Leave, New, Put, Get, SetInt, Int, Dup, Drop, Same, MakeRef, Deref, Refers, Clear, Enqueue, Enqueued, MakeQueue, Poll, Remove, MakeCleaner, Register, Clean, Prepare, Opened, CheckOut, CheckIn, Close, Finish, Bind, Find, Unbind, Names, Full, Stat, Notes, Faults, HandOver, TakeUp, Begin, Collect, Abandon, Array}
+use Rattle.jlr_machine.specs.declared.ask.Ask.TheVariants.{Join, Leave, New, Put, Get, SetInt, Int, Dup, Drop, Same, MakeRef, Deref, Refers}
+use Rattle.jlr_machine.specs.declared.ask.Ask.TheVariants.{Clear, Enqueue, Enqueued, MakeQueue, Poll, Remove, MakeCleaner, Register, Clean}
+use Rattle.jlr_machine.specs.declared.ask.Ask.TheVariants.{Prepare, Opened, CheckOut, CheckIn, Close, Finish, Bind, Find, Unbind, Names}
+use Rattle.jlr_machine.specs.declared.ask.Ask.TheVariants.{Full, Stat, Notes, Faults, HandOver, TakeUp, Begin, Collect, Abandon, Array}
 use Rattle.jlr_fields.specs.declared.fault.Fault.{Fault}
 use Rattle.jlr_fields.specs.declared.fault.Fault.TheVariants.{Range}
 use Rattle.jlr_fields.specs.declared.version.Version.{Version}
@@ -25,12 +29,26 @@ use Rattle.jlr_fields.proofs.Steps.{bind_ok, ok_is}
 use Rattle.jlr_fields.proofs.Numbers.{two_bytes, four_bytes, eight_bytes}
 use Rattle.jlr_fields.proofs.Basics.{byte, within, number_within, signed, bytes, picked, picked_takes}
 use Rattle.jlr_fields.proofs.Lists.{items_take, items_again}
-use Rattle.jlr_fields.proofs.Products.{then_takes, made_takes, one_takes, two_takes, three_takes, four_takes, then_again, one_again, two_again, three_again, four_again}
+use Rattle.jlr_fields.proofs.Products.{then_takes, made_takes, one_takes, two_takes, three_takes, four_takes, then_again, one_again}
+use Rattle.jlr_fields.proofs.Products.{two_again, three_again, four_again}
 use Rattle.jlr_parts.proofs.TableLaws.{ref_kind, fault}
 use Rattle.jlr_parts.proofs.Records.{name}
 use Rattle.jlr_asks.specs.declared.tag.Tag.{Tag}
-use Rattle.jlr_asks.specs.declared.tag.Tag.TheVariants.{Join as TagJoin, Leave as TagLeave, New as TagNew, Put as TagPut, Get as TagGet, SetInt as TagSetInt, Int as TagInt, Dup as TagDup, Drop as TagDrop, Same as TagSame, MakeRef as TagMakeRef, Deref as TagDeref, Refers as TagRefers, Clear as TagClear, Enqueue as TagEnqueue, Enqueued as TagEnqueued, MakeQueue as TagMakeQueue, Poll as TagPoll, Remove as TagRemove, MakeCleaner as TagMakeCleaner, Register as TagRegister, Clean as TagClean, Prepare as TagPrepare, Opened as TagOpened, CheckOut as TagCheckOut, CheckIn as TagCheckIn, Close as TagClose, Finish as TagFinish, Bind as TagBind, Find as TagFind, Unbind as TagUnbind, Names as TagNames, Full as TagFull, Stat as TagStat, Notes as TagNotes, Faults as TagFaults, HandOver as TagHandOver, TakeUp as TagTakeUp, Begin as TagBegin, Collect as TagCollect, Abandon as TagAbandon, Array as TagArray}
-use Rattle.jlr_asks.specs.Asks.{outcomes, outcome_number, modes, mode_number, spelled_kind, spelled_layout, kind_read, layout_read, spelled_call_outcome, CallOutcomeFits, call_outcome_behind, call_outcome_read, spelled_field, FieldFits, field_read, spelled_ask, AskFits, tags, array_read, body_of, ask_read}
+use Rattle.jlr_asks.specs.declared.tag.Tag.TheVariants.{Join as TagJoin, Leave as TagLeave, New as TagNew, Put as TagPut, Get as TagGet}
+use Rattle.jlr_asks.specs.declared.tag.Tag.TheVariants.{SetInt as TagSetInt, Int as TagInt, Dup as TagDup, Drop as TagDrop, Same as TagSame}
+use Rattle.jlr_asks.specs.declared.tag.Tag.TheVariants.{MakeRef as TagMakeRef, Deref as TagDeref, Refers as TagRefers, Clear as TagClear}
+use Rattle.jlr_asks.specs.declared.tag.Tag.TheVariants.{Enqueue as TagEnqueue, Enqueued as TagEnqueued, MakeQueue as TagMakeQueue}
+use Rattle.jlr_asks.specs.declared.tag.Tag.TheVariants.{Poll as TagPoll, Remove as TagRemove, MakeCleaner as TagMakeCleaner}
+use Rattle.jlr_asks.specs.declared.tag.Tag.TheVariants.{Register as TagRegister, Clean as TagClean, Prepare as TagPrepare}
+use Rattle.jlr_asks.specs.declared.tag.Tag.TheVariants.{Opened as TagOpened, CheckOut as TagCheckOut, CheckIn as TagCheckIn}
+use Rattle.jlr_asks.specs.declared.tag.Tag.TheVariants.{Close as TagClose, Finish as TagFinish, Bind as TagBind, Find as TagFind}
+use Rattle.jlr_asks.specs.declared.tag.Tag.TheVariants.{Unbind as TagUnbind, Names as TagNames, Full as TagFull, Stat as TagStat}
+use Rattle.jlr_asks.specs.declared.tag.Tag.TheVariants.{Notes as TagNotes, Faults as TagFaults, HandOver as TagHandOver}
+use Rattle.jlr_asks.specs.declared.tag.Tag.TheVariants.{TakeUp as TagTakeUp, Begin as TagBegin, Collect as TagCollect}
+use Rattle.jlr_asks.specs.declared.tag.Tag.TheVariants.{Abandon as TagAbandon, Array as TagArray}
+use Rattle.jlr_asks.specs.Asks.{outcomes, outcome_number, modes, mode_number, spelled_kind, spelled_layout, kind_read, layout_read}
+use Rattle.jlr_asks.specs.Asks.{spelled_call_outcome, CallOutcomeFits, call_outcome_behind, call_outcome_read, spelled_field, FieldFits}
+use Rattle.jlr_asks.specs.Asks.{field_read, spelled_ask, AskFits, tags, array_read, body_of, ask_read}
 
 -- ---- Tables
 
@@ -59,15 +77,19 @@ abbrev kind_of : ℕ → List ℕ → Result (FieldKind × List ℕ) Fault
 kind_of b rest = cond (nat_eq b 114) (Ok (RefField, rest)) (cond (nat_eq b 105) (Ok (IntField, rest)) (Err Range))
 
 kind_letter : (b : ℕ) (bytes : List ℕ) (k : FieldKind) (rest : List ℕ) (r i : Bool) → nat_eq b 114 ≡ r → nat_eq b 105 ≡ i → IsBytes bytes
-    → cond {A = Result (FieldKind × List ℕ) Fault} r (Ok (RefField, bytes)) (cond {A = Result (FieldKind × List ℕ) Fault} i (Ok (IntField, bytes)) (Err Range)) ≡ Ok (k, rest) → Takes (b ∷ bytes) (spelled_kind k) rest
+    → cond {A = Result (FieldKind × List ℕ) Fault} r (Ok (RefField, bytes))
+    (cond {A = Result (FieldKind × List ℕ) Fault} i (Ok (IntField, bytes)) (Err Range)) ≡ Ok (k, rest)
+    → Takes (b ∷ bytes) (spelled_kind k) rest
 kind_letter b bytes k rest true i is other fits e =
     let made : FieldKind × List ℕ = (RefField, bytes) in
     let same : b ≡ 114 = eqb-true b 114 is in
-    subst (λ (y : FieldKind × List ℕ). Takes (b ∷ bytes) (spelled_kind y.0) y.1) (ok_is made (k, rest) e) (record { parts = ap (λ n. n ∷ bytes) same; rest_fits = fits })
+    subst (λ (y : FieldKind × List ℕ). Takes (b ∷ bytes) (spelled_kind y.0) y.1) (ok_is made (k, rest) e)
+    (record { parts = ap (λ n. n ∷ bytes) same; rest_fits = fits })
 kind_letter b bytes k rest false true other is fits e =
     let made : FieldKind × List ℕ = (IntField, bytes) in
     let same : b ≡ 105 = eqb-true b 105 is in
-    subst (λ (y : FieldKind × List ℕ). Takes (b ∷ bytes) (spelled_kind y.0) y.1) (ok_is made (k, rest) e) (record { parts = ap (λ n. n ∷ bytes) same; rest_fits = fits })
+    subst (λ (y : FieldKind × List ℕ). Takes (b ∷ bytes) (spelled_kind y.0) y.1) (ok_is made (k, rest) e)
+    (record { parts = ap (λ n. n ∷ bytes) same; rest_fits = fits })
 kind_letter b bytes k rest false false p q fits e = absurd cc
 
 kind_takes : TakesSpelled kind_read spelled_kind (λ _. Unit {0})
@@ -87,7 +109,8 @@ all_kinds (k ∷ layout) = (tt, all_kinds layout)
 kinds : (count : ℕ) → IsField (items_at kind_read count) (flat_map spelled_kind) (λ layout. length layout ≡ count)
 kinds count = record {
   takes = λ bs xs rest fits e. let t = items_take kind_read spelled_kind (λ _. Unit {0}) kind_takes count bs xs rest fits e in (t.0, t.1);
-  again = λ xs rest fits. ap (λ n. items_at kind_read n (flat_map spelled_kind xs ++ rest)) (sym fits) ∙ items_again kind_read spelled_kind (λ _. Unit {0}) kind_again xs rest (all_kinds xs);
+  again = λ xs rest fits. ap (λ n. items_at kind_read n (flat_map spelled_kind xs ++ rest)) (sym fits)
+      ∙ items_again kind_read spelled_kind (λ _. Unit {0}) kind_again xs rest (all_kinds xs);
 }
 
 -- layouts of at most eight fields
@@ -96,8 +119,14 @@ LayoutFits layout = length layout ≤ 8
 
 kinds_behind : (count : ℕ) → count ≤ 8 → TakesBehind (count ∷ []) (items_at kind_read count) spelled_layout LayoutFits
 kinds_behind count few bs xs rest fits e =
-    let t = (kinds count).takes bs xs rest fits e in
-    (record { parts = ap (λ (b : List ℕ). count ∷ b) t.0.parts ∙ ap (λ n. n ∷ (flat_map spelled_kind xs ++ rest)) (sym t.1); rest_fits = t.0.rest_fits }, omega (arith, t.1))
+    let t = (kinds count).takes bs xs rest fits e in (
+      record {
+        parts = ap (λ (b : List ℕ). count ∷ b) t.0.parts ∙ ap (λ n. n ∷ (flat_map spelled_kind xs ++ rest)) (sym t.1);
+        rest_fits =
+            t.0.rest_fits;
+      },
+      omega (arith, t.1),
+    )
 
 layout_takes : TakesSpelled layout_read spelled_layout LayoutFits
 unfolding layout_read
@@ -105,7 +134,8 @@ layout_takes = then_takes (within 0 8) [] (items_at kind_read) spelled_layout La
 
 layout_again : ReadsAgain layout_read spelled_layout LayoutFits
 unfolding layout_read
-layout_again xs rest fits = then_again (within 0 8) (length xs) (omega arith, fits) (items_at kind_read) (spelled_layout xs ++ rest) (flat_map spelled_kind xs ++ rest) xs rest refl ((kinds (length xs)).again xs rest refl)
+layout_again xs rest fits = then_again (within 0 8) (length xs) (omega arith, fits) (items_at kind_read) (spelled_layout xs ++ rest)
+    (flat_map spelled_kind xs ++ rest) xs rest refl ((kinds (length xs)).again xs rest refl)
 
 layout : IsField layout_read spelled_layout LayoutFits
 layout = record { takes = layout_takes; again = layout_again }
@@ -114,7 +144,8 @@ layout = record { takes = layout_takes; again = layout_again }
 
 call_outcome_behind_takes : (kind : ℕ) → TakesBehind (kind ∷ []) (call_outcome_behind kind) spelled_call_outcome CallOutcomeFits
 call_outcome_behind_takes zero = one_takes (bytes 0 200) (0 ∷ []) GotData spelled_call_outcome CallOutcomeFits (λ t. refl) (λ t f. f)
-call_outcome_behind_takes (suc zero) = one_takes (within 0 200) (1 ∷ []) GotWrote spelled_call_outcome CallOutcomeFits (λ n. refl) (λ n f. f)
+call_outcome_behind_takes (suc zero) =
+    one_takes (within 0 200) (1 ∷ []) GotWrote spelled_call_outcome CallOutcomeFits (λ n. refl) (λ n f. f)
 call_outcome_behind_takes (suc (suc zero)) = one_takes fault (2 ∷ []) GotFailed spelled_call_outcome CallOutcomeFits (λ x. refl) (λ x f. tt)
 call_outcome_behind_takes (suc (suc (suc n))) = λ bs x rest fits e. absurd cc
 
@@ -200,38 +231,55 @@ array_takes : (version : Version) → TakesBehind (41 ∷ []) (array_read versio
 array_takes One = λ bs x rest fits e. absurd cc
 array_takes Two = two_takes byte element_count (41 ∷ []) Array (spelled_ask Two) (AskFits Two) (λ a b. refl) (λ a b p q. (p, q))
 
-body_takes : (version : Version) (tag : Tag) → TakesBehind (tag_number tag ∷ []) (body_of version tag) (spelled_ask version) (AskFits version)
+body_takes : (version : Version) (tag : Tag) → TakesBehind (tag_number tag ∷ []) (body_of version tag) (spelled_ask version)
+    (AskFits version)
 body_takes version TagJoin = one_takes byte (0 ∷ []) Join (spelled_ask version) (AskFits version) (λ a. refl) (λ a p. p)
 body_takes version TagLeave = one_takes byte (1 ∷ []) Leave (spelled_ask version) (AskFits version) (λ a. refl) (λ a p. p)
 body_takes version TagNew = two_takes byte layout (2 ∷ []) New (spelled_ask version) (AskFits version) (λ a b. refl) (λ a b p q. (p, q))
-body_takes version TagPut = four_takes byte byte (field version) byte (3 ∷ []) Put (spelled_ask version) (AskFits version) (λ a b c d. refl) (λ a b c d p q r s. (p, q, r, s))
-body_takes version TagGet = three_takes byte byte (field version) (4 ∷ []) Get (spelled_ask version) (AskFits version) (λ a b c. refl) (λ a b c p q r. (p, q, r))
-body_takes version TagSetInt = four_takes byte byte (field version) signed (5 ∷ []) SetInt (spelled_ask version) (AskFits version) (λ a b c d. refl) (λ a b c d p q r s. (p, q, r, s))
-body_takes version TagInt = three_takes byte byte (field version) (6 ∷ []) Int (spelled_ask version) (AskFits version) (λ a b c. refl) (λ a b c p q r. (p, q, r))
+body_takes version TagPut = four_takes byte byte (field version) byte (3 ∷ []) Put (spelled_ask version) (AskFits version) (λ a b c d. refl)
+    (λ a b c d p q r s. (p, q, r, s))
+body_takes version TagGet =
+    three_takes byte byte (field version) (4 ∷ []) Get (spelled_ask version) (AskFits version) (λ a b c. refl) (λ a b c p q r. (p, q, r))
+body_takes version TagSetInt = four_takes byte byte (field version) signed (5 ∷ []) SetInt (spelled_ask version) (AskFits version)
+    (λ a b c d. refl) (λ a b c d p q r s. (p, q, r, s))
+body_takes version TagInt =
+    three_takes byte byte (field version) (6 ∷ []) Int (spelled_ask version) (AskFits version) (λ a b c. refl) (λ a b c p q r. (p, q, r))
 body_takes version TagDup = two_takes byte byte (7 ∷ []) Dup (spelled_ask version) (AskFits version) (λ a b. refl) (λ a b p q. (p, q))
 body_takes version TagDrop = two_takes byte byte (8 ∷ []) Drop (spelled_ask version) (AskFits version) (λ a b. refl) (λ a b p q. (p, q))
-body_takes version TagSame = three_takes byte byte byte (9 ∷ []) Same (spelled_ask version) (AskFits version) (λ a b c. refl) (λ a b c p q r. (p, q, r))
-body_takes version TagMakeRef = four_takes byte ref_kind byte byte (10 ∷ []) MakeRef (spelled_ask version) (AskFits version) (λ a b c d. refl) (λ a b c d p q r s. (p, r, s))
+body_takes version TagSame =
+    three_takes byte byte byte (9 ∷ []) Same (spelled_ask version) (AskFits version) (λ a b c. refl) (λ a b c p q r. (p, q, r))
+body_takes version TagMakeRef = four_takes byte ref_kind byte byte (10 ∷ []) MakeRef (spelled_ask version) (AskFits version)
+    (λ a b c d. refl) (λ a b c d p q r s. (p, r, s))
 body_takes version TagDeref = two_takes byte byte (11 ∷ []) Deref (spelled_ask version) (AskFits version) (λ a b. refl) (λ a b p q. (p, q))
-body_takes version TagRefers = three_takes byte byte byte (12 ∷ []) Refers (spelled_ask version) (AskFits version) (λ a b c. refl) (λ a b c p q r. (p, q, r))
+body_takes version TagRefers =
+    three_takes byte byte byte (12 ∷ []) Refers (spelled_ask version) (AskFits version) (λ a b c. refl) (λ a b c p q r. (p, q, r))
 body_takes version TagClear = two_takes byte byte (13 ∷ []) Clear (spelled_ask version) (AskFits version) (λ a b. refl) (λ a b p q. (p, q))
-body_takes version TagEnqueue = two_takes byte byte (14 ∷ []) Enqueue (spelled_ask version) (AskFits version) (λ a b. refl) (λ a b p q. (p, q))
-body_takes version TagEnqueued = two_takes byte byte (15 ∷ []) Enqueued (spelled_ask version) (AskFits version) (λ a b. refl) (λ a b p q. (p, q))
+body_takes version TagEnqueue =
+    two_takes byte byte (14 ∷ []) Enqueue (spelled_ask version) (AskFits version) (λ a b. refl) (λ a b p q. (p, q))
+body_takes version TagEnqueued =
+    two_takes byte byte (15 ∷ []) Enqueued (spelled_ask version) (AskFits version) (λ a b. refl) (λ a b p q. (p, q))
 body_takes version TagMakeQueue = one_takes byte (16 ∷ []) MakeQueue (spelled_ask version) (AskFits version) (λ a. refl) (λ a p. p)
 body_takes version TagPoll = two_takes byte byte (17 ∷ []) Poll (spelled_ask version) (AskFits version) (λ a b. refl) (λ a b p q. (p, q))
-body_takes version TagRemove = two_takes byte byte (18 ∷ []) Remove (spelled_ask version) (AskFits version) (λ a b. refl) (λ a b p q. (p, q))
+body_takes version TagRemove =
+    two_takes byte byte (18 ∷ []) Remove (spelled_ask version) (AskFits version) (λ a b. refl) (λ a b p q. (p, q))
 body_takes version TagMakeCleaner = one_takes byte (19 ∷ []) MakeCleaner (spelled_ask version) (AskFits version) (λ a. refl) (λ a p. p)
-body_takes version TagRegister = four_takes byte byte byte four_bytes (20 ∷ []) Register (spelled_ask version) (AskFits version) (λ a b c d. refl) (λ a b c d p q r s. (p, q, r, s))
+body_takes version TagRegister = four_takes byte byte byte four_bytes (20 ∷ []) Register (spelled_ask version) (AskFits version)
+    (λ a b c d. refl) (λ a b c d p q r s. (p, q, r, s))
 body_takes version TagClean = two_takes byte byte (21 ∷ []) Clean (spelled_ask version) (AskFits version) (λ a b. refl) (λ a b p q. (p, q))
 body_takes version TagPrepare = one_takes byte (22 ∷ []) Prepare (spelled_ask version) (AskFits version) (λ a. refl) (λ a p. p)
 body_takes version TagOpened = two_takes byte outcome (23 ∷ []) Opened (spelled_ask version) (AskFits version) (λ a b. refl) (λ a b p q. p)
-body_takes version TagCheckOut = two_takes byte byte (24 ∷ []) CheckOut (spelled_ask version) (AskFits version) (λ a b. refl) (λ a b p q. (p, q))
-body_takes version TagCheckIn = two_takes byte call_outcome (25 ∷ []) CheckIn (spelled_ask version) (AskFits version) (λ a b. refl) (λ a b p q. (p, q))
+body_takes version TagCheckOut =
+    two_takes byte byte (24 ∷ []) CheckOut (spelled_ask version) (AskFits version) (λ a b. refl) (λ a b p q. (p, q))
+body_takes version TagCheckIn =
+    two_takes byte call_outcome (25 ∷ []) CheckIn (spelled_ask version) (AskFits version) (λ a b. refl) (λ a b p q. (p, q))
 body_takes version TagClose = two_takes byte byte (26 ∷ []) Close (spelled_ask version) (AskFits version) (λ a b. refl) (λ a b p q. (p, q))
-body_takes version TagFinish = three_takes byte eight_bytes outcome (27 ∷ []) Finish (spelled_ask version) (AskFits version) (λ a b c. refl) (λ a b c p q r. (p, q))
-body_takes version TagBind = three_takes byte name byte (28 ∷ []) Bind (spelled_ask version) (AskFits version) (λ a b c. refl) (λ a b c p q r. (p, q, r))
+body_takes version TagFinish =
+    three_takes byte eight_bytes outcome (27 ∷ []) Finish (spelled_ask version) (AskFits version) (λ a b c. refl) (λ a b c p q r. (p, q))
+body_takes version TagBind =
+    three_takes byte name byte (28 ∷ []) Bind (spelled_ask version) (AskFits version) (λ a b c. refl) (λ a b c p q r. (p, q, r))
 body_takes version TagFind = two_takes byte name (29 ∷ []) Find (spelled_ask version) (AskFits version) (λ a b. refl) (λ a b p q. (p, q))
-body_takes version TagUnbind = two_takes byte name (30 ∷ []) Unbind (spelled_ask version) (AskFits version) (λ a b. refl) (λ a b p q. (p, q))
+body_takes version TagUnbind =
+    two_takes byte name (30 ∷ []) Unbind (spelled_ask version) (AskFits version) (λ a b. refl) (λ a b p q. (p, q))
 body_takes version TagNames = one_takes byte (31 ∷ []) Names (spelled_ask version) (AskFits version) (λ a. refl) (λ a p. p)
 body_takes version TagFull = two_takes byte mode (32 ∷ []) Full (spelled_ask version) (AskFits version) (λ a b. refl) (λ a b p q. p)
 body_takes version TagStat = one_takes byte (33 ∷ []) Stat (spelled_ask version) (AskFits version) (λ a. refl) (λ a p. p)

@@ -1,5 +1,6 @@
 -- How asks are spelled and read, and which have a spelling.
-use Rattle.std.specs.Prelude.{ℕ, zero, suc, ◌<◌, ◌≤◌, ◌^◌, ◌==◌, List, [], ◌∷◌, ◌++◌, length, Option, Some, None, Ok, Err, if◌then◌else◌}
+use Rattle.std.specs.Prelude.{ℕ, zero, suc, ◌<◌, ◌≤◌, ◌^◌, ◌==◌, List, [], ◌∷◌, ◌++◌, length, Option, Some, None, Ok}
+use Rattle.std.specs.Prelude.{Err, if◌then◌else◌}
 use Rattle.std.specs.List.{flat_map}
 use Rattle.std.specs.Int.{w16, w32, w64}
 use Rattle.jlr_types.specs.declared.FieldKind.{FieldKind}
@@ -10,19 +11,43 @@ use Rattle.jlr_machine.specs.declared.ask.Outcome.TheVariants.{Ok as OutcomeOk, 
 use Rattle.jlr_machine.specs.declared.ask.FullMode.{FullMode}
 use Rattle.jlr_machine.specs.declared.ask.FullMode.TheVariants.{Policy, ClearAll}
 use Rattle.jlr_machine.specs.declared.ask.CallOutcome.{CallOutcome}
-use Rattle.jlr_machine.specs.declared.ask.CallOutcome.TheVariants.{Data as GotData, Wrote as GotWrote, Failed as GotFailed}
+use Rattle.jlr_machine.specs.declared.ask.CallOutcome.TheVariants.{Data as GotData, Wrote as GotWrote}
+use Rattle.jlr_machine.specs.declared.ask.CallOutcome.TheVariants.{Failed as GotFailed}
 use Rattle.jlr_machine.specs.declared.ask.Ask.{Ask}
-use Rattle.jlr_machine.specs.declared.ask.Ask.TheVariants.{Join, Leave, New, Put, Get, SetInt, Int, Dup, Drop, Same, MakeRef, Deref, Refers, Clear, Enqueue, Enqueued, MakeQueue, Poll, Remove, MakeCleaner, Register, Clean, Prepare, Opened, CheckOut, CheckIn, Close, Finish, Bind, Find, Unbind, Names, Full, Stat, Notes, Faults, HandOver, TakeUp, Begin, Collect, Abandon, Array}
+use Rattle.jlr_machine.specs.declared.ask.Ask.TheVariants.{Join, Leave, New, Put, Get, SetInt, Int, Dup, Drop, Same}
+use Rattle.jlr_machine.specs.declared.ask.Ask.TheVariants.{MakeRef, Deref, Refers, Clear, Enqueue, Enqueued, MakeQueue}
+use Rattle.jlr_machine.specs.declared.ask.Ask.TheVariants.{Poll, Remove, MakeCleaner, Register, Clean, Prepare, Opened}
+use Rattle.jlr_machine.specs.declared.ask.Ask.TheVariants.{CheckOut, CheckIn, Close, Finish, Bind, Find, Unbind, Names}
+use Rattle.jlr_machine.specs.declared.ask.Ask.TheVariants.{Full, Stat, Notes, Faults, HandOver, TakeUp, Begin, Collect}
+use Rattle.jlr_machine.specs.declared.ask.Ask.TheVariants.{Abandon, Array}
 use Rattle.jlr_fields.specs.declared.fault.Fault.TheVariants.{Range}
 use Rattle.jlr_fields.specs.declared.version.Version.{Version}
 use Rattle.jlr_fields.specs.declared.version.Version.TheVariants.{One, Two}
-use Rattle.jlr_fields.specs.Spelling.{spelled_8, spelled_16, spelled_32, spelled_64, spelled_signed, spelled_text, IsSigned, IsText, IsWithin}
-use Rattle.jlr_fields.specs.Reading.{Reader, ◌>>=◌, one_field, two_fields, three_fields, four_fields, byte_at, byte_within_at, number_at, number_within_at, signed_at, picked_at, bytes_at, text_at, is_name_byte}
+use Rattle.jlr_fields.specs.Spelling.{spelled_8, spelled_16, spelled_32, spelled_64, spelled_signed, spelled_text}
+use Rattle.jlr_fields.specs.Spelling.{IsSigned, IsText, IsWithin}
+use Rattle.jlr_fields.specs.Reading.{Reader, ◌>>=◌, one_field, two_fields, three_fields, four_fields, byte_at}
+use Rattle.jlr_fields.specs.Reading.{byte_within_at, number_at, number_within_at, signed_at, picked_at, bytes_at}
+use Rattle.jlr_fields.specs.Reading.{text_at, is_name_byte}
 use Rattle.jlr_fields.specs.Items.{items_at}
 use Rattle.jlr_parts.specs.Tables.{ref_kinds, ref_kind_number, faults, fault_number}
 use Rattle.jlr_parts.specs.Records.{NameFits}
 use Rattle.jlr_asks.specs.declared.tag.Tag.{Tag}
-use Rattle.jlr_asks.specs.declared.tag.Tag.TheVariants.{Join as TagJoin, Leave as TagLeave, New as TagNew, Put as TagPut, Get as TagGet, SetInt as TagSetInt, Int as TagInt, Dup as TagDup, Drop as TagDrop, Same as TagSame, MakeRef as TagMakeRef, Deref as TagDeref, Refers as TagRefers, Clear as TagClear, Enqueue as TagEnqueue, Enqueued as TagEnqueued, MakeQueue as TagMakeQueue, Poll as TagPoll, Remove as TagRemove, MakeCleaner as TagMakeCleaner, Register as TagRegister, Clean as TagClean, Prepare as TagPrepare, Opened as TagOpened, CheckOut as TagCheckOut, CheckIn as TagCheckIn, Close as TagClose, Finish as TagFinish, Bind as TagBind, Find as TagFind, Unbind as TagUnbind, Names as TagNames, Full as TagFull, Stat as TagStat, Notes as TagNotes, Faults as TagFaults, HandOver as TagHandOver, TakeUp as TagTakeUp, Begin as TagBegin, Collect as TagCollect, Abandon as TagAbandon, Array as TagArray}
+use Rattle.jlr_asks.specs.declared.tag.Tag.TheVariants.{Join as TagJoin, Leave as TagLeave, New as TagNew}
+use Rattle.jlr_asks.specs.declared.tag.Tag.TheVariants.{Put as TagPut, Get as TagGet, SetInt as TagSetInt}
+use Rattle.jlr_asks.specs.declared.tag.Tag.TheVariants.{Int as TagInt, Dup as TagDup, Drop as TagDrop, Same as TagSame}
+use Rattle.jlr_asks.specs.declared.tag.Tag.TheVariants.{MakeRef as TagMakeRef, Deref as TagDeref, Refers as TagRefers}
+use Rattle.jlr_asks.specs.declared.tag.Tag.TheVariants.{Clear as TagClear, Enqueue as TagEnqueue}
+use Rattle.jlr_asks.specs.declared.tag.Tag.TheVariants.{Enqueued as TagEnqueued, MakeQueue as TagMakeQueue}
+use Rattle.jlr_asks.specs.declared.tag.Tag.TheVariants.{Poll as TagPoll, Remove as TagRemove}
+use Rattle.jlr_asks.specs.declared.tag.Tag.TheVariants.{MakeCleaner as TagMakeCleaner, Register as TagRegister}
+use Rattle.jlr_asks.specs.declared.tag.Tag.TheVariants.{Clean as TagClean, Prepare as TagPrepare, Opened as TagOpened}
+use Rattle.jlr_asks.specs.declared.tag.Tag.TheVariants.{CheckOut as TagCheckOut, CheckIn as TagCheckIn}
+use Rattle.jlr_asks.specs.declared.tag.Tag.TheVariants.{Close as TagClose, Finish as TagFinish, Bind as TagBind}
+use Rattle.jlr_asks.specs.declared.tag.Tag.TheVariants.{Find as TagFind, Unbind as TagUnbind, Names as TagNames}
+use Rattle.jlr_asks.specs.declared.tag.Tag.TheVariants.{Full as TagFull, Stat as TagStat, Notes as TagNotes}
+use Rattle.jlr_asks.specs.declared.tag.Tag.TheVariants.{Faults as TagFaults, HandOver as TagHandOver}
+use Rattle.jlr_asks.specs.declared.tag.Tag.TheVariants.{TakeUp as TagTakeUp, Begin as TagBegin, Collect as TagCollect}
+use Rattle.jlr_asks.specs.declared.tag.Tag.TheVariants.{Abandon as TagAbandon, Array as TagArray}
 
 -- ---- Tables
 
@@ -103,9 +128,11 @@ abbrev pub spelled_ask : Version → Ask → List ℕ
 spelled_ask version (Join mutator) = 0 ∷ mutator ∷ []
 spelled_ask version (Leave mutator) = 1 ∷ mutator ∷ []
 spelled_ask version (New mutator layout) = 2 ∷ mutator ∷ spelled_layout layout
-spelled_ask version (Put mutator object field value) = 3 ∷ mutator ∷ object ∷ spelled_field version field ++ spelled_8 value
+spelled_ask version (Put mutator object field value) = 3 ∷ mutator ∷ object ∷ spelled_field version field
+    ++ spelled_8 value
 spelled_ask version (Get mutator object field) = 4 ∷ mutator ∷ object ∷ spelled_field version field
-spelled_ask version (SetInt mutator object field value) = 5 ∷ mutator ∷ object ∷ spelled_field version field ++ spelled_signed value
+spelled_ask version (SetInt mutator object field value) = 5 ∷ mutator ∷ object ∷ spelled_field version field
+    ++ spelled_signed value
 spelled_ask version (Int mutator object field) = 6 ∷ mutator ∷ object ∷ spelled_field version field
 spelled_ask version (Dup mutator object) = 7 ∷ mutator ∷ object ∷ []
 spelled_ask version (Drop mutator object) = 8 ∷ mutator ∷ object ∷ []
@@ -152,9 +179,11 @@ abbrev pub AskFits : Version → Ask → Type 0
 AskFits version (Join mutator) = mutator < 256
 AskFits version (Leave mutator) = mutator < 256
 AskFits version (New mutator layout) = (mutator < 256) × (length layout ≤ 8)
-AskFits version (Put mutator object field value) = (mutator < 256) × (object < 256) × (FieldFits version field) × (value < 256)
+AskFits version (Put mutator object field value) = (mutator < 256) × (object < 256) × (FieldFits version field)
+    × (value < 256)
 AskFits version (Get mutator object field) = (mutator < 256) × (object < 256) × (FieldFits version field)
-AskFits version (SetInt mutator object field value) = (mutator < 256) × (object < 256) × (FieldFits version field) × (IsSigned value)
+AskFits version (SetInt mutator object field value) = (mutator < 256) × (object < 256) × (FieldFits version field)
+    × (IsSigned value)
 AskFits version (Int mutator object field) = (mutator < 256) × (object < 256) × (FieldFits version field)
 AskFits version (Dup mutator object) = (mutator < 256) × (object < 256)
 AskFits version (Drop mutator object) = (mutator < 256) × (object < 256)
@@ -169,7 +198,8 @@ AskFits version (MakeQueue mutator) = mutator < 256
 AskFits version (Poll mutator queue) = (mutator < 256) × (queue < 256)
 AskFits version (Remove mutator queue) = (mutator < 256) × (queue < 256)
 AskFits version (MakeCleaner mutator) = mutator < 256
-AskFits version (Register mutator cleaner object note) = (mutator < 256) × (cleaner < 256) × (object < 256) × (note < 2 ^ 32)
+AskFits version (Register mutator cleaner object note) = (mutator < 256) × (cleaner < 256) × (object < 256)
+    × (note < 2 ^ 32)
 AskFits version (Clean mutator cleanable) = (mutator < 256) × (cleanable < 256)
 AskFits version (Prepare mutator) = mutator < 256
 AskFits version (Opened mutator outcome) = mutator < 256
@@ -193,7 +223,11 @@ AskFits version Abandon = Unit {0}
 AskFits version (Array mutator length) = ArrayFits version mutator length
 
 abbrev pub tags : List Tag
-tags = TagJoin ∷ TagLeave ∷ TagNew ∷ TagPut ∷ TagGet ∷ TagSetInt ∷ TagInt ∷ TagDup ∷ TagDrop ∷ TagSame ∷ TagMakeRef ∷ TagDeref ∷ TagRefers ∷ TagClear ∷ TagEnqueue ∷ TagEnqueued ∷ TagMakeQueue ∷ TagPoll ∷ TagRemove ∷ TagMakeCleaner ∷ TagRegister ∷ TagClean ∷ TagPrepare ∷ TagOpened ∷ TagCheckOut ∷ TagCheckIn ∷ TagClose ∷ TagFinish ∷ TagBind ∷ TagFind ∷ TagUnbind ∷ TagNames ∷ TagFull ∷ TagStat ∷ TagNotes ∷ TagFaults ∷ TagHandOver ∷ TagTakeUp ∷ TagBegin ∷ TagCollect ∷ TagAbandon ∷ TagArray ∷ []
+tags = TagJoin ∷ TagLeave ∷ TagNew ∷ TagPut ∷ TagGet ∷ TagSetInt ∷ TagInt ∷ TagDup ∷ TagDrop ∷ TagSame ∷ TagMakeRef
+    ∷ TagDeref ∷ TagRefers ∷ TagClear ∷ TagEnqueue ∷ TagEnqueued ∷ TagMakeQueue ∷ TagPoll ∷ TagRemove ∷ TagMakeCleaner
+    ∷ TagRegister ∷ TagClean ∷ TagPrepare ∷ TagOpened ∷ TagCheckOut ∷ TagCheckIn ∷ TagClose ∷ TagFinish ∷ TagBind
+    ∷ TagFind ∷ TagUnbind ∷ TagNames ∷ TagFull ∷ TagStat ∷ TagNotes ∷ TagFaults ∷ TagHandOver ∷ TagTakeUp ∷ TagBegin
+    ∷ TagCollect ∷ TagAbandon ∷ TagArray ∷ []
 
 -- version 1 has no arrays
 abbrev pub array_read : Version → Reader Ask

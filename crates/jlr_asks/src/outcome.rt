@@ -2,7 +2,8 @@
 ghost use Rattle.std.specs.Prelude.{◌≡◌, ◌++◌, OnOk};
 ghost use Rattle.jlr_fields.specs.Spelling.{spelled_8};
 ghost use Rattle.jlr_fields.specs.Reading.{Reads, picked_at};
-ghost use Rattle.jlr_asks.specs.Asks.{outcomes, outcome_number, modes, mode_number, call_outcome_read, spelled_call_outcome};
+ghost use Rattle.jlr_asks.specs.Asks.{outcomes, outcome_number, modes, mode_number, call_outcome_read};
+ghost use Rattle.jlr_asks.specs.Asks.{spelled_call_outcome};
 
 use jlr_fields::cursor::{take_data, take_picked, take_u8, take_within};
 use jlr_fields::fault::{Fault as ByteFault, ReadError};

@@ -1,10 +1,17 @@
 //! Reads asks.
 ghost use Rattle.std.specs.Prelude.{◌≡◌};
 ghost use Rattle.std.specs.Int.{w32, w64};
-ghost use Rattle.jlr_machine.specs.declared.ask.Ask.TheVariants.{Join, Leave, New, Put, Get, SetInt, Int, Dup, Drop, Same, MakeRef, Deref, Refers, Clear, Enqueue, Enqueued, MakeQueue, Poll, Remove, MakeCleaner, Register, Clean, Prepare, Opened, CheckOut, CheckIn, Close, Finish, Bind, Find, Unbind, Names, Full, Stat, Notes, Faults};
-ghost use Rattle.jlr_fields.specs.Reading.{Reads, one_field, two_fields, three_fields, four_fields, byte_at, number_at, signed_at, picked_at, text_at, is_name_byte};
+ghost use Rattle.jlr_machine.specs.declared.ask.Ask.TheVariants.{Join, Leave, New, Put, Get, SetInt, Int, Dup, Drop};
+ghost use Rattle.jlr_machine.specs.declared.ask.Ask.TheVariants.{Same, MakeRef, Deref, Refers, Clear, Enqueue};
+ghost use Rattle.jlr_machine.specs.declared.ask.Ask.TheVariants.{Enqueued, MakeQueue, Poll, Remove, MakeCleaner};
+ghost use Rattle.jlr_machine.specs.declared.ask.Ask.TheVariants.{Register, Clean, Prepare, Opened, CheckOut, CheckIn};
+ghost use Rattle.jlr_machine.specs.declared.ask.Ask.TheVariants.{Close, Finish, Bind, Find, Unbind, Names, Full, Stat};
+ghost use Rattle.jlr_machine.specs.declared.ask.Ask.TheVariants.{Notes, Faults};
+ghost use Rattle.jlr_fields.specs.Reading.{Reads, one_field, two_fields, three_fields, four_fields, byte_at, number_at};
+ghost use Rattle.jlr_fields.specs.Reading.{signed_at, picked_at, text_at, is_name_byte};
 ghost use Rattle.jlr_parts.specs.Tables.{ref_kinds};
-ghost use Rattle.jlr_asks.specs.Asks.{outcomes, modes, layout_read, call_outcome_read, field_read, array_read, ask_read};
+ghost use Rattle.jlr_asks.specs.Asks.{outcomes, modes, layout_read, call_outcome_read, field_read, array_read};
+ghost use Rattle.jlr_asks.specs.Asks.{ask_read};
 
 use crate::field::{field_at, length_at};
 use crate::layout::layout_at;
@@ -42,7 +49,8 @@ fn new_at(bytes: &mut &[u8]) -> Result<Ask, ReadError>
 }
 
 fn put_at(version: Version, bytes: &mut &[u8]) -> Result<Ask, ReadError>
-    ensures { Reads (λ x. x) result bytes.new.now (four_fields byte_at byte_at (field_read version) byte_at Put bytes.old.now) }
+    ensures { Reads (λ x. x) result bytes.new.now
+        (four_fields byte_at byte_at (field_read version) byte_at Put bytes.old.now) }
 {
     let mutator = take_mutator(bytes)?;
     let object = take_handle(bytes)?;
@@ -57,7 +65,8 @@ fn put_at(version: Version, bytes: &mut &[u8]) -> Result<Ask, ReadError>
 }
 
 fn get_at(version: Version, bytes: &mut &[u8]) -> Result<Ask, ReadError>
-    ensures { Reads (λ x. x) result bytes.new.now (three_fields byte_at byte_at (field_read version) Get bytes.old.now) }
+    ensures { Reads (λ x. x) result bytes.new.now
+        (three_fields byte_at byte_at (field_read version) Get bytes.old.now) }
 {
     let mutator = take_mutator(bytes)?;
     let object = take_handle(bytes)?;
@@ -70,7 +79,8 @@ fn get_at(version: Version, bytes: &mut &[u8]) -> Result<Ask, ReadError>
 }
 
 fn set_int_at(version: Version, bytes: &mut &[u8]) -> Result<Ask, ReadError>
-    ensures { Reads (λ x. x) result bytes.new.now (four_fields byte_at byte_at (field_read version) signed_at SetInt bytes.old.now) }
+    ensures { Reads (λ x. x) result bytes.new.now
+        (four_fields byte_at byte_at (field_read version) signed_at SetInt bytes.old.now) }
 {
     let mutator = take_mutator(bytes)?;
     let object = take_handle(bytes)?;
@@ -85,7 +95,8 @@ fn set_int_at(version: Version, bytes: &mut &[u8]) -> Result<Ask, ReadError>
 }
 
 fn int_at(version: Version, bytes: &mut &[u8]) -> Result<Ask, ReadError>
-    ensures { Reads (λ x. x) result bytes.new.now (three_fields byte_at byte_at (field_read version) Int bytes.old.now) }
+    ensures { Reads (λ x. x) result bytes.new.now
+        (three_fields byte_at byte_at (field_read version) Int bytes.old.now) }
 {
     let mutator = take_mutator(bytes)?;
     let object = take_handle(bytes)?;
@@ -127,7 +138,8 @@ fn same_at(bytes: &mut &[u8]) -> Result<Ask, ReadError>
 }
 
 fn make_ref_at(bytes: &mut &[u8]) -> Result<Ask, ReadError>
-    ensures { Reads (λ x. x) result bytes.new.now (four_fields byte_at (picked_at 0 ref_kinds) byte_at byte_at MakeRef bytes.old.now) }
+    ensures { Reads (λ x. x) result bytes.new.now
+        (four_fields byte_at (picked_at 0 ref_kinds) byte_at byte_at MakeRef bytes.old.now) }
 {
     let mutator = take_mutator(bytes)?;
     let kind = take_ref_kind(bytes)?;
@@ -217,7 +229,8 @@ fn make_cleaner_at(bytes: &mut &[u8]) -> Result<Ask, ReadError>
 }
 
 fn register_at(bytes: &mut &[u8]) -> Result<Ask, ReadError>
-    ensures { Reads (λ x. x) result bytes.new.now (four_fields byte_at byte_at byte_at (number_at w32) Register bytes.old.now) }
+    ensures { Reads (λ x. x) result bytes.new.now
+        (four_fields byte_at byte_at byte_at (number_at w32) Register bytes.old.now) }
 {
     let mutator = take_mutator(bytes)?;
     let cleaner = take_handle(bytes)?;
@@ -279,7 +292,8 @@ fn close_at(bytes: &mut &[u8]) -> Result<Ask, ReadError>
 }
 
 fn finish_at(bytes: &mut &[u8]) -> Result<Ask, ReadError>
-    ensures { Reads (λ x. x) result bytes.new.now (three_fields byte_at (number_at w64) (picked_at 0 outcomes) Finish bytes.old.now) }
+    ensures { Reads (λ x. x) result bytes.new.now
+        (three_fields byte_at (number_at w64) (picked_at 0 outcomes) Finish bytes.old.now) }
 {
     let by = take_u8(bytes)?;
     let action = take_action(bytes)?;
@@ -292,7 +306,8 @@ fn finish_at(bytes: &mut &[u8]) -> Result<Ask, ReadError>
 }
 
 fn bind_at(bytes: &mut &[u8]) -> Result<Ask, ReadError>
-    ensures { Reads (λ x. x) result bytes.new.now (three_fields byte_at (text_at 1 32 is_name_byte) byte_at Bind bytes.old.now) }
+    ensures { Reads (λ x. x) result bytes.new.now
+        (three_fields byte_at (text_at 1 32 is_name_byte) byte_at Bind bytes.old.now) }
 {
     let mutator = take_mutator(bytes)?;
     let name = take_name(bytes)?;
@@ -313,7 +328,8 @@ fn find_at(bytes: &mut &[u8]) -> Result<Ask, ReadError>
 }
 
 fn unbind_at(bytes: &mut &[u8]) -> Result<Ask, ReadError>
-    ensures { Reads (λ x. x) result bytes.new.now (two_fields byte_at (text_at 1 32 is_name_byte) Unbind bytes.old.now) }
+    ensures { Reads (λ x. x) result bytes.new.now
+        (two_fields byte_at (text_at 1 32 is_name_byte) Unbind bytes.old.now) }
 {
     let mutator = take_mutator(bytes)?;
     let name = take_name(bytes)?;

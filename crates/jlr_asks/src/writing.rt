@@ -69,7 +69,8 @@ fn put_set_int(
     value: i64,
 ) -> Result<(), AllocError>
     requires { FieldFits version field }
-    ensures { OnOk result (out.new.items ≡ out.old.items ++ (5 ∷ mutator ∷ object ∷ spelled_field version field ++ spelled_signed value)) }
+    ensures { OnOk result (out.new.items ≡ out.old.items
+        ++ (5 ∷ mutator ∷ object ∷ spelled_field version field ++ spelled_signed value)) }
 {
     put_field_of(out, version, 5, mutator, object, field)?;
     put_i64(out, value)
@@ -81,7 +82,8 @@ fn put_finish(
     action: ActionNo,
     outcome: Outcome,
 ) -> Result<(), AllocError>
-    ensures { OnOk result (out.new.items ≡ out.old.items ++ 27 ∷ by ∷ spelled_64 action ++ spelled_8 (outcome_number outcome)) }
+    ensures { OnOk result (out.new.items ≡ out.old.items ++ 27 ∷ by ∷ spelled_64 action
+        ++ spelled_8 (outcome_number outcome)) }
 {
     put_u8(out, 27)?;
     put_u8(out, by)?;

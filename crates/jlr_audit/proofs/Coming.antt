@@ -1,5 +1,6 @@
 -- Entries that come one after the other.
-use Rattle.std.proofs.Common.{◌≡◌, ℕ, suc, ◌+◌, List, [], ◌∷◌, ◌++◌, length, Option, Some, None, Result, Ok, Err, refl, sym, ap, subst, ◌∙◌, append_assoc, arith}
+use Rattle.std.proofs.Common.{◌≡◌, ℕ, suc, ◌+◌, List, [], ◌∷◌, ◌++◌, length, Option, Some, None, Result, Ok, Err, refl, sym, ap, subst, ◌∙◌}
+use Rattle.std.proofs.Common.{append_assoc, arith}
 use Rattle.std.specs.Prelude.{slice_get, IfOk, OnOk}
 use Rattle.std.specs.Io.KnownBytes.{IsAtEnd}
 use Rattle.std.proofs.lemmas.List.{append-nil, length-append, take_at}
@@ -46,7 +47,8 @@ regrouped : (front : List Entry) (e : Entry) (read : Read) → with_front front 
 regrouped front e (Ok entries) = ap (λ (es : List Entry). Ok es) (sym (append_assoc front (e ∷ []) entries))
 regrouped front e (Err f) = refl
 
-pub one_came : (front : List Entry) (e : Entry) (start old new : Option Read) → HaveCome front start old → ComesFirst e old new → HaveCome (front ++ e ∷ []) start new
+pub one_came : (front : List Entry) (e : Entry) (start old new : Option Read) → HaveCome front start old → ComesFirst e old new
+    → HaveCome (front ++ e ∷ []) start new
 one_came front e None old new came first = tt
 one_came front e (Some start) None new came first = absurd came
 one_came front e (Some start) (Some old) None came first = absurd first
@@ -57,7 +59,8 @@ all_came front None now came none = tt
 all_came front (Some start) None came none = absurd came
 all_came front (Some start) (Some now) came none = came ∙ ap (with_front front) none ∙ ap (λ (es : List Entry). Ok es) (append-nil front)
 
-pub others_come : (front others : List Entry) (start now : Option Read) → HaveCome front start now → AreComing others now → AreComing (front ++ others) start
+pub others_come : (front others : List Entry) (start now : Option Read) → HaveCome front start now → AreComing others now
+    → AreComing (front ++ others) start
 others_come front others None now came come = tt
 others_come front others (Some start) None came come = absurd came
 others_come front others (Some start) (Some now) came come = came ∙ ap (with_front front) come
@@ -65,7 +68,8 @@ others_come front others (Some start) (Some now) came come = came ∙ ap (with_f
 lost : (front : List Entry) (start now : Read) (d : TraceFault) → start ≡ with_front front now → now ≡ Err d → start ≡ Err d
 lost front start now d came e = came ∙ ap (with_front front) e
 
-pub one_fails : (front : List Entry) (f : StreamFault) (start now : Option Read) → HaveCome front start now → FailsOn f now → FailsOn f start
+pub one_fails : (front : List Entry) (f : StreamFault) (start now : Option Read) → HaveCome front start now → FailsOn f now
+    → FailsOn f start
 one_fails front (Unread kind) start now came fails = tt
 one_fails front (Damaged d) None now came fails = tt
 one_fails front (Damaged d) (Some start) None came fails = absurd came
@@ -113,7 +117,8 @@ pub record HasCome (start : Coming) (now : Coming) (number : ℕ) : Type 0 where
 pub begins : (start : Coming) → HasCome start start 0
 begins start = record { front = []; counted = refl; left = omega arith; come = none_came start.entries; bytes = bytes_none start.rest }
 
-pub goes_on : (start old new : Coming) (number : ℕ) (e : Entry) → HasCome start old number → Comes e old new → HasCome start new (number + 1)
+pub goes_on : (start old new : Coming) (number : ℕ) (e : Entry) → HasCome start old number → Comes e old new
+    → HasCome start new (number + 1)
 goes_on start old new number e h c = record {
   front = h.front ++ e ∷ [];
   counted = omega (arith, length-append h.front (e ∷ []), h.counted);
@@ -132,7 +137,8 @@ pub run_begins : (image : Machine) (start : Coming) → IsFit image → HasRun i
 unfolding begins
 run_begins image start fit = record { fit = fit; so_far = begins start; run = refl }
 
-pub run_goes_on : (image : Machine) (start : Coming) (old new : Machine) (before after : Coming) (number : ℕ) (e : Entry) → HasRun image start old before number → Comes e before after → IsNext old e new → HasRun image start new after (number + 1)
+pub run_goes_on : (image : Machine) (start : Coming) (old new : Machine) (before after : Coming) (number : ℕ) (e : Entry)
+    → HasRun image start old before number → Comes e before after → IsNext old e new → HasRun image start new after (number + 1)
 unfolding goes_on
 run_goes_on image start old new before after number e h c n = record {
   fit = n.fit;
@@ -144,7 +150,8 @@ there : (front : List Entry) (e : Entry) (others : List Entry) → slice_get (fr
 there [] e others = refl
 there (x ∷ front) e others = there front e others
 
-first_illegal : (image machine : Machine) (front : List Entry) (e : Entry) (others : List Entry) (number : ℕ) → length front ≡ number → Run image front machine → ¬ (IsLegal machine e) → IsFirstIllegal image (front ++ e ∷ others) number
+first_illegal : (image machine : Machine) (front : List Entry) (e : Entry) (others : List Entry) (number : ℕ) → length front ≡ number
+    → Run image front machine → ¬ (IsLegal machine e) → IsFirstIllegal image (front ++ e ∷ others) number
 first_illegal image machine front e others number counted run refused = record {
   entry = e;
   there = subst (λ (n : ℕ). slice_get (front ++ e ∷ others) n ≡ Some e) counted (there front e others);
@@ -153,47 +160,60 @@ first_illegal image machine front e others number counted run refused = record {
   illegal = refused;
 }
 
-run_stops : (image : Machine) (start : Coming) (machine : Machine) (before after : Coming) (number : ℕ) (e : Entry) (others : List Entry) (v : Verdict) → IsImage image → HasRun image start machine before number → Comes e before after
+run_stops : (image : Machine) (start : Coming) (machine : Machine) (before after : Coming) (number : ℕ) (e : Entry) (others : List Entry)
+    (v : Verdict) → IsImage image → HasRun image start machine before number → Comes e before after
     → ¬ (IsLegal machine e) → AreComing others after.entries → v ≡ Illegal (number + 1) → IsStreamVerdict [] image start.entries v
 run_stops image start machine before after number e others v i h c refused come is =
     let front : List Entry = h.so_far.front in
-    let came : HaveCome (front ++ e ∷ []) start.entries after.entries = one_came front e start.entries before.entries after.entries h.so_far.come c.first in
+    let came : HaveCome (front ++ e ∷ []) start.entries after.entries =
+    one_came front e start.entries before.entries after.entries h.so_far.come c.first in
     let grouped : (front ++ e ∷ []) ++ others ≡ front ++ e ∷ others = append_assoc front (e ∷ []) others in
     let next : number + 1 ≡ suc number = omega arith in
-    let verdict : IsVerdict image (front ++ e ∷ others) (Illegal (suc number)) = (i, first_illegal image machine front e others number h.so_far.counted h.run refused) in
+    let verdict : IsVerdict image (front ++ e ∷ others) (Illegal (suc number)) =
+    (i, first_illegal image machine front e others number h.so_far.counted h.run refused) in
     record {
       entries = front ++ e ∷ others;
-      come = subst (λ (es : List Entry). AreComing es start.entries) grouped (others_come (front ++ e ∷ []) others start.entries after.entries came come);
+      come = subst (λ (es : List Entry). AreComing es start.entries) grouped
+          (others_come (front ++ e ∷ []) others start.entries after.entries came come);
       verdict = subst (λ (w : Verdict). IsVerdict image (front ++ e ∷ others) w) (sym (is ∙ ap (λ (n : ℕ). Illegal n) next)) verdict;
     }
 
 -- the same where the others were read
-pub run_is_refused : (image : Machine) (start : Coming) (machine : Machine) (before after : Coming) (number : ℕ) (e : Entry) (result : Result Verdict StreamFault) → IsImage image → HasRun image start machine before number → Comes e before after
-    → ¬ (IsLegal machine e) → IfOk result (λ v. (v ≡ Illegal (number + 1)) × ((es : List Entry) × AreComing es after.entries)) → IfOk result (λ v. IsStreamVerdict [] image start.entries v)
-run_is_refused image start machine before after number e (Ok v) i h c refused come = run_stops image start machine before after number e come.1.0 v i h c refused come.1.1 come.0
+pub run_is_refused : (image : Machine) (start : Coming) (machine : Machine) (before after : Coming) (number : ℕ) (e : Entry)
+    (result : Result Verdict StreamFault) → IsImage image → HasRun image start machine before number → Comes e before after
+    → ¬ (IsLegal machine e) → IfOk result (λ v. (v ≡ Illegal (number + 1)) × ((es : List Entry) × AreComing es after.entries))
+    → IfOk result (λ v. IsStreamVerdict [] image start.entries v)
+run_is_refused image start machine before after number e (Ok v) i h c refused come =
+    run_stops image start machine before after number e come.1.0 v i h c refused come.1.1 come.0
 run_is_refused image start machine before after number e (Err f) i h c refused come = tt
 
 -- all are bytes, where what is left is at its end, or where those behind an entry are
-pub bytes_to_end : (start now : Coming) (number : ℕ) (result : Result (Unit {0}) StreamFault) → HasCome start now number → OnOk result (IsAtEnd now.rest) → OnOk result (AllAreBytes start.rest)
+pub bytes_to_end : (start now : Coming) (number : ℕ) (result : Result (Unit {0}) StreamFault) → HasCome start now number
+    → OnOk result (IsAtEnd now.rest) → OnOk result (AllAreBytes start.rest)
 bytes_to_end start now number (Ok u) h end = bytes_all start.rest now.rest h.bytes (no_bytes now.rest end)
 bytes_to_end start now number (Err f) h end = tt
 
-pub bytes_read_on : (start before after : Coming) (number : ℕ) (e : Entry) (result : Result Verdict StreamFault) → HasCome start before number → Comes e before after → OnOk result (AllAreBytes after.rest) → OnOk result (AllAreBytes start.rest)
-bytes_read_on start before after number e (Ok v) h c all = bytes_all start.rest before.rest h.bytes (bytes_all before.rest after.rest c.bytes all)
+pub bytes_read_on : (start before after : Coming) (number : ℕ) (e : Entry) (result : Result Verdict StreamFault)
+    → HasCome start before number → Comes e before after → OnOk result (AllAreBytes after.rest) → OnOk result (AllAreBytes start.rest)
+bytes_read_on start before after number e (Ok v) h c all =
+    bytes_all start.rest before.rest h.bytes (bytes_all before.rest after.rest c.bytes all)
 bytes_read_on start before after number e (Err f) h c all = tt
 
 -- ---- There is one verdict
 
-one_with : (strays : List Placed) (image : Machine) (entries : List Entry) (v w : Verdict) → IsVerdictWith strays image entries v → IsVerdictWith strays image entries w → w ≡ v
+one_with : (strays : List Placed) (image : Machine) (entries : List Entry) (v w : Verdict) → IsVerdictWith strays image entries v
+    → IsVerdictWith strays image entries w → w ≡ v
 one_with [] image entries v w p q = any_verdict image entries v p w q
 one_with (s ∷ strays) image entries v w p q = q ∙ sym p
 
-is_only : (strays : List Placed) (image : Machine) (coming : Option Read) (v : Verdict) → IsStreamVerdict strays image coming v → IsOnlyVerdict strays image coming v
+is_only : (strays : List Placed) (image : Machine) (coming : Option Read) (v : Verdict) → IsStreamVerdict strays image coming v
+    → IsOnlyVerdict strays image coming v
 is_only strays image None v s = tt
 is_only strays image (Some read) v s = λ entries w come q.
     let same : entries ≡ s.entries = cc (come, s.come) in
     one_with strays image s.entries v w s.verdict (subst (λ (es : List Entry). IsVerdictWith strays image es w) same q)
 
-pub only_one : (strays : List Placed) (image : Machine) (coming : Option Read) (result : Result Verdict StreamFault) → IfOk result (λ v. IsStreamVerdict strays image coming v) → IfOk result (λ v. IsOnlyVerdict strays image coming v)
+pub only_one : (strays : List Placed) (image : Machine) (coming : Option Read) (result : Result Verdict StreamFault)
+    → IfOk result (λ v. IsStreamVerdict strays image coming v) → IfOk result (λ v. IsOnlyVerdict strays image coming v)
 only_one strays image coming (Ok v) s = is_only strays image coming v s
 only_one strays image coming (Err f) s = tt

@@ -13,7 +13,8 @@ AreComing entries None = Unit {0}
 AreComing entries (Some read) = read ≡ Ok entries
 
 -- entries come up to the end, and this is the verdict on them
-pub record IsStreamVerdict (strays : List Placed) (image : Machine) (coming : Option (Result (List Entry) TraceFault)) (v : Verdict) : Type 0 where
+pub record IsStreamVerdict (strays : List Placed) (image : Machine) (coming : Option (Result (List Entry) TraceFault))
+    (v : Verdict) : Type 0 where
   pub entries : List Entry
   pub come : AreComing entries coming
   pub verdict : IsVerdictWith strays image entries v
@@ -21,4 +22,5 @@ pub record IsStreamVerdict (strays : List Placed) (image : Machine) (coming : Op
 -- no other verdict holds on the entries that come
 abbrev pub IsOnlyVerdict : List Placed → Machine → Option (Result (List Entry) TraceFault) → Verdict → Type 0
 IsOnlyVerdict strays image None v = Unit {0}
-IsOnlyVerdict strays image (Some read) v = (entries : List Entry) (w : Verdict) → read ≡ Ok entries → IsVerdictWith strays image entries w → w ≡ v
+IsOnlyVerdict strays image (Some read) v = (entries : List Entry) (w : Verdict) → read ≡ Ok entries
+    → IsVerdictWith strays image entries w → w ≡ v

@@ -60,8 +60,8 @@ pub fn audit(alloc: Global, file: &TraceFile) -> Result<Verdict, AllocError>
     audit_watched(alloc, file, &mut Unwatched)
 }
 
-/// Whether the entries of a trace file are a run from its image. An image with objects in slots that are no cells is not well
-/// formed. It shares nothing with the heap: it is made of the plain program.
+/// Whether the entries of a trace file are a run from its image. An image with objects in slots that are no cells is
+/// not well formed. It shares nothing with the heap: it is made of the plain program.
 ///
 /// # Errors
 /// `AllocError` where there is no memory.

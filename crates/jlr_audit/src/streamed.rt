@@ -1,5 +1,5 @@
-//! The audit of a trace file as it is read: each entry is judged and let go before the next. After the first one that is not
-//! legal the others are read for their faults alone.
+//! The audit of a trace file as it is read: each entry is judged and let go before the next. After the first one that
+//! is not legal the others are read for their faults alone.
 ghost use Rattle.std.specs.Prelude.{◌≡◌, ◌+◌, ℕ, List, [], suc, IfOk, IfErr, OnOk, MatchOption};
 ghost use Rattle.jlr_audit.specs.declared.verdict.Verdict.TheVariants.{Illegal};
 ghost use Rattle.jlr_audit.specs.Streams.{AreComing, IsStreamVerdict, IsOnlyVerdict};
@@ -126,8 +126,8 @@ fn verdict_on<R: Read, W: Watch>(
     judged(alloc, image, entries, watch)
 }
 
-/// Whether the entries of a trace file are a run from its image, as `audit` tells it. It is read to its end, with one entry in
-/// memory at a time; a fault of its bytes is told whatever stands before it.
+/// Whether the entries of a trace file are a run from its image, as `audit` tells it. It is read to its end, with one
+/// entry in memory at a time; a fault of its bytes is told whatever stands before it.
 ///
 /// # Errors
 /// `Unread` where a read fails, and `Damaged` with the first fault of the bytes, or where there is no memory.

@@ -18,7 +18,8 @@ pub enum Verdict {
     Illegal(u64),
 }
 
-/// How many of the first entries are legal, one after the other, from this machine on. It is given up for what they leave.
+/// How many of the first entries are legal, one after the other, from this machine on. It is given up for what they
+/// leave.
 pub fn legal_front<W: Watch>(
     alloc: Global,
     machine: Machine,

@@ -1,5 +1,7 @@
 -- A new object keeps a heap together.
-use Rattle.std.proofs.Common.{◌≡◌, ◌≤◌, ◌<◌, ◌+◌, ℕ, ◌⊎◌, inl, inr, true, false, IsTrue, [], ◌++◌, Some, None, is_some, length, option_and_then, slice_set, refl, sym, subst, arith, ap, ◌∙◌, length-set, get_or, get_or-set_same, get_or-set_other, count_by}
+use Rattle.std.proofs.Common.{◌≡◌, ◌≤◌, ◌<◌, ◌+◌, ℕ, ◌⊎◌, inl, inr, true, false, IsTrue, [], ◌++◌, Some, None, is_some, length}
+use Rattle.std.proofs.Common.{option_and_then, slice_set, refl, sym, subst, arith, ap, ◌∙◌, length-set, get_or, get_or-set_same}
+use Rattle.std.proofs.Common.{get_or-set_other, count_by}
 use Rattle.std.specs.List.{flat_map}
 use Rattle.std.specs.Option.{option_to_list}
 use Rattle.std.proofs.lemmas.Bool.{both_ways, cases_eq, false_from_ne_true}
@@ -23,7 +25,8 @@ use Rattle.jlr_barrier.proofs.OwnRoots.{active_gives, active_from}
 use Rattle.jlr_barrier.proofs.Keeping.{snapshot_of_new}
 use Rattle.jlr_barrier.proofs.Fitting.{marked_or_not, in_hand_safe}
 
-module _ (k : Known) (a b s : ℕ) (p : Object) (clock : Clock) (n : Marking) (f : FitsTogether k a b) (inside : s < length k.graph.objects) (free : at k.graph.objects s ≡ None)
+module _ (k : Known) (a b s : ℕ) (p : Object) (clock : Clock) (n : Marking) (f : FitsTogether k a b) (inside : s < length k.graph.objects)
+    (free : at k.graph.objects s ≡ None)
     (as_long : length clock.last_gets ≡ length k.clock.last_gets)
     (bits : n.bits ≡ slice_set k.marking.bits s true) (grey : n.grey ≡ k.marking.grey)
     (same_discovered : n.discovered ≡ k.marking.discovered)
@@ -64,7 +67,11 @@ module _ (k : Known) (a b s : ℕ) (p : Object) (clock : Clock) (n : Marking) (f
   ]
 
   edges_new : (y : ℕ) → y ∈ edges_from Strong other s → IsSafe (cycle_of k.graph k.marking) y
-  edges_new y h = elim (in_append y (strong_edges p) [] (subst (λ z. y ∈ flat_map strong_edges (option_to_list z)) here h)) [ inl i ↦ leads y i | inr none ↦ nothing y none ]
+  edges_new y h = elim (in_append y (strong_edges p) [] (subst (λ z. y ∈ flat_map strong_edges (option_to_list z)) here h)) [
+    | inl i ↦
+        leads y i
+    | inr none ↦ nothing y none
+  ]
 
   within : s < length k.marking.bits
   within = omega (arith, inside, f.bits)
@@ -105,9 +112,15 @@ module _ (k : Known) (a b s : ℕ) (p : Object) (clock : Clock) (n : Marking) (f
   referents_new : (y : ℕ) → RefersTo other s y → IsSafe (cycle_of k.graph k.marking) y
   referents_new y h = refers y (subst (λ z. option_and_then any_referent z ≡ Some y) here h)
 
-  taken : IsSnapshot (cycle_of after (record { bits = n.bits; grey = k.marking.grey; discovered = k.marking.discovered; part = k.marking.part }))
+  taken : IsSnapshot (cycle_of after (record {
+    bits = n.bits;
+    grey = k.marking.grey;
+    discovered = k.marking.discovered;
+    part = k.marking.part;
+  }))
   taken =
-      snapshot_of_new (cycle_of k.graph k.marking) s (IsEdge other) (λ x y. y ∈ ahead_at other (place k.marking x) x) (RefersTo other) (λ y. y ∈ held after) (IsMarked n) f.snapshot (marked_or_not k.marking) (marked_or_not n) kept marked black
+      snapshot_of_new (cycle_of k.graph k.marking) s (IsEdge other) (λ x y. y ∈ ahead_at other (place k.marking x) x) (RefersTo other)
+      (λ y. y ∈ held after) (IsMarked n) f.snapshot (marked_or_not k.marking) (marked_or_not n) kept marked black
       none_ahead edges_beside ahead_stay edges_new referents_beside referents_new (λ x. cases_eq x s) held_before
 
   still_objects : (x : ℕ) → IsMarked n x → IsObject other x
@@ -129,23 +142,36 @@ module _ (k : Known) (a b s : ℕ) (p : Object) (clock : Clock) (n : Marking) (f
         started = λ q e. subst (λ l. q.slot ∈ l) (sym grey) (f.started q (sym same_part ∙ e));
         placed = λ q e. still_placed q (f.placed q (sym same_part ∙ e));
         snapshot =
-            subst (λ q. IsSnapshot (cycle_of after (record { bits = n.bits; grey = n.grey; discovered = n.discovered; part = q }))) (sym same_part)
-            (subst (λ d. IsSnapshot (cycle_of after (record { bits = n.bits; grey = n.grey; discovered = d; part = k.marking.part }))) (sym same_discovered)
-            (subst (λ g. IsSnapshot (cycle_of after (record { bits = n.bits; grey = g; discovered = k.marking.discovered; part = k.marking.part }))) (sym grey) taken));
+            subst (λ q. IsSnapshot (cycle_of after (record { bits = n.bits; grey = n.grey; discovered = n.discovered; part = q })))
+            (sym same_part)
+            (subst (λ d. IsSnapshot (cycle_of after (record { bits = n.bits; grey = n.grey; discovered = d; part = k.marking.part })))
+            (sym same_discovered)
+            (subst (λ g. IsSnapshot (cycle_of after (record {
+              bits = n.bits;
+              grey = g;
+              discovered = k.marking.discovered;
+              part = k.marking.part;
+            }))) (sym grey) taken));
       }
 
-pub allocated_in_hand : (k : Known) (a b s : ℕ) (p : Object) (clock : Clock) (n : Marking) → FitsTogether k a b → s < length k.graph.objects → at k.graph.objects s ≡ None → length clock.last_gets ≡ length k.clock.last_gets
-    → n.bits ≡ slice_set k.marking.bits s true → n.grey ≡ k.marking.grey → n.discovered ≡ k.marking.discovered → n.part ≡ k.marking.part → ((y : ℕ) → y ∈ (strong_edges p ++ option_to_list (any_referent p)) → IsInHand k y)
+pub allocated_in_hand : (k : Known) (a b s : ℕ) (p : Object) (clock : Clock) (n : Marking) → FitsTogether k a b → s < length k.graph.objects
+    → at k.graph.objects s ≡ None → length clock.last_gets ≡ length k.clock.last_gets
+    → n.bits ≡ slice_set k.marking.bits s true → n.grey ≡ k.marking.grey → n.discovered ≡ k.marking.discovered → n.part ≡ k.marking.part
+    → ((y : ℕ) → y ∈ (strong_edges p ++ option_to_list (any_referent p)) → IsInHand k y)
     → FitsTogether (record k { graph = with_objects k.graph (set_at k.graph.objects s p); clock = clock; marking = n }) a b
 allocated_in_hand k a b s p clock n f inside free as_long bits grey discovered part held =
     allocated k a b s p clock n f inside free as_long bits grey discovered part
     (λ y h. in_hand_safe k f.snapshot y (held y (in_left y (strong_edges p) (option_to_list (any_referent p)) h)))
-    (λ y h. in_hand_safe k f.snapshot y (held y (in_right y (strong_edges p) (option_to_list (any_referent p)) (option_in y (any_referent p) h))))
+    (λ y h. in_hand_safe k f.snapshot y (held y (in_right y (strong_edges p) (option_to_list (any_referent p))
+    (option_in y (any_referent p) h))))
 
-pub blackened : (k : Known) (a b s : ℕ) (n : Marking) → FitsTogether k a b → s < length k.graph.objects → n.bits ≡ slice_set k.marking.bits s true → n.grey ≡ k.marking.grey → n.discovered ≡ k.marking.discovered → n.part ≡ k.marking.part → Blackened s k.marking n
+pub blackened : (k : Known) (a b s : ℕ) (n : Marking) → FitsTogether k a b → s < length k.graph.objects
+    → n.bits ≡ slice_set k.marking.bits s true → n.grey ≡ k.marking.grey → n.discovered ≡ k.marking.discovered → n.part ≡ k.marking.part
+    → Blackened s k.marking n
 blackened k a b s n f inside bits grey discovered part =
     record {
-      marked = subst (λ l. get_or l s false ≡ true) (sym bits) (get_or-set_same k.marking.bits s true false (omega (arith, inside, f.bits)));
+      marked = subst (λ l. get_or l s false ≡ true) (sym bits)
+          (get_or-set_same k.marking.bits s true false (omega (arith, inside, f.bits)));
       bits = bits;
       grey = grey;
       discovered = discovered;
@@ -153,7 +179,9 @@ blackened k a b s n f inside bits grey discovered part =
     }
 
 -- a free cell was white, so that one more is marked
-pub one_more : (k : Known) (a b s : ℕ) (n : Marking) → FitsTogether k a b → s < length k.graph.objects → at k.graph.objects s ≡ None → n.bits ≡ slice_set k.marking.bits s true → count n ≡ count k.marking + 1
+pub one_more : (k : Known) (a b s : ℕ) (n : Marking) → FitsTogether k a b → s < length k.graph.objects → at k.graph.objects s ≡ None
+    → n.bits ≡ slice_set k.marking.bits s true → count n ≡ count k.marking + 1
 one_more k a b s n f inside free bits =
-    let white : is_marked k.marking s ≡ false = false_from_ne_true (is_marked k.marking s) (λ on. both_ways false refl (subst (λ o. is_some o ≡ true) free (f.objects s on))) in
+    let white : is_marked k.marking s ≡ false =
+    false_from_ne_true (is_marked k.marking s) (λ on. both_ways false refl (subst (λ o. is_some o ≡ true) free (f.objects s on))) in
     ap (λ l. count_by (λ b. b) l) bits ∙ count_marks k.marking.bits s (omega (arith, inside, f.bits)) white

@@ -1,5 +1,6 @@
 -- More marks, and another object at a slot, keep a heap together.
-use Rattle.std.proofs.Common.{◌≡◌, ◌≤◌, ◌<◌, ℕ, ◌⊎◌, inl, inr, Bool, false, IsTrue, List, [], Option, Some, None, length, slice_set, is_some, option_and_then, option_map, refl, sym, subst, ap, ◌∙◌, length-set}
+use Rattle.std.proofs.Common.{◌≡◌, ◌≤◌, ◌<◌, ℕ, ◌⊎◌, inl, inr, Bool, false, IsTrue, List, [], Option, Some, None, length, slice_set}
+use Rattle.std.proofs.Common.{is_some, option_and_then, option_map, refl, sym, subst, ap, ◌∙◌, length-set}
 use Rattle.std.specs.List.{flat_map}
 use Rattle.std.specs.Option.{option_to_list}
 use Rattle.std.proofs.lemmas.Bool.{both_ways, cases_eq}
@@ -29,7 +30,8 @@ still_ahead heap m n x y same h = subst (λ q. y ∈ ahead_at heap (place_in q x
 
 pub snapshot_shaded : (T : ℕ → Type 0) (g : Graph) (m n : Marking) → IsSnapshot (cycle_of g m) → Shaded T m n → IsSnapshot (cycle_of g n)
 snapshot_shaded T g m n i s =
-    snapshot_of_shaded (cycle_of g m) (λ x y. y ∈ ahead_at g.objects (place n x) x) (IsMarked n) (λ x. x ∈ n.grey) (λ x. x ∈ n.discovered) i (marked_or_not m) (marked_or_not n) s.kept
+    snapshot_of_shaded (cycle_of g m) (λ x y. y ∈ ahead_at g.objects (place n x) x) (IsMarked n) (λ x. x ∈ n.grey) (λ x. x ∈ n.discovered) i
+    (marked_or_not m) (marked_or_not n) s.kept
     (λ x on. elim (s.added x on) [ inl was ↦ inl was | inr new ↦ inr new.1 ])
     (λ x h. elim (s.grey_marked x h) [ inl was ↦ s.kept x (i.grey x was) | inr on ↦ on ])
     (λ x y h e. inl (s.grey_kept x h, still_ahead g.objects m n x y s.part_same e))
@@ -37,10 +39,12 @@ snapshot_shaded T g m n i s =
     (λ x d. subst (λ l. x ∈ l) (sym s.discovered_same) d)
     (λ x y h q. inl (s.grey_kept x h))
 
-pub objects_shaded : (T : ℕ → Type 0) (heap : Heap) (m n : Marking) → ((x : ℕ) → IsMarked m x → IsObject heap x) → ((x : ℕ) → T x → IsObject heap x) → Shaded T m n → (x : ℕ) → IsMarked n x → IsObject heap x
+pub objects_shaded : (T : ℕ → Type 0) (heap : Heap) (m n : Marking) → ((x : ℕ) → IsMarked m x → IsObject heap x)
+    → ((x : ℕ) → T x → IsObject heap x) → Shaded T m n → (x : ℕ) → IsMarked n x → IsObject heap x
 objects_shaded T heap m n was there s x on = elim (s.added x on) [ inl o ↦ was x o | inr new ↦ there x new.0 ]
 
-pub more_marks : (T : ℕ → Type 0) (k : Known) (a b : ℕ) (n : Marking) → FitsTogether k a b → ((x : ℕ) → T x → IsObject k.graph.objects x) → Shaded T k.marking n → FitsTogether (record k { marking = n }) a b
+pub more_marks : (T : ℕ → Type 0) (k : Known) (a b : ℕ) (n : Marking) → FitsTogether k a b → ((x : ℕ) → T x → IsObject k.graph.objects x)
+    → Shaded T k.marking n → FitsTogether (record k { marking = n }) a b
 more_marks T k a b n f there s =
     record {
       few = f.few;
@@ -55,16 +59,22 @@ more_marks T k a b n f there s =
     }
 
 edges_here : (heap : Heap) (x y : ℕ) (o : Object) → at heap x ≡ Some o → IsEdge heap x y → y ∈ strong_edges o
-edges_here heap x y o e h = elim (in_append y (strong_edges o) [] (subst (λ z. y ∈ flat_map strong_edges (option_to_list z)) e h)) [ inl a ↦ a | inr n ↦ nothing y n ]
+edges_here heap x y o e h = elim (in_append y (strong_edges o) [] (subst (λ z. y ∈ flat_map strong_edges (option_to_list z)) e h)) [
+  | inl a ↦
+      a
+  | inr n ↦ nothing y n
+]
 
 edges_there : (heap : Heap) (x y : ℕ) (o : Object) → at heap x ≡ Some o → y ∈ strong_edges o → IsEdge heap x y
 edges_there heap x y o e h = subst (λ z. y ∈ flat_map strong_edges (option_to_list z)) (sym e) (in_left y (strong_edges o) [] h)
 
 ahead_here : (heap : Heap) (x y from : ℕ) (o : Object) → at heap x ≡ Some o → y ∈ ahead_at heap from x → y ∈ edges_ahead from o
-ahead_here heap x y from o e h = elim (in_append y (edges_ahead from o) [] (subst (λ z. y ∈ flat_map (edges_ahead from) (option_to_list z)) e h)) [ inl a ↦ a | inr n ↦ nothing y n ]
+ahead_here heap x y from o e h = elim (in_append y (edges_ahead from o) []
+    (subst (λ z. y ∈ flat_map (edges_ahead from) (option_to_list z)) e h)) [ inl a ↦ a | inr n ↦ nothing y n ]
 
 ahead_there : (heap : Heap) (x y from : ℕ) (o : Object) → at heap x ≡ Some o → y ∈ edges_ahead from o → y ∈ ahead_at heap from x
-ahead_there heap x y from o e h = subst (λ z. y ∈ flat_map (edges_ahead from) (option_to_list z)) (sym e) (in_left y (edges_ahead from o) [] h)
+ahead_there heap x y from o e h =
+    subst (λ z. y ∈ flat_map (edges_ahead from) (option_to_list z)) (sym e) (in_left y (edges_ahead from o) [] h)
 
 -- ---- Another object at s
 
@@ -100,10 +110,12 @@ module _ (k : Known) (a b s : ℕ) (o p : Object) (f : FitsTogether k a b) (ther
 
   ahead_lost : (x y : ℕ) → y ∈ ahead_at old (place k.marking x) x → (y ∈ ahead_at other (place k.marking x) x) ⊎ IsMarked k.marking y
   ahead_lost x y h = elim (cases_eq x s) [
-    | inl e ↦ elim (ahead (place k.marking x) y (ahead_here old s y (place k.marking x) o there (subst (λ z. y ∈ ahead_at old (place k.marking x) z) e h))) [
-      | inl still ↦ inl (subst (λ z. y ∈ ahead_at other (place k.marking x) z) (sym e) (ahead_there other s y (place k.marking x) p here still))
-      | inr on ↦ inr on
-    ]
+    | inl e ↦ elim (ahead (place k.marking x) y (ahead_here old s y (place k.marking x) o there
+        (subst (λ z. y ∈ ahead_at old (place k.marking x) z) e h))) [
+          | inl still ↦ inl (subst (λ z. y ∈ ahead_at other (place k.marking x) z) (sym e)
+              (ahead_there other s y (place k.marking x) p here still))
+          | inr on ↦ inr on
+        ]
     | inr d ↦ inl (subst (λ z. y ∈ flat_map (edges_ahead (place k.marking x)) (option_to_list z)) (sym (beside x d)) h)
   ]
 
@@ -171,14 +183,15 @@ module _ (k : Known) (a b s : ℕ) (o p : Object) (f : FitsTogether k a b) (ther
         started = f.started;
         placed = λ q e. still_placed q (f.placed q e);
         snapshot =
-            snapshot_of_changed (cycle_of k.graph k.marking) (IsEdge other) (λ x y. y ∈ ahead_at other (place k.marking x) x) (RefersTo other) (λ y. y ∈ held after) f.snapshot (λ x y on e. edges_gained x y e) ahead_lost
+            snapshot_of_changed (cycle_of k.graph k.marking) (IsEdge other) (λ x y. y ∈ ahead_at other (place k.marking x) x)
+            (RefersTo other) (λ y. y ∈ held after) f.snapshot (λ x y on e. edges_gained x y e) ahead_lost
             (whole_of other k.marking f.started f.snapshot.grey) (λ x y on q. referents_gained x y q) held_before;
       }
 
 -- ---- The object at s changed by g
 
--- what a change of an object may do: strong edges and referents that it gains lead to what is safe, strong edges from any place on that it loses led to
--- what is marked, an array has as many elements, and it is a root by itself only if it was one or is safe
+-- what a change of an object may do: strong edges and referents that it gains lead to what is safe, strong edges from any place on that it
+-- loses led to what is marked, an array has as many elements, and it is a root by itself only if it was one or is safe
 pub record Keeps (k : Known) (s : ℕ) (o p : Object) : Type 0 where
   pub gained : (y : ℕ) → y ∈ strong_edges p → (y ∈ strong_edges o) ⊎ IsSafe (cycle_of k.graph k.marking) y
   pub ahead : (from y : ℕ) → y ∈ edges_ahead from o → (y ∈ edges_ahead from p) ⊎ IsMarked k.marking y
@@ -186,7 +199,8 @@ pub record Keeps (k : Known) (s : ℕ) (o p : Object) : Type 0 where
   pub refers : (y : ℕ) → any_referent p ≡ Some y → (any_referent o ≡ Some y) ⊎ IsSafe (cycle_of k.graph k.marking) y
   pub own : IsTrue (is_own_root (Some p)) → IsTrue (is_own_root (Some o)) ⊎ IsSafe (cycle_of k.graph k.marking) s
 
-changed_there : (k : Known) (a b s : ℕ) (g : Object → Object) → FitsTogether k a b → ((o : Object) → at k.graph.objects s ≡ Some o → Keeps k s o (g o))
+changed_there : (k : Known) (a b s : ℕ) (g : Object → Object) → FitsTogether k a b
+    → ((o : Object) → at k.graph.objects s ≡ Some o → Keeps k s o (g o))
     → (o : Option Object) → at k.graph.objects s ≡ o → IsTrue (is_some o)
     → FitsTogether (record k { graph = with_objects k.graph (change_at k.graph.objects s g) }) a b
 changed_there k a b s g f keeps None e h = absurd (both_ways false refl h)
@@ -195,7 +209,8 @@ changed_there k a b s g f keeps (Some o) e h =
     subst (λ z. FitsTogether (record k { graph = with_objects k.graph (slice_set k.graph.objects s (option_map g z)) }) a b) (sym e)
     (other_object k a b s o (g o) f e c.gained c.ahead c.array c.refers c.own)
 
-pub changed_object : (k : Known) (a b s : ℕ) (g : Object → Object) → FitsTogether k a b → ((o : Object) → at k.graph.objects s ≡ Some o → Keeps k s o (g o)) → IsObject k.graph.objects s
+pub changed_object : (k : Known) (a b s : ℕ) (g : Object → Object) → FitsTogether k a b
+    → ((o : Object) → at k.graph.objects s ≡ Some o → Keeps k s o (g o)) → IsObject k.graph.objects s
     → FitsTogether (record k { graph = with_objects k.graph (change_at k.graph.objects s g) }) a b
 changed_object k a b s g f keeps there = changed_there k a b s g f keeps (at k.graph.objects s) refl there
 
@@ -222,7 +237,8 @@ module _ (M : ℕ → Type 0) (p : Object) where
   still_ahead_of o from y e (inl still) = inl (subst (λ l. y ∈ l) (sym (no_fields_ahead p from e)) still)
   still_ahead_of o from y e (inr on) = inr on
 
-  lost_ahead : (o : Object) → as_fields p ≡ as_fields o → ((y : ℕ) → y ∈ strong_edges o → (y ∈ strong_edges p) ⊎ M y) → (from y : ℕ) → y ∈ edges_ahead from o → (y ∈ edges_ahead from p) ⊎ M y
+  lost_ahead : (o : Object) → as_fields p ≡ as_fields o → ((y : ℕ) → y ∈ strong_edges o → (y ∈ strong_edges p) ⊎ M y) → (from y : ℕ)
+      → y ∈ edges_ahead from o → (y ∈ edges_ahead from p) ⊎ M y
   lost_ahead (Plain c) e lost from y h = inl (subst (λ z. y ∈ edges_ahead from z) (sym (plain_is p c e)) h)
   lost_ahead (Reference r) e lost from y h = still_ahead_of (Reference r) from y e (lost y h)
   lost_ahead (Queue members) e lost from y h = still_ahead_of (Queue members) from y e (lost y h)
@@ -237,7 +253,8 @@ pub record Alters (k : Known) (s : ℕ) (o p : Object) : Type 0 where
   pub refers : (y : ℕ) → any_referent p ≡ Some y → (any_referent o ≡ Some y) ⊎ IsSafe (cycle_of k.graph k.marking) y
   pub own : IsTrue (is_own_root (Some p)) → IsTrue (is_own_root (Some o)) ⊎ IsSafe (cycle_of k.graph k.marking) s
 
-pub altered_object : (k : Known) (a b s : ℕ) (g : Object → Object) → FitsTogether k a b → ((o : Object) → at k.graph.objects s ≡ Some o → Alters k s o (g o)) → IsObject k.graph.objects s
+pub altered_object : (k : Known) (a b s : ℕ) (g : Object → Object) → FitsTogether k a b
+    → ((o : Object) → at k.graph.objects s ≡ Some o → Alters k s o (g o)) → IsObject k.graph.objects s
     → FitsTogether (record k { graph = with_objects k.graph (change_at k.graph.objects s g) }) a b
 altered_object k a b s g f alters there =
     changed_object k a b s g f

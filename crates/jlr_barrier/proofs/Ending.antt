@@ -1,5 +1,6 @@
 -- With no grey slot left, what is marked holds the roots and is closed; and a marking that begins is a snapshot.
-use Rattle.std.proofs.Common.{◌≡◌, ◌≤◌, ◌-◌, ℕ, zero, suc, inl, inr, false, List, [], Option, Some, None, replicate, refl, subst, length, sym, ap, ◌∙◌}
+use Rattle.std.proofs.Common.{◌≡◌, ◌≤◌, ◌-◌, ℕ, zero, suc, inl, inr, false, List, [], Option, Some, None, replicate, refl, subst, length}
+use Rattle.std.proofs.Common.{sym, ap, ◌∙◌}
 use Rattle.std.proofs.lemmas.Bool.{both_ways}
 use Rattle.std.proofs.lemmas.List.{length-replicate}
 use Rattle.jlr_machine.specs.declared.machine.Session.{Session}
@@ -48,7 +49,8 @@ module _ (k : Known) (a b : ℕ) (f : FitsTogether k a b) (none : k.marking.grey
   }
 
 -- how many cells are condemned does not matter
-pub holds_still : (g : Graph) (c : Clock) (m : Marking) (n : ℕ) → HoldsWhole (swept g c m) → HoldsWhole (record { graph = g; clock = c; marking = m; condemned = n })
+pub holds_still : (g : Graph) (c : Clock) (m : Marking) (n : ℕ) → HoldsWhole (swept g c m)
+    → HoldsWhole (record { graph = g; clock = c; marking = m; condemned = n })
 holds_still g c m n h = record { long = h.long; objects = h.objects; roots = h.roots; closed = h.closed; referents = h.referents }
 
 -- ---- The grey slot that comes next
@@ -60,13 +62,15 @@ upcoming_grey m started s e =
       | Some p ↦ λ there first. subst (λ z. z ∈ m.grey) (some_same p.slot s first) (started p there)
     ] refl e
 
-pub upcoming_there : (k : Known) (a b : ℕ) → FitsTogether k a b → (o : Option ℕ) → o ≡ upcoming k.marking → IfSome o (λ s. IsMarked k.marking s × IsObject k.graph.objects s)
+pub upcoming_there : (k : Known) (a b : ℕ) → FitsTogether k a b → (o : Option ℕ) → o ≡ upcoming k.marking
+    → IfSome o (λ s. IsMarked k.marking s × IsObject k.graph.objects s)
 upcoming_there k a b f None e = tt
 upcoming_there k a b f (Some s) e =
     let on = f.snapshot.grey s (upcoming_grey k.marking f.started s (sym e)) in
     (on, f.objects s on)
 
-pub upcoming_begun : (k : Known) (a b : ℕ) → FitsTogether k a b → (o : Option ℕ) → o ≡ upcoming k.marking → IfSome o (λ s. IsBegun k.graph.objects (place k.marking s) s)
+pub upcoming_begun : (k : Known) (a b : ℕ) → FitsTogether k a b → (o : Option ℕ) → o ≡ upcoming k.marking
+    → IfSome o (λ s. IsBegun k.graph.objects (place k.marking s) s)
 upcoming_begun k a b f None e = tt
 upcoming_begun k a b f (Some s) e = begun_by k.graph.objects k.marking.part s f.placed (upcoming_there k a b f (Some s) e).1
 
@@ -77,7 +81,8 @@ no_part n long T s p e = no_some p (sym s.part_same ∙ e)
 
 begun : (g : Graph) (n : Marking) (long : ℕ) → Shaded (λ x. x ∈ held g) (unmarked long) n → IsSnapshot (cycle_of g n)
 begun g n long s =
-    let ahead : (x y : ℕ) → IsEdge g.objects x y → y ∈ ahead_at g.objects (place n x) x = λ x y e. subst (λ o. y ∈ ahead_at g.objects (place_in o x) x) (sym s.part_same) (edge_ahead g.objects x y e) in
+    let ahead : (x y : ℕ) → IsEdge g.objects x y → y ∈ ahead_at g.objects (place n x) x =
+    λ x y e. subst (λ o. y ∈ ahead_at g.objects (place_in o x) x) (sym s.part_same) (edge_ahead g.objects x y e) in
     record {
       grey = λ x h. elim (s.grey_marked x h) [ inl o ↦ nothing x o | inr on ↦ on ];
       roots = λ y h. inl (s.all y h);
@@ -86,7 +91,8 @@ begun g n long s =
       referents = λ x y on q. elim (s.added x on) [ inl o ↦ none_marked long x o | inr new ↦ inl new.1 ];
     }
 
-pub opened : (k : Known) (a b : ℕ) (n : Marking) → FitsTogether k a b → ((x : ℕ) → x ∈ held k.graph → IsObject k.graph.objects x) → Shaded (λ x. x ∈ held k.graph) (unmarked (length k.graph.objects)) n → FitsTogether (record k { marking = n }) a b
+pub opened : (k : Known) (a b : ℕ) (n : Marking) → FitsTogether k a b → ((x : ℕ) → x ∈ held k.graph → IsObject k.graph.objects x)
+    → Shaded (λ x. x ∈ held k.graph) (unmarked (length k.graph.objects)) n → FitsTogether (record k { marking = n }) a b
 opened k a b n f objects s =
     record {
       few = f.few;
@@ -140,16 +146,29 @@ empty_fits cells sessions a b few ra rb =
       };
     }
 
-pub new_fits : (cells sessions a b : ℕ) (objects : Heap) (mutators : Table Session) (names : List Binding) (pending line ages : List ℕ) (m : Marking) → cells ≤ 65536 → cells ≡ a → b ≡ 2
-    → objects ≡ replicate cells None → mutators ≡ replicate sessions None → names ≡ [] → pending ≡ [] → line ≡ [] → length ages ≡ cells → m.bits ≡ replicate cells false → m.grey ≡ [] → m.discovered ≡ [] → m.part ≡ None
-    → FitsTogether (record { graph = record { objects = objects; mutators = mutators; names = names; pending = pending; line = line }; clock = record { last_gets = ages; collections = 0; since = 0 }; marking = m; condemned = 0 }) a b
+pub new_fits : (cells sessions a b : ℕ) (objects : Heap) (mutators : Table Session) (names : List Binding) (pending line ages : List ℕ)
+    (m : Marking) → cells ≤ 65536 → cells ≡ a → b ≡ 2
+    → objects ≡ replicate cells None → mutators ≡ replicate sessions None → names ≡ [] → pending ≡ [] → line ≡ [] → length ages ≡ cells
+    → m.bits ≡ replicate cells false → m.grey ≡ [] → m.discovered ≡ [] → m.part ≡ None
+    → FitsTogether (record {
+      graph = record { objects = objects; mutators = mutators; names = names; pending = pending; line = line };
+      clock = record { last_gets = ages; collections = 0; since = 0 };
+      marking = m;
+      condemned = 0;
+    }) a b
 new_fits cells sessions a b objects mutators names pending line ages m few ra rb eo em en ep el ea bits grey discovered part =
     let start = empty_fits cells sessions a b few ra rb in
-    let graph_with : Heap → Table Session → List Binding → List ℕ → List ℕ → Graph = λ o m n p l. record { objects = o; mutators = m; names = n; pending = p; line = l } in
+    let graph_with : Heap → Table Session → List Binding → List ℕ → List ℕ → Graph =
+    λ o m n p l. record { objects = o; mutators = m; names = n; pending = p; line = l } in
     let same_graph : empty_graph cells sessions ≡ graph_with objects mutators names pending line =
-    ap (λ o. graph_with o (replicate sessions None) [] [] []) (sym eo) ∙ ap (λ u. graph_with objects u [] [] []) (sym em) ∙ ap (λ n. graph_with objects mutators n [] []) (sym en) ∙ ap (λ p. graph_with objects mutators names p []) (sym ep) ∙ ap (λ l. graph_with objects mutators names pending l) (sym el) in
+    ap (λ o. graph_with o (replicate sessions None) [] [] []) (sym eo) ∙ ap (λ u. graph_with objects u [] [] []) (sym em)
+    ∙ ap (λ n. graph_with objects mutators n [] []) (sym en) ∙ ap (λ p. graph_with objects mutators names p []) (sym ep)
+    ∙ ap (λ l. graph_with objects mutators names pending l) (sym el) in
     let same_marks : unmarked cells ≡ m = sym (same_marking m (unmarked cells) bits grey discovered part) in
-    let known_with : Graph → Marking → Known = λ g m. record { graph = g; clock = (empty_known cells sessions).clock; marking = m; condemned = 0 } in
+    let known_with : Graph → Marking → Known =
+    λ g m. record { graph = g; clock = (empty_known cells sessions).clock; marking = m; condemned = 0 } in
     let fits : FitsTogether (known_with (graph_with objects mutators names pending line) m) a b =
-    subst (λ (k : Known). FitsTogether k a b) (ap (λ g. known_with g (unmarked cells)) same_graph ∙ ap (known_with (graph_with objects mutators names pending line)) same_marks) start in
-    other_clock (known_with (graph_with objects mutators names pending line) m) (record { last_gets = ages; collections = 0; since = 0 }) a b fits (ea ∙ sym (length-replicate cells 0))
+    subst (λ (k : Known). FitsTogether k a b) (ap (λ g. known_with g (unmarked cells)) same_graph
+    ∙ ap (known_with (graph_with objects mutators names pending line)) same_marks) start in
+    other_clock (known_with (graph_with objects mutators names pending line) m) (record { last_gets = ages; collections = 0; since = 0 }) a
+    b fits (ea ∙ sym (length-replicate cells 0))

@@ -36,7 +36,8 @@ module _ (g : Graph) (x : ℕ) where
   by_itself h = in_right x listed (active_cleanables 0 g.objects) h
 
   -- what is held, is held by one of these
-  pub held_cases : {P : Type 0} → x ∈ held g → (x ∈ slots_held g.mutators → P) → (x ∈ named g.names → P) → (x ∈ g.pending → P) → (x ∈ g.line → P) → (x ∈ active_cleanables 0 g.objects → P) → P
+  pub held_cases : {P : Type 0} → x ∈ held g → (x ∈ slots_held g.mutators → P) → (x ∈ named g.names → P) → (x ∈ g.pending → P)
+      → (x ∈ g.line → P) → (x ∈ active_cleanables 0 g.objects → P) → P
   held_cases h session name pending line own = elim (in_append x listed (active_cleanables 0 g.objects) h) [
     | inl first ↦ elim (in_append x (by_mutators ++ g.pending) g.line first) [
       | inl second ↦ elim (in_append x by_mutators g.pending second) [

@@ -1,5 +1,6 @@
 -- What mutators and names hold after a change of one of them.
-use Rattle.std.proofs.Common.{◌≡◌, ℕ, ◌⊎◌, inl, inr, true, false, cond, not, List, [], ◌∷◌, Option, Some, None, filter_map, option_map, slice_set, refl, sym, subst}
+use Rattle.std.proofs.Common.{◌≡◌, ℕ, ◌⊎◌, inl, inr, true, false, cond, not, List, [], ◌∷◌, Option, Some, None, filter_map, option_map}
+use Rattle.std.proofs.Common.{slice_set, refl, sym, subst}
 use Rattle.std.specs.Option.{option_to_list}
 use Rattle.jlr_machine.specs.declared.machine.Session.{Session}
 use Rattle.jlr_machine.specs.declared.machine.Binding.{Binding}
@@ -16,7 +17,8 @@ use Rattle.jlr_laws.proofs.Frames.{no_some, some_same, in_places, from_places, i
 
 -- ---- Another session of one mutator: each slot that it holds was held, or is kept otherwise
 
-pub other_session : (m : Table Session) (n : ℕ) (v : Option Session) (keeps : ℕ → Type 0) → ((s : Session) → v ≡ Some s → (y : ℕ) → y ∈ slots_of s → (y ∈ slots_held m) ⊎ keeps y)
+pub other_session : (m : Table Session) (n : ℕ) (v : Option Session) (keeps : ℕ → Type 0)
+    → ((s : Session) → v ≡ Some s → (y : ℕ) → y ∈ slots_of s → (y ∈ slots_held m) ⊎ keeps y)
     → (y : ℕ) → y ∈ slots_held (slice_set m n v) → (y ∈ slots_held m) ⊎ keeps y
 other_session m n v keeps here y h =
     let r = in_sessions slots_of (slice_set m n v) y h in
@@ -30,7 +32,8 @@ mapped None f s e = no_some s e
 mapped (Some t) f s e = (t, refl, some_same (f t) s e)
 
 -- the session of a mutator that was there, changed
-pub changed_session : (m : Table Session) (n : ℕ) (f : Session → Session) (keeps : ℕ → Type 0) → ((s : Session) (y : ℕ) → y ∈ slots_of (f s) → (y ∈ slots_of s) ⊎ keeps y)
+pub changed_session : (m : Table Session) (n : ℕ) (f : Session → Session) (keeps : ℕ → Type 0)
+    → ((s : Session) (y : ℕ) → y ∈ slots_of (f s) → (y ∈ slots_of s) ⊎ keeps y)
     → (y : ℕ) → y ∈ slots_held (slice_set m n (option_map f (at m n))) → (y ∈ slots_held m) ⊎ keeps y
 changed_session m n f keeps here =
     other_session m n (option_map f (at m n)) keeps
@@ -52,7 +55,8 @@ by_handle s y h = in_left y (filter_map (λ h. h) s.handles) (option_to_list s.f
 by_fence : (s : Session) (y : ℕ) → y ∈ option_to_list s.fence → y ∈ slots_of s
 by_fence s y h = in_right y (filter_map (λ h. h) s.handles) (option_to_list s.fence) h
 
-handles_set : (handles : Table ℕ) (h : ℕ) (v : Option ℕ) (y : ℕ) → y ∈ filter_map (λ h. h) (slice_set handles h v) → (y ∈ filter_map (λ h. h) handles) ⊎ (v ≡ Some y)
+handles_set : (handles : Table ℕ) (h : ℕ) (v : Option ℕ) (y : ℕ) → y ∈ filter_map (λ h. h) (slice_set handles h v)
+    → (y ∈ filter_map (λ h. h) handles) ⊎ (v ≡ Some y)
 handles_set handles h v y i =
     let p = in_places (slice_set handles h v) y i in
     elim (set_cases handles h p.0 v y p.1) [ inl new ↦ inr new.1 | inr old ↦ inl (from_places handles p.0 y old.1) ]
@@ -69,7 +73,8 @@ holds_one_less handle s y h = elim (handle_or_fence (without_handle handle s) y 
   | inr f ↦ by_fence s y f
 ]
 
-pub holds_by_call : (fence : Option ℕ) (call : Call) (s : Session) (y : ℕ) → y ∈ slots_of (with_call fence call s) → (y ∈ slots_of s) ⊎ (fence ≡ Some y)
+pub holds_by_call : (fence : Option ℕ) (call : Call) (s : Session) (y : ℕ) → y ∈ slots_of (with_call fence call s) → (y ∈ slots_of s)
+    ⊎ (fence ≡ Some y)
 holds_by_call fence call s y h = elim (handle_or_fence (with_call fence call s) y h) [
   | inl i ↦ inl (by_handle s y i)
   | inr f ↦ inr (in_option y fence f)
@@ -83,7 +88,8 @@ holds_nothing y h = nothing y h
 pub named_by_bound : (names : List Binding) (name : List ℕ) (s y : ℕ) → y ∈ named (bound names name s) → (y ∈ named names) ⊎ (y ≡ s)
 named_by_bound [] name s y h = elim (in_cons y s [] h) [ inl e ↦ inr e | inr n ↦ nothing y n ]
 named_by_bound (b ∷ names) name s y h =
-    elim (same_name b.name name) as (λ c. y ∈ named (cond c (record { name = name; slot = s } ∷ names) (b ∷ bound names name s)) → (y ∈ named (b ∷ names)) ⊎ (y ≡ s)) [
+    elim (same_name b.name name) as (λ c. y ∈ named (cond c (record { name = name; slot = s } ∷ names) (b ∷ bound names name s))
+    → (y ∈ named (b ∷ names)) ⊎ (y ≡ s)) [
       | true ↦ λ h. elim (in_cons y s (named names) h) [ inl e ↦ inr e | inr n ↦ inl (in_rest y b.slot (named names) n) ]
       | false ↦ λ h. elim (in_cons y b.slot (named (bound names name s)) h) [
         | inl e ↦ inl (in_front y b.slot (named names) e)

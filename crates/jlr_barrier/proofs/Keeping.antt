@@ -4,11 +4,13 @@ use Rattle.jlr_barrier.specs.Snapshots.{IsPathBy, IsReachedBy, Cycle, IsProtecte
 
 -- ---- Paths
 
-pub path_stays : (E : ℕ → ℕ → Type 0) (S : ℕ → Type 0) → ((x y : ℕ) → S x → E x y → S y) → (x : ℕ) (path : List ℕ) (y : ℕ) → S x → IsPathBy E x path y → S y
+pub path_stays : (E : ℕ → ℕ → Type 0) (S : ℕ → Type 0) → ((x y : ℕ) → S x → E x y → S y) → (x : ℕ) (path : List ℕ) (y : ℕ) → S x
+    → IsPathBy E x path y → S y
 path_stays E S closed x [] y s p = subst S p s
 path_stays E S closed x (z ∷ path) y s p = path_stays E S closed z path y (closed x z s p.0) p.1
 
-pub reach_stays : (E : ℕ → ℕ → Type 0) (B S : ℕ → Type 0) → ((x y : ℕ) → S x → E x y → S y) → ((x : ℕ) → B x → S x) → (y : ℕ) → IsReachedBy E B y → S y
+pub reach_stays : (E : ℕ → ℕ → Type 0) (B S : ℕ → Type 0) → ((x y : ℕ) → S x → E x y → S y) → ((x : ℕ) → B x → S x) → (y : ℕ)
+    → IsReachedBy E B y → S y
 reach_stays E B S closed starts y r = path_stays E S closed r.0 r.2 y (starts r.0 r.1) r.3
 
 path_extends : (E : ℕ → ℕ → Type 0) (x : ℕ) (path : List ℕ) (y z : ℕ) → IsPathBy E x path y → E y z → IsPathBy E x (path ++ z ∷ []) z
@@ -29,12 +31,14 @@ safe_along c decide i x y safe e = elim (decide y) [
   | inl on ↦ inl on
   | inr off ↦ elim (i.whole x y e) [
     | inl on ↦ elim (i.strong x y on e) [
-      | inl grey ↦ inr (reach_extends (λ x z. c.F x z × (¬ (c.M z))) c.G x y (reach_start (λ x z. c.F x z × (¬ (c.M z))) c.G x grey.0) (grey.1, off))
+      | inl grey ↦ inr
+          (reach_extends (λ x z. c.F x z × (¬ (c.M z))) c.G x y (reach_start (λ x z. c.F x z × (¬ (c.M z))) c.G x grey.0) (grey.1, off))
       | inr s ↦ s
     ]
     | inr ahead ↦ elim safe [
       | inl on ↦ elim (i.strong x y on e) [
-        | inl grey ↦ inr (reach_extends (λ x z. c.F x z × (¬ (c.M z))) c.G x y (reach_start (λ x z. c.F x z × (¬ (c.M z))) c.G x grey.0) (grey.1, off))
+        | inl grey ↦ inr
+            (reach_extends (λ x z. c.F x z × (¬ (c.M z))) c.G x y (reach_start (λ x z. c.F x z × (¬ (c.M z))) c.G x grey.0) (grey.1, off))
         | inr s ↦ s
       ]
       | inr p ↦ inr (reach_extends (λ x z. c.F x z × (¬ (c.M z))) c.G x y p (ahead, off))
@@ -90,7 +94,8 @@ module _ (c : Cycle) (E F Q : ℕ → ℕ → Type 0) (R : ℕ → Type 0) (i : 
 
 -- ---- More marks: what is newly marked is grey, and each edge that a grey slot had to follow is still ahead, or leads to what is marked
 
-module _ (c : Cycle) (F : ℕ → ℕ → Type 0) (M G D : ℕ → Type 0) (i : IsSnapshot c) (was : (x : ℕ) → c.M x ⊎ (¬ (c.M x))) (decide : (x : ℕ) → M x ⊎ (¬ (M x)))
+module _ (c : Cycle) (F : ℕ → ℕ → Type 0) (M G D : ℕ → Type 0) (i : IsSnapshot c) (was : (x : ℕ) → c.M x ⊎ (¬ (c.M x)))
+    (decide : (x : ℕ) → M x ⊎ (¬ (M x)))
     (kept : (x : ℕ) → c.M x → M x)
     (added : (x : ℕ) → M x → c.M x ⊎ G x)
     (grey_marked : (x : ℕ) → G x → M x)
@@ -162,7 +167,8 @@ module _ (c : Cycle) (F : ℕ → ℕ → Type 0) (M G D : ℕ → Type 0) (i : 
 
 -- ---- A new object, which is black at once: nothing was at its slot, and what it leads to and refers to is safe
 
-module _ (c : Cycle) (s : ℕ) (E F Q : ℕ → ℕ → Type 0) (R M : ℕ → Type 0) (i : IsSnapshot c) (was : (x : ℕ) → c.M x ⊎ (¬ (c.M x))) (decide : (x : ℕ) → M x ⊎ (¬ (M x)))
+module _ (c : Cycle) (s : ℕ) (E F Q : ℕ → ℕ → Type 0) (R M : ℕ → Type 0) (i : IsSnapshot c) (was : (x : ℕ) → c.M x ⊎ (¬ (c.M x)))
+    (decide : (x : ℕ) → M x ⊎ (¬ (M x)))
     (kept : (x : ℕ) → c.M x → M x)
     (marked : (x : ℕ) → M x → c.M x ⊎ (x ≡ s))
     (black : M s)

@@ -1,5 +1,7 @@
 -- A field is overwritten.
-use Rattle.std.proofs.Common.{◌≡◌, ◌≤◌, ◌<◌, ℕ, zero, suc, ◌⊎◌, inl, inr, Bool, true, false, cond, IsTrue, List, [], ◌∷◌, ◌++◌, Option, Some, None, length, filter_map, slice_set, slice_get, is_some, option_map, option_and_then, refl, sym, subst, arith, ap, ◌∙◌, drop, length-set}
+use Rattle.std.proofs.Common.{◌≡◌, ◌≤◌, ◌<◌, ℕ, zero, suc, ◌⊎◌, inl, inr, Bool, true, false, cond, IsTrue, List, [], ◌∷◌, ◌++◌, Option}
+use Rattle.std.proofs.Common.{Some, None, length, filter_map, slice_set, slice_get, is_some, option_map, option_and_then, refl, sym, subst}
+use Rattle.std.proofs.Common.{arith, ap, ◌∙◌, drop, length-set}
 use Rattle.std.specs.List.{cons_option}
 use Rattle.std.proofs.lemmas.Bool.{both_ways}
 use Rattle.jlr_types.specs.declared.FieldValue.{FieldValue}
@@ -32,17 +34,21 @@ one_in None y rest (inr h) = h
 one_in (Some x) y rest (inl e) = in_front y x rest (sym (ap (λ o. Rattle.std.proofs.Common.unwrap_or o x) e))
 one_in (Some x) y rest (inr h) = in_rest y x rest h
 
-gained_by_set : {A : Type 0} (g : A → Option ℕ) (fields : List A) (f : ℕ) (v : A) (y : ℕ) → y ∈ filter_map g (slice_set fields f v) → (y ∈ filter_map g fields) ⊎ (g v ≡ Some y)
+gained_by_set : {A : Type 0} (g : A → Option ℕ) (fields : List A) (f : ℕ) (v : A) (y : ℕ) → y ∈ filter_map g (slice_set fields f v)
+    → (y ∈ filter_map g fields) ⊎ (g v ≡ Some y)
 gained_by_set g [] f v y h = nothing y h
-gained_by_set g (x ∷ xs) zero v y h = elim (in_one (g v) y (filter_map g xs) h) [ inl e ↦ inr e | inr r ↦ inl (one_in (g x) y (filter_map g xs) (inr r)) ]
+gained_by_set g (x ∷ xs) zero v y h =
+    elim (in_one (g v) y (filter_map g xs) h) [ inl e ↦ inr e | inr r ↦ inl (one_in (g x) y (filter_map g xs) (inr r)) ]
 gained_by_set g (x ∷ xs) (suc f) v y h = elim (in_one (g x) y (filter_map g (slice_set xs f v)) h) [
   | inl e ↦ inl (one_in (g x) y (filter_map g xs) (inl e))
   | inr r ↦ elim (gained_by_set g xs f v y r) [ inl o ↦ inl (one_in (g x) y (filter_map g xs) (inr o)) | inr e ↦ inr e ]
 ]
 
-lost_by_set : {A : Type 0} (g : A → Option ℕ) (fields : List A) (f : ℕ) (v : A) (y : ℕ) → y ∈ filter_map g fields → (y ∈ filter_map g (slice_set fields f v)) ⊎ (option_and_then g (slice_get fields f) ≡ Some y)
+lost_by_set : {A : Type 0} (g : A → Option ℕ) (fields : List A) (f : ℕ) (v : A) (y : ℕ) → y ∈ filter_map g fields
+    → (y ∈ filter_map g (slice_set fields f v)) ⊎ (option_and_then g (slice_get fields f) ≡ Some y)
 lost_by_set g [] f v y h = nothing y h
-lost_by_set g (x ∷ xs) zero v y h = elim (in_one (g x) y (filter_map g xs) h) [ inl e ↦ inr e | inr r ↦ inl (one_in (g v) y (filter_map g xs) (inr r)) ]
+lost_by_set g (x ∷ xs) zero v y h =
+    elim (in_one (g x) y (filter_map g xs) h) [ inl e ↦ inr e | inr r ↦ inl (one_in (g v) y (filter_map g xs) (inr r)) ]
 lost_by_set g (x ∷ xs) (suc f) v y h = elim (in_one (g x) y (filter_map g xs) h) [
   | inl e ↦ inl (one_in (g x) y (filter_map g (slice_set xs f v)) (inl e))
   | inr r ↦ elim (lost_by_set g xs f v y r) [ inl o ↦ inl (one_in (g x) y (filter_map g (slice_set xs f v)) (inr o)) | inr e ↦ inr e ]
@@ -61,19 +67,24 @@ held_element None y e = absurd (both_ways false refl (ap is_some e))
 held_element (Some s) y e = ap (λ z. Some (Ref z)) e
 
 -- an element that is overwritten
-gained_by_element : (elements : List (Option ℕ)) (f : ℕ) (v : FieldValue) (y : ℕ) → y ∈ slots_in (Elements (with_element elements f v)) → (y ∈ slots_in (Elements elements)) ⊎ (v ≡ Ref (Some y))
+gained_by_element : (elements : List (Option ℕ)) (f : ℕ) (v : FieldValue) (y : ℕ) → y ∈ slots_in (Elements (with_element elements f v))
+    → (y ∈ slots_in (Elements elements)) ⊎ (v ≡ Ref (Some y))
 gained_by_element elements f (Int n) y h = inl h
-gained_by_element elements f (Ref s) y h = elim (gained_by_set (λ l. l) elements f s y h) [ inl o ↦ inl o | inr e ↦ inr (ap (λ o. Ref o) e) ]
+gained_by_element elements f (Ref s) y h =
+    elim (gained_by_set (λ l. l) elements f s y h) [ inl o ↦ inl o | inr e ↦ inr (ap (λ o. Ref o) e) ]
 
-lost_ahead_by_set : (elements : List (Option ℕ)) (from f : ℕ) (v : Option ℕ) (y : ℕ) → y ∈ slots_in (Elements (drop from elements)) → (y ∈ slots_in (Elements (drop from (slice_set elements f v)))) ⊎ (option_and_then (λ s. s) (slice_get elements f) ≡ Some y)
+lost_ahead_by_set : (elements : List (Option ℕ)) (from f : ℕ) (v : Option ℕ) (y : ℕ) → y ∈ slots_in (Elements (drop from elements))
+    → (y ∈ slots_in (Elements (drop from (slice_set elements f v)))) ⊎ (option_and_then (λ s. s) (slice_get elements f) ≡ Some y)
 lost_ahead_by_set elements zero f v y h = lost_by_set (λ l. l) elements f v y h
 lost_ahead_by_set [] (suc from) f v y h = nothing y h
 lost_ahead_by_set (x ∷ xs) (suc from) zero v y h = inl h
 lost_ahead_by_set (x ∷ xs) (suc from) (suc f) v y h = lost_ahead_by_set xs from f v y h
 
-lost_ahead_by_element : (elements : List (Option ℕ)) (from f : ℕ) (v : FieldValue) (y : ℕ) → y ∈ slots_in (Elements (drop from elements)) → (y ∈ slots_in (Elements (drop from (with_element elements f v)))) ⊎ (option_map Ref (slice_get elements f) ≡ Some (Ref (Some y)))
+lost_ahead_by_element : (elements : List (Option ℕ)) (from f : ℕ) (v : FieldValue) (y : ℕ) → y ∈ slots_in (Elements (drop from elements))
+    → (y ∈ slots_in (Elements (drop from (with_element elements f v)))) ⊎ (option_map Ref (slice_get elements f) ≡ Some (Ref (Some y)))
 lost_ahead_by_element elements from f (Int n) y h = inl h
-lost_ahead_by_element elements from f (Ref s) y h = elim (lost_ahead_by_set elements from f s y h) [ inl o ↦ inl o | inr e ↦ inr (held_element (slice_get elements f) y e) ]
+lost_ahead_by_element elements from f (Ref s) y h =
+    elim (lost_ahead_by_set elements from f s y h) [ inl o ↦ inl o | inr e ↦ inr (held_element (slice_get elements f) y e) ]
 
 as_many : (elements : List (Option ℕ)) (f : ℕ) (v : FieldValue) → length (with_element elements f v) ≡ length elements
 as_many elements f (Int n) = refl
@@ -81,7 +92,8 @@ as_many elements f (Ref s) = length-set elements f s
 
 -- ---- Objects
 
-gained_by_field : (f : ℕ) (v : FieldValue) (o : Object) (y : ℕ) → y ∈ strong_edges (with_field f v o) → (y ∈ strong_edges o) ⊎ (v ≡ Ref (Some y))
+gained_by_field : (f : ℕ) (v : FieldValue) (o : Object) (y : ℕ) → y ∈ strong_edges (with_field f v o) → (y ∈ strong_edges o)
+    ⊎ (v ≡ Ref (Some y))
 gained_by_field f v (Plain (Elements elements)) y h = gained_by_element elements f v y h
 gained_by_field f v (Plain (Typed fields)) y h = elim (gained_by_set slot_in fields f v y h) [ inl o ↦ inl o | inr e ↦ inr (is_ref v y e) ]
 gained_by_field f v (Reference r) y h = inl h
@@ -90,9 +102,11 @@ gained_by_field f v Cleaner y h = inl h
 gained_by_field f v (Cleanable c) y h = inl h
 gained_by_field f v (Guard g) y h = inl h
 
-lost_by_field : (f : ℕ) (v : FieldValue) (o : Object) (from y : ℕ) → y ∈ edges_ahead from o → (y ∈ edges_ahead from (with_field f v o)) ⊎ (field_in (Some o) f ≡ Some (Ref (Some y)))
+lost_by_field : (f : ℕ) (v : FieldValue) (o : Object) (from y : ℕ) → y ∈ edges_ahead from o → (y ∈ edges_ahead from (with_field f v o))
+    ⊎ (field_in (Some o) f ≡ Some (Ref (Some y)))
 lost_by_field f v (Plain (Elements elements)) from y h = lost_ahead_by_element elements from f v y h
-lost_by_field f v (Plain (Typed fields)) from y h = elim (lost_by_set slot_in fields f v y h) [ inl o ↦ inl o | inr e ↦ inr (held_ref (slice_get fields f) y e) ]
+lost_by_field f v (Plain (Typed fields)) from y h =
+    elim (lost_by_set slot_in fields f v y h) [ inl o ↦ inl o | inr e ↦ inr (held_ref (slice_get fields f) y e) ]
 lost_by_field f v (Reference r) from y h = inl h
 lost_by_field f v (Queue members) from y h = inl h
 lost_by_field f v Cleaner from y h = inl h
@@ -147,6 +161,8 @@ overwritten k a b s field v n f there held objects shaded =
     (has_object (at k.graph.objects s) field there)
 
 -- what was read from the field is what is shaded
-pub shaded_as_held : (o : Option FieldValue) (v : FieldValue) (m n : Marking) → o ≡ Some v → Shaded (λ y. v ≡ Ref (Some y)) m n → Shaded (λ y. o ≡ Some (Ref (Some y))) m n
+pub shaded_as_held : (o : Option FieldValue) (v : FieldValue) (m n : Marking) → o ≡ Some v → Shaded (λ y. v ≡ Ref (Some y)) m n
+    → Shaded (λ y. o ≡ Some (Ref (Some y))) m n
 shaded_as_held o v m n e s =
-    shaded_same (λ y. v ≡ Ref (Some y)) (λ y. o ≡ Some (Ref (Some y))) (λ y h. e ∙ ap (λ x. Some x) h) (λ y h. same_Some v (Ref (Some y)) (sym e ∙ h)) m n s
+    shaded_same (λ y. v ≡ Ref (Some y)) (λ y. o ≡ Some (Ref (Some y))) (λ y h. e ∙ ap (λ x. Some x) h)
+    (λ y h. same_Some v (Ref (Some y)) (sym e ∙ h)) m n s

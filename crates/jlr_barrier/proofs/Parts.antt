@@ -1,5 +1,6 @@
 -- The edges ahead of a place, in parts.
-use Rattle.std.proofs.Common.{◌≡◌, Bool, IsTrue, ℕ, zero, suc, ◌+◌, ◌-◌, ◌<◌, ◌≤◌, ◌⊎◌, inl, inr, true, false, cond, List, [], ◌∷◌, ◌++◌, Option, Some, None, refl, sym, subst, ap, ◌∙◌, length, take, drop, option_and_then, arith}
+use Rattle.std.proofs.Common.{◌≡◌, Bool, IsTrue, ℕ, zero, suc, ◌+◌, ◌-◌, ◌<◌, ◌≤◌, ◌⊎◌, inl, inr, true, false, cond, List, [], ◌∷◌, ◌++◌}
+use Rattle.std.proofs.Common.{Option, Some, None, refl, sym, subst, ap, ◌∙◌, length, take, drop, option_and_then, arith}
 use Rattle.std.specs.Prelude.{nat_lt, nat_eq, option_to_list, is_some}
 use Rattle.std.specs.List.{flat_map}
 use Rattle.std.proofs.lemmas.List.{append-nil, length-drop, take-append-drop, take_all, drop_all}
@@ -21,7 +22,8 @@ use Rattle.jlr_cells.specs.Visits.{elements_of}
 use Rattle.jlr_marks.specs.declared.part.Part.{Part}
 use Rattle.jlr_marks.specs.Marking.{IsMarked, Marking, Shaded, place_in}
 use Rattle.jlr_barrier.specs.Snapshots.{IsEdge}
-use Rattle.jlr_barrier.specs.Parts.{IsBegun, IsInProgress, ahead_at, edges_ahead, edges_part, next_at, next_place, part_at, parts_of, place_after, ticks_at, ticks_in}
+use Rattle.jlr_barrier.specs.Parts.{IsBegun, IsInProgress, ahead_at, edges_ahead, edges_part, next_at, next_place, part_at, parts_of}
+use Rattle.jlr_barrier.specs.Parts.{place_after, ticks_at, ticks_in}
 
 -- ---- Lists
 
@@ -39,15 +41,19 @@ elements_all e zero x h = h
 elements_all [] (suc from) x h = h
 elements_all (o ∷ e) (suc from) x h = in_more_links o x e (elements_all e from x h)
 
-elements_split : (e : List (Option ℕ)) (from x : ℕ) → x ∈ linked (drop from e) → (x ∈ linked (take 64 (drop from e))) ⊎ (x ∈ linked (drop (from + 64) e))
+elements_split : (e : List (Option ℕ)) (from x : ℕ) → x ∈ linked (drop from e) → (x ∈ linked (take 64 (drop from e)))
+    ⊎ (x ∈ linked (drop (from + 64) e))
 elements_split e from x h =
     in_append x (linked (take 64 (drop from e))) (linked (drop (from + 64) e))
-    (subst (λ l. x ∈ l) (ap linked (sym (take-append-drop 64 (drop from e))) ∙ filter_map-append (λ (l : Option ℕ). l) (take 64 (drop from e)) (drop 64 (drop from e)) ∙ ap (λ l. linked (take 64 (drop from e)) ++ linked l) (drop_more e from 64)) h)
+    (subst (λ l. x ∈ l) (ap linked (sym (take-append-drop 64 (drop from e)))
+    ∙ filter_map-append (λ (l : Option ℕ). l) (take 64 (drop from e)) (drop 64 (drop from e))
+    ∙ ap (λ l. linked (take 64 (drop from e)) ++ linked l) (drop_more e from 64)) h)
 
 elements_part : (e : List (Option ℕ)) (from x : ℕ) → x ∈ linked (take 64 (drop from e)) → x ∈ linked e
 elements_part e from x h =
     elements_all e from x
-    (subst (λ l. x ∈ l) (sym (filter_map-append (λ (l : Option ℕ). l) (take 64 (drop from e)) (drop 64 (drop from e))) ∙ ap linked (take-append-drop 64 (drop from e)))
+    (subst (λ l. x ∈ l) (sym (filter_map-append (λ (l : Option ℕ). l) (take 64 (drop from e)) (drop 64 (drop from e)))
+    ∙ ap linked (take-append-drop 64 (drop from e)))
     (in_left x (linked (take 64 (drop from e))) (linked (drop 64 (drop from e))) h))
 
 -- ---- Objects
@@ -63,7 +69,8 @@ all_ahead (object.Cleanable c) = refl
 all_ahead (object.Guard g) = refl
 
 -- what is ahead is in the next part, or ahead of the place behind it
-ahead_split : (o : Object) (from x : ℕ) → x ∈ edges_ahead from o → (x ∈ edges_part from o) ⊎ ((p : ℕ) × (next_place from o ≡ Some p) × (x ∈ edges_ahead p o))
+ahead_split : (o : Object) (from x : ℕ) → x ∈ edges_ahead from o → (x ∈ edges_part from o)
+    ⊎ ((p : ℕ) × (next_place from o ≡ Some p) × (x ∈ edges_ahead p o))
 ahead_split (object.Plain (Typed fields)) from x h = inl h
 ahead_split (object.Plain (Elements e)) from x h = elim (elements_split e from x h) [
   | inl a ↦ inl a
@@ -106,17 +113,20 @@ to_one : (x : ℕ) (f : Object → List ℕ) (o : Object) → x ∈ f o → x �
 to_one x f o h = subst (λ l. x ∈ l) (sym (append-nil (f o))) h
 
 split_in : (o : Option Object) (from x : ℕ) → x ∈ flat_map (edges_ahead from) (option_to_list o)
-    → (x ∈ flat_map (edges_part from) (option_to_list o)) ⊎ ((p : ℕ) × (option_and_then (next_place from) o ≡ Some p) × (x ∈ flat_map (edges_ahead p) (option_to_list o)))
+    → (x ∈ flat_map (edges_part from) (option_to_list o))
+    ⊎ ((p : ℕ) × (option_and_then (next_place from) o ≡ Some p) × (x ∈ flat_map (edges_ahead p) (option_to_list o)))
 split_in None from x h = nothing x h
 split_in (Some o) from x h = elim (ahead_split o from x (from_one x (edges_ahead from) o h)) [
   | inl a ↦ inl (to_one x (edges_part from) o a)
   | inr b ↦ inr (b.0, b.1, to_one x (edges_ahead b.0) o b.2)
 ]
 
-pub split : (heap : Heap) (from s x : ℕ) → x ∈ ahead_at heap from s → (x ∈ part_at heap from s) ⊎ ((p : ℕ) × (next_at heap from s ≡ Some p) × (x ∈ ahead_at heap p s))
+pub split : (heap : Heap) (from s x : ℕ) → x ∈ ahead_at heap from s → (x ∈ part_at heap from s)
+    ⊎ ((p : ℕ) × (next_at heap from s ≡ Some p) × (x ∈ ahead_at heap p s))
 split heap from s x h = split_in (at heap s) from x h
 
-edge_in : (o : Option Object) (from x : ℕ) → x ∈ flat_map (edges_ahead from) (option_to_list o) → x ∈ flat_map (edges Strong) (option_to_list o)
+edge_in : (o : Option Object) (from x : ℕ) → x ∈ flat_map (edges_ahead from) (option_to_list o)
+    → x ∈ flat_map (edges Strong) (option_to_list o)
 edge_in None from x h = nothing x h
 edge_in (Some o) from x h = to_one x (edges Strong) o (ahead_is_edge o from x (from_one x (edges_ahead from) o h))
 
@@ -124,7 +134,8 @@ edge_in (Some o) from x h = to_one x (edges Strong) o (ahead_is_edge o from x (f
 pub ahead_edge : (heap : Heap) (from s x : ℕ) → x ∈ ahead_at heap from s → IsEdge heap s x
 ahead_edge heap from s x h = edge_in (at heap s) from x h
 
-part_in : (o : Option Object) (from x : ℕ) → x ∈ flat_map (edges_part from) (option_to_list o) → x ∈ flat_map (edges Strong) (option_to_list o)
+part_in : (o : Option Object) (from x : ℕ) → x ∈ flat_map (edges_part from) (option_to_list o)
+    → x ∈ flat_map (edges Strong) (option_to_list o)
 part_in None from x h = nothing x h
 part_in (Some o) from x h = to_one x (edges Strong) o (part_is_edge o from x (from_one x (edges_part from) o h))
 
@@ -170,7 +181,8 @@ in_progress_begun : (heap : Heap) (p : Part) → IsInProgress heap p → IsBegun
 in_progress_begun heap p i =
     (i.parts, i.whole, subst (λ o. i.parts < ticks_in o) (sym i.there) (omega (arith, i.whole, i.more)))
 
-pub begun_by : (heap : Heap) (o : Option Part) (s : ℕ) → ((p : Part) → o ≡ Some p → IsInProgress heap p) → IsTrue (is_some (at heap s)) → IsBegun heap (place_in o s) s
+pub begun_by : (heap : Heap) (o : Option Part) (s : ℕ) → ((p : Part) → o ≡ Some p → IsInProgress heap p) → IsTrue (is_some (at heap s))
+    → IsBegun heap (place_in o s) s
 begun_by heap None s placed there = (0, refl, one_tick (at heap s) there)
 begun_by heap (Some p) s placed there = elim (nat_eq p.slot s) as (λ b. nat_eq p.slot s ≡ b → IsBegun heap (cond b p.place 0) s) [
   | true ↦ λ same. subst (IsBegun heap p.place) (eqb-true p.slot s same) (in_progress_begun heap p (placed p refl))
@@ -178,13 +190,15 @@ begun_by heap (Some p) s placed there = elim (nat_eq p.slot s) as (λ b. nat_eq 
 ] refl
 
 -- where more is to follow, an array lies there, and it goes on 64 elements further
-pub next_gives : (o : Option Object) (from p : ℕ) → option_and_then (next_place from) o ≡ Some p → (e : List (Option ℕ)) × (o ≡ Some (object.Plain (Elements e))) × (p ≡ from + 64) × (p < length e)
+pub next_gives : (o : Option Object) (from p : ℕ) → option_and_then (next_place from) o ≡ Some p → (e : List (Option ℕ))
+    × (o ≡ Some (object.Plain (Elements e))) × (p ≡ from + 64) × (p < length e)
 next_gives None from p h = no_some p h
 next_gives (Some (object.Plain (Typed fields))) from p h = no_some p h
 next_gives (Some (object.Plain (Elements e))) from p h =
     elim (cases_lt (from + 64) (length e)) [
       | inl below ↦
-          let is : from + 64 ≡ p = some_same (from + 64) p (sym (ap (λ b. cond b (Some (from + 64)) None) (lt-ltb (from + 64) (length e) below)) ∙ h) in
+          let is : from + 64 ≡ p =
+          some_same (from + 64) p (sym (ap (λ b. cond b (Some (from + 64)) None) (lt-ltb (from + 64) (length e) below)) ∙ h) in
           (e, refl, sym is, subst (λ k. k < length e) is below)
       | inr past ↦ no_some p (sym (ap (λ b. cond b (Some (from + 64)) None) (not_lt (from + 64) (length e) past)) ∙ h)
     ]
@@ -207,11 +221,13 @@ record_is_no_array (Some object.Cleaner) h = refl
 record_is_no_array (Some (object.Cleanable c)) h = refl
 record_is_no_array (Some (object.Guard g)) h = refl
 
-pub no_elements : (heap : Heap) (s : ℕ) {found : Bool} → found ≡ some_and is_record (at heap s) → found ≡ true → None ≡ option_and_then elements_of (at heap s)
+pub no_elements : (heap : Heap) (s : ℕ) {found : Bool} → found ≡ some_and is_record (at heap s) → found ≡ true
+    → None ≡ option_and_then elements_of (at heap s)
 no_elements heap s plain is = record_is_no_array (at heap s) (sym plain ∙ is)
 
 -- of what is no array one part is all
-whole_in : (o : Option Object) (from : ℕ) → option_and_then elements_of o ≡ None → flat_map (edges_part from) (option_to_list o) ≡ flat_map (edges Strong) (option_to_list o)
+whole_in : (o : Option Object) (from : ℕ) → option_and_then elements_of o ≡ None
+    → flat_map (edges_part from) (option_to_list o) ≡ flat_map (edges Strong) (option_to_list o)
 whole_in None from h = refl
 whole_in (Some (object.Plain (Typed fields))) from h = refl
 whole_in (Some (object.Plain (Elements e))) from h = no_some e (sym h)
@@ -221,7 +237,8 @@ whole_in (Some object.Cleaner) from h = refl
 whole_in (Some (object.Cleanable c)) from h = refl
 whole_in (Some (object.Guard g)) from h = refl
 
-pub whole_part : (heap : Heap) (s from : ℕ) → None ≡ option_and_then elements_of (at heap s) → part_at heap from s ≡ edges_from Strong heap s
+pub whole_part : (heap : Heap) (s from : ℕ) → None ≡ option_and_then elements_of (at heap s)
+    → part_at heap from s ≡ edges_from Strong heap s
 whole_part heap s from h = whole_in (at heap s) from (sym h)
 
 none_after : (o : Option Object) (from : ℕ) → option_and_then elements_of o ≡ None → option_and_then (next_place from) o ≡ None
@@ -253,7 +270,8 @@ few_ticks heap s h = few_in (at heap s) (sym h)
 array_is : (o : Option Object) (e : List (Option ℕ)) → option_and_then elements_of o ≡ Some e → o ≡ Some (object.Plain (Elements e))
 array_is None e h = no_some e h
 array_is (Some (object.Plain (Typed fields))) e h = no_some e h
-array_is (Some (object.Plain (Elements l))) e h = ap {A = List (Option ℕ)} {B = Option Object} (λ z. Some (object.Plain (Elements z))) (some_same l e h)
+array_is (Some (object.Plain (Elements l))) e h =
+    ap {A = List (Option ℕ)} {B = Option Object} (λ z. Some (object.Plain (Elements z))) (some_same l e h)
 array_is (Some (object.Reference r)) e h = no_some e h
 array_is (Some (object.Queue members)) e h = no_some e h
 array_is (Some object.Cleaner) e h = no_some e h
@@ -276,7 +294,8 @@ module _ (heap : Heap) (s from : ℕ) (e : List (Option ℕ)) (lent : Some e ≡
 -- ---- Counts
 
 -- so many elements from a place on are all of them, or 64
-pub last_ones : (e : List (Option ℕ)) (from n : ℕ) → n ≡ length e - from → length e ≤ from + 64 → take n (drop from e) ≡ take 64 (drop from e)
+pub last_ones : (e : List (Option ℕ)) (from n : ℕ) → n ≡ length e - from → length e ≤ from + 64
+    → take n (drop from e) ≡ take 64 (drop from e)
 last_ones e from n same few =
     let long : length (drop from e) ≡ length e - from = length-drop from e in
     take_all n (drop from e) (omega (arith, long, same)) ∙ sym (take_all 64 (drop from e) (omega (arith, long, few)))
@@ -285,7 +304,8 @@ pub part_within : (e : List (Option ℕ)) (from x : ℕ) → x ∈ linked (drop 
 part_within e from x h = elements_all e from x h
 
 -- what is marked already may be counted among what was shaded
-pub shaded_wider : (T U : ℕ → Type 0) → ((x : ℕ) → T x → U x) → (m n : Marking) → ((x : ℕ) → U x → T x ⊎ IsMarked n x) → Shaded T m n → Shaded U m n
+pub shaded_wider : (T U : ℕ → Type 0) → ((x : ℕ) → T x → U x) → (m n : Marking) → ((x : ℕ) → U x → T x ⊎ IsMarked n x) → Shaded T m n
+    → Shaded U m n
 shaded_wider T U more m n marked s = record {
   long = s.long;
   kept = s.kept;

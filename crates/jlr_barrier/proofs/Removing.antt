@@ -1,5 +1,6 @@
 -- What is not marked is removed, where nothing is grey.
-use Rattle.std.proofs.Common.{◌≡◌, ◌≤◌, ℕ, cond, inl, inr, IsTrue, [], Option, Some, None, is_some, option_and_then, length, refl, sym, subst, ◌∙◌, ap}
+use Rattle.std.proofs.Common.{◌≡◌, ◌≤◌, ℕ, cond, inl, inr, IsTrue, [], Option, Some, None, is_some, option_and_then, length, refl, sym}
+use Rattle.std.proofs.Common.{subst, ◌∙◌, ap}
 use Rattle.std.specs.List.{flat_map}
 use Rattle.std.specs.Option.{option_to_list}
 use Rattle.std.proofs.lemmas.Bool.{both_ways, cases_Bool}
@@ -67,7 +68,8 @@ module _ (k : Known) (a b : ℕ) (f : FitsTogether k a b) (none : k.marking.grey
         started = f.started;
         placed = λ p e. nothing p.slot (subst (λ l. p.slot ∈ l) none (f.started p e));
         snapshot =
-            snapshot_of_left (cycle_of k.graph k.marking) (IsEdge other) (λ x y. y ∈ ahead_at other (place k.marking x) x) (RefersTo other) (λ y. y ∈ held after) f.snapshot
+            snapshot_of_left (cycle_of k.graph k.marking) (IsEdge other) (λ x y. y ∈ ahead_at other (place k.marking x) x) (RefersTo other)
+            (λ y. y ∈ held after) f.snapshot
             (λ x g. nothing x (subst (λ l. x ∈ l) none g))
             (λ x y on e. subst (λ z. y ∈ flat_map strong_edges (option_to_list z)) (stays x on) e)
             (whole_of other k.marking f.started f.snapshot.grey)

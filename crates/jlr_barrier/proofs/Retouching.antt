@@ -1,5 +1,6 @@
 -- What changes of one object do to its strong edges, its referent, and whether it is a root by itself.
-use Rattle.std.proofs.Common.{◌≡◌, ℕ, ◌⊎◌, inl, inr, true, false, cond, IsTrue, List, [], ◌∷◌, ◌++◌, Some, None, drop, option_map, refl, sym, subst, ap, ◌∙◌}
+use Rattle.std.proofs.Common.{◌≡◌, ℕ, ◌⊎◌, inl, inr, true, false, cond, IsTrue, List, [], ◌∷◌, ◌++◌, Some, None, drop, option_map, refl}
+use Rattle.std.proofs.Common.{sym, subst, ap, ◌∙◌}
 use Rattle.std.specs.Option.{option_to_list}
 use Rattle.std.proofs.lemmas.Bool.{both_ways}
 use Rattle.jlr_machine.specs.declared.object.Object.{Object}
@@ -8,7 +9,8 @@ use Rattle.jlr_machine.specs.declared.object.Reference.{Reference as ReferenceOf
 use Rattle.jlr_machine.specs.declared.object.Cleanable.{Cleanable as CleanableOf}
 use Rattle.jlr_machine.specs.declared.object.CleanState.{CleanState}
 use Rattle.jlr_machine.specs.declared.object.RefState.{RefState}
-use Rattle.jlr_machine.specs.Objects.{any_referent, as_fields, at, change_at, is_unqueued, queue_ahead, some_and, with_cleanable, with_members, with_reference, ◌∈◌}
+use Rattle.jlr_machine.specs.Objects.{any_referent, as_fields, at, change_at, is_unqueued, queue_ahead, some_and, with_cleanable}
+use Rattle.jlr_machine.specs.Objects.{with_members, with_reference, ◌∈◌}
 use Rattle.jlr_machine.specs.Edges.{strong_edges, is_active, is_own_root}
 use Rattle.jlr_machine.specs.Calls.{spent, unreferred}
 use Rattle.jlr_machine.specs.Refusals.{is_cleanable, is_queue, is_reference}
@@ -50,7 +52,8 @@ members_fields f (Guard g) = refl
 
 -- ---- A reference or a cleanable of which only that changes
 
-module _ (f : ReferenceOf → ReferenceOf) (ahead : (r : ReferenceOf) → queue_ahead (f r) ≡ queue_ahead r) (refers : (r : ReferenceOf) (y : ℕ) → (f r).referent ≡ Some y → r.referent ≡ Some y) where
+module _ (f : ReferenceOf → ReferenceOf) (ahead : (r : ReferenceOf) → queue_ahead (f r) ≡ queue_ahead r)
+    (refers : (r : ReferenceOf) (y : ℕ) → (f r).referent ≡ Some y → r.referent ≡ Some y) where
   same_edges : (o : Object) → strong_edges (with_reference f o) ≡ strong_edges o
   same_edges (Plain fields) = refl
   same_edges (Reference r) = ap option_to_list (ahead r)
@@ -109,10 +112,20 @@ pub unreferred_retouches : Retouches (with_reference unreferred)
 unreferred_retouches = of_reference unreferred (λ r. refl) (λ r y e. no_some y e)
 
 pub without_referent_retouches : Retouches (with_cleanable without_referent)
-without_referent_retouches = record { fields = cleanable_fields without_referent; edges = cleanable_edges without_referent; refers = cleanable_refers without_referent (λ c y e. no_some y e); own = cleanable_own without_referent (λ c h. h) }
+without_referent_retouches = record {
+  fields = cleanable_fields without_referent;
+  edges = cleanable_edges without_referent;
+  refers = cleanable_refers without_referent (λ c y e. no_some y e);
+  own = cleanable_own without_referent (λ c h. h);
+}
 
 pub spent_retouches : Retouches (with_cleanable spent)
-spent_retouches = record { fields = cleanable_fields spent; edges = cleanable_edges spent; refers = cleanable_refers spent (λ c y e. no_some y e); own = cleanable_own spent (λ c h. absurd (both_ways false refl h)) }
+spent_retouches = record {
+  fields = cleanable_fields spent;
+  edges = cleanable_edges spent;
+  refers = cleanable_refers spent (λ c y e. no_some y e);
+  own = cleanable_own spent (λ c h. absurd (both_ways false refl h));
+}
 
 -- ---- A cleanable in another state, or with a referent
 
@@ -123,7 +136,8 @@ module _ (k : Known) (a b s : ℕ) (f : FitsTogether k a b) where
   in_hand : (y : ℕ) → IsInHand k y → Safe y
   in_hand y h = in_hand_safe k f.snapshot y h
 
-  own_in_state : (state : CleanState) → (IsTrue (is_active state) → Safe s) → (o : Object) → IsTrue (is_own_root (Some (with_cleanable (in_clean_state state) o))) → IsTrue (is_own_root (Some o)) ⊎ Safe s
+  own_in_state : (state : CleanState) → (IsTrue (is_active state) → Safe s) → (o : Object)
+      → IsTrue (is_own_root (Some (with_cleanable (in_clean_state state) o))) → IsTrue (is_own_root (Some o)) ⊎ Safe s
   own_in_state state root (Plain fields) h = inl h
   own_in_state state root (Reference r) h = inl h
   own_in_state state root (Queue members) h = inl h
@@ -131,7 +145,8 @@ module _ (k : Known) (a b s : ℕ) (f : FitsTogether k a b) where
   own_in_state state root (Cleanable c) h = inr (root h)
   own_in_state state root (Guard g) h = inl h
 
-  pub another_clean_state : (state : CleanState) → (IsTrue (is_active state) → IsInHand k s) → IsTrue (some_and is_cleanable (at k.graph.objects s))
+  pub another_clean_state : (state : CleanState) → (IsTrue (is_active state) → IsInHand k s)
+      → IsTrue (some_and is_cleanable (at k.graph.objects s))
       → FitsTogether (record k { graph = with_objects k.graph (change_at k.graph.objects s (with_cleanable (in_clean_state state))) }) a b
   another_clean_state state root there =
       altered_object k a b s (with_cleanable (in_clean_state state)) f
@@ -144,7 +159,8 @@ module _ (k : Known) (a b s : ℕ) (f : FitsTogether k a b) where
       })
       (there_is is_cleanable (at k.graph.objects s) there)
 
-  refers_watching : (t : ℕ) → Safe t → (o : Object) (y : ℕ) → any_referent (with_cleanable (watching t) o) ≡ Some y → (any_referent o ≡ Some y) ⊎ Safe y
+  refers_watching : (t : ℕ) → Safe t → (o : Object) (y : ℕ) → any_referent (with_cleanable (watching t) o) ≡ Some y
+      → (any_referent o ≡ Some y) ⊎ Safe y
   refers_watching t safe (Plain fields) y e = inl e
   refers_watching t safe (Reference r) y e = inl e
   refers_watching t safe (Queue members) y e = inl e
@@ -167,7 +183,8 @@ module _ (k : Known) (a b s : ℕ) (f : FitsTogether k a b) where
 
   -- ---- A reference in another state, with the same queue ahead
 
-  same_ahead : (state : RefState) (o : Object) → next_of (with_reference (in_state state) o) ≡ next_of o → strong_edges (with_reference (in_state state) o) ≡ strong_edges o
+  same_ahead : (state : RefState) (o : Object) → next_of (with_reference (in_state state) o) ≡ next_of o
+      → strong_edges (with_reference (in_state state) o) ≡ strong_edges o
   same_ahead state (Plain fields) e = refl
   same_ahead state (Reference r) e = ap option_to_list e
   same_ahead state (Queue members) e = refl
@@ -175,7 +192,8 @@ module _ (k : Known) (a b s : ℕ) (f : FitsTogether k a b) where
   same_ahead state (Cleanable c) e = refl
   same_ahead state (Guard g) e = refl
 
-  state_refers : (state : RefState) (o : Object) (y : ℕ) → any_referent (with_reference (in_state state) o) ≡ Some y → any_referent o ≡ Some y
+  state_refers : (state : RefState) (o : Object) (y : ℕ) → any_referent (with_reference (in_state state) o) ≡ Some y
+      → any_referent o ≡ Some y
   state_refers state (Plain fields) y e = e
   state_refers state (Reference r) y e = e
   state_refers state (Queue members) y e = e
@@ -183,7 +201,8 @@ module _ (k : Known) (a b s : ℕ) (f : FitsTogether k a b) where
   state_refers state (Cleanable c) y e = e
   state_refers state (Guard g) y e = e
 
-  state_own : (state : RefState) (o : Object) → IsTrue (is_own_root (Some (with_reference (in_state state) o))) → IsTrue (is_own_root (Some o))
+  state_own : (state : RefState) (o : Object) → IsTrue (is_own_root (Some (with_reference (in_state state) o)))
+      → IsTrue (is_own_root (Some o))
   state_own state (Plain fields) h = h
   state_own state (Reference r) h = h
   state_own state (Queue members) h = h
@@ -191,7 +210,8 @@ module _ (k : Known) (a b s : ℕ) (f : FitsTogether k a b) where
   state_own state (Cleanable c) h = h
   state_own state (Guard g) h = h
 
-  pub another_state : (state : RefState) → next_in (option_map (with_reference (in_state state)) (at k.graph.objects s)) ≡ next_in (at k.graph.objects s) → IsTrue (some_and is_reference (at k.graph.objects s))
+  pub another_state : (state : RefState) → next_in (option_map (with_reference (in_state state)) (at k.graph.objects s)) ≡ next_in
+      (at k.graph.objects s) → IsTrue (some_and is_reference (at k.graph.objects s))
       → FitsTogether (record k { graph = with_objects k.graph (change_at k.graph.objects s (with_reference (in_state state))) }) a b
   another_state state edge there =
       altered_object k a b s (with_reference (in_state state)) f
@@ -209,7 +229,11 @@ module _ (k : Known) (a b s : ℕ) (f : FitsTogether k a b) where
   -- ---- A reference registered with no queue any more, once the queue that was ahead is marked
 
   none_ahead : (r : ReferenceOf) (y : ℕ) → y ∈ option_to_list (queue_ahead (unregistered r)) → ⊥
-  none_ahead r y h = elim (is_unqueued r.state) as (λ z. y ∈ option_to_list (cond z None None) → ⊥) [ true ↦ λ h. nothing y h | false ↦ λ h. nothing y h ] h
+  none_ahead r y h = elim (is_unqueued r.state) as (λ z. y ∈ option_to_list (cond z None None) → ⊥) [
+    | true ↦ λ h. nothing y h
+    | false ↦
+        λ h. nothing y h
+  ] h
 
   unregistered_gains : (o : Object) (y : ℕ) → y ∈ strong_edges (with_reference unregistered o) → y ∈ strong_edges o
   unregistered_gains (Plain fields) y h = h
@@ -243,7 +267,8 @@ module _ (k : Known) (a b s : ℕ) (f : FitsTogether k a b) where
   unregistered_own (Cleanable c) h = h
   unregistered_own (Guard g) h = h
 
-  pub without_queue : ((y : ℕ) → next_in (at k.graph.objects s) ≡ Some y → IsMarked k.marking y) → IsTrue (some_and is_reference (at k.graph.objects s))
+  pub without_queue : ((y : ℕ) → next_in (at k.graph.objects s) ≡ Some y → IsMarked k.marking y)
+      → IsTrue (some_and is_reference (at k.graph.objects s))
       → FitsTogether (record k { graph = with_objects k.graph (change_at k.graph.objects s (with_reference unregistered)) }) a b
   without_queue marked there =
       altered_object k a b s (with_reference unregistered) f
@@ -274,10 +299,12 @@ module _ (k : Known) (a b s : ℕ) (f : FitsTogether k a b) where
   members_own g (Cleanable c) h = h
   members_own g (Guard x) h = h
 
-  longer_gains : (t : ℕ) (o : Object) (y : ℕ) → y ∈ strong_edges (with_members (λ members. members ++ t ∷ []) o) → (y ∈ strong_edges o) ⊎ (y ≡ t)
+  longer_gains : (t : ℕ) (o : Object) (y : ℕ) → y ∈ strong_edges (with_members (λ members. members ++ t ∷ []) o) → (y ∈ strong_edges o)
+      ⊎ (y ≡ t)
   longer_gains t (Plain fields) y h = inl h
   longer_gains t (Reference r) y h = inl h
-  longer_gains t (Queue members) y h = elim (in_append y members (t ∷ []) h) [ inl o ↦ inl o | inr n ↦ elim (in_cons y t [] n) [ inl e ↦ inr e | inr z ↦ nothing y z ] ]
+  longer_gains t (Queue members) y h =
+      elim (in_append y members (t ∷ []) h) [ inl o ↦ inl o | inr n ↦ elim (in_cons y t [] n) [ inl e ↦ inr e | inr z ↦ nothing y z ] ]
   longer_gains t Cleaner y h = inl h
   longer_gains t (Cleanable c) y h = inl h
   longer_gains t (Guard g) y h = inl h
@@ -291,7 +318,8 @@ module _ (k : Known) (a b s : ℕ) (f : FitsTogether k a b) where
   longer_keeps t (Guard g) y h = h
 
   pub one_member_more : (t : ℕ) → IsInHand k t → IsTrue (some_and is_queue (at k.graph.objects s))
-      → FitsTogether (record k { graph = with_objects k.graph (change_at k.graph.objects s (with_members (λ members. members ++ t ∷ []))) }) a b
+      → FitsTogether (record k { graph = with_objects k.graph (change_at k.graph.objects s (with_members (λ members. members ++ t ∷ []))) })
+      a b
   one_member_more t held there =
       altered_object k a b s (with_members (λ members. members ++ t ∷ [])) f
       (λ o e. record {
@@ -321,7 +349,8 @@ module _ (k : Known) (a b s : ℕ) (f : FitsTogether k a b) where
   shorter_loses (Cleanable c) y h = inl h
   shorter_loses (Guard g) y h = inl h
 
-  pub one_member_less : ((y : ℕ) → member_in (at k.graph.objects s) 0 ≡ Some y → IsMarked k.marking y) → IsTrue (some_and is_queue (at k.graph.objects s))
+  pub one_member_less : ((y : ℕ) → member_in (at k.graph.objects s) 0 ≡ Some y → IsMarked k.marking y)
+      → IsTrue (some_and is_queue (at k.graph.objects s))
       → FitsTogether (record k { graph = with_objects k.graph (change_at k.graph.objects s (with_members (drop 1))) }) a b
   one_member_less marked there =
       altered_object k a b s (with_members (drop 1)) f

@@ -1,5 +1,6 @@
 -- A grey slot is taken, and a part of its edges is followed.
-use Rattle.std.proofs.Common.{◌≡◌, ◌++◌, ◌+◌, arith, ℕ, ◌⊎◌, inl, inr, Bool, true, false, cond, not, List, [], ◌∷◌, Option, Some, None, option_and_then, length, get_or, refl, sym, subst, ap, ◌∙◌}
+use Rattle.std.proofs.Common.{◌≡◌, ◌++◌, ◌+◌, arith, ℕ, ◌⊎◌, inl, inr, Bool, true, false, cond, not, List, [], ◌∷◌, Option, Some, None}
+use Rattle.std.proofs.Common.{option_and_then, length, get_or, refl, sym, subst, ap, ◌∙◌}
 use Rattle.std.specs.Prelude.{nat_eq}
 use Rattle.std.proofs.lemmas.List.Sorted.{list_any-IsPermutation}
 use Rattle.std.proofs.lemmas.Bool.{cases_eq, false_from_ne_true, not_from_false}
@@ -19,7 +20,8 @@ use Rattle.jlr_barrier.proofs.Keeping.{snapshot_of_shaded}
 use Rattle.jlr_barrier.proofs.Fitting.{marked_or_not}
 
 -- an object that refers to one that is not marked awaits it
-awaits_it : (m : Marking) (o : Option Object) (y : ℕ) → option_and_then any_referent o ≡ Some y → is_marked m y ≡ false → some_and (awaits m) o ≡ true
+awaits_it : (m : Marking) (o : Option Object) (y : ℕ) → option_and_then any_referent o ≡ Some y → is_marked m y ≡ false
+    → some_and (awaits m) o ≡ true
 awaits_it m None y e off = no_some y e
 awaits_it m (Some o) y e off = subst (λ r. some_and (λ x. not (is_marked m x)) r ≡ true) (sym e) (not_from_false (is_marked m y) off)
 
@@ -82,7 +84,8 @@ module _ (k : Known) (a b s : ℕ) (off on : Marking) (f : FitsTogether k a b) (
     added_notes = cond (some_and (awaits on) (at k.graph.objects s)) (s ∷ []) []
 
     noted : (x : ℕ) → x ∈ k.marking.discovered → x ∈ n.discovered
-    noted x h = subst (λ l. x ∈ l) (sym discovered) (in_left x on.discovered added_notes (subst (λ l. x ∈ l) (sym (shade.discovered_same ∙ part.same_discovered)) h))
+    noted x h = subst (λ l. x ∈ l) (sym discovered) (in_left x on.discovered added_notes
+        (subst (λ l. x ∈ l) (sym (shade.discovered_same ∙ part.same_discovered)) h))
 
     now_noted : (y : ℕ) → RefersTo k.graph.objects s y → is_marked on y ≡ false → s ∈ n.discovered
     now_noted y q white =
@@ -94,13 +97,15 @@ module _ (k : Known) (a b s : ℕ) (off on : Marking) (f : FitsTogether k a b) (
     looked x y h q = elim (grey_cases x h) [
       | inl here ↦ elim (marked_or_not on y) [
         | inl m ↦ inr (inl (on_new y m))
-        | inr white ↦ inr (inr (subst (λ z. z ∈ n.discovered) (sym here) (now_noted y (subst (λ z. RefersTo k.graph.objects z y) here q) (false_from_ne_true (is_marked on y) white))))
+        | inr white ↦ inr (inr (subst (λ z. z ∈ n.discovered) (sym here)
+            (now_noted y (subst (λ z. RefersTo k.graph.objects z y) here q) (false_from_ne_true (is_marked on y) white))))
       ]
       | inr still ↦ inl (grey_on x (shade.grey_kept x still))
     ]
 
     followed_all : (y : ℕ) → y ∈ ahead_at k.graph.objects from s → IsMarked n y
-    followed_all y h = elim (split k.graph.objects from s y h) [ inl now ↦ on_new y (shade.all y now) | inr later ↦ no_some later.0 (sym next ∙ later.1) ]
+    followed_all y h =
+        elim (split k.graph.objects from s y h) [ inl now ↦ on_new y (shade.all y now) | inr later ↦ no_some later.0 (sym next ∙ later.1) ]
 
     pub last_fits : FitsTogether (record k { marking = n }) a b
     last_fits = record {
@@ -109,11 +114,16 @@ module _ (k : Known) (a b s : ℕ) (off on : Marking) (f : FitsTogether k a b) (
       ages = f.ages;
       links = f.links;
       two = f.two;
-      objects = λ x h. elim (shade.added x (new_on x h)) [ inl o ↦ f.objects x (was_marked x o) | inr new ↦ objects x (part_edge k.graph.objects from s x new.0) ];
+      objects = λ x h. elim (shade.added x (new_on x h)) [
+        | inl o ↦ f.objects x (was_marked x o)
+        | inr new ↦
+            objects x (part_edge k.graph.objects from s x new.0)
+      ];
       started = λ q e. no_some q (sym none ∙ e);
       placed = λ q e. no_some q (sym none ∙ e);
       snapshot =
-          snapshot_of_shaded (cycle_of k.graph k.marking) (λ x y. y ∈ ahead_at k.graph.objects (place n x) x) (IsMarked n) (λ x. x ∈ n.grey) (λ x. x ∈ n.discovered) f.snapshot (marked_or_not k.marking) (marked_or_not n) (λ x h. on_new x (then_marked x h))
+          snapshot_of_shaded (cycle_of k.graph k.marking) (λ x y. y ∈ ahead_at k.graph.objects (place n x) x) (IsMarked n) (λ x. x ∈ n.grey)
+          (λ x. x ∈ n.discovered) f.snapshot (marked_or_not k.marking) (marked_or_not n) (λ x h. on_new x (then_marked x h))
           (λ x h. elim (shade.added x (new_on x h)) [ inl o ↦ inl (was_marked x o) | inr new ↦ inr (grey_on x new.1) ])
           (λ x h. on_new x (grey_then x (on_grey x h)))
           (λ x y h e. elim (grey_cases x h) [
@@ -126,8 +136,10 @@ module _ (k : Known) (a b s : ℕ) (off on : Marking) (f : FitsTogether k a b) (
 
   -- ---- More is to follow, from the place p on
 
-  module _ (n : Marking) (p : ℕ) (next : next_at k.graph.objects from s ≡ Some p) (bits : n.bits ≡ on.bits) (grey : n.grey ≡ s ∷ on.grey) (discovered : n.discovered ≡ on.discovered)
-      (begun : n.part ≡ Some (record { slot = s; place = p })) (objects : (y : ℕ) → IsEdge k.graph.objects s y → IsObject k.graph.objects y) where
+  module _ (n : Marking) (p : ℕ) (next : next_at k.graph.objects from s ≡ Some p) (bits : n.bits ≡ on.bits) (grey : n.grey ≡ s ∷ on.grey)
+      (discovered : n.discovered ≡ on.discovered)
+      (begun : n.part ≡ Some (record { slot = s; place = p }))
+      (objects : (y : ℕ) → IsEdge k.graph.objects s y → IsObject k.graph.objects y) where
     on_then : (x : ℕ) → IsMarked on x → IsMarked n x
     on_then x h = in_bits on.bits n.bits x (sym bits) h
 
@@ -135,7 +147,8 @@ module _ (k : Known) (a b s : ℕ) (off on : Marking) (f : FitsTogether k a b) (
     then_on x h = in_bits n.bits on.bits x bits h
 
     still_grey : (x : ℕ) → x ∈ k.marking.grey → x ∈ n.grey
-    still_grey x h = subst (λ l. x ∈ l) (sym grey) (elim (grey_cases x h) [ inl here ↦ in_front x s on.grey here | inr o ↦ in_rest x s on.grey (shade.grey_kept x o) ])
+    still_grey x h = subst (λ l. x ∈ l) (sym grey) (elim
+        (grey_cases x h) [ inl here ↦ in_front x s on.grey here | inr o ↦ in_rest x s on.grey (shade.grey_kept x o) ])
 
     now_grey : (x : ℕ) → x ∈ on.grey → x ∈ n.grey
     now_grey x h = subst (λ l. x ∈ l) (sym grey) (in_rest x s on.grey h)
@@ -150,7 +163,9 @@ module _ (k : Known) (a b s : ℕ) (off on : Marking) (f : FitsTogether k a b) (
     place_here = ap (λ o. place_in o s) begun ∙ at_its_place s p
 
     place_beside : (x : ℕ) → (x ≡ s → ⊥) → place n x ≡ 0
-    place_beside x other = ap (λ o. place_in o x) begun ∙ not_begun (Some (record { slot = s; place = p })) x (λ q e same. other (sym (ap (λ (r : Part). r.slot) (some_same (record { slot = s; place = p }) q e) ∙ same)))
+    place_beside x other = ap (λ o. place_in o x) begun
+        ∙ not_begun (Some (record { slot = s; place = p })) x
+        (λ q e same. other (sym (ap (λ (r : Part). r.slot) (some_same (record { slot = s; place = p }) q e) ∙ same)))
 
     beside_ahead : (x y : ℕ) → (x ≡ s → ⊥) → y ∈ ahead_at k.graph.objects (place k.marking x) x → y ∈ ahead_at k.graph.objects (place n x) x
     beside_ahead x y other h = subst (λ q. y ∈ ahead_at k.graph.objects q x) (sym (place_beside x other)) (from_front x y h)
@@ -174,11 +189,17 @@ module _ (k : Known) (a b s : ℕ) (off on : Marking) (f : FitsTogether k a b) (
       ages = f.ages;
       links = f.links;
       two = f.two;
-      objects = λ x h. elim (shade.added x (then_on x h)) [ inl o ↦ f.objects x (was_marked x o) | inr new ↦ objects x (part_edge k.graph.objects from s x new.0) ];
-      started = λ q e. subst (λ l. q.slot ∈ l) (sym grey) (in_front q.slot s on.grey (ap (λ (r : Part). r.slot) (some_same q (record { slot = s; place = p }) (sym e ∙ begun))));
+      objects = λ x h. elim (shade.added x (then_on x h)) [
+        | inl o ↦ f.objects x (was_marked x o)
+        | inr new ↦
+            objects x (part_edge k.graph.objects from s x new.0)
+      ];
+      started = λ q e. subst (λ l. q.slot ∈ l) (sym grey)
+          (in_front q.slot s on.grey (ap (λ (r : Part). r.slot) (some_same q (record { slot = s; place = p }) (sym e ∙ begun))));
       placed = λ q e. subst (IsInProgress k.graph.objects) (some_same (record { slot = s; place = p }) q (sym begun ∙ e)) in_progress;
       snapshot =
-          snapshot_of_shaded (cycle_of k.graph k.marking) (λ x y. y ∈ ahead_at k.graph.objects (place n x) x) (IsMarked n) (λ x. x ∈ n.grey) (λ x. x ∈ n.discovered) f.snapshot (marked_or_not k.marking) (marked_or_not n) (λ x h. on_then x (then_marked x h))
+          snapshot_of_shaded (cycle_of k.graph k.marking) (λ x y. y ∈ ahead_at k.graph.objects (place n x) x) (IsMarked n) (λ x. x ∈ n.grey)
+          (λ x. x ∈ n.discovered) f.snapshot (marked_or_not k.marking) (marked_or_not n) (λ x h. on_then x (then_marked x h))
           (λ x h. elim (shade.added x (then_on x h)) [ inl o ↦ inl (was_marked x o) | inr new ↦ inr (now_grey x new.1) ])
           grey_is
           (λ x y h e. elim (cases_eq x s) [
@@ -193,9 +214,14 @@ module _ (k : Known) (a b s : ℕ) (off on : Marking) (f : FitsTogether k a b) (
           (λ x y h q. inl (still_grey x h));
     }
 
-scanned_to : (k : Known) (a b s : ℕ) (n : Marking) (o : Option ℕ) → FitsTogether k a b → next_at k.graph.objects (place k.marking s) s ≡ o → ScannedTo o k.graph.objects s k.marking n → ((y : ℕ) → IsEdge k.graph.objects s y → IsObject k.graph.objects y) → FitsTogether (record k { marking = n }) a b
-scanned_to k a b s n None f next scan objects = last_fits k a b s scan.off scan.on f scan.followed n next scan.bits scan.grey scan.discovered scan.part objects
-scanned_to k a b s n (Some p) f next scan objects = part_fits k a b s scan.off scan.on f scan.followed n p next scan.bits scan.grey scan.discovered scan.part objects
+scanned_to : (k : Known) (a b s : ℕ) (n : Marking) (o : Option ℕ) → FitsTogether k a b → next_at k.graph.objects (place k.marking s) s ≡ o
+    → ScannedTo o k.graph.objects s k.marking n → ((y : ℕ) → IsEdge k.graph.objects s y → IsObject k.graph.objects y)
+    → FitsTogether (record k { marking = n }) a b
+scanned_to k a b s n None f next scan objects =
+    last_fits k a b s scan.off scan.on f scan.followed n next scan.bits scan.grey scan.discovered scan.part objects
+scanned_to k a b s n (Some p) f next scan objects =
+    part_fits k a b s scan.off scan.on f scan.followed n p next scan.bits scan.grey scan.discovered scan.part objects
 
-pub scanned_fits : (k : Known) (a b s : ℕ) (n : Marking) → FitsTogether k a b → Scanned k.graph.objects s k.marking n → ((y : ℕ) → IsEdge k.graph.objects s y → IsObject k.graph.objects y) → FitsTogether (record k { marking = n }) a b
+pub scanned_fits : (k : Known) (a b s : ℕ) (n : Marking) → FitsTogether k a b → Scanned k.graph.objects s k.marking n
+    → ((y : ℕ) → IsEdge k.graph.objects s y → IsObject k.graph.objects y) → FitsTogether (record k { marking = n }) a b
 scanned_fits k a b s n f scan objects = scanned_to k a b s n (next_at k.graph.objects (place k.marking s) s) f refl scan objects

@@ -16,4 +16,5 @@ pub record AreFree (heap : Heap) (s t : ℕ) : Type 0 where
 -- a guard at g, and at c its cleanable, which is Armed and waits for it
 abbrev pub with_guard : Heap → ℕ → ℕ → ℕ → ℕ → Heap
 with_guard heap g c rid action =
-    set_at (set_at heap g (Guard (record { rid = rid; cleanable = c }))) c (Cleanable (record { referent = Some g; action = action; work = WorkOn rid; state = Armed }))
+    set_at (set_at heap g (Guard (record { rid = rid; cleanable = c }))) c
+    (Cleanable (record { referent = Some g; action = action; work = WorkOn rid; state = Armed }))

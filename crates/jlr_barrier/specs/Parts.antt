@@ -1,5 +1,6 @@
 -- What is followed of an object at one tick, and what is still to be followed.
-use Rattle.std.specs.Prelude.{◌≡◌, ◌<◌, ℕ, ◌+◌, ◌-◌, ◌*◌, ◌/◌, cond, nat_lt, List, Option, Some, None, drop, length, take, option_and_then, option_to_list}
+use Rattle.std.specs.Prelude.{◌≡◌, ◌<◌, ℕ, ◌+◌, ◌-◌, ◌*◌, ◌/◌, cond, nat_lt, List, Option, Some, None, drop, length}
+use Rattle.std.specs.Prelude.{take, option_and_then, option_to_list}
 use Rattle.std.specs.List.{flat_map}
 use Rattle.jlr_machine.specs.declared.object.Contents.{Contents}
 use Rattle.jlr_machine.specs.declared.object.Contents.TheVariants.{Typed, Elements}

@@ -9,7 +9,8 @@ use Rattle.jlr_barrier.specs.Parts.{next_at, part_at}
 abbrev pub awaits : Marking → Object → Bool
 awaits m o = some_and (λ x. not (is_marked m x)) (any_referent o)
 
--- The slot was grey, and is taken off the grey ones; then what a part of its edges leads to, from the place reached on, was shaded
+-- The slot was grey, and is taken off the grey ones; then what a part of its edges leads to, from the place reached on,
+-- was shaded
 pub record FollowedPart (heap : Heap) (slot : ℕ) (old off on : Marking) : Type 0 where
   pub same_bits : off.bits ≡ old.bits
   pub taken : IsPermutation old.grey (slot ∷ off.grey)

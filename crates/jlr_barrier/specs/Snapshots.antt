@@ -22,7 +22,8 @@ IsReachedBy E B y = (x : ℕ) × B x × (path : List ℕ) × IsPathBy E x path y
 
 -- ---- The graph as a marker sees it
 
--- strong edges, those that are still to be followed, and referents; roots; what is marked, what is grey, and what is discovered
+-- strong edges, those that are still to be followed, and referents; roots; what is marked, what is grey, and what is
+-- discovered
 pub record Cycle : Type 1 where
   pub E : ℕ → ℕ → Type 0
   pub F : ℕ → ℕ → Type 0
@@ -39,8 +40,8 @@ IsProtected c y = IsReachedBy (λ x z. c.F x z × (¬ (c.M z))) c.G y
 abbrev pub IsSafe : Cycle → ℕ → Type 0
 IsSafe c y = c.M y ⊎ IsProtected c y
 
--- What a root or a marked object leads to is marked or protected, or a grey object has still to follow it; of what is unmarked no edge was
--- followed; and a black object whose referent is neither is discovered
+-- What a root or a marked object leads to is marked or protected, or a grey object has still to follow it; of what is
+-- unmarked no edge was followed; and a black object whose referent is neither is discovered
 pub record IsSnapshot (c : Cycle) : Type 0 where
   pub grey : (x : ℕ) → c.G x → c.M x
   pub roots : (y : ℕ) → c.R y → IsSafe c y
@@ -70,21 +71,23 @@ cycle_of g m = record {
 abbrev pub IsObject : Heap → ℕ → Type 0
 IsObject heap s = IsTrue (is_some (at heap s))
 
--- what may become a root, and what a strong edge may lead to: it is marked, or strong edges lead to it from what is held
+-- what may become a root, and what a strong edge may lead to: it is marked, or strong edges lead to it from what is
+-- held
 abbrev pub IsInHand : Known → ℕ → Type 0
 IsInHand k s = IsMarked k.marking s ⊎ IsReached Strong k.graph.objects (held k.graph) s
 
--- Where no cell is grey, the marked objects hold the roots and all that strong edges lead to from them; and each of them whose referent is not
--- marked is discovered
+-- Where no cell is grey, the marked objects hold the roots and all that strong edges lead to from them; and each of
+-- them whose referent is not marked is discovered
 pub record HoldsWhole (k : Known) : Type 0 where
   pub long : length k.marking.bits ≡ length k.graph.objects
   pub objects : (s : ℕ) → IsMarked k.marking s → IsObject k.graph.objects s
   pub roots : (s : ℕ) → s ∈ held k.graph → IsMarked k.marking s
   pub closed : (x y : ℕ) → IsMarked k.marking x → IsEdge k.graph.objects x y → IsMarked k.marking y
-  pub referents : (x y : ℕ) → IsMarked k.marking x → RefersTo k.graph.objects x y → IsMarked k.marking y ⊎ (x ∈ k.marking.discovered)
+  pub referents : (x y : ℕ) → IsMarked k.marking x → RefersTo k.graph.objects x y → IsMarked k.marking y
+      ⊎ (x ∈ k.marking.discovered)
 
--- There is a link for each cell, of two lists; what is marked is an object; where a part of something was followed, it is a grey array with more
--- elements; and the marks are a snapshot
+-- There is a link for each cell, of two lists; what is marked is an object; where a part of something was followed, it
+-- is a grey array with more elements; and the marks are a snapshot
 pub record FitsTogether (known : Known) (column lists : ℕ) : Type 0 where
   pub few : length known.graph.objects ≤ 65536
   pub bits : length known.marking.bits ≡ length known.graph.objects

@@ -1,6 +1,7 @@
 //! Cleaners, cleanables and guards.
 ghost use Rattle.std.specs.Prelude.{◌≡◌, IsTrue, option_and_then};
-ghost use Rattle.jlr_machine.specs.Objects.{as_cleanable, as_guard, at, change_at, is_cleaner, some_and, with_cleanable};
+ghost use Rattle.jlr_machine.specs.Objects.{as_cleanable, as_guard, at, change_at, is_cleaner, some_and};
+ghost use Rattle.jlr_machine.specs.Objects.{with_cleanable};
 ghost use Rattle.jlr_machine.specs.Refusals.{is_cleanable, is_guard};
 ghost use Rattle.jlr_machine.specs.Calls.{spent};
 ghost use Rattle.jlr_cells.specs.Contents.{in_clean_state, without_referent};
@@ -52,7 +53,8 @@ impl Heap {
     pub fn set_clean_state(&mut self, slot: Slot, state: CleanState)
         requires cleanable { IsTrue (some_and is_cleanable (at self.old.graph.objects slot)) }
         requires root { IsTrue (is_active state) → IsInHand self.old slot }
-        ensures graph { self.new.graph ≡ with_objects self.old.graph (change_at self.old.graph.objects slot (with_cleanable (in_clean_state state))) }
+        ensures graph { self.new.graph ≡ with_objects self.old.graph
+            (change_at self.old.graph.objects slot (with_cleanable (in_clean_state state))) }
         ensures clock { self.new.clock ≡ self.old.clock }
         ensures marking { self.new.marking ≡ self.old.marking }
         ensures condemned { self.new.condemned ≡ self.old.condemned }
@@ -63,7 +65,8 @@ impl Heap {
     /// The cleanable at a slot loses its referent.
     pub fn clear_cleanable(&mut self, slot: Slot)
         requires { IsTrue (some_and is_cleanable (at self.old.graph.objects slot)) }
-        ensures graph { self.new.graph ≡ with_objects self.old.graph (change_at self.old.graph.objects slot (with_cleanable without_referent)) }
+        ensures graph { self.new.graph ≡ with_objects self.old.graph
+            (change_at self.old.graph.objects slot (with_cleanable without_referent)) }
         ensures clock { self.new.clock ≡ self.old.clock }
         ensures marking { self.new.marking ≡ self.old.marking }
         ensures condemned { self.new.condemned ≡ self.old.condemned }
@@ -71,10 +74,12 @@ impl Heap {
         self.cells.clear_cleanable(slot);
     }
 
-    /// The cleanable at a slot has done what it was for: it is spent, has no referent any more, and is no root by itself.
+    /// The cleanable at a slot has done what it was for: it is spent, has no referent any more, and is no root by
+    /// itself.
     pub fn spend(&mut self, slot: Slot)
         requires { IsTrue (some_and is_cleanable (at self.old.graph.objects slot)) }
-        ensures graph { self.new.graph ≡ with_objects self.old.graph (change_at self.old.graph.objects slot (with_cleanable spent)) }
+        ensures graph { self.new.graph ≡ with_objects self.old.graph
+            (change_at self.old.graph.objects slot (with_cleanable spent)) }
         ensures clock { self.new.clock ≡ self.old.clock }
         ensures marking { self.new.marking ≡ self.old.marking }
         ensures condemned { self.new.condemned ≡ self.old.condemned }

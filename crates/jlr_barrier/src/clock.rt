@@ -1,5 +1,5 @@
-//! What the soft policy asks: how many collections have finished, and when a reference was made or last gave its referent. And what tells
-//! that a cycle is due: how many cells were taken since.
+//! What the soft policy asks: how many collections have finished, and when a reference was made or last gave its
+//! referent. And what tells that a cycle is due: how many cells were taken since.
 ghost use Rattle.std.specs.Prelude.{◌≡◌, ◌<◌, ℕ, Some, cond, is_some, slice_index_or, length};
 ghost use Rattle.jlr_barrier.specs.Graphs.{counted, gotten_at, used_now};
 ghost use Rattle.jlr_barrier.specs.Snapshots.{IsObject};
@@ -26,7 +26,8 @@ impl Heap {
         self.since_collection
     }
 
-    /// How many collections had finished when the object at a slot was made or, if it is a reference, last gave its referent.
+    /// How many collections had finished when the object at a slot was made or, if it is a reference, last gave its
+    /// referent.
     pub fn last_get(&self, slot: Slot) -> u64
         requires { slot < length self.now.graph.objects }
         ensures { result ≡ slice_index_or self.now.clock.last_gets slot 0 }
@@ -45,21 +46,23 @@ impl Heap {
         self.since_collection = 0;
     }
 
-    /// What the reference at a slot would give: its referent, but never that of a phantom reference. It is not given yet.
+    /// What the reference at a slot would give: its referent, but never that of a phantom reference. It is not given
+    /// yet.
     pub fn gotten(&self, slot: Slot) -> Option<Slot>
         ensures { result ≡ gotten_at self.now.graph.objects slot }
     {
         gotten(self.cells.reference(slot)?)
     }
 
-    /// The reference at a slot gives its referent, if it has one and is no phantom reference. It was used now, then, and what it gave is
-    /// shaded: nothing else might lead to it.
+    /// The reference at a slot gives its referent, if it has one and is no phantom reference. It was used now, then,
+    /// and what it gave is shaded: nothing else might lead to it.
     pub fn deref(&mut self, slot: Slot) -> Option<Slot>
         requires { (s : ℕ) → gotten_at self.old.graph.objects slot ≡ Some s → IsObject self.old.graph.objects s }
         ensures given { result ≡ gotten_at self.old.graph.objects slot }
         ensures graph { self.new.graph ≡ self.old.graph }
         ensures clock { self.new.clock ≡ cond (is_some result) (used_now self.old.clock slot) self.old.clock }
-        ensures shaded { Shaded (λ s. gotten_at self.old.graph.objects slot ≡ Some s) self.old.marking self.new.marking }
+        ensures shaded { Shaded (λ s. gotten_at self.old.graph.objects slot ≡ Some s) self.old.marking
+            self.new.marking }
         ensures condemned { self.new.condemned ≡ self.old.condemned }
     {
         let referent = self.gotten(slot)?;

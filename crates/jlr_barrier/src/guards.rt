@@ -13,17 +13,23 @@ use jlr_cells::Shape;
 use jlr_types::{ActionNo, Rid, Slot, Work};
 
 impl Heap {
-    /// A new guard and its cleanable, which waits for it to finish a resource, in two cells that held no object, if there are two. Where fewer than
-    /// two are free, all that are condemned are swept. Both were made now, and are black.
+    /// A new guard and its cleanable, which waits for it to finish a resource, in two cells that held no object, if
+    /// there are two. Where fewer than two are free, all that are condemned are swept. Both were made now, and are
+    /// black.
     pub fn allocate_guard(&mut self, rid: Rid, action: ActionNo) -> Option<(Slot, Slot)>
         ensures full { IsNone result ↔ (length self.old.graph.objects < occupied self.old.graph.objects + 2) }
-        ensures none { IfNone result ((self.new.graph ≡ self.old.graph) × (self.new.clock ≡ self.old.clock) × (self.new.marking ≡ self.old.marking) × (self.new.condemned ≡ self.old.condemned)) }
+        ensures none { IfNone result ((self.new.graph ≡ self.old.graph) × (self.new.clock ≡ self.old.clock)
+            × (self.new.marking ≡ self.old.marking) × (self.new.condemned ≡ self.old.condemned)) }
         ensures free { IfSome result (λ made. AreFree self.old.graph.objects made.0 made.1) }
-        ensures made { IfSome result (λ made. self.new.graph ≡ with_objects self.old.graph (with_guard self.old.graph.objects made.0 made.1 rid action)) }
+        ensures made { IfSome result (λ made. self.new.graph
+            ≡ with_objects self.old.graph (with_guard self.old.graph.objects made.0 made.1 rid action)) }
         ensures clock { IfSome result (λ made. self.new.clock ≡ made_now (made_now self.old.clock made.0) made.1) }
-        ensures black { IfSome result (λ made. (m : Marking) × Blackened made.1 self.old.marking m × Blackened made.0 m self.new.marking) }
+        ensures black { IfSome result (λ made. (m : Marking) × Blackened made.1 self.old.marking m
+            × Blackened made.0 m self.new.marking) }
         ensures count { IfSome result (λ _. marked self.new.marking ≡ marked self.old.marking + 2) }
-        ensures condemned { IfSome result (λ _. self.new.condemned ≡ cond (in_use self.old == length self.old.graph.objects || in_use self.old + 1 == length self.old.graph.objects) 0 self.old.condemned) }
+        ensures condemned { IfSome result (λ _. self.new.condemned
+            ≡ cond (in_use self.old == length self.old.graph.objects
+            || in_use self.old + 1 == length self.old.graph.objects) 0 self.old.condemned) }
     {
         if self.vacant_count() < 2 {
             return None;
@@ -42,7 +48,8 @@ impl Heap {
     fn watch(&mut self, slot: Slot, referent: Slot)
         requires cleanable { IsTrue (some_and is_cleanable (at self.old.graph.objects slot)) }
         requires held { IsInHand self.old referent }
-        ensures graph { self.new.graph ≡ with_objects self.old.graph (change_at self.old.graph.objects slot (with_cleanable (watching referent))) }
+        ensures graph { self.new.graph ≡ with_objects self.old.graph
+            (change_at self.old.graph.objects slot (with_cleanable (watching referent))) }
         ensures clock { self.new.clock ≡ self.old.clock }
         ensures marking { self.new.marking ≡ self.old.marking }
         ensures condemned { self.new.condemned ≡ self.old.condemned }

@@ -1,6 +1,9 @@
 //! The heap, its objects and their fields.
-ghost use Rattle.std.specs.Prelude.{◌≡◌, ℕ, ◌+◌, ◌-◌, ◌==◌, cond, ◌++◌, ◌<◌, ◌≤◌, ◌↔◌, [], option_to_list, IfErr, IfNone, IfOk, IfSome, IsErr, IsNone, IsTrue, None, Some, false, is_some, length, option_and_then, option_map};
-ghost use Rattle.jlr_machine.specs.Objects.{◌∈◌, any_referent, as_reference, at, change_at, empty_at, occupied, set_at, some_and, with_field};
+ghost use Rattle.std.specs.Prelude.{◌≡◌, ℕ, ◌+◌, ◌-◌, ◌==◌, cond, ◌++◌, ◌<◌, ◌≤◌, ◌↔◌, [], option_to_list, IfErr};
+ghost use Rattle.std.specs.Prelude.{IfNone, IfOk, IfSome, IsErr, IsNone, IsTrue, None, Some, false, is_some, length};
+ghost use Rattle.std.specs.Prelude.{option_and_then, option_map};
+ghost use Rattle.jlr_machine.specs.Objects.{◌∈◌, any_referent, as_reference, at, change_at, empty_at, occupied, set_at};
+ghost use Rattle.jlr_machine.specs.Objects.{some_and, with_field};
 ghost use Rattle.jlr_machine.specs.Refusals.{is_plain, is_queue, is_record, is_reference};
 ghost use Rattle.jlr_cells.specs.Contents.{field_at, is_ref, kind_of, object_of, referent_in};
 ghost use Rattle.jlr_machine.specs.Edges.{slots_in, strong_edges};
@@ -23,8 +26,8 @@ use jlr_types::{FieldValue, Limits, Slot};
 use std::alloc::{AllocError, Global};
 use std::marker::Model;
 
-/// The objects of a heap with their roots. Contracts see the part of the machine that it keeps, its clock and its mark set. What the marker's loop reads
-/// stands in front, so that the instructions of the loop are short.
+/// The objects of a heap with their roots. Contracts see the part of the machine that it keeps, its clock and its mark
+/// set. What the marker's loop reads stands in front, so that the instructions of the loop are short.
 #[derive(Drop)]
 pub struct Heap {
     pub(crate) marks: Marks,
@@ -50,7 +53,14 @@ impl Model for Heap {
     ghost Value = { Known };
 
     ghost view = { λ h. record {
-      graph = record { objects = h.cells.objects; mutators = h.roots; names = h.names; pending = list_at h.lists.lists 0; line = list_at h.lists.lists 1 };
+      graph = record {
+        objects = h.cells.objects;
+        mutators =
+            h.roots;
+        names = h.names;
+        pending = list_at h.lists.lists 0;
+        line = list_at h.lists.lists 1;
+      };
       clock = record { last_gets = h.last_gets.items; collections = h.collections; since = h.since_collection };
       marking = h.marks;
       condemned = h.cells.condemned;
@@ -58,7 +68,13 @@ impl Model for Heap {
 
     // How many cells are condemned does not matter to what has to fit together.
     ghost invariant = { λ h. FitsTogether (swept
-        (record { objects = h.cells.objects; mutators = h.roots; names = h.names; pending = list_at h.lists.lists 0; line = list_at h.lists.lists 1 })
+        (record {
+          objects = h.cells.objects;
+          mutators = h.roots;
+          names = h.names;
+          pending = list_at h.lists.lists 0;
+          line = list_at h.lists.lists 1;
+        })
         (record { last_gets = h.last_gets.items; collections = h.collections; since = h.since_collection })
         h.marks) h.lists.slots (length h.lists.lists) };
 }
@@ -199,34 +215,43 @@ impl Heap {
         self.cells.field(slot, field)
     }
 
-    /// Sets a field or an element. What it held is shaded: who read it before may still lead to it. Into an element goes no integer.
+    /// Sets a field or an element. What it held is shaded: who read it before may still lead to it. Into an element
+    /// goes no integer.
     pub fn store(&mut self, slot: Slot, field: usize, value: FieldValue)
         requires field { IsTrue (is_some (field_at self.old.graph.objects slot field)) }
         requires within { (s : ℕ) → value ≡ FieldValue.Ref (Some s) → s < length self.old.graph.objects }
         requires fits { some_and is_record (at self.old.graph.objects slot) ≡ false → IsTrue (is_ref value) }
         requires held { (s : ℕ) → value ≡ FieldValue.Ref (Some s) → IsInHand self.old s }
-        requires object { (s : ℕ) → field_at self.old.graph.objects slot field ≡ Some (FieldValue.Ref (Some s)) → IsObject self.old.graph.objects s }
-        ensures graph { self.new.graph ≡ with_objects self.old.graph (change_at self.old.graph.objects slot (with_field field value)) }
+        requires object { (s : ℕ) → field_at self.old.graph.objects slot field ≡ Some (FieldValue.Ref (Some s))
+            → IsObject self.old.graph.objects s }
+        ensures graph { self.new.graph ≡ with_objects self.old.graph
+            (change_at self.old.graph.objects slot (with_field field value)) }
         ensures clock { self.new.clock ≡ self.old.clock }
-        ensures shaded { Shaded (λ s. field_at self.old.graph.objects slot field ≡ Some (FieldValue.Ref (Some s))) self.old.marking self.new.marking }
+        ensures shaded { Shaded (λ s. field_at self.old.graph.objects slot field ≡ Some (FieldValue.Ref (Some s)))
+            self.old.marking self.new.marking }
         ensures condemned { self.new.condemned ≡ self.old.condemned }
     {
         let old = self.cells.set_field(slot, field, value);
         shade_value(old, &mut self.marks);
     }
 
-    /// A new object in a free cell. Where no cell is free, all that are condemned are swept first; where none is left then, there is no new object. It
-    /// was made now, and is black.
+    /// A new object in a free cell. Where no cell is free, all that are condemned are swept first; where none is left
+    /// then, there is no new object. It was made now, and is black.
     pub fn allocate(&mut self, shape: Shape) -> Option<Slot>
-        requires { (s : ℕ) → s ∈ (strong_edges (object_of shape) ++ option_to_list (any_referent (object_of shape))) → IsInHand self.old s }
+        requires { (s : ℕ) → s ∈ (strong_edges (object_of shape) ++ option_to_list (any_referent (object_of shape)))
+            → IsInHand self.old s }
         ensures full { IsNone result ↔ (occupied self.old.graph.objects ≡ length self.old.graph.objects) }
-        ensures none { IfNone result ((self.new.graph ≡ self.old.graph) × (self.new.clock ≡ self.old.clock) × (self.new.marking ≡ self.old.marking) × (self.new.condemned ≡ self.old.condemned)) }
-        ensures free { IfSome result (λ slot. (slot < length self.old.graph.objects) × (at self.old.graph.objects slot ≡ None)) }
-        ensures made { IfSome result (λ slot. self.new.graph ≡ with_objects self.old.graph (set_at self.old.graph.objects slot (object_of shape))) }
+        ensures none { IfNone result ((self.new.graph ≡ self.old.graph) × (self.new.clock ≡ self.old.clock)
+            × (self.new.marking ≡ self.old.marking) × (self.new.condemned ≡ self.old.condemned)) }
+        ensures free { IfSome result (λ slot. (slot < length self.old.graph.objects)
+            × (at self.old.graph.objects slot ≡ None)) }
+        ensures made { IfSome result (λ slot. self.new.graph
+            ≡ with_objects self.old.graph (set_at self.old.graph.objects slot (object_of shape))) }
         ensures clock { IfSome result (λ slot. self.new.clock ≡ made_now self.old.clock slot) }
         ensures black { IfSome result (λ slot. Blackened slot self.old.marking self.new.marking) }
         ensures count { IfSome result (λ _. marked self.new.marking ≡ marked self.old.marking + 1) }
-        ensures condemned { IfSome result (λ _. self.new.condemned ≡ cond (in_use self.old == length self.old.graph.objects) 0 self.old.condemned) }
+        ensures condemned { IfSome result (λ _. self.new.condemned
+            ≡ cond (in_use self.old == length self.old.graph.objects) 0 self.old.condemned) }
     {
         let slot = self.cells.take(shape)?;
         self.marks.blacken(slot);
@@ -235,20 +260,26 @@ impl Heap {
         Some(slot)
     }
 
-    /// A new array of these elements in a free cell. Where no cell is free, all that are condemned are swept first. It was made now, and is black.
+    /// A new array of these elements in a free cell. Where no cell is free, all that are condemned are swept first. It
+    /// was made now, and is black.
     ///
     /// # Errors
     /// The elements, where no cell is left then. Nothing has changed.
     pub fn allocate_array(&mut self, elements: Elements) -> Result<Slot, Elements>
         requires { (s : ℕ) → s ∈ slots_in (ElementsOf elements) → IsInHand self.old s }
         ensures full { IsErr result ↔ (occupied self.old.graph.objects ≡ length self.old.graph.objects) }
-        ensures back { IfErr result (λ e. (e ≡ elements) × (self.new.graph ≡ self.old.graph) × (self.new.clock ≡ self.old.clock) × (self.new.marking ≡ self.old.marking) × (self.new.condemned ≡ self.old.condemned)) }
-        ensures free { IfOk result (λ slot. (slot < length self.old.graph.objects) × (at self.old.graph.objects slot ≡ None)) }
-        ensures made { IfOk result (λ slot. self.new.graph ≡ with_objects self.old.graph (set_at self.old.graph.objects slot (Plain (ElementsOf elements)))) }
+        ensures back { IfErr result (λ e. (e ≡ elements) × (self.new.graph ≡ self.old.graph)
+            × (self.new.clock ≡ self.old.clock) × (self.new.marking ≡ self.old.marking)
+            × (self.new.condemned ≡ self.old.condemned)) }
+        ensures free { IfOk result (λ slot. (slot < length self.old.graph.objects)
+            × (at self.old.graph.objects slot ≡ None)) }
+        ensures made { IfOk result (λ slot. self.new.graph
+            ≡ with_objects self.old.graph (set_at self.old.graph.objects slot (Plain (ElementsOf elements)))) }
         ensures clock { IfOk result (λ slot. self.new.clock ≡ made_now self.old.clock slot) }
         ensures black { IfOk result (λ slot. Blackened slot self.old.marking self.new.marking) }
         ensures count { IfOk result (λ _. marked self.new.marking ≡ marked self.old.marking + 1) }
-        ensures condemned { IfOk result (λ _. self.new.condemned ≡ cond (in_use self.old == length self.old.graph.objects) 0 self.old.condemned) }
+        ensures condemned { IfOk result (λ _. self.new.condemned
+            ≡ cond (in_use self.old == length self.old.graph.objects) 0 self.old.condemned) }
     {
         match self.cells.take_array(elements) {
             Ok(made) => {
@@ -268,8 +299,8 @@ impl Heap {
         self.cells.reference(slot)
     }
 
-    /// What the reference at a slot refers to, if there is a reference and it was not cleared. The collector asks so: it is no
-    /// giving of the referent, and does not keep it.
+    /// What the reference at a slot refers to, if there is a reference and it was not cleared. The collector asks so:
+    /// it is no giving of the referent, and does not keep it.
     pub fn referent(&self, slot: Slot) -> Option<Slot>
         ensures { result ≡ referent_in (at self.now.graph.objects slot) }
     {

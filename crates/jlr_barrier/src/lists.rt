@@ -1,4 +1,5 @@
-//! The pending list and the cleaner's line are linked through one column: what stands in them takes no memory of its own.
+//! The pending list and the cleaner's line are linked through one column: what stands in them takes no memory of its
+//! own.
 ghost use Rattle.std.specs.Prelude.{ℕ, ◌<◌, length};
 ghost use Rattle.jlr_machine.specs.Objects.{◌∈◌};
 ghost use Rattle.jlr_links.specs.Lists.{list_at};

@@ -1,5 +1,6 @@
 //! The mark set, as a collector uses it.
-ghost use Rattle.std.specs.Prelude.{◌≡◌, ◌↔◌, ℕ, IfSome, ◌+◌, ◌^◌, ◌<◌, ◌≤◌, [], IsTrue, Some, false, is_some, length, option_and_then, slice_get};
+ghost use Rattle.std.specs.Prelude.{◌≡◌, ◌↔◌, ℕ, IfSome, ◌+◌, ◌^◌, ◌<◌, ◌≤◌, [], IsTrue, Some, false, is_some, length};
+ghost use Rattle.std.specs.Prelude.{option_and_then, slice_get};
 ghost use Rattle.jlr_types.specs.declared.RefKind.TheVariants.{Soft};
 ghost use Rattle.jlr_machine.specs.Choices.{collecting, kept_by, pended_by};
 ghost use Rattle.jlr_machine.specs.Objects.{at, some_and, ◌∈◌};
@@ -29,13 +30,14 @@ impl Heap {
         self.marks.is_marked(slot)
     }
 
-    /// A marking begins: what the handles, the fences, the names, the pending list and the line hold, and the cleanables that are Armed or
-    /// Pending, is marked and grey, and nothing else.
+    /// A marking begins: what the handles, the fences, the names, the pending list and the line hold, and the
+    /// cleanables that are Armed or Pending, is marked and grey, and nothing else.
     pub fn open_marking(&mut self)
         requires { (x : ℕ) → x ∈ held self.old.graph → IsObject self.old.graph.objects x }
         ensures graph { self.new.graph ≡ self.old.graph }
         ensures clock { self.new.clock ≡ self.old.clock }
-        ensures shaded { Shaded (λ x. x ∈ held self.old.graph) (unmarked (length self.old.graph.objects)) self.new.marking }
+        ensures shaded { Shaded (λ x. x ∈ held self.old.graph) (unmarked (length self.old.graph.objects))
+            self.new.marking }
         ensures condemned { self.new.condemned ≡ self.old.condemned }
     {
         self.marks.reset();
@@ -46,7 +48,8 @@ impl Heap {
         shade_cleanables(&self.cells, &mut self.marks);
     }
 
-    /// Whether a slot is grey. Where none is, what is marked holds the roots, and with an object all that its strong edges lead to.
+    /// Whether a slot is grey. Where none is, what is marked holds the roots, and with an object all that its strong
+    /// edges lead to.
     pub fn has_grey(&self) -> bool
         ensures exact { result ≡ false ↔ (self.now.marking.grey ≡ []) }
         ensures whole { self.now.marking.grey ≡ [] → HoldsWhole self.now }
@@ -55,7 +58,8 @@ impl Heap {
         self.marks.has_grey()
     }
 
-    /// The grey slot that comes next, if there is one. It is marked, and an object. Fewer ticks were spent on it than it takes.
+    /// The grey slot that comes next, if there is one. It is marked, and an object. Fewer ticks were spent on it than
+    /// it takes.
     pub fn next_grey(&self) -> Option<Slot>
         ensures next { result ≡ upcoming self.now.marking }
         ensures there { IfSome result (λ slot. IsMarked self.now.marking slot × IsObject self.now.graph.objects slot) }
@@ -64,9 +68,10 @@ impl Heap {
         self.marks.next_grey()
     }
 
-    /// Follows a part of the strong edges of the object at the grey slot that comes next: one tick. Of an array a part are at most 64 elements, of any other
-    /// object all its edges. Where there is more to follow, it is grey again and comes next. Otherwise it is black, and discovered, if it refers to an
-    /// object that is not marked. No object takes more than 64 ticks. Answers whether it is a plain object with fields.
+    /// Follows a part of the strong edges of the object at the grey slot that comes next: one tick. Of an array a part
+    /// are at most 64 elements, of any other object all its edges. Where there is more to follow, it is grey again and
+    /// comes next. Otherwise it is black, and discovered, if it refers to an object that is not marked. No object takes
+    /// more than 64 ticks. Answers whether it is a plain object with fields.
     #[inline(always)]
     pub fn scan(&mut self, slot: Slot, meter: &mut Meter) -> bool
         requires next { upcoming self.old.marking ≡ Some slot }
@@ -84,13 +89,14 @@ impl Heap {
         scan_part(&self.cells, slot, meter, &mut self.marks)
     }
 
-    /// A collection that kept nothing so far keeps all that is marked, and all else is no more: its cells are condemned, beside those that were, and
-    /// as many are free as before. No cell is grey.
+    /// A collection that kept nothing so far keeps all that is marked, and all else is no more: its cells are
+    /// condemned, beside those that were, and as many are free as before. No cell is grey.
     pub fn keep_marked(&mut self, choice: &mut Choice)
         requires cells { length self.old.marking.bits ≤ choice.old.cells }
         requires none { kept_by choice.old ≡ [] }
         requires no_grey { self.old.marking.grey ≡ [] }
-        ensures graph { self.new.graph ≡ with_objects self.old.graph (shown self.old.marking.bits self.old.graph.objects) }
+        ensures graph { self.new.graph ≡ with_objects self.old.graph
+            (shown self.old.marking.bits self.old.graph.objects) }
         ensures clock { self.new.clock ≡ self.old.clock }
         ensures marking { self.new.marking ≡ self.old.marking }
         ensures free { in_use self.new ≡ in_use self.old }

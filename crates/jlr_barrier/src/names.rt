@@ -34,7 +34,8 @@ impl Heap {
     /// `AllocError` where the name is new and there is no memory for it. The heap stays as it is then.
     pub fn bind(&mut self, name: &Name, slot: Slot) -> Result<(), AllocError>
         requires held { IsInHand self.old slot }
-        ensures graph { OnOk result (self.new.graph ≡ with_names self.old.graph (bound self.old.graph.names name.now slot)) }
+        ensures graph { OnOk result (self.new.graph
+            ≡ with_names self.old.graph (bound self.old.graph.names name.now slot)) }
         ensures clock { self.new.clock ≡ self.old.clock }
         ensures marking { self.new.marking ≡ self.old.marking }
         ensures condemned { self.new.condemned ≡ self.old.condemned }

@@ -1,9 +1,11 @@
 //! The mutators, their handles, and their calls in flight with the fences of those calls.
-ghost use Rattle.std.specs.Prelude.{◌≡◌, ◌<◌, ℕ, Some, IfNone, IfOk, IfSome, IsTrue, None, is_some, length, option_and_then, option_map};
+ghost use Rattle.std.specs.Prelude.{◌≡◌, ◌<◌, ℕ, Some, IfNone, IfOk, IfSome, IsTrue, None, is_some, length};
+ghost use Rattle.std.specs.Prelude.{option_and_then, option_map};
 ghost use Rattle.jlr_machine.specs.declared.machine.Call.TheVariants.{Free};
 ghost use Rattle.jlr_machine.specs.Objects.{at, change_at, empty_at, set_at};
 ghost use Rattle.jlr_machine.specs.Calls.{fresh_session};
-ghost use Rattle.jlr_roots.specs.Sessions.{free_handle, has_call, has_free_handle, slot_held, with_call, with_slot, without_handle};
+ghost use Rattle.jlr_roots.specs.Sessions.{free_handle, has_call, has_free_handle, slot_held, with_call, with_slot};
+ghost use Rattle.jlr_roots.specs.Sessions.{without_handle};
 ghost use Rattle.jlr_marks.specs.Marking.{Shaded};
 ghost use Rattle.jlr_barrier.specs.Graphs.{fence_at, with_mutators};
 ghost use Rattle.jlr_barrier.specs.Snapshots.{IsInHand, IsObject};
@@ -34,7 +36,8 @@ impl Heap {
     pub fn join(&mut self, mutator: Mutator)
         requires in_range { mutator < length self.old.graph.mutators }
         requires absent { at self.old.graph.mutators mutator ≡ None }
-        ensures graph { self.new.graph ≡ with_mutators self.old.graph (set_at self.old.graph.mutators mutator fresh_session) }
+        ensures graph { self.new.graph ≡ with_mutators self.old.graph
+            (set_at self.old.graph.mutators mutator fresh_session) }
         ensures clock { self.new.clock ≡ self.old.clock }
         ensures marking { self.new.marking ≡ self.old.marking }
         ensures condemned { self.new.condemned ≡ self.old.condemned }
@@ -67,7 +70,8 @@ impl Heap {
         ensures room { is_some result ≡ has_free_handle self.old.graph.mutators mutator }
         ensures none { IfNone result (self.new.graph ≡ self.old.graph) }
         ensures lowest { IfSome result (λ handle. handle ≡ free_handle self.old.graph.mutators mutator) }
-        ensures held { IfSome result (λ handle. self.new.graph ≡ with_mutators self.old.graph (change_at self.old.graph.mutators mutator (with_slot handle slot))) }
+        ensures held { IfSome result (λ handle. self.new.graph
+            ≡ with_mutators self.old.graph (change_at self.old.graph.mutators mutator (with_slot handle slot))) }
         ensures clock { self.new.clock ≡ self.old.clock }
         ensures marking { self.new.marking ≡ self.old.marking }
         ensures condemned { self.new.condemned ≡ self.old.condemned }
@@ -78,7 +82,8 @@ impl Heap {
     /// A handle that is in use is in use no more.
     pub fn drop_handle(&mut self, mutator: Mutator, handle: Handle)
         requires { IsTrue (is_some (slot_held self.old.graph.mutators mutator handle)) }
-        ensures graph { self.new.graph ≡ with_mutators self.old.graph (change_at self.old.graph.mutators mutator (without_handle handle)) }
+        ensures graph { self.new.graph ≡ with_mutators self.old.graph
+            (change_at self.old.graph.mutators mutator (without_handle handle)) }
         ensures clock { self.new.clock ≡ self.old.clock }
         ensures marking { self.new.marking ≡ self.old.marking }
         ensures condemned { self.new.condemned ≡ self.old.condemned }
@@ -118,7 +123,8 @@ impl Heap {
     pub fn begin_call(&mut self, mutator: Mutator, fence: Option<Slot>, call: Call)
         requires joined { IsTrue (is_some (at self.old.graph.mutators mutator)) }
         requires held { (s : ℕ) → fence ≡ Some s → IsInHand self.old s }
-        ensures graph { self.new.graph ≡ with_mutators self.old.graph (change_at self.old.graph.mutators mutator (with_call fence call)) }
+        ensures graph { self.new.graph ≡ with_mutators self.old.graph
+            (change_at self.old.graph.mutators mutator (with_call fence call)) }
         ensures clock { self.new.clock ≡ self.old.clock }
         ensures marking { self.new.marking ≡ self.old.marking }
         ensures condemned { self.new.condemned ≡ self.old.condemned }
@@ -126,13 +132,17 @@ impl Heap {
         self.roots.begin_call(mutator, fence, call);
     }
 
-    /// A mutator's call ends, and its fence with it. What the fence held is shaded: who ends a call may hold on to it by a handle.
+    /// A mutator's call ends, and its fence with it. What the fence held is shaded: who ends a call may hold on to it
+    /// by a handle.
     pub fn end_call(&mut self, mutator: Mutator)
         requires joined { IsTrue (is_some (at self.old.graph.mutators mutator)) }
-        requires object { (s : ℕ) → fence_at self.old.graph.mutators mutator ≡ Some s → IsObject self.old.graph.objects s }
-        ensures graph { self.new.graph ≡ with_mutators self.old.graph (change_at self.old.graph.mutators mutator (with_call None Free)) }
+        requires object { (s : ℕ) → fence_at self.old.graph.mutators mutator ≡ Some s
+            → IsObject self.old.graph.objects s }
+        ensures graph { self.new.graph ≡ with_mutators self.old.graph
+            (change_at self.old.graph.mutators mutator (with_call None Free)) }
         ensures clock { self.new.clock ≡ self.old.clock }
-        ensures shaded { Shaded (λ s. fence_at self.old.graph.mutators mutator ≡ Some s) self.old.marking self.new.marking }
+        ensures shaded { Shaded (λ s. fence_at self.old.graph.mutators mutator ≡ Some s) self.old.marking
+            self.new.marking }
         ensures condemned { self.new.condemned ≡ self.old.condemned }
     {
         shade_target(self.roots.fence(mutator), &mut self.marks);

@@ -1,5 +1,6 @@
 //! Shading: what links, queues, roots, names and lists lead to is marked, and grey if it was not marked before.
-ghost use Rattle.std.specs.Prelude.{◌≡◌, ◌⊎◌, ℕ, ◌+◌, ◌-◌, ◌^◌, ◌<◌, ◌≤◌, ◌++◌, ◌∷◌, [], IsTrue, Some, cond, drop, false, is_some, length, option_and_then, take};
+ghost use Rattle.std.specs.Prelude.{◌≡◌, ◌⊎◌, ℕ, ◌+◌, ◌-◌, ◌^◌, ◌<◌, ◌≤◌, ◌++◌, ◌∷◌, [], IsTrue, Some, cond, drop};
+ghost use Rattle.std.specs.Prelude.{false, is_some, length, option_and_then, take};
 ghost use Rattle.jlr_machine.specs.Objects.{any_referent, at, queue_ahead, some_and, ◌∈◌};
 ghost use Rattle.jlr_machine.specs.Refusals.{is_record, is_reference};
 ghost use Rattle.jlr_machine.specs.Edges.{active_cleanables, edges_from, is_active, is_own_root};
@@ -85,15 +86,18 @@ fn shade_far(links: Option<&Links>, marks: &mut Marks)
     }
 }
 
-/// How many elements from a place on, at most `count`, refer to nothing or to what is marked, up to the first that does not; of the first
-/// `known` nothing is asked. It writes nothing: in a heap of arrays nearly all elements lead to what is marked.
+/// How many elements from a place on, at most `count`, refer to nothing or to what is marked, up to the first that does
+/// not; of the first `known` nothing is asked. It writes nothing: in a heap of arrays nearly all elements lead to what
+/// is marked.
 fn marked_run(elements: &Elements, from: usize, known: usize, count: usize, marks: &Marks) -> usize
     requires few { length elements.now ≤ 4096 }
     requires there { (known ≤ count) × (count ≤ length elements.now - from) }
     requires within { (x : ℕ) → x ∈ linked elements.now → x < length marks.now.bits }
     ensures few { (known ≤ result) × (result ≤ count) }
-    ensures more { (x : ℕ) → x ∈ linked (take known (drop from elements.now)) → x ∈ linked (take result (drop from elements.now)) }
-    ensures marked { (x : ℕ) → x ∈ linked (take result (drop from elements.now)) → (x ∈ linked (take known (drop from elements.now))) ⊎ IsMarked marks.now x }
+    ensures more { (x : ℕ) → x ∈ linked (take known (drop from elements.now))
+        → x ∈ linked (take result (drop from elements.now)) }
+    ensures marked { (x : ℕ) → x ∈ linked (take result (drop from elements.now))
+        → (x ∈ linked (take known (drop from elements.now))) ⊎ IsMarked marks.now x }
 {
     let mut run = known;
     while run < count {
@@ -121,7 +125,8 @@ fn shade_elements(elements: &Elements, from: usize, count: usize, marks: &mut Ma
     }
 }
 
-/// Shades what at most 64 elements of an array refer to, from a place on. Answers the place behind them, if there are more.
+/// Shades what at most 64 elements of an array refer to, from a place on. Answers the place behind them, if there are
+/// more.
 #[inline(never)]
 fn shade_part(elements: &Elements, from: u16, marks: &mut Marks) -> Option<u16>
     requires { (x : ℕ) → x ∈ linked elements.now → x < length marks.old.bits }
@@ -148,8 +153,8 @@ struct Found {
     next: Option<u16>,
 }
 
-/// Shades what a part of the strong edges of the object at a slot leads to, from a place on: one tick. Of an array these are at most 64 elements, of any
-/// other object all. No object takes more than 64 ticks.
+/// Shades what a part of the strong edges of the object at a slot leads to, from a place on: one tick. Of an array
+/// these are at most 64 elements, of any other object all. No object takes more than 64 ticks.
 #[inline(always)]
 fn follow(cells: &Objects, slot: Slot, from: u16, meter: &mut Meter, marks: &mut Marks) -> Found
     requires object { IsTrue (is_some (at cells.now.objects slot)) }
@@ -177,8 +182,9 @@ fn follow(cells: &Objects, slot: Slot, from: u16, meter: &mut Meter, marks: &mut
     }
 }
 
-/// Shades what a part of the strong edges of an object that is no plain one with fields leads to, from a place on, and answers from which place on
-/// an array has more. It stands apart from the following of plain objects with fields, which are nearly all that a heap holds.
+/// Shades what a part of the strong edges of an object that is no plain one with fields leads to, from a place on, and
+/// answers from which place on an array has more. It stands apart from the following of plain objects with fields,
+/// which are nearly all that a heap holds.
 #[inline(never)]
 fn follow_other(cells: &Objects, slot: Slot, from: u16, marks: &mut Marks) -> Option<u16>
     requires object { IsTrue (is_some (at cells.now.objects slot)) }
@@ -198,8 +204,9 @@ fn follow_other(cells: &Objects, slot: Slot, from: u16, marks: &mut Marks) -> Op
     }
 }
 
-/// Follows a part of the strong edges of the object at the grey slot that comes next: one tick. Where there is more to follow, it is grey again and comes
-/// next. Otherwise it is black, and discovered, if it refers to an object that is not marked. Answers whether it is a plain object with fields.
+/// Follows a part of the strong edges of the object at the grey slot that comes next: one tick. Where there is more to
+/// follow, it is grey again and comes next. Otherwise it is black, and discovered, if it refers to an object that is
+/// not marked. Answers whether it is a plain object with fields.
 #[inline(always)]
 pub(crate) fn scan_part(cells: &Objects, slot: Slot, meter: &mut Meter, marks: &mut Marks) -> bool
     requires next { upcoming marks.old ≡ Some slot }
@@ -223,7 +230,8 @@ pub(crate) fn scan_part(cells: &Objects, slot: Slot, meter: &mut Meter, marks: &
     found.plain
 }
 
-/// A reference or a cleanable at a slot is discovered, if what it refers to is not marked. Of a plain object with fields nothing is asked.
+/// A reference or a cleanable at a slot is discovered, if what it refers to is not marked. Of a plain object with
+/// fields nothing is asked.
 #[inline(always)]
 fn note(cells: &Objects, slot: Slot, plain: bool, marks: &mut Marks)
     requires kind { plain ≡ some_and is_record (at cells.now.objects slot) }
@@ -231,7 +239,8 @@ fn note(cells: &Objects, slot: Slot, plain: bool, marks: &mut Marks)
     requires within { (x : ℕ) → RefersTo cells.now.objects slot x → x < length marks.old.bits }
     ensures bits { marks.new.bits ≡ marks.old.bits }
     ensures grey { marks.new.grey ≡ marks.old.grey }
-    ensures discovered { marks.new.discovered ≡ marks.old.discovered ++ cond (some_and (awaits marks.old) (at cells.now.objects slot)) (slot ∷ []) [] }
+    ensures discovered { marks.new.discovered ≡ marks.old.discovered
+        ++ cond (some_and (awaits marks.old) (at cells.now.objects slot)) (slot ∷ []) [] }
     ensures part { marks.new.part ≡ marks.old.part }
 {
     if !plain {
@@ -239,8 +248,8 @@ fn note(cells: &Objects, slot: Slot, plain: bool, marks: &mut Marks)
     }
 }
 
-/// An object at a slot is discovered, if it refers to one that is not marked. It stands apart from the following of plain objects with
-/// fields, which are nearly all that a heap holds.
+/// An object at a slot is discovered, if it refers to one that is not marked. It stands apart from the following of
+/// plain objects with fields, which are nearly all that a heap holds.
 #[inline(never)]
 fn note_referent(cells: &Objects, slot: Slot, marks: &mut Marks)
     requires room { length marks.old.grey + length marks.old.discovered < marked marks.old }
@@ -259,7 +268,8 @@ fn note_referent(cells: &Objects, slot: Slot, marks: &mut Marks)
     }
 }
 
-/// What the reference or the cleanable at a slot refers to, if there is one and it was not cleared. It reads the cells of those alone.
+/// What the reference or the cleanable at a slot refers to, if there is one and it was not cleared. It reads the cells
+/// of those alone.
 fn any_referent(cells: &Objects, slot: Slot) -> Option<Slot>
     ensures { result ≡ option_and_then any_referent (at cells.now.objects slot) }
 {

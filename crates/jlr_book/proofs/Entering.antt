@@ -1,5 +1,6 @@
 -- An entry more, an end that is refused, and an open cycle that is given up.
-use Rattle.std.proofs.Common.{◌≡◌, ℕ, ◌+◌, ◌≤◌, Bool, true, false, cond, is_some, not, IsTrue, List, [], ◌∷◌, ◌++◌, length, Option, Some, None, refl, sym, ◌∙◌, ap, subst, arith, option_to_list, append-nil}
+use Rattle.std.proofs.Common.{◌≡◌, ℕ, ◌+◌, ◌≤◌, Bool, true, false, cond, is_some, not, IsTrue, List, [], ◌∷◌, ◌++◌, length, Option, Some}
+use Rattle.std.proofs.Common.{None, refl, sym, ◌∙◌, ap, subst, arith, option_to_list, append-nil}
 use Rattle.std.proofs.lemmas.Bool.{both_ways}
 use Rattle.jlr_types.specs.declared.Progress.{Progress}
 use Rattle.jlr_types.specs.declared.Refusal.{Refusal}
@@ -72,10 +73,14 @@ entered image m n entries seat (Some ask) (Some answer) chosen r w u e =
 entered image m n entries seat (Some ask) None chosen r w u e = absurd e
 entered image m n entries seat None (Some answer) chosen r w u e = absurd e
 entered image m n entries seat None None chosen r w u e =
-    let same : n ≡ m = e.1 in
-    (subst (Run image (entries ++ [])) (sym same) (subst (λ l. Run image l m) (sym (append-nil entries)) r), subst IsWellFormed (sym same) w, subst IsUpToDate (sym same) u)
+    let same : n ≡ m = e.1 in (
+      subst (Run image (entries ++ [])) (sym same) (subst (λ l. Run image l m) (sym (append-nil entries)) r),
+      subst IsWellFormed (sym same) w,
+      subst IsUpToDate (sym same) u,
+    )
 
-pub ends_more : {R : Type 0} (image : Machine) (entries : List Entry) (h k : Kept R) (seat : ℕ) (e : Event R) (reply : Reply R) (chosen : Chosen) (s : IsStep h e reply chosen k)
+pub ends_more : {R : Type 0} (image : Machine) (entries : List Entry) (h k : Kept R) (seat : ℕ) (e : Event R) (reply : Reply R)
+    (chosen : Chosen) (s : IsStep h e reply chosen k)
     → Ends image entries h → Ends image (entries ++ option_to_list (seated seat (ask_of e) (answer_in reply) chosen)) k
 ends_more image entries h k seat e reply chosen s ends =
     let x = s.entry ends.0 ends.2 in
@@ -86,13 +91,15 @@ ends_more image entries h k seat e reply chosen s ends =
 
 -- a step that is answered is a legal entry of the machine for which the core stands, and leads on
 module _ {R : Type 0} (h k : Kept R) (e : Event R) (answer : Answer) (resource : Option R) (chosen : Chosen) (asked : Ask) where
-  pub as_entered : (s : IsStep h e (Answered answer resource) chosen k) → ask_of e ≡ Some asked → (st : Stands h) → (n : Machine) × Enters st.0 (Some asked) (Some answer) chosen n × StandsIn k n
+  pub as_entered : (s : IsStep h e (Answered answer resource) chosen k) → ask_of e ≡ Some asked → (st : Stands h) → (n : Machine)
+      × Enters st.0 (Some asked) (Some answer) chosen n × StandsIn k n
   as_entered s is st =
       let x = s.entry st.0 st.1 in
       (x.0, subst (λ o. Enters st.0 o (Some answer) chosen x.0) is x.1, x.2)
 
 -- an ask is answered
-pub not_marked : {R : Type 0} (h k : Kept R) (e : Event R) (progress : Progress) (chosen : Chosen) (asked : Ask) → IsStep h e (Marked progress) chosen k → ask_of e ≡ Some asked → Stands h → ⊥
+pub not_marked : {R : Type 0} (h k : Kept R) (e : Event R) (progress : Progress) (chosen : Chosen) (asked : Ask)
+    → IsStep h e (Marked progress) chosen k → ask_of e ≡ Some asked → Stands h → ⊥
 not_marked h k e progress chosen asked s is st =
     let x = s.entry st.0 st.1 in
     absurd (subst (λ o. Enters st.0 o None chosen x.0) is x.1)
@@ -120,13 +127,16 @@ module _ {R : Type 0} (h k : Kept R) (e : Event R) (reply : Reply R) (chosen : C
   collected_none : may_collect h.machine (ask_of e) ≡ false → chosen.collected ≡ None
   collected_none may =
       let x = s.entry st.0 st.1 in
-      let same : may_collect h.machine (ask_of e) ≡ may_collect st.0 (ask_of e) = ap {A = Machine} {B = Bool} (λ m. may_collect m (ask_of e)) st.1.same in
+      let same : may_collect h.machine (ask_of e) ≡ may_collect st.0 (ask_of e) =
+      ap {A = Machine} {B = Bool} (λ m. may_collect m (ask_of e)) st.1.same in
       none_collected st.0 (ask_of e) (answer_in reply) chosen x.0 x.1 (sym same ∙ may)
 
   -- where it may not collect, the slots of new objects are all that is chosen
-  pub chosen_plainly : (fresh : List ℕ) → may_collect h.machine (ask_of e) ≡ false → fresh ≡ chosen.fresh → IsStep h e reply (choice_of None fresh) k
+  pub chosen_plainly : (fresh : List ℕ) → may_collect h.machine (ask_of e) ≡ false → fresh ≡ chosen.fresh
+      → IsStep h e reply (choice_of None fresh) k
   chosen_plainly fresh may same =
-      subst (λ c. IsStep h e reply c k) (ap {A = Option Collected} {B = Chosen} (λ o. choice_of o chosen.fresh) (collected_none may) ∙ ap {A = List ℕ} {B = Chosen} (λ l. choice_of None l) (sym same)) s
+      subst (λ c. IsStep h e reply c k) (ap {A = Option Collected} {B = Chosen} (λ o. choice_of o chosen.fresh) (collected_none may)
+      ∙ ap {A = List ℕ} {B = Chosen} (λ l. choice_of None l) (sym same)) s
 
 -- ---- Ends
 
@@ -150,23 +160,28 @@ none_fresh (ask.Finish by action outcome) slots is e = nothing_in slots e
 none_fresh a slots is e = absurd (both_ways false refl is)
 
 is_nothing : (chosen : Chosen) → chosen.collected ≡ None → chosen.fresh ≡ [] → chosen ≡ no_choice
-is_nothing chosen e f = ap {A = Option Collected} {B = Chosen} (λ o. choice_of o chosen.fresh) e ∙ ap {A = List ℕ} {B = Chosen} (λ l. choice_of None l) f
+is_nothing chosen e f = ap {A = Option Collected} {B = Chosen} (λ o. choice_of o chosen.fresh) e
+    ∙ ap {A = List ℕ} {B = Chosen} (λ l. choice_of None l) f
 
 -- no collection comes with what takes no cell and asks for none
-alone : (m : Machine) (ask : Ask) (collected : Option Collected) → ((c : Collected) → MayCollect m ask (Some c) → ⊥) → MayCollect m ask collected → collected ≡ None
+alone : (m : Machine) (ask : Ask) (collected : Option Collected) → ((c : Collected) → MayCollect m ask (Some c) → ⊥)
+    → MayCollect m ask collected → collected ≡ None
 alone m ask None never g = refl
 alone m ask (Some c) never g = absurd (never c g)
 
 -- an end chooses nothing
-pub end_chooses : (m : Machine) (ask : Ask) (answer : Answer) (chosen : Chosen) → is_end ask ≡ true → IsLegal m (entry_of ask answer chosen) → chosen ≡ no_choice
+pub end_chooses : (m : Machine) (ask : Ask) (answer : Answer) (chosen : Chosen) → is_end ask ≡ true → IsLegal m (entry_of ask answer chosen)
+    → chosen ≡ no_choice
 end_chooses m ask answer chosen is (carried_out c) =
-    is_nothing chosen (alone m ask chosen.collected (λ x g. end_collects m ask x is g) c.collection) (none_fresh ask chosen.fresh is c.fresh.count)
+    is_nothing chosen (alone m ask chosen.collected (λ x g. end_collects m ask x is g) c.collection)
+    (none_fresh ask chosen.fresh is c.fresh.count)
 end_chooses m ask answer chosen is (refused r) = r.nothing
 end_chooses m ask answer chosen is (heap_full r) = absurd (no_cells m ask is r.no_room)
 end_chooses m ask answer chosen is (out_of_memory r) = r.nothing
 
 -- an end that the core refuses leaves the machine
-pub refused_stays : {R : Type 0} (image : Machine) (entries : List Entry) (h k : Kept R) (e : Event R) (reply : Reply R) (chosen : Chosen) (asked : Ask) (by : Refusal) → IsStep h e reply chosen k
+pub refused_stays : {R : Type 0} (image : Machine) (entries : List Entry) (h k : Kept R) (e : Event R) (reply : Reply R) (chosen : Chosen)
+    (asked : Ask) (by : Refusal) → IsStep h e reply chosen k
     → ask_of e ≡ Some asked → is_end asked ≡ true → answer_in reply ≡ Some (Refused by) → Ends image entries h → Ends image entries k
 refused_stays image entries h k e reply chosen asked by s is end was ends =
     let m = ends.0 in
@@ -175,26 +190,31 @@ refused_stays image entries h k e reply chosen asked by s is end was ends =
     let enters : Enters m (Some asked) (Some (Refused by)) chosen x.0 = subst (λ o. Enters m (Some asked) o chosen x.0) was first in
     let none = end_chooses m asked (Refused by) chosen end enters.0 in
     let same : apply m (entry_of asked (Refused by) chosen) ≡ m =
-    ap {A = Chosen} {B = Machine} (λ c. apply m (entry_of asked (Refused by) c)) none ∙ ap {A = List ℕ} {B = Machine} (λ l. record m { seen = l }) (sym ends.4) in
+    ap {A = Chosen} {B = Machine} (λ c. apply m (entry_of asked (Refused by) c)) none
+    ∙ ap {A = List ℕ} {B = Machine} (λ l. record m { seen = l }) (sym ends.4) in
     (m, ends.1, subst (StandsIn k) (enters.1 ∙ same) x.2, ends.3, ends.4)
 
 -- ---- Lists
 
 -- what a core answers fits the room that was made for it
-pub list_fits : {R : Type 0} (h k : Kept R) (e : Event R) (answer : Answer) (resource : Option R) (chosen : Chosen) (asked : Ask) (room : Rooms) → IsStep h e (Answered answer resource) chosen k
+pub list_fits : {R : Type 0} (h k : Kept R) (e : Event R) (answer : Answer) (resource : Option R) (chosen : Chosen) (asked : Ask)
+    (room : Rooms) → IsStep h e (Answered answer resource) chosen k
     → ask_of e ≡ Some asked → Stands h → HasRoomFor asked room → Fits room answer
 list_fits h k e answer resource chosen asked room s is st r =
     let x = as_entered h k e answer resource chosen asked s is st in
     answers_fit st.0 (entry_of asked answer chosen) room st.2 x.1.0 r
 
 -- an ask is answered, and the answer fits the room that was made for it
-pub answered : {R : Type 0} (h k : Kept R) (e : Event R) (reply : Reply R) (chosen : Chosen) (asked : Ask) (room : Rooms) → IsStep h e reply chosen k
+pub answered : {R : Type 0} (h k : Kept R) (e : Event R) (reply : Reply R) (chosen : Chosen) (asked : Ask) (room : Rooms)
+    → IsStep h e reply chosen k
     → ask_of e ≡ Some asked → Stands h → HasRoomFor asked room → (answer : Answer) × (answer_in reply ≡ Some answer) × Fits room answer
-answered h k e (Answered answer resource) chosen asked room s is st r = (answer, refl, list_fits h k e answer resource chosen asked room s is st r)
+answered h k e (Answered answer resource) chosen asked room s is st r =
+    (answer, refl, list_fits h k e answer resource chosen asked room s is st r)
 answered h k e (Marked progress) chosen asked room s is st r = absurd (not_marked h k e progress chosen asked s is st)
 
 -- an end asks for no list, and room for what a call read was brought
-pub end_has_room : {X : Type 0} (asked : Ask) (brought : Option X) (room : Rooms) → is_end asked ≡ true → Brings brought (Some asked) → (is_some brought ≡ true → 1 ≤ room.bytes) → HasRoomFor asked room
+pub end_has_room : {X : Type 0} (asked : Ask) (brought : Option X) (room : Rooms) → is_end asked ≡ true → Brings brought (Some asked)
+    → (is_some brought ≡ true → 1 ≤ room.bytes) → HasRoomFor asked room
 end_has_room (ask.Leave k) brought room is brings holds = tt
 end_has_room (ask.Opened k outcome) brought room is brings holds = tt
 end_has_room (ask.CheckIn k (GotData bytes)) brought room is brings holds = holds brings
@@ -237,15 +257,18 @@ asked_end_has_room (ask.CheckIn k outcome) room plain is = absurd (both_ways tru
 asked_end_has_room a room plain is = absurd (both_ways false refl is)
 
 -- room of both kinds is there where room is
-pub brings_as : {X Y : Type 0} (room : Option X) (part : Option Y) (asked : Option Ask) → is_some part ≡ is_some room → Brings room asked → Brings part asked
+pub brings_as : {X Y : Type 0} (room : Option X) (part : Option Y) (asked : Option Ask) → is_some part ≡ is_some room → Brings room asked
+    → Brings part asked
 brings_as room part asked same brings = subst (λ b. cond (tells_data asked) b true ≡ true) (sym same) brings
 
 -- ---- A cycle that is given up
 
-pub abandon_answers : (m : Machine) (answer : Answer) (chosen : Chosen) → (answer ≡ Refused NoMemory → ⊥) → IsLegal m (entry_of ask.Abandon answer chosen) → (answer ≡ Truth m.cycle_open) × (chosen ≡ no_choice)
+pub abandon_answers : (m : Machine) (answer : Answer) (chosen : Chosen) → (answer ≡ Refused NoMemory → ⊥)
+    → IsLegal m (entry_of ask.Abandon answer chosen) → (answer ≡ Truth m.cycle_open) × (chosen ≡ no_choice)
 abandon_answers m answer chosen memory (carried_out c) =
     let none = alone m ask.Abandon chosen.collected (λ x g. no_need m g.0) c.collection in
-    let says : Answers (with_collection m None) ask.Abandon None answer = subst (λ o. Answers (with_collection m o) ask.Abandon o answer) none c.answers in
+    let says : Answers (with_collection m None) ask.Abandon None answer =
+    subst (λ o. Answers (with_collection m o) ask.Abandon o answer) none c.answers in
     (sym (some_same (Truth m.cycle_open) answer says), is_nothing chosen none (nothing_in chosen.fresh c.fresh.count))
 abandon_answers m answer chosen memory (refused r) = no_some r.by r.first
 abandon_answers m answer chosen memory (heap_full r) = absurd (no_need m r.no_room)
@@ -261,7 +284,8 @@ closed_collects m (Some (ask.Full k mode)) e = e
 closed_collects m (Some ask.Collect) e = refl
 closed_collects m (Some a) e = e
 
-pub abandons : {R : Type 0} (h k : Kept R) (reply : Reply R) (chosen : Chosen) → IsStep h (event.Ask ask.Abandon) reply chosen k → Stands h → h.machine.cycle_open ≡ true
+pub abandons : {R : Type 0} (h k : Kept R) (reply : Reply R) (chosen : Chosen) → IsStep h (event.Ask ask.Abandon) reply chosen k → Stands h
+    → h.machine.cycle_open ≡ true
     → (reply ≡ Answered (Truth true) None) × (k.machine ≡ closed h.machine) × Stands k
 abandons h k (Marked progress) chosen s st was = (let x = s.entry st.0 st.1 in absurd x.1)
 abandons {R} h k (Answered answer resource) chosen s st was =
@@ -272,8 +296,10 @@ abandons {R} h k (Answered answer resource) chosen s st was =
     let yes_said : answer ≡ Truth true = a.0 ∙ ap {A = Bool} {B = Answer} (λ b. Truth b) was_open in
     let goes : resource ≡ None = subst (λ q. GoesOut h.table None (Some q) resource) yes_said s.goes_out in
     let left : x.0 ≡ record m { cycle_open = false; seen = [] } =
-    x.1.1 ∙ ap {A = Answer} {B = Machine} (λ q. apply m (entry_of ask.Abandon q chosen)) yes_said ∙ ap {A = Chosen} {B = Machine} (λ c. apply m (entry_of ask.Abandon (Truth true) c)) a.1 in (
-      ap {A = Answer} {B = Reply R} (λ q. Answered q resource) yes_said ∙ ap {A = Option R} {B = Reply R} (λ r. Answered (Truth true) r) goes,
+    x.1.1 ∙ ap {A = Answer} {B = Machine} (λ q. apply m (entry_of ask.Abandon q chosen)) yes_said
+    ∙ ap {A = Chosen} {B = Machine} (λ c. apply m (entry_of ask.Abandon (Truth true) c)) a.1 in (
+      ap {A = Answer} {B = Reply R} (λ q. Answered q resource) yes_said
+          ∙ ap {A = Option R} {B = Reply R} (λ r. Answered (Truth true) r) goes,
       x.2.same ∙ ap {A = Machine} {B = Machine} (λ n. record n { seen = [] }) left ∙ sym (ap {A = Machine} {B = Machine} closed st.1.same),
       (x.0, x.2, subst IsWellFormed (sym x.1.1) (legal_kept m (entry_of ask.Abandon answer chosen) st.2 x.1.0)),
     )
@@ -293,20 +319,26 @@ stands_for_its_own h st shut =
 
 -- ---- What is written down
 
-pub writes : {R : Type 0} (h k : Kept R) (e : Event R) (answer noted : Answer) (resource : Option R) (asked : Ask) (chosen : Chosen) (entries entries' : List Entry) (seat : ℕ)
-    → IsStep h e (Answered answer resource) chosen k → ask_of e ≡ Some asked → entries' ≡ entries ++ entry_by seat asked noted chosen ∷ [] → noted ≡ answer
+pub writes : {R : Type 0} (h k : Kept R) (e : Event R) (answer noted : Answer) (resource : Option R) (asked : Ask) (chosen : Chosen)
+    (entries entries' : List Entry) (seat : ℕ)
+    → IsStep h e (Answered answer resource) chosen k → ask_of e ≡ Some asked → entries' ≡ entries ++ entry_by seat asked noted chosen ∷ []
+    → noted ≡ answer
     → Writes seat h entries e (Answered answer resource) k entries'
 writes h k e answer noted resource asked chosen entries entries' seat s is more same_answer =
-    let same : entry_by seat asked noted chosen ≡ entry_by seat asked answer chosen = ap {A = Answer} {B = Entry} (λ a. entry_by seat asked a chosen) same_answer in
+    let same : entry_by seat asked noted chosen ≡ entry_by seat asked answer chosen =
+    ap {A = Answer} {B = Entry} (λ a. entry_by seat asked a chosen) same_answer in
     record {
       chosen = chosen;
       step = s;
-      adds = subst (λ o. entries' ≡ entries ++ option_to_list (seated seat o (Some answer) chosen)) (sym is) (more ∙ ap {A = Entry} {B = List Entry} (λ x. entries ++ x ∷ []) same);
+      adds = subst (λ o. entries' ≡ entries ++ option_to_list (seated seat o (Some answer) chosen)) (sym is)
+          (more ∙ ap {A = Entry} {B = List Entry} (λ x. entries ++ x ∷ []) same);
     }
 
 -- the same where the answer that was noted is known to be the reply's
-pub writes_noted : {R : Type 0} (h k : Kept R) (e : Event R) (reply : Reply R) (noted : Answer) (asked : Ask) (chosen : Chosen) (entries entries' : List Entry) (seat : ℕ)
-    → IsStep h e reply chosen k → ask_of e ≡ Some asked → answer_in reply ≡ Some noted → entries' ≡ entries ++ entry_by seat asked noted chosen ∷ []
+pub writes_noted : {R : Type 0} (h k : Kept R) (e : Event R) (reply : Reply R) (noted : Answer) (asked : Ask) (chosen : Chosen)
+    (entries entries' : List Entry) (seat : ℕ)
+    → IsStep h e reply chosen k → ask_of e ≡ Some asked → answer_in reply ≡ Some noted → entries' ≡ entries
+    ++ entry_by seat asked noted chosen ∷ []
     → Writes seat h entries e reply k entries'
 writes_noted h k e reply noted asked chosen entries entries' seat s is said more = record {
   chosen = chosen;
@@ -317,7 +349,8 @@ writes_noted h k e reply noted asked chosen entries entries' seat s is said more
 }
 
 -- an end that is answered chose nothing
-pub end_chose : {R : Type 0} (h k : Kept R) (e : Event R) (answer : Answer) (resource : Option R) (asked : Ask) (chosen : Chosen) → IsStep h e (Answered answer resource) chosen k
+pub end_chose : {R : Type 0} (h k : Kept R) (e : Event R) (answer : Answer) (resource : Option R) (asked : Ask) (chosen : Chosen)
+    → IsStep h e (Answered answer resource) chosen k
     → ask_of e ≡ Some asked → is_end asked ≡ true → Stands h → no_choice ≡ chosen
 end_chose h k e answer resource asked chosen s is end st =
     let x = as_entered h k e answer resource chosen asked s is st in
@@ -330,14 +363,17 @@ pub stands_there : {R : Type 0} (image : Machine) (entries : List Entry) (core :
 stands_there image entries core ends = (ends.0, ends.2, ends.3)
 
 -- an end that is not refused was owed, whatever the reply
-pub owed_less_by : {R : Type 0} (h k : Kept R) (e : Event R) (reply : Reply R) (chosen : Chosen) (asked : Ask) → IsStep h e reply chosen k → ask_of e ≡ Some asked → is_end asked ≡ true
+pub owed_less_by : {R : Type 0} (h k : Kept R) (e : Event R) (reply : Reply R) (chosen : Chosen) (asked : Ask) → IsStep h e reply chosen k
+    → ask_of e ≡ Some asked → is_end asked ≡ true
     → ((by : Refusal) → answer_in reply ≡ Some (Refused by) → ⊥) → Stands h → owed k.machine + 1 ≤ owed h.machine
 owed_less_by h k e (Marked progress) chosen asked s is end kept st = absurd (not_marked h k e progress chosen asked s is st)
 owed_less_by h k e (Answered answer resource) chosen asked s is end kept st =
     let m = st.0 in
     let x = as_entered h k e answer resource chosen asked s is st in
-    let less = end_lowers m (entry_of asked answer chosen) st.2 x.1.0 end (λ by f. kept by (ap {A = Answer} {B = Option Answer} (λ a. Some a) f)) in
-    let new : owed k.machine ≡ owed (apply m (entry_of asked answer chosen)) = ap {A = Machine} {B = ℕ} owed x.2.same ∙ ap {A = Machine} {B = ℕ} owed x.1.1 in
+    let less = end_lowers m (entry_of asked answer chosen) st.2 x.1.0 end
+    (λ by f. kept by (ap {A = Answer} {B = Option Answer} (λ a. Some a) f)) in
+    let new : owed k.machine ≡ owed (apply m (entry_of asked answer chosen)) = ap {A = Machine} {B = ℕ} owed x.2.same
+    ∙ ap {A = Machine} {B = ℕ} owed x.1.1 in
     let old : owed h.machine ≡ owed m = ap {A = Machine} {B = ℕ} owed st.1.same in
     omega (arith, less, new, old)
 

@@ -1,5 +1,6 @@
 -- What a book answers fits the room that was made for it.
-use Rattle.std.proofs.Common.{◌≡◌, ℕ, ◌≤◌, Bool, true, false, nat_lt, List, ◌++◌, length, length-append, inl, inr, Option, Some, None, sym, ap, subst, arith}
+use Rattle.std.proofs.Common.{◌≡◌, ℕ, ◌≤◌, Bool, true, false, nat_lt, List, ◌++◌, length, length-append, inl, inr, Option, Some, None, sym}
+use Rattle.std.proofs.Common.{ap, subst, arith}
 use Rattle.jlr_types.specs.declared.Refusal.{Refusal}
 use Rattle.jlr_machine.specs.declared.ask.Ask.{Ask}
 use Rattle.jlr_machine.specs.declared.ask.Ask.TheVariants.{Abandon}
@@ -34,13 +35,16 @@ module _ {R : Type 0} (h : History R) (is : IsHistory h) where
 
   pub ready_stands : (ready : History R) → Readies h ready → Stands ready.core
   ready_stands ready r =
-      elim (nat_lt (length h.entries) h.limits.trace) as (λ b. elim b as (λ _. Type 0) [ true ↦ ready ≡ h | false ↦ Cuts h ready ] → Stands ready.core) [
+      elim (nat_lt (length h.entries) h.limits.trace) as (λ b. elim b as (λ _. Type 0) [ true ↦ ready ≡ h | false ↦ Cuts h ready ]
+      → Stands ready.core) [
         | true ↦ λ same. subst Stands (sym (ap {A = History R} {B = Kept R} (λ x. x.core) same)) stands_here
         | false ↦ λ cut. given_up h.core.machine.cycle_open ready.core cut.gives_up
       ] r
 
-  module _ (new : History R) (seat : ℕ) (e : Event R) (asked : Ask) (answer : Answer) (resource : Option R) (room : Rooms) (asks : ask_of e ≡ Some asked) (has : HasRoomFor asked room) where
-    by_a_step : (core core' : Kept R) (chosen : Chosen) → Stands core → IsStep core e (Answered answer resource) chosen core' → Fits room answer
+  module _ (new : History R) (seat : ℕ) (e : Event R) (asked : Ask) (answer : Answer) (resource : Option R) (room : Rooms)
+      (asks : ask_of e ≡ Some asked) (has : HasRoomFor asked room) where
+    by_a_step : (core core' : Kept R) (chosen : Chosen) → Stands core → IsStep core e (Answered answer resource) chosen core'
+        → Fits room answer
     by_a_step core core' chosen st s = list_fits core core' e answer resource chosen asked room s asks st has
 
     said : (by : Refusal) (other : Option R) → Answered answer resource ≡ Answered (Refused by) other → Fits room answer
@@ -56,7 +60,11 @@ module _ {R : Type 0} (h : History R) (is : IsHistory h) where
 
     pub reply_fits : BookSteps seat h e (Answered answer resource) new → Fits room answer
     reply_fits s =
-        elim (is_end asked) as (λ b. elim b as (λ _. Type 0) [ true ↦ EndsBy seat h e (Answered answer resource) new | false ↦ AsksBy seat h e (Answered answer resource) new ] → Fits room answer) [
+        elim (is_end asked) as (λ b. elim b as (λ _. Type 0) [
+          | true ↦ EndsBy seat h e (Answered answer resource) new
+          | false ↦
+              AsksBy seat h e (Answered answer resource) new
+        ] → Fits room answer) [
           | true ↦ by_an_end
           | false ↦ by_an_ask
         ] (subst (λ o. StepsBy seat o h e (Answered answer resource) new) asks s)
@@ -64,7 +72,8 @@ module _ {R : Type 0} (h : History R) (is : IsHistory h) where
 -- ---- The number of the last entry never falls
 
 longer : (xs ys zs : List Entry) → ys ≡ xs ++ zs → length xs ≤ length ys
-longer xs ys zs e = let whole : length ys ≡ length (xs ++ zs) = ap {A = List Entry} {B = ℕ} length e in let parts = length-append xs zs in omega (arith, whole, parts)
+longer xs ys zs e = let whole : length ys ≡ length (xs ++ zs) = ap {A = List Entry} {B = ℕ} length e in let parts = length-append xs zs in
+    omega (arith, whole, parts)
 
 module _ {R : Type 0} (h new : History R) (seat : ℕ) (e : Event R) (reply : Reply R) where
   by_entering : (ready : History R) → last h ≤ last ready → Enters seat ready e reply new → last h ≤ last new
@@ -76,9 +85,11 @@ module _ {R : Type 0} (h new : History R) (seat : ℕ) (e : Event R) (reply : Re
 
   by_readying : (ready : History R) → Readies h ready → last h ≤ last ready
   by_readying ready r =
-      elim (nat_lt (length h.entries) h.limits.trace) as (λ b. elim b as (λ _. Type 0) [ true ↦ ready ≡ h | false ↦ Cuts h ready ] → last h ≤ last ready) [
+      elim (nat_lt (length h.entries) h.limits.trace) as (λ b. elim b as (λ _. Type 0) [ true ↦ ready ≡ h | false ↦ Cuts h ready ]
+      → last h ≤ last ready) [
         | true ↦ λ same. (let is : last ready ≡ last h = ap {A = History R} {B = ℕ} last same in omega (arith, is))
-        | false ↦ λ cut. (let none : length ready.entries ≡ 0 = ap {A = List Entry} {B = ℕ} length cut.entries in let base = cut.base in omega (arith, base, none))
+        | false ↦ λ cut. (let none : length ready.entries ≡ 0 = ap {A = List Entry} {B = ℕ} length cut.entries in let base = cut.base in
+            omega (arith, base, none))
       ] r
 
   by_end : EndsBy seat h e reply new → last h ≤ last new
@@ -92,7 +103,8 @@ module _ {R : Type 0} (h new : History R) (seat : ℕ) (e : Event R) (reply : Re
   by_event : (asked : Option Ask) → StepsBy seat asked h e reply new → last h ≤ last new
   by_event None x = by_entering h (omega arith) x
   by_event (Some ask) x =
-      elim (is_end ask) as (λ b. elim b as (λ _. Type 0) [ true ↦ EndsBy seat h e reply new | false ↦ AsksBy seat h e reply new ] → last h ≤ last new) [ true ↦ by_end | false ↦ by_ask ] x
+      elim (is_end ask) as (λ b. elim b as (λ _. Type 0) [ true ↦ EndsBy seat h e reply new | false ↦ AsksBy seat h e reply new ]
+      → last h ≤ last new) [ true ↦ by_end | false ↦ by_ask ] x
 
   pub last_grows : BookSteps seat h e reply new → last h ≤ last new
   last_grows x = by_event (ask_of e) x

@@ -3,7 +3,8 @@ use Rattle.std.specs.Prelude.{◌≡◌, Bool, true, false, not, [], vec_capacit
 use Rattle.jlr_machine.specs.declared.ask.Ask.{Ask}
 use Rattle.jlr_machine.specs.declared.ask.Ask.TheVariants as ask
 use Rattle.jlr_machine.specs.declared.ask.Answer.{Answer}
-use Rattle.jlr_machine.specs.declared.ask.Answer.TheVariants.{Names as NamesAre, Notes as NotesAre, Faults as FaultsAre, Data}
+use Rattle.jlr_machine.specs.declared.ask.Answer.TheVariants.{Names as NamesAre, Notes as NotesAre, Faults as FaultsAre}
+use Rattle.jlr_machine.specs.declared.ask.Answer.TheVariants.{Data}
 use Rattle.jlr_machine.specs.Refusals.{is_end}
 use Rattle.jlr_event.specs.declared.event.Event.{Event}
 use Rattle.jlr_event.specs.declared.event.Event.TheVariants.{Ask as Asks}
@@ -30,8 +31,8 @@ IsVacant (Notes room) = room.items ≡ []
 IsVacant (Faults room) = room.items ≡ []
 IsVacant (Bytes room) = Unit {0}
 
--- the entry of this ask takes its place alone, where nothing is collected, and no file or socket goes in or out: it is no end, and asks
--- for no list and no resource
+-- the entry of this ask takes its place alone, where nothing is collected, and no file or socket goes in or out: it is
+-- no end, and asks for no list and no resource
 abbrev pub is_brief : Ask → Bool
 is_brief (ask.Names k) = false
 is_brief (ask.Notes k) = false

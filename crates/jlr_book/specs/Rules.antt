@@ -1,5 +1,6 @@
 -- What the calls of a book do.
-use Rattle.std.specs.Prelude.{◌≡◌, ◌⊎◌, ◌≤◌, ◌+◌, ◌^◌, ℕ, Bool, true, false, cond, [], ◌++◌, Option, Some, None, length, nat_lt}
+use Rattle.std.specs.Prelude.{◌≡◌, ◌⊎◌, ◌≤◌, ◌+◌, ◌^◌, ℕ, Bool, true, false, cond, [], ◌++◌, Option, Some, None, length}
+use Rattle.std.specs.Prelude.{nat_lt}
 use Rattle.std.specs.Option.{option_to_list}
 use Rattle.jlr_types.specs.declared.Progress.{Progress}
 use Rattle.jlr_types.specs.declared.Refusal.{Refusal}
@@ -25,7 +26,8 @@ abbrev pub GivesUp : {R : Type 0} → Bool → Kept R → Kept R → Type 0
 GivesUp true core new = Steps core (Asks Abandon) (Answered (Truth true) None) new
 GivesUp false core new = new ≡ core
 
--- The core's machine becomes the image, with no cycle open. The entries are let go, and with them the one that gave up an open cycle.
+-- The core's machine becomes the image, with no cycle open. The entries are let go, and with them the one that gave up
+-- an open cycle.
 pub record Cuts {R : Type 0} (old new : History R) : Type 0 where
   pub base : new.base ≡ last old + cond old.core.machine.cycle_open 1 0
   pub image : new.image ≡ record old.core.machine { cycle_open = false }
@@ -40,10 +42,15 @@ Readies old ready = elim (nat_lt (length old.entries) old.limits.trace) [ true �
 -- ---- A step
 
 -- A step of the core, which is one entry more, of this seat; a piece of marking is none.
-pub record Enters {R : Type 0} (seat : ℕ) (old : History R) (event : Event R) (reply : Reply R) (new : History R) : Type 0 where
+pub record Enters {R : Type 0} (seat : ℕ) (old : History R) (event : Event R) (reply : Reply R) (new : History R) : Type
+    0 where
   pub chosen : Chosen
   pub step : IsStep old.core event reply chosen new.core
-  pub adds : new ≡ record old { entries = old.entries ++ option_to_list (seated seat (ask_of event) (answer_in reply) chosen); core = new.core }
+  pub adds : new ≡ record old {
+    entries = old.entries
+        ++ option_to_list (seated seat (ask_of event) (answer_in reply) chosen);
+    core = new.core;
+  }
 
 -- An end that the core refuses is no entry.
 pub record TurnsAway {R : Type 0} (old : History R) (event : Event R) (reply : Reply R) (new : History R) : Type 0 where
@@ -53,24 +60,27 @@ pub record TurnsAway {R : Type 0} (old : History R) (event : Event R) (reply : R
   pub stays : new ≡ record old { core = new.core }
 
 -- Perhaps after a cut, one entry more.
-pub record EntersReady {R : Type 0} (seat : ℕ) (old : History R) (event : Event R) (reply : Reply R) (new : History R) : Type 0 where
+pub record EntersReady {R : Type 0} (seat : ℕ) (old : History R) (event : Event R) (reply : Reply R)
+    (new : History R) : Type 0 where
   pub numbers : HasNumbers old
   pub ready : History R
   pub readies : Readies old ready
   pub enters : Enters seat ready event reply new
 
--- The book refuses by itself, and the core is not asked: just where fewer than 1,024 numbers are left, or else since there is no memory
--- for a place or an image.
+-- The book refuses by itself, and the core is not asked: just where fewer than 1,024 numbers are left, or else since
+-- there is no memory for a place or an image.
 pub record Declines {R : Type 0} (old : History R) (event : Event R) (reply : Reply R) (new : History R) : Type 0 where
   pub same : new ≡ old
-  pub why : (HasNumbers old × (reply ≡ Answered (Refused NoMemory) (resource_of_event event))) ⊎ ((2 ^ 64 ≤ last old + 1024) × (reply ≡ Answered (Refused Exhausted) (resource_of_event event)))
+  pub why : (HasNumbers old × (reply ≡ Answered (Refused NoMemory) (resource_of_event event)))
+      ⊎ ((2 ^ 64 ≤ last old + 1024) × (reply ≡ Answered (Refused Exhausted) (resource_of_event event)))
 
 abbrev pub was_refused : {R : Type 0} → Reply R → Type 0
 was_refused reply = (by : Refusal) × (answer_in reply ≡ Some (Refused by))
 
 -- an end: an entry, or turned away just where the core refuses it
 abbrev pub EndsBy : {R : Type 0} → ℕ → History R → Event R → Reply R → History R → Type 0
-EndsBy seat old event reply new = (Enters seat old event reply new × ¬ (was_refused reply)) ⊎ TurnsAway old event reply new
+EndsBy seat old event reply new = (Enters seat old event reply new × ¬ (was_refused reply))
+    ⊎ TurnsAway old event reply new
 
 -- any other ask
 abbrev pub AsksBy : {R : Type 0} → ℕ → History R → Event R → Reply R → History R → Type 0
@@ -79,7 +89,8 @@ AsksBy seat old event reply new = EntersReady seat old event reply new ⊎ Decli
 -- a piece of marking is a step without an entry
 abbrev pub StepsBy : {R : Type 0} → ℕ → Option Ask → History R → Event R → Reply R → History R → Type 0
 StepsBy seat None old event reply new = Enters seat old event reply new
-StepsBy seat (Some ask) old event reply new = elim (is_end ask) [ true ↦ EndsBy seat old event reply new | false ↦ AsksBy seat old event reply new ]
+StepsBy seat (Some ask) old event reply new =
+    elim (is_end ask) [ true ↦ EndsBy seat old event reply new | false ↦ AsksBy seat old event reply new ]
 
 abbrev pub BookSteps : {R : Type 0} → ℕ → History R → Event R → Reply R → History R → Type 0
 BookSteps seat old event reply new = StepsBy seat (ask_of event) old event reply new

@@ -20,13 +20,15 @@ abbrev pub Stands : {R : Type 0} → Kept R → Type 0
 Stands core = (m : Machine) × StandsIn core m × IsWellFormed m
 
 -- a step of the core, and its entry behind the others
-pub record Writes {R : Type 0} (seat : ℕ) (old : Kept R) (entries : List Entry) (event : Event R) (reply : Reply R) (new : Kept R) (entries' : List Entry) : Type 0 where
+pub record Writes {R : Type 0} (seat : ℕ) (old : Kept R) (entries : List Entry) (event : Event R) (reply : Reply R)
+    (new : Kept R) (entries' : List Entry) : Type 0 where
   pub chosen : Chosen
   pub step : IsStep old event reply chosen new
   pub adds : entries' ≡ entries ++ option_to_list (seated seat (ask_of event) (answer_in reply) chosen)
 
 -- a step of the core that refused an end, and no entry
-pub record Refuses {R : Type 0} (old : Kept R) (entries : List Entry) (event : Event R) (reply : Reply R) (new : Kept R) (entries' : List Entry) : Type 0 where
+pub record Refuses {R : Type 0} (old : Kept R) (entries : List Entry) (event : Event R) (reply : Reply R) (new : Kept R)
+    (entries' : List Entry) : Type 0 where
   pub steps : Steps old event reply new
   pub by : Refusal
   pub refused : answer_in reply ≡ Some (Refused by)
@@ -35,7 +37,8 @@ pub record Refuses {R : Type 0} (old : Kept R) (entries : List Entry) (event : E
 -- an end: one of the two, as its answer says
 abbrev pub WritesEnd : {R : Type 0} → ℕ → Kept R → List Entry → Event R → Reply R → Kept R → List Entry → Type 0
 WritesEnd seat old entries event reply new entries' =
-    (Writes seat old entries event reply new entries' × ((by : Refusal) → answer_in reply ≢ Some (Refused by))) ⊎ Refuses old entries event reply new entries'
+    (Writes seat old entries event reply new entries' × ((by : Refusal) → answer_in reply ≢ Some (Refused by)))
+    ⊎ Refuses old entries event reply new entries'
 
 -- a piece of marking: a step of the core alone
 pub record Pieces {R : Type 0} (old : History R) (event : Event R) (reply : Reply R) (new : History R) : Type 0 where

@@ -1,5 +1,6 @@
 //! The book: the core, and the history that led to it.
-ghost use Rattle.std.specs.Prelude.{◌≡◌, ◌⊎◌, ◌≤◌, ◌<◌, ◌+◌, ◌^◌, ◌↔◌, true, false, [], IfOk, IsErr, IsTrue, MatchBool, MatchOption, OnOk, OnErr, None, Some, vec_len, vec_capacity};
+ghost use Rattle.std.specs.Prelude.{◌≡◌, ◌⊎◌, ◌≤◌, ◌<◌, ◌+◌, ◌^◌, ◌↔◌, true, false, [], IfOk, IsErr, IsTrue, MatchBool};
+ghost use Rattle.std.specs.Prelude.{MatchOption, OnOk, OnErr, None, Some, vec_len, vec_capacity};
 ghost use Rattle.jlr_machine.specs.Data.{Brings};
 ghost use Rattle.jlr_machine.specs.Refusals.{is_end, refusal};
 ghost use Rattle.jlr_event.specs.Asks.{hands_in};
@@ -37,7 +38,8 @@ const SPARE_NUMBERS: u64 = 1_024;
 /// The places that an entry asks for: its own, and one for each end that may be owed then.
 const PLACES: usize = 130;
 
-/// A core with its history. Contracts see what it tells: a machine, the entries since, and the core that stands where they end.
+/// A core with its history. Contracts see what it tells: a machine, the entries since, and the core that stands where
+/// they end.
 #[derive(Drop)]
 pub struct Book<R> {
     alloc: Global,
@@ -88,8 +90,8 @@ impl<R: Drop> Book<R> {
         })
     }
 
-    /// What is true of each book, for callers: the entries are a run from the image, which is a well-formed machine with no open cycle and at
-    /// base 0 the empty one; and the core stands for the machine where they end.
+    /// What is true of each book, for callers: the entries are a run from the image, which is a well-formed machine
+    /// with no open cycle and at base 0 the empty one; and the core stands for the machine where they end.
     pub fn is_history(&self)
         ensures { IsHistory self.now }
     {
@@ -167,7 +169,8 @@ impl<R: Drop> Book<R> {
         self.core.cycle_open()
     }
 
-    /// Whether a cycle is to begin: none is open, and of the cells a quarter or more was taken since a collection finished last.
+    /// Whether a cycle is to begin: none is open, and of the cells a quarter or more was taken since a collection
+    /// finished last.
     pub fn marker_due(&self) -> bool
         ensures { IsTrue result ↔ IsDue self.now }
     {
@@ -177,10 +180,11 @@ impl<R: Drop> Book<R> {
 }
 
 impl<R: Drop> Book<R> {
-    /// One event of a seat. An ask that is no end is exactly one entry, perhaps after a cut, or the book refuses it and nothing has changed:
-    /// with `Exhausted` just where fewer than 1,024 numbers are left, with `NoMemory` where a place or an image cannot be had. An end is
-    /// one entry, and finds its place always; where the core refuses it, it is none. A piece of marking is none. With the end of a call
-    /// that read comes the room in which its entry tells what was read: whoever asks it makes that room before the call.
+    /// One event of a seat. An ask that is no end is exactly one entry, perhaps after a cut, or the book refuses it and
+    /// nothing has changed: with `Exhausted` just where fewer than 1,024 numbers are left, with `NoMemory` where a
+    /// place or an image cannot be had. An end is one entry, and finds its place always; where the core refuses it, it
+    /// is none. A piece of marking is none. With the end of a call that read comes the room in which its entry tells
+    /// what was read: whoever asks it makes that room before the call.
     pub fn step(&mut self, seat: u8, event: Event<R>, room: Option<CopyRoom>) -> Reply<R>
         requires { Brings room (ask_of event) }
         ensures { BookSteps seat self.old event result self.new }
@@ -230,8 +234,8 @@ impl<R: Drop> Book<R> {
         self.step_at_length(seat, ask)
     }
 
-    /// The same for any ask that hands in no resource: the room of its entry is made first, and the trace is cut where it is as long as it
-    /// may be.
+    /// The same for any ask that hands in no resource: the room of its entry is made first, and the trace is cut where
+    /// it is as long as it may be.
     #[inline(never)]
     fn step_at_length(&mut self, seat: u8, ask: Ask) -> Reply<R>
         requires plain { hands_in ask ≡ false }
@@ -264,10 +268,12 @@ impl<R: Drop> Book<R> {
         self.core.mark(budget)
     }
 
-    /// The core's machine becomes the image, and the trace is let go. An open cycle is given up before, which takes a number.
+    /// The core's machine becomes the image, and the trace is let go. An open cycle is given up before, which takes a
+    /// number.
     ///
     /// # Errors
-    /// `AllocError` where there is no memory for the image, and where fewer than 1,024 numbers are left. Nothing has changed then.
+    /// `AllocError` where there is no memory for the image, and where fewer than 1,024 numbers are left. Nothing has
+    /// changed then.
     pub fn cut(&mut self) -> Result<(), AllocError>
         ensures few { 2 ^ 64 ≤ last self.old + 1024 → IsErr result }
         ensures ok { OnOk result (Cuts self.old self.new) }
@@ -291,7 +297,8 @@ impl<R: Drop> Book<R> {
 }
 
 impl<R: Drop> Book<R> {
-    /// Why an ask that is no end is declined for which there is no memory: for that, unless fewer than 1,024 numbers are left.
+    /// Why an ask that is no end is declined for which there is no memory: for that, unless fewer than 1,024 numbers
+    /// are left.
     pub fn wanting(&self) -> Refusal
         ensures { (HasNumbers self.now × (result ≡ Refusal.NoMemory))
             ⊎ ((2 ^ 64 ≤ last self.now + 1024) × (result ≡ Refusal.Exhausted)) }
@@ -310,11 +317,12 @@ impl<R: Drop> Book<R> {
         u64::MAX - self.last() >= SPARE_NUMBERS
     }
 
-    /// A step of the handler, if its entry finds its place and nothing has to be cut: what `step` does for `HandOver` then. Else
-    /// nothing is done.
+    /// A step of the handler, if its entry finds its place and nothing has to be cut: what `step` does for `HandOver`
+    /// then. Else nothing is done.
     pub fn hand_over_briefly(&mut self, seat: u8) -> Option<Handed>
         ensures { MatchOption result (self.new ≡ self.old)
-            (λ handed. BookSteps seat self.old (Event.Ask Ask.HandOver) (Reply.Answered (Answer.Handed handed) None) self.new) }
+            (λ handed. BookSteps seat self.old (Event.Ask Ask.HandOver) (Reply.Answered (Answer.Handed handed) None)
+            self.new) }
     {
         if self.image.is_behind() {
             self.follow_some();
@@ -326,7 +334,8 @@ impl<R: Drop> Book<R> {
     #[inline(always)]
     fn hand_over_on(&mut self, seat: u8) -> Option<Handed>
         ensures { MatchOption result (self.new ≡ self.old)
-            (λ handed. BookSteps seat self.old (Event.Ask Ask.HandOver) (Reply.Answered (Answer.Handed handed) None) self.new) }
+            (λ handed. BookSteps seat self.old (Event.Ask Ask.HandOver) (Reply.Answered (Answer.Handed handed) None)
+            self.new) }
     {
         if !self.has_numbers() || !has_places(&self.trace, self.limits.trace) {
             return None;
@@ -344,11 +353,12 @@ impl<R: Drop> Book<R> {
         Some(handed)
     }
 
-    /// A step of the cleaner, if its entry finds its place and nothing has to be cut: what `step` does for `TakeUp` then. Else nothing
-    /// is done.
+    /// A step of the cleaner, if its entry finds its place and nothing has to be cut: what `step` does for `TakeUp`
+    /// then. Else nothing is done.
     pub fn take_up_briefly(&mut self, seat: u8) -> Option<Result<Option<Job<R>>, Refusal>>
         ensures { MatchOption result (self.new ≡ self.old)
-            (λ taken. BookSteps seat self.old (Event.Ask Ask.TakeUp) (Reply.Answered (take_up_answered taken) (handed_out taken)) self.new) }
+            (λ taken. BookSteps seat self.old (Event.Ask Ask.TakeUp)
+            (Reply.Answered (take_up_answered taken) (handed_out taken)) self.new) }
     {
         if self.image.is_behind() {
             self.follow_some();
@@ -360,7 +370,8 @@ impl<R: Drop> Book<R> {
     #[inline(always)]
     fn take_up_on(&mut self, seat: u8) -> Option<Result<Option<Job<R>>, Refusal>>
         ensures { MatchOption result (self.new ≡ self.old)
-            (λ taken. BookSteps seat self.old (Event.Ask Ask.TakeUp) (Reply.Answered (take_up_answered taken) (handed_out taken)) self.new) }
+            (λ taken. BookSteps seat self.old (Event.Ask Ask.TakeUp)
+            (Reply.Answered (take_up_answered taken) (handed_out taken)) self.new) }
     {
         if !self.has_numbers() || !has_places(&self.trace, self.limits.trace) {
             return None;
@@ -378,9 +389,11 @@ impl<R: Drop> Book<R> {
         Some(taken)
     }
 
-    /// The end of a job: what `step` does for a `Finish`, which finds its place always. Where the core refuses it, it is no entry.
+    /// The end of a job: what `step` does for a `Finish`, which finds its place always. Where the core refuses it, it
+    /// is no entry.
     pub fn end_job(&mut self, seat: u8, by: u8, action: ActionNo, outcome: Outcome)
-        ensures { (reply : Reply R) × BookSteps seat self.old (Event.Ask (Ask.Finish by action outcome)) reply self.new }
+        ensures { (reply : Reply R) × BookSteps seat self.old (Event.Ask (Ask.Finish by action outcome)) reply
+            self.new }
     {
         let answer = self.core.finish(by, action, outcome);
         if is_refused(&answer) {
@@ -505,8 +518,8 @@ fn has_places(trace: &Vec<Entry>, limit: u32) -> bool
     trace.len() < limit as usize && trace.capacity() - trace.len() >= PLACES
 }
 
-/// Whether the entry of an ask needs no more than its place, unless it collects, and no resource goes in or out: it is no end, and asks
-/// for no list and no resource.
+/// Whether the entry of an ask needs no more than its place, unless it collects, and no resource goes in or out: it is
+/// no end, and asks for no list and no resource.
 #[inline(always)]
 fn is_brief(ask: &Ask) -> bool
     ensures { result ≡ is_brief ask.now }
@@ -519,8 +532,8 @@ fn is_brief(ask: &Ask) -> bool
     }
 }
 
-/// The end of an open or a call, which an event tells; none of a piece of marking. Takes no memory, and the room where it tells what a
-/// call read.
+/// The end of an open or a call, which an event tells; none of a piece of marking. Takes no memory, and the room where
+/// it tells what a call read.
 fn end_of<R>(event: &Event<R>, room: Option<Data>) -> Option<Ask>
     requires brought { Brings room (ask_of event.now) }
     requires hands_in { hands_in_or_marks event.now ≡ true }

@@ -15,8 +15,8 @@ use jlr_machine::choice::Choice;
 use jlr_machine::entry::Entry;
 use std::alloc::{AllocError, Global};
 
-/// Moves the image to the core's machine, with its cycle closed, and empties the trace: in a small heap by a copy, in a large one the image
-/// takes the trace over and follows it.
+/// Moves the image to the core's machine, with its cycle closed, and empties the trace: in a small heap by a copy, in a
+/// large one the image takes the trace over and follows it.
 ///
 /// # Errors
 /// `AllocError` where there is no memory. Nothing has changed then.
@@ -42,7 +42,8 @@ fn move_image<R>(
     Ok(())
 }
 
-/// The core's machine becomes the image, and the trace is let go. Says how many numbers were used: giving up an open cycle takes one more.
+/// The core's machine becomes the image, and the trace is let go. Says how many numbers were used: giving up an open
+/// cycle takes one more.
 ///
 /// # Errors
 /// `AllocError` where there is no memory for the image. Nothing has changed then.

@@ -69,7 +69,8 @@ pub(crate) fn record_briefly<R>(
     requires stands { Stands core.old }
     requires choice { length core.old.machine.objects ≤ lent.old.cells }
     requires plain { may_collect core.old.machine (Some ask) ≡ false }
-    ensures writes { Writes seat core.old trace.old.items (Event.Ask ask) (Reply.Answered result None) core.new trace.new.items }
+    ensures writes { Writes seat core.old trace.old.items (Event.Ask ask) (Reply.Answered result None) core.new
+        trace.new.items }
     ensures cells { length core.new.machine.objects ≡ length core.old.machine.objects }
     ensures room { vec_capacity trace.new ≡ vec_capacity trace.old }
     ensures choice { lent.new.cells ≡ lent.old.cells }

@@ -1,4 +1,5 @@
-//! What an entry takes, made before its ask: the room of its choice, and that of its copy of an answer. So it takes no memory then.
+//! What an entry takes, made before its ask: the room of its choice, and that of its copy of an answer. So it takes no
+//! memory then.
 ghost use Rattle.std.specs.Prelude.{◌≡◌, ◌≤◌, true, false, [], IfOk, Some, is_some, length, vec_capacity};
 ghost use Rattle.jlr_machine.specs.declared.ask.Answer.{Answer as AnswerOf};
 ghost use Rattle.jlr_machine.specs.Refusals.{is_end};
@@ -34,8 +35,8 @@ pub(crate) enum ItemRoom {
     Bytes(Data),
 }
 
-/// Room for the copy of an answer. Contracts see how many items of each kind of list it has room for, and how many times the
-/// bytes of a call.
+/// Room for the copy of an answer. Contracts see how many items of each kind of list it has room for, and how many
+/// times the bytes of a call.
 #[derive(Drop)]
 pub struct AnswerRoom {
     alloc: Global,

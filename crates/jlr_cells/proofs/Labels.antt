@@ -1,5 +1,6 @@
 -- The labels of slots, and where the kinds that they stand for are found.
-use Rattle.std.proofs.Common.{◌≡◌, ◌<◌, ℕ, zero, suc, inl, inr, Bool, true, List, ◌∷◌, Option, Some, None, length, replicate, set, refl, sym, ap, ◌∙◌, subst, length-set, get_or-set_same, get_or-set_other}
+use Rattle.std.proofs.Common.{◌≡◌, ◌<◌, ℕ, zero, suc, inl, inr, Bool, true, List, ◌∷◌, Option, Some, None, length, replicate, set, refl}
+use Rattle.std.proofs.Common.{sym, ap, ◌∙◌, subst, length-set, get_or-set_same, get_or-set_other}
 use Rattle.std.proofs.lemmas.Bool.{cases_eq}
 use Rattle.std.proofs.lemmas.List.{length-replicate}
 use Rattle.std.specs.Prelude.{map, slice_index_or}
@@ -19,7 +20,8 @@ none_there zero s kind e = absurd (cc)
 none_there (suc n) zero kind e = absurd (cc)
 none_there (suc n) (suc s) kind e = none_there n s kind e
 
-pub none_found : (count : ℕ) (cleanables arrays : List Bool) → length cleanables ≡ count → length arrays ≡ count → AreFound (replicate count None) cleanables arrays
+pub none_found : (count : ℕ) (cleanables arrays : List Bool) → length cleanables ≡ count → length arrays ≡ count
+    → AreFound (replicate count None) cleanables arrays
 none_found count cleanables arrays places array_places =
     record {
       places = places ∙ sym (length-replicate {A = Option Kind} count None);
@@ -32,7 +34,8 @@ none_found count cleanables arrays places array_places =
 kind_here :
     (kinds : List (Option Kind)) (s : ℕ) (kind : Option Kind) {k : Option Kind} (t : ℕ)
     → s < length kinds → t ≡ s → slice_index_or (set kinds s kind) t None ≡ k → kind ≡ k
-kind_here kinds s kind t within same e = sym (get_or-set_same kinds s kind None within) ∙ ap (λ x. slice_index_or (set kinds s kind) x None) (sym same) ∙ e
+kind_here kinds s kind t within same e = sym (get_or-set_same kinds s kind None within)
+    ∙ ap (λ x. slice_index_or (set kinds s kind) x None) (sym same) ∙ e
 
 kind_there :
     (kinds : List (Option Kind)) (s : ℕ) (kind : Option Kind) {k : Option Kind} (t : ℕ)

@@ -1,5 +1,6 @@
 -- The links of objects: of new ones, of one whose field changes, and what they lead to.
-use Rattle.std.proofs.Common.{◌≡◌, ℕ, zero, suc, ◌+◌, ◌-◌, ◌<◌, ◌≤◌, true, false, List, [], ◌∷◌, ◌++◌, Option, Some, None, length, set, get_or, map, replicate, refl, sym, ap, ◌∙◌, arith, length-set}
+use Rattle.std.proofs.Common.{◌≡◌, ℕ, zero, suc, ◌+◌, ◌-◌, ◌<◌, ◌≤◌, true, false, List, [], ◌∷◌, ◌++◌, Option, Some, None, length, set}
+use Rattle.std.proofs.Common.{get_or, map, replicate, refl, sym, ap, ◌∙◌, arith, length-set}
 use Rattle.std.specs.Prelude.{filter_map, is_some, option_and_then, option_map, option_to_list, slice_get}
 use Rattle.std.proofs.lemmas.List.{append-nil, map-set, length-map, set-append_left, replicate-append-replicate}
 use Rattle.std.proofs.lemmas.List.Elements.{filter_map-append}
@@ -38,17 +39,20 @@ blank_links kinds few =
 
 -- ---- Changes of an object
 
-links_to-set : (fields : List FieldValue) (i : ℕ) (v : FieldValue) → i < length fields → links_to (set fields i v) ≡ set (links_to fields) i (slot_in v)
+links_to-set : (fields : List FieldValue) (i : ℕ) (v : FieldValue) → i < length fields
+    → links_to (set fields i v) ≡ set (links_to fields) i (slot_in v)
 links_to-set fields i v h =
     let within : i < length (map slot_in fields) = rw (length-map fields slot_in) h in
-    rw (length-set fields i v, map-set slot_in fields i v) (sym (set-append_left (map slot_in fields) (replicate (8 - length fields) None) i (slot_in v) within))
+    rw (length-set fields i v, map-set slot_in fields i v)
+    (sym (set-append_left (map slot_in fields) (replicate (8 - length fields) None) i (slot_in v) within))
 
 get_within : (fields : List FieldValue) (i : ℕ) → is_some (slice_get fields i) ≡ true → i < length fields
 get_within [] i h = cc
 get_within (v ∷ fields) zero h = omega arith
 get_within (v ∷ fields) (suc i) h = let below : i < length fields = get_within fields i h in omega arith
 
-pub links_with_field : (o : Option Object) (i : ℕ) (v : FieldValue) → is_some (field_in o i) ≡ true → some_and is_record o ≡ true → links_of (option_map (with_field i v) o) ≡ set (links_of o) i (slot_in v)
+pub links_with_field : (o : Option Object) (i : ℕ) (v : FieldValue) → is_some (field_in o i) ≡ true → some_and is_record o ≡ true
+    → links_of (option_map (with_field i v) o) ≡ set (links_of o) i (slot_in v)
 links_with_field None i v h typed = cc
 links_with_field (Some (object.Plain (Elements elements))) i v h typed = cc
 links_with_field (Some (object.Plain (Typed fields))) i v h typed = links_to-set fields i v (get_within fields i h)
@@ -97,7 +101,8 @@ links_lead fields =
     ∙ append-nil (linked (map slot_in fields))
     ∙ mapped_leads fields
 
-plain_edges : (c : Cell) → some_and is_record (object_in c) ≡ true → edges_from Strong (object_in c ∷ []) 0 ≡ linked (links_of (object_in c))
+plain_edges : (c : Cell) → some_and is_record (object_in c) ≡ true
+    → edges_from Strong (object_in c ∷ []) 0 ≡ linked (links_of (object_in c))
 plain_edges Free h = cc
 plain_edges (Array elements) h = cc
 plain_edges (Plain fields) h = append-nil (filter_map slot_in fields) ∙ sym (links_lead fields)
@@ -108,7 +113,8 @@ plain_edges (Cleanable c) h = cc
 plain_edges (Guard g) h = cc
 
 -- a plain object's strong edges are what its links lead to
-pub plain_edges_at : (cells : List Cell) (s : ℕ) (d : List (Option ℕ)) → some_and is_record (at (objects_in cells) s) ≡ true → edges_from Strong (objects_in cells) s ≡ linked (get_or (links_in cells) s d)
+pub plain_edges_at : (cells : List Cell) (s : ℕ) (d : List (Option ℕ)) → some_and is_record (at (objects_in cells) s) ≡ true
+    → edges_from Strong (objects_in cells) s ≡ linked (get_or (links_in cells) s d)
 plain_edges_at [] s d h = cc
 plain_edges_at (c ∷ cells) zero d h = plain_edges c h
 plain_edges_at (c ∷ cells) (suc s) d h = plain_edges_at cells s d h
@@ -143,7 +149,8 @@ no_plain (Some (object.Cleanable c)) h n = refl
 no_plain (Some (object.Guard g)) h n = refl
 
 -- an array's strong edges are what its elements lead to
-pub array_edges : (o : Option Object) (elements : List (Option ℕ)) → o ≡ Some (object.Plain (Elements elements)) → edges_from Strong (o ∷ []) 0 ≡ linked elements
+pub array_edges : (o : Option Object) (elements : List (Option ℕ)) → o ≡ Some (object.Plain (Elements elements))
+    → edges_from Strong (o ∷ []) 0 ≡ linked elements
 array_edges o elements e = ap (λ x. edges_from Strong (x ∷ []) 0) e ∙ append-nil (linked elements)
 
 -- what is no array has no elements
@@ -168,7 +175,8 @@ other_has_none (Some (object.Cleanable c)) h = refl
 other_has_none (Some (object.Guard g)) h = refl
 
 -- another object's are what is next to it, and its members
-pub other_edges : (o : Option Object) → some_and is_plain o ≡ false → edges_from Strong (o ∷ []) 0 ≡ option_to_list (next_in o) ++ members_in o
+pub other_edges : (o : Option Object) → some_and is_plain o ≡ false → edges_from Strong (o ∷ []) 0 ≡ option_to_list (next_in o)
+    ++ members_in o
 other_edges None h = refl
 other_edges (Some (object.Plain fields)) h = cc
 other_edges (Some (object.Reference r)) h = refl

@@ -7,5 +7,6 @@ pub null_elements : (n : ℕ) → map link_of (replicate n 4294967295) ≡ repli
 null_elements zero = refl
 null_elements (suc n) = ap (λ l. None ∷ l) (null_elements n)
 
-pub set_mapped : (slots : List ℕ) (i n : ℕ) (target : Option ℕ) → link_of n ≡ target → map link_of (set slots i n) ≡ set (map link_of slots) i target
+pub set_mapped : (slots : List ℕ) (i n : ℕ) (target : Option ℕ) → link_of n ≡ target
+    → map link_of (set slots i n) ≡ set (map link_of slots) i target
 set_mapped slots i n target e = map-set link_of slots i n ∙ ap (set (map link_of slots) i) e

@@ -1,5 +1,6 @@
 -- The members of queues, which stand in lists beside the objects.
-use Rattle.std.proofs.Common.{◌≡◌, ◌⊎◌, inl, inr, ℕ, zero, suc, ◌<◌, Bool, true, false, List, [], ◌∷◌, Option, Some, None, length, set, get_or, replicate, refl, sym, ap, ◌∙◌, arith, subst, length-set, get_or-set_same, get_or-set_other}
+use Rattle.std.proofs.Common.{◌≡◌, ◌⊎◌, inl, inr, ℕ, zero, suc, ◌<◌, Bool, true, false, List, [], ◌∷◌, Option, Some, None, length, set}
+use Rattle.std.proofs.Common.{get_or, replicate, refl, sym, ap, ◌∙◌, arith, subst, length-set, get_or-set_same, get_or-set_other}
 use Rattle.std.specs.Prelude.{is_some, option_map, slice_get, slice_index_or}
 use Rattle.std.proofs.lemmas.Bool.{cases_eq}
 use Rattle.std.proofs.lemmas.List.{length-map, map-set, length-replicate}
@@ -11,7 +12,8 @@ use Rattle.jlr_machine.specs.declared.object.Cleanable.{Cleanable as CleanableOf
 use Rattle.jlr_types.specs.declared.FieldValue.{FieldValue}
 use Rattle.jlr_types.specs.declared.FieldValue.TheVariants as field
 use Rattle.jlr_machine.specs.Edges.{slot_in}
-use Rattle.jlr_machine.specs.Objects.{◌∈◌, Heap, at, change_at, occupied, some_and, with_cleanable, with_field, with_members, with_reference}
+use Rattle.jlr_machine.specs.Objects.{◌∈◌, Heap, at, change_at, occupied, some_and, with_cleanable, with_field, with_members}
+use Rattle.jlr_machine.specs.Objects.{with_reference}
 use Rattle.jlr_machine.specs.Refusals.{is_plain, is_queue}
 use Rattle.jlr_laws.proofs.ObjectsKept.{count_pointwise}
 use Rattle.jlr_laws.proofs.Sets.{nothing}
@@ -29,7 +31,8 @@ use Rattle.jlr_cells.proofs.ByKind.{kind_at}
 -- ---- One object
 
 -- what does not look at members is the same of an object without them
-pub unlisted : {X : Type 0} (f : Option Object → X) (members : List ℕ) (o : Option Object) → ((l m : List ℕ) → f (Some (Queue l)) ≡ f (Some (Queue m))) → f (with_list members o) ≡ f o
+pub unlisted : {X : Type 0} (f : Option Object → X) (members : List ℕ) (o : Option Object)
+    → ((l m : List ℕ) → f (Some (Queue l)) ≡ f (Some (Queue m))) → f (with_list members o) ≡ f o
 unlisted f members None blind = refl
 unlisted f members (Some (Plain fields)) blind = refl
 unlisted f members (Some (Reference r)) blind = refl
@@ -66,11 +69,13 @@ field_leaves i v members Cleaner = refl
 field_leaves i v members (Cleanable c) = refl
 field_leaves i v members (Guard g) = refl
 
-list_changed : (f : Object → Object) (members : List ℕ) (o : Option Object) → LeavesMembers f → with_list members (option_map f o) ≡ option_map f (with_list members o)
+list_changed : (f : Object → Object) (members : List ℕ) (o : Option Object) → LeavesMembers f
+    → with_list members (option_map f o) ≡ option_map f (with_list members o)
 list_changed f members None leaves = refl
 list_changed f members (Some o) leaves = ap (λ x. Some x) (leaves members o)
 
-members_changed : (g : List ℕ → List ℕ) (members : List ℕ) (o : Option Object) → with_list (g members) o ≡ option_map (with_members g) (with_list members o)
+members_changed : (g : List ℕ → List ℕ) (members : List ℕ) (o : Option Object)
+    → with_list (g members) o ≡ option_map (with_members g) (with_list members o)
 members_changed g members None = refl
 members_changed g members (Some (Plain fields)) = refl
 members_changed g members (Some (Reference r)) = refl
@@ -161,43 +166,52 @@ long-with_lists [] lists = refl
 long-with_lists (o ∷ heap) [] = ap suc (long-with_lists heap [])
 long-with_lists (o ∷ heap) (l ∷ lists) = ap suc (long-with_lists heap lists)
 
-with_lists-set : (heap : Heap) (lists : List (List ℕ)) (s : ℕ) (o : Option Object) → with_lists (set heap s o) lists ≡ set (with_lists heap lists) s (with_list (list_at lists s) o)
+with_lists-set : (heap : Heap) (lists : List (List ℕ)) (s : ℕ) (o : Option Object)
+    → with_lists (set heap s o) lists ≡ set (with_lists heap lists) s (with_list (list_at lists s) o)
 with_lists-set [] lists s o = refl
 with_lists-set (x ∷ heap) [] zero o = refl
 with_lists-set (x ∷ heap) [] (suc s) o = ap (λ l. with_list [] x ∷ l) (with_lists-set heap [] s o)
 with_lists-set (x ∷ heap) (l ∷ lists) zero o = refl
 with_lists-set (x ∷ heap) (l ∷ lists) (suc s) o = ap (λ m. with_list l x ∷ m) (with_lists-set heap lists s o)
 
-with_lists-list : (heap : Heap) (lists : List (List ℕ)) (s : ℕ) (members : List ℕ) → s < length lists → with_lists heap (set lists s members) ≡ set (with_lists heap lists) s (with_list members (at heap s))
+with_lists-list : (heap : Heap) (lists : List (List ℕ)) (s : ℕ) (members : List ℕ) → s < length lists
+    → with_lists heap (set lists s members) ≡ set (with_lists heap lists) s (with_list members (at heap s))
 with_lists-list [] lists s members h = refl
 with_lists-list (x ∷ heap) [] s members h = absurd (omega (arith, h))
 with_lists-list (x ∷ heap) (l ∷ lists) zero members h = refl
-with_lists-list (x ∷ heap) (l ∷ lists) (suc s) members h = ap (λ m. with_list l x ∷ m) (with_lists-list heap lists s members (omega (arith, h)))
+with_lists-list (x ∷ heap) (l ∷ lists) (suc s) members h =
+    ap (λ m. with_list l x ∷ m) (with_lists-list heap lists s members (omega (arith, h)))
 
-pub at_unlisted : {X : Type 0} (f : Option Object → X) (heap : Heap) (lists : List (List ℕ)) (s : ℕ) → ((l m : List ℕ) → f (Some (Queue l)) ≡ f (Some (Queue m))) → f (at (with_lists heap lists) s) ≡ f (at heap s)
+pub at_unlisted : {X : Type 0} (f : Option Object → X) (heap : Heap) (lists : List (List ℕ)) (s : ℕ)
+    → ((l m : List ℕ) → f (Some (Queue l)) ≡ f (Some (Queue m))) → f (at (with_lists heap lists) s) ≡ f (at heap s)
 at_unlisted f heap lists s blind = ap f (at-with_lists heap lists s) ∙ unlisted f (list_at lists s) (at heap s) blind
 
 pub occupied-with_lists : (heap : Heap) (lists : List (List ℕ)) → occupied (with_lists heap lists) ≡ occupied heap
-occupied-with_lists heap lists = count_pointwise is_some (with_lists heap lists) heap (long-with_lists heap lists) (λ s. at_unlisted is_some heap lists s (λ l m. refl))
+occupied-with_lists heap lists =
+    count_pointwise is_some (with_lists heap lists) heap (long-with_lists heap lists) (λ s. at_unlisted is_some heap lists s (λ l m. refl))
 
 -- ---- Changes
 
 -- the object in a cell changes, but for its members
 pub changed_object :
-    (cells : List Cell) (lists : List (List ℕ)) (s : ℕ) (c d : Cell) (f : Object → Object) → s < length cells → c ≡ get_or cells s c → object_in d ≡ option_map f (object_in c) → LeavesMembers f
+    (cells : List Cell) (lists : List (List ℕ)) (s : ℕ) (c d : Cell) (f : Object → Object) → s < length cells → c ≡ get_or cells s c
+    → object_in d ≡ option_map f (object_in c) → LeavesMembers f
     → with_lists (objects_in (set cells s d)) lists ≡ change_at (with_lists (objects_in cells) lists) s f
 changed_object cells lists s c d f within read becomes leaves =
     let heap = objects_in cells in
     ap (λ h. with_lists h lists) (change_at-objects_in cells s c d f within read becomes)
     ∙ with_lists-set heap lists s (option_map f (at heap s))
-    ∙ ap (set (with_lists heap lists) s) (list_changed f (list_at lists s) (at heap s) leaves ∙ ap (option_map f) (sym (at-with_lists heap lists s)))
+    ∙ ap (set (with_lists heap lists) s) (list_changed f (list_at lists s) (at heap s) leaves
+    ∙ ap (option_map f) (sym (at-with_lists heap lists s)))
 
 -- the members of a queue change
 pub changed_members :
-    (heap : Heap) (lists : List (List ℕ)) (s : ℕ) (g : List ℕ → List ℕ) → s < length lists → with_lists heap (set lists s (g (list_at lists s))) ≡ change_at (with_lists heap lists) s (with_members g)
+    (heap : Heap) (lists : List (List ℕ)) (s : ℕ) (g : List ℕ → List ℕ) → s < length lists
+    → with_lists heap (set lists s (g (list_at lists s))) ≡ change_at (with_lists heap lists) s (with_members g)
 changed_members heap lists s g within =
     with_lists-list heap lists s (g (list_at lists s)) within
-    ∙ ap (set (with_lists heap lists) s) (members_changed g (list_at lists s) (at heap s) ∙ ap (option_map (with_members g)) (sym (at-with_lists heap lists s)))
+    ∙ ap (set (with_lists heap lists) s) (members_changed g (list_at lists s) (at heap s)
+    ∙ ap (option_map (with_members g)) (sym (at-with_lists heap lists s)))
 
 -- something else stands where nothing with members lay
 pub written_object : (cells : List Cell) (lists : List (List ℕ)) (s : ℕ) (c : Cell) → list_at lists s ≡ []
@@ -210,7 +224,8 @@ written_object cells lists s c none =
 
 -- ---- What is kept of queues
 
-module _ (cells : List Cell) (lists : List (List ℕ)) (slots : ℕ) (kinds : List (Option Kind)) (links : List (List (Option ℕ))) (whole : AreWhole cells lists slots kinds links) where
+module _ (cells : List Cell) (lists : List (List ℕ)) (slots : ℕ) (kinds : List (Option Kind)) (links : List (List (Option ℕ)))
+    (whole : AreWhole cells lists slots kinds links) where
   kinds_read : (s : ℕ) → slice_index_or kinds s None ≡ option_map kind_of (at (objects_in cells) s)
   kinds_read s = ap (λ l. slice_index_or l s None) whole.kept.by_kind ∙ kind_at cells s
 
@@ -246,7 +261,8 @@ module _ (cells : List Cell) (lists : List (List ℕ)) (slots : ℕ) (kinds : Li
   ]
 
   -- the list of a queue may change
-  pub queue_changed : (s : ℕ) (members : List ℕ) → some_and is_queue (at (objects_in cells) s) ≡ true → AreWhole cells (set lists s members) slots kinds links
+  pub queue_changed : (s : ℕ) (members : List ℕ) → some_and is_queue (at (objects_in cells) s) ≡ true
+      → AreWhole cells (set lists s members) slots kinds links
   queue_changed s members queue = record {
     kept = whole.kept;
     members = record {
@@ -254,13 +270,15 @@ module _ (cells : List Cell) (lists : List (List ℕ)) (slots : ℕ) (kinds : Li
       slot_count = whole.members.slot_count;
       only = λ k. elim (cases_eq k s) [
         | inl same ↦ inr (ap (λ x. slice_index_or kinds x None) same ∙ kinds_read s ∙ queue_kind (at (objects_in cells) s) queue)
-        | inr other ↦ subst (λ l. (l ≡ []) ⊎ (slice_index_or kinds k None ≡ Some kind.Queue)) (sym (get_or-set_other lists s k members [] other)) (whole.members.only k)
+        | inr other ↦ subst (λ l. (l ≡ []) ⊎ (slice_index_or kinds k None ≡ Some kind.Queue))
+            (sym (get_or-set_other lists s k members [] other)) (whole.members.only k)
       ];
     };
   }
 
 -- a slot that has no list gets an object of some kind
-pub kinds_set : (kinds : List (Option Kind)) (lists : List (List ℕ)) (slots s : ℕ) (k : Option Kind) → AreOfQueues kinds lists slots → list_at lists s ≡ [] → AreOfQueues (set kinds s k) lists slots
+pub kinds_set : (kinds : List (Option Kind)) (lists : List (List ℕ)) (slots s : ℕ) (k : Option Kind) → AreOfQueues kinds lists slots
+    → list_at lists s ≡ [] → AreOfQueues (set kinds s k) lists slots
 kinds_set kinds lists slots s k of none = record {
   list_count = of.list_count ∙ sym (length-set kinds s k);
   slot_count = of.slot_count ∙ sym (length-set kinds s k);
@@ -271,13 +289,15 @@ kinds_set kinds lists slots s k of none = record {
 }
 
 -- a list is emptied
-pub emptied : (kinds : List (Option Kind)) (lists : List (List ℕ)) (slots s : ℕ) → AreOfQueues kinds lists slots → s < length lists → AreOfQueues kinds (set lists s []) slots
+pub emptied : (kinds : List (Option Kind)) (lists : List (List ℕ)) (slots s : ℕ) → AreOfQueues kinds lists slots → s < length lists
+    → AreOfQueues kinds (set lists s []) slots
 emptied kinds lists slots s of within = record {
   list_count = length-set lists s [] ∙ of.list_count;
   slot_count = of.slot_count;
   only = λ j. elim (cases_eq j s) [
     | inl same ↦ inl (ap (list_at (set lists s [])) same ∙ get_or-set_same lists s [] [] within)
-    | inr other ↦ subst (λ l. (l ≡ []) ⊎ (slice_index_or kinds j None ≡ Some kind.Queue)) (sym (get_or-set_other lists s j [] [] other)) (of.only j)
+    | inr other ↦ subst (λ l. (l ≡ []) ⊎ (slice_index_or kinds j None ≡ Some kind.Queue)) (sym (get_or-set_other lists s j [] [] other))
+        (of.only j)
   ];
 }
 
@@ -287,7 +307,8 @@ none_of zero s = refl
 none_of (suc n) zero = refl
 none_of (suc n) (suc s) = none_of n s
 
-pub new_lists : (kinds : List (Option Kind)) (lists : List (List ℕ)) (slots count : ℕ) → kinds ≡ replicate count None → lists ≡ replicate count [] → slots ≡ count → AreOfQueues kinds lists slots
+pub new_lists : (kinds : List (Option Kind)) (lists : List (List ℕ)) (slots count : ℕ) → kinds ≡ replicate count None
+    → lists ≡ replicate count [] → slots ≡ count → AreOfQueues kinds lists slots
 new_lists kinds lists slots count none empty long =
     let kind_count : length kinds ≡ count = ap length none ∙ length-replicate count None in
     record {
@@ -325,26 +346,33 @@ module _ (cells : List Cell) (lists : List (List ℕ)) (v : Heap) (view : with_l
 
   -- a plain object is the very object in its cell
   pub plain_at : (s : ℕ) → some_and is_plain (at (objects_in cells) s) ≡ true → at v s ≡ at (objects_in cells) s
-  plain_at s plain = ap (λ (h : Heap). at h s) (sym view) ∙ at-with_lists (objects_in cells) lists s ∙ plain_listed (list_at lists s) (at (objects_in cells) s) plain
+  plain_at s plain = ap (λ (h : Heap). at h s) (sym view) ∙ at-with_lists (objects_in cells) lists s
+      ∙ plain_listed (list_at lists s) (at (objects_in cells) s) plain
 
   pub within : (s t : ℕ) → t ≡ s → is_some (at v s) ≡ true → t < length cells
   within s t same holds = within_cells cells t (holds_at is_some s t (λ l m. refl) same holds)
 
-  pub holds_in : (f : Option Object → Bool) (s t : ℕ) (c : Cell) → IsBlind f → t ≡ s → f (at v s) ≡ true → t < length cells → c ≡ get_or cells t c → f (object_in c) ≡ true
+  pub holds_in : (f : Option Object → Bool) (s t : ℕ) (c : Cell) → IsBlind f → t ≡ s → f (at v s) ≡ true → t < length cells
+      → c ≡ get_or cells t c → f (object_in c) ≡ true
   holds_in f s t c blind same holds below read = ap f (sym (at-read cells t c below read)) ∙ holds_at f s t blind same holds
 
-  pub seen_in : {X : Type 0} (f : Option Object → X) (s t : ℕ) (c : Cell) → IsBlind f → t ≡ s → t < length cells → c ≡ get_or cells t c → f (at v s) ≡ f (object_in c)
-  seen_in f s t c blind same below read = seen_as f s blind ∙ ap (λ x. f (at (objects_in cells) x)) (sym same) ∙ ap f (at-read cells t c below read)
+  pub seen_in : {X : Type 0} (f : Option Object → X) (s t : ℕ) (c : Cell) → IsBlind f → t ≡ s → t < length cells → c ≡ get_or cells t c
+      → f (at v s) ≡ f (object_in c)
+  seen_in f s t c blind same below read = seen_as f s blind ∙ ap (λ x. f (at (objects_in cells) x)) (sym same)
+      ∙ ap f (at-read cells t c below read)
 
-  pub changed_at : (s t : ℕ) (c d : Cell) (f : Object → Object) → t ≡ s → t < length cells → c ≡ get_or cells t c → object_in d ≡ option_map f (object_in c) → LeavesMembers f
+  pub changed_at : (s t : ℕ) (c d : Cell) (f : Object → Object) → t ≡ s → t < length cells → c ≡ get_or cells t c
+      → object_in d ≡ option_map f (object_in c) → LeavesMembers f
       → with_lists (objects_in (set cells t d)) lists ≡ change_at v s f
   changed_at s t c d f same below read becomes leaves =
-      changed_object cells lists t c d f below read becomes leaves ∙ ap (λ x. change_at (with_lists (objects_in cells) lists) x f) same ∙ ap (λ (h : Heap). change_at h s f) view
+      changed_object cells lists t c d f below read becomes leaves ∙ ap (λ x. change_at (with_lists (objects_in cells) lists) x f) same
+      ∙ ap (λ (h : Heap). change_at h s f) view
 
 module _ (cells : List Cell) (lists : List (List ℕ)) (slots : ℕ) (kinds : List (Option Kind)) (links : List (List (Option ℕ)))
     (whole : AreWhole cells lists slots kinds links) (v : Heap) (view : with_lists (objects_in cells) lists ≡ v) where
   pub list_there : (s t : ℕ) → t ≡ s → some_and is_queue (at v s) ≡ true → t < length lists
-  list_there s t same queue = omega (arith, within cells lists v view s t same (object_of_queue (at v s) queue), list_count cells lists slots kinds links whole)
+  list_there s t same queue =
+      omega (arith, within cells lists v view s t same (object_of_queue (at v s) queue), list_count cells lists slots kinds links whole)
 
   pub members_seen : (s t : ℕ) → t ≡ s → list_at lists t ≡ members_in (at v s)
   members_seen s t same =
@@ -354,14 +382,17 @@ module _ (cells : List Cell) (lists : List (List ℕ)) (slots : ℕ) (kinds : Li
   first_seen s t same = ap (λ l. slice_get l 0) (members_seen s t same) ∙ sym (member_listed (at v s) 0)
 
   -- a queue's list is another
-  pub whole_with : (s t : ℕ) (members : List ℕ) (lists' : List (List ℕ)) (slots' : ℕ) → t ≡ s → some_and is_queue (at v s) ≡ true → lists' ≡ set lists t members → slots' ≡ slots
+  pub whole_with : (s t : ℕ) (members : List ℕ) (lists' : List (List ℕ)) (slots' : ℕ) → t ≡ s → some_and is_queue (at v s) ≡ true
+      → lists' ≡ set lists t members → slots' ≡ slots
       → AreWhole cells lists' slots' kinds links
   whole_with s t members lists' slots' same queue e e' =
       subst (λ l. AreWhole cells l slots' kinds links) (sym e)
       (subst (λ n. AreWhole cells (set lists t members) n kinds links) (sym e')
-      (queue_changed cells lists slots kinds links whole t members (holds_at cells lists v view (some_and is_queue) s t (λ l m. refl) same queue)))
+      (queue_changed cells lists slots kinds links whole t members
+      (holds_at cells lists v view (some_and is_queue) s t (λ l m. refl) same queue)))
 
-  pub seen_with : (s t : ℕ) (g : List ℕ → List ℕ) (lists' : List (List ℕ)) → t ≡ s → some_and is_queue (at v s) ≡ true → lists' ≡ set lists t (g (list_at lists t))
+  pub seen_with : (s t : ℕ) (g : List ℕ → List ℕ) (lists' : List (List ℕ)) → t ≡ s → some_and is_queue (at v s) ≡ true
+      → lists' ≡ set lists t (g (list_at lists t))
       → with_lists (objects_in cells) lists' ≡ change_at v s (with_members g)
   seen_with s t g lists' same queue e =
       ap (with_lists (objects_in cells)) e

@@ -1,5 +1,6 @@
 -- Links in two columns.
-use Rattle.std.proofs.Common.{◌≡◌, ℕ, zero, suc, ◌-◌, ◌<◌, ◌≤◌, Bool, true, false, List, [], ◌∷◌, ◌++◌, Option, length, set, get_or, replicate, refl, sym, ap, ◌∙◌, arith, inl, inr, length-set, get_or-set_same, get_or-set_other}
+use Rattle.std.proofs.Common.{◌≡◌, ℕ, zero, suc, ◌-◌, ◌<◌, ◌≤◌, Bool, true, false, List, [], ◌∷◌, ◌++◌, Option, length, set, get_or}
+use Rattle.std.proofs.Common.{replicate, refl, sym, ap, ◌∙◌, arith, inl, inr, length-set, get_or-set_same, get_or-set_other}
 use Rattle.std.proofs.lemmas.Bool.{cases_eq, both_ways}
 use Rattle.std.proofs.lemmas.List.{get_or-replicate, length-replicate, set-append_left, set-append_right}
 use Rattle.jlr_sets.specs.SlotSets.{is_in}
@@ -10,13 +11,15 @@ length-rows [] far e = refl
 length-rows (n ∷ near) [] e = absurd (omega (arith, e))
 length-rows (n ∷ near) (f ∷ far) e = ap suc (length-rows near far (omega (arith, e)))
 
-pub at-rows : (near far : List (List (Option ℕ))) (s : ℕ) → length far ≡ length near → s < length near → get_or (rows near far) s [] ≡ get_or near s [] ++ get_or far s []
+pub at-rows : (near far : List (List (Option ℕ))) (s : ℕ) → length far ≡ length near → s < length near
+    → get_or (rows near far) s [] ≡ get_or near s [] ++ get_or far s []
 at-rows [] far s e h = absurd (omega (arith, h))
 at-rows (n ∷ near) [] s e h = absurd (omega (arith, e))
 at-rows (n ∷ near) (f ∷ far) zero e h = refl
 at-rows (n ∷ near) (f ∷ far) (suc s) e h = at-rows near far s (omega (arith, e)) (omega (arith, h))
 
-pub rows-set : (near far : List (List (Option ℕ))) (s : ℕ) (x y : List (Option ℕ)) → rows (set near s x) (set far s y) ≡ set (rows near far) s (x ++ y)
+pub rows-set : (near far : List (List (Option ℕ))) (s : ℕ) (x y : List (Option ℕ))
+    → rows (set near s x) (set far s y) ≡ set (rows near far) s (x ++ y)
 rows-set [] far s x y = refl
 rows-set (n ∷ near) [] zero x y = refl
 rows-set (n ∷ near) [] (suc s) x y = refl
@@ -28,26 +31,31 @@ set_itself [] s = refl
 set_itself (x ∷ l) zero = refl
 set_itself (x ∷ l) (suc s) = ap (λ r. x ∷ r) (set_itself l s)
 
-pub rows-set_near : (near far : List (List (Option ℕ))) (s : ℕ) (x : List (Option ℕ)) → rows (set near s x) far ≡ set (rows near far) s (x ++ get_or far s [])
+pub rows-set_near : (near far : List (List (Option ℕ))) (s : ℕ) (x : List (Option ℕ))
+    → rows (set near s x) far ≡ set (rows near far) s (x ++ get_or far s [])
 rows-set_near near far s x = ap (λ f. rows (set near s x) f) (sym (set_itself far s)) ∙ rows-set near far s x (get_or far s [])
 
-pub rows-set_far : (near far : List (List (Option ℕ))) (s : ℕ) (y : List (Option ℕ)) → rows near (set far s y) ≡ set (rows near far) s (get_or near s [] ++ y)
+pub rows-set_far : (near far : List (List (Option ℕ))) (s : ℕ) (y : List (Option ℕ))
+    → rows near (set far s y) ≡ set (rows near far) s (get_or near s [] ++ y)
 rows-set_far near far s y = ap (λ n. rows n (set far s y)) (sym (set_itself near s)) ∙ rows-set near far s (get_or near s []) y
 
 pub new_rows : (n : ℕ) → rows (replicate n four_nulls) (replicate n four_nulls) ≡ replicate n no_links
 new_rows zero = refl
 new_rows (suc n) = ap (λ l. no_links ∷ l) (new_rows n)
 
-pub new_columns : (n : ℕ) (near far : List (List (Option ℕ))) (wide : List Bool) → near ≡ replicate n four_nulls → far ≡ replicate n four_nulls → wide ≡ replicate n false → AreColumns near far wide
+pub new_columns : (n : ℕ) (near far : List (List (Option ℕ))) (wide : List Bool) → near ≡ replicate n four_nulls
+    → far ≡ replicate n four_nulls → wide ≡ replicate n false → AreColumns near far wide
 new_columns n near far wide e e' f =
     rw (e, e', f) (record {
       as_many = refl;
       places = length-replicate {A = Bool} n false ∙ sym (length-replicate {A = List (Option ℕ)} n four_nulls);
-      four = λ s h. ap (λ l. length l) (get_or-replicate n s four_nulls [] (omega (arith, h, length-replicate {A = List (Option ℕ)} n four_nulls)));
+      four = λ s h. ap (λ l. length l) (get_or-replicate n s four_nulls []
+          (omega (arith, h, length-replicate {A = List (Option ℕ)} n four_nulls)));
       nulls = λ s h off. get_or-replicate n s four_nulls [] (omega (arith, h, length-replicate {A = List (Option ℕ)} n four_nulls));
     })
 
-module _ (near far : List (List (Option ℕ))) (wide : List Bool) (are : AreColumns near far wide) (v : List (List (Option ℕ))) (view : rows near far ≡ v) where
+module _ (near far : List (List (Option ℕ))) (wide : List Bool) (are : AreColumns near far wide) (v : List (List (Option ℕ)))
+    (view : rows near far ≡ v) where
   pub long : length v ≡ length near
   long = ap length (sym view) ∙ length-rows near far are.as_many
 
@@ -64,19 +72,22 @@ module _ (near far : List (List (Option ℕ))) (wide : List Bool) (are : AreColu
       ∙ ap (λ r. set (rows near far) s (set r field o)) (sym (row_at s h))
       ∙ ap (λ l. set l s (set (get_or v s []) field o)) view
 
-  pub near_are : (s field : ℕ) (o : Option ℕ) (row : List (Option ℕ)) → s < length near → row ≡ set (get_or near s []) field o → AreColumns (set near s row) far wide
+  pub near_are : (s field : ℕ) (o : Option ℕ) (row : List (Option ℕ)) → s < length near → row ≡ set (get_or near s []) field o
+      → AreColumns (set near s row) far wide
   near_are s field o row h e = record {
     as_many = are.as_many ∙ sym (length-set near s row);
     places = are.places ∙ sym (length-set near s row);
     four = λ k below. elim (cases_eq k s) [
-      | inl same ↦ ap (λ n. length (get_or (set near s row) n [])) same ∙ ap length (get_or-set_same near s row [] h) ∙ ap length e ∙ length-set (get_or near s []) field o ∙ are.four s h
+      | inl same ↦ ap (λ n. length (get_or (set near s row) n [])) same ∙ ap length (get_or-set_same near s row [] h) ∙ ap length e
+          ∙ length-set (get_or near s []) field o ∙ are.four s h
       | inr d ↦ ap length (get_or-set_other near s k row [] d) ∙ are.four k (omega (arith, below, length-set near s row))
     ];
     nulls = λ k below off. are.nulls k (omega (arith, below, length-set near s row)) off;
   }
 
   -- a link of the second column
-  pub far_set : (s field : ℕ) (o : Option ℕ) (row : List (Option ℕ)) → s < length near → 4 ≤ field → row ≡ set (get_or far s []) (field - 4) o
+  pub far_set : (s field : ℕ) (o : Option ℕ) (row : List (Option ℕ)) → s < length near → 4 ≤ field
+      → row ≡ set (get_or far s []) (field - 4) o
       → rows near (set far s row) ≡ set v s (set (get_or v s []) field o)
   far_set s field o row h high e =
       rows-set_far near far s row
@@ -91,7 +102,8 @@ module _ (near far : List (List (Option ℕ))) (wide : List Bool) (are : AreColu
     places = length-set wide s true ∙ are.places;
     four = are.four;
     nulls = λ k below off. elim (cases_eq k s) [
-      | inl same ↦ absurd (both_ways (is_in (set wide s true) k) off (ap (is_in (set wide s true)) same ∙ get_or-set_same wide s true false (omega (arith, h, are.places))))
+      | inl same ↦ absurd (both_ways (is_in (set wide s true) k) off
+          (ap (is_in (set wide s true)) same ∙ get_or-set_same wide s true false (omega (arith, h, are.places))))
       | inr d ↦ get_or-set_other far s k row [] d ∙ are.nulls k below (sym (get_or-set_other wide s k true false d) ∙ off)
     ];
   }

@@ -1,5 +1,6 @@
 -- What callers see of what lies in the cells.
-use Rattle.std.proofs.Common.{◌≡◌, ℕ, zero, suc, ◌+◌, ◌<◌, Bool, true, false, cond, List, [], ◌∷◌, Option, Some, None, length, map, set, replicate, refl, sym, ap, ◌∙◌, arith}
+use Rattle.std.proofs.Common.{◌≡◌, ℕ, zero, suc, ◌+◌, ◌<◌, Bool, true, false, cond, List, [], ◌∷◌, Option, Some, None, length, map, set}
+use Rattle.std.proofs.Common.{replicate, refl, sym, ap, ◌∙◌, arith}
 use Rattle.std.specs.Prelude.{count_by, is_some, option_map}
 use Rattle.std.proofs.lemmas.Bool.{both_ways}
 use Rattle.std.proofs.lemmas.List.Sums.{sum_by-cons}
@@ -27,7 +28,8 @@ length-shown kept [] = refl
 length-shown [] (o ∷ heap) = ap suc (length-shown [] heap)
 length-shown (b ∷ kept) (o ∷ heap) = ap suc (length-shown kept heap)
 
-pub shown-set : (kept : List Bool) (heap : Heap) (s : ℕ) (o : Option Object) → shown kept (set heap s o) ≡ set (shown kept heap) s (cond (is_in kept s) o None)
+pub shown-set : (kept : List Bool) (heap : Heap) (s : ℕ) (o : Option Object)
+    → shown kept (set heap s o) ≡ set (shown kept heap) s (cond (is_in kept s) o None)
 shown-set kept [] s o = refl
 shown-set [] (x ∷ heap) zero o = refl
 shown-set [] (x ∷ heap) (suc s) o = ap (λ l. None ∷ l) (shown-set [] heap s o)
@@ -40,24 +42,29 @@ set_alike (x ∷ heap) zero o e = ap (λ y. y ∷ heap) e
 set_alike (x ∷ heap) (suc s) o e = ap (λ l. x ∷ l) (set_alike heap s o e)
 
 -- what is not kept may change
-pub shown_hidden : (kept : List Bool) (heap : Heap) (s : ℕ) (o : Option Object) → is_in kept s ≡ false → shown kept (set heap s o) ≡ shown kept heap
+pub shown_hidden : (kept : List Bool) (heap : Heap) (s : ℕ) (o : Option Object) → is_in kept s ≡ false
+    → shown kept (set heap s o) ≡ shown kept heap
 shown_hidden kept heap s o off =
     shown-set kept heap s o
-    ∙ set_alike (shown kept heap) s (cond (is_in kept s) o None) (ap (λ b. cond b o None) off ∙ sym (at-shown kept heap s ∙ ap (λ b. cond b (at heap s) None) off))
+    ∙ set_alike (shown kept heap) s (cond (is_in kept s) o None)
+    (ap (λ b. cond b o None) off ∙ sym (at-shown kept heap s ∙ ap (λ b. cond b (at heap s) None) off))
 
 -- what is kept changes
-pub shown_changed : (kept : List Bool) (heap : Heap) (s : ℕ) (o : Option Object) → is_in kept s ≡ true → shown kept (set heap s o) ≡ set (shown kept heap) s o
+pub shown_changed : (kept : List Bool) (heap : Heap) (s : ℕ) (o : Option Object) → is_in kept s ≡ true
+    → shown kept (set heap s o) ≡ set (shown kept heap) s o
 shown_changed kept heap s o on = shown-set kept heap s o ∙ ap (λ b. set (shown kept heap) s (cond b o None)) on
 
 -- one more is kept
-pub shown_more : (kept : List Bool) (heap : Heap) (s : ℕ) (o : Option Object) → s < length kept → shown (set kept s true) (set heap s o) ≡ set (shown kept heap) s o
+pub shown_more : (kept : List Bool) (heap : Heap) (s : ℕ) (o : Option Object) → s < length kept
+    → shown (set kept s true) (set heap s o) ≡ set (shown kept heap) s o
 shown_more kept [] s o h = refl
 shown_more [] (x ∷ heap) s o h = absurd (omega (arith, h))
 shown_more (b ∷ kept) (x ∷ heap) zero o h = refl
 shown_more (b ∷ kept) (x ∷ heap) (suc s) o h = ap (λ l. cond b x None ∷ l) (shown_more kept heap s o (omega (arith, h)))
 
 -- of what is shown of the one, less is shown
-pub shown_twice : (kept occ : List Bool) (heap : Heap) → ((s : ℕ) → is_in kept s ≡ true → is_in occ s ≡ true) → shown kept (shown occ heap) ≡ shown kept heap
+pub shown_twice : (kept occ : List Bool) (heap : Heap) → ((s : ℕ) → is_in kept s ≡ true → is_in occ s ≡ true)
+    → shown kept (shown occ heap) ≡ shown kept heap
 shown_twice kept occ [] within = refl
 shown_twice [] [] (o ∷ heap) within = ap (λ l. None ∷ l) (shown_twice [] [] heap within)
 shown_twice [] (c ∷ occ) (o ∷ heap) within = ap (λ l. None ∷ l) (shown_twice [] occ heap (λ s h. absurd (both_ways false refl h)))
@@ -88,7 +95,8 @@ one_shown : (b : Bool) (o : Option Object) → (b ≡ true → is_some o ≡ tru
 one_shown true o h = h refl
 one_shown false o h = refl
 
-counted : (kept : List Bool) (heap : Heap) → length kept ≡ length heap → ((s : ℕ) → is_in kept s ≡ true → is_some (at heap s) ≡ true) → occupied (shown kept heap) ≡ count_by (λ b. b) kept
+counted : (kept : List Bool) (heap : Heap) → length kept ≡ length heap → ((s : ℕ) → is_in kept s ≡ true → is_some (at heap s) ≡ true)
+    → occupied (shown kept heap) ≡ count_by (λ b. b) kept
 counted [] [] e h = refl
 counted [] (o ∷ heap) e h = absurd (omega (arith, e))
 counted (b ∷ kept) [] e h = absurd (omega (arith, e))
@@ -98,7 +106,8 @@ counted (b ∷ kept) (o ∷ heap) e h =
     ∙ ap (λ n. cond b 1 0 + n) (counted kept heap (omega (arith, e)) (λ s. h (suc s)))
     ∙ sym (sum_by-cons (λ x. cond x 1 0) b kept)
 
-pub occupied-shown : (kept : List Bool) (heap : Heap) → length kept ≡ length heap → ((s : ℕ) → is_in kept s ≡ true → is_some (at heap s) ≡ true)
+pub occupied-shown : (kept : List Bool) (heap : Heap) → length kept ≡ length heap
+    → ((s : ℕ) → is_in kept s ≡ true → is_some (at heap s) ≡ true)
     → occupied (shown kept heap) ≡ length (slots_of kept)
 occupied-shown kept heap long all = counted kept heap long all ∙ sym (count_all kept)
 
@@ -119,7 +128,8 @@ used_changed (o ∷ store) zero f = ap (λ b. b ∷ map is_some store) (still_so
 used_changed (o ∷ store) (suc s) f = ap (λ l. is_some o ∷ l) (used_changed store s f)
 
 -- whether an object is shown
-pub is_shown : (kept : List Bool) (heap : Heap) (s : ℕ) → ((k : ℕ) → is_in kept k ≡ true → is_some (at heap k) ≡ true) → is_in kept s ≡ is_some (at (shown kept heap) s)
+pub is_shown : (kept : List Bool) (heap : Heap) (s : ℕ) → ((k : ℕ) → is_in kept k ≡ true → is_some (at heap k) ≡ true)
+    → is_in kept s ≡ is_some (at (shown kept heap) s)
 is_shown kept heap s all = sym (ap is_some (at-shown kept heap s) ∙ one_shown (is_in kept s) (at heap s) (all s))
 
 -- whether there is an object does not change where an object does

@@ -1,24 +1,34 @@
 -- Which object a cell holds, and what is asked of objects.
-use Rattle.std.specs.Prelude.{ℕ, Bool, true, false, List, [], ◌∷◌, Option, Some, None, map, option_and_then, option_map, slice_get}
+use Rattle.std.specs.Prelude.{ℕ, Bool, true, false, List, [], ◌∷◌, Option, Some, None, map, option_and_then, option_map}
+use Rattle.std.specs.Prelude.{slice_get}
 use Rattle.jlr_types.specs.declared.FieldValue.{FieldValue}
 use Rattle.jlr_types.specs.declared.FieldValue.TheVariants.{Int, Ref}
 use Rattle.jlr_machine.specs.declared.object.Contents.TheVariants.{Typed, Elements}
 use Rattle.jlr_machine.specs.declared.object.Object.{Object}
-use Rattle.jlr_machine.specs.declared.object.Object.TheVariants.{Plain as PlainObject, Reference as ReferenceObject, Queue as QueueObject, Cleaner as CleanerObject, Cleanable as CleanableObject, Guard as GuardObject}
+use Rattle.jlr_machine.specs.declared.object.Object.TheVariants.{Plain as PlainObject, Reference as ReferenceObject}
+use Rattle.jlr_machine.specs.declared.object.Object.TheVariants.{Queue as QueueObject, Cleaner as CleanerObject}
+use Rattle.jlr_machine.specs.declared.object.Object.TheVariants.{Cleanable as CleanableObject, Guard as GuardObject}
 use Rattle.jlr_machine.specs.declared.object.Reference.{Reference as ReferenceOf}
 use Rattle.jlr_machine.specs.declared.object.Cleanable.{Cleanable as CleanableOf}
 use Rattle.jlr_machine.specs.declared.object.CleanState.{CleanState}
 use Rattle.jlr_machine.specs.declared.object.CleanState.TheVariants.{Armed}
 use Rattle.jlr_machine.specs.declared.object.RefState.{RefState}
 use Rattle.jlr_machine.specs.declared.object.RefState.TheVariants.{Fresh}
-use Rattle.jlr_machine.specs.Objects.{Heap, at, as_fields, as_members, as_reference, queue_ahead, value_at, with_members}
+use Rattle.jlr_machine.specs.Objects.{Heap, at, as_fields, as_members, as_reference, queue_ahead, value_at}
+use Rattle.jlr_machine.specs.Objects.{with_members}
 use Rattle.jlr_machine.specs.Lookups.{blank}
 use Rattle.jlr_cells.specs.declared.cell.Cell.{Cell}
-use Rattle.jlr_cells.specs.declared.cell.Cell.TheVariants.{Free, Plain, Array, Reference, Queue, Cleaner, Cleanable, Guard}
+use Rattle.jlr_cells.specs.declared.cell.Cell.TheVariants.{Free, Plain, Array, Reference, Queue, Cleaner, Cleanable}
+use Rattle.jlr_cells.specs.declared.cell.Cell.TheVariants.{Guard}
 use Rattle.jlr_cells.specs.declared.shape.Kind.{Kind}
-use Rattle.jlr_cells.specs.declared.shape.Kind.TheVariants.{Plain as PlainKind, Array as ArrayKind, Reference as ReferenceKind, Queue as QueueKind, Cleaner as CleanerKind, Cleanable as CleanableKind, Guard as GuardKind}
+use Rattle.jlr_cells.specs.declared.shape.Kind.TheVariants.{Plain as PlainKind, Array as ArrayKind}
+use Rattle.jlr_cells.specs.declared.shape.Kind.TheVariants.{Reference as ReferenceKind, Queue as QueueKind}
+use Rattle.jlr_cells.specs.declared.shape.Kind.TheVariants.{Cleaner as CleanerKind, Cleanable as CleanableKind}
+use Rattle.jlr_cells.specs.declared.shape.Kind.TheVariants.{Guard as GuardKind}
 use Rattle.jlr_cells.specs.declared.shape.Shape.{Shape}
-use Rattle.jlr_cells.specs.declared.shape.Shape.TheVariants.{Plain as PlainShape, Reference as ReferenceShape, Queue as QueueShape, Cleaner as CleanerShape, Cleanable as CleanableShape, Guard as GuardShape}
+use Rattle.jlr_cells.specs.declared.shape.Shape.TheVariants.{Plain as PlainShape, Reference as ReferenceShape}
+use Rattle.jlr_cells.specs.declared.shape.Shape.TheVariants.{Queue as QueueShape, Cleaner as CleanerShape}
+use Rattle.jlr_cells.specs.declared.shape.Shape.TheVariants.{Cleanable as CleanableShape, Guard as GuardShape}
 
 -- the object in a cell, if it is not free; a queue without its members, which stand in a list of their own
 abbrev pub object_in : Cell → Option Object
@@ -45,14 +55,16 @@ with_lists [] lists = []
 with_lists (o ∷ heap) [] = with_list [] o ∷ with_lists heap []
 with_lists (o ∷ heap) (members ∷ lists) = with_list members o ∷ with_lists heap lists
 
--- the object that is made of a shape: its fields are 0 or null, a reference is Fresh, a queue has no members, a cleanable
--- is Armed
+-- the object that is made of a shape: its fields are 0 or null, a reference is Fresh, a queue has no members, a
+-- cleanable is Armed
 abbrev pub object_of : Shape → Object
 object_of (PlainShape layout) = PlainObject (Typed (map blank layout))
-object_of (ReferenceShape kind referent queue) = ReferenceObject (record { kind = kind; referent = referent; queue = queue; state = Fresh })
+object_of (ReferenceShape kind referent queue) =
+    ReferenceObject (record { kind = kind; referent = referent; queue = queue; state = Fresh })
 object_of QueueShape = QueueObject []
 object_of CleanerShape = CleanerObject
-object_of (CleanableShape referent action work) = CleanableObject (record { referent = referent; action = action; work = work; state = Armed })
+object_of (CleanableShape referent action work) =
+    CleanableObject (record { referent = referent; action = action; work = work; state = Armed })
 object_of (GuardShape rid cleanable) = GuardObject (record { rid = rid; cleanable = cleanable })
 
 -- of which kind an object is
@@ -95,8 +107,8 @@ field_at heap s field = field_in (at heap s) field
 abbrev pub referent_in : Option Object → Option ℕ
 referent_in o = option_and_then (λ r. r.referent) (option_and_then as_reference o)
 
--- what an object leads to beside fields and members: a reference to the queue that it may still be added to, a guard to its
--- cleanable
+-- what an object leads to beside fields and members: a reference to the queue that it may still be added to, a guard to
+-- its cleanable
 abbrev pub next_of : Object → Option ℕ
 next_of (ReferenceObject r) = queue_ahead r
 next_of (GuardObject g) = Some g.cleanable

@@ -20,6 +20,7 @@ pub record AreOfQueues (kinds : List (Option Kind)) (lists : List (List ℕ)) (s
   pub only : (s : ℕ) → (list_at lists s ≡ []) ⊎ (slice_index_or kinds s None ≡ Some Queue)
 
 -- All that is kept of the objects fits together
-pub record AreWhole (cells : List Cell) (lists : List (List ℕ)) (slots : ℕ) (kinds : List (Option Kind)) (links : List (List (Option ℕ))) : Type 0 where
+pub record AreWhole (cells : List Cell) (lists : List (List ℕ)) (slots : ℕ) (kinds : List (Option Kind))
+    (links : List (List (Option ℕ))) : Type 0 where
   pub kept : AreKept cells kinds links
   pub members : AreOfQueues kinds lists slots

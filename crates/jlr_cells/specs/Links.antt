@@ -1,6 +1,7 @@
 -- What links stand for, and which go with an object.
 use Rattle.std.specs.Borrow.{Bor}
-use Rattle.std.specs.Prelude.{◌≡◌, ℕ, ◌-◌, ◌<◌, ◌∷◌, ◌++◌, [], Bool, false, List, Option, Some, None, length, map, filter_map, replicate, slice_index_or}
+use Rattle.std.specs.Prelude.{◌≡◌, ℕ, ◌-◌, ◌<◌, ◌∷◌, ◌++◌, [], Bool, false, List, Option, Some, None, length, map}
+use Rattle.std.specs.Prelude.{filter_map, replicate, slice_index_or}
 use Rattle.jlr_types.specs.declared.FieldValue.{FieldValue}
 use Rattle.jlr_machine.specs.declared.object.Contents.TheVariants.{Typed}
 use Rattle.jlr_machine.specs.declared.object.Object.{Object}
@@ -50,7 +51,8 @@ rows [] far = []
 rows (n ∷ near) [] = []
 rows (n ∷ near) (f ∷ far) = (n ++ f) ∷ rows near far
 
--- There are as many in the second column as in the first, four links each. Where a slot is not in the set, those in the second are null
+-- There are as many in the second column as in the first, four links each. Where a slot is not in the set, those in the
+-- second are null
 pub record AreColumns (near far : List (List (Option ℕ))) (wide : List Bool) : Type 0 where
   pub as_many : length far ≡ length near
   pub places : length wide ≡ length near

@@ -1,5 +1,6 @@
 -- What the words of a plain object's fields stand for.
-use Rattle.std.specs.Prelude.{◌≡◌, ℕ, ℤ, pos, negsuc, ◌^◌, ◌<◌, nat_lt, if◌then◌else◌, Bool, true, false, List, [], ◌∷◌, Option, Some, None, length, slice_index_or, slice_set, IsTrue}
+use Rattle.std.specs.Prelude.{◌≡◌, ℕ, ℤ, pos, negsuc, ◌^◌, ◌<◌, nat_lt, if◌then◌else◌, Bool, true, false, List, [], ◌∷◌}
+use Rattle.std.specs.Prelude.{Option, Some, None, length, slice_index_or, slice_set, IsTrue}
 use Rattle.jlr_types.specs.declared.FieldValue.{FieldValue}
 use Rattle.jlr_types.specs.declared.FieldValue.TheVariants.{Int, Ref}
 use Rattle.jlr_cells.specs.declared.fields.Place.{Place}
@@ -34,7 +35,8 @@ is_present RefPlace = true
 
 -- no field comes behind one that is absent
 abbrev pub AreInFront : List Place → List ℤ → Type 0
-AreInFront places words = (i : ℕ) → IsTrue (is_present (slice_index_or places i Absent)) → i < length (fields_of places words)
+AreInFront places words = (i : ℕ) → IsTrue (is_present (slice_index_or places i Absent))
+    → i < length (fields_of places words)
 
 -- eight places and eight words, with the fields in front
 pub record AreFields (places : List Place) (words : List ℤ) : Type 0 where
@@ -43,7 +45,8 @@ pub record AreFields (places : List Place) (words : List ℤ) : Type 0 where
   pub in_front : AreInFront places words
 
 -- a word that stands for the value is written at this place
-pub record IsWritten (places : List Place) (words : List ℤ) (field : ℕ) (value : FieldValue) (new_places : List Place) (new_words : List ℤ) : Type 0 where
+pub record IsWritten (places : List Place) (words : List ℤ) (field : ℕ) (value : FieldValue) (new_places : List Place)
+    (new_words : List ℤ) : Type 0 where
   pub place : Place
   pub word : ℤ
   pub stands_for : value_in place word ≡ Some value

@@ -1,11 +1,14 @@
 //! One cell.
-ghost use Rattle.std.specs.Prelude.{◌≡◌, ◌<◌, ℕ, IfOk, Some, IsTrue, is_some, length, option_and_then, option_map, true, false};
-ghost use Rattle.jlr_machine.specs.Objects.{as_cleanable, as_guard, as_reference, some_and, with_cleanable, with_field, with_reference};
+ghost use Rattle.std.specs.Prelude.{◌≡◌, ◌<◌, ℕ, IfOk, Some, IsTrue, is_some, length, option_and_then, option_map};
+ghost use Rattle.std.specs.Prelude.{true, false};
+ghost use Rattle.jlr_machine.specs.Objects.{as_cleanable, as_guard, as_reference, some_and, with_cleanable, with_field};
+ghost use Rattle.jlr_machine.specs.Objects.{with_reference};
 ghost use Rattle.jlr_machine.specs.Refusals.{is_cleanable, is_record, is_reference};
 ghost use Rattle.jlr_machine.specs.declared.object.Object.TheVariants.{Plain};
 ghost use Rattle.jlr_machine.specs.declared.object.Contents.TheVariants.{Elements as ElementsOf};
 ghost use Rattle.jlr_machine.specs.Calls.{spent, unreferred};
-ghost use Rattle.jlr_cells.specs.Contents.{field_in, is_array, in_clean_state, in_state, kind_in, next_in, object_in, object_of, referent_in, unregistered, watching, with_list, without_referent};
+ghost use Rattle.jlr_cells.specs.Contents.{field_in, is_array, in_clean_state, in_state, kind_in, next_in, object_in};
+ghost use Rattle.jlr_cells.specs.Contents.{object_of, referent_in, unregistered, watching, with_list, without_referent};
 ghost use Rattle.jlr_links.specs.Lists.{list_at};
 ghost use Rattle.jlr_cells.specs.Links.{links_of, no_links};
 

@@ -9,8 +9,8 @@ use jlr_types::Slot;
 use std::alloc::{AllocError, Global};
 use std::marker::Model;
 
-/// By slot, the links of eight fields: those of the first four side by side, and those of the others in a column of their own, which is read
-/// where one of them ever referred to an object.
+/// By slot, the links of eight fields: those of the first four side by side, and those of the others in a column of
+/// their own, which is read where one of them ever referred to an object.
 #[derive(Drop)]
 pub(crate) struct Columns {
     near: Column<Links>,
@@ -83,7 +83,8 @@ impl Columns {
     {
         let place = slot.number() as usize;
         let near = &self.near[place];
-        // Where no object had more than four references, nothing of the second column was ever written: the set is not asked then.
+        // Where no object had more than four references, nothing of the second column was ever written: the set is not
+        // asked then.
         match self.far.get(place) {
             None => (near, None),
             Some(far) => {

@@ -1,5 +1,6 @@
 //! The kinds of the objects, by slot.
-ghost use Rattle.std.specs.Prelude.{◌≡◌, ℕ, ◌<◌, ◌≤◌, IfOk, MatchOption, None, Some, false, length, replicate, slice_index_or, slice_set, true};
+ghost use Rattle.std.specs.Prelude.{◌≡◌, ℕ, ◌<◌, ◌≤◌, IfOk, MatchOption, None, Some, false, length, replicate};
+ghost use Rattle.std.specs.Prelude.{slice_index_or, slice_set, true};
 ghost use Rattle.jlr_cells.specs.Kinds.{IsNoArray, IsNoCleanable, shown_kind};
 ghost use Rattle.jlr_sets.specs.SlotSets.{is_in};
 
@@ -24,8 +25,8 @@ enum Label {
     Guard,
 }
 
-/// Of which kind what lies at a slot is, by slot, side by side; and sets in which the cleanables and the arrays are, so that they are found
-/// without a pass over all slots.
+/// Of which kind what lies at a slot is, by slot, side by side; and sets in which the cleanables and the arrays are, so
+/// that they are found without a pass over all slots.
 #[derive(Drop)]
 pub(crate) struct Kinds {
     labels: Vec<Label>,
@@ -91,14 +92,19 @@ impl Kinds {
 
     /// A slot not below `from` such that no cleanable is between; or none, where there is no cleanable from there on.
     pub(crate) fn next_cleanable(&self, from: u32) -> Option<Slot>
-        ensures { MatchOption result ((s : ℕ) → from ≤ s → IsNoCleanable self.now s) (λ slot. (from ≤ slot) × (slot < length self.now) × ((s : ℕ) → from ≤ s → s < slot → IsNoCleanable self.now s)) }
+        ensures { MatchOption result ((s : ℕ) → from ≤ s → IsNoCleanable self.now s)
+            (λ slot. (from ≤ slot) × (slot < length self.now)
+            × ((s : ℕ) → from ≤ s → s < slot → IsNoCleanable self.now s)) }
     {
         self.cleanables.next_from(from)
     }
 
-    /// A slot not below `from` outside a set, such that no array is between outside the set; or none, where there is no array outside the set from there on.
+    /// A slot not below `from` outside a set, such that no array is between outside the set; or none, where there is no
+    /// array outside the set from there on.
     pub(crate) fn next_array(&self, kept: &CellSet, from: u32) -> Option<Slot>
-        ensures { MatchOption result ((s : ℕ) → from ≤ s → is_in kept.now s ≡ false → IsNoArray self.now s) (λ slot. (from ≤ slot) × (slot < length self.now) × (is_in kept.now slot ≡ false) × ((s : ℕ) → from ≤ s → s < slot → is_in kept.now s ≡ false → IsNoArray self.now s)) }
+        ensures { MatchOption result ((s : ℕ) → from ≤ s → is_in kept.now s ≡ false → IsNoArray self.now s)
+            (λ slot. (from ≤ slot) × (slot < length self.now) × (is_in kept.now slot ≡ false)
+            × ((s : ℕ) → from ≤ s → s < slot → is_in kept.now s ≡ false → IsNoArray self.now s)) }
     {
         self.arrays.next_beyond(kept, from)
     }

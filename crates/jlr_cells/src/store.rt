@@ -1,6 +1,9 @@
 //! The cells, as they lie.
-ghost use Rattle.std.specs.Prelude.{◌≡◌, ◌⊎◌, ℕ, ◌+◌, ◌++◌, ◌∷◌, [], ◌^◌, ◌<◌, ◌↔◌, IfOk, IfNone, IfSome, IsNone, IsTrue, MatchOption, None, false, true, ◌≤◌, List, Some, cond, drop, is_some, length, option_and_then, option_map, replicate, slice_get, slice_set};
-ghost use Rattle.jlr_machine.specs.Objects.{◌∈◌, as_cleanable, as_guard, as_reference, at, change_at, empty_at, occupied, set_at, some_and};
+ghost use Rattle.std.specs.Prelude.{◌≡◌, ◌⊎◌, ℕ, ◌+◌, ◌++◌, ◌∷◌, [], ◌^◌, ◌<◌, ◌↔◌, IfOk, IfNone, IfSome, IsNone};
+ghost use Rattle.std.specs.Prelude.{IsTrue, MatchOption, None, false, true, ◌≤◌, List, Some, cond, drop, is_some};
+ghost use Rattle.std.specs.Prelude.{length, option_and_then, option_map, replicate, slice_get, slice_set};
+ghost use Rattle.jlr_machine.specs.Objects.{◌∈◌, as_cleanable, as_guard, as_reference, at, change_at, empty_at};
+ghost use Rattle.jlr_machine.specs.Objects.{occupied, set_at, some_and};
 ghost use Rattle.jlr_sets.specs.SlotSets.{is_in};
 ghost use Rattle.jlr_links.specs.Lists.{list_at};
 ghost use Rattle.jlr_cells.specs.Showing.{shown};
@@ -9,7 +12,9 @@ ghost use Rattle.jlr_machine.specs.Edges.Chain.{Strong};
 ghost use Rattle.jlr_machine.specs.Objects.{with_cleanable, with_field, with_members, with_reference};
 ghost use Rattle.jlr_machine.specs.Refusals.{is_cleanable, is_guard, is_plain, is_queue, is_record, is_reference};
 ghost use Rattle.jlr_machine.specs.Calls.{spent, unreferred};
-ghost use Rattle.jlr_cells.specs.Contents.{field_at, is_array, is_ref, in_clean_state, in_state, kind_of, member_in, members_in, object_in, object_of, objects_in, referent_in, unregistered, watching, with_list, with_lists, without_referent};
+ghost use Rattle.jlr_cells.specs.Contents.{field_at, is_array, is_ref, in_clean_state, in_state, kind_of, member_in};
+ghost use Rattle.jlr_cells.specs.Contents.{members_in, object_in, object_of, objects_in, referent_in, unregistered};
+ghost use Rattle.jlr_cells.specs.Contents.{watching, with_list, with_lists, without_referent};
 ghost use Rattle.jlr_cells.specs.Links.{cell_links, linked, linked_in, no_links};
 ghost use Rattle.jlr_machine.specs.declared.object.Object.TheVariants.{Plain};
 ghost use Rattle.jlr_machine.specs.declared.object.Contents.TheVariants.{Elements as ElementsOf};
@@ -30,9 +35,10 @@ use jlr_types::{FieldValue, Meter, Slot};
 use std::alloc::{AllocError, Global};
 use std::marker::Model;
 
-/// What lies in the cells, by slot, whether it still counts or not. The kinds stand by themselves once more, side by side, so that a pass over all cells reads
-/// only those that it has to; and so does what the fields of plain objects refer to, so that marking reads no cell of those. These
-/// two stand in front, so that the instructions of the marker's loop are short.
+/// What lies in the cells, by slot, whether it still counts or not. The kinds stand by themselves once more, side by
+/// side, so that a pass over all cells reads only those that it has to; and so does what the fields of plain objects
+/// refer to, so that marking reads no cell of those. These two stand in front, so that the instructions of the marker's
+/// loop are short.
 #[derive(Drop)]
 pub struct Store {
     links: Columns,
@@ -143,7 +149,9 @@ impl Store {
 
     /// A slot not below `from` such that no cleanable is between; or none, where there is no cleanable from there on.
     pub fn next_cleanable(&self, from: u32) -> Option<Slot>
-        ensures { MatchOption result ((s : ℕ) → from ≤ s → some_and is_cleanable (at self.now s) ≡ false) (λ slot. (from ≤ slot) × (slot < length self.now) × ((s : ℕ) → from ≤ s → s < slot → some_and is_cleanable (at self.now s) ≡ false)) }
+        ensures { MatchOption result ((s : ℕ) → from ≤ s → some_and is_cleanable (at self.now s) ≡ false)
+            (λ slot. (from ≤ slot) × (slot < length self.now)
+            × ((s : ℕ) → from ≤ s → s < slot → some_and is_cleanable (at self.now s) ≡ false)) }
     {
         self.kinds.next_cleanable(from)
     }
@@ -169,9 +177,13 @@ impl Store {
         matches!(self.kind(slot), Some(Kind::Array))
     }
 
-    /// A slot not below `from` outside a set, such that no array is between outside the set; or none, where there is no array outside the set from there on.
+    /// A slot not below `from` outside a set, such that no array is between outside the set; or none, where there is no
+    /// array outside the set from there on.
     pub fn next_array(&self, kept: &CellSet, from: u32) -> Option<Slot>
-        ensures { MatchOption result ((s : ℕ) → from ≤ s → is_in kept.now s ≡ false → some_and is_array (at self.now s) ≡ false) (λ slot. (from ≤ slot) × (slot < length self.now) × (is_in kept.now slot ≡ false) × ((s : ℕ) → from ≤ s → s < slot → is_in kept.now s ≡ false → some_and is_array (at self.now s) ≡ false)) }
+        ensures { MatchOption result ((s : ℕ) → from ≤ s → is_in kept.now s ≡ false
+            → some_and is_array (at self.now s) ≡ false)
+            (λ slot. (from ≤ slot) × (slot < length self.now) × (is_in kept.now slot ≡ false)
+            × ((s : ℕ) → from ≤ s → s < slot → is_in kept.now s ≡ false → some_and is_array (at self.now s) ≡ false)) }
     {
         self.kinds.next_array(kept, from)
     }
@@ -376,7 +388,8 @@ impl Store {
     /// The member after another of the queue at a slot, if that is not the last.
     pub fn next_member(&self, queue: Slot, member: Slot) -> Option<Slot>
         requires { member ∈ members_in (at self.now queue) }
-        ensures { (before after : List ℕ) → members_in (at self.now queue) ≡ before ++ member ∷ after → result ≡ slice_get after 0 }
+        ensures { (before after : List ℕ) → members_in (at self.now queue) ≡ before ++ member ∷ after
+            → result ≡ slice_get after 0 }
     {
         self.queues.next(queue.number(), member)
     }
@@ -419,14 +432,16 @@ impl Store {
         Ok(Table::from_vec(images(alloc, &self.cells, &self.queues, occupied)?))
     }
 
-    /// Visits the object at a slot: one tick. It lends the links of a plain object with fields, whose cell it does not read: those of its first
-    /// four fields, and those of the others, if one of them ever referred to an object. Of any other object it lends none.
+    /// Visits the object at a slot: one tick. It lends the links of a plain object with fields, whose cell it does not
+    /// read: those of its first four fields, and those of the others, if one of them ever referred to an object. Of any
+    /// other object it lends none.
     #[inline(always)]
     pub fn visit(&self, slot: Slot, meter: &mut Meter) -> Option<(&Links, Option<&Links>)>
         requires object { IsTrue (is_some (at self.now slot)) }
         requires ticks { meter.old + 1 < 2 ^ 64 }
         ensures plain { is_some result ≡ some_and is_record (at self.now slot) }
-        ensures edges { IfSome result (λ links. edges_from Strong self.now slot ≡ linked links.0.now ++ linked_in links.1) }
+        ensures edges { IfSome result (λ links. edges_from Strong self.now slot ≡ linked links.0.now
+            ++ linked_in links.1) }
         ensures ticked { meter.new ≡ meter.old + 1 }
     {
         meter.tick();
@@ -452,8 +467,9 @@ impl Store {
         self.kinds.at(slot)
     }
 
-    /// What the strong edges are of the object at a slot that is no plain one with fields, but those of a queue to its members: it lends the
-    /// elements of an array, and tells the queue that a reference may still be added to, or a guard's cleanable.
+    /// What the strong edges are of the object at a slot that is no plain one with fields, but those of a queue to its
+    /// members: it lends the elements of an array, and tells the queue that a reference may still be added to, or a
+    /// guard's cleanable.
     pub fn visit_other(&self, slot: Slot) -> Visited<'_>
         requires object { IsTrue (is_some (at self.now slot)) }
         requires other { some_and is_record (at self.now slot) ≡ false }
@@ -479,7 +495,8 @@ fn images(
     requires small { length cells.now < 2 ^ 32 }
     requires lists { length queues.now.lists ≡ length cells.now }
     requires places { length occupied.now ≡ length cells.now }
-    ensures { IfOk result (λ objects. objects.items ≡ shown occupied.now (with_lists (objects_in cells.now) queues.now.lists)) }
+    ensures { IfOk result (λ objects. objects.items
+        ≡ shown occupied.now (with_lists (objects_in cells.now) queues.now.lists)) }
 {
     let mut objects = Vec::with_capacity(alloc, cells.len())?;
     for slot in 0..cells.len() {
@@ -499,7 +516,8 @@ fn image_of(
 ) -> Result<Option<Object>, AllocError>
     requires list { slot < length queues.now.lists }
     requires place { slot < length occupied.now }
-    ensures { IfOk result (λ object. object ≡ cond (is_in occupied.now slot) (with_list (list_at queues.now.lists slot) (object_in cell.now)) None) }
+    ensures { IfOk result (λ object. object ≡ cond (is_in occupied.now slot)
+        (with_list (list_at queues.now.lists slot) (object_in cell.now)) None) }
 {
     if !occupied.contains(Slot::new(slot)) {
         return Ok(None);

@@ -1,5 +1,6 @@
 -- No two jobs have one action or one taker, whatever is added or ended; so there are at most 256.
-use Rattle.std.proofs.Common.{◌≡◌, ℕ, ◌<◌, ◌==◌, true, false, cond, not, ◌||◌, eqb, List, [], ◌∷◌, map, length, refl, sym, arith, find, nat_lt, Some, is_some}
+use Rattle.std.proofs.Common.{◌≡◌, ℕ, ◌<◌, ◌==◌, true, false, cond, not, ◌||◌, eqb, List, [], ◌∷◌, map, length, refl, sym, arith, find}
+use Rattle.std.proofs.Common.{nat_lt, Some, is_some}
 use Rattle.std.specs.List.{list_any, AllByRecursion, IsDistinct}
 use Rattle.std.proofs.lemmas.Bool.{cond_both, eqb-true, eqb-false, ne_eqb}
 use Rattle.std.proofs.lemmas.List.{length-map}
@@ -34,13 +35,15 @@ abbrev pub IsFree : (Job → ℕ) → List Job → ℕ → Type 0
 IsFree key jobs k = AllByRecursion (λ y. eqb k y ≡ false) (map key jobs)
 
 module _ (key : Job → ℕ) where
-  distinct-with : (jobs : List Job) (new : Job) → IsFree key jobs (key new) → IsDistinct eqb (map key jobs) → IsDistinct eqb (map key (with_job jobs new))
+  distinct-with : (jobs : List Job) (new : Job) → IsFree key jobs (key new) → IsDistinct eqb (map key jobs)
+      → IsDistinct eqb (map key (with_job jobs new))
   distinct-with [] new free distinct = IsDistinct-cons eqb (key new) [] tt distinct
   distinct-with (job ∷ jobs) new free distinct =
       cond_both (nat_lt new.action job.action) (new ∷ job ∷ jobs) (job ∷ with_job jobs new) (λ l. IsDistinct eqb (map key l))
       (λ _. IsDistinct-cons eqb (key new) (map key (job ∷ jobs)) free distinct)
       (λ _. IsDistinct-cons eqb (key job) (map key (with_job jobs new))
-      (keys-with key (λ y. eqb (key job) y ≡ false) jobs new (flip (key new) (key job) free.0) (IsDistinct-head eqb (key job) (map key jobs) distinct))
+      (keys-with key (λ y. eqb (key job) y ≡ false) jobs new (flip (key new) (key job) free.0)
+      (IsDistinct-head eqb (key job) (map key jobs) distinct))
       (distinct-with jobs new free.1 (IsDistinct-tail eqb (key job) (map key jobs) distinct)))
 
   distinct-without : (jobs : List Job) (action : ℕ) → IsDistinct eqb (map key jobs) → IsDistinct eqb (map key (without_job jobs action))
@@ -57,7 +60,8 @@ module _ (key : Job → ℕ) where
 free_action : (jobs : List Job) (action : ℕ) → is_running jobs action ≡ false → IsFree (λ job. job.action) jobs action
 free_action [] action none = tt
 free_action (job ∷ jobs) action none =
-    elim (job.action == action) as (λ b. job.action == action ≡ b → is_some (cond b (Some job) (find (λ j. j.action == action) jobs)) ≡ false → IsFree (λ j. j.action) (job ∷ jobs) action) [
+    elim (job.action == action) as (λ b. job.action == action ≡ b
+    → is_some (cond b (Some job) (find (λ j. j.action == action) jobs)) ≡ false → IsFree (λ j. j.action) (job ∷ jobs) action) [
       | true ↦ λ _ e. absurd (cc e)
       | false ↦ λ apart e. (flip job.action action apart, free_action jobs action e)
     ] refl none
@@ -72,7 +76,8 @@ free_taker (job ∷ jobs) by none =
 
 -- ---- The jobs
 
-pub apart_with : (jobs : List Job) (new : Job) → new.by < 256 → is_running jobs new.action ≡ false → runs_job jobs new.by ≡ false → AreApart jobs → AreApart (with_job jobs new)
+pub apart_with : (jobs : List Job) (new : Job) → new.by < 256 → is_running jobs new.action ≡ false → runs_job jobs new.by ≡ false
+    → AreApart jobs → AreApart (with_job jobs new)
 apart_with jobs new fits action taker apart = record {
   actions = distinct-with (λ job. job.action) jobs new (free_action jobs new.action action) apart.actions;
   takers = distinct-with (λ job. job.by) jobs new (free_taker jobs new.by taker) apart.takers;

@@ -1,5 +1,7 @@
 -- Where a job stands in the list, and where a new one belongs.
-use Rattle.std.proofs.Common.{◌≡◌, ◌≢◌, ℕ, suc, ◌+◌, ◌<◌, ◌≤◌, ◌==◌, Bool, true, false, cond, not, eqb, List, [], ◌∷◌, map, length, refl, subst, sym, ap, ◌∙◌, arith, nat_lt, Some, None, is_some, unwrap_or, slice_get, slice_index_or, Result, Ok, Err, IsOk, is_ok}
+use Rattle.std.proofs.Common.{◌≡◌, ◌≢◌, ℕ, suc, ◌+◌, ◌<◌, ◌≤◌, ◌==◌, Bool, true, false, cond, not, eqb, List, [], ◌∷◌, map, length, refl}
+use Rattle.std.proofs.Common.{subst, sym, ap, ◌∙◌, arith, nat_lt, Some, None, is_some, unwrap_or, slice_get, slice_index_or, Result, Ok}
+use Rattle.std.proofs.Common.{Err, IsOk, is_ok}
 use Rattle.std.specs.List.{AllByRecursion, IsDistinct, position, position_or_len, insert, remove}
 use Rattle.std.proofs.lemmas.Bool.{eqb-true, ne_eqb, eq-eqb, ltb-true, ltb-false, cond_both}
 use Rattle.std.proofs.lemmas.List.Folds.{find_at}
@@ -25,9 +27,11 @@ is_above action job = nat_lt action job.action
 pub inserted : (jobs : List Job) (new : Job) → insert jobs (position_or_len (is_above new.action) jobs) new ≡ with_job jobs new
 inserted [] new = refl
 inserted (job ∷ jobs) new =
-    elim (nat_lt new.action job.action) as (λ b. insert (job ∷ jobs) (cond (not b) (1 + position_or_len (is_above new.action) jobs) 0) new ≡ cond b (new ∷ job ∷ jobs) (job ∷ with_job jobs new)) [
+    elim (nat_lt new.action job.action) as (λ b. insert (job ∷ jobs) (cond (not b) (1 + position_or_len (is_above new.action) jobs) 0) new
+    ≡ cond b (new ∷ job ∷ jobs) (job ∷ with_job jobs new)) [
       | true ↦ refl
-      | false ↦ subst (λ (n : ℕ). insert (job ∷ jobs) n new ≡ job ∷ with_job jobs new) (one_more (position_or_len (is_above new.action) jobs)) (ap (λ l. job ∷ l) (inserted jobs new))
+      | false ↦ subst (λ (n : ℕ). insert (job ∷ jobs) n new ≡ job ∷ with_job jobs new)
+          (one_more (position_or_len (is_above new.action) jobs)) (ap (λ l. job ∷ l) (inserted jobs new))
     ]
 
 -- ---- The job with an action
@@ -35,33 +39,47 @@ inserted (job ∷ jobs) new =
 abbrev pub has_action : ℕ → Job → Bool
 has_action action job = job.action == action
 
-without_absent : (jobs : List Job) (action : ℕ) → AllByRecursion (λ y. eqb action y ≡ false) (map (λ job. job.action) jobs) → without_job jobs action ≡ jobs
+without_absent : (jobs : List Job) (action : ℕ) → AllByRecursion (λ y. eqb action y ≡ false) (map (λ job. job.action) jobs)
+    → without_job jobs action ≡ jobs
 without_absent [] action none = refl
 without_absent (job ∷ jobs) action none =
     let apart : eqb job.action action ≡ false = ne_eqb job.action action (λ e. cc (none.0, eq-eqb action job.action (sym e))) in
     rw apart (ap (λ l. job ∷ l) (without_absent jobs action none.1))
 
-removed : (jobs : List Job) (action : ℕ) → IsDistinct eqb (map (λ job. job.action) jobs) → position_or_len (has_action action) jobs < length jobs → remove jobs (position_or_len (has_action action) jobs) ≡ without_job jobs action
+removed : (jobs : List Job) (action : ℕ) → IsDistinct eqb (map (λ job. job.action) jobs)
+    → position_or_len (has_action action) jobs < length jobs
+    → remove jobs (position_or_len (has_action action) jobs) ≡ without_job jobs action
 removed [] action distinct within = absurd (omega (arith, within))
 removed (job ∷ jobs) action distinct within =
-    elim (job.action == action) as (λ b. job.action == action ≡ b → cond (not b) (1 + position_or_len (has_action action) jobs) 0 < length (job ∷ jobs) → remove (job ∷ jobs) (cond (not b) (1 + position_or_len (has_action action) jobs) 0) ≡ cond (not b) (job ∷ without_job jobs action) (without_job jobs action)) [
-      | true ↦ λ same _. sym (without_absent jobs action (rw (eqb-true job.action action same) at (IsDistinct-head eqb job.action (map (λ j. j.action) jobs) distinct)))
-      | false ↦ λ _ there. subst (λ (n : ℕ). remove (job ∷ jobs) n ≡ job ∷ without_job jobs action) (one_more (position_or_len (has_action action) jobs)) (ap (λ l. job ∷ l) (removed jobs action (IsDistinct-tail eqb job.action (map (λ j. j.action) jobs) distinct) (omega (arith, there))))
+    elim (job.action == action) as (λ b. job.action == action ≡ b
+    → cond (not b) (1 + position_or_len (has_action action) jobs) 0 < length (job ∷ jobs)
+    → remove (job ∷ jobs) (cond (not b) (1 + position_or_len (has_action action) jobs) 0)
+    ≡ cond (not b) (job ∷ without_job jobs action) (without_job jobs action)) [
+      | true ↦ λ same _. sym (without_absent jobs action
+          (rw (eqb-true job.action action same) at (IsDistinct-head eqb job.action (map (λ j. j.action) jobs) distinct)))
+      | false ↦ λ _ there. subst (λ (n : ℕ). remove (job ∷ jobs) n ≡ job ∷ without_job jobs action)
+          (one_more (position_or_len (has_action action) jobs))
+          (ap (λ l. job ∷ l) (removed jobs action (IsDistinct-tail eqb job.action (map (λ j. j.action) jobs) distinct)
+          (omega (arith, there))))
     ] refl within
 
 -- ---- What a search found
 
 at_first : (p : Job → Bool) (jobs : List Job) (i : ℕ) → position p jobs ≡ Some i → (i ≡ position_or_len p jobs) × (i < length jobs)
 at_first p jobs i =
-    cond_both (nat_lt (position_or_len p jobs) (length jobs)) (Some (position_or_len p jobs)) None (λ o. o ≡ Some i → (i ≡ position_or_len p jobs) × (i < length jobs))
-    (λ within e. (let same : i ≡ position_or_len p jobs = cc in (same, omega (arith, same, ltb-true (position_or_len p jobs) (length jobs) within))))
+    cond_both (nat_lt (position_or_len p jobs) (length jobs)) (Some (position_or_len p jobs)) None
+    (λ o. o ≡ Some i → (i ≡ position_or_len p jobs) × (i < length jobs))
+    (λ within e. (let same : i ≡ position_or_len p jobs = cc in
+    (same, omega (arith, same, ltb-true (position_or_len p jobs) (length jobs) within))))
     (λ _ e. absurd (cc e))
 
 -- past all jobs, where none was found
-pub place_found : (p : Job → Bool) (jobs : List Job) → (unwrap_or (position p jobs) (length jobs) ≡ position_or_len p jobs) × (position_or_len p jobs ≤ length jobs)
+pub place_found : (p : Job → Bool) (jobs : List Job) → (unwrap_or (position p jobs) (length jobs) ≡ position_or_len p jobs)
+    × (position_or_len p jobs ≤ length jobs)
 place_found p jobs =
     let within : position_or_len p jobs ≤ length jobs = prefix_len-le-length (λ job. not (p job)) jobs in (
-      cond_both (nat_lt (position_or_len p jobs) (length jobs)) (Some (position_or_len p jobs)) None (λ o. unwrap_or o (length jobs) ≡ position_or_len p jobs)
+      cond_both (nat_lt (position_or_len p jobs) (length jobs)) (Some (position_or_len p jobs)) None
+          (λ o. unwrap_or o (length jobs) ≡ position_or_len p jobs)
           (λ _. refl)
           (λ past. omega (arith, within, ltb-false (position_or_len p jobs) (length jobs) past)),
       within,
@@ -74,7 +92,8 @@ any_job = record { action = 0; work = Note 0; by = 0 }
 pub position_tells : (jobs : List Job) (action : ℕ) → is_some (position (has_action action) jobs) ≡ is_some (job_in jobs action)
 position_tells jobs action =
     rw (find_at (has_action action) jobs)
-    (cond_both (nat_lt (position_or_len (has_action action) jobs) (length jobs)) (Some (position_or_len (has_action action) jobs)) None (λ o. is_some o ≡ is_some (slice_get jobs (position_or_len (has_action action) jobs)))
+    (cond_both (nat_lt (position_or_len (has_action action) jobs) (length jobs)) (Some (position_or_len (has_action action) jobs)) None
+    (λ o. is_some o ≡ is_some (slice_get jobs (position_or_len (has_action action) jobs)))
     (λ within. rw (slice_get-get_or jobs (position_or_len (has_action action) jobs) any_job (ltb-true _ _ within)) refl)
     (λ past. rw (slice_get_past jobs (position_or_len (has_action action) jobs) (ltb-false _ _ past)) refl))
 

@@ -20,7 +20,8 @@ none_registered n next_action =
     }
 
 -- what waits elsewhere, where one place has changed
-pub registered_there : (waiting : Table ℕ) (next_action place : ℕ) → AreRegistered waiting next_action → AreRegistered (set_at waiting place next_action) (next_action + 1)
+pub registered_there : (waiting : Table ℕ) (next_action place : ℕ) → AreRegistered waiting next_action
+    → AreRegistered (set_at waiting place next_action) (next_action + 1)
 registered_there waiting next_action place r =
     record {
       given = λ p action e. elim (set_cases waiting place p (Some next_action) action e) [
@@ -39,20 +40,23 @@ registered_there waiting next_action place r =
       ];
     }
 
-waited_before : (waiting : Table ℕ) (place p action : ℕ) → at (empty_at waiting place) p ≡ Some action → (p ≡ place → ⊥) × (at waiting p ≡ Some action)
+waited_before : (waiting : Table ℕ) (place p action : ℕ) → at (empty_at waiting place) p ≡ Some action → (p ≡ place → ⊥)
+    × (at waiting p ≡ Some action)
 waited_before waiting place p action e = elim (set_cases waiting place p None action e) [
   | inl here ↦ no_some action here.1
   | inr there ↦ there
 ]
 
-pub one_less_waits : (waiting : Table ℕ) (next_action place : ℕ) → AreRegistered waiting next_action → AreRegistered (empty_at waiting place) next_action
+pub one_less_waits : (waiting : Table ℕ) (next_action place : ℕ) → AreRegistered waiting next_action
+    → AreRegistered (empty_at waiting place) next_action
 one_less_waits waiting next_action place r =
     record {
       given = λ p action e. r.given p action (waited_before waiting place p action e).1;
       once = λ p q action e f. r.once p q action (waited_before waiting place p action e).1 (waited_before waiting place q action f).1;
     }
 
-pub waits_nowhere : (waiting : Table ℕ) (next_action place action : ℕ) → AreRegistered waiting next_action → at waiting place ≡ Some action → (other : ℕ) → at (empty_at waiting place) other ≢ Some action
+pub waits_nowhere : (waiting : Table ℕ) (next_action place action : ℕ) → AreRegistered waiting next_action → at waiting place ≡ Some action
+    → (other : ℕ) → at (empty_at waiting place) other ≢ Some action
 waits_nowhere waiting next_action place action r waits other e =
     let before = waited_before waiting place other action e in
     before.0 (r.once other place action before.1 waits)

@@ -28,7 +28,8 @@ added_runs [] new none = rw (eq-eqb new.action new.action refl) refl
 added_runs (job ∷ jobs) new none =
     cond_both (nat_lt new.action job.action) (new ∷ job ∷ jobs) (job ∷ with_job jobs new) (λ l. job_in l new.action ≡ Some new)
     (λ _. rw (eq-eqb new.action new.action refl) refl)
-    (λ _. elim (job.action == new.action) as (λ b. is_some (cond b (Some job) (job_in jobs new.action)) ≡ false → cond b (Some job) (job_in (with_job jobs new) new.action) ≡ Some new) [
+    (λ _. elim (job.action == new.action) as (λ b. is_some (cond b (Some job) (job_in jobs new.action)) ≡ false
+    → cond b (Some job) (job_in (with_job jobs new) new.action) ≡ Some new) [
       | true ↦ λ e. absurd (cc e)
       | false ↦ λ e. added_runs jobs new e
     ] none)
@@ -43,41 +44,60 @@ length_with (job ∷ jobs) new =
 pub found_action : (jobs : List Job) (action : ℕ) (job : Job) → job_in jobs action ≡ Some job → job.action ≡ action
 found_action [] action job found = absurd (cc found)
 found_action (first ∷ jobs) action job found =
-    elim (first.action == action) as (λ b. first.action == action ≡ b → cond b (Some first) (job_in jobs action) ≡ Some job → job.action ≡ action) [
+    elim (first.action == action) as (λ b. first.action == action ≡ b → cond b (Some first) (job_in jobs action) ≡ Some job
+    → job.action ≡ action) [
       | true ↦ λ e here. (let same : first ≡ job = cc in rw (← same) (eqb-true first.action action e))
       | false ↦ λ _ later. found_action jobs action job later
     ] refl found
 
-pub one_outcome : (o : Outcomes) (action : ℕ) (work : Work) (outcome : Outcome) → (recorded o action work outcome).ok + (recorded o action work outcome).failed ≡ o.ok + o.failed + 1
+pub one_outcome : (o : Outcomes) (action : ℕ) (work : Work) (outcome : Outcome)
+    → (recorded o action work outcome).ok + (recorded o action work outcome).failed ≡ o.ok + o.failed + 1
 one_outcome o action work OutcomeOk = omega arith
 one_outcome o action work (Failed fault) = omega arith
 
 module _ {R : Type 0} where
-  taken_work : (c : Cleanings R) (m : Machine) (place s by action : ℕ) (work : Work) → machine_with (after_take_up c place (record { action = action; work = work; by = by })) (with_object m s (with_cleanable spent)) ≡ with_work_state (record (with_object (machine_with c m) s (with_cleanable spent)) { jobs = with_job c.jobs (record { action = action; work = work; by = by }); taken = c.taken + 1 }) (rid_of work) Closing
+  taken_work : (c : Cleanings R) (m : Machine) (place s by action : ℕ) (work : Work)
+      → machine_with (after_take_up c place (record { action = action; work = work; by = by })) (with_object m s (with_cleanable spent))
+      ≡ with_work_state (record (with_object (machine_with c m) s (with_cleanable spent)) {
+        jobs = with_job c.jobs
+            (record { action = action; work = work; by = by });
+        taken = c.taken + 1;
+      }) (rid_of work) Closing
   taken_work c m place s by action (Note n) = refl
   taken_work c m place s by action (WorkOn rid) = rw (resources_changed c.table.held rid kept.Closing) refl
 
-  pub machine_taken : (c : Cleanings R) (place by action : ℕ) (work : Work) (m : Machine) (s : ℕ) (d : Cleanable) → d.action ≡ action → d.work ≡ work → machine_with (after_take_up c place (record { action = action; work = work; by = by })) (with_object m s (with_cleanable spent)) ≡ taken_up (machine_with c m) by s d
+  pub machine_taken : (c : Cleanings R) (place by action : ℕ) (work : Work) (m : Machine) (s : ℕ) (d : Cleanable) → d.action ≡ action
+      → d.work ≡ work → machine_with (after_take_up c place (record { action = action; work = work; by = by }))
+      (with_object m s (with_cleanable spent)) ≡ taken_up (machine_with c m) by s d
   machine_taken c place by action work m s d a w = rw (← a, ← w) (taken_work c m place s by d.action d.work)
 
-  finished_work : (c : Cleanings R) (m : Machine) (action by : ℕ) (work : Work) (outcome : Outcome) → machine_with (after_finish c (record { action = action; work = work; by = by }) outcome) m ≡ finished (machine_with c m) (record { action = action; work = work; by = by }) outcome
+  finished_work : (c : Cleanings R) (m : Machine) (action by : ℕ) (work : Work) (outcome : Outcome)
+      → machine_with (after_finish c (record { action = action; work = work; by = by }) outcome) m
+      ≡ finished (machine_with c m) (record { action = action; work = work; by = by }) outcome
   finished_work c m action by (Note n) OutcomeOk = refl
   finished_work c m action by (Note n) (Failed fault) = refl
   finished_work c m action by (WorkOn rid) OutcomeOk = rw (resources_ended c.table.held rid) refl
   finished_work c m action by (WorkOn rid) (Failed fault) = rw (resources_ended c.table.held rid) refl
 
-  pub machine_finished : (c : Cleanings R) (job : Job) (outcome : Outcome) (m : Machine) → machine_with (after_finish c job outcome) m ≡ finished (machine_with c m) job outcome
+  pub machine_finished : (c : Cleanings R) (job : Job) (outcome : Outcome) (m : Machine)
+      → machine_with (after_finish c job outcome) m ≡ finished (machine_with c m) job outcome
   machine_finished c job outcome m = finished_work c m job.action job.by job.work outcome
 
   -- a cleaner's fields after a job was over and its outcome recorded
-  pub all_finished : (c : Cleanings R) (job : Job) (outcome : Outcome) (old new : Outcomes) (jobs : List Job) (table : Resources R) → old ≡ record { ok = c.ok; failed = c.failed; notes = c.notes; faults = c.faults } → jobs ≡ without_job c.jobs job.action → table ≡ table_closed c.table job.work → new ≡ recorded old job.action job.work outcome → record c { jobs = jobs; table = table; faults = new.faults; notes = new.notes; ok = new.ok; failed = new.failed } ≡ after_finish c job outcome
+  pub all_finished : (c : Cleanings R) (job : Job) (outcome : Outcome) (old new : Outcomes) (jobs : List Job) (table : Resources R)
+      → old ≡ record { ok = c.ok; failed = c.failed; notes = c.notes; faults = c.faults } → jobs ≡ without_job c.jobs job.action
+      → table ≡ table_closed c.table job.work → new ≡ recorded old job.action job.work outcome
+      → record c { jobs = jobs; table = table; faults = new.faults; notes = new.notes; ok = new.ok; failed = new.failed }
+      ≡ after_finish c job outcome
   all_finished c job OutcomeOk old new jobs table before ended closed recorded = rw (ended, closed, recorded, before) refl
   all_finished c job (Failed fault) old new jobs table before ended closed recorded = rw (ended, closed, recorded, before) refl
 
   -- ---- The other calls of the table
 
-  pub machine_changed : (c : Cleanings R) (rid : ℕ) (k : Kept R) (m : Machine) → machine_with (record c { table = changed c.table rid k }) m ≡ with_state (machine_with c m) rid (state_of k)
+  pub machine_changed : (c : Cleanings R) (rid : ℕ) (k : Kept R) (m : Machine)
+      → machine_with (record c { table = changed c.table rid k }) m ≡ with_state (machine_with c m) rid (state_of k)
   machine_changed c rid k m = rw (resources_changed c.table.held rid k) refl
 
-  pub machine_ended : (c : Cleanings R) (rid : ℕ) (m : Machine) → machine_with (record c { table = removed c.table rid }) m ≡ without_resource (machine_with c m) rid
+  pub machine_ended : (c : Cleanings R) (rid : ℕ) (m : Machine)
+      → machine_with (record c { table = removed c.table rid }) m ≡ without_resource (machine_with c m) rid
   machine_ended c rid m = rw (resources_ended c.table.held rid) refl

@@ -16,8 +16,8 @@ use Rattle.jlr_machine.specs.Calls.{noted}
 use Rattle.jlr_resource.specs.declared.place.Kept.TheVariants as kept
 use Rattle.jlr_resource.specs.Resources.{Resources, changed, kept_at, removed, resource_in, resources, state_at}
 
--- The machine's fields that a cleaner keeps, with the table in place of the list of resources; and at each place the action that was registered
--- there and not yet taken up, if there is one
+-- The machine's fields that a cleaner keeps, with the table in place of the list of resources; and at each place the
+-- action that was registered there and not yet taken up, if there is one
 pub record Cleanings (R : Type 0) : Type 0 where
   pub waiting : Table ℕ
   pub jobs : List Job
@@ -38,19 +38,42 @@ module _ {R : Type 0} where
   -- the machine with these fields, and all others as in m
   abbrev pub machine_with : Cleanings R → Machine → Machine
   machine_with c m =
-      record m { jobs = c.jobs; resources = resources c.table; resource_limit = c.table.limit; faults = c.faults; notes = c.notes; next_action = c.next_action; taken = c.taken; ok = c.ok; failed = c.failed }
+      record m {
+        jobs = c.jobs;
+        resources = resources c.table;
+        resource_limit = c.table.limit;
+        faults = c.faults;
+        notes = c.notes;
+        next_action = c.next_action;
+        taken = c.taken;
+        ok = c.ok;
+        failed = c.failed;
+      }
 
-  -- nothing was registered or taken up, there are so many places, the table may hold limit resources, and this is the next action
+  -- nothing was registered or taken up, there are so many places, the table may hold limit resources, and this is the
+  -- next action
   abbrev pub fresh : ℕ → ℕ → ℕ → Cleanings R
   fresh places limit next_action =
-      record { waiting = replicate places None; jobs = []; table = record { held = []; limit = limit; room = 0; next = 0 }; faults = []; notes = []; next_action = next_action; taken = 0; ok = 0; failed = 0 }
+      record {
+        waiting = replicate places None;
+        jobs = [];
+        table =
+            record { held = []; limit = limit; room = 0; next = 0 };
+        faults = [];
+        notes = [];
+        next_action = next_action;
+        taken = 0;
+        ok = 0;
+        failed = 0;
+      }
 
   -- ---- The resource that is an action's work
 
   -- where the work is a resource, the table has it, for this action and in this state
   abbrev pub HasWork : Resources R → ℕ → ResourceState → Work → Type 0
   HasWork t action s (Note n) = ⊤
-  HasWork t action s (WorkOn rid) = resource_in (resources t) rid ≡ Some (record { rid = rid; action = action; state = s })
+  HasWork t action s (WorkOn rid) =
+      resource_in (resources t) rid ≡ Some (record { rid = rid; action = action; state = s })
 
   abbrev pub IsInState : Resources R → ResourceState → Work → Type 0
   IsInState t s (Note n) = ⊤
@@ -78,7 +101,12 @@ module _ {R : Type 0} where
 
   -- the action at this place waits no more: a job more runs, and its resource is Closing
   abbrev pub after_take_up : Cleanings R → ℕ → Job → Cleanings R
-  after_take_up c place job = record c { waiting = empty_at c.waiting place; jobs = with_job c.jobs job; table = table_closing c.table job.work; taken = c.taken + 1 }
+  after_take_up c place job = record c {
+    waiting = empty_at c.waiting place;
+    jobs = with_job c.jobs job;
+    table = table_closing c.table job.work;
+    taken = c.taken + 1;
+  }
 
   -- the job and its resource are over
   abbrev pub without_work : Cleanings R → Job → Cleanings R
@@ -87,7 +115,10 @@ module _ {R : Type 0} where
   -- and its outcome is recorded
   abbrev pub after_finish : Cleanings R → Job → Outcome → Cleanings R
   after_finish c job OutcomeOk = record (without_work c job) { ok = c.ok + 1; notes = noted c.notes job.work }
-  after_finish c job (Failed fault) = record (without_work c job) { failed = c.failed + 1; faults = last_256 (c.faults ++ record { action = job.action; fault = fault } ∷ []) }
+  after_finish c job (Failed fault) = record (without_work c job) {
+    failed = c.failed + 1;
+    faults = last_256 (c.faults ++ record { action = job.action; fault = fault } ∷ []);
+  }
 
   -- ---- What always holds
 
@@ -95,7 +126,8 @@ module _ {R : Type 0} where
   abbrev pub AreClosing : Resources R → List Job → Type 0
   AreClosing t jobs = AllByRecursion (λ job. HasWork t job.action state.Closing job.work) jobs
 
-  pub record IsCleanings (waiting : Table ℕ) (t : Resources R) (jobs : List Job) (next_action taken ok failed : ℕ) : Type 0 where
+  pub record IsCleanings (waiting : Table ℕ) (t : Resources R) (jobs : List Job)
+      (next_action taken ok failed : ℕ) : Type 0 where
     pub registered : AreRegistered waiting next_action
     pub closing : AreClosing t jobs
     pub adds_up : taken ≡ ok + failed + length jobs

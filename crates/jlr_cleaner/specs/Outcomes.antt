@@ -13,4 +13,5 @@ no_outcomes = record { ok = 0; failed = 0; notes = []; faults = [] }
 -- a job ended well, with its note, or failed
 abbrev pub recorded : Outcomes → ℕ → Work → Outcome → Outcomes
 recorded o action work Ok = record o { ok = o.ok + 1; notes = noted o.notes work }
-recorded o action work (Failed fault) = record o { failed = o.failed + 1; faults = last_256 (o.faults ++ record { action = action; fault = fault } ∷ []) }
+recorded o action work (Failed fault) =
+    record o { failed = o.failed + 1; faults = last_256 (o.faults ++ record { action = action; fault = fault } ∷ []) }

@@ -1,5 +1,6 @@
 //! The cleaner.
-ghost use Rattle.std.specs.Prelude.{◌≡◌, ◌≢◌, ℕ, ◌+◌, ◌-◌, ◌^◌, ◌<◌, ◌≤◌, ◌∷◌, ◌++◌, ◌↔◌, ◌⊎◌, None, Some, Err, true, false, length, nat_le, IfErr, IfNone, IfOk, IfSome, IsOk, OnErr, OnOk};
+ghost use Rattle.std.specs.Prelude.{◌≡◌, ◌≢◌, ℕ, ◌+◌, ◌-◌, ◌^◌, ◌<◌, ◌≤◌, ◌∷◌, ◌++◌, ◌↔◌, ◌⊎◌, None, Some, Err, true};
+ghost use Rattle.std.specs.Prelude.{false, length, nat_le, IfErr, IfNone, IfOk, IfSome, IsOk, OnErr, OnOk};
 ghost use Rattle.std.specs.Option.{option_to_list};
 ghost use Rattle.std.specs.List.Sorted.{IsPermutation};
 ghost use Rattle.jlr_machine.specs.declared.machine.Job.{Job as RunningJob};
@@ -10,9 +11,11 @@ ghost use Rattle.jlr_machine.specs.Lookups.{with_object, with_resource, with_sta
 ghost use Rattle.jlr_machine.specs.Objects.{at, empty_at, with_cleanable};
 ghost use Rattle.jlr_machine.specs.Calls.{finished, spent, taken_up};
 ghost use Rattle.jlr_resource.specs.declared.place.Kept.TheVariants as kept;
-ghost use Rattle.jlr_resource.specs.Resources.{changed, kept_at, opening, removed, resource_in, resources, state_at, values};
+ghost use Rattle.jlr_resource.specs.Resources.{changed, kept_at, opening, removed, resource_in, resources, state_at};
+ghost use Rattle.jlr_resource.specs.Resources.{values};
 ghost use Rattle.jlr_cleaner.specs.Jobs.{is_job_of, is_running, job_in, runs_job};
-ghost use Rattle.jlr_cleaner.specs.Cleanings.{HandsOut, HasWork, IsInState, after_finish, after_register, after_take_up, fresh, machine_with, table_closed, table_closing};
+ghost use Rattle.jlr_cleaner.specs.Cleanings.{HandsOut, HasWork, IsInState, after_finish, after_register};
+ghost use Rattle.jlr_cleaner.specs.Cleanings.{after_take_up, fresh, machine_with, table_closed, table_closing};
 
 use crate::job::Job;
 use crate::outcomes::Outcomes;
@@ -37,7 +40,8 @@ pub struct Totals {
     pub failed: u64,
 }
 
-/// The actions that wait, the jobs that run, what became of the others, and the files and sockets. `R` need not be `Drop`: none of them is lost here.
+/// The actions that wait, the jobs that run, what became of the others, and the files and sockets. `R` need not be
+/// `Drop`: none of them is lost here.
 #[derive(Drop)]
 pub struct Cleaner<R> {
     waiting: Waiting,
@@ -53,14 +57,26 @@ impl<R> Model for Cleaner<R> {
 
     ghost Value = { Cleanings R };
 
-    ghost view = { λ a. record { waiting = a.waiting; jobs = a.running; table = a.table; faults = a.outcomes.faults; notes = a.outcomes.notes; next_action = a.next_action; taken = a.taken; ok = a.outcomes.ok; failed = a.outcomes.failed } };
+    ghost view = { λ a. record {
+      waiting = a.waiting;
+      jobs = a.running;
+      table = a.table;
+      faults = a.outcomes.faults;
+      notes = a.outcomes.notes;
+      next_action =
+          a.next_action;
+      taken = a.taken;
+      ok = a.outcomes.ok;
+      failed = a.outcomes.failed;
+    } };
 
-    ghost invariant = { λ a. IsCleanings a.waiting a.table a.running a.next_action a.taken a.outcomes.ok a.outcomes.failed };
+    ghost invariant = { λ a. IsCleanings a.waiting a.table a.running a.next_action a.taken a.outcomes.ok
+        a.outcomes.failed };
 }
 
 impl<R> Cleaner<R> {
-    /// Nothing was registered or taken up, and the first action number is 1. It reserves a place for each cell, and room for a job of
-    /// each taker and for the last notes and faults.
+    /// Nothing was registered or taken up, and the first action number is 1. It reserves a place for each cell, and
+    /// room for a job of each taker and for the last notes and faults.
     ///
     /// # Errors
     /// `AllocError` where there is no memory.
@@ -118,11 +134,12 @@ impl<R> Cleaner<R> {
         self.waiting.at(place)
     }
 
-    /// Registers an action at the place of its cleanable, if a number is left: 1 to 2^64 - 2, and not given before. It waits there to be
-    /// taken up.
+    /// Registers an action at the place of its cleanable, if a number is left: 1 to 2^64 - 2, and not given before. It
+    /// waits there to be taken up.
     pub fn register(&mut self, place: Slot) -> Option<ActionNo>
         requires { place < length self.old.waiting }
-        ensures number { IfSome result (λ action. (action ≡ self.old.next_action) × (1 ≤ action) × (action ≤ 2 ^ 64 - 2)) }
+        ensures number { IfSome result (λ action. (action ≡ self.old.next_action) × (1 ≤ action)
+            × (action ≤ 2 ^ 64 - 2)) }
         ensures registered { IfSome result (λ _. self.new ≡ after_register self.old place) }
         ensures none { IfNone result ((self.old.next_action ≡ 2 ^ 64 - 1) × (self.new ≡ self.old)) }
     {
@@ -151,8 +168,8 @@ impl<R> Cleaner<R> {
         self.running.runs_job(by)
     }
 
-    /// Takes up the action that waits at a place, where it waits no more, for a taker that runs no job. Where its work is to finish a
-    /// resource, that resource is Idle; it is then Closing, and goes out with the job.
+    /// Takes up the action that waits at a place, where it waits no more, for a taker that runs no job. Where its work
+    /// is to finish a resource, that resource is Idle; it is then Closing, and goes out with the job.
     pub fn take_up(&mut self, by: u8, place: Slot, action: ActionNo, work: Work) -> Job<R>
         requires waits { at self.old.waiting place ≡ Some action }
         requires not_running { is_running self.old.jobs action ≡ false }
@@ -165,10 +182,14 @@ impl<R> Cleaner<R> {
         ensures taken { self.new ≡ after_take_up self.old place (record { action = action; work = work; by = by }) }
         ensures waits_no_more { (other : ℕ) → at self.new.waiting other ≢ Some action }
         ensures running { job_in self.new.jobs action ≡ Some (record { action = action; work = work; by = by }) }
-        ensures machine { (m : Machine) (s : ℕ) (c : Cleanable) → c.action ≡ action → c.work ≡ work → machine_with self.new (with_object m s (with_cleanable spent)) ≡ taken_up (machine_with self.old m) by s c }
-        ensures values { IsPermutation (values self.old.table) (option_to_list result.resource ++ values self.new.table) }
+        ensures machine { (m : Machine) (s : ℕ) (c : Cleanable) → c.action ≡ action → c.work ≡ work
+            → machine_with self.new (with_object m s (with_cleanable spent))
+            ≡ taken_up (machine_with self.old m) by s c }
+        ensures values { IsPermutation (values self.old.table)
+            (option_to_list result.resource ++ values self.new.table) }
     {
-        // The work can be passed on only once, since its type holds one with a model: the helper is lent it, and the job told a copy.
+        // The work can be passed on only once, since its type holds one with a model: the helper is lent it, and the
+        // job told a copy.
         let told = work;
         self.waiting.clear(place);
         let resource = take_out(&mut self.table, &work);
@@ -181,13 +202,15 @@ impl<R> Cleaner<R> {
         }
     }
 
-    /// The taker tells the outcome of its job: the job is over, and so is its resource, which it finished. Answers whether
-    /// there was such a job; else nothing has changed.
+    /// The taker tells the outcome of its job: the job is over, and so is its resource, which it finished. Answers
+    /// whether there was such a job; else nothing has changed.
     pub fn finish(&mut self, by: u8, action: ActionNo, outcome: Outcome) -> bool
         ensures answer { result ≡ is_job_of self.old.jobs by action }
         ensures refused { result ≡ false → self.new ≡ self.old }
-        ensures finished { (job : RunningJob) → job_in self.old.jobs action ≡ Some job → job.by ≡ by → self.new ≡ after_finish self.old job outcome }
-        ensures machine { (m : Machine) (job : RunningJob) → job_in self.old.jobs action ≡ Some job → job.by ≡ by → machine_with self.new m ≡ finished (machine_with self.old m) job outcome }
+        ensures finished { (job : RunningJob) → job_in self.old.jobs action ≡ Some job → job.by ≡ by
+            → self.new ≡ after_finish self.old job outcome }
+        ensures machine { (m : Machine) (job : RunningJob) → job_in self.old.jobs action ≡ Some job → job.by ≡ by
+            → machine_with self.new m ≡ finished (machine_with self.old m) job outcome }
         ensures values { values self.new.table ≡ values self.old.table }
     {
         let Some(job) = self.running.end(by, action) else {
@@ -200,7 +223,8 @@ impl<R> Cleaner<R> {
 
     /// The counts. What was taken up ended well, failed, or runs.
     pub fn totals(&self) -> Totals
-        ensures counts { (result.taken ≡ self.now.taken) × (result.ok ≡ self.now.ok) × (result.failed ≡ self.now.failed) }
+        ensures counts { (result.taken ≡ self.now.taken) × (result.ok ≡ self.now.ok)
+            × (result.failed ≡ self.now.failed) }
         ensures adds_up { result.taken ≡ result.ok + result.failed + length self.now.jobs }
         ensures numbered { result.taken < self.now.next_action }
     {
@@ -286,13 +310,14 @@ impl<R> Cleaner<R> {
     /// Makes room for one resource more: then a `prepare` finds memory.
     ///
     /// # Errors
-    /// `NoMemory` where there is no room and none can be made, also where the next place has no number below 2^32. Nothing has changed then but
-    /// the room.
+    /// `NoMemory` where there is no room and none can be made, also where the next place has no number below 2^32.
+    /// Nothing has changed then but the room.
     pub fn reserve(&mut self) -> Result<(), Refusal>
         ensures room { OnOk result (length (resources self.new.table) < self.new.table.room) }
         ensures next { OnOk result (self.new.table.next < 2 ^ 32) }
         ensures refused { IfErr result (λ r. r ≡ Refusal.NoMemory) }
-        ensures succeeds { length (resources self.old.table) < self.old.table.room → self.old.table.next < 2 ^ 32 → IsOk result }
+        ensures succeeds { length (resources self.old.table) < self.old.table.room → self.old.table.next < 2 ^ 32
+            → IsOk result }
         ensures grows { self.old.table.room ≤ self.new.table.room }
         ensures table { self.new.table ≡ record self.old.table { room = self.new.table.room } }
         ensures rest { self.new ≡ record self.old { table = self.new.table } }
@@ -303,18 +328,22 @@ impl<R> Cleaner<R> {
     /// A resource is about to be opened, for this cleaning action. It is Opening, at a Rid that no resource has.
     ///
     /// # Errors
-    /// `ResourcesFull` where the table holds as many as it may; `NoMemory` where it has no room and cannot grow, also where
-    /// the next place has no number below 2^32. Nothing has changed then but the room.
+    /// `ResourcesFull` where the table holds as many as it may; `NoMemory` where it has no room and cannot grow, also
+    /// where the next place has no number below 2^32. Nothing has changed then but the room.
     pub fn prepare(&mut self, action: ActionNo) -> Result<Rid, Refusal>
-        ensures full { (result ≡ Err Refusal.ResourcesFull) ↔ (self.old.table.limit ≤ length (resources self.old.table)) }
+        ensures full { (result ≡ Err Refusal.ResourcesFull)
+            ↔ (self.old.table.limit ≤ length (resources self.old.table)) }
         ensures next { IfOk result (λ rid. (rid ≡ self.old.table.next) × (rid < 2 ^ 32)) }
         ensures free { IfOk result (λ rid. resource_in (resources self.old.table) rid ≡ None) }
         ensures held { IfOk result (λ rid. self.new.table.held ≡ opening self.old.table rid action) }
         ensures state { IfOk result (λ rid. state_at self.new.table rid ≡ Some state.Opening) }
-        ensures others { IfOk result (λ rid. (other : ℕ) → other ≢ rid → kept_at self.new.table other ≡ kept_at self.old.table other) }
-        ensures resources { IfOk result (λ rid. resources self.new.table ≡ with_resource (resources self.old.table) (record { rid = rid; action = action; state = state.Opening })) }
+        ensures others { IfOk result (λ rid. (other : ℕ) → other ≢ rid
+            → kept_at self.new.table other ≡ kept_at self.old.table other) }
+        ensures resources { IfOk result (λ rid. resources self.new.table
+            ≡ with_resource (resources self.old.table) (record { rid = rid; action = action; state = state.Opening })) }
         ensures refused { IfErr result (λ r. (r ≡ Refusal.ResourcesFull) ⊎ (r ≡ Refusal.NoMemory)) }
-        ensures no_room { result ≡ Err Refusal.NoMemory → (self.old.table.room ≤ length (resources self.old.table)) ⊎ (2 ^ 32 ≤ self.old.table.next) }
+        ensures no_room { result ≡ Err Refusal.NoMemory → (self.old.table.room ≤ length (resources self.old.table))
+            ⊎ (2 ^ 32 ≤ self.old.table.next) }
         ensures err { OnErr result (self.new.table.held ≡ self.old.table.held) }
         ensures err_next { OnErr result (self.new.table.next ≡ self.old.table.next) }
         ensures untouched { result ≡ Err Refusal.ResourcesFull → self.new ≡ self.old }
@@ -333,18 +362,22 @@ impl<R> Cleaner<R> {
         ensures lies_here { kept_at self.new.table rid ≡ Some (kept.Idle resource) }
         ensures state { state_at self.new.table rid ≡ Some state.Idle }
         ensures others { (other : ℕ) → other ≢ rid → kept_at self.new.table other ≡ kept_at self.old.table other }
-        ensures machine { (m : Machine) → machine_with self.new m ≡ with_state (machine_with self.old m) rid state.Idle }
+        ensures machine { (m : Machine) → machine_with self.new m ≡ with_state (machine_with self.old m) rid
+            state.Idle }
         ensures values { IsPermutation (resource ∷ values self.old.table) (values self.new.table) }
     {
         self.table.opened(rid, resource);
     }
 
-    /// The open failed: there is no such resource any more, and its Rid is free. The action that waits at a place, which was to finish it,
-    /// waits no more.
+    /// The open failed: there is no such resource any more, and its Rid is free. The action that waits at a place,
+    /// which was to finish it, waits no more.
     pub fn open_failed(&mut self, place: Slot, rid: Rid)
         requires place { place < length self.old.waiting }
         requires opening { state_at self.old.table rid ≡ Some state.Opening }
-        ensures gone { self.new ≡ record self.old { waiting = empty_at self.old.waiting place; table = removed self.old.table rid } }
+        ensures gone { self.new ≡ record self.old {
+          waiting = empty_at self.old.waiting place;
+          table = removed self.old.table rid;
+        } }
         ensures state { state_at self.new.table rid ≡ None }
         ensures others { (other : ℕ) → other ≢ rid → kept_at self.new.table other ≡ kept_at self.old.table other }
         ensures machine { (m : Machine) → machine_with self.new m ≡ without_resource (machine_with self.old m) rid }
@@ -375,7 +408,8 @@ impl<R> Cleaner<R> {
         ensures lies_here { kept_at self.new.table rid ≡ Some (kept.Idle returned) }
         ensures state { state_at self.new.table rid ≡ Some state.Idle }
         ensures others { (other : ℕ) → other ≢ rid → kept_at self.new.table other ≡ kept_at self.old.table other }
-        ensures machine { (m : Machine) → machine_with self.new m ≡ with_state (machine_with self.old m) rid state.Idle }
+        ensures machine { (m : Machine) → machine_with self.new m ≡ with_state (machine_with self.old m) rid
+            state.Idle }
         ensures values { IsPermutation (returned ∷ values self.old.table) (values self.new.table) }
     {
         self.table.check_in(rid, returned);

@@ -1,5 +1,6 @@
 //! The jobs that run.
-ghost use Rattle.std.specs.Prelude.{◌≡◌, ◌+◌, ◌≤◌, [], false, length, position, nat_lt, ◌==◌, vec_capacity, IfNone, IfOk, IfSome, Some};
+ghost use Rattle.std.specs.Prelude.{◌≡◌, ◌+◌, ◌≤◌, [], false, length, position, nat_lt, ◌==◌, vec_capacity, IfNone};
+ghost use Rattle.std.specs.Prelude.{IfOk, IfSome, Some};
 ghost use Rattle.std.specs.List.{position_or_len};
 ghost use Rattle.jlr_machine.specs.Lookups.{with_job, without_job};
 ghost use Rattle.jlr_cleaner.specs.Jobs.{AreApart, is_job_of, is_running, job_in, runs_job};

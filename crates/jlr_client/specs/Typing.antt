@@ -6,7 +6,8 @@ use Rattle.jlr_client.specs.declared.typed.Typed.TheVariants.{Line, Help, HelpOf
 
 -- a line for the client itself begins with a dot, or its first word is `help`
 abbrev pub is_own : List ℕ → Bool
-is_own line = bytes_eq (take 1 line) (codes ".") || bytes_eq line (codes "help") || bytes_eq (take 5 line) (codes "help ")
+is_own line = bytes_eq (take 1 line) (codes ".") || bytes_eq line (codes "help")
+    || bytes_eq (take 5 line) (codes "help ")
 
 -- A line of which the client carries out just this word, or this word and what follows it.
 abbrev pub IsWord : List ℕ → List ℕ → Type 0

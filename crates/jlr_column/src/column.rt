@@ -1,5 +1,6 @@
 //! A column of values.
-ghost use Rattle.std.specs.Prelude.{◌≡◌, ◌<◌, ◌≤◌, IfOk, length, option_copied, replicate, slice_index_or, unwrap_or, vec_capacity};
+ghost use Rattle.std.specs.Prelude.{◌≡◌, ◌<◌, ◌≤◌, IfOk, length, option_copied, replicate, slice_index_or, unwrap_or};
+ghost use Rattle.std.specs.Prelude.{vec_capacity};
 ghost use Rattle.jlr_column.specs.Columns.{IsLonger};
 ghost use Rattle.std.specs.Borrow.{sem};
 

@@ -1,7 +1,11 @@
 -- The exit statuses.
 use Rattle.std.specs.Prelude.{ℕ}
 use Rattle.jlr_command_line.specs.declared.fault.ProgramFault.{ProgramFault}
-use Rattle.jlr_command_line.specs.declared.fault.ProgramFault.TheVariants.{Read, Write, CommandLine, Unfinished, TooManyLines, CannotRead, CannotSave, CannotListen, CannotConnect, NotEnded, Disagree, Illegal, TraceTruncated, BadMark, BadVersion, BadEntry, NotJoined, NoMemory}
+use Rattle.jlr_command_line.specs.declared.fault.ProgramFault.TheVariants.{Read, Write, CommandLine, Unfinished}
+use Rattle.jlr_command_line.specs.declared.fault.ProgramFault.TheVariants.{TooManyLines, CannotRead, CannotSave}
+use Rattle.jlr_command_line.specs.declared.fault.ProgramFault.TheVariants.{CannotListen, CannotConnect, NotEnded}
+use Rattle.jlr_command_line.specs.declared.fault.ProgramFault.TheVariants.{Disagree, Illegal, TraceTruncated, BadMark}
+use Rattle.jlr_command_line.specs.declared.fault.ProgramFault.TheVariants.{BadVersion, BadEntry, NotJoined, NoMemory}
 
 -- the status that the program ends with
 abbrev pub status_of : ProgramFault → ℕ

@@ -370,8 +370,11 @@ fn checked(
 
 /// The limits of a heap of these numbers, so many sessions and this budget of a piece of marking.
 fn limits_with(asked: Numbers, sessions: u32, budget: u32) -> Result<Limits, LimitFault>
-    ensures limits { IfOk result (λ limits. (limits.cells ≡ asked.cells) × (limits.sessions ≡ sessions) × (limits.resources ≡ asked.resources) × (limits.soft_age ≡ asked.soft_age) × (limits.trace ≡ asked.trace) × (limits.budget ≡ budget)) }
-    ensures fault { IfErr result (λ fault. first_fault asked.cells sessions asked.resources asked.soft_age asked.trace budget ≡ Some fault) }
+    ensures limits { IfOk result (λ limits. (limits.cells ≡ asked.cells) × (limits.sessions ≡ sessions)
+        × (limits.resources ≡ asked.resources) × (limits.soft_age ≡ asked.soft_age) × (limits.trace ≡ asked.trace)
+        × (limits.budget ≡ budget)) }
+    ensures fault { IfErr result
+        (λ fault. first_fault asked.cells sessions asked.resources asked.soft_age asked.trace budget ≡ Some fault) }
 {
     let Numbers {
         cells,

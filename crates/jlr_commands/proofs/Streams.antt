@@ -17,7 +17,8 @@ module _ (version : Version) (base : ℕ) (image : Machine) (strays : List Place
   abbrev Says : Option (Result (List Entry) TraceFault) → Judged → Type 0
   Says coming j = IsStreamVerdict strays image coming j.verdict × (j.entries ≡ count) × (j.base ≡ base) × (j.version ≡ version)
 
-  is_judged : (all rest : Option (List ℕ)) (coming : Option (Result (List Entry) TraceFault)) (j : Judged) → SpellsWhatComes (history version base image strays) all coming → AreBytes all rest → AreSoMany count coming
+  is_judged : (all rest : Option (List ℕ)) (coming : Option (Result (List Entry) TraceFault)) (j : Judged)
+      → SpellsWhatComes (history version base image strays) all coming → AreBytes all rest → AreSoMany count coming
       → Says coming j → AllAreBytes rest → IsStreamJudged all j
   is_judged None rest coming j spells bytes many says all = tt
   is_judged (Some text) rest None j spells bytes many says all = absurd spells
@@ -36,7 +37,8 @@ module _ (version : Version) (base : ℕ) (image : Machine) (strays : List Place
         version = says.3;
       }
 
-  pub judged : (all rest : Option (List ℕ)) (coming : Option (Result (List Entry) TraceFault)) (result : Result Judged StreamFault) → SpellsWhatComes (history version base image strays) all coming → AreBytes all rest → AreSoMany count coming
+  pub judged : (all rest : Option (List ℕ)) (coming : Option (Result (List Entry) TraceFault)) (result : Result Judged StreamFault)
+      → SpellsWhatComes (history version base image strays) all coming → AreBytes all rest → AreSoMany count coming
       → IfOk result (λ j. Says coming j) → OnOk result (AllAreBytes rest) → IfOk result (λ j. IsStreamJudged all j)
   judged all rest coming (Ok j) spells bytes many says fits = is_judged all rest coming j spells bytes many says fits
   judged all rest coming (Err f) spells bytes many says fits = tt

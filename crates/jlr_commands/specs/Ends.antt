@@ -1,9 +1,11 @@
 -- What the end of a session is to the program.
 use Rattle.std.specs.Prelude.{◌≡◌, ◌≢◌, Option, None, Some, Result, IsErrAnd, MatchResult}
 use Rattle.jlr_session.specs.declared.shell.SessionEnd.{SessionEnd}
-use Rattle.jlr_session.specs.declared.shell.SessionEnd.TheVariants.{Bye, End, Truncated, ReadFault, WriteFault, TooManyLines as ManyLines, NotJoined as RefusedJoin}
+use Rattle.jlr_session.specs.declared.shell.SessionEnd.TheVariants.{Bye, End, Truncated, ReadFault, WriteFault}
+use Rattle.jlr_session.specs.declared.shell.SessionEnd.TheVariants.{TooManyLines as ManyLines, NotJoined as RefusedJoin}
 use Rattle.jlr_command_line.specs.declared.fault.ProgramFault.{ProgramFault}
-use Rattle.jlr_command_line.specs.declared.fault.ProgramFault.TheVariants.{Read, Write, Unfinished, TooManyLines, NotJoined}
+use Rattle.jlr_command_line.specs.declared.fault.ProgramFault.TheVariants.{Read, Write, Unfinished, TooManyLines}
+use Rattle.jlr_command_line.specs.declared.fault.ProgramFault.TheVariants.{NotJoined}
 use Rattle.jlr_command_line.specs.Status.{status_of}
 
 -- what the end of a session is to the program: nothing, or why it ends with a status other than 0

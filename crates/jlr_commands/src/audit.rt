@@ -56,8 +56,8 @@ fn verdict_of_trace<R: Read + Drop, W: Watch>(
 /// The verdict on the history that a stream spells, which is read to its end, with one entry in memory at a time.
 ///
 /// # Errors
-/// `Unread` where a read fails, and `Damaged` with the first fault of all bytes, where they spell none, or where there is
-/// no memory.
+/// `Unread` where a read fails, and `Damaged` with the first fault of all bytes, where they spell none, or where there
+/// is no memory.
 pub fn verdict_of<R: Read + Drop, W: Watch>(
     alloc: Global,
     reader: R,
@@ -191,11 +191,12 @@ fn tell_json(
     Ok(())
 }
 
-/// Audits a file, and writes the verdict; where it is to be explained, also why it is not legal. The file is read once, as it
-/// comes, so it may as well be a pipe.
+/// Audits a file, and writes the verdict; where it is to be explained, also why it is not legal. The file is read once,
+/// as it comes, so it may as well be a pipe.
 ///
 /// # Errors
-/// `CannotRead` where the file cannot be read, the fault of a damaged file, `Illegal` where the verdict is not legal, `Write`, `NoMemory`.
+/// `CannotRead` where the file cannot be read, the fault of a damaged file, `Illegal` where the verdict is not legal,
+/// `Write`, `NoMemory`.
 pub fn audit(
     rt: &HostRuntime,
     asked: AuditOrder<'_>,

@@ -53,11 +53,18 @@ where
         × Consumes (R.remaining reader.old) (R.remaining reader.new) bytes
         × Appends (W.contents writer.old) (W.contents writer.new) out
         × (length bytes ≤ most_bytes)
-        × IsSession (record { count = D.count; opens = D.may_open; connects = D.may_connect; failures = D.Res.handling.count })
+        × IsSession (record {
+          count =
+              D.count;
+          opens = D.may_open;
+          connects = D.may_connect;
+          failures = D.Res.handling.count;
+        })
         D.Res.handling
         limits (FindsEnd (R.remaining reader.new) bytes) x.end bytes device.old out device.new book
         × IfOk x.history (λ v. IsSaved book v.items)) }
-    ensures untouched { IsErr result → (reader.new ≡ reader.old) × (writer.new ≡ writer.old) × (device.new ≡ device.old) }
+    ensures untouched { IsErr result → (reader.new ≡ reader.old) × (writer.new ≡ writer.old)
+        × (device.new ≡ device.old) }
 {
     match run_over(alloc, limits, reader, writer, device) {
         Ok((end, book)) => Ok(Recording {
@@ -71,7 +78,8 @@ where
 /// A session whose history is saved when it ends, however it ends. Where that cannot be, it does not begin.
 ///
 /// # Errors
-/// `CannotSave`, or `NoMemory` where there is no memory for the heap or the history; else the fault of the session's end.
+/// `CannotSave`, or `NoMemory` where there is no memory for the heap or the history; else the fault of the session's
+/// end.
 pub fn session_saved<R: Read, W: Write, D: Device>(
     rt: &HostRuntime,
     path: &str,

@@ -28,8 +28,8 @@ use std::thread::Threads;
 /// end is told whether the history was saved.
 ///
 /// # Errors
-/// `CannotListen` where a socket cannot be made, also where its file exists, which is left alone, and where a thread cannot be started;
-/// `Disagree`, `Write`, `NoMemory`; `CannotSave`, also where the lines could not be written.
+/// `CannotListen` where a socket cannot be made, also where its file exists, which is left alone, and where a thread
+/// cannot be started; `Disagree`, `Write`, `NoMemory`; `CannotSave`, also where the lines could not be written.
 pub fn serve<T: Threads + Wait + Sync>(
     rt: &HostRuntime,
     threads: &T,

@@ -18,8 +18,8 @@ use std::io::{Read, Write};
 /// A session over the heap of these limits, and what its end is to the program. The book that it leaves is let go.
 ///
 /// # Errors
-/// The fault of the session's end, or `NoMemory` where there was no room for the heap. Then nothing was read or written, and the
-/// device was not called.
+/// The fault of the session's end, or `NoMemory` where there was no room for the heap. Then nothing was read or
+/// written, and the device was not called.
 pub fn session<R: Read, W: Write, D: Device>(
     alloc: Global,
     limits: Limits,
@@ -34,7 +34,13 @@ where
         × Consumes (R.remaining reader.old) (R.remaining reader.new) bytes
         × Appends (W.contents writer.old) (W.contents writer.new) out
         × (length bytes ≤ most_bytes)
-        × IsSession (record { count = D.count; opens = D.may_open; connects = D.may_connect; failures = D.Res.handling.count })
+        × IsSession (record {
+          count =
+              D.count;
+          opens = D.may_open;
+          connects = D.may_connect;
+          failures = D.Res.handling.count;
+        })
         D.Res.handling
         limits (FindsEnd (R.remaining reader.new) bytes) end bytes device.old out device.new book) }
 {

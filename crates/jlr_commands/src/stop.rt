@@ -11,7 +11,8 @@ const ENDED: u8 = b'.';
 /// clients off.
 ///
 /// # Errors
-/// `CannotConnect` where nobody listens there; `NotEnded` where the server could not save its history, or went without a word.
+/// `CannotConnect` where nobody listens there; `NotEnded` where the server could not save its history, or went without
+/// a word.
 pub fn stop(rt: &HostRuntime, control: &str) -> Result<(), ProgramFault> {
     let stream = match UnixStream::connect(rt, control) {
         Ok(stream) => stream,

@@ -1,9 +1,11 @@
 -- A run goes on by one step.
-use Rattle.std.proofs.Common.{◌≡◌, ℕ, List, [], ◌∷◌, ◌++◌, Option, Some, None, is_some, refl, sym, ◌∙◌, ap, subst, append_assoc, append-nil, true, length}
+use Rattle.std.proofs.Common.{◌≡◌, ℕ, List, [], ◌∷◌, ◌++◌, Option, Some, None, is_some, refl, sym, ◌∙◌, ap, subst, append_assoc, append-nil}
+use Rattle.std.proofs.Common.{true, length}
 use Rattle.std.proofs.lemmas.Bool.{both_ways}
 use Rattle.std.proofs.lemmas.List.{length-replicate}
 use Rattle.std.specs.List.Sorted.{IsPermutation}
-use Rattle.std.proofs.lemmas.List.Sorted.{IsPermutation-append_comm, IsPermutation-append_left, IsPermutation-append_right, IsPermutation-refl, IsPermutation-trans}
+use Rattle.std.proofs.lemmas.List.Sorted.{IsPermutation-append_comm, IsPermutation-append_left, IsPermutation-append_right}
+use Rattle.std.proofs.lemmas.List.Sorted.{IsPermutation-refl, IsPermutation-trans}
 use Rattle.jlr_types.specs.declared.limits.Limits.{Limits}
 use Rattle.jlr_resource.specs.Resources.{Resources, values}
 use Rattle.jlr_state.specs.Flows.{Conserves}
@@ -31,12 +33,15 @@ run_joins : (m n o : Machine) (xs ys : List Entry) → Run m xs n → Run n ys o
 run_joins m n o [] ys r s = subst (λ k. Run k ys o) r s
 run_joins m n o (x ∷ xs) ys r s = (r.0, run_joins (apply m x) n o xs ys r.1 s)
 
-entries_more : {R : Type 0} (events : List (Event R)) (replies : List (Reply R)) (choices : List Chosen) (e : Event R) (r : Reply R) (c : Chosen) → AreAnswered events replies choices
-    → entries_of (events ++ e ∷ []) (replies ++ r ∷ []) (choices ++ c ∷ []) ≡ entries_of events replies choices ++ option_to_list (entry_with (ask_of e) (answer_in r) c)
+entries_more : {R : Type 0} (events : List (Event R)) (replies : List (Reply R)) (choices : List Chosen) (e : Event R) (r : Reply R)
+    (c : Chosen) → AreAnswered events replies choices
+    → entries_of (events ++ e ∷ []) (replies ++ r ∷ []) (choices ++ c ∷ []) ≡ entries_of events replies choices
+    ++ option_to_list (entry_with (ask_of e) (answer_in r) c)
 entries_more [] [] [] e r c a = append-nil (option_to_list (entry_with (ask_of e) (answer_in r) c))
 entries_more (x ∷ events) (y ∷ replies) (z ∷ choices) e r c a =
     let one = option_to_list (entry_with (ask_of x) (answer_in y) z) in
-    ap (λ l. one ++ l) (entries_more events replies choices e r c a.1) ∙ sym (append_assoc one (entries_of events replies choices) (option_to_list (entry_with (ask_of e) (answer_in r) c)))
+    ap (λ l. one ++ l) (entries_more events replies choices e r c a.1)
+    ∙ sym (append_assoc one (entries_of events replies choices) (option_to_list (entry_with (ask_of e) (answer_in r) c)))
 entries_more [] [] (z ∷ choices) e r c a = absurd a
 entries_more [] (y ∷ replies) [] e r c a = absurd a
 entries_more [] (y ∷ replies) (z ∷ choices) e r c a = absurd a
@@ -44,7 +49,9 @@ entries_more (x ∷ events) [] [] e r c a = absurd a
 entries_more (x ∷ events) [] (z ∷ choices) e r c a = absurd a
 entries_more (x ∷ events) (y ∷ replies) [] e r c a = absurd a
 
-answered_more : {R : Type 0} (events : List (Event R)) (replies : List (Reply R)) (choices : List Chosen) (e : Event R) (r : Reply R) (c : Chosen) → AreAnswered events replies choices → is_some (answer_in r) ≡ is_some (ask_of e) → AreAnswered (events ++ e ∷ []) (replies ++ r ∷ []) (choices ++ c ∷ [])
+answered_more : {R : Type 0} (events : List (Event R)) (replies : List (Reply R)) (choices : List Chosen) (e : Event R) (r : Reply R)
+    (c : Chosen) → AreAnswered events replies choices → is_some (answer_in r) ≡ is_some (ask_of e)
+    → AreAnswered (events ++ e ∷ []) (replies ++ r ∷ []) (choices ++ c ∷ [])
 answered_more [] [] [] e r c a h = (h, tt)
 answered_more (x ∷ events) (y ∷ replies) (z ∷ choices) e r c a h = (a.0, answered_more events replies choices e r c a.1 h)
 answered_more [] [] (z ∷ choices) e r c a h = absurd a
@@ -56,7 +63,8 @@ answered_more (x ∷ events) (y ∷ replies) [] e r c a h = absurd a
 
 -- ---- One step
 
-entered : (m : Machine) (ask : Option Ask) (answer : Option Answer) (chosen : Chosen) (n : Machine) → Enters m ask answer chosen n → Run m (option_to_list (entry_with ask answer chosen)) n × (is_some answer ≡ is_some ask)
+entered : (m : Machine) (ask : Option Ask) (answer : Option Answer) (chosen : Chosen) (n : Machine) → Enters m ask answer chosen n
+    → Run m (option_to_list (entry_with ask answer chosen)) n × (is_some answer ≡ is_some ask)
 entered m (Some ask) (Some answer) chosen n e = ((e.0, e.1), refl)
 entered m (Some ask) None chosen n e = absurd e
 entered m None (Some answer) chosen n e = absurd e
@@ -65,11 +73,13 @@ entered m None None chosen n e = (e.1, refl)
 -- ---- The steps along the way
 
 steps_more :
-    {R : Type 0} (core : Kept R) (events : List (Event R)) (replies : List (Reply R)) (choices : List Chosen) (last next : Kept R) (e : Event R) (r : Reply R) (d : Chosen) (step : IsStep last e r d next)
+    {R : Type 0} (core : Kept R) (events : List (Event R)) (replies : List (Reply R)) (choices : List Chosen) (last next : Kept R)
+    (e : Event R) (r : Reply R) (d : Chosen) (step : IsStep last e r d next)
     → AreSteps core events replies choices last → AreSteps core (events ++ e ∷ []) (replies ++ r ∷ []) (choices ++ d ∷ []) next
 steps_more {R} core [] [] [] last next e r d step a =
     subst (λ (c : Kept R). AreSteps c (e ∷ []) (r ∷ []) (d ∷ []) next) a (next, step, refl)
-steps_more core (x ∷ events) (y ∷ replies) (c ∷ choices) last next e r d step a = (a.0, a.1, steps_more a.0 events replies choices last next e r d step a.2)
+steps_more core (x ∷ events) (y ∷ replies) (c ∷ choices) last next e r d step a =
+    (a.0, a.1, steps_more a.0 events replies choices last next e r d step a.2)
 steps_more core [] [] (z ∷ choices) last next e r d step a = absurd a
 steps_more core [] (y ∷ replies) [] last next e r d step a = absurd a
 steps_more core [] (y ∷ replies) (z ∷ choices) last next e r d step a = absurd a
@@ -80,15 +90,18 @@ steps_more core (x ∷ events) (y ∷ replies) [] last next e r d step a = absur
 abbrev start_of : Limits → Machine
 start_of limits = empty limits.cells limits.sessions limits.resources
 
-pub run_more : {R : Type 0} (limits : Limits) (events : List (Event R)) (replies : List (Reply R)) (old new : Kept R) (e : Event R) (r : Reply R) (chosen : Chosen)
-    → IsWellFormed (start_of limits) → IsRunOf limits events replies old → IsStep old e r chosen new → IsRunOf limits (events ++ e ∷ []) (replies ++ r ∷ []) new
+pub run_more : {R : Type 0} (limits : Limits) (events : List (Event R)) (replies : List (Reply R)) (old new : Kept R) (e : Event R)
+    (r : Reply R) (chosen : Chosen)
+    → IsWellFormed (start_of limits) → IsRunOf limits events replies old → IsStep old e r chosen new
+    → IsRunOf limits (events ++ e ∷ []) (replies ++ r ∷ []) new
 run_more {R} limits events replies old new e r chosen formed x step =
     let m = start_of limits in
     let s = step.entry x.last x.stands in
     let d = entered x.last (ask_of e) (answer_in r) chosen s.0 s.1 in
     let run : Run m (entries_of (events ++ e ∷ []) (replies ++ r ∷ []) (x.choices ++ chosen ∷ [])) s.0 =
     subst (λ l. Run m l s.0) (sym (entries_more events replies x.choices e r chosen x.answered))
-    (run_joins m x.last s.0 (entries_of events replies x.choices) (option_to_list (entry_with (ask_of e) (answer_in r) chosen)) x.run d.0) in
+    (run_joins m x.last s.0 (entries_of events replies x.choices) (option_to_list (entry_with (ask_of e) (answer_in r) chosen)) x.run
+    d.0) in
     record {
       choices = x.choices ++ chosen ∷ [];
       last = s.0;
@@ -103,17 +116,23 @@ run_more {R} limits events replies old new e r chosen formed x step =
 
 -- ---- Resources
 
-pub events_more : {R : Type 0} (events : List (Event R)) (e : Event R) → resources_of_events (events ++ e ∷ []) ≡ resources_of_events events ++ option_to_list (resource_of_event e)
+pub events_more : {R : Type 0} (events : List (Event R)) (e : Event R) → resources_of_events (events ++ e ∷ []) ≡ resources_of_events events
+    ++ option_to_list (resource_of_event e)
 events_more [] e = append-nil (option_to_list (resource_of_event e))
-events_more (x ∷ events) e = ap (λ l. option_to_list (resource_of_event x) ++ l) (events_more events e) ∙ sym (append_assoc (option_to_list (resource_of_event x)) (resources_of_events events) (option_to_list (resource_of_event e)))
+events_more (x ∷ events) e = ap (λ l. option_to_list (resource_of_event x) ++ l) (events_more events e)
+    ∙ sym (append_assoc (option_to_list (resource_of_event x)) (resources_of_events events) (option_to_list (resource_of_event e)))
 
-pub replies_more : {R : Type 0} (replies : List (Reply R)) (r : Reply R) → resources_of_replies (replies ++ r ∷ []) ≡ resources_of_replies replies ++ option_to_list (resource_of_reply r)
+pub replies_more : {R : Type 0} (replies : List (Reply R)) (r : Reply R)
+    → resources_of_replies (replies ++ r ∷ []) ≡ resources_of_replies replies ++ option_to_list (resource_of_reply r)
 replies_more [] r = append-nil (option_to_list (resource_of_reply r))
-replies_more (x ∷ replies) r = ap (λ l. option_to_list (resource_of_reply x) ++ l) (replies_more replies r) ∙ sym (append_assoc (option_to_list (resource_of_reply x)) (resources_of_replies replies) (option_to_list (resource_of_reply r)))
+replies_more (x ∷ replies) r = ap (λ l. option_to_list (resource_of_reply x) ++ l) (replies_more replies r)
+    ∙ sym (append_assoc (option_to_list (resource_of_reply x)) (resources_of_replies replies) (option_to_list (resource_of_reply r)))
 
 -- what came in and what lay there is what went out and what lies there
 pub flow_more : {R : Type 0} (events : List (Event R)) (replies : List (Reply R)) (old new : Resources R) (e : Event R) (r : Reply R)
-    → IsPermutation (resources_of_events events) (resources_of_replies replies ++ values old) → Conserves (resource_of_event e) old (resource_of_reply r) new → IsPermutation (resources_of_events (events ++ e ∷ [])) (resources_of_replies (replies ++ r ∷ []) ++ values new)
+    → IsPermutation (resources_of_events events) (resources_of_replies replies ++ values old)
+    → Conserves (resource_of_event e) old (resource_of_reply r) new
+    → IsPermutation (resources_of_events (events ++ e ∷ [])) (resources_of_replies (replies ++ r ∷ []) ++ values new)
 flow_more {R} events replies old new e r before step =
     let before_in : List R = resources_of_events events in
     let before_out : List R = resources_of_replies replies in
@@ -122,20 +141,26 @@ flow_more {R} events replies old new e r before step =
     let lay : List R = values old in
     let lies : List R = values new in
     let moved : IsPermutation ((before_out ++ lay) ++ came) (before_out ++ (came ++ lay)) =
-    subst (λ l. IsPermutation l (before_out ++ (came ++ lay))) (sym (append_assoc before_out lay came)) (IsPermutation-append_right before_out (lay ++ came) (came ++ lay) (IsPermutation-append_comm lay came)) in
-    let stepped : IsPermutation (before_out ++ (came ++ lay)) (before_out ++ (went ++ lies)) = IsPermutation-append_right before_out (came ++ lay) (went ++ lies) step in
+    subst (λ l. IsPermutation l (before_out ++ (came ++ lay))) (sym (append_assoc before_out lay came))
+    (IsPermutation-append_right before_out (lay ++ came) (came ++ lay) (IsPermutation-append_comm lay came)) in
+    let stepped : IsPermutation (before_out ++ (came ++ lay)) (before_out ++ (went ++ lies)) =
+    IsPermutation-append_right before_out (came ++ lay) (went ++ lies) step in
     let whole : IsPermutation (before_in ++ came) (before_out ++ (went ++ lies)) =
-    IsPermutation-trans (before_in ++ came) ((before_out ++ lay) ++ came) (before_out ++ (went ++ lies)) (IsPermutation-append_left came before_in (before_out ++ lay) before)
+    IsPermutation-trans (before_in ++ came) ((before_out ++ lay) ++ came) (before_out ++ (went ++ lies))
+    (IsPermutation-append_left came before_in (before_out ++ lay) before)
     (IsPermutation-trans ((before_out ++ lay) ++ came) (before_out ++ (came ++ lay)) (before_out ++ (went ++ lies)) moved stepped) in
     subst (λ l. IsPermutation l (resources_of_replies (replies ++ r ∷ []) ++ lies)) (sym (events_more events e))
-    (subst (λ l. IsPermutation (before_in ++ came) (l ++ lies)) (sym (replies_more replies r)) (subst (λ l. IsPermutation (before_in ++ came) l) (sym (append_assoc before_out went lies)) whole))
+    (subst (λ l. IsPermutation (before_in ++ came) (l ++ lies)) (sym (replies_more replies r))
+    (subst (λ l. IsPermutation (before_in ++ came) l) (sym (append_assoc before_out went lies)) whole))
 
 -- ---- The start
 
-pub stands_at_start : {R : Type 0} (core : Kept R) (cells sessions resources : ℕ) → core.machine ≡ empty cells sessions resources → StandsIn core (empty cells sessions resources)
+pub stands_at_start : {R : Type 0} (core : Kept R) (cells sessions resources : ℕ) → core.machine ≡ empty cells sessions resources
+    → StandsIn core (empty cells sessions resources)
 stands_at_start core cells sessions resources e = record { same = e; seen = λ h. absurd (both_ways true (sym h) refl); outside = λ _. refl }
 
-pub start_run : {R : Type 0} (core : Kept R) (limits : Limits) (replies : List (Reply R)) → IsWellFormed (start_of limits) → IsEmpty limits.cells limits.sessions limits.resources limits.soft_age 1 core → replies ≡ [] → IsRunOf limits [] replies core
+pub start_run : {R : Type 0} (core : Kept R) (limits : Limits) (replies : List (Reply R)) → IsWellFormed (start_of limits)
+    → IsEmpty limits.cells limits.sessions limits.resources limits.soft_age 1 core → replies ≡ [] → IsRunOf limits [] replies core
 start_run {R} core limits replies formed begins none =
     let nothing : List (Event R) = [] in
     subst (λ l. IsRunOf limits nothing l core) (sym none)
@@ -151,12 +176,15 @@ start_run {R} core limits replies formed begins none =
       steps = refl;
     })
 
-pub start_flow : {R : Type 0} (replies : List (Reply R)) (table : Resources R) → replies ≡ [] → values table ≡ [] → IsPermutation (resources_of_events {R = R} []) (resources_of_replies replies ++ values table)
+pub start_flow : {R : Type 0} (replies : List (Reply R)) (table : Resources R) → replies ≡ [] → values table ≡ []
+    → IsPermutation (resources_of_events {R = R} []) (resources_of_replies replies ++ values table)
 start_flow {R} replies table none empty_table =
     let nothing : List R = [] in
-    subst (λ l. IsPermutation nothing (resources_of_replies l ++ values table)) (sym none) (subst (λ l. IsPermutation nothing l) (sym empty_table) (IsPermutation-refl nothing))
+    subst (λ l. IsPermutation nothing (resources_of_replies l ++ values table)) (sym none)
+    (subst (λ l. IsPermutation nothing l) (sym empty_table) (IsPermutation-refl nothing))
 
-pub start_cells : {R : Type 0} (core : Kept R) (cells sessions resources : ℕ) → core.machine ≡ empty cells sessions resources → length core.machine.objects ≡ cells
+pub start_cells : {R : Type 0} (core : Kept R) (cells sessions resources : ℕ) → core.machine ≡ empty cells sessions resources
+    → length core.machine.objects ≡ cells
 start_cells core cells sessions resources e =
     let none : Option Object = None in
     ap (λ (x : Machine). length x.objects) e ∙ length-replicate cells none

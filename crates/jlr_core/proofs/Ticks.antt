@@ -1,5 +1,6 @@
 -- A cycle keeps what it blackened and made, and ticks at most as often as the objects in all cells take ticks together.
-use Rattle.std.proofs.Common.{◌≡◌, ◌≤◌, ◌<◌, ◌+◌, ◌-◌, ◌*◌, ◌/◌, ◌⊎◌, ◌&&◌, ℕ, zero, suc, Bool, true, false, cond, not, inl, inr, List, [], ◌∷◌, length, Option, Some, None, is_some, refl, sym, subst, ap, ◌∙◌, arith}
+use Rattle.std.proofs.Common.{◌≡◌, ◌≤◌, ◌<◌, ◌+◌, ◌-◌, ◌*◌, ◌/◌, ◌⊎◌, ◌&&◌, ℕ, zero, suc, Bool, true, false, cond, not, inl, inr, List, []}
+use Rattle.std.proofs.Common.{◌∷◌, length, Option, Some, None, is_some, refl, sym, subst, ap, ◌∙◌, arith}
 use Rattle.std.specs.Prelude.{nat_eq, slice_get}
 use Rattle.std.proofs.lemmas.Bool.{and_parts, both_ways, eqb-true}
 use Rattle.jlr_types.specs.declared.Progress.{Progress}
@@ -53,7 +54,8 @@ place_within f m x placed =
 
 stage_within : (f : ℕ → ℕ) (m : Marking) (x : ℕ) → IsPlaced f m → stage f m x ≤ f x
 stage_within f m x placed =
-    by_cases m x (λ white. omega (arith, colour_white m x (place m x / 64) (f x) white)) (λ on grey. omega (arith, colour_grey m x (place m x / 64) (f x) on grey, place_within f m x placed))
+    by_cases m x (λ white. omega (arith, colour_white m x (place m x / 64) (f x) white))
+    (λ on grey. omega (arith, colour_grey m x (place m x / 64) (f x) on grey, place_within f m x placed))
     (λ on dark. omega (arith, colour_black m x (place m x / 64) (f x) on dark))
 
 total_sum : (f g : ℕ → ℕ) (n : ℕ) → total (λ x. f x + g x) n ≡ total f n + total g n
@@ -72,15 +74,26 @@ stay_stages f old new n s placed =
     let same : place new x ≡ place old x = ap (λ o. place_in o x) s.part in
     by_cases old x (λ white. omega (arith, colour_white old x (place old x / 64) (f x) white))
     (λ was grey. by_cases new x (λ off. absurd (both_ways (is_marked new x) off (s.kept x was)))
-    (λ on still. omega (arith, colour_grey old x (place old x / 64) (f x) was grey, colour_grey new x (place new x / 64) (f x) on still, same))
-    (λ on dark. omega (arith, colour_grey old x (place old x / 64) (f x) was grey, colour_black new x (place new x / 64) (f x) on dark, place_within f old x placed)))
+    (λ on still. omega
+    (arith, colour_grey old x (place old x / 64) (f x) was grey, colour_grey new x (place new x / 64) (f x) on still, same))
+    (λ on dark. omega (
+      arith,
+      colour_grey old x (place old x / 64) (f x) was grey,
+      colour_black new x (place new x / 64) (f x) on dark,
+      place_within f old x placed,
+    )))
     (λ was dark. by_cases new x (λ off. absurd (both_ways (is_marked new x) off (s.kept x was)))
     (λ on grey. elim (s.fresh x grey) [ inl before ↦ absurd (both_ways (old.grey ∋ x) dark before) | inr white ↦ absurd (white was) ])
-    (λ on still. omega (arith, colour_black old x (place old x / 64) (f x) was dark, colour_black new x (place new x / 64) (f x) on still))))
+    (λ on still. omega (
+      arith,
+      colour_black old x (place old x / 64) (f x) was dark,
+      colour_black new x (place new x / 64) (f x) on still,
+    ))))
 
 -- ---- A piece of marking
 
-module _ (f : ℕ → ℕ) (kept : ℕ → Bool) (heap : Heap) (budget ticks : ℕ) (progress : Progress) (old new : Marking) (m : MarksOn kept heap budget ticks progress old new) (most : (x : ℕ) → ticks_at heap x ≤ f x) where
+module _ (f : ℕ → ℕ) (kept : ℕ → Bool) (heap : Heap) (budget ticks : ℕ) (progress : Progress) (old new : Marking)
+    (m : MarksOn kept heap budget ticks progress old new) (most : (x : ℕ) → ticks_at heap x ≤ f x) where
   piece_placed : IsPlaced f old → IsPlaced f new
   piece_placed placed p e = elim (m.part p e) [ inl was ↦ placed p was | inr below ↦ omega (arith, below, most p.slot) ]
 
@@ -102,12 +115,14 @@ module _ (f : ℕ → ℕ) (kept : ℕ → Bool) (heap : Heap) (budget ticks : �
       (λ white.
       let a1 = colour_white old x p k white in
       let a2 = colour_white old x p t white in
-      by_cases new x (λ off. omega (arith, a1, a2, colour_white new x q k off, colour_white new x q t off)) (λ on grey. omega (arith, a1, a2, colour_grey new x q k on grey, colour_grey new x q t on grey))
+      by_cases new x (λ off. omega (arith, a1, a2, colour_white new x q k off, colour_white new x q t off))
+      (λ on grey. omega (arith, a1, a2, colour_grey new x q k on grey, colour_grey new x q t on grey))
       (λ on dark. omega (arith, a1, a2, colour_black new x q k on dark, colour_black new x q t on dark, most x)))
       (λ was grey.
       let a1 = colour_grey old x p k was grey in
       let a2 = colour_grey old x p t was grey in
-      by_cases new x (λ off. absurd (both_ways (is_marked new x) off (b.kept x was))) (λ on still. omega (arith, a1, a2, colour_grey new x q k on still, colour_grey new x q t on still))
+      by_cases new x (λ off. absurd (both_ways (is_marked new x) off (b.kept x was)))
+      (λ on still. omega (arith, a1, a2, colour_grey new x q k on still, colour_grey new x q t on still))
       (λ on dark. omega (arith, a1, a2, colour_black new x q k on dark, colour_black new x q t on dark, most x)))
       (λ was dark.
       let a1 = colour_black old x p k was dark in
@@ -131,20 +146,27 @@ piece_on false A B e a = absurd (both_ways false refl e)
 module _ {R : Type 0} (old : Kept R) (e : Event R) (r : Reply R) (c : Chosen) (new : Kept R) (s : IsInCycle old e r c new) where
   abbrev marks : ℕ → Progress → Type 0
   marks budget progress =
-      MarksOn (keeps (record { soft_age = old.soft_age; mode = Policy }) old.clock) old.machine.objects budget (ticks_between old.machine.objects old.marking new.marking) progress old.marking new.marking
+      MarksOn (keeps (record { soft_age = old.soft_age; mode = Policy }) old.clock) old.machine.objects budget
+      (ticks_between old.machine.objects old.marking new.marking) progress old.marking new.marking
 
   abbrev answered : Option ℕ → Type 0
   answered b = MarksBy b old.soft_age old.clock old.machine old.marking old.condemned r new.marking new.condemned
 
   marks_on : (budget : ℕ) → answered (Some budget) → (progress : Progress) × marks budget progress
-  marks_on budget m = (m.0, (piece_on old.machine.cycle_open (marks budget m.0 × (new.condemned ≡ old.condemned)) ((m.0 ≡ Idle) × (new.marking ≡ old.marking) × (new.condemned ≡ old.condemned - budget)) s.before m.2).0)
+  marks_on budget m = (
+    m.0,
+    (piece_on old.machine.cycle_open (marks budget m.0 × (new.condemned ≡ old.condemned))
+        ((m.0 ≡ Idle) × (new.marking ≡ old.marking) × (new.condemned ≡ old.condemned - budget)) s.before m.2).0,
+  )
 
   counted_by : (b : Option ℕ) → budget_of e ≡ b → answered b
-      → marked new.marking + length old.marking.grey ≡ marked old.marking + length new.marking.grey + blackened_in b old.marking new.marking + made_in b c
+      → marked new.marking + length old.marking.grey ≡ marked old.marking + length new.marking.grey + blackened_in b old.marking
+      new.marking + made_in b c
   counted_by None is m = omega (arith, (s.step.blackens is (λ _. s.before) s.still).0)
   counted_by (Some budget) is m = let k = marks_on budget m in omega (arith, k.1.blackening.black.2)
 
-  counted : marked new.marking + length old.marking.grey ≡ marked old.marking + length new.marking.grey + blackened_in (budget_of e) old.marking new.marking + made_in (budget_of e) c
+  counted : marked new.marking + length old.marking.grey
+      ≡ marked old.marking + length new.marking.grey + blackened_in (budget_of e) old.marking new.marking + made_in (budget_of e) c
   counted = counted_by (budget_of e) refl s.step.marking
 
   few_by : (b : Option ℕ) → answered b → (blackened_in b old.marking new.marking ≡ 0) ⊎ (marked new.marking ≤ length old.machine.objects)
@@ -165,17 +187,21 @@ module _ {R : Type 0} (old : Kept R) (e : Event R) (r : Reply R) (c : Chosen) (n
   cells = length old.machine.objects
 
   module _ (f : ℕ → ℕ) (most : (x : ℕ) → ticks_at old.machine.objects x ≤ f x) where
-    on_by : (b : Option ℕ) → budget_of e ≡ b → answered b → IsPlaced f old.marking → IsPlaced f new.marking × (stages f old.marking cells + ticks_in b old.machine.objects old.marking new.marking ≤ stages f new.marking cells)
+    on_by : (b : Option ℕ) → budget_of e ≡ b → answered b → IsPlaced f old.marking → IsPlaced f new.marking
+        × (stages f old.marking cells + ticks_in b old.machine.objects old.marking new.marking ≤ stages f new.marking cells)
     on_by None is m placed =
         let stays = (s.step.blackens is (λ _. s.before) s.still).1 in
         (stay_placed f old.marking new.marking stays placed, omega (arith, stay_stages f old.marking new.marking cells stays placed))
     on_by (Some budget) is m placed =
         let k = marks_on budget m in
         let t = ticks_between old.machine.objects old.marking new.marking in
-        let by = keeps (record { soft_age = old.soft_age; mode = Policy }) old.clock in
-        (piece_placed f by old.machine.objects budget t k.0 old.marking new.marking k.1 most placed, piece_stages f by old.machine.objects budget t k.0 old.marking new.marking k.1 most)
+        let by = keeps (record { soft_age = old.soft_age; mode = Policy }) old.clock in (
+          piece_placed f by old.machine.objects budget t k.0 old.marking new.marking k.1 most placed,
+          piece_stages f by old.machine.objects budget t k.0 old.marking new.marking k.1 most,
+        )
 
-    goes_on : IsPlaced f old.marking → IsPlaced f new.marking × (stages f old.marking cells + ticks_in (budget_of e) old.machine.objects old.marking new.marking ≤ stages f new.marking cells)
+    goes_on : IsPlaced f old.marking → IsPlaced f new.marking
+        × (stages f old.marking cells + ticks_in (budget_of e) old.machine.objects old.marking new.marking ≤ stages f new.marking cells)
     goes_on placed = on_by (budget_of e) refl s.step.marking placed
 
 -- ---- All steps
@@ -184,7 +210,8 @@ module _ {R : Type 0} (old : Kept R) (e : Event R) (r : Reply R) (c : Chosen) (n
 abbrev AreBlack : {R : Type 0} → Kept R → ℕ → Type 0
 AreBlack core n = marked core.marking ≡ length core.marking.grey + n
 
-all_counted : {R : Type 0} (core : Kept R) (events : List (Event R)) (replies : List (Reply R)) (choices : List Chosen) (heaps : List Heap) (black ticks made : ℕ) (last : Kept R) (n : ℕ) → GoesThrough core events replies choices heaps black ticks made last
+all_counted : {R : Type 0} (core : Kept R) (events : List (Event R)) (replies : List (Reply R)) (choices : List Chosen) (heaps : List Heap)
+    (black ticks made : ℕ) (last : Kept R) (n : ℕ) → GoesThrough core events replies choices heaps black ticks made last
     → AreBlack core n → AreBlack last (n + black + made) × ((black ≡ 0) ⊎ (n + black ≤ length core.machine.objects)) × (black ≤ ticks)
 all_counted {R} core [] [] [] heaps black ticks made last n g are =
     (subst (λ (k : Kept R). AreBlack k (n + black + made)) (sym g.0) (omega (arith, are, g.2, g.4)), inl g.2, omega (arith, g.2))
@@ -213,17 +240,22 @@ all_counted core (x ∷ events) [] [] heaps black ticks made last n g are = absu
 all_counted core (x ∷ events) [] (z ∷ choices) heaps black ticks made last n g are = absurd g
 all_counted core (x ∷ events) (y ∷ replies) [] heaps black ticks made last n g are = absurd g
 
-all_ticked : {R : Type 0} (f : ℕ → ℕ) (core : Kept R) (events : List (Event R)) (replies : List (Reply R)) (choices : List Chosen) (heaps : List Heap) (black ticks made : ℕ) (last : Kept R) (n : ℕ)
-    → GoesThrough core events replies choices heaps black ticks made last → TakesAtMost f heaps → length core.machine.objects ≡ n → IsPlaced f core.marking → IsPlaced f last.marking × (stages f core.marking n + ticks ≤ stages f last.marking n)
-all_ticked {R} f core [] [] [] heaps black ticks made last n g most cells placed =
-    (subst (λ (k : Kept R). IsPlaced f k.marking) (sym g.0) placed, subst (λ (k : Kept R). stages f core.marking n + ticks ≤ stages f k.marking n) (sym g.0) (omega (arith, g.3)))
+all_ticked : {R : Type 0} (f : ℕ → ℕ) (core : Kept R) (events : List (Event R)) (replies : List (Reply R)) (choices : List Chosen)
+    (heaps : List Heap) (black ticks made : ℕ) (last : Kept R) (n : ℕ)
+    → GoesThrough core events replies choices heaps black ticks made last → TakesAtMost f heaps → length core.machine.objects ≡ n
+    → IsPlaced f core.marking → IsPlaced f last.marking × (stages f core.marking n + ticks ≤ stages f last.marking n)
+all_ticked {R} f core [] [] [] heaps black ticks made last n g most cells placed = (
+  subst (λ (k : Kept R). IsPlaced f k.marking) (sym g.0) placed,
+  subst (λ (k : Kept R). stages f core.marking n + ticks ≤ stages f k.marking n) (sym g.0) (omega (arith, g.3)),
+)
 all_ticked {R} f core (e ∷ events) (r ∷ replies) (c ∷ choices) heaps black ticks made last n g most cells placed =
     let next = g.0 in
     let step = g.5 in
     let each : TakesAtMost f (core.machine.objects ∷ g.1) = subst (TakesAtMost f) g.7 most in
     let t = ticks_in (budget_of e) core.machine.objects core.marking next.marking in
     let one = goes_on core e r c next step f each.0 placed in
-    let here : stages f core.marking n + t ≤ stages f next.marking n = subst (λ k. stages f core.marking k + t ≤ stages f next.marking k) cells one.1 in
+    let here : stages f core.marking n + t ≤ stages f next.marking n =
+    subst (λ k. stages f core.marking k + t ≤ stages f next.marking k) cells one.1 in
     let rest = all_ticked f next events replies choices g.1 g.2 g.3 g.4 last n g.6 each.1 (step.step.cells ∙ cells) one.0 in
     (rest.0, omega (arith, here, rest.1, g.9))
 all_ticked f core [] [] (z ∷ choices) heaps black ticks made last n g most cells placed = absurd g
@@ -245,12 +277,14 @@ truth_same false false e = refl
 truth_same true false e = absurd (cc e)
 truth_same false true e = absurd (cc e)
 
-collected : {R : Type 0} (last : Kept R) (event : Event R) (reply : Reply R) (chosen : Chosen) (new : Kept R) (n : ℕ) → AreBlack last n → IsStep last event reply chosen new → ask_of event ≡ Some Collect → answer_in reply ≡ Some (Truth true)
+collected : {R : Type 0} (last : Kept R) (event : Event R) (reply : Reply R) (chosen : Chosen) (new : Kept R) (n : ℕ) → AreBlack last n
+    → IsStep last event reply chosen new → ask_of event ≡ Some Collect → answer_in reply ≡ Some (Truth true)
     → (c : Collected) → chosen.collected ≡ Some c → length c.kept ≡ n
 collected last event reply chosen new n black s is on c told =
     let both = truth_same (last.machine.cycle_open && not (has_grey last.marking)) true (sym (s.collects is) ∙ on) in
     let grey = none_grey last.marking.grey (and_parts last.machine.cycle_open (not (has_grey last.marking)) both).1 in
-    let kept : KeepsMarked last.machine last.marking chosen = subst (λ (a : Option Ask). KeepsByPolicy last.soft_age last.clock last.machine last.marking a chosen) is s.policy in
+    let kept : KeepsMarked last.machine last.marking chosen =
+    subst (λ (a : Option Ask). KeepsByPolicy last.soft_age last.clock last.machine last.marking a chosen) is s.policy in
     omega (arith, (kept c told).1, black, grey)
 
 pub counts_its_cycles : {R : Type 0} (core : Kept R) → CountsItsCycles core

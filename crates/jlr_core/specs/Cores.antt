@@ -1,5 +1,5 @@
--- What a core is seen as: the machine that it keeps, what it marked, its soft policy, and its files and sockets; and the machines for which
--- it stands.
+-- What a core is seen as: the machine that it keeps, what it marked, its soft policy, and its files and sockets; and
+-- the machines for which it stands.
 use Rattle.std.specs.Prelude.{ℕ, Bool, List}
 use Rattle.jlr_machine.specs.declared.machine.Machine.{Machine}
 use Rattle.jlr_resource.specs.Resources.{Resources}
@@ -17,7 +17,8 @@ pub record Kept (R : Type 0) : Type 0 where
   pub marked : List ℕ
   -- of the cells without an object so many are condemned: not free yet
   pub condemned : ℕ
-  -- the soft policy: its age, in collections, and its time, with the count of cells that were taken since a collection finished last
+  -- the soft policy: its age, in collections, and its time, with the count of cells that were taken since a collection
+  -- finished last
   pub soft_age : ℕ
   pub clock : Clock
   -- the table of the machine's resources, with the values of those that lie in it

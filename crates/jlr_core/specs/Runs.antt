@@ -19,12 +19,14 @@ abbrev pub entries_of : {R : Type 0} → List (Event R) → List (Reply R) → L
 entries_of [] replies choices = []
 entries_of (e ∷ events) [] choices = []
 entries_of (e ∷ events) (r ∷ replies) [] = []
-entries_of (e ∷ events) (r ∷ replies) (c ∷ choices) = option_to_list (entry_with (ask_of e) (answer_in r) c) ++ entries_of events replies choices
+entries_of (e ∷ events) (r ∷ replies) (c ∷ choices) = option_to_list (entry_with (ask_of e) (answer_in r) c)
+    ++ entries_of events replies choices
 
 -- each event has a reply and a choice, and just a piece of marking has no answer
 abbrev pub AreAnswered : {R : Type 0} → List (Event R) → List (Reply R) → List Chosen → Type 0
 AreAnswered [] [] [] = Unit {0}
-AreAnswered (e ∷ events) (r ∷ replies) (c ∷ choices) = (is_some (answer_in r) ≡ is_some (ask_of e)) × AreAnswered events replies choices
+AreAnswered (e ∷ events) (r ∷ replies) (c ∷ choices) = (is_some (answer_in r) ≡ is_some (ask_of e))
+    × AreAnswered events replies choices
 AreAnswered _ _ _ = ⊥
 
 -- ---- The steps of a run
@@ -32,13 +34,15 @@ AreAnswered _ _ _ = ⊥
 -- from this core on each event with its reply and its choice is a step, and the last of them leads to that core
 abbrev pub AreSteps : {R : Type 0} → Kept R → List (Event R) → List (Reply R) → List Chosen → Kept R → Type 0
 AreSteps core [] [] [] last = last ≡ core
-AreSteps {R} core (e ∷ events) (r ∷ replies) (c ∷ choices) last = (next : Kept R) × IsStep core e r c next × AreSteps next events replies choices last
+AreSteps {R} core (e ∷ events) (r ∷ replies) (c ∷ choices) last = (next : Kept R) × IsStep core e r c next
+    × AreSteps next events replies choices last
 AreSteps _ _ _ _ _ = ⊥
 
--- There are choices, one for each event, with which the entries are a run from the empty machine of the limits to one for which the core stands, and
--- keep what the package promises. There are as many replies as events, where just a piece of marking has no answer. With the same choices
--- each event is a step of the core, from an empty one on
-pub record IsRunOf {R : Type 0} (limits : Limits) (events : List (Event R)) (replies : List (Reply R)) (core : Kept R) : Type 0 where
+-- There are choices, one for each event, with which the entries are a run from the empty machine of the limits to one
+-- for which the core stands, and keep what the package promises. There are as many replies as events, where just a
+-- piece of marking has no answer. With the same choices each event is a step of the core, from an empty one on
+pub record IsRunOf {R : Type 0} (limits : Limits) (events : List (Event R)) (replies : List (Reply R))
+    (core : Kept R) : Type 0 where
   pub choices : List Chosen
   pub last : Machine
   pub run : Run (empty limits.cells limits.sessions limits.resources) (entries_of events replies choices) last

@@ -30,13 +30,15 @@ abbrev pub LeavesRoom : {R : Type 0} → Option Ask → Resources R → Resource
 LeavesRoom (Some (Prepare k)) old new = old.room ≤ new.room
 LeavesRoom ask old new = new.room ≡ old.room
 
--- The event and its reply are, with this choice, a legal entry of each machine for which the core stands, and the core then stands for the
--- machine after it.
-pub record IsStep {R : Type 0} (old : Kept R) (event : Event R) (reply : Reply R) (chosen : Chosen) (new : Kept R) : Type 0 where
-  pub entry : (m : Machine) → StandsIn old m → (n : Machine) × Enters m (ask_of event) (answer_in reply) chosen n × StandsIn new n
+-- The event and its reply are, with this choice, a legal entry of each machine for which the core stands, and the core
+-- then stands for the machine after it.
+pub record IsStep {R : Type 0} (old : Kept R) (event : Event R) (reply : Reply R) (chosen : Chosen)
+    (new : Kept R) : Type 0 where
+  pub entry : (m : Machine) → StandsIn old m → (n : Machine) × Enters m (ask_of event) (answer_in reply) chosen n
+      × StandsIn new n
   pub cells : length new.machine.objects ≡ length old.machine.objects
-  -- no file or socket is made or lost; at one Rid at most lies something else then, and what goes out is what lay there. The table is that
-  -- of the machine's resources, so what comes in lies at the Rid that the machine says
+  -- no file or socket is made or lost; at one Rid at most lies something else then, and what goes out is what lay
+  -- there. The table is that of the machine's resources, so what comes in lies at the Rid that the machine says
   pub flow : Conserves (resource_of_event event) old.table (resource_of_reply reply) new.table
   pub moves : Moves (resource_of_event event) old.table (resource_of_reply reply) new.table
   pub listed : resources new.table ≡ new.machine.resources
@@ -44,12 +46,15 @@ pub record IsStep {R : Type 0} (old : Kept R) (event : Event R) (reply : Reply R
   -- where memory may run out, and what room there is from then on
   pub memory : WantsMemory old.machine old.table (ask_of event) (answer_in reply)
   pub table_room : LeavesRoom (ask_of event) old.table new.table
-  -- a cycle begins with its roots; a piece of marking ticks for each part that it follows, or sweeps; any other event blackens just the objects that it makes
+  -- a cycle begins with its roots; a piece of marking ticks for each part that it follows, or sweeps; any other event
+  -- blackens just the objects that it makes
   pub begins : Begins (ask_of event) old.machine new.machine new.marking
-  pub marking : MarksBy (budget_of event) old.soft_age old.clock old.machine old.marking old.condemned reply new.marking new.condemned
+  pub marking : MarksBy (budget_of event) old.soft_age old.clock old.machine old.marking old.condemned reply new.marking
+      new.condemned
   pub blackens : BlackensNew event old.machine old.marking chosen new.machine new.marking
   -- a Collect is answered yes exactly where a cycle is open and no cell is grey
-  pub collects : ask_of event ≡ Some Collect → answer_in reply ≡ Some (Truth (old.machine.cycle_open && not (has_grey old.marking)))
+  pub collects : ask_of event ≡ Some Collect
+      → answer_in reply ≡ Some (Truth (old.machine.cycle_open && not (has_grey old.marking)))
   -- what a collection keeps, and when soft references were last used
   pub policy : KeepsByPolicy old.soft_age old.clock old.machine old.marking (ask_of event) chosen
   pub age : new.soft_age ≡ old.soft_age

@@ -1,5 +1,6 @@
 //! The asks on cleaners and cleanables, and the cleaner's: actions are registered, taken up, and told how they ended.
-ghost use Rattle.std.specs.Prelude.{◌≡◌, ℕ, ◌-◌, ◌^◌, ◌≤◌, IsTrue, MatchResult, None, Some, false, true, not, is_some, length, nat_le};
+ghost use Rattle.std.specs.Prelude.{◌≡◌, ℕ, ◌-◌, ◌^◌, ◌≤◌, IsTrue, MatchResult, None, Some, false, true, not, is_some};
+ghost use Rattle.std.specs.Prelude.{length, nat_le};
 ghost use Rattle.jlr_machine.specs.declared.object.Cleanable.{Cleanable};
 ghost use Rattle.jlr_machine.specs.declared.object.Object.TheVariants as object;
 ghost use Rattle.jlr_machine.specs.declared.object.CleanState.TheVariants as state;
@@ -41,14 +42,16 @@ pub(crate) fn make_cleaner<R>(
     requires fit { IsWellFormed (machine_of state.old) }
     requires nothing { choice.old ≡ nothing_chosen choice.old.cells }
     requires room { length state.old.heap.graph.objects ≤ choice.old.cells }
-    ensures meets { Meets (machine_of state.old) (Ask.MakeCleaner by) (answer_of result) choice.new.chosen (machine_of state.new) }
+    ensures meets { Meets (machine_of state.old) (Ask.MakeCleaner by) (answer_of result) choice.new.chosen
+        (machine_of state.new) }
     ensures memory { answer_of result ≡ Answer.Refused Refusal.NoMemory → ⊥ }
     ensures room { choice.new.cells ≡ choice.old.cells }
     ensures cells { length state.new.heap.graph.objects ≡ length state.old.heap.graph.objects }
     ensures age { state.new.soft_age ≡ state.old.soft_age }
     ensures cleaner { state.new.cleaner ≡ state.old.cleaner }
     ensures clock { state.new.heap.clock ≡ after_choice choice.new.chosen state.old.heap.clock }
-    ensures marks { MarksNew (machine_of state.old) state.old.heap.marking choice.new.chosen (machine_of state.new) state.new.heap.marking }
+    ensures marks { MarksNew (machine_of state.old) state.old.heap.marking choice.new.chosen (machine_of state.new)
+        state.new.heap.marking }
 {
     state.check_session(by)?;
     state.check_no_call(by)?;
@@ -60,7 +63,8 @@ pub(crate) fn make_cleaner<R>(
 /// There is a cleaner at a slot.
 fn check_cleaner<R>(state: &State<R>, slot: Slot) -> Result<(), Refusal>
     requires { IsTrue (is_some (at state.now.heap.graph.objects slot)) }
-    ensures { Checks result Refusal.WrongKind (some_and (λ o. not (is_cleaner o)) (at state.now.heap.graph.objects slot)) }
+    ensures { Checks result Refusal.WrongKind
+        (some_and (λ o. not (is_cleaner o)) (at state.now.heap.graph.objects slot)) }
 {
     if state.heap.is_cleaner(slot) {
         Ok(())
@@ -72,7 +76,8 @@ fn check_cleaner<R>(state: &State<R>, slot: Slot) -> Result<(), Refusal>
 /// There is a cleanable at a slot.
 fn check_cleanable<R>(state: &State<R>, slot: Slot) -> Result<(), Refusal>
     requires { IsTrue (is_some (at state.now.heap.graph.objects slot)) }
-    ensures { Checks result Refusal.WrongKind (some_and (λ o. not (is_cleanable o)) (at state.now.heap.graph.objects slot)) }
+    ensures { Checks result Refusal.WrongKind
+        (some_and (λ o. not (is_cleanable o)) (at state.now.heap.graph.objects slot)) }
 {
     if state.heap.is_cleanable(slot) {
         Ok(())
@@ -90,7 +95,10 @@ fn check_register<R>(
 ) -> Result<Slot, Refusal>
     requires { IsWellFormed (machine_of state.now) }
     ensures { MatchResult result
-        (λ slot. ((note : ℕ) → refusal (machine_of state.now) (Ask.Register by cleaner object note) ≡ None) × (slot_named (machine_of state.now) by object ≡ Some slot) × (has_free_handle (machine_of state.now) by ≡ true) × (nat_le (2 ^ 64 - 1) state.now.cleaner.next_action ≡ false))
+        (λ slot. ((note : ℕ) → refusal (machine_of state.now) (Ask.Register by cleaner object note) ≡ None)
+        × (slot_named (machine_of state.now) by object ≡ Some slot)
+        × (has_free_handle (machine_of state.now) by ≡ true)
+        × (nat_le (2 ^ 64 - 1) state.now.cleaner.next_action ≡ false))
         (λ r. (note : ℕ) → refusal (machine_of state.now) (Ask.Register by cleaner object note) ≡ Some r) }
 {
     state.check_session(by)?;
@@ -118,7 +126,8 @@ pub(crate) fn register<R>(
     requires nothing { choice.old ≡ nothing_chosen choice.old.cells }
     requires room { length state.old.heap.graph.objects ≤ choice.old.cells }
     requires waits { AllWait (machine_of state.old) state.old.cleaner.waiting }
-    ensures meets { Meets (machine_of state.old) (Ask.Register by cleaner object note) (answer_of result) choice.new.chosen (machine_of state.new) }
+    ensures meets { Meets (machine_of state.old) (Ask.Register by cleaner object note) (answer_of result)
+        choice.new.chosen (machine_of state.new) }
     ensures memory { answer_of result ≡ Answer.Refused Refusal.NoMemory → ⊥ }
     ensures room { choice.new.cells ≡ choice.old.cells }
     ensures cells { length state.new.heap.graph.objects ≡ length state.old.heap.graph.objects }
@@ -126,7 +135,8 @@ pub(crate) fn register<R>(
     ensures table { state.new.cleaner.table ≡ state.old.cleaner.table }
     ensures clock { state.new.heap.clock ≡ after_choice choice.new.chosen state.old.heap.clock }
     ensures waits { WaitsOn (machine_of state.new) state.old.cleaner state.new.cleaner }
-    ensures marks { MarksNew (machine_of state.old) state.old.heap.marking choice.new.chosen (machine_of state.new) state.new.heap.marking }
+    ensures marks { MarksNew (machine_of state.old) state.old.heap.marking choice.new.chosen (machine_of state.new)
+        state.new.heap.marking }
 {
     let target = match check_register(state, by, cleaner, object) {
         Ok(target) => target,
@@ -150,7 +160,10 @@ pub(crate) fn register<R>(
 fn check_clean<R>(state: &State<R>, by: Mutator, cleanable: Handle) -> Result<Slot, Refusal>
     requires { IsWellFormed (machine_of state.now) }
     ensures { MatchResult result
-        (λ slot. (refusal (machine_of state.now) (Ask.Clean by cleanable) ≡ None) × (slot_named (machine_of state.now) by cleanable ≡ Some slot) × (is_joined (machine_of state.now) by ≡ true) × (has_call (machine_of state.now) by ≡ false) × IsTrue (some_and is_cleanable (at state.now.heap.graph.objects slot)))
+        (λ slot. (refusal (machine_of state.now) (Ask.Clean by cleanable) ≡ None)
+        × (slot_named (machine_of state.now) by cleanable ≡ Some slot)
+        × (is_joined (machine_of state.now) by ≡ true) × (has_call (machine_of state.now) by ≡ false)
+        × IsTrue (some_and is_cleanable (at state.now.heap.graph.objects slot)))
         (λ r. refusal (machine_of state.now) (Ask.Clean by cleanable) ≡ Some r) }
 {
     state.check_session(by)?;
@@ -169,7 +182,8 @@ pub(crate) fn clean<R>(
 ) -> Result<Option<Job<R>>, Refusal>
     requires fit { IsWellFormed (machine_of state.old) }
     requires waits { AllWait (machine_of state.old) state.old.cleaner.waiting }
-    ensures meets { Meets (machine_of state.old) (Ask.Clean by cleanable) (clean_answer result) no_choice (machine_of state.new) }
+    ensures meets { Meets (machine_of state.old) (Ask.Clean by cleanable) (clean_answer result) no_choice
+        (machine_of state.new) }
     ensures memory { clean_answer result ≡ Answer.Refused Refusal.NoMemory → ⊥ }
     ensures flow { Conserves None state.old.cleaner.table (handed_out result) state.new.cleaner.table }
     ensures moves { Moves None state.old.cleaner.table (handed_out result) state.new.cleaner.table }
@@ -185,7 +199,8 @@ pub(crate) fn clean<R>(
     Ok(state.start_job(by, slot))
 }
 
-/// The cleaner takes up the action of the first Lined cleanable of its line, if there is one. What was Spent before it leaves the line.
+/// The cleaner takes up the action of the first Lined cleanable of its line, if there is one. What was Spent before it
+/// leaves the line.
 ///
 /// # Errors
 /// `Busy` where the cleaner has a job that has not ended.
@@ -239,7 +254,8 @@ pub(crate) fn finish<R>(
     ensures table_room { state.new.cleaner.table.room ≡ state.old.cleaner.table.room }
     ensures clock { state.new.heap.clock ≡ state.old.heap.clock }
     ensures waits { WaitAsBefore state.old.cleaner state.new.cleaner }
-    ensures marks { MarksNew (machine_of state.old) state.old.heap.marking no_choice (machine_of state.new) state.new.heap.marking }
+    ensures marks { MarksNew (machine_of state.old) state.old.heap.marking no_choice (machine_of state.new)
+        state.new.heap.marking }
 {
     if by == CLEANER {
         return end_job(state, by, action, outcome);
@@ -259,8 +275,12 @@ fn end_job<R>(
     outcome: Outcome,
 ) -> Result<Answer, Refusal>
     ensures ended { MatchResult result
-        (λ answer. (is_job_of (machine_of state.old).jobs by action ≡ true) × (outcome_answer outcome (Some Answer.Done) ≡ Some answer) × (machine_of state.new ≡ on (job_of (machine_of state.old) action) (λ job. finished (machine_of state.old) job outcome) (machine_of state.old)))
-        (λ r. (r ≡ Refusal.NotOut) × (is_job_of (machine_of state.old).jobs by action ≡ false) × (machine_of state.new ≡ machine_of state.old)) }
+        (λ answer. (is_job_of (machine_of state.old).jobs by action ≡ true)
+        × (outcome_answer outcome (Some Answer.Done) ≡ Some answer)
+        × (machine_of state.new ≡ on (job_of (machine_of state.old) action)
+        (λ job. finished (machine_of state.old) job outcome) (machine_of state.old)))
+        (λ r. (r ≡ Refusal.NotOut) × (is_job_of (machine_of state.old).jobs by action ≡ false)
+        × (machine_of state.new ≡ machine_of state.old)) }
     ensures values { values state.new.cleaner.table ≡ values state.old.cleaner.table }
     ensures lies { LieAsBefore state.old.cleaner.table state.new.cleaner.table }
     ensures heap { state.new.heap ≡ state.old.heap }
@@ -277,7 +297,8 @@ fn end_job<R>(
 /// The last notes, the oldest first.
 pub(crate) fn notes<R>(state: &State<R>, by: Mutator) -> Result<Answer, Refusal>
     ensures meets { Meets (machine_of state.now) (Ask.Notes by) (answer_of result) no_choice (machine_of state.now) }
-    ensures memory { answer_of result ≡ Answer.Refused Refusal.NoMemory → MayWantMemory (machine_of state.now) state.now.cleaner.table (Ask.Notes by) }
+    ensures memory { answer_of result ≡ Answer.Refused Refusal.NoMemory
+        → MayWantMemory (machine_of state.now) state.now.cleaner.table (Ask.Notes by) }
 {
     state.check_session(by)?;
     state.check_no_call(by)?;
@@ -290,7 +311,8 @@ pub(crate) fn notes<R>(state: &State<R>, by: Mutator) -> Result<Answer, Refusal>
 /// The last actions that failed, and why, the oldest first.
 pub(crate) fn faults<R>(state: &State<R>, by: Mutator) -> Result<Answer, Refusal>
     ensures meets { Meets (machine_of state.now) (Ask.Faults by) (answer_of result) no_choice (machine_of state.now) }
-    ensures memory { answer_of result ≡ Answer.Refused Refusal.NoMemory → MayWantMemory (machine_of state.now) state.now.cleaner.table (Ask.Faults by) }
+    ensures memory { answer_of result ≡ Answer.Refused Refusal.NoMemory
+        → MayWantMemory (machine_of state.now) state.now.cleaner.table (Ask.Faults by) }
 {
     state.check_session(by)?;
     state.check_no_call(by)?;

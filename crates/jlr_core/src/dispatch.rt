@@ -30,20 +30,30 @@ pub(crate) fn step<R>(state: &mut State<R>, event: Event<R>, choice: &mut Choice
     requires waits { AllWait (machine_of state.old) state.old.cleaner.waiting }
     requires nothing { choice.old ≡ nothing_chosen choice.old.cells }
     requires room { length state.old.heap.graph.objects ≤ choice.old.cells }
-    ensures entry { StepsBy (machine_of state.old) state.old.heap.marking (ask_of event) (answer_in result) choice.new.chosen (machine_of state.new) }
-    ensures flow { Conserves (resource_of_event event) state.old.cleaner.table (resource_of_reply result) state.new.cleaner.table }
-    ensures moves { Moves (resource_of_event event) state.old.cleaner.table (resource_of_reply result) state.new.cleaner.table }
-    ensures goes_out { GoesOut state.old.cleaner.table (resource_of_event event) (answer_in result) (resource_of_reply result) }
+    ensures entry { StepsBy (machine_of state.old) state.old.heap.marking (ask_of event) (answer_in result)
+        choice.new.chosen (machine_of state.new) }
+    ensures flow { Conserves (resource_of_event event) state.old.cleaner.table (resource_of_reply result)
+        state.new.cleaner.table }
+    ensures moves { Moves (resource_of_event event) state.old.cleaner.table (resource_of_reply result)
+        state.new.cleaner.table }
+    ensures goes_out { GoesOut state.old.cleaner.table (resource_of_event event) (answer_in result)
+        (resource_of_reply result) }
     ensures memory { WantsMemory (machine_of state.old) state.old.cleaner.table (ask_of event) (answer_in result) }
     ensures table_room { LeavesRoom (ask_of event) state.old.cleaner.table state.new.cleaner.table }
-    ensures reached { MarksReached (machine_of state.old) state.old.heap.marking (machine_of state.new) state.new.heap.marking }
+    ensures reached { MarksReached (machine_of state.old) state.old.heap.marking (machine_of state.new)
+        state.new.heap.marking }
     ensures begins { Begins (ask_of event) (machine_of state.old) (machine_of state.new) state.new.heap.marking }
-    ensures marking { MarksBy (budget_of event) state.old.soft_age state.old.heap.clock (machine_of state.old) state.old.heap.marking state.old.heap.condemned result state.new.heap.marking state.new.heap.condemned }
-    ensures blackens { BlackensNew event (machine_of state.old) state.old.heap.marking choice.new.chosen (machine_of state.new) state.new.heap.marking }
-    ensures collects { ask_of event ≡ Some Ask.Collect → answer_in result ≡ Some (Answer.Truth (state.old.cycle_open && not (has_grey state.old.heap.marking))) }
-    ensures policy { KeepsByPolicy state.old.soft_age state.old.heap.clock (machine_of state.old) state.old.heap.marking (ask_of event) choice.new.chosen }
+    ensures marking { MarksBy (budget_of event) state.old.soft_age state.old.heap.clock (machine_of state.old)
+        state.old.heap.marking state.old.heap.condemned result state.new.heap.marking state.new.heap.condemned }
+    ensures blackens { BlackensNew event (machine_of state.old) state.old.heap.marking choice.new.chosen
+        (machine_of state.new) state.new.heap.marking }
+    ensures collects { ask_of event ≡ Some Ask.Collect
+        → answer_in result ≡ Some (Answer.Truth (state.old.cycle_open && not (has_grey state.old.heap.marking))) }
+    ensures policy { KeepsByPolicy state.old.soft_age state.old.heap.clock (machine_of state.old) state.old.heap.marking
+        (ask_of event) choice.new.chosen }
     ensures age { state.new.soft_age ≡ state.old.soft_age }
-    ensures clock { state.new.heap.clock ≡ clock_after (machine_of state.old) state.old.heap.clock (ask_of event) (answer_in result) choice.new.chosen }
+    ensures clock { state.new.heap.clock ≡ clock_after (machine_of state.old) state.old.heap.clock (ask_of event)
+        (answer_in result) choice.new.chosen }
     ensures room { choice.new.cells ≡ choice.old.cells }
     ensures cells { length state.new.heap.graph.objects ≡ length state.old.heap.graph.objects }
     ensures waits { WaitsOn (machine_of state.new) state.old.cleaner state.new.cleaner }
@@ -76,10 +86,11 @@ pub(crate) fn step_ask<R>(state: &mut State<R>, ask: &Ask, choice: &mut Choice) 
     ensures goes_out { GoesOut state.old.cleaner.table None (answer_in result) (resource_of_reply result) }
     ensures memory { WantsMemory (machine_of state.old) state.old.cleaner.table (Some ask.now) (answer_in result) }
     ensures table_room { LeavesRoom (Some ask.now) state.old.cleaner.table state.new.cleaner.table }
-    ensures reached { MarksReached (machine_of state.old) state.old.heap.marking (machine_of state.new) state.new.heap.marking }
+    ensures reached { MarksReached (machine_of state.old) state.old.heap.marking (machine_of state.new)
+        state.new.heap.marking }
     ensures begins { Begins (Some ask.now) (machine_of state.old) (machine_of state.new) state.new.heap.marking }
-    ensures blackens { BlackensNew {R = R} (Event.Ask ask.now) (machine_of state.old) state.old.heap.marking choice.new.chosen
-        (machine_of state.new) state.new.heap.marking }
+    ensures blackens { BlackensNew {R = R} (Event.Ask ask.now) (machine_of state.old) state.old.heap.marking
+        choice.new.chosen (machine_of state.new) state.new.heap.marking }
     ensures collects { Some ask.now ≡ Some Ask.Collect
         → answer_in result ≡ Some (Answer.Truth (state.old.cycle_open && not (has_grey state.old.heap.marking))) }
     ensures policy { KeepsByPolicy state.old.soft_age state.old.heap.clock (machine_of state.old) state.old.heap.marking
@@ -112,11 +123,13 @@ pub(crate) fn step_handler<R>(state: &mut State<R>) -> Handed
         (Some (Answer.Handed result)) no_choice (machine_of state.new) }
     ensures flow { Conserves None state.old.cleaner.table None state.new.cleaner.table }
     ensures moves { Moves None state.old.cleaner.table None state.new.cleaner.table }
-    ensures memory { WantsMemory (machine_of state.old) state.old.cleaner.table (Some Ask.HandOver) (Some (Answer.Handed result)) }
+    ensures memory { WantsMemory (machine_of state.old) state.old.cleaner.table (Some Ask.HandOver)
+        (Some (Answer.Handed result)) }
     ensures table_room { LeavesRoom (Some Ask.HandOver) state.old.cleaner.table state.new.cleaner.table }
-    ensures reached { MarksReached (machine_of state.old) state.old.heap.marking (machine_of state.new) state.new.heap.marking }
-    ensures blackens { BlackensNew {R = R} (Event.Ask Ask.HandOver) (machine_of state.old) state.old.heap.marking no_choice
-        (machine_of state.new) state.new.heap.marking }
+    ensures reached { MarksReached (machine_of state.old) state.old.heap.marking (machine_of state.new)
+        state.new.heap.marking }
+    ensures blackens { BlackensNew {R = R} (Event.Ask Ask.HandOver) (machine_of state.old) state.old.heap.marking
+        no_choice (machine_of state.new) state.new.heap.marking }
     ensures policy { KeepsByPolicy state.old.soft_age state.old.heap.clock (machine_of state.old) state.old.heap.marking
         (Some Ask.HandOver) no_choice }
     ensures age { state.new.soft_age ≡ state.old.soft_age }
@@ -138,11 +151,13 @@ pub(crate) fn step_cleaner<R>(state: &mut State<R>) -> Result<Option<Job<R>>, Re
     ensures flow { Conserves None state.old.cleaner.table (handed_out result) state.new.cleaner.table }
     ensures moves { Moves None state.old.cleaner.table (handed_out result) state.new.cleaner.table }
     ensures goes_out { GoesOut state.old.cleaner.table None (Some (take_up_answered result)) (handed_out result) }
-    ensures memory { WantsMemory (machine_of state.old) state.old.cleaner.table (Some Ask.TakeUp) (Some (take_up_answered result)) }
+    ensures memory { WantsMemory (machine_of state.old) state.old.cleaner.table (Some Ask.TakeUp)
+        (Some (take_up_answered result)) }
     ensures table_room { LeavesRoom (Some Ask.TakeUp) state.old.cleaner.table state.new.cleaner.table }
-    ensures reached { MarksReached (machine_of state.old) state.old.heap.marking (machine_of state.new) state.new.heap.marking }
-    ensures blackens { BlackensNew {R = R} (Event.Ask Ask.TakeUp) (machine_of state.old) state.old.heap.marking no_choice
-        (machine_of state.new) state.new.heap.marking }
+    ensures reached { MarksReached (machine_of state.old) state.old.heap.marking (machine_of state.new)
+        state.new.heap.marking }
+    ensures blackens { BlackensNew {R = R} (Event.Ask Ask.TakeUp) (machine_of state.old) state.old.heap.marking
+        no_choice (machine_of state.new) state.new.heap.marking }
     ensures policy { KeepsByPolicy state.old.soft_age state.old.heap.clock (machine_of state.old) state.old.heap.marking
         (Some Ask.TakeUp) no_choice }
     ensures age { state.new.soft_age ≡ state.old.soft_age }
@@ -171,10 +186,12 @@ pub(crate) fn step_finish<R>(
     ensures goes_out { GoesOut state.old.cleaner.table None (Some result) None }
     ensures memory { WantsMemory (machine_of state.old) state.old.cleaner.table (Some (Ask.Finish by action outcome))
         (Some result) }
-    ensures table_room { LeavesRoom (Some (Ask.Finish by action outcome)) state.old.cleaner.table state.new.cleaner.table }
-    ensures reached { MarksReached (machine_of state.old) state.old.heap.marking (machine_of state.new) state.new.heap.marking }
-    ensures blackens { BlackensNew {R = R} (Event.Ask (Ask.Finish by action outcome)) (machine_of state.old) state.old.heap.marking no_choice
-        (machine_of state.new) state.new.heap.marking }
+    ensures table_room { LeavesRoom (Some (Ask.Finish by action outcome)) state.old.cleaner.table
+        state.new.cleaner.table }
+    ensures reached { MarksReached (machine_of state.old) state.old.heap.marking (machine_of state.new)
+        state.new.heap.marking }
+    ensures blackens { BlackensNew {R = R} (Event.Ask (Ask.Finish by action outcome)) (machine_of state.old)
+        state.old.heap.marking no_choice (machine_of state.new) state.new.heap.marking }
     ensures policy { KeepsByPolicy state.old.soft_age state.old.heap.clock (machine_of state.old) state.old.heap.marking
         (Some (Ask.Finish by action outcome)) no_choice }
     ensures age { state.new.soft_age ≡ state.old.soft_age }
@@ -202,10 +219,11 @@ pub(crate) fn step_plain<R>(state: &mut State<R>, ask: &Ask, choice: &mut Choice
     ensures goes_out { GoesOut state.old.cleaner.table None (Some result) None }
     ensures memory { WantsMemory (machine_of state.old) state.old.cleaner.table (Some ask.now) (Some result) }
     ensures table_room { LeavesRoom (Some ask.now) state.old.cleaner.table state.new.cleaner.table }
-    ensures reached { MarksReached (machine_of state.old) state.old.heap.marking (machine_of state.new) state.new.heap.marking }
+    ensures reached { MarksReached (machine_of state.old) state.old.heap.marking (machine_of state.new)
+        state.new.heap.marking }
     ensures begins { Begins (Some ask.now) (machine_of state.old) (machine_of state.new) state.new.heap.marking }
-    ensures blackens { BlackensNew {R = R} (Event.Ask ask.now) (machine_of state.old) state.old.heap.marking choice.new.chosen
-        (machine_of state.new) state.new.heap.marking }
+    ensures blackens { BlackensNew {R = R} (Event.Ask ask.now) (machine_of state.old) state.old.heap.marking
+        choice.new.chosen (machine_of state.new) state.new.heap.marking }
     ensures collects { Some ask.now ≡ Some Ask.Collect
         → result ≡ Answer.Truth (state.old.cycle_open && not (has_grey state.old.heap.marking)) }
     ensures policy { KeepsByPolicy state.old.soft_age state.old.heap.clock (machine_of state.old) state.old.heap.marking
@@ -234,12 +252,14 @@ fn answer<R>(state: &mut State<R>, ask: &Ask, choice: &mut Choice) -> Result<Ans
     ensures flow { Conserves None state.old.cleaner.table None state.new.cleaner.table }
     ensures moves { Moves None state.old.cleaner.table None state.new.cleaner.table }
     ensures goes_out { GoesOut state.old.cleaner.table None (Some (answer_of result)) None }
-    ensures memory { WantsMemory (machine_of state.old) state.old.cleaner.table (Some ask.now) (Some (answer_of result)) }
+    ensures memory { WantsMemory (machine_of state.old) state.old.cleaner.table (Some ask.now)
+        (Some (answer_of result)) }
     ensures table_room { LeavesRoom (Some ask.now) state.old.cleaner.table state.new.cleaner.table }
-    ensures reached { MarksReached (machine_of state.old) state.old.heap.marking (machine_of state.new) state.new.heap.marking }
+    ensures reached { MarksReached (machine_of state.old) state.old.heap.marking (machine_of state.new)
+        state.new.heap.marking }
     ensures begins { Begins (Some ask.now) (machine_of state.old) (machine_of state.new) state.new.heap.marking }
-    ensures blackens { BlackensNew {R = R} (Event.Ask ask.now) (machine_of state.old) state.old.heap.marking choice.new.chosen
-        (machine_of state.new) state.new.heap.marking }
+    ensures blackens { BlackensNew {R = R} (Event.Ask ask.now) (machine_of state.old) state.old.heap.marking
+        choice.new.chosen (machine_of state.new) state.new.heap.marking }
     ensures collects { Some ask.now ≡ Some Ask.Collect
         → answer_of result ≡ Answer.Truth (state.old.cycle_open && not (has_grey state.old.heap.marking)) }
     ensures policy { KeepsByPolicy state.old.soft_age state.old.heap.clock (machine_of state.old) state.old.heap.marking

@@ -37,7 +37,8 @@ impl<R> Model for Core<R> {
 
     ghost view = { λ c. kept_with c.state.cleaner c.state.heap c.state.soft_age c.state.cycle_open };
 
-    ghost invariant = { λ c. IsWellFormed (machine_with c.state.cleaner c.state.heap.graph c.state.cycle_open) × AllWait (machine_with c.state.cleaner c.state.heap.graph c.state.cycle_open) c.state.cleaner.waiting };
+    ghost invariant = { λ c. IsWellFormed (machine_with c.state.cleaner c.state.heap.graph c.state.cycle_open)
+        × AllWait (machine_with c.state.cleaner c.state.heap.graph c.state.cycle_open) c.state.cleaner.waiting };
 }
 
 impl<R> Core<R> {
@@ -48,7 +49,8 @@ impl<R> Core<R> {
     /// # Errors
     /// `AllocError` where the room cannot be had.
     pub fn new(alloc: Global, limits: Limits) -> Result<Self, AllocError>
-        ensures empty { IfOk result (λ core. IsEmpty limits.cells limits.sessions limits.resources limits.soft_age 1 core) }
+        ensures empty { IfOk result
+            (λ core. IsEmpty limits.cells limits.sessions limits.resources limits.soft_age 1 core) }
     {
         Core::new_from(alloc, limits, 1)
     }
@@ -59,17 +61,21 @@ impl<R> Core<R> {
     /// `AllocError` where the room cannot be had.
     pub fn new_from(alloc: Global, limits: Limits, next_action: u64) -> Result<Self, AllocError>
         requires { 1 ≤ next_action }
-        ensures empty { IfOk result (λ core. IsEmpty limits.cells limits.sessions limits.resources limits.soft_age next_action core) }
+        ensures empty { IfOk result
+            (λ core. IsEmpty limits.cells limits.sessions limits.resources limits.soft_age next_action core) }
     {
         Ok(Core {
             state: State::new(alloc, limits, next_action)?,
         })
     }
 
-    /// One event. The choice says what was chosen; it has room for every cell. Only `Prepare` where the table of resources has no room,
-    /// `Names`, `Notes` and `Faults`, which copy a list, and `Array`, for its elements, may find no memory, and only where they are not refused. A piece of marking changes
-    /// nothing but marks: in an open cycle it follows grey cells, one tick each, and of an array one for each 64 elements, by the soft policy, and is Done where
-    /// none is left; without one it is Idle, and as many condemned cells become free, or all where there are no more. A `Collect` keeps exactly what is marked, and is answered yes exactly where a cycle is open and no cell is grey.
+    /// One event. The choice says what was chosen; it has room for every cell. Only `Prepare` where the table of
+    /// resources has no room, `Names`, `Notes` and `Faults`, which copy a list, and `Array`, for its elements, may find
+    /// no memory, and only where they are not refused. A piece of marking changes nothing but marks: in an open cycle
+    /// it follows grey cells, one tick each, and of an array one for each 64 elements, by the soft policy, and is Done
+    /// where none is left; without one it is Idle, and as many condemned cells become free, or all where there are no
+    /// more. A `Collect` keeps exactly what is marked, and is answered yes exactly where a cycle is open and no cell is
+    /// grey.
     #[inline(always)]
     pub fn step(&mut self, event: Event<R>, choice: &mut Choice) -> Reply<R>
         requires room { length self.old.machine.objects ≤ choice.old.cells }
@@ -94,7 +100,8 @@ impl<R> Core<R> {
         step_ask(&mut self.state, ask, choice)
     }
 
-    /// One ask of those that carry no resource, neither in nor out: what `step` does for it, and what it is answered. It is lent.
+    /// One ask of those that carry no resource, neither in nor out: what `step` does for it, and what it is answered.
+    /// It is lent.
     #[inline(always)]
     pub fn answer(&mut self, ask: &Ask, choice: &mut Choice) -> Answer
         requires plain { carries_none ask.now ≡ true }
@@ -107,7 +114,8 @@ impl<R> Core<R> {
         step_plain(&mut self.state, ask, choice)
     }
 
-    /// A piece of marking of at most so many ticks: what `step` does for a `Mark`, which chooses nothing. Nothing is moved for it but its budget.
+    /// A piece of marking of at most so many ticks: what `step` does for a `Mark`, which chooses nothing. Nothing is
+    /// moved for it but its budget.
     pub fn mark(&mut self, budget: u32) -> Progress
         ensures step { IsStep self.old (Event.Mark budget) (Reply.Marked result) no_choice self.new }
         ensures cells { length self.new.machine.objects ≡ length self.old.machine.objects }
@@ -117,35 +125,38 @@ impl<R> Core<R> {
 
     /// A step of the handler: what `step` does for `HandOver`, which chooses nothing and is never refused.
     pub fn hand_over(&mut self) -> Handed
-        ensures step { IsStep self.old (Event.Ask Ask.HandOver) (Reply.Answered (Answer.Handed result) None) no_choice self.new }
+        ensures step { IsStep self.old (Event.Ask Ask.HandOver) (Reply.Answered (Answer.Handed result) None) no_choice
+            self.new }
         ensures cells { length self.new.machine.objects ≡ length self.old.machine.objects }
     {
         step_handler(&mut self.state)
     }
 
-    /// A step of the cleaner: what `step` does for `TakeUp`, which chooses nothing. The job that was taken up, with its resource; none
-    /// where no cleanable of the line is Lined.
+    /// A step of the cleaner: what `step` does for `TakeUp`, which chooses nothing. The job that was taken up, with its
+    /// resource; none where no cleanable of the line is Lined.
     ///
     /// # Errors
     /// `Busy` where the cleaner has a job that has not ended.
     pub fn take_up(&mut self) -> Result<Option<Job<R>>, Refusal>
-        ensures step { IsStep self.old (Event.Ask Ask.TakeUp) (Reply.Answered (take_up_answered result) (handed_out result)) no_choice self.new }
+        ensures step { IsStep self.old (Event.Ask Ask.TakeUp)
+            (Reply.Answered (take_up_answered result) (handed_out result)) no_choice self.new }
         ensures cells { length self.new.machine.objects ≡ length self.old.machine.objects }
     {
         step_cleaner(&mut self.state)
     }
 
-    /// The end of a job that a mutator took up, or, by 255, the cleaner: what `step` does for `Finish`, which chooses nothing. It is
-    /// refused `NoSession` where the taker is no joined mutator, and `NotOut` where it runs no such job.
+    /// The end of a job that a mutator took up, or, by 255, the cleaner: what `step` does for `Finish`, which chooses
+    /// nothing. It is refused `NoSession` where the taker is no joined mutator, and `NotOut` where it runs no such job.
     pub fn finish(&mut self, by: u8, action: ActionNo, outcome: Outcome) -> Answer
-        ensures step { IsStep self.old (Event.Ask (Ask.Finish by action outcome)) (Reply.Answered result None) no_choice self.new }
+        ensures step { IsStep self.old (Event.Ask (Ask.Finish by action outcome)) (Reply.Answered result None) no_choice
+            self.new }
         ensures cells { length self.new.machine.objects ≡ length self.old.machine.objects }
     {
         step_finish(&mut self.state, by, action, outcome)
     }
 
-    /// Whether an ask may come with a collection: a full collection, a `Collect` in an open cycle, and an ask whose objects find no room.
-    /// It looks at no refusal. A step of an ask for which it answers no chooses no collection.
+    /// Whether an ask may come with a collection: a full collection, a `Collect` in an open cycle, and an ask whose
+    /// objects find no room. It looks at no refusal. A step of an ask for which it answers no chooses no collection.
     pub fn will_collect(&self, ask: &Ask) -> bool
         ensures { result ≡ may_collect self.now.machine (Some ask.now) }
     {
@@ -180,8 +191,9 @@ impl<R> Core<R> {
         self.state.cycle_open
     }
 
-    /// How many cells were taken since a collection finished last, or since the core was made where none has: a new guard takes two, any
-    /// other new object one. At most 2^32 - 1. What a step does to it is said by the clock of `step`.
+    /// How many cells were taken since a collection finished last, or since the core was made where none has: a new
+    /// guard takes two, any other new object one. At most 2^32 - 1. What a step does to it is said by the clock of
+    /// `step`.
     pub fn since_collection(&self) -> u32
         ensures { result ≡ self.now.clock.since }
     {
@@ -194,7 +206,8 @@ impl<R> Core<R> {
     /// `AllocError` where there is no memory for it.
     pub fn image(&self, alloc: Global) -> Result<Machine, AllocError>
         ensures exact { IfOk result (λ machine. machine ≡ self.now.machine) }
-        ensures image { (m : Machine) → StandsIn self.now m → IfOk result (λ machine. machine ≡ record m { seen = [] }) }
+        ensures image { (m : Machine) → StandsIn self.now m
+            → IfOk result (λ machine. machine ≡ record m { seen = [] }) }
     {
         self.state.image(alloc)
     }

@@ -132,8 +132,11 @@ pub(crate) fn give_or_null<R>(
 ) -> Result<Answer, Refusal>
     requires { (s : ℕ) → target ≡ Some s → IsInHand state.old.heap s }
     ensures given { MatchResult result
-        (λ a. (handle_given (machine_of state.old) by target ≡ Some a) × ((is_some target && not (has_free_handle (machine_of state.old) by)) ≡ false) × (machine_of state.new ≡ with_given (machine_of state.old) by target))
-        (λ r. (r ≡ Refusal.HandlesFull) × ((is_some target && not (has_free_handle (machine_of state.old) by)) ≡ true) × (machine_of state.new ≡ machine_of state.old)) }
+        (λ a. (handle_given (machine_of state.old) by target ≡ Some a)
+        × ((is_some target && not (has_free_handle (machine_of state.old) by)) ≡ false)
+        × (machine_of state.new ≡ with_given (machine_of state.old) by target))
+        (λ r. (r ≡ Refusal.HandlesFull) × ((is_some target && not (has_free_handle (machine_of state.old) by)) ≡ true)
+        × (machine_of state.new ≡ machine_of state.old)) }
     ensures objects { state.new.heap.graph.objects ≡ state.old.heap.graph.objects }
     ensures clock { state.new.heap.clock ≡ state.old.heap.clock }
     ensures age { state.new.soft_age ≡ state.old.soft_age }

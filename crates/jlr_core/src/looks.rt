@@ -1,4 +1,5 @@
-//! What a caller may look at before it asks: whether an ask may collect, or would wait, and whether anything is left to the helpers.
+//! What a caller may look at before it asks: whether an ask may collect, or would wait, and whether anything is left to
+//! the helpers.
 ghost use Rattle.std.specs.Prelude.{◌≡◌, ◌↔◌, IsTrue, Some, [], not};
 ghost use Rattle.jlr_machine.specs.Refusals.{refusal};
 ghost use Rattle.jlr_machine.specs.Run.{has_room};
@@ -30,7 +31,8 @@ fn lacks_room<R>(state: &State<R>, cells: u32) -> bool
     state.heap.vacant_count() < cells
 }
 
-/// Whether a `Remove` would be refused because its queue is empty, and nothing that comes before it in the order of refusals.
+/// Whether a `Remove` would be refused because its queue is empty, and nothing that comes before it in the order of
+/// refusals.
 pub(crate) fn would_wait<R>(state: &State<R>, by: Mutator, queue: Handle) -> bool
     requires { IsWellFormed (machine_of state.now) }
     ensures { IsTrue result ↔ (refusal (machine_of state.now) (Ask.Remove by queue) ≡ Some Refusal.WouldWait) }

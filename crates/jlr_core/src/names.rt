@@ -16,7 +16,8 @@ use jlr_types::{Handle, Mutator, Refusal, Slot};
 
 /// A name is bound: what it stands for.
 fn check_name<R>(state: &State<R>, name: &Name) -> Result<Slot, Refusal>
-    ensures { MatchResult result (λ slot. slot_bound (machine_of state.now).names name.now ≡ Some slot) (λ r. (r ≡ Refusal.NoName) × (slot_bound (machine_of state.now).names name.now ≡ None)) }
+    ensures { MatchResult result (λ slot. slot_bound (machine_of state.now).names name.now ≡ Some slot)
+        (λ r. (r ≡ Refusal.NoName) × (slot_bound (machine_of state.now).names name.now ≡ None)) }
 {
     match state.heap.find(name) {
         Some(slot) => Ok(slot),
@@ -26,7 +27,9 @@ fn check_name<R>(state: &State<R>, name: &Name) -> Result<Slot, Refusal>
 
 /// A name is bound, or one more may be.
 fn check_room_for_name<R>(state: &State<R>, name: &Name) -> Result<(), Refusal>
-    ensures { Checks result Refusal.NamesFull (is_none (slot_bound (machine_of state.now).names name.now) && nat_le 256 (length (machine_of state.now).names)) }
+    ensures { Checks result Refusal.NamesFull
+        (is_none (slot_bound (machine_of state.now).names name.now)
+        && nat_le 256 (length (machine_of state.now).names)) }
 {
     if state.heap.find(name).is_none() && state.heap.name_count() >= NAME_LIMIT {
         Err(Refusal::NamesFull)
@@ -44,7 +47,10 @@ fn check_bind<R>(
 ) -> Result<Slot, Refusal>
     requires { IsWellFormed (machine_of state.now) }
     ensures { MatchResult result
-        (λ slot. (refusal (machine_of state.now) (Ask.Bind by name.now object) ≡ None) × (slot_named (machine_of state.now) by object ≡ Some slot) × ((is_none (slot_bound (machine_of state.now).names name.now) && nat_le 256 (length (machine_of state.now).names)) ≡ false))
+        (λ slot. (refusal (machine_of state.now) (Ask.Bind by name.now object) ≡ None)
+        × (slot_named (machine_of state.now) by object ≡ Some slot)
+        × ((is_none (slot_bound (machine_of state.now).names name.now)
+        && nat_le 256 (length (machine_of state.now).names)) ≡ false))
         (λ r. refusal (machine_of state.now) (Ask.Bind by name.now object) ≡ Some r) }
 {
     state.check_session(by)?;
@@ -63,8 +69,10 @@ pub(crate) fn bind<R>(
     object: Handle,
 ) -> Result<Answer, Refusal>
     requires { IsWellFormed (machine_of state.old) }
-    ensures meets { Meets (machine_of state.old) (Ask.Bind by name.now object) (answer_of result) no_choice (machine_of state.new) }
-    ensures memory { answer_of result ≡ Answer.Refused Refusal.NoMemory → MayWantMemory (machine_of state.old) state.old.cleaner.table (Ask.Bind by name.now object) }
+    ensures meets { Meets (machine_of state.old) (Ask.Bind by name.now object) (answer_of result) no_choice
+        (machine_of state.new) }
+    ensures memory { answer_of result ≡ Answer.Refused Refusal.NoMemory
+        → MayWantMemory (machine_of state.old) state.old.cleaner.table (Ask.Bind by name.now object) }
     ensures cells { length state.new.heap.graph.objects ≡ length state.old.heap.graph.objects }
     ensures age { state.new.soft_age ≡ state.old.soft_age }
     ensures cleaner { state.new.cleaner ≡ state.old.cleaner }
@@ -114,7 +122,8 @@ pub(crate) fn unbind<R>(state: &mut State<R>, by: Mutator, name: &Name) -> Resul
 /// The names, in order of binding.
 pub(crate) fn names<R>(state: &State<R>, by: Mutator) -> Result<Answer, Refusal>
     ensures meets { Meets (machine_of state.now) (Ask.Names by) (answer_of result) no_choice (machine_of state.now) }
-    ensures memory { answer_of result ≡ Answer.Refused Refusal.NoMemory → MayWantMemory (machine_of state.now) state.now.cleaner.table (Ask.Names by) }
+    ensures memory { answer_of result ≡ Answer.Refused Refusal.NoMemory
+        → MayWantMemory (machine_of state.now) state.now.cleaner.table (Ask.Names by) }
 {
     state.check_session(by)?;
     state.check_no_call(by)?;

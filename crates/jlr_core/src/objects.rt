@@ -21,7 +21,8 @@ use jlr_types::{FieldNo, FieldValue, Handle, Layout, Length, Mutator, Refusal, S
 /// A plain object: one with fields, or an array.
 fn check_plain<R>(state: &State<R>, slot: Slot) -> Result<(), Refusal>
     requires { IsTrue (is_some (at state.now.heap.graph.objects slot)) }
-    ensures { Checks result Refusal.WrongKind (some_and (λ o. not (is_plain o)) (at state.now.heap.graph.objects slot)) }
+    ensures { Checks result Refusal.WrongKind
+        (some_and (λ o. not (is_plain o)) (at state.now.heap.graph.objects slot)) }
 {
     if state.heap.is_plain(slot) {
         Ok(())
@@ -33,7 +34,8 @@ fn check_plain<R>(state: &State<R>, slot: Slot) -> Result<(), Refusal>
 /// A plain object with fields, which may hold integers.
 fn check_record<R>(state: &State<R>, slot: Slot) -> Result<(), Refusal>
     requires { IsTrue (is_some (at state.now.heap.graph.objects slot)) }
-    ensures { Checks result Refusal.WrongKind (some_and (λ o. not (is_record o)) (at state.now.heap.graph.objects slot)) }
+    ensures { Checks result Refusal.WrongKind
+        (some_and (λ o. not (is_record o)) (at state.now.heap.graph.objects slot)) }
 {
     if state.heap.is_record(slot) {
         Ok(())
@@ -49,8 +51,10 @@ fn check_reference_field<R>(
     field: FieldNo,
 ) -> Result<Option<Slot>, Refusal>
     ensures { MatchResult result
-        (λ target. option_and_then (λ fields. value_at fields field) (option_and_then as_fields (at state.now.heap.graph.objects slot)) ≡ Some (FieldValue.Ref target))
-        (λ r. FieldRefused (option_and_then (λ fields. value_at fields field) (option_and_then as_fields (at state.now.heap.graph.objects slot))) r) }
+        (λ target. option_and_then (λ fields. value_at fields field)
+        (option_and_then as_fields (at state.now.heap.graph.objects slot)) ≡ Some (FieldValue.Ref target))
+        (λ r. FieldRefused (option_and_then (λ fields. value_at fields field)
+        (option_and_then as_fields (at state.now.heap.graph.objects slot))) r) }
 {
     if !state.heap.has_field(slot, field.number() as usize) {
         return Err(Refusal::NoField);
@@ -96,7 +100,8 @@ pub(crate) fn put<R>(
     ensures age { state.new.soft_age ≡ state.old.soft_age }
     ensures cleaner { state.new.cleaner ≡ state.old.cleaner }
     ensures clock { state.new.heap.clock ≡ state.old.heap.clock }
-    ensures marks { MarksNew (machine_of state.old) state.old.heap.marking no_choice (machine_of state.new) state.new.heap.marking }
+    ensures marks { MarksNew (machine_of state.old) state.old.heap.marking no_choice (machine_of state.new)
+        state.new.heap.marking }
 {
     state.check_session(by)?;
     state.check_handle(by, object)?;
@@ -115,8 +120,10 @@ pub(crate) fn put<R>(
 /// The integer in an integer field of the object at a slot.
 fn check_int_field<R>(state: &State<R>, slot: Slot, field: FieldNo) -> Result<i64, Refusal>
     ensures { MatchResult result
-        (λ number. option_and_then (λ fields. value_at fields field) (option_and_then as_fields (at state.now.heap.graph.objects slot)) ≡ Some (FieldValue.Int number))
-        (λ r. IntRefused (option_and_then (λ fields. value_at fields field) (option_and_then as_fields (at state.now.heap.graph.objects slot))) r) }
+        (λ number. option_and_then (λ fields. value_at fields field)
+        (option_and_then as_fields (at state.now.heap.graph.objects slot)) ≡ Some (FieldValue.Int number))
+        (λ r. IntRefused (option_and_then (λ fields. value_at fields field)
+        (option_and_then as_fields (at state.now.heap.graph.objects slot))) r) }
 {
     if !state.heap.has_field(slot, field.number() as usize) {
         return Err(Refusal::NoField);
@@ -154,12 +161,14 @@ pub(crate) fn set_int<R>(
     value: i64,
 ) -> Result<Answer, Refusal>
     requires { IsWellFormed (machine_of state.old) }
-    ensures answered { Answered (machine_of state.old) (Ask.SetInt by object field value) result (machine_of state.new) }
+    ensures answered { Answered (machine_of state.old) (Ask.SetInt by object field value) result
+        (machine_of state.new) }
     ensures memory { answer_of result ≡ Answer.Refused Refusal.NoMemory → ⊥ }
     ensures age { state.new.soft_age ≡ state.old.soft_age }
     ensures cleaner { state.new.cleaner ≡ state.old.cleaner }
     ensures clock { state.new.heap.clock ≡ state.old.heap.clock }
-    ensures marks { MarksNew (machine_of state.old) state.old.heap.marking no_choice (machine_of state.new) state.new.heap.marking }
+    ensures marks { MarksNew (machine_of state.old) state.old.heap.marking no_choice (machine_of state.new)
+        state.new.heap.marking }
 {
     state.check_session(by)?;
     state.check_handle(by, object)?;
@@ -182,14 +191,16 @@ pub(crate) fn new_object<R>(
     requires fit { IsWellFormed (machine_of state.old) }
     requires nothing { choice.old ≡ nothing_chosen choice.old.cells }
     requires room { length state.old.heap.graph.objects ≤ choice.old.cells }
-    ensures meets { Meets (machine_of state.old) (Ask.New by layout) (answer_of result) choice.new.chosen (machine_of state.new) }
+    ensures meets { Meets (machine_of state.old) (Ask.New by layout) (answer_of result) choice.new.chosen
+        (machine_of state.new) }
     ensures memory { answer_of result ≡ Answer.Refused Refusal.NoMemory → ⊥ }
     ensures room { choice.new.cells ≡ choice.old.cells }
     ensures cells { length state.new.heap.graph.objects ≡ length state.old.heap.graph.objects }
     ensures age { state.new.soft_age ≡ state.old.soft_age }
     ensures cleaner { state.new.cleaner ≡ state.old.cleaner }
     ensures clock { state.new.heap.clock ≡ after_choice choice.new.chosen state.old.heap.clock }
-    ensures marks { MarksNew (machine_of state.old) state.old.heap.marking choice.new.chosen (machine_of state.new) state.new.heap.marking }
+    ensures marks { MarksNew (machine_of state.old) state.old.heap.marking choice.new.chosen (machine_of state.new)
+        state.new.heap.marking }
 {
     state.check_session(by)?;
     state.check_no_call(by)?;
@@ -198,7 +209,8 @@ pub(crate) fn new_object<R>(
     Ok(state.give(by, slot))
 }
 
-/// An array of references, each null. Its elements are asked for before anything changes, and go back where no cell is free.
+/// An array of references, each null. Its elements are asked for before anything changes, and go back where no cell is
+/// free.
 pub(crate) fn new_array<R>(
     state: &mut State<R>,
     by: Mutator,
@@ -208,14 +220,17 @@ pub(crate) fn new_array<R>(
     requires fit { IsWellFormed (machine_of state.old) }
     requires nothing { choice.old ≡ nothing_chosen choice.old.cells }
     requires room { length state.old.heap.graph.objects ≤ choice.old.cells }
-    ensures meets { Meets (machine_of state.old) (Ask.Array by size) (answer_of result) choice.new.chosen (machine_of state.new) }
-    ensures memory { answer_of result ≡ Answer.Refused Refusal.NoMemory → MayWantMemory (machine_of state.old) state.old.cleaner.table (Ask.Array by size) }
+    ensures meets { Meets (machine_of state.old) (Ask.Array by size) (answer_of result) choice.new.chosen
+        (machine_of state.new) }
+    ensures memory { answer_of result ≡ Answer.Refused Refusal.NoMemory
+        → MayWantMemory (machine_of state.old) state.old.cleaner.table (Ask.Array by size) }
     ensures room { choice.new.cells ≡ choice.old.cells }
     ensures cells { length state.new.heap.graph.objects ≡ length state.old.heap.graph.objects }
     ensures age { state.new.soft_age ≡ state.old.soft_age }
     ensures cleaner { state.new.cleaner ≡ state.old.cleaner }
     ensures clock { state.new.heap.clock ≡ after_choice choice.new.chosen state.old.heap.clock }
-    ensures marks { MarksNew (machine_of state.old) state.old.heap.marking choice.new.chosen (machine_of state.new) state.new.heap.marking }
+    ensures marks { MarksNew (machine_of state.old) state.old.heap.marking choice.new.chosen (machine_of state.new)
+        state.new.heap.marking }
 {
     state.check_session(by)?;
     state.check_no_call(by)?;

@@ -1,5 +1,6 @@
 //! The asks on references and queues, and the handler's.
-ghost use Rattle.std.specs.Prelude.{◌≡◌, ◌&&◌, ◌==◌, ◌≤◌, IsTrue, MatchResult, None, Ok, Some, false, true, is_none, is_some, length, not};
+ghost use Rattle.std.specs.Prelude.{◌≡◌, ◌&&◌, ◌==◌, ◌≤◌, IsTrue, MatchResult, None, Ok, Some, false, true, is_none};
+ghost use Rattle.std.specs.Prelude.{is_some, length, not};
 ghost use Rattle.jlr_machine.specs.Objects.{at, some_and};
 ghost use Rattle.jlr_cells.specs.Contents.{member_in};
 ghost use Rattle.jlr_machine.specs.Lookups.{has_free_handle, object_named, slot_named};
@@ -22,7 +23,8 @@ use jlr_types::{Handle, Mutator, RefKind, Refusal, Slot};
 /// There is a reference at a slot.
 fn check_reference<R>(state: &State<R>, slot: Slot) -> Result<(), Refusal>
     requires { IsTrue (is_some (at state.now.heap.graph.objects slot)) }
-    ensures { Checks result Refusal.WrongKind (some_and (λ o. not (is_reference o)) (at state.now.heap.graph.objects slot)) }
+    ensures { Checks result Refusal.WrongKind
+        (some_and (λ o. not (is_reference o)) (at state.now.heap.graph.objects slot)) }
 {
     if state.heap.is_reference(slot) {
         Ok(())
@@ -34,7 +36,8 @@ fn check_reference<R>(state: &State<R>, slot: Slot) -> Result<(), Refusal>
 /// There is a queue at a slot.
 fn check_queue<R>(state: &State<R>, slot: Slot) -> Result<(), Refusal>
     requires { IsTrue (is_some (at state.now.heap.graph.objects slot)) }
-    ensures { Checks result Refusal.WrongKind (some_and (λ o. not (is_queue o)) (at state.now.heap.graph.objects slot)) }
+    ensures { Checks result Refusal.WrongKind
+        (some_and (λ o. not (is_queue o)) (at state.now.heap.graph.objects slot)) }
 {
     if state.heap.is_queue(slot) {
         Ok(())
@@ -52,8 +55,10 @@ fn check_queue_or_null<R>(
     requires fit { IsWellFormed (machine_of state.now) }
     requires in_use { (not (queue == 0) && is_none (slot_named (machine_of state.now) by queue)) ≡ false }
     ensures { MatchResult result
-        (λ slot. (slot_named (machine_of state.now) by queue ≡ slot) × (some_and (λ o. not (is_queue o)) (object_named (machine_of state.now) by queue) ≡ false))
-        (λ r. (r ≡ Refusal.WrongKind) × (is_of_wrong_kind (machine_of state.now) by (object_or_null queue is_queue) ≡ true)) }
+        (λ slot. (slot_named (machine_of state.now) by queue ≡ slot)
+        × (some_and (λ o. not (is_queue o)) (object_named (machine_of state.now) by queue) ≡ false))
+        (λ r. (r ≡ Refusal.WrongKind)
+        × (is_of_wrong_kind (machine_of state.now) by (object_or_null queue is_queue) ≡ true)) }
 {
     match state.heap.lookup(by, queue) {
         None => Ok(None),
@@ -69,11 +74,13 @@ pub(crate) fn deref<R>(
 ) -> Result<Answer, Refusal>
     requires { IsWellFormed (machine_of state.old) }
     ensures answered { Answered (machine_of state.old) (Ask.Deref by reference) result (machine_of state.new) }
-    ensures clock { state.new.heap.clock ≡ clock_after_deref (machine_of state.old) by reference (answer_of result) state.old.heap.clock }
+    ensures clock { state.new.heap.clock ≡ clock_after_deref (machine_of state.old) by reference (answer_of result)
+        state.old.heap.clock }
     ensures cells { length state.new.heap.graph.objects ≡ length state.old.heap.graph.objects }
     ensures age { state.new.soft_age ≡ state.old.soft_age }
     ensures cleaner { state.new.cleaner ≡ state.old.cleaner }
-    ensures marks { MarksNew (machine_of state.old) state.old.heap.marking no_choice (machine_of state.new) state.new.heap.marking }
+    ensures marks { MarksNew (machine_of state.old) state.old.heap.marking no_choice (machine_of state.new)
+        state.new.heap.marking }
 {
     state.check_session(by)?;
     state.check_handle(by, reference)?;
@@ -128,7 +135,9 @@ pub(crate) fn clear<R>(
 fn check_enqueue<R>(state: &State<R>, by: Mutator, reference: Handle) -> Result<Slot, Refusal>
     requires { IsWellFormed (machine_of state.now) }
     ensures { MatchResult result
-        (λ slot. (refusal (machine_of state.now) (Ask.Enqueue by reference) ≡ None) × (slot_named (machine_of state.now) by reference ≡ Some slot) × IsTrue (some_and is_reference (at state.now.heap.graph.objects slot)))
+        (λ slot. (refusal (machine_of state.now) (Ask.Enqueue by reference) ≡ None)
+        × (slot_named (machine_of state.now) by reference ≡ Some slot)
+        × IsTrue (some_and is_reference (at state.now.heap.graph.objects slot)))
         (λ r. refusal (machine_of state.now) (Ask.Enqueue by reference) ≡ Some r) }
 {
     state.check_session(by)?;
@@ -147,7 +156,8 @@ pub(crate) fn enqueue<R>(
     requires { IsWellFormed (machine_of state.old) }
     ensures answered { Answered (machine_of state.old) (Ask.Enqueue by reference) result (machine_of state.new) }
     ensures rest { LeavesRest state.old state.new }
-    ensures marks { MarksNew (machine_of state.old) state.old.heap.marking no_choice (machine_of state.new) state.new.heap.marking }
+    ensures marks { MarksNew (machine_of state.old) state.old.heap.marking no_choice (machine_of state.new)
+        state.new.heap.marking }
 {
     let slot = check_enqueue(state, by, reference)?;
     Ok(Answer::Truth(jlr_refs::enqueue(&mut state.heap, slot)))
@@ -173,7 +183,11 @@ pub(crate) fn enqueued<R>(
 fn check_poll<R>(state: &State<R>, by: Mutator, queue: Handle) -> Result<Slot, Refusal>
     requires { IsWellFormed (machine_of state.now) }
     ensures { MatchResult result
-        (λ slot. (refusal (machine_of state.now) (Ask.Poll by queue) ≡ None) × (slot_named (machine_of state.now) by queue ≡ Some slot) × IsTrue (some_and is_queue (at state.now.heap.graph.objects slot)) × ((is_some (member_in (at state.now.heap.graph.objects slot) 0) && not (has_free_handle (machine_of state.now) by)) ≡ false))
+        (λ slot. (refusal (machine_of state.now) (Ask.Poll by queue) ≡ None)
+        × (slot_named (machine_of state.now) by queue ≡ Some slot)
+        × IsTrue (some_and is_queue (at state.now.heap.graph.objects slot))
+        × ((is_some (member_in (at state.now.heap.graph.objects slot) 0)
+        && not (has_free_handle (machine_of state.now) by)) ≡ false))
         (λ r. refusal (machine_of state.now) (Ask.Poll by queue) ≡ Some r) }
 {
     state.check_session(by)?;
@@ -189,7 +203,8 @@ pub(crate) fn poll<R>(state: &mut State<R>, by: Mutator, queue: Handle) -> Resul
     requires { IsWellFormed (machine_of state.old) }
     ensures answered { Answered (machine_of state.old) (Ask.Poll by queue) result (machine_of state.new) }
     ensures rest { LeavesRest state.old state.new }
-    ensures marks { MarksNew (machine_of state.old) state.old.heap.marking no_choice (machine_of state.new) state.new.heap.marking }
+    ensures marks { MarksNew (machine_of state.old) state.old.heap.marking no_choice (machine_of state.new)
+        state.new.heap.marking }
 {
     let slot = check_poll(state, by, queue)?;
     let front = jlr_refs::poll(&mut state.heap, slot);
@@ -200,7 +215,11 @@ pub(crate) fn poll<R>(state: &mut State<R>, by: Mutator, queue: Handle) -> Resul
 pub(crate) fn check_remove<R>(state: &State<R>, by: Mutator, queue: Handle) -> Result<Slot, Refusal>
     requires { IsWellFormed (machine_of state.now) }
     ensures { MatchResult result
-        (λ slot. (refusal (machine_of state.now) (Ask.Remove by queue) ≡ None) × (slot_named (machine_of state.now) by queue ≡ Some slot) × IsTrue (some_and is_queue (at state.now.heap.graph.objects slot)) × ((is_some (member_in (at state.now.heap.graph.objects slot) 0) && not (has_free_handle (machine_of state.now) by)) ≡ false))
+        (λ slot. (refusal (machine_of state.now) (Ask.Remove by queue) ≡ None)
+        × (slot_named (machine_of state.now) by queue ≡ Some slot)
+        × IsTrue (some_and is_queue (at state.now.heap.graph.objects slot))
+        × ((is_some (member_in (at state.now.heap.graph.objects slot) 0)
+        && not (has_free_handle (machine_of state.now) by)) ≡ false))
         (λ r. refusal (machine_of state.now) (Ask.Remove by queue) ≡ Some r) }
 {
     state.check_session(by)?;
@@ -221,7 +240,8 @@ pub(crate) fn remove<R>(state: &mut State<R>, by: Mutator, queue: Handle) -> Res
     requires { IsWellFormed (machine_of state.old) }
     ensures answered { Answered (machine_of state.old) (Ask.Remove by queue) result (machine_of state.new) }
     ensures rest { LeavesRest state.old state.new }
-    ensures marks { MarksNew (machine_of state.old) state.old.heap.marking no_choice (machine_of state.new) state.new.heap.marking }
+    ensures marks { MarksNew (machine_of state.old) state.old.heap.marking no_choice (machine_of state.new)
+        state.new.heap.marking }
 {
     let slot = check_remove(state, by, queue)?;
     let member = jlr_refs::poll(&mut state.heap, slot);
@@ -233,7 +253,8 @@ pub(crate) fn hand_over<R>(state: &mut State<R>) -> Handed
     requires { IsWellFormed (machine_of state.old) }
     ensures answered { Answered (machine_of state.old) Ask.HandOver (Ok (Answer.Handed result)) (machine_of state.new) }
     ensures rest { LeavesRest state.old state.new }
-    ensures marks { MarksNew (machine_of state.old) state.old.heap.marking no_choice (machine_of state.new) state.new.heap.marking }
+    ensures marks { MarksNew (machine_of state.old) state.old.heap.marking no_choice (machine_of state.new)
+        state.new.heap.marking }
 {
     jlr_refs::hand_over(&mut state.heap)
 }
@@ -246,14 +267,16 @@ pub(crate) fn make_queue<R>(
     requires fit { IsWellFormed (machine_of state.old) }
     requires nothing { choice.old ≡ nothing_chosen choice.old.cells }
     requires room { length state.old.heap.graph.objects ≤ choice.old.cells }
-    ensures meets { Meets (machine_of state.old) (Ask.MakeQueue by) (answer_of result) choice.new.chosen (machine_of state.new) }
+    ensures meets { Meets (machine_of state.old) (Ask.MakeQueue by) (answer_of result) choice.new.chosen
+        (machine_of state.new) }
     ensures memory { answer_of result ≡ Answer.Refused Refusal.NoMemory → ⊥ }
     ensures room { choice.new.cells ≡ choice.old.cells }
     ensures cells { length state.new.heap.graph.objects ≡ length state.old.heap.graph.objects }
     ensures age { state.new.soft_age ≡ state.old.soft_age }
     ensures cleaner { state.new.cleaner ≡ state.old.cleaner }
     ensures clock { state.new.heap.clock ≡ after_choice choice.new.chosen state.old.heap.clock }
-    ensures marks { MarksNew (machine_of state.old) state.old.heap.marking choice.new.chosen (machine_of state.new) state.new.heap.marking }
+    ensures marks { MarksNew (machine_of state.old) state.old.heap.marking choice.new.chosen (machine_of state.new)
+        state.new.heap.marking }
 {
     state.check_session(by)?;
     state.check_no_call(by)?;
@@ -273,14 +296,16 @@ pub(crate) fn make_reference<R>(
     requires fit { IsWellFormed (machine_of state.old) }
     requires nothing { choice.old ≡ nothing_chosen choice.old.cells }
     requires room { length state.old.heap.graph.objects ≤ choice.old.cells }
-    ensures meets { Meets (machine_of state.old) (Ask.MakeRef by kind referent queue) (answer_of result) choice.new.chosen (machine_of state.new) }
+    ensures meets { Meets (machine_of state.old) (Ask.MakeRef by kind referent queue) (answer_of result)
+        choice.new.chosen (machine_of state.new) }
     ensures memory { answer_of result ≡ Answer.Refused Refusal.NoMemory → ⊥ }
     ensures room { choice.new.cells ≡ choice.old.cells }
     ensures cells { length state.new.heap.graph.objects ≡ length state.old.heap.graph.objects }
     ensures age { state.new.soft_age ≡ state.old.soft_age }
     ensures cleaner { state.new.cleaner ≡ state.old.cleaner }
     ensures clock { state.new.heap.clock ≡ after_choice choice.new.chosen state.old.heap.clock }
-    ensures marks { MarksNew (machine_of state.old) state.old.heap.marking choice.new.chosen (machine_of state.new) state.new.heap.marking }
+    ensures marks { MarksNew (machine_of state.old) state.old.heap.marking choice.new.chosen (machine_of state.new)
+        state.new.heap.marking }
 {
     state.check_session(by)?;
     state.check_handle(by, referent)?;

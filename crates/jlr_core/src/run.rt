@@ -11,10 +11,11 @@ use jlr_machine::choice::Choice;
 use jlr_types::Limits;
 use std::alloc::{AllocError, Global};
 
-/// Runs the events in order from the empty machine of the limits. There are choices with which the replies and the core that is
-/// left are a run of the machine of java.lang.ref, which keeps the promises of its package: references are cleared only in allowed sets,
-/// each is enqueued at most once and only when cleared, each cleaning action is taken up at most once, and its outcome recorded once or its
-/// job runs. Each event is a step of the core. No resource is made or lost: those handed in were handed out, or lie in the core, each as often.
+/// Runs the events in order from the empty machine of the limits. There are choices with which the replies and the core
+/// that is left are a run of the machine of java.lang.ref, which keeps the promises of its package: references are
+/// cleared only in allowed sets, each is enqueued at most once and only when cleared, each cleaning action is taken up
+/// at most once, and its outcome recorded once or its job runs. Each event is a step of the core. No resource is made
+/// or lost: those handed in were handed out, or lie in the core, each as often.
 ///
 /// # Errors
 /// `AllocError` where there is no room for the core, for a choice or for the replies.
@@ -26,7 +27,8 @@ pub fn run<R: Drop>(
     ensures run { IfOk result (λ out. IsRunOf limits events.items out.0.items out.1) }
     ensures cells { IfOk result (λ out. length out.1.machine.objects ≡ limits.cells) }
     ensures age { IfOk result (λ out. out.1.soft_age ≡ limits.soft_age) }
-    ensures flow { IfOk result (λ out. IsPermutation (resources_of_events events.items) (resources_of_replies out.0.items ++ values out.1.table)) }
+    ensures flow { IfOk result (λ out. IsPermutation (resources_of_events events.items)
+        (resources_of_replies out.0.items ++ values out.1.table)) }
 {
     let mut choice = Choice::new(alloc, limits.cells)?;
     let mut core = Core::new(alloc, limits)?;

@@ -1,15 +1,16 @@
-//! Lists of rows of words: an ask, an arrow, and what it is answered. What is expected comes from the description of the asks.
+//! Lists of rows of words: an ask, an arrow, and what it is answered. What is expected comes from the description of
+//! the asks.
 //!
-//! `weak 2 1 -> handle 3` asks for a weak reference to what handle 2 holds, on the queue that handle 1 holds, and wants handle 3 for an
-//! answer. The words of asks and answers are those of `jlr_words`. A row whose answer is `handle 2 up to 16` stands for fifteen rows, with
-//! handles from 2 to 16; behind `uncollected`, each is to come without a collection in its choice. An ask behind `again` may be refused because memory ran out, and is then made again. A row without an arrow is an ask
-//! whose answer is not looked at, or looks at the core: `objects 3` wants so many objects, `rests no` that something is pending or
-//! stands in
-//! the cleaner's line.
+//! `weak 2 1 -> handle 3` asks for a weak reference to what handle 2 holds, on the queue that handle 1 holds, and wants
+//! handle 3 for an answer. The words of asks and answers are those of `jlr_words`. A row whose answer is `handle 2 up
+//! to 16` stands for fifteen rows, with handles from 2 to 16; behind `uncollected`, each is to come without a
+//! collection in its choice. An ask behind `again` may be refused because memory ran out, and is then made again. A row
+//! without an arrow is an ask whose answer is not looked at, or looks at the core: `objects 3` wants so many objects,
+//! `rests no` that something is pending or stands in the cleaner's line.
 //!
 //! A text has several lists. Each begins with `== ` and its name, and has a heap of its own. Behind a colon its name
-//! says what that heap has
-//! beside: `cells 32, sessions 2, resources 4, soft_age 1, first_action 9` where it is not 16, 1, 1, 0 and 1. A line that begins with `-- ` is a comment.
+//! says what that heap has beside: `cells 32, sessions 2, resources 4, soft_age 1, first_action 9` where it is not 16,
+//! 1, 1, 0 and 1. A line that begins with `-- ` is a comment.
 use jlr_core::engine::Core;
 use jlr_core::run::run;
 use jlr_event::event::{Event, Reply};

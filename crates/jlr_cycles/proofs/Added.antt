@@ -1,5 +1,7 @@
 -- The strong and soft edges that an ask adds lead to roots.
-use Rattle.std.proofs.Common.{◌≡◌, ℕ, zero, suc, ◌+◌, ◌==◌, ◌<◌, length-set, true, false, cond, List, [], ◌∷◌, ◌++◌, ◌⊎◌, inl, inr, length, refl, sym, ◌∙◌, ap, subst, Option, Some, None, option_and_then, option_map, option_to_list, drop, map, replicate, slice_get, slice_set, filter_map}
+use Rattle.std.proofs.Common.{◌≡◌, ℕ, zero, suc, ◌+◌, ◌==◌, ◌<◌, length-set, true, false, cond, List, [], ◌∷◌, ◌++◌, ◌⊎◌, inl, inr, length}
+use Rattle.std.proofs.Common.{refl, sym, ◌∙◌, ap, subst, Option, Some, None, option_and_then, option_map, option_to_list, drop, map}
+use Rattle.std.proofs.Common.{replicate, slice_get, slice_set, filter_map}
 use Rattle.std.specs.List.{flat_map, cons_option}
 use Rattle.jlr_types.specs.declared.FieldValue.{FieldValue}
 use Rattle.jlr_types.specs.declared.FieldKind.{FieldKind}
@@ -26,15 +28,23 @@ use Rattle.jlr_machine.specs.declared.ask.Outcome.TheVariants.{Ok as OutcomeOk, 
 use Rattle.jlr_machine.specs.declared.ask.Handed.{Handed}
 use Rattle.jlr_machine.specs.declared.ask.Handed.TheVariants.{Queued as HandedQueued, Lined as HandedLined, Skipped, Nothing}
 use Rattle.jlr_machine.specs.declared.ask.Ask.{Ask}
-use Rattle.jlr_machine.specs.declared.ask.Ask.TheVariants.{Join, Leave, New, Put, Get, SetInt, Int, Dup, Drop, Same, MakeRef, Deref, Refers, Clear, Enqueue, Enqueued, MakeQueue, Poll, Remove, MakeCleaner, Register, Clean, Prepare, Opened, CheckOut, CheckIn, Close, Finish, Bind, Find, Unbind, Names, Full, Stat, Notes, Faults, HandOver, TakeUp, Begin, Collect, Abandon, Array}
+use Rattle.jlr_machine.specs.declared.ask.Ask.TheVariants.{Join, Leave, New, Put, Get, SetInt, Int, Dup, Drop, Same, MakeRef, Deref, Refers}
+use Rattle.jlr_machine.specs.declared.ask.Ask.TheVariants.{Clear, Enqueue, Enqueued, MakeQueue, Poll, Remove, MakeCleaner, Register, Clean}
+use Rattle.jlr_machine.specs.declared.ask.Ask.TheVariants.{Prepare, Opened, CheckOut, CheckIn, Close, Finish, Bind, Find, Unbind, Names}
+use Rattle.jlr_machine.specs.declared.ask.Ask.TheVariants.{Full, Stat, Notes, Faults, HandOver, TakeUp, Begin, Collect, Abandon, Array}
 use Rattle.jlr_machine.specs.declared.ask.Answer.{Answer}
 use Rattle.jlr_machine.specs.declared.ask.Answer.TheVariants.{Prepared}
-use Rattle.jlr_machine.specs.Objects.{Heap, at, set_at, ◌∈◌, as_reference, with_field, with_value, with_reference, with_members, with_cleanable, queue_ahead, is_spent}
+use Rattle.jlr_machine.specs.Objects.{Heap, at, set_at, ◌∈◌, as_reference, with_field, with_value, with_reference, with_members}
+use Rattle.jlr_machine.specs.Objects.{with_cleanable, queue_ahead, is_spent}
 use Rattle.jlr_machine.specs.Edges.{edges_from, edges, strong_edges, referent_edges, slot_in, slots_in, roots, is_own_root}
 use Rattle.jlr_machine.specs.Edges.Chain.{UpToSoft}
-use Rattle.jlr_machine.specs.Lookups.{slot_named, guard_named, with_object, with_new, with_handle, with_call, on, blank, bound, job_of, with_job, without_job, with_state, rid_of, cleanable_at, cleanable_of_guard}
+use Rattle.jlr_machine.specs.Lookups.{slot_named, guard_named, with_object, with_new, with_handle, with_call, on, blank, bound, job_of}
+use Rattle.jlr_machine.specs.Lookups.{with_job, without_job, with_state, rid_of, cleanable_at, cleanable_of_guard}
 use Rattle.jlr_machine.specs.Refusals.{given}
-use Rattle.jlr_machine.specs.Calls.{after, from_lined, with_given, made, to_queue, enqueued, unreferred, polled, poll_given, with_work_state, without_work_resource, taken_up, spent, cleaned, line_taken, delivered, handed, handed_over, registered, prepared, prepared_in, guard_fenced, fence_of, opened, checked_out, checked_in, finished, free_again}
+use Rattle.jlr_machine.specs.Calls.{after, from_lined, with_given, made, to_queue, enqueued, unreferred, polled, poll_given}
+use Rattle.jlr_machine.specs.Calls.{with_work_state, without_work_resource, taken_up, spent, cleaned, line_taken, delivered, handed}
+use Rattle.jlr_machine.specs.Calls.{handed_over, registered, prepared, prepared_in, guard_fenced, fence_of, opened, checked_out, checked_in}
+use Rattle.jlr_machine.specs.Calls.{finished, free_again}
 use Rattle.jlr_laws.proofs.Fits.{in_set}
 use Rattle.jlr_laws.proofs.KeepsHeap.{no_null}
 use Rattle.jlr_laws.proofs.Sets.{nothing, in_front, in_rest, in_cons}
@@ -84,7 +94,8 @@ module _ (R : ℕ → Type 0) where
 
   found : (heap : Heap) (x y : ℕ) → y ∈ edges_from UpToSoft heap x → (o : Object) × (at heap x ≡ Some o) × (y ∈ edges UpToSoft o)
   found heap x y =
-      elim (at heap x) as (λ o. at heap x ≡ o → y ∈ flat_map (edges UpToSoft) (option_to_list o) → (p : Object) × (at heap x ≡ Some p) × (y ∈ edges UpToSoft p)) [
+      elim (at heap x) as (λ o. at heap x ≡ o → y ∈ flat_map (edges UpToSoft) (option_to_list o) → (p : Object) × (at heap x ≡ Some p)
+      × (y ∈ edges UpToSoft p)) [
         | None ↦ λ e h. nothing y h
         | Some o ↦ λ e h. (o, e, elim (in_append y (edges UpToSoft o) [] h) [ inl i ↦ i | inr n ↦ nothing y n ])
       ] refl
@@ -123,21 +134,27 @@ module _ (R : ℕ → Type 0) where
   strong_only xs y h = elim (in_append y xs [] h) [ inl i ↦ i | inr n ↦ nothing y n ]
 
   field_few : (f : ℕ) (v : FieldValue) → ((y : ℕ) → slot_in v ≡ Some y → R y) → FewEdges (with_field f v)
-  field_few f v r (Plain fields) y h = elim (in_set fields f v y (strong_only (slots_in (with_value f v fields)) y h)) [ inl o ↦ inl (in_left y (slots_in fields) [] o) | inr e ↦ inr (r y e) ]
+  field_few f v r (Plain fields) y h = elim (in_set fields f v y (strong_only (slots_in (with_value f v fields)) y h)) [
+    | inl o ↦
+        inl (in_left y (slots_in fields) [] o)
+    | inr e ↦ inr (r y e)
+  ]
   field_few f v r (Reference x) y h = inl h
   field_few f v r (Queue members) y h = inl h
   field_few f v r Cleaner y h = inl h
   field_few f v r (Cleanable c) y h = inl h
   field_few f v r (Guard g) y h = inl h
 
-  soft_none : (k : RefKind) (y : ℕ) (rest : List ℕ) → y ∈ rest ++ option_to_list (cond {A = Option ℕ} (Rattle.jlr_machine.specs.Edges.is_kind Soft k) None None) → y ∈ rest
+  soft_none : (k : RefKind) (y : ℕ) (rest : List ℕ) → y ∈ rest
+      ++ option_to_list (cond {A = Option ℕ} (Rattle.jlr_machine.specs.Edges.is_kind Soft k) None None) → y ∈ rest
   soft_none Soft y rest h = strong_only rest y h
   soft_none Weak y rest h = strong_only rest y h
   soft_none Phantom y rest h = strong_only rest y h
 
   unreferred_few : FewEdges (with_reference unreferred)
   unreferred_few (Plain fields) y h = inl h
-  unreferred_few (Reference r) y h = inl (in_left y (option_to_list (queue_ahead r)) (referent_edges Soft (Reference r)) (soft_none r.kind y (option_to_list (queue_ahead r)) h))
+  unreferred_few (Reference r) y h = inl (in_left y (option_to_list (queue_ahead r)) (referent_edges Soft (Reference r))
+      (soft_none r.kind y (option_to_list (queue_ahead r)) h))
   unreferred_few (Queue members) y h = inl h
   unreferred_few Cleaner y h = inl h
   unreferred_few (Cleanable c) y h = inl h
@@ -186,8 +203,10 @@ module _ (R : ℕ → Type 0) where
   cleanable_few f (Cleanable c) y h = inl h
   cleanable_few f (Guard g) y h = inl h
 
-  reference_new : (kind : RefKind) (a q : Option ℕ) → ((y : ℕ) → a ≡ Some y → R y) → ((y : ℕ) → q ≡ Some y → R y) → (y : ℕ) → y ∈ edges UpToSoft (Reference (record { kind = kind; referent = a; queue = q; state = Fresh })) → R y
-  reference_new Soft a q ra rq y h = elim (in_append y (option_to_list q) (option_to_list a) h) [ inl i ↦ rq y (in_option y q i) | inr i ↦ ra y (in_option y a i) ]
+  reference_new : (kind : RefKind) (a q : Option ℕ) → ((y : ℕ) → a ≡ Some y → R y) → ((y : ℕ) → q ≡ Some y → R y) → (y : ℕ)
+      → y ∈ edges UpToSoft (Reference (record { kind = kind; referent = a; queue = q; state = Fresh })) → R y
+  reference_new Soft a q ra rq y h =
+      elim (in_append y (option_to_list q) (option_to_list a) h) [ inl i ↦ rq y (in_option y q i) | inr i ↦ ra y (in_option y a i) ]
   reference_new Weak a q ra rq y h = rq y (in_option y q (strong_only (option_to_list q) y h))
   reference_new Phantom a q ra rq y h = rq y (in_option y q (strong_only (option_to_list q) y h))
 
@@ -203,7 +222,9 @@ module _ (R : ℕ → Type 0) where
   to_queue_adds m s None r = none m
   to_queue_adds m s (Some q) r =
       let cut : Machine = with_object m s (with_reference (λ r. record r { state = Queued; queue = None })) in
-      both m cut (with_object cut q (with_members (λ members. members ++ s ∷ []))) (object_adds m s (with_reference (λ r. record r { state = Queued; queue = None })) queued_few) (object_adds cut q (with_members (λ members. members ++ s ∷ [])) (pushed_few s r))
+      both m cut (with_object cut q (with_members (λ members. members ++ s ∷ [])))
+      (object_adds m s (with_reference (λ r. record r { state = Queued; queue = None })) queued_few)
+      (object_adds cut q (with_members (λ members. members ++ s ∷ [])) (pushed_few s r))
 
   enqueued_adds : (m : Machine) (s : ℕ) → R s → Adds m (enqueued m s)
   enqueued_adds m s r =
@@ -215,10 +236,13 @@ module _ (R : ℕ → Type 0) where
   polled_adds m q None = none m
   polled_adds m q (Some s) =
       let cut : Machine = with_object m q (with_members (drop 1)) in
-      both m cut (with_object cut s (with_reference (λ r. record r { state = Removed }))) (object_adds m q (with_members (drop 1)) dropped_few) (object_adds cut s (with_reference (λ r. record r { state = Removed })) removed_few)
+      both m cut (with_object cut s (with_reference (λ r. record r { state = Removed })))
+      (object_adds m q (with_members (drop 1)) dropped_few)
+      (object_adds cut s (with_reference (λ r. record r { state = Removed })) removed_few)
 
   poll_given_adds : (m : Machine) (k h : ℕ) (s : Option ℕ) → Adds m (poll_given m k h s)
-  poll_given_adds m k h s = on_adds m (slot_named m k h) (λ q. with_given (polled m q s) k s) (λ q e. both m (polled m q s) (with_given (polled m q s) k s) (polled_adds m q s) (given_adds (polled m q s) k s))
+  poll_given_adds m k h s = on_adds m (slot_named m k h) (λ q. with_given (polled m q s) k s)
+      (λ q e. both m (polled m q s) (with_given (polled m q s) k s) (polled_adds m q s) (given_adds (polled m q s) k s))
 
   work_state_adds : (m : Machine) (rid : Option ℕ) (state : ResourceState) → Adds m (with_work_state m rid state)
   work_state_adds m None state = none m
@@ -230,31 +254,46 @@ module _ (R : ℕ → Type 0) where
 
   taken_up_adds : (m : Machine) (by s : ℕ) (c : CleanableOf) → Adds m (taken_up m by s c)
   taken_up_adds m by s c =
-      let n : Machine = record (with_object m s (with_cleanable spent)) { jobs = with_job m.jobs (record { action = c.action; work = c.work; by = by }); taken = m.taken + 1 } in
-      both m n (taken_up m by s c) (object_adds m s (with_cleanable spent) (cleanable_few spent)) (work_state_adds n (rid_of c.work) Closing)
+      let n : Machine = record (with_object m s (with_cleanable spent)) {
+        jobs = with_job m.jobs
+            (record { action = c.action; work = c.work; by = by });
+        taken = m.taken + 1;
+      } in
+      both m n (taken_up m by s c) (object_adds m s (with_cleanable spent) (cleanable_few spent))
+      (work_state_adds n (rid_of c.work) Closing)
 
   cleaned_adds : (m : Machine) (k s : ℕ) (o : Option CleanableOf) → Adds m (cleaned m k s o)
   cleaned_adds m k s None = none m
-  cleaned_adds m k s (Some c) = elim (is_spent c.state) as (λ d. Adds m (cond d m (with_call (taken_up m k s c) k None (CallJob c.action)))) [ true ↦ none m | false ↦ taken_up_adds m k s c ]
+  cleaned_adds m k s (Some c) = elim (is_spent c.state) as (λ d. Adds m
+      (cond d m (with_call (taken_up m k s c) k None (CallJob c.action)))) [ true ↦ none m | false ↦ taken_up_adds m k s c ]
 
   line_taken_adds : (m : Machine) (line : List ℕ) → Adds m (line_taken m line)
   line_taken_adds m [] = none m
   line_taken_adds m (s ∷ rest) =
-      elim (cleanable_at m s) as (λ o. Adds m (elim o [ None ↦ record m { line = rest } | Some c ↦ taken_up (record m { line = rest }) 255 s c ])) [
+      elim (cleanable_at m s) as (λ o. Adds m (elim o [
+        | None ↦ record m { line = rest }
+        | Some c ↦
+            taken_up (record m { line = rest }) 255 s c
+      ])) [
         | None ↦ none m
         | Some c ↦ taken_up_adds (record m { line = rest }) 255 s c
       ]
 
   delivered_adds : (m : Machine) (s : ℕ) (h : Handed) → R s → Adds m (delivered m s h)
   delivered_adds m s HandedQueued r = enqueued_adds m s r
-  delivered_adds m s HandedLined r = object_adds m s (with_cleanable (λ c. record c { state = Lined })) (cleanable_few (λ c. record c { state = Lined }))
+  delivered_adds m s HandedLined r =
+      object_adds m s (with_cleanable (λ c. record c { state = Lined })) (cleanable_few (λ c. record c { state = Lined }))
   delivered_adds m s Skipped r = none m
   delivered_adds m s Nothing r = none m
 
   handed_over_adds : (m : Machine) (pending : List ℕ) → ((s : ℕ) → s ∈ pending → R s) → Adds m (handed_over m pending)
   handed_over_adds m [] r = none m
   handed_over_adds m (s ∷ rest) r =
-      elim (at m.objects s) as (λ o. Adds m (elim o [ None ↦ record m { pending = rest } | Some o ↦ delivered (record m { pending = rest }) s (handed o) ])) [
+      elim (at m.objects s) as (λ o. Adds m (elim o [
+        | None ↦ record m { pending = rest }
+        | Some o ↦
+            delivered (record m { pending = rest }) s (handed o)
+      ])) [
         | None ↦ none m
         | Some o ↦ delivered_adds (record m { pending = rest }) s (handed o) (r s (in_front s s rest refl))
       ]
@@ -280,8 +319,10 @@ module _ (R : ℕ → Type 0) where
   prepared_adds m k (g ∷ c ∷ []) rid r =
       let guarded : Machine = with_new m g (Guard (record { rid = rid; cleanable = c })) in
       both m guarded (prepared m k g c rid)
-      (new_adds m g (Guard (record { rid = rid; cleanable = c })) (λ y h. elim (in_cons y c [] (strong_only (c ∷ []) y h)) [ inl e ↦ subst R (sym e) (r g c refl) | inr n ↦ nothing y n ]))
-      (new_adds guarded c (Cleanable (record { referent = Some g; action = m.next_action; work = WorkOn rid; state = Armed })) (λ y h. nothing y h))
+      (new_adds m g (Guard (record { rid = rid; cleanable = c }))
+      (λ y h. elim (in_cons y c [] (strong_only (c ∷ []) y h)) [ inl e ↦ subst R (sym e) (r g c refl) | inr n ↦ nothing y n ]))
+      (new_adds guarded c (Cleanable (record { referent = Some g; action = m.next_action; work = WorkOn rid; state = Armed }))
+      (λ y h. nothing y h))
   prepared_adds m k (g ∷ c ∷ x ∷ fresh) rid r = none m
 
   -- ---- What is left
@@ -293,18 +334,24 @@ module _ (R : ℕ → Type 0) where
     pub adds : (ask : Ask) (a : Answer) (fresh : List ℕ) → Second m ask a fresh → Adds m (after m ask a fresh)
     adds (Join k) a fresh r = none m
     adds (Leave k) a fresh r = none m
-    adds (New k layout) a fresh r = made_adds m k fresh (Plain (Typed (map blank layout))) (λ y h. absurd (blank_none layout y (strong_only (filter_map slot_in (map blank layout)) y h)))
-    adds (Put k h f v) a fresh r = on_adds m (slot_named m k h) (λ s. with_object m s (with_field f (RefValue (slot_named m k v)))) (λ s e. object_adds m s (with_field f (RefValue (slot_named m k v))) (field_few f (RefValue (slot_named m k v)) (named k v)))
+    adds (New k layout) a fresh r = made_adds m k fresh (Plain (Typed (map blank layout)))
+        (λ y h. absurd (blank_none layout y (strong_only (filter_map slot_in (map blank layout)) y h)))
+    adds (Put k h f v) a fresh r = on_adds m (slot_named m k h) (λ s. with_object m s (with_field f (RefValue (slot_named m k v))))
+        (λ s e. object_adds m s (with_field f (RefValue (slot_named m k v))) (field_few f (RefValue (slot_named m k v)) (named k v)))
     adds (Get k h f) a fresh r = given_adds m k (given m (Get k h f))
-    adds (SetInt k h f number) a fresh r = on_adds m (slot_named m k h) (λ s. with_object m s (with_field f (IntValue number))) (λ s e. object_adds m s (with_field f (IntValue number)) (field_few f (IntValue number) (λ y i. no_some y i)))
+    adds (SetInt k h f number) a fresh r = on_adds m (slot_named m k h) (λ s. with_object m s (with_field f (IntValue number)))
+        (λ s e. object_adds m s (with_field f (IntValue number)) (field_few f (IntValue number) (λ y i. no_some y i)))
     adds (Int k h f) a fresh r = none m
     adds (Dup k h) a fresh r = given_adds m k (given m (Dup k h))
     adds (Drop k h) a fresh r = none m
     adds (Same k x y) a fresh r = none m
-    adds (MakeRef k kind h q) a fresh r = made_adds m k fresh (Reference (record { kind = kind; referent = slot_named m k h; queue = slot_named m k q; state = Fresh })) (reference_new kind (slot_named m k h) (slot_named m k q) (named k h) (named k q))
+    adds (MakeRef k kind h q) a fresh r = made_adds m k fresh
+        (Reference (record { kind = kind; referent = slot_named m k h; queue = slot_named m k q; state = Fresh }))
+        (reference_new kind (slot_named m k h) (slot_named m k q) (named k h) (named k q))
     adds (Deref k x) a fresh r = given_adds m k (given m (Deref k x))
     adds (Refers k x h) a fresh r = none m
-    adds (Clear k x) a fresh r = on_adds m (slot_named m k x) (λ s. with_object m s (with_reference unreferred)) (λ s e. object_adds m s (with_reference unreferred) unreferred_few)
+    adds (Clear k x) a fresh r = on_adds m (slot_named m k x) (λ s. with_object m s (with_reference unreferred))
+        (λ s e. object_adds m s (with_reference unreferred) unreferred_few)
     adds (Enqueue k x) a fresh r = on_adds m (slot_named m k x) (enqueued m) (λ s e. enqueued_adds m s (named k x s e))
     adds (Enqueued k x) a fresh r = none m
     adds (MakeQueue k) a fresh r = made_adds m k fresh (Queue []) (λ y h. nothing y h)
@@ -312,14 +359,18 @@ module _ (R : ℕ → Type 0) where
     adds (Remove k q) a fresh r = poll_given_adds m k q (given m (Remove k q))
     adds (MakeCleaner k) a fresh r = made_adds m k fresh Cleaner (λ y h. nothing y h)
     adds (Register k d h note) a fresh r = made_adds m k fresh (registered m k h note) (λ y i. nothing y i)
-    adds (Clean k d) a fresh r = on_adds m (slot_named m k d) (λ s. cleaned m k s (cleanable_at m s)) (λ s e. cleaned_adds m k s (cleanable_at m s))
+    adds (Clean k d) a fresh r =
+        on_adds m (slot_named m k d) (λ s. cleaned m k s (cleanable_at m s)) (λ s e. cleaned_adds m k s (cleanable_at m s))
     adds (Prepare k) (Prepared rid) fresh r = prepared_adds m k fresh rid (λ g c e. r k rid g c refl refl e)
     adds (Prepare k) a fresh r = none m
     adds (Opened k outcome) a fresh r = on_adds m (guard_fenced m k) (λ g. opened m k g outcome) (λ g e. opened_adds m k g outcome)
     adds (CheckOut k h) a fresh r = on_adds m (guard_named m k h) (checked_out m k (slot_named m k h)) (λ g e. none m)
     adds (CheckIn k outcome) a fresh r = on_adds m (guard_fenced m k) (checked_in m k) (λ g e. none m)
-    adds (Close k h) a fresh r = on_adds m (cleanable_of_guard m k h) (λ s. cleaned m k s (cleanable_at m s)) (λ s e. cleaned_adds m k s (cleanable_at m s))
-    adds (Finish by action outcome) a fresh r = on_adds m (job_of m action) (λ job. free_again (finished m job outcome) by) (λ job e. both m (finished m job outcome) (free_again (finished m job outcome) by) (finished_adds m job outcome) (free_again_adds (finished m job outcome) by))
+    adds (Close k h) a fresh r =
+        on_adds m (cleanable_of_guard m k h) (λ s. cleaned m k s (cleanable_at m s)) (λ s e. cleaned_adds m k s (cleanable_at m s))
+    adds (Finish by action outcome) a fresh r = on_adds m (job_of m action) (λ job. free_again (finished m job outcome) by)
+        (λ job e. both m (finished m job outcome) (free_again (finished m job outcome) by) (finished_adds m job outcome)
+        (free_again_adds (finished m job outcome) by))
     adds (Bind k name h) a fresh r = on_adds m (slot_named m k h) (λ s. record m { names = bound m.names name s }) (λ s e. none m)
     adds (Find k name) a fresh r = given_adds m k (given m (Find k name))
     adds (Unbind k name) a fresh r = none m
@@ -333,11 +384,13 @@ module _ (R : ℕ → Type 0) where
     adds Begin a fresh r = none m
     adds Collect a fresh r = none m
     adds Abandon a fresh r = none m
-    adds (Array k n) a fresh r = made_adds m k fresh (Plain (Elements (replicate n None))) (λ y h. no_null n y (strong_only (slots_in (Elements (replicate n None))) y h))
+    adds (Array k n) a fresh r = made_adds m k fresh (Plain (Elements (replicate n None)))
+        (λ y h. no_null n y (strong_only (slots_in (Elements (replicate n None))) y h))
 
 -- ---- An ask of m
 
-has_session : (o : Option Session) (f : Session → Option ℕ) (y : ℕ) → option_and_then f o ≡ Some y → (s : Session) × (o ≡ Some s) × (f s ≡ Some y)
+has_session : (o : Option Session) (f : Session → Option ℕ) (y : ℕ) → option_and_then f o ≡ Some y → (s : Session) × (o ≡ Some s)
+    × (f s ≡ Some y)
 has_session None f y e = no_some y e
 has_session (Some s) f y e = (s, refl, e)
 
@@ -350,10 +403,15 @@ named_is_root m k h y e =
 armed_is_root : (m : Machine) (k rid g c : ℕ) → c < length m.objects → c ∈ roots (prepared m k g c rid)
 armed_is_root m k rid g c l =
     let guarded : Heap = set_at m.objects g (Guard (record { rid = rid; cleanable = c })) in
-    let there : at (prepared m k g c rid).objects c ≡ Some (Cleanable (record { referent = Some g; action = m.next_action; work = WorkOn rid; state = Armed })) = set_same guarded c (Some (Cleanable (record { referent = Some g; action = m.next_action; work = WorkOn rid; state = Armed }))) (subst (λ n. c < n) (sym (length-set m.objects g (Some (Guard (record { rid = rid; cleanable = c }))))) l) in
+    let there : at (prepared m k g c rid).objects c ≡ Some
+    (Cleanable (record { referent = Some g; action = m.next_action; work = WorkOn rid; state = Armed })) =
+    set_same guarded c (Some (Cleanable (record { referent = Some g; action = m.next_action; work = WorkOn rid; state = Armed })))
+    (subst (λ n. c < n) (sym (length-set m.objects g (Some (Guard (record { rid = rid; cleanable = c }))))) l) in
     root_from (prepared m k g c rid) c (active (ap is_own_root there))
 
-pub adds_edges : (m : Machine) (ask : Ask) (a : Answer) (fresh : List ℕ) → ((s : ℕ) → s ∈ fresh → s < length m.objects) → (x y : ℕ) → y ∈ edges_from UpToSoft (after m ask a fresh).objects x → (y ∈ edges_from UpToSoft m.objects x) ⊎ ((y ∈ roots m) ⊎ (y ∈ roots (after m ask a fresh)))
+pub adds_edges : (m : Machine) (ask : Ask) (a : Answer) (fresh : List ℕ) → ((s : ℕ) → s ∈ fresh → s < length m.objects) → (x y : ℕ)
+    → y ∈ edges_from UpToSoft (after m ask a fresh).objects x → (y ∈ edges_from UpToSoft m.objects x)
+    ⊎ ((y ∈ roots m) ⊎ (y ∈ roots (after m ask a fresh)))
 adds_edges m ask a fresh within =
     adds (λ y. (y ∈ roots m) ⊎ (y ∈ roots (after m ask a fresh))) m
     (λ k h y e. inl (named_is_root m k h y e))

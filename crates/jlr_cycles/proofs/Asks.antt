@@ -1,5 +1,6 @@
 -- What was seen plays no part in what asks are refused with and answer, nor in what they leave.
-use Rattle.std.proofs.Common.{replicate, ◌≡◌, ℕ, ◌+◌, ◌==◌, Bool, true, false, cond, List, [], ◌∷◌, ◌++◌, ◌⊎◌, inl, inr, refl, ◌∙◌, ap, Option, Some, None, option_and_then, map, slice_get}
+use Rattle.std.proofs.Common.{replicate, ◌≡◌, ℕ, ◌+◌, ◌==◌, Bool, true, false, cond, List, [], ◌∷◌, ◌++◌, ◌⊎◌, inl, inr, refl, ◌∙◌, ap}
+use Rattle.std.proofs.Common.{Option, Some, None, option_and_then, map, slice_get}
 use Rattle.jlr_types.specs.declared.FieldValue.TheVariants.{Int as IntValue, Ref as RefValue}
 use Rattle.jlr_machine.specs.declared.object.Object.{Object}
 use Rattle.jlr_machine.specs.declared.object.Contents.TheVariants.{Typed, Elements}
@@ -18,12 +19,20 @@ use Rattle.jlr_machine.specs.declared.ask.Outcome.{Outcome}
 use Rattle.jlr_machine.specs.declared.ask.Outcome.TheVariants.{Ok as OutcomeOk, Failed}
 use Rattle.jlr_machine.specs.declared.ask.Handed.{Handed}
 use Rattle.jlr_machine.specs.declared.ask.Handed.TheVariants.{Queued as HandedQueued, Lined as HandedLined, Skipped, Nothing}
-use Rattle.jlr_machine.specs.declared.ask.Ask.TheVariants.{Join, Leave, New, Put, Get, SetInt, Int, Dup, Drop, Same, MakeRef, Deref, Refers, Clear, Enqueue, Enqueued, MakeQueue, Poll, Remove, MakeCleaner, Register, Clean, Prepare, Opened, CheckOut, CheckIn, Close, Finish, Bind, Find, Unbind, Names, Full, Stat, Notes, Faults, HandOver, TakeUp, Begin, Collect, Abandon, Array}
+use Rattle.jlr_machine.specs.declared.ask.Ask.TheVariants.{Join, Leave, New, Put, Get, SetInt, Int, Dup, Drop, Same, MakeRef, Deref, Refers}
+use Rattle.jlr_machine.specs.declared.ask.Ask.TheVariants.{Clear, Enqueue, Enqueued, MakeQueue, Poll, Remove, MakeCleaner, Register, Clean}
+use Rattle.jlr_machine.specs.declared.ask.Ask.TheVariants.{Prepare, Opened, CheckOut, CheckIn, Close, Finish, Bind, Find, Unbind, Names}
+use Rattle.jlr_machine.specs.declared.ask.Ask.TheVariants.{Full, Stat, Notes, Faults, HandOver, TakeUp, Begin, Collect, Abandon, Array}
 use Rattle.jlr_machine.specs.declared.ask.Answer.TheVariants.{Prepared}
-use Rattle.jlr_machine.specs.Objects.{at, some_and, as_reference, with_field, with_reference, with_cleanable, queue_ahead, is_lined, is_spent}
-use Rattle.jlr_machine.specs.Lookups.{slot_named, guard_named, with_object, with_new, with_handle, with_call, on, blank, bound, job_of, with_job, without_job, with_state, rid_of, cleanable_at, cleanable_of_guard, last_256}
+use Rattle.jlr_machine.specs.Objects.{at, some_and, as_reference, with_field, with_reference, with_cleanable, queue_ahead, is_lined}
+use Rattle.jlr_machine.specs.Objects.{is_spent}
+use Rattle.jlr_machine.specs.Lookups.{slot_named, guard_named, with_object, with_new, with_handle, with_call, on, blank, bound, job_of}
+use Rattle.jlr_machine.specs.Lookups.{with_job, without_job, with_state, rid_of, cleanable_at, cleanable_of_guard, last_256}
 use Rattle.jlr_machine.specs.Refusals.{given, refusal}
-use Rattle.jlr_machine.specs.Calls.{reply, after, from_lined, line_answer, hand_over_answer, handle_given, with_given, made, to_queue, enqueued, unreferred, polled, poll_given, with_work_state, without_work_resource, taken_up, spent, cleaned, line_taken, delivered, handed, handed_over, prepared_in, opened, fence_of, guard_fenced, checked_out, checked_in, without_work, finished, noted, free_again, registered}
+use Rattle.jlr_machine.specs.Calls.{reply, after, from_lined, line_answer, hand_over_answer, handle_given, with_given, made, to_queue}
+use Rattle.jlr_machine.specs.Calls.{enqueued, unreferred, polled, poll_given, with_work_state, without_work_resource, taken_up, spent}
+use Rattle.jlr_machine.specs.Calls.{cleaned, line_taken, delivered, handed, handed_over, prepared_in, opened, fence_of, guard_fenced}
+use Rattle.jlr_machine.specs.Calls.{checked_out, checked_in, without_work, finished, noted, free_again, registered}
 use Rattle.jlr_cycles.specs.Laws.{with_seen}
 
 -- the machine with a cycle open or not, and these slots seen
@@ -80,7 +89,8 @@ same_refusal m slots Abandon = refl
 
 same_line : (m : Machine) (b : Bool) (slots line : List ℕ) → from_lined (with_cycle m b slots) line ≡ from_lined m line
 same_line m b slots [] = refl
-same_line m b slots (s ∷ line) = ap (λ l. cond (some_and (λ c. is_lined c.state) (cleanable_at m s)) (s ∷ line) l) (same_line m b slots line)
+same_line m b slots (s ∷ line) =
+    ap (λ l. cond (some_and (λ c. is_lined c.state) (cleanable_at m s)) (s ∷ line) l) (same_line m b slots line)
 
 same_line_answer : (m : Machine) (slots line : List ℕ) → line_answer (with_seen m slots) line ≡ line_answer m line
 same_line_answer m slots [] = refl
@@ -133,7 +143,8 @@ same_reply m slots (Stat k) = refl
 same_reply m slots (Notes k) = refl
 same_reply m slots (Faults k) = refl
 same_reply m slots HandOver = same_hand_over_answer m slots m.pending
-same_reply m slots TakeUp = same_line_answer m slots (from_lined (with_seen m slots) m.line) ∙ ap (line_answer m) (same_line m m.cycle_open slots m.line)
+same_reply m slots TakeUp = same_line_answer m slots (from_lined (with_seen m slots) m.line)
+    ∙ ap (line_answer m) (same_line m m.cycle_open slots m.line)
 same_reply m slots Begin = refl
 same_reply m slots Collect = refl
 same_reply m slots Abandon = refl
@@ -145,7 +156,8 @@ module _ (b : Bool) (slots : List ℕ) where
   abbrev Moves : (Machine → Machine) → Machine → Type 0
   Moves f m = f (with_cycle m b slots) ≡ with_cycle (f m) b slots
 
-  on_moves : {A : Type 0} (m : Machine) (o : Option A) (f : Machine → A → Machine) → ((x : A) → Moves (λ m. f m x) m) → Moves (λ m. on o (f m) m) m
+  on_moves : {A : Type 0} (m : Machine) (o : Option A) (f : Machine → A → Machine) → ((x : A) → Moves (λ m. f m x) m)
+      → Moves (λ m. on o (f m) m) m
   on_moves m None f h = refl
   on_moves m (Some x) f h = h x
 
@@ -160,14 +172,16 @@ module _ (b : Bool) (slots : List ℕ) where
   to_queue_moves m s (Some q) = refl
 
   enqueued_moves : (m : Machine) (s : ℕ) → Moves (λ m. enqueued m s) m
-  enqueued_moves m s = to_queue_moves (with_object m s (with_reference unreferred)) s (option_and_then queue_ahead (option_and_then as_reference (at m.objects s)))
+  enqueued_moves m s = to_queue_moves (with_object m s (with_reference unreferred)) s
+      (option_and_then queue_ahead (option_and_then as_reference (at m.objects s)))
 
   polled_moves : (m : Machine) (q : ℕ) (s : Option ℕ) → Moves (λ m. polled m q s) m
   polled_moves m q None = refl
   polled_moves m q (Some s) = refl
 
   poll_given_moves : (m : Machine) (k h : ℕ) (s : Option ℕ) → Moves (λ m. poll_given m k h s) m
-  poll_given_moves m k h s = on_moves m (slot_named m k h) (λ m q. with_given (polled m q s) k s) (λ q. ap (λ n. with_given n k s) (polled_moves m q s) ∙ given_moves (polled m q s) k s)
+  poll_given_moves m k h s = on_moves m (slot_named m k h) (λ m q. with_given (polled m q s) k s)
+      (λ q. ap (λ n. with_given n k s) (polled_moves m q s) ∙ given_moves (polled m q s) k s)
 
   work_state_moves : (m : Machine) (rid : Option ℕ) (state : ResourceState) → Moves (λ m. with_work_state m rid state) m
   work_state_moves m None state = refl
@@ -178,7 +192,12 @@ module _ (b : Bool) (slots : List ℕ) where
   work_gone_moves m (Some rid) = refl
 
   taken_up_moves : (m : Machine) (by s : ℕ) (c : CleanableOf) → Moves (λ m. taken_up m by s c) m
-  taken_up_moves m by s c = work_state_moves (record (with_object m s (with_cleanable spent)) { jobs = with_job m.jobs (record { action = c.action; work = c.work; by = by }); taken = m.taken + 1 }) (rid_of c.work) Closing
+  taken_up_moves m by s c = work_state_moves (record
+      (with_object m s (with_cleanable spent)) {
+        jobs =
+            with_job m.jobs (record { action = c.action; work = c.work; by = by });
+        taken = m.taken + 1;
+      }) (rid_of c.work) Closing
 
   cleaned_moves : (m : Machine) (k s : ℕ) (o : Option CleanableOf) → Moves (λ m. cleaned m k s o) m
   cleaned_moves m k s None = refl
@@ -191,7 +210,11 @@ module _ (b : Bool) (slots : List ℕ) where
   line_taken_moves : (m : Machine) (line : List ℕ) → Moves (λ m. line_taken m line) m
   line_taken_moves m [] = refl
   line_taken_moves m (s ∷ rest) =
-      elim (cleanable_at m s) as (λ o. Moves (λ m. elim o [ None ↦ record m { line = rest } | Some c ↦ taken_up (record m { line = rest }) 255 s c ]) m) [
+      elim (cleanable_at m s) as (λ o. Moves (λ m. elim o [
+        | None ↦ record m { line = rest }
+        | Some c ↦
+            taken_up (record m { line = rest }) 255 s c
+      ]) m) [
         | None ↦ refl
         | Some c ↦ taken_up_moves (record m { line = rest }) 255 s c
       ]
@@ -205,7 +228,11 @@ module _ (b : Bool) (slots : List ℕ) where
   handed_over_moves : (m : Machine) (pending : List ℕ) → Moves (λ m. handed_over m pending) m
   handed_over_moves m [] = refl
   handed_over_moves m (s ∷ rest) =
-      elim (at m.objects s) as (λ o. Moves (λ m. elim o [ None ↦ record m { pending = rest } | Some o ↦ delivered (record m { pending = rest }) s (handed o) ]) m) [
+      elim (at m.objects s) as (λ o. Moves (λ m. elim o [
+        | None ↦ record m { pending = rest }
+        | Some o ↦
+            delivered (record m { pending = rest }) s (handed o)
+      ]) m) [
         | None ↦ refl
         | Some o ↦ delivered_moves (record m { pending = rest }) s (handed o)
       ]
@@ -224,8 +251,11 @@ module _ (b : Bool) (slots : List ℕ) where
   work_over_moves m job = work_gone_moves (record m { jobs = without_job m.jobs job.action }) (rid_of job.work)
 
   finished_moves : (m : Machine) (job : JobOf) (outcome : Outcome) → Moves (λ m. finished m job outcome) m
-  finished_moves m job OutcomeOk = ap {A = Machine} {B = Machine} (λ n. record n { ok = m.ok + 1; notes = noted m.notes job.work }) (work_over_moves m job)
-  finished_moves m job (Failed fault) = ap {A = Machine} {B = Machine} (λ n. record n { failed = m.failed + 1; faults = last_256 (m.faults ++ record { action = job.action; fault = fault } ∷ []) }) (work_over_moves m job)
+  finished_moves m job OutcomeOk =
+      ap {A = Machine} {B = Machine} (λ n. record n { ok = m.ok + 1; notes = noted m.notes job.work }) (work_over_moves m job)
+  finished_moves m job (Failed fault) = ap {A = Machine} {B = Machine}
+      (λ n. record n { failed = m.failed + 1; faults = last_256 (m.faults ++ record { action = job.action; fault = fault } ∷ []) })
+      (work_over_moves m job)
 
   free_again_moves : (m : Machine) (by : ℕ) → Moves (λ m. free_again m by) m
   free_again_moves m by = elim (by == 255) as (λ d. Moves (λ m. cond d m (with_call m by None Free)) m) [ true ↦ refl | false ↦ refl ]
@@ -237,40 +267,55 @@ module _ (b : Bool) (slots : List ℕ) where
 
 -- an ask leaves the cycle as it is, or opens one, or gives it up
 abbrev pub LeavesCycle : Machine → Bool → List ℕ → Ask → Answer → List ℕ → Type 0
-LeavesCycle m b slots ask a fresh = (after (with_cycle m b slots) ask a fresh ≡ with_cycle (after m ask a fresh) b slots) ⊎ (ask ≡ Begin) ⊎ (ask ≡ Abandon)
+LeavesCycle m b slots ask a fresh = (after (with_cycle m b slots) ask a fresh ≡ with_cycle (after m ask a fresh) b slots) ⊎ (ask ≡ Begin)
+    ⊎ (ask ≡ Abandon)
 
 pub leaves_cycle : (m : Machine) (b : Bool) (slots : List ℕ) (ask : Ask) (a : Answer) (fresh : List ℕ) → LeavesCycle m b slots ask a fresh
 leaves_cycle m b slots (Join k) a fresh = inl refl
 leaves_cycle m b slots (Leave k) a fresh = inl refl
 leaves_cycle m b slots (New k layout) a fresh = inl (made_moves b slots m k fresh (Plain (Typed (map blank layout))))
 leaves_cycle m b slots (Array k size) a fresh = inl (made_moves b slots m k fresh (Plain (Elements (replicate size None))))
-leaves_cycle m b slots (Put k h f v) a fresh = inl (on_moves b slots m (slot_named m k h) (λ m s. with_object m s (with_field f (RefValue (slot_named m k v)))) (λ s. refl))
+leaves_cycle m b slots (Put k h f v) a fresh =
+    inl (on_moves b slots m (slot_named m k h) (λ m s. with_object m s (with_field f (RefValue (slot_named m k v)))) (λ s. refl))
 leaves_cycle m b slots (Get k h f) a fresh = inl (given_moves b slots m k (given m (Get k h f)))
-leaves_cycle m b slots (SetInt k h f number) a fresh = inl (on_moves b slots m (slot_named m k h) (λ m s. with_object m s (with_field f (IntValue number))) (λ s. refl))
+leaves_cycle m b slots (SetInt k h f number) a fresh =
+    inl (on_moves b slots m (slot_named m k h) (λ m s. with_object m s (with_field f (IntValue number))) (λ s. refl))
 leaves_cycle m b slots (Int k h f) a fresh = inl refl
 leaves_cycle m b slots (Dup k h) a fresh = inl (given_moves b slots m k (given m (Dup k h)))
 leaves_cycle m b slots (Drop k h) a fresh = inl refl
 leaves_cycle m b slots (Same k x y) a fresh = inl refl
-leaves_cycle m b slots (MakeRef k kind h q) a fresh = inl (made_moves b slots m k fresh (Reference (record { kind = kind; referent = slot_named m k h; queue = slot_named m k q; state = Fresh })))
+leaves_cycle m b slots (MakeRef k kind h q) a fresh =
+    inl (made_moves b slots m k fresh
+    (Reference (record { kind = kind; referent = slot_named m k h; queue = slot_named m k q; state = Fresh })))
 leaves_cycle m b slots (Deref k r) a fresh = inl (given_moves b slots m k (given m (Deref k r)))
 leaves_cycle m b slots (Refers k r h) a fresh = inl refl
-leaves_cycle m b slots (Clear k r) a fresh = inl (on_moves b slots m (slot_named m k r) (λ m s. with_object m s (with_reference unreferred)) (λ s. refl))
+leaves_cycle m b slots (Clear k r) a fresh =
+    inl (on_moves b slots m (slot_named m k r) (λ m s. with_object m s (with_reference unreferred)) (λ s. refl))
 leaves_cycle m b slots (Enqueue k r) a fresh = inl (on_moves b slots m (slot_named m k r) enqueued (λ s. enqueued_moves b slots m s))
 leaves_cycle m b slots (Enqueued k r) a fresh = inl refl
 leaves_cycle m b slots (MakeQueue k) a fresh = inl (made_moves b slots m k fresh (Queue []))
 leaves_cycle m b slots (Poll k q) a fresh = inl (poll_given_moves b slots m k q (given m (Poll k q)))
 leaves_cycle m b slots (Remove k q) a fresh = inl (poll_given_moves b slots m k q (given m (Remove k q)))
 leaves_cycle m b slots (MakeCleaner k) a fresh = inl (made_moves b slots m k fresh Cleaner)
-leaves_cycle m b slots (Register k d h note) a fresh = inl (ap {A = Machine} {B = Machine} (λ n. record n { next_action = m.next_action + 1 }) (made_moves b slots m k fresh (registered m k h note)))
-leaves_cycle m b slots (Clean k d) a fresh = inl (on_moves b slots m (slot_named m k d) (λ m s. cleaned m k s (cleanable_at m s)) (λ s. cleaned_moves b slots m k s (cleanable_at m s)))
+leaves_cycle m b slots (Register k d h note) a fresh =
+    inl (ap {A = Machine} {B = Machine} (λ n. record n { next_action = m.next_action + 1 })
+    (made_moves b slots m k fresh (registered m k h note)))
+leaves_cycle m b slots (Clean k d) a fresh = inl (on_moves b slots m (slot_named m k d) (λ m s. cleaned m k s (cleanable_at m s))
+    (λ s. cleaned_moves b slots m k s (cleanable_at m s)))
 leaves_cycle m b slots (Prepare k) (Prepared rid) fresh = inl (prepared_moves b slots m k fresh rid)
 leaves_cycle m b slots (Prepare k) a fresh = inl refl
-leaves_cycle m b slots (Opened k outcome) a fresh = inl (on_moves b slots m (guard_fenced m k) (λ m g. opened m k g outcome) (λ g. opened_moves b slots m k g outcome))
-leaves_cycle m b slots (CheckOut k h) a fresh = inl (on_moves b slots m (guard_named m k h) (λ m g. checked_out m k (slot_named m k h) g) (λ g. refl))
+leaves_cycle m b slots (Opened k outcome) a fresh =
+    inl (on_moves b slots m (guard_fenced m k) (λ m g. opened m k g outcome) (λ g. opened_moves b slots m k g outcome))
+leaves_cycle m b slots (CheckOut k h) a fresh =
+    inl (on_moves b slots m (guard_named m k h) (λ m g. checked_out m k (slot_named m k h) g) (λ g. refl))
 leaves_cycle m b slots (CheckIn k outcome) a fresh = inl (on_moves b slots m (guard_fenced m k) (λ m g. checked_in m k g) (λ g. refl))
-leaves_cycle m b slots (Close k h) a fresh = inl (on_moves b slots m (cleanable_of_guard m k h) (λ m s. cleaned m k s (cleanable_at m s)) (λ s. cleaned_moves b slots m k s (cleanable_at m s)))
-leaves_cycle m b slots (Finish by action outcome) a fresh = inl (on_moves b slots m (job_of m action) (λ m job. free_again (finished m job outcome) by) (λ job. ended_moves b slots m job outcome by))
-leaves_cycle m b slots (Bind k name h) a fresh = inl (on_moves b slots m (slot_named m k h) (λ m s. record m { names = bound m.names name s }) (λ s. refl))
+leaves_cycle m b slots (Close k h) a fresh = inl (on_moves b slots m (cleanable_of_guard m k h) (λ m s. cleaned m k s (cleanable_at m s))
+    (λ s. cleaned_moves b slots m k s (cleanable_at m s)))
+leaves_cycle m b slots (Finish by action outcome) a fresh =
+    inl (on_moves b slots m (job_of m action) (λ m job. free_again (finished m job outcome) by)
+    (λ job. ended_moves b slots m job outcome by))
+leaves_cycle m b slots (Bind k name h) a fresh =
+    inl (on_moves b slots m (slot_named m k h) (λ m s. record m { names = bound m.names name s }) (λ s. refl))
 leaves_cycle m b slots (Find k name) a fresh = inl (given_moves b slots m k (given m (Find k name)))
 leaves_cycle m b slots (Unbind k name) a fresh = inl refl
 leaves_cycle m b slots (Names k) a fresh = inl refl
@@ -279,7 +324,8 @@ leaves_cycle m b slots (Stat k) a fresh = inl refl
 leaves_cycle m b slots (Notes k) a fresh = inl refl
 leaves_cycle m b slots (Faults k) a fresh = inl refl
 leaves_cycle m b slots HandOver a fresh = inl (handed_over_moves b slots m m.pending)
-leaves_cycle m b slots TakeUp a fresh = inl (ap (line_taken (with_cycle m b slots)) (same_line m b slots m.line) ∙ line_taken_moves b slots m (from_lined m m.line))
+leaves_cycle m b slots TakeUp a fresh =
+    inl (ap (line_taken (with_cycle m b slots)) (same_line m b slots m.line) ∙ line_taken_moves b slots m (from_lined m m.line))
 leaves_cycle m b slots Begin a fresh = inr (inl refl)
 leaves_cycle m b slots Collect a fresh = inl refl
 leaves_cycle m b slots Abandon a fresh = inr (inr refl)

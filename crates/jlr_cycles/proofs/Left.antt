@@ -34,7 +34,8 @@ module _ (m : Machine) (slots : List ℕ) (ask : Ask) (a : Answer) (fresh : List
     | inr (inr abandons) ↦ of_abandon abandons
   ]
 
-same_carried : (m : Machine) (slots : List ℕ) (ask : Ask) (a : Answer) (fresh : List ℕ) → with_seen (carried (with_seen m slots) ask a fresh) [] ≡ with_seen (carried m ask a fresh) []
+same_carried : (m : Machine) (slots : List ℕ) (ask : Ask) (a : Answer) (fresh : List ℕ)
+    → with_seen (carried (with_seen m slots) ask a fresh) [] ≡ with_seen (carried m ask a fresh) []
 same_carried m slots ask (Refused by) fresh = refl
 same_carried m slots ask a fresh = same_after m slots ask a fresh
 

@@ -3,7 +3,10 @@ use Rattle.std.proofs.Common.{ℕ, List, ◌∙◌, Option, Some, None}
 use Rattle.jlr_machine.specs.declared.machine.Machine.{Machine}
 use Rattle.jlr_machine.specs.declared.ask.Ask.{Ask}
 use Rattle.jlr_machine.specs.declared.ask.Answer.{Answer}
-use Rattle.jlr_machine.specs.declared.ask.Ask.TheVariants.{Join, Leave, New, Put, Get, SetInt, Int, Dup, Drop, Same, MakeRef, Deref, Refers, Clear, Enqueue, Enqueued, MakeQueue, Poll, Remove, MakeCleaner, Register, Clean, Prepare, Opened, CheckOut, CheckIn, Close, Finish, Bind, Find, Unbind, Names, Full, Stat, Notes, Faults, HandOver, TakeUp, Begin, Collect, Abandon, Array}
+use Rattle.jlr_machine.specs.declared.ask.Ask.TheVariants.{Join, Leave, New, Put, Get, SetInt, Int, Dup, Drop, Same, MakeRef, Deref, Refers}
+use Rattle.jlr_machine.specs.declared.ask.Ask.TheVariants.{Clear, Enqueue, Enqueued, MakeQueue, Poll, Remove, MakeCleaner, Register, Clean}
+use Rattle.jlr_machine.specs.declared.ask.Ask.TheVariants.{Prepare, Opened, CheckOut, CheckIn, Close, Finish, Bind, Find, Unbind, Names}
+use Rattle.jlr_machine.specs.declared.ask.Ask.TheVariants.{Full, Stat, Notes, Faults, HandOver, TakeUp, Begin, Collect, Abandon, Array}
 use Rattle.jlr_machine.specs.declared.ask.FullMode.TheVariants.{Policy, ClearAll}
 use Rattle.jlr_machine.specs.declared.entry.Collected.{Collected}
 use Rattle.jlr_machine.specs.declared.entry.Entry.{Entry}
@@ -17,7 +20,8 @@ use Rattle.jlr_cycles.proofs.Asks.{same_refusal, same_reply}
 
 -- ---- Answers
 
-pub answers_still : (m : Machine) (slots : List ℕ) (ask : Ask) (c : Option Collected) (a : Answer) → Answers m ask c a → Answers (with_seen m slots) ask c a
+pub answers_still : (m : Machine) (slots : List ℕ) (ask : Ask) (c : Option Collected) (a : Answer) → Answers m ask c a
+    → Answers (with_seen m slots) ask c a
 answers_still m slots (Join k) c answer p = same_reply m slots (Join k) ∙ p
 answers_still m slots (Leave k) c answer p = same_reply m slots (Leave k) ∙ p
 answers_still m slots (New k layout) c answer p = same_reply m slots (New k layout) ∙ p
@@ -62,11 +66,13 @@ answers_still m slots Collect c answer p = p
 answers_still m slots Abandon c answer p = same_reply m slots Abandon ∙ p
 
 -- whether a collection comes first or not
-answers_after : (m : Machine) (slots : List ℕ) (o : Option Collected) (ask : Ask) (a : Answer) → Answers (with_collection m o) ask o a → Answers (with_collection (with_seen m slots) o) ask o a
+answers_after : (m : Machine) (slots : List ℕ) (o : Option Collected) (ask : Ask) (a : Answer) → Answers (with_collection m o) ask o a
+    → Answers (with_collection (with_seen m slots) o) ask o a
 answers_after m slots None ask a h = answers_still m slots ask None a h
 answers_after m slots (Some c) ask a h = h
 
-fresh_after : (m : Machine) (slots : List ℕ) (o : Option Collected) (cells : ℕ) (fresh : List ℕ) → IsFresh (with_collection m o).objects cells fresh → IsFresh (with_collection (with_seen m slots) o).objects cells fresh
+fresh_after : (m : Machine) (slots : List ℕ) (o : Option Collected) (cells : ℕ) (fresh : List ℕ)
+    → IsFresh (with_collection m o).objects cells fresh → IsFresh (with_collection (with_seen m slots) o).objects cells fresh
 fresh_after m slots None cells fresh h = h
 fresh_after m slots (Some c) cells fresh h = h
 

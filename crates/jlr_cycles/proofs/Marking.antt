@@ -1,5 +1,6 @@
 -- A core that has marked something goes on standing for each machine for which it stands.
-use Rattle.std.proofs.Common.{◌≡◌, ℕ, zero, suc, ◌<◌, arith, true, false, List, [], ◌∷◌, ◌++◌, length, ◌⊎◌, inl, inr, refl, sym, ◌∙◌, ap, subst, Option, Some, None}
+use Rattle.std.proofs.Common.{◌≡◌, ℕ, zero, suc, ◌<◌, arith, true, false, List, [], ◌∷◌, ◌++◌, length, ◌⊎◌, inl, inr, refl, sym, ◌∙◌, ap}
+use Rattle.std.proofs.Common.{subst, Option, Some, None}
 use Rattle.std.proofs.lemmas.Bool.{both_ways}
 use Rattle.jlr_types.specs.declared.Refusal.{Refusal}
 use Rattle.jlr_types.specs.declared.RefKind.{RefKind}
@@ -34,17 +35,20 @@ use Rattle.jlr_cycles.proofs.Added.{adds_edges}
 
 -- ---- Paths one edge longer
 
-path_more : (m : Machine) (x : ℕ) (path : List ℕ) (y z : ℕ) → IsPath UpToSoft m.objects x path y → z ∈ edges_from UpToSoft m.objects y → IsPath UpToSoft m.objects x (path ++ z ∷ []) z
+path_more : (m : Machine) (x : ℕ) (path : List ℕ) (y z : ℕ) → IsPath UpToSoft m.objects x path y → z ∈ edges_from UpToSoft m.objects y
+    → IsPath UpToSoft m.objects x (path ++ z ∷ []) z
 path_more m x [] y z p e = (subst (λ u. z ∈ edges_from UpToSoft m.objects u) (sym p) e, refl)
 path_more m x (u ∷ path) y z p e = (p.0, path_more m u path y z p.1 e)
 
-pub reached_more : (m : Machine) (base : List ℕ) (y z : ℕ) → IsReached UpToSoft m.objects base y → z ∈ edges_from UpToSoft m.objects y → IsReached UpToSoft m.objects base z
+pub reached_more : (m : Machine) (base : List ℕ) (y z : ℕ) → IsReached UpToSoft m.objects base y → z ∈ edges_from UpToSoft m.objects y
+    → IsReached UpToSoft m.objects base z
 reached_more m base y z r e = (r.0, r.1, (r.2.0 ++ z ∷ [], path_more m r.0 r.2.0 y z r.2.1 e))
 
 pub reached_base : (m : Machine) (base : List ℕ) (y : ℕ) → y ∈ base → IsReached UpToSoft m.objects base y
 reached_base m base y h = (y, h, ([], refl))
 
-pub along : (m : Machine) (S : ℕ → Type 0) → ((x y : ℕ) → S x → y ∈ edges_from UpToSoft m.objects x → S y) → (x : ℕ) (path : List ℕ) (y : ℕ) → S x → IsPath UpToSoft m.objects x path y → S y
+pub along : (m : Machine) (S : ℕ → Type 0) → ((x y : ℕ) → S x → y ∈ edges_from UpToSoft m.objects x → S y) → (x : ℕ) (path : List ℕ) (y : ℕ)
+    → S x → IsPath UpToSoft m.objects x path y → S y
 along m S closed x [] y s p = subst S p s
 along m S closed x (z ∷ path) y s p = along m S closed z path y (closed x z s p.0) p.1
 
@@ -53,16 +57,21 @@ along m S closed x (z ∷ path) y s p = along m S closed z path y (closed x z s 
 abbrev pub AddsNoMore : Machine → Machine → Type 0
 AddsNoMore m n = (x y : ℕ) → y ∈ edges_from UpToSoft n.objects x → (y ∈ edges_from UpToSoft m.objects x) ⊎ ((y ∈ roots m) ⊎ (y ∈ roots n))
 
-carried_adds : (m : Machine) (ask : Ask) (a : Answer) (fresh : List ℕ) → ((s : ℕ) → s ∈ fresh → s < length m.objects) → AddsNoMore m (carried m ask a fresh)
+carried_adds : (m : Machine) (ask : Ask) (a : Answer) (fresh : List ℕ) → ((s : ℕ) → s ∈ fresh → s < length m.objects)
+    → AddsNoMore m (carried m ask a fresh)
 carried_adds m ask (Refused by) fresh within = λ x y h. inl h
 carried_adds m ask a fresh within = adds_edges m ask a fresh within
 
-done_adds : (m : Machine) (o : Option Collected) (ask : Ask) (a : Answer) (fresh : List ℕ) → MayCollect m ask o → ((s : ℕ) → s ∈ fresh → s < length (with_collection m o).objects) → (carried (with_collection m o) ask a fresh).cycle_open ≡ true → AddsNoMore m (carried (with_collection m o) ask a fresh)
+done_adds : (m : Machine) (o : Option Collected) (ask : Ask) (a : Answer) (fresh : List ℕ) → MayCollect m ask o
+    → ((s : ℕ) → s ∈ fresh → s < length (with_collection m o).objects) → (carried (with_collection m o) ask a fresh).cycle_open ≡ true
+    → AddsNoMore m (carried (with_collection m o) ask a fresh)
 done_adds m None ask a fresh may within e = carried_adds m ask a fresh within
-done_adds m (Some c) ask a fresh may within e = absurd (both_ways _ (carried_shut (after_collection m c.kept c.pending) ask a fresh (collects_for_no_begin m ask c may) refl) e)
+done_adds m (Some c) ask a fresh may within e =
+    absurd (both_ways _ (carried_shut (after_collection m c.kept c.pending) ask a fresh (collects_for_no_begin m ask c may) refl) e)
 
 unchanged : (m : Machine) (e : Entry) (by : Refusal) → e.answer ≡ Refused by → e.choice ≡ no_choice → done m e ≡ m
-unchanged m e by answers nothing = ap (λ (c : Chosen). carried (with_collection m c.collected) e.ask e.answer c.fresh) nothing ∙ ap (λ a. carried m e.ask a []) answers
+unchanged m e by answers nothing = ap (λ (c : Chosen). carried (with_collection m c.collected) e.ask e.answer c.fresh) nothing
+    ∙ ap (λ a. carried m e.ask a []) answers
 
 free_below : (heap : Heap) (s : ℕ) → is_free heap s ≡ true → s < length heap
 free_below [] s h = absurd (both_ways false refl h)
@@ -74,9 +83,11 @@ fresh_below heap cells fresh f s h = free_below heap s (all_gives (is_free heap)
 
 -- of a legal entry
 pub entry_adds : (m : Machine) (e : Entry) → IsLegal m e → (done m e).cycle_open ≡ true → AddsNoMore m (done m e)
-entry_adds m e (carried_out c) open_after = done_adds m e.choice.collected e.ask e.answer e.choice.fresh c.collection (fresh_below _ _ _ c.fresh) open_after
+entry_adds m e (carried_out c) open_after =
+    done_adds m e.choice.collected e.ask e.answer e.choice.fresh c.collection (fresh_below _ _ _ c.fresh) open_after
 entry_adds m e (refused c) open_after = subst (AddsNoMore m) (sym (unchanged m e c.by c.answers c.nothing)) (λ x y h. inl h)
-entry_adds m e (heap_full c) open_after = absurd (both_ways (done m e).cycle_open (collected_shut m e c.clearing _ c.answers c.collects) open_after)
+entry_adds m e (heap_full c) open_after =
+    absurd (both_ways (done m e).cycle_open (collected_shut m e c.clearing _ c.answers c.collects) open_after)
 entry_adds m e (out_of_memory c) open_after = subst (AddsNoMore m) (sym (unchanged m e _ c.answers c.nothing)) (λ x y h. inl h)
 
 all_kinds : (k : RefKind) → takes UpToPhantom k ≡ true
@@ -157,21 +168,27 @@ module _ (m : Machine) (old new slots : List ℕ) (e : Entry) (w : IsWellFormed 
   within_after : IsLegal (with_seen m slots) e → IsWithinHeap (done m e).objects (roots (done m e))
   within_after legal =
       let kept : IsWellFormed (apply (with_seen m slots) e) = legal_kept (with_seen m slots) e fit legal in
-      subst (λ (n : Machine). IsWithinHeap n.objects (roots n)) (leaves_the_same m slots e) (well_formed_within (apply (with_seen m slots) e) kept)
+      subst (λ (n : Machine). IsWithinHeap n.objects (roots n)) (leaves_the_same m slots e)
+      (well_formed_within (apply (with_seen m slots) e) kept)
 
-  goes_on : IsLegal (with_seen m slots) e → MarksFollow m old (done m e) new → IsLegal m e × StandsFor (with_seen (done m e) []) new (apply m e)
+  goes_on : IsLegal (with_seen m slots) e → MarksFollow m old (done m e) new → IsLegal m e
+      × StandsFor (with_seen (done m e) []) new (apply m e)
   goes_on legal marks = (legal_here legal, stands_after m e old new (legal_here legal) seen reached_below marks (within_after legal))
 
 -- what was seen plays no part in roots
 same_roots : (m : Machine) (slots : List ℕ) (e : Entry) → roots (done (with_seen m slots) e) ≡ roots (done m e)
 same_roots m slots e = ap (λ (n : Machine). roots n) (leaves_the_same m slots e)
 
-marks_same : (m : Machine) (old new : List ℕ) (e : Entry) → MarksFollow (with_seen m []) old (done (with_seen m []) e) new → MarksFollow m old (done m e) new
+marks_same : (m : Machine) (old new : List ℕ) (e : Entry) → MarksFollow (with_seen m []) old (done (with_seen m []) e) new
+    → MarksFollow m old (done m e) new
 marks_same m old new e marks = λ s h. elim (marks s h) [ inl o ↦ inl o | inr root ↦ inr (subst (λ l. s ∈ l) (same_roots m [] e) root) ]
 
 pub goes_on_marking : GoesOnMarking
 goes_on_marking core m old new slots e w s below some fit legal marks =
-    subst (λ (core : Machine). IsWellFormed core → ((s : ℕ) → s ∈ old → s < length core.objects) → ((s : ℕ) → s ∈ slots → (core.cycle_open ≡ true) × (s ∈ old)) → IsWellFormed (with_seen core slots) → IsLegal (with_seen core slots) e → MarksFollow core old (done core e) new → IsLegal m e × StandsFor (with_seen (done core e) []) new (apply m e)) (sym s.same)
+    subst (λ (core : Machine). IsWellFormed core → ((s : ℕ) → s ∈ old → s < length core.objects)
+    → ((s : ℕ) → s ∈ slots → (core.cycle_open ≡ true) × (s ∈ old)) → IsWellFormed (with_seen core slots)
+    → IsLegal (with_seen core slots) e → MarksFollow core old (done core e) new → IsLegal m e
+    × StandsFor (with_seen (done core e) []) new (apply m e)) (sym s.same)
     (λ w below some fit legal marks.
     subst (λ (n : Machine). IsLegal m e × StandsFor n new (apply m e)) (sym (leaves_the_same m [] e))
     (goes_on m old new slots e w s.seen below some fit legal (marks_same m old new e marks)))

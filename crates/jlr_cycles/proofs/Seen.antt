@@ -25,11 +25,13 @@ module _ (n : Machine) where
   seen_when b = elim b as (λ _. List ℕ) [ true ↦ seen_with n.seen reach (length n.objects) | false ↦ [] ]
 
   gives_when : (b : Bool) (s : ℕ) → s ∈ seen_when b → (b ≡ true) × ((s ∈ n.seen) ⊎ (s ∈ reach))
-  gives_when true s h = (refl, or_cases (n.seen ∋ s) (reach ∋ s) (in_filter (λ s. (n.seen ∋ s) || (reach ∋ s)) (up_to 0 (length n.objects)) s h).0)
+  gives_when true s h =
+      (refl, or_cases (n.seen ∋ s) (reach ∋ s) (in_filter (λ s. (n.seen ∋ s) || (reach ∋ s)) (up_to 0 (length n.objects)) s h).0)
   gives_when false s h = nothing s h
 
   holds_when : (b : Bool) (s : ℕ) → b ≡ true → ((n.seen ∋ s) || (reach ∋ s)) ≡ true → s < length n.objects → s ∈ seen_when b
-  holds_when true s e h below = filter_in (λ s. (n.seen ∋ s) || (reach ∋ s)) (up_to 0 (length n.objects)) s h (up_to_in 0 (length n.objects) s (omega arith) (omega (arith, below)))
+  holds_when true s e h below = filter_in (λ s. (n.seen ∋ s) || (reach ∋ s)) (up_to 0 (length n.objects)) s h
+      (up_to_in 0 (length n.objects) s (omega arith) (omega (arith, below)))
   holds_when false s e h below = absurd (both_ways false refl e)
 
   none_when : (b : Bool) → b ≡ false → seen_when b ≡ []
@@ -38,8 +40,14 @@ module _ (n : Machine) where
 
   pub now_seen_gives : IsWithinHeap n.objects (roots n) → (s : ℕ) → s ∈ now_seen n → (n.cycle_open ≡ true) × ((s ∈ n.seen) ⊎ Reached s)
   now_seen_gives within s h =
-      let given = gives_when n.cycle_open s h in
-      (given.0, elim given.1 [ inl before ↦ inl before | inr r ↦ inr ((rounds_find_what_paths_reach UpToSoft n.objects (roots n) within s).0 r) ])
+      let given = gives_when n.cycle_open s h in (
+        given.0,
+        elim given.1 [
+          | inl before ↦ inl before
+          | inr r ↦
+              inr ((rounds_find_what_paths_reach UpToSoft n.objects (roots n) within s).0 r)
+        ],
+      )
 
   pub reached_is_seen : IsWithinHeap n.objects (roots n) → (s : ℕ) → n.cycle_open ≡ true → Reached s → s ∈ now_seen n
   reached_is_seen within s e r =

@@ -23,7 +23,11 @@ use Rattle.jlr_cycles.proofs.Left.{leaves_the_same}
 
 pub stands_for_itself : StandsForItself
 stands_for_itself m shut unseen =
-    record { same = ap {A = List ℕ} {B = Machine} (λ l. record m { seen = l }) unseen; seen = λ e. absurd (both_ways m.cycle_open shut e); outside = λ _. unseen }
+    record {
+      same = ap {A = List ℕ} {B = Machine} (λ l. record m { seen = l }) unseen;
+      seen = λ e. absurd (both_ways m.cycle_open shut e);
+      outside = λ _. unseen;
+    }
 
 -- a core with nothing marked stands for the machine in which what the roots reach was seen
 pub stands_for_seen : (n : Machine) → IsWithinHeap n.objects (roots n) → StandsFor (with_seen n []) [] (with_seen n (now_seen n))
@@ -36,7 +40,8 @@ stands_for_seen n within =
 
 -- ---- After an entry
 
-module _ (m : Machine) (e : Entry) (w : IsWellFormed (with_seen m [])) (seen : m.cycle_open ≡ true → (s : ℕ) → IsReached UpToSoft m.objects (roots m ++ []) s → s ∈ m.seen) where
+module _ (m : Machine) (e : Entry) (w : IsWellFormed (with_seen m []))
+    (seen : m.cycle_open ≡ true → (s : ℕ) → IsReached UpToSoft m.objects (roots m ++ []) s → s ∈ m.seen) where
   abbrev now : List ℕ
   now = now_seen (with_seen m [])
 
@@ -51,7 +56,8 @@ module _ (m : Machine) (e : Entry) (w : IsWellFormed (with_seen m [])) (seen : m
   within_after : IsLegal (with_seen m now) e → IsWithinHeap (done m e).objects (roots (done m e))
   within_after legal =
       let kept : IsWellFormed (apply (with_seen m now) e) = legal_kept (with_seen m now) e (keeps_seen (with_seen m []) w) legal in
-      subst (λ (n : Machine). IsWithinHeap n.objects (roots n)) (leaves_the_same m now e) (well_formed_within (apply (with_seen m now) e) kept)
+      subst (λ (n : Machine). IsWithinHeap n.objects (roots n)) (leaves_the_same m now e)
+      (well_formed_within (apply (with_seen m now) e) kept)
 
   goes_on : IsLegal (with_seen m now) e → GoesOn (with_seen m []) m e
   goes_on legal = (
@@ -61,11 +67,13 @@ module _ (m : Machine) (e : Entry) (w : IsWellFormed (with_seen m [])) (seen : m
 
 pub goes_on_standing : GoesOnStanding
 goes_on_standing core m e w s legal =
-    subst (λ core. IsWellFormed core → IsLegal (with_seen core (now_seen core)) e → GoesOn core m e) (sym s.same) (λ w legal. goes_on m e w s.seen legal) w legal
+    subst (λ core. IsWellFormed core → IsLegal (with_seen core (now_seen core)) e → GoesOn core m e) (sym s.same)
+    (λ w legal. goes_on m e w s.seen legal) w legal
 
 pub legal_in_all : LegalInAllForWhichItStands
 legal_in_all core m e w s legal =
-    goes_on_standing core m e w s (legal_when_more_was_seen core (now_seen core) e (λ x h. nothing x (subst (λ l. x ∈ l) (ap (λ (c : Machine). c.seen) s.same) h)) legal)
+    goes_on_standing core m e w s (legal_when_more_was_seen core (now_seen core) e
+    (λ x h. nothing x (subst (λ l. x ∈ l) (ap (λ (c : Machine). c.seen) s.same) h)) legal)
 
 -- ---- The core's own machine
 
@@ -73,9 +81,11 @@ legal_in_all core m e w s legal =
 unseen_kept : (n : Machine) → IsWellFormed n → IsWellFormed (with_seen n [])
 unseen_kept n w = unseen n n.cycle_open [] w refl (λ s h. nothing s h) (λ _. refl)
 
-pub core_kept : (core : Machine) (slots : List ℕ) (e : Entry) → IsWellFormed (with_seen core slots) → IsLegal (with_seen core slots) e → IsWellFormed (with_seen (done core e) [])
+pub core_kept : (core : Machine) (slots : List ℕ) (e : Entry) → IsWellFormed (with_seen core slots) → IsLegal (with_seen core slots) e
+    → IsWellFormed (with_seen (done core e) [])
 core_kept core slots e w legal =
-    subst IsWellFormed (leaves_the_same core slots e) (unseen_kept (apply (with_seen core slots) e) (legal_kept (with_seen core slots) e w legal))
+    subst IsWellFormed (leaves_the_same core slots e)
+    (unseen_kept (apply (with_seen core slots) e) (legal_kept (with_seen core slots) e w legal))
 
 pub core_stays_well_formed : CoreStaysWellFormed
 core_stays_well_formed core e w (inl legal) = core_kept core core.seen e w legal

@@ -1,8 +1,11 @@
 //! Laws of open cycles. Each function's contract is the law, and its body is empty.
 
-ghost use Rattle.jlr_cycles.specs.Laws.{LegalWhenMoreWasSeen, LeavesTheSameWhateverWasSeen, SeenStaysSeen, StandsForItself, GoesOnStanding, LegalInAllForWhichItStands, CoreStaysWellFormed, AddsEdgesToRootsAlone, GoesOnMarking};
+ghost use Rattle.jlr_cycles.specs.Laws.{LegalWhenMoreWasSeen, LeavesTheSameWhateverWasSeen, SeenStaysSeen};
+ghost use Rattle.jlr_cycles.specs.Laws.{StandsForItself, GoesOnStanding, LegalInAllForWhichItStands};
+ghost use Rattle.jlr_cycles.specs.Laws.{CoreStaysWellFormed, AddsEdgesToRootsAlone, GoesOnMarking};
 
-/// What was seen matters to nothing but what a background collection may keep: where more was seen, at least the same entries are legal.
+/// What was seen matters to nothing but what a background collection may keep: where more was seen, at least the same
+/// entries are legal.
 pub fn an_entry_stays_legal_when_more_was_seen()
     ensures { LegalWhenMoreWasSeen }
 {}
@@ -22,7 +25,8 @@ pub fn a_core_outside_a_cycle_stands_for_its_own_machine()
     ensures { StandsForItself }
 {}
 
-/// An entry that is legal where just what the roots now reach was seen is legal in each machine for which the core stands, and the core goes on standing for it.
+/// An entry that is legal where just what the roots now reach was seen is legal in each machine for which the core
+/// stands, and the core goes on standing for it.
 pub fn a_core_goes_on_standing()
     ensures { GoesOnStanding }
 {}
@@ -42,7 +46,8 @@ pub fn an_ask_adds_edges_to_roots_alone()
     ensures { AddsEdgesToRootsAlone }
 {}
 
-/// An entry that is legal where only marked objects were seen is legal in each machine for which a core stands that has marked them, and the core goes on standing for it.
+/// An entry that is legal where only marked objects were seen is legal in each machine for which a core stands that has
+/// marked them, and the core goes on standing for it.
 pub fn a_marking_core_goes_on_standing()
     ensures { GoesOnMarking }
 {}

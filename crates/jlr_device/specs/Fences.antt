@@ -15,7 +15,8 @@ abbrev pub Lets : (List ℕ → ℕ → Bool → Type 0) → (List ℕ → Type 
 Lets straight call denial Everything path = call path
 Lets straight call denial Nothing path = denial
 Lets straight call denial (Below folder) path =
-    MatchOption (placed folder.now path) denial (λ whole. (told : Bool) × straight whole (length folder.now) told × MatchBool told (call whole) denial)
+    MatchOption (placed folder.now path) denial
+    (λ whole. (told : Bool) × straight whole (length folder.now) told × MatchBool told (call whole) denial)
 
 -- The call at a path that is told to be no socket of the program's own, else a denial.
 abbrev pub Joins : (List ℕ → Bool → Type 0) → (List ℕ → Type 0) → Type 0 → List ℕ → Type 0
@@ -25,7 +26,8 @@ Joins own call denial path = (told : Bool) × own path told × MatchBool told de
 
 -- the device below attends, which may do so much, and nothing else
 abbrev pub IsAttended : {D P : Type 0} → (D → D → Type 0) → Fenced D P → Fenced D P → Type 0
-IsAttended may old new = ((new.device ≡ old.device) ⊎ may old.device new.device) × (new ≡ record old { device = new.device })
+IsAttended may old new = ((new.device ≡ old.device) ⊎ may old.device new.device)
+    × (new ≡ record old { device = new.device })
 
 module _ {D P R : Type 0} where
   -- no call below, and one failure more
@@ -33,5 +35,6 @@ module _ {D P R : Type 0} where
   IsDenied old result new = (result ≡ Err Denied) × (new ≡ record old { denied = old.denied + 1 })
 
   -- one call below, which may do so much, and nothing else
-  abbrev pub IsCalled : (D → List ℕ → Result R Fault → D → Type 0) → Fenced D P → List ℕ → Result R Fault → Fenced D P → Type 0
+  abbrev pub IsCalled : (D → List ℕ → Result R Fault → D → Type 0) → Fenced D P → List ℕ → Result R Fault → Fenced D P
+      → Type 0
   IsCalled may old path result new = may old.device path result new.device × (new ≡ record old { device = new.device })

@@ -15,7 +15,8 @@ module _ {G : Type 0} where
   Reads old buf result now new =
       elim old.waited [
         | true ↦ (result ≡ Ok 0) × (now ≡ buf) × (new ≡ old)
-        | false ↦ (new.waited ≡ true) × (((result ≡ Ok (min (length buf) 4)) × (now ≡ filled bytes buf)) ⊎ ((result ≡ Err Other) × (now ≡ buf)))
+        | false ↦ (new.waited ≡ true) × (((result ≡ Ok (min (length buf) 4)) × (now ≡ filled bytes buf))
+            ⊎ ((result ≡ Err Other) × (now ≡ buf)))
       ]
 
   -- a write takes all

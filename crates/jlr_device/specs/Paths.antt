@@ -1,5 +1,6 @@
 -- What the text of a path says.
-use Rattle.std.specs.Prelude.{ℕ, Bool, false, cond, not, eqb, ◌&&◌, nat_le, List, [], ◌∷◌, ◌++◌, length, Option, Some, None, codes}
+use Rattle.std.specs.Prelude.{ℕ, Bool, false, cond, not, eqb, ◌&&◌, nat_le, List, [], ◌∷◌, ◌++◌, length, Option, Some}
+use Rattle.std.specs.Prelude.{None, codes}
 use Rattle.std.specs.List.{list_any, slice_split}
 use Rattle.std.specs.Str.{bytes_eq}
 
@@ -22,4 +23,5 @@ stays_below (b ∷ bs) = not (is_slash b) && not (has_parent (b ∷ bs))
 -- folder
 abbrev pub placed : List ℕ → List ℕ → Option (List ℕ)
 placed [] path = None
-placed (b ∷ bs) path = cond (stays_below path && nat_le (length (b ∷ bs ++ 47 ∷ path)) 4095) (Some (b ∷ bs ++ 47 ∷ path)) None
+placed (b ∷ bs) path =
+    cond (stays_below path && nat_le (length (b ∷ bs ++ 47 ∷ path)) 4095) (Some (b ∷ bs ++ 47 ∷ path)) None

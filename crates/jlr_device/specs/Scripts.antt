@@ -1,5 +1,6 @@
 -- What a script makes of the calls of a device and of its resources.
-use Rattle.std.specs.Prelude.{◌≡◌, ℕ, min, List, [], ◌++◌, length, take, drop, Option, Some, None, Result, Ok, Err, slice_get}
+use Rattle.std.specs.Prelude.{◌≡◌, ℕ, min, List, [], ◌++◌, length, take, drop, Option, Some, None, Result, Ok, Err}
+use Rattle.std.specs.Prelude.{slice_get}
 use Rattle.jlr_types.specs.declared.Fault.{Fault}
 use Rattle.jlr_device.specs.declared.resource.Finished.{Finished}
 use Rattle.jlr_device.specs.declared.script.Script.{Script}
@@ -22,7 +23,10 @@ pub record Steps : Type 0 where
 -- after the last script opens succeed, and the resource does as it is asked
 abbrev pub opened_by : Option Script → Result Steps Fault
 opened_by None = Ok (record { steps = []; finished = Ok tt; failures = 0 })
-opened_by (Some s) = elim s.opened [ Ok _ ↦ Ok (record { steps = s.steps.items; finished = s.finished; failures = 0 }) | Err fault ↦ Err fault ]
+opened_by (Some s) = elim s.opened [
+  | Ok _ ↦ Ok (record { steps = s.steps.items; finished = s.finished; failures = 0 })
+  | Err fault ↦ Err fault
+]
 
 -- each open and each joining takes one script
 pub record Opens (old : Scripts) (result : Result Steps Fault) (new : Scripts) : Type 0 where

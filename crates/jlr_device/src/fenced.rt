@@ -77,9 +77,11 @@ impl<'a, D: Device, P: Places> Fenced<'a, D, P> {
     /// Joins a socket that is none of the program's own.
     fn join(&mut self, path: &str) -> Result<D::Res, Fault>
         requires { D.count self.old.device + self.old.denied + 1 < 2 ^ 64 }
-        ensures counted { Counts (D.count self.old.device + self.old.denied) result (D.count self.new.device + self.new.denied) }
+        ensures counted { Counts (D.count self.old.device + self.old.denied) result
+            (D.count self.new.device + self.new.denied) }
         ensures fresh { IfOk result (λ resource. D.Res.handling.count resource ≡ 0) }
-        ensures told { Joins (P.may_be_own self.old.places) (λ at. IsCalled D.may_connect self.old at result self.new) (IsDenied self.old result self.new) path.now }
+        ensures told { Joins (P.may_be_own self.old.places) (λ at. IsCalled D.may_connect self.old at result self.new)
+            (IsDenied self.old result self.new) path.now }
     {
         if self.places.is_own(path) {
             return Err(self.deny());
@@ -97,9 +99,12 @@ impl<'a, D: Device, P: Places> Device for Fenced<'a, D, P> {
     // those of the device below and the denied ones, at most the last value
     ghost count = { λ f. min (D.count f.device + f.denied) (2 ^ 64 - 1) };
 
-    ghost may_open = { λ old mode path result new. Lets (P.may_be_straight old.places) (λ at. IsCalled (λ d. D.may_open d mode) old at result new) (IsDenied old result new) old.fence path };
+    ghost may_open = { λ old mode path result new. Lets (P.may_be_straight old.places)
+        (λ at. IsCalled (λ d. D.may_open d mode) old at result new) (IsDenied old result new) old.fence path };
 
-    ghost may_connect = { λ old path result new. Lets (P.may_be_straight old.places) (λ at. Joins (P.may_be_own old.places) (λ at. IsCalled D.may_connect old at result new) (IsDenied old result new) at) (IsDenied old result new) old.fence path };
+    ghost may_connect = { λ old path result new. Lets (P.may_be_straight old.places)
+        (λ at. Joins (P.may_be_own old.places) (λ at. IsCalled D.may_connect old at result new)
+        (IsDenied old result new) at) (IsDenied old result new) old.fence path };
 
     ghost may_attend = { IsAttended D.may_attend };
 

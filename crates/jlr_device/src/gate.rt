@@ -35,8 +35,8 @@ impl<G> GateDevice<G> {
     }
 }
 
-/// A resource whose first read waits at the gate, for 1,000,000 turns at most, and then gives 1, 2, 3, 4; it fails with `Other` where the gate
-/// stayed shut. Other reads give nothing, and writes take all.
+/// A resource whose first read waits at the gate, for 1,000,000 turns at most, and then gives 1, 2, 3, 4; it fails with
+/// `Other` where the gate stayed shut. Other reads give nothing, and writes take all.
 #[derive(Drop)]
 pub struct GateResource<G> {
     gate: G,

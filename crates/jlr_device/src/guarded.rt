@@ -44,9 +44,12 @@ pub fn guarded_read<D: Device>(
 ) -> Result<usize, Fault>
     ensures bound { IfOk result (λ n. n ≤ length buf.old) }
     ensures either { Fits (D.Res.handling.count resource.old) ⊎ IsHighest (D.Res.handling.count resource.old) }
-    ensures counted { Fits (D.Res.handling.count resource.old) → Counts (D.Res.handling.count resource.old) result (D.Res.handling.count resource.new) }
-    ensures told { Fits (D.Res.handling.count resource.old) → D.Res.handling.reads resource.old buf.old result buf.new resource.new }
-    ensures uncalled { IsHighest (D.Res.handling.count resource.old) → (result ≡ Err fault.Other) × (buf.new ≡ buf.old) × (resource.new ≡ resource.old) }
+    ensures counted { Fits (D.Res.handling.count resource.old)
+        → Counts (D.Res.handling.count resource.old) result (D.Res.handling.count resource.new) }
+    ensures told { Fits (D.Res.handling.count resource.old)
+        → D.Res.handling.reads resource.old buf.old result buf.new resource.new }
+    ensures uncalled { IsHighest (D.Res.handling.count resource.old) → (result ≡ Err fault.Other) × (buf.new ≡ buf.old)
+        × (resource.new ≡ resource.old) }
 {
     if resource.failures() == u64::MAX {
         return Err(Fault::Other);
@@ -62,9 +65,12 @@ pub fn guarded_write<D: Device>(
 ) -> Result<usize, Fault>
     ensures bound { IfOk result (λ n. n ≤ length bytes.now) }
     ensures either { Fits (D.Res.handling.count resource.old) ⊎ IsHighest (D.Res.handling.count resource.old) }
-    ensures counted { Fits (D.Res.handling.count resource.old) → Counts (D.Res.handling.count resource.old) result (D.Res.handling.count resource.new) }
-    ensures told { Fits (D.Res.handling.count resource.old) → D.Res.handling.writes resource.old bytes.now result resource.new }
-    ensures uncalled { IsHighest (D.Res.handling.count resource.old) → (result ≡ Err fault.Other) × (resource.new ≡ resource.old) }
+    ensures counted { Fits (D.Res.handling.count resource.old)
+        → Counts (D.Res.handling.count resource.old) result (D.Res.handling.count resource.new) }
+    ensures told { Fits (D.Res.handling.count resource.old)
+        → D.Res.handling.writes resource.old bytes.now result resource.new }
+    ensures uncalled { IsHighest (D.Res.handling.count resource.old) → (result ≡ Err fault.Other)
+        × (resource.new ≡ resource.old) }
 {
     if resource.failures() == u64::MAX {
         return Err(Fault::Other);
@@ -75,9 +81,11 @@ pub fn guarded_write<D: Device>(
 /// Ends a resource. Where its count is at its last value it is dropped without its `finish`.
 pub fn guarded_finish<R: Resource + Drop>(resource: R) -> Finished
     ensures either { Fits (R.handling.count resource) ⊎ IsHighest (R.handling.count resource) }
-    ensures counted { Fits (R.handling.count resource) → Counts (R.handling.count resource) result.outcome result.failures }
+    ensures counted { Fits (R.handling.count resource)
+        → Counts (R.handling.count resource) result.outcome result.failures }
     ensures told { Fits (R.handling.count resource) → R.handling.finishes resource result }
-    ensures uncalled { IsHighest (R.handling.count resource) → (result.outcome ≡ Err fault.Other) × (result.failures ≡ R.handling.count resource) }
+    ensures uncalled { IsHighest (R.handling.count resource) → (result.outcome ≡ Err fault.Other)
+        × (result.failures ≡ R.handling.count resource) }
 {
     let failures = resource.failures();
     if failures == u64::MAX {

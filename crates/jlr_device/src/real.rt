@@ -121,7 +121,12 @@ impl RealResource {
 }
 
 impl Resource for RealResource {
-    ghost handling = { record { count = λ r. r.failures; reads = λ _ _ _ _ _. Unit {0}; writes = λ _ _ _ _. Unit {0}; finishes = λ _ _. Unit {0} } };
+    ghost handling = { record {
+      count = λ r. r.failures;
+      reads = λ _ _ _ _ _. Unit {0};
+      writes = λ _ _ _ _. Unit {0};
+      finishes = λ _ _. Unit {0};
+    } };
 
     fn failures(&self) -> u64 {
         self.failures

@@ -1,5 +1,6 @@
 -- An answer is of the kind of its ask, and what goes out suits it; a core stands for a machine after each step.
-use Rattle.std.proofs.Common.{◌≡◌, ◌≤◌, ℕ, length, ap, ◌∙◌, arith, Bool, true, false, cond, List, [], ◌∷◌, Option, Some, None, option_map, option_and_then, is_none, refl, sym, subst}
+use Rattle.std.proofs.Common.{◌≡◌, ◌≤◌, ℕ, length, ap, ◌∙◌, arith, Bool, true, false, cond, List, [], ◌∷◌, Option, Some, None, option_map}
+use Rattle.std.proofs.Common.{option_and_then, is_none, refl, sym, subst}
 use Rattle.std.proofs.lemmas.Bool.{both_ways}
 use Rattle.std.proofs.lemmas.List.{length-replicate}
 use Rattle.jlr_types.specs.declared.FieldValue.{FieldValue}
@@ -10,7 +11,10 @@ use Rattle.jlr_types.specs.declared.Work.TheVariants.{Note, Resource as WorkOn}
 use Rattle.jlr_machine.specs.declared.object.Cleanable.{Cleanable as CleanableOf}
 use Rattle.jlr_machine.specs.declared.machine.Machine.{Machine}
 use Rattle.jlr_machine.specs.declared.ask.Ask.{Ask}
-use Rattle.jlr_machine.specs.declared.ask.Ask.TheVariants.{Join, Leave, New, Put, Get, SetInt, Int, Dup, Drop, Same, MakeRef, Deref, Refers, Clear, Enqueue, Enqueued, MakeQueue, Poll, Remove, MakeCleaner, Register, Clean, Prepare, Opened, CheckOut, CheckIn, Close, Finish, Bind, Find, Unbind, Names, Full, Stat, Notes, Faults, HandOver, TakeUp, Begin, Collect, Abandon, Array}
+use Rattle.jlr_machine.specs.declared.ask.Ask.TheVariants.{Join, Leave, New, Put, Get, SetInt, Int, Dup, Drop, Same, MakeRef, Deref, Refers}
+use Rattle.jlr_machine.specs.declared.ask.Ask.TheVariants.{Clear, Enqueue, Enqueued, MakeQueue, Poll, Remove, MakeCleaner, Register, Clean}
+use Rattle.jlr_machine.specs.declared.ask.Ask.TheVariants.{Prepare, Opened, CheckOut, CheckIn, Close, Finish, Bind, Find, Unbind, Names}
+use Rattle.jlr_machine.specs.declared.ask.Ask.TheVariants.{Full, Stat, Notes, Faults, HandOver, TakeUp, Begin, Collect, Abandon, Array}
 use Rattle.jlr_machine.specs.declared.ask.Outcome.{Outcome}
 use Rattle.jlr_machine.specs.declared.ask.Outcome.TheVariants.{Ok as OutcomeOk, Failed}
 use Rattle.jlr_machine.specs.declared.ask.CallOutcome.{CallOutcome}
@@ -23,7 +27,8 @@ use Rattle.jlr_machine.specs.declared.entry.Collected.{Collected}
 use Rattle.jlr_machine.specs.Objects.{at, is_spent}
 use Rattle.jlr_machine.specs.Lookups.{field_named}
 use Rattle.jlr_machine.specs.Refusals.{given}
-use Rattle.jlr_machine.specs.Calls.{new_handle, handle_given, number_in, outcome_answer, call_answer, take_up_answer, hand_over_answer, line_answer, from_lined}
+use Rattle.jlr_machine.specs.Calls.{new_handle, handle_given, number_in, outcome_answer, call_answer, take_up_answer, hand_over_answer}
+use Rattle.jlr_machine.specs.Calls.{line_answer, from_lined}
 use Rattle.jlr_machine.specs.declared.object.Object.{Object}
 use Rattle.jlr_machine.specs.Choices.{Choosing, nothing_chosen}
 use Rattle.jlr_machine.specs.Run.{IsLegal, Answers, with_collection, empty_from}
@@ -37,7 +42,8 @@ use Rattle.jlr_event.specs.Events.{ask_of, resource_of_event}
 use Rattle.jlr_core.specs.Cores.{Kept}
 use Rattle.jlr_core.specs.Events.{Enters, GoesOut, entry_of}
 use Rattle.jlr_core.specs.Steps.{IsEmpty, IsStep}
-use Rattle.jlr_embed.specs.Kinds.{GoesBack, is_end, is_faulted, is_prepared, kind_of_call, kind_of_finish, is_handle, is_job, is_integer, is_told, kind_of, kind_of_open, kind_asked, suits}
+use Rattle.jlr_embed.specs.Kinds.{GoesBack, is_end, is_faulted, is_prepared, kind_of_call, kind_of_finish, is_handle, is_job, is_integer}
+use Rattle.jlr_embed.specs.Kinds.{is_told, kind_of, kind_of_open, kind_asked, suits}
 use Rattle.jlr_embed.specs.Standing.{Stands}
 
 -- ---- The answers of asks that are carried out
@@ -46,12 +52,14 @@ module _ (kind : Answer → Bool) where
   plainly : (x a : Answer) → Some x ≡ Some a → kind x ≡ true → kind a ≡ true
   plainly x a e h = subst (λ y. kind y ≡ true) (some_same x a e) h
 
-  mapped : {A : Type 0} (f : A → Answer) (o : Option A) (a : Answer) → ((x : A) → kind (f x) ≡ true) → option_map f o ≡ Some a → kind a ≡ true
+  mapped : {A : Type 0} (f : A → Answer) (o : Option A) (a : Answer) → ((x : A) → kind (f x) ≡ true) → option_map f o ≡ Some a
+      → kind a ≡ true
   mapped f None a h e = no_some a e
   mapped f (Some x) a h e = plainly (f x) a e (h x)
 
 taken_up : (c : CleanableOf) → is_job (take_up_answer c) ≡ true
-taken_up c = elim (is_spent c.state) as (λ b. is_job (cond b answer.AlreadyDone (answer.Job c.action c.work)) ≡ true) [ true ↦ refl | false ↦ refl ]
+taken_up c =
+    elim (is_spent c.state) as (λ b. is_job (cond b answer.AlreadyDone (answer.Job c.action c.work)) ≡ true) [ true ↦ refl | false ↦ refl ]
 
 handle : (m : Machine) (k : ℕ) (a : Answer) → new_handle m k ≡ Some a → is_handle a ≡ true
 handle m k a e = mapped is_handle _ (at m.mutators k) a (λ s. refl) e
@@ -69,7 +77,8 @@ ended : (outcome : Outcome) (a : Answer) → outcome_answer outcome (Some answer
 ended OutcomeOk a e = plainly is_end answer.Done a e refl
 ended (Failed fault) a e = plainly is_faulted (answer.Faulted fault) a e refl
 
-opened : (m : Machine) (k : ℕ) (outcome : Outcome) (a : Answer) → outcome_answer outcome (new_handle m k) ≡ Some a → kind_of_open outcome a ≡ true
+opened : (m : Machine) (k : ℕ) (outcome : Outcome) (a : Answer) → outcome_answer outcome (new_handle m k) ≡ Some a
+    → kind_of_open outcome a ≡ true
 opened m k OutcomeOk a e = handle m k a e
 opened m k (Failed fault) a e = plainly is_faulted (answer.Faulted fault) a e refl
 
@@ -152,33 +161,39 @@ told kind (answer.Out rid) e = e
 told kind (answer.Handed what) e = e
 
 legal : (m : Machine) (e : Entry) → IsLegal m e → is_told (kind_of e.ask) e.answer ≡ true
-legal m e (carried_out c) = told (kind_of e.ask) e.answer (answered (with_collection m e.choice.collected) e.ask e.choice.collected e.answer c.answers)
+legal m e (carried_out c) =
+    told (kind_of e.ask) e.answer (answered (with_collection m e.choice.collected) e.ask e.choice.collected e.answer c.answers)
 legal m e (refused x) = subst (λ a. is_told (kind_of e.ask) a ≡ true) (sym x.answers) refl
 legal m e (heap_full x) = subst (λ a. is_told (kind_of e.ask) a ≡ true) (sym x.answers) refl
 legal m e (out_of_memory x) = subst (λ a. is_told (kind_of e.ask) a ≡ true) (sym x.answers) refl
 
-entered : (m n : Machine) (ask : Option Ask) (a : Answer) (chosen : Chosen) → Enters m ask (Some a) chosen n → is_told (kind_asked ask) a ≡ true
+entered : (m n : Machine) (ask : Option Ask) (a : Answer) (chosen : Chosen) → Enters m ask (Some a) chosen n
+    → is_told (kind_asked ask) a ≡ true
 entered m n (Some ask) a chosen e = legal m (entry_of ask a chosen) e.0
 entered m n None a chosen e = absurd e
 
 -- ---- Steps
 
-module _ {R : Type 0} (old new : Kept R) (event : Event R) (reply : Reply R) (chosen : Chosen) (step : IsStep old event reply chosen new) where
+module _ {R : Type 0} (old new : Kept R) (event : Event R) (reply : Reply R) (chosen : Chosen)
+    (step : IsStep old event reply chosen new) where
   pub stands_after : Stands old → Stands new
   stands_after s = let x = step.entry s.0 s.1 in (x.0, x.2)
 
-pub kind_told : {R : Type 0} (old new : Kept R) (event : Event R) (a : Answer) (out : Option R) (chosen : Chosen) → IsStep old event (Answered a out) chosen new → Stands old → is_told (kind_asked (ask_of event)) a ≡ true
+pub kind_told : {R : Type 0} (old new : Kept R) (event : Event R) (a : Answer) (out : Option R) (chosen : Chosen)
+    → IsStep old event (Answered a out) chosen new → Stands old → is_told (kind_asked (ask_of event)) a ≡ true
 kind_told old new event a out chosen step s = let x = step.entry s.0 s.1 in entered s.0 x.0 (ask_of event) a chosen x.1
 
 -- ---- What goes out
 
-job_goes : {R : Type 0} (t : Resources R) (came : Option R) (action : ℕ) (work : Work) (out : Option R) → GoesOut t came (Some (answer.Job action work)) out → suits (answer.Job action work) out ≡ true
+job_goes : {R : Type 0} (t : Resources R) (came : Option R) (action : ℕ) (work : Work) (out : Option R)
+    → GoesOut t came (Some (answer.Job action work)) out → suits (answer.Job action work) out ≡ true
 job_goes t came action (Note n) None g = refl
 job_goes t came action (Note n) (Some v) g = no_some v (sym g)
 job_goes t came action (WorkOn rid) None g = absurd g
 job_goes t came action (WorkOn rid) (Some v) g = refl
 
-out_goes : {R : Type 0} (t : Resources R) (came : Option R) (rid : ℕ) (out : Option R) → GoesOut t came (Some (answer.Out rid)) out → suits (answer.Out rid) out ≡ true
+out_goes : {R : Type 0} (t : Resources R) (came : Option R) (rid : ℕ) (out : Option R) → GoesOut t came (Some (answer.Out rid)) out
+    → suits (answer.Out rid) out ≡ true
 out_goes t came rid None g = absurd g
 out_goes t came rid (Some v) g = refl
 
@@ -201,7 +216,8 @@ goes t came answer.AlreadyDone out g = refl
 goes t came (answer.Prepared rid) out g = refl
 goes t came (answer.Handed what) out g = refl
 
-pub goes_back : {R : Type 0} (t : Resources R) (came : Option R) (a : Answer) (out : Option R) → GoesOut t came (Some a) out → GoesBack came a out
+pub goes_back : {R : Type 0} (t : Resources R) (came : Option R) (a : Answer) (out : Option R) → GoesOut t came (Some a) out
+    → GoesBack came a out
 goes_back t came (answer.Refused by) out g = g
 goes_back t came (answer.Job action work) out g = tt
 goes_back t came (answer.Out rid) out g = tt
@@ -222,21 +238,27 @@ goes_back t came (answer.Handed what) out g = g
 
 -- ---- The empty heap
 
-pub stands_empty : {R : Type 0} (core : Kept R) (cells sessions limit soft_age first : ℕ) → IsEmpty cells sessions limit soft_age first core → Stands core
-stands_empty core cells sessions limit soft_age first e =
-    (empty_from cells sessions limit first, record { same = e.machine; seen = λ is_open. absurd (both_ways false refl is_open); outside = λ _. refl })
+pub stands_empty : {R : Type 0} (core : Kept R) (cells sessions limit soft_age first : ℕ) → IsEmpty cells sessions limit soft_age first core
+    → Stands core
+stands_empty core cells sessions limit soft_age first e = (
+  empty_from cells sessions limit first,
+  record { same = e.machine; seen = λ is_open. absurd (both_ways false refl is_open); outside = λ _. refl },
+)
 
 -- ---- Replies of which the kind is known
 
-module _ {R : Type 0} (old new : Kept R) (event : Event R) (reply : Reply R) (chosen : Chosen) (step : IsStep old event reply chosen new) (s : Stands old) where
+module _ {R : Type 0} (old new : Kept R) (event : Event R) (reply : Reply R) (chosen : Chosen) (step : IsStep old event reply chosen new)
+    (s : Stands old) where
   pub kind_carried : (a : Answer) (out : Option R) → reply ≡ Answered a out → is_told (kind_asked (ask_of event)) a ≡ true
   kind_carried a out e = kind_told old new event a out chosen (subst (λ r. IsStep old event r chosen new) e step) s
 
   pub suits_carried : (a : Answer) (out : Option R) → reply ≡ Answered a out → suits a out ≡ true
-  suits_carried a out e = let known : IsStep old event (Answered a out) chosen new = subst (λ r. IsStep old event r chosen new) e step in goes old.table (resource_of_event event) a out known.goes_out
+  suits_carried a out e = let known : IsStep old event (Answered a out) chosen new = subst (λ r. IsStep old event r chosen new) e step in
+      goes old.table (resource_of_event event) a out known.goes_out
 
   pub back_carried : (a : Answer) (out : Option R) → reply ≡ Answered a out → GoesBack (resource_of_event event) a out
-  back_carried a out e = let known : IsStep old event (Answered a out) chosen new = subst (λ r. IsStep old event r chosen new) e step in goes_back old.table (resource_of_event event) a out known.goes_out
+  back_carried a out e = let known : IsStep old event (Answered a out) chosen new = subst (λ r. IsStep old event r chosen new) e step in
+      goes_back old.table (resource_of_event event) a out known.goes_out
 
   none_marked : (m n : Machine) (ask : Option Ask) → Enters m ask None chosen n → is_none ask ≡ false → ⊥
   none_marked m n (Some ask) e is_some = e
@@ -250,7 +272,8 @@ module _ {R : Type 0} (old new : Kept R) (event : Event R) (reply : Reply R) (ch
 
 -- ---- Room for choices
 
-pub room_for_all : {R : Type 0} (core : Kept R) (choice : Choosing) (cells sessions limit soft_age first : ℕ) → IsEmpty cells sessions limit soft_age first core → choice ≡ nothing_chosen cells → length core.machine.objects ≤ choice.cells
+pub room_for_all : {R : Type 0} (core : Kept R) (choice : Choosing) (cells sessions limit soft_age first : ℕ)
+    → IsEmpty cells sessions limit soft_age first core → choice ≡ nothing_chosen cells → length core.machine.objects ≤ choice.cells
 room_for_all core choice cells sessions limit soft_age first e c =
     let none : Option Object = None in
     let long : length core.machine.objects ≡ cells = ap (λ (m : Machine). length m.objects) e.machine ∙ length-replicate cells none in

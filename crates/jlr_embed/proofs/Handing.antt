@@ -36,7 +36,8 @@ delivered_pending m s Nothing = refl
 
 rest_is_left : (m : Machine) (s : ℕ) (rest : List ℕ) → (handed_over m (s ∷ rest)).pending ≡ rest
 rest_is_left m s rest =
-    let P : Option Object → Machine = λ o. elim o [ None ↦ record m { pending = rest } | Some o ↦ delivered (record m { pending = rest }) s (handed o) ] in
+    let P : Option Object → Machine =
+    λ o. elim o [ None ↦ record m { pending = rest } | Some o ↦ delivered (record m { pending = rest }) s (handed o) ] in
     elim (at m.objects s) as (λ o. (P o).pending ≡ rest) [
       | None ↦ refl
       | Some o ↦ delivered_pending (record m { pending = rest }) s (handed o)
@@ -51,11 +52,13 @@ one_less m (s ∷ rest) some = omega (arith, ap length (rest_is_left m s rest))
 abbrev Shorter : Machine → Answer → Chosen → Type 0
 Shorter m a chosen = length (apply m (entry_of ask.HandOver a chosen)).pending < length m.pending
 
-carried : (m : Machine) (what : Handed) (fresh : List ℕ) (c : Option Collected) → m.pending ≢ [] → MayCollect m ask.HandOver c → Shorter m (answer.Handed what) (record { collected = c; fresh = fresh })
+carried : (m : Machine) (what : Handed) (fresh : List ℕ) (c : Option Collected) → m.pending ≢ [] → MayCollect m ask.HandOver c
+    → Shorter m (answer.Handed what) (record { collected = c; fresh = fresh })
 carried m what fresh (Some c) some may = absurd (no_need m may.0)
 carried m what fresh None some may = one_less m m.pending some
 
-shorter : (m : Machine) (what : Handed) (chosen : Chosen) → m.pending ≢ [] → IsLegal m (entry_of ask.HandOver (answer.Handed what) chosen) → Shorter m (answer.Handed what) chosen
+shorter : (m : Machine) (what : Handed) (chosen : Chosen) → m.pending ≢ [] → IsLegal m (entry_of ask.HandOver (answer.Handed what) chosen)
+    → Shorter m (answer.Handed what) chosen
 shorter m what chosen some (carried_out c) = carried m what chosen.fresh chosen.collected some c.collection
 shorter m what chosen some (refused r) = cc r.answers
 shorter m what chosen some (heap_full r) = cc r.answers
@@ -64,7 +67,8 @@ shorter m what chosen some (out_of_memory r) = cc r.answers
 same_pending : {R : Type 0} (core : Kept R) (m : Machine) → StandsIn core m → core.machine.pending ≡ m.pending
 same_pending core m s = ap {A = Machine} {B = List ℕ} (λ n. n.pending) s.same
 
-pub less_pending : {R : Type 0} (old new : Kept R) (what : Handed) (chosen : Chosen) → IsStep old (Asks ask.HandOver) (Answered (answer.Handed what) None) chosen new → Stands old → old.machine.pending ≢ []
+pub less_pending : {R : Type 0} (old new : Kept R) (what : Handed) (chosen : Chosen)
+    → IsStep old (Asks ask.HandOver) (Answered (answer.Handed what) None) chosen new → Stands old → old.machine.pending ≢ []
     → length new.machine.pending < length old.machine.pending
 less_pending old new what chosen step stands some =
     let m = stands.0 in
@@ -76,6 +80,7 @@ less_pending old new what chosen step stands some =
 
 -- ---- One step more
 
-pub more : {R : Type 0} (all : List Handed) (what : Handed) (old mid new : Kept R) → HandsOver all old mid → Steps mid (Asks ask.HandOver) (Answered (answer.Handed what) None) new → HandsOver (all ++ what ∷ []) old new
+pub more : {R : Type 0} (all : List Handed) (what : Handed) (old mid new : Kept R) → HandsOver all old mid
+    → Steps mid (Asks ask.HandOver) (Answered (answer.Handed what) None) new → HandsOver (all ++ what ∷ []) old new
 more [] what old mid new h s = (new, subst (λ m. Steps m (Asks ask.HandOver) (Answered (answer.Handed what) None) new) h s, refl)
 more (x ∷ all) what old mid new h s = (h.0, h.1, more all what h.0 mid new h.2 s)

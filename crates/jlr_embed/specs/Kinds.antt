@@ -8,9 +8,17 @@ use Rattle.jlr_machine.specs.declared.ask.CallOutcome.{CallOutcome}
 use Rattle.jlr_machine.specs.declared.ask.CallOutcome.TheVariants as call
 use Rattle.jlr_machine.specs.declared.ask.Handed.TheVariants.{Nothing}
 use Rattle.jlr_machine.specs.declared.ask.Ask.{Ask}
-use Rattle.jlr_machine.specs.declared.ask.Ask.TheVariants.{Join, Leave, New, Put, Get, SetInt, Int as AskInt, Dup, Drop, Same, MakeRef, Deref, Refers, Clear, Enqueue, Enqueued, MakeQueue, Poll, Remove, MakeCleaner, Register, Clean, Prepare, Opened, CheckOut, CheckIn, Close, Finish, Bind, Find, Unbind, Names as AskNames, Full, Stat as AskStat, Notes as AskNotes, Faults as AskFaults, HandOver, TakeUp, Begin, Collect, Abandon, Array}
+use Rattle.jlr_machine.specs.declared.ask.Ask.TheVariants.{Join, Leave, New, Put, Get, SetInt, Int as AskInt, Dup, Drop}
+use Rattle.jlr_machine.specs.declared.ask.Ask.TheVariants.{Same, MakeRef, Deref, Refers, Clear, Enqueue, Enqueued}
+use Rattle.jlr_machine.specs.declared.ask.Ask.TheVariants.{MakeQueue, Poll, Remove, MakeCleaner, Register, Clean}
+use Rattle.jlr_machine.specs.declared.ask.Ask.TheVariants.{Prepare, Opened, CheckOut, CheckIn, Close, Finish, Bind}
+use Rattle.jlr_machine.specs.declared.ask.Ask.TheVariants.{Find, Unbind, Names as AskNames, Full, Stat as AskStat}
+use Rattle.jlr_machine.specs.declared.ask.Ask.TheVariants.{Notes as AskNotes, Faults as AskFaults, HandOver, TakeUp}
+use Rattle.jlr_machine.specs.declared.ask.Ask.TheVariants.{Begin, Collect, Abandon, Array}
 use Rattle.jlr_machine.specs.declared.ask.Answer.{Answer}
-use Rattle.jlr_machine.specs.declared.ask.Answer.TheVariants.{Done, Handle, Truth, Int, Data, Wrote, Faulted, Names, Notes, Faults, Stat, Job, AlreadyDone, Prepared, Out, Handed, Refused}
+use Rattle.jlr_machine.specs.declared.ask.Answer.TheVariants.{Done, Handle, Truth, Int, Data, Wrote, Faulted, Names}
+use Rattle.jlr_machine.specs.declared.ask.Answer.TheVariants.{Notes, Faults, Stat, Job, AlreadyDone, Prepared, Out}
+use Rattle.jlr_machine.specs.declared.ask.Answer.TheVariants.{Handed, Refused}
 
 -- ---- Kinds of answers
 

@@ -11,7 +11,8 @@ use Rattle.jlr_core.specs.Steps.{Steps}
 -- steps of the handler, one after the other, which handed these over
 abbrev pub HandsOver : {R : Type 0} → List Handed → Kept R → Kept R → Type 0
 HandsOver [] old new = new ≡ old
-HandsOver {R} (what ∷ later) old new = (next : Kept R) × Steps old (Asks HandOver) (Answered (answer.Handed what) None) next × HandsOver later next new
+HandsOver {R} (what ∷ later) old new = (next : Kept R)
+    × Steps old (Asks HandOver) (Answered (answer.Handed what) None) next × HandsOver later next new
 
 -- such steps, until nothing is pending
 abbrev pub Settles : {R : Type 0} → Kept R → Kept R → Type 0

@@ -1,5 +1,5 @@
-//! The sentence on the first entry of a history that is not legal, made while the history is audited: it is read once, and one
-//! entry is in memory at a time.
+//! The sentence on the first entry of a history that is not legal, made while the history is audited: it is read once,
+//! and one entry is in memory at a time.
 ghost use Rattle.jlr_machine.specs.WellFormed.{IsWellFormed};
 
 use crate::history::{image_said, said_of};

@@ -7,6 +7,7 @@ pub joined : (old middle new a b : List ℕ) → middle ≡ old ++ a → new ≡
 joined old middle new a b first second = second ∙ ap (λ (m : List ℕ). m ++ b) first ∙ append_assoc old a b
 
 -- the same, where the second may fail
-pub then_written : {T E : Type 0} (r : Result T E) (old middle new a b : List ℕ) → middle ≡ old ++ a → OnOk r (new ≡ middle ++ b) → OnOk r (new ≡ old ++ (a ++ b))
+pub then_written : {T E : Type 0} (r : Result T E) (old middle new a b : List ℕ) → middle ≡ old ++ a → OnOk r (new ≡ middle ++ b)
+    → OnOk r (new ≡ old ++ (a ++ b))
 then_written (Ok x) old middle new a b first second = joined old middle new a b first second
 then_written (Err e) old middle new a b first second = tt

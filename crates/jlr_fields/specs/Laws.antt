@@ -11,11 +11,13 @@ pub record Takes (bytes text rest : List ℕ) : Type 0 where
 
 -- what is read behind some bytes is, with them, the spelling of what was read, which has one
 abbrev pub TakesBehind : {A : Type 0} → List ℕ → Reader A → (A → List ℕ) → (A → Type 0) → Type 0
-TakesBehind {A} front read spelled Fits = (bytes : List ℕ) (x : A) (rest : List ℕ) → IsBytes bytes → read bytes ≡ Ok (x, rest) → Takes (front ++ bytes) (spelled x) rest × Fits x
+TakesBehind {A} front read spelled Fits = (bytes : List ℕ) (x : A) (rest : List ℕ) → IsBytes bytes
+    → read bytes ≡ Ok (x, rest) → Takes (front ++ bytes) (spelled x) rest × Fits x
 
 -- what is read is spelled so, and has a spelling
 abbrev pub TakesSpelled : {A : Type 0} → Reader A → (A → List ℕ) → (A → Type 0) → Type 0
-TakesSpelled {A} read spelled Fits = (bytes : List ℕ) (x : A) (rest : List ℕ) → IsBytes bytes → read bytes ≡ Ok (x, rest) → Takes bytes (spelled x) rest × Fits x
+TakesSpelled {A} read spelled Fits = (bytes : List ℕ) (x : A) (rest : List ℕ) → IsBytes bytes
+    → read bytes ≡ Ok (x, rest) → Takes bytes (spelled x) rest × Fits x
 
 -- what is spelled so is read again, whatever follows
 abbrev pub ReadsAgain : {A : Type 0} → Reader A → (A → List ℕ) → (A → Type 0) → Type 0
@@ -33,5 +35,6 @@ IsLeast {A} least spelled Fits = (x : A) → Fits x → least ≤ length (spelle
 abbrev pub FollowsWith : {A : Type 0} → (A → Type 0) → (A → ℕ) → Option ℕ → A → Type 0
 FollowsWith Fits key before x = Fits x × IsTrue (may_follow before (key x))
 
-pub record IsRisingField {A : Type 0} (read : Option ℕ → Reader A) (spelled : A → List ℕ) (Fits : A → Type 0) (key : A → ℕ) : Type 0 where
+pub record IsRisingField {A : Type 0} (read : Option ℕ → Reader A) (spelled : A → List ℕ) (Fits : A → Type 0)
+    (key : A → ℕ) : Type 0 where
   pub field : (before : Option ℕ) → IsField (read before) spelled (FollowsWith Fits key before)

@@ -1,5 +1,6 @@
 -- Reading fields from the front of the bytes, with the first fault that is met.
-use Rattle.std.specs.Prelude.{◌≡◌, ℕ, ℤ, ◌-◌, Bool, ◌||◌, ◌==◌, List, [], ◌∷◌, length, take, drop, Option, Some, None, Result, Ok, Err, nat_lt, if◌then◌else◌, slice_get}
+use Rattle.std.specs.Prelude.{◌≡◌, ℕ, ℤ, ◌-◌, Bool, ◌||◌, ◌==◌, List, [], ◌∷◌, length, take, drop, Option, Some, None}
+use Rattle.std.specs.Prelude.{Result, Ok, Err, nat_lt, if◌then◌else◌, slice_get}
 use Rattle.std.specs.List.{list_all}
 use Rattle.std.specs.Int.{Width, w32, w64, byte_len, from_be_bytes, cast_signed}
 use Rattle.jlr_machine.specs.Names as names
@@ -43,10 +44,12 @@ two_fields a b make bytes = a bytes >>= λ x. one_field b (make x.0) x.1
 abbrev pub three_fields : {A B C X : Type 0} → Reader A → Reader B → Reader C → (A → B → C → X) → Reader X
 three_fields a b c make bytes = a bytes >>= λ x. two_fields b c (make x.0) x.1
 
-abbrev pub four_fields : {A B C D X : Type 0} → Reader A → Reader B → Reader C → Reader D → (A → B → C → D → X) → Reader X
+abbrev pub four_fields : {A B C D X : Type 0} → Reader A → Reader B → Reader C → Reader D → (A → B → C → D → X)
+    → Reader X
 four_fields a b c d make bytes = a bytes >>= λ x. three_fields b c d (make x.0) x.1
 
-abbrev pub five_fields : {A B C D E X : Type 0} → Reader A → Reader B → Reader C → Reader D → Reader E → (A → B → C → D → E → X) → Reader X
+abbrev pub five_fields : {A B C D E X : Type 0} → Reader A → Reader B → Reader C → Reader D → Reader E
+    → (A → B → C → D → E → X) → Reader X
 five_fields a b c d e make bytes = a bytes >>= λ x. four_fields b c d e (make x.0) x.1
 
 -- ---- Numbers
@@ -56,11 +59,13 @@ byte_at [] = Err Short
 byte_at (b ∷ rest) = Ok (b, rest)
 
 abbrev pub number_at : Width → List ℕ → Result (ℕ × List ℕ) Fault
-number_at w bytes = if nat_lt (length bytes) (byte_len w) then Err Short else Ok (from_be_bytes w (take (byte_len w) bytes), drop (byte_len w) bytes)
+number_at w bytes = if nat_lt (length bytes) (byte_len w) then Err Short else Ok
+    (from_be_bytes w (take (byte_len w) bytes), drop (byte_len w) bytes)
 
 -- one from low to high; it is read whole before it is tested
 unfoldable pub number_within_at : Width → ℕ → ℕ → Reader ℕ
-number_within_at w low high bytes = number_at w bytes >>= λ n. if nat_lt n.0 low || nat_lt high n.0 then Err Range else Ok n
+number_within_at w low high bytes = number_at w bytes >>= λ n. if nat_lt n.0 low
+    || nat_lt high n.0 then Err Range else Ok n
 
 unfoldable pub signed_at : List ℕ → Result (ℤ × List ℕ) Fault
 signed_at bytes = do

@@ -1,5 +1,6 @@
 -- No more resources are open than entries were made, so that the counts fit.
-use Rattle.std.proofs.Common.{◌≡◌, ◌<◌, ◌≤◌, ◌+◌, ◌-◌, ◌^◌, ℕ, Bool, true, false, cond, List, [], ◌∷◌, ◌++◌, length, length-append, is_some, refl, ap, arith}
+use Rattle.std.proofs.Common.{◌≡◌, ◌<◌, ◌≤◌, ◌+◌, ◌-◌, ◌^◌, ℕ, Bool, true, false, cond, List, [], ◌∷◌, ◌++◌, length, length-append, is_some}
+use Rattle.std.proofs.Common.{refl, ap, arith}
 use Rattle.std.specs.Prelude.{◌==◌, fold}
 use Rattle.jlr_types.specs.declared.limits.Limits.{Limits}
 use Rattle.jlr_machine.specs.declared.ask.Answer.TheVariants.{Handle}
@@ -36,33 +37,46 @@ none_left false n x = omega arith
 
 module _ {R : Type 0} where
   -- a step that opens a resource is an entry
-  counted_once : (n seat : ℕ) (e : Event R) (reply : Reply R) (cuts : Bool) (c : Chosen) → counted n e reply ≤ n + length (entry_of (step seat e reply cuts) c)
+  counted_once : (n seat : ℕ) (e : Event R) (reply : Reply R) (cuts : Bool) (c : Chosen)
+      → counted n e reply ≤ n + length (entry_of (step seat e reply cuts) c)
   counted_once n seat (Opened k outcome) (Answered (Handle h) resource) cuts c = omega arith
-  counted_once n seat (Asks (Clean k h)) reply cuts c = one_less (is_some (resource_of_reply reply)) n (length (entry_of (step seat (Asks (Clean k h)) reply cuts) c))
-  counted_once n seat (Asks (Close k h)) reply cuts c = one_less (is_some (resource_of_reply reply)) n (length (entry_of (step seat (Asks (Close k h)) reply cuts) c))
-  counted_once n seat (Asks (Leave k)) reply cuts c = none_left (is_refused (answer_in reply)) n (length (entry_of (step seat (Asks (Leave k)) reply cuts) c))
+  counted_once n seat (Asks (Clean k h)) reply cuts c =
+      one_less (is_some (resource_of_reply reply)) n (length (entry_of (step seat (Asks (Clean k h)) reply cuts) c))
+  counted_once n seat (Asks (Close k h)) reply cuts c =
+      one_less (is_some (resource_of_reply reply)) n (length (entry_of (step seat (Asks (Close k h)) reply cuts) c))
+  counted_once n seat (Asks (Leave k)) reply cuts c =
+      none_left (is_refused (answer_in reply)) n (length (entry_of (step seat (Asks (Leave k)) reply cuts) c))
   counted_once n seat e reply cuts c = no_less n (length (entry_of (step seat e reply cuts) c))
 
   added_size : (t : Trace) (e : Step R) (c : Chosen) → size (add t e c) ≡ size t + length (entry_of e c)
   added_size t e c =
-      elim e.cuts as (λ b. size (cond b (trace (t.base + length t.entries) (entry_of e c)) (trace t.base (t.entries ++ entry_of e c))) ≡ size t + length (entry_of e c)) [
+      elim e.cuts as (λ b. size (cond b (trace (t.base + length t.entries) (entry_of e c)) (trace t.base (t.entries ++ entry_of e c)))
+      ≡ size t + length (entry_of e c)) [
         | true ↦ refl
         | false ↦ omega (arith, length-append t.entries (entry_of e c))
       ]
 
-  counted_fits : (seat n : ℕ) (t : Trace) (log : List (Step R)) (choices : List Chosen) → AreAnswered (events_of log) (replies_of log) choices
+  counted_fits : (seat n : ℕ) (t : Trace) (log : List (Step R)) (choices : List Chosen)
+      → AreAnswered (events_of log) (replies_of log) choices
       → fold (λ (m : ℕ) (e : Step R). counted m e.event e.reply) n (own seat_of seat log) + size t ≤ n + size (trace_of t log choices)
   counted_fits seat n t [] [] a = omega arith
   counted_fits seat n t (e ∷ log) (c ∷ choices) a =
       let more = added_size t e c in
-      elim (e.seat == seat) as (λ b. fold (λ (m : ℕ) (x : Step R). counted m x.event x.reply) n (cond b (e ∷ own seat_of seat log) (own seat_of seat log)) + size t ≤ n + size (trace_of (add t e c) log choices)) [
-        | true ↦ omega (arith, more, counted_once n e.seat e.event e.reply e.cuts c, counted_fits seat (counted n e.event e.reply) (add t e c) log choices a.1)
+      elim (e.seat == seat) as (λ b. fold (λ (m : ℕ) (x : Step R). counted m x.event x.reply) n
+      (cond b (e ∷ own seat_of seat log) (own seat_of seat log)) + size t ≤ n + size (trace_of (add t e c) log choices)) [
+        | true ↦ omega (
+          arith,
+          more,
+          counted_once n e.seat e.event e.reply e.cuts c,
+          counted_fits seat (counted n e.event e.reply) (add t e c) log choices a.1,
+        )
         | false ↦ omega (arith, more, counted_fits seat n (add t e c) log choices a.1)
       ]
   counted_fits seat n t [] (c ∷ choices) a = absurd a
   counted_fits seat n t (e ∷ log) [] a = absurd a
 
-  pub count_fits : (limits : Limits) (h : History R) (d : Dues) (log : List (Step R)) (seat : ℕ) → seat < 256 → IsHistory h → IsLocked limits h d log → count_at seat d + 1 < 2 ^ 64
+  pub count_fits : (limits : Limits) (h : History R) (d : Dues) (log : List (Step R)) (seat : ℕ) → seat < 256 → IsHistory h
+      → IsLocked limits h d log → count_at seat d + 1 < 2 ^ 64
   count_fits limits h d log seat sits is l =
       let run = (l.whole).run in
       let below = counted_fits seat 0 (trace 0 []) log run.choices run.answered in

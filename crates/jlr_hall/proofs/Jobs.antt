@@ -20,14 +20,16 @@ use Rattle.jlr_book.specs.Histories.{History}
 use Rattle.jlr_book.specs.Rules.{AsksBy, BookSteps, EndsBy, StepsBy}
 use Rattle.jlr_hall.specs.Asking.{HasItsResource}
 
-out_by : {R : Type 0} (t : Resources R) (came : Option R) (reply : Reply R) → GoesOut t came (answer_in reply) (resource_of_reply reply) → HasItsResource reply
+out_by : {R : Type 0} (t : Resources R) (came : Option R) (reply : Reply R) → GoesOut t came (answer_in reply) (resource_of_reply reply)
+    → HasItsResource reply
 out_by {R} t came (Answered (answer.Job action (Note n)) resource) out = ap {A = Option R} {B = Bool} is_some out
 out_by t came (Answered (answer.Job action (OnResource rid)) None) out = absurd out
 out_by t came (Answered (answer.Job action (OnResource rid)) (Some value)) out = refl
 out_by t came (Answered answer resource) out = tt
 out_by t came (Marked progress) out = tt
 
-refused_without : {R : Type 0} (reply : Reply R) (by : Refusal) (resource : Option R) → reply ≡ Answered (Refused by) resource → HasItsResource reply
+refused_without : {R : Type 0} (reply : Reply R) (by : Refusal) (resource : Option R) → reply ≡ Answered (Refused by) resource
+    → HasItsResource reply
 refused_without {R} reply by resource is = subst (λ (r : Reply R). HasItsResource r) (sym is) tt
 
 module _ {R : Type 0} (seat : ℕ) (h : History R) (e : Event R) (reply : Reply R) (new : History R) where
@@ -40,14 +42,19 @@ module _ {R : Type 0} (seat : ℕ) (h : History R) (e : Event R) (reply : Reply 
 
   when_ask : AsksBy seat h e reply new → HasItsResource reply
   when_ask (inl x) = comes_by x.ready.core new.core x.enters.chosen x.enters.step
-  when_ask (inr x) = elim x.why [ inl w ↦ refused_without reply NoMemory (resource_of_event e) w.1 | inr w ↦ refused_without reply Exhausted (resource_of_event e) w.1 ]
+  when_ask (inr x) = elim x.why [
+    | inl w ↦ refused_without reply NoMemory (resource_of_event e) w.1
+    | inr w ↦
+        refused_without reply Exhausted (resource_of_event e) w.1
+  ]
 
   comes_when : (asked : Option Ask) → StepsBy seat asked h e reply new → HasItsResource reply
   comes_when None s = comes_by h.core new.core s.chosen s.step
-  comes_when (Some ask) s = elim (is_end ask) as (λ b. elim b as (λ _. Type 0) [ true ↦ EndsBy seat h e reply new | false ↦ AsksBy seat h e reply new ] → HasItsResource reply) [
-    | true ↦ when_end
-    | false ↦ when_ask
-  ] s
+  comes_when (Some ask) s = elim (is_end ask) as (λ b.
+      elim b as (λ _. Type 0) [ true ↦ EndsBy seat h e reply new | false ↦ AsksBy seat h e reply new ] → HasItsResource reply) [
+        | true ↦ when_end
+        | false ↦ when_ask
+      ] s
 
   pub comes_with : BookSteps seat h e reply new → HasItsResource reply
   comes_with s = comes_when (ask_of e) s

@@ -28,14 +28,17 @@ module _ {R : Type 0} where
         seats = tt;
       }
 
-  pub each_more : (log : List (Step R)) (seats : List (Seen (Step R))) (p : Seen (Step R)) → EachKnows log seats → Knows seat_of p.seat p.known log → EachKnows log (seats ++ p ∷ [])
+  pub each_more : (log : List (Step R)) (seats : List (Seen (Step R))) (p : Seen (Step R)) → EachKnows log seats
+      → Knows seat_of p.seat p.known log → EachKnows log (seats ++ p ∷ [])
   each_more log [] p each knows = (knows, tt)
   each_more log (q ∷ seats) p each knows = (each.0, each_more log seats p each.1 knows)
 
   pub more_seats : (items new : List (Seen (Step R))) (n : ℕ) (x : Seen (Step R)) → new ≡ items ++ x ∷ [] → length items ≡ n → x ≡ seen n []
-      → ((k : ℕ) (p : Seen (Step R)) → k < n → slice_index_or items k p ≡ seen k []) → (k : ℕ) (p : Seen (Step R)) → k < n + 1 → slice_index_or new k p ≡ seen k []
+      → ((k : ℕ) (p : Seen (Step R)) → k < n → slice_index_or items k p ≡ seen k []) → (k : ℕ) (p : Seen (Step R)) → k < n + 1
+      → slice_index_or new k p ≡ seen k []
   more_seats items new n x is len made each k p lt =
       below_more (λ j. (q : Seen (Step R)) → slice_index_or new j q ≡ seen j []) n
       (λ j less q. ap (λ l. slice_index_or l j q) is ∙ get_or_append_left items (x ∷ []) q j (omega (arith, less, len)) ∙ each j q less)
-      (λ q. ap (λ l. slice_index_or l n q) is ∙ ap (λ m. slice_index_or (items ++ x ∷ []) m q) (sym len) ∙ get_or-append_seam items x [] q ∙ made)
+      (λ q. ap (λ l. slice_index_or l n q) is ∙ ap (λ m. slice_index_or (items ++ x ∷ []) m q) (sym len) ∙ get_or-append_seam items x [] q
+      ∙ made)
       k lt p

@@ -1,5 +1,6 @@
 -- What is kept under the lock of open resources and of an owed cycle is the history's.
-use Rattle.std.proofs.Common.{◌≡◌, ◌≢◌, ◌⊎◌, ◌<◌, ◌+◌, ◌-◌, ◌&&◌, ◌||◌, ℕ, Bool, true, false, not, cond, nat_lt, List, [], ◌∷◌, ◌++◌, length, Some, None, is_some, inl, inr, refl, sym, ◌∙◌, ap, subst, append_assoc}
+use Rattle.std.proofs.Common.{◌≡◌, ◌≢◌, ◌⊎◌, ◌<◌, ◌+◌, ◌-◌, ◌&&◌, ◌||◌, ℕ, Bool, true, false, not, cond, nat_lt, List, [], ◌∷◌, ◌++◌}
+use Rattle.std.proofs.Common.{length, Some, None, is_some, inl, inr, refl, sym, ◌∙◌, ap, subst, append_assoc}
 use Rattle.std.specs.Prelude.{◌==◌, fold}
 use Rattle.std.proofs.lemmas.Bool.{eqb-true, eqb-false}
 use Rattle.std.proofs.lemmas.List.{append-nil, get_or-set_same, get_or-set_other, length-set}
@@ -47,7 +48,8 @@ module _ (seat : ℕ) (d : Dues) (sits : seat < length d.opened) where
   counts_where true n = recounts n
   counts_where false n = stays
 
-  leaves_where : (b : Bool) → Moves seat d (cond b (count_at seat d) 0) (not b && nat_lt 0 (count_at seat d)) false (cond b d (without seat d))
+  leaves_where : (b : Bool) → Moves seat d (cond b (count_at seat d) 0) (not b && nat_lt 0 (count_at seat d)) false
+      (cond b d (without seat d))
   leaves_where true = stays
   leaves_where false = record {
     long = length-set d.opened seat 0;
@@ -64,7 +66,9 @@ module _ (seat : ℕ) (d : Dues) (sits : seat < length d.opened) where
   settles_where true = record { long = refl; here = refl; others = λ k ne. refl; owed = refl }
   settles_where false = stays
 
-  moves : {R : Type 0} (e : Event R) (reply : Reply R) → Moves seat d (counted (count_at seat d) e reply) (owes (count_at seat d) e reply) (settles e reply) (after seat (effect_of e) reply d)
+  moves : {R : Type 0} (e : Event R) (reply : Reply R)
+      → Moves seat d (counted (count_at seat d) e reply) (owes (count_at seat d) e reply) (settles e reply)
+      (after seat (effect_of e) reply d)
   moves (Asks (Leave k)) reply = leaves_where (is_refused (answer_in reply))
   moves (Opened k outcome) reply = counts_where (is_handle (answer_in reply)) (count_at seat d + 1)
   moves (Asks (Clean k c)) reply = counts_where (is_some (resource_of_reply reply)) (count_at seat d - 1)
@@ -75,7 +79,8 @@ module _ (seat : ℕ) (d : Dues) (sits : seat < length d.opened) where
   moves event reply = stays
 
 -- what the book declines changes nothing
-unchanged : {R : Type 0} (seat : ℕ) (d : Dues) (by : Refusal) → (by ≡ NoMemory) ⊎ (by ≡ Exhausted) → (e : Event R) → after seat (effect_of e) (Answered (Refused by) (resource_of_event e)) d ≡ d
+unchanged : {R : Type 0} (seat : ℕ) (d : Dues) (by : Refusal) → (by ≡ NoMemory) ⊎ (by ≡ Exhausted) → (e : Event R)
+    → after seat (effect_of e) (Answered (Refused by) (resource_of_event e)) d ≡ d
 unchanged seat d by (inl is) (Asks (Prepare k)) = ap (λ (x : Refusal). cond (is_full (Some (Refused x))) (record d { owed = true }) d) is
 unchanged seat d by (inr is) (Asks (Prepare k)) = ap (λ (x : Refusal). cond (is_full (Some (Refused x))) (record d { owed = true }) d) is
 unchanged seat d by why e = refl
@@ -98,14 +103,16 @@ last_parts (b ∷ earlier) e later (y ∷ log) x is = elim (last_parts earlier e
 ]
 
 module _ {R : Type 0} where
-  counted_more : (k : ℕ) (log : List (Step R)) (s : Step R) → open_at k (log ++ s ∷ []) ≡ cond (s.seat == k) (counted (open_at k log) s.event s.reply) (open_at k log)
+  counted_more : (k : ℕ) (log : List (Step R)) (s : Step R)
+      → open_at k (log ++ s ∷ []) ≡ cond (s.seat == k) (counted (open_at k log) s.event s.reply) (open_at k log)
   counted_more k log s =
       let f = λ (n : ℕ) (e : Step R). counted n e.event e.reply in
       ap (λ (l : List (Step R)). fold f 0 l) (filter-append (λ (e : Step R). e.seat == k) log (s ∷ []))
       ∙ fold-append f 0 (own seat_of k log) (cond (s.seat == k) (s ∷ []) [])
       ∙ one (s.seat == k)
     where
-      one : (b : Bool) → fold (λ (n : ℕ) (e : Step R). counted n e.event e.reply) (open_at k log) (cond b (s ∷ []) []) ≡ cond b (counted (open_at k log) s.event s.reply) (open_at k log)
+      one : (b : Bool) → fold (λ (n : ℕ) (e : Step R). counted n e.event e.reply) (open_at k log) (cond b (s ∷ []) []) ≡ cond b
+          (counted (open_at k log) s.event s.reply) (open_at k log)
       one true = refl
       one false = refl
 
@@ -131,7 +138,8 @@ module _ {R : Type 0} where
 
     was_owed : IsOwed (log ++ s ∷ []) → Owes ⊎ (IsOwed log × Unsettled s)
     was_owed o = elim (last_parts o.earlier o.step o.later log s o.parts) [
-      | inl x ↦ inl (subst (λ (p : List (Step R) × Step R). owes (open_at (p.1).seat p.0) (p.1).event (p.1).reply ≡ true) (λ i. (x.0 i, x.1 i)) o.owing)
+      | inl x ↦ inl (subst (λ (p : List (Step R) × Step R). owes (open_at (p.1).seat p.0) (p.1).event (p.1).reply ≡ true)
+          (λ i. (x.0 i, x.1 i)) o.owing)
       | inr x ↦
           let both = All-pop Unsettled o.later x.0 (Some s) x.1 o.unsettled in
           inr (record { earlier = o.earlier; step = o.step; later = x.0; parts = x.2; owing = o.owing; unsettled = both.0 }, both.1)
@@ -153,7 +161,8 @@ with_right false s w is was = ap (λ x. not x && w) is ∙ was
 
 module _ {R : Type 0} where
   shown_more : (d now : Dues) (log : List (Step R)) (s : Step R) → s.seat < 256 → Shows d log
-      → Moves s.seat d (counted (count_at s.seat d) s.event s.reply) (owes (count_at s.seat d) s.event s.reply) (settles s.event s.reply) now → Shows now (log ++ s ∷ [])
+      → Moves s.seat d (counted (count_at s.seat d) s.event s.reply) (owes (count_at s.seat d) s.event s.reply) (settles s.event s.reply)
+      now → Shows now (log ++ s ∷ [])
   shown_more d now log s sits shows m =
       let here = shows.counts s.seat sits in
       record {
@@ -164,21 +173,25 @@ module _ {R : Type 0} where
             | inl o ↦ now_owed log s (subst (λ (n : ℕ). owes n s.event s.reply ≡ true) here o)
             | inr x ↦ still_owed log s (shows.owes.0 x.1) x.0
           ],
-          λ o. m.owed ∙ elim (was_owed log s o) as (λ _. (owes (count_at s.seat d) s.event s.reply || (not (settles s.event s.reply) && d.owed)) ≡ true) [
-            | inl is ↦ with_left (owes (count_at s.seat d) s.event s.reply) (not (settles s.event s.reply) && d.owed) (subst (λ (n : ℕ). owes n s.event s.reply ≡ true) (sym here) is)
-            | inr x ↦ with_right (owes (count_at s.seat d) s.event s.reply) (settles s.event s.reply) d.owed x.1 (shows.owes.1 x.0)
-          ],
+          λ o. m.owed ∙ elim (was_owed log s o) as (λ _.
+              (owes (count_at s.seat d) s.event s.reply || (not (settles s.event s.reply) && d.owed)) ≡ true) [
+                | inl is ↦ with_left (owes (count_at s.seat d) s.event s.reply) (not (settles s.event s.reply) && d.owed)
+                    (subst (λ (n : ℕ). owes n s.event s.reply ≡ true) (sym here) is)
+                | inr x ↦ with_right (owes (count_at s.seat d) s.event s.reply) (settles s.event s.reply) d.owed x.1 (shows.owes.1 x.0)
+              ],
         );
       }
     where
-      at : (k : ℕ) → k < 256 → (b : Bool) → (s.seat == k) ≡ b → count_at k now ≡ cond b (counted (open_at k log) s.event s.reply) (open_at k log)
+      at : (k : ℕ) → k < 256 → (b : Bool) → (s.seat == k) ≡ b
+          → count_at k now ≡ cond b (counted (open_at k log) s.event s.reply) (open_at k log)
       at k lt true is =
           let same = eqb-true s.seat k is in
           subst (λ (j : ℕ). count_at j now ≡ counted (open_at j log) s.event s.reply) same
           (m.here ∙ ap (λ (n : ℕ). counted n s.event s.reply) (shows.counts s.seat sits))
       at k lt false is = m.others k (λ same. eqb-false s.seat k is (sym same)) ∙ shows.counts k lt
 
-  pub shown_step : (d : Dues) (log : List (Step R)) (seat : ℕ) (e : Event R) (reply : Reply R) (cuts : Bool) → seat < 256 → Shows d log → Shows (after seat (effect_of e) reply d) (log ++ step seat e reply cuts ∷ [])
+  pub shown_step : (d : Dues) (log : List (Step R)) (seat : ℕ) (e : Event R) (reply : Reply R) (cuts : Bool) → seat < 256 → Shows d log
+      → Shows (after seat (effect_of e) reply d) (log ++ step seat e reply cuts ∷ [])
   shown_step d log seat e reply cuts sits shows =
       let there : seat < length d.opened = subst (λ (n : ℕ). seat < n) (sym shows.long) sits in
       shown_more d (after seat (effect_of e) reply d) log (step seat e reply cuts) sits shows (moves seat d there e reply)
@@ -188,12 +201,15 @@ module _ {R : Type 0} where
   shown_cut d log seat true sits shows = shown_step d log seat (Asks Abandon) (Answered (Truth true) None) false sits shows
   shown_cut d log seat false sits shows = subst (Shows d) (sym (append-nil log)) shows
 
-  pub shown_now : (d : Dues) (log now : List (Step R)) (seat : ℕ) (e : Event R) (reply : Reply R) (cut b : Bool) → seat < 256 → now ≡ gave_up seat b ++ step seat e reply cut ∷ [] → Shows d log → Shows (after seat (effect_of e) reply d) (log ++ now)
+  pub shown_now : (d : Dues) (log now : List (Step R)) (seat : ℕ) (e : Event R) (reply : Reply R) (cut b : Bool) → seat < 256
+      → now ≡ gave_up seat b ++ step seat e reply cut ∷ [] → Shows d log → Shows (after seat (effect_of e) reply d) (log ++ now)
   shown_now d log now seat e reply cut b sits is shows =
       let there = shown_step d (log ++ gave_up seat b) seat e reply cut sits (shown_cut d log seat b sits shows) in
-      subst (λ (l : List (Step R)). Shows (after seat (effect_of e) reply d) l) (append_assoc log (gave_up seat b) (step seat e reply cut ∷ []) ∙ ap (λ l. log ++ l) (sym is)) there
+      subst (λ (l : List (Step R)). Shows (after seat (effect_of e) reply d) l)
+      (append_assoc log (gave_up seat b) (step seat e reply cut ∷ []) ∙ ap (λ l. log ++ l) (sym is)) there
 
-  pub shown_declined : (d : Dues) (log now : List (Step R)) (seat : ℕ) (e : Event R) (reply : Reply R) (by : Refusal) → now ≡ [] → (by ≡ NoMemory) ⊎ (by ≡ Exhausted) → reply ≡ Answered (Refused by) (resource_of_event e)
+  pub shown_declined : (d : Dues) (log now : List (Step R)) (seat : ℕ) (e : Event R) (reply : Reply R) (by : Refusal) → now ≡ []
+      → (by ≡ NoMemory) ⊎ (by ≡ Exhausted) → reply ≡ Answered (Refused by) (resource_of_event e)
       → Shows d log → Shows (after seat (effect_of e) reply d) (log ++ now)
   shown_declined d log now seat e reply by none why is shows =
       let same = ap (λ (r : Reply R). after seat (effect_of e) r d) is ∙ unchanged seat d by why e in

@@ -1,5 +1,6 @@
 -- A step of a book is told whole.
-use Rattle.std.proofs.Common.{◌≡◌, ◌⊎◌, ◌<◌, ◌+◌, ◌&&◌, ℕ, Bool, true, false, not, cond, List, [], ◌∷◌, ◌++◌, length, length-append, Option, Some, None, inl, inr, refl, sym, ◌∙◌, ap, subst, arith, nat_lt, append_assoc}
+use Rattle.std.proofs.Common.{◌≡◌, ◌⊎◌, ◌<◌, ◌+◌, ◌&&◌, ℕ, Bool, true, false, not, cond, List, [], ◌∷◌, ◌++◌, length, length-append, Option}
+use Rattle.std.proofs.Common.{Some, None, inl, inr, refl, sym, ◌∙◌, ap, subst, arith, nat_lt, append_assoc}
 use Rattle.std.specs.Option.{option_to_list}
 use Rattle.std.proofs.lemmas.List.{append-nil, map-append}
 use Rattle.std.proofs.lemmas.Bool.{lt-ltb}
@@ -33,7 +34,8 @@ use Rattle.jlr_log.specs.Rule.{Knows}
 use Rattle.jlr_log.specs.Views.{own}
 use Rattle.jlr_log.specs.Seeing.{Seen, AllOf}
 use Rattle.jlr_hall.specs.declared.step.Step.{Step}
-use Rattle.jlr_hall.specs.OneHistory.{AllSit, IsWhole, Trace, add, entry_of, events_of, is_ending, is_refused, replies_of, seat_of, step, trace, trace_of}
+use Rattle.jlr_hall.specs.OneHistory.{AllSit, IsWhole, Trace, add, entry_of, events_of, is_ending, is_refused, replies_of, seat_of, step}
+use Rattle.jlr_hall.specs.OneHistory.{trace, trace_of}
 use Rattle.jlr_hall.specs.Asking.{AskedIn, gave_up, may_cut}
 use Rattle.jlr_hall.specs.Locking.{IsLocked, after, effect_of}
 use Rattle.jlr_hall.specs.Telling.{added, is_full, with_cut}
@@ -42,29 +44,36 @@ use Rattle.jlr_hall.proofs.Owing.{shown_declined, shown_now}
 
 -- ---- How the number of the last entry goes on
 
-module _ {R : Type 0} (h new : History R) (is : IsHistory h) (seat : ℕ) (e : Event R) (reply : Reply R) (ask : Ask) (asks : ask_of e ≡ Some ask) where
-  answered : (core core' : Kept R) (chosen : Chosen) → Stands core → IsStep core e reply chosen core' → (answer : Answer) × (answer_in reply ≡ Some answer)
+module _ {R : Type 0} (h new : History R) (is : IsHistory h) (seat : ℕ) (e : Event R) (reply : Reply R) (ask : Ask)
+    (asks : ask_of e ≡ Some ask) where
+  answered : (core core' : Kept R) (chosen : Chosen) → Stands core → IsStep core e reply chosen core' → (answer : Answer)
+      × (answer_in reply ≡ Some answer)
   answered core core' chosen st s =
       let entry = s.entry st.0 st.1 in
       elim (answer_in reply) as (λ o. answer_in reply ≡ o → (answer : Answer) × (answer_in reply ≡ Some answer)) [
         | Some a ↦ λ some. (a, some)
-        | None ↦ λ none. absurd (subst (λ o. EntersMachine st.0 (Some ask) o chosen entry.0) none (subst (λ o. EntersMachine st.0 o (answer_in reply) chosen entry.0) asks entry.1))
+        | None ↦ λ none. absurd (subst (λ o. EntersMachine st.0 (Some ask) o chosen entry.0) none
+            (subst (λ o. EntersMachine st.0 o (answer_in reply) chosen entry.0) asks entry.1))
       ] refl
 
-  one_more : (ready : History R) → Stands ready.core → Enters seat ready e reply new → (answer : Answer) × (answer_in reply ≡ Some answer) × (last new ≡ last ready + 1)
+  one_more : (ready : History R) → Stands ready.core → Enters seat ready e reply new → (answer : Answer) × (answer_in reply ≡ Some answer)
+      × (last new ≡ last ready + 1)
   one_more ready st x =
       let a = answered ready.core new.core x.chosen st x.step in
-      let now_one : seated seat (ask_of e) (answer_in reply) x.chosen ≡ Some (record { seat = seat; ask = ask; answer = a.0; choice = x.chosen }) =
+      let now_one : seated seat (ask_of e) (answer_in reply) x.chosen
+      ≡ Some (record { seat = seat; ask = ask; answer = a.0; choice = x.chosen }) =
       ap (λ o. seated seat o (answer_in reply) x.chosen) asks ∙ ap (λ o. seated seat (Some ask) o x.chosen) a.1 in
       let base : new.base ≡ ready.base = ap {A = History R} {B = ℕ} (λ y. y.base) x.adds in
       let entries : new.entries ≡ ready.entries ++ (record { seat = seat; ask = ask; answer = a.0; choice = x.chosen } ∷ []) =
-      ap {A = History R} {B = List Entry} (λ y. y.entries) x.adds ∙ ap {A = Option Entry} {B = List Entry} (λ o. ready.entries ++ option_to_list o) now_one in
+      ap {A = History R} {B = List Entry} (λ y. y.entries) x.adds
+      ∙ ap {A = Option Entry} {B = List Entry} (λ o. ready.entries ++ option_to_list o) now_one in
       let long = ap {A = List Entry} {B = ℕ} length entries ∙ length-append ready.entries _ in
       (a.0, a.1, omega (arith, base, long))
 
   readied : (ready : History R) → Readies h ready → (last ready ≡ last h) ⊎ (last ready ≡ last h + 1)
   readied ready r =
-      elim (nat_lt (length h.entries) h.limits.trace) as (λ b. elim b as (λ _. Type 0) [ true ↦ ready ≡ h | false ↦ Cuts h ready ] → (last ready ≡ last h) ⊎ (last ready ≡ last h + 1)) [
+      elim (nat_lt (length h.entries) h.limits.trace) as (λ b. elim b as (λ _. Type 0) [ true ↦ ready ≡ h | false ↦ Cuts h ready ]
+      → (last ready ≡ last h) ⊎ (last ready ≡ last h + 1)) [
         | true ↦ λ same. inl (ap {A = History R} {B = ℕ} last same)
         | false ↦ λ cut.
             let none : length ready.entries ≡ 0 = ap {A = List Entry} {B = ℕ} length cut.entries in
@@ -80,7 +89,8 @@ no_rise a b is = grind (arith, nat_tests)
 -- ---- One step more of a run, and its trace
 
 module _ {R : Type 0} where
-  trace_more : (t : Trace) (log : List (Step R)) (choices : List Chosen) (e : Step R) (c : Chosen) → AreAnswered (events_of log) (replies_of log) choices
+  trace_more : (t : Trace) (log : List (Step R)) (choices : List Chosen) (e : Step R) (c : Chosen)
+      → AreAnswered (events_of log) (replies_of log) choices
       → trace_of t (log ++ e ∷ []) (choices ++ c ∷ []) ≡ add (trace_of t log choices) e c
   trace_more t [] [] e c a = refl
   trace_more t (x ∷ log) (d ∷ choices) e c a = trace_more (add t x d) log choices e c a.1
@@ -105,7 +115,8 @@ not_refused reply not_so = none (answer_in reply) not_so
 
 module _ {R : Type 0} (seat : ℕ) (e : Event R) (reply : Reply R) (cuts : Bool) (chosen : Chosen) where
   -- the entry of a step that is no end which was refused
-  as_seated : (is_ending (ask_of e) && is_refused (answer_in reply)) ≡ false → entry_of (step seat e reply cuts) chosen ≡ option_to_list (seated seat (ask_of e) (answer_in reply) chosen)
+  as_seated : (is_ending (ask_of e) && is_refused (answer_in reply)) ≡ false
+      → entry_of (step seat e reply cuts) chosen ≡ option_to_list (seated seat (ask_of e) (answer_in reply) chosen)
   as_seated is = ap (λ b. cond b [] (option_to_list (seated seat (ask_of e) (answer_in reply) chosen))) is
 
   as_none : (is_ending (ask_of e) && is_refused (answer_in reply)) ≡ true → entry_of (step seat e reply cuts) chosen ≡ []
@@ -116,31 +127,42 @@ and_false true = refl
 and_false false = refl
 
 -- what is told leads on to the new book, and is the event, or the book refused it
-pub record Tells {R : Type 0} (limits : Limits) (log : List (Step R)) (seat : ℕ) (e : Event R) (reply : Reply R) (now : List (Step R)) (new : History R) : Type 0 where
+pub record Tells {R : Type 0} (limits : Limits) (log : List (Step R)) (seat : ℕ) (e : Event R) (reply : Reply R) (now : List (Step R))
+    (new : History R) : Type 0 where
   pub leads : Leads limits (log ++ now) new.core (trace new.base new.entries)
   pub limits_are : new.limits ≡ limits
   pub seats : AllSit (limits.sessions + 3) (log ++ now)
-  pub fate : ((cut : Bool) × (cycle_open : Bool) × (cut ≡ true → may_cut (ask_of e) ≡ true) × (now ≡ gave_up seat (cut && cycle_open) ++ step seat e reply cut ∷ []))
-      ⊎ ((now ≡ []) × (may_cut (ask_of e) ≡ true) × (by : Refusal) × ((by ≡ NoMemory) ⊎ (by ≡ Exhausted)) × (reply ≡ Answered (Refused by) (resource_of_event e)))
+  pub fate : ((cut : Bool) × (cycle_open : Bool) × (cut ≡ true → may_cut (ask_of e) ≡ true)
+      × (now ≡ gave_up seat (cut && cycle_open) ++ step seat e reply cut ∷ []))
+      ⊎ ((now ≡ []) × (may_cut (ask_of e) ≡ true) × (by : Refusal) × ((by ≡ NoMemory) ⊎ (by ≡ Exhausted))
+      × (reply ≡ Answered (Refused by) (resource_of_event e)))
 
-module _ {R : Type 0} (limits : Limits) (formed : IsWellFormed (empty_of limits)) (log : List (Step R)) (seat : ℕ) (sits : seat < limits.sessions + 3) (all : AllSit (limits.sessions + 3) log) where
-  one : (earlier : List (Step R)) (core core' : Kept R) (t : Trace) (e : Event R) (r : Reply R) (cuts : Bool) (chosen : Chosen) → Leads limits earlier core t → IsStep core e r chosen core'
+module _ {R : Type 0} (limits : Limits) (formed : IsWellFormed (empty_of limits)) (log : List (Step R)) (seat : ℕ)
+    (sits : seat < limits.sessions + 3) (all : AllSit (limits.sessions + 3) log) where
+  one : (earlier : List (Step R)) (core core' : Kept R) (t : Trace) (e : Event R) (r : Reply R) (cuts : Bool) (chosen : Chosen)
+      → Leads limits earlier core t → IsStep core e r chosen core'
       → Leads limits (earlier ++ step seat e r cuts ∷ []) core' (add t (step seat e r cuts) chosen)
   one earlier core core' t e r cuts chosen x now =
       let s = step seat e r cuts in
       let more = run_more_by limits (events_of earlier) (replies_of earlier) core core' e r chosen formed x.0 now in
-      let traced = ap (trace_of (trace 0 []) (earlier ++ s ∷ [])) more.1 ∙ trace_more (trace 0 []) earlier (x.0).choices s chosen (x.0).answered ∙ ap (λ y. add y s chosen) x.1 in
-      subst (λ (p : List (Event R) × List (Reply R)). (run : IsRunOf limits p.0 p.1 core') × (trace_of (trace 0 []) (earlier ++ s ∷ []) run.choices ≡ add t s chosen))
-      (λ i. (sym (map-append (λ (y : Step R). y.event) earlier (s ∷ [])) i, sym (map-append (λ (y : Step R). y.reply) earlier (s ∷ [])) i)) (more.0, traced)
+      let traced = ap (trace_of (trace 0 []) (earlier ++ s ∷ [])) more.1
+      ∙ trace_more (trace 0 []) earlier (x.0).choices s chosen (x.0).answered ∙ ap (λ y. add y s chosen) x.1 in
+      subst (λ (p : List (Event R) × List (Reply R)). (run : IsRunOf limits p.0 p.1 core')
+      × (trace_of (trace 0 []) (earlier ++ s ∷ []) run.choices ≡ add t s chosen))
+      (λ i. (sym (map-append (λ (y : Step R). y.event) earlier (s ∷ [])) i, sym (map-append (λ (y : Step R). y.reply) earlier (s ∷ [])) i))
+      (more.0, traced)
 
   -- a step of the core, with no cut
-  plainly : (h new : History R) (e : Event R) (reply : Reply R) (chosen : Chosen) → Leads limits log h.core (trace h.base h.entries) → IsStep h.core e reply chosen new.core
-      → new.base ≡ h.base → new.entries ≡ h.entries ++ entry_of (step seat e reply false) chosen → new.limits ≡ limits → added seat h e reply new ≡ step seat e reply false ∷ []
+  plainly : (h new : History R) (e : Event R) (reply : Reply R) (chosen : Chosen) → Leads limits log h.core (trace h.base h.entries)
+      → IsStep h.core e reply chosen new.core
+      → new.base ≡ h.base → new.entries ≡ h.entries ++ entry_of (step seat e reply false) chosen → new.limits ≡ limits
+      → added seat h e reply new ≡ step seat e reply false ∷ []
       → Tells limits log seat e reply (added seat h e reply new) new
   plainly h new e reply chosen run now base entries limits_are is =
       let s = step seat e reply false in
       let t : trace h.base (h.entries ++ entry_of s chosen) ≡ trace new.base new.entries = λ i. trace (sym base i) (sym entries i) in
-      let leads = subst (Leads limits (log ++ s ∷ []) new.core) t (one log h.core new.core (trace h.base h.entries) e reply false chosen run now) in
+      let leads = subst (Leads limits (log ++ s ∷ []) new.core) t
+      (one log h.core new.core (trace h.base h.entries) e reply false chosen run now) in
       record {
         leads = subst (λ l. Leads limits (log ++ l) new.core (trace new.base new.entries)) (sym is) leads;
         limits_are = limits_are;
@@ -149,13 +171,16 @@ module _ {R : Type 0} (limits : Limits) (formed : IsWellFormed (empty_of limits)
       }
 
   -- a step of the core, after a cut that gave up no cycle
-  after_shut : (h new : History R) (e : Event R) (reply : Reply R) (chosen : Chosen) → Leads limits log h.core (trace h.base h.entries) → IsStep h.core e reply chosen new.core
-      → new.base ≡ last h → new.entries ≡ entry_of (step seat e reply true) chosen → new.limits ≡ limits → may_cut (ask_of e) ≡ true → added seat h e reply new ≡ step seat e reply true ∷ []
+  after_shut : (h new : History R) (e : Event R) (reply : Reply R) (chosen : Chosen) → Leads limits log h.core (trace h.base h.entries)
+      → IsStep h.core e reply chosen new.core
+      → new.base ≡ last h → new.entries ≡ entry_of (step seat e reply true) chosen → new.limits ≡ limits → may_cut (ask_of e) ≡ true
+      → added seat h e reply new ≡ step seat e reply true ∷ []
       → Tells limits log seat e reply (added seat h e reply new) new
   after_shut h new e reply chosen run now base entries limits_are may is =
       let s = step seat e reply true in
       let t : trace (last h) (entry_of s chosen) ≡ trace new.base new.entries = λ i. trace (sym base i) (sym entries i) in
-      let leads = subst (Leads limits (log ++ s ∷ []) new.core) t (one log h.core new.core (trace h.base h.entries) e reply true chosen run now) in
+      let leads = subst (Leads limits (log ++ s ∷ []) new.core) t
+      (one log h.core new.core (trace h.base h.entries) e reply true chosen run now) in
       record {
         leads = subst (λ l. Leads limits (log ++ l) new.core (trace new.base new.entries)) (sym is) leads;
         limits_are = limits_are;
@@ -164,7 +189,8 @@ module _ {R : Type 0} (limits : Limits) (formed : IsWellFormed (empty_of limits)
       }
 
   -- and after one that gave one up
-  after_open : (h new : History R) (mid : Kept R) (e : Event R) (reply : Reply R) (chosen chosen' : Chosen) → Leads limits log h.core (trace h.base h.entries)
+  after_open : (h new : History R) (mid : Kept R) (e : Event R) (reply : Reply R) (chosen chosen' : Chosen)
+      → Leads limits log h.core (trace h.base h.entries)
       → IsStep h.core (Asks Abandon) (Answered (Truth true) None) chosen' mid → IsStep mid e reply chosen new.core
       → new.base ≡ last h + 1 → new.entries ≡ entry_of (step seat e reply true) chosen → new.limits ≡ limits → may_cut (ask_of e) ≡ true
       → added seat h e reply new ≡ gave_up seat true ++ step seat e reply true ∷ []
@@ -181,53 +207,69 @@ module _ {R : Type 0} (limits : Limits) (formed : IsWellFormed (empty_of limits)
       let leads = subst (Leads limits ((log ++ up ∷ []) ++ s ∷ []) new.core) t second in
       let joined = append_assoc log (up ∷ []) (s ∷ []) in
       record {
-        leads = subst (λ l. Leads limits (log ++ l) new.core (trace new.base new.entries)) (sym is) (subst (λ l. Leads limits l new.core (trace new.base new.entries)) joined leads);
+        leads = subst (λ l. Leads limits (log ++ l) new.core (trace new.base new.entries)) (sym is)
+            (subst (λ l. Leads limits l new.core (trace new.base new.entries)) joined leads);
         limits_are = limits_are;
-        seats = subst (λ l. AllSit (limits.sessions + 3) (log ++ l)) (sym is) (subst (AllSit (limits.sessions + 3)) joined (sit_more _ (log ++ up ∷ []) s (sit_more _ log up all sits) sits));
+        seats = subst (λ l. AllSit (limits.sessions + 3) (log ++ l)) (sym is)
+            (subst (AllSit (limits.sessions + 3)) joined (sit_more _ (log ++ up ∷ []) s (sit_more _ log up all sits) sits));
         fate = inl (true, true, (λ _. may), is);
       }
 
   -- ---- Each kind of event
 
-  added_plain : (h new : History R) (e : Event R) (reply : Reply R) → may_cut (ask_of e) ≡ false → added seat h e reply new ≡ step seat e reply false ∷ []
-  added_plain h new e reply is = ap (λ b. cond b (cond (nat_lt (last h) (last new)) (with_cut seat h e reply (is_full h)) []) (step seat e reply false ∷ [])) is
+  added_plain : (h new : History R) (e : Event R) (reply : Reply R) → may_cut (ask_of e) ≡ false
+      → added seat h e reply new ≡ step seat e reply false ∷ []
+  added_plain h new e reply is =
+      ap (λ b. cond b (cond (nat_lt (last h) (last new)) (with_cut seat h e reply (is_full h)) []) (step seat e reply false ∷ [])) is
 
-  added_none : (h new : History R) (e : Event R) (reply : Reply R) → may_cut (ask_of e) ≡ true → last new ≡ last h → added seat h e reply new ≡ []
+  added_none : (h new : History R) (e : Event R) (reply : Reply R) → may_cut (ask_of e) ≡ true → last new ≡ last h
+      → added seat h e reply new ≡ []
   added_none h new e reply is same =
       ap (λ b. cond b (cond (nat_lt (last h) (last new)) (with_cut seat h e reply (is_full h)) []) (step seat e reply false ∷ [])) is
       ∙ ap (λ b. cond b (with_cut seat h e reply (is_full h)) []) (no_rise (last h) (last new) same)
 
-  added_ask : (h new : History R) (e : Event R) (reply : Reply R) → may_cut (ask_of e) ≡ true → last h < last new → added seat h e reply new ≡ with_cut seat h e reply (is_full h)
+  added_ask : (h new : History R) (e : Event R) (reply : Reply R) → may_cut (ask_of e) ≡ true → last h < last new
+      → added seat h e reply new ≡ with_cut seat h e reply (is_full h)
   added_ask h new e reply is more =
       ap (λ b. cond b (cond (nat_lt (last h) (last new)) (with_cut seat h e reply (is_full h)) []) (step seat e reply false ∷ [])) is
       ∙ ap (λ b. cond b (with_cut seat h e reply (is_full h)) []) (lt-ltb (last h) (last new) more)
 
-  enters : (h new : History R) (e : Event R) (reply : Reply R) → Leads limits log h.core (trace h.base h.entries) → h.limits ≡ limits → may_cut (ask_of e) ≡ false
-      → (is_ending (ask_of e) && is_refused (answer_in reply)) ≡ false → Enters seat h e reply new → Tells limits log seat e reply (added seat h e reply new) new
+  enters : (h new : History R) (e : Event R) (reply : Reply R) → Leads limits log h.core (trace h.base h.entries) → h.limits ≡ limits
+      → may_cut (ask_of e) ≡ false
+      → (is_ending (ask_of e) && is_refused (answer_in reply)) ≡ false → Enters seat h e reply new
+      → Tells limits log seat e reply (added seat h e reply new) new
   enters h new e reply run limits_are may written x =
       plainly h new e reply x.chosen run x.step (ap {A = History R} {B = ℕ} (λ y. y.base) x.adds)
-      (ap {A = History R} {B = List Entry} (λ y. y.entries) x.adds ∙ ap (λ l. h.entries ++ l) (sym (as_seated seat e reply false x.chosen written)))
+      (ap {A = History R} {B = List Entry} (λ y. y.entries) x.adds
+      ∙ ap (λ l. h.entries ++ l) (sym (as_seated seat e reply false x.chosen written)))
       (ap {A = History R} {B = Limits} (λ y. y.limits) x.adds ∙ limits_are) (added_plain h new e reply may)
 
-  by_end : (h new : History R) (e : Event R) (reply : Reply R) → Leads limits log h.core (trace h.base h.entries) → h.limits ≡ limits → may_cut (ask_of e) ≡ false → is_ending (ask_of e) ≡ true
+  by_end : (h new : History R) (e : Event R) (reply : Reply R) → Leads limits log h.core (trace h.base h.entries) → h.limits ≡ limits
+      → may_cut (ask_of e) ≡ false → is_ending (ask_of e) ≡ true
       → EndsBy seat h e reply new → Tells limits log seat e reply (added seat h e reply new) new
-  by_end h new e reply run limits_are may end (inl x) = enters h new e reply run limits_are may (ap (λ b. b && is_refused (answer_in reply)) end ∙ not_refused reply x.1) x.0
+  by_end h new e reply run limits_are may end (inl x) =
+      enters h new e reply run limits_are may (ap (λ b. b && is_refused (answer_in reply)) end ∙ not_refused reply x.1) x.0
   by_end h new e reply run limits_are may end (inr x) =
-      let refused : (is_ending (ask_of e) && is_refused (answer_in reply)) ≡ true = ap (λ b. b && is_refused (answer_in reply)) end ∙ ap is_refused x.refused in
+      let refused : (is_ending (ask_of e) && is_refused (answer_in reply)) ≡ true = ap (λ b. b && is_refused (answer_in reply)) end
+      ∙ ap is_refused x.refused in
       plainly h new e reply x.steps.0 run x.steps.1 (ap {A = History R} {B = ℕ} (λ y. y.base) x.stays)
-      (ap {A = History R} {B = List Entry} (λ y. y.entries) x.stays ∙ sym (append-nil h.entries) ∙ ap (λ l. h.entries ++ l) (sym (as_none seat e reply false x.steps.0 refused)))
+      (ap {A = History R} {B = List Entry} (λ y. y.entries) x.stays ∙ sym (append-nil h.entries)
+      ∙ ap (λ l. h.entries ++ l) (sym (as_none seat e reply false x.steps.0 refused)))
       (ap {A = History R} {B = Limits} (λ y. y.limits) x.stays ∙ limits_are) (added_plain h new e reply may)
 
-  by_ask : (h new : History R) (e : Event R) (reply : Reply R) (ask : Ask) → ask_of e ≡ Some ask → is_end ask ≡ false → IsHistory h → Leads limits log h.core (trace h.base h.entries) → h.limits ≡ limits
+  by_ask : (h new : History R) (e : Event R) (reply : Reply R) (ask : Ask) → ask_of e ≡ Some ask → is_end ask ≡ false → IsHistory h
+      → Leads limits log h.core (trace h.base h.entries) → h.limits ≡ limits
       → may_cut (ask_of e) ≡ true → AsksBy seat h e reply new → Tells limits log seat e reply (added seat h e reply new) new
   by_ask h new e reply ask asks end is run limits_are may (inr x) =
       let none = added_none h new e reply may (ap {A = History R} {B = ℕ} last x.same) in
       let here : Leads limits (log ++ []) new.core (trace new.base new.entries) =
-      subst (λ l. Leads limits l new.core (trace new.base new.entries)) (sym (append-nil log)) (subst (λ (k : History R). Leads limits log k.core (trace k.base k.entries)) (sym x.same) run) in
+      subst (λ l. Leads limits l new.core (trace new.base new.entries)) (sym (append-nil log))
+      (subst (λ (k : History R). Leads limits log k.core (trace k.base k.entries)) (sym x.same) run) in
       record {
         leads = subst (λ l. Leads limits (log ++ l) new.core (trace new.base new.entries)) (sym none) here;
         limits_are = ap {A = History R} {B = Limits} (λ y. y.limits) x.same ∙ limits_are;
-        seats = subst (λ l. AllSit (limits.sessions + 3) (log ++ l)) (sym none) (subst (AllSit (limits.sessions + 3)) (sym (append-nil log)) all);
+        seats = subst (λ l. AllSit (limits.sessions + 3) (log ++ l)) (sym none)
+            (subst (AllSit (limits.sessions + 3)) (sym (append-nil log)) all);
         fate = elim x.why [ inl w ↦ inr (none, may, NoMemory, inl refl, w.1) | inr w ↦ inr (none, may, Exhausted, inr refl, w.1) ];
       }
   by_ask h new e reply ask asks end is run limits_are may (inl x) =
@@ -239,52 +281,78 @@ module _ {R : Type 0} (limits : Limits) (formed : IsWellFormed (empty_of limits)
       let entries = ap {A = History R} {B = List Entry} (λ y. y.entries) x.enters.adds in
       let same_limits = ap {A = History R} {B = Limits} (λ y. y.limits) x.enters.adds in
       let ends_nothing : is_ending (ask_of e) ≡ false = ap is_ending asks ∙ end in
-      let written : (is_ending (ask_of e) && is_refused (answer_in reply)) ≡ false = ap (λ b. b && is_refused (answer_in reply)) ends_nothing in
-      elim (nat_lt (length h.entries) h.limits.trace) as (λ b. nat_lt (length h.entries) h.limits.trace ≡ b → elim b as (λ _. Type 0) [ true ↦ x.ready ≡ h | false ↦ Cuts h x.ready ] → Tells limits log seat e reply (added seat h e reply new) new) [
+      let written : (is_ending (ask_of e) && is_refused (answer_in reply)) ≡ false =
+      ap (λ b. b && is_refused (answer_in reply)) ends_nothing in
+      elim (nat_lt (length h.entries) h.limits.trace) as (λ b. nat_lt (length h.entries) h.limits.trace ≡ b
+      → elim b as (λ _. Type 0) [ true ↦ x.ready ≡ h | false ↦ Cuts h x.ready ]
+      → Tells limits log seat e reply (added seat h e reply new) new) [
         | true ↦ λ short same.
-            let is_short : with_cut seat h e reply (is_full h) ≡ step seat e reply false ∷ [] = ap (λ b. with_cut seat h e reply (not b)) short in
-            plainly h new e reply x.enters.chosen run (subst (λ (k : History R). IsStep k.core e reply x.enters.chosen new.core) same x.enters.step) (base ∙ ap {A = History R} {B = ℕ} (λ y. y.base) same)
-            (entries ∙ ap {A = History R} {B = List Entry} (λ y. y.entries ++ option_to_list (seated seat (ask_of e) (answer_in reply) x.enters.chosen)) same ∙ ap (λ l. h.entries ++ l) (sym (as_seated seat e reply false x.enters.chosen written)))
+            let is_short : with_cut seat h e reply (is_full h) ≡ step seat e reply false ∷ [] =
+            ap (λ b. with_cut seat h e reply (not b)) short in
+            plainly h new e reply x.enters.chosen run (subst (λ (k : History R). IsStep k.core e reply x.enters.chosen new.core) same
+            x.enters.step) (base ∙ ap {A = History R} {B = ℕ} (λ y. y.base) same)
+            (entries ∙ ap {A = History R} {B = List Entry}
+            (λ y. y.entries ++ option_to_list (seated seat (ask_of e) (answer_in reply) x.enters.chosen)) same
+            ∙ ap (λ l. h.entries ++ l) (sym (as_seated seat e reply false x.enters.chosen written)))
             (same_limits ∙ ap {A = History R} {B = Limits} (λ y. y.limits) same ∙ limits_are) (told ∙ is_short)
         | false ↦ λ full cut.
-            let is_cut : with_cut seat h e reply (is_full h) ≡ with_cut seat h e reply true = ap (λ b. with_cut seat h e reply (not b)) full in
+            let is_cut : with_cut seat h e reply (is_full h) ≡ with_cut seat h e reply true =
+            ap (λ b. with_cut seat h e reply (not b)) full in
             let fresh : new.entries ≡ entry_of (step seat e reply true) x.enters.chosen =
-            entries ∙ ap {A = List Entry} {B = List Entry} (λ l. l ++ option_to_list (seated seat (ask_of e) (answer_in reply) x.enters.chosen)) cut.entries ∙ sym (as_seated seat e reply true x.enters.chosen written) in
-            cut_case h new e reply x.ready x.enters.chosen run cut x.enters.step base fresh (same_limits ∙ cut.limits ∙ limits_are) may (told ∙ is_cut) (h.core.machine.cycle_open) refl
+            entries ∙ ap {A = List Entry} {B = List Entry}
+            (λ l. l ++ option_to_list (seated seat (ask_of e) (answer_in reply) x.enters.chosen)) cut.entries
+            ∙ sym (as_seated seat e reply true x.enters.chosen written) in
+            cut_case h new e reply x.ready x.enters.chosen run cut x.enters.step base fresh (same_limits ∙ cut.limits ∙ limits_are) may
+            (told ∙ is_cut) (h.core.machine.cycle_open) refl
       ] refl x.readies
     where
-      cut_case : (h new : History R) (e : Event R) (reply : Reply R) (ready : History R) (chosen : Chosen) → Leads limits log h.core (trace h.base h.entries) → Cuts h ready → IsStep ready.core e reply chosen new.core
-          → new.base ≡ ready.base → new.entries ≡ entry_of (step seat e reply true) chosen → new.limits ≡ limits → may_cut (ask_of e) ≡ true → added seat h e reply new ≡ with_cut seat h e reply true
+      cut_case : (h new : History R) (e : Event R) (reply : Reply R) (ready : History R) (chosen : Chosen)
+          → Leads limits log h.core (trace h.base h.entries) → Cuts h ready → IsStep ready.core e reply chosen new.core
+          → new.base ≡ ready.base → new.entries ≡ entry_of (step seat e reply true) chosen → new.limits ≡ limits → may_cut (ask_of e) ≡ true
+          → added seat h e reply new ≡ with_cut seat h e reply true
           → (b : Bool) → h.core.machine.cycle_open ≡ b → Tells limits log seat e reply (added seat h e reply new) new
       cut_case h new e reply ready chosen run cut now base fresh limits_are may told true opened =
           let gives = subst (λ b. GivesUp b h.core ready.core) opened cut.gives_up in
-          after_open h new ready.core e reply chosen gives.0 run gives.1 now (base ∙ cut.base ∙ ap (λ b. last h + cond b 1 0) opened) fresh limits_are may
+          after_open h new ready.core e reply chosen gives.0 run gives.1 now (base ∙ cut.base ∙ ap (λ b. last h + cond b 1 0) opened) fresh
+          limits_are may
           (told ∙ ap (λ b. gave_up seat b ++ step seat e reply true ∷ []) opened)
       cut_case h new e reply ready chosen run cut now base fresh limits_are may told false shut =
           let same = subst (λ b. GivesUp b h.core ready.core) shut cut.gives_up in
           let higher : new.base ≡ last h = let there = base ∙ cut.base ∙ ap (λ b. last h + cond b 1 0) shut in omega (arith, there) in
-          after_shut h new e reply chosen run (subst (λ (k : Kept R). IsStep k e reply chosen new.core) same now) higher fresh limits_are may
+          after_shut h new e reply chosen run (subst (λ (k : Kept R). IsStep k e reply chosen new.core) same now) higher fresh limits_are
+          may
           (told ∙ ap (λ b. gave_up seat b ++ step seat e reply true ∷ []) shut)
 
-  tells_by : (h new : History R) (e : Event R) (reply : Reply R) → IsHistory h → Leads limits log h.core (trace h.base h.entries) → h.limits ≡ limits → BookSteps seat h e reply new → Tells limits log seat e reply (added seat h e reply new) new
+  tells_by : (h new : History R) (e : Event R) (reply : Reply R) → IsHistory h → Leads limits log h.core (trace h.base h.entries)
+      → h.limits ≡ limits → BookSteps seat h e reply new → Tells limits log seat e reply (added seat h e reply new) new
   tells_by h new e reply is run limits_are steps =
       elim (ask_of e) as (λ o. ask_of e ≡ o → StepsBy seat o h e reply new → Tells limits log seat e reply (added seat h e reply new) new) [
-        | None ↦ λ none x. enters h new e reply run limits_are (ap may_cut none) (ap (λ o. is_ending o && is_refused (answer_in reply)) none) x
-        | Some ask ↦ λ some x. elim (is_end ask) as (λ b. is_end ask ≡ b → elim b as (λ _. Type 0) [ true ↦ EndsBy seat h e reply new | false ↦ AsksBy seat h e reply new ] → Tells limits log seat e reply (added seat h e reply new) new) [
-          | true ↦ λ end y. by_end h new e reply run limits_are (ap may_cut some ∙ ap (λ b. elim b as (λ _. Bool) [ true ↦ false | false ↦ true ]) end) (ap is_ending some ∙ end) y
-          | false ↦ λ end y. by_ask h new e reply ask some end is run limits_are (ap may_cut some ∙ ap (λ b. elim b as (λ _. Bool) [ true ↦ false | false ↦ true ]) end) y
-        ] refl x
+        | None ↦ λ none x. enters h new e reply run limits_are (ap may_cut none)
+            (ap (λ o. is_ending o && is_refused (answer_in reply)) none) x
+        | Some ask ↦ λ some x. elim (is_end ask) as (λ b. is_end ask ≡ b
+            → elim b as (λ _. Type 0) [ true ↦ EndsBy seat h e reply new | false ↦ AsksBy seat h e reply new ]
+            → Tells limits log seat e reply (added seat h e reply new) new) [
+              | true ↦ λ end y. by_end h new e reply run limits_are
+                  (ap may_cut some ∙ ap (λ b. elim b as (λ _. Bool) [ true ↦ false | false ↦ true ]) end) (ap is_ending some ∙ end) y
+              | false ↦ λ end y. by_ask h new e reply ask some end is run limits_are
+                  (ap may_cut some ∙ ap (λ b. elim b as (λ _. Bool) [ true ↦ false | false ↦ true ]) end) y
+            ] refl x
       ] refl steps
 
-pub tells : {R : Type 0} (limits : Limits) (log : List (Step R)) (seat : ℕ) (h new : History R) (e : Event R) (reply : Reply R) → seat < limits.sessions + 3 → IsHistory h → IsWhole limits h log → BookSteps seat h e reply new
+pub tells : {R : Type 0} (limits : Limits) (log : List (Step R)) (seat : ℕ) (h new : History R) (e : Event R) (reply : Reply R)
+    → seat < limits.sessions + 3 → IsHistory h → IsWhole limits h log → BookSteps seat h e reply new
     → Tells limits log seat e reply (added seat h e reply new) new
-tells limits log seat h new e reply sits is w steps = tells_by limits w.formed log seat sits w.seats h new e reply is (w.run, w.traced) w.limits_are steps
+tells limits log seat h new e reply sits is w steps =
+    tells_by limits w.formed log seat sits w.seats h new e reply is (w.run, w.traced) w.limits_are steps
 
 -- what then lies under the lock
-pub whole_now : {R : Type 0} (limits : Limits) (log now : List (Step R)) (seat : ℕ) (h new : History R) (e : Event R) (reply : Reply R) → IsWhole limits h log → Tells limits log seat e reply now new → IsWhole limits new (log ++ now)
-whole_now limits log now seat h new e reply w t = record { formed = w.formed; run = t.leads.0; traced = t.leads.1; limits_are = t.limits_are; seats = t.seats }
+pub whole_now : {R : Type 0} (limits : Limits) (log now : List (Step R)) (seat : ℕ) (h new : History R) (e : Event R) (reply : Reply R)
+    → IsWhole limits h log → Tells limits log seat e reply now new → IsWhole limits new (log ++ now)
+whole_now limits log now seat h new e reply w t =
+    record { formed = w.formed; run = t.leads.0; traced = t.leads.1; limits_are = t.limits_are; seats = t.seats }
 
-pub locked_now : {R : Type 0} (limits : Limits) (d : Dues) (log now : List (Step R)) (seat : ℕ) (h new : History R) (e : Event R) (reply : Reply R) → seat < 256 → IsLocked limits h d log → Tells limits log seat e reply now new
+pub locked_now : {R : Type 0} (limits : Limits) (d : Dues) (log now : List (Step R)) (seat : ℕ) (h new : History R) (e : Event R)
+    (reply : Reply R) → seat < 256 → IsLocked limits h d log → Tells limits log seat e reply now new
     → IsLocked limits new (after seat (effect_of e) reply d) (log ++ now)
 locked_now limits d log now seat h new e reply sits l t = record {
   whole = whole_now limits log now seat h new e reply l.whole t;
@@ -295,9 +363,11 @@ locked_now limits d log now seat h new e reply sits l t = record {
 }
 
 -- all of it is the seat's
-pub all_added : {R : Type 0} (seat : ℕ) (h : History R) (e : Event R) (reply : Reply R) (new : History R) → AllOf seat_of seat (added seat h e reply new)
+pub all_added : {R : Type 0} (seat : ℕ) (h : History R) (e : Event R) (reply : Reply R) (new : History R)
+    → AllOf seat_of seat (added seat h e reply new)
 all_added seat h e reply new =
-    elim (may_cut (ask_of e)) as (λ b. AllOf seat_of seat (cond b (cond (nat_lt (last h) (last new)) (with_cut seat h e reply (is_full h)) []) (step seat e reply false ∷ []))) [
+    elim (may_cut (ask_of e)) as (λ b. AllOf seat_of seat
+    (cond b (cond (nat_lt (last h) (last new)) (with_cut seat h e reply (is_full h)) []) (step seat e reply false ∷ []))) [
       | true ↦ elim (nat_lt (last h) (last new)) as (λ c. AllOf seat_of seat (cond c (with_cut seat h e reply (is_full h)) [])) [
         | true ↦ cut_ones (is_full h && h.core.machine.cycle_open)
         | false ↦ tt
@@ -311,8 +381,10 @@ all_added seat h e reply new =
 
 -- ---- What an ask is then known to be
 
-pub asked : {R : Type 0} (limits : Limits) (old new : Seen (Step R)) (n : ℕ) (all now : List (Step R)) (h book : History R) (e : Event R) (reply : Reply R)
-    → old.seat ≡ n → Knows seat_of n old.known all → new.seat ≡ n → new.known ≡ all ++ now → IsWhole limits h all → Tells limits all n e reply now book → AskedIn limits all old e reply new
+pub asked : {R : Type 0} (limits : Limits) (old new : Seen (Step R)) (n : ℕ) (all now : List (Step R)) (h book : History R) (e : Event R)
+    (reply : Reply R)
+    → old.seat ≡ n → Knows seat_of n old.known all → new.seat ≡ n → new.known ≡ all ++ now → IsWhole limits h all
+    → Tells limits all n e reply now book → AskedIn limits all old e reply new
 asked {R} limits old new n all now h book e reply is knows seat known w t = elim t.fate [
   | inl x ↦ (
     inl (record {

@@ -19,7 +19,8 @@ use Rattle.jlr_hall.specs.Loops.{AsksOnly, Chain, Cleans, CleansIn, IsCleaners, 
 
 module _ {R : Type 0} (limits : Limits) where
   -- an ask where it may be asked in the history that it found
-  pub record AskedAt (may : List (Step R) → Event R → Type 0) (old : Seen (Step R)) (e : Event R) (reply : Reply R) (new : Seen (Step R)) : Type 0 where
+  pub record AskedAt (may : List (Step R) → Event R → Type 0) (old : Seen (Step R)) (e : Event R) (reply : Reply R)
+      (new : Seen (Step R)) : Type 0 where
     pub asked : Asked limits old e reply new
     pub may_be : may (found limits old e reply new asked) e
 
@@ -29,11 +30,13 @@ module _ {R : Type 0} (limits : Limits) where
   asked_anywhere may old e reply new is a = record { asked = a; may_be = is (found limits old e reply new a) }
 
   -- one that may be asked in the history that lay under the lock
-  pub asked_there : (may : List (Step R) → Event R → Type 0) (log : List (Step R)) (old : Seen (Step R)) (e : Event R) (reply : Reply R) (new : Seen (Step R))
+  pub asked_there : (may : List (Step R) → Event R → Type 0) (log : List (Step R)) (old : Seen (Step R)) (e : Event R) (reply : Reply R)
+      (new : Seen (Step R))
       → may log e → AskedIn limits log old e reply new → AskedAt may old e reply new
   asked_there may log old e reply new is a = record { asked = a.0; may_be = subst (λ (l : List (Step R)). may l e) (sym a.1) is }
 
-  chain_more : (may : List (Step R) → Event R → Type 0) (p : Seen (Step R)) (asks : List (Event R × Reply R)) (q r : Seen (Step R)) (e : Event R) (reply : Reply R) → Chain limits may p asks q
+  chain_more : (may : List (Step R) → Event R → Type 0) (p : Seen (Step R)) (asks : List (Event R × Reply R)) (q r : Seen (Step R))
+      (e : Event R) (reply : Reply R) → Chain limits may p asks q
       → AskedAt may q e reply r → Chain limits may p (asks ++ (e, reply) ∷ []) r
   chain_more may p [] q r e reply c a =
       let b = subst (λ (x : Seen (Step R)). AskedAt may x e reply r) c a in
@@ -61,7 +64,8 @@ module _ {R : Type 0} (limits : Limits) where
   pub asks_none : (may : List (Step R) → Event R → Type 0) (p : Seen (Step R)) → AsksOnly limits may p p
   asks_none may p = ([], refl)
 
-  pub asks_more : (may : List (Step R) → Event R → Type 0) (e : Event R) (reply : Reply R) (old mid new : Seen (Step R)) → AsksOnly limits may old mid → AskedAt may mid e reply new → AsksOnly limits may old new
+  pub asks_more : (may : List (Step R) → Event R → Type 0) (e : Event R) (reply : Reply R) (old mid new : Seen (Step R))
+      → AsksOnly limits may old mid → AskedAt may mid e reply new → AsksOnly limits may old new
   asks_more may e reply old mid new h a = (h.0 ++ (e, reply) ∷ [], chain_more may old h.0 mid new e reply h.1 a)
 
 -- ---- The cleaner
@@ -70,13 +74,16 @@ module _ {R : Type 0} (handling : Handling R) (limits : Limits) where
   pub cleans_none : (p : Seen (Step R)) → CleansIn handling limits p None p
   cleans_none p = ([], refl, refl)
 
-  cleans_more : (first mid last : Option (Job R)) (asks : List (Event R × Reply R)) (x : Event R × Reply R) → Cleans handling first asks mid → Cleans handling mid (x ∷ []) last → Cleans handling first (asks ++ x ∷ []) last
+  cleans_more : (first mid last : Option (Job R)) (asks : List (Event R × Reply R)) (x : Event R × Reply R) → Cleans handling first asks mid
+      → Cleans handling mid (x ∷ []) last → Cleans handling first (asks ++ x ∷ []) last
   cleans_more first mid last [] x c d = subst (λ (r : Option (Job R)). Cleans handling r (x ∷ []) last) c d
   cleans_more None mid last (y ∷ asks) x c d = (c.0, c.1, cleans_more (job_in (job_by y.1)) mid last asks x c.2 d)
   cleans_more (Some job) mid last (y ∷ asks) x c d = (c.0, cleans_more None mid last asks x c.1 d)
 
   -- a take-up, and the job that it gave, if any
-  takes : (reply : Reply R) (old mid new : Seen (Step R)) → CleansIn handling limits old None mid → AskedAt limits (IsCleaners limits) mid (Asks TakeUp) reply new → HasItsResource reply → CleansIn handling limits old (job_in (job_by reply)) new
+  takes : (reply : Reply R) (old mid new : Seen (Step R)) → CleansIn handling limits old None mid
+      → AskedAt limits (IsCleaners limits) mid (Asks TakeUp) reply new → HasItsResource reply
+      → CleansIn handling limits old (job_in (job_by reply)) new
   takes reply old mid new h asked its = (
     h.0 ++ (Asks TakeUp, reply) ∷ [],
     chain_more limits (IsCleaners limits) old h.0 mid new (Asks TakeUp) reply h.1 asked,
@@ -84,26 +91,35 @@ module _ {R : Type 0} (handling : Handling R) (limits : Limits) where
   )
 
   -- where something stood in the line
-  taken_up : (log : List (Step R)) (reply : Reply R) (mid new : Seen (Step R)) → HasLine limits log → AskedIn limits log mid (Asks TakeUp) reply new → AskedAt limits (IsCleaners limits) mid (Asks TakeUp) reply new
+  taken_up : (log : List (Step R)) (reply : Reply R) (mid new : Seen (Step R)) → HasLine limits log
+      → AskedIn limits log mid (Asks TakeUp) reply new → AskedAt limits (IsCleaners limits) mid (Asks TakeUp) reply new
   taken_up log reply mid new line a = asked_there limits (IsCleaners limits) log mid (Asks TakeUp) reply new (λ _. line) a
 
-  pub takes_job : (log : List (Step R)) (reply : Reply R) (job : Job R) (old mid new : Seen (Step R)) → CleansIn handling limits old None mid → HasLine limits log → AskedIn limits log mid (Asks TakeUp) reply new → HasItsResource reply → job_by reply ≡ Ok job
+  pub takes_job : (log : List (Step R)) (reply : Reply R) (job : Job R) (old mid new : Seen (Step R))
+      → CleansIn handling limits old None mid → HasLine limits log → AskedIn limits log mid (Asks TakeUp) reply new → HasItsResource reply
+      → job_by reply ≡ Ok job
       → CleansIn handling limits old (Some job) new
   takes_job log reply job old mid new h line asked its is =
-      subst (λ (r : Result (Job R) Answer). CleansIn handling limits old (job_in r) new) is (takes reply old mid new h (taken_up log reply mid new line asked) its)
+      subst (λ (r : Result (Job R) Answer). CleansIn handling limits old (job_in r) new) is
+      (takes reply old mid new h (taken_up log reply mid new line asked) its)
 
-  pub takes_none : (log : List (Step R)) (reply : Reply R) (answer : Answer) (old mid new : Seen (Step R)) → CleansIn handling limits old None mid → HasLine limits log → AskedIn limits log mid (Asks TakeUp) reply new → HasItsResource reply → job_by reply ≡ Err answer
+  pub takes_none : (log : List (Step R)) (reply : Reply R) (answer : Answer) (old mid new : Seen (Step R))
+      → CleansIn handling limits old None mid → HasLine limits log → AskedIn limits log mid (Asks TakeUp) reply new → HasItsResource reply
+      → job_by reply ≡ Err answer
       → CleansIn handling limits old None new
   takes_none log reply answer old mid new h line asked its is =
-      subst (λ (r : Result (Job R) Answer). CleansIn handling limits old (job_in r) new) is (takes reply old mid new h (taken_up log reply mid new line asked) its)
+      subst (λ (r : Result (Job R) Answer). CleansIn handling limits old (job_in r) new) is
+      (takes reply old mid new h (taken_up log reply mid new line asked) its)
 
   -- the end of the job that runs
   no_take_up : (job : Job R) (event : Event R) → TellsFinished handling 255 job event → (log : List (Step R)) → IsCleaners limits log event
   no_take_up job event told log is = absurd (cc (told.2, is))
 
-  pub finishes : (job : Job R) (event : Event R) (reply : Reply R) → TellsFinished handling 255 job event → (old mid new : Seen (Step R)) → CleansIn handling limits old (Some job) mid → Asked limits mid event reply new → CleansIn handling limits old None new
+  pub finishes : (job : Job R) (event : Event R) (reply : Reply R) → TellsFinished handling 255 job event → (old mid new : Seen (Step R))
+      → CleansIn handling limits old (Some job) mid → Asked limits mid event reply new → CleansIn handling limits old None new
   finishes job event reply told old mid new h asked = (
     h.0 ++ (event, reply) ∷ [],
-    chain_more limits (IsCleaners limits) old h.0 mid new event reply h.1 (asked_anywhere limits (IsCleaners limits) mid event reply new (no_take_up job event told) asked),
+    chain_more limits (IsCleaners limits) old h.0 mid new event reply h.1
+        (asked_anywhere limits (IsCleaners limits) mid event reply new (no_take_up job event told) asked),
     cleans_more None (Some job) None h.0 (event, reply) h.2 (told, refl),
   )

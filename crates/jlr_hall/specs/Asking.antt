@@ -1,5 +1,6 @@
 -- What an ask of a seat is in the one history.
-use Rattle.std.specs.Prelude.{◌≡◌, ◌⊎◌, ◌<◌, ◌+◌, ◌&&◌, ℕ, Bool, true, false, cond, List, [], ◌∷◌, ◌++◌, Option, Some, None, is_some}
+use Rattle.std.specs.Prelude.{◌≡◌, ◌⊎◌, ◌<◌, ◌+◌, ◌&&◌, ℕ, Bool, true, false, cond, List, [], ◌∷◌, ◌++◌, Option, Some}
+use Rattle.std.specs.Prelude.{None, is_some}
 use mathlib.Core.Logic.{inl, inr}
 use Rattle.jlr_types.specs.declared.limits.Limits.{Limits}
 use Rattle.jlr_types.specs.declared.Refusal.{Refusal}
@@ -34,14 +35,16 @@ module _ {R : Type 0} where
   -- The event is the last step of a history that goes on from all that the seat knew: with this reply, and with the
   -- resources that came in and went out. Since then there is nothing else of this seat, but that its cut gave a cycle
   -- up.
-  pub record Adds (limits : Limits) (old : Seen (Step R)) (event : Event R) (reply : Reply R) (new : Seen (Step R)) : Type 0 where
+  pub record Adds (limits : Limits) (old : Seen (Step R)) (event : Event R) (reply : Reply R)
+      (new : Seen (Step R)) : Type 0 where
     pub seat : new.seat ≡ old.seat
     pub between : List (Step R)
     pub others : own seat_of old.seat between ≡ []
     pub cut : Bool
     pub cuts : cut ≡ true → may_cut (ask_of event) ≡ true
     pub cycle_open : Bool
-    pub known : new.known ≡ (old.known ++ between) ++ (gave_up old.seat (cut && cycle_open) ++ step old.seat event reply cut ∷ [])
+    pub known : new.known ≡ (old.known ++ between)
+        ++ (gave_up old.seat (cut && cycle_open) ++ step old.seat event reply cut ∷ [])
     pub legal : IsHistory limits new.known
 
   -- The book refuses by itself an ask that ends nothing: the history has nothing of it, and what came in goes back.
@@ -60,13 +63,15 @@ module _ {R : Type 0} where
   Asked limits old event reply new = Adds limits old event reply new ⊎ Declined old event reply new
 
   -- the history that an ask found under the lock
-  abbrev pub found : (limits : Limits) (old : Seen (Step R)) (event : Event R) (reply : Reply R) (new : Seen (Step R)) → Asked limits old event reply new → List (Step R)
+  abbrev pub found : (limits : Limits) (old : Seen (Step R)) (event : Event R) (reply : Reply R) (new : Seen (Step R))
+      → Asked limits old event reply new → List (Step R)
   found limits old event reply new (inl x) = old.known ++ x.between
   found limits old event reply new (inr x) = old.known ++ x.between
 
   -- it found this one
   abbrev pub AskedIn : Limits → List (Step R) → Seen (Step R) → Event R → Reply R → Seen (Step R) → Type 0
-  AskedIn limits log old event reply new = (asked : Asked limits old event reply new) × (found limits old event reply new asked ≡ log)
+  AskedIn limits log old event reply new = (asked : Asked limits old event reply new)
+      × (found limits old event reply new asked ≡ log)
 
 -- ---- Jobs
 
@@ -92,4 +97,5 @@ loop_for ask = 0
 -- of marking are the marker's.
 abbrev pub IsOwn : ℕ → ℕ → Option Ask → Type 0
 IsOwn seat sessions None = seat ≡ sessions
-IsOwn seat sessions (Some ask) = elim (asker ask) [ Some k ↦ (seat ≡ k) × (seat < sessions) | None ↦ seat ≡ sessions + loop_for ask ]
+IsOwn seat sessions (Some ask) =
+    elim (asker ask) [ Some k ↦ (seat ≡ k) × (seat < sessions) | None ↦ seat ≡ sessions + loop_for ask ]

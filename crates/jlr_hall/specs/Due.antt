@@ -1,6 +1,7 @@
 -- When a cycle is due in a hall: where a quarter of the cells was taken since the last collection, or where, since one
 -- last began, a session left with resources open or there was no room for a resource.
-use Rattle.std.specs.Prelude.{◌≡◌, ◌≢◌, ◌⊎◌, ◌+◌, ◌-◌, ◌&&◌, ℕ, Bool, true, false, not, cond, nat_lt, List, [], ◌∷◌, ◌++◌, Option, Some, is_some, fold, All}
+use Rattle.std.specs.Prelude.{◌≡◌, ◌≢◌, ◌⊎◌, ◌+◌, ◌-◌, ◌&&◌, ℕ, Bool, true, false, not, cond, nat_lt, List, [], ◌∷◌}
+use Rattle.std.specs.Prelude.{◌++◌, Option, Some, is_some, fold, All}
 use Rattle.jlr_types.specs.declared.limits.Limits.{Limits}
 use Rattle.jlr_types.specs.declared.Refusal.TheVariants.{ResourcesFull}
 use Rattle.jlr_machine.specs.declared.ask.Answer.{Answer}

@@ -1,16 +1,19 @@
 -- What lies under the lock, and what is kept there of the resources that are open and of a cycle that is owed.
-use Rattle.std.specs.Prelude.{◌≡◌, ◌↔◌, ◌<◌, ◌+◌, ◌-◌, ◌||◌, ℕ, true, false, cond, nat_lt, List, is_some, length, slice_index_or, slice_set}
+use Rattle.std.specs.Prelude.{◌≡◌, ◌↔◌, ◌<◌, ◌+◌, ◌-◌, ◌||◌, ℕ, true, false, cond, nat_lt, List, is_some, length}
+use Rattle.std.specs.Prelude.{slice_index_or, slice_set}
 use Rattle.jlr_types.specs.declared.limits.Limits.{Limits}
 use Rattle.jlr_event.specs.declared.event.Event.{Event}
 use Rattle.jlr_machine.specs.declared.ask.Ask.{Ask}
-use Rattle.jlr_machine.specs.declared.ask.Ask.TheVariants.{Begin, Clean, Close, Enqueue, Finish, Full, HandOver, Join, Leave, Prepare}
+use Rattle.jlr_machine.specs.declared.ask.Ask.TheVariants.{Begin, Clean, Close, Enqueue, Finish, Full, HandOver, Join}
+use Rattle.jlr_machine.specs.declared.ask.Ask.TheVariants.{Leave, Prepare}
 use Rattle.jlr_event.specs.declared.event.Event.TheVariants.{Ask as Asks, Opened}
 use Rattle.jlr_event.specs.declared.event.Reply.{Reply}
 use Rattle.jlr_event.specs.Events.{answer_in, resource_of_reply}
 use Rattle.jlr_book.specs.Histories.{History}
 use Rattle.jlr_hall.specs.declared.dues.Dues.{Dues}
 use Rattle.jlr_hall.specs.declared.effect.Effect.{Effect}
-use Rattle.jlr_hall.specs.declared.effect.Effect.TheVariants.{Closes, Collects, Finishes, Joins, Leaves, Nothing, Opens, Prepares, Queues}
+use Rattle.jlr_hall.specs.declared.effect.Effect.TheVariants.{Closes, Collects, Finishes, Joins, Leaves, Nothing, Opens}
+use Rattle.jlr_hall.specs.declared.effect.Effect.TheVariants.{Prepares, Queues}
 use Rattle.jlr_hall.specs.declared.step.Step.{Step}
 use Rattle.jlr_hall.specs.OneHistory.{IsWhole, is_refused}
 use Rattle.jlr_hall.specs.Due.{IsOwed, is_collected, is_full, is_handle, open_at}

@@ -19,7 +19,8 @@ use Rattle.jlr_hall.specs.Due.{HasLine, HasPending, IsDueAt}
 module _ {R : Type 0} (limits : Limits) where
   -- These events were asked by one seat and answered so, and nothing else; each was one that may be asked in the
   -- history that it found.
-  abbrev pub Chain : (List (Step R) → Event R → Type 0) → Seen (Step R) → List (Event R × Reply R) → Seen (Step R) → Type 0
+  abbrev pub Chain : (List (Step R) → Event R → Type 0) → Seen (Step R) → List (Event R × Reply R) → Seen (Step R)
+      → Type 0
   Chain may p [] q = q ≡ p
   Chain may p (x ∷ asks) q =
       (mid : Seen (Step R)) × (asked : Asked limits p x.0 x.1 mid) × may (found limits p x.0 x.1 mid asked) x.0
@@ -34,7 +35,8 @@ module _ {R : Type 0} (limits : Limits) where
 module _ {R : Type 0} (limits : Limits) where
   -- the marker with this budget: a cycle begins only where one is due
   abbrev pub IsMarkers : ℕ → List (Step R) → Event R → Type 0
-  IsMarkers budget log event = ((event ≡ (Asks Begin)) × IsDueAt limits log) ⊎ (event ≡ (Asks Collect)) ⊎ (event ≡ Mark budget)
+  IsMarkers budget log event = ((event ≡ (Asks Begin)) × IsDueAt limits log) ⊎ (event ≡ (Asks Collect))
+      ⊎ (event ≡ Mark budget)
 
   -- the handler: something is pending
   abbrev pub IsHandlers : List (Step R) → Event R → Type 0

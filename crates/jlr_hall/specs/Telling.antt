@@ -15,7 +15,8 @@ module _ {R : Type 0} where
 
   -- an ask before which the book cuts where its trace is full
   abbrev pub with_cut : ℕ → History R → Event R → Reply R → Bool → List (Step R)
-  with_cut seat was event reply cut = gave_up seat (cut && was.core.machine.cycle_open) ++ step seat event reply cut ∷ []
+  with_cut seat was event reply cut = gave_up seat (cut && was.core.machine.cycle_open)
+      ++ step seat event reply cut ∷ []
 
   -- the steps of the core: that of the event, unless the book declined it, and before it that of a cut
   abbrev pub added : ℕ → History R → Event R → Reply R → History R → List (Step R)

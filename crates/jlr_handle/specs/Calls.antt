@@ -40,8 +40,10 @@ limit_status SoftAge = 38
 limit_status Trace = 33
 limit_status Budget = 33
 
--- ---- Calls. Of a handle that is closed nothing is told, and it stays closed. A heap that is open stays open, and the call is one event
--- of it
+-- ---- Calls
+
+-- Of a handle that is closed nothing is told, and it stays closed. A heap that is open stays open, and the call is one
+-- event of it
 
 -- an event that carries no token
 abbrev pub Calls : Option Heap → Event ℕ → Type 0 → (Answer → Type 0) → Option Heap → Type 0

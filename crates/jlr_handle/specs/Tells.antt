@@ -1,5 +1,6 @@
 -- How an answer is told: what a call returns, and what stands behind its out pointer, which was `old` and is `new`.
-use Rattle.std.specs.Prelude.{◌≡◌, ◌-◌, ◌==◌, ◌++◌, ℕ, ℤ, Bool, true, false, cond, List, Option, Some, None, length, replicate, slice_get}
+use Rattle.std.specs.Prelude.{◌≡◌, ◌-◌, ◌==◌, ◌++◌, ℕ, ℤ, Bool, true, false, cond, List, Option, Some, None, length}
+use Rattle.std.specs.Prelude.{replicate, slice_get}
 use Rattle.jlr_types.specs.Numbers.{number_of}
 use Rattle.jlr_types.specs.declared.Fault.{Fault}
 use Rattle.jlr_types.specs.declared.Fault.TheVariants.{NotFound, Denied, Other}
@@ -13,7 +14,8 @@ use Rattle.jlr_machine.specs.declared.ask.Outcome.TheVariants as outcome
 use Rattle.jlr_machine.specs.declared.ask.Handed.{Handed as HandedOver}
 use Rattle.jlr_machine.specs.declared.ask.Handed.TheVariants.{Queued, Lined, Skipped, Nothing}
 use Rattle.jlr_machine.specs.declared.ask.Answer.{Answer}
-use Rattle.jlr_machine.specs.declared.ask.Answer.TheVariants.{AlreadyDone, Handle, Handed, Int, Job, Names, Notes, Faults, Out, Refused, Stat, Truth}
+use Rattle.jlr_machine.specs.declared.ask.Answer.TheVariants.{AlreadyDone, Handle, Handed, Int, Job, Names, Notes}
+use Rattle.jlr_machine.specs.declared.ask.Answer.TheVariants.{Faults, Out, Refused, Stat, Truth}
 use Rattle.jlr_handle.specs.declared.out.Counts.{Counts}
 use Rattle.jlr_handle.specs.declared.out.Failed.{Failed}
 use Rattle.jlr_handle.specs.declared.out.Taken.{Taken}

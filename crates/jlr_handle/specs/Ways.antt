@@ -6,7 +6,8 @@ use Rattle.jlr_handle.specs.declared.out.Counts.{Counts}
 use Rattle.jlr_handle.specs.declared.out.Failed.{Failed}
 use Rattle.jlr_handle.specs.declared.out.Taken.{Taken}
 use Rattle.jlr_handle.specs.Calls.{Calls, Carries, Heap, closed, range}
-use Rattle.jlr_handle.specs.Tells.{TellsCounts, TellsEnd, TellsFault, TellsHandle, TellsInteger, TellsJob, TellsName, TellsNote, TellsToken, TellsTruth}
+use Rattle.jlr_handle.specs.Tells.{TellsCounts, TellsEnd, TellsFault, TellsHandle, TellsInteger, TellsJob, TellsName}
+use Rattle.jlr_handle.specs.Tells.{TellsNote, TellsToken, TellsTruth}
 
 -- an argument is out of its range: nothing is done
 abbrev pub IsOutOfRange : Option Heap → ℕ → Option Heap → Type 0

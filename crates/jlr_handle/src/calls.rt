@@ -7,7 +7,8 @@ ghost use Rattle.jlr_embed.specs.Kinds.{is_told, is_truth, kind_asked, suits};
 ghost use Rattle.jlr_handle.specs.Calls.{HandsOver, Marks};
 ghost use Rattle.jlr_handle.specs.OneEvent.{Asked, Carried};
 ghost use Rattle.jlr_handle.specs.Tells.{TellsHanded, TellsProgress};
-ghost use Rattle.jlr_handle.specs.Ways.{Adopts, Ends, EndsCarrying, GivesCounts, GivesFailure, GivesHandle, GivesInteger};
+ghost use Rattle.jlr_handle.specs.Ways.{Adopts, Ends, EndsCarrying, GivesCounts, GivesFailure, GivesHandle};
+ghost use Rattle.jlr_handle.specs.Ways.{GivesInteger};
 ghost use Rattle.jlr_handle.specs.Ways.{GivesJob, GivesName, GivesNote, GivesToken, GivesTruth};
 
 use crate::handle::Heap;

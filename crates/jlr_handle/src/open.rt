@@ -20,7 +20,8 @@ pub fn open(
     soft_age: u32,
 ) -> u32
     ensures { ((result ≡ 0) × Opens cells sessions resources soft_age heap.new.value)
-        ⊎ (((result ≡ 1) ⊎ TellsLimit result (first_fault cells sessions resources soft_age 64 4096)) × (heap.new.value ≡ heap.old.value)) }
+        ⊎ (((result ≡ 1) ⊎ TellsLimit result (first_fault cells sessions resources soft_age 64 4096))
+        × (heap.new.value ≡ heap.old.value)) }
 {
     match Limits::checked(cells, sessions, resources, soft_age, 64, 4096) {
         Ok(limits) => open_with(alloc, heap, limits),

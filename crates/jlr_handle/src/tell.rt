@@ -1,7 +1,10 @@
 //! How an answer is told.
 ghost use Rattle.std.specs.Prelude.{◌≡◌, ◌≤◌, length, true};
-ghost use Rattle.jlr_embed.specs.Kinds.{is_stat, is_faults, is_handle, is_integer, is_job, is_names, is_notes, is_out, is_told, is_truth, job_suits, suits};
-ghost use Rattle.jlr_handle.specs.Tells.{TellsCounts, TellsEnd, TellsFault, TellsHanded, TellsHandle, TellsInteger, TellsJob, TellsName, TellsNote, TellsProgress, TellsToken, TellsTruth, TellsWork, fault_number, fault_numbered, outcome_numbered, padded};
+ghost use Rattle.jlr_embed.specs.Kinds.{is_stat, is_faults, is_handle, is_integer, is_job, is_names, is_notes, is_out};
+ghost use Rattle.jlr_embed.specs.Kinds.{is_told, is_truth, job_suits, suits};
+ghost use Rattle.jlr_handle.specs.Tells.{TellsCounts, TellsEnd, TellsFault, TellsHanded, TellsHandle, TellsInteger};
+ghost use Rattle.jlr_handle.specs.Tells.{TellsJob, TellsName, TellsNote, TellsProgress, TellsToken, TellsTruth};
+ghost use Rattle.jlr_handle.specs.Tells.{TellsWork, fault_number, fault_numbered, outcome_numbered, padded};
 
 use crate::out::{Counts, Failed, Taken};
 use crate::status::IDLE;

@@ -23,14 +23,24 @@ module _ {K R : Type 0} (asking : Asking K R) (old new : K) where
   told e e' a said out same h is = (Answered a out, subst (λ e. asking.asks old e (Answered a out) new) same h, is)
 
   module _ (handling : Handling R) (guard : ℕ) (a : Answer) (held : Option R) where
-    pub closed_now : (between : K) (action : ℕ) (work : Work) (outcome : Result (Unit {0}) Fault) → asking.asks old (Asks (Close 0 guard)) (Answered a held) between → a ≡ Job action work
+    pub closed_now : (between : K) (action : ℕ) (work : Work) (outcome : Result (Unit {0}) Fault)
+        → asking.asks old (Asks (Close 0 guard)) (Answered a held) between → a ≡ Job action work
         → Finishes handling held outcome → asking.asks between (Asks (Finish 0 action (outcome_of outcome))) (Answered Done None) new
         → IsAskedTwice asking (Close 0 guard) job_by (TellsFinished handling 0) ⊤ TellsClosed old (Ok true) new
     closed_now between action work outcome h is f h' =
-        let first = subst (λ a. asking.asks old (Asks (Close 0 guard)) (Answered a held) between) is h in
-        (Done, (Answered (Job action work) held, between, first, (Asks (Finish 0 action (outcome_of outcome)), Answered Done None, (outcome, f, refl), h', refl)), tt)
+        let first = subst (λ a. asking.asks old (Asks (Close 0 guard)) (Answered a held) between) is h in (
+          Done,
+          (
+            Answered (Job action work) held,
+            between,
+            first,
+            (Asks (Finish 0 action (outcome_of outcome)), Answered Done None, (outcome, f, refl), h', refl),
+          ),
+          tt,
+        )
 
-    pub closed_before : asking.asks old (Asks (Close 0 guard)) (Answered a held) new → (a ≡ AlreadyDone) ⊎ ((what : What) × (a ≡ Handed what))
+    pub closed_before : asking.asks old (Asks (Close 0 guard)) (Answered a held) new → (a ≡ AlreadyDone)
+        ⊎ ((what : What) × (a ≡ Handed what))
         → IsAskedTwice asking (Close 0 guard) job_by (TellsFinished handling 0) ⊤ TellsClosed old (Ok false) new
     closed_before h is = elim is [
       | inl e ↦

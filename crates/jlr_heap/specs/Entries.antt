@@ -25,7 +25,8 @@ unrecorded = record { mutator = λ _. 0; asks = Steps; settling = Settles }
 module _ {K R : Type 0} (asking : Asking K R) where
   -- what follows a call
   abbrev pub Follows : Heap K → K → Heap K → Type 0
-  Follows old between new = MatchBool old.settles (asking.settling between new.keeper) (new.keeper ≡ between) × (new.settles ≡ old.settles)
+  Follows old between new = MatchBool old.settles (asking.settling between new.keeper) (new.keeper ≡ between)
+      × (new.settles ≡ old.settles)
 
   -- an event with its reply leads from a heap to a heap
   abbrev pub IsReplied : Heap K → Event R → Reply R → Heap K → Type 0
@@ -93,7 +94,8 @@ HasJoined asking keeper heap = IsDone asking (record { keeper = keeper; settles 
 -- the join was refused, and left what answers so
 abbrev pub CannotJoin : {K R : Type 0} → Asking K R → K → Refusal → K → Type 0
 CannotJoin asking keeper by left =
-    IsDone asking (record { keeper = keeper; settles = true }) (Join 0) (Err by) (record { keeper = left; settles = true })
+    IsDone asking (record { keeper = keeper; settles = true }) (Join 0) (Err by)
+    (record { keeper = left; settles = true })
 
 -- it has joined the empty heap of the limits
 abbrev pub IsJoined : {R : Type 0} → ℕ → ℕ → ℕ → ℕ → Heap (Kept R) → Type 0

@@ -13,7 +13,8 @@ use Rattle.jlr_machine.specs.declared.ask.Ask.TheVariants.{CheckOut, Close, Prep
 use Rattle.jlr_event.specs.declared.event.Reply.{Reply}
 use Rattle.jlr_event.specs.declared.event.Reply.TheVariants.{Answered}
 use Rattle.jlr_session.specs.Calls.{Opening}
-use Rattle.jlr_session.specs.Asks.{Asking, AsksTwice, TellsConnected, TellsFinished, TellsOpened, TellsRead, TellsWritten, job_by, said_by, out_by, prepared_by}
+use Rattle.jlr_session.specs.Asks.{Asking, AsksTwice, TellsConnected, TellsFinished, TellsOpened, TellsRead}
+use Rattle.jlr_session.specs.Asks.{TellsWritten, job_by, said_by, out_by, prepared_by}
 use Rattle.jlr_heap.specs.declared.failed.Failed.{Failed as Why}
 use Rattle.jlr_heap.specs.declared.failed.Failed.TheVariants as why
 use Rattle.jlr_heap.specs.declared.heap.Heap.{Heap}
@@ -64,32 +65,41 @@ count_outcome (Err fault) = Failed fault
 module _ {K R : Type 0} (asking : Asking K R) where
   -- an ask whose answer the result tells
   abbrev pub IsSaid : {T : Type 0} → (T → Answer) → K → Event R → T → K → Type 0
-  IsSaid said_of old event result new = (last : Reply R) × asking.asks old event last new × (said_by last ≡ said_of result)
+  IsSaid said_of old event result new = (last : Reply R) × asking.asks old event last new
+      × (said_by last ≡ said_of result)
 
   -- the same of one with which nothing goes out
   abbrev pub IsEntered : {T : Type 0} → (T → Answer) → K → Event R → T → K → Type 0
   IsEntered said_of old event result new = asking.asks old event (Answered (said_of result) None) new
 
   -- An ask. Where its reply leads on, what it gives comes to a second ask. The result tells the last answer
-  abbrev pub IsAskedTwice : {X T : Type 0} → Ask → (Reply R → Result X Answer) → (X → Event R → Type 0) → Type 0 → (T → Answer → Type 0) → K → T → K → Type 0
-  IsAskedTwice first leads comes_to rests tells old result new = (said : Answer) × AsksTwice asking first leads comes_to rests old said new × tells result said
+  abbrev pub IsAskedTwice : {X T : Type 0} → Ask → (Reply R → Result X Answer) → (X → Event R → Type 0) → Type 0
+      → (T → Answer → Type 0) → K → T → K → Type 0
+  IsAskedTwice first leads comes_to rests tells old result new = (said : Answer)
+      × AsksTwice asking first leads comes_to rests old said new × tells result said
 
   -- that, and what follows a call
-  abbrev pub IsCommand : {X T : Type 0} → Ask → (Reply R → Result X Answer) → (X → Event R → Type 0) → Type 0 → (T → Answer → Type 0) → Heap K → T → Heap K → Type 0
+  abbrev pub IsCommand : {X T : Type 0} → Ask → (Reply R → Result X Answer) → (X → Event R → Type 0) → Type 0
+      → (T → Answer → Type 0) → Heap K → T → Heap K → Type 0
   IsCommand first leads comes_to rests tells old result new =
-      (between : K) × IsAskedTwice first leads comes_to rests tells old.keeper result between × Follows asking old between new
+      (between : K) × IsAskedTwice first leads comes_to rests tells old.keeper result between
+      × Follows asking old between new
 
   abbrev pub IsOpened : {D : Type 0} → Opening D R → Mode → List ℕ → D → D → Heap K → Result ℕ Why → Heap K → Type 0
-  IsOpened device mode path d d' = IsCommand (Prepare 0) prepared_by (λ _. TellsOpened device 0 mode path d d') (d' ≡ d) (λ result said. said ≡ guard_told result)
+  IsOpened device mode path d d' = IsCommand (Prepare 0) prepared_by (λ _. TellsOpened device 0 mode path d d') (d' ≡ d)
+      (λ result said. said ≡ guard_told result)
 
   abbrev pub IsConnected : {D : Type 0} → Opening D R → List ℕ → D → D → Heap K → Result ℕ Why → Heap K → Type 0
-  IsConnected device path d d' = IsCommand (Prepare 0) prepared_by (λ _. TellsConnected device 0 path d d') (d' ≡ d) (λ result said. said ≡ guard_told result)
+  IsConnected device path d d' = IsCommand (Prepare 0) prepared_by (λ _. TellsConnected device 0 path d d') (d' ≡ d)
+      (λ result said. said ≡ guard_told result)
 
   abbrev pub IsRead : Handling R → ℕ → ℕ → Heap K → Result (List ℕ) Why → Heap K → Type 0
-  IsRead resource guard count = IsCommand (CheckOut 0 guard) out_by (TellsRead resource 0 count) ⊤ (λ result said. said ≡ data_told result)
+  IsRead resource guard count =
+      IsCommand (CheckOut 0 guard) out_by (TellsRead resource 0 count) ⊤ (λ result said. said ≡ data_told result)
 
   abbrev pub IsWritten : Handling R → ℕ → List ℕ → Heap K → Result ℕ Why → Heap K → Type 0
-  IsWritten resource guard bytes = IsCommand (CheckOut 0 guard) out_by (TellsWritten resource 0 bytes) ⊤ (λ result said. said ≡ count_told result)
+  IsWritten resource guard bytes =
+      IsCommand (CheckOut 0 guard) out_by (TellsWritten resource 0 bytes) ⊤ (λ result said. said ≡ count_told result)
 
   abbrev pub IsClosed : Handling R → ℕ → Heap K → Result Bool Why → Heap K → Type 0
   IsClosed resource guard = IsCommand (Close 0 guard) job_by (TellsFinished resource 0) ⊤ TellsClosed

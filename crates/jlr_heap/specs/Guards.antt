@@ -54,5 +54,7 @@ module _ {R : Type 0} where
   TellsBack (Ok done) told out = Unit {0}
 
 -- a call is an entry, and its result tells the answer and what went out
-abbrev pub IsTold : {K R T : Type 0} → Asking K R → (T → Answer → Option R → Type 0) → Heap K → Event R → T → Heap K → Type 0
-IsTold {K} {R} {T} asking tells old event result new = (answer : Answer) × (out : Option R) × IsReplied asking old event (Answered answer out) new × tells result answer out
+abbrev pub IsTold : {K R T : Type 0} → Asking K R → (T → Answer → Option R → Type 0) → Heap K → Event R → T → Heap K
+    → Type 0
+IsTold {K} {R} {T} asking tells old event result new = (answer : Answer) × (out : Option R)
+    × IsReplied asking old event (Answered answer out) new × tells result answer out

@@ -194,7 +194,8 @@ pub(crate) fn finished<K: Keeper>(
     action: ActionNo,
     outcome: Result<(), Fault>,
 ) -> Result<(), Failed>
-    ensures { IsEntered K.asking finish_told keeper.old (event.Ask (ask.Finish by action (outcome_of outcome))) result keeper.new }
+    ensures { IsEntered K.asking finish_told keeper.old (event.Ask (ask.Finish by action (outcome_of outcome))) result
+        keeper.new }
 {
     match outcome {
         Ok(()) => {

@@ -3,7 +3,8 @@ ghost use Rattle.std.specs.Prelude.{◌≡◌, IfOk, MatchResult, Some, true};
 ghost use Rattle.jlr_core.specs.Events.{carries_none};
 ghost use Rattle.jlr_embed.specs.Kinds.{is_faults, is_handle, is_integer, is_names, is_notes, is_stat, is_truth};
 ghost use Rattle.jlr_embed.specs.Kinds.{kind_asked};
-ghost use Rattle.jlr_heap.specs.Entries.{CannotJoin, Follows, HasJoined, IsDone, IsEntry, IsJoined, counts, faults, handle};
+ghost use Rattle.jlr_heap.specs.Entries.{CannotJoin, Follows, HasJoined, IsDone, IsEntry, IsJoined, counts, faults};
+ghost use Rattle.jlr_heap.specs.Entries.{handle};
 ghost use Rattle.jlr_heap.specs.Entries.{handle_or_null, integer, names, notes, truth};
 
 use crate::jobs::Declined;

@@ -15,22 +15,27 @@ use Rattle.jlr_book.specs.Rules.{BookSteps}
 use Rattle.jlr_heap_book.specs.Recording.{HandsOne, HandsOver}
 use Rattle.jlr_heap_book.proofs.Stepping.{IsReady, asked}
 
-ready_less : {R : Type 0} (old : History R) (core new : Kept R) (what : Handed) (out : Option R) → IsReady old core → Steps core (Asks ask.HandOver) (Answered (answer.Handed what) out) new → old.core.machine.pending ≢ []
+ready_less : {R : Type 0} (old : History R) (core new : Kept R) (what : Handed) (out : Option R) → IsReady old core
+    → Steps core (Asks ask.HandOver) (Answered (answer.Handed what) out) new → old.core.machine.pending ≢ []
     → length new.machine.pending < length old.core.machine.pending
 ready_less {R} old core new what out ready steps some =
     let same : core.machine.pending ≡ old.core.machine.pending = ap {A = Machine} {B = List ℕ} (λ n. n.pending) ready.0 in
     let nothing : out ≡ None = goes_back core.table None (answer.Handed what) out steps.1.goes_out in
-    let step : IsStep core (Asks ask.HandOver) (Answered (answer.Handed what) None) steps.0 new = subst (λ o. IsStep core (Asks ask.HandOver) (Answered (answer.Handed what) o) steps.0 new) nothing steps.1 in
+    let step : IsStep core (Asks ask.HandOver) (Answered (answer.Handed what) None) steps.0 new =
+    subst (λ o. IsStep core (Asks ask.HandOver) (Answered (answer.Handed what) o) steps.0 new) nothing steps.1 in
     let less = less_pending core new what steps.0 step (ready.1.0, ready.1.1) (λ e. some (sym same ∙ e)) in
     omega (arith, less, ap length same)
 
-pub less_handed : {R : Type 0} (seat : ℕ) (old new : History R) (what : Handed) (out : Option R) → IsHistory old → BookSteps seat old (Asks ask.HandOver) (Answered (answer.Handed what) out) new → old.core.machine.pending ≢ []
+pub less_handed : {R : Type 0} (seat : ℕ) (old new : History R) (what : Handed) (out : Option R) → IsHistory old
+    → BookSteps seat old (Asks ask.HandOver) (Answered (answer.Handed what) out) new → old.core.machine.pending ≢ []
     → length new.core.machine.pending < length old.core.machine.pending
-less_handed {R} seat old new what out h steps some = elim (asked seat old new (Asks ask.HandOver) (Answered (answer.Handed what) out) ask.HandOver refl h steps) [
-  | inl c ↦ ready_less old c.0 new.core what out c.1 c.2 some
-  | inr d ↦ cc d.1
-]
+less_handed {R} seat old new what out h steps some =
+    elim (asked seat old new (Asks ask.HandOver) (Answered (answer.Handed what) out) ask.HandOver refl h steps) [
+      | inl c ↦ ready_less old c.0 new.core what out c.1 c.2 some
+      | inr d ↦ cc d.1
+    ]
 
-pub one_more : {R : Type 0} (states : List (History R)) (old mid new : History R) → HandsOver states old mid → HandsOne mid new → HandsOver (states ++ new ∷ []) old new
+pub one_more : {R : Type 0} (states : List (History R)) (old mid new : History R) → HandsOver states old mid → HandsOne mid new
+    → HandsOver (states ++ new ∷ []) old new
 one_more [] old mid new h s = (subst (λ m. HandsOne m new) h s, refl)
 one_more (x ∷ states) old mid new h s = (h.0, one_more states x mid new h.1 s)

@@ -6,7 +6,10 @@ use Rattle.jlr_machine.specs.declared.ask.Answer.{Answer}
 use Rattle.jlr_machine.specs.declared.ask.Answer.TheVariants as answer
 use Rattle.jlr_machine.specs.Data.{tells_data}
 use Rattle.jlr_machine.specs.declared.ask.Ask.{Ask}
-use Rattle.jlr_machine.specs.declared.ask.Ask.TheVariants.{Join, Leave, New, Put, Get, SetInt, Int, Dup, Drop, Same, MakeRef, Deref, Refers, Clear, Enqueue, Enqueued, MakeQueue, Poll, Remove, MakeCleaner, Register, Clean, Prepare, CheckOut, Close, Finish, Bind, Find, Unbind, Names, Full, Stat, Notes, Faults, HandOver, TakeUp, Begin, Collect, Abandon, Array, Opened, CheckIn}
+use Rattle.jlr_machine.specs.declared.ask.Ask.TheVariants.{Join, Leave, New, Put, Get, SetInt, Int, Dup, Drop, Same, MakeRef, Deref, Refers}
+use Rattle.jlr_machine.specs.declared.ask.Ask.TheVariants.{Clear, Enqueue, Enqueued, MakeQueue, Poll, Remove, MakeCleaner, Register, Clean}
+use Rattle.jlr_machine.specs.declared.ask.Ask.TheVariants.{Prepare, CheckOut, Close, Finish, Bind, Find, Unbind, Names, Full, Stat, Notes}
+use Rattle.jlr_machine.specs.declared.ask.Ask.TheVariants.{Faults, HandOver, TakeUp, Begin, Collect, Abandon, Array, Opened, CheckIn}
 use Rattle.jlr_event.specs.Asks.{hands_in}
 use Rattle.jlr_core.specs.Events.{carries_none}
 use Rattle.jlr_embed.specs.Kinds.{GoesBack, is_told, kind_asked}
@@ -46,8 +49,10 @@ plain_facts (Opened k outcome) p = cc p
 plain_facts (CheckOut k h) p = cc p
 plain_facts (CheckIn k outcome) p = cc p
 plain_facts (Close k h) p = cc p
-plain_facts (Finish by action outcome.Ok) p = record { no_data = refl; none_in = refl; no_job = λ action work k. cc k; not_out = λ rid k. cc k }
-plain_facts (Finish by action (outcome.Failed fault)) p = record { no_data = refl; none_in = refl; no_job = λ action work k. cc k; not_out = λ rid k. cc k }
+plain_facts (Finish by action outcome.Ok) p =
+    record { no_data = refl; none_in = refl; no_job = λ action work k. cc k; not_out = λ rid k. cc k }
+plain_facts (Finish by action (outcome.Failed fault)) p =
+    record { no_data = refl; none_in = refl; no_job = λ action work k. cc k; not_out = λ rid k. cc k }
 plain_facts (Bind k name h) p = record { no_data = refl; none_in = refl; no_job = λ action work k. cc k; not_out = λ rid k. cc k }
 plain_facts (Find k name) p = record { no_data = refl; none_in = refl; no_job = λ action work k. cc k; not_out = λ rid k. cc k }
 plain_facts (Unbind k name) p = record { no_data = refl; none_in = refl; no_job = λ action work k. cc k; not_out = λ rid k. cc k }
@@ -63,7 +68,8 @@ plain_facts Collect p = record { no_data = refl; none_in = refl; no_job = λ act
 plain_facts Abandon p = record { no_data = refl; none_in = refl; no_job = λ action work k. cc k; not_out = λ rid k. cc k }
 plain_facts (Array k n) p = record { no_data = refl; none_in = refl; no_job = λ action work k. cc k; not_out = λ rid k. cc k }
 
-none_out : {R : Type 0} (e : Ask) (a : Answer) (out : Option R) → IsPlain e → is_told (kind_asked (Some e)) a ≡ true → GoesBack {R = R} None a out → out ≡ None
+none_out : {R : Type 0} (e : Ask) (a : Answer) (out : Option R) → IsPlain e → is_told (kind_asked (Some e)) a ≡ true
+    → GoesBack {R = R} None a out → out ≡ None
 none_out e (answer.Refused by) out p k g = g
 none_out e (answer.Job action work) out p k g = absurd (p.no_job action work k)
 none_out e (answer.Out rid) out p k g = absurd (p.not_out rid k)
@@ -82,5 +88,6 @@ none_out e answer.AlreadyDone out p k g = g
 none_out e (answer.Prepared rid) out p k g = g
 none_out e (answer.Handed what) out p k g = g
 
-pub plain_none : {R : Type 0} (e : Ask) (a : Answer) (out : Option R) → carries_none e ≡ true → is_told (kind_asked (Some e)) a ≡ true → GoesBack {R = R} None a out → out ≡ None
+pub plain_none : {R : Type 0} (e : Ask) (a : Answer) (out : Option R) → carries_none e ≡ true → is_told (kind_asked (Some e)) a ≡ true
+    → GoesBack {R = R} None a out → out ≡ None
 plain_none e a out p k g = none_out e a out (plain_facts e p) k g

@@ -31,26 +31,34 @@ stands_in h is = (is.ends.0, is.ends.2, is.ends.3)
 abbrev pub IsReady : {R : Type 0} → History R → Kept R → Type 0
 IsReady h core = (closed core.machine ≡ closed h.core.machine) × Stands core
 
-gave_up : {R : Type 0} (h ready : History R) (open_then : Bool) → h.core.machine.cycle_open ≡ open_then → Stands h.core → GivesUp open_then h.core ready.core → IsReady h ready.core
+gave_up : {R : Type 0} (h ready : History R) (open_then : Bool) → h.core.machine.cycle_open ≡ open_then → Stands h.core
+    → GivesUp open_then h.core ready.core → IsReady h ready.core
 gave_up h ready true was st g =
     let a = abandons h.core ready.core _ g.0 g.1 st was in
     (ap {A = Machine} {B = Machine} closed a.1, a.2)
 gave_up h ready false was st g = (ap {A = _} {B = Machine} (λ c. closed c.machine) g, subst Stands (sym g) st)
 
 made_ready : {R : Type 0} (h ready : History R) → Stands h.core → Readies h ready → IsReady h ready.core
-made_ready {R} h ready st = elim (nat_lt (length h.entries) h.limits.trace) as (λ b. elim b as (λ _. Type 0) [ true ↦ ready ≡ h | false ↦ Cuts h ready ] → IsReady h ready.core) [
-  | true ↦ λ same. (ap {A = History R} {B = Machine} (λ b. closed b.core.machine) same, subst (λ (b : History R). Stands b.core) (sym same) st)
-  | false ↦ λ c. gave_up h ready h.core.machine.cycle_open refl st c.gives_up
-]
+made_ready {R} h ready st = elim (nat_lt (length h.entries)
+    h.limits.trace) as (λ b. elim b as (λ _. Type 0) [ true ↦ ready ≡ h | false ↦ Cuts h ready ] → IsReady h ready.core) [
+      | true ↦ λ same. (
+        ap {A = History R} {B = Machine} (λ b. closed b.core.machine) same,
+        subst (λ (b : History R). Stands b.core) (sym same) st,
+      )
+      | false ↦ λ c. gave_up h ready h.core.machine.cycle_open refl st c.gives_up
+    ]
 
 abbrev pub Asked : {R : Type 0} → History R → Event R → Reply R → History R → Type 0
-Asked {R} old e reply new = ((core : Kept R) × IsReady old core × Steps core e reply new.core) ⊎ ((by : Refusal) × (reply ≡ Answered (Refused by) (resource_of_event e)))
+Asked {R} old e reply new = ((core : Kept R) × IsReady old core × Steps core e reply new.core)
+    ⊎ ((by : Refusal) × (reply ≡ Answered (Refused by) (resource_of_event e)))
 
-pub asked : {R : Type 0} (seat : ℕ) (old new : History R) (e : Event R) (reply : Reply R) (ask : Ask) → ask_of e ≡ Some ask → IsHistory old → BookSteps seat old e reply new → Asked old e reply new
+pub asked : {R : Type 0} (seat : ℕ) (old new : History R) (e : Event R) (reply : Reply R) (ask : Ask) → ask_of e ≡ Some ask → IsHistory old
+    → BookSteps seat old e reply new → Asked old e reply new
 asked {R} seat old new e reply ask is h steps =
     let st = stands_in old h in
     let known : StepsBy seat (Some ask) old e reply new = subst (λ o. StepsBy seat o old e reply new) is steps in
-    elim (is_end ask) as (λ b. elim b as (λ _. Type 0) [ true ↦ EndsBy seat old e reply new | false ↦ AsksBy seat old e reply new ] → Asked old e reply new) [
+    elim (is_end ask) as (λ b. elim b as (λ _. Type 0) [ true ↦ EndsBy seat old e reply new | false ↦ AsksBy seat old e reply new ]
+    → Asked old e reply new) [
       | true ↦ λ by. elim by [
         | inl x ↦ inl (old.core, (refl, st), (x.0.chosen, x.0.step))
         | inr t ↦ inl (old.core, (refl, st), t.steps)

@@ -23,7 +23,8 @@ module _ {R : Type 0} where
 
   -- or was refused
   abbrev pub CannotHand : History R → History R → Type 0
-  CannotHand old new = (reply : Reply R) × BookSteps (handler_seat old) old (Asks HandOver) reply new × was_refused reply
+  CannotHand old new = (reply : Reply R) × BookSteps (handler_seat old) old (Asks HandOver) reply new
+      × was_refused reply
 
   -- such steps, which led to these
   abbrev pub HandsOver : List (History R) → History R → History R → Type 0

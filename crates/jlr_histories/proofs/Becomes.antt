@@ -1,5 +1,6 @@
 -- What one entry may make of an object: of the same kind, and if it is a reference or a cleanable, further on its way.
-use Rattle.std.proofs.Common.{length-set, length, ◌≡◌, ℕ, Bool, true, false, cond, List, refl, sym, ◌⊎◌, inl, inr, Option, Some, None, is_some}
+use Rattle.std.proofs.Common.{length-set, length, ◌≡◌, ℕ, Bool, true, false, cond, List, refl, sym, ◌⊎◌, inl, inr, Option, Some, None}
+use Rattle.std.proofs.Common.{is_some}
 use Rattle.std.proofs.lemmas.Bool.{both_ways, and_parts}
 use Rattle.jlr_types.specs.declared.FieldValue.{FieldValue}
 use Rattle.jlr_machine.specs.declared.object.Object.{Object}
@@ -72,7 +73,8 @@ clean_state_stays Lined = refl
 clean_state_stays Spent = refl
 
 pub same_reference : (P : Type 0) (r : ReferenceOf) → IsKept P r r
-same_reference P r = record { on = record { kind = refl; referent = inl refl; queue = inl refl; state = state_stays r.state }; referent = inl refl }
+same_reference P r =
+    record { on = record { kind = refl; referent = inl refl; queue = inl refl; state = state_stays r.state }; referent = inl refl }
 
 pub same_cleanable : (c : CleanableOf) → IsCleanableOn c c
 same_cleanable c = record { action = refl; work = refl; referent = inl refl; state = clean_state_stays c.state }
@@ -99,7 +101,8 @@ with_field_on P f v Cleaner = tt
 with_field_on P f v (Cleanable c) = same_cleanable c
 with_field_on P f v (Guard g) = tt
 
-pub with_reference_on : (P : Type 0) (f : ReferenceOf → ReferenceOf) (o : Object) → ((r : ReferenceOf) → o ≡ Reference r → IsKept P r (f r)) → Becomes P o (with_reference f o)
+pub with_reference_on : (P : Type 0) (f : ReferenceOf → ReferenceOf) (o : Object) → ((r : ReferenceOf) → o ≡ Reference r → IsKept P r (f r))
+    → Becomes P o (with_reference f o)
 with_reference_on P f (Plain x) h = same_size x
 with_reference_on P f (Reference r) h = h r refl
 with_reference_on P f (Queue x) h = tt
@@ -107,7 +110,8 @@ with_reference_on P f Cleaner h = tt
 with_reference_on P f (Cleanable c) h = same_cleanable c
 with_reference_on P f (Guard g) h = tt
 
-pub with_cleanable_on : (P : Type 0) (f : CleanableOf → CleanableOf) (o : Object) → ((c : CleanableOf) → o ≡ Cleanable c → IsCleanableOn c (f c)) → Becomes P o (with_cleanable f o)
+pub with_cleanable_on : (P : Type 0) (f : CleanableOf → CleanableOf) (o : Object)
+    → ((c : CleanableOf) → o ≡ Cleanable c → IsCleanableOn c (f c)) → Becomes P o (with_cleanable f o)
 with_cleanable_on P f (Plain x) h = same_size x
 with_cleanable_on P f (Reference r) h = same_reference P r
 with_cleanable_on P f (Queue x) h = tt
@@ -163,17 +167,25 @@ pub left_on : (P : Type 0) → P → (kept : List ℕ) (b : Bool) (o : Object) �
 left_on P p kept b (Plain x) h = same_size x
 left_on P p kept b (Reference r) h =
     record {
-      on = record { kind = refl; referent = referent_left kept r.referent; queue = inl refl; state = pended_state b r.state (λ e. (and_parts (is_fresh r.state) (is_some r.queue) (h e)).0) };
+      on = record {
+        kind = refl;
+        referent = referent_left kept r.referent;
+        queue =
+            inl refl;
+        state = pended_state b r.state (λ e. (and_parts (is_fresh r.state) (is_some r.queue) (h e)).0);
+      };
       referent = inr p;
     }
 left_on P p kept b (Queue x) h = tt
 left_on P p kept b Cleaner h = tt
-left_on P p kept b (Cleanable c) h = record { action = refl; work = refl; referent = referent_left kept c.referent; state = pended_clean_state b c.state h }
+left_on P p kept b (Cleanable c) h =
+    record { action = refl; work = refl; referent = referent_left kept c.referent; state = pended_clean_state b c.state h }
 left_on P p kept b (Guard g) h = tt
 
 -- ---- What an object became, and what it was
 
-pub reference_forth : (P : Type 0) (r : ReferenceOf) (p : Object) → Becomes P (Reference r) p → (t : ReferenceOf) × (p ≡ Reference t) × IsKept P r t
+pub reference_forth : (P : Type 0) (r : ReferenceOf) (p : Object) → Becomes P (Reference r) p → (t : ReferenceOf) × (p ≡ Reference t)
+    × IsKept P r t
 reference_forth P r (Plain x) h = absurd h
 reference_forth P r (Reference t) h = (t, refl, h)
 reference_forth P r (Queue x) h = absurd h
@@ -181,7 +193,8 @@ reference_forth P r Cleaner h = absurd h
 reference_forth P r (Cleanable c) h = absurd h
 reference_forth P r (Guard g) h = absurd h
 
-pub cleanable_forth : (P : Type 0) (c : CleanableOf) (p : Object) → Becomes P (Cleanable c) p → (d : CleanableOf) × (p ≡ Cleanable d) × IsCleanableOn c d
+pub cleanable_forth : (P : Type 0) (c : CleanableOf) (p : Object) → Becomes P (Cleanable c) p → (d : CleanableOf) × (p ≡ Cleanable d)
+    × IsCleanableOn c d
 cleanable_forth P c (Plain x) h = absurd h
 cleanable_forth P c (Reference r) h = absurd h
 cleanable_forth P c (Queue x) h = absurd h
@@ -189,7 +202,8 @@ cleanable_forth P c Cleaner h = absurd h
 cleanable_forth P c (Cleanable d) h = (d, refl, h)
 cleanable_forth P c (Guard g) h = absurd h
 
-pub cleanable_back : (P : Type 0) (o : Object) (d : CleanableOf) → Becomes P o (Cleanable d) → (c : CleanableOf) × (o ≡ Cleanable c) × IsCleanableOn c d
+pub cleanable_back : (P : Type 0) (o : Object) (d : CleanableOf) → Becomes P o (Cleanable d) → (c : CleanableOf) × (o ≡ Cleanable c)
+    × IsCleanableOn c d
 cleanable_back P (Plain x) d h = absurd h
 cleanable_back P (Reference r) d h = absurd h
 cleanable_back P (Queue x) d h = absurd h
@@ -197,7 +211,8 @@ cleanable_back P Cleaner d h = absurd h
 cleanable_back P (Cleanable c) d h = (c, refl, h)
 cleanable_back P (Guard g) d h = absurd h
 
-pub reference_back : (P : Type 0) (o : Object) (t : ReferenceOf) → Becomes P o (Reference t) → (r : ReferenceOf) × (o ≡ Reference r) × IsKept P r t
+pub reference_back : (P : Type 0) (o : Object) (t : ReferenceOf) → Becomes P o (Reference t) → (r : ReferenceOf) × (o ≡ Reference r)
+    × IsKept P r t
 reference_back P (Plain x) t h = absurd h
 reference_back P (Reference r) t h = (r, refl, h)
 reference_back P (Queue x) t h = absurd h

@@ -1,5 +1,6 @@
 -- What one entry leaves at each slot, from the changes that it is made of.
-use Rattle.std.proofs.Common.{◌≡◌, ℕ, ◌≤◌, false, List, [], length, refl, sym, ◌∙◌, ap, subst, inl, inr, arith, Option, Some, None, option_map}
+use Rattle.std.proofs.Common.{◌≡◌, ℕ, ◌≤◌, false, List, [], length, refl, sym, ◌∙◌, ap, subst, inl, inr, arith, Option, Some, None}
+use Rattle.std.proofs.Common.{option_map}
 use Rattle.std.proofs.lemmas.Bool.{cases_eq, cases_lt, both_ways}
 use Rattle.std.proofs.lemmas.List.{length-set}
 use Rattle.jlr_machine.specs.declared.object.Object.{Object}
@@ -38,7 +39,8 @@ pub record IsStep (P : ℕ → Type 0) (m n : Machine) (fresh : List ℕ) : Type
   pub new : (s : ℕ) → s ∈ fresh → IsNewAt m.next_action (at n.objects s)
   pub next : m.next_action ≤ n.next_action
 
-pub over_and_making : (P : ℕ → Type 0) (m between n : Machine) (fresh : List ℕ) → IsOver P m between → IsMaking between n fresh → IsStep P m n fresh
+pub over_and_making : (P : ℕ → Type 0) (m between n : Machine) (fresh : List ℕ) → IsOver P m between → IsMaking between n fresh
+    → IsStep P m n fresh
 over_and_making P m between n fresh a b =
     record {
       follows = λ s f. subst (Follows (P s) (at m.objects s)) (sym (b.others s f)) (a.follows s);
@@ -69,12 +71,19 @@ quiet_on m None f h = quiet m
 quiet_on m (Some x) f h = h x
 
 pub quiet_over : (P : ℕ → Type 0) (m n : Machine) → IsQuiet m n → IsOver P m n
-quiet_over P m n q = record { follows = λ s. subst (λ heap. Follows (P s) (at m.objects s) (at heap s)) (sym q.objects) (same_place (P s) (at m.objects s)); next = q.next }
+quiet_over P m n q = record {
+  follows = λ s. subst (λ heap. Follows (P s) (at m.objects s) (at heap s)) (sym q.objects)
+      (same_place (P s) (at m.objects s));
+  next = q.next;
+}
 
-pub over_quiet : (P : ℕ → Type 0) (m between n : Machine) → IsOver P m between → n.objects ≡ between.objects → n.next_action ≡ between.next_action → IsOver P m n
-over_quiet P m between n a e f = record { follows = λ s. subst (λ heap. Follows (P s) (at m.objects s) (at heap s)) (sym e) (a.follows s); next = f ∙ a.next }
+pub over_quiet : (P : ℕ → Type 0) (m between n : Machine) → IsOver P m between → n.objects ≡ between.objects
+    → n.next_action ≡ between.next_action → IsOver P m n
+over_quiet P m between n a e f =
+    record { follows = λ s. subst (λ heap. Follows (P s) (at m.objects s) (at heap s)) (sym e) (a.follows s); next = f ∙ a.next }
 
-pub over_on : {A : Type 0} (P : ℕ → Type 0) (m : Machine) (o : Option A) (f : A → Machine) → ((x : A) → o ≡ Some x → IsOver P m (f x)) → IsOver P m (on o f m)
+pub over_on : {A : Type 0} (P : ℕ → Type 0) (m : Machine) (o : Option A) (f : A → Machine) → ((x : A) → o ≡ Some x → IsOver P m (f x))
+    → IsOver P m (on o f m)
 over_on P m None f h = quiet_over P m m (quiet m)
 over_on P m (Some x) f h = h x refl
 
@@ -92,26 +101,31 @@ changed_is table n f = elim (cases_lt n (length table)) [
 pub changed_beside : {A : Type 0} (table : Table A) (n j : ℕ) (f : A → A) → (j ≡ n → ⊥) → at (change_at table n f) j ≡ at table j
 changed_beside table n j f d = set_other table n j (option_map f (at table n)) d
 
-pub mapped : (P : Type 0) (f : Object → Object) (o : Option Object) → ((x : Object) → o ≡ Some x → Becomes P x (f x)) → Follows P o (option_map f o)
+pub mapped : (P : Type 0) (f : Object → Object) (o : Option Object) → ((x : Object) → o ≡ Some x → Becomes P x (f x))
+    → Follows P o (option_map f o)
 mapped P f None h = tt
 mapped P f (Some x) h = h x refl
 
 -- a change on top of one that left the object at s alone
-pub changed_over : (P : ℕ → Type 0) (m between : Machine) (s : ℕ) (f : Object → Object) → IsOver P m between → at between.objects s ≡ at m.objects s
+pub changed_over : (P : ℕ → Type 0) (m between : Machine) (s : ℕ) (f : Object → Object) → IsOver P m between
+    → at between.objects s ≡ at m.objects s
     → ((x : Object) → at m.objects s ≡ Some x → Becomes (P s) x (f x)) → IsOver P m (with_object between s f)
 changed_over P m between s f a same h =
     record {
       follows = λ t. elim (cases_eq t s) [
         | inl e ↦
             let here : at (change_at between.objects s f) t ≡ option_map f (at m.objects t) =
-            ap (at (change_at between.objects s f)) e ∙ changed_is between.objects s f ∙ ap (option_map f) (same ∙ ap (at m.objects) (sym e)) in
-            subst (Follows (P t) (at m.objects t)) (sym here) (mapped (P t) f (at m.objects t) (λ x g. subst (λ i. Becomes (P i) x (f x)) (sym e) (h x (ap (at m.objects) (sym e) ∙ g))))
+            ap (at (change_at between.objects s f)) e ∙ changed_is between.objects s f
+            ∙ ap (option_map f) (same ∙ ap (at m.objects) (sym e)) in
+            subst (Follows (P t) (at m.objects t)) (sym here)
+            (mapped (P t) f (at m.objects t) (λ x g. subst (λ i. Becomes (P i) x (f x)) (sym e) (h x (ap (at m.objects) (sym e) ∙ g))))
         | inr d ↦ subst (Follows (P t) (at m.objects t)) (sym (changed_beside between.objects s t f d)) (a.follows t)
       ];
       next = a.next;
     }
 
-pub changed : (P : ℕ → Type 0) (m : Machine) (s : ℕ) (f : Object → Object) → ((x : Object) → at m.objects s ≡ Some x → Becomes (P s) x (f x)) → IsOver P m (with_object m s f)
+pub changed : (P : ℕ → Type 0) (m : Machine) (s : ℕ) (f : Object → Object)
+    → ((x : Object) → at m.objects s ≡ Some x → Becomes (P s) x (f x)) → IsOver P m (with_object m s f)
 changed P m s f h = changed_over P m m s f (quiet_over P m m (quiet m)) refl h
 
 -- a change of the members of a queue on top of any
@@ -120,14 +134,17 @@ follows_members P f o None h = tt
 follows_members P f None (Some p) h = absurd h
 follows_members P f (Some o) (Some p) h = members_too P f o p h
 
-pub members_over : (P : ℕ → Type 0) (m between : Machine) (q : ℕ) (f : List ℕ → List ℕ) → IsOver P m between → IsOver P m (with_object between q (with_members f))
+pub members_over : (P : ℕ → Type 0) (m between : Machine) (q : ℕ) (f : List ℕ → List ℕ) → IsOver P m between
+    → IsOver P m (with_object between q (with_members f))
 members_over P m between q f a =
     record {
       follows = λ t. elim (cases_eq t q) [
         | inl e ↦
             let here : at (change_at between.objects q (with_members f)) t ≡ option_map (with_members f) (at between.objects t) =
-            ap (at (change_at between.objects q (with_members f))) e ∙ changed_is between.objects q (with_members f) ∙ ap (λ i. option_map (with_members f) (at between.objects i)) (sym e) in
-            subst (Follows (P t) (at m.objects t)) (sym here) (follows_members (P t) f (at m.objects t) (at between.objects t) (a.follows t))
+            ap (at (change_at between.objects q (with_members f))) e ∙ changed_is between.objects q (with_members f)
+            ∙ ap (λ i. option_map (with_members f) (at between.objects i)) (sym e) in
+            subst (Follows (P t) (at m.objects t)) (sym here)
+            (follows_members (P t) f (at m.objects t) (at between.objects t) (a.follows t))
         | inr d ↦ subst (Follows (P t) (at m.objects t)) (sym (changed_beside between.objects q t (with_members f) d)) (a.follows t)
       ];
       next = a.next;
@@ -138,16 +155,22 @@ twice f g None = refl
 twice f g (Some x) = refl
 
 -- two changes of one object
-pub changed_twice : (P : ℕ → Type 0) (m : Machine) (s : ℕ) (f g : Object → Object) → ((x : Object) → at m.objects s ≡ Some x → Becomes (P s) x (g (f x))) → IsOver P m (with_object (with_object m s f) s g)
+pub changed_twice : (P : ℕ → Type 0) (m : Machine) (s : ℕ) (f g : Object → Object)
+    → ((x : Object) → at m.objects s ≡ Some x → Becomes (P s) x (g (f x))) → IsOver P m (with_object (with_object m s f) s g)
 changed_twice P m s f g h =
     record {
       follows = λ t. elim (cases_eq t s) [
         | inl e ↦
             let here : at (change_at (change_at m.objects s f) s g) t ≡ option_map (λ x. g (f x)) (at m.objects t) =
-            ap (at (change_at (change_at m.objects s f) s g)) e ∙ changed_is (change_at m.objects s f) s g ∙ ap (option_map g) (changed_is m.objects s f) ∙ twice f g (at m.objects s) ∙ ap (λ i. option_map (λ x. g (f x)) (at m.objects i)) (sym e) in
-            subst (Follows (P t) (at m.objects t)) (sym here) (mapped (P t) (λ x. g (f x)) (at m.objects t) (λ x k. subst (λ i. Becomes (P i) x (g (f x))) (sym e) (h x (ap (at m.objects) (sym e) ∙ k))))
+            ap (at (change_at (change_at m.objects s f) s g)) e ∙ changed_is (change_at m.objects s f) s g
+            ∙ ap (option_map g) (changed_is m.objects s f) ∙ twice f g (at m.objects s)
+            ∙ ap (λ i. option_map (λ x. g (f x)) (at m.objects i)) (sym e) in
+            subst (Follows (P t) (at m.objects t)) (sym here)
+            (mapped (P t) (λ x. g (f x)) (at m.objects t)
+            (λ x k. subst (λ i. Becomes (P i) x (g (f x))) (sym e) (h x (ap (at m.objects) (sym e) ∙ k))))
         | inr d ↦
-            subst (Follows (P t) (at m.objects t)) (sym (changed_beside (change_at m.objects s f) s t g d ∙ changed_beside m.objects s t f d)) (same_place (P t) (at m.objects t))
+            subst (Follows (P t) (at m.objects t)) (sym (changed_beside (change_at m.objects s f) s t g d
+            ∙ changed_beside m.objects s t f d)) (same_place (P t) (at m.objects t))
       ];
       next = refl;
     }

@@ -1,5 +1,6 @@
 -- A reference is enqueued at most once in its life.
-use Rattle.std.proofs.Common.{◌≡◌, ℕ, ◌+◌, ◌≤◌, Bool, true, false, cond, not, ◌&&◌, List, [], ◌∷◌, refl, sym, ◌∙◌, ap, subst, arith, Option, Some, option_and_then}
+use Rattle.std.proofs.Common.{◌≡◌, ℕ, ◌+◌, ◌≤◌, Bool, true, false, cond, not, ◌&&◌, List, [], ◌∷◌, refl, sym, ◌∙◌, ap, subst, arith, Option}
+use Rattle.std.proofs.Common.{Some, option_and_then}
 use Rattle.std.proofs.lemmas.Bool.{both_ways}
 use Rattle.jlr_machine.specs.declared.object.Object.{Object}
 use Rattle.jlr_machine.specs.declared.object.Object.TheVariants.{Plain, Reference, Queue, Cleaner, Cleanable, Guard}
@@ -31,7 +32,8 @@ been_in o = cond (some_and (λ s. not (is_unqueued s)) (state_in o)) 1 0
 abbrev enqueued_between : Option Object → Option Object → ℕ
 enqueued_between o p = cond (not (queued_in o) && queued_in p) 1 0
 
-states_counted : (a b : RefState) → may_follow a b ≡ true → cond (not (is_unqueued a)) 1 0 + cond (not (is_queued a) && is_queued b) 1 0 ≡ cond (not (is_unqueued b)) 1 0
+states_counted : (a b : RefState) → may_follow a b ≡ true
+    → cond (not (is_unqueued a)) 1 0 + cond (not (is_queued a) && is_queued b) 1 0 ≡ cond (not (is_unqueued b)) 1 0
 states_counted Fresh Fresh h = refl
 states_counted Fresh Pending h = refl
 states_counted Fresh Queued h = refl
@@ -68,7 +70,8 @@ one_counted m e w l entries s h =
     (subst (λ y. been_in (Some o.0) + enqueued_between (Some o.0) y ≡ been_in y) (sym p.1) c)
 
 -- the count of a life is exact
-all_counted : (m n : Machine) (entries : List Entry) (s : ℕ) → IsWellFormed m → Run m entries n → LivesOn m entries s → been_in (at m.objects s) + enqueueings m entries s ≡ been_in (at n.objects s)
+all_counted : (m n : Machine) (entries : List Entry) (s : ℕ) → IsWellFormed m → Run m entries n → LivesOn m entries s
+    → been_in (at m.objects s) + enqueueings m entries s ≡ been_in (at n.objects s)
 all_counted m n [] s w run h = subst (λ z. been_in (at m.objects s) + 0 ≡ been_in (at z.objects s)) (sym run) (omega arith)
 all_counted m n (e ∷ entries) s w run h =
     omega (arith, one_counted m e w run.0 entries s h, all_counted (apply m e) n entries s (legal_kept m e w run.0) run.1 h.2)

@@ -1,5 +1,6 @@
 -- A list answer comes only to the three asks for lists, and has at most 256 items; what a call read only to the end of that call.
-use Rattle.std.proofs.Common.{◌≡◌, ℕ, ◌≤◌, true, false, cond, List, [], ◌∷◌, map, length, Option, Some, None, option_map, option_and_then, sym, subst, arith}
+use Rattle.std.proofs.Common.{◌≡◌, ℕ, ◌≤◌, true, false, cond, List, [], ◌∷◌, map, length, Option, Some, None, option_map, option_and_then}
+use Rattle.std.proofs.Common.{sym, subst, arith}
 use Rattle.std.proofs.lemmas.List.{length-map}
 use Rattle.jlr_types.specs.declared.FieldValue.{FieldValue}
 use Rattle.jlr_types.specs.declared.FieldValue.TheVariants.{Int as IntValue, Ref as RefValue}
@@ -7,7 +8,10 @@ use Rattle.jlr_machine.specs.declared.object.Cleanable.{Cleanable as CleanableOf
 use Rattle.jlr_machine.specs.declared.machine.Binding.{Binding}
 use Rattle.jlr_machine.specs.declared.machine.Machine.{Machine}
 use Rattle.jlr_machine.specs.declared.ask.Ask.{Ask}
-use Rattle.jlr_machine.specs.declared.ask.Ask.TheVariants.{Join, Leave, New, Put, Get, SetInt, Int, Dup, Drop, Same, MakeRef, Deref, Refers, Clear, Enqueue, Enqueued, MakeQueue, Poll, Remove, MakeCleaner, Register, Clean, Prepare, Opened, CheckOut, CheckIn, Close, Finish, Bind, Find, Unbind, Names, Full, Stat, Notes, Faults, HandOver, TakeUp, Begin, Collect, Abandon, Array}
+use Rattle.jlr_machine.specs.declared.ask.Ask.TheVariants.{Join, Leave, New, Put, Get, SetInt, Int, Dup, Drop, Same, MakeRef, Deref, Refers}
+use Rattle.jlr_machine.specs.declared.ask.Ask.TheVariants.{Clear, Enqueue, Enqueued, MakeQueue, Poll, Remove, MakeCleaner, Register, Clean}
+use Rattle.jlr_machine.specs.declared.ask.Ask.TheVariants.{Prepare, Opened, CheckOut, CheckIn, Close, Finish, Bind, Find, Unbind, Names}
+use Rattle.jlr_machine.specs.declared.ask.Ask.TheVariants.{Full, Stat, Notes, Faults, HandOver, TakeUp, Begin, Collect, Abandon, Array}
 use Rattle.jlr_machine.specs.declared.ask.Outcome.{Outcome}
 use Rattle.jlr_machine.specs.declared.ask.Outcome.TheVariants.{Ok as OutcomeOk, Failed}
 use Rattle.jlr_machine.specs.declared.ask.CallOutcome.{CallOutcome}
@@ -19,7 +23,8 @@ use Rattle.jlr_machine.specs.declared.entry.Collected.{Collected}
 use Rattle.jlr_machine.specs.Objects.{at, is_spent}
 use Rattle.jlr_machine.specs.Lookups.{field_named}
 use Rattle.jlr_machine.specs.Refusals.{given}
-use Rattle.jlr_machine.specs.Calls.{new_handle, handle_given, number_in, outcome_answer, call_answer, take_up_answer, hand_over_answer, line_answer, from_lined}
+use Rattle.jlr_machine.specs.Calls.{new_handle, handle_given, number_in, outcome_answer, call_answer, take_up_answer, hand_over_answer}
+use Rattle.jlr_machine.specs.Calls.{line_answer, from_lined}
 use Rattle.jlr_machine.specs.Run.{IsLegal, Answers, with_collection}
 use Rattle.jlr_machine.specs.Run.IsLegal.{carried_out, refused, heap_full, out_of_memory}
 use Rattle.jlr_machine.specs.WellFormed.{IsWellFormed}
@@ -35,7 +40,8 @@ module _ (room : Rooms) where
   mapped f (Some x) a h e = plainly (f x) a e (h x)
 
   taken_up : (c : CleanableOf) → Fits room (take_up_answer c)
-  taken_up c = elim (is_spent c.state) as (λ b. Fits room (cond b answer.AlreadyDone (answer.Job c.action c.work))) [ true ↦ tt | false ↦ tt ]
+  taken_up c =
+      elim (is_spent c.state) as (λ b. Fits room (cond b answer.AlreadyDone (answer.Job c.action c.work))) [ true ↦ tt | false ↦ tt ]
 
   handle : (m : Machine) (k : ℕ) (a : Answer) → new_handle m k ≡ Some a → Fits room a
   handle m k a e = mapped _ (at m.mutators k) a (λ s. tt) e
@@ -49,7 +55,8 @@ module _ (room : Rooms) where
   number (Some (IntValue n)) a e = plainly (answer.Int n) a e tt
   number (Some (RefValue s)) a e = no_some a e
 
-  ended : (outcome : Outcome) (success : Option Answer) (a : Answer) → (success ≡ Some a → Fits room a) → outcome_answer outcome success ≡ Some a → Fits room a
+  ended : (outcome : Outcome) (success : Option Answer) (a : Answer) → (success ≡ Some a → Fits room a)
+      → outcome_answer outcome success ≡ Some a → Fits room a
   ended OutcomeOk success a h e = h e
   ended (Failed fault) success a h e = plainly (answer.Faulted fault) a e tt
 
@@ -67,7 +74,8 @@ module _ (room : Rooms) where
   lined_up m (s ∷ slots) a e = mapped take_up_answer _ a taken_up e
 
   -- what is answered where the ask is carried out in a well-formed machine
-  answered : (m : Machine) (ask : Ask) (o : Option Collected) (a : Answer) → length m.names ≤ 256 → length m.notes ≤ 256 → length m.faults ≤ 256 → HasRoomFor ask room → Answers m ask o a → Fits room a
+  answered : (m : Machine) (ask : Ask) (o : Option Collected) (a : Answer) → length m.names ≤ 256 → length m.notes ≤ 256
+      → length m.faults ≤ 256 → HasRoomFor ask room → Answers m ask o a → Fits room a
   answered m (Join k) o a x y z r e = plainly answer.Done a e tt
   answered m (Leave k) o a x y z r e = plainly answer.Done a e tt
   answered m (New k layout) o a x y z r e = handle m k a e
@@ -99,7 +107,8 @@ module _ (room : Rooms) where
   answered m (Bind k name h) o a x y z r e = plainly answer.Done a e tt
   answered m (Find k name) o a x y z r e = handle m k a e
   answered m (Unbind k name) o a x y z r e = plainly answer.Done a e tt
-  answered m (Names k) o a x y z r e = plainly (answer.Names (map (λ b. b.name) m.names)) a e (let l = length-map {A = Binding} {B = List ℕ} m.names (λ b. b.name) in omega (arith, l, x, r))
+  answered m (Names k) o a x y z r e = plainly (answer.Names (map (λ b. b.name) m.names)) a e
+      (let l = length-map {A = Binding} {B = List ℕ} m.names (λ b. b.name) in omega (arith, l, x, r))
   answered m (Full k mode) o a x y z r e = plainly answer.Done a e tt
   answered m (Stat k) o a x y z r e = plainly _ a e tt
   answered m (Notes k) o a x y z r e = plainly (answer.Notes m.notes) a e (omega (arith, y, r))
@@ -112,12 +121,14 @@ module _ (room : Rooms) where
   answered m (Array k n) o a x y z r e = handle m k a e
 
 -- a collection leaves the names and what was recorded
-after_collected : (m : Machine) (o : Option Collected) → IsWellFormed m → (length (with_collection m o).names ≤ 256) × (length (with_collection m o).notes ≤ 256) × (length (with_collection m o).faults ≤ 256)
+after_collected : (m : Machine) (o : Option Collected) → IsWellFormed m → (length (with_collection m o).names ≤ 256)
+    × (length (with_collection m o).notes ≤ 256) × (length (with_collection m o).faults ≤ 256)
 after_collected m None w = (w.sessions.names_limit, w.notes, w.faults)
 after_collected m (Some c) w = (w.sessions.names_limit, w.notes, w.faults)
 
 pub answers_fit : (m : Machine) (e : Entry) (room : Rooms) → IsWellFormed m → IsLegal m e → HasRoomFor e.ask room → Fits room e.answer
-answers_fit m e room w (carried_out c) r = let l = after_collected m e.choice.collected w in answered room (with_collection m e.choice.collected) e.ask e.choice.collected e.answer l.0 l.1 l.2 r c.answers
+answers_fit m e room w (carried_out c) r = let l = after_collected m e.choice.collected w in
+    answered room (with_collection m e.choice.collected) e.ask e.choice.collected e.answer l.0 l.1 l.2 r c.answers
 answers_fit m e room w (refused x) r = subst (Fits room) (sym x.answers) tt
 answers_fit m e room w (heap_full x) r = subst (Fits room) (sym x.answers) tt
 answers_fit m e room w (out_of_memory x) r = subst (Fits room) (sym x.answers) tt

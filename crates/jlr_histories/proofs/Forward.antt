@@ -1,5 +1,6 @@
 -- References and cleanables only go forward, in one entry and in a life.
-use Rattle.std.proofs.Common.{◌≡◌, ℕ, ◌≤◌, true, false, not, List, [], ◌∷◌, refl, sym, ◌∙◌, ap, subst, inl, inr, arith, Option, Some, IsTrue}
+use Rattle.std.proofs.Common.{◌≡◌, ℕ, ◌≤◌, true, false, not, List, [], ◌∷◌, refl, sym, ◌∙◌, ap, subst, inl, inr, arith, Option, Some}
+use Rattle.std.proofs.Common.{IsTrue}
 use Rattle.std.proofs.lemmas.Bool.{both_ways, not-true}
 use Rattle.jlr_machine.specs.declared.object.Object.{Object}
 use Rattle.jlr_machine.specs.declared.object.Object.TheVariants.{Plain, Reference, Cleanable}
@@ -16,9 +17,11 @@ use Rattle.jlr_machine.specs.Run.{IsLegal, apply}
 use Rattle.jlr_machine.specs.WellFormed.{IsWellFormed, IsObjectAt, IsReferenceAt, IsCleanableAt, FitsItsState}
 use Rattle.jlr_laws.proofs.Allowed.{some_there}
 use Rattle.jlr_laws.proofs.Law.{legal_kept}
-use Rattle.jlr_histories.specs.Lives.{LivesOn, StaysOrGoes, stage, may_follow, clean_stage, may_come_after, IsReferenceLater, IsCleanableOn, IsCleanableLater}
+use Rattle.jlr_histories.specs.Lives.{LivesOn, StaysOrGoes, stage, may_follow, clean_stage, may_come_after, IsReferenceLater, IsCleanableOn}
+use Rattle.jlr_histories.specs.Lives.{IsCleanableLater}
 use Rattle.jlr_histories.specs.Sizes.{PlainKeepsItsSize}
-use Rattle.jlr_histories.specs.Laws.{ReferenceGoesForward, CleanableGoesForward, ReferenceLifeGoesForward, CleanableLifeGoesForward, EnqueuedIsCleared, NewIsFresh, NewIsArmed, OnlyTheyClear}
+use Rattle.jlr_histories.specs.Laws.{ReferenceGoesForward, CleanableGoesForward, ReferenceLifeGoesForward, CleanableLifeGoesForward}
+use Rattle.jlr_histories.specs.Laws.{EnqueuedIsCleared, NewIsFresh, NewIsArmed, OnlyTheyClear}
 use Rattle.jlr_histories.proofs.Becomes.{IsKept, Becomes, Follows, plain_forth, reference_forth, cleanable_forth}
 use Rattle.jlr_histories.proofs.Changes.{IsNewAt}
 use Rattle.jlr_histories.proofs.Steps.{Clears, legal_step}
@@ -32,18 +35,22 @@ begins m (e ∷ entries) s h = h.0
 
 module _ (m : Machine) (e : Entry) (w : IsWellFormed m) (l : IsLegal m e) (s : ℕ) where
   -- what the object at s becomes, where none is made in its place
-  pub becomes : (o p : Object) → IsTrue (not (e.choice.fresh ∋ s)) → at m.objects s ≡ Some o → at (apply m e).objects s ≡ Some p → Becomes (Clears m e.ask e.choice s) o p
+  pub becomes : (o p : Object) → IsTrue (not (e.choice.fresh ∋ s)) → at m.objects s ≡ Some o → at (apply m e).objects s ≡ Some p
+      → Becomes (Clears m e.ask e.choice s) o p
   becomes o p f a b =
       let follows = (legal_step m e w l).follows s (not-true (e.choice.fresh ∋ s) f) in
-      subst (λ q. Follows (Clears m e.ask e.choice s) (Some o) q) b (subst (λ q. Follows (Clears m e.ask e.choice s) q (at (apply m e).objects s)) a follows)
+      subst (λ q. Follows (Clears m e.ask e.choice s) (Some o) q) b
+      (subst (λ q. Follows (Clears m e.ask e.choice s) q (at (apply m e).objects s)) a follows)
 
-  pub reference_on : (r : ReferenceOf) → IsTrue (not (e.choice.fresh ∋ s)) → IsObjectAt (apply m e) s → IsReferenceAt m s r → (t : ReferenceOf) × IsReferenceAt (apply m e) s t × IsKept (Clears m e.ask e.choice s) r t
+  pub reference_on : (r : ReferenceOf) → IsTrue (not (e.choice.fresh ∋ s)) → IsObjectAt (apply m e) s → IsReferenceAt m s r
+      → (t : ReferenceOf) × IsReferenceAt (apply m e) s t × IsKept (Clears m e.ask e.choice s) r t
   reference_on r f h a =
       let p = some_there (at (apply m e).objects s) h in
       let t = reference_forth (Clears m e.ask e.choice s) r p.0 (becomes (Reference r) p.0 f a p.1) in
       (t.0, p.1 ∙ ap (λ x. Some x) t.1, t.2)
 
-  pub cleanable_on : (c : CleanableOf) → IsTrue (not (e.choice.fresh ∋ s)) → IsObjectAt (apply m e) s → IsCleanableAt m s c → (d : CleanableOf) × IsCleanableAt (apply m e) s d × IsCleanableOn c d
+  pub cleanable_on : (c : CleanableOf) → IsTrue (not (e.choice.fresh ∋ s)) → IsObjectAt (apply m e) s → IsCleanableAt m s c
+      → (d : CleanableOf) × IsCleanableAt (apply m e) s d × IsCleanableOn c d
   cleanable_on c f h a =
       let p = some_there (at (apply m e).objects s) h in
       let d = cleanable_forth (Clears m e.ask e.choice s) c p.0 (becomes (Cleanable c) p.0 f a p.1) in
@@ -72,10 +79,12 @@ pub new_is_fresh : NewIsFresh
 new_is_fresh m e s r w l f a = subst (IsNewAt m.next_action) a ((legal_step m e w l).new s f)
 
 pub new_is_armed : NewIsArmed
-new_is_armed m e s c w l f a = let new : IsNewAt m.next_action (Some (Cleanable c)) = subst (IsNewAt m.next_action) a ((legal_step m e w l).new s f) in new.0
+new_is_armed m e s c w l f a =
+    let new : IsNewAt m.next_action (Some (Cleanable c)) = subst (IsNewAt m.next_action) a ((legal_step m e w l).new s f) in new.0
 
 pub enqueued_is_cleared : EnqueuedIsCleared
-enqueued_is_cleared m e s r w l a q = let fits : FitsItsState r Queued = subst (FitsItsState r) q ((legal_kept m e w l).references.states s r a) in fits.1
+enqueued_is_cleared m e s r w l a q =
+    let fits : FitsItsState r Queued = subst (FitsItsState r) q ((legal_kept m e w l).references.states s r a) in fits.1
 
 -- ---- A life
 

@@ -35,7 +35,8 @@ placed next heap s t o h e =
 
 -- ---- One new object
 
-pub made_making : (m : Machine) (k : ℕ) (fresh : List ℕ) (o : Object) → length fresh ≡ 1 → IsNewAt m.next_action (Some o) → IsMaking m (made m k fresh o) fresh
+pub made_making : (m : Machine) (k : ℕ) (fresh : List ℕ) (o : Object) → length fresh ≡ 1 → IsNewAt m.next_action (Some o)
+    → IsMaking m (made m k fresh o) fresh
 made_making m k [] o one h = absurd (omega (arith, one))
 made_making m k (x ∷ []) o one h =
     record {
@@ -47,7 +48,8 @@ made_making m k (x ∷ y ∷ rest) o one h = absurd (omega (arith, one))
 
 -- ---- A cleanable that is registered, and a guard with its cleanable
 
-pub registered_making : (m : Machine) (k h note : ℕ) (fresh : List ℕ) → length fresh ≡ 1 → IsMaking m (record (made m k fresh (registered m k h note)) { next_action = m.next_action + 1 }) fresh
+pub registered_making : (m : Machine) (k h note : ℕ) (fresh : List ℕ) → length fresh ≡ 1
+    → IsMaking m (record (made m k fresh (registered m k h note)) { next_action = m.next_action + 1 }) fresh
 registered_making m k h note fresh one =
     let a = made_making m k fresh (registered m k h note) one (refl, refl) in
     record { others = a.others; new = a.new; next = omega arith }
@@ -60,11 +62,13 @@ prepared_making m k (g ∷ c ∷ []) rid two =
     let cleanable : Object = Cleanable (record { referent = Some g; action = m.next_action; work = WorkOn rid; state = Armed }) in
     let first : Heap = set_at m.objects g guard in
     record {
-      others = λ s d. set_other first c s (Some cleanable) (not_first s c [] (not_later s g (c ∷ []) d)) ∙ set_other m.objects g s (Some guard) (not_first s g (c ∷ []) d);
+      others = λ s d. set_other first c s (Some cleanable) (not_first s c [] (not_later s g (c ∷ []) d))
+          ∙ set_other m.objects g s (Some guard) (not_first s g (c ∷ []) d);
       new = λ s i. elim (cases_eq s c) [
         | inl e ↦ placed m.next_action first c s cleanable (refl, refl) e
         | inr d ↦ elim (in_cons s g (c ∷ []) i) [
-          | inl e ↦ subst (IsNewAt m.next_action) (sym (set_other first c s (Some cleanable) d)) (placed m.next_action m.objects g s guard tt e)
+          | inl e ↦ subst (IsNewAt m.next_action) (sym (set_other first c s (Some cleanable) d))
+              (placed m.next_action m.objects g s guard tt e)
           | inr j ↦ elim (in_cons s c [] j) [ inl e ↦ absurd (d e) | inr z ↦ nothing s z ]
         ]
       ];

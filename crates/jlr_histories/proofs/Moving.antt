@@ -7,7 +7,8 @@ use Rattle.jlr_machine.specs.declared.machine.ResourceState.{ResourceState}
 use Rattle.jlr_machine.specs.declared.machine.ResourceState.TheVariants.{Opening}
 use Rattle.jlr_machine.specs.WellFormed.{IsWellFormed, HasResource}
 use Rattle.jlr_laws.proofs.Frames.{no_some}
-use Rattle.jlr_laws.proofs.Keyed.{by_key, keyed_with, keyed_without, found_new, found_beside, found_gone, found_left, found_changed, found_unchanged}
+use Rattle.jlr_laws.proofs.Keyed.{by_key, keyed_with, keyed_without, found_new, found_beside, found_gone, found_left, found_changed}
+use Rattle.jlr_laws.proofs.Keyed.{found_unchanged}
 use Rattle.jlr_laws.proofs.Changes.{resource, resource_same}
 use Rattle.jlr_laws.proofs.Restated.{restated}
 use Rattle.jlr_histories.specs.ResourceLives.{phase_of, phase, Deed, after_deed, done_to, GoesOn}
@@ -22,10 +23,13 @@ rid_key r = r.rid
 -- what is done, and what it leaves of the resources: the same; one more; one in another state; or one less
 pub data IsMoving (m n : Machine) (what : Option (ℕ × Deed)) : Type 0 where
   still : n.resources ≡ m.resources → what ≡ None → IsMoving m n what
-  opens : (rid : ℕ) → by_key rid_key m.resources rid ≡ None → n.resources ≡ keyed_with rid_key m.resources (resource rid m.next_action Opening) → what ≡ Some (m.next_action, BeginsOpen) → IsMoving m n what
+  opens : (rid : ℕ) → by_key rid_key m.resources rid ≡ None
+      → n.resources ≡ keyed_with rid_key m.resources (resource rid m.next_action Opening) → what ≡ Some (m.next_action, BeginsOpen)
+      → IsMoving m n what
   moves : (rid action : ℕ) (old new : ResourceState) (d : Deed) → HasResource m rid action old → n.resources ≡ restated m.resources rid new
       → what ≡ Some (action, d) → after_deed (In old) d ≡ Some (In new) → IsMoving m n what
-  ends : (rid action : ℕ) (old : ResourceState) (d : Deed) → HasResource m rid action old → n.resources ≡ keyed_without rid_key m.resources rid
+  ends : (rid action : ℕ) (old : ResourceState) (d : Deed) → HasResource m rid action old
+      → n.resources ≡ keyed_without rid_key m.resources rid
       → what ≡ Some (action, d) → after_deed (In old) d ≡ Some Over → IsMoving m n what
 
 -- ---- Deeds
@@ -33,7 +37,8 @@ pub data IsMoving (m n : Machine) (what : Option (ℕ × Deed)) : Type 0 where
 done_here : (action : ℕ) (d : Deed) (what : Option (ℕ × Deed)) → what ≡ Some (action, d) → done_to action what ≡ Some d
 done_here action d what e = ap (done_to action) e ∙ cond-true (action == action) (Some d) None (eq-eqb action action refl)
 
-done_elsewhere : (action other : ℕ) (d : Deed) (what : Option (ℕ × Deed)) → what ≡ Some (other, d) → (other ≡ action → ⊥) → done_to action what ≡ None
+done_elsewhere : (action other : ℕ) (d : Deed) (what : Option (ℕ × Deed)) → what ≡ Some (other, d) → (other ≡ action → ⊥)
+    → done_to action what ≡ None
 done_elsewhere action other d what e f = ap (done_to action) e ∙ cond-false (other == action) (Some d) None (ne_eqb other action f)
 
 -- ---- From one machine to the next
@@ -56,7 +61,8 @@ module _ (m n : Machine) (w : IsWellFormed m) (v : IsWellFormed n) (later : m.ne
   unmoved : (what : Option (ℕ × Deed)) → done_to action what ≡ None → Stays → GoesOn (phase m action) (done_to action what) (phase n action)
   unmoved what e h = subst (λ d. GoesOn (phase m action) d (phase n action)) (sym e) h
 
-  moved : (what : Option (ℕ × Deed)) (d : Deed) → what ≡ Some (action, d) → after_deed (phase m action) d ≡ Some (phase n action) → GoesOn (phase m action) (done_to action what) (phase n action)
+  moved : (what : Option (ℕ × Deed)) (d : Deed) → what ≡ Some (action, d) → after_deed (phase m action) d ≡ Some (phase n action)
+      → GoesOn (phase m action) (done_to action what) (phase n action)
   moved what d e h = subst (λ x. GoesOn (phase m action) x (phase n action)) (sym (done_here action d what e)) h
 
   -- the same list
@@ -64,25 +70,30 @@ module _ (m n : Machine) (w : IsWellFormed m) (v : IsWellFormed n) (later : m.ne
   still_goes e = stays (λ rid s h. ap (λ l. by_key rid_key l rid) e ∙ h) (λ rid s h. ap (λ l. by_key rid_key l rid) (sym e) ∙ h)
 
   -- one more
-  module _ (rid : ℕ) (free : by_key rid_key m.resources rid ≡ None) (e : n.resources ≡ keyed_with rid_key m.resources (resource rid m.next_action Opening)) where
+  module _ (rid : ℕ) (free : by_key rid_key m.resources rid ≡ None)
+      (e : n.resources ≡ keyed_with rid_key m.resources (resource rid m.next_action Opening)) where
     opened_here : HasResource n rid m.next_action Opening
     opened_here = ap (λ l. by_key rid_key l rid) e ∙ found_new rid_key m.resources (resource rid m.next_action Opening) free
 
     opened_beside : (q : ℕ) → (rid ≡ q → ⊥) → by_key rid_key n.resources q ≡ by_key rid_key m.resources q
     opened_beside q d = ap (λ l. by_key rid_key l q) e ∙ found_beside rid_key m.resources (resource rid m.next_action Opening) q d
 
-    opens_goes : (what : Option (ℕ × Deed)) → what ≡ Some (m.next_action, BeginsOpen) → GoesOn (phase m action) (done_to action what) (phase n action)
+    opens_goes : (what : Option (ℕ × Deed)) → what ≡ Some (m.next_action, BeginsOpen)
+        → GoesOn (phase m action) (done_to action what) (phase n action)
     opens_goes what f = elim (cases_eq action m.next_action) [
       | inl a ↦
           let before : phase m action ≡ NotYet = not_yet m action w (omega (arith, a)) in
-          let now : phase n action ≡ In Opening = phase_in n v rid action Opening (subst (λ x. HasResource n rid x Opening) (sym a) opened_here) in
-          moved what BeginsOpen (f ∙ ap (λ x. Some (x, BeginsOpen)) (sym a)) (ap (λ p. after_deed p BeginsOpen) before ∙ ap (λ p. Some p) (sym now))
+          let now : phase n action ≡ In Opening =
+          phase_in n v rid action Opening (subst (λ x. HasResource n rid x Opening) (sym a) opened_here) in
+          moved what BeginsOpen (f ∙ ap (λ x. Some (x, BeginsOpen)) (sym a))
+          (ap (λ p. after_deed p BeginsOpen) before ∙ ap (λ p. Some p) (sym now))
       | inr d ↦
           unmoved what (done_elsewhere action m.next_action BeginsOpen what f (λ x. d (sym x)))
           (stays
           (λ q s h. opened_beside q (λ x. no_some (resource q action s) (sym free ∙ ap (by_key rid_key m.resources) x ∙ h)) ∙ h)
           (λ q s h. elim (cases_eq rid q) [
-            | inl x ↦ absurd (d (resource_same n q action m.next_action s Opening h (subst (λ i. HasResource n i m.next_action Opening) x opened_here)).0)
+            | inl x ↦ absurd (d (resource_same n q action m.next_action s Opening h
+                (subst (λ i. HasResource n i m.next_action Opening) x opened_here)).0)
             | inr x ↦ sym (opened_beside q x) ∙ h
           ]))
     ]
@@ -90,12 +101,15 @@ module _ (m n : Machine) (w : IsWellFormed m) (v : IsWellFormed n) (later : m.ne
   -- one in another state
   module _ (rid one : ℕ) (old new : ResourceState) (h : HasResource m rid one old) (e : n.resources ≡ restated m.resources rid new) where
     moved_here : HasResource n rid one new
-    moved_here = ap (λ l. by_key rid_key l rid) e ∙ found_changed rid_key (λ r. record r { state = new }) (λ r. refl) m.resources rid (resource rid one old) h
+    moved_here = ap (λ l. by_key rid_key l rid) e ∙ found_changed rid_key (λ r. record r { state = new }) (λ r. refl) m.resources rid
+        (resource rid one old) h
 
     moved_beside : (q : ℕ) → (q ≡ rid → ⊥) → by_key rid_key n.resources q ≡ by_key rid_key m.resources q
-    moved_beside q d = ap (λ l. by_key rid_key l q) e ∙ found_unchanged rid_key (λ r. record r { state = new }) (λ r. refl) m.resources rid q d
+    moved_beside q d = ap (λ l. by_key rid_key l q) e
+        ∙ found_unchanged rid_key (λ r. record r { state = new }) (λ r. refl) m.resources rid q d
 
-    moves_goes : (what : Option (ℕ × Deed)) (d : Deed) → what ≡ Some (one, d) → after_deed (In old) d ≡ Some (In new) → GoesOn (phase m action) (done_to action what) (phase n action)
+    moves_goes : (what : Option (ℕ × Deed)) (d : Deed) → what ≡ Some (one, d) → after_deed (In old) d ≡ Some (In new)
+        → GoesOn (phase m action) (done_to action what) (phase n action)
     moves_goes what d f g = elim (cases_eq one action) [
       | inl a ↦
           let before : phase m action ≡ In old = phase_in m w rid action old (subst (λ x. HasResource m rid x old) a h) in
@@ -105,11 +119,13 @@ module _ (m n : Machine) (w : IsWellFormed m) (v : IsWellFormed n) (later : m.ne
           unmoved what (done_elsewhere action one d what f b)
           (stays
           (λ q s k. moved_beside q (λ x. b (resource_same m q one action old s (subst (λ i. HasResource m i one old) (sym x) h) k).0) ∙ k)
-          (λ q s k. sym (moved_beside q (λ x. b (resource_same n q one action new s (subst (λ i. HasResource n i one new) (sym x) moved_here) k).0)) ∙ k))
+          (λ q s k. sym (moved_beside q (λ x. b (resource_same n q one action new s
+          (subst (λ i. HasResource n i one new) (sym x) moved_here) k).0)) ∙ k))
     ]
 
   -- one less
-  module _ (rid one : ℕ) (old : ResourceState) (h : HasResource m rid one old) (e : n.resources ≡ keyed_without rid_key m.resources rid) where
+  module _ (rid one : ℕ) (old : ResourceState) (h : HasResource m rid one old)
+      (e : n.resources ≡ keyed_without rid_key m.resources rid) where
     gone_here : by_key rid_key n.resources rid ≡ None
     gone_here = ap (λ l. by_key rid_key l rid) e ∙ found_gone rid_key m.resources rid
 
@@ -127,7 +143,8 @@ module _ (m n : Machine) (w : IsWellFormed m) (v : IsWellFormed n) (later : m.ne
         phase_out n v one (λ q s k. let b = was_there q one s k in b.0 (one_resource m w q rid one s old b.1 h).0)
         ∙ ap (phase_of None) (lt-ltb one n.next_action (omega (arith, later, given m w rid one old h)))
 
-    ends_goes : (what : Option (ℕ × Deed)) (d : Deed) → what ≡ Some (one, d) → after_deed (In old) d ≡ Some Over → GoesOn (phase m action) (done_to action what) (phase n action)
+    ends_goes : (what : Option (ℕ × Deed)) (d : Deed) → what ≡ Some (one, d) → after_deed (In old) d ≡ Some Over
+        → GoesOn (phase m action) (done_to action what) (phase n action)
     ends_goes what d f g = elim (cases_eq one action) [
       | inl a ↦
           let before : phase m action ≡ In old = phase_in m w rid action old (subst (λ x. HasResource m rid x old) a h) in
@@ -149,18 +166,22 @@ module _ (m n : Machine) (w : IsWellFormed m) (v : IsWellFormed n) (later : m.ne
   -- ---- The Rid
 
   -- a resource that is there before and after has one Rid
-  pub same_rid : (what : Option (ℕ × Deed)) → IsMoving m n what → (r q : ℕ) (s t : ResourceState) → HasResource m r action s → HasResource n q action t → r ≡ q
+  pub same_rid : (what : Option (ℕ × Deed)) → IsMoving m n what → (r q : ℕ) (s t : ResourceState) → HasResource m r action s
+      → HasResource n q action t → r ≡ q
   same_rid what (still e f) r q s t h k = (one_resource m w r q action s t h (ap (λ l. by_key rid_key l q) (sym e) ∙ k)).0
   same_rid what (opens rid free e f) r q s t h k = elim (cases_eq rid q) [
     | inl x ↦
-        let number : action ≡ m.next_action = (resource_same n q action m.next_action t Opening k (subst (λ i. HasResource n i m.next_action Opening) x (opened_here rid free e))).0 in
+        let number : action ≡ m.next_action = (resource_same n q action m.next_action t Opening k
+        (subst (λ i. HasResource n i m.next_action Opening) x (opened_here rid free e))).0 in
         absurd (omega (arith, number, given m w r action s h))
     | inr x ↦ (one_resource m w r q action s t h (sym (opened_beside rid free e q x) ∙ k)).0
   ]
   same_rid what (moves rid one old new d was e f g) r q s t h k = elim (cases_eq q rid) [
     | inl x ↦
-        let number : one ≡ action = (resource_same n q one action new t (subst (λ i. HasResource n i one new) (sym x) (moved_here rid one old new was e)) k).0 in
+        let number : one ≡ action =
+        (resource_same n q one action new t (subst (λ i. HasResource n i one new) (sym x) (moved_here rid one old new was e)) k).0 in
         (one_resource m w r rid action s old h (subst (λ i. HasResource m rid i old) number was)).0 ∙ sym x
     | inr x ↦ (one_resource m w r q action s t h (sym (moved_beside rid one old new was e q x) ∙ k)).0
   ]
-  same_rid what (ends rid one old d was e f g) r q s t h k = (one_resource m w r q action s t h (was_there rid one old was e q action t k).1).0
+  same_rid what (ends rid one old d was e f g) r q s t h k =
+      (one_resource m w r q action s t h (was_there rid one old was e q action t k).1).0

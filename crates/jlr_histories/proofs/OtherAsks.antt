@@ -1,5 +1,6 @@
 -- What the asks that have nothing to do with a resource answer and leave.
-use Rattle.std.proofs.Common.{replicate, ◌≡◌, ℕ, Bool, true, false, List, [], ◌∷◌, map, refl, sym, ◌∙◌, ap, Option, Some, None, option_map, option_and_then, slice_get}
+use Rattle.std.proofs.Common.{replicate, ◌≡◌, ℕ, Bool, true, false, List, [], ◌∷◌, map, refl, sym, ◌∙◌, ap, Option, Some, None, option_map}
+use Rattle.std.proofs.Common.{option_and_then, slice_get}
 use Rattle.std.proofs.lemmas.Bool.{both_ways}
 use Rattle.jlr_types.specs.declared.FieldValue.{FieldValue}
 use Rattle.jlr_types.specs.declared.FieldValue.TheVariants.{Int as IntValue, Ref as RefValue}
@@ -11,14 +12,18 @@ use Rattle.jlr_machine.specs.declared.machine.Machine.{Machine}
 use Rattle.jlr_machine.specs.declared.ask.Handed.{Handed}
 use Rattle.jlr_machine.specs.declared.ask.Handed.TheVariants.{Queued as HandedQueued, Lined as HandedLined, Skipped, Nothing}
 use Rattle.jlr_machine.specs.declared.ask.Ask.{Ask}
-use Rattle.jlr_machine.specs.declared.ask.Ask.TheVariants.{Join, Leave, New, Put, Get, SetInt, Int, Dup, Drop, Same, MakeRef, Deref, Refers, Clear, Enqueue, Enqueued, MakeQueue, Poll, Remove, MakeCleaner, Register, Clean, Prepare, Opened, CheckOut, CheckIn, Close, Finish, Bind, Find, Unbind, Names, Full, Stat, Notes, Faults, HandOver, TakeUp, Begin, Collect, Abandon, Array}
+use Rattle.jlr_machine.specs.declared.ask.Ask.TheVariants.{Join, Leave, New, Put, Get, SetInt, Int, Dup, Drop, Same, MakeRef, Deref, Refers}
+use Rattle.jlr_machine.specs.declared.ask.Ask.TheVariants.{Clear, Enqueue, Enqueued, MakeQueue, Poll, Remove, MakeCleaner, Register, Clean}
+use Rattle.jlr_machine.specs.declared.ask.Ask.TheVariants.{Prepare, Opened, CheckOut, CheckIn, Close, Finish, Bind, Find, Unbind, Names}
+use Rattle.jlr_machine.specs.declared.ask.Ask.TheVariants.{Full, Stat, Notes, Faults, HandOver, TakeUp, Begin, Collect, Abandon, Array}
 use Rattle.jlr_machine.specs.declared.ask.Answer.{Answer}
 use Rattle.jlr_machine.specs.declared.ask.Answer.TheVariants.{Handle, Job, Prepared, Out as OutAnswer, Refused}
 use Rattle.jlr_machine.specs.declared.entry.Collected.{Collected}
 use Rattle.jlr_machine.specs.Objects.{at, as_reference, with_reference, with_field, queue_ahead}
 use Rattle.jlr_machine.specs.Lookups.{slot_named, field_named, on, with_object, with_handle, with_new, bound, blank}
 use Rattle.jlr_machine.specs.Refusals.{given}
-use Rattle.jlr_machine.specs.Calls.{after, new_handle, handle_given, number_in, handed, hand_over_answer, made, registered, with_given, to_queue, unreferred, enqueued, polled, poll_given, delivered, handed_over}
+use Rattle.jlr_machine.specs.Calls.{after, new_handle, handle_given, number_in, handed, hand_over_answer, made, registered, with_given}
+use Rattle.jlr_machine.specs.Calls.{to_queue, unreferred, enqueued, polled, poll_given, delivered, handed_over}
 use Rattle.jlr_machine.specs.Run.{Answers}
 use Rattle.jlr_laws.proofs.Frames.{no_some, some_same}
 use Rattle.jlr_histories.specs.ResourceLives.{ended_by, deed_of}
@@ -78,7 +83,8 @@ handed_on m (s ∷ slots) = mapped hands_out _ (λ o. refl) (at m.objects s)
 
 -- ---- Changes
 
-on_same : {A : Type 0} (m : Machine) (o : Option A) (f : A → Machine) → ((x : A) → (f x).resources ≡ m.resources) → (on o f m).resources ≡ m.resources
+on_same : {A : Type 0} (m : Machine) (o : Option A) (f : A → Machine) → ((x : A) → (f x).resources ≡ m.resources)
+    → (on o f m).resources ≡ m.resources
 on_same m None f h = refl
 on_same m (Some x) f h = h x
 
@@ -90,14 +96,16 @@ to_queue_same m s None = refl
 to_queue_same m s (Some q) = refl
 
 enqueued_same : (m : Machine) (s : ℕ) → (enqueued m s).resources ≡ m.resources
-enqueued_same m s = to_queue_same (with_object m s (with_reference unreferred)) s (option_and_then queue_ahead (option_and_then as_reference (at m.objects s)))
+enqueued_same m s = to_queue_same (with_object m s (with_reference unreferred)) s
+    (option_and_then queue_ahead (option_and_then as_reference (at m.objects s)))
 
 polled_same : (m : Machine) (q : ℕ) (o : Option ℕ) → (polled m q o).resources ≡ m.resources
 polled_same m q None = refl
 polled_same m q (Some s) = refl
 
 poll_same : (m : Machine) (k h : ℕ) (o : Option ℕ) → (poll_given m k h o).resources ≡ m.resources
-poll_same m k h o = on_same m (slot_named m k h) (λ q. with_given (polled m q o) k o) (λ q. given_same (polled m q o) k o ∙ polled_same m q o)
+poll_same m k h o =
+    on_same m (slot_named m k h) (λ q. with_given (polled m q o) k o) (λ q. given_same (polled m q o) k o ∙ polled_same m q o)
 
 made_same : (m : Machine) (k : ℕ) (fresh : List ℕ) (o : Object) → (made m k fresh o).resources ≡ m.resources
 made_same m k fresh o = on_same m (slice_get fresh 0) (λ s. with_handle (with_new m s o) k s) (λ s. refl)
@@ -111,38 +119,67 @@ delivered_same m s Nothing = refl
 handed_over_same : (m : Machine) (slots : List ℕ) → (handed_over m slots).resources ≡ m.resources
 handed_over_same m [] = refl
 handed_over_same m (s ∷ rest) =
-    elim (at m.objects s) as (λ o. (elim o as (λ _. Machine) [ None ↦ record m { pending = rest } | Some o ↦ delivered (record m { pending = rest }) s (handed o) ]).resources ≡ m.resources) [
+    elim (at m.objects s) as (λ o. (elim o as (λ _. Machine) [
+      | None ↦ record m { pending = rest }
+      | Some o ↦
+          delivered (record m { pending = rest }) s (handed o)
+    ]).resources ≡ m.resources) [
       | None ↦ refl
       | Some o ↦ delivered_same (record m { pending = rest }) s (handed o)
     ]
 
 -- ---- Each ask
 
-pub other_still : (m : Machine) (ask : Ask) (o : Option Collected) (a : Answer) (fresh : List ℕ) → touches ask ≡ false → Answers m ask o a → IsStill m (after m ask a fresh) a
+pub other_still : (m : Machine) (ask : Ask) (o : Option Collected) (a : Answer) (fresh : List ℕ) → touches ask ≡ false → Answers m ask o a
+    → IsStill m (after m ask a fresh) a
 other_still m (Join k) o a fresh t h = record { nothing = plain hands_out _ refl a h; same = refl }
 other_still m (Leave k) o a fresh t h = record { nothing = plain hands_out _ refl a h; same = refl }
-other_still m (New k layout) o a fresh t h = record { nothing = handle m k a h; same = made_same m k fresh (Plain (Typed (map blank layout))) }
-other_still m (Array k size) o a fresh t h = record { nothing = handle m k a h; same = made_same m k fresh (Plain (Elements (replicate size None))) }
-other_still m (Put k d f v) o a fresh t h = record { nothing = plain hands_out _ refl a h; same = on_same m (slot_named m k d) (λ s. with_object m s (with_field f (RefValue (slot_named m k v)))) (λ s. refl) }
-other_still m (Get k d f) o a fresh t h = record { nothing = object_given m k (given m (Get k d f)) a h; same = given_same m k (given m (Get k d f)) }
-other_still m (SetInt k d f v) o a fresh t h = record { nothing = plain hands_out _ refl a h; same = on_same m (slot_named m k d) (λ s. with_object m s (with_field f (IntValue v))) (λ s. refl) }
+other_still m (New k layout) o a fresh t h =
+    record { nothing = handle m k a h; same = made_same m k fresh (Plain (Typed (map blank layout))) }
+other_still m (Array k size) o a fresh t h =
+    record { nothing = handle m k a h; same = made_same m k fresh (Plain (Elements (replicate size None))) }
+other_still m (Put k d f v) o a fresh t h = record {
+  nothing = plain hands_out _ refl a h;
+  same = on_same m (slot_named m k d) (λ s. with_object m s (with_field f (RefValue (slot_named m k v)))) (λ s. refl);
+}
+other_still m (Get k d f) o a fresh t h =
+    record { nothing = object_given m k (given m (Get k d f)) a h; same = given_same m k (given m (Get k d f)) }
+other_still m (SetInt k d f v) o a fresh t h = record {
+  nothing = plain hands_out _ refl a h;
+  same = on_same m (slot_named m k d) (λ s. with_object m s (with_field f (IntValue v))) (λ s. refl);
+}
 other_still m (Int k d f) o a fresh t h = record { nothing = number (field_named m k d f) a h; same = refl }
-other_still m (Dup k d) o a fresh t h = record { nothing = object_given m k (given m (Dup k d)) a h; same = given_same m k (given m (Dup k d)) }
+other_still m (Dup k d) o a fresh t h =
+    record { nothing = object_given m k (given m (Dup k d)) a h; same = given_same m k (given m (Dup k d)) }
 other_still m (Drop k d) o a fresh t h = record { nothing = plain hands_out _ refl a h; same = refl }
 other_still m (Same k d g) o a fresh t h = record { nothing = plain hands_out _ refl a h; same = refl }
 other_still m (MakeRef k kind d q) o a fresh t h =
-    record { nothing = handle m k a h; same = made_same m k fresh (Reference (record { kind = kind; referent = slot_named m k d; queue = slot_named m k q; state = Fresh })) }
-other_still m (Deref k d) o a fresh t h = record { nothing = object_given m k (given m (Deref k d)) a h; same = given_same m k (given m (Deref k d)) }
+    record {
+      nothing = handle m k a h;
+      same =
+          made_same m k fresh (Reference (record { kind = kind; referent = slot_named m k d; queue = slot_named m k q; state = Fresh }));
+    }
+other_still m (Deref k d) o a fresh t h =
+    record { nothing = object_given m k (given m (Deref k d)) a h; same = given_same m k (given m (Deref k d)) }
 other_still m (Refers k r d) o a fresh t h = record { nothing = mapped hands_out _ (λ x. refl) _ a h; same = refl }
-other_still m (Clear k d) o a fresh t h = record { nothing = plain hands_out _ refl a h; same = on_same m (slot_named m k d) (λ s. with_object m s (with_reference unreferred)) (λ s. refl) }
-other_still m (Enqueue k d) o a fresh t h = record { nothing = mapped hands_out _ (λ x. refl) _ a h; same = on_same m (slot_named m k d) (enqueued m) (enqueued_same m) }
+other_still m (Clear k d) o a fresh t h = record {
+  nothing = plain hands_out _ refl a h;
+  same = on_same m (slot_named m k d) (λ s. with_object m s (with_reference unreferred)) (λ s. refl);
+}
+other_still m (Enqueue k d) o a fresh t h =
+    record { nothing = mapped hands_out _ (λ x. refl) _ a h; same = on_same m (slot_named m k d) (enqueued m) (enqueued_same m) }
 other_still m (Enqueued k d) o a fresh t h = record { nothing = mapped hands_out _ (λ x. refl) _ a h; same = refl }
 other_still m (MakeQueue k) o a fresh t h = record { nothing = handle m k a h; same = made_same m k fresh (Queue []) }
-other_still m (Poll k d) o a fresh t h = record { nothing = object_given m k (given m (Poll k d)) a h; same = poll_same m k d (given m (Poll k d)) }
-other_still m (Remove k d) o a fresh t h = record { nothing = object_given m k (given m (Remove k d)) a h; same = poll_same m k d (given m (Remove k d)) }
+other_still m (Poll k d) o a fresh t h =
+    record { nothing = object_given m k (given m (Poll k d)) a h; same = poll_same m k d (given m (Poll k d)) }
+other_still m (Remove k d) o a fresh t h =
+    record { nothing = object_given m k (given m (Remove k d)) a h; same = poll_same m k d (given m (Remove k d)) }
 other_still m (MakeCleaner k) o a fresh t h = record { nothing = handle m k a h; same = made_same m k fresh Cleaner }
 other_still m (Register k d x note) o a fresh t h = record { nothing = handle m k a h; same = made_same m k fresh (registered m k x note) }
-other_still m (Bind k name d) o a fresh t h = record { nothing = plain hands_out _ refl a h; same = on_same m (slot_named m k d) (λ s. record m { names = bound m.names name s }) (λ s. refl) }
+other_still m (Bind k name d) o a fresh t h = record {
+  nothing = plain hands_out _ refl a h;
+  same = on_same m (slot_named m k d) (λ s. record m { names = bound m.names name s }) (λ s. refl);
+}
 other_still m (Find k name) o a fresh t h = record { nothing = handle m k a h; same = given_same m k (given m (Find k name)) }
 other_still m (Unbind k name) o a fresh t h = record { nothing = plain hands_out _ refl a h; same = refl }
 other_still m (Names k) o a fresh t h = record { nothing = plain hands_out _ refl a h; same = refl }

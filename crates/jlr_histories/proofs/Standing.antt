@@ -1,5 +1,6 @@
 -- Where a resource stands by its action, from where it stands by its Rid.
-use Rattle.std.proofs.Common.{◌≡◌, ℕ, ◌<◌, ◌≤◌, ◌==◌, Bool, true, false, cond, List, [], ◌∷◌, map, refl, sym, ◌∙◌, ap, subst, ◌⊎◌, inl, inr, arith, Option, Some, None, find, nat_lt}
+use Rattle.std.proofs.Common.{◌≡◌, ℕ, ◌<◌, ◌≤◌, ◌==◌, Bool, true, false, cond, List, [], ◌∷◌, map, refl, sym, ◌∙◌, ap, subst, ◌⊎◌, inl, inr}
+use Rattle.std.proofs.Common.{arith, Option, Some, None, find, nat_lt}
 use Rattle.std.proofs.lemmas.Bool.{both_ways, and_parts, cond-true, cond-false, eqb-true, eq-eqb, ne_eqb, cases_Bool, lt-ltb, ltb-true}
 use Rattle.jlr_types.specs.declared.Work.TheVariants.{Resource as WorkOn}
 use Rattle.jlr_machine.specs.declared.object.Cleanable.{Cleanable as CleanableOf}
@@ -31,16 +32,21 @@ module _ {A : Type 0} (key : A → ℕ) (p : A → Bool) where
       ] e
 
   -- what is found in a rising list is found by its key
-  pub found_by_key : (xs : List A) (x : A) → is_rising (map key xs) ≡ true → find p xs ≡ Some x → (by_key key xs (key x) ≡ Some x) × (p x ≡ true)
+  pub found_by_key : (xs : List A) (x : A) → is_rising (map key xs) ≡ true → find p xs ≡ Some x → (by_key key xs (key x) ≡ Some x)
+      × (p x ≡ true)
   found_by_key [] x h e = no_some x e
   found_by_key (y ∷ xs) x h e =
       let a = and_parts (is_above (key y) (map key xs)) (is_rising (map key xs)) h in
       elim (p y) as (λ b. p y ≡ b → cond b (Some y) (find p xs) ≡ Some x → (by_key key (y ∷ xs) (key x) ≡ Some x) × (p x ≡ true)) [
-        | true ↦ λ t f. subst (λ z. (by_key key (y ∷ xs) (key z) ≡ Some z) × (p z ≡ true)) (some_same y x f) (cond-true (key y == key y) (Some y) (by_key key xs (key y)) (eq-eqb (key y) (key y) refl), t)
+        | true ↦ λ t f. subst (λ z. (by_key key (y ∷ xs) (key z) ≡ Some z) × (p z ≡ true)) (some_same y x f)
+            (cond-true (key y == key y) (Some y) (by_key key xs (key y)) (eq-eqb (key y) (key y) refl), t)
         | false ↦ λ t f.
             let above = above_found xs (key y) x a.0 f in
-            let rest = found_by_key xs x a.1 f in
-            (cond-false (key y == key x) (Some y) (by_key key xs (key x)) (ne_eqb (key y) (key x) (λ g. absurd (omega (arith, above, g)))) ∙ rest.0, rest.1)
+            let rest = found_by_key xs x a.1 f in (
+              cond-false (key y == key x) (Some y) (by_key key xs (key x)) (ne_eqb (key y) (key x) (λ g. absurd (omega (arith, above, g))))
+                  ∙ rest.0,
+              rest.1,
+            )
       ] refl e
 
   -- where nothing is found, nothing found by a key passes
@@ -86,13 +92,15 @@ module _ (m : Machine) (w : IsWellFormed m) where
 
   pub one_resource : (r q action : ℕ) (s t : ResourceState) → HasResource m r action s → HasResource m q action t → (r ≡ q) × (s ≡ t)
   one_resource r q action s t h k =
-      let same : r ≡ q = one_work r q action (worker m r action s (w.resources.worked r action s h)) (worker m q action t (w.resources.worked q action t k)) in
+      let same : r ≡ q = one_work r q action (worker m r action s (w.resources.worked r action s h))
+      (worker m q action t (w.resources.worked q action t k)) in
       (same, (resource_same m q action action s t (subst (λ i. HasResource m i action s) same h) k).1)
 
   -- ---- Phases
 
   pub given : (rid action : ℕ) (s : ResourceState) → HasResource m rid action s → action < m.next_action
-  given rid action s h = (all_found {A = Resource} (λ r. r.rid) (λ r. IsAction m r.action) m.resources rid (resource rid action s) w.actions.of_resources h).1
+  given rid action s h =
+      (all_found {A = Resource} (λ r. r.rid) (λ r. IsAction m r.action) m.resources rid (resource rid action s) w.actions.of_resources h).1
 
   abbrev of_action : ℕ → Option Resource
   of_action action = find (λ (r : Resource). r.action == action) m.resources
@@ -107,14 +115,18 @@ module _ (m : Machine) (w : IsWellFormed m) where
   pub phase_in : (rid action : ℕ) (s : ResourceState) → HasResource m rid action s → phase m action ≡ In s
   phase_in rid action s h =
       elim (of_action action) as (λ o. of_action action ≡ o → phase_of o (nat_lt action m.next_action) ≡ In s) [
-        | None ↦ λ e. absurd (both_ways (action == action) (none_by_key {A = Resource} (λ r. r.rid) (λ r. r.action == action) m.resources rid (resource rid action s) e h) (eq-eqb action action refl))
+        | None ↦ λ e. absurd (both_ways (action == action)
+            (none_by_key {A = Resource} (λ r. r.rid) (λ r. r.action == action) m.resources rid (resource rid action s) e h)
+            (eq-eqb action action refl))
         | Some r ↦ λ e. ap In (one_resource r.rid rid action r.state s (found_there action r e) h).1
       ] refl
 
   -- and if it is not
-  pub phase_out : (action : ℕ) → ((rid : ℕ) (s : ResourceState) → HasResource m rid action s → ⊥) → phase m action ≡ phase_of None (nat_lt action m.next_action)
+  pub phase_out : (action : ℕ) → ((rid : ℕ) (s : ResourceState) → HasResource m rid action s → ⊥)
+      → phase m action ≡ phase_of None (nat_lt action m.next_action)
   phase_out action none =
-      elim (of_action action) as (λ o. of_action action ≡ o → phase_of o (nat_lt action m.next_action) ≡ phase_of None (nat_lt action m.next_action)) [
+      elim (of_action action) as (λ o. of_action action ≡ o
+      → phase_of o (nat_lt action m.next_action) ≡ phase_of None (nat_lt action m.next_action)) [
         | None ↦ λ e. refl
         | Some r ↦ λ e. absurd (none r.rid r.state (found_there action r e))
       ] refl
@@ -127,19 +139,27 @@ pub data IsStanding (m : Machine) (action : ℕ) : Type 0 where
 pub standing : (m : Machine) (action : ℕ) → IsWellFormed m → IsStanding m action
 standing m action w =
     elim (of_action m w action) as (λ o. of_action m w action ≡ o → IsStanding m action) [
-      | None ↦ λ e. not_there (λ rid s h. absurd (both_ways (action == action) (none_by_key {A = Resource} (λ r. r.rid) (λ r. r.action == action) m.resources rid (resource rid action s) e h) (eq-eqb action action refl)))
+      | None ↦ λ e. not_there (λ rid s h. absurd (both_ways (action == action)
+          (none_by_key {A = Resource} (λ r. r.rid) (λ r. r.action == action) m.resources rid (resource rid action s) e h)
+          (eq-eqb action action refl)))
       | Some r ↦ λ e. there r.rid r.state (found_there m w action r e)
     ] refl
 
 -- a number that is not yet given is no resource's
 pub not_yet : (m : Machine) (action : ℕ) → IsWellFormed m → m.next_action ≤ action → phase m action ≡ NotYet
 not_yet m action w h =
-    let number : nat_lt action m.next_action ≡ false = elim (cases_Bool (nat_lt action m.next_action)) [ inl e ↦ absurd (omega (arith, h, ltb-true action m.next_action e)) | inr e ↦ e ] in
+    let number : nat_lt action m.next_action ≡ false =
+    elim (cases_Bool (nat_lt action m.next_action)) [
+      | inl e ↦ absurd (omega (arith, h, ltb-true action m.next_action e))
+      | inr e ↦
+          e
+    ] in
     phase_out m w action (λ rid s r. absurd (omega (arith, h, given m w rid action s r))) ∙ ap (phase_of None) number
 
 -- one that is given stays so
 pub given_on : (m n : Machine) (action : ℕ) → m.next_action ≤ n.next_action
-    → (phase_of None (nat_lt action n.next_action) ≡ phase_of None (nat_lt action m.next_action)) ⊎ ((phase_of None (nat_lt action m.next_action) ≡ NotYet) × (phase_of None (nat_lt action n.next_action) ≡ Over))
+    → (phase_of None (nat_lt action n.next_action) ≡ phase_of None (nat_lt action m.next_action))
+    ⊎ ((phase_of None (nat_lt action m.next_action) ≡ NotYet) × (phase_of None (nat_lt action n.next_action) ≡ Over))
 given_on m n action h =
     elim (cases_Bool (nat_lt action m.next_action)) [
       | inl e ↦ inl (ap (phase_of None) (lt-ltb action n.next_action (omega (arith, ltb-true action m.next_action e, h)) ∙ sym e))

@@ -1,5 +1,6 @@
 -- An action is taken up at most once in a run, and the machine counts what was taken up.
-use Rattle.std.proofs.Common.{◌≡◌, ◌≢◌, ℕ, ◌+◌, ◌<◌, Bool, true, false, cond, List, [], ◌∷◌, refl, sym, ◌∙◌, ap, subst, inl, inr, arith, Some, None}
+use Rattle.std.proofs.Common.{◌≡◌, ◌≢◌, ℕ, ◌+◌, ◌<◌, Bool, true, false, cond, List, [], ◌∷◌, refl, sym, ◌∙◌, ap, subst, inl, inr, arith}
+use Rattle.std.proofs.Common.{Some, None}
 use Rattle.std.proofs.lemmas.Bool.{both_ways, cases_Bool, eqb-true}
 use Rattle.std.proofs.lemmas.List.Sums.{sum_by-cons}
 use Rattle.jlr_machine.specs.declared.object.Object.TheVariants.{Cleanable}
@@ -33,18 +34,28 @@ spent_for_ever Lined h = absurd (both_ways false refl h)
 spent_for_ever Spent h = refl
 
 -- an unspent cleanable was there before with its action, unless it is new
-pub unspent_back : (m : Machine) (e : Entry) → IsWellFormed m → IsLegal m e → (s : ℕ) (d : CleanableOf) → IsUnspent (apply m e) s d → d.action < m.next_action → (c : CleanableOf) × IsUnspent m s c × (d.action ≡ c.action)
+pub unspent_back : (m : Machine) (e : Entry) → IsWellFormed m → IsLegal m e → (s : ℕ) (d : CleanableOf) → IsUnspent (apply m e) s d
+    → d.action < m.next_action → (c : CleanableOf) × IsUnspent m s c × (d.action ≡ c.action)
 unspent_back m e w l s d u small =
     let step = legal_step m e w l in
     let P = Clears m e.ask e.choice s in
     elim (cases_Bool (e.choice.fresh ∋ s)) [
-      | inl new ↦ let made : IsNewAt m.next_action (Some (Cleanable d)) = subst (IsNewAt m.next_action) u.there (step.new s new) in absurd (omega (arith, made.1, small))
+      | inl new ↦ let made : IsNewAt m.next_action (Some (Cleanable d)) = subst (IsNewAt m.next_action) u.there (step.new s new) in
+          absurd (omega (arith, made.1, small))
       | inr old ↦
-          elim (at m.objects s) as (λ o. at m.objects s ≡ o → Follows P o (Some (Cleanable d)) → (c : CleanableOf) × IsUnspent m s c × (d.action ≡ c.action)) [
+          elim (at m.objects s) as (λ o. at m.objects s ≡ o → Follows P o (Some (Cleanable d)) → (c : CleanableOf) × IsUnspent m s c
+          × (d.action ≡ c.action)) [
             | None ↦ λ a h. absurd h
             | Some o ↦ λ a h.
-                let c = cleanable_back P o d h in
-                (c.0, record { there = a ∙ ap (λ x. Some x) c.1; unspent = λ z. u.unspent (spent_for_ever d.state (subst (λ st. may_come_after st d.state ≡ true) z c.2.state)) }, c.2.action)
+                let c = cleanable_back P o d h in (
+                  c.0,
+                  record {
+                    there = a ∙ ap (λ x. Some x) c.1;
+                    unspent =
+                        λ z. u.unspent (spent_for_ever d.state (subst (λ st. may_come_after st d.state ≡ true) z c.2.state));
+                  },
+                  c.2.action,
+                )
           ] refl (subst (λ q. Follows P (at m.objects s) q) u.there (step.follows s old))
     ]
 
@@ -77,7 +88,8 @@ not_again m e action l g = elim (legal_taking m e l) [
 ]
 
 -- one that is taken up is gone
-gone_now : (m : Machine) (e : Entry) (action : ℕ) → IsWellFormed m → IsLegal m e → is_job_of action e.answer ≡ true → IsGone (apply m e) action
+gone_now : (m : Machine) (e : Entry) (action : ℕ) → IsWellFormed m → IsLegal m e → is_job_of action e.answer ≡ true
+    → IsGone (apply m e) action
 gone_now m e action w l h = elim (legal_taking m e l) [
   | none t ↦ absurd (both_ways (is_job_of action e.answer) (a_job action e.answer t.no_job) h)
   | one s c u a n there ↦
@@ -88,7 +100,8 @@ gone_now m e action w l h = elim (legal_taking m e l) [
         none_left = λ t d v p.
             let b = unspent_back m e w l t d v (omega (arith, p, same, small)) in
             let place : t ≡ s = w.actions.cleanables t s b.0 c b.1 u (sym b.2 ∙ p ∙ sym same) in
-            let last : d ≡ spent c = cleanable_same (apply m e) s d (spent c) (subst (λ i. IsCleanableAt (apply m e) i d) place v.there) there in
+            let last : d ≡ spent c =
+            cleanable_same (apply m e) s d (spent c) (subst (λ i. IsCleanableAt (apply m e) i d) place v.there) there in
             v.unspent (ap (λ z. z.state) last);
       }
 ]
@@ -101,7 +114,8 @@ one_taken m e l = elim (legal_taking m e l) [
 
 -- ---- Runs
 
-never_again : (m n : Machine) (entries : List Entry) (action : ℕ) → IsWellFormed m → Run m entries n → IsGone m action → take_ups action entries ≡ 0
+never_again : (m n : Machine) (entries : List Entry) (action : ℕ) → IsWellFormed m → Run m entries n → IsGone m action
+    → take_ups action entries ≡ 0
 never_again m n [] action w run g = refl
 never_again m n (e ∷ entries) action w run g =
     omega (
@@ -117,8 +131,18 @@ taken_up_at_most_once m n (e ∷ entries) action w run =
     let kept = legal_kept m e w run.0 in
     let first = sum_by-cons (λ (x : Entry). cond (is_job_of action x.answer) 1 0) e entries in
     elim (cases_Bool (is_job_of action e.answer)) [
-      | inl h ↦ omega (arith, first, ap {A = Bool} {B = ℕ} (λ b. cond b 1 0) h, never_again (apply m e) n entries action kept run.1 (gone_now m e action w run.0 h))
-      | inr h ↦ omega (arith, first, ap {A = Bool} {B = ℕ} (λ b. cond b 1 0) h, taken_up_at_most_once (apply m e) n entries action kept run.1)
+      | inl h ↦ omega (
+        arith,
+        first,
+        ap {A = Bool} {B = ℕ} (λ b. cond b 1 0) h,
+        never_again (apply m e) n entries action kept run.1 (gone_now m e action w run.0 h),
+      )
+      | inr h ↦ omega (
+        arith,
+        first,
+        ap {A = Bool} {B = ℕ} (λ b. cond b 1 0) h,
+        taken_up_at_most_once (apply m e) n entries action kept run.1,
+      )
     ]
 
 pub take_ups_are_counted : TakeUpsAreCounted

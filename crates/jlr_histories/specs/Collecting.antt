@@ -7,8 +7,8 @@ use Rattle.jlr_machine.specs.declared.entry.Entry.{Entry}
 use Rattle.jlr_machine.specs.Refusals.{cells_needed}
 use Rattle.jlr_machine.specs.Run.{IsLegal, has_room}
 
--- a full collection that is asked for, that of an open cycle, and one for new objects that find no room; none for a piece of marking.
--- Refusals are not looked at
+-- a full collection that is asked for, that of an open cycle, and one for new objects that find no room; none for a
+-- piece of marking. Refusals are not looked at
 abbrev pub may_collect : Machine → Option Ask → Bool
 may_collect m None = false
 may_collect m (Some (Full k mode)) = true
@@ -18,4 +18,5 @@ may_collect m (Some ask) = not (has_room m (cells_needed ask))
 -- ---- Law
 
 abbrev pub NoCollectionUnlessItMay : Type 0
-NoCollectionUnlessItMay = (m : Machine) (e : Entry) → IsLegal m e → may_collect m (Some e.ask) ≡ false → e.choice.collected ≡ None
+NoCollectionUnlessItMay = (m : Machine) (e : Entry) → IsLegal m e → may_collect m (Some e.ask) ≡ false
+    → e.choice.collected ≡ None

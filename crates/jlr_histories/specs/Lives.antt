@@ -1,5 +1,6 @@
 -- How an object lives through the entries of a run: what may become of it, and what is counted.
-use Rattle.std.specs.Prelude.{◌≡◌, ℕ, ◌+◌, ◌≤◌, ◌⊎◌, Bool, true, false, cond, not, ◌&&◌, IsTrue, List, [], ◌∷◌, ◌++◌, Option, None, is_some, count_by, nat_eq}
+use Rattle.std.specs.Prelude.{◌≡◌, ℕ, ◌+◌, ◌≤◌, ◌⊎◌, Bool, true, false, cond, not, ◌&&◌, IsTrue, List, [], ◌∷◌, ◌++◌}
+use Rattle.std.specs.Prelude.{Option, None, is_some, count_by, nat_eq}
 use Rattle.jlr_types.specs.declared.Work.{Work}
 use Rattle.jlr_machine.specs.declared.object.Reference.{Reference as ReferenceOf}
 use Rattle.jlr_machine.specs.declared.object.Cleanable.{Cleanable as CleanableOf}
@@ -108,7 +109,8 @@ is_queued_at m s = some_and is_queued (state_at m s)
 -- how often the reference at s is enqueued: the entries before which it is not Queued and after which it is
 abbrev pub enqueueings : Machine → List Entry → ℕ → ℕ
 enqueueings m [] s = 0
-enqueueings m (e ∷ entries) s = cond (not (is_queued_at m s) && is_queued_at (apply m e) s) 1 0 + enqueueings (apply m e) entries s
+enqueueings m (e ∷ entries) s =
+    cond (not (is_queued_at m s) && is_queued_at (apply m e) s) 1 0 + enqueueings (apply m e) entries s
 
 -- ---- Clearing
 
@@ -158,8 +160,10 @@ outcomes action entries = count_by (λ e. records action e) entries
 abbrev pub running : Machine → ℕ → ℕ
 running m action = cond (is_some (job_of m action)) 1 0
 
--- what recording the outcome of this action and work makes of m: one more went well, and its note is kept; or one more failed, and its
--- fault is kept
+-- what recording the outcome of this action and work makes of m: one more went well, and its note is kept; or one more
+-- failed, and its fault is kept
 abbrev pub IsRecorded : Machine → Machine → ℕ → Work → Outcome → Type 0
-IsRecorded m n action work OutcomeOk = (n.ok ≡ m.ok + 1) × (n.failed ≡ m.failed) × (n.notes ≡ noted m.notes work) × (n.faults ≡ m.faults)
-IsRecorded m n action work (Failed fault) = (n.ok ≡ m.ok) × (n.failed ≡ m.failed + 1) × (n.notes ≡ m.notes) × (n.faults ≡ last_256 (m.faults ++ record { action = action; fault = fault } ∷ []))
+IsRecorded m n action work OutcomeOk = (n.ok ≡ m.ok + 1) × (n.failed ≡ m.failed) × (n.notes ≡ noted m.notes work)
+    × (n.faults ≡ m.faults)
+IsRecorded m n action work (Failed fault) = (n.ok ≡ m.ok) × (n.failed ≡ m.failed + 1) × (n.notes ≡ m.notes)
+    × (n.faults ≡ last_256 (m.faults ++ record { action = action; fault = fault } ∷ []))

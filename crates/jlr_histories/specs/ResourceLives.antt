@@ -1,6 +1,7 @@
--- How a resource lives through the entries of a run. It is named by its cleaning action: an action's number is given once, a Rid again
--- and again.
-use Rattle.std.specs.Prelude.{◌≡◌, ℕ, zero, suc, ◌==◌, ◌⊎◌, Bool, true, false, cond, List, [], ◌∷◌, ◌++◌, Option, Some, None, option_and_then, option_map, option_to_list, find, nat_lt}
+-- How a resource lives through the entries of a run. It is named by its cleaning action: an action's number is given
+-- once, a Rid again and again.
+use Rattle.std.specs.Prelude.{◌≡◌, ℕ, zero, suc, ◌==◌, ◌⊎◌, Bool, true, false, cond, List, [], ◌∷◌, ◌++◌, Option, Some}
+use Rattle.std.specs.Prelude.{None, option_and_then, option_map, option_to_list, find, nat_lt}
 use Rattle.jlr_types.specs.declared.Work.{Work}
 use Rattle.jlr_types.specs.declared.Work.TheVariants.{Note, Resource as WorkOn}
 use Rattle.jlr_machine.specs.declared.object.Cleanable.{Cleanable as CleanableOf}
@@ -10,7 +11,8 @@ use Rattle.jlr_machine.specs.declared.machine.Machine.{Machine}
 use Rattle.jlr_machine.specs.declared.machine.Session.{Session}
 use Rattle.jlr_machine.specs.declared.machine.Resource.{Resource}
 use Rattle.jlr_machine.specs.declared.machine.Call.{Call}
-use Rattle.jlr_machine.specs.declared.machine.Call.TheVariants.{Free, Opening as CallOpening, Out as CallOut, Job as CallJob}
+use Rattle.jlr_machine.specs.declared.machine.Call.TheVariants.{Free, Opening as CallOpening, Out as CallOut}
+use Rattle.jlr_machine.specs.declared.machine.Call.TheVariants.{Job as CallJob}
 use Rattle.jlr_machine.specs.declared.machine.ResourceState.{ResourceState}
 use Rattle.jlr_machine.specs.declared.machine.ResourceState.TheVariants.{Opening, Idle, Out, Closing}
 use Rattle.jlr_machine.specs.declared.ask.Outcome.{Outcome}
@@ -27,8 +29,9 @@ use Rattle.jlr_machine.specs.WellFormed.{IsSessionAt, IsGuardAt, IsCleanableAt}
 
 -- ---- In a call
 
--- The resource with this Rid and action is what a mutator's call is on. The call's fence is on the guard of the resource, whose cleanable
--- is Armed and refers to it: so neither a collection nor the cleaner takes what the call is on
+-- The resource with this Rid and action is what a mutator's call is on. The call's fence is on the guard of the
+-- resource, whose cleanable is Armed and refers to it: so neither a collection nor the cleaner takes what the call is
+-- on
 pub record IsInCall (m : Machine) (rid action : ℕ) (call : Call) : Type 0 where
   pub mutator : ℕ
   pub session : Session
@@ -48,8 +51,8 @@ pub record IsInCall (m : Machine) (rid action : ℕ) (call : Call) : Type 0 wher
 
 -- ---- Where a resource is in its life
 
--- the number of its action is not given yet; it is in this state; or it has ended, as is also said where the number went to an action
--- that finishes no resource
+-- the number of its action is not given yet; it is in this state; or it has ended, as is also said where the number
+-- went to an action that finishes no resource
 pub data Phase : Type 0 where
   NotYet : Phase
   In : ResourceState → Phase
@@ -114,11 +117,12 @@ open_ended (Failed fault) = FailsOpen
 abbrev pub ended_by : Machine → Ask → Option (ℕ × Deed)
 ended_by m (Opened k outcome) = doing (open_ended outcome) (action_called m k)
 ended_by m (CheckIn k outcome) = doing EndsCall (action_called m k)
-ended_by m (Finish by action outcome) = doing EndsFinish (option_and_then (λ job. to_finish job.action job.work) (job_of m action))
+ended_by m (Finish by action outcome) =
+    doing EndsFinish (option_and_then (λ job. to_finish job.action job.work) (job_of m action))
 ended_by m _ = None
 
--- What an entry does, and to the resource of which action. An open, a call and a finish begin with the answer that hands them out,
--- whatever the ask, and end with the ask that tells how they went
+-- What an entry does, and to the resource of which action. An open, a call and a finish begin with the answer that
+-- hands them out, whatever the ask, and end with the ask that tells how they went
 abbrev pub deed_of : Machine → Ask → Answer → Option (ℕ × Deed)
 deed_of m ask (Refused by) = None
 deed_of m ask (Prepared rid) = Some (m.next_action, BeginsOpen)
@@ -134,8 +138,8 @@ done_to action (Some x) = cond (x.0 == action) (Some x.1) None
 abbrev pub deed : Machine → Entry → ℕ → Option Deed
 deed m e action = done_to action (deed_of m e.ask e.answer)
 
--- What an entry makes of a resource: it stays where it is, unless something is done to it. A number may go to an action that finishes
--- no resource
+-- What an entry makes of a resource: it stays where it is, unless something is done to it. A number may go to an action
+-- that finishes no resource
 abbrev pub GoesOn : Phase → Option Deed → Phase → Type 0
 GoesOn old None new = (new ≡ old) ⊎ ((old ≡ NotYet) × (new ≡ Over))
 GoesOn old (Some d) new = after_deed old d ≡ Some new
@@ -154,7 +158,8 @@ reads_and_writes (suc n) = BeginsCall ∷ EndsCall ∷ reads_and_writes n
 
 -- one open, that fails; or one open, then reads and writes, then one finish
 abbrev pub IsWholeLife : List Deed → Type 0
-IsWholeLife all = (all ≡ BeginsOpen ∷ FailsOpen ∷ []) ⊎ ((n : ℕ) × (all ≡ BeginsOpen ∷ EndsOpen ∷ (reads_and_writes n ++ BeginsFinish ∷ EndsFinish ∷ [])))
+IsWholeLife all = (all ≡ BeginsOpen ∷ FailsOpen ∷ [])
+    ⊎ ((n : ℕ) × (all ≡ BeginsOpen ∷ EndsOpen ∷ (reads_and_writes n ++ BeginsFinish ∷ EndsFinish ∷ [])))
 
 -- a life so far is the beginning of a whole one
 abbrev pub IsLife : List Deed → Type 0

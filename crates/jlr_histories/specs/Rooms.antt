@@ -1,9 +1,10 @@
--- What an entry takes to be written down: the items of a list answer, the bytes of one that tells what a call read, and the slots
--- of new objects.
+-- What an entry takes to be written down: the items of a list answer, the bytes of one that tells what a call read, and
+-- the slots of new objects.
 use Rattle.std.specs.Prelude.{ℕ, ◌≤◌, length}
 use Rattle.jlr_machine.specs.declared.machine.Machine.{Machine}
 use Rattle.jlr_machine.specs.declared.ask.Ask.{Ask}
-use Rattle.jlr_machine.specs.declared.ask.Ask.TheVariants.{Names as AskNames, Notes as AskNotes, Faults as AskFaults, CheckIn}
+use Rattle.jlr_machine.specs.declared.ask.Ask.TheVariants.{Names as AskNames, Notes as AskNotes, Faults as AskFaults}
+use Rattle.jlr_machine.specs.declared.ask.Ask.TheVariants.{CheckIn}
 use Rattle.jlr_machine.specs.declared.ask.CallOutcome.TheVariants.{Data as GotData}
 use Rattle.jlr_machine.specs.declared.ask.Answer.{Answer}
 use Rattle.jlr_machine.specs.declared.ask.Answer.TheVariants.{Names, Notes, Faults, Data}
@@ -41,7 +42,8 @@ HasRoomFor ask room = Unit {0}
 -- ---- Laws
 
 abbrev pub AnswersFit : Type 0
-AnswersFit = (m : Machine) (e : Entry) (room : Rooms) → IsWellFormed m → IsLegal m e → HasRoomFor e.ask room → Fits room e.answer
+AnswersFit = (m : Machine) (e : Entry) (room : Rooms) → IsWellFormed m → IsLegal m e → HasRoomFor e.ask room
+    → Fits room e.answer
 
 -- no more new objects than the ask makes
 abbrev pub NewObjectsFit : Type 0

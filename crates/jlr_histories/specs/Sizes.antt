@@ -19,5 +19,6 @@ IsSameSize _ _ = ⊥
 -- no entry changes how many fields or elements an object has
 abbrev pub PlainKeepsItsSize : Type 0
 PlainKeepsItsSize =
-    (m : Machine) (e : Entry) (s : ℕ) (x : Contents) → IsWellFormed m → IsLegal m e → LivesOn m (e ∷ []) s → at m.objects s ≡ Some (Plain x)
+    (m : Machine) (e : Entry) (s : ℕ) (x : Contents) → IsWellFormed m → IsLegal m e → LivesOn m (e ∷ []) s
+    → at m.objects s ≡ Some (Plain x)
     → (y : Contents) × (at (apply m e).objects s ≡ Some (Plain y)) × IsSameSize x y

@@ -1,5 +1,5 @@
-//! What is known of an entry before it is made: which ends may still come, what there is to write down, and whether it collects. Each
-//! function's contract is the law, and its body is empty.
+//! What is known of an entry before it is made: which ends may still come, what there is to write down, and whether it
+//! collects. Each function's contract is the law, and its body is empty.
 
 ghost use Rattle.jlr_histories.specs.Collecting.{NoCollectionUnlessItMay};
 ghost use Rattle.jlr_histories.specs.Owing.{EndLowersWhatIsOwed, OwedIsBounded};

@@ -1,5 +1,6 @@
 -- What an image keeps at its start, at a cut, and once its empty machine is made.
-use Rattle.std.proofs.Common.{◌≡◌, ℕ, ◌≤◌, Bool, true, false, cond, nat_le, List, [], Option, Some, None, option_map, replicate, is_some, refl, sym, ◌∙◌, ap, subst, arith}
+use Rattle.std.proofs.Common.{◌≡◌, ℕ, ◌≤◌, Bool, true, false, cond, nat_le, List, [], Option, Some, None, option_map, replicate, is_some}
+use Rattle.std.proofs.Common.{refl, sym, ◌∙◌, ap, subst, arith}
 use Rattle.std.proofs.lemmas.Bool.{and_parts, both_ways, leb-true}
 use Rattle.jlr_types.specs.declared.limits.Limits.{Limits}
 use Rattle.jlr_types.specs.declared.limits.LimitFault.{LimitFault}
@@ -35,7 +36,8 @@ starts limits =
     record {
       machine = m;
       same = refl;
-      formed = empty_is_well_formed limits.cells limits.sessions limits.resources (at_most 16 65536 limits.cells cells.0) (at_most 1 64 limits.sessions sessions.0);
+      formed = empty_is_well_formed limits.cells limits.sessions limits.resources (at_most 16 65536 limits.cells cells.0)
+          (at_most 1 64 limits.sessions sessions.0);
       last = m;
       run = refl;
     }
@@ -46,18 +48,21 @@ shut_is_closed : (n m : Machine) → n ≡ unseen m → closed n ≡ shut n
 shut_is_closed n m same = ap {A = Machine} {B = Machine} closed same ∙ sym (ap {A = Machine} {B = Machine} shut same)
 
 -- what is kept is the image, once all is followed and the cycle is closed
-kept_is : (limits : Limits) (kept : Option Machine) → LeadsOn (kept_from limits kept) [] → kept_from limits (option_map closed kept) ≡ shut (kept_from limits kept)
+kept_is : (limits : Limits) (kept : Option Machine) → LeadsOn (kept_from limits kept) []
+    → kept_from limits (option_map closed kept) ≡ shut (kept_from limits kept)
 kept_is limits None h = refl
 kept_is limits (Some n) h = shut_is_closed n h.machine h.same
 
 led_from : (x image m : Machine) (entries : List Entry) → image ≡ shut x → Run image entries m → led (shut x) entries ≡ unseen m
 led_from x image m entries is run = led_by_run (shut x) m entries (subst (λ (y : Machine). Run y entries m) is run)
 
-pub takes_over : (limits : Limits) (kept : Option Machine) (image m : Machine) (rest entries : List Entry) → LeadsOn (kept_from limits kept) rest → rest ≡ [] → image_from limits kept rest ≡ image → Run image entries m
+pub takes_over : (limits : Limits) (kept : Option Machine) (image m : Machine) (rest entries : List Entry)
+    → LeadsOn (kept_from limits kept) rest → rest ≡ [] → image_from limits kept rest ≡ image → Run image entries m
     → image_from limits (option_map closed kept) entries ≡ shut m
 takes_over limits kept image m rest entries leads none is run =
     let here = subst (LeadsOn (kept_from limits kept)) none leads in
-    let shut_here : image ≡ shut (kept_from limits kept) = sym is ∙ ap {A = List Entry} {B = Machine} (λ l. image_from limits kept l) none in
+    let shut_here : image ≡ shut (kept_from limits kept) = sym is
+    ∙ ap {A = List Entry} {B = Machine} (λ l. image_from limits kept l) none in
     ap {A = Machine} {B = Machine} (λ x. shut (led x entries)) (kept_is limits kept here)
     ∙ ap {A = Machine} {B = Machine} shut (led_from (kept_from limits kept) image m entries shut_here run)
 
@@ -69,7 +74,8 @@ is_none (Some m) e = absurd (both_ways false refl (sym e))
 
 pub made : (limits : Limits) (kept : Option Machine) (m : Machine) (cells : Vec (Option Object)) (places : List (Option Object))
     → is_some kept ≡ false → AreFree cells limits.cells → limits.cells ≤ vec_len cells → places ≡ cells.items
-    → ((n : ℕ) → places ≡ replicate n None → m ≡ empty n limits.sessions limits.resources) → kept_from limits (Some m) ≡ kept_from limits kept
+    → ((n : ℕ) → places ≡ replicate n None → m ≡ empty n limits.sessions limits.resources)
+    → kept_from limits (Some m) ≡ kept_from limits kept
 made limits kept m cells places none free many same is =
     let whole : vec_len cells ≡ limits.cells = omega (arith, free.few, many) in
     is limits.cells (same ∙ free.nothing ∙ ap {A = ℕ} {B = List (Option Object)} (λ n. replicate n None) whole)

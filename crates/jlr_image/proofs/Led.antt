@@ -32,9 +32,12 @@ leads_further n e entries h = record {
 
 -- ---- The entry at a place
 
-rest_is : (entries : List Entry) (i : ℕ) (e : Entry) → i < length entries → e ≡ slice_index_or entries i e → drop i entries ≡ e ∷ drop (i + 1) entries
+rest_is : (entries : List Entry) (i : ℕ) (e : Entry) → i < length entries → e ≡ slice_index_or entries i e
+    → drop i entries ≡ e ∷ drop (i + 1) entries
 rest_is entries i e h is = drop_more entries i e h ∙ ap {A = Entry} {B = List Entry} (λ x. x ∷ drop (i + 1) entries) (sym is)
 
-pub leads_past : (n n' : Machine) (entries : List Entry) (i : ℕ) (e : Entry) → i < length entries → e ≡ slice_index_or entries i e → LeadsOn n (drop i entries) → n' ≡ unseen (apply n e) → LeadsOn n' (drop (i + 1) entries)
+pub leads_past : (n n' : Machine) (entries : List Entry) (i : ℕ) (e : Entry) → i < length entries → e ≡ slice_index_or entries i e
+    → LeadsOn n (drop i entries) → n' ≡ unseen (apply n e) → LeadsOn n' (drop (i + 1) entries)
 leads_past n n' entries i e h is l to =
-    subst (λ (x : Machine). LeadsOn x (drop (i + 1) entries)) (sym to) (leads_further n e (drop (i + 1) entries) (subst (LeadsOn n) (rest_is entries i e h is) l))
+    subst (λ (x : Machine). LeadsOn x (drop (i + 1) entries)) (sym to)
+    (leads_further n e (drop (i + 1) entries) (subst (LeadsOn n) (rest_is entries i e h is) l))

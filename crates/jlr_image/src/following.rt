@@ -29,7 +29,8 @@ pub(crate) fn follow_at(
 ) -> Result<(), AllocError>
     requires place { place < length entries.now }
     requires leads { LeadsOn machine.old (drop place entries.now) }
-    ensures same { OnOk result (led machine.new (drop (place + 1) entries.now) ≡ led machine.old (drop place entries.now)) }
+    ensures same { OnOk result (led machine.new (drop (place + 1) entries.now)
+        ≡ led machine.old (drop place entries.now)) }
     ensures leads { OnOk result (LeadsOn machine.new (drop (place + 1) entries.now)) }
     ensures err { OnErr result (machine.new ≡ machine.old) }
 {
@@ -64,8 +65,8 @@ pub(crate) fn make_array(entries: &[Entry]) -> bool {
     false
 }
 
-/// About how much work it is to follow an entry, beyond what any entry takes: a collection passes over all cells, and where the first of a
-/// list is taken out all others move. To copy four cells is a unit.
+/// About how much work it is to follow an entry, beyond what any entry takes: a collection passes over all cells, and
+/// where the first of a list is taken out all others move. To copy four cells is a unit.
 pub(crate) fn work_of(machine: &Machine, entry: &Entry) -> usize {
     if entry.choice.collected.is_some() {
         return machine.objects.len() / CELLS_AT_ONCE;

@@ -35,8 +35,8 @@ const CELLS_COPIED: usize = 4;
 /// At least so many cells of the empty machine are made at once.
 const CELLS_MADE: usize = 64;
 
-/// The machine before a trace. At a cut it takes the trace over, and follows it, entry by entry, with the calls that come then. Contracts
-/// see the machine to which the entries lead that are left, with no cycle open and nothing seen.
+/// The machine before a trace. At a cut it takes the trace over, and follows it, entry by entry, with the calls that
+/// come then. Contracts see the machine to which the entries lead that are left, with no cycle open and nothing seen.
 #[derive(Drop)]
 pub struct Image {
     alloc: Global,
@@ -97,8 +97,9 @@ impl Image {
         let _done = self.go_on();
     }
 
-    /// Whether a cut is to be followed, and not copied: where a copy would be long, as the trace may tell by an array that was made, or costs
-    /// more than to follow the entries, since they are fewer than the cells. It is copied where following has become more work than that.
+    /// Whether a cut is to be followed, and not copied: where a copy would be long, as the trace may tell by an array
+    /// that was made, or costs more than to follow the entries, since they are fewer than the cells. It is copied where
+    /// following has become more work than that.
     pub fn is_followed(&mut self, trace: &[Entry]) -> bool
         ensures { self.new ≡ self.old }
     {
@@ -117,11 +118,12 @@ impl Image {
         self.arrays
     }
 
-    /// Takes a trace over that leads on from the image, and gives an empty one with at least its room back. The image is then where the
-    /// trace led.
+    /// Takes a trace over that leads on from the image, and gives an empty one with at least its room back. The image
+    /// is then where the trace led.
     ///
     /// # Errors
-    /// `AllocError` where there is no memory, for that room or for what is left to be followed. Nothing has changed then.
+    /// `AllocError` where there is no memory, for that room or for what is left to be followed. Nothing has changed
+    /// then.
     pub fn lead_on(&mut self, trace: &mut Vec<Entry>) -> Result<(), AllocError>
         requires image { IsImage self.old }
         requires run { (m : MachineOf) × Run self.old trace.old.items m }
@@ -179,7 +181,8 @@ impl Image {
         Ok(())
     }
 
-    /// Whether following has become more work than a copy. Then the next cut copies, and nothing more is followed until then.
+    /// Whether following has become more work than a copy. Then the next cut copies, and nothing more is followed until
+    /// then.
     fn has_given_up(&self) -> bool {
         self.work >= self.limits.cells as usize / CELLS_COPIED
     }

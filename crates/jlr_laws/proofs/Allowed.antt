@@ -1,5 +1,6 @@
 -- What is known where an ask is not refused.
-use Rattle.std.proofs.Common.{◌≡◌, ℕ, Bool, true, false, not, ◌&&◌, ◌||◌, cond, List, [], ◌∷◌, refl, sym, ◌∙◌, ap, inl, inr, nat_eq, Option, Some, None, is_some, is_none, find, option_map, option_and_then, ◌==◌}
+use Rattle.std.proofs.Common.{◌≡◌, ℕ, Bool, true, false, not, ◌&&◌, ◌||◌, cond, List, [], ◌∷◌, refl, sym, ◌∙◌, ap, inl, inr, nat_eq, Option}
+use Rattle.std.proofs.Common.{Some, None, is_some, is_none, find, option_map, option_and_then, ◌==◌}
 use Rattle.std.specs.List.{list_any}
 use Rattle.std.proofs.lemmas.Bool.{both_ways, not-false, or_cases}
 use Rattle.jlr_types.specs.declared.Refusal.{Refusal}
@@ -16,7 +17,9 @@ use Rattle.jlr_machine.specs.declared.machine.Resource.{Resource}
 use Rattle.jlr_machine.specs.declared.ask.Ask.{Ask}
 use Rattle.jlr_machine.specs.Objects.{at, some_and, as_guard, as_cleanable, is_spent}
 use Rattle.jlr_machine.specs.Lookups.{slot_named, object_named, cleanable_at, resource_at}
-use Rattle.jlr_machine.specs.Refusals.{is_any, applies, listed, refusal, is_joined, has_call, is_in_flight, object, names_no_object, is_wrongly_null, is_of_wrong_kind, is_closed, is_out, is_out_state, is_opening, is_out_call, is_guard, is_cleanable}
+use Rattle.jlr_machine.specs.Refusals.{is_any, applies, listed, refusal, is_joined, has_call, is_in_flight, object, names_no_object}
+use Rattle.jlr_machine.specs.Refusals.{is_wrongly_null, is_of_wrong_kind, is_closed, is_out, is_out_state, is_opening, is_out_call}
+use Rattle.jlr_machine.specs.Refusals.{is_guard, is_cleanable}
 use Rattle.jlr_machine.specs.WellFormed.{IsWellFormed, IsSessionAt, IsCleanableAt}
 use Rattle.jlr_laws.proofs.SameProof.{Decides-refusal}
 use Rattle.jlr_laws.proofs.Frames.{no_some, root_from}
@@ -38,7 +41,8 @@ first_fails p x xs h =
       | false ↦ λ e f. (e, f)
     ] refl h
 
-none_applies : (p : Refusal → Bool) (by : Refusal) (xs : List Refusal) → find p xs ≡ None → list_any (λ r. nat_eq (number_of r) (number_of by)) xs ≡ true → p by ≡ false
+none_applies : (p : Refusal → Bool) (by : Refusal) (xs : List Refusal) → find p xs ≡ None
+    → list_any (λ r. nat_eq (number_of r) (number_of by)) xs ≡ true → p by ≡ false
 none_applies p by [] h l = absurd (both_ways false refl l)
 none_applies p by (x ∷ xs) h l =
     let f = first_fails p x xs h in
@@ -56,7 +60,8 @@ pub some_there : {A : Type 0} (o : Option A) → is_some o ≡ true → (x : A) 
 some_there None e = absurd (both_ways false refl e)
 some_there (Some x) e = (x, refl)
 
-pub and_then_gives : {A B : Type 0} (f : A → Option B) (o : Option A) (y : B) → option_and_then f o ≡ Some y → (x : A) × (o ≡ Some x) × (f x ≡ Some y)
+pub and_then_gives : {A B : Type 0} (f : A → Option B) (o : Option A) (y : B) → option_and_then f o ≡ Some y → (x : A) × (o ≡ Some x)
+    × (f x ≡ Some y)
 and_then_gives f None y e = no_some y e
 and_then_gives f (Some x) y e = (x, refl, e)
 
@@ -91,13 +96,15 @@ out_call (CallOpening rid) e = absurd (cc e)
 out_call (CallOut rid) e = (rid, refl)
 out_call (CallJob action) e = absurd (cc e)
 
-pub opening_session : (m : Machine) (k : ℕ) → not (some_and (λ s. is_opening s.call) (at m.mutators k)) ≡ false → (s : Session) × IsSessionAt m k s × (rid : ℕ) × (s.call ≡ CallOpening rid)
+pub opening_session : (m : Machine) (k : ℕ) → not (some_and (λ s. is_opening s.call) (at m.mutators k)) ≡ false → (s : Session)
+    × IsSessionAt m k s × (rid : ℕ) × (s.call ≡ CallOpening rid)
 opening_session m k e =
     let r = some_and_gives (λ s. is_opening s.call) (at m.mutators k) (not-false _ e) in
     let c = opening_call r.0.call r.2 in
     (r.0, r.1, c.0, c.1)
 
-pub out_session : (m : Machine) (k : ℕ) → not (some_and (λ s. is_out_call s.call) (at m.mutators k)) ≡ false → (s : Session) × IsSessionAt m k s × (rid : ℕ) × (s.call ≡ CallOut rid)
+pub out_session : (m : Machine) (k : ℕ) → not (some_and (λ s. is_out_call s.call) (at m.mutators k)) ≡ false → (s : Session)
+    × IsSessionAt m k s × (rid : ℕ) × (s.call ≡ CallOut rid)
 out_session m k e =
     let r = some_and_gives (λ s. is_out_call s.call) (at m.mutators k) (not-false _ e) in
     let c = out_call r.0.call r.2 in
@@ -112,7 +119,8 @@ pub record IsNamed (m : Machine) (k h s : ℕ) (session : Session) (o : Object) 
   pub there : at m.objects s ≡ Some o
   pub named : object_named m k h ≡ Some o
 
-pub named_of_slot : (m : Machine) (k h s : ℕ) → IsWellFormed m → slot_named m k h ≡ Some s → (session : Session) × (o : Object) × IsNamed m k h s session o
+pub named_of_slot : (m : Machine) (k h s : ℕ) → IsWellFormed m → slot_named m k h ≡ Some s → (session : Session) × (o : Object)
+    × IsNamed m k h s session o
 named_of_slot m k h s w e =
     let r = and_then_gives (λ z. at z.handles h) (at m.mutators k) s e in
     let o = some_there (at m.objects s) (w.slots.roots s (root_from m s (held k h r.0 r.1 r.2))) in
@@ -133,7 +141,8 @@ fits_there false e = absurd (cc e)
 
 -- the only handle of an ask
 pub only_operand : (m : Machine) (k h : ℕ) (fits : Object → Bool) → IsWellFormed m
-    → (names_no_object m k (object h fits) || false) ≡ false → (is_wrongly_null (object h fits) || false) ≡ false → (is_of_wrong_kind m k (object h fits) || false) ≡ false
+    → (names_no_object m k (object h fits) || false) ≡ false → (is_wrongly_null (object h fits) || false) ≡ false
+    → (is_of_wrong_kind m k (object h fits) || false) ≡ false
     → (s : ℕ) × (session : Session) × (o : Object) × IsNamed m k h s session o × (fits o ≡ true)
 only_operand m k h fits w a b c =
     let s = some_if_not_none (slot_named m k h) (not_null (h == 0) (is_none (slot_named m k h)) b a) in
@@ -163,13 +172,17 @@ cleanable_of (Guard g) e = absurd (cc e)
 
 -- ---- The guard that an ask names
 
-pub closed_is : (m : Machine) (k h : ℕ) (g : GuardOf) (c : CleanableOf) → object_named m k h ≡ Some (Guard g) → IsCleanableAt m g.cleanable c → is_closed m k h ≡ is_spent c.state
+pub closed_is : (m : Machine) (k h : ℕ) (g : GuardOf) (c : CleanableOf) → object_named m k h ≡ Some (Guard g)
+    → IsCleanableAt m g.cleanable c → is_closed m k h ≡ is_spent c.state
 closed_is m k h g c e f =
-    ap (λ o. some_and (λ c. is_spent c.state) (option_and_then (cleanable_at m) (option_map (λ g. g.cleanable) (option_and_then as_guard o)))) e
+    ap (λ o. some_and (λ c. is_spent c.state) (option_and_then (cleanable_at m)
+    (option_map (λ g. g.cleanable) (option_and_then as_guard o)))) e
     ∙ ap (λ o. some_and (λ c. is_spent c.state) (option_and_then as_cleanable o)) f
 
-pub out_is : (m : Machine) (k h : ℕ) (g : GuardOf) (r : Resource) → object_named m k h ≡ Some (Guard g) → resource_at m g.rid ≡ Some r → is_closed m k h ≡ false → is_out m k h ≡ is_out_state r.state
+pub out_is : (m : Machine) (k h : ℕ) (g : GuardOf) (r : Resource) → object_named m k h ≡ Some (Guard g) → resource_at m g.rid ≡ Some r
+    → is_closed m k h ≡ false → is_out m k h ≡ is_out_state r.state
 out_is m k h g r e f d =
-    ap (λ b. not b && some_and (λ r. is_out_state r.state) (option_and_then (λ g. resource_at m g.rid) (option_and_then as_guard (object_named m k h)))) d
+    ap (λ b. not b && some_and (λ r. is_out_state r.state)
+    (option_and_then (λ g. resource_at m g.rid) (option_and_then as_guard (object_named m k h)))) d
     ∙ ap (λ o. some_and (λ r. is_out_state r.state) (option_and_then (λ g. resource_at m g.rid) (option_and_then as_guard o))) e
     ∙ ap (some_and (λ r. is_out_state r.state)) f

@@ -49,20 +49,23 @@ resource_moved m rid a b s t e f h = h ∙ ap (λ x. Some (resource rid x s)) e 
 abbrev pub HasCleanable : Machine → ℕ → ℕ → Type 0
 HasCleanable m rid action = (s : ℕ) × (c : CleanableOf) × IsUnspent m s c × (c.action ≡ action) × (c.work ≡ WorkOn rid)
 
-pub worker_from : (m : Machine) (rid action : ℕ) (state : ResourceState) → (state ≡ Closing → ⊥) → HasCleanable m rid action → HasWorker m rid action state
+pub worker_from : (m : Machine) (rid action : ℕ) (state : ResourceState) → (state ≡ Closing → ⊥) → HasCleanable m rid action
+    → HasWorker m rid action state
 worker_from m rid action Opening d h = h
 worker_from m rid action Idle d h = h
 worker_from m rid action Out d h = h
 worker_from m rid action Closing d h = absurd (d refl)
 
-pub worker_gives : (m : Machine) (rid action : ℕ) (state : ResourceState) → (state ≡ Closing → ⊥) → HasWorker m rid action state → HasCleanable m rid action
+pub worker_gives : (m : Machine) (rid action : ℕ) (state : ResourceState) → (state ≡ Closing → ⊥) → HasWorker m rid action state
+    → HasCleanable m rid action
 worker_gives m rid action Opening d h = h
 worker_gives m rid action Idle d h = h
 worker_gives m rid action Out d h = h
 worker_gives m rid action Closing d h = absurd (d refl)
 
 -- the workers of one machine are those of another
-pub worker_over : (m n : Machine) (rid action : ℕ) (state : ResourceState) → (HasCleanable m rid action → HasCleanable n rid action) → (HasWorker m rid action Closing → HasWorker n rid action Closing) → HasWorker m rid action state → HasWorker n rid action state
+pub worker_over : (m n : Machine) (rid action : ℕ) (state : ResourceState) → (HasCleanable m rid action → HasCleanable n rid action)
+    → (HasWorker m rid action Closing → HasWorker n rid action Closing) → HasWorker m rid action state → HasWorker n rid action state
 worker_over m n rid action Opening f g h = f h
 worker_over m n rid action Idle f g h = f h
 worker_over m n rid action Out f g h = f h

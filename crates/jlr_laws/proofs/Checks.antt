@@ -1,7 +1,9 @@
 -- Tests that compute, from which a collection of a given heap is seen to be one.
-use Rattle.std.proofs.Common.{◌≡◌, ℕ, zero, suc, ◌<◌, ◌≤◌, Bool, true, false, cond, not, ◌&&◌, ◌||◌, List, [], ◌∷◌, length, refl, sym, ◌∙◌, ap, subst, inl, inr, arith, nat_lt, IsTrue, Option, Some, None, map, option_map, option_to_list}
+use Rattle.std.proofs.Common.{◌≡◌, ℕ, zero, suc, ◌<◌, ◌≤◌, Bool, true, false, cond, not, ◌&&◌, ◌||◌, List, [], ◌∷◌, length, refl, sym, ◌∙◌}
+use Rattle.std.proofs.Common.{ap, subst, inl, inr, arith, nat_lt, IsTrue, Option, Some, None, map, option_map, option_to_list}
 use Rattle.std.specs.List.{list_all, flat_map}
-use Rattle.std.proofs.lemmas.Bool.{and_parts, and_from, both_ways, not-true, not_from_false, ltb-true, cond-true, cond-false, false_from_ne_true, cases_lt}
+use Rattle.std.proofs.lemmas.Bool.{and_parts, and_from, both_ways, not-true, not_from_false, ltb-true, cond-true, cond-false}
+use Rattle.std.proofs.lemmas.Bool.{false_from_ne_true, cases_lt}
 use Rattle.jlr_types.specs.declared.RefKind.{RefKind}
 use Rattle.jlr_types.specs.declared.RefKind.TheVariants.{Soft, Weak, Phantom}
 use Rattle.jlr_machine.specs.declared.object.Object.{Object}
@@ -16,7 +18,8 @@ use Rattle.jlr_laws.proofs.Paths.{AreEdgesWithin, IsClosed, sound, kept as stays
 
 -- ---- Tables
 
-pub at-map : {A : Type 0} (f : A → A) (table : Table A) (s : ℕ) → at (map {A = Option A} {B = Option A} (option_map f) table) s ≡ option_map f (at table s)
+pub at-map : {A : Type 0} (f : A → A) (table : Table A) (s : ℕ)
+    → at (map {A = Option A} {B = Option A} (option_map f) table) s ≡ option_map f (at table s)
 at-map f [] s = refl
 at-map f (o ∷ places) zero = refl
 at-map f (o ∷ places) (suc s) = at-map f places s
@@ -37,7 +40,8 @@ edges_within chain heap = list_all (λ x. all_below (length heap) (edges_from ch
 pub within : (chain : Chain) (heap : Heap) → edges_within chain heap ≡ true → AreEdgesWithin chain heap
 within chain heap h x s m = elim (cases_lt x (length heap)) [
   | inl inside ↦
-      let row = all_gives (λ x. all_below (length heap) (edges_from chain heap x)) (up_to 0 (length heap)) x h (up_to_in 0 (length heap) x (omega arith) (omega (arith, inside))) in
+      let row = all_gives (λ x. all_below (length heap) (edges_from chain heap x)) (up_to 0 (length heap)) x h
+      (up_to_in 0 (length heap) x (omega arith) (omega (arith, inside))) in
       ltb-true s (length heap) (all_gives (λ s. nat_lt s (length heap)) (edges_from chain heap x) s row m)
   | inr outside ↦ nothing s (subst (λ o. s ∈ flat_map (edges chain) (option_to_list o)) (at_beyond heap x outside) m)
 ]
@@ -73,7 +77,8 @@ module _ (chain : Chain) (heap : Heap) (B S : List ℕ) (f : Found chain heap B 
 abbrev pub found_only : List ℕ → List ℕ → ℕ → Bool
 found_only by stronger s = (by ∋ s) && not (stronger ∋ s)
 
-module _ (kind : RefKind) (heap : Heap) (B by stronger : List ℕ) (f : Found (chain_by kind) heap B by) (g : Found (chain_below kind) heap B stronger) where
+module _ (kind : RefKind) (heap : Heap) (B by stronger : List ℕ) (f : Found (chain_by kind) heap B by)
+    (g : Found (chain_below kind) heap B stronger) where
   pub reachable_from : (s : ℕ) → HasStrength kind heap B s → found_only by stronger s ≡ true
   reachable_from s r =
       and_from (by ∋ s) (not (stronger ∋ s)) (found_complete (chain_by kind) heap B by f s r.1)
@@ -81,8 +86,10 @@ module _ (kind : RefKind) (heap : Heap) (B by stronger : List ℕ) (f : Found (c
 
   pub reachable_gives : (s : ℕ) → found_only by stronger s ≡ true → HasStrength kind heap B s
   reachable_gives s h =
-      let parts = and_parts (by ∋ s) (not (stronger ∋ s)) h in
-      (λ r. both_ways (stronger ∋ s) (not-true (stronger ∋ s) parts.1) (found_complete (chain_below kind) heap B stronger g s r), found_sound (chain_by kind) heap B by f s parts.0)
+      let parts = and_parts (by ∋ s) (not (stronger ∋ s)) h in (
+        λ r. both_ways (stronger ∋ s) (not-true (stronger ∋ s) parts.1) (found_complete (chain_below kind) heap B stronger g s r),
+        found_sound (chain_by kind) heap B by f s parts.0,
+      )
 
 -- ---- Clearing
 
@@ -92,17 +99,21 @@ cleared_object kind test o = cond (some_and test (referent kind o)) (without_ref
 abbrev pub cleared : RefKind → (ℕ → Bool) → Heap → Heap
 cleared kind test heap = map {A = Option Object} {B = Option Object} (option_map (cleared_object kind test)) heap
 
-object_cleared : (kind : RefKind) (C : ℕ → Type 0) (test : ℕ → Bool) (o : Object) → ((x : ℕ) → C x → test x ≡ true) → PointsInto kind C (Some o) → cleared_object kind test o ≡ without_referent o
-object_cleared kind C test o passing p = cond-true (some_and test (referent kind o)) (without_referent o) o (subst (λ r. some_and test r ≡ true) (sym p.1) (passing p.0 p.2))
+object_cleared : (kind : RefKind) (C : ℕ → Type 0) (test : ℕ → Bool) (o : Object) → ((x : ℕ) → C x → test x ≡ true)
+    → PointsInto kind C (Some o) → cleared_object kind test o ≡ without_referent o
+object_cleared kind C test o passing p =
+    cond-true (some_and test (referent kind o)) (without_referent o) o (subst (λ r. some_and test r ≡ true) (sym p.1) (passing p.0 p.2))
 
-object_kept : (kind : RefKind) (C : ℕ → Type 0) (test : ℕ → Bool) (o : Object) → ((x : ℕ) → test x ≡ true → C x) → ¬ (PointsInto kind C (Some o)) → cleared_object kind test o ≡ o
+object_kept : (kind : RefKind) (C : ℕ → Type 0) (test : ℕ → Bool) (o : Object) → ((x : ℕ) → test x ≡ true → C x)
+    → ¬ (PointsInto kind C (Some o)) → cleared_object kind test o ≡ o
 object_kept kind C test o passed p =
     elim (referent kind o) as (λ r. referent kind o ≡ r → cond (some_and test r) (without_referent o) o ≡ o) [
       | None ↦ λ e. refl
       | Some x ↦ λ e. cond-false (test x) (without_referent o) o (false_from_ne_true (test x) (λ t. p (x, e, passed x t)))
     ] refl
 
-module _ (kind : RefKind) (C : ℕ → Type 0) (test : ℕ → Bool) (heap : Heap) (passing : (x : ℕ) → C x → test x ≡ true) (passed : (x : ℕ) → test x ≡ true → C x) where
+module _ (kind : RefKind) (C : ℕ → Type 0) (test : ℕ → Bool) (heap : Heap) (passing : (x : ℕ) → C x → test x ≡ true)
+    (passed : (x : ℕ) → test x ≡ true → C x) where
   cells_cleared : (heap : Heap) → length (cleared kind test heap) ≡ length heap
   cells_cleared [] = refl
   cells_cleared (o ∷ places) = ap suc (cells_cleared places)
@@ -110,7 +121,8 @@ module _ (kind : RefKind) (C : ℕ → Type 0) (test : ℕ → Bool) (heap : Hea
   objects_cleared : (s : ℕ) → PointsInto kind C (at heap s) → at (cleared kind test heap) s ≡ option_map without_referent (at heap s)
   objects_cleared s =
       let there = at-map (cleared_object kind test) heap s in
-      elim (at heap s) as (λ o. at (cleared kind test heap) s ≡ option_map (cleared_object kind test) o → PointsInto kind C o → at (cleared kind test heap) s ≡ option_map without_referent o) [
+      elim (at heap s) as (λ o. at (cleared kind test heap) s ≡ option_map (cleared_object kind test) o → PointsInto kind C o
+      → at (cleared kind test heap) s ≡ option_map without_referent o) [
         | None ↦ λ e p. e
         | Some o ↦ λ e p. e ∙ ap (λ x. Some x) (object_cleared kind C test o passing p)
       ] there
@@ -118,7 +130,8 @@ module _ (kind : RefKind) (C : ℕ → Type 0) (test : ℕ → Bool) (heap : Hea
   objects_kept : (s : ℕ) → ¬ (PointsInto kind C (at heap s)) → at (cleared kind test heap) s ≡ at heap s
   objects_kept s =
       let there = at-map (cleared_object kind test) heap s in
-      elim (at heap s) as (λ o. at (cleared kind test heap) s ≡ option_map (cleared_object kind test) o → ¬ (PointsInto kind C o) → at (cleared kind test heap) s ≡ o) [
+      elim (at heap s) as (λ o. at (cleared kind test heap) s ≡ option_map (cleared_object kind test) o → ¬ (PointsInto kind C o)
+      → at (cleared kind test heap) s ≡ o) [
         | None ↦ λ e p. e
         | Some o ↦ λ e p. e ∙ ap (λ x. Some x) (object_kept kind C test o passed p)
       ] there
@@ -167,21 +180,27 @@ module _ (heap : Heap) (B kept pending : List ℕ) (k : Checks heap B kept pendi
   C s = HasStrength Soft heap B s × IsTrue (not (kept ∋ s))
 
   to_test : (s : ℕ) → C s → soft_test k.soft k.strong kept s ≡ true
-  to_test s c = and_from (found_only k.soft k.strong s) (not (kept ∋ s)) (reachable_from Soft heap B k.soft k.strong k.soft_found k.strong_found s c.0) c.1
+  to_test s c = and_from (found_only k.soft k.strong s) (not (kept ∋ s))
+      (reachable_from Soft heap B k.soft k.strong k.soft_found k.strong_found s c.0) c.1
 
   from_test : (s : ℕ) → soft_test k.soft k.strong kept s ≡ true → C s
-  from_test s h = let parts = and_parts (found_only k.soft k.strong s) (not (kept ∋ s)) h in (reachable_gives Soft heap B k.soft k.strong k.soft_found k.strong_found s parts.0, parts.1)
+  from_test s h = let parts = and_parts (found_only k.soft k.strong s) (not (kept ∋ s)) h in
+      (reachable_gives Soft heap B k.soft k.strong k.soft_found k.strong_found s parts.0, parts.1)
 
   implied_one : (a c : Bool) → (not a || c) ≡ true → a ≡ true → c ≡ true
   implied_one true c h p = h
   implied_one false c h p = absurd (both_ways false refl p)
 
   kept_closed : IsClosed Strong heap kept
-  kept_closed y x m e = all_gives (λ x. kept ∋ x) (edges_from Strong heap y) x (all_gives (λ y. list_all (λ x. kept ∋ x) (edges_from Strong heap y)) kept y k.closed m) e
+  kept_closed y x m e = all_gives (λ x. kept ∋ x) (edges_from Strong heap y) x
+      (all_gives (λ y. list_all (λ x. kept ∋ x) (edges_from Strong heap y)) kept y k.closed m) e
 
   allowed_closed : (x y : ℕ) → C x → HasStrength Soft heap B y → Reaches Strong heap y x → C y
-  allowed_closed x y c r path =
-      (r, not_from_false (kept ∋ y) (false_from_ne_true (kept ∋ y) (λ m. both_ways (kept ∋ x) (not-true (kept ∋ x) c.1) (along Strong heap kept kept_closed y path.0 x m path.1))))
+  allowed_closed x y c r path = (
+    r,
+    not_from_false (kept ∋ y) (false_from_ne_true (kept ∋ y)
+        (λ m. both_ways (kept ∋ x) (not-true (kept ∋ x) c.1) (along Strong heap kept kept_closed y path.0 x m path.1))),
+  )
 
   to_handed : (s : ℕ) → s ∈ pending → IsMadePending heap k.phantom_left kept s
   to_handed s m =
@@ -203,12 +222,23 @@ module _ (heap : Heap) (B kept pending : List ℕ) (k : Checks heap B kept pendi
         soft_left = k.soft_left;
         weak_left = k.weak_left;
         phantom_left = k.phantom_left;
-        soft = (record { members = λ x c. c.0; closed = allowed_closed }, subst (λ h. Clears Soft C heap h) k.soft_cleared (cleared-Clears Soft C (soft_test k.soft k.strong kept) heap to_test from_test));
-        weak = subst (λ h. Clears Weak (HasStrength Weak k.soft_left B) k.soft_left h) k.weak_cleared (cleared-Clears Weak (HasStrength Weak k.soft_left B) (found_only k.weak_then k.soft_then) k.soft_left
-            (reachable_from Weak k.soft_left B k.weak_then k.soft_then k.weak_then_found k.soft_then_found) (reachable_gives Weak k.soft_left B k.weak_then k.soft_then k.weak_then_found k.soft_then_found));
-        phantom = subst (λ h. Clears Phantom (HasStrength Phantom k.weak_left B) k.weak_left h) k.phantom_cleared (cleared-Clears Phantom (HasStrength Phantom k.weak_left B) (found_only k.any_later k.weak_later) k.weak_left
-            (reachable_from Phantom k.weak_left B k.any_later k.weak_later k.any_later_found k.weak_later_found) (reachable_gives Phantom k.weak_left B k.any_later k.weak_later k.any_later_found k.weak_later_found));
-        exact = λ s. (found_sound UpToPhantom k.phantom_left B kept k.kept_found s, found_complete UpToPhantom k.phantom_left B kept k.kept_found s);
+        soft = (
+          record { members = λ x c. c.0; closed = allowed_closed },
+          subst (λ h. Clears Soft C heap h) k.soft_cleared
+              (cleared-Clears Soft C (soft_test k.soft k.strong kept) heap to_test from_test),
+        );
+        weak = subst (λ h. Clears Weak (HasStrength Weak k.soft_left B) k.soft_left h) k.weak_cleared
+            (cleared-Clears Weak (HasStrength Weak k.soft_left B) (found_only k.weak_then k.soft_then) k.soft_left
+            (reachable_from Weak k.soft_left B k.weak_then k.soft_then k.weak_then_found k.soft_then_found)
+            (reachable_gives Weak k.soft_left B k.weak_then k.soft_then k.weak_then_found k.soft_then_found));
+        phantom = subst (λ h. Clears Phantom (HasStrength Phantom k.weak_left B) k.weak_left h) k.phantom_cleared
+            (cleared-Clears Phantom (HasStrength Phantom k.weak_left B) (found_only k.any_later k.weak_later) k.weak_left
+            (reachable_from Phantom k.weak_left B k.any_later k.weak_later k.any_later_found k.weak_later_found)
+            (reachable_gives Phantom k.weak_left B k.any_later k.weak_later k.any_later_found k.weak_later_found));
+        exact = λ s. (
+          found_sound UpToPhantom k.phantom_left B kept k.kept_found s,
+          found_complete UpToPhantom k.phantom_left B kept k.kept_found s,
+        );
         pended = λ s. (to_handed s, from_handed s);
         once = k.once;
         rising = k.rising;

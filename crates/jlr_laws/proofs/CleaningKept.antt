@@ -8,10 +8,13 @@ use Rattle.jlr_machine.specs.declared.machine.Session.{Session}
 use Rattle.jlr_machine.specs.declared.machine.ResourceState.{ResourceState}
 use Rattle.jlr_machine.specs.declared.machine.ResourceState.TheVariants.{Opening, Idle, Out, Closing}
 use Rattle.jlr_machine.specs.Objects.{Table, Heap, at, as_cleanable, as_guard}
-use Rattle.jlr_machine.specs.WellFormed.{AreActions, AreResources, IsPrivate, IsUnspent, IsCleanableAt, IsGuardAt, HasWorker, IsFencing, is_unspent_place}
+use Rattle.jlr_machine.specs.WellFormed.{AreActions, AreResources, IsPrivate, IsUnspent, IsCleanableAt, IsGuardAt, HasWorker, IsFencing}
+use Rattle.jlr_machine.specs.WellFormed.{is_unspent_place}
 use Rattle.jlr_laws.proofs.Frames.{is_cleanable_there, is_guard_there}
 
-module _ (m : Machine) (heap : Heap) (table : Table Session) (cleanables : (s : ℕ) → option_and_then as_cleanable (at heap s) ≡ option_and_then as_cleanable (at m.objects s)) (guards : (s : ℕ) → option_and_then as_guard (at heap s) ≡ option_and_then as_guard (at m.objects s)) where
+module _ (m : Machine) (heap : Heap) (table : Table Session)
+    (cleanables : (s : ℕ) → option_and_then as_cleanable (at heap s) ≡ option_and_then as_cleanable (at m.objects s))
+    (guards : (s : ℕ) → option_and_then as_guard (at heap s) ≡ option_and_then as_guard (at m.objects s)) where
   abbrev n : Machine
   n = record m { objects = heap; mutators = table }
 
@@ -39,8 +42,10 @@ module _ (m : Machine) (heap : Heap) (table : Table Session) (cleanables : (s : 
   worker_forth rid action Idle h = (h.0, h.1, unspent_forth h.0 h.1 h.2, h.3, h.4)
   worker_forth rid action Out h = (h.0, h.1, unspent_forth h.0 h.1 h.2, h.3, h.4)
 
-  pub fencing_forth : (s t : Session) (rid : ℕ) (state : ResourceState) → s.fence ≡ t.fence → IsFencing m s rid state → IsFencing n t rid state
-  fencing_forth s t rid state e h = (h.0, h.1, h.2, sym e ∙ h.3, guard_forth h.0 h.1 h.4, h.5, cleanable_forth h.1.cleanable h.2 h.6, h.7, h.8)
+  pub fencing_forth : (s t : Session) (rid : ℕ) (state : ResourceState) → s.fence ≡ t.fence → IsFencing m s rid state
+      → IsFencing n t rid state
+  fencing_forth s t rid state e h =
+      (h.0, h.1, h.2, sym e ∙ h.3, guard_forth h.0 h.1 h.4, h.5, cleanable_forth h.1.cleanable h.2 h.6, h.7, h.8)
 
   pub private_back : (s : ℕ) → IsPrivate n s → IsPrivate m s
   private_back s (inl p) = inl (p.0, p.1, cleanable_back s p.0 p.2, p.3)
@@ -59,7 +64,8 @@ module _ (m : Machine) (heap : Heap) (table : Table Session) (cleanables : (s : 
           | inl spent ↦ inl spent
           | inr own ↦ inr (record { armed = own.armed; referent = own.referent; work = own.work })
         ];
-        guarded = λ s rid c e armed work. let r = w.guarded s rid c (cleanable_back s c e) armed work in (r.0, r.1, guard_forth r.0 r.1 r.2, r.3);
+        guarded = λ s rid c e armed work. let r = w.guarded s rid c (cleanable_back s c e) armed work in
+            (r.0, r.1, guard_forth r.0 r.1 r.2, r.3);
       }
 
   pub actions_kept : count_by is_unspent_place heap ≤ count_by is_unspent_place m.objects → AreActions m → AreActions n

@@ -1,5 +1,6 @@
 -- What a clearing leaves of the edges.
-use Rattle.std.proofs.Common.{◌≡◌, ℕ, Bool, true, false, cond, List, [], ◌++◌, refl, sym, ◌∙◌, ap, subst, ◌⊎◌, inl, inr, nat_eq, Option, Some, None, option_map, option_and_then, option_to_list, is_some, unwrap_or}
+use Rattle.std.proofs.Common.{◌≡◌, ℕ, Bool, true, false, cond, List, [], ◌++◌, refl, sym, ◌∙◌, ap, subst, ◌⊎◌, inl, inr, nat_eq, Option}
+use Rattle.std.proofs.Common.{Some, None, option_map, option_and_then, option_to_list, is_some, unwrap_or}
 use Rattle.std.specs.List.{flat_map}
 use Rattle.std.proofs.lemmas.Bool.{or_cases, or_left, or_right, both_ways}
 use Rattle.std.proofs.lemmas.List.Folds.{list_any-append}
@@ -62,34 +63,49 @@ one_of UpToSoft o y h = elim (in_append y (strong_edges o) (referent_edges Soft 
   | inr h ↦ inr (Soft, refl, in_option y (referent Soft o) h)
 ]
 one_of UpToWeak o y h = elim (in_append y (strong_edges o ++ referent_edges Soft o) (referent_edges Weak o) h) [
-  | inl h ↦ elim (in_append y (strong_edges o) (referent_edges Soft o) h) [ inl h ↦ inl h | inr h ↦ inr (Soft, refl, in_option y (referent Soft o) h) ]
+  | inl h ↦ elim (in_append y (strong_edges o) (referent_edges Soft o) h) [
+    | inl h ↦ inl h
+    | inr h ↦
+        inr (Soft, refl, in_option y (referent Soft o) h)
+  ]
   | inr h ↦ inr (Weak, refl, in_option y (referent Weak o) h)
 ]
-one_of UpToPhantom o y h = elim (in_append y (strong_edges o ++ referent_edges Soft o ++ referent_edges Weak o) (referent_edges Phantom o) h) [
-  | inl h ↦ elim (in_append y (strong_edges o ++ referent_edges Soft o) (referent_edges Weak o) h) [
-    | inl h ↦ elim (in_append y (strong_edges o) (referent_edges Soft o) h) [ inl h ↦ inl h | inr h ↦ inr (Soft, refl, in_option y (referent Soft o) h) ]
-    | inr h ↦ inr (Weak, refl, in_option y (referent Weak o) h)
-  ]
-  | inr h ↦ inr (Phantom, refl, in_option y (referent Phantom o) h)
-]
+one_of UpToPhantom o y h =
+    elim (in_append y (strong_edges o ++ referent_edges Soft o ++ referent_edges Weak o) (referent_edges Phantom o) h) [
+      | inl h ↦ elim (in_append y (strong_edges o ++ referent_edges Soft o) (referent_edges Weak o) h) [
+        | inl h ↦ elim (in_append y (strong_edges o) (referent_edges Soft o) h) [
+          | inl h ↦ inl h
+          | inr h ↦
+              inr (Soft, refl, in_option y (referent Soft o) h)
+        ]
+        | inr h ↦ inr (Weak, refl, in_option y (referent Weak o) h)
+      ]
+      | inr h ↦ inr (Phantom, refl, in_option y (referent Phantom o) h)
+    ]
 
 strong_in : (chain : Chain) (o : Object) (y : ℕ) → y ∈ strong_edges o → y ∈ edges chain o
 strong_in Strong o y h = h
 strong_in UpToSoft o y h = in_left y _ (referent_edges Soft o) h
 strong_in UpToWeak o y h = in_left y _ (referent_edges Weak o) (in_left y _ (referent_edges Soft o) h)
-strong_in UpToPhantom o y h = in_left y _ (referent_edges Phantom o) (in_left y _ (referent_edges Weak o) (in_left y _ (referent_edges Soft o) h))
+strong_in UpToPhantom o y h =
+    in_left y _ (referent_edges Phantom o) (in_left y _ (referent_edges Weak o) (in_left y _ (referent_edges Soft o) h))
 
 referent_in : (chain : Chain) (kind : RefKind) (o : Object) (y : ℕ) → takes chain kind ≡ true → referent kind o ≡ Some y → y ∈ edges chain o
 referent_in Strong kind o y t e = absurd (both_ways false refl t)
 referent_in UpToSoft Soft o y t e = in_right y (strong_edges o) (referent_edges Soft o) (option_in y (referent Soft o) e)
 referent_in UpToSoft Weak o y t e = absurd (both_ways false refl t)
 referent_in UpToSoft Phantom o y t e = absurd (both_ways false refl t)
-referent_in UpToWeak Soft o y t e = in_left y _ (referent_edges Weak o) (in_right y (strong_edges o) (referent_edges Soft o) (option_in y (referent Soft o) e))
-referent_in UpToWeak Weak o y t e = in_right y (strong_edges o ++ referent_edges Soft o) (referent_edges Weak o) (option_in y (referent Weak o) e)
+referent_in UpToWeak Soft o y t e =
+    in_left y _ (referent_edges Weak o) (in_right y (strong_edges o) (referent_edges Soft o) (option_in y (referent Soft o) e))
+referent_in UpToWeak Weak o y t e =
+    in_right y (strong_edges o ++ referent_edges Soft o) (referent_edges Weak o) (option_in y (referent Weak o) e)
 referent_in UpToWeak Phantom o y t e = absurd (both_ways false refl t)
-referent_in UpToPhantom Soft o y t e = in_left y _ (referent_edges Phantom o) (in_left y _ (referent_edges Weak o) (in_right y (strong_edges o) (referent_edges Soft o) (option_in y (referent Soft o) e)))
-referent_in UpToPhantom Weak o y t e = in_left y _ (referent_edges Phantom o) (in_right y (strong_edges o ++ referent_edges Soft o) (referent_edges Weak o) (option_in y (referent Weak o) e))
-referent_in UpToPhantom Phantom o y t e = in_right y (strong_edges o ++ referent_edges Soft o ++ referent_edges Weak o) (referent_edges Phantom o) (option_in y (referent Phantom o) e)
+referent_in UpToPhantom Soft o y t e = in_left y _ (referent_edges Phantom o)
+    (in_left y _ (referent_edges Weak o) (in_right y (strong_edges o) (referent_edges Soft o) (option_in y (referent Soft o) e)))
+referent_in UpToPhantom Weak o y t e = in_left y _ (referent_edges Phantom o)
+    (in_right y (strong_edges o ++ referent_edges Soft o) (referent_edges Weak o) (option_in y (referent Weak o) e))
+referent_in UpToPhantom Phantom o y t e = in_right y (strong_edges o ++ referent_edges Soft o ++ referent_edges Weak o)
+    (referent_edges Phantom o) (option_in y (referent Phantom o) e)
 
 pub edge_gives : (chain : Chain) (heap : Heap) (x y : ℕ) → y ∈ edges_from chain heap x → HasEdge chain heap x y
 edge_gives chain heap x y =
@@ -102,8 +118,10 @@ edge_gives chain heap x y =
     ] refl
 
 pub edge_from : (chain : Chain) (heap : Heap) (x y : ℕ) → HasEdge chain heap x y → y ∈ edges_from chain heap x
-edge_from chain heap x y (inl s) = subst (λ o. y ∈ flat_map (edges chain) (option_to_list o)) (sym s.1) (in_left y (edges chain s.0) [] (strong_in chain s.0 y s.2))
-edge_from chain heap x y (inr r) = subst (λ o. y ∈ flat_map (edges chain) (option_to_list o)) (sym r.2.1) (in_left y (edges chain r.2.0) [] (referent_in chain r.0 r.2.0 y r.1 r.2.2))
+edge_from chain heap x y (inl s) =
+    subst (λ o. y ∈ flat_map (edges chain) (option_to_list o)) (sym s.1) (in_left y (edges chain s.0) [] (strong_in chain s.0 y s.2))
+edge_from chain heap x y (inr r) = subst (λ o. y ∈ flat_map (edges chain) (option_to_list o)) (sym r.2.1)
+    (in_left y (edges chain r.2.0) [] (referent_in chain r.0 r.2.0 y r.1 r.2.2))
 
 -- ---- Objects without their referents
 
@@ -185,16 +203,19 @@ some_kind (Guard g) y e = absurd (not_none y e)
 
 same_kind : (k l : RefKind) (o : Object) (y z : ℕ) → referent k o ≡ Some y → referent l o ≡ Some z → k ≡ l
 same_kind k l (Plain fields) y z e f = absurd (not_none y e)
-same_kind k l (Reference r) y z e f = kind_is k r.kind (chosen (is_kind k r.kind) r.referent y e).0 ∙ sym (kind_is l r.kind (chosen (is_kind l r.kind) r.referent z f).0)
+same_kind k l (Reference r) y z e f = kind_is k r.kind (chosen (is_kind k r.kind) r.referent y e).0
+    ∙ sym (kind_is l r.kind (chosen (is_kind l r.kind) r.referent z f).0)
 same_kind k l (Queue members) y z e f = absurd (not_none y e)
 same_kind k l Cleaner y z e f = absurd (not_none y e)
-same_kind k l (Cleanable c) y z e f = kind_is k Phantom (chosen (is_kind k Phantom) c.referent y e).0 ∙ sym (kind_is l Phantom (chosen (is_kind l Phantom) c.referent z f).0)
+same_kind k l (Cleanable c) y z e f = kind_is k Phantom (chosen (is_kind k Phantom) c.referent y e).0
+    ∙ sym (kind_is l Phantom (chosen (is_kind l Phantom) c.referent z f).0)
 same_kind k l (Guard g) y z e f = absurd (not_none y e)
 
 same_referent : (k l : RefKind) (o : Object) (y z : ℕ) → referent k o ≡ Some y → referent l o ≡ Some z → y ≡ z
 same_referent k l o y z e f = same_some y z (sym (referent_is k o y e) ∙ referent_is l o z f)
 
-some_of : (k : RefKind) (o : Option Object) (x : ℕ) → option_and_then (referent k) o ≡ Some x → (p : Object) × (o ≡ Some p) × (referent k p ≡ Some x)
+some_of : (k : RefKind) (o : Option Object) (x : ℕ) → option_and_then (referent k) o ≡ Some x → (p : Object) × (o ≡ Some p)
+    × (referent k p ≡ Some x)
 some_of k None x e = absurd (not_none x e)
 some_of k (Some p) x e = (p, refl, e)
 
@@ -202,13 +223,19 @@ some_of k (Some p) x e = (p, refl, e)
 
 module _ (kind : RefKind) (C : ℕ → Type 0) (old new : Heap) (c : Clears kind C old new) (dec : (x : ℕ) → C x ⊎ ¬ (C x)) where
   points : (o : Option Object) → PointsInto kind C o ⊎ ¬ (PointsInto kind C o)
-  points o = elim (option_and_then (referent kind) o) as (λ r. option_and_then (referent kind) o ≡ r → PointsInto kind C o ⊎ ¬ (PointsInto kind C o)) [
-    | None ↦ λ e. inr (λ p. not_none p.0 (sym e ∙ p.1))
-    | Some x ↦ λ e. elim (dec x) [ inl yes_x ↦ inl (x, e, yes_x) | inr no_x ↦ inr (λ p. no_x (subst C (same_some p.0 x (sym p.1 ∙ e)) p.2)) ]
-  ] refl
+  points o = elim (option_and_then (referent kind) o) as (λ r. option_and_then (referent kind) o ≡ r → PointsInto kind C o
+      ⊎ ¬ (PointsInto kind C o)) [
+        | None ↦ λ e. inr (λ p. not_none p.0 (sym e ∙ p.1))
+        | Some x ↦ λ e. elim (dec x) [
+          | inl yes_x ↦ inl (x, e, yes_x)
+          | inr no_x ↦
+              inr (λ p. no_x (subst C (same_some p.0 x (sym p.1 ∙ e)) p.2))
+        ]
+      ] refl
 
   -- what was at s is cleared or kept
-  pub cleared_or_kept : (s : ℕ) → ((z : ℕ) × (o : Object) × (at old s ≡ Some o) × (referent kind o ≡ Some z) × C z × (at new s ≡ Some (without_referent o))) ⊎ (¬ (PointsInto kind C (at old s)) × (at new s ≡ at old s))
+  pub cleared_or_kept : (s : ℕ) → ((z : ℕ) × (o : Object) × (at old s ≡ Some o) × (referent kind o ≡ Some z) × C z
+      × (at new s ≡ Some (without_referent o))) ⊎ (¬ (PointsInto kind C (at old s)) × (at new s ≡ at old s))
   cleared_or_kept s = elim (points (at old s)) [
     | inl p ↦
         let there = some_of kind (at old s) p.0 p.1 in
@@ -218,26 +245,38 @@ module _ (kind : RefKind) (C : ℕ → Type 0) (old new : Heap) (c : Clears kind
 
   pub strong_back : (x y : ℕ) → HasStrong new x y → HasStrong old x y
   strong_back x y h = elim (cleared_or_kept x) [
-    | inl k ↦ (k.1, k.2, subst (λ l. y ∈ l) (ap strong_edges (some_same h.0 (without_referent k.1) (sym h.1 ∙ k.5)) ∙ strong_without k.1) h.2)
+    | inl k ↦ (
+      k.1,
+      k.2,
+      subst (λ l. y ∈ l) (ap strong_edges (some_same h.0 (without_referent k.1) (sym h.1 ∙ k.5)) ∙ strong_without k.1)
+          h.2,
+    )
     | inr k ↦ (h.0, sym k.1 ∙ h.1, h.2)
   ]
 
   pub strong_forth : (x y : ℕ) → HasStrong old x y → HasStrong new x y
   strong_forth x y h = elim (cleared_or_kept x) [
-    | inl k ↦ (without_referent k.1, k.5, subst (λ l. y ∈ l) (ap strong_edges (some_same h.0 k.1 (sym h.1 ∙ k.2)) ∙ sym (strong_without k.1)) h.2)
+    | inl k ↦ (
+      without_referent k.1,
+      k.5,
+      subst (λ l. y ∈ l)
+          (ap strong_edges (some_same h.0 k.1 (sym h.1 ∙ k.2)) ∙ sym (strong_without k.1)) h.2,
+    )
     | inr k ↦ (h.0, k.1 ∙ h.1, h.2)
   ]
 
   pub referent_back : (l : RefKind) (x y : ℕ) → HasReferent l new x y → HasReferent l old x y
   referent_back l x y h = elim (cleared_or_kept x) [
-    | inl k ↦ absurd (not_none y (sym (ap (referent l) (some_same h.0 (without_referent k.1) (sym h.1 ∙ k.5)) ∙ referent_without l k.1) ∙ h.2))
+    | inl k ↦ absurd
+        (not_none y (sym (ap (referent l) (some_same h.0 (without_referent k.1) (sym h.1 ∙ k.5)) ∙ referent_without l k.1) ∙ h.2))
     | inr k ↦ (h.0, sym k.1 ∙ h.1, h.2)
   ]
 
   -- no reference of this kind refers into the set any more
   pub referent_kept : (x y : ℕ) → HasReferent kind new x y → ¬ (C y)
   referent_kept x y h = elim (cleared_or_kept x) as (λ _. ¬ (C y)) [
-    | inl k ↦ λ _. not_none y (sym (ap (referent kind) (some_same h.0 (without_referent k.1) (sym h.1 ∙ k.5)) ∙ referent_without kind k.1) ∙ h.2)
+    | inl k ↦ λ _. not_none y
+        (sym (ap (referent kind) (some_same h.0 (without_referent k.1) (sym h.1 ∙ k.5)) ∙ referent_without kind k.1) ∙ h.2)
     | inr k ↦ λ yes_y. k.0 (y, ap (option_and_then (referent kind)) (sym k.1 ∙ h.1) ∙ h.2, yes_y)
   ]
 

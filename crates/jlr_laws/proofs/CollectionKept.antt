@@ -1,16 +1,15 @@
 -- A collection leaves a well-formed machine.
-use Rattle.std.proofs.Common.{◌≡◌, ◌≢◌, ℕ, suc, Bool, true, false, cond, not, ◌&&◌, List, [], ◌∷◌, ◌++◌, length, refl, sym, ◌∙◌, ap, subst, ◌⊎◌, inl, inr, arith, IsTrue, Option, Some, None, option_map, option_and_then, is_some, option_to_list}
-use Rattle.std.proofs.lemmas.Bool.{both_ways, cases_Bool, cond-true, cond-false, and_parts, and_from, not-true, not_from_false}
+use Rattle.std.proofs.Common.{◌≡◌, ◌≢◌, ℕ, Bool, true, false, cond, not, ◌&&◌, List, [], ◌++◌, refl, sym, ◌∙◌, ap, subst}
+use Rattle.std.proofs.Common.{◌⊎◌, inl, inr, arith, IsTrue, Option, Some, None, option_map, option_and_then, is_some}
+use Rattle.std.proofs.lemmas.Bool.{both_ways, cases_Bool, cond-true, cond-false, and_parts}
 use Rattle.jlr_types.specs.declared.Work.TheVariants.{Resource as WorkOn}
-use Rattle.jlr_types.specs.declared.FieldValue.{FieldValue}
 use Rattle.jlr_machine.specs.declared.object.Contents.{Contents}
 use Rattle.jlr_machine.specs.declared.object.Object.{Object}
-use Rattle.jlr_machine.specs.declared.object.Object.TheVariants.{Plain, Reference, Queue, Cleaner, Cleanable, Guard}
+use Rattle.jlr_machine.specs.declared.object.Object.TheVariants.{Plain, Reference, Queue, Cleanable, Guard}
 use Rattle.jlr_machine.specs.declared.object.Reference.{Reference as ReferenceOf}
 use Rattle.jlr_machine.specs.declared.object.Cleanable.{Cleanable as CleanableOf}
 use Rattle.jlr_machine.specs.declared.object.Guard.{Guard as GuardOf}
-use Rattle.jlr_machine.specs.declared.object.RefState.{RefState}
-use Rattle.jlr_machine.specs.declared.object.RefState.TheVariants.{Fresh, Pending, Queued, Removed}
+use Rattle.jlr_machine.specs.declared.object.RefState.TheVariants.{Pending, Queued}
 use Rattle.jlr_machine.specs.declared.object.CleanState.{CleanState}
 use Rattle.jlr_machine.specs.declared.object.CleanState.TheVariants.{Armed, Pending as PendingClean, Lined, Spent}
 use Rattle.jlr_machine.specs.declared.machine.Machine.{Machine}
@@ -20,231 +19,34 @@ use Rattle.jlr_machine.specs.declared.machine.Call.{Call}
 use Rattle.jlr_machine.specs.declared.machine.Call.TheVariants.{Free, Opening as CallOpening, Out as CallOut, Job as CallJob}
 use Rattle.jlr_machine.specs.declared.machine.ResourceState.{ResourceState}
 use Rattle.jlr_machine.specs.declared.machine.ResourceState.TheVariants.{Opening, Idle, Out, Closing}
-use Rattle.jlr_machine.specs.Objects.{Heap, at, ◌∋◌, ◌∈◌, is_distinct, some_and, as_reference, as_cleanable, is_fresh, is_armed, any_referent, is_spent, is_unqueued, queue_ahead}
+use Rattle.jlr_machine.specs.Objects.{Heap, at, ◌∋◌, ◌∈◌, some_and, as_reference, as_cleanable, is_fresh, is_armed}
+use Rattle.jlr_machine.specs.Objects.{any_referent, is_spent, queue_ahead}
 use Rattle.jlr_machine.specs.Edges.{strong_edges, edges_from, is_own_root, is_active, roots}
 use Rattle.jlr_machine.specs.Collection.{is_ready, is_kept_referent, left_of, places_left, after_collection}
 use Rattle.jlr_machine.specs.Lookups.{job_of, slot_named}
 use Rattle.jlr_machine.specs.Refusals.{Operand, is_of_wrong_kind}
-use Rattle.jlr_machine.specs.WellFormed.{IsObjectAt, IsReferenceAt, IsQueueAt, IsGuardAt, IsCleanableAt, IsSessionAt, IsWellFormed, IsUnspent, FitsItsState, FitsItsCall, IsFencing, IsOwnGuard, IsPrivate, HasResource, HasWorker, IsAction, state_at, clean_state_at, is_unspent_place}
+use Rattle.jlr_machine.specs.WellFormed.{IsObjectAt, IsReferenceAt, IsQueueAt, IsGuardAt, IsCleanableAt, IsSessionAt, IsWellFormed}
+use Rattle.jlr_machine.specs.WellFormed.{IsUnspent, FitsItsState, FitsItsCall, IsFencing, IsOwnGuard, IsPrivate, HasResource, HasWorker}
+use Rattle.jlr_machine.specs.WellFormed.{IsAction, state_at, clean_state_at, is_unspent_place}
 use Rattle.jlr_machine.specs.Edges.Chain.{UpToPhantom}
 use Rattle.jlr_laws.proofs.Sets.{in_front, nothing}
 use Rattle.jlr_laws.proofs.Clearing.{in_append, in_left, in_right, edge_gives, edge_from, referent_is, some_kind, option_in, same_some}
 use Rattle.jlr_laws.proofs.Agree.{at-places_left}
-use Rattle.jlr_laws.proofs.Frames.{no_some, some_same, is_reference_there, is_cleanable_there, IsRoot, held, fencing, named, waiting, lining, active, root_gives, root_from, limits_stay, fresh_unqueued, still_ahead}
+use Rattle.jlr_laws.proofs.Frames.{no_some, some_same, is_reference_there, is_cleanable_there, IsRoot, held, fencing, named, waiting}
+use Rattle.jlr_laws.proofs.Frames.{lining, active, root_gives, root_from, limits_stay, still_ahead}
 use Rattle.jlr_laws.proofs.ObjectsKept.{count_pointwise, state_there, IsPendingKind}
 use Rattle.jlr_laws.proofs.Left.{IsLeft}
 use Rattle.jlr_laws.proofs.Allowed.{and_then_gives}
-
--- ---- Lists
-
-pub distinct_append : (xs ys : List ℕ) → is_distinct xs ≡ true → is_distinct ys ≡ true → ((s : ℕ) → s ∈ xs → s ∈ ys → ⊥) → is_distinct (xs ++ ys) ≡ true
-distinct_append [] ys d e h = e
-distinct_append (x ∷ xs) ys d e h =
-    let p = and_parts (not (xs ∋ x)) (is_distinct xs) d in
-    and_from (not ((xs ++ ys) ∋ x)) (is_distinct (xs ++ ys))
-    (elim (cases_Bool ((xs ++ ys) ∋ x)) [
-      | inl m ↦ elim (in_append x xs ys m) [
-        | inl a ↦ absurd (both_ways (xs ∋ x) (not-true (xs ∋ x) p.0) a)
-        | inr b ↦ absurd (h x (in_front x x xs refl) b)
-      ]
-      | inr n ↦ not_from_false ((xs ++ ys) ∋ x) n
-    ])
-    (distinct_append xs ys p.1 e (λ s a b. h s (in_right s (x ∷ []) xs a) b))
-
--- ---- One object that is left
-
-module _ (kept : List ℕ) (b : Bool) where
-  abbrev left_reference : ReferenceOf → ReferenceOf
-  left_reference r = record r { referent = is_kept_referent kept r.referent; state = cond b Pending r.state }
-
-  abbrev left_cleanable : CleanableOf → CleanableOf
-  left_cleanable c = record c { referent = is_kept_referent kept c.referent; state = cond b PendingClean c.state }
-
-  reference_before : (o : Object) (r : ReferenceOf) → Reference r ≡ left_of kept b o → (x : ReferenceOf) × (o ≡ Reference x) × (r ≡ left_reference x)
-  reference_before (Plain fields) r e = absurd (cc e)
-  reference_before (Reference x) r e = (x, refl, some_same r (left_reference x) (ap as_reference e))
-  reference_before (Queue members) r e = absurd (cc e)
-  reference_before Cleaner r e = absurd (cc e)
-  reference_before (Cleanable c) r e = absurd (cc e)
-  reference_before (Guard g) r e = absurd (cc e)
-
-  cleanable_before : (o : Object) (r : CleanableOf) → Cleanable r ≡ left_of kept b o → (x : CleanableOf) × (o ≡ Cleanable x) × (r ≡ left_cleanable x)
-  cleanable_before (Plain fields) r e = absurd (cc e)
-  cleanable_before (Reference x) r e = absurd (cc e)
-  cleanable_before (Queue members) r e = absurd (cc e)
-  cleanable_before Cleaner r e = absurd (cc e)
-  cleanable_before (Cleanable x) r e = (x, refl, some_same r (left_cleanable x) (ap as_cleanable e))
-  cleanable_before (Guard g) r e = absurd (cc e)
-
-  queue_before : (o : Object) (r : List ℕ) → Queue r ≡ left_of kept b o → o ≡ Queue r
-  queue_before (Plain fields) r e = absurd (cc e)
-  queue_before (Reference x) r e = absurd (cc e)
-  queue_before (Queue members) r e = sym e
-  queue_before Cleaner r e = absurd (cc e)
-  queue_before (Cleanable x) r e = absurd (cc e)
-  queue_before (Guard g) r e = absurd (cc e)
-
-  guard_before : (o : Object) (r : GuardOf) → Guard r ≡ left_of kept b o → o ≡ Guard r
-  guard_before (Plain fields) r e = absurd (cc e)
-  guard_before (Reference x) r e = absurd (cc e)
-  guard_before (Queue members) r e = absurd (cc e)
-  guard_before Cleaner r e = absurd (cc e)
-  guard_before (Cleanable x) r e = absurd (cc e)
-  guard_before (Guard g) r e = sym e
-
-  plain_before : (o : Object) (r : Contents) → Plain r ≡ left_of kept b o → o ≡ Plain r
-  plain_before (Plain fields) r e = sym e
-  plain_before (Reference x) r e = absurd (cc e)
-  plain_before (Queue members) r e = absurd (cc e)
-  plain_before Cleaner r e = absurd (cc e)
-  plain_before (Cleanable x) r e = absurd (cc e)
-  plain_before (Guard g) r e = absurd (cc e)
-
-  -- one that becomes Pending was Fresh, and so keeps its edge to its queue
-  same_ahead : (queue : Option ℕ) (old : RefState) → (b ≡ true → is_fresh old ≡ true) → is_unqueued (cond b Pending old) ≡ is_unqueued old
-  same_ahead queue old h = elim b as (λ c. (c ≡ true → is_fresh old ≡ true) → is_unqueued (cond c Pending old) ≡ is_unqueued old) [ true ↦ λ h. sym (fresh_unqueued old (h refl)) | false ↦ λ h. refl ] h
-
-  strong_same : (o : Object) → (b ≡ true → is_ready o ≡ true) → strong_edges (left_of kept b o) ≡ strong_edges o
-  strong_same (Plain fields) h = refl
-  strong_same (Reference x) h = ap (λ u. option_to_list (cond u x.queue None)) (same_ahead x.queue x.state (λ e. (and_parts (is_fresh x.state) (is_some x.queue) (h e)).0))
-  strong_same (Queue members) h = refl
-  strong_same Cleaner h = refl
-  strong_same (Cleanable x) h = refl
-  strong_same (Guard g) h = refl
-
-  referent_left : (o : Object) → any_referent (left_of kept b o) ≡ is_kept_referent kept (any_referent o)
-  referent_left (Plain fields) = refl
-  referent_left (Reference x) = refl
-  referent_left (Queue members) = refl
-  referent_left Cleaner = refl
-  referent_left (Cleanable x) = refl
-  referent_left (Guard g) = refl
-
-kept_referent : (kept : List ℕ) (y : Option ℕ) (x : ℕ) → is_kept_referent kept y ≡ Some x → (y ≡ Some x) × (x ∈ kept)
-kept_referent kept None x e = no_some x e
-kept_referent kept (Some y) x e = elim (cases_Bool (kept ∋ y)) [
-  | inl m ↦
-      let same : y ≡ x = same_some y x (sym (cond-true (kept ∋ y) (Some y) None m) ∙ e) in
-      (ap (λ z. Some z) same, subst (λ z. z ∈ kept) same m)
-  | inr n ↦ no_some x (sym (cond-false (kept ∋ y) (Some y) None n) ∙ e)
-]
-
-keeps_referent_in : (kept : List ℕ) (y : Option ℕ) (x : ℕ) → y ≡ Some x → x ∈ kept → is_kept_referent kept y ≡ Some x
-keeps_referent_in kept y x e m = ap (is_kept_referent kept) e ∙ cond-true (kept ∋ x) (Some x) None m
-
-loses_referent_out : (kept : List ℕ) (y : Option ℕ) (x : ℕ) → y ≡ Some x → (kept ∋ x) ≡ false → is_kept_referent kept y ≡ None
-loses_referent_out kept y x e n = ap (is_kept_referent kept) e ∙ cond-false (kept ∋ x) (Some x) None n
-
-abbrev state_in : Option Object → Option RefState
-state_in o = option_and_then (λ r. Some r.state) (option_and_then as_reference o)
-
-abbrev clean_state_in : Option Object → Option CleanState
-clean_state_in o = option_and_then (λ c. Some c.state) (option_and_then as_cleanable o)
-
--- what is not handed over keeps its state
-quiet_state : (kept : List ℕ) (o : Option Object) → state_in (option_map (left_of kept false) o) ≡ state_in o
-quiet_state kept None = refl
-quiet_state kept (Some (Plain fields)) = refl
-quiet_state kept (Some (Reference r)) = refl
-quiet_state kept (Some (Queue members)) = refl
-quiet_state kept (Some Cleaner) = refl
-quiet_state kept (Some (Cleanable c)) = refl
-quiet_state kept (Some (Guard g)) = refl
-
-quiet_clean_state : (kept : List ℕ) (o : Option Object) → clean_state_in (option_map (left_of kept false) o) ≡ clean_state_in o
-quiet_clean_state kept None = refl
-quiet_clean_state kept (Some (Plain fields)) = refl
-quiet_clean_state kept (Some (Reference r)) = refl
-quiet_clean_state kept (Some (Queue members)) = refl
-quiet_clean_state kept (Some Cleaner) = refl
-quiet_clean_state kept (Some (Cleanable c)) = refl
-quiet_clean_state kept (Some (Guard g)) = refl
-
--- what is handed over becomes Pending
-handed_kind : (kept : List ℕ) (o : Object) → is_ready o ≡ true → IsPendingKind (state_in (Some (left_of kept true o))) (clean_state_in (Some (left_of kept true o)))
-handed_kind kept (Plain fields) e = absurd (both_ways false refl e)
-handed_kind kept (Reference r) e = inl refl
-handed_kind kept (Queue members) e = absurd (both_ways false refl e)
-handed_kind kept Cleaner e = absurd (both_ways false refl e)
-handed_kind kept (Cleanable c) e = inr (inr (inr (inl refl)))
-handed_kind kept (Guard g) e = absurd (both_ways false refl e)
-
--- what is pending already is not ready
-pending_unready : (o : Object) → IsPendingKind (state_in (Some o)) (clean_state_in (Some o)) → is_ready o ≡ false
-pending_unready (Plain fields) k = refl
-pending_unready (Reference r) (inl e) = ap (λ s. is_fresh s && is_some r.queue) (some_same r.state Pending e)
-pending_unready (Reference r) (inr (inl e)) = ap (λ s. is_fresh s && is_some r.queue) (some_same r.state Queued e)
-pending_unready (Reference r) (inr (inr (inl e))) = ap (λ s. is_fresh s && is_some r.queue) (some_same r.state Removed e)
-pending_unready (Reference r) (inr (inr (inr (inl e)))) = no_some PendingClean e
-pending_unready (Reference r) (inr (inr (inr (inr e)))) = no_some Spent e
-pending_unready (Queue members) k = refl
-pending_unready Cleaner k = refl
-pending_unready (Cleanable c) (inl e) = no_some Pending e
-pending_unready (Cleanable c) (inr (inl e)) = no_some Queued e
-pending_unready (Cleanable c) (inr (inr (inl e))) = no_some Removed e
-pending_unready (Cleanable c) (inr (inr (inr (inl e)))) = ap is_armed (some_same c.state PendingClean e)
-pending_unready (Cleanable c) (inr (inr (inr (inr e)))) = ap is_armed (some_same c.state Spent e)
-pending_unready (Guard g) k = refl
-
-lined_unready : (o : Object) → (clean_state_in (Some o) ≡ Some Lined) ⊎ (clean_state_in (Some o) ≡ Some Spent) → is_ready o ≡ false
-lined_unready (Plain fields) k = refl
-lined_unready (Reference r) (inl e) = no_some Lined e
-lined_unready (Reference r) (inr e) = no_some Spent e
-lined_unready (Queue members) k = refl
-lined_unready Cleaner k = refl
-lined_unready (Cleanable c) (inl e) = ap is_armed (some_same c.state Lined e)
-lined_unready (Cleanable c) (inr e) = ap is_armed (some_same c.state Spent e)
-lined_unready (Guard g) k = refl
-
-unspent_same_false : (kept : List ℕ) (o : Option Object) → is_unspent_place (option_map (left_of kept false) o) ≡ is_unspent_place o
-unspent_same_false kept None = refl
-unspent_same_false kept (Some (Plain fields)) = refl
-unspent_same_false kept (Some (Reference r)) = refl
-unspent_same_false kept (Some (Queue members)) = refl
-unspent_same_false kept (Some Cleaner) = refl
-unspent_same_false kept (Some (Cleanable c)) = refl
-unspent_same_false kept (Some (Guard g)) = refl
-
-armed_is : (s : CleanState) → is_armed s ≡ true → s ≡ Armed
-armed_is Armed e = refl
-armed_is PendingClean e = absurd (both_ways false refl e)
-armed_is Lined e = absurd (both_ways false refl e)
-armed_is Spent e = absurd (both_ways false refl e)
-
-unspent_same_true : (kept : List ℕ) (o : Object) → is_ready o ≡ true → is_unspent_place (Some (left_of kept true o)) ≡ is_unspent_place (Some o)
-unspent_same_true kept (Plain fields) e = refl
-unspent_same_true kept (Reference r) e = refl
-unspent_same_true kept (Queue members) e = refl
-unspent_same_true kept Cleaner e = refl
-unspent_same_true kept (Cleanable c) e = ap (λ s. not (is_spent s)) (sym (armed_is c.state e))
-unspent_same_true kept (Guard g) e = refl
-
-unspent_is : (o : Option Object) → is_unspent_place o ≡ true → (c : CleanableOf) × (o ≡ Some (Cleanable c)) × (is_spent c.state ≡ false)
-unspent_is None e = absurd (both_ways false refl e)
-unspent_is (Some (Plain fields)) e = absurd (both_ways false refl e)
-unspent_is (Some (Reference r)) e = absurd (both_ways false refl e)
-unspent_is (Some (Queue members)) e = absurd (both_ways false refl e)
-unspent_is (Some Cleaner) e = absurd (both_ways false refl e)
-unspent_is (Some (Cleanable c)) e = (c, refl, not-true (is_spent c.state) e)
-unspent_is (Some (Guard g)) e = absurd (both_ways false refl e)
-
-fits_left : (kept : List ℕ) (b : Bool) (r : ReferenceOf) (s : RefState) → FitsItsState r s → FitsItsState (left_reference kept b r) s
-fits_left kept b r Fresh h = h
-fits_left kept b r Pending h = (h.0, ap (is_kept_referent kept) h.1)
-fits_left kept b r Queued h = (h.0, ap (is_kept_referent kept) h.1)
-fits_left kept b r Removed h = (h.0, ap (is_kept_referent kept) h.1)
-
-holds_somewhere : (o : Option Object) → is_own_root o ≡ true → is_some o ≡ true
-holds_somewhere None e = e
-holds_somewhere (Some o) e = refl
-
-pub length_left : (kept pending : List ℕ) (n : ℕ) (heap : Heap) → length (places_left kept pending n heap) ≡ length heap
-length_left kept pending n [] = refl
-length_left kept pending n (o ∷ places) = ap suc (length_left kept pending (suc n) places)
+use Rattle.jlr_laws.proofs.ObjectLeft.{distinct_append, left_reference, left_cleanable, reference_before, cleanable_before, queue_before}
+use Rattle.jlr_laws.proofs.ObjectLeft.{guard_before, plain_before, strong_same, referent_left, kept_referent, keeps_referent_in}
+use Rattle.jlr_laws.proofs.ObjectLeft.{loses_referent_out, state_in, clean_state_in, quiet_state, quiet_clean_state, handed_kind}
+use Rattle.jlr_laws.proofs.ObjectLeft.{pending_unready, lined_unready, unspent_same_false, armed_is, unspent_same_true, unspent_is}
+use Rattle.jlr_laws.proofs.ObjectLeft.{fits_left, holds_somewhere, length_left}
 
 -- ---- The machine that a collection leaves
 
-module _ (m : Machine) (B kept pending : List ℕ) (w : IsWellFormed m) (l : IsLeft m.objects B kept pending) (holds : (s : ℕ) → s ∈ roots m → s ∈ B) where
+module _ (m : Machine) (B kept pending : List ℕ) (w : IsWellFormed m) (l : IsLeft m.objects B kept pending)
+    (holds : (s : ℕ) → s ∈ roots m → s ∈ B) where
   abbrev heap : Heap
   heap = places_left kept pending 0 m.objects
 
@@ -260,10 +62,12 @@ module _ (m : Machine) (B kept pending : List ℕ) (w : IsWellFormed m) (l : IsL
   forth : (s : ℕ) (o : Object) → s ∈ kept → at m.objects s ≡ Some o → at heap s ≡ Some (left_of kept (pending ∋ s) o)
   forth s o k e = at_kept s k ∙ ap (option_map (left_of kept (pending ∋ s))) e
 
-  back : (s : ℕ) (p : Object) → at heap s ≡ Some p → (o : Object) × (s ∈ kept) × (at m.objects s ≡ Some o) × (p ≡ left_of kept (pending ∋ s) o)
+  back : (s : ℕ) (p : Object) → at heap s ≡ Some p → (o : Object) × (s ∈ kept) × (at m.objects s ≡ Some o)
+      × (p ≡ left_of kept (pending ∋ s) o)
   back s p e = elim (cases_Bool (kept ∋ s)) [
     | inl k ↦
-        elim (at m.objects s) as (λ o. at m.objects s ≡ o → option_map (left_of kept (pending ∋ s)) o ≡ Some p → (o : Object) × (s ∈ kept) × (at m.objects s ≡ Some o) × (p ≡ left_of kept (pending ∋ s) o)) [
+        elim (at m.objects s) as (λ o. at m.objects s ≡ o → option_map (left_of kept (pending ∋ s)) o ≡ Some p → (o : Object) × (s ∈ kept)
+        × (at m.objects s ≡ Some o) × (p ≡ left_of kept (pending ∋ s) o)) [
           | None ↦ λ f g. no_some p g
           | Some o ↦ λ f g. (o, k, f, sym (some_same (left_of kept (pending ∋ s) o) p g))
         ] refl (sym (at_kept s k) ∙ e)
@@ -280,13 +84,15 @@ module _ (m : Machine) (B kept pending : List ℕ) (w : IsWellFormed m) (l : IsL
         | Some o ↦ λ e h. ap is_some (forth s o k e)
       ] refl h
 
-  reference_back : (s : ℕ) (r : ReferenceOf) → IsReferenceAt n s r → (x : ReferenceOf) × (s ∈ kept) × IsReferenceAt m s x × (r ≡ left_reference kept (pending ∋ s) x)
+  reference_back : (s : ℕ) (r : ReferenceOf) → IsReferenceAt n s r → (x : ReferenceOf) × (s ∈ kept) × IsReferenceAt m s x
+      × (r ≡ left_reference kept (pending ∋ s) x)
   reference_back s r e =
       let b = back s (Reference r) e in
       let x = reference_before kept (pending ∋ s) b.0 r b.3 in
       (x.0, b.1, b.2 ∙ ap (λ o. Some o) x.1, x.2)
 
-  cleanable_back : (s : ℕ) (r : CleanableOf) → IsCleanableAt n s r → (x : CleanableOf) × (s ∈ kept) × IsCleanableAt m s x × (r ≡ left_cleanable kept (pending ∋ s) x)
+  cleanable_back : (s : ℕ) (r : CleanableOf) → IsCleanableAt n s r → (x : CleanableOf) × (s ∈ kept) × IsCleanableAt m s x
+      × (r ≡ left_cleanable kept (pending ∋ s) x)
   cleanable_back s r e =
       let b = back s (Cleanable r) e in
       let x = cleanable_before kept (pending ∋ s) b.0 r b.3 in
@@ -309,13 +115,17 @@ module _ (m : Machine) (B kept pending : List ℕ) (w : IsWellFormed m) (l : IsL
     | inr q ↦ q
   ]
 
-  reference_handed : (s : ℕ) (r : ReferenceOf) → IsReferenceAt m s r → s ∈ pending → IsTrue (is_some r.queue) × (is_kept_referent kept r.referent ≡ None)
+  reference_handed : (s : ℕ) (r : ReferenceOf) → IsReferenceAt m s r → s ∈ pending → IsTrue (is_some r.queue)
+      × (is_kept_referent kept r.referent ≡ None)
   reference_handed s r e p =
       let h = l.lost s p in
-      let same : h.0 ≡ Reference r = some_same h.0 (Reference r) (sym h.3 ∙ e) in
-      ((and_parts (is_fresh r.state) (is_some r.queue) (sym (ap is_ready same) ∙ h.4)).1, loses_referent_out kept r.referent h.1 (sym (ap any_referent same) ∙ h.5) h.6)
+      let same : h.0 ≡ Reference r = some_same h.0 (Reference r) (sym h.3 ∙ e) in (
+        (and_parts (is_fresh r.state) (is_some r.queue) (sym (ap is_ready same) ∙ h.4)).1,
+        loses_referent_out kept r.referent h.1 (sym (ap any_referent same) ∙ h.5) h.6,
+      )
 
-  cleanable_handed : (s : ℕ) (c : CleanableOf) → IsCleanableAt m s c → s ∈ pending → (c.state ≡ Armed) × ((x : ℕ) × (c.referent ≡ Some x) × ((kept ∋ x) ≡ false))
+  cleanable_handed : (s : ℕ) (c : CleanableOf) → IsCleanableAt m s c → s ∈ pending → (c.state ≡ Armed)
+      × ((x : ℕ) × (c.referent ≡ Some x) × ((kept ∋ x) ≡ false))
   cleanable_handed s c e p =
       let h = l.lost s p in
       let same : h.0 ≡ Cleanable c = some_same h.0 (Cleanable c) (sym h.3 ∙ e) in
@@ -363,13 +173,15 @@ module _ (m : Machine) (B kept pending : List ℕ) (w : IsWellFormed m) (l : IsL
       ] refl
 
   unspent_forth : (s : ℕ) (c : CleanableOf) → IsUnspent m s c → IsUnspent n s (left_cleanable kept (pending ∋ s) c)
-  unspent_forth s c u = record { there = forth s (Cleanable c) (unspent_kept s c u) u.there; unspent = unspent_after (pending ∋ s) c.state u.unspent }
+  unspent_forth s c u =
+      record { there = forth s (Cleanable c) (unspent_kept s c u) u.there; unspent = unspent_after (pending ∋ s) c.state u.unspent }
 
   -- ---- States
 
   quiet : (s : ℕ) → s ∈ kept → (pending ∋ s) ≡ false → (state_at n s ≡ state_at m s) × (clean_state_at n s ≡ clean_state_at m s)
   quiet s k q =
-      let e : at heap s ≡ option_map (left_of kept false) (at m.objects s) = at_kept s k ∙ ap (λ b. option_map (left_of kept b) (at m.objects s)) q in
+      let e : at heap s ≡ option_map (left_of kept false) (at m.objects s) = at_kept s k
+      ∙ ap (λ b. option_map (left_of kept b) (at m.objects s)) q in
       (ap state_in e ∙ quiet_state kept (at m.objects s), ap clean_state_in e ∙ quiet_clean_state kept (at m.objects s))
 
   -- an object of a slot where there is one
@@ -382,20 +194,27 @@ module _ (m : Machine) (B kept pending : List ℕ) (w : IsWellFormed m) (l : IsL
 
   old_pending_quiet : (s : ℕ) → s ∈ m.pending → (s ∈ kept) × ((pending ∋ s) ≡ false)
   old_pending_quiet s h =
-      let o = object_of s (w.slots.roots s (root_from m s (waiting h))) in
-      (root_kept s (waiting h), unready s o.0 o.1 (pending_unready o.0 (subst (λ o. IsPendingKind (state_in o) (clean_state_in o)) o.1 (w.lists.pending_others s h))))
+      let o = object_of s (w.slots.roots s (root_from m s (waiting h))) in (
+        root_kept s (waiting h),
+        unready s o.0 o.1 (pending_unready o.0
+            (subst (λ o. IsPendingKind (state_in o) (clean_state_in o)) o.1 (w.lists.pending_others s h))),
+      )
 
   old_line_quiet : (s : ℕ) → s ∈ m.line → (s ∈ kept) × ((pending ∋ s) ≡ false)
   old_line_quiet s h =
-      let o = object_of s (w.slots.roots s (root_from m s (lining h))) in
-      (root_kept s (lining h), unready s o.0 o.1 (lined_unready o.0 (subst (λ o. (clean_state_in o ≡ Some Lined) ⊎ (clean_state_in o ≡ Some Spent)) o.1 (w.lists.line_others s h))))
+      let o = object_of s (w.slots.roots s (root_from m s (lining h))) in (
+        root_kept s (lining h),
+        unready s o.0 o.1 (lined_unready o.0
+            (subst (λ o. (clean_state_in o ≡ Some Lined) ⊎ (clean_state_in o ≡ Some Spent)) o.1 (w.lists.line_others s h))),
+      )
 
   pending_kind : (s : ℕ) → s ∈ (m.pending ++ pending) → IsPendingKind (state_at n s) (clean_state_at n s)
   pending_kind s h = elim (in_append s m.pending pending h) [
     | inl old ↦
         let q = old_pending_quiet s old in
         let same = quiet s q.0 q.1 in
-        subst (λ a. IsPendingKind a (clean_state_at n s)) (sym same.0) (subst (λ b. IsPendingKind (state_at m s) b) (sym same.1) (w.lists.pending_others s old))
+        subst (λ a. IsPendingKind a (clean_state_at n s)) (sym same.0)
+        (subst (λ b. IsPendingKind (state_at m s) b) (sym same.1) (w.lists.pending_others s old))
     | inr new ↦
         let r = l.lost s new in
         let e : at heap s ≡ Some (left_of kept true r.0) = forth s r.0 r.2 r.3 ∙ ap (λ b. Some (left_of kept b r.0)) new in
@@ -404,7 +223,8 @@ module _ (m : Machine) (B kept pending : List ℕ) (w : IsWellFormed m) (l : IsL
 
   clean_state_there : (s : ℕ) (st : CleanState) → clean_state_at n s ≡ Some st → (c : CleanableOf) × IsCleanableAt n s c × (c.state ≡ st)
   clean_state_there s st e =
-      elim (option_and_then as_cleanable (at heap s)) as (λ o. option_and_then as_cleanable (at heap s) ≡ o → option_and_then (λ c. Some c.state) o ≡ Some st → (c : CleanableOf) × IsCleanableAt n s c × (c.state ≡ st)) [
+      elim (option_and_then as_cleanable (at heap s)) as (λ o. option_and_then as_cleanable (at heap s) ≡ o
+      → option_and_then (λ c. Some c.state) o ≡ Some st → (c : CleanableOf) × IsCleanableAt n s c × (c.state ≡ st)) [
         | None ↦ λ f e. no_some st e
         | Some c ↦ λ f e. (c, is_cleanable_there (at heap s) c f, some_same c.state st e)
       ] refl e
@@ -415,7 +235,8 @@ module _ (m : Machine) (B kept pending : List ℕ) (w : IsWellFormed m) (l : IsL
       let x = reference_back s r.0 (is_reference_there (at heap s) r.0 r.1) in
       elim (cases_Bool (pending ∋ s)) [
         | inl p ↦ in_right s m.pending pending p
-        | inr q ↦ in_left s m.pending pending (w.lists.pending_references s (ap state_in x.2 ∙ ap (λ st. Some st) (sym (cond-false (pending ∋ s) Pending x.0.state q) ∙ sym (ap (λ r. r.state) x.3) ∙ r.2)))
+        | inr q ↦ in_left s m.pending pending (w.lists.pending_references s
+            (ap state_in x.2 ∙ ap (λ st. Some st) (sym (cond-false (pending ∋ s) Pending x.0.state q) ∙ sym (ap (λ r. r.state) x.3) ∙ r.2)))
       ]
 
   pending_cleanables : (s : ℕ) → clean_state_at n s ≡ Some PendingClean → s ∈ (m.pending ++ pending)
@@ -424,7 +245,9 @@ module _ (m : Machine) (B kept pending : List ℕ) (w : IsWellFormed m) (l : IsL
       let x = cleanable_back s r.0 r.1 in
       elim (cases_Bool (pending ∋ s)) [
         | inl p ↦ in_right s m.pending pending p
-        | inr q ↦ in_left s m.pending pending (w.lists.pending_cleanables s (ap clean_state_in x.2 ∙ ap (λ st. Some st) (sym (cond-false (pending ∋ s) PendingClean x.0.state q) ∙ sym (ap (λ r. r.state) x.3) ∙ r.2)))
+        | inr q ↦ in_left s m.pending pending (w.lists.pending_cleanables s
+            (ap clean_state_in x.2 ∙ ap (λ st. Some st) (sym (cond-false (pending ∋ s) PendingClean x.0.state q)
+            ∙ sym (ap (λ r. r.state) x.3) ∙ r.2)))
       ]
 
   lined_before : (b : Bool) (st : CleanState) → cond b PendingClean st ≡ Lined → st ≡ Lined
@@ -435,7 +258,8 @@ module _ (m : Machine) (B kept pending : List ℕ) (w : IsWellFormed m) (l : IsL
   lined_in s e =
       let r = clean_state_there s Lined e in
       let x = cleanable_back s r.0 r.1 in
-      w.lists.lined s (ap clean_state_in x.2 ∙ ap (λ st. Some st) (lined_before (pending ∋ s) x.0.state (sym (ap (λ r. r.state) x.3) ∙ r.2)))
+      w.lists.lined s (ap clean_state_in x.2 ∙ ap (λ st. Some st)
+      (lined_before (pending ∋ s) x.0.state (sym (ap (λ r. r.state) x.3) ∙ r.2)))
 
   line_kind : (s : ℕ) → s ∈ m.line → (clean_state_at n s ≡ Some Lined) ⊎ (clean_state_at n s ≡ Some Spent)
   line_kind s h =
@@ -452,11 +276,13 @@ module _ (m : Machine) (B kept pending : List ℕ) (w : IsWellFormed m) (l : IsL
   edges_stay s x h = elim (edge_gives UpToPhantom heap s x h) [
     | inl e ↦
         let b = back s e.0 e.1 in
-        let old : x ∈ strong_edges b.0 = subst (λ l. x ∈ l) (ap strong_edges b.3 ∙ strong_same kept (pending ∋ s) b.0 (λ p. was_ready s b.0 b.2 p)) e.2 in
+        let old : x ∈ strong_edges b.0 =
+        subst (λ l. x ∈ l) (ap strong_edges b.3 ∙ strong_same kept (pending ∋ s) b.0 (λ p. was_ready s b.0 b.2 p)) e.2 in
         object_forth x (l.strong s x b.0 b.1 b.2 old) (w.slots.edges s x (edge_from UpToPhantom m.objects s x (inl (b.0, b.2, old))))
     | inr e ↦
         let b = back s e.2.0 e.2.1 in
-        let any : is_kept_referent kept (any_referent b.0) ≡ Some x = sym (referent_left kept (pending ∋ s) b.0) ∙ sym (ap any_referent b.3) ∙ referent_is e.0 e.2.0 x e.2.2 in
+        let any : is_kept_referent kept (any_referent b.0) ≡ Some x = sym (referent_left kept (pending ∋ s) b.0) ∙ sym (ap any_referent b.3)
+        ∙ referent_is e.0 e.2.0 x e.2.2 in
         let r = kept_referent kept (any_referent b.0) x any in
         let k = some_kind b.0 x r.0 in
         object_forth x r.1 (w.slots.edges s x (edge_from UpToPhantom m.objects s x (inr (k.0, refl, (b.0, b.2, k.1)))))
@@ -480,8 +306,11 @@ module _ (m : Machine) (B kept pending : List ℕ) (w : IsWellFormed m) (l : IsL
   queues_fit s q r e f =
       let x = reference_back s r e in
       let g : x.0.queue ≡ Some q = sym (ap (λ r. r.queue) x.3) ∙ f in
-      let members = w.slots.queues s q x.0 x.2 g in
-      (members.0, forth q (Queue members.0) (l.strong s q (Reference x.0) x.1 x.2 (option_in q (queue_ahead x.0) (still_ahead x.0 x.0.state q (w.references.states s x.0 x.2) g))) members.1)
+      let members = w.slots.queues s q x.0 x.2 g in (
+        members.0,
+        forth q (Queue members.0) (l.strong s q (Reference x.0) x.1 x.2
+            (option_in q (queue_ahead x.0) (still_ahead x.0 x.0.state q (w.references.states s x.0 x.2) g))) members.1,
+      )
 
   cleanable_kept : (s : ℕ) (g : GuardOf) → s ∈ kept → IsGuardAt m s g → g.cleanable ∈ kept
   cleanable_kept s g k e = l.strong s g.cleanable (Guard g) k e (in_front g.cleanable g.cleanable [] refl)
@@ -507,8 +336,11 @@ module _ (m : Machine) (B kept pending : List ℕ) (w : IsWellFormed m) (l : IsL
   members_fit q s xs e h =
       let b = queue_back q xs e in
       let r = w.references.members q s xs b.1 h in
-      let d : (pending ∋ s) ≡ false = unready s (Reference r.0) r.1 (ap (λ st. is_fresh st && is_some r.0.queue) r.2) in
-      (left_reference kept (pending ∋ s) r.0, forth s (Reference r.0) (l.strong q s (Queue xs) b.0 b.1 h) r.1, cond-false (pending ∋ s) Pending r.0.state d ∙ r.2)
+      let d : (pending ∋ s) ≡ false = unready s (Reference r.0) r.1 (ap (λ st. is_fresh st && is_some r.0.queue) r.2) in (
+        left_reference kept (pending ∋ s) r.0,
+        forth s (Reference r.0) (l.strong q s (Queue xs) b.0 b.1 h) r.1,
+        cond-false (pending ∋ s) Pending r.0.state d ∙ r.2,
+      )
 
   -- ---- Actions
 
@@ -517,15 +349,18 @@ module _ (m : Machine) (B kept pending : List ℕ) (w : IsWellFormed m) (l : IsL
     | inl k ↦ elim (cases_Bool (pending ∋ s)) [
       | inl p ↦
           let r = l.lost s p in
-          ap is_unspent_place (forth s r.0 k r.3 ∙ ap (λ b. Some (left_of kept b r.0)) p) ∙ unspent_same_true kept r.0 r.4 ∙ sym (ap is_unspent_place r.3)
-      | inr q ↦ ap is_unspent_place (at_kept s k ∙ ap (λ b. option_map (left_of kept b) (at m.objects s)) q) ∙ unspent_same_false kept (at m.objects s)
+          ap is_unspent_place (forth s r.0 k r.3 ∙ ap (λ b. Some (left_of kept b r.0)) p) ∙ unspent_same_true kept r.0 r.4
+          ∙ sym (ap is_unspent_place r.3)
+      | inr q ↦ ap is_unspent_place (at_kept s k ∙ ap (λ b. option_map (left_of kept b) (at m.objects s)) q)
+          ∙ unspent_same_false kept (at m.objects s)
     ]
     | inr d ↦
         ap is_unspent_place (at_new s ∙ cond-false (kept ∋ s) (option_map (left_of kept (pending ∋ s)) (at m.objects s)) None d)
         ∙ sym (elim (cases_Bool (is_unspent_place (at m.objects s))) [
           | inl u ↦
               let c = unspent_is (at m.objects s) u in
-              absurd (both_ways (kept ∋ s) d (unspent_kept s c.0 (record { there = c.1; unspent = λ e. both_ways (is_spent c.0.state) c.2 (ap is_spent e) })))
+              absurd (both_ways (kept ∋ s) d (unspent_kept s c.0
+              (record { there = c.1; unspent = λ e. both_ways (is_spent c.0.state) c.2 (ap is_spent e) })))
           | inr n ↦ n
         ])
   ]
@@ -542,7 +377,8 @@ module _ (m : Machine) (B kept pending : List ℕ) (w : IsWellFormed m) (l : IsL
       ap (λ c. c.referent) x.3
       ∙ elim (cases_Bool (pending ∋ s)) [
         | inl p ↦ let h = cleanable_handed s x.0 x.2 p in loses_referent_out kept x.0.referent h.1.0 h.1.1 h.1.2
-        | inr q ↦ ap (is_kept_referent kept) (w.actions.referents s x.0 x.2 (λ a. d (ap (λ c. c.state) x.3 ∙ cond-false (pending ∋ s) PendingClean x.0.state q ∙ a)))
+        | inr q ↦ ap (is_kept_referent kept) (w.actions.referents s x.0 x.2
+            (λ a. d (ap (λ c. c.state) x.3 ∙ cond-false (pending ∋ s) PendingClean x.0.state q ∙ a)))
       ]
 
   -- ---- Resources
@@ -554,9 +390,12 @@ module _ (m : Machine) (B kept pending : List ℕ) (w : IsWellFormed m) (l : IsL
   worked rid action Out h = (h.0, left_cleanable kept (pending ∋ h.0) h.1, unspent_forth h.0 h.1 h.2, h.3, h.4)
 
   -- a cleanable whose resource is in a call keeps its guard, which the call fences
-  fenced_unhanded : (s rid : ℕ) (c : CleanableOf) (session : Session) (k : ℕ) (state : ResourceState) → IsUnspent m s c → HasResource m rid c.action state → IsSessionAt m k session → IsFencing m session rid state → (pending ∋ s) ≡ false
+  fenced_unhanded : (s rid : ℕ) (c : CleanableOf) (session : Session) (k : ℕ) (state : ResourceState) → IsUnspent m s c
+      → HasResource m rid c.action state → IsSessionAt m k session → IsFencing m session rid state → (pending ∋ s) ≡ false
   fenced_unhanded s rid c session k state u h e f =
-      let same : f.2.action ≡ c.action = ap (λ (r : Resource). r.action) (some_same (record { rid = rid; action = f.2.action; state = state }) (record { rid = rid; action = c.action; state = state }) (sym f.8 ∙ h)) in
+      let same : f.2.action ≡ c.action = ap (λ (r : Resource). r.action)
+      (some_same (record { rid = rid; action = f.2.action; state = state }) (record { rid = rid; action = c.action; state = state })
+      (sym f.8 ∙ h)) in
       let v : IsUnspent m f.1.cleanable f.2 = record { there = f.6; unspent = λ z. let a : Armed ≡ Spent = sym f.7 ∙ z in cc a } in
       let place : f.1.cleanable ≡ s = w.actions.cleanables f.1.cleanable s f.2 c v u same in
       subst (λ s. (pending ∋ s) ≡ false) place
@@ -576,13 +415,16 @@ module _ (m : Machine) (B kept pending : List ℕ) (w : IsWellFormed m) (l : IsL
         | Closing ↦ λ h d. absurd (d refl)
         | Opening ↦ λ h d.
             let k = w.calls.opening rid c.action h in
-            absurd (both_ways (pending ∋ s) (fenced_unhanded s rid c k.1.0 k.0 Opening u h k.1.1 (fencing_of k.0 k.1.0 (CallOpening rid) k.1.1 k.1.2)) p)
+            absurd (both_ways (pending ∋ s) (fenced_unhanded s rid c k.1.0 k.0 Opening u h k.1.1
+            (fencing_of k.0 k.1.0 (CallOpening rid) k.1.1 k.1.2)) p)
         | Out ↦ λ h d.
             let k = w.calls.out rid c.action h in
-            absurd (both_ways (pending ∋ s) (fenced_unhanded s rid c k.1.0 k.0 Out u h k.1.1 (fencing_of k.0 k.1.0 (CallOut rid) k.1.1 k.1.2)) p)
+            absurd (both_ways (pending ∋ s) (fenced_unhanded s rid c k.1.0 k.0 Out u h k.1.1
+            (fencing_of k.0 k.1.0 (CallOut rid) k.1.1 k.1.2)) p)
       ] r.1 r.2
 
-  resource_of : (s rid : ℕ) (c : CleanableOf) → IsUnspent n s c → c.work ≡ WorkOn rid → (state : ResourceState) × HasResource n rid c.action state × (state ≢ Closing)
+  resource_of : (s rid : ℕ) (c : CleanableOf) → IsUnspent n s c → c.work ≡ WorkOn rid → (state : ResourceState)
+      × HasResource n rid c.action state × (state ≢ Closing)
   resource_of s rid c u f =
       let x = unspent_back s c u in
       let r = w.resources.of_cleanables s rid x.0 x.1 (sym (same_work s c x) ∙ f) in
@@ -598,7 +440,8 @@ module _ (m : Machine) (B kept pending : List ℕ) (w : IsWellFormed m) (l : IsL
         | inr q ↦ w.resources.idle s rid x.0 x.1 g (λ a. d (ap (λ c. c.state) x.2 ∙ cond-false (pending ∋ s) PendingClean x.0.state q ∙ a))
       ])
 
-  guards_fit : (s : ℕ) (g : GuardOf) (c : CleanableOf) → IsGuardAt n s g → IsCleanableAt n g.cleanable c → (c.state ≡ Spent) ⊎ IsOwnGuard n s g c
+  guards_fit : (s : ℕ) (g : GuardOf) (c : CleanableOf) → IsGuardAt n s g → IsCleanableAt n g.cleanable c → (c.state ≡ Spent)
+      ⊎ IsOwnGuard n s g c
   guards_fit s g c e f =
       let a = guard_back s g e in
       let x = cleanable_back g.cleanable c f in
@@ -615,7 +458,8 @@ module _ (m : Machine) (B kept pending : List ℕ) (w : IsWellFormed m) (l : IsL
             })
       ]
 
-  guarded_now : (s rid : ℕ) (c : CleanableOf) → IsCleanableAt n s c → c.state ≡ Armed → c.work ≡ WorkOn rid → (t : ℕ) × (g : GuardOf) × IsGuardAt n t g × (g.cleanable ≡ s)
+  guarded_now : (s rid : ℕ) (c : CleanableOf) → IsCleanableAt n s c → c.state ≡ Armed → c.work ≡ WorkOn rid → (t : ℕ) × (g : GuardOf)
+      × IsGuardAt n t g × (g.cleanable ≡ s)
   guarded_now s rid c e armed f =
       let x = cleanable_back s c e in
       let b = armed_before (pending ∋ s) x.0.state (sym (ap (λ c. c.state) x.3) ∙ armed) in
@@ -632,16 +476,27 @@ module _ (m : Machine) (B kept pending : List ℕ) (w : IsWellFormed m) (l : IsL
 
   -- ---- Calls
 
-  fencing_now : (k : ℕ) (session : Session) (rid : ℕ) (state : ResourceState) → IsSessionAt m k session → IsFencing m session rid state → IsFencing n session rid state
+  fencing_now : (k : ℕ) (session : Session) (rid : ℕ) (state : ResourceState) → IsSessionAt m k session → IsFencing m session rid state
+      → IsFencing n session rid state
   fencing_now k session rid state e f =
       let k = root_kept f.0 (fencing k session e f.3) in
       let q : (pending ∋ f.1.cleanable) ≡ false = elim (w.resources.guards f.0 f.1 f.2 f.4 f.6) [
         | inl z ↦ let a : Armed ≡ Spent = sym f.7 ∙ z in absurd (cc a)
         | inr own ↦ own_unhanded f.1.cleanable f.0 f.2 f.6 own.referent k
-      ] in
-      (f.0, f.1, left_cleanable kept (pending ∋ f.1.cleanable) f.2, f.3, forth f.0 (Guard f.1) k f.4, f.5, forth f.1.cleanable (Cleanable f.2) (cleanable_kept f.0 f.1 k f.4) f.6, cond-false (pending ∋ f.1.cleanable) PendingClean f.2.state q ∙ f.7, f.8)
+      ] in (
+        f.0,
+        f.1,
+        left_cleanable kept (pending ∋ f.1.cleanable) f.2,
+        f.3,
+        forth f.0 (Guard f.1) k f.4,
+        f.5,
+        forth f.1.cleanable (Cleanable f.2) (cleanable_kept f.0 f.1 k f.4) f.6,
+        cond-false (pending ∋ f.1.cleanable) PendingClean f.2.state q ∙ f.7,
+        f.8,
+      )
 
-  fits_call : (k : ℕ) (session : Session) (call : Call) → IsSessionAt m k session → FitsItsCall m k session call → FitsItsCall n k session call
+  fits_call : (k : ℕ) (session : Session) (call : Call) → IsSessionAt m k session → FitsItsCall m k session call
+      → FitsItsCall n k session call
   fits_call k session Free e h = h
   fits_call k session (CallOpening rid) e h = fencing_now k session rid Opening e h
   fits_call k session (CallOut rid) e h = fencing_now k session rid Out e h
@@ -654,7 +509,14 @@ module _ (m : Machine) (B kept pending : List ℕ) (w : IsWellFormed m) (l : IsL
   private_before s (inr p) =
       let g = guard_back s p.0 p.2 in
       let x = cleanable_back p.0.cleanable p.1 p.3 in
-      inr (p.0, x.0, g.1, x.2, (armed_before (pending ∋ p.0.cleanable) x.0.state (sym (ap (λ c. c.state) x.3) ∙ p.4)).1, subst (λ a. HasResource m p.0.rid a Opening) (ap (λ c. c.action) x.3) p.5)
+      inr (
+        p.0,
+        x.0,
+        g.1,
+        x.2,
+        (armed_before (pending ∋ p.0.cleanable) x.0.state (sym (ap (λ c. c.state) x.3) ∙ p.4)).1,
+        subst (λ a. HasResource m p.0.rid a Opening) (ap (λ c. c.action) x.3) p.5,
+      )
 
   -- ---- All together
 
@@ -669,7 +531,8 @@ module _ (m : Machine) (B kept pending : List ℕ) (w : IsWellFormed m) (l : IsL
           in_one = λ p q s xs ys e f. w.references.in_one p q s xs ys (queue_back p xs e).1 (queue_back q ys f).1;
         };
         lists = record {
-          pending_once = distinct_append m.pending pending w.lists.pending_once l.once (λ s a b. both_ways (pending ∋ s) (old_pending_quiet s a).1 b);
+          pending_once =
+              distinct_append m.pending pending w.lists.pending_once l.once (λ s a b. both_ways (pending ∋ s) (old_pending_quiet s a).1 b);
           line_once = w.lists.line_once;
           pending_references = pending_references;
           pending_cleanables = pending_cleanables;
@@ -677,22 +540,31 @@ module _ (m : Machine) (B kept pending : List ℕ) (w : IsWellFormed m) (l : IsL
           lined = lined_in;
           line_others = line_kind;
         };
-        sessions = record { places = w.sessions.places; opening = w.sessions.opening; names = w.sessions.names; names_limit = w.sessions.names_limit };
+        sessions = record {
+          places =
+              w.sessions.places;
+          opening = w.sessions.opening;
+          names = w.sessions.names;
+          names_limit = w.sessions.names_limit;
+        };
         actions = record {
           cleanables = λ s t c d u v e.
               let x = unspent_back s c u in
               let y = unspent_back t d v in
               w.actions.cleanables s t x.0 y.0 x.1 y.1 (sym (same_action s c x) ∙ e ∙ same_action t d y);
-          apart = λ s c u. let x = unspent_back s c u in subst (λ a. job_of m a ≡ None) (sym (same_action s c x)) (w.actions.apart s x.0 x.1);
+          apart = λ s c u. let x = unspent_back s c u in
+              subst (λ a. job_of m a ≡ None) (sym (same_action s c x)) (w.actions.apart s x.0 x.1);
           jobs = w.actions.jobs;
-          of_cleanables = λ s c e. let x = cleanable_back s c e in subst (IsAction m) (sym (ap (λ c. c.action) x.3)) (w.actions.of_cleanables s x.0 x.2);
+          of_cleanables = λ s c e. let x = cleanable_back s c e in
+              subst (IsAction m) (sym (ap (λ c. c.action) x.3)) (w.actions.of_cleanables s x.0 x.2);
           of_jobs = w.actions.of_jobs;
           of_resources = w.actions.of_resources;
           of_faults = w.actions.of_faults;
           referents = referents_gone;
           cleaners = w.actions.cleaners;
           taken = w.actions.taken;
-          room = omega (arith, w.actions.room, count_pointwise is_unspent_place heap m.objects (length_left kept pending 0 m.objects) unspent_same);
+          room = omega
+              (arith, w.actions.room, count_pointwise is_unspent_place heap m.objects (length_left kept pending 0 m.objects) unspent_same);
         };
         resources = record {
           rising = w.resources.rising;
@@ -717,7 +589,8 @@ module _ (m : Machine) (B kept pending : List ℕ) (w : IsWellFormed m) (l : IsL
           fields = λ t s fields e h p. w.unnamed.fields t s fields (plain_back t fields e).1 h (private_before s p);
           references = λ t s r e f p.
               let x = reference_back t r e in
-              w.unnamed.references t s x.0 x.2 (kept_referent kept x.0.referent s (sym (ap (λ r. r.referent) x.3) ∙ f)).0 (private_before s p);
+              w.unnamed.references t s x.0 x.2 (kept_referent kept x.0.referent s (sym (ap (λ r. r.referent) x.3) ∙ f)).0
+              (private_before s p);
         };
         limits = limits_stay m n w.limits (length_left kept pending 0 m.objects) refl;
         faults = w.faults;
@@ -729,16 +602,21 @@ module _ (m : Machine) (B kept pending : List ℕ) (w : IsWellFormed m) (l : IsL
 
   -- ---- What handles name
 
-  left_kind : (b : Bool) (fits : Object → Bool) → ((o : Object) → fits (left_of kept b o) ≡ fits o) → (o : Option Object) → some_and (λ o. not (fits o)) (option_map (left_of kept b) o) ≡ some_and (λ o. not (fits o)) o
+  left_kind : (b : Bool) (fits : Object → Bool) → ((o : Object) → fits (left_of kept b o) ≡ fits o) → (o : Option Object)
+      → some_and (λ o. not (fits o)) (option_map (left_of kept b) o) ≡ some_and (λ o. not (fits o)) o
   left_kind b fits h None = refl
   left_kind b fits h (Some o) = ap not (h o)
 
   -- a handle names an object of the same kind
-  pub wrong_kind_kept : (k : ℕ) (x : Operand) → ((b : Bool) (o : Object) → x.fits (left_of kept b o) ≡ x.fits o) → is_of_wrong_kind n k x ≡ is_of_wrong_kind m k x
+  pub wrong_kind_kept : (k : ℕ) (x : Operand) → ((b : Bool) (o : Object) → x.fits (left_of kept b o) ≡ x.fits o)
+      → is_of_wrong_kind n k x ≡ is_of_wrong_kind m k x
   wrong_kind_kept k x h =
-      elim (slot_named m k x.handle) as (λ t. slot_named m k x.handle ≡ t → some_and (λ o. not (x.fits o)) (option_and_then (at heap) t) ≡ some_and (λ o. not (x.fits o)) (option_and_then (at m.objects) t)) [
+      elim (slot_named m k x.handle) as (λ t. slot_named m k x.handle ≡ t
+      → some_and (λ o. not (x.fits o)) (option_and_then (at heap) t)
+      ≡ some_and (λ o. not (x.fits o)) (option_and_then (at m.objects) t)) [
         | None ↦ λ e. refl
         | Some t ↦ λ e.
             let r = and_then_gives (λ z. at z.handles x.handle) (at m.mutators k) t e in
-            ap (some_and (λ o. not (x.fits o))) (at_kept t (root_kept t (held k x.handle r.0 r.1 r.2))) ∙ left_kind (pending ∋ t) x.fits (h (pending ∋ t)) (at m.objects t)
+            ap (some_and (λ o. not (x.fits o))) (at_kept t (root_kept t (held k x.handle r.0 r.1 r.2)))
+            ∙ left_kind (pending ∋ t) x.fits (h (pending ∋ t)) (at m.objects t)
       ] refl

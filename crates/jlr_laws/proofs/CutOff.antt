@@ -12,8 +12,11 @@ use Rattle.jlr_machine.specs.Edges.Chain.{Strong, UpToSoft, UpToWeak, UpToPhanto
 use Rattle.jlr_laws.specs.Laws.{LosesReferent, only, IsCutOff}
 use Rattle.jlr_laws.proofs.Paths.{AreEdgesWithin, along}
 use Rattle.jlr_laws.proofs.Checks.{cleared, cleared-Clears}
-use Rattle.jlr_laws.proofs.Clearing.{HasStrong, HasReferent, HasEdge, edge_gives, some_kind, strong_back, strong_forth, referent_back, referent_kept, referent_forth}
-use Rattle.jlr_laws.proofs.Agree.{one_edge_more, carried, at_base, reached_wider, softly_weakly, kinds_apart, soft_phantom, decided_reachable, drop_decided, within_after, IsDropped, IsOrWithout, once_more, stays, keeps_referent, loses_referent, kept_is_live, soft_edge_back, soft_to_last, strong_to_soft}
+use Rattle.jlr_laws.proofs.Clearing.{HasStrong, HasReferent, HasEdge, edge_gives, some_kind, strong_back, strong_forth, referent_back}
+use Rattle.jlr_laws.proofs.Clearing.{referent_kept, referent_forth}
+use Rattle.jlr_laws.proofs.Agree.{one_edge_more, carried, at_base, reached_wider, softly_weakly, kinds_apart, soft_phantom}
+use Rattle.jlr_laws.proofs.Agree.{decided_reachable, drop_decided, within_after, IsDropped, IsOrWithout, once_more, stays, keeps_referent}
+use Rattle.jlr_laws.proofs.Agree.{loses_referent, kept_is_live, soft_edge_back, soft_to_last, strong_to_soft}
 use Rattle.jlr_laws.proofs.Only.{inside_back, inside_forth}
 
 -- ---- A set that is decided, as a test
@@ -22,10 +25,15 @@ abbrev test_of : (C : ℕ → Type 0) → ((x : ℕ) → C x ⊎ ¬ (C x)) → �
 test_of C dec x = elim (dec x) [ inl yes_x ↦ true | inr no_x ↦ false ]
 
 to_test : (C : ℕ → Type 0) (dec : (x : ℕ) → C x ⊎ ¬ (C x)) (x : ℕ) → C x → test_of C dec x ≡ true
-to_test C dec x p = elim (dec x) as (λ d. elim d [ inl yes_x ↦ true | inr no_x ↦ false ] ≡ true) [ inl yes_x ↦ refl | inr no_x ↦ absurd (no_x p) ]
+to_test C dec x p =
+    elim (dec x) as (λ d. elim d [ inl yes_x ↦ true | inr no_x ↦ false ] ≡ true) [ inl yes_x ↦ refl | inr no_x ↦ absurd (no_x p) ]
 
 from_test : (C : ℕ → Type 0) (dec : (x : ℕ) → C x ⊎ ¬ (C x)) (x : ℕ) → test_of C dec x ≡ true → C x
-from_test C dec x = elim (dec x) as (λ d. elim d [ inl yes_x ↦ true | inr no_x ↦ false ] ≡ true → C x) [ inl yes_x ↦ λ e. yes_x | inr no_x ↦ λ e. absurd (both_ways false refl e) ]
+from_test C dec x = elim (dec x) as (λ d. elim d [ inl yes_x ↦ true | inr no_x ↦ false ] ≡ true → C x) [
+  | inl yes_x ↦ λ e. yes_x
+  | inr no_x ↦
+      λ e. absurd (both_ways false refl e)
+]
 
 abbrev cleared_of : RefKind → (C : ℕ → Type 0) → ((x : ℕ) → C x ⊎ ¬ (C x)) → Heap → Heap
 cleared_of kind C dec heap = cleared kind (test_of C dec) heap
@@ -44,10 +52,16 @@ none_left (Cleanable c) = refl
 none_left (Guard g) = refl
 
 -- where in the end a kept object has its referent exactly if that is kept
-module _ (heap new : Heap) (kept : List ℕ) (keeps : (s x : ℕ) (o : Object) → at heap s ≡ Some o → any_referent o ≡ Some x → x ∈ kept → at new s ≡ Some o) (loses : (s x : ℕ) (o : Object) → s ∈ kept → at heap s ≡ Some o → any_referent o ≡ Some x → (kept ∋ x) ≡ false → at new s ≡ Some (without_referent o)) where
+module _ (heap new : Heap) (kept : List ℕ) (keeps : (s x : ℕ) (o : Object) → at heap s ≡ Some o → any_referent o ≡ Some x → x ∈ kept
+    → at new s ≡ Some o) (loses : (s x : ℕ) (o : Object) → s ∈ kept → at heap s ≡ Some o → any_referent o ≡ Some x → (kept ∋ x) ≡ false
+    → at new s ≡ Some (without_referent o)) where
   to_handed : (s : ℕ) → LosesReferent heap kept s → IsMadePending heap new kept s
-  to_handed s (m, (o, x), e, ready, f, n) =
-      (m, ap (some_and is_ready) e ∙ ready, ap has_referent e ∙ ap is_some f, not_from_false (has_referent (at new s)) (ap has_referent (loses s x o m e f n) ∙ none_left o))
+  to_handed s (m, (o, x), e, ready, f, n) = (
+    m,
+    ap (some_and is_ready) e ∙ ready,
+    ap has_referent e ∙ ap is_some f,
+    not_from_false (has_referent (at new s)) (ap has_referent (loses s x o m e f n) ∙ none_left o),
+  )
 
   from_handed : (s : ℕ) → IsMadePending heap new kept s → LosesReferent heap kept s
   from_handed s h =
@@ -56,12 +70,22 @@ module _ (heap new : Heap) (kept : List ℕ) (keeps : (s x : ℕ) (o : Object) �
         | Some o ↦ λ e ready had.
             elim (any_referent o) as (λ r. any_referent o ≡ r → is_some r ≡ true → LosesReferent heap kept s) [
               | None ↦ λ f had. absurd (both_ways false refl had)
-              | Some x ↦ λ f had.
-                  (h.0, (o, x), e, ready, f, false_from_ne_true (kept ∋ x) (λ m. both_ways (has_referent (at new s)) (not-true (has_referent (at new s)) h.3) (ap has_referent (keeps s x o e f m) ∙ ap is_some f)))
+              | Some x ↦ λ f had. (
+                h.0,
+                (o, x),
+                e,
+                ready,
+                f,
+                false_from_ne_true (kept ∋ x)
+                    (λ m. both_ways (has_referent (at new s)) (not-true (has_referent (at new s)) h.3)
+                    (ap has_referent (keeps s x o e f m) ∙ ap is_some f)),
+              )
             ] refl had
       ] refl h.1 h.2
 
-module _ (heap : Heap) (B kept : List ℕ) (within : AreEdgesWithin UpToPhantom heap) (all_kept : (s : ℕ) → s ∈ B → s ∈ kept) (closed : (x y : ℕ) → x ∈ kept → HasStrong heap x y → y ∈ kept) (inside : (s : ℕ) → s ∈ kept → IsReached UpToSoft (only kept heap) B s) where
+module _ (heap : Heap) (B kept : List ℕ) (within : AreEdgesWithin UpToPhantom heap) (all_kept : (s : ℕ) → s ∈ B → s ∈ kept)
+    (closed : (x y : ℕ) → x ∈ kept → HasStrong heap x y → y ∈ kept)
+    (inside : (s : ℕ) → s ∈ kept → IsReached UpToSoft (only kept heap) B s) where
   abbrev Dropped : ℕ → Type 0
   Dropped s = IsDropped heap B kept s
 
@@ -109,38 +133,52 @@ module _ (heap : Heap) (B kept : List ℕ) (within : AreEdgesWithin UpToPhantom 
   -- a soft reference to what is kept stays
   soft_stays : (x y : ℕ) → y ∈ kept → HasEdge UpToSoft heap x y → HasEdge UpToSoft soft_left x y
   soft_stays x y m (inl e) = inl (strong_forth Soft Dropped heap soft_left soft_clears dropped x y e)
-  soft_stays x y m (inr e) = inr (e.0, e.1, referent_forth Soft Dropped heap soft_left soft_clears dropped e.0 x y e.2 (λ q d. both_ways (kept ∋ y) (not-true (kept ∋ y) d.1) m))
+  soft_stays x y m (inr e) = inr (
+    e.0,
+    e.1,
+    referent_forth Soft Dropped heap soft_left soft_clears dropped e.0 x y e.2
+        (λ q d. both_ways (kept ∋ y) (not-true (kept ∋ y) d.1) m),
+  )
 
   soft_lives : (s : ℕ) → s ∈ kept → IsReached UpToSoft soft_left B s
   soft_lives s m =
       carried UpToSoft (only kept heap) B (λ s. s ∈ kept → IsReached UpToSoft soft_left B s)
-      (λ x y r e n. let back = inside_back UpToSoft heap kept x y e in one_edge_more UpToSoft soft_left B x y (r back.0) (soft_stays x y n back.1))
+      (λ x y r e n. let back = inside_back UpToSoft heap kept x y e in
+      one_edge_more UpToSoft soft_left B x y (r back.0) (soft_stays x y n back.1))
       (λ s b n. at_base UpToSoft soft_left B s b)
       s (inside s m) m
 
   first_lives : (s : ℕ) → s ∈ kept → IsReached UpToSoft heap B s
   first_lives s m =
-      carried UpToSoft (only kept heap) B (IsReached UpToSoft heap B) (λ x y r e. one_edge_more UpToSoft heap B x y r (inside_back UpToSoft heap kept x y e).1) (at_base UpToSoft heap B) s (inside s m)
+      carried UpToSoft (only kept heap) B (IsReached UpToSoft heap B)
+      (λ x y r e. one_edge_more UpToSoft heap B x y r (inside_back UpToSoft heap kept x y e).1) (at_base UpToSoft heap B) s (inside s m)
 
   weak_stays : (x y : ℕ) → HasEdge UpToSoft soft_left x y → HasEdge UpToSoft weak_left x y
   weak_stays x y (inl e) = inl (strong_forth Weak WeakSet soft_left weak_left weak_clears weak_set x y e)
-  weak_stays x y (inr (Soft, t, e)) = inr (Soft, t, referent_forth Weak WeakSet soft_left weak_left weak_clears weak_set Soft x y e (λ q. absurd (kinds_apart q)))
+  weak_stays x y (inr (Soft, t, e)) =
+      inr (Soft, t, referent_forth Weak WeakSet soft_left weak_left weak_clears weak_set Soft x y e (λ q. absurd (kinds_apart q)))
   weak_stays x y (inr (Weak, t, e)) = absurd (both_ways false refl t)
   weak_stays x y (inr (Phantom, t, e)) = absurd (both_ways false refl t)
 
   weak_lives : (s : ℕ) → s ∈ kept → IsReached UpToSoft weak_left B s
-  weak_lives s m = carried UpToSoft soft_left B (IsReached UpToSoft weak_left B) (λ x y r e. one_edge_more UpToSoft weak_left B x y r (weak_stays x y e)) (at_base UpToSoft weak_left B) s (soft_lives s m)
+  weak_lives s m = carried UpToSoft soft_left B (IsReached UpToSoft weak_left B)
+      (λ x y r e. one_edge_more UpToSoft weak_left B x y r (weak_stays x y e)) (at_base UpToSoft weak_left B) s (soft_lives s m)
 
   last_stays : (x y : ℕ) → HasEdge UpToSoft weak_left x y → HasEdge UpToSoft phantom_left x y
   last_stays x y (inl e) = inl (strong_forth Phantom PhantomSet weak_left phantom_left phantom_clears phantom_set x y e)
-  last_stays x y (inr (Soft, t, e)) = inr (Soft, t, referent_forth Phantom PhantomSet weak_left phantom_left phantom_clears phantom_set Soft x y e (λ q. absurd (soft_phantom q)))
+  last_stays x y (inr (Soft, t, e)) = inr (
+    Soft,
+    t,
+    referent_forth Phantom PhantomSet weak_left phantom_left phantom_clears phantom_set Soft x y e (λ q. absurd (soft_phantom q)),
+  )
   last_stays x y (inr (Weak, t, e)) = absurd (both_ways false refl t)
   last_stays x y (inr (Phantom, t, e)) = absurd (both_ways false refl t)
 
   last_lives : (s : ℕ) → s ∈ kept → IsReached UpToPhantom phantom_left B s
   last_lives s m =
       reached_wider UpToSoft UpToPhantom phantom_left B s (λ k e. refl)
-      (carried UpToSoft weak_left B (IsReached UpToSoft phantom_left B) (λ x y r e. one_edge_more UpToSoft phantom_left B x y r (last_stays x y e)) (at_base UpToSoft phantom_left B) s (weak_lives s m))
+      (carried UpToSoft weak_left B (IsReached UpToSoft phantom_left B)
+      (λ x y r e. one_edge_more UpToSoft phantom_left B x y r (last_stays x y e)) (at_base UpToSoft phantom_left B) s (weak_lives s m))
 
   weakly_soft : (s : ℕ) → s ∈ kept → IsReached UpToWeak soft_left B s
   weakly_soft s m = reached_wider UpToSoft UpToWeak soft_left B s softly_weakly (soft_lives s m)
@@ -165,8 +203,14 @@ module _ (heap : Heap) (B kept : List ℕ) (within : AreEdgesWithin UpToPhantom 
   strongly_kept s r = carried Strong heap B (λ s. s ∈ kept) strongly_step all_kept s r
 
   soft_edge : (x y : ℕ) → x ∈ kept → HasReferent Soft soft_left x y → y ∈ kept
-  soft_edge x y m e = by_contradiction y (λ n. referent_kept Soft Dropped heap soft_left soft_clears dropped x y e
-      (((λ r. both_ways (kept ∋ y) n (strongly_kept y r)), one_edge_more UpToSoft heap B x y (first_lives x m) (inr (Soft, refl, referent_back Soft Dropped heap soft_left soft_clears dropped Soft x y e))), not_from_false (kept ∋ y) n))
+  soft_edge x y m e = by_contradiction y (λ n. referent_kept Soft Dropped heap soft_left soft_clears dropped x y e (
+    (
+      (λ r. both_ways (kept ∋ y) n (strongly_kept y r)),
+      one_edge_more UpToSoft heap B x y (first_lives x m)
+          (inr (Soft, refl, referent_back Soft Dropped heap soft_left soft_clears dropped Soft x y e)),
+    ),
+    not_from_false (kept ∋ y) n,
+  ))
 
   strong_one : (x y : ℕ) → x ∈ kept → HasStrong soft_left x y → y ∈ kept
   strong_one x y m e = closed x y m (strong_back Soft Dropped heap soft_left soft_clears dropped x y e)
@@ -184,8 +228,10 @@ module _ (heap : Heap) (B kept : List ℕ) (within : AreEdgesWithin UpToPhantom 
   weak_back k x y e = referent_back Weak WeakSet soft_left weak_left weak_clears weak_set k x y e
 
   weak_edge : (x y : ℕ) → x ∈ kept → HasReferent Weak weak_left x y → y ∈ kept
-  weak_edge x y m e = by_contradiction y (λ n. referent_kept Weak WeakSet soft_left weak_left weak_clears weak_set x y e
-      ((λ r. both_ways (kept ∋ y) n (softly_kept y r)), one_edge_more UpToWeak soft_left B x y (weakly_soft x m) (inr (Weak, refl, weak_back Weak x y e))))
+  weak_edge x y m e = by_contradiction y (λ n. referent_kept Weak WeakSet soft_left weak_left weak_clears weak_set x y e (
+    (λ r. both_ways (kept ∋ y) n (softly_kept y r)),
+    one_edge_more UpToWeak soft_left B x y (weakly_soft x m) (inr (Weak, refl, weak_back Weak x y e)),
+  ))
 
   strong_two : (x y : ℕ) → x ∈ kept → HasStrong weak_left x y → y ∈ kept
   strong_two x y m e = strong_one x y m (strong_back Weak WeakSet soft_left weak_left weak_clears weak_set x y e)
@@ -203,8 +249,10 @@ module _ (heap : Heap) (B kept : List ℕ) (within : AreEdgesWithin UpToPhantom 
   last_back k x y e = referent_back Phantom PhantomSet weak_left phantom_left phantom_clears phantom_set k x y e
 
   phantom_edge : (x y : ℕ) → x ∈ kept → HasReferent Phantom phantom_left x y → y ∈ kept
-  phantom_edge x y m e = by_contradiction y (λ n. referent_kept Phantom PhantomSet weak_left phantom_left phantom_clears phantom_set x y e
-      ((λ r. both_ways (kept ∋ y) n (weakly_kept y r)), one_edge_more UpToPhantom weak_left B x y (any_weak x m) (inr (Phantom, refl, last_back Phantom x y e))))
+  phantom_edge x y m e = by_contradiction y (λ n. referent_kept Phantom PhantomSet weak_left phantom_left phantom_clears phantom_set x y e (
+    (λ r. both_ways (kept ∋ y) n (weakly_kept y r)),
+    one_edge_more UpToPhantom weak_left B x y (any_weak x m) (inr (Phantom, refl, last_back Phantom x y e)),
+  ))
 
   last_edge : (k : RefKind) (x y : ℕ) → x ∈ kept → HasReferent k phantom_left x y → y ∈ kept
   last_edge Soft x y m e = soft_edge x y m (weak_back Soft x y (last_back Soft x y e))
@@ -232,13 +280,15 @@ module _ (heap : Heap) (B kept : List ℕ) (within : AreEdgesWithin UpToPhantom 
       let two = stays Weak WeakSet soft_left weak_left weak_clears weak_set s x o one f (λ d. d.0 (soft_lives x m)) in
       stays Phantom PhantomSet weak_left phantom_left phantom_clears phantom_set s x o two f (λ d. d.0 (weakly_weak x m))
 
-  loses : (s x : ℕ) (o : Object) → s ∈ kept → at heap s ≡ Some o → any_referent o ≡ Some x → (kept ∋ x) ≡ false → at phantom_left s ≡ Some (without_referent o)
+  loses : (s x : ℕ) (o : Object) → s ∈ kept → at heap s ≡ Some o → any_referent o ≡ Some x → (kept ∋ x) ≡ false
+      → at phantom_left s ≡ Some (without_referent o)
   loses s x o m e f n = elim (either s o e) [
     | inl same ↦ let k = some_kind o x f in absurd (both_ways (kept ∋ x) n (last_edge k.0 s x m (o, same, k.1)))
     | inr without ↦ without
   ]
 
-  pub is_collection : (pending : List ℕ) → ((s : ℕ) → (s ∈ pending) ↔ LosesReferent heap kept s) → is_distinct pending ≡ true → is_rising kept ≡ true → IsCollection heap B kept pending
+  pub is_collection : (pending : List ℕ) → ((s : ℕ) → (s ∈ pending) ↔ LosesReferent heap kept s) → is_distinct pending ≡ true
+      → is_rising kept ≡ true → IsCollection heap B kept pending
   is_collection pending handed once rising =
       record {
         soft_left = soft_left;
@@ -258,7 +308,10 @@ module _ (heap : Heap) (B kept : List ℕ) (within : AreEdgesWithin UpToPhantom 
         weak = weak_clears;
         phantom = phantom_clears;
         exact = λ s. (last_lives s, all_is_kept s);
-        pended = λ s. ((λ m. to_handed heap phantom_left kept keeps loses s ((handed s).0 m)), (λ h. (handed s).1 (from_handed heap phantom_left kept keeps loses s h)));
+        pended = λ s. (
+          (λ m. to_handed heap phantom_left kept keeps loses s ((handed s).0 m)),
+          (λ h. (handed s).1 (from_handed heap phantom_left kept keeps loses s h)),
+        );
         once = once;
         rising = rising;
       }
@@ -276,7 +329,11 @@ module _ (heap : Heap) (B kept pending : List ℕ) (c : IsCollection heap B kept
   pub inside_of : (s : ℕ) → s ∈ kept → IsReached UpToSoft (only kept heap) B s
   inside_of s m =
       (carried UpToSoft c.soft_left B (λ s. (s ∈ kept) × IsReached UpToSoft (only kept heap) B s)
-      (λ x y r e. (live_step x y r.0 e, one_edge_more UpToSoft (only kept heap) B x y r.1 (inside_forth UpToSoft heap kept x y r.0 (soft_edge_back heap B kept pending c within x y e))))
+      (λ x y r e. (
+        live_step x y r.0 e,
+        one_edge_more UpToSoft (only kept heap) B x y r.1
+            (inside_forth UpToSoft heap kept x y r.0 (soft_edge_back heap B kept pending c within x y e)),
+      ))
       (λ s b. (holds_base s b, at_base UpToSoft (only kept heap) B s b))
       s (kept_is_live heap B kept pending c within s m)).1
 
@@ -288,7 +345,10 @@ module _ (heap : Heap) (B kept pending : List ℕ) (c : IsCollection heap B kept
         holds_base = holds_base;
         closed = λ x y m e. live_step x y m (strong_to_soft heap B kept pending c within x y (edge_gives Strong heap x y e));
         inside = inside_of;
-        pended = λ s. ((λ m. from_handed heap c.phantom_left kept keeps loses s ((c.pended s).0 m)), (λ h. (c.pended s).1 (to_handed heap c.phantom_left kept keeps loses s h)));
+        pended = λ s. (
+          (λ m. from_handed heap c.phantom_left kept keeps loses s ((c.pended s).0 m)),
+          (λ h. (c.pended s).1 (to_handed heap c.phantom_left kept keeps loses s h)),
+        );
         once = c.once;
         rising = c.rising;
       }

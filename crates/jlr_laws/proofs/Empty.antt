@@ -1,5 +1,7 @@
 -- The empty machine is well formed, and a well-formed heap's edges stay within it.
-use Rattle.std.proofs.Common.{◌≡◌, ℕ, zero, suc, ◌+◌, ◌<◌, Bool, false, cond, List, [], ◌++◌, length, refl, sym, ◌∙◌, ap, subst, inl, inr, arith, IsTrue, Option, Some, None, option_and_then, option_to_list, is_some, replicate, count_by, filter_map, fold, ◌≤◌}
+use Rattle.std.proofs.Common.{◌≡◌, ℕ, zero, suc, ◌+◌, ◌<◌, Bool, false, cond, List, [], ◌++◌, length, refl, sym, ◌∙◌, ap, subst, inl, inr}
+use Rattle.std.proofs.Common.{arith, IsTrue, Option, Some, None, option_and_then, option_to_list, is_some, replicate, count_by, filter_map}
+use Rattle.std.proofs.Common.{fold, ◌≤◌}
 use Rattle.std.specs.List.{flat_map, IsDistinct}
 use Rattle.std.proofs.lemmas.Bool.{both_ways, cases_lt}
 use Rattle.std.proofs.lemmas.List.{length-replicate}
@@ -12,7 +14,8 @@ use Rattle.jlr_machine.specs.Objects.{Table, at, ◌∈◌, as_reference, as_cle
 use Rattle.jlr_machine.specs.Edges.{active_cleanables, roots, edges, edges_from}
 use Rattle.jlr_machine.specs.Lookups.{same_name}
 use Rattle.jlr_machine.specs.Run.{empty, empty_from}
-use Rattle.jlr_machine.specs.WellFormed.{IsObjectAt, IsWellFormed, IsImage, AreSlotsNamed, AreReferences, AreLists, AreActions, AreResources, AreCalls, ArePrivate, IsUnspent, state_at, clean_state_at, is_unspent_place}
+use Rattle.jlr_machine.specs.WellFormed.{IsObjectAt, IsWellFormed, IsImage, AreSlotsNamed, AreReferences, AreLists, AreActions}
+use Rattle.jlr_machine.specs.WellFormed.{AreResources, AreCalls, ArePrivate, IsUnspent, state_at, clean_state_at, is_unspent_place}
 use Rattle.jlr_machine.specs.Edges.Chain.{UpToPhantom}
 use Rattle.jlr_laws.specs.Laws.{IsWithinHeap}
 use Rattle.jlr_laws.proofs.Sets.{nothing}
@@ -20,7 +23,8 @@ use Rattle.jlr_laws.proofs.Checks.{at_beyond}
 
 -- an object stands at a place of the heap
 pub place_of : {A : Type 0} (table : Table A) (s : ℕ) → IsTrue (is_some (at table s)) → s < length table
-place_of table s h = elim (cases_lt s (length table)) [ inl l ↦ l | inr b ↦ absurd (both_ways false refl (sym (ap is_some (at_beyond table s b)) ∙ h)) ]
+place_of table s h =
+    elim (cases_lt s (length table)) [ inl l ↦ l | inr b ↦ absurd (both_ways false refl (sym (ap is_some (at_beyond table s b)) ∙ h)) ]
 
 pub well_formed_within : (m : Machine) → IsWellFormed m → IsWithinHeap m.objects (roots m)
 well_formed_within m w =
@@ -63,7 +67,8 @@ module _ (cells session_count limit next_action : ℕ) where
 
   no_roots : roots nobody_here ≡ []
   no_roots =
-      ap (λ l. flat_map (λ s. filter_map (λ h. h) s.handles) l ++ flat_map (λ s. option_to_list s.fence) l ++ [] ++ [] ++ [] ++ active_cleanables 0 (replicate cells None)) (no_sessions session_count)
+      ap (λ l. flat_map (λ s. filter_map (λ h. h) s.handles) l ++ flat_map (λ s. option_to_list s.fence) l ++ [] ++ [] ++ []
+      ++ active_cleanables 0 (replicate cells None)) (no_sessions session_count)
       ∙ no_cleanables 0 cells
 
   slots_named : AreSlotsNamed nobody_here
@@ -160,11 +165,21 @@ module _ (cells session_count limit next_action : ℕ) where
   pub empty_from_is_well_formed : 1 ≤ next_action → cells ≤ 65536 → session_count ≤ 64 → IsWellFormed nobody_here
   empty_from_is_well_formed started small few =
       record {
-        limits = record { cells = subst (λ k. k ≤ 65536) (sym (length-replicate cells _)) small; sessions = subst (λ k. k ≤ 64) (sym (length-replicate session_count _)) few };
+        limits = record {
+          cells = subst (λ k. k ≤ 65536) (sym (length-replicate cells _)) small;
+          sessions =
+              subst (λ k. k ≤ 64) (sym (length-replicate session_count _)) few;
+        };
         slots = slots_named;
         references = references;
         lists = lists;
-        sessions = record { places = λ k s e. none_there session_count k s e; opening = λ k s e. none_there session_count k s e; names = names_distinct; names_limit = omega arith };
+        sessions = record {
+          places = λ k s e. none_there session_count k s e;
+          opening =
+              λ k s e. none_there session_count k s e;
+          names = names_distinct;
+          names_limit = omega arith;
+        };
         actions = actions started;
         resources = resources;
         calls = calls;
@@ -179,5 +194,6 @@ module _ (cells session_count limit next_action : ℕ) where
   pub empty_from_is_an_image : 1 ≤ next_action → cells ≤ 65536 → session_count ≤ 64 → IsImage nobody_here
   empty_from_is_an_image started small few = record { well_formed = empty_from_is_well_formed started small few; no_cycle = refl }
 
-pub empty_is_well_formed : (cells session_count limit : ℕ) → cells ≤ 65536 → session_count ≤ 64 → IsWellFormed (empty cells session_count limit)
+pub empty_is_well_formed : (cells session_count limit : ℕ) → cells ≤ 65536 → session_count ≤ 64
+    → IsWellFormed (empty cells session_count limit)
 empty_is_well_formed cells session_count limit = empty_from_is_well_formed cells session_count limit 1 (omega arith)

@@ -1,5 +1,6 @@
 -- A running job is over, and so is its resource; its mutator, if it had one, is free.
-use Rattle.std.proofs.Common.{◌≡◌, ℕ, ◌+◌, ◌≤◌, List, length, refl, sym, ◌∙◌, ap, subst, ◌⊎◌, inl, inr, arith, Some, None, map, IsTrue, nat_eq}
+use Rattle.std.proofs.Common.{◌≡◌, ℕ, ◌+◌, ◌≤◌, List, length, refl, sym, ◌∙◌, ap, subst, ◌⊎◌, inl, inr, arith, Some, None, map, IsTrue}
+use Rattle.std.proofs.Common.{nat_eq}
 use Rattle.std.specs.List.{AllByRecursion}
 use Rattle.std.proofs.lemmas.Bool.{cases_eq}
 use Rattle.jlr_types.specs.declared.Work.TheVariants.{Resource as WorkOn}
@@ -13,7 +14,9 @@ use Rattle.jlr_machine.specs.declared.machine.Call.TheVariants.{Free, Opening as
 use Rattle.jlr_machine.specs.declared.machine.ResourceState.{ResourceState}
 use Rattle.jlr_machine.specs.declared.machine.ResourceState.TheVariants.{Opening, Idle, Out, Closing}
 use Rattle.jlr_machine.specs.Objects.{Table, at, is_rising}
-use Rattle.jlr_machine.specs.WellFormed.{IsSessionAt, IsObjectAt, HasResource, IsFencing, FitsItsCall, IsUnspent, HasWorker, IsJob, IsWellFormed, AreSessions, AreActions, AreResources, AreCalls, ArePrivate, IsPrivate, OpeningHasRoom, IsCallOf, IsAction}
+use Rattle.jlr_machine.specs.WellFormed.{IsSessionAt, IsObjectAt, HasResource, IsFencing, FitsItsCall, IsUnspent, HasWorker, IsJob}
+use Rattle.jlr_machine.specs.WellFormed.{IsWellFormed, AreSessions, AreActions, AreResources, AreCalls, ArePrivate, IsPrivate}
+use Rattle.jlr_machine.specs.WellFormed.{OpeningHasRoom, IsCallOf, IsAction}
 use Rattle.jlr_machine.specs.declared.machine.Failure.{Failure}
 use Rattle.jlr_laws.proofs.Frames.{no_some, some_same, IsRoot, root_gives, root_from, limits_stay}
 use Rattle.jlr_laws.proofs.Frames.IsRoot.{held, fencing, named, waiting, lining, active}
@@ -29,13 +32,16 @@ pub record IsFreed (m : Machine) (j : ℕ) (z : Session) : Type 0 where
   pub fence : z.fence ≡ None
   pub call : z.call ≡ Free
 
-pub record IsEnded (m : Machine) (mutators : Table Session) (resources : List Resource) (faults : List Failure) (notes : List ℕ) (ok failed : ℕ) (job : JobOf) : Type 0 where
+pub record IsEnded (m : Machine) (mutators : Table Session) (resources : List Resource) (faults : List Failure) (notes : List ℕ)
+    (ok failed : ℕ) (job : JobOf) : Type 0 where
   pub as_many : length mutators ≡ length m.mutators
   pub running : IsJob m job
   pub sessions : (j : ℕ) (z : Session) → at mutators j ≡ Some z → IsFreed m j z ⊎ (IsSessionAt m j z × (z.call ≡ CallJob job.action → ⊥))
   pub over : (j : ℕ) (z : Session) → IsSessionAt m j z → (z.call ≡ CallJob job.action → ⊥) → at mutators j ≡ Some z
-  pub resource_cases : (rid action : ℕ) (state : ResourceState) → has resources rid action state → HasResource m rid action state × (job.work ≡ WorkOn rid → ⊥)
-  pub resource_over : (rid action : ℕ) (state : ResourceState) → (job.work ≡ WorkOn rid → ⊥) → HasResource m rid action state → has resources rid action state
+  pub resource_cases : (rid action : ℕ) (state : ResourceState) → has resources rid action state → HasResource m rid action state
+      × (job.work ≡ WorkOn rid → ⊥)
+  pub resource_over : (rid action : ℕ) (state : ResourceState) → (job.work ≡ WorkOn rid → ⊥) → HasResource m rid action state
+      → has resources rid action state
   pub rising : IsTrue (is_rising (map (λ r. r.rid) resources))
   pub actions : AllByRecursion (λ r. IsAction m r.action) resources
   pub of_faults : AllByRecursion (λ f. IsAction m f.action) faults
@@ -43,12 +49,21 @@ pub record IsEnded (m : Machine) (mutators : Table Session) (resources : List Re
   pub notes_limit : length notes ≤ 256
   pub sum : ok + failed ≡ m.ok + m.failed + 1
 
-module _ (m : Machine) (mutators : Table Session) (resources : List Resource) (faults : List Failure) (notes : List ℕ) (ok failed : ℕ) (job : JobOf) (w : IsWellFormed m) (x : IsEnded m mutators resources faults notes ok failed job) where
+module _ (m : Machine) (mutators : Table Session) (resources : List Resource) (faults : List Failure) (notes : List ℕ) (ok failed : ℕ)
+    (job : JobOf) (w : IsWellFormed m) (x : IsEnded m mutators resources faults notes ok failed job) where
   abbrev job_key : JobOf → ℕ
   job_key j = j.action
 
   abbrev n : Machine
-  n = record m { mutators = mutators; jobs = keyed_without job_key m.jobs job.action; resources = resources; faults = faults; notes = notes; ok = ok; failed = failed }
+  n = record m {
+    mutators = mutators;
+    jobs = keyed_without job_key m.jobs job.action;
+    resources = resources;
+    faults = faults;
+    notes = notes;
+    ok = ok;
+    failed = failed;
+  }
 
   job_over : (a : ℕ) (j : JobOf) → (a ≡ job.action → ⊥) → by_key job_key m.jobs a ≡ Some j → by_key job_key n.jobs a ≡ Some j
   job_over a j d e = found_left job_key m.jobs job.action a d ∙ e
@@ -71,7 +86,8 @@ module _ (m : Machine) (mutators : Table Session) (resources : List Resource) (f
 
   -- ---- What mutators hold
 
-  held_there : (j h t : ℕ) (session : Session) → IsSessionAt n j session → at session.handles h ≡ Some t → (k : ℕ) × (z : Session) × IsSessionAt m k z × (at z.handles h ≡ Some t)
+  held_there : (j h t : ℕ) (session : Session) → IsSessionAt n j session → at session.handles h ≡ Some t → (k : ℕ) × (z : Session)
+      × IsSessionAt m k z × (at z.handles h ≡ Some t)
   held_there j h t session e f = elim (x.sessions j session e) [
     | inl y ↦ (j, y.before, y.there, ap (λ l. at l h) (sym y.handles) ∙ f)
     | inr y ↦ (j, session, y.0, f)
@@ -144,7 +160,8 @@ module _ (m : Machine) (mutators : Table Session) (resources : List Resource) (f
         rising = x.rising;
         worked = λ rid action state h.
             let y = x.resource_cases rid action state h in
-            worker_over m n rid action state (cleanable_over rid action) (worker_left rid action y.1) (w.resources.worked rid action state y.0);
+            worker_over m n rid action state (cleanable_over rid action) (worker_left rid action y.1)
+            (w.resources.worked rid action state y.0);
         of_cleanables = λ s rid c u e.
             let r = w.resources.of_cleanables s rid c (unspent_back s c u) e in
             (r.0, x.resource_over rid c.action r.0 (not_this rid c.action r.0 r.2 r.1) r.1, r.2);
@@ -154,16 +171,22 @@ module _ (m : Machine) (mutators : Table Session) (resources : List Resource) (f
         of_jobs = λ j rid e f.
             let y = job_cases j.action j e in
             let r = w.resources.of_jobs j rid y.1 f in
-            x.resource_over rid j.action Closing (λ p. y.0 (resource_same m rid j.action job.action Closing Closing r (w.resources.of_jobs job rid x.running p)).0) r;
+            x.resource_over rid j.action Closing (λ p. y.0
+            (resource_same m rid j.action job.action Closing Closing r (w.resources.of_jobs job rid x.running p)).0) r;
         one_guard = w.resources.one_guard;
-        guards = λ s g c e f. elim (w.resources.guards s g c e f) [ inl y ↦ inl y | inr y ↦ inr (record { armed = y.armed; referent = y.referent; work = y.work }) ];
+        guards = λ s g c e f. elim (w.resources.guards s g c e f) [
+          | inl y ↦ inl y
+          | inr y ↦
+              inr (record { armed = y.armed; referent = y.referent; work = y.work })
+        ];
         guarded = w.resources.guarded;
       }
 
   -- ---- Calls
 
   fencing_over : (z : Session) (rid : ℕ) (state : ResourceState) → (state ≡ Closing → ⊥) → IsFencing m z rid state → IsFencing n z rid state
-  fencing_over z rid state d f = (f.0, f.1, f.2, f.3, f.4, f.5, f.6, f.7, x.resource_over rid f.2.action state (not_this rid f.2.action state d f.8) f.8)
+  fencing_over z rid state d f =
+      (f.0, f.1, f.2, f.3, f.4, f.5, f.6, f.7, x.resource_over rid f.2.action state (not_this rid f.2.action state d f.8) f.8)
 
   fits_over : (j : ℕ) (z : Session) (call : Call) → (call ≡ CallJob job.action → ⊥) → FitsItsCall m j z call → FitsItsCall n j z call
   fits_over j z Free d f = f
@@ -215,9 +238,26 @@ module _ (m : Machine) (mutators : Table Session) (resources : List Resource) (f
   pub ended_is_well_formed : IsWellFormed n
   ended_is_well_formed =
       record {
-        slots = record { edges = w.slots.edges; roots = λ s h. root_there s (root_gives n s h); queues = w.slots.queues; guarded = w.slots.guarded };
-        references = record { states = w.references.states; members = w.references.members; once = w.references.once; in_one = w.references.in_one };
-        lists = record { pending_once = w.lists.pending_once; line_once = w.lists.line_once; pending_references = w.lists.pending_references; pending_cleanables = w.lists.pending_cleanables; pending_others = w.lists.pending_others; lined = w.lists.lined; line_others = w.lists.line_others };
+        slots = record {
+          edges =
+              w.slots.edges;
+          roots = λ s h. root_there s (root_gives n s h);
+          queues = w.slots.queues;
+          guarded = w.slots.guarded;
+        };
+        references =
+            record { states = w.references.states; members = w.references.members; once = w.references.once; in_one = w.references.in_one };
+        lists = record {
+          pending_once = w.lists.pending_once;
+          line_once = w.lists.line_once;
+          pending_references =
+              w.lists.pending_references;
+          pending_cleanables =
+              w.lists.pending_cleanables;
+          pending_others = w.lists.pending_others;
+          lined = w.lists.lined;
+          line_others = w.lists.line_others;
+        };
         sessions = sessions_kept;
         actions = actions_kept;
         resources = resources_kept;

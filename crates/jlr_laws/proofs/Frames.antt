@@ -1,5 +1,7 @@
 -- General lemmas on tables, objects as one of a kind, and roots.
-use Rattle.std.proofs.Common.{◌≡◌, ℕ, zero, suc, ◌+◌, ◌<◌, ◌≤◌, true, false, cond, List, [], ◌∷◌, ◌++◌, length, refl, sym, ◌∙◌, ap, subst, ◌⊎◌, inl, inr, arith, Option, Some, None, option_and_then, option_to_list, is_some, filter_map, map, slice_set, unwrap_or, get_or-set_same, get_or-set_other, option_map}
+use Rattle.std.proofs.Common.{◌≡◌, ℕ, zero, suc, ◌+◌, ◌<◌, ◌≤◌, true, false, cond, List, [], ◌∷◌, ◌++◌, length, refl, sym, ◌∙◌, ap, subst}
+use Rattle.std.proofs.Common.{◌⊎◌, inl, inr, arith, Option, Some, None, option_and_then, option_to_list, is_some, filter_map, map}
+use Rattle.std.proofs.Common.{slice_set, unwrap_or, get_or-set_same, get_or-set_other, option_map}
 use Rattle.std.specs.List.{flat_map}
 use Rattle.std.proofs.lemmas.Bool.{both_ways, cases_eq, cases_lt}
 use Rattle.std.proofs.lemmas.List.{length-set}
@@ -12,7 +14,8 @@ use Rattle.jlr_machine.specs.declared.object.Cleanable.{Cleanable as CleanableOf
 use Rattle.jlr_machine.specs.declared.object.Guard.{Guard as GuardOf}
 use Rattle.jlr_machine.specs.declared.machine.Machine.{Machine}
 use Rattle.jlr_machine.specs.declared.machine.Session.{Session}
-use Rattle.jlr_machine.specs.Objects.{Table, Heap, at, ◌∈◌, as_fields, as_reference, as_members, as_cleanable, as_guard, change_at, is_fresh, is_unqueued, queue_ahead}
+use Rattle.jlr_machine.specs.Objects.{Table, Heap, at, ◌∈◌, as_fields, as_reference, as_members, as_cleanable, as_guard, change_at}
+use Rattle.jlr_machine.specs.Objects.{is_fresh, is_unqueued, queue_ahead}
 use Rattle.jlr_machine.specs.Edges.{sessions, roots, is_own_root, active_cleanables}
 use Rattle.jlr_machine.specs.WellFormed.{IsSessionAt, IsWithinLimits, FitsItsState}
 use Rattle.jlr_machine.specs.declared.object.RefState.{RefState}
@@ -34,10 +37,13 @@ some_same x y e = ap (λ o. unwrap_or o x) e
 pub change_as_long : {A : Type 0} (table : Table A) (n : ℕ) (f : A → A) → length (change_at table n f) ≡ length table
 change_as_long table n f = length-set table n (option_map f (at table n))
 
-pub limits_stay : (m n : Machine) → IsWithinLimits m → length n.objects ≡ length m.objects → length n.mutators ≡ length m.mutators → IsWithinLimits n
-limits_stay m n l cells sessions = record { cells = subst (λ k. k ≤ 65536) (sym cells) l.cells; sessions = subst (λ k. k ≤ 64) (sym sessions) l.sessions }
+pub limits_stay : (m n : Machine) → IsWithinLimits m → length n.objects ≡ length m.objects → length n.mutators ≡ length m.mutators
+    → IsWithinLimits n
+limits_stay m n l cells sessions =
+    record { cells = subst (λ k. k ≤ 65536) (sym cells) l.cells; sessions = subst (λ k. k ≤ 64) (sym sessions) l.sessions }
 
-pub seen_stays : (seen : List ℕ) (old new : Heap) → ((s : ℕ) → s ∈ seen → s < length old) → length new ≡ length old → (s : ℕ) → s ∈ seen → s < length new
+pub seen_stays : (seen : List ℕ) (old new : Heap) → ((s : ℕ) → s ∈ seen → s < length old) → length new ≡ length old → (s : ℕ) → s ∈ seen
+    → s < length new
 seen_stays seen old new h same s e = subst (λ k. s < k) (sym same) (h s e)
 
 -- ---- Tables
@@ -52,7 +58,8 @@ pub place_within : {A : Type 0} (table : Table A) (n : ℕ) (x : A) → at table
 place_within table n x e = elim (cases_lt n (length table)) [ inl l ↦ l | inr b ↦ no_some x (sym (at_beyond table n b) ∙ e) ]
 
 -- what a table with v at n has at j: v, or what it had
-pub set_cases : {A : Type 0} (table : Table A) (n j : ℕ) (v : Option A) (x : A) → at (slice_set table n v) j ≡ Some x → ((j ≡ n) × (v ≡ Some x)) ⊎ ((j ≡ n → ⊥) × (at table j ≡ Some x))
+pub set_cases : {A : Type 0} (table : Table A) (n j : ℕ) (v : Option A) (x : A) → at (slice_set table n v) j ≡ Some x
+    → ((j ≡ n) × (v ≡ Some x)) ⊎ ((j ≡ n → ⊥) × (at table j ≡ Some x))
 set_cases table n j v x e = elim (cases_eq j n) [
   | inl same ↦ elim (cases_lt n (length table)) [
     | inl l ↦ inl (same, sym (set_same table n v l) ∙ ap (at (slice_set table n v)) (sym same) ∙ e)
@@ -120,10 +127,12 @@ fresh_unqueued Removed e = absurd (cc e)
 
 -- is its own
 pub own_queue : (r : ReferenceOf) (q : ℕ) → queue_ahead r ≡ Some q → r.queue ≡ Some q
-own_queue r q e = elim (is_unqueued r.state) as (λ b. cond b r.queue None ≡ Some q → r.queue ≡ Some q) [ true ↦ λ e. e | false ↦ λ e. no_some q e ] e
+own_queue r q e =
+    elim (is_unqueued r.state) as (λ b. cond b r.queue None ≡ Some q → r.queue ≡ Some q) [ true ↦ λ e. e | false ↦ λ e. no_some q e ] e
 
 -- and a reference of a well-formed machine that has one may still be added to it
-pub still_ahead : (r : ReferenceOf) (s : RefState) (q : ℕ) → FitsItsState r s → r.queue ≡ Some q → cond (is_unqueued s) r.queue None ≡ Some q
+pub still_ahead : (r : ReferenceOf) (s : RefState) (q : ℕ) → FitsItsState r s → r.queue ≡ Some q
+    → cond (is_unqueued s) r.queue None ≡ Some q
 still_ahead r Fresh q h e = e
 still_ahead r Pending q h e = e
 still_ahead r Queued q h e = no_some q (sym h.0 ∙ e)
@@ -146,7 +155,8 @@ from_places (None ∷ places) (suc h) x e = from_places places h x e
 from_places (Some y ∷ places) zero x e = in_front x y (filter_map (λ h. h) places) (some_same x y (sym e))
 from_places (Some y ∷ places) (suc h) x e = in_right x (y ∷ []) (filter_map (λ h. h) places) (from_places places h x e)
 
-pub in_sessions : (f : Session → List ℕ) (table : Table Session) (x : ℕ) → x ∈ flat_map f (filter_map (λ s. s) table) → (k : ℕ) × (s : Session) × (at table k ≡ Some s) × (x ∈ f s)
+pub in_sessions : (f : Session → List ℕ) (table : Table Session) (x : ℕ) → x ∈ flat_map f (filter_map (λ s. s) table) → (k : ℕ)
+    × (s : Session) × (at table k ≡ Some s) × (x ∈ f s)
 in_sessions f [] x m = nothing x m
 in_sessions f (None ∷ table) x m = let r = in_sessions f table x m in (suc r.0, r.1, r.2, r.3)
 in_sessions f (Some s ∷ table) x m = elim (in_append x (f s) (flat_map f (filter_map (λ s. s) table)) m) [
@@ -154,18 +164,23 @@ in_sessions f (Some s ∷ table) x m = elim (in_append x (f s) (flat_map f (filt
   | inr later ↦ let r = in_sessions f table x later in (suc r.0, r.1, r.2, r.3)
 ]
 
-pub from_sessions : (f : Session → List ℕ) (table : Table Session) (k : ℕ) (s : Session) (x : ℕ) → at table k ≡ Some s → x ∈ f s → x ∈ flat_map f (filter_map (λ s. s) table)
+pub from_sessions : (f : Session → List ℕ) (table : Table Session) (k : ℕ) (s : Session) (x : ℕ) → at table k ≡ Some s → x ∈ f s
+    → x ∈ flat_map f (filter_map (λ s. s) table)
 from_sessions f [] k s x e m = no_some s e
 from_sessions f (None ∷ table) zero s x e m = no_some s e
 from_sessions f (None ∷ table) (suc k) s x e m = from_sessions f table k s x e m
-from_sessions f (Some t ∷ table) zero s x e m = in_left x (f t) (flat_map f (filter_map (λ s. s) table)) (subst (λ s. x ∈ f s) (some_same s t (sym e)) m)
-from_sessions f (Some t ∷ table) (suc k) s x e m = in_right x (f t) (flat_map f (filter_map (λ s. s) table)) (from_sessions f table k s x e m)
+from_sessions f (Some t ∷ table) zero s x e m =
+    in_left x (f t) (flat_map f (filter_map (λ s. s) table)) (subst (λ s. x ∈ f s) (some_same s t (sym e)) m)
+from_sessions f (Some t ∷ table) (suc k) s x e m =
+    in_right x (f t) (flat_map f (filter_map (λ s. s) table)) (from_sessions f table k s x e m)
 
 pub in_active : (n : ℕ) (heap : Heap) (x : ℕ) → x ∈ active_cleanables n heap → (i : ℕ) × (x ≡ n + i) × (is_own_root (at heap i) ≡ true)
 in_active n [] x m = nothing x m
 in_active n (o ∷ places) x m =
-    let later : x ∈ active_cleanables (suc n) places → (i : ℕ) × (x ≡ n + i) × (is_own_root (at (o ∷ places) i) ≡ true) = λ m. let r = in_active (suc n) places x m in (suc r.0, omega (arith, r.1), r.2) in
-    elim (is_own_root o) as (λ b. is_own_root o ≡ b → x ∈ (cond b (n ∷ []) [] ++ active_cleanables (suc n) places) → (i : ℕ) × (x ≡ n + i) × (is_own_root (at (o ∷ places) i) ≡ true)) [
+    let later : x ∈ active_cleanables (suc n) places → (i : ℕ) × (x ≡ n + i) × (is_own_root (at (o ∷ places) i) ≡ true) =
+    λ m. let r = in_active (suc n) places x m in (suc r.0, omega (arith, r.1), r.2) in
+    elim (is_own_root o) as (λ b. is_own_root o ≡ b → x ∈ (cond b (n ∷ []) [] ++ active_cleanables (suc n) places) → (i : ℕ) × (x ≡ n + i)
+    × (is_own_root (at (o ∷ places) i) ≡ true)) [
       | true ↦ λ e m. elim (in_cons x n (active_cleanables (suc n) places) m) [
         | inl same ↦ (0, omega (arith, same), e)
         | inr m ↦ later m
@@ -235,16 +250,25 @@ module _ (m : Machine) (s : ℕ) where
   ]
 
   from_lists : s ∈ (all_held ++ all_fences ++ all_named) → s ∈ roots m
-  from_lists h = in_left s (all_held ++ all_fences ++ all_named ++ m.pending ++ m.line) all_active (in_left s (all_held ++ all_fences ++ all_named ++ m.pending) m.line (in_left s (all_held ++ all_fences ++ all_named) m.pending h))
+  from_lists h = in_left s (all_held ++ all_fences ++ all_named ++ m.pending ++ m.line) all_active
+      (in_left s (all_held ++ all_fences ++ all_named ++ m.pending) m.line (in_left s (all_held ++ all_fences ++ all_named) m.pending h))
 
   pub root_from : IsRoot m s → s ∈ roots m
   root_from (held k h session e f) =
-      from_lists (in_left s (all_held ++ all_fences) all_named (in_left s all_held all_fences (from_sessions (λ s. filter_map (λ h. h) s.handles) m.mutators k session s e (from_places session.handles h s f))))
+      from_lists (in_left s (all_held ++ all_fences) all_named
+      (in_left s all_held all_fences (from_sessions (λ s. filter_map (λ h. h) s.handles) m.mutators k session s e
+      (from_places session.handles h s f))))
   root_from (fencing k session e f) =
-      from_lists (in_left s (all_held ++ all_fences) all_named (in_right s all_held all_fences (from_sessions (λ s. option_to_list s.fence) m.mutators k session s e (from_fences s session.fence f))))
+      from_lists (in_left s (all_held ++ all_fences) all_named
+      (in_right s all_held all_fences (from_sessions (λ s. option_to_list s.fence) m.mutators k session s e
+      (from_fences s session.fence f))))
   root_from (named h) = from_lists (in_right s (all_held ++ all_fences) all_named h)
   root_from (waiting h) =
-      in_left s (all_held ++ all_fences ++ all_named ++ m.pending ++ m.line) all_active (in_left s (all_held ++ all_fences ++ all_named ++ m.pending) m.line (in_right s (all_held ++ all_fences ++ all_named) m.pending h))
+      in_left s (all_held ++ all_fences ++ all_named ++ m.pending ++ m.line) all_active
+      (in_left s (all_held ++ all_fences ++ all_named ++ m.pending) m.line
+      (in_right s (all_held ++ all_fences ++ all_named) m.pending h))
   root_from (lining h) =
-      in_left s (all_held ++ all_fences ++ all_named ++ m.pending ++ m.line) all_active (in_right s (all_held ++ all_fences ++ all_named ++ m.pending) m.line h)
-  root_from (active h) = in_right s (all_held ++ all_fences ++ all_named ++ m.pending ++ m.line) all_active (from_active 0 m.objects s s (omega arith) h)
+      in_left s (all_held ++ all_fences ++ all_named ++ m.pending ++ m.line) all_active
+      (in_right s (all_held ++ all_fences ++ all_named ++ m.pending) m.line h)
+  root_from (active h) =
+      in_right s (all_held ++ all_fences ++ all_named ++ m.pending ++ m.line) all_active (from_active 0 m.objects s s (omega arith) h)

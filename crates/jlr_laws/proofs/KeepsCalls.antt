@@ -1,5 +1,6 @@
 -- CheckOut, CheckIn and a successful Opened lead from a well-formed machine to a well-formed one.
-use Rattle.std.proofs.Common.{◌≡◌, ℕ, suc, ◌≤◌, Bool, true, false, ◌&&◌, ◌||◌, List, [], ◌∷◌, length, refl, sym, ◌∙◌, ap, subst, ◌⊎◌, inl, inr, arith, Option, Some, None, drop, option_and_then}
+use Rattle.std.proofs.Common.{◌≡◌, ℕ, suc, ◌≤◌, Bool, true, false, ◌&&◌, ◌||◌, List, [], ◌∷◌, length, refl, sym, ◌∙◌, ap, subst, ◌⊎◌, inl}
+use Rattle.std.proofs.Common.{inr, arith, Option, Some, None, drop, option_and_then}
 use Rattle.std.proofs.lemmas.Bool.{or_parts, both_ways}
 use Rattle.std.proofs.lemmas.List.{length-set}
 use Rattle.jlr_types.specs.declared.Refusal.TheVariants.{Busy, Closed, NoHandle, NotOut, Null, WrongKind}
@@ -21,7 +22,8 @@ use Rattle.jlr_machine.specs.Objects.{Table, at, set_at, change_at, first_free, 
 use Rattle.jlr_machine.specs.Lookups.{free_handle, with_handle, with_call, with_state, on, slot_named}
 use Rattle.jlr_machine.specs.Refusals.{refusal, has_call, is_out, is_out_state, is_guard}
 use Rattle.jlr_machine.specs.Calls.{after, checked_out, checked_in, opened, fence_of, guard_fenced, guard_at, with_given}
-use Rattle.jlr_machine.specs.WellFormed.{IsWellFormed, IsSessionAt, IsGuardAt, IsCleanableAt, HasResource, FitsItsCall, IsOwnGuard, IsCallOf}
+use Rattle.jlr_machine.specs.WellFormed.{IsWellFormed, IsSessionAt, IsGuardAt, IsCleanableAt, HasResource, FitsItsCall, IsOwnGuard}
+use Rattle.jlr_machine.specs.WellFormed.{IsCallOf}
 use Rattle.jlr_laws.proofs.Frames.{some_same, set_cases, set_other, change_as_long}
 use Rattle.jlr_laws.proofs.Changes.{change_here, change_beside, resource_same, resource_moved, IsElsewhere}
 use Rattle.jlr_laws.proofs.Allowed.{allowed, free_session, opening_session, out_session, IsNamed, only_operand, guard_of, closed_is, out_is}
@@ -34,7 +36,8 @@ pub record IsCaller (m : Machine) (k rid : ℕ) (was : ResourceState) : Type 0 w
   pub by_opening : was ≡ Opening → IsCallOf m k (CallOpening rid)
   pub by_out : was ≡ Out → IsCallOf m k (CallOut rid)
 
-pub no_one_else : (m : Machine) (k rid action : ℕ) (was : ResourceState) → IsWellFormed m → HasResource m rid action was → IsCaller m k rid was → (j : ℕ) (s : Session) → (j ≡ k → ⊥) → IsSessionAt m j s → IsElsewhere s rid
+pub no_one_else : (m : Machine) (k rid action : ℕ) (was : ResourceState) → IsWellFormed m → HasResource m rid action was
+    → IsCaller m k rid was → (j : ℕ) (s : Session) → (j ≡ k → ⊥) → IsSessionAt m j s → IsElsewhere s rid
 no_one_else m k rid action was w h c j s d e =
     record {
       not_opening = λ f.
@@ -67,7 +70,8 @@ idle_if Out a b e = absurd (cc e)
 idle_if Closing a b e = absurd (a refl)
 
 -- its cleanable is not Spent
-pub open_guard : (m : Machine) (k h t : ℕ) (session : Session) (g : GuardOf) (c : CleanableOf) → IsWellFormed m → IsNamed m k h t session (Guard g) → IsCleanableAt m g.cleanable c → (c.state ≡ Spent → ⊥)
+pub open_guard : (m : Machine) (k h t : ℕ) (session : Session) (g : GuardOf) (c : CleanableOf) → IsWellFormed m
+    → IsNamed m k h t session (Guard g) → IsCleanableAt m g.cleanable c → (c.state ≡ Spent → ⊥)
     → (state : ResourceState) × IsOpenGuard m t g c state
 open_guard m k h t session g c w i e d =
     elim (w.resources.guards t g c i.there e) [
@@ -92,10 +96,12 @@ open_guard m k h t session g c w i e d =
 abbrev pub calling : Option ℕ → Call → Session → Session
 calling fence call s = record s { fence = fence; call = call }
 
-pub checks_out : (m : Machine) (k h t : ℕ) (session : Session) (g : GuardOf) (c : CleanableOf) → IsWellFormed m → IsNamed m k h t session (Guard g) → session.call ≡ Free
+pub checks_out : (m : Machine) (k h t : ℕ) (session : Session) (g : GuardOf) (c : CleanableOf) → IsWellFormed m
+    → IsNamed m k h t session (Guard g) → session.call ≡ Free
     → IsOpenGuard m t g c Idle → IsWellFormed (with_call (with_state m g.rid Out) k (Some t) (CallOut g.rid))
 checks_out m k h t session g c w i free x =
-    restated_is_well_formed m (change_at m.mutators k (calling (Some t) (CallOut g.rid))) k session (calling (Some t) (CallOut g.rid) session) t g c Idle Out w
+    restated_is_well_formed m (change_at m.mutators k (calling (Some t) (CallOut g.rid))) k session
+    (calling (Some t) (CallOut g.rid) session) t g c Idle Out w
     (record {
       as_many = change_as_long m.mutators k (calling (Some t) (CallOut g.rid));
       there = i.session_there;
@@ -123,7 +129,8 @@ checks_out m k h t session g c w i free x =
 pub not_busy : (a b : Bool) → (a || (true && b)) ≡ false → (a ≡ false) × (b ≡ false)
 not_busy a b e = or_parts a b e
 
-pub keeps_check_out : (m : Machine) (k h : ℕ) (a : Answer) (fresh : List ℕ) → IsWellFormed m → refusal m (CheckOut k h) ≡ None → IsWellFormed (after m (CheckOut k h) a fresh)
+pub keeps_check_out : (m : Machine) (k h : ℕ) (a : Answer) (fresh : List ℕ) → IsWellFormed m → refusal m (CheckOut k h) ≡ None
+    → IsWellFormed (after m (CheckOut k h) a fresh)
 keeps_check_out m k h a fresh w r =
     let ok = allowed m (CheckOut k h) r in
     let o = only_operand m k h is_guard w (ok NoHandle refl) (ok Null refl) (ok WrongKind refl) in
@@ -133,8 +140,11 @@ keeps_check_out m k h a fresh w r =
     let busy = not_busy (is_out m k h) (has_call m k) (ok Busy refl) in
     let closed = closed_is m k h g.0 c.0 named.named c.1 in
     let x = open_guard m k h o.0 o.1 g.0 c.0 w named c.1 (not_spent c.0 (sym closed ∙ (ok Closed refl))) in
-    let idle = idle_if x.0 x.1.not_closing x.1.not_opening (sym (out_is m k h g.0 (record { rid = g.0.rid; action = c.0.action; state = x.0 }) named.named x.1.resource (ok Closed refl)) ∙ busy.0) in
-    let done = checks_out m k h o.0 o.1 g.0 c.0 w named (free_session m k o.1 named.session_there busy.1) (subst (λ z. IsOpenGuard m o.0 g.0 c.0 z) idle x.1) in
+    let idle = idle_if x.0 x.1.not_closing x.1.not_opening
+    (sym (out_is m k h g.0 (record { rid = g.0.rid; action = c.0.action; state = x.0 }) named.named x.1.resource (ok Closed refl))
+    ∙ busy.0) in
+    let done = checks_out m k h o.0 o.1 g.0 c.0 w named (free_session m k o.1 named.session_there busy.1)
+    (subst (λ z. IsOpenGuard m o.0 g.0 c.0 z) idle x.1) in
     subst (λ z. IsWellFormed (on z (checked_out m k (slot_named m k h)) m)) (sym (ap (option_and_then as_guard) named.named))
     (subst (λ z. IsWellFormed (checked_out m k z g.0)) (sym named.slot) done)
 
@@ -144,7 +154,8 @@ keeps_check_out m k h a fresh w r =
 pub fence_on : (m : Machine) (k : ℕ) (session : Session) (t : ℕ) → IsSessionAt m k session → session.fence ≡ Some t → fence_of m k ≡ Some t
 fence_on m k session t e f = ap (option_and_then (λ s. s.fence)) e ∙ f
 
-pub guard_on : (m : Machine) (k : ℕ) (session : Session) (t : ℕ) (g : GuardOf) → IsSessionAt m k session → session.fence ≡ Some t → IsGuardAt m t g → guard_fenced m k ≡ Some g
+pub guard_on : (m : Machine) (k : ℕ) (session : Session) (t : ℕ) (g : GuardOf) → IsSessionAt m k session → session.fence ≡ Some t
+    → IsGuardAt m t g → guard_fenced m k ≡ Some g
 guard_on m k session t g e f h = ap (option_and_then (guard_at m)) (fence_on m k session t e f) ∙ ap (option_and_then as_guard) h
 
 pub record IsEnding (m : Machine) (k : ℕ) (session : Session) (t : ℕ) (g : GuardOf) (c : CleanableOf) (was : ResourceState) : Type 0 where
@@ -161,7 +172,8 @@ pub record IsEnding (m : Machine) (k : ℕ) (session : Session) (t : ℕ) (g : G
   pub no_job : (action : ℕ) → session.call ≡ CallJob action → ⊥
 
 -- back to Idle, with these handles
-pub ends_well : (m : Machine) (mutators : Table Session) (k : ℕ) (session : Session) (t : ℕ) (g : GuardOf) (c : CleanableOf) (was : ResourceState) (handles : Table ℕ) → IsWellFormed m → IsEnding m k session t g c was
+pub ends_well : (m : Machine) (mutators : Table Session) (k : ℕ) (session : Session) (t : ℕ) (g : GuardOf) (c : CleanableOf)
+    (was : ResourceState) (handles : Table ℕ) → IsWellFormed m → IsEnding m k session t g c was
     → at mutators k ≡ Some (record session { handles = handles; fence = None; call = Free })
     → ((j : ℕ) → (j ≡ k → ⊥) → at mutators j ≡ at m.mutators j)
     → length mutators ≡ length m.mutators
@@ -194,7 +206,8 @@ ends_well m mutators k session t g c was handles w x here others as_many places 
       handles = held;
     })
 
-pub out_ends : (m : Machine) (k : ℕ) (session : Session) (rid : ℕ) → IsWellFormed m → IsSessionAt m k session → session.call ≡ CallOut rid → (t : ℕ) × (g : GuardOf) × (c : CleanableOf) × IsEnding m k session t g c Out
+pub out_ends : (m : Machine) (k : ℕ) (session : Session) (rid : ℕ) → IsWellFormed m → IsSessionAt m k session → session.call ≡ CallOut rid
+    → (t : ℕ) × (g : GuardOf) × (c : CleanableOf) × IsEnding m k session t g c Out
 out_ends m k session rid w e f =
     let fence = subst (λ z. FitsItsCall m k session z) f (w.calls.calls k session e) in (
       fence.0,
@@ -215,7 +228,8 @@ out_ends m k session rid w e f =
       },
     )
 
-pub opening_ends : (m : Machine) (k : ℕ) (session : Session) (rid : ℕ) → IsWellFormed m → IsSessionAt m k session → session.call ≡ CallOpening rid → (t : ℕ) × (g : GuardOf) × (c : CleanableOf) × IsEnding m k session t g c Opening
+pub opening_ends : (m : Machine) (k : ℕ) (session : Session) (rid : ℕ) → IsWellFormed m → IsSessionAt m k session
+    → session.call ≡ CallOpening rid → (t : ℕ) × (g : GuardOf) × (c : CleanableOf) × IsEnding m k session t g c Opening
 opening_ends m k session rid w e f =
     let fence = subst (λ z. FitsItsCall m k session z) f (w.calls.calls k session e) in (
       fence.0,
@@ -236,7 +250,8 @@ opening_ends m k session rid w e f =
       },
     )
 
-pub keeps_check_in : (m : Machine) (k : ℕ) (outcome : CallOutcome) (a : Answer) (fresh : List ℕ) → IsWellFormed m → refusal m (CheckIn k outcome) ≡ None → IsWellFormed (after m (CheckIn k outcome) a fresh)
+pub keeps_check_in : (m : Machine) (k : ℕ) (outcome : CallOutcome) (a : Answer) (fresh : List ℕ) → IsWellFormed m
+    → refusal m (CheckIn k outcome) ≡ None → IsWellFormed (after m (CheckIn k outcome) a fresh)
 keeps_check_in m k outcome a fresh w r =
     let ok = allowed m (CheckIn k outcome) r in
     let s = out_session m k (ok NotOut refl) in
@@ -260,13 +275,15 @@ pub not_null : (s : Session) → 0 ≡ free_handle s → ⊥
 not_null s z = absurd (omega (arith, free_from 1 (drop 1 s.handles), z))
 
 -- handles with one more
-pub places_with : (handles : Table ℕ) (f t : ℕ) → (0 ≡ f → ⊥) → (length handles ≡ 251) × (at handles 0 ≡ None) → (length (set_at handles f t) ≡ 251) × (at (set_at handles f t) 0 ≡ None)
+pub places_with : (handles : Table ℕ) (f t : ℕ) → (0 ≡ f → ⊥) → (length handles ≡ 251) × (at handles 0 ≡ None)
+    → (length (set_at handles f t) ≡ 251) × (at (set_at handles f t) 0 ≡ None)
 places_with handles f t d p = (length-set handles f (Some t) ∙ p.0, set_other handles f 0 (Some t) d ∙ p.1)
 
 pub held_with : (handles : Table ℕ) (f t h s : ℕ) → at (set_at handles f t) h ≡ Some s → (at handles h ≡ Some s) ⊎ (s ≡ t)
 held_with handles f t h s e = elim (set_cases handles f h (Some t) s e) [ inl y ↦ inr (some_same s t (sym y.1)) | inr y ↦ inl y.1 ]
 
-pub opens_well : (m : Machine) (k : ℕ) (session : Session) (t : ℕ) (g : GuardOf) (c : CleanableOf) → IsWellFormed m → IsEnding m k session t g c Opening → IsWellFormed (with_handle (with_call (with_state m g.rid Idle) k None Free) k t)
+pub opens_well : (m : Machine) (k : ℕ) (session : Session) (t : ℕ) (g : GuardOf) (c : CleanableOf) → IsWellFormed m
+    → IsEnding m k session t g c Opening → IsWellFormed (with_handle (with_call (with_state m g.rid Idle) k None Free) k t)
 opens_well m k session t g c w x =
     let n : Machine = with_call (with_state m g.rid Idle) k None Free in
     let free : Session = record session { fence = None; call = Free } in
@@ -280,11 +297,13 @@ opens_well m k session t g c w x =
     (places_with session.handles f t (not_null session) (w.sessions.places k session x.session_there))
     (λ h s e. held_with session.handles f t h s e)
 
-pub keeps_opened : (m : Machine) (k : ℕ) (a : Answer) (fresh : List ℕ) → IsWellFormed m → refusal m (Opened k OutcomeOk) ≡ None → IsWellFormed (after m (Opened k OutcomeOk) a fresh)
+pub keeps_opened : (m : Machine) (k : ℕ) (a : Answer) (fresh : List ℕ) → IsWellFormed m → refusal m (Opened k OutcomeOk) ≡ None
+    → IsWellFormed (after m (Opened k OutcomeOk) a fresh)
 keeps_opened m k a fresh w r =
     let ok = allowed m (Opened k OutcomeOk) r in
     let s = opening_session m k (ok NotOut refl) in
     let x = opening_ends m k s.0 s.2 w s.1 s.3 in
     let done = opens_well m k s.0 x.0 x.1 x.2 w x.3 in
     subst (λ z. IsWellFormed (on z (λ g. opened m k g OutcomeOk) m)) (sym (guard_on m k s.0 x.0 x.1 s.1 x.3.fence x.3.guard))
-    (subst (λ z. IsWellFormed (with_given (with_call (with_state m x.1.rid Idle) k None Free) k z)) (sym (fence_on m k s.0 x.0 s.1 x.3.fence)) done)
+    (subst (λ z. IsWellFormed (with_given (with_call (with_state m x.1.rid Idle) k None Free) k z))
+    (sym (fence_on m k s.0 x.0 s.1 x.3.fence)) done)

@@ -1,5 +1,6 @@
 -- Finish leads from a well-formed machine to a well-formed one.
-use Rattle.std.proofs.Common.{◌≡◌, ℕ, zero, suc, ◌+◌, ◌≤◌, List, [], ◌∷◌, ◌++◌, length, refl, sym, ◌∙◌, ap, subst, ◌⊎◌, inl, inr, arith, Some, None, map, IsTrue, drop, ◌==◌}
+use Rattle.std.proofs.Common.{◌≡◌, ℕ, zero, suc, ◌+◌, ◌≤◌, List, [], ◌∷◌, ◌++◌, length, refl, sym, ◌∙◌, ap, subst, ◌⊎◌, inl, inr, arith}
+use Rattle.std.proofs.Common.{Some, None, map, IsTrue, drop, ◌==◌}
 use Rattle.std.specs.List.{AllByRecursion}
 use Rattle.std.proofs.lemmas.Bool.{cases_eq}
 use Rattle.jlr_types.specs.declared.Work.{Work}
@@ -60,26 +61,38 @@ work_ended_is : (m : Machine) (work : Work) → without_work_resource m (rid_of 
 work_ended_is m (Note n) = refl
 work_ended_is m (WorkOn rid) = refl
 
-without_work_is : (m : Machine) (job : JobOf) → without_work m job ≡ record m { jobs = without_job m.jobs job.action; resources = ended m.resources job.work }
+without_work_is : (m : Machine) (job : JobOf) → without_work m job ≡
+    record m { jobs = without_job m.jobs job.action; resources = ended m.resources job.work }
 without_work_is m job = work_ended_is (record m { jobs = without_job m.jobs job.action }) job.work
 
 module _ (m : Machine) (job : JobOf) where
-  ended_cases : (work : Work) → job.work ≡ work → (rid action : ℕ) (state : ResourceState) → has (ended m.resources work) rid action state → HasResource m rid action state × (job.work ≡ WorkOn rid → ⊥)
+  ended_cases : (work : Work) → job.work ≡ work → (rid action : ℕ) (state : ResourceState) → has (ended m.resources work) rid action state
+      → HasResource m rid action state × (job.work ≡ WorkOn rid → ⊥)
   ended_cases (Note i) e rid action state h = (h, λ f. absurd (cc (e, f)))
   ended_cases (WorkOn r) e rid action state h = elim (cases_eq rid r) [
-    | inl p ↦ no_some (record { rid = rid; action = action; state = state }) (sym (found_gone {A = Resource} (λ r. r.rid) m.resources r) ∙ ap (by_key {A = Resource} (λ r. r.rid) (ended m.resources (WorkOn r))) (sym p) ∙ h)
-    | inr d ↦ (sym (found_left {A = Resource} (λ r. r.rid) m.resources r rid d) ∙ h, λ f. let works : WorkOn rid ≡ WorkOn r = sym f ∙ e in let same : rid ≡ r = cc works in d same)
+    | inl p ↦ no_some (record { rid = rid; action = action; state = state })
+        (sym (found_gone {A = Resource} (λ r. r.rid) m.resources r)
+        ∙ ap (by_key {A = Resource} (λ r. r.rid) (ended m.resources (WorkOn r))) (sym p) ∙ h)
+    | inr d ↦ (
+      sym (found_left {A = Resource} (λ r. r.rid) m.resources r rid d) ∙ h,
+      λ f. let works : WorkOn rid ≡ WorkOn r = sym f ∙ e in
+          let same : rid ≡ r = cc works in d same,
+    )
   ]
 
-  ended_over : (work : Work) → job.work ≡ work → (rid action : ℕ) (state : ResourceState) → (job.work ≡ WorkOn rid → ⊥) → HasResource m rid action state → has (ended m.resources work) rid action state
+  ended_over : (work : Work) → job.work ≡ work → (rid action : ℕ) (state : ResourceState) → (job.work ≡ WorkOn rid → ⊥)
+      → HasResource m rid action state → has (ended m.resources work) rid action state
   ended_over (Note i) e rid action state d h = h
-  ended_over (WorkOn r) e rid action state d h = found_left {A = Resource} (λ r. r.rid) m.resources r rid (λ p. d (e ∙ ap WorkOn (sym p))) ∙ h
+  ended_over (WorkOn r) e rid action state d h = found_left {A = Resource} (λ r. r.rid) m.resources r rid (λ p. d (e ∙ ap WorkOn (sym p)))
+      ∙ h
 
-  ended_rising : (work : Work) → IsTrue (is_rising (map (λ r. r.rid) m.resources)) → IsTrue (is_rising (map (λ r. r.rid) (ended m.resources work)))
+  ended_rising : (work : Work) → IsTrue (is_rising (map (λ r. r.rid) m.resources))
+      → IsTrue (is_rising (map (λ r. r.rid) (ended m.resources work)))
   ended_rising (Note i) h = h
   ended_rising (WorkOn r) h = rising_without {A = Resource} (λ r. r.rid) m.resources r h
 
-  ended_actions : (work : Work) → AllByRecursion (λ r. IsAction m r.action) m.resources → AllByRecursion (λ r. IsAction m r.action) (ended m.resources work)
+  ended_actions : (work : Work) → AllByRecursion (λ r. IsAction m r.action) m.resources
+      → AllByRecursion (λ r. IsAction m r.action) (ended m.resources work)
   ended_actions (Note i) h = h
   ended_actions (WorkOn r) h = all_without {A = Resource} (λ r. r.rid) (λ r. IsAction m r.action) m.resources r h
 
@@ -96,8 +109,17 @@ pub record IsRecorded (m : Machine) (faults : List Failure) (notes : List ℕ) (
   pub notes_limit : length notes ≤ 256
   pub sum : ok + failed ≡ m.ok + m.failed + 1
 
-ends : (m : Machine) (mutators : Table Session) (job : JobOf) (faults : List Failure) (notes : List ℕ) (ok failed : ℕ) → IsWellFormed m → IsJob m job → IsLeft m mutators job → IsRecorded m faults notes ok failed
-    → IsWellFormed (record m { mutators = mutators; jobs = without_job m.jobs job.action; resources = ended m.resources job.work; faults = faults; notes = notes; ok = ok; failed = failed })
+ends : (m : Machine) (mutators : Table Session) (job : JobOf) (faults : List Failure) (notes : List ℕ) (ok failed : ℕ) → IsWellFormed m
+    → IsJob m job → IsLeft m mutators job → IsRecorded m faults notes ok failed
+    → IsWellFormed (record m {
+      mutators = mutators;
+      jobs = without_job m.jobs job.action;
+      resources = ended m.resources job.work;
+      faults = faults;
+      notes = notes;
+      ok = ok;
+      failed = failed;
+    })
 ends m mutators job faults notes ok failed w running left recorded =
     ended_is_well_formed m mutators (ended m.resources job.work) faults notes ok failed job w
     (record {
@@ -117,18 +139,28 @@ ends m mutators job faults notes ok failed w running left recorded =
 
 -- ---- By outcome
 
-finishes : (m : Machine) (mutators : Table Session) (job : JobOf) (outcome : Outcome) → IsWellFormed m → IsJob m job → IsLeft m mutators job → IsWellFormed (record (finished m job outcome) { mutators = mutators })
+finishes : (m : Machine) (mutators : Table Session) (job : JobOf) (outcome : Outcome) → IsWellFormed m → IsJob m job → IsLeft m mutators job
+    → IsWellFormed (record (finished m job outcome) { mutators = mutators })
 finishes m mutators job OutcomeOk w running left =
-    subst (λ n. IsWellFormed (record n { mutators = mutators; ok = m.ok + 1; notes = noted m.notes job.work })) (sym (without_work_is m job))
+    subst (λ n. IsWellFormed (record n { mutators = mutators; ok = m.ok + 1; notes = noted m.notes job.work }))
+    (sym (without_work_is m job))
     (ends m mutators job m.faults (noted m.notes job.work) (m.ok + 1) m.failed w running left
-    (record { of_faults = w.actions.of_faults; faults_limit = w.faults; notes_limit = noted_limit m.notes job.work w.notes; sum = omega arith }))
+    (record {
+      of_faults =
+          w.actions.of_faults;
+      faults_limit = w.faults;
+      notes_limit = noted_limit m.notes job.work w.notes;
+      sum = omega arith;
+    }))
 finishes m mutators job (Failed fault) w running left =
     let failure : Failure = record { action = job.action; fault = fault } in
     let all = m.faults ++ failure ∷ [] in
     subst (λ n. IsWellFormed (record n { mutators = mutators; failed = m.failed + 1; faults = last_256 all })) (sym (without_work_is m job))
     (ends m mutators job (last_256 all) m.notes m.ok (m.failed + 1) w running left
     (record {
-      of_faults = all_drop (λ f. IsAction m f.action) (length all - 256) all (all_append (λ f. IsAction m f.action) m.faults failure w.actions.of_faults (all_found {A = JobOf} (λ j. j.action) (λ j. IsAction m j.action) m.jobs job.action job w.actions.of_jobs running));
+      of_faults = all_drop (λ f. IsAction m f.action) (length all - 256) all
+          (all_append (λ f. IsAction m f.action) m.faults failure w.actions.of_faults
+          (all_found {A = JobOf} (λ j. j.action) (λ j. IsAction m j.action) m.jobs job.action job w.actions.of_jobs running));
       faults_limit = last_limit all;
       notes_limit = w.notes;
       sum = omega arith;
@@ -154,7 +186,8 @@ cleaner_left m job w running e =
       over = λ j z p d. p;
     }
 
-mutator_left : (m : Machine) (job : JobOf) → IsWellFormed m → IsJob m job → (job.by ≡ 255 → ⊥) → IsLeft m (change_at m.mutators job.by (calling None Free)) job
+mutator_left : (m : Machine) (job : JobOf) → IsWellFormed m → IsJob m job → (job.by ≡ 255 → ⊥)
+    → IsLeft m (change_at m.mutators job.by (calling None Free)) job
 mutator_left m job w running d =
     let taker = w.calls.jobs job running d in
     let f : Session → Session = calling None Free in
@@ -164,26 +197,39 @@ mutator_left m job w running d =
       sessions = λ j z p. elim (cases_eq j job.by) [
         | inl q ↦
             let same : z ≡ f taker.0 = some_same z (f taker.0) (sym p ∙ ap (at (change_at m.mutators job.by f)) q ∙ here) in
-            inl (record { before = taker.0; there = ap (at m.mutators) q ∙ taker.1; handles = ap (λ v. v.handles) same; fence = ap (λ v. v.fence) same; call = ap (λ v. v.call) same })
+            inl (record {
+              before = taker.0;
+              there = ap (at m.mutators) q ∙ taker.1;
+              handles =
+                  ap (λ v. v.handles) same;
+              fence = ap (λ v. v.fence) same;
+              call = ap (λ v. v.call) same;
+            })
         | inr q ↦
             let there = sym (change_beside m.mutators job.by j f q) ∙ p in
             inr (there, λ e. q (w.calls.one_call j job.by (CallJob job.action) (z, there, e) taker (λ v. absurd (cc v))))
       ];
-      over = λ j z p e. change_beside m.mutators job.by j f (λ q. e (ap (λ v. v.call) (session_same m job.by z taker.0 (ap (at m.mutators) (sym q) ∙ p) taker.1) ∙ taker.2)) ∙ p;
+      over = λ j z p e. change_beside m.mutators job.by j f
+          (λ q. e (ap (λ v. v.call) (session_same m job.by z taker.0 (ap (at m.mutators) (sym q) ∙ p) taker.1) ∙ taker.2)) ∙ p;
     }
 
-pub finishes_by : (m : Machine) (by : ℕ) (job : JobOf) (outcome : Outcome) → IsWellFormed m → IsJob m job → job.by ≡ by → IsWellFormed (free_again (finished m job outcome) by)
+pub finishes_by : (m : Machine) (by : ℕ) (job : JobOf) (outcome : Outcome) → IsWellFormed m → IsJob m job → job.by ≡ by
+    → IsWellFormed (free_again (finished m job outcome) by)
 finishes_by m by job outcome w running e =
     let n = finished m job outcome in
     cond_both (by == 255) n (with_call n by None Free) (λ z. IsWellFormed z)
-    (λ p. subst (λ t. IsWellFormed (record n { mutators = t })) (sym (same_mutators m job outcome)) (finishes m m.mutators job outcome w running (cleaner_left m job w running (e ∙ eqb-true by 255 p))))
+    (λ p. subst (λ t. IsWellFormed (record n { mutators = t })) (sym (same_mutators m job outcome))
+    (finishes m m.mutators job outcome w running (cleaner_left m job w running (e ∙ eqb-true by 255 p))))
     (λ p.
     let mutators_are : change_at n.mutators by (calling None Free) ≡ change_at m.mutators job.by (calling None Free) =
-    ap (λ t. change_at t by (calling None Free)) (same_mutators m job outcome) ∙ ap (λ i. change_at m.mutators i (calling None Free)) (sym e) in
+    ap (λ t. change_at t by (calling None Free)) (same_mutators m job outcome)
+    ∙ ap (λ i. change_at m.mutators i (calling None Free)) (sym e) in
     subst (λ t. IsWellFormed (record n { mutators = t })) (sym mutators_are)
-    (finishes m (change_at m.mutators job.by (calling None Free)) job outcome w running (mutator_left m job w running (λ q. eqb-false by 255 p (sym e ∙ q)))))
+    (finishes m (change_at m.mutators job.by (calling None Free)) job outcome w running
+    (mutator_left m job w running (λ q. eqb-false by 255 p (sym e ∙ q)))))
 
-pub keeps_finish : (m : Machine) (by action : ℕ) (outcome : Outcome) (a : Answer) (fresh : List ℕ) → IsWellFormed m → refusal m (Finish by action outcome) ≡ None → IsWellFormed (after m (Finish by action outcome) a fresh)
+pub keeps_finish : (m : Machine) (by action : ℕ) (outcome : Outcome) (a : Answer) (fresh : List ℕ) → IsWellFormed m
+    → refusal m (Finish by action outcome) ≡ None → IsWellFormed (after m (Finish by action outcome) a fresh)
 keeps_finish m by action outcome a fresh w r =
     let ok = allowed m (Finish by action outcome) r in
     let job = some_and_gives (λ job. job.by == by) (job_of m action) (not-false _ (ok NotOut refl)) in

@@ -1,5 +1,6 @@
 -- HandOver leads from a well-formed machine to a well-formed one.
-use Rattle.std.proofs.Common.{◌≡◌, ℕ, true, not, cond, List, [], ◌∷◌, ◌++◌, refl, sym, ◌∙◌, ap, subst, ◌⊎◌, inl, inr, arith, Option, Some, None, is_some, IsTrue, option_map, option_and_then, count_by}
+use Rattle.std.proofs.Common.{◌≡◌, ℕ, true, not, cond, List, [], ◌∷◌, ◌++◌, refl, sym, ◌∙◌, ap, subst, ◌⊎◌, inl, inr, arith, Option, Some}
+use Rattle.std.proofs.Common.{None, is_some, IsTrue, option_map, option_and_then, count_by}
 use Rattle.std.proofs.lemmas.Bool.{cases_eq, both_ways}
 use Rattle.jlr_machine.specs.declared.object.Object.{Object}
 use Rattle.jlr_machine.specs.declared.object.Object.TheVariants.{Plain, Reference, Queue, Cleaner, Cleanable, Guard}
@@ -15,11 +16,15 @@ use Rattle.jlr_machine.specs.declared.machine.Call.{Call}
 use Rattle.jlr_machine.specs.declared.machine.Call.TheVariants.{Free, Opening as CallOpening, Out as CallOut, Job as CallJob}
 use Rattle.jlr_machine.specs.declared.machine.ResourceState.{ResourceState}
 use Rattle.jlr_machine.specs.declared.machine.ResourceState.TheVariants.{Opening, Idle, Out}
-use Rattle.jlr_machine.specs.Objects.{Heap, at, change_at, ◌∈◌, ◌∋◌, is_distinct, as_reference, as_cleanable, with_cleanable, with_reference, with_members, is_spent, queue_ahead, is_unqueued}
+use Rattle.jlr_machine.specs.Objects.{Heap, at, change_at, ◌∈◌, ◌∋◌, is_distinct, as_reference, as_cleanable, with_cleanable}
+use Rattle.jlr_machine.specs.Objects.{with_reference, with_members, is_spent, queue_ahead, is_unqueued}
 use Rattle.jlr_machine.specs.Lookups.{with_object, job_of}
 use Rattle.jlr_machine.specs.Refusals.{refusal}
-use Rattle.jlr_machine.specs.Calls.{after, handed_over, delivered, handed, handed_reference, handed_cleanable, enqueued, to_queue, unreferred}
-use Rattle.jlr_machine.specs.WellFormed.{IsReferenceAt, IsCleanableAt, IsObjectAt, HasResource, IsFencing, FitsItsCall, FitsItsState, IsUnspent, IsWellFormed, AreSlotsNamed, AreReferences, AreLists, AreActions, AreResources, IsPrivate, IsAction, state_at, clean_state_at, is_unspent_place}
+use Rattle.jlr_machine.specs.Calls.{after, handed_over, delivered, handed, handed_reference, handed_cleanable, enqueued, to_queue}
+use Rattle.jlr_machine.specs.Calls.{unreferred}
+use Rattle.jlr_machine.specs.WellFormed.{IsReferenceAt, IsCleanableAt, IsObjectAt, HasResource, IsFencing, FitsItsCall, FitsItsState}
+use Rattle.jlr_machine.specs.WellFormed.{IsUnspent, IsWellFormed, AreSlotsNamed, AreReferences, AreLists, AreActions, AreResources}
+use Rattle.jlr_machine.specs.WellFormed.{IsPrivate, IsAction, state_at, clean_state_at, is_unspent_place}
 use Rattle.std.proofs.lemmas.Bool.{and_parts, and_from, not-true, not_from_false, false_from_ne_true}
 use Rattle.jlr_machine.specs.declared.ask.Ask.TheVariants.{HandOver}
 use Rattle.jlr_machine.specs.declared.ask.Answer.{Answer}
@@ -32,11 +37,14 @@ use Rattle.jlr_laws.proofs.Allowed.{some_there}
 use Rattle.jlr_laws.proofs.Listed.{as_listed, listed_is_well_formed}
 use Rattle.jlr_laws.proofs.KeepsTakeUps.{count_set}
 use Rattle.jlr_laws.proofs.KeepsReferences.{enqueue_kept}
-use Rattle.jlr_laws.proofs.Retouched.{IsRetouched, not_armed, back, over, cleanable_cases, alive, edges_back, active_back, state_same, clean_state_here, clean_state_was, clean_state_beside, references_kept, queue_over, cleanable_there, private_back}
+use Rattle.jlr_laws.proofs.Retouched.{IsRetouched, not_armed, back, over, cleanable_cases, alive, edges_back, active_back, state_same}
+use Rattle.jlr_laws.proofs.Retouched.{clean_state_here, clean_state_was, clean_state_beside, references_kept, queue_over, cleanable_there}
+use Rattle.jlr_laws.proofs.Retouched.{private_back}
 
 -- ---- An object of the pending list that is not Pending any more
 
-pub pending_dropped : (m : Machine) (s : ℕ) (rest : List ℕ) → IsWellFormed m → m.pending ≡ s ∷ rest → (state_at m s ≡ Some Pending → ⊥) → (clean_state_at m s ≡ Some PendingClean → ⊥) → IsWellFormed (record m { pending = rest })
+pub pending_dropped : (m : Machine) (s : ℕ) (rest : List ℕ) → IsWellFormed m → m.pending ≡ s ∷ rest → (state_at m s ≡ Some Pending → ⊥)
+    → (clean_state_at m s ≡ Some PendingClean → ⊥) → IsWellFormed (record m { pending = rest })
 pending_dropped m s rest w e not_reference not_cleanable =
     let o = as_listed m w in
     let once = and_parts (not (rest ∋ s)) (is_distinct rest) (subst (λ l. IsTrue (is_distinct l)) e o.pending_once) in
@@ -47,8 +55,16 @@ pending_dropped m s rest w e not_reference not_cleanable =
       names_limit = o.names_limit;
       pending_once = once.1;
       pending_less = λ t h. subst (λ l. t ∈ l) (sym e) (in_rest t s rest h);
-      pending_references = λ t f. elim (in_cons t s rest (subst (λ l. t ∈ l) e (o.pending_references t f))) [ inl p ↦ absurd (not_reference (ap (state_at m) (sym p) ∙ f)) | inr h ↦ h ];
-      pending_cleanables = λ t f. elim (in_cons t s rest (subst (λ l. t ∈ l) e (o.pending_cleanables t f))) [ inl p ↦ absurd (not_cleanable (ap (clean_state_at m) (sym p) ∙ f)) | inr h ↦ h ];
+      pending_references = λ t f. elim (in_cons t s rest (subst (λ l. t ∈ l) e (o.pending_references t f))) [
+        | inl p ↦
+            absurd (not_reference (ap (state_at m) (sym p) ∙ f))
+        | inr h ↦ h
+      ];
+      pending_cleanables = λ t f. elim (in_cons t s rest (subst (λ l. t ∈ l) e (o.pending_cleanables t f))) [
+        | inl p ↦
+            absurd (not_cleanable (ap (clean_state_at m) (sym p) ∙ f))
+        | inr h ↦ h
+      ];
       line_once = o.line_once;
       line_less = o.line_less;
       lined = o.lined;
@@ -73,12 +89,15 @@ distinct_after (x ∷ xs) s h d =
       | inl j ↦ both_ways (xs ∋ x) (not-true (xs ∋ x) p.0) j
       | inr j ↦ elim (in_cons x s [] j) [ inl e ↦ d (in_front s x xs (sym e)) | inr k ↦ nothing x k ]
     ] in
-    and_from (not ((xs ++ s ∷ []) ∋ x)) (is_distinct (xs ++ s ∷ [])) (not_from_false ((xs ++ s ∷ []) ∋ x) (false_from_ne_true ((xs ++ s ∷ []) ∋ x) apart)) (distinct_after xs s p.1 (λ i. d (in_rest s x xs i)))
+    and_from (not ((xs ++ s ∷ []) ∋ x)) (is_distinct (xs ++ s ∷ []))
+    (not_from_false ((xs ++ s ∷ []) ∋ x) (false_from_ne_true ((xs ++ s ∷ []) ∋ x) apart))
+    (distinct_after xs s p.1 (λ i. d (in_rest s x xs i)))
 
 abbrev lined_up : CleanableOf → CleanableOf
 lined_up c = record c { state = Lined }
 
-module _ (m : Machine) (s : ℕ) (rest : List ℕ) (c : CleanableOf) (w : IsWellFormed m) (e : m.pending ≡ s ∷ rest) (there : IsCleanableAt m s c) (waits : c.state ≡ PendingClean) where
+module _ (m : Machine) (s : ℕ) (rest : List ℕ) (c : CleanableOf) (w : IsWellFormed m) (e : m.pending ≡ s ∷ rest)
+    (there : IsCleanableAt m s c) (waits : c.state ≡ PendingClean) where
   abbrev heap : Heap
   heap = change_at m.objects s (with_cleanable lined_up)
 
@@ -103,17 +122,29 @@ module _ (m : Machine) (s : ℕ) (rest : List ℕ) (c : CleanableOf) (w : IsWell
   was : IsUnspent m s c
   was = record { there = there; unspent = λ p. absurd (cc (p, waits)) }
 
-  unspent_back : (t : ℕ) (d : CleanableOf) → IsUnspent n t d → (old : CleanableOf) × IsUnspent m t old × (old.action ≡ d.action) × (old.work ≡ d.work) × ((old.state ≡ Armed) → d.state ≡ Armed)
+  unspent_back : (t : ℕ) (d : CleanableOf) → IsUnspent n t d → (old : CleanableOf) × IsUnspent m t old × (old.action ≡ d.action)
+      × (old.work ≡ d.work) × ((old.state ≡ Armed) → d.state ≡ Armed)
   unspent_back t d u = elim (cleanable_cases m heap s c (lined_up c) touched t d u.there) [
-    | inl y ↦ (c, subst (λ i. IsUnspent m i c) (sym y.0) was, ap (λ z. z.action) (sym y.1), ap (λ z. z.work) (sym y.1), λ p. absurd (cc (p, waits)))
+    | inl y ↦ (
+      c,
+      subst (λ i. IsUnspent m i c) (sym y.0) was,
+      ap (λ z. z.action) (sym y.1),
+      ap (λ z. z.work) (sym y.1),
+      λ p. absurd (cc (p, waits)),
+    )
     | inr y ↦ (d, record { there = y.1; unspent = u.unspent }, refl, refl, λ p. p)
   ]
 
-  unspent_over : (t : ℕ) (d : CleanableOf) → IsUnspent m t d → (new : CleanableOf) × IsUnspent n t new × (new.action ≡ d.action) × (new.work ≡ d.work)
+  unspent_over : (t : ℕ) (d : CleanableOf) → IsUnspent m t d → (new : CleanableOf) × IsUnspent n t new × (new.action ≡ d.action)
+      × (new.work ≡ d.work)
   unspent_over t d u = elim (cases_eq t s) [
     | inl p ↦
-        let same = cleanable_same m s c d there (subst (λ i. IsCleanableAt m i d) p u.there) in
-        (lined_up c, record { there = ap (at heap) p ∙ touched.here; unspent = λ z. absurd (cc z) }, ap (λ z. z.action) same, ap (λ z. z.work) same)
+        let same = cleanable_same m s c d there (subst (λ i. IsCleanableAt m i d) p u.there) in (
+          lined_up c,
+          record { there = ap (at heap) p ∙ touched.here; unspent = λ z. absurd (cc z) },
+          ap (λ z. z.action) same,
+          ap (λ z. z.work) same,
+        )
     | inr p ↦ (d, record { there = touched.others t p ∙ u.there; unspent = u.unspent }, refl, refl)
   ]
 
@@ -139,7 +170,8 @@ module _ (m : Machine) (s : ℕ) (rest : List ℕ) (c : CleanableOf) (w : IsWell
   ]
 
   in_line : (t : ℕ) → t ∈ line → (t ∈ m.line) ⊎ (t ≡ s)
-  in_line t h = elim (in_append t m.line (s ∷ []) h) [ inl i ↦ inl i | inr i ↦ inr (elim (in_cons t s [] i) [ inl p ↦ p | inr j ↦ nothing t j ]) ]
+  in_line t h =
+      elim (in_append t m.line (s ∷ []) h) [ inl i ↦ inl i | inr i ↦ inr (elim (in_cons t s [] i) [ inl p ↦ p | inr j ↦ nothing t j ]) ]
 
   root_there : (t : ℕ) → IsRoot n t → IsObjectAt m t
   root_there t (held j h z p q) = w.slots.roots t (root_from m t (held j h z p q))
@@ -157,12 +189,15 @@ module _ (m : Machine) (s : ℕ) (rest : List ℕ) (c : CleanableOf) (w : IsWell
       record {
         edges = λ t y h. alive m heap s c (lined_up c) touched y (w.slots.edges t y (edges_back m heap s c (lined_up c) touched t y h));
         roots = λ t h. alive m heap s c (lined_up c) touched t (root_there t (root_gives n t h));
-        queues = λ t q r p f. queue_over m heap s c (lined_up c) touched q (w.slots.queues t q r (back m heap s c (lined_up c) touched t (Reference r) refl p) f);
-        guarded = λ t g p. cleanable_there m heap s c (lined_up c) touched g.cleanable (w.slots.guarded t g (back m heap s c (lined_up c) touched t (Guard g) refl p));
+        queues = λ t q r p f. queue_over m heap s c (lined_up c) touched q
+            (w.slots.queues t q r (back m heap s c (lined_up c) touched t (Reference r) refl p) f);
+        guarded = λ t g p. cleanable_there m heap s c (lined_up c) touched g.cleanable
+            (w.slots.guarded t g (back m heap s c (lined_up c) touched t (Guard g) refl p));
       }
 
   references : AreReferences n
-  references = let r = references_kept m heap s c (lined_up c) touched w.references in record { states = r.states; members = r.members; once = r.once; in_one = r.in_one }
+  references = let r = references_kept m heap s c (lined_up c) touched w.references in
+      record { states = r.states; members = r.members; once = r.once; in_one = r.in_one }
 
   same_state : (t : ℕ) → state_at n t ≡ state_at m t
   same_state t = state_same m heap s c (lined_up c) touched t
@@ -183,7 +218,8 @@ module _ (m : Machine) (s : ℕ) (rest : List ℕ) (c : CleanableOf) (w : IsWell
           | inr h ↦ h
         ];
         pending_cleanables = λ t f. elim (cases_eq t s) [
-          | inl p ↦ let both : PendingClean ≡ Lined = some_same PendingClean Lined (sym f ∙ ap (clean_state_at n) p ∙ here) in absurd (cc both)
+          | inl p ↦ let both : PendingClean ≡ Lined = some_same PendingClean Lined (sym f ∙ ap (clean_state_at n) p ∙ here) in
+              absurd (cc both)
           | inr p ↦ elim (in_pending t (w.lists.pending_cleanables t (sym (beside t p) ∙ f))) [ inl q ↦ absurd (p q) | inr h ↦ h ]
         ];
         pending_others = λ t h.
@@ -212,9 +248,17 @@ module _ (m : Machine) (s : ℕ) (rest : List ℕ) (c : CleanableOf) (w : IsWell
 
   same_count : count_by is_unspent_place heap ≡ count_by is_unspent_place m.objects
   same_count =
-      let one : ◌≡◌ {A = ℕ} (cond (is_unspent_place (Some (Cleanable c))) 1 0) 1 = ap {A = CleanState} {B = ℕ} (λ z. cond (not (is_spent z)) 1 0) waits in
-      let two : ◌≡◌ {A = ℕ} (cond (is_unspent_place (option_map (with_cleanable lined_up) (at m.objects s))) 1 0) 1 = ap {A = Option Object} {B = ℕ} (λ o. cond (is_unspent_place (option_map (with_cleanable lined_up) o)) 1 0) there in
-      omega (arith, count_set m.objects s (Some (Cleanable c)) (option_map (with_cleanable lined_up) (at m.objects s)) there (place_within m.objects s (Cleanable c) there), one, two)
+      let one : ◌≡◌ {A = ℕ} (cond (is_unspent_place (Some (Cleanable c))) 1 0) 1 =
+      ap {A = CleanState} {B = ℕ} (λ z. cond (not (is_spent z)) 1 0) waits in
+      let two : ◌≡◌ {A = ℕ} (cond (is_unspent_place (option_map (with_cleanable lined_up) (at m.objects s))) 1 0) 1 =
+      ap {A = Option Object} {B = ℕ} (λ o. cond (is_unspent_place (option_map (with_cleanable lined_up) o)) 1 0) there in
+      omega (
+        arith,
+        count_set m.objects s (Some (Cleanable c)) (option_map (with_cleanable lined_up) (at m.objects s)) there
+            (place_within m.objects s (Cleanable c) there),
+        one,
+        two,
+      )
 
   actions_kept : AreActions n
   actions_kept =
@@ -248,7 +292,8 @@ module _ (m : Machine) (s : ℕ) (rest : List ℕ) (c : CleanableOf) (w : IsWell
   resources_kept =
       record {
         rising = w.resources.rising;
-        worked = λ rid action state h. worker_over m n rid action state (cleanable_over rid action) (λ z. z) (w.resources.worked rid action state h);
+        worked = λ rid action state h. worker_over m n rid action state (cleanable_over rid action) (λ z. z)
+            (w.resources.worked rid action state h);
         of_cleanables = λ t rid d u f.
             let y = unspent_back t d u in
             let r = w.resources.of_cleanables t rid y.0 y.1 (y.3 ∙ f) in
@@ -257,16 +302,26 @@ module _ (m : Machine) (s : ℕ) (rest : List ℕ) (c : CleanableOf) (w : IsWell
             let y = unspent_back t d u in
             subst (λ i. HasResource m rid i Idle) y.2 (w.resources.idle t rid y.0 y.1 (y.3 ∙ f) (λ p. a (y.4 p)));
         of_jobs = w.resources.of_jobs;
-        one_guard = λ t u g h p q. w.resources.one_guard t u g h (back m heap s c (lined_up c) touched t (Guard g) refl p) (back m heap s c (lined_up c) touched u (Guard h) refl q);
+        one_guard = λ t u g h p q. w.resources.one_guard t u g h (back m heap s c (lined_up c) touched t (Guard g) refl p)
+            (back m heap s c (lined_up c) touched u (Guard h) refl q);
         guards = λ t g d p f.
             let old = back m heap s c (lined_up c) touched t (Guard g) refl p in
             elim (cleanable_cases m heap s c (lined_up c) touched g.cleanable d f) [
-              | inl y ↦ elim (w.resources.guards t g c old (ap (at m.objects) y.0 ∙ there)) [ inl z ↦ absurd (cc (z, waits)) | inr z ↦ absurd (cc (z.armed, waits)) ]
-              | inr y ↦ elim (w.resources.guards t g d old y.1) [ inl a ↦ inl a | inr a ↦ inr (record { armed = a.armed; referent = a.referent; work = a.work }) ]
+              | inl y ↦ elim (w.resources.guards t g c old (ap (at m.objects) y.0 ∙ there)) [
+                | inl z ↦ absurd (cc (z, waits))
+                | inr z ↦
+                    absurd (cc (z.armed, waits))
+              ]
+              | inr y ↦ elim (w.resources.guards t g d old y.1) [
+                | inl a ↦ inl a
+                | inr a ↦
+                    inr (record { armed = a.armed; referent = a.referent; work = a.work })
+              ]
             ];
         guarded = λ t rid d p a f. elim (cleanable_cases m heap s c (lined_up c) touched t d p) [
           | inl y ↦ absurd (not_armed m heap s c (lined_up c) touched (ap (λ z. z.state) (sym y.1) ∙ a))
-          | inr y ↦ let g = w.resources.guarded t rid d y.1 a f in (g.0, g.1, over m heap s c (lined_up c) touched g.0 (Guard g.1) refl g.2, g.3)
+          | inr y ↦ let g = w.resources.guarded t rid d y.1 a f in
+              (g.0, g.1, over m heap s c (lined_up c) touched g.0 (Guard g.1) refl g.2, g.3)
         ];
       }
 
@@ -274,8 +329,17 @@ module _ (m : Machine) (s : ℕ) (rest : List ℕ) (c : CleanableOf) (w : IsWell
   fencing_over z rid state f =
       let apart : f.1.cleanable ≡ s → ⊥ = λ p.
       let same : f.2 ≡ c = cleanable_same m s f.2 c (subst (λ i. IsCleanableAt m i f.2) p f.6) there in
-      absurd (cc (ap (λ z. z.state) same, f.7, waits)) in
-      (f.0, f.1, f.2, f.3, over m heap s c (lined_up c) touched f.0 (Guard f.1) refl f.4, f.5, touched.others f.1.cleanable apart ∙ f.6, f.7, f.8)
+      absurd (cc (ap (λ z. z.state) same, f.7, waits)) in (
+        f.0,
+        f.1,
+        f.2,
+        f.3,
+        over m heap s c (lined_up c) touched f.0 (Guard f.1) refl f.4,
+        f.5,
+        touched.others f.1.cleanable apart ∙ f.6,
+        f.7,
+        f.8,
+      )
 
   fits_over : (j : ℕ) (z : Session) (call : Call) → FitsItsCall m j z call → FitsItsCall n j z call
   fits_over j z Free f = f
@@ -292,7 +356,13 @@ module _ (m : Machine) (s : ℕ) (rest : List ℕ) (c : CleanableOf) (w : IsWell
         slots = slots;
         references = references;
         lists = lists;
-        sessions = record { places = w.sessions.places; opening = w.sessions.opening; names = w.sessions.names; names_limit = w.sessions.names_limit };
+        sessions = record {
+          places =
+              w.sessions.places;
+          opening = w.sessions.opening;
+          names = w.sessions.names;
+          names_limit = w.sessions.names_limit;
+        };
         actions = actions_kept;
         resources = resources_kept;
         calls = record {
@@ -305,8 +375,10 @@ module _ (m : Machine) (s : ℕ) (rest : List ℕ) (c : CleanableOf) (w : IsWell
         unnamed = record {
           handles = λ j h u z p q r. w.unnamed.handles j h u z p q (private_was u r);
           names = λ u h r. w.unnamed.names u h (private_was u r);
-          fields = λ t u fields p h r. w.unnamed.fields t u fields (back m heap s c (lined_up c) touched t (Plain fields) refl p) h (private_was u r);
-          references = λ t u x p q r. w.unnamed.references t u x (back m heap s c (lined_up c) touched t (Reference x) refl p) q (private_was u r);
+          fields = λ t u fields p h r. w.unnamed.fields t u fields (back m heap s c (lined_up c) touched t (Plain fields) refl p) h
+              (private_was u r);
+          references =
+              λ t u x p q r. w.unnamed.references t u x (back m heap s c (lined_up c) touched t (Reference x) refl p) q (private_was u r);
         };
         limits = limits_stay m n w.limits (change_as_long m.objects s (with_cleanable lined_up)) refl;
         faults = w.faults;
@@ -318,7 +390,8 @@ module _ (m : Machine) (s : ℕ) (rest : List ℕ) (c : CleanableOf) (w : IsWell
 
 -- ---- A reference is enqueued
 
-module _ (m : Machine) (s : ℕ) (rest : List ℕ) (r : ReferenceOf) (w : IsWellFormed m) (e : m.pending ≡ s ∷ rest) (there : IsReferenceAt m s r) (waits : r.state ≡ Pending) where
+module _ (m : Machine) (s : ℕ) (rest : List ℕ) (r : ReferenceOf) (w : IsWellFormed m) (e : m.pending ≡ s ∷ rest)
+    (there : IsReferenceAt m s r) (waits : r.state ≡ Pending) where
   has_queue : (q : ℕ) × (r.queue ≡ Some q)
   has_queue = some_there r.queue (subst (λ st. FitsItsState r st) waits (w.references.states s r there)).0
 
@@ -345,7 +418,8 @@ module _ (m : Machine) (s : ℕ) (rest : List ℕ) (r : ReferenceOf) (w : IsWell
       absurd (cc same)
 
   asked : option_and_then queue_ahead (option_and_then as_reference (at m.objects s)) ≡ Some has_queue.0
-  asked = ap (λ o. option_and_then queue_ahead (option_and_then as_reference o)) there ∙ ap (λ st. cond (is_unqueued st) r.queue None) waits ∙ has_queue.1
+  asked = ap (λ o. option_and_then queue_ahead (option_and_then as_reference o)) there ∙ ap (λ st. cond (is_unqueued st) r.queue None) waits
+      ∙ has_queue.1
 
   abbrev queued : Machine
   queued = to_queue (with_object m s (with_reference unreferred)) s (Some has_queue.0)
@@ -365,26 +439,45 @@ module _ (m : Machine) (s : ℕ) (rest : List ℕ) (r : ReferenceOf) (w : IsWell
 
 -- ---- The ask
 
-skips : (m : Machine) (s : ℕ) (rest : List ℕ) (o : Object) → IsWellFormed m → m.pending ≡ s ∷ rest → at m.objects s ≡ Some o → (state_of (Some o) ≡ Some Pending → ⊥) → (clean_state_of (Some o) ≡ Some PendingClean → ⊥) → IsWellFormed (record m { pending = rest })
-skips m s rest o w e there a b = pending_dropped m s rest w e (λ f. a (sym (ap state_of there) ∙ f)) (λ f. b (sym (ap clean_state_of there) ∙ f))
+skips : (m : Machine) (s : ℕ) (rest : List ℕ) (o : Object) → IsWellFormed m → m.pending ≡ s ∷ rest → at m.objects s ≡ Some o
+    → (state_of (Some o) ≡ Some Pending → ⊥) → (clean_state_of (Some o) ≡ Some PendingClean → ⊥)
+    → IsWellFormed (record m { pending = rest })
+skips m s rest o w e there a b =
+    pending_dropped m s rest w e (λ f. a (sym (ap state_of there) ∙ f)) (λ f. b (sym (ap clean_state_of there) ∙ f))
 
-delivers_reference : (m : Machine) (s : ℕ) (rest : List ℕ) (r : ReferenceOf) (st : RefState) → r.state ≡ st → IsWellFormed m → m.pending ≡ s ∷ rest → IsReferenceAt m s r → IsWellFormed (delivered (record m { pending = rest }) s (handed_reference st))
-delivers_reference m s rest r Fresh q w e there = skips m s rest (Reference r) w e there (λ f. let both : r.state ≡ Pending = some_same r.state Pending f in absurd (cc (both, q))) (λ f. no_some PendingClean f)
+delivers_reference : (m : Machine) (s : ℕ) (rest : List ℕ) (r : ReferenceOf) (st : RefState) → r.state ≡ st → IsWellFormed m
+    → m.pending ≡ s ∷ rest → IsReferenceAt m s r → IsWellFormed (delivered (record m { pending = rest }) s (handed_reference st))
+delivers_reference m s rest r Fresh q w e there =
+    skips m s rest (Reference r) w e there (λ f. let both : r.state ≡ Pending = some_same r.state Pending f in absurd (cc (both, q)))
+    (λ f. no_some PendingClean f)
 delivers_reference m s rest r Pending q w e there = enqueued_and_dropped m s rest r w e there q
-delivers_reference m s rest r Queued q w e there = skips m s rest (Reference r) w e there (λ f. let both : r.state ≡ Pending = some_same r.state Pending f in absurd (cc (both, q))) (λ f. no_some PendingClean f)
-delivers_reference m s rest r Removed q w e there = skips m s rest (Reference r) w e there (λ f. let both : r.state ≡ Pending = some_same r.state Pending f in absurd (cc (both, q))) (λ f. no_some PendingClean f)
+delivers_reference m s rest r Queued q w e there =
+    skips m s rest (Reference r) w e there (λ f. let both : r.state ≡ Pending = some_same r.state Pending f in absurd (cc (both, q)))
+    (λ f. no_some PendingClean f)
+delivers_reference m s rest r Removed q w e there =
+    skips m s rest (Reference r) w e there (λ f. let both : r.state ≡ Pending = some_same r.state Pending f in absurd (cc (both, q)))
+    (λ f. no_some PendingClean f)
 
-delivers_cleanable : (m : Machine) (s : ℕ) (rest : List ℕ) (c : CleanableOf) (st : CleanState) → c.state ≡ st → IsWellFormed m → m.pending ≡ s ∷ rest → IsCleanableAt m s c → IsWellFormed (delivered (record m { pending = rest }) s (handed_cleanable st))
-delivers_cleanable m s rest c Armed q w e there = skips m s rest (Cleanable c) w e there (λ f. no_some Pending f) (λ f. let both : c.state ≡ PendingClean = some_same c.state PendingClean f in absurd (cc (both, q)))
+delivers_cleanable : (m : Machine) (s : ℕ) (rest : List ℕ) (c : CleanableOf) (st : CleanState) → c.state ≡ st → IsWellFormed m
+    → m.pending ≡ s ∷ rest → IsCleanableAt m s c → IsWellFormed (delivered (record m { pending = rest }) s (handed_cleanable st))
+delivers_cleanable m s rest c Armed q w e there =
+    skips m s rest (Cleanable c) w e there (λ f. no_some Pending f)
+    (λ f. let both : c.state ≡ PendingClean = some_same c.state PendingClean f in absurd (cc (both, q)))
 delivers_cleanable m s rest c PendingClean q w e there = lined_up_is_well_formed m s rest c w e there q
-delivers_cleanable m s rest c Lined q w e there = skips m s rest (Cleanable c) w e there (λ f. no_some Pending f) (λ f. let both : c.state ≡ PendingClean = some_same c.state PendingClean f in absurd (cc (both, q)))
-delivers_cleanable m s rest c Spent q w e there = skips m s rest (Cleanable c) w e there (λ f. no_some Pending f) (λ f. let both : c.state ≡ PendingClean = some_same c.state PendingClean f in absurd (cc (both, q)))
+delivers_cleanable m s rest c Lined q w e there =
+    skips m s rest (Cleanable c) w e there (λ f. no_some Pending f)
+    (λ f. let both : c.state ≡ PendingClean = some_same c.state PendingClean f in absurd (cc (both, q)))
+delivers_cleanable m s rest c Spent q w e there =
+    skips m s rest (Cleanable c) w e there (λ f. no_some Pending f)
+    (λ f. let both : c.state ≡ PendingClean = some_same c.state PendingClean f in absurd (cc (both, q)))
 
-delivers : (m : Machine) (s : ℕ) (rest : List ℕ) (o : Object) → IsWellFormed m → m.pending ≡ s ∷ rest → at m.objects s ≡ Some o → IsWellFormed (delivered (record m { pending = rest }) s (handed o))
+delivers : (m : Machine) (s : ℕ) (rest : List ℕ) (o : Object) → IsWellFormed m → m.pending ≡ s ∷ rest → at m.objects s ≡ Some o
+    → IsWellFormed (delivered (record m { pending = rest }) s (handed o))
 delivers m s rest (Reference r) w e there = delivers_reference m s rest r r.state refl w e there
 delivers m s rest (Cleanable c) w e there = delivers_cleanable m s rest c c.state refl w e there
 delivers m s rest (Plain fields) w e there = skips m s rest (Plain fields) w e there (λ f. no_some Pending f) (λ f. no_some PendingClean f)
-delivers m s rest (Queue members) w e there = skips m s rest (Queue members) w e there (λ f. no_some Pending f) (λ f. no_some PendingClean f)
+delivers m s rest (Queue members) w e there =
+    skips m s rest (Queue members) w e there (λ f. no_some Pending f) (λ f. no_some PendingClean f)
 delivers m s rest Cleaner w e there = skips m s rest Cleaner w e there (λ f. no_some Pending f) (λ f. no_some PendingClean f)
 delivers m s rest (Guard g) w e there = skips m s rest (Guard g) w e there (λ f. no_some Pending f) (λ f. no_some PendingClean f)
 
@@ -392,8 +485,13 @@ hands_over : (m : Machine) (pending : List ℕ) → IsWellFormed m → m.pending
 hands_over m [] w e = w
 hands_over m (s ∷ rest) w e =
     let o = some_there (at m.objects s) (w.slots.roots s (root_from m s (waiting (subst (λ l. s ∈ l) (sym e) (in_front s s rest refl))))) in
-    subst (λ z. IsWellFormed (elim z as (λ _. Machine) [ None ↦ record m { pending = rest } | Some o ↦ delivered (record m { pending = rest }) s (handed o) ])) (sym o.1)
+    subst (λ z. IsWellFormed (elim z as (λ _. Machine) [
+      | None ↦ record m { pending = rest }
+      | Some o ↦
+          delivered (record m { pending = rest }) s (handed o)
+    ])) (sym o.1)
     (delivers m s rest o.0 w e o.1)
 
-pub keeps_HandOver : (m : Machine) → IsWellFormed m → refusal m HandOver ≡ None → (a : Answer) (fresh : List ℕ) → IsWellFormed (after m HandOver a fresh)
+pub keeps_HandOver : (m : Machine) → IsWellFormed m → refusal m HandOver ≡ None → (a : Answer) (fresh : List ℕ)
+    → IsWellFormed (after m HandOver a fresh)
 keeps_HandOver m w r a fresh = hands_over m m.pending w refl

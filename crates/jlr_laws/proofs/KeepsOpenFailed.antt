@@ -19,7 +19,9 @@ use Rattle.jlr_machine.specs.Objects.{Heap, at, change_at, with_cleanable}
 use Rattle.jlr_machine.specs.Lookups.{on}
 use Rattle.jlr_machine.specs.Refusals.{refusal}
 use Rattle.jlr_machine.specs.Calls.{after, opened, spent}
-use Rattle.jlr_machine.specs.WellFormed.{IsSessionAt, IsCleanableAt, IsObjectAt, HasResource, IsFencing, FitsItsCall, IsUnspent, IsWellFormed, AreSlotsNamed, AreReferences, AreLists, AreSessions, AreActions, AreResources, AreCalls, ArePrivate, IsPrivate, IsOwnGuard, OpeningHasRoom, IsCallOf, IsAction, clean_state_at}
+use Rattle.jlr_machine.specs.WellFormed.{IsSessionAt, IsCleanableAt, IsObjectAt, HasResource, IsFencing, FitsItsCall, IsUnspent}
+use Rattle.jlr_machine.specs.WellFormed.{IsWellFormed, AreSlotsNamed, AreReferences, AreLists, AreSessions, AreActions, AreResources}
+use Rattle.jlr_machine.specs.WellFormed.{AreCalls, ArePrivate, IsPrivate, IsOwnGuard, OpeningHasRoom, IsCallOf, IsAction, clean_state_at}
 use Rattle.jlr_types.specs.declared.Fault.{Fault}
 use Rattle.jlr_machine.specs.declared.ask.Ask.TheVariants.{Opened}
 use Rattle.jlr_machine.specs.declared.ask.Answer.{Answer}
@@ -27,14 +29,17 @@ use Rattle.jlr_machine.specs.declared.ask.Outcome.TheVariants.{Failed}
 use Rattle.jlr_laws.proofs.Frames.{no_some, some_same, IsRoot, root_gives, root_from, limits_stay, seen_stays, change_as_long}
 use Rattle.jlr_laws.proofs.Frames.IsRoot.{held, fencing, named, waiting, lining, active}
 use Rattle.jlr_laws.proofs.Keyed.{by_key, keyed_without, found_gone, found_left, rising_without, all_without}
-use Rattle.jlr_laws.proofs.Changes.{change_here, change_beside, session_same, cleanable_same, resource_same, HasCleanable, worker_over, IsElsewhere}
+use Rattle.jlr_laws.proofs.Changes.{change_here, change_beside, session_same, cleanable_same, resource_same, HasCleanable, worker_over}
+use Rattle.jlr_laws.proofs.Changes.{IsElsewhere}
 use Rattle.jlr_laws.proofs.Allowed.{allowed, opening_session}
 use Rattle.jlr_laws.proofs.KeepsCalls.{calling, no_one_else, IsEnding, opening_ends, guard_on}
 use Rattle.jlr_laws.proofs.KeepsTakeUps.{one_less}
 use Rattle.jlr_laws.proofs.Ended.{IsFreed}
-use Rattle.jlr_laws.proofs.Retouched.{IsRetouched, not_armed, back, over, cleanable_cases, alive, edges_back, active_back, state_same, clean_state_here, clean_state_beside, references_kept, queue_over, cleanable_there, private_back}
+use Rattle.jlr_laws.proofs.Retouched.{IsRetouched, not_armed, back, over, cleanable_cases, alive, edges_back, active_back, state_same}
+use Rattle.jlr_laws.proofs.Retouched.{clean_state_here, clean_state_beside, references_kept, queue_over, cleanable_there, private_back}
 
-module _ (m : Machine) (k : ℕ) (session : Session) (t : ℕ) (g : GuardOf) (c : CleanableOf) (w : IsWellFormed m) (x : IsEnding m k session t g c Opening) where
+module _ (m : Machine) (k : ℕ) (session : Session) (t : ℕ) (g : GuardOf) (c : CleanableOf) (w : IsWellFormed m)
+    (x : IsEnding m k session t g c Opening) where
   abbrev rid_key : Resource → ℕ
   rid_key r = r.rid
 
@@ -45,7 +50,12 @@ module _ (m : Machine) (k : ℕ) (session : Session) (t : ℕ) (g : GuardOf) (c 
   heap = change_at m.objects g.cleanable (with_cleanable spent)
 
   abbrev n : Machine
-  n = record m { objects = heap; mutators = change_at m.mutators k (calling None Free); resources = keyed_without rid_key m.resources g.rid }
+  n = record m {
+    objects =
+        heap;
+    mutators = change_at m.mutators k (calling None Free);
+    resources = keyed_without rid_key m.resources g.rid;
+  }
 
   touched : IsRetouched m.objects heap g.cleanable c (spent c)
   touched =
@@ -73,17 +83,27 @@ module _ (m : Machine) (k : ℕ) (session : Session) (t : ℕ) (g : GuardOf) (c 
     | inl q ↦
         let here = change_here m.mutators k (calling None Free) session x.session_there in
         let same : z ≡ calling None Free session = some_same z (calling None Free session) (sym p ∙ ap (at n.mutators) q ∙ here) in
-        inl (record { before = session; there = ap (at m.mutators) q ∙ x.session_there; handles = ap (λ v. v.handles) same; fence = ap (λ v. v.fence) same; call = ap (λ v. v.call) same })
+        inl (record {
+          before = session;
+          there = ap (at m.mutators) q ∙ x.session_there;
+          handles =
+              ap (λ v. v.handles) same;
+          fence = ap (λ v. v.fence) same;
+          call = ap (λ v. v.call) same;
+        })
     | inr q ↦ inr (q, sym (change_beside m.mutators k j (calling None Free) q) ∙ p)
   ]
 
-  resource_cases : (rid action : ℕ) (state : ResourceState) → HasResource n rid action state → (rid ≡ g.rid → ⊥) × HasResource m rid action state
+  resource_cases : (rid action : ℕ) (state : ResourceState) → HasResource n rid action state → (rid ≡ g.rid → ⊥)
+      × HasResource m rid action state
   resource_cases rid action state h = elim (cases_eq rid g.rid) [
-    | inl p ↦ no_some (record { rid = rid; action = action; state = state }) (sym (found_gone rid_key m.resources g.rid) ∙ ap (by_key rid_key n.resources) (sym p) ∙ h)
+    | inl p ↦ no_some (record { rid = rid; action = action; state = state })
+        (sym (found_gone rid_key m.resources g.rid) ∙ ap (by_key rid_key n.resources) (sym p) ∙ h)
     | inr d ↦ (d, sym (found_left rid_key m.resources g.rid rid d) ∙ h)
   ]
 
-  resource_over : (rid action : ℕ) (state : ResourceState) → (rid ≡ g.rid → ⊥) → HasResource m rid action state → HasResource n rid action state
+  resource_over : (rid action : ℕ) (state : ResourceState) → (rid ≡ g.rid → ⊥) → HasResource m rid action state
+      → HasResource n rid action state
   resource_over rid action state d h = found_left rid_key m.resources g.rid rid d ∙ h
 
   unspent_back : (u : ℕ) (d : CleanableOf) → IsUnspent n u d → (u ≡ s → ⊥) × IsUnspent m u d
@@ -101,7 +121,8 @@ module _ (m : Machine) (k : ℕ) (session : Session) (t : ℕ) (g : GuardOf) (c 
 
   -- ---- What mutators hold
 
-  held_there : (j h u : ℕ) (z : Session) → IsSessionAt n j z → at z.handles h ≡ Some u → (i : ℕ) × (y : Session) × IsSessionAt m i y × (at y.handles h ≡ Some u)
+  held_there : (j h u : ℕ) (z : Session) → IsSessionAt n j z → at z.handles h ≡ Some u → (i : ℕ) × (y : Session) × IsSessionAt m i y
+      × (at y.handles h ≡ Some u)
   held_there j h u z e f = elim (session_cases j z e) [
     | inl y ↦ (j, y.before, y.there, ap (λ l. at l h) (sym y.handles) ∙ f)
     | inr y ↦ (j, z, y.1, f)
@@ -126,12 +147,15 @@ module _ (m : Machine) (k : ℕ) (session : Session) (t : ℕ) (g : GuardOf) (c 
       record {
         edges = λ u y h. alive m heap s c (spent c) touched y (w.slots.edges u y (edges_back m heap s c (spent c) touched u y h));
         roots = λ u h. alive m heap s c (spent c) touched u (root_there u (root_gives n u h));
-        queues = λ u q r e f. queue_over m heap s c (spent c) touched q (w.slots.queues u q r (back m heap s c (spent c) touched u (Reference r) refl e) f);
-        guarded = λ u h e. cleanable_there m heap s c (spent c) touched h.cleanable (w.slots.guarded u h (back m heap s c (spent c) touched u (Guard h) refl e));
+        queues = λ u q r e f. queue_over m heap s c (spent c) touched q
+            (w.slots.queues u q r (back m heap s c (spent c) touched u (Reference r) refl e) f);
+        guarded = λ u h e. cleanable_there m heap s c (spent c) touched h.cleanable
+            (w.slots.guarded u h (back m heap s c (spent c) touched u (Guard h) refl e));
       }
 
   references : AreReferences n
-  references = let r = references_kept m heap s c (spent c) touched w.references in record { states = r.states; members = r.members; once = r.once; in_one = r.in_one }
+  references = let r = references_kept m heap s c (spent c) touched w.references in
+      record { states = r.states; members = r.members; once = r.once; in_one = r.in_one }
 
   clean_state_back : (u : ℕ) (state : CleanState) → (state ≡ Spent → ⊥) → clean_state_at n u ≡ Some state → clean_state_at m u ≡ Some state
   clean_state_back u state d e = elim (cases_eq u s) [
@@ -139,7 +163,8 @@ module _ (m : Machine) (k : ℕ) (session : Session) (t : ℕ) (g : GuardOf) (c 
     | inr p ↦ sym (clean_state_beside m heap s c (spent c) touched u p) ∙ e
   ]
 
-  clean_state_over : (u : ℕ) (state : CleanState) → clean_state_at m u ≡ Some state → (clean_state_at n u ≡ Some state) ⊎ (clean_state_at n u ≡ Some Spent)
+  clean_state_over : (u : ℕ) (state : CleanState) → clean_state_at m u ≡ Some state → (clean_state_at n u ≡ Some state)
+      ⊎ (clean_state_at n u ≡ Some Spent)
   clean_state_over u state e = elim (cases_eq u s) [
     | inl p ↦ inr (ap (clean_state_at n) p ∙ clean_state_here m heap s c (spent c) touched)
     | inr p ↦ inl (clean_state_beside m heap s c (spent c) touched u p ∙ e)
@@ -212,7 +237,8 @@ module _ (m : Machine) (k : ℕ) (session : Session) (t : ℕ) (g : GuardOf) (c 
   cleanable_over : (rid action : ℕ) → (rid ≡ g.rid → ⊥) → HasCleanable m rid action → HasCleanable n rid action
   cleanable_over rid action d h =
       let apart : h.0 ≡ s → ⊥ = λ e.
-      let works : WorkOn rid ≡ WorkOn g.rid = sym h.4 ∙ ap (λ z. z.work) (cleanable_same m s h.1 c (subst (λ z. IsCleanableAt m z h.1) e h.2.there) x.cleanable) ∙ own.work in
+      let works : WorkOn rid ≡ WorkOn g.rid = sym h.4
+      ∙ ap (λ z. z.work) (cleanable_same m s h.1 c (subst (λ z. IsCleanableAt m z h.1) e h.2.there) x.cleanable) ∙ own.work in
       let same : rid ≡ g.rid = cc works in
       d same in
       (h.0, h.1, record { there = touched.others h.0 apart ∙ h.2.there; unspent = h.2.unspent }, h.3, h.4)
@@ -233,15 +259,22 @@ module _ (m : Machine) (k : ℕ) (session : Session) (t : ℕ) (g : GuardOf) (c 
             resource_over rid d.action Idle (other_work u rid d y.0 y.1 e) (w.resources.idle u rid d y.1 e a);
         of_jobs = λ j rid e f.
             let r = w.resources.of_jobs j rid e f in
-            resource_over rid j.action Closing (λ p. let both = resource_same m g.rid j.action c.action Closing Opening (subst (λ i. HasResource m i j.action Closing) p r) x.resource in absurd (cc both.1)) r;
-        one_guard = λ u v p q e f. w.resources.one_guard u v p q (back m heap s c (spent c) touched u (Guard p) refl e) (back m heap s c (spent c) touched v (Guard q) refl f);
+            resource_over rid j.action Closing (λ p. let both = resource_same m g.rid j.action c.action Closing Opening
+            (subst (λ i. HasResource m i j.action Closing) p r) x.resource in absurd (cc both.1)) r;
+        one_guard = λ u v p q e f. w.resources.one_guard u v p q (back m heap s c (spent c) touched u (Guard p) refl e)
+            (back m heap s c (spent c) touched v (Guard q) refl f);
         guards = λ u p d e f. elim (cleanable_cases m heap s c (spent c) touched p.cleanable d f) [
           | inl y ↦ inl (ap (λ z. z.state) y.1)
-          | inr y ↦ elim (w.resources.guards u p d (back m heap s c (spent c) touched u (Guard p) refl e) y.1) [ inl a ↦ inl a | inr a ↦ inr (record { armed = a.armed; referent = a.referent; work = a.work }) ]
+          | inr y ↦ elim (w.resources.guards u p d (back m heap s c (spent c) touched u (Guard p) refl e) y.1) [
+            | inl a ↦ inl a
+            | inr a ↦
+                inr (record { armed = a.armed; referent = a.referent; work = a.work })
+          ]
         ];
         guarded = λ u rid d e a f. elim (cleanable_cases m heap s c (spent c) touched u d e) [
           | inl y ↦ absurd (not_armed m heap s c (spent c) touched (ap (λ z. z.state) (sym y.1) ∙ a))
-          | inr y ↦ let p = w.resources.guarded u rid d y.1 a f in (p.0, p.1, over m heap s c (spent c) touched p.0 (Guard p.1) refl p.2, p.3)
+          | inr y ↦ let p = w.resources.guarded u rid d y.1 a f in
+              (p.0, p.1, over m heap s c (spent c) touched p.0 (Guard p.1) refl p.2, p.3)
         ];
       }
 
@@ -252,12 +285,23 @@ module _ (m : Machine) (k : ℕ) (session : Session) (t : ℕ) (g : GuardOf) (c 
 
   fencing_over : (z : Session) (rid : ℕ) (state : ResourceState) → (rid ≡ g.rid → ⊥) → IsFencing m z rid state → IsFencing n z rid state
   fencing_over z rid state d f =
-      let works : f.2.work ≡ WorkOn f.1.rid = elim (w.resources.guards f.0 f.1 f.2 f.4 f.6) [ inl e ↦ absurd (cc (e, f.7)) | inr o ↦ o.work ] in
+      let works : f.2.work ≡ WorkOn f.1.rid =
+      elim (w.resources.guards f.0 f.1 f.2 f.4 f.6) [ inl e ↦ absurd (cc (e, f.7)) | inr o ↦ o.work ] in
       let apart : f.1.cleanable ≡ s → ⊥ = λ e.
-      let both : WorkOn f.1.rid ≡ WorkOn g.rid = sym works ∙ ap (λ z. z.work) (cleanable_same m s f.2 c (subst (λ z. IsCleanableAt m z f.2) e f.6) x.cleanable) ∙ own.work in
+      let both : WorkOn f.1.rid ≡ WorkOn g.rid = sym works
+      ∙ ap (λ z. z.work) (cleanable_same m s f.2 c (subst (λ z. IsCleanableAt m z f.2) e f.6) x.cleanable) ∙ own.work in
       let same : f.1.rid ≡ g.rid = cc both in
-      d (sym f.5 ∙ same) in
-      (f.0, f.1, f.2, f.3, over m heap s c (spent c) touched f.0 (Guard f.1) refl f.4, f.5, touched.others f.1.cleanable apart ∙ f.6, f.7, resource_over rid f.2.action state d f.8)
+      d (sym f.5 ∙ same) in (
+        f.0,
+        f.1,
+        f.2,
+        f.3,
+        over m heap s c (spent c) touched f.0 (Guard f.1) refl f.4,
+        f.5,
+        touched.others f.1.cleanable apart ∙ f.6,
+        f.7,
+        resource_over rid f.2.action state d f.8,
+      )
 
   fits_over : (j : ℕ) (z : Session) (call : Call) → z.call ≡ call → IsElsewhere z g.rid → FitsItsCall m j z call → FitsItsCall n j z call
   fits_over j z Free e a f = f
@@ -267,7 +311,8 @@ module _ (m : Machine) (k : ℕ) (session : Session) (t : ℕ) (g : GuardOf) (c 
 
   call_over : (j : ℕ) (call : Call) → (session.call ≡ call → ⊥) → IsCallOf m j call → IsCallOf n j call
   call_over j call d h =
-      let apart : j ≡ k → ⊥ = λ e. d (ap (λ z. z.call) (session_same m k session h.0 x.session_there (subst (λ i. IsSessionAt m i h.0) e h.1)) ∙ h.2) in
+      let apart : j ≡ k → ⊥ =
+      λ e. d (ap (λ z. z.call) (session_same m k session h.0 x.session_there (subst (λ i. IsSessionAt m i h.0) e h.1)) ∙ h.2) in
       (h.0, change_beside m.mutators k j (calling None Free) apart ∙ h.1, h.2)
 
   calls_kept : AreCalls n
@@ -303,8 +348,10 @@ module _ (m : Machine) (k : ℕ) (session : Session) (t : ℕ) (g : GuardOf) (c 
       record {
         handles = λ j h u z e f p. let r = held_there j h u z e f in w.unnamed.handles r.0 h u r.1 r.2 r.3 (private_was u p);
         names = λ u h p. w.unnamed.names u h (private_was u p);
-        fields = λ v u fields e h p. w.unnamed.fields v u fields (back m heap s c (spent c) touched v (Plain fields) refl e) h (private_was u p);
-        references = λ v u r e f p. w.unnamed.references v u r (back m heap s c (spent c) touched v (Reference r) refl e) f (private_was u p);
+        fields = λ v u fields e h p. w.unnamed.fields v u fields (back m heap s c (spent c) touched v (Plain fields) refl e) h
+            (private_was u p);
+        references =
+            λ v u r e f p. w.unnamed.references v u r (back m heap s c (spent c) touched v (Reference r) refl e) f (private_was u p);
       }
 
   pub open_failed_is_well_formed : IsWellFormed n
@@ -318,7 +365,8 @@ module _ (m : Machine) (k : ℕ) (session : Session) (t : ℕ) (g : GuardOf) (c 
         resources = resources_kept;
         calls = calls_kept;
         unnamed = unnamed;
-        limits = limits_stay m n w.limits (change_as_long m.objects g.cleanable (with_cleanable spent)) (change_as_long m.mutators k (calling None Free));
+        limits = limits_stay m n w.limits (change_as_long m.objects g.cleanable (with_cleanable spent))
+            (change_as_long m.mutators k (calling None Free));
         faults = w.faults;
         notes = w.notes;
         seen_rising = w.seen_rising;
@@ -326,7 +374,8 @@ module _ (m : Machine) (k : ℕ) (session : Session) (t : ℕ) (g : GuardOf) (c 
         seen_in_cycle = w.seen_in_cycle;
       }
 
-pub keeps_open_failed : (m : Machine) (k : ℕ) (fault : Fault) (a : Answer) (fresh : List ℕ) → IsWellFormed m → refusal m (Opened k (Failed fault)) ≡ None → IsWellFormed (after m (Opened k (Failed fault)) a fresh)
+pub keeps_open_failed : (m : Machine) (k : ℕ) (fault : Fault) (a : Answer) (fresh : List ℕ) → IsWellFormed m
+    → refusal m (Opened k (Failed fault)) ≡ None → IsWellFormed (after m (Opened k (Failed fault)) a fresh)
 keeps_open_failed m k fault a fresh w r =
     let ok = allowed m (Opened k (Failed fault)) r in
     let z = opening_session m k (ok NotOut refl) in

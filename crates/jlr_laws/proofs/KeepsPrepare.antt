@@ -1,5 +1,6 @@
 -- Prepare leads from a well-formed machine to a well-formed one.
-use Rattle.std.proofs.Common.{◌≡◌, ℕ, ◌+◌, ◌<◌, ◌≤◌, true, false, not, List, [], ◌∷◌, length, refl, sym, ◌∙◌, ap, subst, ◌⊎◌, inl, inr, arith, Option, Some, None, is_some, IsTrue, option_and_then, option_to_list, count_by, nat_lt, if◌then◌else◌}
+use Rattle.std.proofs.Common.{◌≡◌, ℕ, ◌+◌, ◌<◌, ◌≤◌, true, false, not, List, [], ◌∷◌, length, refl, sym, ◌∙◌, ap, subst, ◌⊎◌, inl, inr}
+use Rattle.std.proofs.Common.{arith, Option, Some, None, is_some, IsTrue, option_and_then, option_to_list, count_by, nat_lt, if◌then◌else◌}
 use Rattle.std.specs.List.{flat_map}
 use Rattle.std.proofs.lemmas.Bool.{cases_eq, both_ways}
 use Rattle.jlr_types.specs.declared.FieldValue.{FieldValue}
@@ -22,13 +23,17 @@ use Rattle.jlr_machine.specs.declared.machine.Call.{Call}
 use Rattle.jlr_machine.specs.declared.machine.Call.TheVariants.{Free, Opening as CallOpening, Out as CallOut, Job as CallJob}
 use Rattle.jlr_machine.specs.declared.machine.ResourceState.{ResourceState}
 use Rattle.jlr_machine.specs.declared.machine.ResourceState.TheVariants.{Opening, Idle, Out, Closing}
-use Rattle.jlr_machine.specs.Objects.{Table, Heap, at, set_at, change_at, ◌∈◌, ◌∋◌, is_distinct, as_reference, as_cleanable, occupied, some_and}
+use Rattle.jlr_machine.specs.Objects.{Table, Heap, at, set_at, change_at, ◌∈◌, ◌∋◌, is_distinct, as_reference, as_cleanable, occupied}
+use Rattle.jlr_machine.specs.Objects.{some_and}
 use Rattle.jlr_machine.specs.Edges.{edges, edges_from, is_own_root}
 use Rattle.jlr_machine.specs.Lookups.{with_call, with_resource, resource_at, has_free_handle, job_of}
 use Rattle.jlr_machine.specs.Refusals.{refusal}
 use Rattle.jlr_machine.specs.Calls.{after, prepared}
 use Rattle.jlr_machine.specs.Run.{IsFresh, is_free}
-use Rattle.jlr_machine.specs.WellFormed.{IsSessionAt, IsGuardAt, IsCleanableAt, IsObjectAt, HasResource, IsFencing, FitsItsCall, IsUnspent, IsWellFormed, AreSlotsNamed, AreReferences, AreLists, AreSessions, AreActions, AreResources, AreCalls, ArePrivate, IsPrivate, OpeningHasRoom, IsCallOf, IsAction, state_at, clean_state_at, is_unspent_place}
+use Rattle.jlr_machine.specs.WellFormed.{IsSessionAt, IsGuardAt, IsCleanableAt, IsObjectAt, HasResource, IsFencing, FitsItsCall, IsUnspent}
+use Rattle.jlr_machine.specs.WellFormed.{IsWellFormed, AreSlotsNamed, AreReferences, AreLists, AreSessions, AreActions, AreResources}
+use Rattle.jlr_machine.specs.WellFormed.{AreCalls, ArePrivate, IsPrivate, OpeningHasRoom, IsCallOf, IsAction, state_at, clean_state_at}
+use Rattle.jlr_machine.specs.WellFormed.{is_unspent_place}
 use Rattle.jlr_machine.specs.Edges.Chain.{UpToPhantom}
 use Rattle.std.proofs.Common.{is_none}
 use Rattle.std.specs.List.{list_all}
@@ -37,18 +42,22 @@ use Rattle.std.proofs.lemmas.List.{length-set}
 use Rattle.jlr_machine.specs.declared.ask.Ask.TheVariants.{Prepare}
 use Rattle.jlr_machine.specs.declared.ask.Answer.TheVariants.{Prepared}
 use Rattle.jlr_laws.proofs.Sets.{nothing, in_front, in_cons}
-use Rattle.jlr_laws.proofs.Frames.{no_some, some_same, set_same, set_other, IsRoot, root_gives, root_from, limits_stay, seen_stays, change_as_long}
+use Rattle.jlr_laws.proofs.Frames.{no_some, some_same, set_same, set_other, IsRoot, root_gives, root_from, limits_stay, seen_stays}
+use Rattle.jlr_laws.proofs.Frames.{change_as_long}
 use Rattle.jlr_laws.proofs.Frames.IsRoot.{held, fencing, named, waiting, lining, active}
 use Rattle.jlr_laws.proofs.Keyed.{keyed_with, found_new, found_beside, rising_with, all_with, none_found, all_weaker}
-use Rattle.jlr_laws.proofs.Changes.{change_here, change_beside, session_same, cleanable_same, resource_same, HasCleanable, worker_from, worker_over}
+use Rattle.jlr_laws.proofs.Changes.{change_here, change_beside, session_same, cleanable_same, resource_same, HasCleanable, worker_from}
+use Rattle.jlr_laws.proofs.Changes.{worker_over}
 use Rattle.jlr_laws.proofs.Allowed.{allowed, joined_session, free_session}
 use Rattle.jlr_laws.proofs.KeepsCalls.{calling}
 use Rattle.jlr_laws.proofs.KeepsTakeUps.{count_set}
 use Rattle.jlr_laws.proofs.Fits.{strong_object, referent_object, free_is}
 
-pub with_resource-keyed : (resources : List Resource) (new : Resource) → with_resource resources new ≡ keyed_with {A = Resource} (λ r. r.rid) resources new
+pub with_resource-keyed : (resources : List Resource) (new : Resource)
+    → with_resource resources new ≡ keyed_with {A = Resource} (λ r. r.rid) resources new
 with_resource-keyed [] new = refl
-with_resource-keyed (r ∷ resources) new = ap (λ l. if nat_lt new.rid r.rid then new ∷ r ∷ resources else r ∷ l) (with_resource-keyed resources new)
+with_resource-keyed (r ∷ resources) new =
+    ap (λ l. if nat_lt new.rid r.rid then new ∷ r ∷ resources else r ∷ l) (with_resource-keyed resources new)
 
 pub record IsPrepared (m : Machine) (k : ℕ) (session : Session) (a b rid : ℕ) : Type 0 where
   pub there : IsSessionAt m k session
@@ -116,7 +125,8 @@ module _ (m : Machine) (k : ℕ) (session : Session) (a b rid : ℕ) (w : IsWell
       ] refl e
 
   -- what is no guard and no cleanable, was there
-  data_cases : (t : ℕ) (o : Object) → at heap t ≡ Some o → ((t ≡ a) × (o ≡ Guard guard)) ⊎ ((t ≡ b) × (o ≡ Cleanable cleanable)) ⊎ (at m.objects t ≡ Some o)
+  data_cases : (t : ℕ) (o : Object) → at heap t ≡ Some o → ((t ≡ a) × (o ≡ Guard guard)) ⊎ ((t ≡ b) × (o ≡ Cleanable cleanable))
+      ⊎ (at m.objects t ≡ Some o)
   data_cases t o e = elim (cases_eq t a) [
     | inl p ↦ inl (p, some_same o (Guard guard) (sym e ∙ ap (at heap) p ∙ a_here))
     | inr d ↦ elim (cases_eq t b) [
@@ -126,13 +136,16 @@ module _ (m : Machine) (k : ℕ) (session : Session) (a b rid : ℕ) (w : IsWell
   ]
 
   old_plain : (t : ℕ) (fields : Contents) → at heap t ≡ Some (Plain fields) → at m.objects t ≡ Some (Plain fields)
-  old_plain t fields e = elim (data_cases t (Plain fields) e) [ inl y ↦ absurd (cc y.1) | inr z ↦ elim z [ inl y ↦ absurd (cc y.1) | inr y ↦ y ] ]
+  old_plain t fields e =
+      elim (data_cases t (Plain fields) e) [ inl y ↦ absurd (cc y.1) | inr z ↦ elim z [ inl y ↦ absurd (cc y.1) | inr y ↦ y ] ]
 
   old_reference : (t : ℕ) (r : ReferenceOf) → at heap t ≡ Some (Reference r) → at m.objects t ≡ Some (Reference r)
-  old_reference t r e = elim (data_cases t (Reference r) e) [ inl y ↦ absurd (cc y.1) | inr z ↦ elim z [ inl y ↦ absurd (cc y.1) | inr y ↦ y ] ]
+  old_reference t r e =
+      elim (data_cases t (Reference r) e) [ inl y ↦ absurd (cc y.1) | inr z ↦ elim z [ inl y ↦ absurd (cc y.1) | inr y ↦ y ] ]
 
   old_queue : (t : ℕ) (members : List ℕ) → at heap t ≡ Some (Queue members) → at m.objects t ≡ Some (Queue members)
-  old_queue t members e = elim (data_cases t (Queue members) e) [ inl y ↦ absurd (cc y.1) | inr z ↦ elim z [ inl y ↦ absurd (cc y.1) | inr y ↦ y ] ]
+  old_queue t members e =
+      elim (data_cases t (Queue members) e) [ inl y ↦ absurd (cc y.1) | inr z ↦ elim z [ inl y ↦ absurd (cc y.1) | inr y ↦ y ] ]
 
   guard_cases : (t : ℕ) (g : GuardOf) → at heap t ≡ Some (Guard g) → ((t ≡ a) × (g ≡ guard)) ⊎ IsGuardAt m t g
   guard_cases t g e = elim (data_cases t (Guard g) e) [
@@ -174,14 +187,17 @@ module _ (m : Machine) (k : ℕ) (session : Session) (a b rid : ℕ) (w : IsWell
   resource_here = found_new rid_key m.resources resource x.new_rid
 
   not_new : (r action : ℕ) (state : ResourceState) → HasResource m r action state → r ≡ rid → ⊥
-  not_new r action state h e = no_some (record { rid = rid; action = action; state = state }) (sym x.new_rid ∙ subst (λ i. HasResource m i action state) e h)
+  not_new r action state h e =
+      no_some (record { rid = rid; action = action; state = state }) (sym x.new_rid ∙ subst (λ i. HasResource m i action state) e h)
 
   resource_over : (r action : ℕ) (state : ResourceState) → HasResource m r action state → HasResource n r action state
   resource_over r action state h = found_beside rid_key m.resources resource r (λ e. not_new r action state h (sym e)) ∙ h
 
-  resource_cases : (r action : ℕ) (state : ResourceState) → HasResource n r action state → ((r ≡ rid) × (action ≡ m.next_action) × (state ≡ Opening)) ⊎ HasResource m r action state
+  resource_cases : (r action : ℕ) (state : ResourceState) → HasResource n r action state
+      → ((r ≡ rid) × (action ≡ m.next_action) × (state ≡ Opening)) ⊎ HasResource m r action state
   resource_cases r action state h = elim (cases_eq r rid) [
-    | inl p ↦ let both = resource_same n rid action m.next_action state Opening (subst (λ i. HasResource n i action state) p h) resource_here in inl (p, both.0, both.1)
+    | inl p ↦ let both = resource_same n rid action m.next_action state Opening (subst (λ i. HasResource n i action state) p h)
+        resource_here in inl (p, both.0, both.1)
     | inr d ↦ inr (sym (found_beside rid_key m.resources resource r (λ e. d (sym e))) ∙ h)
   ]
 
@@ -200,7 +216,8 @@ module _ (m : Machine) (k : ℕ) (session : Session) (a b rid : ℕ) (w : IsWell
     ]
   ]
 
-  held_there : (j h u : ℕ) (z : Session) → IsSessionAt n j z → at z.handles h ≡ Some u → (i : ℕ) × (y : Session) × IsSessionAt m i y × (at y.handles h ≡ Some u)
+  held_there : (j h u : ℕ) (z : Session) → IsSessionAt n j z → at z.handles h ≡ Some u → (i : ℕ) × (y : Session) × IsSessionAt m i y
+      × (at y.handles h ≡ Some u)
   held_there j h u z e f = elim (session_cases j z e) [
     | inl y ↦ (k, session, x.there, ap (λ v. at v.handles h) (sym y.1) ∙ f)
     | inr y ↦ (j, z, y.1, f)
@@ -211,12 +228,14 @@ module _ (m : Machine) (k : ℕ) (session : Session) (a b rid : ℕ) (w : IsWell
 
   fence_there : (j u : ℕ) (z : Session) → IsSessionAt n j z → z.fence ≡ Some u → IsTrue (is_some (at heap u))
   fence_there j u z e f = elim (session_cases j z e) [
-    | inl y ↦ let same : a ≡ u = some_same a u (ap (λ v. v.fence) (sym y.1) ∙ f) in subst (λ i. IsTrue (is_some (at heap i))) same (ap is_some a_here)
+    | inl y ↦ let same : a ≡ u = some_same a u (ap (λ v. v.fence) (sym y.1) ∙ f) in
+        subst (λ i. IsTrue (is_some (at heap i))) same (ap is_some a_here)
     | inr y ↦ alive u (w.slots.roots u (root_from m u (fencing j z y.1 f)))
   ]
 
   active_there : (u : ℕ) → is_own_root (at heap u) ≡ true → IsTrue (is_some (at heap u))
-  active_there u h = elim (at heap u) as (λ o. is_own_root o ≡ true → IsTrue (is_some o)) [ None ↦ λ e. absurd (cc e) | Some o ↦ λ _. refl ] h
+  active_there u h =
+      elim (at heap u) as (λ o. is_own_root o ≡ true → IsTrue (is_some o)) [ None ↦ λ e. absurd (cc e) | Some o ↦ λ _. refl ] h
 
   root_there : (u : ℕ) → IsRoot n u → IsTrue (is_some (at heap u))
   root_there u (held j h z e f) = alive u (held_object j h u z e f)
@@ -242,7 +261,8 @@ module _ (m : Machine) (k : ℕ) (session : Session) (a b rid : ℕ) (w : IsWell
   references =
       record {
         states = λ t r e. w.references.states t r (old_reference t r e);
-        members = λ q t members e h. let y = w.references.members q t members (old_queue q members e) h in (y.0, stays t (Reference y.0) y.1, y.2);
+        members = λ q t members e h. let y = w.references.members q t members (old_queue q members e) h in
+            (y.0, stays t (Reference y.0) y.1, y.2);
         once = λ q members e. w.references.once q members (old_queue q members e);
         in_one = λ p q t xs ys e f. w.references.in_one p q t xs ys (old_queue p xs e) (old_queue q ys f);
       }
@@ -300,7 +320,8 @@ module _ (m : Machine) (k : ℕ) (session : Session) (a b rid : ℕ) (w : IsWell
           ])
         ];
         lined = λ u e. w.lists.lined u (clean_state_back u Lined (λ z. absurd (cc z)) e);
-        line_others = λ u h. elim (w.lists.line_others u h) [ inl e ↦ inl (clean_state_over u Lined e) | inr e ↦ inr (clean_state_over u Spent e) ];
+        line_others =
+            λ u h. elim (w.lists.line_others u h) [ inl e ↦ inl (clean_state_over u Lined e) | inr e ↦ inr (clean_state_over u Spent e) ];
       }
 
   sessions_kept : AreSessions n
@@ -326,14 +347,17 @@ module _ (m : Machine) (k : ℕ) (session : Session) (a b rid : ℕ) (w : IsWell
   count_one_more : count_by is_unspent_place heap ≡ count_by is_unspent_place m.objects + 1
   count_one_more =
       let none_there : at first b ≡ None = set_other m.objects a b (Some (Guard guard)) x.apart ∙ x.b_free in
-      let one : ◌≡◌ {A = ℕ} (count_by is_unspent_place first + 0) (count_by is_unspent_place m.objects + 0) = count_set m.objects a None (Some (Guard guard)) x.a_free x.a_inside in
-      let two : ◌≡◌ {A = ℕ} (count_by is_unspent_place heap + 0) (count_by is_unspent_place first + 1) = count_set first b None (Some (Cleanable cleanable)) none_there b_inside in
+      let one : ◌≡◌ {A = ℕ} (count_by is_unspent_place first + 0) (count_by is_unspent_place m.objects + 0) =
+      count_set m.objects a None (Some (Guard guard)) x.a_free x.a_inside in
+      let two : ◌≡◌ {A = ℕ} (count_by is_unspent_place heap + 0) (count_by is_unspent_place first + 1) =
+      count_set first b None (Some (Cleanable cleanable)) none_there b_inside in
       omega (arith, one, two)
 
   no_new_job : job_of m m.next_action ≡ None
   no_new_job =
       none_found {A = JobOf} (λ j. j.action) m.jobs m.next_action
-      (all_weaker (λ j. IsAction m j.action) (λ j. j.action ≡ m.next_action → ⊥) (λ j h e. absurd (omega (arith, h.1, e))) m.jobs w.actions.of_jobs)
+      (all_weaker (λ j. IsAction m j.action) (λ j. j.action ≡ m.next_action → ⊥) (λ j h e. absurd (omega (arith, h.1, e))) m.jobs
+      w.actions.of_jobs)
 
   not_next : (t : ℕ) (c : CleanableOf) → IsCleanableAt m t c → c.action ≡ m.next_action → ⊥
   not_next t c e p = let h = w.actions.of_cleanables t c e in absurd (omega (arith, h.1, p))
@@ -394,7 +418,12 @@ module _ (m : Machine) (k : ℕ) (session : Session) (a b rid : ℕ) (w : IsWell
           | inr y ↦ worker_over m n r action state (cleanable_over r action) (λ z. z) (w.resources.worked r action state y)
         ];
         of_cleanables = λ u r c p e. elim (unspent_cases u c p) [
-          | inl y ↦ (Opening, subst (λ i. HasResource n i c.action Opening) (sym (works_on c r y.1 e)) (subst (λ i. HasResource n rid i Opening) (sym (ap (λ i. i.action) y.1)) resource_here), λ z. absurd (cc z))
+          | inl y ↦ (
+            Opening,
+            subst (λ i. HasResource n i c.action Opening) (sym (works_on c r y.1 e))
+                (subst (λ i. HasResource n rid i Opening) (sym (ap (λ i. i.action) y.1)) resource_here),
+            λ z. absurd (cc z),
+          )
           | inr y ↦ let h = w.resources.of_cleanables u r c y e in (h.0, resource_over r c.action h.0 h.1, h.2)
         ];
         idle = λ u r c p e d. elim (unspent_cases u c p) [
@@ -415,10 +444,19 @@ module _ (m : Machine) (k : ℕ) (session : Session) (a b rid : ℕ) (w : IsWell
         guards = λ u g c e f. elim (guard_cases u g e) [
           | inl y ↦
               let same : c ≡ cleanable = cleanable_same n b c cleanable (ap (λ i. at heap i.cleanable) (sym y.1) ∙ f) b_here in
-              inr (record { armed = ap (λ i. i.state) same; referent = ap (λ i. i.referent) same ∙ ap (λ i. Some i) (sym y.0); work = ap (λ i. i.work) same ∙ ap (λ i. WorkOn i.rid) (sym y.1) })
+              inr (record {
+                armed = ap (λ i. i.state) same;
+                referent =
+                    ap (λ i. i.referent) same ∙ ap (λ i. Some i) (sym y.0);
+                work = ap (λ i. i.work) same ∙ ap (λ i. WorkOn i.rid) (sym y.1);
+              })
           | inr y ↦ elim (cleanable_cases g.cleanable c f) [
             | inl z ↦ absurd (behind u g y z.0)
-            | inr z ↦ elim (w.resources.guards u g c y z) [ inl v ↦ inl v | inr v ↦ inr (record { armed = v.armed; referent = v.referent; work = v.work }) ]
+            | inr z ↦ elim (w.resources.guards u g c y z) [
+              | inl v ↦ inl v
+              | inr v ↦
+                  inr (record { armed = v.armed; referent = v.referent; work = v.work })
+            ]
           ]
         ];
         guarded = λ u r c e p f. elim (cleanable_cases u c e) [
@@ -430,7 +468,17 @@ module _ (m : Machine) (k : ℕ) (session : Session) (a b rid : ℕ) (w : IsWell
   -- ---- Calls
 
   fencing_over : (z : Session) (r : ℕ) (state : ResourceState) → IsFencing m z r state → IsFencing n z r state
-  fencing_over z r state f = (f.0, f.1, f.2, f.3, stays f.0 (Guard f.1) f.4, f.5, stays f.1.cleanable (Cleanable f.2) f.6, f.7, resource_over r f.2.action state f.8)
+  fencing_over z r state f = (
+    f.0,
+    f.1,
+    f.2,
+    f.3,
+    stays f.0 (Guard f.1) f.4,
+    f.5,
+    stays f.1.cleanable (Cleanable f.2) f.6,
+    f.7,
+    resource_over r f.2.action state f.8,
+  )
 
   fits_over : (j : ℕ) (z : Session) (call : Call) → FitsItsCall m j z call → FitsItsCall n j z call
   fits_over j z Free f = f
@@ -440,7 +488,8 @@ module _ (m : Machine) (k : ℕ) (session : Session) (a b rid : ℕ) (w : IsWell
 
   call_over : (j : ℕ) (call : Call) → (call ≡ Free → ⊥) → IsCallOf m j call → IsCallOf n j call
   call_over j call d h =
-      let apart : j ≡ k → ⊥ = λ e. d (sym h.2 ∙ ap (λ z. z.call) (session_same m k h.0 session (subst (λ i. IsSessionAt m i h.0) e h.1) x.there) ∙ x.free) in
+      let apart : j ≡ k → ⊥ =
+      λ e. d (sym h.2 ∙ ap (λ z. z.call) (session_same m k h.0 session (subst (λ i. IsSessionAt m i h.0) e h.1) x.there) ∙ x.free) in
       (h.0, change_beside m.mutators k j (calling (Some a) (CallOpening rid)) apart ∙ h.1, h.2)
 
   no_old_call : (j : ℕ) (z : Session) → IsSessionAt m j z → z.call ≡ CallOpening rid → ⊥
@@ -497,10 +546,13 @@ module _ (m : Machine) (k : ℕ) (session : Session) (a b rid : ℕ) (w : IsWell
   unnamed : ArePrivate n
   unnamed =
       record {
-        handles = λ j h u z e f p. let r = held_there j h u z e f in w.unnamed.handles r.0 h u r.1 r.2 r.3 (private_back u (held_object j h u z e f) p);
+        handles = λ j h u z e f p. let r = held_there j h u z e f in
+            w.unnamed.handles r.0 h u r.1 r.2 r.3 (private_back u (held_object j h u z e f) p);
         names = λ u h p. w.unnamed.names u h (private_back u (w.slots.roots u (root_from m u (named h))) p);
-        fields = λ t u fields e h p. let o = old_plain t fields e in w.unnamed.fields t u fields o h (private_back u (strong_object m w t u (Plain fields) o h) p);
-        references = λ t u r e f p. let o = old_reference t r e in w.unnamed.references t u r o f (private_back u (referent_object m w t u (Reference r) o f) p);
+        fields = λ t u fields e h p. let o = old_plain t fields e in
+            w.unnamed.fields t u fields o h (private_back u (strong_object m w t u (Plain fields) o h) p);
+        references = λ t u r e f p. let o = old_reference t r e in
+            w.unnamed.references t u r o f (private_back u (referent_object m w t u (Reference r) o f) p);
       }
 
   pub prepared_is_well_formed : IsWellFormed n
@@ -514,11 +566,13 @@ module _ (m : Machine) (k : ℕ) (session : Session) (a b rid : ℕ) (w : IsWell
         resources = resources_kept;
         calls = calls_kept;
         unnamed = unnamed;
-        limits = limits_stay m n w.limits (length-set first b (Some (Cleanable cleanable)) ∙ length-set m.objects a (Some (Guard guard))) (change_as_long m.mutators k (calling (Some a) (CallOpening rid)));
+        limits = limits_stay m n w.limits (length-set first b (Some (Cleanable cleanable)) ∙ length-set m.objects a (Some (Guard guard)))
+            (change_as_long m.mutators k (calling (Some a) (CallOpening rid)));
         faults = w.faults;
         notes = w.notes;
         seen_rising = w.seen_rising;
-        seen_within = seen_stays m.seen m.objects heap w.seen_within (length-set first b (Some (Cleanable cleanable)) ∙ length-set m.objects a (Some (Guard guard)));
+        seen_within = seen_stays m.seen m.objects heap w.seen_within
+            (length-set first b (Some (Cleanable cleanable)) ∙ length-set m.objects a (Some (Guard guard)));
         seen_in_cycle = w.seen_in_cycle;
       }
 
@@ -551,10 +605,12 @@ none_if (Some x) e = absurd (cc e)
 
 room_for_one : (m : Machine) (k : ℕ) (s : Session) → IsSessionAt m k s → not (has_free_handle m k) ≡ false → occupied s.handles ≤ 249
 room_for_one m k s e h =
-    let l = ltb-true (occupied s.handles) 250 (sym (ap (some_and (λ s. nat_lt (occupied s.handles) 250)) e) ∙ not-false (has_free_handle m k) h) in
+    let l = ltb-true (occupied s.handles) 250 (sym (ap (some_and (λ s. nat_lt (occupied s.handles) 250)) e)
+    ∙ not-false (has_free_handle m k) h) in
     omega (arith, l)
 
-prepares_in : (m : Machine) (k rid a b : ℕ) → IsWellFormed m → refusal m (Prepare k) ≡ None → IsTrue (is_none (resource_at m rid)) → AreTwo m.objects a b → IsWellFormed (prepared m k a b rid)
+prepares_in : (m : Machine) (k rid a b : ℕ) → IsWellFormed m → refusal m (Prepare k) ≡ None → IsTrue (is_none (resource_at m rid))
+    → AreTwo m.objects a b → IsWellFormed (prepared m k a b rid)
 prepares_in m k rid a b w r new two =
     let ok = allowed m (Prepare k) r in
     let s = joined_session m k (ok NoSession refl) in
@@ -571,13 +627,16 @@ prepares_in m k rid a b w r new two =
       new_rid = none_if (resource_at m rid) new;
     } in
     subst (λ l. IsWellFormed (with_call (record m {
-      objects = set_at (set_at m.objects a (Guard (record { rid = rid; cleanable = b }))) b (Cleanable (record { referent = Some a; action = m.next_action; work = WorkOn rid; state = Armed }));
+      objects = set_at (set_at m.objects a (Guard (record { rid = rid; cleanable = b }))) b
+          (Cleanable (record { referent = Some a; action = m.next_action; work = WorkOn rid; state = Armed }));
       resources = l;
       next_action = m.next_action + 1;
-    }) k (Some a) (CallOpening rid))) (sym (with_resource-keyed m.resources (record { rid = rid; action = m.next_action; state = Opening })))
+    }) k (Some a) (CallOpening rid))) (sym (with_resource-keyed m.resources
+    (record { rid = rid; action = m.next_action; state = Opening })))
     (prepared_is_well_formed m k s.0 a b rid w x)
 
-pub keeps_prepare : (m : Machine) (k rid : ℕ) (fresh : List ℕ) → IsWellFormed m → refusal m (Prepare k) ≡ None → IsTrue (is_none (resource_at m rid)) → IsFresh m.objects 2 fresh → IsWellFormed (after m (Prepare k) (Prepared rid) fresh)
+pub keeps_prepare : (m : Machine) (k rid : ℕ) (fresh : List ℕ) → IsWellFormed m → refusal m (Prepare k) ≡ None
+    → IsTrue (is_none (resource_at m rid)) → IsFresh m.objects 2 fresh → IsWellFormed (after m (Prepare k) (Prepared rid) fresh)
 keeps_prepare m k rid [] w r new f = absurd (omega (arith, f.count))
 keeps_prepare m k rid (a ∷ []) w r new f = absurd (omega (arith, f.count))
 keeps_prepare m k rid (a ∷ b ∷ []) w r new f = prepares_in m k rid a b w r new (two_fresh m.objects a b f)

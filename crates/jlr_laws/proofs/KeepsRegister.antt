@@ -1,5 +1,6 @@
 -- Register leads from a well-formed machine to a well-formed one.
-use Rattle.std.proofs.Common.{◌≡◌, ℕ, ◌+◌, ◌<◌, Bool, true, false, ◌||◌, List, [], ◌++◌, length, refl, sym, ◌∙◌, ap, subst, ◌⊎◌, inl, inr, arith, Option, Some, None, is_some, IsTrue, option_and_then, option_to_list, count_by}
+use Rattle.std.proofs.Common.{◌≡◌, ℕ, ◌+◌, ◌<◌, Bool, true, false, ◌||◌, List, [], ◌++◌, length, refl, sym, ◌∙◌, ap, subst, ◌⊎◌, inl, inr}
+use Rattle.std.proofs.Common.{arith, Option, Some, None, is_some, IsTrue, option_and_then, option_to_list, count_by}
 use Rattle.std.specs.List.{flat_map}
 use Rattle.std.proofs.lemmas.Bool.{cases_eq, or_parts}
 use Rattle.jlr_types.specs.declared.FieldValue.{FieldValue}
@@ -27,7 +28,9 @@ use Rattle.jlr_machine.specs.Lookups.{job_of, slot_named, on, with_handle, with_
 use Rattle.jlr_machine.specs.Refusals.{refusal, is_any, object, names_no_object, is_wrongly_null, is_of_wrong_kind}
 use Rattle.jlr_machine.specs.Calls.{after, registered}
 use Rattle.jlr_machine.specs.Run.{IsFresh}
-use Rattle.jlr_machine.specs.WellFormed.{IsGuardAt, IsCleanableAt, IsObjectAt, IsFencing, FitsItsCall, IsUnspent, IsWellFormed, AreSlotsNamed, AreReferences, AreLists, AreActions, AreResources, IsPrivate, IsAction, state_at, clean_state_at, is_unspent_place}
+use Rattle.jlr_machine.specs.WellFormed.{IsGuardAt, IsCleanableAt, IsObjectAt, IsFencing, FitsItsCall, IsUnspent, IsWellFormed}
+use Rattle.jlr_machine.specs.WellFormed.{AreSlotsNamed, AreReferences, AreLists, AreActions, AreResources, IsPrivate, IsAction, state_at}
+use Rattle.jlr_machine.specs.WellFormed.{clean_state_at, is_unspent_place}
 use Rattle.jlr_machine.specs.Edges.Chain.{UpToPhantom}
 use Rattle.std.proofs.lemmas.List.{length-set}
 use Rattle.jlr_machine.specs.declared.ask.Ask.TheVariants.{Register}
@@ -116,16 +119,22 @@ module _ (m : Machine) (s note : ℕ) (referent_of : Option ℕ) (w : IsWellForm
   edges_there : (t y : ℕ) → y ∈ edges_from UpToPhantom heap t → IsTrue (is_some (at heap y))
   edges_there t y h = elim (cases_eq t s) [
     | inl p ↦
-        let e : y ∈ (option_to_list referent_of ++ []) = subst (λ o. y ∈ flat_map (edges UpToPhantom) (option_to_list o)) (ap (at heap) p ∙ here) h in
+        let e : y ∈ (option_to_list referent_of ++ []) =
+        subst (λ o. y ∈ flat_map (edges UpToPhantom) (option_to_list o)) (ap (at heap) p ∙ here) h in
         elim referent_of as (λ r. referent_of ≡ r → y ∈ (option_to_list r ++ []) → IsTrue (is_some (at heap y))) [
           | None ↦ λ _ g. nothing y g
-          | Some u ↦ λ q g. elim (in_cons y u [] g) [ inl same ↦ subst (λ i. IsTrue (is_some (at heap i))) (sym same) (alive u (x.referent_there u q)) | inr g ↦ nothing y g ]
+          | Some u ↦ λ q g. elim (in_cons y u [] g) [
+            | inl same ↦
+                subst (λ i. IsTrue (is_some (at heap i))) (sym same) (alive u (x.referent_there u q))
+            | inr g ↦ nothing y g
+          ]
         ] refl e
     | inr d ↦ alive y (w.slots.edges t y (subst (λ o. y ∈ flat_map (edges UpToPhantom) (option_to_list o)) (beside t d) h))
   ]
 
   active_there : (u : ℕ) → is_own_root (at heap u) ≡ true → IsTrue (is_some (at heap u))
-  active_there u h = elim (at heap u) as (λ o. is_own_root o ≡ true → IsTrue (is_some o)) [ None ↦ λ e. absurd (cc e) | Some o ↦ λ _. refl ] h
+  active_there u h =
+      elim (at heap u) as (λ o. is_own_root o ≡ true → IsTrue (is_some o)) [ None ↦ λ e. absurd (cc e) | Some o ↦ λ _. refl ] h
 
   root_there : (u : ℕ) → IsRoot n u → IsTrue (is_some (at heap u))
   root_there u (held j h z e f) = alive u (w.slots.roots u (root_from m u (held j h z e f)))
@@ -148,7 +157,8 @@ module _ (m : Machine) (s note : ℕ) (referent_of : Option ℕ) (w : IsWellForm
   references =
       record {
         states = λ t r e. w.references.states t r (old_reference t r e);
-        members = λ q t members e h. let y = w.references.members q t members (old_queue q members e) h in (y.0, stays t (Reference y.0) y.1, y.2);
+        members = λ q t members e h. let y = w.references.members q t members (old_queue q members e) h in
+            (y.0, stays t (Reference y.0) y.1, y.2);
         once = λ q members e. w.references.once q members (old_queue q members e);
         in_one = λ p q t xs ys e f. w.references.in_one p q t xs ys (old_queue p xs e) (old_queue q ys f);
       }
@@ -195,7 +205,8 @@ module _ (m : Machine) (s note : ℕ) (referent_of : Option ℕ) (w : IsWellForm
           ])
         ];
         lined = λ u e. w.lists.lined u (clean_state_back u Lined (λ z. absurd (cc z)) e);
-        line_others = λ u h. elim (w.lists.line_others u h) [ inl e ↦ inl (clean_state_over u Lined e) | inr e ↦ inr (clean_state_over u Spent e) ];
+        line_others =
+            λ u h. elim (w.lists.line_others u h) [ inl e ↦ inl (clean_state_over u Lined e) | inr e ↦ inr (clean_state_over u Spent e) ];
       }
 
   older : (action : ℕ) → IsAction m action → IsAction n action
@@ -203,13 +214,15 @@ module _ (m : Machine) (s note : ℕ) (referent_of : Option ℕ) (w : IsWellForm
 
   count_one_more : count_by is_unspent_place heap ≡ count_by is_unspent_place m.objects + 1
   count_one_more =
-      let one : ◌≡◌ {A = ℕ} (count_by is_unspent_place heap + 0) (count_by is_unspent_place m.objects + 1) = count_set m.objects s None (Some (Cleanable cleanable)) x.free x.inside in
+      let one : ◌≡◌ {A = ℕ} (count_by is_unspent_place heap + 0) (count_by is_unspent_place m.objects + 1) =
+      count_set m.objects s None (Some (Cleanable cleanable)) x.free x.inside in
       omega (arith, one)
 
   no_new_job : job_of m m.next_action ≡ None
   no_new_job =
       none_found {A = JobOf} (λ j. j.action) m.jobs m.next_action
-      (all_weaker (λ j. IsAction m j.action) (λ j. j.action ≡ m.next_action → ⊥) (λ j h e. absurd (omega (arith, h.1, e))) m.jobs w.actions.of_jobs)
+      (all_weaker (λ j. IsAction m j.action) (λ j. j.action ≡ m.next_action → ⊥) (λ j h e. absurd (omega (arith, h.1, e))) m.jobs
+      w.actions.of_jobs)
 
   not_next : (t : ℕ) (c : CleanableOf) → IsCleanableAt m t c → c.action ≡ m.next_action → ⊥
   not_next t c e p = let h = w.actions.of_cleanables t c e in absurd (omega (arith, h.1, p))
@@ -237,7 +250,8 @@ module _ (m : Machine) (s note : ℕ) (referent_of : Option ℕ) (w : IsWellForm
           | inr y ↦ older c.action (w.actions.of_cleanables u c y)
         ];
         of_jobs = all_weaker (λ j. IsAction m j.action) (λ j. IsAction n j.action) (λ j h. older j.action h) m.jobs w.actions.of_jobs;
-        of_resources = all_weaker (λ r. IsAction m r.action) (λ r. IsAction n r.action) (λ r h. older r.action h) m.resources w.actions.of_resources;
+        of_resources =
+            all_weaker (λ r. IsAction m r.action) (λ r. IsAction n r.action) (λ r h. older r.action h) m.resources w.actions.of_resources;
         of_faults = all_weaker (λ f. IsAction m f.action) (λ f. IsAction n f.action) (λ f h. older f.action h) m.faults w.actions.of_faults;
         referents = λ u c e d. elim (cleanable_cases u c e) [
           | inl y ↦ absurd (d (ap (λ i. i.state) y.1))
@@ -255,14 +269,20 @@ module _ (m : Machine) (s note : ℕ) (referent_of : Option ℕ) (w : IsWellForm
   resources_kept =
       record {
         rising = w.resources.rising;
-        worked = λ r action state h. worker_over m n r action state (cleanable_over r action) (λ z. z) (w.resources.worked r action state h);
-        of_cleanables = λ u r c p e. elim (unspent_cases u c p) [ inl y ↦ absurd (no_work c r y.1 e) | inr y ↦ w.resources.of_cleanables u r c y e ];
+        worked = λ r action state h. worker_over m n r action state (cleanable_over r action) (λ z. z)
+            (w.resources.worked r action state h);
+        of_cleanables =
+            λ u r c p e. elim (unspent_cases u c p) [ inl y ↦ absurd (no_work c r y.1 e) | inr y ↦ w.resources.of_cleanables u r c y e ];
         idle = λ u r c p e d. elim (unspent_cases u c p) [ inl y ↦ absurd (no_work c r y.1 e) | inr y ↦ w.resources.idle u r c y e d ];
         of_jobs = w.resources.of_jobs;
         one_guard = λ u v g h e f p. w.resources.one_guard u v g h (old_guard u g e) (old_guard v h f) p;
         guards = λ u g c e f. elim (cleanable_cases g.cleanable c f) [
           | inl z ↦ absurd (behind u g (old_guard u g e) z.0)
-          | inr z ↦ elim (w.resources.guards u g c (old_guard u g e) z) [ inl v ↦ inl v | inr v ↦ inr (record { armed = v.armed; referent = v.referent; work = v.work }) ]
+          | inr z ↦ elim (w.resources.guards u g c (old_guard u g e) z) [
+            | inl v ↦ inl v
+            | inr v ↦
+                inr (record { armed = v.armed; referent = v.referent; work = v.work })
+          ]
         ];
         guarded = λ u r c e p f. elim (cleanable_cases u c e) [
           | inl y ↦ absurd (no_work c r y.1 f)
@@ -297,7 +317,13 @@ module _ (m : Machine) (s note : ℕ) (referent_of : Option ℕ) (w : IsWellForm
         slots = slots;
         references = references;
         lists = lists;
-        sessions = record { places = w.sessions.places; opening = w.sessions.opening; names = w.sessions.names; names_limit = w.sessions.names_limit };
+        sessions = record {
+          places =
+              w.sessions.places;
+          opening = w.sessions.opening;
+          names = w.sessions.names;
+          names_limit = w.sessions.names_limit;
+        };
         actions = actions_kept;
         resources = resources_kept;
         calls = record {
@@ -336,7 +362,8 @@ module _ (m : Machine) (s note : ℕ) (referent_of : Option ℕ) (w : IsWellForm
 second_false : (a b : Bool) → (a || (b || false)) ≡ false → (b || false) ≡ false
 second_false a b e = (or_parts a (b || false) e).1
 
-pub keeps_register : (m : Machine) (k c h note : ℕ) (a : Answer) (fresh : List ℕ) → IsWellFormed m → refusal m (Register k c h note) ≡ None → IsFresh m.objects 1 fresh → IsWellFormed (after m (Register k c h note) a fresh)
+pub keeps_register : (m : Machine) (k c h note : ℕ) (a : Answer) (fresh : List ℕ) → IsWellFormed m → refusal m (Register k c h note) ≡ None
+    → IsFresh m.objects 1 fresh → IsWellFormed (after m (Register k c h note) a fresh)
 keeps_register m k c h note a fresh w r f =
     let ok = allowed m (Register k c h note) r in
     let o = only_operand m k h is_any w
@@ -349,10 +376,17 @@ keeps_register m k c h note a fresh w r f =
     record {
       inside = one.2;
       free = one.3;
-      referent_there = λ u e. let same : o.0 ≡ u = some_same o.0 u (sym o.3.slot ∙ e) in subst (λ i. IsObjectAt m i) same (ap is_some o.3.there);
+      referent_there = λ u e. let same : o.0 ≡ u = some_same o.0 u (sym o.3.slot ∙ e) in
+          subst (λ i. IsObjectAt m i) same (ap is_some o.3.there);
     } in
-    let n : Machine = record m { objects = set_at m.objects s (Cleanable (record { referent = slot_named m k h; action = m.next_action; work = Note note; state = Armed })); next_action = m.next_action + 1 } in
-    subst (λ o. IsWellFormed (record (on o (λ s. with_handle (with_new m s (registered m k h note)) k s) m) { next_action = m.next_action + 1 })) (sym one.1)
+    let n : Machine = record m {
+      objects = set_at m.objects s
+          (Cleanable (record { referent = slot_named m k h; action = m.next_action; work = Note note; state = Armed }));
+      next_action =
+          m.next_action + 1;
+    } in
+    subst (λ o. IsWellFormed (record (on o (λ s. with_handle (with_new m s (registered m k h note)) k s)
+    m) { next_action = m.next_action + 1 })) (sym one.1)
     (keeps_handle n (registered_is_well_formed m s note (slot_named m k h) w x) k s
     (registered_there m s note (slot_named m k h) w x)
     (registered_shown m s note (slot_named m k h) w x)

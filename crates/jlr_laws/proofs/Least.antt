@@ -44,7 +44,8 @@ module _ (keeps : ℕ → Bool) (heap : Heap) (B kept : List ℕ) (c : IsLeast k
   pub inside_of_least : (s : ℕ) → s ∈ kept → IsReached UpToSoft (only kept heap) B s
   inside_of_least =
       carried_over (IsReached UpToSoft (only kept heap) B)
-      (λ x y r m e. one_edge_more UpToSoft (only kept heap) B x y r (inside_forth UpToSoft heap kept x y m (followed_softly keeps heap x y e)))
+      (λ x y r m e. one_edge_more UpToSoft (only kept heap) B x y r
+      (inside_forth UpToSoft heap kept x y m (followed_softly keeps heap x y e)))
       (at_base UpToSoft (only kept heap) B)
 
   -- ---- A policy that keeps none
@@ -52,8 +53,10 @@ module _ (keeps : ℕ → Bool) (heap : Heap) (B kept : List ℕ) (c : IsLeast k
   pub least_is_strong : ((s : ℕ) → keeps s ≡ false) → (s : ℕ) → s ∈ kept → IsReached Strong heap B s
   least_is_strong none =
       carried_over (IsReached Strong heap B)
-      (λ x y r m e. one_edge_more Strong heap B x y r (edge_gives Strong heap x y (subst (λ b. y ∈ edges_from (cond b UpToSoft Strong) heap x) (none x) e)))
+      (λ x y r m e. one_edge_more Strong heap B x y r
+      (edge_gives Strong heap x y (subst (λ b. y ∈ edges_from (cond b UpToSoft Strong) heap x) (none x) e)))
       (at_base Strong heap B)
 
   pub strong_is_least : (s : ℕ) → IsReached Strong heap B s → s ∈ kept
-  strong_is_least s r = carried Strong heap B (λ s. s ∈ kept) (λ x y m e. closed_strongly x y m (edge_from Strong heap x y e)) c.holds_base s r
+  strong_is_least s r =
+      carried Strong heap B (λ s. s ∈ kept) (λ x y m e. closed_strongly x y m (edge_from Strong heap x y e)) c.holds_base s r

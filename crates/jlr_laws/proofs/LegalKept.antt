@@ -1,5 +1,6 @@
 -- The cases of a legal entry: what is left is well formed where the ask, carried out, leaves a well-formed machine.
-use Rattle.std.proofs.Common.{◌≡◌, ℕ, ◌+◌, Bool, false, not, cond, ◌||◌, List, [], ◌∷◌, ◌++◌, length, refl, sym, ◌∙◌, ap, subst, arith, IsTrue, Some, None, find, is_some}
+use Rattle.std.proofs.Common.{◌≡◌, ℕ, ◌+◌, Bool, false, not, cond, ◌||◌, List, [], ◌∷◌, ◌++◌, length, refl, sym, ◌∙◌, ap, subst, arith}
+use Rattle.std.proofs.Common.{IsTrue, Some, None, find, is_some}
 use Rattle.std.proofs.lemmas.Bool.{both_ways, not-true, le-leb}
 use Rattle.std.proofs.lemmas.List.Sums.{count_by-le-length}
 use Rattle.jlr_types.specs.declared.Refusal.{Refusal}
@@ -22,7 +23,8 @@ use Rattle.jlr_machine.specs.Edges.{roots}
 use Rattle.jlr_machine.specs.Collection.{IsFull, IsBackground, after_collection, left_of}
 use Rattle.jlr_machine.specs.Refusals.{refusal, applies, listed, cells_needed, object, object_or_null, is_any, is_queue, is_of_wrong_kind}
 use Rattle.jlr_machine.specs.Calls.{after}
-use Rattle.jlr_machine.specs.Run.{has_room, MayCollect, with_collection, IsFresh, IsCarriedOut, IsRefused, IsHeapFull, IsOutOfMemory, carried, done, apply}
+use Rattle.jlr_machine.specs.Run.{has_room, MayCollect, with_collection, IsFresh, IsCarriedOut, IsRefused, IsHeapFull, IsOutOfMemory}
+use Rattle.jlr_machine.specs.Run.{carried, done, apply}
 use Rattle.jlr_machine.specs.WellFormed.{IsWellFormed}
 use Rattle.jlr_laws.proofs.Clearing.{in_left}
 use Rattle.jlr_laws.proofs.Empty.{well_formed_within}
@@ -32,13 +34,16 @@ use Rattle.jlr_laws.proofs.SeenKept.{keeps_seen}
 
 -- ---- Collections
 
-pub keeps_full : (m : Machine) → IsWellFormed m → (kept pending : List ℕ) → IsFull m kept pending → IsWellFormed (after_collection m kept pending)
+pub keeps_full : (m : Machine) → IsWellFormed m → (kept pending : List ℕ) → IsFull m kept pending
+    → IsWellFormed (after_collection m kept pending)
 keeps_full m w kept pending c =
     collection_kept m (roots m) kept pending w (is_left m.objects (roots m) kept pending c (well_formed_within m w).edges) (λ s h. h)
 
-pub keeps_background : (m : Machine) → IsWellFormed m → (kept pending : List ℕ) → IsBackground m kept pending → IsWellFormed (after_collection m kept pending)
+pub keeps_background : (m : Machine) → IsWellFormed m → (kept pending : List ℕ) → IsBackground m kept pending
+    → IsWellFormed (after_collection m kept pending)
 keeps_background m w kept pending c =
-    collection_kept m (roots m ++ kept) kept pending w (is_left m.objects (roots m ++ kept) kept pending c.collection (well_formed_within m w).edges) (λ s h. in_left s (roots m) kept h)
+    collection_kept m (roots m ++ kept) kept pending w
+    (is_left m.objects (roots m ++ kept) kept pending c.collection (well_formed_within m w).edges) (λ s h. in_left s (roots m) kept h)
 
 -- ---- An ask that is refused
 
@@ -46,8 +51,10 @@ keeps_background m w kept pending c =
 pub keeps_same : (m : Machine) (e : Entry) → IsWellFormed m → done m e ≡ m → IsWellFormed (apply m e)
 keeps_same m e w same = keeps_seen (done m e) (subst IsWellFormed (sym same) w)
 
-nothing_done : (m : Machine) (e : Entry) (by : Refusal) → e.answer ≡ Refused by → e.choice ≡ record { collected = None; fresh = [] } → done m e ≡ m
-nothing_done m e by a n = ap (λ (c : Chosen). carried (with_collection m c.collected) e.ask e.answer c.fresh) n ∙ ap (λ a. carried m e.ask a []) a
+nothing_done : (m : Machine) (e : Entry) (by : Refusal) → e.answer ≡ Refused by → e.choice ≡ record { collected = None; fresh = [] }
+    → done m e ≡ m
+nothing_done m e by a n = ap (λ (c : Chosen). carried (with_collection m c.collected) e.ask e.answer c.fresh) n
+    ∙ ap (λ a. carried m e.ask a []) a
 
 pub keeps_refused : (m : Machine) (e : Entry) → IsWellFormed m → IsRefused m e → IsWellFormed (apply m e)
 keeps_refused m e w r = keeps_same m e w (nothing_done m e r.by r.answers r.nothing)
@@ -59,13 +66,15 @@ pub keeps_heap_full : (m : Machine) (e : Entry) → IsWellFormed m → IsHeapFul
 keeps_heap_full m e w r =
     let c = r.clearing in
     let same : done m e ≡ after_collection m c.kept c.pending =
-    ap (λ (c : Chosen). carried (with_collection m c.collected) e.ask e.answer c.fresh) r.collects ∙ ap (λ a. carried (after_collection m c.kept c.pending) e.ask a []) r.answers in
+    ap (λ (c : Chosen). carried (with_collection m c.collected) e.ask e.answer c.fresh) r.collects
+    ∙ ap (λ a. carried (after_collection m c.kept c.pending) e.ask a []) r.answers in
     keeps_seen (done m e) (subst IsWellFormed (sym same) (keeps_full m w c.kept c.pending r.full.full))
 
 -- ---- An ask that is carried out
 
 -- whatever the answer
-carried_kept : (n : Machine) (ask : Ask) (a : Answer) (fresh : List ℕ) → IsWellFormed n → IsWellFormed (after n ask a fresh) → IsWellFormed (carried n ask a fresh)
+carried_kept : (n : Machine) (ask : Ask) (a : Answer) (fresh : List ℕ) → IsWellFormed n → IsWellFormed (after n ask a fresh)
+    → IsWellFormed (carried n ask a fresh)
 carried_kept n ask (Refused by) fresh w v = w
 carried_kept n ask a fresh w v = v
 
@@ -74,10 +83,13 @@ entry seat ask answer choice = record { seat = seat; ask = ask; answer = answer;
 
 -- there is always room for no object
 pub no_need : (m : Machine) → IsTrue (not (has_room m 0)) → ⊥
-no_need m h = both_ways (has_room m 0) (not-true (has_room m 0) h) (le-leb (occupied m.objects + 0) (length m.objects) (omega (arith, count_by-le-length is_some m.objects)))
+no_need m h = both_ways (has_room m 0) (not-true (has_room m 0) h)
+    (le-leb (occupied m.objects + 0) (length m.objects) (omega (arith, count_by-le-length is_some m.objects)))
 
 -- no collection comes with an ask that makes no object
-pub keeps_plainly : (m : Machine) → IsWellFormed m → (seat : ℕ) (ask : Ask) (answer : Answer) (choice : Chosen) → IsCarriedOut m (entry seat ask answer choice) → ((c : Collected) → MayCollect m ask (Some c) → ⊥) → ((a : Answer) (fresh : List ℕ) → IsWellFormed (after m ask a fresh)) → IsWellFormed (done m (entry seat ask answer choice))
+pub keeps_plainly : (m : Machine) → IsWellFormed m → (seat : ℕ) (ask : Ask) (answer : Answer) (choice : Chosen)
+    → IsCarriedOut m (entry seat ask answer choice) → ((c : Collected) → MayCollect m ask (Some c) → ⊥)
+    → ((a : Answer) (fresh : List ℕ) → IsWellFormed (after m ask a fresh)) → IsWellFormed (done m (entry seat ask answer choice))
 keeps_plainly m w seat ask answer choice c none kept =
     elim (choice.collected) as (λ o. MayCollect m ask o → IsWellFormed (carried (with_collection m o) ask answer choice.fresh)) [
       | None ↦ λ h. carried_kept m ask answer choice.fresh w (kept answer choice.fresh)
@@ -85,13 +97,16 @@ keeps_plainly m w seat ask answer choice c none kept =
     ] c.collection
 
 -- an ask that makes objects may come after a full collection
-pub keeps_making : (m : Machine) → IsWellFormed m → (seat : ℕ) (ask : Ask) (answer : Answer) (choice : Chosen) → IsCarriedOut m (entry seat ask answer choice)
+pub keeps_making : (m : Machine) → IsWellFormed m → (seat : ℕ) (ask : Ask) (answer : Answer) (choice : Chosen)
+    → IsCarriedOut m (entry seat ask answer choice)
     → ((c : Collected) → MayCollect m ask (Some c) → IsFull m c.kept c.pending)
     → ((c : Collected) → IsFull m c.kept c.pending → refusal (after_collection m c.kept c.pending) ask ≡ refusal m ask)
-    → ((n : Machine) → IsWellFormed n → refusal n ask ≡ None → IsFresh n.objects (cells_needed ask) choice.fresh → IsWellFormed (after n ask answer choice.fresh))
+    → ((n : Machine) → IsWellFormed n → refusal n ask ≡ None → IsFresh n.objects (cells_needed ask) choice.fresh
+    → IsWellFormed (after n ask answer choice.fresh))
     → IsWellFormed (done m (entry seat ask answer choice))
 keeps_making m w seat ask answer choice c full same kept =
-    elim (choice.collected) as (λ o. MayCollect m ask o → IsFresh (with_collection m o).objects (cells_needed ask) choice.fresh → IsWellFormed (carried (with_collection m o) ask answer choice.fresh)) [
+    elim (choice.collected) as (λ o. MayCollect m ask o → IsFresh (with_collection m o).objects (cells_needed ask) choice.fresh
+    → IsWellFormed (carried (with_collection m o) ask answer choice.fresh)) [
       | None ↦ λ h f. carried_kept m ask answer choice.fresh w (kept m w c.allowed f)
       | Some x ↦ λ h f.
           let n = after_collection m x.kept x.pending in
@@ -105,9 +120,11 @@ full_of : (m : Machine) (k : ℕ) (mode : FullMode) (x : Collected) → MayColle
 full_of m k Policy x h = h
 full_of m k ClearAll x h = h.full
 
-pub keeps_Full : (m : Machine) → IsWellFormed m → (seat k : ℕ) (mode : FullMode) (answer : Answer) (choice : Chosen) → IsCarriedOut m (entry seat (Full k mode) answer choice) → IsWellFormed (done m (entry seat (Full k mode) answer choice))
+pub keeps_Full : (m : Machine) → IsWellFormed m → (seat k : ℕ) (mode : FullMode) (answer : Answer) (choice : Chosen)
+    → IsCarriedOut m (entry seat (Full k mode) answer choice) → IsWellFormed (done m (entry seat (Full k mode) answer choice))
 keeps_Full m w seat k mode answer choice c =
-    elim (choice.collected) as (λ o. MayCollect m (Full k mode) o → IsWellFormed (carried (with_collection m o) (Full k mode) answer choice.fresh)) [
+    elim (choice.collected) as (λ o. MayCollect m (Full k mode) o
+    → IsWellFormed (carried (with_collection m o) (Full k mode) answer choice.fresh)) [
       | None ↦ λ h. carried_kept m (Full k mode) answer choice.fresh w w
       | Some x ↦ λ h.
           let n = after_collection m x.kept x.pending in
@@ -115,7 +132,8 @@ keeps_Full m w seat k mode answer choice c =
           carried_kept n (Full k mode) answer choice.fresh v v
     ] c.collection
 
-pub keeps_Collect : (m : Machine) → IsWellFormed m → (seat : ℕ) (answer : Answer) (choice : Chosen) → IsCarriedOut m (entry seat Collect answer choice) → IsWellFormed (done m (entry seat Collect answer choice))
+pub keeps_Collect : (m : Machine) → IsWellFormed m → (seat : ℕ) (answer : Answer) (choice : Chosen)
+    → IsCarriedOut m (entry seat Collect answer choice) → IsWellFormed (done m (entry seat Collect answer choice))
 keeps_Collect m w seat answer choice c =
     elim (choice.collected) as (λ o. MayCollect m Collect o → IsWellFormed (carried (with_collection m o) Collect answer choice.fresh)) [
       | None ↦ λ h. carried_kept m Collect answer choice.fresh w w
@@ -152,13 +170,16 @@ module _ (m : Machine) (w : IsWellFormed m) (kept pending : List ℕ) (c : IsFul
   n = after_collection m kept pending
 
   any_kept : (k h : ℕ) → is_of_wrong_kind n k (object h is_any) ≡ is_of_wrong_kind m k (object h is_any)
-  any_kept k h = wrong_kind_kept m (roots m) kept pending w (is_left m.objects (roots m) kept pending c (well_formed_within m w).edges) (λ s h. h) k (object h is_any) (λ b o. refl)
+  any_kept k h = wrong_kind_kept m (roots m) kept pending w (is_left m.objects (roots m) kept pending c (well_formed_within m w).edges)
+      (λ s h. h) k (object h is_any) (λ b o. refl)
 
   queue_kept : (k h : ℕ) → is_of_wrong_kind n k (object_or_null h is_queue) ≡ is_of_wrong_kind m k (object_or_null h is_queue)
-  queue_kept k h = wrong_kind_kept m (roots m) kept pending w (is_left m.objects (roots m) kept pending c (well_formed_within m w).edges) (λ s h. h) k (object_or_null h is_queue) (λ b o. queue_left kept b o)
+  queue_kept k h = wrong_kind_kept m (roots m) kept pending w (is_left m.objects (roots m) kept pending c (well_formed_within m w).edges)
+      (λ s h. h) k (object_or_null h is_queue) (λ b o. queue_left kept b o)
 
   cleaner_kept : (k h : ℕ) → is_of_wrong_kind n k (object h is_cleaner) ≡ is_of_wrong_kind m k (object h is_cleaner)
-  cleaner_kept k h = wrong_kind_kept m (roots m) kept pending w (is_left m.objects (roots m) kept pending c (well_formed_within m w).edges) (λ s h. h) k (object h is_cleaner) (λ b o. cleaner_left kept b o)
+  cleaner_kept k h = wrong_kind_kept m (roots m) kept pending w (is_left m.objects (roots m) kept pending c (well_formed_within m w).edges)
+      (λ s h. h) k (object h is_cleaner) (λ b o. cleaner_left kept b o)
 
   make_ref_applies : (k : ℕ) (kind : RefKind) (h q : ℕ) (r : Refusal) → applies n (MakeRef k kind h q) r ≡ applies m (MakeRef k kind h q) r
   make_ref_applies k kind h q WrongKind =
@@ -167,7 +188,8 @@ module _ (m : Machine) (w : IsWellFormed m) (kept pending : List ℕ) (c : IsFul
   make_ref_applies k kind h q r = refl
 
   pub make_ref_refusal : (k : ℕ) (kind : RefKind) (h q : ℕ) → refusal n (MakeRef k kind h q) ≡ refusal m (MakeRef k kind h q)
-  make_ref_refusal k kind h q = find_same (applies n (MakeRef k kind h q)) (applies m (MakeRef k kind h q)) (listed (MakeRef k kind h q)) (make_ref_applies k kind h q)
+  make_ref_refusal k kind h q = find_same (applies n (MakeRef k kind h q)) (applies m (MakeRef k kind h q)) (listed (MakeRef k kind h q))
+      (make_ref_applies k kind h q)
 
   register_applies : (k d h note : ℕ) (r : Refusal) → applies n (Register k d h note) r ≡ applies m (Register k d h note) r
   register_applies k d h note WrongKind =
@@ -176,4 +198,5 @@ module _ (m : Machine) (w : IsWellFormed m) (kept pending : List ℕ) (c : IsFul
   register_applies k d h note r = refl
 
   pub register_refusal : (k d h note : ℕ) → refusal n (Register k d h note) ≡ refusal m (Register k d h note)
-  register_refusal k d h note = find_same (applies n (Register k d h note)) (applies m (Register k d h note)) (listed (Register k d h note)) (register_applies k d h note)
+  register_refusal k d h note = find_same (applies n (Register k d h note)) (applies m (Register k d h note)) (listed (Register k d h note))
+      (register_applies k d h note)

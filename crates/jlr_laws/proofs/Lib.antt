@@ -17,6 +17,7 @@ pub mod CleaningKept
 pub mod SessionsKept
 pub mod ObjectsKept
 pub mod Left
+pub mod ObjectLeft
 pub mod CollectionKept
 pub mod SeenKept
 pub mod Allowed

@@ -9,7 +9,8 @@ use Rattle.jlr_machine.specs.declared.machine.Call.{Call}
 use Rattle.jlr_machine.specs.declared.machine.Call.TheVariants.{Free, Opening as CallOpening, Out as CallOut, Job as CallJob}
 use Rattle.jlr_machine.specs.Objects.{◌∈◌, is_rising, is_distinct}
 use Rattle.jlr_machine.specs.Lookups.{same_name}
-use Rattle.jlr_machine.specs.WellFormed.{IsWellFormed, IsObjectAt, IsPrivate, IsUnspent, FitsItsCall, AreResources, state_at, clean_state_at}
+use Rattle.jlr_machine.specs.WellFormed.{IsWellFormed, IsObjectAt, IsPrivate, IsUnspent, FitsItsCall, AreResources, state_at}
+use Rattle.jlr_machine.specs.WellFormed.{clean_state_at}
 use Rattle.std.specs.List.{IsDistinct}
 use Rattle.jlr_machine.specs.declared.machine.Binding.{Binding}
 use Rattle.jlr_laws.proofs.Frames.{IsRoot, root_gives, root_from, limits_stay}
@@ -31,7 +32,8 @@ pub record IsListed (m : Machine) (names : List Binding) (pending line : List �
   pub seen_within : (s : ℕ) → s ∈ seen → s < length m.objects
   pub seen_in_cycle : cycle_open ≡ false → seen ≡ []
 
-module _ (m : Machine) (names : List Binding) (pending line : List ℕ) (cycle_open : Bool) (seen : List ℕ) (w : IsWellFormed m) (x : IsListed m names pending line cycle_open seen) where
+module _ (m : Machine) (names : List Binding) (pending line : List ℕ) (cycle_open : Bool) (seen : List ℕ) (w : IsWellFormed m)
+    (x : IsListed m names pending line cycle_open seen) where
   abbrev n : Machine
   n = record m { names = names; pending = pending; line = line; cycle_open = cycle_open; seen = seen }
 
@@ -57,12 +59,17 @@ module _ (m : Machine) (names : List Binding) (pending line : List ℕ) (cycle_o
   resources_kept =
       record {
         rising = w.resources.rising;
-        worked = λ rid action state h. worker_over m n rid action state (cleanable_over rid action) (λ z. z) (w.resources.worked rid action state h);
+        worked = λ rid action state h. worker_over m n rid action state (cleanable_over rid action) (λ z. z)
+            (w.resources.worked rid action state h);
         of_cleanables = λ s rid c u e. w.resources.of_cleanables s rid c (unspent_back s c u) e;
         idle = λ s rid c u e a. w.resources.idle s rid c (unspent_back s c u) e a;
         of_jobs = w.resources.of_jobs;
         one_guard = w.resources.one_guard;
-        guards = λ s g c e f. elim (w.resources.guards s g c e f) [ inl y ↦ inl y | inr y ↦ inr (record { armed = y.armed; referent = y.referent; work = y.work }) ];
+        guards = λ s g c e f. elim (w.resources.guards s g c e f) [
+          | inl y ↦ inl y
+          | inr y ↦
+              inr (record { armed = y.armed; referent = y.referent; work = y.work })
+        ];
         guarded = w.resources.guarded;
       }
 
@@ -75,8 +82,15 @@ module _ (m : Machine) (names : List Binding) (pending line : List ℕ) (cycle_o
   pub listed_is_well_formed : IsWellFormed n
   listed_is_well_formed =
       record {
-        slots = record { edges = w.slots.edges; roots = λ s h. root_there s (root_gives n s h); queues = w.slots.queues; guarded = w.slots.guarded };
-        references = record { states = w.references.states; members = w.references.members; once = w.references.once; in_one = w.references.in_one };
+        slots = record {
+          edges =
+              w.slots.edges;
+          roots = λ s h. root_there s (root_gives n s h);
+          queues = w.slots.queues;
+          guarded = w.slots.guarded;
+        };
+        references =
+            record { states = w.references.states; members = w.references.members; once = w.references.once; in_one = w.references.in_one };
         lists = record {
           pending_once = x.pending_once;
           line_once = x.line_once;
@@ -86,7 +100,13 @@ module _ (m : Machine) (names : List Binding) (pending line : List ℕ) (cycle_o
           lined = x.lined;
           line_others = λ s h. w.lists.line_others s (x.line_less s h);
         };
-        sessions = record { places = w.sessions.places; opening = w.sessions.opening; names = x.names_distinct; names_limit = x.names_limit };
+        sessions = record {
+          places =
+              w.sessions.places;
+          opening = w.sessions.opening;
+          names = x.names_distinct;
+          names_limit = x.names_limit;
+        };
         actions = record {
           cleanables = λ s t c d p q. w.actions.cleanables s t c d (unspent_back s c p) (unspent_back t d q);
           apart = λ s c p. w.actions.apart s c (unspent_back s c p);

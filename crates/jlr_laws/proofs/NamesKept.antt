@@ -1,5 +1,6 @@
 -- Names bound, found and unbound leave a well-formed machine.
-use Rattle.std.proofs.Common.{◌≡◌, ℕ, suc, ◌+◌, ◌≤◌, Bool, true, false, cond, not, ◌&&◌, List, [], ◌∷◌, length, refl, sym, ◌∙◌, ap, subst, ◌⊎◌, inl, inr, arith, Some, None, option_map, is_none, find, map, nat_eq, nat_le}
+use Rattle.std.proofs.Common.{◌≡◌, ℕ, suc, ◌+◌, ◌≤◌, Bool, true, false, cond, not, ◌&&◌, List, [], ◌∷◌, length, refl, sym, ◌∙◌, ap, subst}
+use Rattle.std.proofs.Common.{◌⊎◌, inl, inr, arith, Some, None, option_map, is_none, find, map, nat_eq, nat_le}
 use Rattle.std.specs.List.{IsDistinct, AllByRecursion}
 use Rattle.std.proofs.lemmas.Bool.{both_ways, and_parts, eqb-true, le-leb, cases_lt}
 use Rattle.jlr_types.specs.declared.Refusal.TheVariants.{Busy, NamesFull, NoHandle, Null}
@@ -18,7 +19,8 @@ use Rattle.jlr_machine.specs.Calls.{after}
 use Rattle.jlr_machine.specs.Run.{IsFresh}
 use Rattle.jlr_machine.specs.WellFormed.{IsWellFormed, IsObjectAt, IsUnspent, HasWorker}
 use Rattle.jlr_laws.proofs.Sets.{nothing, in_front, in_rest, in_cons}
-use Rattle.jlr_laws.proofs.Frames.{no_some, some_same, IsRoot, held, fencing, named, waiting, lining, active, root_gives, root_from, limits_stay}
+use Rattle.jlr_laws.proofs.Frames.{no_some, some_same, IsRoot, held, fencing, named, waiting, lining, active, root_gives, root_from}
+use Rattle.jlr_laws.proofs.Frames.{limits_stay}
 use Rattle.jlr_laws.proofs.SessionsKept.{keeps_given, held_object}
 use Rattle.jlr_laws.proofs.Allowed.{allowed, only_operand, free_session, any_fits}
 use Rattle.jlr_laws.proofs.Fits.{Shown, edge_split, fresh_one, keeps_made}
@@ -43,24 +45,29 @@ keys names = map key names
 abbrev slots : List Binding → List ℕ
 slots names = map (λ b. b.slot) names
 
-all_bound : (P : List ℕ → Type 0) (names : List Binding) (name : List ℕ) (s : ℕ) → AllByRecursion P (keys names) → P name → AllByRecursion P (keys (bound names name s))
+all_bound : (P : List ℕ → Type 0) (names : List Binding) (name : List ℕ) (s : ℕ) → AllByRecursion P (keys names) → P name
+    → AllByRecursion P (keys (bound names name s))
 all_bound P [] name s h p = (p, tt)
 all_bound P (b ∷ names) name s h p =
-    elim (same_name b.name name) as (λ c. AllByRecursion P (keys (cond c (record { name = name; slot = s } ∷ names) (b ∷ bound names name s)))) [
+    elim (same_name b.name name) as (λ c. AllByRecursion P
+    (keys (cond c (record { name = name; slot = s } ∷ names) (b ∷ bound names name s)))) [
       | true ↦ (p, h.1)
       | false ↦ (h.0, all_bound P names name s h.1 p)
     ]
 
-distinct_bound : (names : List Binding) (name : List ℕ) (s : ℕ) → IsDistinct same_name (keys names) → IsDistinct same_name (keys (bound names name s))
+distinct_bound : (names : List Binding) (name : List ℕ) (s : ℕ) → IsDistinct same_name (keys names)
+    → IsDistinct same_name (keys (bound names name s))
 unfolding IsDistinct
 distinct_bound [] name s d = (tt, tt)
 distinct_bound (b ∷ names) name s d =
-    elim (same_name b.name name) as (λ c. same_name b.name name ≡ c → IsDistinct same_name (keys (cond c (record { name = name; slot = s } ∷ names) (b ∷ bound names name s)))) [
+    elim (same_name b.name name) as (λ c. same_name b.name name ≡ c
+    → IsDistinct same_name (keys (cond c (record { name = name; slot = s } ∷ names) (b ∷ bound names name s)))) [
       | true ↦ λ e. subst (λ x. IsDistinct same_name (x ∷ keys names)) (same_is b.name name e) d
       | false ↦ λ e. (all_bound (λ y. same_name b.name y ≡ false) names name s d.0 e, distinct_bound names name s d.1)
     ] refl
 
-all_unbound : (P : List ℕ → Type 0) (names : List Binding) (name : List ℕ) → AllByRecursion P (keys names) → AllByRecursion P (keys (unbound names name))
+all_unbound : (P : List ℕ → Type 0) (names : List Binding) (name : List ℕ) → AllByRecursion P (keys names)
+    → AllByRecursion P (keys (unbound names name))
 all_unbound P [] name h = tt
 all_unbound P (b ∷ names) name h =
     elim (not (same_name b.name name)) as (λ c. AllByRecursion P (keys (cond c (b ∷ unbound names name) (unbound names name)))) [
@@ -68,7 +75,8 @@ all_unbound P (b ∷ names) name h =
       | false ↦ all_unbound P names name h.1
     ]
 
-distinct_unbound : (names : List Binding) (name : List ℕ) → IsDistinct same_name (keys names) → IsDistinct same_name (keys (unbound names name))
+distinct_unbound : (names : List Binding) (name : List ℕ) → IsDistinct same_name (keys names)
+    → IsDistinct same_name (keys (unbound names name))
 unfolding IsDistinct
 distinct_unbound [] name d = tt
 distinct_unbound (b ∷ names) name d =
@@ -81,19 +89,26 @@ length_unbound : (names : List Binding) (name : List ℕ) → length (unbound na
 length_unbound [] name = omega arith
 length_unbound (b ∷ names) name =
     let rest = length_unbound names name in
-    elim (not (same_name b.name name)) as (λ c. length (cond c (b ∷ unbound names name) (unbound names name)) ≤ suc (length names)) [ true ↦ omega (arith, rest) | false ↦ omega (arith, rest) ]
+    elim (not (same_name b.name name)) as (λ c. length (cond c (b ∷ unbound names name) (unbound names name)) ≤ suc (length names)) [
+      | true ↦
+          omega (arith, rest)
+      | false ↦ omega (arith, rest)
+    ]
 
 length_bound : (names : List Binding) (name : List ℕ) (s : ℕ) → length (bound names name s) ≤ length names + 1
 length_bound [] name s = omega arith
 length_bound (b ∷ names) name s =
     let rest = length_bound names name s in
-    elim (same_name b.name name) as (λ c. length (cond c (record { name = name; slot = s } ∷ names) (b ∷ bound names name s)) ≤ suc (length names) + 1) [ true ↦ omega arith | false ↦ omega (arith, rest) ]
+    elim (same_name b.name name) as (λ c. length (cond c (record { name = name; slot = s } ∷ names) (b ∷ bound names name s)) ≤ suc
+    (length names) + 1) [ true ↦ omega arith | false ↦ omega (arith, rest) ]
 
 -- an old name keeps its place
-length_rebound : (names : List Binding) (name : List ℕ) (s : ℕ) → is_none (slot_bound names name) ≡ false → length (bound names name s) ≤ length names
+length_rebound : (names : List Binding) (name : List ℕ) (s : ℕ) → is_none (slot_bound names name) ≡ false
+    → length (bound names name s) ≤ length names
 length_rebound [] name s e = absurd (cc e)
 length_rebound (b ∷ names) name s e =
-    elim (same_name b.name name) as (λ c. is_none (option_map (λ b. b.slot) (cond c (Some b) (find (λ b. same_name b.name name) names))) ≡ false → length (cond c (record { name = name; slot = s } ∷ names) (b ∷ bound names name s)) ≤ suc (length names)) [
+    elim (same_name b.name name) as (λ c. is_none (option_map (λ b. b.slot) (cond c (Some b) (find (λ b. same_name b.name name) names)))
+    ≡ false → length (cond c (record { name = name; slot = s } ∷ names) (b ∷ bound names name s)) ≤ suc (length names)) [
       | true ↦ λ e. omega arith
       | false ↦ λ e. omega (arith, length_rebound names name s e)
     ] e
@@ -101,7 +116,8 @@ length_rebound (b ∷ names) name s e =
 slots_bound : (names : List Binding) (name : List ℕ) (s x : ℕ) → x ∈ slots (bound names name s) → (x ≡ s) ⊎ (x ∈ slots names)
 slots_bound [] name s x h = elim (in_cons x s [] h) [ inl e ↦ inl e | inr h ↦ nothing x h ]
 slots_bound (b ∷ names) name s x h =
-    elim (same_name b.name name) as (λ c. x ∈ slots (cond c (record { name = name; slot = s } ∷ names) (b ∷ bound names name s)) → (x ≡ s) ⊎ (x ∈ slots (b ∷ names))) [
+    elim (same_name b.name name) as (λ c. x ∈ slots (cond c (record { name = name; slot = s } ∷ names) (b ∷ bound names name s)) → (x ≡ s)
+    ⊎ (x ∈ slots (b ∷ names))) [
       | true ↦ λ h. elim (in_cons x s (slots names) h) [ inl e ↦ inl e | inr h ↦ inr (in_rest x b.slot (slots names) h) ]
       | false ↦ λ h. elim (in_cons x b.slot (slots (bound names name s)) h) [
         | inl e ↦ inr (in_front x b.slot (slots names) e)
@@ -113,14 +129,19 @@ slots_unbound : (names : List Binding) (name : List ℕ) (x : ℕ) → x ∈ slo
 slots_unbound [] name x h = h
 slots_unbound (b ∷ names) name x h =
     elim (not (same_name b.name name)) as (λ c. x ∈ slots (cond c (b ∷ unbound names name) (unbound names name)) → x ∈ slots (b ∷ names)) [
-      | true ↦ λ h. elim (in_cons x b.slot (slots (unbound names name)) h) [ inl e ↦ in_front x b.slot (slots names) e | inr h ↦ in_rest x b.slot (slots names) (slots_unbound names name x h) ]
+      | true ↦ λ h. elim (in_cons x b.slot (slots (unbound names name)) h) [
+        | inl e ↦ in_front x b.slot (slots names) e
+        | inr h ↦
+            in_rest x b.slot (slots names) (slots_unbound names name x h)
+      ]
       | false ↦ λ h. in_rest x b.slot (slots names) (slots_unbound names name x h)
     ] h
 
 slot_in_names : (names : List Binding) (name : List ℕ) (x : ℕ) → slot_bound names name ≡ Some x → x ∈ slots names
 slot_in_names [] name x e = no_some x e
 slot_in_names (b ∷ names) name x e =
-    elim (same_name b.name name) as (λ c. option_map (λ b. b.slot) (cond c (Some b) (find (λ b. same_name b.name name) names)) ≡ Some x → x ∈ slots (b ∷ names)) [
+    elim (same_name b.name name) as (λ c. option_map (λ b. b.slot) (cond c (Some b) (find (λ b. same_name b.name name) names)) ≡ Some x
+    → x ∈ slots (b ∷ names)) [
       | true ↦ λ e. in_front x b.slot (slots names) (sym (some_same b.slot x e))
       | false ↦ λ e. in_rest x b.slot (slots names) (slot_in_names names name x e)
     ] e
@@ -155,8 +176,15 @@ module _ (m : Machine) (new : List Binding) (w : IsWellFormed m) where
   with_names shown distinct limit =
       let root : (s : ℕ) → IsRoot n s → IsObjectAt m s = λ s r. roots_named s shown r in
       record {
-        slots = record { edges = w.slots.edges; roots = λ s h. root s (root_gives n s h); queues = w.slots.queues; guarded = w.slots.guarded };
-        references = record { states = w.references.states; members = w.references.members; once = w.references.once; in_one = w.references.in_one };
+        slots = record {
+          edges =
+              w.slots.edges;
+          roots = λ s h. root s (root_gives n s h);
+          queues = w.slots.queues;
+          guarded = w.slots.guarded;
+        };
+        references =
+            record { states = w.references.states; members = w.references.members; once = w.references.once; in_one = w.references.in_one };
         lists = record {
           pending_once = w.lists.pending_once;
           line_once = w.lists.line_once;
@@ -193,8 +221,21 @@ module _ (m : Machine) (new : List Binding) (w : IsWellFormed m) where
           ];
           guarded = w.resources.guarded;
         };
-        calls = record { calls = w.calls.calls; opening = w.calls.opening; out = w.calls.out; one_call = w.calls.one_call; jobs = w.calls.jobs };
-        unnamed = record { handles = w.unnamed.handles; names = λ s h. (shown s h).1; fields = w.unnamed.fields; references = w.unnamed.references };
+        calls = record {
+          calls =
+              w.calls.calls;
+          opening = w.calls.opening;
+          out = w.calls.out;
+          one_call = w.calls.one_call;
+          jobs = w.calls.jobs;
+        };
+        unnamed = record {
+          handles =
+              w.unnamed.handles;
+          names = λ s h. (shown s h).1;
+          fields = w.unnamed.fields;
+          references = w.unnamed.references;
+        };
         limits = limits_stay m n w.limits refl refl;
         faults = w.faults;
         notes = w.notes;
@@ -209,7 +250,8 @@ named_shown m w x h = (w.slots.roots x (root_from m x (named h)), w.unnamed.name
 
 -- ---- The asks
 
-names_fit : (found full : Bool) (names : List Binding) (name : List ℕ) (s : ℕ) → is_none (slot_bound names name) ≡ found → nat_le 256 (length names) ≡ full → (found && full) ≡ false → length names ≤ 256 → length (bound names name s) ≤ 256
+names_fit : (found full : Bool) (names : List Binding) (name : List ℕ) (s : ℕ) → is_none (slot_bound names name) ≡ found
+    → nat_le 256 (length names) ≡ full → (found && full) ≡ false → length names ≤ 256 → length (bound names name s) ≤ 256
 names_fit true true names name s e f h l = absurd (cc h)
 names_fit true false names name s e f h l = elim (cases_lt (length names) 256) [
   | inl below ↦ omega (arith, length_bound names name s, below)
@@ -217,7 +259,8 @@ names_fit true false names name s e f h l = elim (cases_lt (length names) 256) [
 ]
 names_fit false full names name s e f h l = omega (arith, length_rebound names name s e, l)
 
-pub keeps_Bind : (m : Machine) → IsWellFormed m → (k : ℕ) (name : List ℕ) (h : ℕ) → refusal m (Bind k name h) ≡ None → (a : Answer) (fresh : List ℕ) → IsWellFormed (after m (Bind k name h) a fresh)
+pub keeps_Bind : (m : Machine) → IsWellFormed m → (k : ℕ) (name : List ℕ) (h : ℕ) → refusal m (Bind k name h) ≡ None
+    → (a : Answer) (fresh : List ℕ) → IsWellFormed (after m (Bind k name h) a fresh)
 keeps_Bind m w k name h no_refusal a fresh =
     let ok = allowed m (Bind k name h) no_refusal in
     let o = only_operand m k h is_any w (ok NoHandle refl) (ok Null refl) (any_fits (object_named m k h)) in
@@ -229,17 +272,23 @@ keeps_Bind m w k name h no_refusal a fresh =
       | inr g ↦ named_shown m w x g
     ])
     (distinct_bound m.names name s w.sessions.names)
-    (names_fit (is_none (slot_bound m.names name)) (nat_le 256 (length m.names)) m.names name s refl refl (ok NamesFull refl) w.sessions.names_limit))
+    (names_fit (is_none (slot_bound m.names name)) (nat_le 256 (length m.names)) m.names name s refl refl (ok NamesFull refl)
+    w.sessions.names_limit))
 
-pub keeps_Unbind : (m : Machine) → IsWellFormed m → (k : ℕ) (name : List ℕ) (a : Answer) (fresh : List ℕ) → IsWellFormed (after m (Unbind k name) a fresh)
+pub keeps_Unbind : (m : Machine) → IsWellFormed m → (k : ℕ) (name : List ℕ) (a : Answer) (fresh : List ℕ)
+    → IsWellFormed (after m (Unbind k name) a fresh)
 keeps_Unbind m w k name a fresh =
-    with_names m (unbound m.names name) w (λ x g. named_shown m w x (slots_unbound m.names name x g)) (distinct_unbound m.names name w.sessions.names) (omega (arith, length_unbound m.names name, w.sessions.names_limit))
+    with_names m (unbound m.names name) w (λ x g. named_shown m w x (slots_unbound m.names name x g))
+    (distinct_unbound m.names name w.sessions.names) (omega (arith, length_unbound m.names name, w.sessions.names_limit))
 
-pub keeps_Find : (m : Machine) → IsWellFormed m → (k : ℕ) (name : List ℕ) → refusal m (Find k name) ≡ None → (a : Answer) (fresh : List ℕ) → IsWellFormed (after m (Find k name) a fresh)
+pub keeps_Find : (m : Machine) → IsWellFormed m → (k : ℕ) (name : List ℕ) → refusal m (Find k name) ≡ None → (a : Answer) (fresh : List ℕ)
+    → IsWellFormed (after m (Find k name) a fresh)
 keeps_Find m w k name no_refusal a fresh =
-    keeps_given m w k (slot_bound m.names name) (λ x e. named_shown m w x (slot_in_names m.names name x e)) (λ s e. free_session m k s e (allowed m (Find k name) no_refusal Busy refl))
+    keeps_given m w k (slot_bound m.names name) (λ x e. named_shown m w x (slot_in_names m.names name x e))
+    (λ s e. free_session m k s e (allowed m (Find k name) no_refusal Busy refl))
 
-pub keeps_MakeCleaner : (m : Machine) → IsWellFormed m → (k : ℕ) → refusal m (MakeCleaner k) ≡ None → (a : Answer) (fresh : List ℕ) → IsFresh m.objects 1 fresh → IsWellFormed (after m (MakeCleaner k) a fresh)
+pub keeps_MakeCleaner : (m : Machine) → IsWellFormed m → (k : ℕ) → refusal m (MakeCleaner k) ≡ None → (a : Answer) (fresh : List ℕ)
+    → IsFresh m.objects 1 fresh → IsWellFormed (after m (MakeCleaner k) a fresh)
 keeps_MakeCleaner m w k no_refusal a fresh f =
     let s = fresh_one m.objects fresh f in
     subst (λ o. IsWellFormed (on o (λ s. with_handle (with_new m s Cleaner) k s) m)) (sym s.1)

@@ -1,5 +1,6 @@
 -- Well-formedness survives one new object in place of none, or of another that is no cleanable and no guard.
-use Rattle.std.proofs.Common.{◌≡◌, ℕ, suc, ◌+◌, ◌<◌, Bool, cond, not, List, [], ◌∷◌, length, refl, sym, ◌∙◌, ap, subst, ◌⊎◌, inl, inr, arith, IsTrue, Option, Some, None, option_and_then, option_to_list, is_some, count_by, filter_map}
+use Rattle.std.proofs.Common.{◌≡◌, ℕ, suc, ◌+◌, ◌<◌, Bool, cond, not, List, [], ◌∷◌, length, refl, sym, ◌∙◌, ap, subst, ◌⊎◌, inl, inr}
+use Rattle.std.proofs.Common.{arith, IsTrue, Option, Some, None, option_and_then, option_to_list, is_some, count_by, filter_map}
 use Rattle.std.specs.List.{flat_map}
 use Rattle.std.proofs.lemmas.Bool.{cases_eq}
 use Rattle.std.proofs.lemmas.List.{length-set}
@@ -18,19 +19,23 @@ use Rattle.jlr_machine.specs.declared.machine.Session.{Session}
 use Rattle.jlr_machine.specs.declared.machine.Call.{Call}
 use Rattle.jlr_machine.specs.declared.machine.Call.TheVariants.{Free, Opening as CallOpening, Out as CallOut, Job as CallJob}
 use Rattle.jlr_machine.specs.declared.machine.ResourceState.TheVariants.{Opening, Out}
-use Rattle.jlr_machine.specs.Objects.{Table, Heap, at, set_at, ◌∈◌, is_distinct, some_and, as_fields, as_reference, as_members, as_cleanable, as_guard, is_spent}
+use Rattle.jlr_machine.specs.Objects.{Table, Heap, at, set_at, ◌∈◌, is_distinct, some_and, as_fields, as_reference, as_members}
+use Rattle.jlr_machine.specs.Objects.{as_cleanable, as_guard, is_spent}
 use Rattle.jlr_machine.specs.Edges.{edges, edges_from, slots_in, is_own_root, is_active}
 use Rattle.jlr_machine.specs.Lookups.{with_new}
-use Rattle.jlr_machine.specs.WellFormed.{IsObjectAt, IsReferenceAt, IsQueueAt, IsWellFormed, FitsItsState, FitsItsCall, IsPrivate, state_at, clean_state_at, is_unspent_place}
+use Rattle.jlr_machine.specs.WellFormed.{IsObjectAt, IsReferenceAt, IsQueueAt, IsWellFormed, FitsItsState, FitsItsCall, IsPrivate, state_at}
+use Rattle.jlr_machine.specs.WellFormed.{clean_state_at, is_unspent_place}
 use Rattle.jlr_machine.specs.Edges.Chain.{UpToPhantom}
 use Rattle.jlr_laws.proofs.Sets.{nothing}
 use Rattle.jlr_laws.proofs.Clearing.{in_append}
-use Rattle.jlr_laws.proofs.Frames.{no_some, some_same, set_same, set_other, set_cases, IsRoot, held, fencing, named, waiting, lining, active, root_gives, root_from, limits_stay, seen_stays}
+use Rattle.jlr_laws.proofs.Frames.{no_some, some_same, set_same, set_other, set_cases, IsRoot, held, fencing, named, waiting, lining}
+use Rattle.jlr_laws.proofs.Frames.{active, root_gives, root_from, limits_stay, seen_stays}
 use Rattle.jlr_laws.proofs.CleaningKept.{cleanable_forth, guard_back, fencing_forth, private_back, actions_kept, resources_kept}
 
 -- ---- Counts
 
-pub count_pointwise : {A : Type 0} (p : Option A → Bool) (xs ys : Table A) → length xs ≡ length ys → ((i : ℕ) → p (at xs i) ≡ p (at ys i)) → count_by p xs ≡ count_by p ys
+pub count_pointwise : {A : Type 0} (p : Option A → Bool) (xs ys : Table A) → length xs ≡ length ys → ((i : ℕ) → p (at xs i) ≡ p (at ys i))
+    → count_by p xs ≡ count_by p ys
 count_pointwise p [] [] e h = refl
 count_pointwise p [] (y ∷ ys) e h = absurd (omega (arith, e))
 count_pointwise p (x ∷ xs) [] e h = absurd (omega (arith, e))
@@ -51,7 +56,8 @@ holds_as (Some Cleaner) = refl
 holds_as (Some (Cleanable c)) = refl
 holds_as (Some (Guard g)) = refl
 
-pub state_there : (o : Option ReferenceOf) (st : RefState) → option_and_then (λ r. Some r.state) o ≡ Some st → (r : ReferenceOf) × (o ≡ Some r) × (r.state ≡ st)
+pub state_there : (o : Option ReferenceOf) (st : RefState) → option_and_then (λ r. Some r.state) o ≡ Some st → (r : ReferenceOf)
+    × (o ≡ Some r) × (r.state ≡ st)
 state_there None st e = no_some st e
 state_there (Some r) st e = (r, refl, some_same r.state st e)
 
@@ -72,14 +78,16 @@ pub record IsFit (m : Machine) (s : ℕ) (o : Object) : Type 0 where
   -- a queue stays one, and a member of a queue a Queued reference
   pub queue_stays : (xs : List ℕ) → IsQueueAt m s xs → (ys : List ℕ) × (o ≡ Queue ys)
   pub queued_stays : (q : ℕ) (xs : List ℕ) → IsQueueAt m q xs → s ∈ xs → (r : ReferenceOf) × (o ≡ Reference r) × (r.state ≡ Queued)
-  pub pending_stays : s ∈ m.pending → (r : ReferenceOf) × (o ≡ Reference r) × ((r.state ≡ Pending) ⊎ ((r.state ≡ Queued) ⊎ (r.state ≡ Removed)))
+  pub pending_stays : s ∈ m.pending → (r : ReferenceOf) × (o ≡ Reference r)
+      × ((r.state ≡ Pending) ⊎ ((r.state ≡ Queued) ⊎ (r.state ≡ Removed)))
   -- as a reference
   pub queue_fits : (q : ℕ) (r : ReferenceOf) → as_reference o ≡ Some r → r.queue ≡ Some q → (xs : List ℕ) × IsQueueAt m q xs
   pub state_fits : (r : ReferenceOf) → as_reference o ≡ Some r → FitsItsState r r.state
   pub pending_there : (r : ReferenceOf) → as_reference o ≡ Some r → r.state ≡ Pending → s ∈ m.pending
   pub public_referent : (x : ℕ) (r : ReferenceOf) → as_reference o ≡ Some r → r.referent ≡ Some x → ¬ (IsPrivate m x)
   -- as a queue
-  pub members : (t : ℕ) (xs : List ℕ) → as_members o ≡ Some xs → t ∈ xs → (t ≡ s → ⊥) × ((r : ReferenceOf) × IsReferenceAt m t r × (r.state ≡ Queued))
+  pub members : (t : ℕ) (xs : List ℕ) → as_members o ≡ Some xs → t ∈ xs → (t ≡ s → ⊥)
+      × ((r : ReferenceOf) × IsReferenceAt m t r × (r.state ≡ Queued))
   pub once : (xs : List ℕ) → as_members o ≡ Some xs → IsTrue (is_distinct xs)
   pub in_one : (t p : ℕ) (xs ys : List ℕ) → as_members o ≡ Some xs → t ∈ xs → IsQueueAt m p ys → t ∈ ys → p ≡ s
   -- as a plain object
@@ -102,7 +110,8 @@ module _ (m : Machine) (s : ℕ) (o : Object) (w : IsWellFormed m) (f : IsFit m 
   elsewhere t d = set_other m.objects s t (Some o) d
 
   -- a view of objects that is the same at s is the same everywhere
-  same_view : {A : Type 0} (view : Option Object → A) → view (Some o) ≡ view (at m.objects s) → (t : ℕ) → view (at heap t) ≡ view (at m.objects t)
+  same_view : {A : Type 0} (view : Option Object → A) → view (Some o) ≡ view (at m.objects s) → (t : ℕ)
+      → view (at heap t) ≡ view (at m.objects t)
   same_view view e t = elim (cases_eq t s) [
     | inl same ↦ subst (λ t. view (at heap t) ≡ view (at m.objects t)) (sym same) (ap view here ∙ e)
     | inr other ↦ ap view (elsewhere t other)
@@ -140,7 +149,8 @@ module _ (m : Machine) (s : ℕ) (o : Object) (w : IsWellFormed m) (f : IsFit m 
           | inl h ↦ objects_stay x (f.edges x h)
           | inr h ↦ nothing x h
         ]
-    | inr other ↦ objects_stay x (w.slots.edges t x (subst (λ o. x ∈ flat_map (edges UpToPhantom) (option_to_list o)) (elsewhere t other) h))
+    | inr other ↦
+        objects_stay x (w.slots.edges t x (subst (λ o. x ∈ flat_map (edges UpToPhantom) (option_to_list o)) (elsewhere t other) h))
   ]
 
   old_root : (t : ℕ) → IsRoot n t → IsRoot m t
@@ -158,7 +168,8 @@ module _ (m : Machine) (s : ℕ) (o : Object) (w : IsWellFormed m) (f : IsFit m 
   ]
 
   -- a Queued reference elsewhere stays where it is
-  member_forth : (t : ℕ) → (t ≡ s → ⊥) → (r : ReferenceOf) × IsReferenceAt m t r × (r.state ≡ Queued) → (r : ReferenceOf) × IsReferenceAt n t r × (r.state ≡ Queued)
+  member_forth : (t : ℕ) → (t ≡ s → ⊥) → (r : ReferenceOf) × IsReferenceAt m t r × (r.state ≡ Queued) → (r : ReferenceOf)
+      × IsReferenceAt n t r × (r.state ≡ Queued)
   member_forth t d r = (r.0, elsewhere t d ∙ r.1, r.2)
 
   old_member : (q t : ℕ) (xs : List ℕ) → IsQueueAt m q xs → t ∈ xs → (r : ReferenceOf) × IsReferenceAt n t r × (r.state ≡ Queued)
@@ -206,13 +217,15 @@ module _ (m : Machine) (s : ℕ) (o : Object) (w : IsWellFormed m) (f : IsFit m 
   pending_kind t h = elim (cases_eq t s) [
     | inl same ↦
         let r = f.pending_stays (subst (λ t. t ∈ m.pending) same h) in
-        let e : state_at n t ≡ Some r.0.state = ap (state_at n) same ∙ state_here ∙ ap (λ o. option_and_then (λ r. Some r.state) (as_reference o)) r.1 in
+        let e : state_at n t ≡ Some r.0.state = ap (state_at n) same ∙ state_here
+        ∙ ap (λ o. option_and_then (λ r. Some r.state) (as_reference o)) r.1 in
         elim r.2 [
           | inl p ↦ inl (e ∙ ap (λ s. Some s) p)
           | inr (inl p) ↦ inr (inl (e ∙ ap (λ s. Some s) p))
           | inr (inr p) ↦ inr (inr (inl (e ∙ ap (λ s. Some s) p)))
         ]
-    | inr other ↦ subst (λ a. IsPendingKind a (clean_state_at n t)) (sym (state_elsewhere t other)) (subst (λ b. IsPendingKind (state_at m t) b) (sym (clean_same t)) (w.lists.pending_others t h))
+    | inr other ↦ subst (λ a. IsPendingKind a (clean_state_at n t)) (sym (state_elsewhere t other))
+        (subst (λ b. IsPendingKind (state_at m t) b) (sym (clean_same t)) (w.lists.pending_others t h))
   ]
 
   fits_call : (k : ℕ) (session : Session) (call : Call) → FitsItsCall m k session call → FitsItsCall n k session call
@@ -231,10 +244,15 @@ module _ (m : Machine) (s : ℕ) (o : Object) (w : IsWellFormed m) (f : IsFit m 
           edges = edges_stay;
           roots = λ t h. objects_stay t (w.slots.roots t (root_from m t (old_root t (root_gives n t h))));
           queues = λ t q r e g. let x = queue_there t q r e g in queue_forth q x.0 x.1;
-          guarded = λ t g e. let c = w.slots.guarded t g (guard_back m heap m.mutators cleanables guards t g e) in (c.0, cleanable_forth m heap m.mutators cleanables guards g.cleanable c.0 c.1);
+          guarded = λ t g e. let c = w.slots.guarded t g (guard_back m heap m.mutators cleanables guards t g e) in
+              (c.0, cleanable_forth m heap m.mutators cleanables guards g.cleanable c.0 c.1);
         };
         references = record {
-          states = λ t r e. elim (there t (Reference r) e) [ inl h ↦ f.state_fits r (ap as_reference h.1) | inr h ↦ w.references.states t r h.1 ];
+          states = λ t r e. elim (there t (Reference r) e) [
+            | inl h ↦ f.state_fits r (ap as_reference h.1)
+            | inr h ↦
+                w.references.states t r h.1
+          ];
           members = members_fit;
           once = λ q xs e. elim (there q (Queue xs) e) [ inl h ↦ f.once xs (ap as_members h.1) | inr h ↦ w.references.once q xs h.1 ];
           in_one = one_queue;
@@ -248,8 +266,15 @@ module _ (m : Machine) (s : ℕ) (o : Object) (w : IsWellFormed m) (f : IsFit m 
           lined = λ t e. w.lists.lined t (sym (clean_same t) ∙ e);
           line_others = λ t h. elim (w.lists.line_others t h) [ inl e ↦ inl (clean_same t ∙ e) | inr e ↦ inr (clean_same t ∙ e) ];
         };
-        sessions = record { places = w.sessions.places; opening = w.sessions.opening; names = w.sessions.names; names_limit = w.sessions.names_limit };
-        actions = actions_kept m heap m.mutators cleanables guards (omega (arith, count_pointwise is_unspent_place heap m.objects (length-set m.objects s (Some o)) unspent_same)) w.actions;
+        sessions = record {
+          places =
+              w.sessions.places;
+          opening = w.sessions.opening;
+          names = w.sessions.names;
+          names_limit = w.sessions.names_limit;
+        };
+        actions = actions_kept m heap m.mutators cleanables guards
+            (omega (arith, count_pointwise is_unspent_place heap m.objects (length-set m.objects s (Some o)) unspent_same)) w.actions;
         resources = resources_kept m heap m.mutators cleanables guards w.resources;
         calls = record {
           calls = λ k session e. fits_call k session session.call (w.calls.calls k session e);

@@ -1,5 +1,6 @@
 -- The heap with the kept objects alone.
-use Rattle.std.proofs.Common.{◌≡◌, ℕ, zero, suc, ◌+◌, ◌<◌, Bool, true, false, cond, List, [], ◌∷◌, length, refl, sym, ◌∙◌, ap, subst, inl, inr, arith, Option, Some, None}
+use Rattle.std.proofs.Common.{◌≡◌, ℕ, zero, suc, ◌+◌, ◌<◌, Bool, true, false, cond, List, [], ◌∷◌, length, refl, sym, ◌∙◌, ap, subst, inl}
+use Rattle.std.proofs.Common.{inr, arith, Option, Some, None}
 use Rattle.std.proofs.lemmas.Bool.{cond-true}
 use Rattle.jlr_machine.specs.declared.object.Object.{Object}
 use Rattle.jlr_machine.specs.Objects.{Heap, at, ◌∋◌, ◌∈◌}
@@ -9,7 +10,8 @@ use Rattle.jlr_laws.specs.Laws.{places_kept, only}
 use Rattle.jlr_laws.proofs.Paths.{AreEdgesWithin}
 use Rattle.jlr_laws.proofs.Clearing.{HasEdge, edge_gives, edge_from}
 
-at-places_kept : (kept : List ℕ) (n : ℕ) (heap : Heap) (s t : ℕ) → t ≡ n + s → at (places_kept kept n heap) s ≡ cond (kept ∋ t) (at heap s) None
+at-places_kept : (kept : List ℕ) (n : ℕ) (heap : Heap) (s t : ℕ) → t ≡ n + s
+    → at (places_kept kept n heap) s ≡ cond (kept ∋ t) (at heap s) None
 at-places_kept kept n [] s t e = elim (kept ∋ t) as (λ b. ◌≡◌ {A = Option Object} None (cond b None None)) [ true ↦ refl | false ↦ refl ]
 at-places_kept kept n (o ∷ places) zero t e =
     let same : n ≡ t = omega (arith, e) in
@@ -38,14 +40,17 @@ only_forth kept heap s o m e = at-only kept heap s ∙ cond-true (kept ∋ s) (a
 
 -- ---- Edges
 
-pub inside_back : (chain : Chain) (heap : Heap) (kept : List ℕ) (x y : ℕ) → HasEdge chain (only kept heap) x y → (x ∈ kept) × HasEdge chain heap x y
+pub inside_back : (chain : Chain) (heap : Heap) (kept : List ℕ) (x y : ℕ) → HasEdge chain (only kept heap) x y → (x ∈ kept)
+    × HasEdge chain heap x y
 inside_back chain heap kept x y (inl e) = let r = only_back kept heap x e.0 e.1 in (r.0, inl (e.0, r.1, e.2))
 inside_back chain heap kept x y (inr e) = let r = only_back kept heap x e.2.0 e.2.1 in (r.0, inr (e.0, e.1, (e.2.0, r.1, e.2.2)))
 
-pub inside_forth : (chain : Chain) (heap : Heap) (kept : List ℕ) (x y : ℕ) → x ∈ kept → HasEdge chain heap x y → HasEdge chain (only kept heap) x y
+pub inside_forth : (chain : Chain) (heap : Heap) (kept : List ℕ) (x y : ℕ) → x ∈ kept → HasEdge chain heap x y
+    → HasEdge chain (only kept heap) x y
 inside_forth chain heap kept x y m (inl e) = inl (e.0, only_forth kept heap x e.0 m e.1, e.2)
 inside_forth chain heap kept x y m (inr e) = inr (e.0, e.1, (e.2.0, only_forth kept heap x e.2.0 m e.2.1, e.2.2))
 
 pub within_only : (heap : Heap) (kept : List ℕ) → AreEdgesWithin UpToPhantom heap → AreEdgesWithin UpToPhantom (only kept heap)
 within_only heap kept w x s m =
-    subst (λ n. s < n) (sym (length-only kept heap)) (w x s (edge_from UpToPhantom heap x s (inside_back UpToPhantom heap kept x s (edge_gives UpToPhantom (only kept heap) x s m)).1))
+    subst (λ n. s < n) (sym (length-only kept heap))
+    (w x s (edge_from UpToPhantom heap x s (inside_back UpToPhantom heap kept x s (edge_gives UpToPhantom (only kept heap) x s m)).1))

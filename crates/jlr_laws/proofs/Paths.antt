@@ -1,5 +1,6 @@
 -- What rounds find is what paths reach.
-use Rattle.std.proofs.Common.{◌≡◌, ℕ, zero, suc, ◌+◌, ◌<◌, ◌≤◌, Bool, ◌||◌, List, [], ◌∷◌, ◌++◌, length, refl, sym, ◌∙◌, ap, subst, ◌⊎◌, inl, inr, arith, filter}
+use Rattle.std.proofs.Common.{◌≡◌, ℕ, zero, suc, ◌+◌, ◌<◌, ◌≤◌, Bool, ◌||◌, List, [], ◌∷◌, ◌++◌, length, refl, sym, ◌∙◌, ap, subst, ◌⊎◌}
+use Rattle.std.proofs.Common.{inl, inr, arith, filter}
 use Rattle.std.specs.List.{list_any}
 use Rattle.std.proofs.lemmas.Bool.{or_cases, or_left, or_right}
 use Rattle.jlr_machine.specs.Objects.{Heap, ◌∋◌, ◌∈◌}
@@ -43,13 +44,15 @@ module _ (chain : Chain) (heap : Heap) where
   along found closed x [] y m e = subst (λ s. s ∈ found) e m
   along found closed x (z ∷ path) y m h = along found closed z path y (closed x z m h.0) h.1
 
-  pub closed_holds : (from found : List ℕ) → ((s : ℕ) → s ∈ from → s ∈ found) → IsClosed found → (s : ℕ) → IsReached chain heap from s → s ∈ found
+  pub closed_holds : (from found : List ℕ) → ((s : ℕ) → s ∈ from → s ∈ found) → IsClosed found → (s : ℕ) → IsReached chain heap from s
+      → s ∈ found
   closed_holds from found within closed s r = along found closed r.0 r.2.0 s (within r.0 r.1) r.2.1
 
   -- ---- After as many rounds as there are cells, nothing is added
 
   grows : (found : List ℕ) (s : ℕ) → s < length heap → s ∈ found → s ∈ one_round chain heap found
-  grows found s l m = filter_in (test found) (up_to 0 (length heap)) s (or_left (found ∋ s) _ m) (up_to_in 0 (length heap) s (omega arith) (omega (arith, l)))
+  grows found s l m = filter_in (test found) (up_to 0 (length heap)) s (or_left (found ∋ s) _ m)
+      (up_to_in 0 (length heap) s (omega arith) (omega (arith, l)))
 
   pub kept : (n : ℕ) (found : List ℕ) (s : ℕ) → s < length heap → s ∈ found → s ∈ rounds n chain heap found
   kept zero found s l m = m
@@ -62,16 +65,20 @@ module _ (chain : Chain) (heap : Heap) where
   abbrev all_slots : List ℕ
   all_slots = up_to 0 (length heap)
 
-  one_more : (p : ℕ → Bool) → (filter p all_slots ≡ one_round chain heap (filter p all_slots)) ⊎ (length (filter p all_slots) < length (one_round chain heap (filter p all_slots)))
-  one_more p = same_or_longer p (test (filter p all_slots)) all_slots (λ x m e. or_left (filter p all_slots ∋ x) _ (filter_in p all_slots x e m))
+  one_more : (p : ℕ → Bool) → (filter p all_slots ≡ one_round chain heap (filter p all_slots))
+      ⊎ (length (filter p all_slots) < length (one_round chain heap (filter p all_slots)))
+  one_more p =
+      same_or_longer p (test (filter p all_slots)) all_slots (λ x m e. or_left (filter p all_slots ∋ x) _ (filter_in p all_slots x e m))
 
-  settles : (n : ℕ) (p : ℕ → Bool) → length heap ≤ length (filter p all_slots) + n → one_round chain heap (rounds n chain heap (filter p all_slots)) ≡ rounds n chain heap (filter p all_slots)
+  settles : (n : ℕ) (p : ℕ → Bool) → length heap ≤ length (filter p all_slots) + n
+      → one_round chain heap (rounds n chain heap (filter p all_slots)) ≡ rounds n chain heap (filter p all_slots)
   settles zero p room = elim (one_more p) [
     | inl same ↦ sym same
     | inr longer ↦ absurd (omega (arith, room, longer, filter_length (test (filter p all_slots)) all_slots, length-up_to 0 (length heap)))
   ]
   settles (suc k) p room = elim (one_more p) [
-    | inl same ↦ ap (one_round chain heap) (still (suc k) (filter p all_slots) (sym same)) ∙ sym same ∙ sym (still (suc k) (filter p all_slots) (sym same))
+    | inl same ↦ ap (one_round chain heap) (still (suc k) (filter p all_slots) (sym same)) ∙ sym same
+        ∙ sym (still (suc k) (filter p all_slots) (sym same))
     | inr longer ↦ settles k (test (filter p all_slots)) (omega (arith, room, longer))
   ]
 
@@ -96,11 +103,13 @@ module _ (chain : Chain) (heap : Heap) where
   pub reached_closed : (from : List ℕ) → AreEdgesWithin → IsClosed (reach_set chain heap from)
   reached_closed from within = still_closed (reach_set chain heap from) (settled from) within
 
-  pub reached_complete : (from : List ℕ) → AreEdgesWithin → ((s : ℕ) → s ∈ from → s < length heap) → (s : ℕ) → IsReached chain heap from s → s ∈ reach_set chain heap from
+  pub reached_complete : (from : List ℕ) → AreEdgesWithin → ((s : ℕ) → s ∈ from → s < length heap) → (s : ℕ) → IsReached chain heap from s
+      → s ∈ reach_set chain heap from
   reached_complete from within below s r =
       closed_holds from (reach_set chain heap from) (λ x m. kept (suc (length heap)) from x (below x m) m) (reached_closed from within) s r
 
   pub reached_below : (from : List ℕ) (s : ℕ) → s ∈ reach_set chain heap from → s < length heap
   reached_below from s m =
-      let r = in_up_to 0 (length heap) s (in_filter (test (reach_set chain heap from)) all_slots s (subst (λ l. s ∈ l) (sym (settled from)) m)).1 in
+      let r = in_up_to 0 (length heap) s (in_filter (test (reach_set chain heap from)) all_slots s
+      (subst (λ l. s ∈ l) (sym (settled from)) m)).1 in
       omega (arith, r.1)

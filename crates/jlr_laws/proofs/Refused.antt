@@ -1,5 +1,6 @@
 -- What a refused entry is refused with, and what it leaves.
-use Rattle.std.proofs.Common.{◌≡◌, inl, inr, Bool, true, false, not, cond, find, List, [], ◌∷◌, ℕ, refl, sym, ◌∙◌, ap, subst, Option, Some, None, option_map, option_and_then, IsTrue, suc, arith, lit<}
+use Rattle.std.proofs.Common.{◌≡◌, inl, inr, Bool, true, false, not, cond, find, List, [], ◌∷◌, ℕ, refl, sym, ◌∙◌, ap, subst, Option, Some}
+use Rattle.std.proofs.Common.{None, option_map, option_and_then, IsTrue, suc, arith, lit<}
 use Rattle.std.specs.List.{Contains}
 use Rattle.std.proofs.lemmas.Bool.{both_ways}
 use Rattle.jlr_types.specs.declared.FieldValue.{FieldValue}
@@ -13,7 +14,10 @@ use Rattle.jlr_machine.specs.declared.ask.Outcome.TheVariants.{Ok as OutcomeOk, 
 use Rattle.jlr_machine.specs.declared.ask.CallOutcome.{CallOutcome}
 use Rattle.jlr_machine.specs.declared.ask.CallOutcome.TheVariants.{Data as GotData, Wrote as GotWrote, Failed as GotFailed}
 use Rattle.jlr_machine.specs.declared.ask.Ask.{Ask}
-use Rattle.jlr_machine.specs.declared.ask.Ask.TheVariants.{Join, Leave, New, Put, Get, SetInt, Int, Dup, Drop, Same, MakeRef, Deref, Refers, Clear, Enqueue, Enqueued, MakeQueue, Poll, Remove, MakeCleaner, Register, Clean, Prepare, Opened, CheckOut, CheckIn, Close, Finish, Bind, Find, Unbind, Names, Full, Stat, Notes, Faults, HandOver, TakeUp, Begin, Collect, Abandon, Array}
+use Rattle.jlr_machine.specs.declared.ask.Ask.TheVariants.{Join, Leave, New, Put, Get, SetInt, Int, Dup, Drop, Same, MakeRef, Deref, Refers}
+use Rattle.jlr_machine.specs.declared.ask.Ask.TheVariants.{Clear, Enqueue, Enqueued, MakeQueue, Poll, Remove, MakeCleaner, Register, Clean}
+use Rattle.jlr_machine.specs.declared.ask.Ask.TheVariants.{Prepare, Opened, CheckOut, CheckIn, Close, Finish, Bind, Find, Unbind, Names}
+use Rattle.jlr_machine.specs.declared.ask.Ask.TheVariants.{Full, Stat, Notes, Faults, HandOver, TakeUp, Begin, Collect, Abandon, Array}
 use Rattle.jlr_machine.specs.declared.ask.Answer.{Answer}
 use Rattle.jlr_machine.specs.declared.ask.Answer.TheVariants.{Refused, Handle, AlreadyDone, Job}
 use Rattle.jlr_machine.specs.declared.entry.Collected.{Collected}
@@ -22,7 +26,8 @@ use Rattle.jlr_machine.specs.declared.entry.Entry.{Entry}
 use Rattle.jlr_machine.specs.Objects.{at, is_spent}
 use Rattle.jlr_machine.specs.Lookups.{cleanable_at, field_named}
 use Rattle.jlr_machine.specs.Refusals.{applies, listed, cells_needed, given}
-use Rattle.jlr_machine.specs.Calls.{reply, new_handle, handle_given, number_in, outcome_answer, call_answer, take_up_answer, hand_over_answer, line_answer, from_lined}
+use Rattle.jlr_machine.specs.Calls.{reply, new_handle, handle_given, number_in, outcome_answer, call_answer, take_up_answer}
+use Rattle.jlr_machine.specs.Calls.{hand_over_answer, line_answer, from_lined}
 use Rattle.jlr_machine.specs.Collection.{after_collection}
 use Rattle.jlr_machine.specs.Run.{IsCarriedOut, Answers, carried, with_collection, no_choice, now_seen, has_room, apply}
 use Rattle.jlr_machine.specs.Run.IsLegal.{carried_out, refused, heap_full, out_of_memory}
@@ -274,12 +279,15 @@ same_refusal : (a : Answer) (b by : Refusal) → a ≡ Refused b → a ≡ Refus
 same_refusal a b by e f = let g : Refused b ≡ Refused by = sym e ∙ f in cc g
 
 never_carried : (m : Machine) (e : Entry) (by : Refusal) → IsCarriedOut m e → e.answer ≡ Refused by → ⊥
-never_carried m e by c f = both_ways (is_refusal e.answer) (no_refusal (with_collection m e.choice.collected) e.ask e.choice.collected e.answer c.answers) (ap is_refusal f)
+never_carried m e by c f = both_ways (is_refusal e.answer)
+    (no_refusal (with_collection m e.choice.collected) e.ask e.choice.collected e.answer c.answers) (ap is_refusal f)
 
 pub refusals_are_listed : RefusalsAreListed
 refusals_are_listed m e by (carried_out c) f = absurd (never_carried m e by c f)
-refusals_are_listed m e by (refused r) f = inl (subst (Contains (listed e.ask)) (same_refusal e.answer r.by by r.answers f) (found_in (applies m e.ask) r.by (listed e.ask) r.first))
-refusals_are_listed m e by (heap_full r) f = inl (subst (Contains (listed e.ask)) (same_refusal e.answer HeapFull by r.answers f) (full_listed m e.ask r.no_room))
+refusals_are_listed m e by (refused r) f = inl (subst (Contains (listed e.ask)) (same_refusal e.answer r.by by r.answers f)
+    (found_in (applies m e.ask) r.by (listed e.ask) r.first))
+refusals_are_listed m e by (heap_full r) f =
+    inl (subst (Contains (listed e.ask)) (same_refusal e.answer HeapFull by r.answers f) (full_listed m e.ask r.no_room))
 refusals_are_listed m e by (out_of_memory r) f = inr (sym (same_refusal e.answer NoMemory by r.answers f), r.no_end)
 
 -- ---- What a refused entry leaves
@@ -288,7 +296,8 @@ unchanged : (m : Machine) (e : Entry) (by : Refusal) → IsUpToDate m → e.answ
 unchanged m e by up_to_date a n =
     let same : carried (with_collection m e.choice.collected) e.ask e.answer e.choice.fresh ≡ m =
     ap (λ (c : Chosen). carried (with_collection m c.collected) e.ask e.answer c.fresh) n ∙ ap (λ a. carried m e.ask a []) a in
-    ap {A = Machine} {B = Machine} (λ n. record n { seen = now_seen n }) same ∙ ap {A = List ℕ} {B = Machine} (λ l. record m { seen = l }) (sym up_to_date)
+    ap {A = Machine} {B = Machine} (λ n. record n { seen = now_seen n }) same
+    ∙ ap {A = List ℕ} {B = Machine} (λ l. record m { seen = l }) (sym up_to_date)
 
 pub refusal_changes_nothing : RefusalChangesNothing
 refusal_changes_nothing m e by up_to_date (carried_out c) f d = absurd (never_carried m e by c f)
@@ -344,12 +353,17 @@ not_listed_full m (Array k n) = refl
 holds_found : (p : Refusal → Bool) (by : Refusal) (xs : List Refusal) → find p xs ≡ Some by → p by ≡ true
 holds_found p by [] e = no_some by e
 holds_found p by (x ∷ xs) e =
-    elim (p x) as (λ b. p x ≡ b → cond b (Some x) (find p xs) ≡ Some by → p by ≡ true) [ true ↦ λ h e. ap p (sym (some_same x by e)) ∙ h | false ↦ λ h e. holds_found p by xs e ] refl e
+    elim (p x) as (λ b. p x ≡ b → cond b (Some x) (find p xs) ≡ Some by → p by ≡ true) [
+      | true ↦ λ h e. ap p (sym (some_same x by e)) ∙ h
+      | false ↦ λ h e. holds_found p by xs e
+    ] refl e
 
 pub full_heap_leaves : FullHeapLeavesItsCollection
 full_heap_leaves m e (carried_out c) f = absurd (never_carried m e HeapFull c f)
 full_heap_leaves m e (refused r) f =
-    absurd (both_ways (applies m e.ask HeapFull) (not_listed_full m e.ask) (ap (applies m e.ask) (sym (same_refusal e.answer r.by HeapFull r.answers f)) ∙ holds_found (applies m e.ask) r.by (listed e.ask) r.first))
+    absurd (both_ways (applies m e.ask HeapFull) (not_listed_full m e.ask)
+    (ap (applies m e.ask) (sym (same_refusal e.answer r.by HeapFull r.answers f))
+    ∙ holds_found (applies m e.ask) r.by (listed e.ask) r.first))
 full_heap_leaves m e (heap_full r) f =
     let n = after_collection m r.clearing.kept r.clearing.pending in
     let same : carried (with_collection m e.choice.collected) e.ask e.answer e.choice.fresh ≡ n =

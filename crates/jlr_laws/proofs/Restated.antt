@@ -14,18 +14,22 @@ use Rattle.jlr_machine.specs.declared.machine.Call.TheVariants.{Free, Opening as
 use Rattle.jlr_machine.specs.declared.machine.ResourceState.{ResourceState}
 use Rattle.jlr_machine.specs.declared.machine.ResourceState.TheVariants.{Opening, Idle, Out, Closing}
 use Rattle.jlr_machine.specs.Objects.{Table, at, is_rising}
-use Rattle.jlr_machine.specs.WellFormed.{IsSessionAt, IsGuardAt, IsCleanableAt, IsObjectAt, HasResource, IsFencing, FitsItsCall, IsUnspent, IsWellFormed, AreSlotsNamed, AreSessions, AreActions, AreResources, AreCalls, ArePrivate, IsPrivate, IsOwnGuard, OpeningHasRoom, IsCallOf, IsAction}
+use Rattle.jlr_machine.specs.WellFormed.{IsSessionAt, IsGuardAt, IsCleanableAt, IsObjectAt, HasResource, IsFencing, FitsItsCall, IsUnspent}
+use Rattle.jlr_machine.specs.WellFormed.{IsWellFormed, AreSlotsNamed, AreSessions, AreActions, AreResources, AreCalls, ArePrivate}
+use Rattle.jlr_machine.specs.WellFormed.{IsPrivate, IsOwnGuard, OpeningHasRoom, IsCallOf, IsAction}
 use Rattle.jlr_laws.proofs.Frames.{no_some, some_same, IsRoot, root_gives, root_from, limits_stay}
 use Rattle.jlr_laws.proofs.Frames.IsRoot.{held, fencing, named, waiting, lining, active}
 use Rattle.jlr_laws.proofs.Keyed.{by_key, changed, keys_changed, found_changed, found_unchanged, all_changed}
-use Rattle.jlr_laws.proofs.Changes.{session_same, guard_same, cleanable_same, resource_same, resource_moved, HasCleanable, worker_from, worker_over, IsElsewhere}
+use Rattle.jlr_laws.proofs.Changes.{session_same, guard_same, cleanable_same, resource_same, resource_moved, HasCleanable, worker_from}
+use Rattle.jlr_laws.proofs.Changes.{worker_over, IsElsewhere}
 
 -- the resources with this one in that state
 abbrev pub restated : List Resource → ℕ → ResourceState → List Resource
 restated resources rid state = changed {A = Resource} (λ r. r.rid) (λ r. record r { state = state }) resources rid
 
 -- what the ask has to say
-pub record IsRestated (m : Machine) (mutators : Table Session) (k : ℕ) (old new : Session) (t : ℕ) (g : GuardOf) (c : CleanableOf) (was state : ResourceState) : Type 0 where
+pub record IsRestated (m : Machine) (mutators : Table Session) (k : ℕ) (old new : Session) (t : ℕ) (g : GuardOf) (c : CleanableOf)
+    (was state : ResourceState) : Type 0 where
   pub as_many : length mutators ≡ length m.mutators
   pub there : IsSessionAt m k old
   pub here : at mutators k ≡ Some new
@@ -50,7 +54,8 @@ pub record IsRestated (m : Machine) (mutators : Table Session) (k : ℕ) (old ne
   pub places : (length new.handles ≡ 251) × (at new.handles 0 ≡ None)
   pub handles : (h s : ℕ) → at new.handles h ≡ Some s → (at old.handles h ≡ Some s) ⊎ (s ≡ t)
 
-module _ (m : Machine) (mutators : Table Session) (k : ℕ) (old new : Session) (t : ℕ) (g : GuardOf) (c : CleanableOf) (was state : ResourceState) (w : IsWellFormed m) (x : IsRestated m mutators k old new t g c was state) where
+module _ (m : Machine) (mutators : Table Session) (k : ℕ) (old new : Session) (t : ℕ) (g : GuardOf) (c : CleanableOf)
+    (was state : ResourceState) (w : IsWellFormed m) (x : IsRestated m mutators k old new t g c was state) where
   abbrev n : Machine
   n = record m { mutators = mutators; resources = restated m.resources g.rid state }
 
@@ -58,13 +63,16 @@ module _ (m : Machine) (mutators : Table Session) (k : ℕ) (old new : Session) 
   keeps_rid r = refl
 
   here_now : HasResource n g.rid c.action state
-  here_now = found_changed {A = Resource} (λ r. r.rid) (λ r. record r { state = state }) keeps_rid m.resources g.rid (record { rid = g.rid; action = c.action; state = was }) x.resource
+  here_now = found_changed {A = Resource} (λ r. r.rid) (λ r. record r { state = state }) keeps_rid m.resources g.rid
+      (record { rid = g.rid; action = c.action; state = was }) x.resource
 
-  elsewhere : (rid : ℕ) → (rid ≡ g.rid → ⊥) → by_key {A = Resource} (λ r. r.rid) n.resources rid ≡ by_key {A = Resource} (λ r. r.rid) m.resources rid
+  elsewhere : (rid : ℕ) → (rid ≡ g.rid → ⊥) → by_key {A = Resource} (λ r. r.rid) n.resources rid ≡ by_key {A = Resource} (λ r. r.rid)
+      m.resources rid
   elsewhere rid d = found_unchanged {A = Resource} (λ r. r.rid) (λ r. record r { state = state }) keeps_rid m.resources g.rid rid d
 
   -- a resource of the new machine is this one, or an old one
-  resource_cases : (rid action : ℕ) (s : ResourceState) → HasResource n rid action s → ((rid ≡ g.rid) × (action ≡ c.action) × (s ≡ state)) ⊎ ((rid ≡ g.rid → ⊥) × HasResource m rid action s)
+  resource_cases : (rid action : ℕ) (s : ResourceState) → HasResource n rid action s → ((rid ≡ g.rid) × (action ≡ c.action) × (s ≡ state))
+      ⊎ ((rid ≡ g.rid → ⊥) × HasResource m rid action s)
   resource_cases rid action s h = elim (cases_eq rid g.rid) [
     | inl e ↦
         let both = resource_same n g.rid action c.action s state (subst (λ r. HasResource n r action s) e h) here_now in
@@ -127,7 +135,13 @@ module _ (m : Machine) (mutators : Table Session) (k : ℕ) (old new : Session) 
   root_there s (active h) = w.slots.roots s (root_from m s (active h))
 
   slots : AreSlotsNamed n
-  slots = record { edges = w.slots.edges; roots = λ s h. root_there s (root_gives n s h); queues = w.slots.queues; guarded = w.slots.guarded }
+  slots = record {
+    edges =
+        w.slots.edges;
+    roots = λ s h. root_there s (root_gives n s h);
+    queues = w.slots.queues;
+    guarded = w.slots.guarded;
+  }
 
   has_room : (call : Call) → (call ≡ Free) ⊎ ((call ≡ CallOut g.rid) × (state ≡ Out)) → OpeningHasRoom new call
   has_room call (inl e) = subst (λ z. OpeningHasRoom new z) (sym e) tt
@@ -136,8 +150,16 @@ module _ (m : Machine) (mutators : Table Session) (k : ℕ) (old new : Session) 
   sessions_kept : AreSessions n
   sessions_kept =
       record {
-        places = λ j s h. elim (session_cases j s h) [ inl y ↦ subst (λ z. (length z.handles ≡ 251) × (at z.handles 0 ≡ None)) (sym y.1) x.places | inr y ↦ w.sessions.places j s y.1 ];
-        opening = λ j s h. elim (session_cases j s h) [ inl y ↦ subst (λ z. OpeningHasRoom z z.call) (sym y.1) (has_room new.call x.new_call) | inr y ↦ w.sessions.opening j s y.1 ];
+        places = λ j s h. elim (session_cases j s h) [
+          | inl y ↦
+              subst (λ z. (length z.handles ≡ 251) × (at z.handles 0 ≡ None)) (sym y.1) x.places
+          | inr y ↦ w.sessions.places j s y.1
+        ];
+        opening = λ j s h. elim (session_cases j s h) [
+          | inl y ↦
+              subst (λ z. OpeningHasRoom z z.call) (sym y.1) (has_room new.call x.new_call)
+          | inr y ↦ w.sessions.opening j s y.1
+        ];
         names = w.sessions.names;
         names_limit = w.sessions.names_limit;
       }
@@ -150,7 +172,8 @@ module _ (m : Machine) (mutators : Table Session) (k : ℕ) (old new : Session) 
         jobs = w.actions.jobs;
         of_cleanables = w.actions.of_cleanables;
         of_jobs = w.actions.of_jobs;
-        of_resources = all_changed {A = Resource} (λ r. r.rid) (λ r. record r { state = state }) keeps_rid (λ r. IsAction n r.action) (λ r h. h) m.resources g.rid w.actions.of_resources;
+        of_resources = all_changed {A = Resource} (λ r. r.rid) (λ r. record r { state = state }) keeps_rid (λ r. IsAction n r.action)
+            (λ r h. h) m.resources g.rid w.actions.of_resources;
         of_faults = w.actions.of_faults;
         referents = w.actions.referents;
         cleaners = w.actions.cleaners;
@@ -171,31 +194,43 @@ module _ (m : Machine) (mutators : Table Session) (k : ℕ) (old new : Session) 
   resources_kept : AreResources n
   resources_kept =
       record {
-        rising = subst (λ l. IsTrue (is_rising l)) (sym (keys_changed {A = Resource} (λ r. r.rid) (λ r. record r { state = state }) keeps_rid m.resources g.rid)) w.resources.rising;
+        rising = subst (λ l. IsTrue (is_rising l)) (sym
+            (keys_changed {A = Resource} (λ r. r.rid) (λ r. record r { state = state }) keeps_rid m.resources g.rid)) w.resources.rising;
         worked = λ rid action s h. elim (resource_cases rid action s h) [
-          | inl y ↦ worker_from n rid action s (λ e. x.not_closing (sym y.2 ∙ e)) (g.cleanable, c, unspent_over g.cleanable c here_unspent, sym y.1, own.work ∙ ap WorkOn (sym y.0))
+          | inl y ↦ worker_from n rid action s (λ e. x.not_closing (sym y.2 ∙ e))
+              (g.cleanable, c, unspent_over g.cleanable c here_unspent, sym y.1, own.work ∙ ap WorkOn (sym y.0))
           | inr y ↦ worker_over m n rid action s (cleanable_over rid action) (λ z. z) (w.resources.worked rid action s y.1)
         ];
         of_cleanables = λ s rid d u e. elim (cases_eq rid g.rid) [
           | inl p ↦
-              let both = same_worker s d (unspent_back s d u) (e ∙ ap WorkOn p) in
-              (state, subst (λ r. HasResource n r d.action state) (sym p) (resource_moved n g.rid c.action d.action state state (sym both.1) refl here_now), x.not_closing)
+              let both = same_worker s d (unspent_back s d u) (e ∙ ap WorkOn p) in (
+                state,
+                subst (λ r. HasResource n r d.action state) (sym p)
+                    (resource_moved n g.rid c.action d.action state state (sym both.1) refl here_now),
+                x.not_closing,
+              )
           | inr p ↦ let r = w.resources.of_cleanables s rid d (unspent_back s d u) e in (r.0, resource_over rid d.action r.0 p r.1, r.2)
         ];
         idle = λ s rid d u e a. elim (cases_eq rid g.rid) [
           | inl p ↦
               let both = same_worker s d (unspent_back s d u) (e ∙ ap WorkOn p) in
-              absurd (a (ap (λ z. z.state) (cleanable_same m s d c u.there (subst (λ z. IsCleanableAt m z c) (sym both.0) x.cleanable)) ∙ x.armed))
+              absurd (a (ap (λ z. z.state) (cleanable_same m s d c u.there (subst (λ z. IsCleanableAt m z c) (sym both.0) x.cleanable))
+              ∙ x.armed))
           | inr p ↦ resource_over rid d.action Idle p (w.resources.idle s rid d (unspent_back s d u) e a)
         ];
         of_jobs = λ job rid j e. elim (cases_eq rid g.rid) [
           | inl p ↦
-              let both = resource_same m g.rid job.action c.action Closing was (subst (λ r. HasResource m r job.action Closing) p (w.resources.of_jobs job rid j e)) x.resource in
+              let both = resource_same m g.rid job.action c.action Closing was
+              (subst (λ r. HasResource m r job.action Closing) p (w.resources.of_jobs job rid j e)) x.resource in
               absurd (x.was_not_closing (sym both.1))
           | inr p ↦ resource_over rid job.action Closing p (w.resources.of_jobs job rid j e)
         ];
         one_guard = w.resources.one_guard;
-        guards = λ s h d e f. elim (w.resources.guards s h d e f) [ inl y ↦ inl y | inr y ↦ inr (record { armed = y.armed; referent = y.referent; work = y.work }) ];
+        guards = λ s h d e f. elim (w.resources.guards s h d e f) [
+          | inl y ↦ inl y
+          | inr y ↦
+              inr (record { armed = y.armed; referent = y.referent; work = y.work })
+        ];
         guarded = w.resources.guarded;
       }
 
@@ -213,7 +248,17 @@ module _ (m : Machine) (mutators : Table Session) (k : ℕ) (old new : Session) 
   fits_new : FitsItsCall n k new new.call
   fits_new = elim x.new_call [
     | inl e ↦ subst (λ z. FitsItsCall n k new z) (sym e) (x.free_fence e)
-    | inr e ↦ subst (λ z. FitsItsCall n k new z) (sym e.0) (t, g, c, x.out_fence e.0, x.guard, refl, x.cleanable, x.armed, resource_moved n g.rid c.action c.action state Out refl e.1 here_now)
+    | inr e ↦ subst (λ z. FitsItsCall n k new z) (sym e.0) (
+      t,
+      g,
+      c,
+      x.out_fence e.0,
+      x.guard,
+      refl,
+      x.cleanable,
+      x.armed,
+      resource_moved n g.rid c.action c.action state Out refl e.1 here_now,
+    )
   ]
 
   -- a call of the new machine is the new session's, or an old one
@@ -239,7 +284,9 @@ module _ (m : Machine) (mutators : Table Session) (k : ℕ) (old new : Session) 
               let old_call = w.calls.opening rid action y.1 in (
                 old_call.0,
                 call_over old_call.0 (CallOpening rid)
-                    (λ e. y.0 (x.old_opening rid (ap (λ z. z.call) (session_same m k old old_call.1.0 x.there (subst (λ i. IsSessionAt m i old_call.1.0) e old_call.1.1)) ∙ old_call.1.2)))
+                    (λ e. y.0 (x.old_opening rid (ap (λ z. z.call)
+                    (session_same m k old old_call.1.0 x.there (subst (λ i. IsSessionAt m i old_call.1.0) e old_call.1.1))
+                    ∙ old_call.1.2)))
                     old_call.1,
               )
         ];
@@ -249,24 +296,29 @@ module _ (m : Machine) (mutators : Table Session) (k : ℕ) (old new : Session) 
               let old_call = w.calls.out rid action y.1 in (
                 old_call.0,
                 call_over old_call.0 (CallOut rid)
-                    (λ e. y.0 (x.old_out rid (ap (λ z. z.call) (session_same m k old old_call.1.0 x.there (subst (λ i. IsSessionAt m i old_call.1.0) e old_call.1.1)) ∙ old_call.1.2)))
+                    (λ e. y.0 (x.old_out rid (ap (λ z. z.call)
+                    (session_same m k old old_call.1.0 x.there (subst (λ i. IsSessionAt m i old_call.1.0) e old_call.1.1))
+                    ∙ old_call.1.2)))
                     old_call.1,
               )
         ];
         one_call = λ i j call a b d. elim (session_cases i a.0 a.1) [
           | inl y ↦ elim (session_cases j b.0 b.1) [
             | inl z ↦ y.0 ∙ sym z.0
-            | inr z ↦ absurd (alone_in_call j b.0 z.0 z.1 (b.2 ∙ sym a.2 ∙ ap (λ s. s.call) y.1) (λ e. d (sym a.2 ∙ ap (λ s. s.call) y.1 ∙ e)))
+            | inr z ↦ absurd (alone_in_call j b.0 z.0 z.1 (b.2 ∙ sym a.2 ∙ ap (λ s. s.call) y.1)
+                (λ e. d (sym a.2 ∙ ap (λ s. s.call) y.1 ∙ e)))
           ]
           | inr y ↦ elim (session_cases j b.0 b.1) [
-            | inl z ↦ absurd (alone_in_call i a.0 y.0 y.1 (a.2 ∙ sym b.2 ∙ ap (λ s. s.call) z.1) (λ e. d (sym b.2 ∙ ap (λ s. s.call) z.1 ∙ e)))
+            | inl z ↦ absurd (alone_in_call i a.0 y.0 y.1 (a.2 ∙ sym b.2 ∙ ap (λ s. s.call) z.1)
+                (λ e. d (sym b.2 ∙ ap (λ s. s.call) z.1 ∙ e)))
             | inr z ↦ w.calls.one_call i j call (a.0, y.1, a.2) (b.0, z.1, b.2) d
           ]
         ];
         jobs = λ job j d.
             let old_call = w.calls.jobs job j d in
             call_over job.by (CallJob job.action)
-            (λ e. x.old_job job.action (ap (λ z. z.call) (session_same m k old old_call.0 x.there (subst (λ i. IsSessionAt m i old_call.0) e old_call.1)) ∙ old_call.2))
+            (λ e. x.old_job job.action (ap (λ z. z.call) (session_same m k old old_call.0 x.there
+            (subst (λ i. IsSessionAt m i old_call.0) e old_call.1)) ∙ old_call.2))
             old_call;
       }
 
@@ -307,8 +359,19 @@ module _ (m : Machine) (mutators : Table Session) (k : ℕ) (old new : Session) 
   restated_is_well_formed =
       record {
         slots = slots;
-        references = record { states = w.references.states; members = w.references.members; once = w.references.once; in_one = w.references.in_one };
-        lists = record { pending_once = w.lists.pending_once; line_once = w.lists.line_once; pending_references = w.lists.pending_references; pending_cleanables = w.lists.pending_cleanables; pending_others = w.lists.pending_others; lined = w.lists.lined; line_others = w.lists.line_others };
+        references =
+            record { states = w.references.states; members = w.references.members; once = w.references.once; in_one = w.references.in_one };
+        lists = record {
+          pending_once = w.lists.pending_once;
+          line_once = w.lists.line_once;
+          pending_references =
+              w.lists.pending_references;
+          pending_cleanables =
+              w.lists.pending_cleanables;
+          pending_others = w.lists.pending_others;
+          lined = w.lists.lined;
+          line_others = w.lists.line_others;
+        };
         sessions = sessions_kept;
         actions = actions_kept;
         resources = resources_kept;

@@ -1,5 +1,6 @@
 -- One cleanable changes: it is neither Armed nor Pending from now on, and has no referent.
-use Rattle.std.proofs.Common.{◌≡◌, ℕ, true, false, List, [], ◌++◌, refl, sym, ◌∙◌, ap, subst, ◌⊎◌, inl, inr, Some, None, is_some, IsTrue, option_and_then, option_to_list}
+use Rattle.std.proofs.Common.{◌≡◌, ℕ, true, false, List, [], ◌++◌, refl, sym, ◌∙◌, ap, subst, ◌⊎◌, inl, inr, Some, None, is_some, IsTrue}
+use Rattle.std.proofs.Common.{option_and_then, option_to_list}
 use Rattle.std.specs.List.{flat_map}
 use Rattle.std.proofs.lemmas.Bool.{cases_eq, both_ways}
 use Rattle.jlr_machine.specs.declared.object.Object.{Object}
@@ -10,7 +11,8 @@ use Rattle.jlr_machine.specs.declared.machine.Machine.{Machine}
 use Rattle.jlr_machine.specs.declared.machine.ResourceState.TheVariants.{Opening}
 use Rattle.jlr_machine.specs.Objects.{Heap, at, ◌∈◌, as_reference, as_cleanable}
 use Rattle.jlr_machine.specs.Edges.{edges, edges_from, is_own_root, is_active}
-use Rattle.jlr_machine.specs.WellFormed.{IsQueueAt, IsCleanableAt, IsObjectAt, HasResource, AreReferences, IsPrivate, state_at, clean_state_at}
+use Rattle.jlr_machine.specs.WellFormed.{IsQueueAt, IsCleanableAt, IsObjectAt, HasResource, AreReferences, IsPrivate, state_at}
+use Rattle.jlr_machine.specs.WellFormed.{clean_state_at}
 use Rattle.jlr_machine.specs.Edges.Chain.{UpToPhantom}
 use Rattle.jlr_laws.proofs.Sets.{nothing}
 use Rattle.jlr_laws.proofs.Frames.{no_some, some_same}
@@ -49,7 +51,8 @@ module _ (m : Machine) (heap : Heap) (s : ℕ) (old new : CleanableOf) (x : IsRe
     | inr d ↦ x.others t d ∙ e
   ]
 
-  pub cleanable_cases : (t : ℕ) (d : CleanableOf) → at heap t ≡ Some (Cleanable d) → ((t ≡ s) × (d ≡ new)) ⊎ ((t ≡ s → ⊥) × IsCleanableAt m t d)
+  pub cleanable_cases : (t : ℕ) (d : CleanableOf) → at heap t ≡ Some (Cleanable d) → ((t ≡ s) × (d ≡ new))
+      ⊎ ((t ≡ s → ⊥) × IsCleanableAt m t d)
   cleanable_cases t d e = elim (cases_eq t s) [
     | inl p ↦ inl (p, cleanable_same n s d new (subst (λ z. at heap z ≡ Some (Cleanable d)) p e) x.here)
     | inr p ↦ inr (p, sym (x.others t p) ∙ e)
@@ -63,7 +66,8 @@ module _ (m : Machine) (heap : Heap) (s : ℕ) (old new : CleanableOf) (x : IsRe
 
   pub edges_back : (t y : ℕ) → y ∈ edges_from UpToPhantom heap t → y ∈ edges_from UpToPhantom m.objects t
   edges_back t y h = elim (cases_eq t s) [
-    | inl p ↦ nothing y (subst (λ r. y ∈ (option_to_list r ++ [])) x.referent (subst (λ o. y ∈ flat_map (edges UpToPhantom) (option_to_list o)) (ap (at heap) p ∙ x.here) h))
+    | inl p ↦ nothing y (subst (λ r. y ∈ (option_to_list r ++ [])) x.referent
+        (subst (λ o. y ∈ flat_map (edges UpToPhantom) (option_to_list o)) (ap (at heap) p ∙ x.here) h))
     | inr p ↦ subst (λ o. y ∈ flat_map (edges UpToPhantom) (option_to_list o)) (x.others t p) h
   ]
 
@@ -94,7 +98,8 @@ module _ (m : Machine) (heap : Heap) (s : ℕ) (old new : CleanableOf) (x : IsRe
   references_kept r =
       record {
         states = λ t a e. r.states t a (back t (Reference a) refl e);
-        members = λ q t members e h. let y = r.members q t members (back q (Queue members) refl e) h in (y.0, over t (Reference y.0) refl y.1, y.2);
+        members = λ q t members e h. let y = r.members q t members (back q (Queue members) refl e) h in
+            (y.0, over t (Reference y.0) refl y.1, y.2);
         once = λ q members e. r.once q members (back q (Queue members) refl e);
         in_one = λ p q t xs ys e f. r.in_one p q t xs ys (back p (Queue xs) refl e) (back q (Queue ys) refl f);
       }
@@ -109,7 +114,9 @@ module _ (m : Machine) (heap : Heap) (s : ℕ) (old new : CleanableOf) (x : IsRe
   ]
 
   -- what was private is so, and nothing else, where no resource becomes Opening
-  pub private_back : (heir : Machine) → ((t : ℕ) → at heir.objects t ≡ at heap t) → ((rid action : ℕ) → HasResource heir rid action Opening → HasResource m rid action Opening) → (t : ℕ) → IsPrivate heir t → IsPrivate m t
+  pub private_back : (heir : Machine) → ((t : ℕ) → at heir.objects t ≡ at heap t)
+      → ((rid action : ℕ) → HasResource heir rid action Opening → HasResource m rid action Opening) → (t : ℕ) → IsPrivate heir t
+      → IsPrivate m t
   private_back heir e f t (inl p) = elim (cleanable_cases t p.0 (sym (e t) ∙ p.2)) [
     | inl y ↦ inl (old, p.1, ap (at m.objects) y.0 ∙ x.there, sym x.work ∙ ap (λ z. z.work) (sym y.1) ∙ p.3)
     | inr y ↦ inl (p.0, p.1, y.1, p.3)

@@ -4,7 +4,9 @@ use Rattle.std.specs.Cmp.Lexicographic.{pointwise}
 use Rattle.std.proofs.lemmas.Bool.{both_ways, and_parts, and_from}
 use Rattle.std.proofs.lemmas.Bool.Decides.{Decides-and, Decides-eqb, Decides-int_eq}
 use Rattle.std.proofs.lemmas.Slice.Eq.{slice_eq-Decides, bytes_eq-Decides}
-use Rattle.jlr_types.specs.declared.Refusal.TheVariants.{NoMemory, HeapFull, NoHandle, HandlesFull, WrongKind, NoField, WrongType, Null, NoName, NamesFull, Busy, Closed, NoSession, Exhausted, Malformed, TooLong, NotOut, WouldWait, ResourcesFull}
+use Rattle.jlr_types.specs.declared.Refusal.TheVariants.{NoMemory, HeapFull, NoHandle, HandlesFull, WrongKind, NoField, WrongType, Null}
+use Rattle.jlr_types.specs.declared.Refusal.TheVariants.{NoName, NamesFull, Busy, Closed, NoSession, Exhausted, Malformed, TooLong, NotOut}
+use Rattle.jlr_types.specs.declared.Refusal.TheVariants.{WouldWait, ResourcesFull}
 use Rattle.jlr_types.specs.declared.Fault.{Fault}
 use Rattle.jlr_types.specs.declared.Fault.TheVariants.{NotFound, Denied, Other}
 use Rattle.jlr_types.specs.declared.Work.{Work}
@@ -16,7 +18,9 @@ use Rattle.jlr_machine.specs.declared.ask.Handed.{Handed}
 use Rattle.jlr_machine.specs.declared.ask.Handed.TheVariants.{Queued, Lined, Skipped, Nothing}
 use Rattle.jlr_machine.specs.declared.ask.Stat.{Stat}
 use Rattle.jlr_machine.specs.declared.ask.Answer.{Answer}
-use Rattle.jlr_machine.specs.declared.ask.Answer.TheVariants.{Done, Handle, Truth, Int, Data, Wrote, Faulted, Names, Notes, Faults, Stat as StatAnswer, Job, AlreadyDone, Prepared, Out as OutAnswer, Handed as HandedAnswer, Refused}
+use Rattle.jlr_machine.specs.declared.ask.Answer.TheVariants.{Done, Handle, Truth, Int, Data, Wrote, Faulted, Names, Notes, Faults}
+use Rattle.jlr_machine.specs.declared.ask.Answer.TheVariants.{Stat as StatAnswer, Job, AlreadyDone, Prepared, Out as OutAnswer}
+use Rattle.jlr_machine.specs.declared.ask.Answer.TheVariants.{Handed as HandedAnswer, Refused}
 use Rattle.jlr_laws.specs.Same.{same_truth, same_fault, same_work, same_handed, same_refusal, same_failure, same_stat, same_answer}
 
 pub Decides-truth : (a b : Bool) → Decides (same_truth a b) (a ≡ b)
@@ -86,7 +90,8 @@ Decides-work a b = (work_to a b, λ e. subst (λ x. same_work a x ≡ true) e (w
 
 -- the refusals by their numbers
 abbrev refusals : List Refusal
-refusals = NoMemory ∷ NoMemory ∷ HeapFull ∷ NoHandle ∷ HandlesFull ∷ WrongKind ∷ NoField ∷ WrongType ∷ Null ∷ NoName ∷ NamesFull ∷ Busy ∷ Closed ∷ NoSession ∷ Exhausted ∷ Malformed ∷ TooLong ∷ NotOut ∷ WouldWait ∷ ResourcesFull ∷ []
+refusals = NoMemory ∷ NoMemory ∷ HeapFull ∷ NoHandle ∷ HandlesFull ∷ WrongKind ∷ NoField ∷ WrongType ∷ Null ∷ NoName ∷ NamesFull ∷ Busy
+    ∷ Closed ∷ NoSession ∷ Exhausted ∷ Malformed ∷ TooLong ∷ NotOut ∷ WouldWait ∷ ResourcesFull ∷ []
 
 by_number : (a : Refusal) → get_or refusals (number_of a) NoMemory ≡ a
 by_number NoMemory = refl
@@ -117,18 +122,22 @@ Decides-refusal a b = (
 
 Decides-failure : (a b : Failure) → Decides (same_failure a b) (a ≡ b)
 Decides-failure a b =
-    let both = Decides-and (nat_eq a.action b.action) (same_fault a.fault b.fault) (Decides-eqb a.action b.action) (Decides-fault a.fault b.fault) in (
-      (λ h. let p = both.0 h in ap {A = ℕ} {B = Failure} (λ x. record { action = x; fault = a.fault }) p.0 ∙ ap {A = Fault} {B = Failure} (λ x. record { action = b.action; fault = x }) p.1),
+    let both = Decides-and (nat_eq a.action b.action) (same_fault a.fault b.fault) (Decides-eqb a.action b.action)
+    (Decides-fault a.fault b.fault) in (
+      (λ h. let p = both.0 h in ap {A = ℕ} {B = Failure} (λ x. record { action = x; fault = a.fault }) p.0
+          ∙ ap {A = Fault} {B = Failure} (λ x. record { action = b.action; fault = x }) p.1),
       (λ e. both.1 (ap (λ (x : Failure). x.action) e, ap (λ (x : Failure). x.fault) e)),
     )
 
 Decides-stat : (a b : Stat) → Decides (same_stat a b) (a ≡ b)
 Decides-stat a b =
     let all =
-    Decides-and (nat_eq a.objects b.objects && nat_eq a.resources b.resources && nat_eq a.taken b.taken && nat_eq a.ok b.ok) (nat_eq a.failed b.failed)
+    Decides-and (nat_eq a.objects b.objects && nat_eq a.resources b.resources && nat_eq a.taken b.taken && nat_eq a.ok b.ok)
+    (nat_eq a.failed b.failed)
     (Decides-and (nat_eq a.objects b.objects && nat_eq a.resources b.resources && nat_eq a.taken b.taken) (nat_eq a.ok b.ok)
     (Decides-and (nat_eq a.objects b.objects && nat_eq a.resources b.resources) (nat_eq a.taken b.taken)
-    (Decides-and (nat_eq a.objects b.objects) (nat_eq a.resources b.resources) (Decides-eqb a.objects b.objects) (Decides-eqb a.resources b.resources))
+    (Decides-and (nat_eq a.objects b.objects) (nat_eq a.resources b.resources) (Decides-eqb a.objects b.objects)
+    (Decides-eqb a.resources b.resources))
     (Decides-eqb a.taken b.taken))
     (Decides-eqb a.ok b.ok))
     (Decides-eqb a.failed b.failed) in (
@@ -139,7 +148,13 @@ Decides-stat a b =
           ∙ ap {A = ℕ} {B = Stat} (λ x. record b { taken = x; ok = a.ok; failed = a.failed }) p.0.0.1
           ∙ ap {A = ℕ} {B = Stat} (λ x. record b { ok = x; failed = a.failed }) p.0.1
           ∙ ap {A = ℕ} {B = Stat} (λ x. record b { failed = x }) p.1),
-      (λ e. all.1 ((((ap (λ (x : Stat). x.objects) e, ap (λ (x : Stat). x.resources) e), ap (λ (x : Stat). x.taken) e), ap (λ (x : Stat). x.ok) e), ap (λ (x : Stat). x.failed) e)),
+      (λ e. all.1 (
+        (
+          ((ap (λ (x : Stat). x.objects) e, ap (λ (x : Stat). x.resources) e), ap (λ (x : Stat). x.taken) e),
+          ap (λ (x : Stat). x.ok) e,
+        ),
+        ap (λ (x : Stat). x.failed) e,
+      )),
     )
 
 Decides-lists : (a b : List (List ℕ)) → Decides (pointwise bytes_eq a b) (a ≡ b)
@@ -347,7 +362,8 @@ answer_to (Job a0 a1) (Names b0) h = absurd (both_ways false refl h)
 answer_to (Job a0 a1) (Notes b0) h = absurd (both_ways false refl h)
 answer_to (Job a0 a1) (Faults b0) h = absurd (both_ways false refl h)
 answer_to (Job a0 a1) (StatAnswer b0) h = absurd (both_ways false refl h)
-answer_to (Job a0 a1) (Job b0 b1) h = let p = and_parts (nat_eq a0 b0) (same_work a1 b1) h in ap (λ x. Job x a1) ((Decides-eqb a0 b0).0 p.0) ∙ ap (λ x. Job b0 x) ((Decides-work a1 b1).0 p.1)
+answer_to (Job a0 a1) (Job b0 b1) h = let p = and_parts (nat_eq a0 b0) (same_work a1 b1) h in ap (λ x. Job x a1) ((Decides-eqb a0 b0).0 p.0)
+    ∙ ap (λ x. Job b0 x) ((Decides-work a1 b1).0 p.1)
 answer_to (Job a0 a1) AlreadyDone h = absurd (both_ways false refl h)
 answer_to (Job a0 a1) (Prepared b0) h = absurd (both_ways false refl h)
 answer_to (Job a0 a1) (OutAnswer b0) h = absurd (both_ways false refl h)

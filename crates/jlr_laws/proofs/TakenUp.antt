@@ -1,5 +1,6 @@
 -- A take-up of a cleanable, by a mutator or by the cleaner.
-use Rattle.std.proofs.Common.{◌≡◌, ℕ, ◌+◌, ◌≤◌, cond, List, [], ◌∷◌, length, refl, sym, ◌∙◌, ap, subst, ◌⊎◌, inl, inr, arith, Some, None, map, IsTrue, count_by, nat_eq, nat_lt, if◌then◌else◌}
+use Rattle.std.proofs.Common.{◌≡◌, ℕ, ◌+◌, ◌≤◌, cond, List, [], ◌∷◌, length, refl, sym, ◌∙◌, ap, subst, ◌⊎◌, inl, inr, arith, Some, None}
+use Rattle.std.proofs.Common.{map, IsTrue, count_by, nat_eq, nat_lt, if◌then◌else◌}
 use Rattle.std.specs.List.{AllByRecursion}
 use Rattle.std.proofs.lemmas.Bool.{cases_eq}
 use Rattle.jlr_types.specs.declared.Work.TheVariants.{Resource as WorkOn}
@@ -18,12 +19,16 @@ use Rattle.jlr_machine.specs.declared.machine.ResourceState.TheVariants.{Opening
 use Rattle.jlr_machine.specs.Objects.{Table, Heap, at, ◌∈◌, is_rising, is_distinct}
 use Rattle.jlr_machine.specs.Lookups.{with_job}
 use Rattle.jlr_machine.specs.Calls.{spent}
-use Rattle.jlr_machine.specs.WellFormed.{IsSessionAt, IsCleanableAt, IsObjectAt, HasResource, IsFencing, FitsItsCall, IsUnspent, HasWorker, IsJob, IsWellFormed, AreSlotsNamed, AreReferences, AreLists, AreSessions, AreActions, AreResources, AreCalls, ArePrivate, IsPrivate, OpeningHasRoom, IsCallOf, IsAction, clean_state_at, is_unspent_place}
+use Rattle.jlr_machine.specs.WellFormed.{IsSessionAt, IsCleanableAt, IsObjectAt, HasResource, IsFencing, FitsItsCall, IsUnspent, HasWorker}
+use Rattle.jlr_machine.specs.WellFormed.{IsJob, IsWellFormed, AreSlotsNamed, AreReferences, AreLists, AreSessions, AreActions, AreResources}
+use Rattle.jlr_machine.specs.WellFormed.{AreCalls, ArePrivate, IsPrivate, OpeningHasRoom, IsCallOf, IsAction, clean_state_at}
+use Rattle.jlr_machine.specs.WellFormed.{is_unspent_place}
 use Rattle.jlr_laws.proofs.Frames.{no_some, some_same, IsRoot, root_gives, root_from, limits_stay, seen_stays}
 use Rattle.jlr_laws.proofs.Frames.IsRoot.{held, fencing, named, waiting, lining, active}
 use Rattle.jlr_laws.proofs.Keyed.{by_key, keyed_with, found_new, found_beside, rising_with, all_with, count_with, length_with}
 use Rattle.jlr_laws.proofs.Changes.{cleanable_same, resource_same, HasCleanable, worker_over}
-use Rattle.jlr_laws.proofs.Retouched.{IsRetouched, not_armed, back, over, cleanable_cases, alive, edges_back, active_back, state_same, clean_state_here, clean_state_beside, references_kept, queue_over, cleanable_there, private_back}
+use Rattle.jlr_laws.proofs.Retouched.{IsRetouched, not_armed, back, over, cleanable_cases, alive, edges_back, active_back, state_same}
+use Rattle.jlr_laws.proofs.Retouched.{clean_state_here, clean_state_beside, references_kept, queue_over, cleanable_there, private_back}
 
 pub with_job-keyed : (jobs : List JobOf) (new : JobOf) → with_job jobs new ≡ keyed_with {A = JobOf} (λ job. job.action) jobs new
 with_job-keyed [] new = refl
@@ -39,9 +44,11 @@ pub record IsTaker (m : Machine) (by action : ℕ) (s : Session) : Type 0 where
   pub call : s.call ≡ CallJob action
 
 abbrev pub has : List Resource → ℕ → ℕ → ResourceState → Type 0
-has resources rid action state = by_key {A = Resource} (λ r. r.rid) resources rid ≡ Some (record { rid = rid; action = action; state = state })
+has resources rid action state =
+    by_key {A = Resource} (λ r. r.rid) resources rid ≡ Some (record { rid = rid; action = action; state = state })
 
-pub record IsTakenUp (m : Machine) (heap : Heap) (mutators : Table Session) (line : List ℕ) (resources : List Resource) (by s : ℕ) (c : CleanableOf) : Type 0 where
+pub record IsTakenUp (m : Machine) (heap : Heap) (mutators : Table Session) (line : List ℕ) (resources : List Resource) (by s : ℕ)
+    (c : CleanableOf) : Type 0 where
   pub as_long : length heap ≡ length m.objects
   pub as_many : length mutators ≡ length m.mutators
   pub cleanable : IsCleanableAt m s c
@@ -61,12 +68,15 @@ pub record IsTakenUp (m : Machine) (heap : Heap) (mutators : Table Session) (lin
   -- resources
   pub was_idle : (rid : ℕ) → c.work ≡ WorkOn rid → HasResource m rid c.action Idle
   pub closing : (rid : ℕ) → c.work ≡ WorkOn rid → has resources rid c.action Closing
-  pub resource_cases : (rid action : ℕ) (state : ResourceState) → has resources rid action state → (c.work ≡ WorkOn rid) ⊎ HasResource m rid action state
-  pub resource_over : (rid action : ℕ) (state : ResourceState) → (c.work ≡ WorkOn rid → ⊥) → HasResource m rid action state → has resources rid action state
+  pub resource_cases : (rid action : ℕ) (state : ResourceState) → has resources rid action state → (c.work ≡ WorkOn rid)
+      ⊎ HasResource m rid action state
+  pub resource_over : (rid action : ℕ) (state : ResourceState) → (c.work ≡ WorkOn rid → ⊥) → HasResource m rid action state
+      → has resources rid action state
   pub rising : IsTrue (is_rising (map (λ r. r.rid) resources))
   pub actions : AllByRecursion (λ r. IsAction m r.action) resources
 
-module _ (m : Machine) (heap : Heap) (mutators : Table Session) (line : List ℕ) (resources : List Resource) (by s : ℕ) (c : CleanableOf) (w : IsWellFormed m) (x : IsTakenUp m heap mutators line resources by s c) where
+module _ (m : Machine) (heap : Heap) (mutators : Table Session) (line : List ℕ) (resources : List Resource) (by s : ℕ) (c : CleanableOf)
+    (w : IsWellFormed m) (x : IsTakenUp m heap mutators line resources by s c) where
   abbrev job : JobOf
   job = record { action = c.action; work = c.work; by = by }
 
@@ -74,7 +84,15 @@ module _ (m : Machine) (heap : Heap) (mutators : Table Session) (line : List ℕ
   job_key j = j.action
 
   abbrev n : Machine
-  n = record m { objects = heap; mutators = mutators; line = line; jobs = keyed_with job_key m.jobs job; resources = resources; taken = m.taken + 1 }
+  n = record m {
+    objects =
+        heap;
+    mutators = mutators;
+    line = line;
+    jobs = keyed_with job_key m.jobs job;
+    resources = resources;
+    taken = m.taken + 1;
+  }
 
   touched : IsRetouched m.objects heap s c (spent c)
   touched = record { there = x.cleanable; here = x.here; others = x.beside; action = refl; work = refl; referent = refl; passive = refl }
@@ -118,7 +136,8 @@ module _ (m : Machine) (heap : Heap) (mutators : Table Session) (line : List ℕ
       p (w.actions.cleanables t s d c u was_unspent both.0)
 
   -- a resource in another state than Closing is not this one
-  not_this : (rid action : ℕ) (state : ResourceState) → (state ≡ Closing → ⊥) → has resources rid action state → (c.work ≡ WorkOn rid → ⊥) × HasResource m rid action state
+  not_this : (rid action : ℕ) (state : ResourceState) → (state ≡ Closing → ⊥) → has resources rid action state → (c.work ≡ WorkOn rid → ⊥)
+      × HasResource m rid action state
   not_this rid action state d h =
       let apart : c.work ≡ WorkOn rid → ⊥ = λ e. d (resource_same n rid action c.action state Closing h (x.closing rid e)).1 in
       (apart, elim (x.resource_cases rid action state h) [ inl e ↦ absurd (apart e) | inr y ↦ y ])
@@ -152,20 +171,25 @@ module _ (m : Machine) (heap : Heap) (mutators : Table Session) (line : List ℕ
       record {
         edges = λ t y h. alive m heap s c (spent c) touched y (w.slots.edges t y (edges_back m heap s c (spent c) touched t y h));
         roots = λ t h. alive m heap s c (spent c) touched t (root_there t (root_gives n t h));
-        queues = λ t q r e f. queue_over m heap s c (spent c) touched q (w.slots.queues t q r (back m heap s c (spent c) touched t (Reference r) refl e) f);
-        guarded = λ t g e. cleanable_there m heap s c (spent c) touched g.cleanable (w.slots.guarded t g (back m heap s c (spent c) touched t (Guard g) refl e));
+        queues = λ t q r e f. queue_over m heap s c (spent c) touched q
+            (w.slots.queues t q r (back m heap s c (spent c) touched t (Reference r) refl e) f);
+        guarded = λ t g e. cleanable_there m heap s c (spent c) touched g.cleanable
+            (w.slots.guarded t g (back m heap s c (spent c) touched t (Guard g) refl e));
       }
 
   references : AreReferences n
-  references = let r = references_kept m heap s c (spent c) touched w.references in record { states = r.states; members = r.members; once = r.once; in_one = r.in_one }
+  references = let r = references_kept m heap s c (spent c) touched w.references in
+      record { states = r.states; members = r.members; once = r.once; in_one = r.in_one }
 
-  clean_state_back : (t : ℕ) (state : CleanState) → (state ≡ Spent → ⊥) → clean_state_at n t ≡ Some state → (t ≡ s → ⊥) × (clean_state_at m t ≡ Some state)
+  clean_state_back : (t : ℕ) (state : CleanState) → (state ≡ Spent → ⊥) → clean_state_at n t ≡ Some state → (t ≡ s → ⊥)
+      × (clean_state_at m t ≡ Some state)
   clean_state_back t state d e = elim (cases_eq t s) [
     | inl p ↦ absurd (d (some_same state Spent (sym e ∙ ap (clean_state_at n) p ∙ clean_state_here m heap s c (spent c) touched)))
     | inr p ↦ (p, sym (clean_state_beside m heap s c (spent c) touched t p) ∙ e)
   ]
 
-  clean_state_over : (t : ℕ) (state : CleanState) → clean_state_at m t ≡ Some state → (clean_state_at n t ≡ Some state) ⊎ (clean_state_at n t ≡ Some Spent)
+  clean_state_over : (t : ℕ) (state : CleanState) → clean_state_at m t ≡ Some state → (clean_state_at n t ≡ Some state)
+      ⊎ (clean_state_at n t ≡ Some Spent)
   clean_state_over t state e = elim (cases_eq t s) [
     | inl p ↦ inr (ap (clean_state_at n) p ∙ clean_state_here m heap s c (spent c) touched)
     | inr p ↦ inl (clean_state_beside m heap s c (spent c) touched t p ∙ e)
@@ -242,16 +266,19 @@ module _ (m : Machine) (heap : Heap) (mutators : Table Session) (line : List ℕ
 
   cleanable_over : (rid action : ℕ) → (c.work ≡ WorkOn rid → ⊥) → HasCleanable m rid action → HasCleanable n rid action
   cleanable_over rid action d h =
-      let apart : h.0 ≡ s → ⊥ = λ e. d (ap (λ z. z.work) (cleanable_same m s c h.1 x.cleanable (subst (λ z. IsCleanableAt m z h.1) e h.2.there)) ∙ h.4) in
+      let apart : h.0 ≡ s → ⊥ =
+      λ e. d (ap (λ z. z.work) (cleanable_same m s c h.1 x.cleanable (subst (λ z. IsCleanableAt m z h.1) e h.2.there)) ∙ h.4) in
       (h.0, h.1, unspent_over h.0 h.1 apart h.2, h.3, h.4)
 
-  worked_over : (rid action : ℕ) (state : ResourceState) → has resources rid action state → HasResource m rid action state → HasWorker n rid action state
+  worked_over : (rid action : ℕ) (state : ResourceState) → has resources rid action state → HasResource m rid action state
+      → HasWorker n rid action state
   worked_over rid action state h y =
       let apart : c.work ≡ WorkOn rid → ⊥ = λ e.
       let idle = resource_same m rid action c.action state Idle y (x.was_idle rid e) in
       let shut = resource_same n rid action c.action state Closing h (x.closing rid e) in
       absurd (cc (idle.1, shut.1)) in
-      worker_over m n rid action state (cleanable_over rid action apart) (λ z. (z.0, job_over z.0.action z.0 z.1, z.2, z.3)) (w.resources.worked rid action state y)
+      worker_over m n rid action state (cleanable_over rid action apart) (λ z. (z.0, job_over z.0.action z.0 z.1, z.2, z.3))
+      (w.resources.worked rid action state y)
 
   resources_kept : AreResources n
   resources_kept =
@@ -276,14 +303,20 @@ module _ (m : Machine) (heap : Heap) (mutators : Table Session) (line : List ℕ
               let r = w.resources.of_jobs j rid p.1 f in
               x.resource_over rid j.action Closing (was_not_this rid j.action Closing (λ z. absurd (cc z)) r) r
         ];
-        one_guard = λ t u g h e f. w.resources.one_guard t u g h (back m heap s c (spent c) touched t (Guard g) refl e) (back m heap s c (spent c) touched u (Guard h) refl f);
+        one_guard = λ t u g h e f. w.resources.one_guard t u g h (back m heap s c (spent c) touched t (Guard g) refl e)
+            (back m heap s c (spent c) touched u (Guard h) refl f);
         guards = λ t g d e f. elim (cleanable_cases m heap s c (spent c) touched g.cleanable d f) [
           | inl y ↦ inl (ap (λ z. z.state) y.1)
-          | inr y ↦ elim (w.resources.guards t g d (back m heap s c (spent c) touched t (Guard g) refl e) y.1) [ inl a ↦ inl a | inr a ↦ inr (record { armed = a.armed; referent = a.referent; work = a.work }) ]
+          | inr y ↦ elim (w.resources.guards t g d (back m heap s c (spent c) touched t (Guard g) refl e) y.1) [
+            | inl a ↦ inl a
+            | inr a ↦
+                inr (record { armed = a.armed; referent = a.referent; work = a.work })
+          ]
         ];
         guarded = λ t rid d e a f. elim (cleanable_cases m heap s c (spent c) touched t d e) [
           | inl y ↦ absurd (not_armed m heap s c (spent c) touched (ap (λ z. z.state) (sym y.1) ∙ a))
-          | inr y ↦ let g = w.resources.guarded t rid d y.1 a f in (g.0, g.1, over m heap s c (spent c) touched g.0 (Guard g.1) refl g.2, g.3)
+          | inr y ↦ let g = w.resources.guarded t rid d y.1 a f in
+              (g.0, g.1, over m heap s c (spent c) touched g.0 (Guard g.1) refl g.2, g.3)
         ];
       }
 
@@ -292,9 +325,20 @@ module _ (m : Machine) (heap : Heap) (mutators : Table Session) (line : List ℕ
   fencing_over : (z : Session) (rid : ℕ) (state : ResourceState) → (state ≡ Idle → ⊥) → IsFencing m z rid state → IsFencing n z rid state
   fencing_over z rid state d f =
       let other : c.work ≡ WorkOn rid → ⊥ = was_not_this rid f.2.action state d f.8 in
-      let own : f.2.work ≡ WorkOn f.1.rid = elim (w.resources.guards f.0 f.1 f.2 f.4 f.6) [ inl e ↦ absurd (cc (e, f.7)) | inr o ↦ o.work ] in
-      let apart : f.1.cleanable ≡ s → ⊥ = λ e. other (ap (λ z. z.work) (cleanable_same m s c f.2 x.cleanable (subst (λ z. IsCleanableAt m z f.2) e f.6)) ∙ own ∙ ap WorkOn f.5) in
-      (f.0, f.1, f.2, f.3, over m heap s c (spent c) touched f.0 (Guard f.1) refl f.4, f.5, x.beside f.1.cleanable apart ∙ f.6, f.7, x.resource_over rid f.2.action state other f.8)
+      let own : f.2.work ≡ WorkOn f.1.rid =
+      elim (w.resources.guards f.0 f.1 f.2 f.4 f.6) [ inl e ↦ absurd (cc (e, f.7)) | inr o ↦ o.work ] in
+      let apart : f.1.cleanable ≡ s → ⊥ = λ e. other (ap (λ z. z.work)
+      (cleanable_same m s c f.2 x.cleanable (subst (λ z. IsCleanableAt m z f.2) e f.6)) ∙ own ∙ ap WorkOn f.5) in (
+        f.0,
+        f.1,
+        f.2,
+        f.3,
+        over m heap s c (spent c) touched f.0 (Guard f.1) refl f.4,
+        f.5,
+        x.beside f.1.cleanable apart ∙ f.6,
+        f.7,
+        x.resource_over rid f.2.action state other f.8,
+      )
 
   fits_over : (j : ℕ) (z : Session) (call : Call) → FitsItsCall m j z call → FitsItsCall n j z call
   fits_over j z Free f = f
@@ -344,7 +388,8 @@ module _ (m : Machine) (heap : Heap) (mutators : Table Session) (line : List ℕ
       }
 
   private_was : (t : ℕ) → IsPrivate n t → IsPrivate m t
-  private_was = private_back m heap s c (spent c) touched n (λ _. refl) (λ rid action h. (not_this rid action Opening (λ e. absurd (cc e)) h).1)
+  private_was =
+      private_back m heap s c (spent c) touched n (λ _. refl) (λ rid action h. (not_this rid action Opening (λ e. absurd (cc e)) h).1)
 
   unnamed : ArePrivate n
   unnamed =
@@ -354,8 +399,10 @@ module _ (m : Machine) (heap : Heap) (mutators : Table Session) (line : List ℕ
           | inr y ↦ w.unnamed.handles j h t session y f (private_was t p)
         ];
         names = λ t h p. w.unnamed.names t h (private_was t p);
-        fields = λ u t fields e h p. w.unnamed.fields u t fields (back m heap s c (spent c) touched u (Plain fields) refl e) h (private_was t p);
-        references = λ u t r e f p. w.unnamed.references u t r (back m heap s c (spent c) touched u (Reference r) refl e) f (private_was t p);
+        fields = λ u t fields e h p. w.unnamed.fields u t fields (back m heap s c (spent c) touched u (Plain fields) refl e) h
+            (private_was t p);
+        references =
+            λ u t r e f p. w.unnamed.references u t r (back m heap s c (spent c) touched u (Reference r) refl e) f (private_was t p);
       }
 
   pub taken_up_is_well_formed : IsWellFormed n

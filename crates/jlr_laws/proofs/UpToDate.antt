@@ -34,7 +34,8 @@ seen_again seen reach cells =
 abbrev seen_when : Bool → List ℕ → List ℕ → ℕ → List ℕ
 seen_when b seen reach cells = elim b as (λ _. List ℕ) [ true ↦ seen_with seen reach cells | false ↦ [] ]
 
-when_again : (b : Bool) (seen reach : List ℕ) (cells : ℕ) → seen_when b seen reach cells ≡ seen_when b (seen_when b seen reach cells) reach cells
+when_again : (b : Bool) (seen reach : List ℕ) (cells : ℕ)
+    → seen_when b seen reach cells ≡ seen_when b (seen_when b seen reach cells) reach cells
 when_again true seen reach cells = sym (seen_again seen reach cells)
 when_again false seen reach cells = refl
 

@@ -1,7 +1,8 @@
 -- Worked runs on arrays. Each is a list of entries as a core writes them.
 use Rattle.std.specs.Prelude.{List, [], ◌∷◌, true, false}
 use Rattle.jlr_types.specs.declared.Refusal.TheVariants.{WrongKind, NoField}
-use Rattle.jlr_machine.specs.declared.ask.Ask.TheVariants.{Join, Leave, New, Put, Get, Int, Drop, Full, Stat, Array, Begin, Collect}
+use Rattle.jlr_machine.specs.declared.ask.Ask.TheVariants.{Join, Leave, New, Put, Get, Int, Drop, Full, Stat, Array}
+use Rattle.jlr_machine.specs.declared.ask.Ask.TheVariants.{Begin, Collect}
 use Rattle.jlr_machine.specs.declared.ask.FullMode.TheVariants.{Policy}
 use Rattle.jlr_machine.specs.declared.ask.Answer.TheVariants.{Done, Handle, Truth, Stat as StatAnswer, Refused}
 use Rattle.jlr_machine.specs.declared.entry.Entry.{Entry}

@@ -1,14 +1,20 @@
--- Worked runs on the cleaner, files and sockets. Each is a list of entries as a core writes them, with the handler's and the cleaner's steps.
+-- Worked runs on the cleaner, files and sockets. Each is a list of entries as a core writes them, with the handler's
+-- and the cleaner's steps.
 use Rattle.std.specs.Prelude.{List, [], ◌∷◌}
 use Rattle.jlr_types.specs.declared.Work.TheVariants.{Note, Resource as WorkOn}
 use Rattle.jlr_types.specs.declared.Fault.TheVariants.{NotFound, Other}
 use Rattle.jlr_types.specs.declared.Refusal.TheVariants.{Closed, ResourcesFull}
-use Rattle.jlr_machine.specs.declared.ask.Ask.TheVariants.{Join, Leave, New, Drop, MakeCleaner, Register, Clean, Prepare, Opened, CheckOut, CheckIn, Close, Finish, Full, Stat, Notes, Faults, HandOver, TakeUp}
+use Rattle.jlr_machine.specs.declared.ask.Ask.TheVariants.{Join, Leave, New, Drop, MakeCleaner, Register, Clean}
+use Rattle.jlr_machine.specs.declared.ask.Ask.TheVariants.{Prepare, Opened, CheckOut, CheckIn, Close, Finish, Full}
+use Rattle.jlr_machine.specs.declared.ask.Ask.TheVariants.{Stat, Notes, Faults, HandOver, TakeUp}
 use Rattle.jlr_machine.specs.declared.ask.FullMode.TheVariants.{Policy}
 use Rattle.jlr_machine.specs.declared.ask.Handed.TheVariants.{Lined as HandedLined}
 use Rattle.jlr_machine.specs.declared.ask.Outcome.TheVariants.{Ok as OutcomeOk, Failed}
 use Rattle.jlr_machine.specs.declared.ask.CallOutcome.TheVariants.{Data as GotData, Wrote as GotWrote}
-use Rattle.jlr_machine.specs.declared.ask.Answer.TheVariants.{Done, Handle, Data, Wrote, Faulted, Notes as NotesAnswer, Faults as FaultsAnswer, Stat as StatAnswer, Job, AlreadyDone, Prepared, Out, Handed as HandedAnswer, Refused}
+use Rattle.jlr_machine.specs.declared.ask.Answer.TheVariants.{Done, Handle, Data, Wrote, Faulted, Notes as NotesAnswer}
+use Rattle.jlr_machine.specs.declared.ask.Answer.TheVariants.{Faults as FaultsAnswer, Stat as StatAnswer, Job}
+use Rattle.jlr_machine.specs.declared.ask.Answer.TheVariants.{AlreadyDone, Prepared, Out, Handed as HandedAnswer}
+use Rattle.jlr_machine.specs.declared.ask.Answer.TheVariants.{Refused}
 use Rattle.jlr_machine.specs.declared.entry.Entry.{Entry}
 use Rattle.jlr_laws.specs.Rows.{entry, making, preparing, collecting, stat}
 
@@ -56,7 +62,8 @@ file_row =
     ∷ entry (Leave 0) Done
     ∷ []
 
--- `open w a; cleaner; new -; register 2 3 9; drop 1; gc; faults; drop 3; gc; notes; stat`, where the finish of the file fails
+-- `open w a; cleaner; new -; register 2 3 9; drop 1; gc; faults; drop 3; gc; notes; stat`, where the finish of the file
+-- fails
 abbrev pub failed_cleaning_row : List Entry
 failed_cleaning_row =
     entry (Join 0) Done

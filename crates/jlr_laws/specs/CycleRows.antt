@@ -1,11 +1,14 @@
--- Worked runs with background collections. Each is a list of entries as a core writes them, with the handler's and the cleaner's steps.
+-- Worked runs with background collections. Each is a list of entries as a core writes them, with the handler's and the
+-- cleaner's steps.
 use Rattle.std.specs.Prelude.{List, [], ◌∷◌, true, false}
 use Rattle.jlr_types.specs.declared.FieldKind.TheVariants.{Ref as RefField}
 use Rattle.jlr_types.specs.declared.RefKind.TheVariants.{Soft, Weak}
 use Rattle.jlr_types.specs.declared.Refusal.TheVariants.{HeapFull}
-use Rattle.jlr_machine.specs.declared.ask.Ask.TheVariants.{Join, New, Put, Get, Drop, MakeRef, Deref, Enqueue, Enqueued, MakeQueue, Poll, Stat, HandOver, Begin, Collect, Abandon}
+use Rattle.jlr_machine.specs.declared.ask.Ask.TheVariants.{Join, New, Put, Get, Drop, MakeRef, Deref, Enqueue, Enqueued}
+use Rattle.jlr_machine.specs.declared.ask.Ask.TheVariants.{MakeQueue, Poll, Stat, HandOver, Begin, Collect, Abandon}
 use Rattle.jlr_machine.specs.declared.ask.Handed.TheVariants.{Queued as HandedQueued}
-use Rattle.jlr_machine.specs.declared.ask.Answer.TheVariants.{Done, Handle, Truth, Stat as StatAnswer, Handed as HandedAnswer, Refused}
+use Rattle.jlr_machine.specs.declared.ask.Answer.TheVariants.{Done, Handle, Truth, Stat as StatAnswer}
+use Rattle.jlr_machine.specs.declared.ask.Answer.TheVariants.{Handed as HandedAnswer, Refused}
 use Rattle.jlr_machine.specs.declared.entry.Entry.{Entry}
 use Rattle.jlr_laws.specs.Rows.{entry, making, collecting, collecting_for, stat}
 
@@ -121,10 +124,12 @@ full_heap_in_cycle_row =
     ∷ making (New 0 []) (Handle 15) 14
     ∷ making (New 0 []) (Handle 16) 15
     ∷ entry Begin (Truth true)
-    ∷ collecting (New 0 []) (Refused HeapFull) (0 ∷ 1 ∷ 2 ∷ 3 ∷ 4 ∷ 5 ∷ 6 ∷ 7 ∷ 8 ∷ 9 ∷ 10 ∷ 11 ∷ 12 ∷ 13 ∷ 14 ∷ 15 ∷ []) []
+    ∷ collecting (New 0 []) (Refused HeapFull)
+    (0 ∷ 1 ∷ 2 ∷ 3 ∷ 4 ∷ 5 ∷ 6 ∷ 7 ∷ 8 ∷ 9 ∷ 10 ∷ 11 ∷ 12 ∷ 13 ∷ 14 ∷ 15 ∷ []) []
     ∷ entry Collect (Truth false)
     ∷ entry (Drop 0 1) Done
-    ∷ collecting_for (New 0 []) (Handle 1) (1 ∷ 2 ∷ 3 ∷ 4 ∷ 5 ∷ 6 ∷ 7 ∷ 8 ∷ 9 ∷ 10 ∷ 11 ∷ 12 ∷ 13 ∷ 14 ∷ 15 ∷ []) [] (0 ∷ [])
+    ∷ collecting_for (New 0 []) (Handle 1) (1 ∷ 2 ∷ 3 ∷ 4 ∷ 5 ∷ 6 ∷ 7 ∷ 8 ∷ 9 ∷ 10 ∷ 11 ∷ 12 ∷ 13 ∷ 14 ∷ 15 ∷ []) []
+    (0 ∷ [])
     ∷ []
 
 -- `Join, MakeQueue, New -, MakeRef weak 2 1, Enqueue 3, Drop 3, Drop 2, Begin, Poll 1, Collect, Enqueued 2, Stat`

@@ -1,5 +1,6 @@
 -- Tests that compute: which collections and which entries are legal.
-use Rattle.std.specs.Prelude.{ℕ, ◌+◌, ◌^◌, ◌↔◌, Bool, true, false, not, ◌&&◌, ◌||◌, Decides, IsTrue, List, [], ◌∷◌, Option, Some, None, is_some, is_none, length, nat_eq, nat_lt}
+use Rattle.std.specs.Prelude.{ℕ, ◌+◌, ◌^◌, ◌↔◌, Bool, true, false, not, ◌&&◌, ◌||◌, Decides, IsTrue, List, [], ◌∷◌}
+use Rattle.std.specs.Prelude.{Option, Some, None, is_some, is_none, length, nat_eq, nat_lt}
 use Rattle.std.specs.List.{list_all}
 use Rattle.jlr_machine.specs.declared.object.Object.{Object}
 use Rattle.jlr_machine.specs.declared.machine.Machine.{Machine}
@@ -43,11 +44,14 @@ loses_referent heap kept s = (kept ∋ s) && some_and (goes_out kept) (at heap s
 -- handed over are, once each, just the kept objects that lose a referent
 abbrev pub hands_over : Heap → List ℕ → List ℕ → Bool
 hands_over heap kept pending =
-    list_all (loses_referent heap kept) pending && list_all (λ s. not (loses_referent heap kept s) || (pending ∋ s)) kept && is_distinct pending && is_rising kept
+    list_all (loses_referent heap kept) pending
+    && list_all (λ s. not (loses_referent heap kept s) || (pending ∋ s)) kept && is_distinct pending
+    && is_rising kept
 
 -- what is kept is what the chain reaches inside
 abbrev pub cuts_off : Chain → Heap → List ℕ → List ℕ → List ℕ → Bool
-cuts_off chain heap B kept pending = holds_all kept B && is_closed heap kept && holds_all (reach_set chain (only kept heap) B) kept && hands_over heap kept pending
+cuts_off chain heap B kept pending = holds_all kept B && is_closed heap kept
+    && holds_all (reach_set chain (only kept heap) B) kept && hands_over heap kept pending
 
 abbrev pub is_collection : Heap → List ℕ → List ℕ → List ℕ → Bool
 is_collection heap B kept pending = cuts_off UpToSoft heap B kept pending
@@ -56,7 +60,8 @@ abbrev pub are_objects : Heap → List ℕ → Bool
 are_objects heap slots = list_all (λ s. is_some (at heap s)) slots
 
 abbrev pub cuts_off_in_background : Heap → List ℕ → List ℕ → List ℕ → List ℕ → Bool
-cuts_off_in_background heap base seen kept pending = holds_all seen kept && are_objects heap kept && holds_all kept base && is_closed heap kept && hands_over heap kept pending
+cuts_off_in_background heap base seen kept pending = holds_all seen kept && are_objects heap kept && holds_all kept base
+    && is_closed heap kept && hands_over heap kept pending
 
 abbrev pub is_background : Machine → List ℕ → List ℕ → Bool
 is_background m kept pending = cuts_off_in_background m.objects (roots m) m.seen kept pending
@@ -68,13 +73,16 @@ abbrev pub is_full_clearing : Machine → List ℕ → List ℕ → Bool
 is_full_clearing m kept pending = cuts_off Strong m.objects (roots m) kept pending
 
 abbrev pub CollectionsAreDecided : Type 0
-CollectionsAreDecided = (heap : Heap) (B kept pending : List ℕ) → IsWithinHeap heap B → Decides (is_collection heap B kept pending) (IsCollection heap B kept pending)
+CollectionsAreDecided = (heap : Heap) (B kept pending : List ℕ) → IsWithinHeap heap B
+    → Decides (is_collection heap B kept pending) (IsCollection heap B kept pending)
 
 abbrev pub BackgroundIsDecided : Type 0
-BackgroundIsDecided = (m : Machine) (kept pending : List ℕ) → IsWithinHeap m.objects (roots m) → IsSeenWithin m → Decides (is_background m kept pending) (IsBackground m kept pending)
+BackgroundIsDecided = (m : Machine) (kept pending : List ℕ) → IsWithinHeap m.objects (roots m) → IsSeenWithin m
+    → Decides (is_background m kept pending) (IsBackground m kept pending)
 
 abbrev pub ClearingIsDecided : Type 0
-ClearingIsDecided = (m : Machine) (kept pending : List ℕ) → IsWithinHeap m.objects (roots m) → Decides (is_full_clearing m kept pending) (IsFullClearing m kept pending)
+ClearingIsDecided = (m : Machine) (kept pending : List ℕ) → IsWithinHeap m.objects (roots m)
+    → Decides (is_full_clearing m kept pending) (IsFullClearing m kept pending)
 
 -- ---- Entries
 
@@ -119,7 +127,8 @@ is_refused m e = some_and (λ by. same_answer e.answer (Refused by)) (refusal m 
 
 -- a collection that clears all leaves too few cells
 abbrev pub leaves_too_few : Machine → Ask → Collected → Bool
-leaves_too_few m ask c = not (has_room m (cells_needed ask)) && is_full_clearing m c.kept c.pending && nat_lt (length m.objects) (length c.kept + cells_needed ask)
+leaves_too_few m ask c = not (has_room m (cells_needed ask)) && is_full_clearing m c.kept c.pending
+    && nat_lt (length m.objects) (length c.kept + cells_needed ask)
 
 abbrev pub is_heap_full : Machine → Entry → Bool
 is_heap_full m e =

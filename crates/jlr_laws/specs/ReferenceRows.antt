@@ -1,8 +1,10 @@
--- Worked runs on references, queues and soft references. Each is a list of entries as a core writes them, with the handler's and the cleaner's steps.
+-- Worked runs on references, queues and soft references. Each is a list of entries as a core writes them, with the
+-- handler's and the cleaner's steps.
 use Rattle.std.specs.Prelude.{List, [], ◌∷◌, true, false}
 use Rattle.jlr_types.specs.declared.FieldKind.TheVariants.{Ref as RefField}
 use Rattle.jlr_types.specs.declared.RefKind.TheVariants.{Soft, Weak, Phantom}
-use Rattle.jlr_machine.specs.declared.ask.Ask.TheVariants.{Join, Leave, New, Put, Drop, Same, MakeRef, Deref, Refers, Clear, Enqueue, Enqueued, MakeQueue, Poll, Full, HandOver}
+use Rattle.jlr_machine.specs.declared.ask.Ask.TheVariants.{Join, Leave, New, Put, Drop, Same, MakeRef, Deref, Refers}
+use Rattle.jlr_machine.specs.declared.ask.Ask.TheVariants.{Clear, Enqueue, Enqueued, MakeQueue, Poll, Full, HandOver}
 use Rattle.jlr_machine.specs.declared.ask.FullMode.TheVariants.{Policy, ClearAll}
 use Rattle.jlr_machine.specs.declared.ask.Handed.TheVariants.{Queued as HandedQueued, Skipped}
 use Rattle.jlr_machine.specs.declared.ask.Answer.TheVariants.{Done, Handle, Truth, Handed as HandedAnswer}
@@ -116,7 +118,8 @@ program_first_row =
     ∷ entry (Poll 0 1) (Handle 0)
     ∷ []
 
--- `new r; new -; put 1 0 2; soft 1 0; soft 2 0; drop 1; drop 2; gc; deref 3; deref 4; drop 1; drop 2; gc soft; deref 3; deref 4`
+-- `new r; new -; put 1 0 2; soft 1 0; soft 2 0; drop 1; drop 2; gc; deref 3; deref 4; drop 1; drop 2; gc soft; deref 3;
+-- deref 4`
 abbrev pub soft_chain_row : List Entry
 soft_chain_row =
     entry (Join 0) Done

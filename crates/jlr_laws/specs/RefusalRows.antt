@@ -1,17 +1,25 @@
--- Worked runs on refusals, full heaps and names. Each is a list of entries as a core writes them, with the handler's and the cleaner's steps.
+-- Worked runs on refusals, full heaps and names. Each is a list of entries as a core writes them, with the handler's
+-- and the cleaner's steps.
 use Rattle.std.specs.Prelude.{ℕ, suc, zero, ◌+◌, ◌/◌, ◌%◌, List, [], ◌∷◌, ◌++◌, pos, negsuc}
 use Rattle.jlr_types.specs.declared.FieldKind.TheVariants.{Int as IntField, Ref as RefField}
 use Rattle.jlr_types.specs.declared.RefKind.TheVariants.{Soft, Weak}
-use Rattle.jlr_types.specs.declared.Refusal.TheVariants.{HeapFull, NoHandle, WrongKind, NoField, WrongType, Null, NoName, NamesFull, Busy, NoSession, Exhausted, NotOut, WouldWait}
-use Rattle.jlr_machine.specs.declared.ask.Ask.TheVariants.{Join, Leave, New, Get, SetInt, Int, Dup, Drop, MakeRef, Deref, MakeQueue, Poll, Remove, MakeCleaner, Register, Prepare, Opened, CheckOut, CheckIn, Bind, Find, Unbind, Names, Full, Stat}
+use Rattle.jlr_types.specs.declared.Refusal.TheVariants.{HeapFull, NoHandle, WrongKind, NoField, WrongType, Null}
+use Rattle.jlr_types.specs.declared.Refusal.TheVariants.{NoName, NamesFull, Busy, NoSession, Exhausted, NotOut}
+use Rattle.jlr_types.specs.declared.Refusal.TheVariants.{WouldWait}
+use Rattle.jlr_machine.specs.declared.ask.Ask.TheVariants.{Join, Leave, New, Get, SetInt, Int, Dup, Drop, MakeRef}
+use Rattle.jlr_machine.specs.declared.ask.Ask.TheVariants.{Deref, MakeQueue, Poll, Remove, MakeCleaner, Register}
+use Rattle.jlr_machine.specs.declared.ask.Ask.TheVariants.{Prepare, Opened, CheckOut, CheckIn, Bind, Find, Unbind}
+use Rattle.jlr_machine.specs.declared.ask.Ask.TheVariants.{Names, Full, Stat}
 use Rattle.jlr_machine.specs.declared.ask.FullMode.TheVariants.{Policy}
 use Rattle.jlr_machine.specs.declared.ask.Outcome.TheVariants.{Ok as OutcomeOk}
 use Rattle.jlr_machine.specs.declared.ask.CallOutcome.TheVariants.{Wrote as GotWrote}
-use Rattle.jlr_machine.specs.declared.ask.Answer.TheVariants.{Done, Handle, Int as IntAnswer, Names as NamesAnswer, Stat as StatAnswer, Prepared, Out, Refused}
+use Rattle.jlr_machine.specs.declared.ask.Answer.TheVariants.{Done, Handle, Int as IntAnswer, Names as NamesAnswer}
+use Rattle.jlr_machine.specs.declared.ask.Answer.TheVariants.{Stat as StatAnswer, Prepared, Out, Refused}
 use Rattle.jlr_machine.specs.declared.entry.Entry.{Entry}
 use Rattle.jlr_laws.specs.Rows.{entry, making, preparing, collecting, collecting_for, stat}
 
--- `get 9 0; dup 0; new ri; poll 1; get 1 2; get 1 1; setint 1 0 5; find x; queue; remove 2; weak 0 2; weak 1 1; setint 1 1 -9223372036854775808; int 1 1`
+-- `get 9 0; dup 0; new ri; poll 1; get 1 2; get 1 1; setint 1 0 5; find x; queue; remove 2; weak 0 2; weak 1 1; setint
+-- 1 1 -9223372036854775808; int 1 1`
 abbrev pub refused_row : List Entry
 refused_row =
     entry (Join 0) Done
@@ -73,9 +81,11 @@ full_heap_row =
     ∷ making (New 0 []) (Handle 14) 13
     ∷ making (New 0 []) (Handle 15) 14
     ∷ making (New 0 []) (Handle 16) 15
-    ∷ collecting (New 0 []) (Refused HeapFull) (0 ∷ 1 ∷ 2 ∷ 3 ∷ 4 ∷ 5 ∷ 6 ∷ 7 ∷ 8 ∷ 9 ∷ 10 ∷ 11 ∷ 12 ∷ 13 ∷ 14 ∷ 15 ∷ []) []
+    ∷ collecting (New 0 []) (Refused HeapFull)
+    (0 ∷ 1 ∷ 2 ∷ 3 ∷ 4 ∷ 5 ∷ 6 ∷ 7 ∷ 8 ∷ 9 ∷ 10 ∷ 11 ∷ 12 ∷ 13 ∷ 14 ∷ 15 ∷ []) []
     ∷ entry (Drop 0 1) Done
-    ∷ collecting_for (New 0 []) (Handle 1) (1 ∷ 2 ∷ 3 ∷ 4 ∷ 5 ∷ 6 ∷ 7 ∷ 8 ∷ 9 ∷ 10 ∷ 11 ∷ 12 ∷ 13 ∷ 14 ∷ 15 ∷ []) [] (0 ∷ [])
+    ∷ collecting_for (New 0 []) (Handle 1) (1 ∷ 2 ∷ 3 ∷ 4 ∷ 5 ∷ 6 ∷ 7 ∷ 8 ∷ 9 ∷ 10 ∷ 11 ∷ 12 ∷ 13 ∷ 14 ∷ 15 ∷ []) []
+    (0 ∷ [])
     ∷ entry (Leave 0) Done
     ∷ []
 

@@ -5,18 +5,22 @@ use Rattle.jlr_types.specs.declared.RefKind.TheVariants.{Soft, Weak}
 use Rattle.jlr_types.specs.declared.Work.TheVariants.{Note, Resource as WorkOn}
 use Rattle.jlr_types.specs.declared.Refusal.TheVariants.{HeapFull}
 use Rattle.jlr_machine.specs.declared.machine.Machine.{Machine}
-use Rattle.jlr_machine.specs.declared.ask.Ask.TheVariants.{Join, New, Put, Drop, MakeRef, Deref, Clear, Enqueue, MakeQueue, MakeCleaner, Register, Clean, Prepare, Opened, CheckOut, Close, Finish, Full, HandOver, TakeUp}
+use Rattle.jlr_machine.specs.declared.ask.Ask.TheVariants.{Join, New, Put, Drop, MakeRef, Deref, Clear, Enqueue}
+use Rattle.jlr_machine.specs.declared.ask.Ask.TheVariants.{MakeQueue, MakeCleaner, Register, Clean, Prepare, Opened}
+use Rattle.jlr_machine.specs.declared.ask.Ask.TheVariants.{CheckOut, Close, Finish, Full, HandOver, TakeUp}
 use Rattle.jlr_machine.specs.declared.ask.FullMode.TheVariants.{Policy}
 use Rattle.jlr_machine.specs.declared.ask.Handed.TheVariants.{Queued as HandedQueued, Lined as HandedLined}
 use Rattle.jlr_machine.specs.declared.ask.Outcome.TheVariants.{Ok as OutcomeOk}
-use Rattle.jlr_machine.specs.declared.ask.Answer.TheVariants.{Done, Handle, Truth, Job, Prepared, Out, Handed as HandedAnswer, Refused}
+use Rattle.jlr_machine.specs.declared.ask.Answer.TheVariants.{Done, Handle, Truth, Job, Prepared, Out}
+use Rattle.jlr_machine.specs.declared.ask.Answer.TheVariants.{Handed as HandedAnswer, Refused}
 use Rattle.jlr_machine.specs.declared.entry.Entry.{Entry}
 use Rattle.jlr_machine.specs.Run.{empty}
 use Rattle.jlr_laws.specs.Rows.{entry, making, preparing, collecting}
 
 -- after `new -; weak 1 0; drop 1`: a `gc` that clears and removes nothing
 abbrev pub weak_dropped : List Entry
-weak_dropped = entry (Join 0) Done ∷ making (New 0 []) (Handle 1) 0 ∷ making (MakeRef 0 Weak 1 0) (Handle 2) 1 ∷ entry (Drop 0 1) Done ∷ []
+weak_dropped = entry (Join 0) Done ∷ making (New 0 []) (Handle 1) 0 ∷ making (MakeRef 0 Weak 1 0) (Handle 2) 1 ∷ entry
+    (Drop 0 1) Done ∷ []
 
 abbrev pub gc_keeping_all : Entry
 gc_keeping_all = collecting (Full 0 Policy) Done (0 ∷ 1 ∷ []) []
@@ -36,8 +40,8 @@ first_weak_cleared =
 abbrev pub second_weak_kept : Entry
 second_weak_kept = entry (Deref 0 3) (Handle 1)
 
--- after `new r; new -; put 1 0 2; soft 1 0; soft 2 0; drop 1; drop 2`: a `gc` that clears the soft reference to the second object,
--- while the first, which holds it by a field, keeps its own
+-- after `new r; new -; put 1 0 2; soft 1 0; soft 2 0; drop 1; drop 2`: a `gc` that clears the soft reference to the
+-- second object, while the first, which holds it by a field, keeps its own
 abbrev pub soft_chain_dropped : List Entry
 soft_chain_dropped =
     entry (Join 0) Done
@@ -60,7 +64,8 @@ held_soft_gives_null = entry (Deref 0 4) (Handle 0)
 abbrev pub soft_chain_kept : List Entry
 soft_chain_kept = soft_chain_dropped ++ collecting (Full 0 Policy) Done (0 ∷ 1 ∷ 2 ∷ 3 ∷ []) [] ∷ []
 
--- after `queue; new -; weak 2 1; clear 3; drop 2`: a `gc` puts the reference, which the program cleared, on the pending list
+-- after `queue; new -; weak 2 1; clear 3; drop 2`: a `gc` puts the reference, which the program cleared, on the pending
+-- list
 abbrev pub cleared_by_program : List Entry
 cleared_by_program =
     entry (Join 0) Done
@@ -105,7 +110,8 @@ taken_by_cleaner =
 abbrev pub taken_again : Entry
 taken_again = entry (Clean 0 3) (Job 1 (Note 7))
 
--- after `open w f; close 1; open w g`, where the second file has the Rid of the first: the closed guard gives the second file
+-- after `open w f; close 1; open w g`, where the second file has the Rid of the first: the closed guard gives the
+-- second file
 abbrev pub rid_used_again : List Entry
 rid_used_again =
     entry (Join 0) Done
@@ -125,7 +131,8 @@ abbrev pub two_cells : Machine
 two_cells = empty 2 1 1
 
 abbrev pub one_dropped : List Entry
-one_dropped = entry (Join 0) Done ∷ making (New 0 []) (Handle 1) 0 ∷ making (New 0 []) (Handle 2) 1 ∷ entry (Drop 0 1) Done ∷ []
+one_dropped =
+    entry (Join 0) Done ∷ making (New 0 []) (Handle 1) 0 ∷ making (New 0 []) (Handle 2) 1 ∷ entry (Drop 0 1) Done ∷ []
 
 abbrev pub full_without_collection : Entry
 full_without_collection = entry (New 0 []) (Refused HeapFull)

@@ -5,8 +5,15 @@ ghost use Rattle.jlr_machine.specs.Run.{Run, IsLegal, empty_from};
 ghost use Rattle.jlr_machine.specs.WellFormed.{IsWellFormed, IsImage};
 ghost use Rattle.std.specs.Prelude.{ℕ, ◌≤◌};
 ghost use Rattle.jlr_machine.specs.declared.machine.Machine.{Machine};
-ghost use Rattle.jlr_laws.specs.Laws.{IsWithinHeap, RoundsFindWhatPathsReach, EachClearingIsAsSpecified, LeavesWhatItsStepsLeave, ComesDownToCuttingOff, SoftReferencesGoBeforeAFullHeap, ListsAreInOrder, RefusalsAreListed, RefusalChangesNothing, FullHeapLeavesItsCollection, SeenStaysUpToDate, LegalKeepsWellFormed, RunKeepsWellFormed, RunsAreWellFormed, TakenUpIsAccountedFor, ResourcesInCallsAreArmed, BackgroundComesDownToCuttingOff, PolicyMakesFull, KeepingNoneMakesClearing, LegalityLooksAtNoSeat, AnySeatLeavesTheSame};
-ghost use Rattle.jlr_laws.specs.Deciding.{CollectionsAreDecided, BackgroundIsDecided, ClearingIsDecided, LegalityIsDecided, SeenIsWithin};
+ghost use Rattle.jlr_laws.specs.Laws.{IsWithinHeap, RoundsFindWhatPathsReach, EachClearingIsAsSpecified};
+ghost use Rattle.jlr_laws.specs.Laws.{LeavesWhatItsStepsLeave, ComesDownToCuttingOff, SoftReferencesGoBeforeAFullHeap};
+ghost use Rattle.jlr_laws.specs.Laws.{ListsAreInOrder, RefusalsAreListed, RefusalChangesNothing};
+ghost use Rattle.jlr_laws.specs.Laws.{FullHeapLeavesItsCollection, SeenStaysUpToDate, LegalKeepsWellFormed};
+ghost use Rattle.jlr_laws.specs.Laws.{RunKeepsWellFormed, RunsAreWellFormed, TakenUpIsAccountedFor};
+ghost use Rattle.jlr_laws.specs.Laws.{ResourcesInCallsAreArmed, BackgroundComesDownToCuttingOff, PolicyMakesFull};
+ghost use Rattle.jlr_laws.specs.Laws.{KeepingNoneMakesClearing, LegalityLooksAtNoSeat, AnySeatLeavesTheSame};
+ghost use Rattle.jlr_laws.specs.Deciding.{CollectionsAreDecided, BackgroundIsDecided, ClearingIsDecided};
+ghost use Rattle.jlr_laws.specs.Deciding.{LegalityIsDecided, SeenIsWithin};
 
 /// The finite set that rounds find is what paths reach.
 pub fn rounds_find_what_paths_reach()
@@ -33,7 +40,8 @@ pub fn a_background_collection_cuts_off()
     ensures { BackgroundComesDownToCuttingOff }
 {}
 
-/// The least set that holds the roots and is closed under strong edges and the soft ones that a policy keeps is a full collection's.
+/// The least set that holds the roots and is closed under strong edges and the soft ones that a policy keeps is a full
+/// collection's.
 pub fn a_policy_makes_a_full_collection()
     ensures { PolicyMakesFull }
 {}
@@ -75,7 +83,8 @@ pub fn soft_references_go_before_a_full_heap()
 
 /// The empty machine is well formed, and may stand at the head of a trace, whatever its next action.
 pub fn the_empty_machine_is_an_image()
-    ensures { (cells sessions resources next_action : ℕ) → 1 ≤ next_action → cells ≤ 65536 → sessions ≤ 64 → IsImage (empty_from cells sessions resources next_action) }
+    ensures { (cells sessions resources next_action : ℕ) → 1 ≤ next_action → cells ≤ 65536 → sessions ≤ 64
+        → IsImage (empty_from cells sessions resources next_action) }
 {}
 
 /// In a well-formed machine edges and roots stay within the heap, which is the premise of the laws of collections.

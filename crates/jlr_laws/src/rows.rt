@@ -2,12 +2,23 @@
 
 ghost use Rattle.jlr_machine.specs.Run.{IsLegal};
 ghost use Rattle.jlr_laws.specs.Rows.{IsRunFrom, after_all, start, two_sessions, one_resource, late_start};
-ghost use Rattle.jlr_laws.specs.ReferenceRows.{weak_row, two_weak_row, queue_row, self_reference_row, clear_row, phantom_row, program_first_row, soft_chain_row, soft_age_row, soft_used_row};
+ghost use Rattle.jlr_laws.specs.ReferenceRows.{weak_row, two_weak_row, queue_row, self_reference_row, clear_row};
+ghost use Rattle.jlr_laws.specs.ReferenceRows.{phantom_row, program_first_row, soft_chain_row, soft_age_row};
+ghost use Rattle.jlr_laws.specs.ReferenceRows.{soft_used_row};
 ghost use Rattle.jlr_laws.specs.ArrayRows.{array_row, array_in_cycle_row};
-ghost use Rattle.jlr_laws.specs.CleaningRows.{cleaner_row, file_row, failed_cleaning_row, closed_row, rid_again_row, one_resource_row, two_sessions_row};
-ghost use Rattle.jlr_laws.specs.RefusalRows.{refused_row, wrong_moment_row, exhausted_row, full_heap_row, soft_full_row, names_row, names_full_row};
-ghost use Rattle.jlr_laws.specs.CycleRows.{cycle_row, snapshot_row, deref_in_cycle_row, seen_reference_row, soft_cleared_in_cycle_row, soft_kept_in_cycle_row, waiting_collect_row, full_heap_in_cycle_row, poll_in_cycle_row, many_dropped_row};
-ghost use Rattle.jlr_laws.specs.WrongEntries.{cleared_by_program, cleared_is_pended, closed_is_out, enqueued_by_program, first_weak_cleared, full_with_room, full_without_collection, gc_keeping_all, handler_appends_again, held_soft_cleared, held_soft_gives_null, one_dropped, rid_used_again, second_weak_kept, soft_chain_dropped, soft_chain_kept, taken_again, taken_by_cleaner, two_cells, weak_dropped};
+ghost use Rattle.jlr_laws.specs.CleaningRows.{cleaner_row, file_row, failed_cleaning_row, closed_row, rid_again_row};
+ghost use Rattle.jlr_laws.specs.CleaningRows.{one_resource_row, two_sessions_row};
+ghost use Rattle.jlr_laws.specs.RefusalRows.{refused_row, wrong_moment_row, exhausted_row, full_heap_row};
+ghost use Rattle.jlr_laws.specs.RefusalRows.{soft_full_row, names_row, names_full_row};
+ghost use Rattle.jlr_laws.specs.CycleRows.{cycle_row, snapshot_row, deref_in_cycle_row, seen_reference_row};
+ghost use Rattle.jlr_laws.specs.CycleRows.{soft_cleared_in_cycle_row, soft_kept_in_cycle_row, waiting_collect_row};
+ghost use Rattle.jlr_laws.specs.CycleRows.{full_heap_in_cycle_row, poll_in_cycle_row, many_dropped_row};
+ghost use Rattle.jlr_laws.specs.WrongEntries.{cleared_by_program, cleared_is_pended, closed_is_out};
+ghost use Rattle.jlr_laws.specs.WrongEntries.{enqueued_by_program, first_weak_cleared, full_with_room};
+ghost use Rattle.jlr_laws.specs.WrongEntries.{full_without_collection, gc_keeping_all, handler_appends_again};
+ghost use Rattle.jlr_laws.specs.WrongEntries.{held_soft_cleared, held_soft_gives_null, one_dropped, rid_used_again};
+ghost use Rattle.jlr_laws.specs.WrongEntries.{second_weak_kept, soft_chain_dropped, soft_chain_kept, taken_again};
+ghost use Rattle.jlr_laws.specs.WrongEntries.{taken_by_cleaner, two_cells, weak_dropped};
 
 /// The worked rows on references, queues and soft references are runs from the empty machine.
 pub fn reference_rows_are_runs()
@@ -65,9 +76,9 @@ pub fn cycle_rows_are_runs()
     ensures many_dropped { IsRunFrom start many_dropped_row }
 {}
 
-/// Entries that no legal machine writes: a collection that clears and removes nothing; one of two weak references kept; a soft reference
-/// cleared alone; a reference that the program cleared put on the pending list; one appended twice; an action taken up twice; a file given
-/// through a closed guard; a heap full while there is room.
+/// Entries that no legal machine writes: a collection that clears and removes nothing; one of two weak references kept;
+/// a soft reference cleared alone; a reference that the program cleared put on the pending list; one appended twice; an
+/// action taken up twice; a file given through a closed guard; a heap full while there is room.
 pub fn wrong_entries_are_not_legal()
     ensures gc_must_clear { ¬ (IsLegal (after_all start weak_dropped) gc_keeping_all) }
     ensures both_weak_are_cleared { ¬ (IsLegal (after_all start first_weak_cleared) second_weak_kept) }

@@ -1,5 +1,6 @@
 -- A slot is appended to one list, and the others stay.
-use Rattle.std.proofs.Common.{◌≡◌, ℕ, zero, suc, ◌+◌, ◌<◌, ◌^◌, ◌⊎◌, inl, inr, not, IsTrue, List, [], ◌∷◌, ◌++◌, length, slice_set, refl, sym, subst, ap, ◌∙◌, arith, length-set, get_or-set_same, get_or-set_other}
+use Rattle.std.proofs.Common.{◌≡◌, ℕ, zero, suc, ◌+◌, ◌<◌, ◌^◌, ◌⊎◌, inl, inr, not, IsTrue, List, [], ◌∷◌, ◌++◌, length, slice_set, refl}
+use Rattle.std.proofs.Common.{sym, subst, ap, ◌∙◌, arith, length-set, get_or-set_same, get_or-set_other}
 use Rattle.std.proofs.lemmas.Bool.{both_ways, cases_eq, and_parts, and_from, not-true, not_from_false, false_from_ne_true}
 use Rattle.jlr_machine.specs.Objects.{◌∈◌, ◌∋◌, is_distinct}
 use Rattle.jlr_laws.proofs.Sets.{nothing, in_front, in_rest, in_cons}
@@ -35,16 +36,20 @@ distinct_after (x ∷ xs) s h d =
       | inl j ↦ both_ways (xs ∋ x) (not-true (xs ∋ x) p.0) j
       | inr j ↦ elim (in_cons x s [] j) [ inl e ↦ d (in_front s x xs (sym e)) | inr k ↦ nothing x k ]
     ] in
-    and_from (not ((xs ++ s ∷ []) ∋ x)) (is_distinct (xs ++ s ∷ [])) (not_from_false ((xs ++ s ∷ []) ∋ x) (false_from_ne_true ((xs ++ s ∷ []) ∋ x) apart)) (distinct_after xs s p.1 (λ i. d (in_rest s x xs i)))
+    and_from (not ((xs ++ s ∷ []) ∋ x)) (is_distinct (xs ++ s ∷ []))
+    (not_from_false ((xs ++ s ∷ []) ∋ x) (false_from_ne_true ((xs ++ s ∷ []) ∋ x) apart))
+    (distinct_after xs s p.1 (λ i. d (in_rest s x xs i)))
 
 -- ---- What is left, said list by list
 
-module _ (next new : List ℕ) (ends : List Ends) (k s : ℕ) (e : Ends) (linked : AreLinked next ends) (inside : k < length ends) (slot : s < length next) (apart : (j : ℕ) → s ∈ members next ends j → ⊥)
+module _ (next new : List ℕ) (ends : List Ends) (k s : ℕ) (e : Ends) (linked : AreLinked next ends) (inside : k < length ends)
+    (slot : s < length next) (apart : (j : ℕ) → s ∈ members next ends j → ⊥)
     (long : length new ≡ length next)
     (here : list_in new e ≡ members next ends k ++ s ∷ [])
     (ends_here : (n : ℕ) → e.count ≡ suc n → end_of new n e.first ≡ e.last)
     (beside : (j : ℕ) → (j ≡ k → ⊥) → members new ends j ≡ members next ends j)
-    (ends_beside : (j n : ℕ) → (j ≡ k → ⊥) → (ends_at ends j).count ≡ suc n → end_of new n (ends_at ends j).first ≡ (ends_at ends j).last) where
+    (ends_beside : (j n : ℕ) → (j ≡ k → ⊥) → (ends_at ends j).count ≡ suc n
+    → end_of new n (ends_at ends j).first ≡ (ends_at ends j).last) where
   abbrev other : List Ends
   other = slice_set ends k e
 
@@ -73,7 +78,8 @@ module _ (next new : List ℕ) (ends : List Ends) (k s : ℕ) (e : Ends) (linked
   pub appended_linked : AreLinked new other
   appended_linked = record {
     small = subst (λ n. n < 2 ^ 32) (sym long) linked.small;
-    within = λ j x h. subst (λ n. x < n) (sym long) (elim (was j x h) [ inl i ↦ linked.within j x i | inr p ↦ subst (λ z. z < length next) (sym p.0) slot ]);
+    within = λ j x h. subst (λ n. x < n) (sym long) (elim
+        (was j x h) [ inl i ↦ linked.within j x i | inr p ↦ subst (λ z. z < length next) (sym p.0) slot ]);
     last = λ j n c. elim (cases_eq j k) [
       | inl p ↦
           let same : ends_at other j ≡ e = ap (ends_at other) p ∙ ends_k in
@@ -83,7 +89,8 @@ module _ (next new : List ℕ) (ends : List Ends) (k s : ℕ) (e : Ends) (linked
           subst (λ (z : Ends). end_of new n z.first ≡ z.last) (sym same) (ends_beside j n d (subst (λ (z : Ends). z.count ≡ suc n) same c))
     ];
     once = λ j. elim (cases_eq j k) [
-      | inl p ↦ subst (λ l. IsTrue (is_distinct l)) (sym (ap (members new other) p ∙ members_k)) (distinct_after (members next ends k) s (linked.once k) (apart k))
+      | inl p ↦ subst (λ l. IsTrue (is_distinct l)) (sym (ap (members new other) p ∙ members_k))
+          (distinct_after (members next ends k) s (linked.once k) (apart k))
       | inr d ↦ subst (λ l. IsTrue (is_distinct l)) (sym (members_j j d)) (linked.once j)
     ];
     in_one = λ i j x h g. elim (was i x h) [
@@ -96,17 +103,21 @@ module _ (next new : List ℕ) (ends : List Ends) (k s : ℕ) (e : Ends) (linked
   appended_lists =
       let now : List (List ℕ) = slice_set (lists_in next ends) k (members next ends k ++ s ∷ []) in
       same_lists (lists_in new other) now
-      (long_mapped new other ∙ length-set ends k e ∙ sym (length-set (lists_in next ends) k (members next ends k ++ s ∷ []) ∙ long_mapped next ends))
+      (long_mapped new other ∙ length-set ends k e ∙ sym
+      (length-set (lists_in next ends) k (members next ends k ++ s ∷ []) ∙ long_mapped next ends))
       (λ j. at_mapped new other j ∙ elim (cases_eq j k) [
         | inl p ↦
             ap (members new other) p ∙ members_k
-            ∙ sym (ap (list_at now) p ∙ get_or-set_same (lists_in next ends) k (members next ends k ++ s ∷ []) [] (subst (λ n. k < n) (sym (long_mapped next ends)) inside))
-        | inr d ↦ members_j j d ∙ sym (get_or-set_other (lists_in next ends) k j (members next ends k ++ s ∷ []) [] d ∙ at_mapped next ends j)
+            ∙ sym (ap (list_at now) p ∙ get_or-set_same (lists_in next ends) k (members next ends k ++ s ∷ []) []
+            (subst (λ n. k < n) (sym (long_mapped next ends)) inside))
+        | inr d ↦ members_j j d ∙ sym (get_or-set_other (lists_in next ends) k j (members next ends k ++ s ∷ []) [] d
+            ∙ at_mapped next ends j)
       ])
 
 -- ---- To an empty list, and to one that has members
 
-module _ (next : List ℕ) (ends : List Ends) (k s : ℕ) (linked : AreLinked next ends) (inside : k < length ends) (slot : s < length next) (apart : (j : ℕ) → s ∈ members next ends j → ⊥) where
+module _ (next : List ℕ) (ends : List Ends) (k s : ℕ) (linked : AreLinked next ends) (inside : k < length ends) (slot : s < length next)
+    (apart : (j : ℕ) → s ∈ members next ends j → ⊥) where
   abbrev first_ends : Ends
   first_ends = record { first = s; last = s; count = 1 }
 
@@ -118,10 +129,13 @@ module _ (next : List ℕ) (ends : List Ends) (k s : ℕ) (linked : AreLinked ne
   only_end (suc n) c = absurd (omega (arith, c))
 
   pub first_linked : (ends_at ends k).count ≡ 0 → AreLinked next (slice_set ends k first_ends)
-  first_linked c = appended_linked next next ends k s first_ends linked inside slot apart refl (ap (λ l. l ++ s ∷ []) (sym (empty_members c))) only_end (λ j d. refl) (λ j n d q. linked.last j n q)
+  first_linked c = appended_linked next next ends k s first_ends linked inside slot apart refl
+      (ap (λ l. l ++ s ∷ []) (sym (empty_members c))) only_end (λ j d. refl) (λ j n d q. linked.last j n q)
 
-  pub first_lists : (ends_at ends k).count ≡ 0 → lists_in next (slice_set ends k first_ends) ≡ slice_set (lists_in next ends) k (members next ends k ++ s ∷ [])
-  first_lists c = appended_lists next next ends k s first_ends linked inside slot apart refl (ap (λ l. l ++ s ∷ []) (sym (empty_members c))) only_end (λ j d. refl) (λ j n d q. linked.last j n q)
+  pub first_lists : (ends_at ends k).count ≡ 0 → lists_in next (slice_set ends k first_ends) ≡ slice_set (lists_in next ends) k
+      (members next ends k ++ s ∷ [])
+  first_lists c = appended_lists next next ends k s first_ends linked inside slot apart refl (ap (λ l. l ++ s ∷ []) (sym (empty_members c)))
+      only_end (λ j d. refl) (λ j n d q. linked.last j n q)
 
   module _ (n : ℕ) (c : (ends_at ends k).count ≡ suc n) where
     abbrev old : Ends
@@ -152,7 +166,8 @@ module _ (next : List ℕ) (ends : List Ends) (k s : ℕ) (linked : AreLinked ne
     here = longer_walk next old.last s n old.first last_within ends_at_last distinct ∙ ap (λ l. l ++ s ∷ []) walk_is
 
     wider_end : (i : ℕ) → wider.count ≡ suc i → end_of new i wider.first ≡ wider.last
-    wider_end i q = let same : i ≡ suc n = omega (arith, q) in ap (λ z. end_of new z old.first) same ∙ new_end next old.last s n old.first last_within ends_at_last distinct
+    wider_end i q = let same : i ≡ suc n = omega (arith, q) in ap (λ z. end_of new z old.first) same
+        ∙ new_end next old.last s n old.first last_within ends_at_last distinct
 
     not_beside : (j : ℕ) → (j ≡ k → ⊥) → old.last ∈ members next ends j → ⊥
     not_beside j d h = d (linked.in_one j k old.last h last_in)
@@ -162,14 +177,17 @@ module _ (next : List ℕ) (ends : List Ends) (k s : ℕ) (linked : AreLinked ne
 
     ends_beside : (j i : ℕ) → (j ≡ k → ⊥) → (ends_at ends j).count ≡ suc i → end_of new i (ends_at ends j).first ≡ (ends_at ends j).last
     ends_beside j i d q =
-        same_end next old.last s i (ends_at ends j).first (λ h. not_beside j d (subst (λ z. old.last ∈ walk next z (ends_at ends j).first) (sym q) h))
+        same_end next old.last s i (ends_at ends j).first
+        (λ h. not_beside j d (subst (λ z. old.last ∈ walk next z (ends_at ends j).first) (sym q) h))
         ∙ linked.last j i q
 
     pub longer_linked : AreLinked new (slice_set ends k wider)
-    longer_linked = appended_linked next new ends k s wider linked inside slot apart (length-set next old.last s) here wider_end beside ends_beside
+    longer_linked =
+        appended_linked next new ends k s wider linked inside slot apart (length-set next old.last s) here wider_end beside ends_beside
 
     pub longer_lists : lists_in new (slice_set ends k wider) ≡ slice_set (lists_in next ends) k (members next ends k ++ s ∷ [])
-    longer_lists = appended_lists next new ends k s wider linked inside slot apart (length-set next old.last s) here wider_end beside ends_beside
+    longer_lists =
+        appended_lists next new ends k s wider linked inside slot apart (length-set next old.last s) here wider_end beside ends_beside
 
 pub long_walk : (next : List ℕ) (n s : ℕ) → length (walk next n s) ≡ n
 long_walk next zero s = refl
@@ -181,7 +199,8 @@ positive (suc n) h = (n, refl)
 
 -- ---- As the code says it
 
-module _ (next : List ℕ) (ends : List Ends) (k s : ℕ) (linked : AreLinked next ends) (inside : k < length ends) (slot : s < length next) (apart : (j : ℕ) → s ∈ members next ends j → ⊥) (some : (ends_at ends k).count ≡ 0 → ⊥) where
+module _ (next : List ℕ) (ends : List Ends) (k s : ℕ) (linked : AreLinked next ends) (inside : k < length ends) (slot : s < length next)
+    (apart : (j : ℕ) → s ∈ members next ends j → ⊥) (some : (ends_at ends k).count ≡ 0 → ⊥) where
   abbrev more : Ends
   more = record { first = (ends_at ends k).first; last = s; count = (ends_at ends k).count + 1 }
 
@@ -195,19 +214,31 @@ module _ (next : List ℕ) (ends : List Ends) (k s : ℕ) (linked : AreLinked ne
   last_below = last_within next ends k s linked inside slot apart (positive (ends_at ends k).count some).0 by_count
 
   pub more_linked : AreLinked (slice_set next (ends_at ends k).last s) (slice_set ends k more)
-  more_linked = subst (λ z. AreLinked (slice_set next (ends_at ends k).last s) (slice_set ends k z)) same_ends (longer_linked next ends k s linked inside slot apart (positive (ends_at ends k).count some).0 by_count)
+  more_linked = subst (λ z. AreLinked (slice_set next (ends_at ends k).last s) (slice_set ends k z)) same_ends
+      (longer_linked next ends k s linked inside slot apart (positive (ends_at ends k).count some).0 by_count)
 
-  pub more_lists : lists_in (slice_set next (ends_at ends k).last s) (slice_set ends k more) ≡ slice_set (lists_in next ends) k (members next ends k ++ s ∷ [])
-  more_lists = subst (λ z. lists_in (slice_set next (ends_at ends k).last s) (slice_set ends k z) ≡ slice_set (lists_in next ends) k (members next ends k ++ s ∷ [])) same_ends (longer_lists next ends k s linked inside slot apart (positive (ends_at ends k).count some).0 by_count)
+  pub more_lists : lists_in (slice_set next (ends_at ends k).last s) (slice_set ends k more)
+      ≡ slice_set (lists_in next ends) k (members next ends k ++ s ∷ [])
+  more_lists = subst (λ z. lists_in (slice_set next (ends_at ends k).last s) (slice_set ends k z)
+      ≡ slice_set (lists_in next ends) k (members next ends k ++ s ∷ [])) same_ends
+      (longer_lists next ends k s linked inside slot apart (positive (ends_at ends k).count some).0 by_count)
 
 -- a slot that stands in no list has room in each
-pub count_fits : (next : List ℕ) (ends : List Ends) (k s : ℕ) → AreLinked next ends → s < length next → (s ∈ members next ends k → ⊥) → (ends_at ends k).count + 1 < 2 ^ 32
+pub count_fits : (next : List ℕ) (ends : List Ends) (k s : ℕ) → AreLinked next ends → s < length next → (s ∈ members next ends k → ⊥)
+    → (ends_at ends k).count + 1 < 2 ^ 32
 count_fits next ends k s linked slot apart =
     let all : List ℕ = s ∷ members next ends k in
-    let once : IsTrue (is_distinct all) = and_from (not (members next ends k ∋ s)) (is_distinct (members next ends k)) (not_from_false (members next ends k ∋ s) (false_from_ne_true (members next ends k ∋ s) apart)) (linked.once k) in
-    let few = short all (length next) once (λ x h. elim (in_cons x s (members next ends k) h) [ inl e ↦ subst (λ z. z < length next) (sym e) slot | inr i ↦ linked.within k x i ]) in
+    let once : IsTrue (is_distinct all) = and_from (not (members next ends k ∋ s)) (is_distinct (members next ends k))
+    (not_from_false (members next ends k ∋ s) (false_from_ne_true (members next ends k ∋ s) apart)) (linked.once k) in
+    let few = short all (length next) once (λ x h. elim (in_cons x s (members next ends k) h) [
+      | inl e ↦
+          subst (λ z. z < length next) (sym e) slot
+      | inr i ↦ linked.within k x i
+    ]) in
     omega (arith, linked.small, few, long_walk next (ends_at ends k).count (ends_at ends k).first)
 
-pub kept_apart : (next old : List ℕ) (ends older : List Ends) (s t : ℕ) → next ≡ old → ends ≡ older → t ≡ s → ((k : ℕ) → s ∈ list_at (lists_in old older) k → ⊥) → (k : ℕ) → t ∈ members next ends k → ⊥
+pub kept_apart : (next old : List ℕ) (ends older : List Ends) (s t : ℕ) → next ≡ old → ends ≡ older → t ≡ s
+    → ((k : ℕ) → s ∈ list_at (lists_in old older) k → ⊥) → (k : ℕ) → t ∈ members next ends k → ⊥
 kept_apart next old ends older s t en ee es apart k h =
-    apart k (subst (λ l. s ∈ l) (ap (λ x. members x ends k) en ∙ ap (λ x. members old x k) ee ∙ sym (at_mapped old older k)) (subst (λ z. z ∈ members next ends k) es h))
+    apart k (subst (λ l. s ∈ l) (ap (λ x. members x ends k) en ∙ ap (λ x. members old x k) ee ∙ sym (at_mapped old older k))
+    (subst (λ z. z ∈ members next ends k) es h))

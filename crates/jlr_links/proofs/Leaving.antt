@@ -1,5 +1,7 @@
 -- Slots leave one list, and the others stay.
-use Rattle.std.proofs.Common.{◌≡◌, ℕ, zero, suc, ◌-◌, ◌^◌, ◌<◌, inl, inr, not, IsTrue, List, [], ◌∷◌, ◌++◌, drop, take, length, slice_index_or, slice_set, replicate, refl, sym, subst, ap, ◌∙◌, arith, length-set, get_or-set_same, get_or-set_other}
+use Rattle.std.proofs.Common.{◌≡◌, ℕ, zero, suc, ◌-◌, ◌^◌, ◌<◌, inl, inr, not, IsTrue, List, [], ◌∷◌, ◌++◌, drop, take, length}
+use Rattle.std.proofs.Common.{slice_index_or, slice_set, replicate, refl, sym, subst, ap, ◌∙◌, arith, length-set, get_or-set_same}
+use Rattle.std.proofs.Common.{get_or-set_other}
 use Rattle.std.proofs.lemmas.List.{get_or_read}
 use Rattle.std.proofs.lemmas.Bool.{cases_eq, and_parts}
 use Rattle.jlr_machine.specs.Objects.{◌∈◌, ◌∋◌, is_distinct}
@@ -59,8 +61,10 @@ module _ (next : List ℕ) (ends : List Ends) (k : ℕ) (e : Ends) (linked : Are
       (λ j. at_mapped next other j ∙ elim (cases_eq j k) [
         | inl p ↦
             ap (members next other) p ∙ ap (list_in next) ends_k
-            ∙ sym (ap (list_at now) p ∙ get_or-set_same (lists_in next ends) k (list_in next e) [] (subst (λ n. k < n) (sym (long_mapped next ends)) inside))
-        | inr d ↦ ap (list_in next) (ends_j j d) ∙ sym (get_or-set_other (lists_in next ends) k j (list_in next e) [] d ∙ at_mapped next ends j)
+            ∙ sym (ap (list_at now) p ∙ get_or-set_same (lists_in next ends) k (list_in next e) []
+            (subst (λ n. k < n) (sym (long_mapped next ends)) inside))
+        | inr d ↦ ap (list_in next) (ends_j j d) ∙ sym (get_or-set_other (lists_in next ends) k j (list_in next e) [] d
+            ∙ at_mapped next ends j)
       ])
 
 -- ---- All slots
@@ -85,10 +89,12 @@ module _ (next : List ℕ) (ends : List Ends) (k : ℕ) (linked : AreLinked next
     whole = ap (λ i. walk next i old.first) c
 
     pub first_within : old.first < length next
-    first_within = linked.within k old.first (subst (λ l. old.first ∈ l) (sym whole) (in_front old.first old.first (list_in next later) refl))
+    first_within =
+        linked.within k old.first (subst (λ l. old.first ∈ l) (sym whole) (in_front old.first old.first (list_in next later) refl))
 
     distinct : IsTrue (is_distinct (list_in next later))
-    distinct = (and_parts (not (list_in next later ∋ old.first)) (is_distinct (list_in next later)) (subst (λ l. IsTrue (is_distinct l)) whole (linked.once k))).1
+    distinct = (and_parts (not (list_in next later ∋ old.first)) (is_distinct (list_in next later))
+        (subst (λ l. IsTrue (is_distinct l)) whole (linked.once k))).1
 
     fewer : (x : ℕ) → x ∈ list_in next later → x ∈ members next ends k
     fewer x h = subst (λ l. x ∈ l) (sym whole) (in_rest x old.first (list_in next later) h)
@@ -100,11 +106,13 @@ module _ (next : List ℕ) (ends : List Ends) (k : ℕ) (linked : AreLinked next
     dropped_linked = left_linked next ends k later linked inside fewer distinct end_later
 
     pub dropped_lists : lists_in next (slice_set ends k later) ≡ slice_set (lists_in next ends) k (drop 1 (members next ends k))
-    dropped_lists = left_lists next ends k later linked inside fewer distinct end_later ∙ ap (λ l. slice_set (lists_in next ends) k (drop 1 l)) (sym whole)
+    dropped_lists = left_lists next ends k later linked inside fewer distinct end_later
+        ∙ ap (λ l. slice_set (lists_in next ends) k (drop 1 l)) (sym whole)
 
 -- ---- As the code says it
 
-module _ (next : List ℕ) (ends : List Ends) (k : ℕ) (linked : AreLinked next ends) (inside : k < length ends) (some : (ends_at ends k).count ≡ 0 → ⊥) where
+module _ (next : List ℕ) (ends : List Ends) (k : ℕ) (linked : AreLinked next ends) (inside : k < length ends)
+    (some : (ends_at ends k).count ≡ 0 → ⊥) where
   abbrev rest : Ends
   rest = record { first = link next (ends_at ends k).first; last = (ends_at ends k).last; count = (ends_at ends k).count - 1 }
 
@@ -112,16 +120,19 @@ module _ (next : List ℕ) (ends : List Ends) (k : ℕ) (linked : AreLinked next
   by_count = (positive (ends_at ends k).count some).1
 
   same_rest : later next ends k linked inside (positive (ends_at ends k).count some).0 by_count ≡ rest
-  same_rest = let wide : ℕ → Ends = λ n. record { first = link next (ends_at ends k).first; last = (ends_at ends k).last; count = n } in ap wide (omega (arith, by_count))
+  same_rest = let wide : ℕ → Ends = λ n. record { first = link next (ends_at ends k).first; last = (ends_at ends k).last; count = n } in
+      ap wide (omega (arith, by_count))
 
   pub first_below : (ends_at ends k).first < length next
   first_below = first_within next ends k linked inside (positive (ends_at ends k).count some).0 by_count
 
   pub rest_linked : AreLinked next (slice_set ends k rest)
-  rest_linked = subst (λ z. AreLinked next (slice_set ends k z)) same_rest (dropped_linked next ends k linked inside (positive (ends_at ends k).count some).0 by_count)
+  rest_linked = subst (λ z. AreLinked next (slice_set ends k z)) same_rest
+      (dropped_linked next ends k linked inside (positive (ends_at ends k).count some).0 by_count)
 
   pub rest_lists : lists_in next (slice_set ends k rest) ≡ slice_set (lists_in next ends) k (drop 1 (members next ends k))
-  rest_lists = subst (λ z. lists_in next (slice_set ends k z) ≡ slice_set (lists_in next ends) k (drop 1 (members next ends k))) same_rest (dropped_lists next ends k linked inside (positive (ends_at ends k).count some).0 by_count)
+  rest_lists = subst (λ z. lists_in next (slice_set ends k z) ≡ slice_set (lists_in next ends) k (drop 1 (members next ends k))) same_rest
+      (dropped_lists next ends k linked inside (positive (ends_at ends k).count some).0 by_count)
 
 -- what was read behind the first is its link
 pub read_first :
@@ -157,6 +168,8 @@ take_nothing : (n : ℕ) (rest : List Ends) → take n [] ++ rest ≡ rest
 take_nothing zero rest = refl
 take_nothing (suc n) rest = refl
 
-pub made_empty : (next : List ℕ) (ends none : List Ends) (n len : ℕ) → ends ≡ take n none ++ replicate (n - len) no_ends → none ≡ [] → len ≡ 0 → lists_in next ends ≡ replicate n []
+pub made_empty : (next : List ℕ) (ends none : List Ends) (n len : ℕ) → ends ≡ take n none ++ replicate (n - len) no_ends → none ≡ []
+    → len ≡ 0 → lists_in next ends ≡ replicate n []
 made_empty next ends none n len made empty zero_long =
-    ap (lists_in next) (made ∙ ap (λ l. take n l ++ replicate (n - len) no_ends) empty ∙ take_nothing n (replicate (n - len) no_ends) ∙ ap (λ i. replicate i no_ends) (omega (arith, zero_long))) ∙ empty_lists next n
+    ap (lists_in next) (made ∙ ap (λ l. take n l ++ replicate (n - len) no_ends) empty ∙ take_nothing n (replicate (n - len) no_ends)
+    ∙ ap (λ i. replicate i no_ends) (omega (arith, zero_long))) ∙ empty_lists next n

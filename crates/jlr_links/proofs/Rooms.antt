@@ -15,7 +15,11 @@ apart x [] h = tt
 apart x (y ∷ ys) h = let both = or_gives (nat_eq x y) (ys ∋ x) h in (both.0, apart x ys both.1)
 
 distinct_gives : (x : ℕ) (xs : List ℕ) → is_distinct (x ∷ xs) ≡ true → ((xs ∋ x) ≡ false) × (is_distinct xs ≡ true)
-distinct_gives x xs h = elim (xs ∋ x) as (λ b. (not b && is_distinct xs) ≡ true → (b ≡ false) × (is_distinct xs ≡ true)) [ true ↦ λ e. absurd (both_ways false refl e) | false ↦ λ e. (refl, e) ] h
+distinct_gives x xs h = elim (xs ∋ x) as (λ b. (not b && is_distinct xs) ≡ true → (b ≡ false) × (is_distinct xs ≡ true)) [
+  | true ↦
+      λ e. absurd (both_ways false refl e)
+  | false ↦ λ e. (refl, e)
+] h
 
 as_distinct : (xs : List ℕ) → is_distinct xs ≡ true → IsDistinct nat_eq xs
 unfolding IsDistinct

@@ -1,5 +1,6 @@
 //! Lists of slots.
-ghost use Rattle.std.specs.Prelude.{◌≡◌, ℕ, ◌<◌, ◌++◌, ◌∷◌, ◌↔◌, [], List, IfOk, IsTrue, None, Some, drop, length, option_map, replicate, slice_get, slice_set};
+ghost use Rattle.std.specs.Prelude.{◌≡◌, ℕ, ◌<◌, ◌++◌, ◌∷◌, ◌↔◌, [], List, IfOk, IsTrue, None, Some, drop, length};
+ghost use Rattle.std.specs.Prelude.{option_map, replicate, slice_get, slice_set};
 ghost use Rattle.jlr_machine.specs.Objects.{◌∈◌};
 ghost use Rattle.jlr_links.specs.Lists.{list_at};
 ghost use Rattle.jlr_links.specs.Walks.{AreLinked, ends_at, lists_in, members};
@@ -87,7 +88,8 @@ impl Links {
     pub fn next(&self, list: u32, slot: Slot) -> Option<Slot>
         requires list { list < length self.now.lists }
         requires member { slot ∈ list_at self.now.lists list }
-        ensures { (before after : List ℕ) → list_at self.now.lists list ≡ before ++ slot ∷ after → result ≡ slice_get after 0 }
+        ensures { (before after : List ℕ) → list_at self.now.lists list ≡ before ++ slot ∷ after
+            → result ≡ slice_get after 0 }
     {
         if slot.number() == self.ends[list as usize].last {
             return None;
@@ -164,7 +166,8 @@ fn append(next: &mut Column<u32>, ends: &mut [Ends], list: u32, slot: u32)
     requires slot { slot < length next.old }
     requires apart { (k : ℕ) → slot ∈ members next.old ends.old k → ⊥ }
     ensures linked { AreLinked next.new ends.new }
-    ensures lists { lists_in next.new ends.new ≡ slice_set (lists_in next.old ends.old) list (members next.old ends.old list ++ slot ∷ []) }
+    ensures lists { lists_in next.new ends.new
+        ≡ slice_set (lists_in next.old ends.old) list (members next.old ends.old list ++ slot ∷ []) }
     ensures long { length next.new ≡ length next.old }
 {
     let old = ends[list as usize];
@@ -189,7 +192,8 @@ fn drop_front(next: &Column<u32>, ends: &mut [Ends], list: u32)
     requires list { list < length ends.old }
     requires some { (ends_at ends.old list).count ≡ 0 → ⊥ }
     ensures linked { AreLinked next.now ends.new }
-    ensures lists { lists_in next.now ends.new ≡ slice_set (lists_in next.now ends.old) list (drop 1 (members next.now ends.old list)) }
+    ensures lists { lists_in next.now ends.new
+        ≡ slice_set (lists_in next.now ends.old) list (drop 1 (members next.now ends.old list)) }
 {
     let old = ends[list as usize];
     ends[list as usize] = Ends {

@@ -19,7 +19,8 @@ module _ {E : Type 0} where
 
   -- the keeper with a seat
   abbrev pub meeting : List E → ℕ → ℕ → List E → View E
-  meeting all dealt seat known = record { keeps = true; all = all; dealt = dealt; sits = true; seat = seat; known = known }
+  meeting all dealt seat known =
+      record { keeps = true; all = all; dealt = dealt; sits = true; seat = seat; known = known }
 
   abbrev pub met : View E → View E → View E
   met v w = meeting v.all v.dealt w.seat w.known

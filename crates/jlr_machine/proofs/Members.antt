@@ -1,5 +1,6 @@
 -- The members of a set of slots, and what one more makes of its list.
-use Rattle.std.proofs.Common.{◌≡◌, ℕ, zero, suc, ◌+◌, ◌<◌, Bool, true, false, List, [], ◌∷◌, ◌++◌, length, replicate, set, refl, sym, ◌∙◌, ap, subst, ◌⊎◌, inl, inr, arith, nat_eq, length-set, get_or-set_same, get_or-set_other}
+use Rattle.std.proofs.Common.{◌≡◌, ℕ, zero, suc, ◌+◌, ◌<◌, Bool, true, false, List, [], ◌∷◌, ◌++◌, length, replicate, set, refl, sym, ◌∙◌}
+use Rattle.std.proofs.Common.{ap, subst, ◌⊎◌, inl, inr, arith, nat_eq, length-set, get_or-set_same, get_or-set_other}
 use Rattle.std.proofs.lemmas.Bool.{cases_eq, cases_lt, cases_Bool, false≢true, eqb-true, eq-eqb, or_cases, or_left, or_right, both_ways}
 use Rattle.std.proofs.lemmas.List.{length-replicate, get_or-replicate, get_or_past}
 use Rattle.std.proofs.lemmas.List.Folds.{list_any-append}
@@ -16,7 +17,11 @@ in_last xs s = list_any-append (nat_eq s) xs (s ∷ []) ∙ or_right (xs ∋ s) 
 in_longer : (xs : List ℕ) (x s : ℕ) → s ∈ (xs ++ x ∷ []) → (s ∈ xs) ⊎ (s ≡ x)
 in_longer xs x s h = elim (or_cases (xs ∋ s) ((x ∷ []) ∋ s) (sym (list_any-append (nat_eq s) xs (x ∷ [])) ∙ h)) [
   | inl before ↦ inl before
-  | inr last ↦ elim (or_cases (nat_eq s x) ([] ∋ s) last) [ inl same ↦ inr (eqb-true s x same) | inr none ↦ absurd (both_ways false refl none) ]
+  | inr last ↦ elim (or_cases (nat_eq s x) ([] ∋ s) last) [
+    | inl same ↦ inr (eqb-true s x same)
+    | inr none ↦
+        absurd (both_ways false refl none)
+  ]
 ]
 
 nothing_in : (slot : ℕ) → slot ∈ [] → ⊥
@@ -51,7 +56,8 @@ is_member (suc n) places slot l set = elim (cases_Bool (is_in places n)) [
 ]
 
 -- a slot above all others becomes the last
-pub inserted_above_is_last : (places : List Bool) (slot : ℕ) → slot < length places → NoneFrom places slot → slots_of (set places slot true) ≡ slots_of places ++ slot ∷ []
+pub inserted_above_is_last : (places : List Bool) (slot : ℕ) → slot < length places → NoneFrom places slot
+    → slots_of (set places slot true) ≡ slots_of places ++ slot ∷ []
 inserted_above_is_last places slot within none =
     let long : length (set places slot true) ≡ length places = length-set places slot true in
     let here : is_in (set places slot true) slot ≡ true = get_or-set_same places slot true false within in

@@ -13,4 +13,5 @@ range_below n k d few less =
 
 pub all_numbers : (places : List Bool) → length places ≤ 2 ^ 32 → All IsSlotNumber (slots_of places)
 unfolding slots_below
-all_numbers places few = All-filter (is_in places) IsSlotNumber (range_with_len 0 (length places)) (λ k d less. range_below (length places) k d few less)
+all_numbers places few =
+    All-filter (is_in places) IsSlotNumber (range_with_len 0 (length places)) (λ k d less. range_below (length places) k d few less)

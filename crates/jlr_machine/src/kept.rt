@@ -34,8 +34,8 @@ impl Parts {
     }
 }
 
-/// The slots that a collection kept, as a list. A list that rises, and of which bits take no more memory, lies here as a bit for each
-/// slot up to its last. Any other list can lie here too: an entry that was read may name any slots.
+/// The slots that a collection kept, as a list. A list that rises, and of which bits take no more memory, lies here as
+/// a bit for each slot up to its last. Any other list can lie here too: an entry that was read may name any slots.
 #[derive(Drop)]
 pub struct KeptSlots {
     parts: Box<Parts>,
@@ -124,7 +124,8 @@ fn numbers_in_range(slots: &[Slot])
     }
 }
 
-/// For how many cells a set has to have places, so that its words take no more memory than the list: up to the last slot, or none.
+/// For how many cells a set has to have places, so that its words take no more memory than the list: up to the last
+/// slot, or none.
 fn cells_for(slots: &[Slot]) -> u32 {
     let Some(last) = slots.last() else {
         return 0;

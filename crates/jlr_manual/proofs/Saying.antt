@@ -6,7 +6,9 @@ use Rattle.std.specs.Fmt.{digits}
 use Rattle.std.proofs.lemmas.Slice.Eq.{bytes_eq-Decides}
 use Rattle.std.proofs.lemmas.Option.{same_Some}
 use Rattle.jlr_types.specs.declared.Refusal.{Refusal}
-use Rattle.jlr_types.specs.declared.Refusal.TheVariants.{NoMemory, HeapFull, NoHandle, HandlesFull, WrongKind, NoField, WrongType, Null, NoName, NamesFull, Busy, Closed, NoSession, Exhausted, Malformed, TooLong, NotOut, WouldWait, ResourcesFull}
+use Rattle.jlr_types.specs.declared.Refusal.TheVariants.{NoMemory, HeapFull, NoHandle, HandlesFull, WrongKind, NoField, WrongType, Null}
+use Rattle.jlr_types.specs.declared.Refusal.TheVariants.{NoName, NamesFull, Busy, Closed, NoSession, Exhausted, Malformed, TooLong, NotOut}
+use Rattle.jlr_types.specs.declared.Refusal.TheVariants.{WouldWait, ResourcesFull}
 use Rattle.jlr_manual.specs.Lines.{line_of, lines, named, refusal_in}
 
 -- each row has the line of its refusal
@@ -14,7 +16,8 @@ abbrev AreRows : List (List ℕ × Refusal) → Type 0
 AreRows [] = ⊤
 AreRows (row ∷ rows) = (row.0 ≡ line_of row.1) × AreRows rows
 
-first_or : (rows : List (List ℕ × Refusal)) (line text : List ℕ) (own r : Refusal) (same : Bool) → (same ≡ true → line ≡ text) → text ≡ line_of own
+first_or : (rows : List (List ℕ × Refusal)) (line text : List ℕ) (own r : Refusal) (same : Bool) → (same ≡ true → line ≡ text)
+    → text ≡ line_of own
     → (named line rows ≡ Some r → line ≡ line_of r) → cond same (Some own) (named line rows) ≡ Some r → line ≡ line_of r
 first_or rows line text own r true equal is others h = let own_is : own ≡ r = same_Some own r h in equal refl ∙ is ∙ ap line_of own_is
 first_or rows line text own r false equal is others h = others h
@@ -26,7 +29,25 @@ gives (row ∷ rows) line r are h =
 
 are_rows : AreRows lines
 unfolding digits
-are_rows = (refl, (refl, (refl, (refl, (refl, (refl, (refl, (refl, (refl, (refl, (refl, (refl, (refl, (refl, (refl, (refl, (refl, (refl, (refl, tt)))))))))))))))))))
+are_rows = (
+  refl,
+  (
+    refl,
+    (
+      refl,
+      (
+        refl,
+        (
+          refl,
+          (
+            refl,
+            (refl, (refl, (refl, (refl, (refl, (refl, (refl, (refl, (refl, (refl, (refl, (refl, (refl, tt))))))))))))),
+          ),
+        ),
+      ),
+    ),
+  ),
+)
 
 finds : (r : Refusal) → refusal_in (line_of r) ≡ Some r
 unfolding refusal_in digits

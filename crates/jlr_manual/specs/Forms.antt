@@ -11,7 +11,9 @@ use Rattle.jlr_wire.specs.declared.command.Command.{Command}
 use Rattle.jlr_manual.specs.declared.form.Form.{Form}
 use Rattle.jlr_manual.specs.declared.form.Form.TheVariants as form
 use Rattle.jlr_manual.specs.declared.operand.Operand.{Operand}
-use Rattle.jlr_manual.specs.declared.operand.Operand.TheVariants.{Layout, Length, Object, Left, Right, Value, Reference, Queue, Cleaner, Cleanable, Field, Integer, Note, Mode, Path, Count, Bytes, Name}
+use Rattle.jlr_manual.specs.declared.operand.Operand.TheVariants.{Layout, Length, Object, Left, Right, Value, Reference}
+use Rattle.jlr_manual.specs.declared.operand.Operand.TheVariants.{Queue, Cleaner, Cleanable, Field, Integer, Note, Mode}
+use Rattle.jlr_manual.specs.declared.operand.Operand.TheVariants.{Path, Count, Bytes, Name}
 
 -- the word of a form
 abbrev pub name_of : Form → List ℕ
@@ -135,4 +137,5 @@ pub record IsOfForm (line : List ℕ) (form : Form) : Type 0 where
 
 -- the lines of the forms are those of commands
 abbrev pub FormsAreCommands : Type 0
-FormsAreCommands = (line : List ℕ) → ((form : Form) × IsOfForm line form) ↔ ((command : Command) × IsCommand line command)
+FormsAreCommands = (line : List ℕ) → ((form : Form) × IsOfForm line form)
+    ↔ ((command : Command) × IsCommand line command)

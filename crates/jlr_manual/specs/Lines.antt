@@ -3,7 +3,10 @@ use Rattle.std.specs.Prelude.{ℕ, cond, List, [], ◌∷◌, ◌++◌, Option, 
 use Rattle.std.specs.Str.{bytes_eq}
 use Rattle.jlr_types.specs.Numbers.{number_of}
 use Rattle.jlr_types.specs.declared.Refusal.{Refusal}
-use Rattle.jlr_types.specs.declared.Refusal.TheVariants.{NoMemory, HeapFull, NoHandle, HandlesFull, WrongKind, NoField, WrongType, Null, NoName, NamesFull, Busy, Closed, NoSession, Exhausted, Malformed, TooLong, NotOut, WouldWait, ResourcesFull}
+use Rattle.jlr_types.specs.declared.Refusal.TheVariants.{NoMemory, HeapFull, NoHandle, HandlesFull, WrongKind, NoField}
+use Rattle.jlr_types.specs.declared.Refusal.TheVariants.{WrongType, Null, NoName, NamesFull, Busy, Closed, NoSession}
+use Rattle.jlr_types.specs.declared.Refusal.TheVariants.{Exhausted, Malformed, TooLong, NotOut, WouldWait}
+use Rattle.jlr_types.specs.declared.Refusal.TheVariants.{ResourcesFull}
 
 -- the line of a refusal: an exclamation mark and its number
 abbrev pub line_of : Refusal → List ℕ

@@ -9,7 +9,8 @@ use Rattle.jlr_marker.specs.Spending.{by_colour, total}
 
 pub total_same : (f g : ℕ → ℕ) (n : ℕ) → ((x : ℕ) → x < n → g x ≡ f x) → total g n ≡ total f n
 total_same f g zero same = refl
-total_same f g (suc n) same = let before = total_same f g n (λ x h. same x (omega (arith, h))) in let here = same n (omega arith) in omega (arith, before, here)
+total_same f g (suc n) same = let before = total_same f g n (λ x h. same x (omega (arith, h))) in let here = same n (omega arith) in
+    omega (arith, before, here)
 
 pub total_one : (f g : ℕ → ℕ) (n s : ℕ) → s < n → ((x : ℕ) → (x ≡ s → ⊥) → g x ≡ f x) → g s ≡ f s + 1 → total g n ≡ total f n + 1
 total_one f g zero s h others here = absurd (omega (arith, h))
@@ -63,7 +64,8 @@ pub colour_black : (m : Marking) (x grey black : ℕ) → is_marked m x ≡ true
 colour_black m x grey black on not_grey = ap (λ b. cond b (cond (m.grey ∋ x) grey black) 0) on ∙ ap (λ b. cond b grey black) not_grey
 
 -- white, grey or black
-pub by_cases : {P : Type 0} (m : Marking) (x : ℕ) → (is_marked m x ≡ false → P) → (is_marked m x ≡ true → (m.grey ∋ x) ≡ true → P) → (is_marked m x ≡ true → (m.grey ∋ x) ≡ false → P) → P
+pub by_cases : {P : Type 0} (m : Marking) (x : ℕ) → (is_marked m x ≡ false → P) → (is_marked m x ≡ true → (m.grey ∋ x) ≡ true → P)
+    → (is_marked m x ≡ true → (m.grey ∋ x) ≡ false → P) → P
 by_cases {P} m x white grey black =
     elim (is_marked m x) as (λ b. is_marked m x ≡ b → P) [
       | false ↦ white

@@ -1,5 +1,6 @@
 -- A marking from its beginning until no cell is grey.
-use Rattle.std.proofs.Common.{◌≡◌, ℕ, ◌+◌, ◌*◌, ◌/◌, ◌<◌, ◌≤◌, ◌⊎◌, ◌↔◌, inl, inr, Bool, false, List, [], length, Option, Some, None, arith, refl, sym, subst, ap, ◌∙◌}
+use Rattle.std.proofs.Common.{◌≡◌, ℕ, ◌+◌, ◌*◌, ◌/◌, ◌<◌, ◌≤◌, ◌⊎◌, ◌↔◌, inl, inr, Bool, false, List, [], length, Option, Some, None, arith}
+use Rattle.std.proofs.Common.{refl, sym, subst, ap, ◌∙◌}
 use Rattle.std.proofs.lemmas.Bool.{both_ways, cases_eq, false_from_ne_true}
 use Rattle.jlr_machine.specs.Objects.{Heap, at, ◌∈◌, ◌∋◌}
 use Rattle.jlr_laws.specs.Laws.{followed}
@@ -12,8 +13,10 @@ use Rattle.jlr_marker.specs.Spending.{elements_at, so_far, spent, spent_at, tick
 use Rattle.jlr_marker.specs.Marks.{Blackening, IsPassedIn}
 use Rattle.jlr_marker.proofs.Elements.{array_edge, array_no_soft}
 use Rattle.jlr_marker.proofs.Following.{along, follows_base, followed_gives, none_in_unmarked}
-use Rattle.jlr_marker.proofs.Passing.{GoesOn, goes_on_here, nothing_passed, one_goes_on, one_passed, one_spent, one_within, other_upcoming, same_spent, slot_grey}
-use Rattle.jlr_marker.proofs.Totals.{by_cases, colour_black, colour_grey, colour_white, total_bounded, total_less, total_nothing, total_one, total_within}
+use Rattle.jlr_marker.proofs.Passing.{GoesOn, goes_on_here, nothing_passed, one_goes_on, one_passed, one_spent, one_within, other_upcoming}
+use Rattle.jlr_marker.proofs.Passing.{same_spent, slot_grey}
+use Rattle.jlr_marker.proofs.Totals.{by_cases, colour_black, colour_grey, colour_white, total_bounded, total_less, total_nothing, total_one}
+use Rattle.jlr_marker.proofs.Totals.{total_within}
 
 module _ (heap : Heap) (B : List ℕ) (n : ℕ) (first : Marking) (s : Shaded (λ x. x ∈ B) (unmarked n) first) where
   -- what is marked at first is grey, and of the base
@@ -25,13 +28,15 @@ module _ (heap : Heap) (B : List ℕ) (n : ℕ) (first : Marking) (s : Shaded (�
 
   none_followed : (x k : ℕ) → so_far first x k ≡ 0
   none_followed x k =
-      by_cases first x (λ white. colour_white first x (place first x) k white) (λ on grey. colour_grey first x (place first x) k on grey ∙ no_place x)
+      by_cases first x (λ white. colour_white first x (place first x) k white)
+      (λ on grey. colour_grey first x (place first x) k on grey ∙ no_place x)
       (λ on dark. absurd (both_ways (first.grey ∋ x) dark (at_first x on).1))
 
   none_spent_at : (x : ℕ) → spent_at heap first x ≡ 0
   none_spent_at x =
       by_cases first x (λ white. colour_white first x (place first x / 64) (ticks_at heap x) white)
-      (λ on grey. colour_grey first x (place first x / 64) (ticks_at heap x) on grey ∙ ap (λ p. p / 64) (no_place x)) (λ on dark. absurd (both_ways (first.grey ∋ x) dark (at_first x on).1))
+      (λ on grey. colour_grey first x (place first x / 64) (ticks_at heap x) on grey ∙ ap (λ p. p / 64) (no_place x))
+      (λ on dark. absurd (both_ways (first.grey ∋ x) dark (at_first x on).1))
 
   pub none_spent : spent heap first ≡ 0
   none_spent = total_nothing (spent_at heap first) (length heap) none_spent_at
@@ -41,16 +46,22 @@ module _ (heap : Heap) (B : List ℕ) (n : ℕ) (first : Marking) (s : Shaded (�
 
   module _ (keeps : ℕ → Bool) (ticks : ℕ) (m : Marking) (b : Blackening keeps heap ticks first m) where
     pub sound : (x : ℕ) → IsMarked m x → IsFollowed keeps heap B x
-    sound x h = elim (b.reached x h) [ inl o ↦ follows_base keeps heap B x (at_first x o).0 | inr r ↦ (r.0, (at_first r.0 r.2).0, r.3, r.4) ]
+    sound x h = elim (b.reached x h) [
+      | inl o ↦ follows_base keeps heap B x (at_first x o).0
+      | inr r ↦
+          (r.0, (at_first r.0 r.2).0, r.3, r.4)
+    ]
 
     module _ (none : m.grey ≡ []) where
       not_grey : (x : ℕ) → (m.grey ∋ x) ≡ false
       not_grey x = false_from_ne_true (m.grey ∋ x) (λ h. nothing x (subst (λ l. x ∈ l) none h))
 
       grey_or_white : (x : ℕ) → (x ∈ first.grey) ⊎ (¬ (IsMarked first x))
-      grey_or_white x = by_cases first x (λ white. inr (λ on. both_ways (is_marked first x) white on)) (λ on grey. inl grey) (λ on dark. absurd (both_ways (first.grey ∋ x) dark (at_first x on).1))
+      grey_or_white x = by_cases first x (λ white. inr (λ on. both_ways (is_marked first x) white on)) (λ on grey. inl grey)
+          (λ on dark. absurd (both_ways (first.grey ∋ x) dark (at_first x on).1))
 
-      passed : (o : Option (List (Option ℕ))) (x y : ℕ) → elements_at heap x ≡ o → IsMarked m x → y ∈ followed keeps heap x → IsPassedIn o keeps heap first m x y
+      passed : (o : Option (List (Option ℕ))) (x y : ℕ) → elements_at heap x ≡ o → IsMarked m x → y ∈ followed keeps heap x
+          → IsPassedIn o keeps heap first m x y
       passed (Some e) x y there on h = elim (followed_gives keeps heap x y h) [
         | inl strong ↦
             let r = array_edge (at heap x) e y there strong in
@@ -84,9 +95,18 @@ pub record IsMarking (keeps : ℕ → Bool) (heap : Heap) (B : List ℕ) (n : �
 
 module _ (keeps : ℕ → Bool) (heap : Heap) (B : List ℕ) (n : ℕ) where
   pub marking_begins : (m : Marking) → Shaded (λ x. x ∈ B) (unmarked n) m → IsMarking keeps heap B n m
-  marking_begins m s = record { first = m; begun = s; ticks = 0; blackening = nothing_passed keeps heap m; on = goes_on_here m; each = none_spent_within heap B n m s }
+  marking_begins m s = record {
+    first = m;
+    begun = s;
+    ticks = 0;
+    blackening = nothing_passed keeps heap m;
+    on = goes_on_here m;
+    each = none_spent_within heap B n m s;
+  }
 
-  module _ (cur new : Marking) (slot : ℕ) (i : IsMarking keeps heap B n cur) (f : Ticks keeps heap slot cur new) (up : upcoming cur ≡ Some slot) (top : IsMarked cur slot) (inside : slot < length heap) (begun : IsBegun heap (place cur slot) slot) where
+  module _ (cur new : Marking) (slot : ℕ) (i : IsMarking keeps heap B n cur) (f : Ticks keeps heap slot cur new)
+      (up : upcoming cur ≡ Some slot) (top : IsMarked cur slot) (inside : slot < length heap)
+      (begun : IsBegun heap (place cur slot) slot) where
     abbrev more : Option ℕ
     more = next_at heap (place cur slot) slot
 
@@ -102,7 +122,8 @@ module _ (keeps : ℕ → Bool) (heap : Heap) (B : List ℕ) (n : ℕ) where
 
     pub marking_spends : spent heap new ≡ spent heap cur + 1
     marking_spends =
-        total_one (spent_at heap cur) (spent_at heap new) (length heap) slot inside (same_spent keeps heap i.ticks i.first cur new slot more i.blackening i.on f refl up top inside begun)
+        total_one (spent_at heap cur) (spent_at heap new) (length heap) slot inside
+        (same_spent keeps heap i.ticks i.first cur new slot more i.blackening i.on f refl up top inside begun)
         (one_spent keeps heap i.ticks i.first cur new slot more i.blackening i.on f refl up top inside begun)
 
     pub slot_is_grey : slot ∈ cur.grey
@@ -119,7 +140,8 @@ module _ (keeps : ℕ → Bool) (heap : Heap) (B : List ℕ) (n : ℕ) where
   marking_sound m i x h = sound heap B n i.first i.begun keeps i.ticks m i.blackening x h
 
 -- while a slot is grey, fewer ticks were spent than all objects take
-pub spent_below : (heap : Heap) (m : Marking) (slot : ℕ) → upcoming m ≡ Some slot → IsMarked m slot → slot ∈ m.grey → slot < length heap → IsBegun heap (place m slot) slot → spent heap m < ticks_for heap
+pub spent_below : (heap : Heap) (m : Marking) (slot : ℕ) → upcoming m ≡ Some slot → IsMarked m slot → slot ∈ m.grey → slot < length heap
+    → IsBegun heap (place m slot) slot → spent heap m < ticks_for heap
 spent_below heap m slot up on grey inside begun =
     let here = colour_grey m slot (place m slot / 64) (ticks_at heap slot) on grey in
     let less : spent_at heap m slot < ticks_at heap slot = omega (arith, here, begun.1, begun.2) in
@@ -127,7 +149,11 @@ spent_below heap m slot up on grey inside begun =
     (λ x. by_cases m x (λ white. omega (arith, colour_white m x (place m x / 64) (ticks_at heap x) white))
     (λ was is_grey. elim (cases_eq x slot) [
       | inl is ↦ subst (λ z. spent_at heap m z ≤ ticks_at heap z) (sym is) (omega (arith, less))
-      | inr other ↦ omega (arith, colour_grey m x (place m x / 64) (ticks_at heap x) was is_grey, other_upcoming m.part m.grey slot x up other)
+      | inr other ↦ omega (
+        arith,
+        colour_grey m x (place m x / 64) (ticks_at heap x) was is_grey,
+        other_upcoming m.part m.grey slot x up other,
+      )
     ])
     (λ was dark. omega (arith, colour_black m x (place m x / 64) (ticks_at heap x) was dark)))
     less
@@ -136,5 +162,6 @@ spent_below heap m slot up on grey inside begun =
 pub spent_within : (heap : Heap) (m : Marking) → m.grey ≡ [] → spent heap m ≤ ticks_for heap
 spent_within heap m none =
     total_within (spent_at heap m) (ticks_at heap) (length heap)
-    (λ x. by_cases m x (λ white. omega (arith, colour_white m x (place m x / 64) (ticks_at heap x) white)) (λ on grey. nothing x (subst (λ l. x ∈ l) none grey))
+    (λ x. by_cases m x (λ white. omega (arith, colour_white m x (place m x / 64) (ticks_at heap x) white))
+    (λ on grey. nothing x (subst (λ l. x ∈ l) none grey))
     (λ on dark. omega (arith, colour_black m x (place m x / 64) (ticks_at heap x) on dark)))

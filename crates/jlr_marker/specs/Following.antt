@@ -1,5 +1,6 @@
 -- Which soft references a collector follows, where that leads, and what one tick follows.
-use Rattle.std.specs.Prelude.{◌≡◌, ℕ, ◌⊎◌, Bool, true, List, ◌∷◌, Option, Some, None, IsPermutation, option_and_then, slice_index_or}
+use Rattle.std.specs.Prelude.{◌≡◌, ℕ, ◌⊎◌, Bool, true, List, ◌∷◌, Option, Some, None, IsPermutation, option_and_then}
+use Rattle.std.specs.Prelude.{slice_index_or}
 use Rattle.jlr_machine.specs.Objects.{Heap, at, ◌∈◌}
 use Rattle.jlr_types.specs.declared.RefKind.TheVariants.{Soft}
 use Rattle.jlr_machine.specs.Edges.{referent}
@@ -19,7 +20,8 @@ keeps policy clock s = is_kept_in policy.mode policy.soft_age (slice_index_or cl
 abbrev pub soft_at : Heap → ℕ → Option ℕ
 soft_at heap s = option_and_then (referent Soft) (at heap s)
 
--- what one tick at a slot follows, from the place reached on: a part of its strong edges, and the referent of a soft reference that is kept
+-- what one tick at a slot follows, from the place reached on: a part of its strong edges, and the referent of a soft
+-- reference that is kept
 abbrev pub IsTicked : (ℕ → Bool) → Heap → ℕ → ℕ → ℕ → Type 0
 IsTicked kept heap from s y = (y ∈ part_at heap from s) ⊎ ((kept s ≡ true) × (soft_at heap s ≡ Some y))
 
@@ -32,7 +34,8 @@ abbrev pub part_still : Option ℕ → ℕ → Option Part
 part_still (Some p) slot = Some (record { slot = slot; place = p })
 part_still None slot = None
 
--- The slot was grey, and the members of T were shaded. Where there is more of it to follow it is grey still, and comes next; else it is grey no more
+-- The slot was grey, and the members of T were shaded. Where there is more of it to follow it is grey still, and comes
+-- next; else it is grey no more
 pub record Follows (T : ℕ → Type 0) (slot : ℕ) (more : Option ℕ) (old new : Marking) : Type 0 where
   -- the other grey slots, and the marks before T was shaded
   pub rest : List ℕ
@@ -46,7 +49,8 @@ pub record Follows (T : ℕ → Type 0) (slot : ℕ) (more : Option ℕ) (old ne
 
 -- one tick at a slot
 abbrev pub Ticks : (ℕ → Bool) → Heap → ℕ → Marking → Marking → Type 0
-Ticks kept heap slot old new = Follows (λ y. IsTicked kept heap (place old slot) slot y) slot (next_at heap (place old slot) slot) old new
+Ticks kept heap slot old new =
+    Follows (λ y. IsTicked kept heap (place old slot) slot y) slot (next_at heap (place old slot) slot) old new
 
 -- s is in B, or the edges that a marker follows lead to it from there
 abbrev pub IsFollowed : (ℕ → Bool) → Heap → List ℕ → ℕ → Type 0

@@ -17,16 +17,18 @@ IsBlackened old new x = IsMarked new x × (¬ (x ∈ new.grey)) × ((x ∈ old.g
 abbrev pub Blackens : ℕ → Marking → Marking → Type 0
 Blackens n old new = marked new + length old.grey ≡ marked old + length new.grey + n
 
--- An element of x that was followed refers to y; or, where x is no array, x was blackened, and an edge leads from it to y that is followed
+-- An element of x that was followed refers to y; or, where x is no array, x was blackened, and an edge leads from it to
+-- y that is followed
 abbrev pub IsPassedIn : Option (List (Option ℕ)) → (ℕ → Bool) → Heap → Marking → Marking → ℕ → ℕ → Type 0
-IsPassedIn (Some elements) keeps heap old new x y = (i : ℕ) × (so_far old x (length elements) ≤ i) × (i < so_far new x (length elements)) × (at elements i ≡ Some y)
+IsPassedIn (Some elements) keeps heap old new x y = (i : ℕ) × (so_far old x (length elements) ≤ i)
+    × (i < so_far new x (length elements)) × (at elements i ≡ Some y)
 IsPassedIn None keeps heap old new x y = IsBlackened old new x × (y ∈ followed keeps heap x)
 
 abbrev pub IsPassed : (ℕ → Bool) → Heap → Marking → Marking → ℕ → ℕ → Type 0
 IsPassed keeps heap old new x y = IsPassedIn (elements_at heap x) keeps heap old new x y
 
--- So many ticks were spent, and at most so many cells were blackened. What the edges that were followed lead to is marked: strong edges, and the
--- referent of a soft reference that the policy keeps. Nothing else was marked
+-- So many ticks were spent, and at most so many cells were blackened. What the edges that were followed lead to is
+-- marked: strong edges, and the referent of a soft reference that the policy keeps. Nothing else was marked
 pub record Blackening (keeps : ℕ → Bool) (heap : Heap) (ticks : ℕ) (old new : Marking) : Type 0 where
   pub spends : spent heap new ≡ spent heap old + ticks
   pub black : (n : ℕ) × (n ≤ ticks) × Blackens n old new
@@ -36,11 +38,13 @@ pub record Blackening (keeps : ℕ → Bool) (heap : Heap) (ticks : ℕ) (old ne
   pub follows : (x y : ℕ) → IsPassed keeps heap old new x y → IsMarked new y
   -- what was newly marked, an edge that was followed leads to, and in some steps a cell that was grey
   pub no_more : (y : ℕ) → IsMarked new y → IsMarked old y ⊎ ((x : ℕ) × IsMarked new x × IsPassed keeps heap old new x y)
-  pub reached : (y : ℕ) → IsMarked new y → IsMarked old y ⊎ ((x : ℕ) × (x ∈ old.grey) × IsMarked old x × (path : List ℕ) × IsPathFollowed keeps heap x path y)
+  pub reached : (y : ℕ) → IsMarked new y → IsMarked old y
+      ⊎ ((x : ℕ) × (x ∈ old.grey) × IsMarked old x × (path : List ℕ) × IsPathFollowed keeps heap x path y)
 
--- A piece of marking ticked so often, once for each part of an object that it followed. There is more to do only after all ticks, with a grey cell
--- left, and it is done where none is left
-pub record MarksOn (keeps : ℕ → Bool) (heap : Heap) (budget ticks : ℕ) (answer : Progress) (old new : Marking) : Type 0 where
+-- A piece of marking ticked so often, once for each part of an object that it followed. There is more to do only after
+-- all ticks, with a grey cell left, and it is done where none is left
+pub record MarksOn (keeps : ℕ → Bool) (heap : Heap) (budget ticks : ℕ) (answer : Progress) (old new : Marking) : Type
+    0 where
   pub few : ticks ≤ budget
   pub blackening : Blackening keeps heap ticks old new
   pub more : answer ≡ More → (ticks ≡ budget) × (new.grey ≢ [])

@@ -26,8 +26,9 @@ pub fn begin(heap: &mut Heap)
     heap.open_marking();
 }
 
-/// A piece of the marking of an open cycle: grey cells are followed, one tick each, and of an array one for each 64 elements, until none is left or
-/// the budget is spent. It is Done where none is left, and else there is More. Without an open cycle it is Idle, and nothing is done.
+/// A piece of the marking of an open cycle: grey cells are followed, one tick each, and of an array one for each 64
+/// elements, until none is left or the budget is spent. It is Done where none is left, and else there is More. Without
+/// an open cycle it is Idle, and nothing is done.
 pub fn mark(
     heap: &mut Heap,
     is_open: bool,
@@ -36,14 +37,17 @@ pub fn mark(
     budget: u32,
 ) -> Progress
     requires ticks { meter.old + budget < 2 ^ 64 }
-    requires objects { (x y : ℕ) → y ∈ edges_from UpToSoft heap.old.graph.objects x → IsObject heap.old.graph.objects y }
+    requires objects { (x y : ℕ) → y ∈ edges_from UpToSoft heap.old.graph.objects x
+        → IsObject heap.old.graph.objects y }
     requires within { (x y : ℕ) → RefersTo heap.old.graph.objects x y → y < length heap.old.graph.objects }
     ensures graph { heap.new.graph ≡ heap.old.graph }
     ensures clock { heap.new.clock ≡ heap.old.clock }
     ensures condemned { heap.new.condemned ≡ heap.old.condemned }
     ensures ticked { meter.old ≤ meter.new }
-    ensures idle { is_open ≡ false → (result ≡ Progress.Idle) × (heap.new.marking ≡ heap.old.marking) × (meter.new ≡ meter.old) }
-    ensures marks { is_open ≡ true → MarksOn (keeps policy.now heap.old.clock) heap.old.graph.objects budget (meter.new - meter.old) result heap.old.marking heap.new.marking }
+    ensures idle { is_open ≡ false → (result ≡ Progress.Idle) × (heap.new.marking ≡ heap.old.marking)
+        × (meter.new ≡ meter.old) }
+    ensures marks { is_open ≡ true → MarksOn (keeps policy.now heap.old.clock) heap.old.graph.objects budget
+        (meter.new - meter.old) result heap.old.marking heap.new.marking }
 {
     if !is_open {
         return Progress::Idle;
@@ -58,15 +62,18 @@ pub fn mark(
 /// Grey cells are followed, part by part, one tick each, until none is left or the budget is spent.
 fn follow_grey(heap: &mut Heap, policy: &Policy, meter: &mut Meter, budget: u32)
     requires ticks { meter.old + budget < 2 ^ 64 }
-    requires objects { (x y : ℕ) → y ∈ edges_from UpToSoft heap.old.graph.objects x → IsObject heap.old.graph.objects y }
+    requires objects { (x y : ℕ) → y ∈ edges_from UpToSoft heap.old.graph.objects x
+        → IsObject heap.old.graph.objects y }
     requires within { (x y : ℕ) → RefersTo heap.old.graph.objects x y → y < length heap.old.graph.objects }
     ensures graph { heap.new.graph ≡ heap.old.graph }
     ensures clock { heap.new.clock ≡ heap.old.clock }
     ensures condemned { heap.new.condemned ≡ heap.old.condemned }
     ensures ticked { (meter.old ≤ meter.new) × (meter.new ≤ meter.old + budget) }
-    ensures blackens { Blackening (keeps policy.now heap.old.clock) heap.old.graph.objects (meter.new - meter.old) heap.old.marking heap.new.marking }
+    ensures blackens { Blackening (keeps policy.now heap.old.clock) heap.old.graph.objects (meter.new - meter.old)
+        heap.old.marking heap.new.marking }
     ensures each { (x : ℕ) → IsBlackened heap.old.marking heap.new.marking x → ticks_at heap.old.graph.objects x ≤ 64 }
-    ensures part { (p : Part) → heap.new.marking.part ≡ Some p → (heap.old.marking.part ≡ Some p) ⊎ (p.place < 64 * ticks_at heap.old.graph.objects p.slot) }
+    ensures part { (p : Part) → heap.new.marking.part ≡ Some p → (heap.old.marking.part ≡ Some p)
+        ⊎ (p.place < 64 * ticks_at heap.old.graph.objects p.slot) }
     ensures stops { (meter.new ≡ meter.old + budget) ⊎ (heap.new.marking.grey ≡ []) }
 {
     for _tick in 0..budget {

@@ -1,5 +1,6 @@
 -- What shading does, one slot after another.
-use Rattle.std.proofs.Common.{ℕ, Option, Some, ◌≡◌, zero, suc, ◌<◌, ◌⊎◌, Bool, true, false, cond, List, [], ◌∷◌, ◌++◌, length, get_or, set, arith, length-set, length-append, refl, sym, ◌∙◌, ap, subst, inl, inr, get_or-set_same, get_or-set_other}
+use Rattle.std.proofs.Common.{ℕ, Option, Some, ◌≡◌, zero, suc, ◌<◌, ◌⊎◌, Bool, true, false, cond, List, [], ◌∷◌, ◌++◌, length, get_or, set}
+use Rattle.std.proofs.Common.{arith, length-set, length-append, refl, sym, ◌∙◌, ap, subst, inl, inr, get_or-set_same, get_or-set_other}
 use Rattle.std.specs.Option.{option_to_list}
 use Rattle.std.proofs.lemmas.List.{set-get_or}
 use Rattle.std.proofs.lemmas.Bool.{both_ways, cases_eq}
@@ -128,7 +129,11 @@ shaded_new y m h k =
       ];
       fresh = λ x q. elim (in_append x m.grey (y ∷ []) q) [
         | inl o ↦ inl o
-        | inr o ↦ elim (in_cons x y [] o) [ inl e ↦ inr (λ on. both_ways (is_marked m y) k (sym (ap (is_marked m) e) ∙ on)) | inr n ↦ nothing x n ]
+        | inr o ↦ elim (in_cons x y [] o) [
+          | inl e ↦ inr (λ on. both_ways (is_marked m y) k (sym (ap (is_marked m) e) ∙ on))
+          | inr n ↦
+              nothing x n
+        ]
       ];
       all = λ x e. ap (is_marked (shade_new m y)) e ∙ top;
       black_same = omega (arith, count_marks m.bits y h k, length-append m.grey (y ∷ []));
@@ -136,13 +141,22 @@ shaded_new y m h k =
       part_same = refl;
     }
 
-shaded_case : (y : ℕ) (m : Marking) (b : Bool) → is_marked m y ≡ b → y < length m.bits → Shaded (λ x. x ≡ y) m (record { bits = set m.bits y true; grey = cond b m.grey (m.grey ++ y ∷ []); discovered = m.discovered; part = m.part })
-shaded_case y m true k h = subst (λ l. Shaded (λ x. x ≡ y) m (record { bits = l; grey = m.grey; discovered = m.discovered; part = m.part })) (sym (set_same m.bits y k)) (shaded_already y m k)
+shaded_case : (y : ℕ) (m : Marking) (b : Bool) → is_marked m y ≡ b → y < length m.bits
+    → Shaded (λ x. x ≡ y) m
+    (record { bits = set m.bits y true; grey = cond b m.grey (m.grey ++ y ∷ []); discovered = m.discovered; part = m.part })
+shaded_case y m true k h = subst (λ l. Shaded (λ x. x ≡ y) m (record { bits = l; grey = m.grey; discovered = m.discovered; part = m.part }))
+    (sym (set_same m.bits y k)) (shaded_already y m k)
 shaded_case y m false k h = shaded_new y m h k
 
-pub shaded_one : (y : ℕ) (m n : Marking) → y < length m.bits → n.bits ≡ set m.bits y true → n.grey ≡ cond (is_marked m y) m.grey (m.grey ++ y ∷ []) → n.discovered ≡ m.discovered → n.part ≡ m.part → Shaded (λ x. x ≡ y) m n
+pub shaded_one : (y : ℕ) (m n : Marking) → y < length m.bits → n.bits ≡ set m.bits y true
+    → n.grey ≡ cond (is_marked m y) m.grey (m.grey ++ y ∷ []) → n.discovered ≡ m.discovered → n.part ≡ m.part → Shaded (λ x. x ≡ y) m n
 shaded_one y m n h eb eg ed ep =
-    let after : Marking = record { bits = set m.bits y true; grey = cond (is_marked m y) m.grey (m.grey ++ y ∷ []); discovered = m.discovered; part = m.part } in
+    let after : Marking = record {
+      bits = set m.bits y true;
+      grey = cond (is_marked m y) m.grey (m.grey ++ y ∷ []);
+      discovered = m.discovered;
+      part = m.part;
+    } in
     subst (Shaded (λ x. x ≡ y) m) (sym (same_marking n after eb eg ed ep)) (shaded_case y m (is_marked m y) refl h)
 
 -- ---- Shading the members of two lists
@@ -156,7 +170,8 @@ shaded_target o m n s = shaded_same _ _ (λ x e. option_in x o e) (λ x h. in_op
 
 -- ---- Shading the members of five lists
 
-pub shaded_in_five : (xs ys zs vs ws : List ℕ) (a b c d e f : Marking) → Shaded (λ x. x ∈ xs) a b → Shaded (λ x. x ∈ ys) b c → Shaded (λ x. x ∈ zs) c d → Shaded (λ x. x ∈ vs) d e → Shaded (λ x. x ∈ ws) e f → Shaded (λ x. x ∈ xs ++ ys ++ zs ++ vs ++ ws) a f
+pub shaded_in_five : (xs ys zs vs ws : List ℕ) (a b c d e f : Marking) → Shaded (λ x. x ∈ xs) a b → Shaded (λ x. x ∈ ys) b c
+    → Shaded (λ x. x ∈ zs) c d → Shaded (λ x. x ∈ vs) d e → Shaded (λ x. x ∈ ws) e f → Shaded (λ x. x ∈ xs ++ ys ++ zs ++ vs ++ ws) a f
 shaded_in_five xs ys zs vs ws a b c d e f s t u v w =
     let two = shaded_in_both xs ys a c (shaded_then _ _ a b c s t) in
     let three = shaded_in_both (xs ++ ys) zs a d (shaded_then _ _ a c d two u) in

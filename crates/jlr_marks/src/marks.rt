@@ -1,5 +1,6 @@
 //! Marks.
-ghost use Rattle.std.specs.Prelude.{◌≡◌, ◌↔◌, ℕ, ◌+◌, ◌^◌, ◌<◌, ◌≤◌, ◌++◌, ◌∷◌, [], false, true, cond, length, IfOk, slice_get, slice_set, IfNone, IfSome, IsPermutation, None, Some, replicate};
+ghost use Rattle.std.specs.Prelude.{◌≡◌, ◌↔◌, ℕ, ◌+◌, ◌^◌, ◌<◌, ◌≤◌, ◌++◌, ◌∷◌, [], false, true, cond, length, IfOk};
+ghost use Rattle.std.specs.Prelude.{slice_get, slice_set, IfNone, IfSome, IsPermutation, None, Some, replicate};
 ghost use Rattle.jlr_machine.specs.Choices.{collecting, kept_by, pended_by};
 ghost use Rattle.jlr_machine.specs.Objects.{◌∈◌};
 ghost use Rattle.jlr_sets.specs.SlotSets.{slots_of};
@@ -12,8 +13,8 @@ use jlr_types::Slot;
 use std::alloc::{AllocError, Global};
 use std::marker::Model;
 
-/// A mark for each cell, a stack of the marked cells that are grey, and a list of those that are discovered. An array in progress is grey, and does
-/// not stand on the stack.
+/// A mark for each cell, a stack of the marked cells that are grey, and a list of those that are discovered. An array
+/// in progress is grey, and does not stand on the stack.
 #[derive(Drop)]
 pub struct Marks {
     bits: CellSet,
@@ -28,9 +29,16 @@ impl Model for Marks {
 
     ghost Value = { Marking };
 
-    ghost view = { λ m. record { bits = m.bits; grey = slots_begun m.part ++ m.grey.items; discovered = m.discovered.items; part = m.part } };
+    ghost view = { λ m. record {
+      bits = m.bits;
+      grey = slots_begun m.part ++ m.grey.items;
+      discovered = m.discovered.items;
+      part = m.part;
+    } };
 
-    ghost invariant = { λ m. (length (slots_begun m.part ++ m.grey.items) + length m.discovered.items ≤ count_by (λ b. b) m.bits) × (length m.bits ≤ vec_capacity m.grey) × (length m.bits ≤ vec_capacity m.discovered) × AreGrey m.bits (slots_begun m.part ++ m.grey.items) };
+    ghost invariant = { λ m. (length (slots_begun m.part ++ m.grey.items) + length m.discovered.items ≤ count_by
+        (λ b. b) m.bits) × (length m.bits ≤ vec_capacity m.grey) × (length m.bits ≤ vec_capacity m.discovered)
+        × AreGrey m.bits (slots_begun m.part ++ m.grey.items) };
 }
 
 impl Marks {
@@ -84,7 +92,8 @@ impl Marks {
         self.bits.insert(slot);
     }
 
-    /// A cell is discovered: the last of them. There is room where a marked cell is neither grey nor discovered, as one that was just taken off the grey ones.
+    /// A cell is discovered: the last of them. There is room where a marked cell is neither grey nor discovered, as one
+    /// that was just taken off the grey ones.
     pub fn discover(&mut self, slot: Slot)
         requires { length self.old.grey + length self.old.discovered < marked self.old }
         ensures bits { self.new.bits ≡ self.old.bits }
@@ -142,8 +151,8 @@ impl Marks {
         }
     }
 
-    /// A marked cell that is not grey is grey again, an array in progress, and comes next: of its elements those before the place were followed. There is
-    /// room where a marked cell is neither grey nor discovered.
+    /// A marked cell that is not grey is grey again, an array in progress, and comes next: of its elements those before
+    /// the place were followed. There is room where a marked cell is neither grey nor discovered.
     pub fn resume_at(&mut self, slot: Slot, from: u16)
         requires marked { IsMarked self.old slot }
         requires black { ¬ (slot ∈ self.old.grey) }

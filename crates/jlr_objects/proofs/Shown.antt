@@ -1,5 +1,6 @@
 -- One object, as callers see it and as it lies.
-use Rattle.std.proofs.Common.{◌≡◌, ℕ, zero, suc, ◌<◌, Bool, true, false, cond, List, [], ◌∷◌, Option, Some, None, length, map, replicate, set, refl, sym, ap, ◌∙◌, inl, inr, arith, subst, length-set, get_or-set_same, get_or-set_other}
+use Rattle.std.proofs.Common.{◌≡◌, ℕ, zero, suc, ◌<◌, Bool, true, false, cond, List, [], ◌∷◌, Option, Some, None, length, map, replicate}
+use Rattle.std.proofs.Common.{set, refl, sym, ap, ◌∙◌, inl, inr, arith, subst, length-set, get_or-set_same, get_or-set_other}
 use Rattle.std.specs.Prelude.{is_some, option_map}
 use Rattle.std.proofs.lemmas.Bool.{cases_Bool, cases_eq, cases_lt, both_ways, false≢true}
 use Rattle.std.proofs.lemmas.List.{get_or_past, length-map, length-replicate}
@@ -10,7 +11,8 @@ use Rattle.jlr_machine.specs.declared.object.Reference.{Reference as ReferenceOf
 use Rattle.jlr_machine.specs.declared.object.Cleanable.{Cleanable as CleanableOf}
 use Rattle.jlr_types.specs.declared.FieldValue.{FieldValue}
 use Rattle.jlr_machine.specs.Refusals.{is_cleanable}
-use Rattle.jlr_machine.specs.Objects.{◌∈◌, Heap, at, change_at, occupied, some_and, with_cleanable, with_field, with_members, with_reference}
+use Rattle.jlr_machine.specs.Objects.{◌∈◌, Heap, at, change_at, occupied, some_and, with_cleanable, with_field, with_members}
+use Rattle.jlr_machine.specs.Objects.{with_reference}
 use Rattle.jlr_sets.specs.SlotSets.{is_in, slots_of}
 use Rattle.jlr_laws.proofs.Sets.{nothing}
 use Rattle.jlr_cells.specs.Contents.{is_array, members_in, object_of}
@@ -26,7 +28,8 @@ pub record GivesNone (f : Object → Object) : Type 0 where
   pub none : (o : Object) → members_in (Some o) ≡ [] → members_in (Some (f o)) ≡ []
   pub arrays : (o : Object) → is_array (f o) ≡ is_array o
 
-reference_gives_none_members : (f : ReferenceOf → ReferenceOf) (o : Object) → members_in (Some o) ≡ [] → members_in (Some (with_reference f o)) ≡ []
+reference_gives_none_members : (f : ReferenceOf → ReferenceOf) (o : Object) → members_in (Some o) ≡ []
+    → members_in (Some (with_reference f o)) ≡ []
 reference_gives_none_members f (Plain fields) h = refl
 reference_gives_none_members f (Reference r) h = refl
 reference_gives_none_members f (Queue l) h = h
@@ -45,7 +48,8 @@ reference_gives_none_arrays f (Guard g) = refl
 pub reference_gives_none : (f : ReferenceOf → ReferenceOf) → GivesNone (with_reference f)
 reference_gives_none f = record { none = reference_gives_none_members f; arrays = reference_gives_none_arrays f }
 
-cleanable_gives_none_members : (f : CleanableOf → CleanableOf) (o : Object) → members_in (Some o) ≡ [] → members_in (Some (with_cleanable f o)) ≡ []
+cleanable_gives_none_members : (f : CleanableOf → CleanableOf) (o : Object) → members_in (Some o) ≡ []
+    → members_in (Some (with_cleanable f o)) ≡ []
 cleanable_gives_none_members f (Plain fields) h = refl
 cleanable_gives_none_members f (Reference r) h = refl
 cleanable_gives_none_members f (Queue l) h = h
@@ -108,7 +112,8 @@ given_none f None g h = refl
 given_none f (Some o) g h = g.none o h
 
 -- whether an array lies somewhere does not change where an object does
-pub same_arrays : (heap : Heap) (s k : ℕ) (f : Object → Object) → ((o : Object) → is_array (f o) ≡ is_array o) → some_and is_array (at (change_at heap s f) k) ≡ some_and is_array (at heap k)
+pub same_arrays : (heap : Heap) (s k : ℕ) (f : Object → Object) → ((o : Object) → is_array (f o) ≡ is_array o)
+    → some_and is_array (at (change_at heap s f) k) ≡ some_and is_array (at heap k)
 same_arrays [] s k f same = refl
 same_arrays (None ∷ heap) zero zero f same = refl
 same_arrays (Some o ∷ heap) zero zero f same = same o
@@ -126,12 +131,15 @@ no_members_left (Some (Cleanable c)) = refl
 no_members_left (Some (Guard g)) = refl
 
 -- a queue loses its members
-pub cleared_at : (heap : Heap) (n s : ℕ) → (¬ (s ≡ n) → members_in (at heap s) ≡ []) → members_in (at (change_at heap n (with_members (λ _. []))) s) ≡ []
+pub cleared_at : (heap : Heap) (n s : ℕ) → (¬ (s ≡ n) → members_in (at heap s) ≡ [])
+    → members_in (at (change_at heap n (with_members (λ _. []))) s) ≡ []
 cleared_at heap n s others = elim (cases_eq s n) [
   | inr d ↦ ap members_in (get_or-set_other heap n s (option_map (with_members (λ _. [])) (at heap n)) None d) ∙ others d
   | inl same ↦ ap (λ k. members_in (at (change_at heap n (with_members (λ _. []))) k)) same ∙ (elim (cases_lt n (length heap)) [
-    | inl within ↦ ap members_in (get_or-set_same heap n (option_map (with_members (λ _. [])) (at heap n)) None within) ∙ no_members_left (at heap n)
-    | inr past ↦ ap members_in (get_or_past (change_at heap n (with_members (λ _. []))) n None (omega (arith, past, length-set heap n (option_map (with_members (λ _. [])) (at heap n)))))
+    | inl within ↦ ap members_in (get_or-set_same heap n (option_map (with_members (λ _. [])) (at heap n)) None within)
+        ∙ no_members_left (at heap n)
+    | inr past ↦ ap members_in (get_or_past (change_at heap n (with_members (λ _. []))) n None
+        (omega (arith, past, length-set heap n (option_map (with_members (λ _. [])) (at heap n)))))
   ])
 ]
 
@@ -190,11 +198,13 @@ module _ (store : Heap) (occ used listed : List Bool) (are : AreShown store occ 
   pub nothing_there : (s : ℕ) → is_some (at v s) ≡ false → at v s ≡ None
   nothing_there s h = no_object (at v s) h
 
-  pub holds_below : (f : Option Object → Bool) (s : ℕ) → ((o : Option Object) → f o ≡ true → is_some o ≡ true) → f (at v s) ≡ true → f (at store s) ≡ true
+  pub holds_below : (f : Option Object → Bool) (s : ℕ) → ((o : Option Object) → f o ≡ true → is_some o ≡ true) → f (at v s) ≡ true
+      → f (at store s) ≡ true
   holds_below f s gives h = ap f (sym (there s (gives (at v s) h))) ∙ h
 
   -- the object at a slot changes
-  pub changed_view : (s : ℕ) (f : Object → Object) (store' : Heap) → is_some (at v s) ≡ true → store' ≡ change_at store s f → shown occ store' ≡ change_at v s f
+  pub changed_view : (s : ℕ) (f : Object → Object) (store' : Heap) → is_some (at v s) ≡ true → store' ≡ change_at store s f
+      → shown occ store' ≡ change_at v s f
   changed_view s f store' h e =
       ap (shown occ) e
       ∙ shown_changed occ store s (option_map f (at store s)) (in_set s h)
@@ -207,10 +217,12 @@ module _ (store : Heap) (occ used listed : List Bool) (are : AreShown store occ 
   still : (s : ℕ) (f : Object → Object) → GivesNone f → members_in (at store s) ≡ [] → members_in (at (change_at store s f) s) ≡ []
   still s f gives none = elim (cases_lt s (length store)) [
     | inl within ↦ ap members_in (get_or-set_same store s (option_map f (at store s)) None within) ∙ given_none f (at store s) gives none
-    | inr past ↦ ap members_in (get_or_past (change_at store s f) s None (omega (arith, past, length-set store s (option_map f (at store s)))))
+    | inr past ↦ ap members_in (get_or_past (change_at store s f) s None
+        (omega (arith, past, length-set store s (option_map f (at store s)))))
   ]
 
-  pub changed_are : (s : ℕ) (f : Object → Object) (store' : Heap) → GivesNone f → store' ≡ change_at store s f → AreShown store' occ used listed
+  pub changed_are : (s : ℕ) (f : Object → Object) (store' : Heap) → GivesNone f → store' ≡ change_at store s f
+      → AreShown store' occ used listed
   changed_are s f store' gives e = record {
     places = are.places ∙ sym (changed_length s f store' e);
     uses = are.uses ∙ sym (changed_length s f store' e);
@@ -220,12 +232,14 @@ module _ (store : Heap) (occ used listed : List Bool) (are : AreShown store occ 
     queues = are.queues;
     members = λ k off. ap (λ (l : Heap). members_in (at l k)) e ∙ (elim (cases_eq k s) [
       | inr d ↦ ap members_in (get_or-set_other store s k (option_map f (at store s)) None d) ∙ are.members k off
-      | inl same ↦ ap (λ n. members_in (at (change_at store s f) n)) same ∙ still s f gives (ap (λ n. members_in (at store n)) (sym same) ∙ are.members k off)
+      | inl same ↦ ap (λ n. members_in (at (change_at store s f) n)) same
+          ∙ still s f gives (ap (λ n. members_in (at store n)) (sym same) ∙ are.members k off)
     ]);
   }
 
   unlisted : (s : ℕ) → is_in occ s ≡ false → is_in listed s ≡ false
-  unlisted s off = elim (cases_Bool (is_in listed s)) [ inr without ↦ without | inl with' ↦ absurd (both_ways (is_in occ s) off (are.queues s with')) ]
+  unlisted s off =
+      elim (cases_Bool (is_in listed s)) [ inr without ↦ without | inl with' ↦ absurd (both_ways (is_in occ s) off (are.queues s with')) ]
 
   -- what is in no queue that callers see is in none
   pub in_no_list : (s x : ℕ) → ((k : ℕ) → x ∈ members_in (at v k) → ⊥) → x ∈ members_in (at store s) → ⊥
@@ -241,7 +255,9 @@ module _ (store : Heap) (occ used listed : List Bool) (are : AreShown store occ 
   ]
 
   -- a queue that callers see is given a member
-  pub pushed_are : (s : ℕ) (f : Object → Object) (store' : Heap) (listed' : List Bool) → is_some (at v s) ≡ true → ((o : Object) → is_array (f o) ≡ is_array o) → store' ≡ change_at store s f → listed' ≡ set listed s true → AreShown store' occ used listed'
+  pub pushed_are : (s : ℕ) (f : Object → Object) (store' : Heap) (listed' : List Bool) → is_some (at v s) ≡ true
+      → ((o : Object) → is_array (f o) ≡ is_array o) → store' ≡ change_at store s f → listed' ≡ set listed s true
+      → AreShown store' occ used listed'
   pushed_are s f store' listed' h arrays e e' =
       subst (λ l. AreShown store' occ used l) (sym e') (record {
         places = are.places ∙ sym (changed_length s f store' e);
@@ -254,13 +270,16 @@ module _ (store : Heap) (occ used listed : List Bool) (are : AreShown store occ 
           | inr d ↦ are.queues k (sym (get_or-set_other listed s k true false d) ∙ on)
         ];
         members = λ k off. elim (cases_eq k s) [
-          | inl same ↦ absurd (both_ways (is_in (set listed s true) k) off (ap (is_in (set listed s true)) same ∙ get_or-set_same listed s true false (omega (arith, inside s h, are.lists))))
-          | inr d ↦ ap (λ (l : Heap). members_in (at l k)) e ∙ ap members_in (get_or-set_other store s k (option_map f (at store s)) None d) ∙ are.members k (sym (get_or-set_other listed s k true false d) ∙ off)
+          | inl same ↦ absurd (both_ways (is_in (set listed s true) k) off
+              (ap (is_in (set listed s true)) same ∙ get_or-set_same listed s true false (omega (arith, inside s h, are.lists))))
+          | inr d ↦ ap (λ (l : Heap). members_in (at l k)) e ∙ ap members_in (get_or-set_other store s k (option_map f (at store s)) None d)
+              ∙ are.members k (sym (get_or-set_other listed s k true false d) ∙ off)
         ];
       })
 
   -- fewer objects are kept, and the queues elsewhere lose their members
-  pub kept_are : (kept : List Bool) (store' : Heap) (listed' : List Bool) → length kept ≡ length v → ((s : ℕ) → is_in kept s ≡ true → is_some (at v s) ≡ true)
+  pub kept_are : (kept : List Bool) (store' : Heap) (listed' : List Bool) → length kept ≡ length v
+      → ((s : ℕ) → is_in kept s ≡ true → is_some (at v s) ≡ true)
       → map is_some store' ≡ map is_some store → length listed' ≡ length listed → ((s : ℕ) → is_in listed' s ≡ true → is_in kept s ≡ true)
       → ((s : ℕ) → some_and is_array (at store' s) ≡ some_and is_array (at store s))
       → ((s : ℕ) → is_in listed' s ≡ false → members_in (at store' s) ≡ []) → AreShown store' kept used listed'
@@ -277,9 +296,11 @@ module _ (store : Heap) (occ used listed : List Bool) (are : AreShown store occ 
       }
 
 -- a new object, in a cell that is not occupied
-module _ (store : Heap) (occ used listed : List Bool) (are : AreShown store occ used listed) (s : ℕ) (within : s < length store) (off : is_in occ s ≡ false) where
+module _ (store : Heap) (occ used listed : List Bool) (are : AreShown store occ used listed) (s : ℕ) (within : s < length store)
+    (off : is_in occ s ≡ false) where
   not_listed : is_in listed s ≡ false
-  not_listed = elim (cases_Bool (is_in listed s)) [ inr without ↦ without | inl with' ↦ absurd (both_ways (is_in occ s) off (are.queues s with')) ]
+  not_listed =
+      elim (cases_Bool (is_in listed s)) [ inr without ↦ without | inl with' ↦ absurd (both_ways (is_in occ s) off (are.queues s with')) ]
 
   -- what lay there had no members
   pub none_lay : members_in (at store s) ≡ []
@@ -289,8 +310,10 @@ module _ (store : Heap) (occ used listed : List Bool) (are : AreShown store occ 
   put_are made bare = record {
     uses = length-set used s true ∙ are.uses ∙ sym (length-set store s (Some made));
     free = λ k off. elim (cases_eq k s) [
-      | inl same ↦ absurd (both_ways (is_in (set used s true) k) off (ap (is_in (set used s true)) same ∙ get_or-set_same used s true false (omega (arith, within, are.uses))))
-      | inr d ↦ ap (some_and is_array) (get_or-set_other store s k (Some made) None d) ∙ are.free k (sym (get_or-set_other used s k true false d) ∙ off)
+      | inl same ↦ absurd (both_ways (is_in (set used s true) k) off
+          (ap (is_in (set used s true)) same ∙ get_or-set_same used s true false (omega (arith, within, are.uses))))
+      | inr d ↦ ap (some_and is_array) (get_or-set_other store s k (Some made) None d)
+          ∙ are.free k (sym (get_or-set_other used s k true false d) ∙ off)
     ];
     places = length-set occ s true ∙ are.places ∙ sym (length-set store s (Some made));
     lists = are.lists ∙ sym (length-set store s (Some made));
@@ -303,7 +326,8 @@ module _ (store : Heap) (occ used listed : List Bool) (are : AreShown store occ 
       | inr d ↦ get_or-set_other occ s k true false d ∙ are.queues k on
     ];
     members = λ k clear. elim (cases_eq k s) [
-      | inl same ↦ ap (λ n. members_in (at (set store s (Some made)) n)) same ∙ ap members_in (get_or-set_same store s (Some made) None within) ∙ bare
+      | inl same ↦ ap (λ n. members_in (at (set store s (Some made)) n)) same
+          ∙ ap members_in (get_or-set_same store s (Some made) None within) ∙ bare
       | inr d ↦ ap members_in (get_or-set_other store s k (Some made) None d) ∙ are.members k clear
     ];
   }
@@ -336,7 +360,8 @@ no_array (suc n) zero = refl
 no_array (suc n) (suc s) = no_array n s
 
 -- new cells
-pub new_are : (n : ℕ) (store : Heap) (occ used listed : List Bool) → store ≡ replicate n None → occ ≡ replicate n false → used ≡ replicate n false → listed ≡ replicate n false → AreShown store occ used listed
+pub new_are : (n : ℕ) (store : Heap) (occ used listed : List Bool) → store ≡ replicate n None → occ ≡ replicate n false
+    → used ≡ replicate n false → listed ≡ replicate n false → AreShown store occ used listed
 new_are n store occ used listed e e' u f =
     rw (e, e', u, f) (record {
       uses = length-replicate {A = Bool} n false ∙ sym (length-replicate {A = Option Object} n None);
@@ -350,4 +375,5 @@ new_are n store occ used listed e e' u f =
 
 -- what is seen is the same where its parts are
 pub same_holding : (a b : Holding) → a.objects ≡ b.objects → a.condemned ≡ b.condemned → a ≡ b
-same_holding a b e n = ap (λ (o : Heap). record { objects = o; condemned = a.condemned }) e ∙ ap (λ (k : ℕ). record { objects = b.objects; condemned = k }) n
+same_holding a b e n = ap (λ (o : Heap). record { objects = o; condemned = a.condemned }) e
+    ∙ ap (λ (k : ℕ). record { objects = b.objects; condemned = k }) n

@@ -1,5 +1,6 @@
 -- What becomes of the cells in use.
-use Rattle.std.proofs.Common.{◌≡◌, ℕ, ◌+◌, ◌-◌, ◌<◌, ◌≤◌, ◌^◌, Bool, true, false, List, length, replicate, set, refl, sym, ◌∙◌, ap, inl, inr, arith, length-set, get_or-set_same, get_or-set_other}
+use Rattle.std.proofs.Common.{◌≡◌, ℕ, ◌+◌, ◌-◌, ◌<◌, ◌≤◌, ◌^◌, Bool, true, false, List, length, replicate, set, refl, sym, ◌∙◌, ap, inl}
+use Rattle.std.proofs.Common.{inr, arith, length-set, get_or-set_same, get_or-set_other}
 use Rattle.std.proofs.lemmas.Bool.{cases_Bool, cases_eq, both_ways}
 use Rattle.std.proofs.lemmas.List.{length-replicate}
 use Rattle.jlr_sets.specs.SlotSets.{is_in, slots_of}
@@ -7,7 +8,8 @@ use Rattle.jlr_sets.proofs.Counts.{count_none, count_within, in_none, not_all, o
 use Rattle.jlr_sets.proofs.Below.{within_places}
 use Rattle.jlr_objects.specs.Occupying.{AreUsed, Occupied}
 
-pub none_used : (n : ℕ) (used occupied : List Bool) → n < 2 ^ 32 → used ≡ replicate n false → occupied ≡ replicate n false → AreUsed (record { places = occupied; used = used; condemned = 0 }) n
+pub none_used : (n : ℕ) (used occupied : List Bool) → n < 2 ^ 32 → used ≡ replicate n false → occupied ≡ replicate n false
+    → AreUsed (record { places = occupied; used = used; condemned = 0 }) n
 none_used n used occupied few e e' =
     rw (e, e') (record {
       places = refl;
@@ -29,7 +31,8 @@ module _ (o : Occupied) (free : ℕ) (are : AreUsed o free) where
   ]
 
   -- a free cell is taken
-  pub taken_one : (s : ℕ) → s < length used → is_in used s ≡ false → AreUsed (record { places = set o.places s true; used = set used s true; condemned = o.condemned }) (free - 1)
+  pub taken_one : (s : ℕ) → s < length used → is_in used s ≡ false
+      → AreUsed (record { places = set o.places s true; used = set used s true; condemned = o.condemned }) (free - 1)
   taken_one s within off =
       let here : s < length o.places = omega (arith, within, are.places) in
       let vacant = free_is_vacant s off in
@@ -44,8 +47,10 @@ module _ (o : Occupied) (free : ℕ) (are : AreUsed o free) where
         few = omega (arith, are.few, length-set used s true);
       }
 
-  pub kept_count : (kept : List Bool) → length kept ≡ length o.places → ((s : ℕ) → is_in kept s ≡ true → is_in o.places s ≡ true) → length (slots_of kept) + free ≤ length used
-  kept_count kept long within = omega (arith, are.left, are.places, count_within kept used (omega (arith, long, are.places)) (λ s h. are.objects s (within s h)))
+  pub kept_count : (kept : List Bool) → length kept ≡ length o.places → ((s : ℕ) → is_in kept s ≡ true → is_in o.places s ≡ true)
+      → length (slots_of kept) + free ≤ length used
+  kept_count kept long within =
+      omega (arith, are.left, are.places, count_within kept used (omega (arith, long, are.places)) (λ s h. are.objects s (within s h)))
 
   -- fewer cells hold an object
   pub kept_used : (kept : List Bool) → length kept ≡ length o.places → ((s : ℕ) → is_in kept s ≡ true → is_in o.places s ≡ true)
@@ -69,7 +74,8 @@ module _ (o : Occupied) (free : ℕ) (are : AreUsed o free) where
   }
 
   -- a condemned cell becomes free
-  pub swept_one : (s : ℕ) → is_in used s ≡ true → is_in o.places s ≡ false → AreUsed (record { places = o.places; used = set used s false; condemned = o.condemned - 1 }) (free + 1)
+  pub swept_one : (s : ℕ) → is_in used s ≡ true → is_in o.places s ≡ false
+      → AreUsed (record { places = o.places; used = set used s false; condemned = o.condemned - 1 }) (free + 1)
   swept_one s on off =
       let within = within_places used s on in
       let less = one_less used s within on in

@@ -4,7 +4,8 @@ use Rattle.jlr_machine.specs.Objects.{Heap, at, occupied, some_and}
 use Rattle.jlr_sets.specs.SlotSets.{is_in}
 use Rattle.jlr_cells.specs.Contents.{is_array, members_in}
 
--- The objects by slot. Of the cells without an object so many are condemned: what lay there is no object any more, and they are not free yet
+-- The objects by slot. Of the cells without an object so many are condemned: what lay there is no object any more, and
+-- they are not free yet
 pub record Holding : Type 0 where
   pub objects : Heap
   pub condemned : ℕ
@@ -17,8 +18,8 @@ all_free cells = record { objects = replicate cells None; condemned = 0 }
 abbrev pub in_use : Holding → ℕ
 in_use h = occupied h.objects + h.condemned
 
--- Something lies in each occupied cell. The listed ones are occupied, and the queues elsewhere have no members. No array lies in a free cell: one
--- that is not used
+-- Something lies in each occupied cell. The listed ones are occupied, and the queues elsewhere have no members. No
+-- array lies in a free cell: one that is not used
 pub record AreShown (store : Heap) (occ used listed : List Bool) : Type 0 where
   pub places : length occ ≡ length store
   pub uses : length used ≡ length store

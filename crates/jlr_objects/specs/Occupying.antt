@@ -2,7 +2,8 @@
 use Rattle.std.specs.Prelude.{◌≡◌, ℕ, ◌+◌, ◌^◌, ◌<◌, Bool, true, List, length, replicate, false}
 use Rattle.jlr_sets.specs.SlotSets.{is_in, slots_of}
 
--- By slot, which cells hold an object, and which are not free. So many are condemned: they hold no object any more, and are not free yet
+-- By slot, which cells hold an object, and which are not free. So many are condemned: they hold no object any more, and
+-- are not free yet
 pub record Occupied : Type 0 where
   pub places : List Bool
   pub used : List Bool

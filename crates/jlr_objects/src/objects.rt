@@ -1,12 +1,16 @@
 //! The objects of the heap, in cells.
-ghost use Rattle.std.specs.Prelude.{◌≡◌, ℕ, ◌+◌, ◌-◌, ◌==◌, cond, ◌++◌, ◌∷◌, [], ◌^◌, ◌<◌, ◌↔◌, IfErr, IfOk, IfNone, IfSome, IsErr, IsNone, IsTrue, MatchOption, None, false, ◌≤◌, List, Some, drop, is_some, length, option_and_then, option_map, replicate, slice_get, true};
-ghost use Rattle.jlr_machine.specs.Objects.{◌∈◌, as_cleanable, as_guard, as_reference, at, change_at, empty_at, is_cleaner, occupied, set_at, some_and};
+ghost use Rattle.std.specs.Prelude.{◌≡◌, ℕ, ◌+◌, ◌-◌, ◌==◌, cond, ◌++◌, ◌∷◌, [], ◌^◌, ◌<◌, ◌↔◌, IfErr, IfOk, IfNone};
+ghost use Rattle.std.specs.Prelude.{IfSome, IsErr, IsNone, IsTrue, MatchOption, None, false, ◌≤◌, List, Some, drop};
+ghost use Rattle.std.specs.Prelude.{is_some, length, option_and_then, option_map, replicate, slice_get, true};
+ghost use Rattle.jlr_machine.specs.Objects.{◌∈◌, as_cleanable, as_guard, as_reference, at, change_at, empty_at};
+ghost use Rattle.jlr_machine.specs.Objects.{is_cleaner, occupied, set_at, some_and};
 ghost use Rattle.jlr_machine.specs.Edges.{edges_from};
 ghost use Rattle.jlr_machine.specs.Edges.Chain.{Strong};
 ghost use Rattle.jlr_machine.specs.Objects.{with_cleanable, with_field, with_members, with_reference};
 ghost use Rattle.jlr_machine.specs.Refusals.{is_cleanable, is_guard, is_plain, is_queue, is_record, is_reference};
 ghost use Rattle.jlr_machine.specs.Calls.{spent, unreferred};
-ghost use Rattle.jlr_cells.specs.Contents.{field_at, is_ref, in_clean_state, in_state, kind_of, member_in, members_in, object_of, referent_in, unregistered, watching, without_referent};
+ghost use Rattle.jlr_cells.specs.Contents.{field_at, is_ref, in_clean_state, in_state, kind_of, member_in, members_in};
+ghost use Rattle.jlr_cells.specs.Contents.{object_of, referent_in, unregistered, watching, without_referent};
 ghost use Rattle.jlr_machine.specs.declared.object.Object.TheVariants.{Plain};
 ghost use Rattle.jlr_machine.specs.declared.object.Contents.TheVariants.{Elements as ElementsOf};
 ghost use Rattle.jlr_cells.specs.Links.{linked, linked_in, no_links};
@@ -93,13 +97,15 @@ impl Objects {
         self.occupancy.vacant_count()
     }
 
-    /// A new object in a free cell. Where no cell is free, all that are condemned are swept first; where none is left then, there is no new object.
+    /// A new object in a free cell. Where no cell is free, all that are condemned are swept first; where none is left
+    /// then, there is no new object.
     pub fn take(&mut self, shape: Shape) -> Option<Slot>
         ensures full { IsNone result ↔ (occupied self.old.objects ≡ length self.old.objects) }
         ensures none { IfNone result (self.new ≡ self.old) }
         ensures free { IfSome result (λ slot. (slot < length self.old.objects) × (at self.old.objects slot ≡ None)) }
         ensures taken { IfSome result (λ slot. self.new.objects ≡ set_at self.old.objects slot (object_of shape)) }
-        ensures condemned { IfSome result (λ _. self.new.condemned ≡ cond (in_use self.old == length self.old.objects) 0 self.old.condemned) }
+        ensures condemned { IfSome result (λ _. self.new.condemned
+            ≡ cond (in_use self.old == length self.old.objects) 0 self.old.condemned) }
     {
         if !self.make_free() {
             return None;
@@ -117,8 +123,10 @@ impl Objects {
         ensures full { IsErr result ↔ (occupied self.old.objects ≡ length self.old.objects) }
         ensures back { IfErr result (λ e. (e ≡ elements) × (self.new ≡ self.old)) }
         ensures free { IfOk result (λ slot. (slot < length self.old.objects) × (at self.old.objects slot ≡ None)) }
-        ensures taken { IfOk result (λ slot. self.new.objects ≡ set_at self.old.objects slot (Plain (ElementsOf elements))) }
-        ensures condemned { IfOk result (λ _. self.new.condemned ≡ cond (in_use self.old == length self.old.objects) 0 self.old.condemned) }
+        ensures taken { IfOk result (λ slot. self.new.objects
+            ≡ set_at self.old.objects slot (Plain (ElementsOf elements))) }
+        ensures condemned { IfOk result (λ _. self.new.condemned
+            ≡ cond (in_use self.old == length self.old.objects) 0 self.old.condemned) }
     {
         if !self.make_free() {
             return Err(elements);
@@ -131,7 +139,8 @@ impl Objects {
     /// Where no cell is free, all that are condemned are swept. Answers whether a cell is free then.
     fn make_free(&mut self) -> bool
         ensures objects { self.new.objects ≡ self.old.objects }
-        ensures condemned { self.new.condemned ≡ cond (in_use self.old == length self.old.objects) 0 self.old.condemned }
+        ensures condemned { self.new.condemned ≡ cond (in_use self.old == length self.old.objects) 0
+            self.old.condemned }
         ensures room { result ≡ true → in_use self.new < length self.new.objects }
         ensures full { result ≡ false → (occupied self.old.objects ≡ length self.old.objects) × (self.new ≡ self.old) }
     {
@@ -142,8 +151,8 @@ impl Objects {
         self.free_count() > 0
     }
 
-    /// The objects at the slots of a set stay; all others are no more, and their cells are condemned. No cell is written, but that queues among
-    /// them lose their members.
+    /// The objects at the slots of a set stay; all others are no more, and their cells are condemned. No cell is
+    /// written, but that queues among them lose their members.
     pub fn keep_only(&mut self, kept: &CellSet)
         requires places { length kept.now ≡ length self.old.objects }
         requires objects { (s : ℕ) → is_in kept.now s ≡ true → IsTrue (is_some (at self.old.objects s)) }
@@ -210,7 +219,9 @@ impl Objects {
 
     /// A slot not below `from` such that no cleanable is between; or none, where there is no cleanable from there on.
     pub fn next_cleanable(&self, from: u32) -> Option<Slot>
-        ensures { MatchOption result ((s : ℕ) → from ≤ s → some_and is_cleanable (at self.now.objects s) ≡ false) (λ slot. (from ≤ slot) × (slot < length self.now.objects) × ((s : ℕ) → from ≤ s → s < slot → some_and is_cleanable (at self.now.objects s) ≡ false)) }
+        ensures { MatchOption result ((s : ℕ) → from ≤ s → some_and is_cleanable (at self.now.objects s) ≡ false)
+            (λ slot. (from ≤ slot) × (slot < length self.now.objects)
+            × ((s : ℕ) → from ≤ s → s < slot → some_and is_cleanable (at self.now.objects s) ≡ false)) }
     {
         self.store.next_cleanable(from)
     }
@@ -420,7 +431,8 @@ impl Objects {
     /// The member after another of the queue at a slot, if that is not the last.
     pub fn next_member(&self, queue: Slot, member: Slot) -> Option<Slot>
         requires { member ∈ members_in (at self.now.objects queue) }
-        ensures { (before after : List ℕ) → members_in (at self.now.objects queue) ≡ before ++ member ∷ after → result ≡ slice_get after 0 }
+        ensures { (before after : List ℕ) → members_in (at self.now.objects queue) ≡ before ++ member ∷ after
+            → result ≡ slice_get after 0 }
     {
         self.store.next_member(queue, member)
     }
@@ -430,7 +442,8 @@ impl Objects {
         requires queue { IsTrue (some_and is_queue (at self.old.objects queue)) }
         requires within { member < length self.old.objects }
         requires apart { (s : ℕ) → member ∈ members_in (at self.old.objects s) → ⊥ }
-        ensures objects { self.new.objects ≡ change_at self.old.objects queue (with_members (λ members. members ++ member ∷ [])) }
+        ensures objects { self.new.objects ≡ change_at self.old.objects queue
+            (with_members (λ members. members ++ member ∷ [])) }
         ensures condemned { self.new.condemned ≡ self.old.condemned }
     {
         self.store.push_member(queue, member);
@@ -457,25 +470,29 @@ impl Objects {
         self.store.image(alloc, self.occupancy.occupied())
     }
 
-    /// Visits the object at a slot: one tick. It lends the links of a plain object with fields, whose cell it does not read: those of its first
-    /// four fields, and those of the others, if one of them ever referred to an object. Of any other object it lends none.
+    /// Visits the object at a slot: one tick. It lends the links of a plain object with fields, whose cell it does not
+    /// read: those of its first four fields, and those of the others, if one of them ever referred to an object. Of any
+    /// other object it lends none.
     #[inline(always)]
     pub fn visit(&self, slot: Slot, meter: &mut Meter) -> Option<(&Links, Option<&Links>)>
         requires object { IsTrue (is_some (at self.now.objects slot)) }
         requires ticks { meter.old + 1 < 2 ^ 64 }
         ensures plain { is_some result ≡ some_and is_record (at self.now.objects slot) }
-        ensures edges { IfSome result (λ links. edges_from Strong self.now.objects slot ≡ linked links.0.now ++ linked_in links.1) }
+        ensures edges { IfSome result (λ links. edges_from Strong self.now.objects slot ≡ linked links.0.now
+            ++ linked_in links.1) }
         ensures ticked { meter.new ≡ meter.old + 1 }
     {
         self.store.visit(slot, meter)
     }
 
-    /// What the strong edges are of the object at a slot that is no plain one with fields, but those of a queue to its members: it lends the
-    /// elements of an array, and tells the queue that a reference may still be added to, or a guard's cleanable.
+    /// What the strong edges are of the object at a slot that is no plain one with fields, but those of a queue to its
+    /// members: it lends the elements of an array, and tells the queue that a reference may still be added to, or a
+    /// guard's cleanable.
     pub fn visit_other(&self, slot: Slot) -> Visited<'_>
         requires object { IsTrue (is_some (at self.now.objects slot)) }
         requires other { some_and is_record (at self.now.objects slot) ≡ false }
-        ensures edges { edges_from Strong self.now.objects slot ≡ edges_told result (members_in (at self.now.objects slot)) }
+        ensures edges { edges_from Strong self.now.objects slot
+            ≡ edges_told result (members_in (at self.now.objects slot)) }
         ensures array { elements_lent result ≡ option_and_then elements_of (at self.now.objects slot) }
     {
         self.store.visit_other(slot)

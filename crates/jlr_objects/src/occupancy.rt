@@ -114,7 +114,8 @@ impl Occupancy {
         slot
     }
 
-    /// The cells of a set hold their objects still, and all others hold none: those that did are condemned, beside those that were.
+    /// The cells of a set hold their objects still, and all others hold none: those that did are condemned, beside
+    /// those that were.
     pub(crate) fn keep(&mut self, kept: &CellSet)
         requires places { length kept.now ≡ length self.old.places }
         requires objects { (s : ℕ) → is_in kept.now s ≡ true → is_in self.old.places s ≡ true }

@@ -1,5 +1,6 @@
 -- The records of an image: what is read is what was written, and what was written is read again.
-use Rattle.std.proofs.Common.{◌≡◌, ℕ, zero, suc, ◌^◌, ◌<◌, ◌≤◌, Bool, true, false, cond, IsTrue, List, [], ◌∷◌, ◌++◌, length, Option, Ok, Err, refl, sym, ap, subst, ◌∙◌, append_assoc, arith}
+use Rattle.std.proofs.Common.{◌≡◌, ℕ, zero, suc, ◌^◌, ◌<◌, ◌≤◌, Bool, true, false, cond, IsTrue, List, [], ◌∷◌, ◌++◌, length, Option, Ok}
+use Rattle.std.proofs.Common.{Err, refl, sym, ap, subst, ◌∙◌, append_assoc, arith}
 use Rattle.std.proofs.lemmas.List.{length-append}
 use Rattle.jlr_types.specs.declared.Fault.{Fault as DeviceFault}
 use Rattle.jlr_types.specs.declared.Work.{Work}
@@ -26,7 +27,10 @@ use Rattle.jlr_parts.specs.declared.record.Placed.{Placed}
 use Rattle.jlr_parts.specs.declared.record.Held.{Held}
 use Rattle.jlr_parts.specs.Tables.{resource_state_number}
 use Rattle.jlr_parts.specs.Objects.{spelled_object, spelled_work}
-use Rattle.jlr_parts.specs.Records.{NameFits, spelled_binding, BindingFits, binding_read, spelled_failure, FailureFits, failure_read, spelled_call, CallFits, call_behind, call_read, slot_after, spelled_job, JobFits, job_behind, job_after, spelled_resource, ResourceFits, resource_behind, resource_after, spelled_placed, PlacedFits, placed_behind, placed_after, spelled_held, HeldFits, held_behind, held_after}
+use Rattle.jlr_parts.specs.Records.{NameFits, spelled_binding, BindingFits, binding_read, spelled_failure, FailureFits, failure_read}
+use Rattle.jlr_parts.specs.Records.{spelled_call, CallFits, call_behind, call_read, slot_after, spelled_job, JobFits, job_behind, job_after}
+use Rattle.jlr_parts.specs.Records.{spelled_resource, ResourceFits, resource_behind, resource_after, spelled_placed, PlacedFits}
+use Rattle.jlr_parts.specs.Records.{placed_behind, placed_after, spelled_held, HeldFits, held_behind, held_after}
 use Rattle.jlr_parts.proofs.TableLaws.{resource_state, fault}
 use Rattle.jlr_parts.proofs.Objects.{work, object}
 
@@ -43,7 +47,8 @@ made_binding name slot = record { name = name; slot = slot }
 
 binding_takes : TakesSpelled binding_read spelled_binding BindingFits
 unfolding binding_read
-binding_takes = two_takes name four_bytes [] made_binding spelled_binding BindingFits (λ n s. refl) (λ n s f g. record { name = f; slot = g })
+binding_takes =
+    two_takes name four_bytes [] made_binding spelled_binding BindingFits (λ n s. refl) (λ n s f g. record { name = f; slot = g })
 
 binding_again : ReadsAgain binding_read spelled_binding BindingFits
 unfolding binding_read
@@ -105,32 +110,40 @@ keyed key behind before bytes = key bytes >>= λ k. cond (may_follow before k.0)
 abbrev HasKey : {X : Type 0} → (X → Type 0) → (X → ℕ) → ℕ → X → Type 0
 HasKey Fits key_of k x = Fits x × (key_of x ≡ k)
 
-tested_takes : {X : Type 0} (front : List ℕ) (behind : Reader X) (spelled : X → List ℕ) (Fits : X → Type 0) (key_of : X → ℕ) (before : Option ℕ) (k : ℕ) (b : Bool) → may_follow before k ≡ b
-    → TakesBehind front behind spelled (HasKey Fits key_of k) → TakesBehind front (λ bytes. cond b (behind bytes) (Err Range)) spelled (FollowsWith Fits key_of before)
+tested_takes : {X : Type 0} (front : List ℕ) (behind : Reader X) (spelled : X → List ℕ) (Fits : X → Type 0) (key_of : X → ℕ)
+    (before : Option ℕ) (k : ℕ) (b : Bool) → may_follow before k ≡ b
+    → TakesBehind front behind spelled (HasKey Fits key_of k)
+    → TakesBehind front (λ bytes. cond b (behind bytes) (Err Range)) spelled (FollowsWith Fits key_of before)
 tested_takes front behind spelled Fits key_of before k true is law = λ bytes x rest fits e.
     let r = law bytes x rest fits e in
     (r.0, (r.1.0, subst (λ n. IsTrue (may_follow before n)) (sym r.1.1) is))
 tested_takes front behind spelled Fits key_of before k false is law = λ bytes x rest fits e. absurd cc
 
-keyed_takes : {X : Type 0} {key : Reader ℕ} {sk : ℕ → List ℕ} {Fk : ℕ → Type 0} → IsField key sk Fk → (behind : ℕ → Reader X) (spelled : X → List ℕ) (Fits : X → Type 0) (key_of : X → ℕ) (before : Option ℕ)
-    → ((k : ℕ) → Fk k → TakesBehind (sk k) (behind k) spelled (HasKey Fits key_of k)) → TakesSpelled (keyed key behind before) spelled (FollowsWith Fits key_of before)
+keyed_takes : {X : Type 0} {key : Reader ℕ} {sk : ℕ → List ℕ} {Fk : ℕ → Type 0} → IsField key sk Fk
+    → (behind : ℕ → Reader X) (spelled : X → List ℕ) (Fits : X → Type 0) (key_of : X → ℕ) (before : Option ℕ)
+    → ((k : ℕ) → Fk k → TakesBehind (sk k) (behind k) spelled (HasKey Fits key_of k))
+    → TakesSpelled (keyed key behind before) spelled (FollowsWith Fits key_of before)
 keyed_takes {X} {key} {sk} {Fk} field behind spelled Fits key_of before law =
     then_takes field [] (λ k bytes. cond (may_follow before k) (behind k bytes) (Err Range)) spelled (FollowsWith Fits key_of before)
     (λ k f. tested_takes (sk k) (behind k) spelled Fits key_of before k (may_follow before k) refl (law k f))
 
-keyed_again : {X : Type 0} {key : Reader ℕ} {sk : ℕ → List ℕ} {Fk : ℕ → Type 0} → IsField key sk Fk → (behind : ℕ → Reader X) (before : Option ℕ) (k : ℕ) → Fk k → IsTrue (may_follow before k)
-    → (bytes text : List ℕ) (x : X) (rest : List ℕ) → bytes ≡ sk k ++ text → behind k text ≡ Ok (x, rest) → keyed key behind before bytes ≡ Ok (x, rest)
+keyed_again : {X : Type 0} {key : Reader ℕ} {sk : ℕ → List ℕ} {Fk : ℕ → Type 0} → IsField key sk Fk
+    → (behind : ℕ → Reader X) (before : Option ℕ) (k : ℕ) → Fk k → IsTrue (may_follow before k)
+    → (bytes text : List ℕ) (x : X) (rest : List ℕ) → bytes ≡ sk k ++ text → behind k text ≡ Ok (x, rest)
+    → keyed key behind before bytes ≡ Ok (x, rest)
 keyed_again {X} {key} {sk} {Fk} field behind before k fits follows bytes text x rest split reads =
     then_again field k fits (λ k bytes. cond (may_follow before k) (behind k bytes) (Err Range)) bytes text x rest split (rw follows reads)
 
 -- slots
 slot_takes : (before : Option ℕ) → TakesSpelled (slot_after before) spelled_32 (FollowsWith (λ s. s < 2 ^ 32) (λ s. s) before)
 unfolding slot_after
-slot_takes before = keyed_takes four_bytes (λ s bytes. Ok (s, bytes)) spelled_32 (λ s. s < 2 ^ 32) (λ s. s) before (λ s f. made_takes (spelled_32 s) s spelled_32 (HasKey (λ n. n < 2 ^ 32) (λ n. n) s) refl (f, refl))
+slot_takes before = keyed_takes four_bytes (λ s bytes. Ok (s, bytes)) spelled_32 (λ s. s < 2 ^ 32) (λ s. s) before
+    (λ s f. made_takes (spelled_32 s) s spelled_32 (HasKey (λ n. n < 2 ^ 32) (λ n. n) s) refl (f, refl))
 
 slot_again : (before : Option ℕ) → ReadsAgain (slot_after before) spelled_32 (FollowsWith (λ s. s < 2 ^ 32) (λ s. s) before)
 unfolding slot_after
-slot_again before s rest fits = keyed_again four_bytes (λ s bytes. Ok (s, bytes)) before s fits.0 fits.1 (spelled_32 s ++ rest) rest s rest refl refl
+slot_again before s rest fits =
+    keyed_again four_bytes (λ s bytes. Ok (s, bytes)) before s fits.0 fits.1 (spelled_32 s ++ rest) rest s rest refl refl
 
 pub rising_slot : IsRisingField slot_after spelled_32 (λ s. s < 2 ^ 32) (λ s. s)
 rising_slot = record { field = λ before. record { takes = slot_takes before; again = slot_again before } }
@@ -142,12 +155,15 @@ made_job action work by = record { action = action; work = work; by = by }
 job_takes : (before : Option ℕ) → TakesSpelled (job_after before) spelled_job (FollowsWith JobFits (λ job. job.action) before)
 unfolding job_after
 job_takes before = keyed_takes eight_bytes job_behind spelled_job JobFits (λ job. job.action) before
-    (λ a f. two_takes work byte (spelled_64 a) (made_job a) spelled_job (HasKey JobFits (λ job. job.action) a) (λ w b. refl) (λ w b g h. (record { action = f; work = g; by = h }, refl)))
+    (λ a f. two_takes work byte (spelled_64 a) (made_job a) spelled_job (HasKey JobFits (λ job. job.action) a) (λ w b. refl)
+    (λ w b g h. (record { action = f; work = g; by = h }, refl)))
 
 job_again : (before : Option ℕ) → ReadsAgain (job_after before) spelled_job (FollowsWith JobFits (λ job. job.action) before)
 unfolding job_after
-job_again before job rest fits = keyed_again eight_bytes job_behind before job.action fits.0.action fits.1 (spelled_job job ++ rest) ((spelled_work job.work ++ spelled_8 job.by) ++ rest) job rest
-    (ap (λ (t : List ℕ). t ++ rest) (append_assoc (spelled_64 job.action) (spelled_work job.work) (spelled_8 job.by)) ∙ append_assoc (spelled_64 job.action) (spelled_work job.work ++ spelled_8 job.by) rest)
+job_again before job rest fits = keyed_again eight_bytes job_behind before job.action fits.0.action fits.1 (spelled_job job ++ rest)
+    ((spelled_work job.work ++ spelled_8 job.by) ++ rest) job rest
+    (ap (λ (t : List ℕ). t ++ rest) (append_assoc (spelled_64 job.action) (spelled_work job.work) (spelled_8 job.by))
+    ∙ append_assoc (spelled_64 job.action) (spelled_work job.work ++ spelled_8 job.by) rest)
     (two_again work byte (made_job job.action) job.work job.by fits.0.work fits.0.by rest)
 
 pub rising_job : IsRisingField job_after spelled_job JobFits (λ job. job.action)
@@ -158,7 +174,12 @@ work_length (Note n) = refl
 work_length (WorkOn rid) = refl
 
 pub job_least : IsLeast 14 spelled_job JobFits
-job_least job fits = omega (arith, length-append (spelled_64 job.action ++ spelled_work job.work) (spelled_8 job.by), length-append (spelled_64 job.action) (spelled_work job.work), work_length job.work)
+job_least job fits = omega (
+  arith,
+  length-append (spelled_64 job.action ++ spelled_work job.work) (spelled_8 job.by),
+  length-append (spelled_64 job.action) (spelled_work job.work),
+  work_length job.work,
+)
 
 -- resources
 abbrev made_resource : ℕ → ℕ → ResourceState → Resource
@@ -167,11 +188,13 @@ made_resource rid action state = record { rid = rid; action = action; state = st
 resource_takes : (before : Option ℕ) → TakesSpelled (resource_after before) spelled_resource (FollowsWith ResourceFits (λ r. r.rid) before)
 unfolding resource_after
 resource_takes before = keyed_takes four_bytes resource_behind spelled_resource ResourceFits (λ r. r.rid) before
-    (λ rid f. two_takes eight_bytes resource_state (spelled_32 rid) (made_resource rid) spelled_resource (HasKey ResourceFits (λ r. r.rid) rid) (λ a s. refl) (λ a s g h. (record { rid = f; action = g }, refl)))
+    (λ rid f. two_takes eight_bytes resource_state (spelled_32 rid) (made_resource rid) spelled_resource
+    (HasKey ResourceFits (λ r. r.rid) rid) (λ a s. refl) (λ a s g h. (record { rid = f; action = g }, refl)))
 
 resource_again : (before : Option ℕ) → ReadsAgain (resource_after before) spelled_resource (FollowsWith ResourceFits (λ r. r.rid) before)
 unfolding resource_after
-resource_again before r rest fits = keyed_again four_bytes resource_behind before r.rid fits.0.rid fits.1 (spelled_resource r ++ rest) ((spelled_64 r.action ++ spelled_8 (resource_state_number r.state)) ++ rest) r rest refl
+resource_again before r rest fits = keyed_again four_bytes resource_behind before r.rid fits.0.rid fits.1 (spelled_resource r ++ rest)
+    ((spelled_64 r.action ++ spelled_8 (resource_state_number r.state)) ++ rest) r rest refl
     (two_again eight_bytes resource_state (made_resource r.rid) r.action r.state fits.0.action tt rest)
 
 pub rising_resource : IsRisingField resource_after spelled_resource ResourceFits (λ r. r.rid)
@@ -184,15 +207,20 @@ resource_least r fits = omega arith
 abbrev made_placed : ℕ → Object → Placed
 made_placed slot object = record { slot = slot; object = object }
 
-placed_takes : (version : Version) (before : Option ℕ) → TakesSpelled (placed_after version before) spelled_placed (FollowsWith (PlacedFits version) (λ p. p.slot) before)
+placed_takes : (version : Version) (before : Option ℕ)
+    → TakesSpelled (placed_after version before) spelled_placed (FollowsWith (PlacedFits version) (λ p. p.slot) before)
 unfolding placed_after
 placed_takes version before = keyed_takes four_bytes (placed_behind version) spelled_placed (PlacedFits version) (λ p. p.slot) before
-    (λ slot f. one_takes (object version) (spelled_32 slot) (made_placed slot) spelled_placed (HasKey (PlacedFits version) (λ p. p.slot) slot) (λ o. refl) (λ o g. (record { slot = f; object = g }, refl)))
+    (λ slot f. one_takes (object version) (spelled_32 slot) (made_placed slot) spelled_placed
+    (HasKey (PlacedFits version) (λ p. p.slot) slot) (λ o. refl) (λ o g. (record { slot = f; object = g }, refl)))
 
-placed_again : (version : Version) (before : Option ℕ) → ReadsAgain (placed_after version before) spelled_placed (FollowsWith (PlacedFits version) (λ p. p.slot) before)
+placed_again : (version : Version) (before : Option ℕ)
+    → ReadsAgain (placed_after version before) spelled_placed (FollowsWith (PlacedFits version) (λ p. p.slot) before)
 unfolding placed_after
-placed_again version before p rest fits = keyed_again four_bytes (placed_behind version) before p.slot fits.0.slot fits.1 (spelled_placed p ++ rest) (spelled_object p.object ++ rest) p rest
-    (append_assoc (spelled_32 p.slot) (spelled_object p.object) rest) (one_again (object version) (made_placed p.slot) p.object fits.0.object rest)
+placed_again version before p rest fits = keyed_again four_bytes (placed_behind version) before p.slot fits.0.slot fits.1
+    (spelled_placed p ++ rest) (spelled_object p.object ++ rest) p rest
+    (append_assoc (spelled_32 p.slot) (spelled_object p.object) rest)
+    (one_again (object version) (made_placed p.slot) p.object fits.0.object rest)
 
 pub rising_placed : (version : Version) → IsRisingField (placed_after version) spelled_placed (PlacedFits version) (λ p. p.slot)
 rising_placed version = record { field = λ before. record { takes = placed_takes version before; again = placed_again version before } }
@@ -216,11 +244,13 @@ made_held handle slot = record { handle = handle; slot = slot }
 held_takes : (before : Option ℕ) → TakesSpelled (held_after before) spelled_held (FollowsWith HeldFits (λ h. h.handle) before)
 unfolding held_after
 held_takes before = keyed_takes byte held_behind spelled_held HeldFits (λ h. h.handle) before
-    (λ handle f. one_takes four_bytes (spelled_8 handle) (made_held handle) spelled_held (HasKey HeldFits (λ h. h.handle) handle) (λ s. refl) (λ s g. (record { handle = f; slot = g }, refl)))
+    (λ handle f. one_takes four_bytes (spelled_8 handle) (made_held handle) spelled_held (HasKey HeldFits (λ h. h.handle) handle)
+    (λ s. refl) (λ s g. (record { handle = f; slot = g }, refl)))
 
 held_again : (before : Option ℕ) → ReadsAgain (held_after before) spelled_held (FollowsWith HeldFits (λ h. h.handle) before)
 unfolding held_after
-held_again before h rest fits = keyed_again byte held_behind before h.handle fits.0.handle fits.1 (spelled_held h ++ rest) (spelled_32 h.slot ++ rest) h rest refl (one_again four_bytes (made_held h.handle) h.slot fits.0.slot rest)
+held_again before h rest fits = keyed_again byte held_behind before h.handle fits.0.handle fits.1 (spelled_held h ++ rest)
+    (spelled_32 h.slot ++ rest) h rest refl (one_again four_bytes (made_held h.handle) h.slot fits.0.slot rest)
 
 pub rising_held : IsRisingField held_after spelled_held HeldFits (λ h. h.handle)
 rising_held = record { field = λ before. record { takes = held_takes before; again = held_again before } }

@@ -1,5 +1,6 @@
 -- How objects are spelled and read, and which have a spelling.
-use Rattle.std.specs.Prelude.{ℕ, zero, suc, ◌<◌, ◌≤◌, ◌^◌, Bool, true, false, List, [], ◌∷◌, ◌++◌, length, Ok, Err, Option}
+use Rattle.std.specs.Prelude.{ℕ, zero, suc, ◌<◌, ◌≤◌, ◌^◌, Bool, true, false, List, [], ◌∷◌, ◌++◌, length, Ok, Err}
+use Rattle.std.specs.Prelude.{Option}
 use Rattle.std.specs.List.{flat_map, AllByRecursion}
 use Rattle.std.specs.Int.{w16, w32, w64}
 use Rattle.jlr_types.specs.declared.FieldValue.{FieldValue}
@@ -16,10 +17,13 @@ use Rattle.jlr_machine.specs.declared.object.Guard.{Guard as GuardOf}
 use Rattle.jlr_fields.specs.declared.fault.Fault.TheVariants.{Range}
 use Rattle.jlr_fields.specs.declared.version.Version.{Version}
 use Rattle.jlr_fields.specs.declared.version.Version.TheVariants.{One, Two}
-use Rattle.jlr_fields.specs.Spelling.{spelled_8, spelled_16, spelled_32, spelled_64, spelled_signed, spelled_option, IsSigned, IsWithin, SlotFits}
-use Rattle.jlr_fields.specs.Reading.{Reader, ◌>>=◌, one_field, two_fields, four_fields, byte_at, byte_within_at, number_at, number_within_at, signed_at, flag_at, option_at, picked_at}
+use Rattle.jlr_fields.specs.Spelling.{spelled_8, spelled_16, spelled_32, spelled_64, spelled_signed, spelled_option}
+use Rattle.jlr_fields.specs.Spelling.{IsSigned, IsWithin, SlotFits}
+use Rattle.jlr_fields.specs.Reading.{Reader, ◌>>=◌, one_field, two_fields, four_fields, byte_at, byte_within_at}
+use Rattle.jlr_fields.specs.Reading.{number_at, number_within_at, signed_at, flag_at, option_at, picked_at}
 use Rattle.jlr_fields.specs.Items.{items_at, list_at, spelled_list, IsListed}
-use Rattle.jlr_parts.specs.Tables.{ref_kinds, ref_kind_number, ref_states, ref_state_number, clean_states, clean_state_number}
+use Rattle.jlr_parts.specs.Tables.{ref_kinds, ref_kind_number, ref_states, ref_state_number, clean_states}
+use Rattle.jlr_parts.specs.Tables.{clean_state_number}
 
 -- ---- Fields
 
@@ -63,10 +67,12 @@ spelled_contents (Typed fields) = 1 ∷ length fields ∷ flat_map spelled_value
 spelled_contents (Elements elements) = 7 ∷ spelled_16 (length elements) ++ flat_map spelled_option elements
 
 abbrev pub spelled_reference : ReferenceOf → List ℕ
-spelled_reference r = 2 ∷ ref_kind_number r.kind ∷ spelled_option r.referent ++ spelled_option r.queue ++ spelled_8 (ref_state_number r.state)
+spelled_reference r = 2 ∷ ref_kind_number r.kind ∷ spelled_option r.referent ++ spelled_option r.queue
+    ++ spelled_8 (ref_state_number r.state)
 
 abbrev pub spelled_cleanable : CleanableOf → List ℕ
-spelled_cleanable c = 5 ∷ spelled_option c.referent ++ spelled_64 c.action ++ spelled_work c.work ++ spelled_8 (clean_state_number c.state)
+spelled_cleanable c = 5 ∷ spelled_option c.referent ++ spelled_64 c.action ++ spelled_work c.work
+    ++ spelled_8 (clean_state_number c.state)
 
 abbrev pub spelled_object : Object → List ℕ
 spelled_object (Plain contents) = spelled_contents contents
@@ -129,16 +135,20 @@ array_in One bytes = Err Range
 array_in Two bytes = array_read bytes
 
 unfoldable pub reference_read : Reader Object
-reference_read = four_fields (picked_at 0 ref_kinds) option_at option_at (picked_at 0 ref_states) (λ kind referent queue state. Reference (record { kind = kind; referent = referent; queue = queue; state = state }))
+reference_read = four_fields (picked_at 0 ref_kinds) option_at option_at (picked_at 0 ref_states)
+    (λ kind referent queue state. Reference (record { kind = kind; referent = referent; queue = queue; state = state }))
 
 unfoldable pub queue_read : Reader Object
 queue_read = one_field (list_at 4 (number_at w32)) Queue
 
 unfoldable pub cleanable_read : Reader Object
-cleanable_read = four_fields option_at (number_at w64) work_read (picked_at 0 clean_states) (λ referent action work state. Cleanable (record { referent = referent; action = action; work = work; state = state }))
+cleanable_read = four_fields option_at (number_at w64) work_read (picked_at 0 clean_states)
+    (λ referent action work state. Cleanable
+    (record { referent = referent; action = action; work = work; state = state }))
 
 unfoldable pub guard_read : Reader Object
-guard_read = two_fields (number_at w32) (number_at w32) (λ rid cleanable. Guard (record { rid = rid; cleanable = cleanable }))
+guard_read =
+    two_fields (number_at w32) (number_at w32) (λ rid cleanable. Guard (record { rid = rid; cleanable = cleanable }))
 
 abbrev pub object_behind : Version → ℕ → Reader Object
 object_behind version zero bytes = Err Range

@@ -6,16 +6,19 @@ use Rattle.jlr_machine.specs.declared.machine.Failure.{Failure}
 use Rattle.jlr_machine.specs.declared.machine.Job.{Job}
 use Rattle.jlr_machine.specs.declared.machine.Resource.{Resource}
 use Rattle.jlr_machine.specs.declared.machine.Call.{Call}
-use Rattle.jlr_machine.specs.declared.machine.Call.TheVariants.{Free, Opening as CallOpening, Out as CallOut, Job as CallJob}
+use Rattle.jlr_machine.specs.declared.machine.Call.TheVariants.{Free, Opening as CallOpening, Out as CallOut}
+use Rattle.jlr_machine.specs.declared.machine.Call.TheVariants.{Job as CallJob}
 use Rattle.jlr_fields.specs.declared.fault.Fault.TheVariants.{Range}
 use Rattle.jlr_fields.specs.declared.version.Version.{Version}
 use Rattle.jlr_fields.specs.Spelling.{spelled_8, spelled_32, spelled_64, spelled_text, IsTextOf}
-use Rattle.jlr_fields.specs.Reading.{Reader, ◌>>=◌, one_field, two_fields, byte_at, number_at, picked_at, text_at, is_name_byte}
+use Rattle.jlr_fields.specs.Reading.{Reader, ◌>>=◌, one_field, two_fields, byte_at, number_at, picked_at, text_at}
+use Rattle.jlr_fields.specs.Reading.{is_name_byte}
 use Rattle.jlr_fields.specs.Items.{may_follow}
 use Rattle.jlr_parts.specs.declared.record.Placed.{Placed}
 use Rattle.jlr_parts.specs.declared.record.Held.{Held}
 use Rattle.jlr_parts.specs.Tables.{faults, fault_number, resource_states, resource_state_number}
-use Rattle.jlr_parts.specs.Objects.{spelled_object, ObjectFits, ObjectCounts, object_read, spelled_work, WorkFits, work_read}
+use Rattle.jlr_parts.specs.Objects.{spelled_object, ObjectFits, ObjectCounts, object_read, spelled_work, WorkFits}
+use Rattle.jlr_parts.specs.Objects.{work_read}
 
 abbrev pub NameFits : List ℕ → Type 0
 NameFits name = IsTextOf 1 32 is_name_byte name
@@ -39,7 +42,8 @@ abbrev pub FailureFits : Failure → Type 0
 FailureFits f = f.action < 2 ^ 64
 
 unfoldable pub failure_read : Reader Failure
-failure_read = two_fields (number_at w64) (picked_at 1 faults) (λ action fault. record { action = action; fault = fault })
+failure_read =
+    two_fields (number_at w64) (picked_at 1 faults) (λ action fault. record { action = action; fault = fault })
 
 -- ---- Calls
 
@@ -82,7 +86,8 @@ abbrev pub job_behind : ℕ → Reader Job
 job_behind action = two_fields work_read byte_at (λ work by. record { action = action; work = work; by = by })
 
 unfoldable pub job_after : Option ℕ → Reader Job
-job_after before bytes = number_at w64 bytes >>= λ action. if may_follow before action.0 then job_behind action.0 action.1 else Err Range
+job_after before bytes =
+    number_at w64 bytes >>= λ action. if may_follow before action.0 then job_behind action.0 action.1 else Err Range
 
 abbrev pub spelled_resource : Resource → List ℕ
 spelled_resource r = spelled_32 r.rid ++ spelled_64 r.action ++ spelled_8 (resource_state_number r.state)
@@ -92,10 +97,12 @@ pub record ResourceFits (r : Resource) : Type 0 where
   pub action : r.action < 2 ^ 64
 
 abbrev pub resource_behind : ℕ → Reader Resource
-resource_behind rid = two_fields (number_at w64) (picked_at 0 resource_states) (λ action state. record { rid = rid; action = action; state = state })
+resource_behind rid = two_fields (number_at w64) (picked_at 0 resource_states)
+    (λ action state. record { rid = rid; action = action; state = state })
 
 unfoldable pub resource_after : Option ℕ → Reader Resource
-resource_after before bytes = number_at w32 bytes >>= λ rid. if may_follow before rid.0 then resource_behind rid.0 rid.1 else Err Range
+resource_after before bytes =
+    number_at w32 bytes >>= λ rid. if may_follow before rid.0 then resource_behind rid.0 rid.1 else Err Range
 
 -- an object and its slot
 abbrev pub spelled_placed : Placed → List ℕ
@@ -112,7 +119,8 @@ abbrev pub placed_behind : Version → ℕ → Reader Placed
 placed_behind version slot = one_field (object_read version) (λ object. record { slot = slot; object = object })
 
 unfoldable pub placed_after : Version → Option ℕ → Reader Placed
-placed_after version before bytes = number_at w32 bytes >>= λ slot. if may_follow before slot.0 then placed_behind version slot.0 slot.1 else Err Range
+placed_after version before bytes =
+    number_at w32 bytes >>= λ slot. if may_follow before slot.0 then placed_behind version slot.0 slot.1 else Err Range
 
 -- a handle and the slot that it names
 abbrev pub spelled_held : Held → List ℕ
@@ -126,4 +134,5 @@ abbrev pub held_behind : ℕ → Reader Held
 held_behind handle = one_field (number_at w32) (λ slot. record { handle = handle; slot = slot })
 
 unfoldable pub held_after : Option ℕ → Reader Held
-held_after before bytes = byte_at bytes >>= λ handle. if may_follow before handle.0 then held_behind handle.0 handle.1 else Err Range
+held_after before bytes =
+    byte_at bytes >>= λ handle. if may_follow before handle.0 then held_behind handle.0 handle.1 else Err Range

@@ -3,7 +3,10 @@ ghost use Rattle.std.specs.Prelude.{◌≡◌, ◌≤◌, ◌∷◌, ◌++◌, O
 ghost use Rattle.std.specs.List.{flat_map};
 ghost use Rattle.jlr_fields.specs.Reading.{Reads};
 ghost use Rattle.jlr_fields.specs.Spelling.{spelled_16, spelled_option};
-ghost use Rattle.jlr_parts.specs.Objects.{value_read, spelled_value, work_read, spelled_work, plain_read, array_read, array_in as array_of, reference_read, queue_read, cleanable_read, guard_read, object_read, spelled_contents, spelled_object, spelled_reference, spelled_cleanable, ObjectCounts};
+ghost use Rattle.jlr_parts.specs.Objects.{value_read, spelled_value, work_read, spelled_work, plain_read, array_read};
+ghost use Rattle.jlr_parts.specs.Objects.{array_in as array_of, reference_read, queue_read, cleanable_read, guard_read};
+ghost use Rattle.jlr_parts.specs.Objects.{object_read, spelled_contents, spelled_object, spelled_reference};
+ghost use Rattle.jlr_parts.specs.Objects.{spelled_cleanable, ObjectCounts};
 
 use crate::items::{Item, Written, put_each, put_list, take_items, take_list};
 use crate::tables::{
@@ -210,7 +213,8 @@ fn put_plain(out: &mut Vec<u8>, fields: &[FieldValue]) -> Result<(), AllocError>
 
 fn put_array(out: &mut Vec<u8>, elements: &[Option<Slot>]) -> Result<(), AllocError>
     requires { length elements.now ≤ 4096 }
-    ensures { OnOk result (out.new.items ≡ out.old.items ++ 7 ∷ spelled_16 (length elements.now) ++ flat_map spelled_option elements.now) }
+    ensures { OnOk result (out.new.items ≡ out.old.items ++ 7 ∷ spelled_16 (length elements.now)
+        ++ flat_map spelled_option elements.now) }
 {
     put_u8(out, 7)?;
     put_u16(out, elements.len() as u16)?;

@@ -48,7 +48,8 @@ fn take_rising_items<T: Keyed + Drop>(
     count: u32,
     bytes: &mut &[u8],
 ) -> Result<Vec<T>, ReadError>
-    ensures { Reads (λ x. x.items) result bytes.new.now (rising_items_at T.read_after T.key_of count None bytes.old.now) }
+    ensures { Reads (λ x. x.items) result bytes.new.now
+        (rising_items_at T.read_after T.key_of count None bytes.old.now) }
 {
     let mut items: Vec<T> = Vec::new(alloc);
     let mut before: Option<u64> = None;

@@ -2,7 +2,11 @@
 ghost use Rattle.std.specs.Prelude.{◌≡◌, ◌++◌, OnOk};
 ghost use Rattle.jlr_fields.specs.Spelling.{spelled_8};
 ghost use Rattle.jlr_fields.specs.Reading.{Reads, picked_at};
-ghost use Rattle.jlr_parts.specs.Tables.{ref_kinds, ref_kind_number as number_of_kind, ref_states, ref_state_number as number_of_ref_state, clean_states, clean_state_number as number_of_clean_state, resource_states, resource_state_number as number_of_resource_state, faults, fault_number as number_of_fault};
+ghost use Rattle.jlr_parts.specs.Tables.{ref_kinds, ref_kind_number as number_of_kind, ref_states};
+ghost use Rattle.jlr_parts.specs.Tables.{ref_state_number as number_of_ref_state, clean_states};
+ghost use Rattle.jlr_parts.specs.Tables.{clean_state_number as number_of_clean_state, resource_states};
+ghost use Rattle.jlr_parts.specs.Tables.{resource_state_number as number_of_resource_state, faults};
+ghost use Rattle.jlr_parts.specs.Tables.{fault_number as number_of_fault};
 
 use jlr_fields::cursor::take_picked;
 use jlr_fields::fault::ReadError;

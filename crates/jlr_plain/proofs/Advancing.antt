@@ -23,10 +23,12 @@ and_grouped false b c d = refl
 pub legal_parts : (m : Machine) (e : Entry) → (is_carried_out m e || declines m e) ≡ is_legal m e
 legal_parts m e = or_grouped (is_carried_out m e) (is_refused m e) (is_heap_full m e) (is_out_of_memory m e)
 
-pub carried_parts : (m : Machine) (e : Entry) → ((is_none (refusal m e.ask) && may_collect m e.ask e.choice.collected) && fits_after e (with_collection m e.choice.collected)) ≡ is_carried_out m e
+pub carried_parts : (m : Machine) (e : Entry) → ((is_none (refusal m e.ask) && may_collect m e.ask e.choice.collected)
+    && fits_after e (with_collection m e.choice.collected)) ≡ is_carried_out m e
 carried_parts m e =
     let n = with_collection m e.choice.collected in
-    and_grouped (is_none (refusal m e.ask)) (may_collect m e.ask e.choice.collected) (are_fresh n.objects (cells_needed e.ask) e.choice.fresh) (is_answer n e.ask e.choice.collected e.answer)
+    and_grouped (is_none (refusal m e.ask)) (may_collect m e.ask e.choice.collected)
+    (are_fresh n.objects (cells_needed e.ask) e.choice.fresh) (is_answer n e.ask e.choice.collected e.answer)
 
 or_last : (a b : Bool) → b ≡ true → (a || b) ≡ true
 or_last true b e = refl
@@ -41,13 +43,18 @@ neither_is_legal m e w c d legal =
     both_ways false refl
     (sym (ap (λ a. a || declines m e) c ∙ d) ∙ legal_parts m e ∙ (legality_is_decided m e w).1 legal)
 
-pub not_allowed : (m : Machine) (e : Entry) → IsWellFormed m → (is_none (refusal m e.ask) && may_collect m e.ask e.choice.collected) ≡ false → declines m e ≡ false → ¬ (IsLegal m e)
-not_allowed m e w a d = neither_is_legal m e w (sym (carried_parts m e) ∙ ap (λ b. b && fits_after e (with_collection m e.choice.collected)) a) d
+pub not_allowed : (m : Machine) (e : Entry) → IsWellFormed m → (is_none (refusal m e.ask) && may_collect m e.ask e.choice.collected) ≡ false
+    → declines m e ≡ false → ¬ (IsLegal m e)
+not_allowed m e w a d =
+    neither_is_legal m e w (sym (carried_parts m e) ∙ ap (λ b. b && fits_after e (with_collection m e.choice.collected)) a) d
 
-pub not_fitting : (m : Machine) (e : Entry) → IsWellFormed m → IsAllowed m e → fits_after e (with_collection m e.choice.collected) ≡ false → ¬ (IsLegal m e)
-not_fitting m e w a f = neither_is_legal m e w (sym (carried_parts m e) ∙ ap (λ b. b && fits_after e (with_collection m e.choice.collected)) a.allowed ∙ f) a.carried_out
+pub not_fitting : (m : Machine) (e : Entry) → IsWellFormed m → IsAllowed m e → fits_after e (with_collection m e.choice.collected) ≡ false
+    → ¬ (IsLegal m e)
+not_fitting m e w a f = neither_is_legal m e w (sym (carried_parts m e)
+    ∙ ap (λ b. b && fits_after e (with_collection m e.choice.collected)) a.allowed ∙ f) a.carried_out
 
-pub fitting : (m : Machine) (e : Entry) → IsWellFormed m → IsAllowed m e → fits_after e (with_collection m e.choice.collected) ≡ true → IsLegal m e
+pub fitting : (m : Machine) (e : Entry) → IsWellFormed m → IsAllowed m e → fits_after e (with_collection m e.choice.collected) ≡ true
+    → IsLegal m e
 fitting m e w a f =
     let carried = sym (carried_parts m e) ∙ ap (λ b. b && fits_after e (with_collection m e.choice.collected)) a.allowed ∙ f in
     (legality_is_decided m e w).0 (sym (legal_parts m e) ∙ ap (λ b. b || declines m e) carried)

@@ -49,7 +49,8 @@ next_legal m e (refused r) n = absurd (both_ways (refuses e.answer) n (ap refuse
 next_legal m e (heap_full r) n = absurd (both_ways (refuses e.answer) n (ap refuses r.answers))
 next_legal m e (out_of_memory r) n = absurd (both_ways (refuses e.answer) n (ap refuses r.answers))
 
-pub next_in_collected : (m : Machine) (e : Entry) → IsLegal m e → refuses e.answer ≡ false → HasNextAction (with_collection m e.choice.collected).next_action e.ask
+pub next_in_collected : (m : Machine) (e : Entry) → IsLegal m e → refuses e.answer ≡ false
+    → HasNextAction (with_collection m e.choice.collected).next_action e.ask
 next_in_collected m e l n = subst (λ k. HasNextAction k e.ask) (next_kept m e.choice.collected) (next_legal m e l n)
 
 -- an answer that does not refuse is carried out
@@ -63,20 +64,26 @@ carried_not m ask a fresh h = absurd (both_ways false refl h)
 
 -- ---- The machine before it is said what was seen
 
-pub carried_is : (m n : Machine) (e : Entry) (fresh : List ℕ) → n ≡ carried m e.ask e.answer fresh → fresh ≡ e.choice.fresh → n ≡ carried_in m e
+pub carried_is : (m n : Machine) (e : Entry) (fresh : List ℕ) → n ≡ carried m e.ask e.answer fresh → fresh ≡ e.choice.fresh
+    → n ≡ carried_in m e
 carried_is m n e fresh a f = a ∙ ap {A = List ℕ} {B = Machine} (λ l. carried m e.ask e.answer l) f
 
-pub collected_done : (m collected : Machine) (e : Entry) → collected ≡ with_collection m e.choice.collected → carried_in collected e ≡ done m e
+pub collected_done : (m collected : Machine) (e : Entry) → collected ≡ with_collection m e.choice.collected
+    → carried_in collected e ≡ done m e
 collected_done m collected e c = ap {A = Machine} {B = Machine} (λ x. carried_in x e) c
 
 pub done_small : (m n : Machine) (e : Entry) → n ≡ done m e → IsWellFormed m → IsLegal m e → length n.objects ≤ 2 ^ 32
-done_small m n e d w l = let P : Machine → Type 0 = λ x. length x.objects ≤ 2 ^ 32 in subst P (sym d) (let h = (legal_kept m e w l).limits.cells in omega (arith, h))
+done_small m n e d w l = let P : Machine → Type 0 = λ x. length x.objects ≤ 2 ^ 32 in
+    subst P (sym d) (let h = (legal_kept m e w l).limits.cells in omega (arith, h))
 
 pub done_within : (m n : Machine) (e : Entry) → n ≡ done m e → IsWellFormed m → IsLegal m e → IsWithinHeap n.objects (roots n)
-done_within m n e d w l = let P : Machine → Type 0 = λ x. IsWithinHeap x.objects (roots x) in subst P (sym d) (well_formed_within (apply m e) (legal_kept m e w l))
+done_within m n e d w l = let P : Machine → Type 0 = λ x. IsWithinHeap x.objects (roots x) in
+    subst P (sym d) (well_formed_within (apply m e) (legal_kept m e w l))
 
-pub seen_said : (m n : Machine) (e : Entry) (seen : List ℕ) → n ≡ carried_in m e → seen ≡ now_seen n → record n { seen = seen } ≡ completed m e
-seen_said m n e seen d s = ap {A = List ℕ} {B = Machine} (λ l. record n { seen = l }) s ∙ ap {A = Machine} {B = Machine} (λ x. record x { seen = now_seen x }) d
+pub seen_said : (m n : Machine) (e : Entry) (seen : List ℕ) → n ≡ carried_in m e → seen ≡ now_seen n
+    → record n { seen = seen } ≡ completed m e
+seen_said m n e seen d s = ap {A = List ℕ} {B = Machine} (λ l. record n { seen = l }) s
+    ∙ ap {A = Machine} {B = Machine} (λ x. record x { seen = now_seen x }) d
 
 -- where it is what it was already
 pub seen_kept : (m n : Machine) (e : Entry) → n ≡ carried_in m e → now_seen (carried_in m e) ≡ (carried_in m e).seen → n ≡ completed m e

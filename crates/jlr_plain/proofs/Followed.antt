@@ -1,5 +1,6 @@
 -- What was seen stays as it is behind an entry that adds no root, and stays closed behind each.
-use Rattle.std.proofs.Common.{◌≡◌, ℕ, ◌<◌, Bool, true, false, cond, ◌&&◌, ◌||◌, List, [], ◌∷◌, inl, inr, length, filter, refl, sym, ◌∙◌, ap, subst, Option, Some, None, is_none}
+use Rattle.std.proofs.Common.{◌≡◌, ℕ, ◌<◌, Bool, true, false, cond, ◌&&◌, ◌||◌, List, [], ◌∷◌, inl, inr, length, filter, refl, sym, ◌∙◌, ap}
+use Rattle.std.proofs.Common.{subst, Option, Some, None, is_none}
 use Rattle.std.proofs.lemmas.Bool.{both_ways, cases_Bool, and_parts, or_cases, or_left}
 use Rattle.jlr_machine.specs.declared.machine.Machine.{Machine}
 use Rattle.jlr_machine.specs.declared.entry.Entry.{Entry}
@@ -44,12 +45,14 @@ chosen : (b : Bool) (l : List ℕ) → b ≡ true → elim b as (λ _. List ℕ)
 chosen true l e = refl
 chosen false l e = absurd (both_ways false refl e)
 
-now_seen_open : (n : Machine) → n.cycle_open ≡ true → now_seen n ≡ seen_with n.seen (reach_set UpToSoft n.objects (roots n)) (length n.objects)
+now_seen_open : (n : Machine) → n.cycle_open ≡ true
+    → now_seen n ≡ seen_with n.seen (reach_set UpToSoft n.objects (roots n)) (length n.objects)
 now_seen_open n e = chosen n.cycle_open (seen_with n.seen (reach_set UpToSoft n.objects (roots n)) (length n.objects)) e
 
 -- ---- Behind an ask that adds no root
 
-module _ (m d : Machine) (f : IsFollowed m) (on : m.cycle_open ≡ true) (within : IsWithinHeap m.objects (roots m)) (after : IsWithinHeap d.objects (roots d)) (is : IsSmall m d) where
+module _ (m d : Machine) (f : IsFollowed m) (on : m.cycle_open ≡ true) (within : IsWithinHeap m.objects (roots m))
+    (after : IsWithinHeap d.objects (roots d)) (is : IsSmall m d) where
   reached_seen : (s : ℕ) → IsReached UpToSoft m.objects (roots m) s → s ∈ m.seen
   reached_seen s r = subst (λ l. s ∈ l) (sym f.up_to_date) (reached_is_seen m within s on r)
 
@@ -66,7 +69,8 @@ module _ (m d : Machine) (f : IsFollowed m) (on : m.cycle_open ≡ true) (within
   ]
 
   all_seen : (s : ℕ) → IsReached UpToSoft d.objects (roots d) s → s ∈ m.seen
-  all_seen s r = carried_over UpToSoft d.objects (roots d) (λ x. x ∈ m.seen) (λ x y h e. edge_seen x y h (edge_from UpToSoft d.objects x y e)) base_seen s r
+  all_seen s r = carried_over UpToSoft d.objects (roots d) (λ x. x ∈ m.seen)
+      (λ x y h e. edge_seen x y h (edge_from UpToSoft d.objects x y e)) base_seen s r
 
   abbrev then : ℕ → Bool
   then s = (d.seen ∋ s) || (reach_set UpToSoft d.objects (roots d) ∋ s)
@@ -98,7 +102,8 @@ module _ (m d : Machine) (f : IsFollowed m) (on : m.cycle_open ≡ true) (within
 
 -- ---- Behind an entry
 
-small_carried : (m : Machine) (ask : Ask) (a : Answer) (fresh : List ℕ) → (refuses a || adds_no_root m ask) ≡ true → IsSmall m (carried m ask a fresh)
+small_carried : (m : Machine) (ask : Ask) (a : Answer) (fresh : List ℕ) → (refuses a || adds_no_root m ask) ≡ true
+    → IsSmall m (carried m ask a fresh)
 small_carried m ask (Refused by) fresh e = small_same m
 small_carried m ask a fresh e = small m ask a fresh e
 
@@ -110,9 +115,11 @@ small_done : (m : Machine) (e : Entry) → keeps_seen m e ≡ true → IsSmall m
 small_done m e k =
     let both = and_parts (m.cycle_open && is_none e.choice.collected) (refuses e.answer || adds_no_root m e.ask) k in
     let none = (and_parts m.cycle_open (is_none e.choice.collected) both.0).1 in
-    subst (λ (n : Machine). IsSmall m (carried n e.ask e.answer e.choice.fresh)) (sym (not_collected e.choice.collected m none)) (small_carried m e.ask e.answer e.choice.fresh both.1)
+    subst (λ (n : Machine). IsSmall m (carried n e.ask e.answer e.choice.fresh)) (sym (not_collected e.choice.collected m none))
+    (small_carried m e.ask e.answer e.choice.fresh both.1)
 
-pub seen_is_kept : (m : Machine) (e : Entry) → IsWellFormed m → IsFollowed m → IsLegal m e → keeps_seen m e ≡ true → now_seen (done m e) ≡ (done m e).seen
+pub seen_is_kept : (m : Machine) (e : Entry) → IsWellFormed m → IsFollowed m → IsLegal m e → keeps_seen m e ≡ true
+    → now_seen (done m e) ≡ (done m e).seen
 seen_is_kept m e w f legal k =
     let both = and_parts (m.cycle_open && is_none e.choice.collected) (refuses e.answer || adds_no_root m e.ask) k in
     let on = (and_parts m.cycle_open (is_none e.choice.collected) both.0).0 in
@@ -136,7 +143,8 @@ module _ (m : Machine) (e : Entry) (w : IsWellFormed m) (f : IsFollowed m) (lega
   from_seen x y still h edge = elim (entry_adds m e legal still x y edge) [
     | inl was ↦ stays_in y still (f.closed x y h was)
     | inr to ↦ elim to [
-      | inl root ↦ stays_in y still (subst (λ l. y ∈ l) (sym f.up_to_date) (reached_is_seen m (well_formed_within m w) y (was_open x h) (reached_base m (roots m) y root)))
+      | inl root ↦ stays_in y still (subst (λ l. y ∈ l) (sym f.up_to_date)
+          (reached_is_seen m (well_formed_within m w) y (was_open x h) (reached_base m (roots m) y root)))
       | inr now ↦ reached_is_seen (done m e) within_then y still (reached_base (done m e) (roots (done m e)) y now)
     ]
   ]
@@ -156,7 +164,12 @@ module _ (m : Machine) (e : Entry) (w : IsWellFormed m) (f : IsFollowed m) (lega
 
 pub next_is_fit : (m n : Machine) (e : Entry) → IsFit m → IsLegal m e → n ≡ apply m e → IsNext m e n
 next_is_fit m n e f legal is =
-    record { legal = legal; applied = is; fit = subst IsFit (sym is) (record { formed = legal_kept m e f.formed legal; followed = stays_followed m e f.formed f.followed legal }) }
+    record {
+      legal = legal;
+      applied = is;
+      fit =
+          subst IsFit (sym is) (record { formed = legal_kept m e f.formed legal; followed = stays_followed m e f.formed f.followed legal });
+    }
 
 pub image_is_fit : (m : Machine) → IsImage m → IsFit m
 image_is_fit m i =

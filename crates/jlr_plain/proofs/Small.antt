@@ -8,7 +8,8 @@ use Rattle.jlr_machine.specs.declared.object.Object.TheVariants.{Plain, Referenc
 use Rattle.jlr_machine.specs.declared.machine.Machine.{Machine}
 use Rattle.jlr_machine.specs.declared.machine.Session.{Session}
 use Rattle.jlr_machine.specs.declared.ask.Ask.{Ask}
-use Rattle.jlr_machine.specs.declared.ask.Ask.TheVariants.{Put, Get, SetInt, Int, Dup, Drop, Same, Deref, Refers, Enqueued, Find, Names, Full, Stat, Notes, Faults, Collect}
+use Rattle.jlr_machine.specs.declared.ask.Ask.TheVariants.{Put, Get, SetInt, Int, Dup, Drop, Same, Deref, Refers, Enqueued, Find, Names}
+use Rattle.jlr_machine.specs.declared.ask.Ask.TheVariants.{Full, Stat, Notes, Faults, Collect}
 use Rattle.jlr_machine.specs.declared.ask.Answer.{Answer}
 use Rattle.jlr_machine.specs.Objects.{at, set_at, empty_at, ◌∈◌, with_field}
 use Rattle.jlr_machine.specs.Edges.{roots, is_own_root, edges_from}
@@ -35,8 +36,10 @@ small_same m = record { seen = refl; still = refl; cells = refl; base = λ s h. 
 
 -- ---- Changes of a session's handles
 
-module _ (m : Machine) (k : ℕ) (f : Session → Session) (same_fence : (s : Session) → (f s).fence ≡ s.fence) (holds : (s : Session) (h x : ℕ) → at (f s).handles h ≡ Some x → (at s.handles h ≡ Some x) ⊎ (x ∈ m.seen)) where
-  held_before : (j h x : ℕ) (t : Session) → at (with_session m k f).mutators j ≡ Some t → at t.handles h ≡ Some x → (x ∈ roots m) ⊎ (x ∈ m.seen)
+module _ (m : Machine) (k : ℕ) (f : Session → Session) (same_fence : (s : Session) → (f s).fence ≡ s.fence)
+    (holds : (s : Session) (h x : ℕ) → at (f s).handles h ≡ Some x → (at s.handles h ≡ Some x) ⊎ (x ∈ m.seen)) where
+  held_before : (j h x : ℕ) (t : Session) → at (with_session m k f).mutators j ≡ Some t → at t.handles h ≡ Some x → (x ∈ roots m)
+      ⊎ (x ∈ m.seen)
   held_before j h x t e p =
       let back = change_back m.mutators k j f t e in
       elim back.2 [
@@ -100,7 +103,8 @@ field_root f v (Cleanable c) = refl
 field_root f v (Guard g) = refl
 
 module _ (m : Machine) (s f : ℕ) (v : FieldValue) where
-  active_before : (x : ℕ) (o : Option Object) → at (with_object m s (with_field f v)).objects x ≡ o → is_own_root o ≡ true → is_own_root (at m.objects x) ≡ true
+  active_before : (x : ℕ) (o : Option Object) → at (with_object m s (with_field f v)).objects x ≡ o → is_own_root o ≡ true
+      → is_own_root (at m.objects x) ≡ true
   active_before x None e h = absurd (both_ways false refl h)
   active_before x (Some o) e h =
       let back = change_back m.objects s x (with_field f v) o e in
@@ -121,7 +125,8 @@ module _ (m : Machine) (s f : ℕ) (v : FieldValue) where
 abbrev AddsNoEdge : Machine → Machine → Type 0
 AddsNoEdge m d = (x y : ℕ) → y ∈ edges_from UpToSoft d.objects x → (y ∈ edges_from UpToSoft m.objects x) ⊎ ((y ∈ roots m) ⊎ (y ∈ roots d))
 
-small_field : (m : Machine) (o : Option ℕ) (f : ℕ) (v : FieldValue) → AddsNoEdge m (on o (λ s. with_object m s (with_field f v)) m) → IsSmall m (on o (λ s. with_object m s (with_field f v)) m)
+small_field : (m : Machine) (o : Option ℕ) (f : ℕ) (v : FieldValue) → AddsNoEdge m (on o (λ s. with_object m s (with_field f v)) m)
+    → IsSmall m (on o (λ s. with_object m s (with_field f v)) m)
 small_field m None f v adds = small_same m
 small_field m (Some s) f v adds = record {
   seen = refl;
@@ -134,9 +139,11 @@ small_field m (Some s) f v adds = record {
 -- ---- All together
 
 pub small : (m : Machine) (ask : Ask) (a : Answer) (fresh : List ℕ) → adds_no_root m ask ≡ true → IsSmall m (after m ask a fresh)
-small m (Put k h f v) a fresh e = small_field m (slot_named m k h) f (RefValue (slot_named m k v)) (adds_edges m (Put k h f v) a [] (λ s n. nothing s n))
+small m (Put k h f v) a fresh e =
+    small_field m (slot_named m k h) f (RefValue (slot_named m k v)) (adds_edges m (Put k h f v) a [] (λ s n. nothing s n))
 small m (Get k h f) a fresh e = small_given m k (given m (Get k h f)) e
-small m (SetInt k h f n) a fresh e = small_field m (slot_named m k h) f (IntValue n) (adds_edges m (SetInt k h f n) a [] (λ s n. nothing s n))
+small m (SetInt k h f n) a fresh e =
+    small_field m (slot_named m k h) f (IntValue n) (adds_edges m (SetInt k h f n) a [] (λ s n. nothing s n))
 small m (Int k h f) a fresh e = small_same m
 small m (Dup k h) a fresh e = small_given m k (given m (Dup k h)) e
 small m (Drop k h) a fresh e = small_drop m k h

@@ -8,7 +8,8 @@ use Rattle.jlr_laws.specs.Deciding.{is_refused, is_heap_full, is_out_of_memory, 
 
 -- it may be carried out so in the machine that its collection left
 abbrev pub fits_after : Entry → Machine → Bool
-fits_after e n = are_fresh n.objects (cells_needed e.ask) e.choice.fresh && is_answer n e.ask e.choice.collected e.answer
+fits_after e n = are_fresh n.objects (cells_needed e.ask) e.choice.fresh
+    && is_answer n e.ask e.choice.collected e.answer
 
 -- it is legal, and not carried out
 abbrev pub declines : Machine → Entry → Bool

@@ -3,7 +3,8 @@ use Rattle.std.specs.Prelude.{◌≡◌, ℕ, Bool, true, false, ◌&&◌, ◌||
 use Rattle.jlr_machine.specs.declared.machine.Machine.{Machine}
 use Rattle.jlr_machine.specs.declared.entry.Entry.{Entry}
 use Rattle.jlr_machine.specs.declared.ask.Ask.{Ask}
-use Rattle.jlr_machine.specs.declared.ask.Ask.TheVariants.{Put, Get, SetInt, Int, Dup, Drop, Same, Deref, Refers, Enqueued, Find, Names, Full, Stat, Notes, Faults, Collect}
+use Rattle.jlr_machine.specs.declared.ask.Ask.TheVariants.{Put, Get, SetInt, Int, Dup, Drop, Same, Deref, Refers}
+use Rattle.jlr_machine.specs.declared.ask.Ask.TheVariants.{Enqueued, Find, Names, Full, Stat, Notes, Faults, Collect}
 use Rattle.jlr_machine.specs.Objects.{◌∋◌, ◌∈◌}
 use Rattle.jlr_machine.specs.Edges.{edges_from}
 use Rattle.jlr_machine.specs.Edges.Chain.{UpToSoft}

@@ -21,7 +21,8 @@ fn carry_on(
 ) -> Result<Option<Machine>, AllocError>
     requires fit { IsFit machine }
     requires allowed { IsAllowed machine entry.now }
-    requires kept { kept ≡ true → IsLegal machine entry.now → now_seen (done machine entry.now) ≡ (done machine entry.now).seen }
+    requires kept { kept ≡ true → IsLegal machine entry.now
+        → now_seen (done machine entry.now) ≡ (done machine entry.now).seen }
     ensures { IfOk result (λ o. MatchOption o (¬ (IsLegal machine entry.now)) (λ n. IsNext machine entry.now n)) }
 {
     let _next_action = machine.next_action;
@@ -33,8 +34,8 @@ fn carry_on(
     Ok(Some(next))
 }
 
-/// The machine after an entry, if the entry is legal in it; none if it is not. The machine is given up for it, so nothing of it is
-/// copied, and in an open cycle only an entry that may add to what was seen has it looked for again.
+/// The machine after an entry, if the entry is legal in it; none if it is not. The machine is given up for it, so
+/// nothing of it is copied, and in an open cycle only an entry that may add to what was seen has it looked for again.
 ///
 /// # Errors
 /// `AllocError` where there is no memory. The machine is gone then.

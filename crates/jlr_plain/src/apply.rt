@@ -43,7 +43,8 @@ fn carry_out(
     Ok(next)
 }
 
-/// The machine after an entry, made of the one that its collection left. What was seen is left as it is where it is known to be kept.
+/// The machine after an entry, made of the one that its collection left. What was seen is left as it is where it is
+/// known to be kept.
 pub(crate) fn complete(
     alloc: Global,
     machine: Machine,

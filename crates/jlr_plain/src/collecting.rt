@@ -52,7 +52,8 @@ pub fn clears_for_room(
     requires cells { length machine.now.objects ≤ 2 ^ 32 }
     requires within { IsWithinHeap machine.now.objects (roots machine.now) }
     requires needed { needed ≤ 2 }
-    ensures { IfOk result (λ b. b ≡ (not (has_room machine.now needed) && is_full_clearing machine.now c.now.kept c.now.pending)) }
+    ensures { IfOk result (λ b. b ≡ (not (has_room machine.now needed)
+        && is_full_clearing machine.now c.now.kept c.now.pending)) }
 {
     if room_for(machine, needed) {
         return Ok(false);

@@ -72,7 +72,10 @@ fn machine_of(
     resources: u32,
     next_action: u64,
 ) -> Machine
-    ensures { result ≡ record (empty_from 0 0 resources next_action) { objects = objects.items; mutators = seats.items } }
+    ensures { result ≡ record (empty_from 0 0 resources next_action) {
+      objects = objects.items;
+      mutators = seats.items;
+    } }
 {
     Machine {
         objects: Table::from_vec(objects),
@@ -104,7 +107,8 @@ pub fn empty_plain_with(
     sessions: usize,
     resources: u32,
 ) -> Result<Machine, AllocError>
-    ensures { (cells : ℕ) → objects.items ≡ replicate cells None → IfOk result (λ m. m ≡ empty cells sessions resources) }
+    ensures { (cells : ℕ) → objects.items ≡ replicate cells None
+        → IfOk result (λ m. m ≡ empty cells sessions resources) }
 {
     let Ok(seats) = no_sessions(alloc, sessions) else {
         drop(objects);

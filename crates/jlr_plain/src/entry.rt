@@ -10,7 +10,8 @@ ghost use Rattle.jlr_machine.specs.Edges.{roots};
 ghost use Rattle.jlr_machine.specs.Run.{IsLegal, with_collection};
 ghost use Rattle.jlr_machine.specs.WellFormed.{IsWellFormed};
 ghost use Rattle.jlr_laws.specs.Laws.{IsWithinHeap};
-ghost use Rattle.jlr_laws.specs.Deciding.{gives_new_rid, is_answer, chooses_nothing, is_carried_out, is_refused, leaves_too_few, is_heap_full, is_empty, may_collect, are_fresh};
+ghost use Rattle.jlr_laws.specs.Deciding.{gives_new_rid, is_answer, chooses_nothing, is_carried_out, is_refused};
+ghost use Rattle.jlr_laws.specs.Deciding.{leaves_too_few, is_heap_full, is_empty, may_collect, are_fresh};
 ghost use Rattle.jlr_plain.specs.Deciding.{declines, fits_after};
 
 use crate::collecting::{clears_for_room, may_collect_plain};
@@ -78,7 +79,8 @@ fn is_refused_plain(machine: &Machine, entry: &Entry) -> bool
 }
 
 fn is_out_of_memory_plain(entry: &Entry) -> bool
-    ensures { result ≡ (not (is_end entry.now.ask) && same_answer entry.now.answer (Refused NoMemory) && chooses_nothing entry.now.choice) }
+    ensures { result ≡ (not (is_end entry.now.ask) && same_answer entry.now.answer (Refused NoMemory)
+        && chooses_nothing entry.now.choice) }
 {
     !ends_call(&entry.ask)
         && is_refused_by(&entry.answer, Refusal::NoMemory)
@@ -93,7 +95,8 @@ pub(crate) fn may_carry_out(
 ) -> Result<bool, AllocError>
     requires cells { length machine.now.objects ≤ 2 ^ 32 }
     requires within { IsWithinHeap machine.now.objects (roots machine.now) }
-    ensures { IfOk result (λ b. b ≡ (is_none (refusal machine.now entry.now.ask) && may_collect machine.now entry.now.ask entry.now.choice.collected)) }
+    ensures { IfOk result (λ b. b ≡ (is_none (refusal machine.now entry.now.ask)
+        && may_collect machine.now entry.now.ask entry.now.choice.collected)) }
 {
     if refusal_plain(machine, &entry.ask).is_some() {
         return Ok(false);
@@ -103,7 +106,8 @@ pub(crate) fn may_carry_out(
 
 /// Whether the ask may be so carried out, in the machine that its collection left.
 pub(crate) fn fits_in(machine: &Machine, entry: &Entry) -> bool
-    ensures { result ≡ (are_fresh machine.now.objects (cells_needed entry.now.ask) entry.now.choice.fresh && is_answer machine.now entry.now.ask entry.now.choice.collected entry.now.answer) }
+    ensures { result ≡ (are_fresh machine.now.objects (cells_needed entry.now.ask) entry.now.choice.fresh
+        && is_answer machine.now entry.now.ask entry.now.choice.collected entry.now.answer) }
 {
     let choice = &entry.choice;
     let cells = cells_of(&entry.ask);

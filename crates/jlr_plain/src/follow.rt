@@ -39,7 +39,8 @@ fn follow_collecting(
 ) -> Result<(), AllocError>
     requires comes { refuses entry.now.answer ≡ false → comes_with entry.now.ask ≡ true }
     requires actions { refuses entry.now.answer ≡ false → HasNextAction machine.old.next_action entry.now.ask }
-    ensures ok { OnOk result (machine.new ≡ carried_in (after_collection machine.old collected.now.kept collected.now.pending) entry.now) }
+    ensures ok { OnOk result (machine.new ≡ carried_in
+        (after_collection machine.old collected.now.kept collected.now.pending) entry.now) }
     ensures err { OnErr result (machine.new ≡ machine.old) }
 {
     let leaving = make_leaving(alloc, machine, collected)?;
@@ -69,8 +70,8 @@ fn follow_either(alloc: Global, machine: &mut Machine, entry: &Entry) -> Result<
     }
 }
 
-/// Applies an entry to a machine that is kept without what was seen, and leaves that out. Only what the entry changes is touched; a
-/// collection passes over the cells. What takes memory comes before the first change.
+/// Applies an entry to a machine that is kept without what was seen, and leaves that out. Only what the entry changes
+/// is touched; a collection passes over the cells. What takes memory comes before the first change.
 ///
 /// # Errors
 /// `AllocError` where there is no memory. The machine is then as it was.

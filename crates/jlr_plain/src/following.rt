@@ -29,7 +29,8 @@ fn given_was_seen(seen: &[Slot], given: Option<Slot>) -> bool
     }
 }
 
-/// Whether each root behind the ask was a root before it, or was seen. Of asks that change more than a handle or a field nothing is said.
+/// Whether each root behind the ask was a root before it, or was seen. Of asks that change more than a handle or a
+/// field nothing is said.
 fn adds_none(machine: &Machine, ask: &Ask) -> bool
     ensures { result ≡ adds_no_root machine.now ask.now }
 {

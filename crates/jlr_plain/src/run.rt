@@ -16,7 +16,8 @@ use std::alloc::{AllocError, Global};
 pub fn step_plain(alloc: Global, machine: &mut Machine, entry: &Entry) -> Result<bool, AllocError>
     requires { IsWellFormed machine.old }
     ensures formed { IsWellFormed machine.new }
-    ensures legal { IfOk result (λ b. b ≡ true → IsLegal machine.old entry.now × (machine.new ≡ apply machine.old entry.now)) }
+    ensures legal { IfOk result (λ b. b ≡ true → IsLegal machine.old entry.now
+        × (machine.new ≡ apply machine.old entry.now)) }
     ensures refused { IfOk result (λ b. b ≡ false → (¬ (IsLegal machine.old entry.now)) × (machine.new ≡ machine.old)) }
     ensures err { OnErr result (machine.new ≡ machine.old) }
 {

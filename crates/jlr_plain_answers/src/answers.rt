@@ -2,9 +2,12 @@
 ghost use Rattle.std.specs.Prelude.{◌≡◌, bytes_eq};
 ghost use Rattle.jlr_types.specs.declared.Work.TheVariants.{Note, Resource};
 ghost use Rattle.std.specs.Cmp.Lexicographic.{pointwise};
-ghost use Rattle.jlr_machine.specs.declared.ask.Answer.TheVariants.{Done, Handle, Truth, Int, Data, Wrote, Faulted, Names, Notes, Faults, Stat as StatAnswer, Job, AlreadyDone, Out, Handed as HandedAnswer, Refused};
+ghost use Rattle.jlr_machine.specs.declared.ask.Answer.TheVariants.{Done, Handle, Truth, Int, Data, Wrote, Faulted};
+ghost use Rattle.jlr_machine.specs.declared.ask.Answer.TheVariants.{Names, Notes, Faults, Stat as StatAnswer, Job};
+ghost use Rattle.jlr_machine.specs.declared.ask.Answer.TheVariants.{AlreadyDone, Out, Handed as HandedAnswer, Refused};
 ghost use Rattle.jlr_machine.specs.Calls.{call_answer};
-ghost use Rattle.jlr_laws.specs.Same.{same_answer, same_truth, same_fault, same_work, same_handed, same_failure, same_stat};
+ghost use Rattle.jlr_laws.specs.Same.{same_answer, same_truth, same_fault, same_work, same_handed, same_failure};
+ghost use Rattle.jlr_laws.specs.Same.{same_stat};
 ghost use Rattle.jlr_plain_answers.specs.Names.{names_of};
 
 use jlr_machine::ask::{Answer, CallOutcome, Handed, Stat};

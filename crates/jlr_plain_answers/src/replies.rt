@@ -4,7 +4,8 @@ ghost use Rattle.std.specs.Option.{option_eq};
 ghost use Rattle.jlr_machine.specs.Objects.{first_free, some_and};
 ghost use Rattle.jlr_machine.specs.Lookups.{free_handle, field_named, slot_named};
 ghost use Rattle.jlr_machine.specs.declared.ask.Ask.TheVariants.{Refers, Enqueue, Enqueued, Clean, Close, CheckOut};
-ghost use Rattle.jlr_machine.specs.Calls.{new_handle, handle_given, number_in, outcome_answer, take_up_answer, hand_over_answer, line_answer, stat_of, reply};
+ghost use Rattle.jlr_machine.specs.Calls.{new_handle, handle_given, number_in, outcome_answer, take_up_answer};
+ghost use Rattle.jlr_machine.specs.Calls.{hand_over_answer, line_answer, stat_of, reply};
 ghost use Rattle.jlr_machine.specs.declared.ask.Answer.TheVariants.{Done, Truth, Stat as StatAnswer};
 ghost use Rattle.jlr_machine.specs.Objects.{is_queued};
 ghost use Rattle.jlr_laws.specs.Same.{same_answer};
@@ -81,7 +82,8 @@ fn gives_field(
     field: FieldNo,
     answer: &Answer,
 ) -> bool
-    ensures { result ≡ some_and (same_answer answer.now) (option_and_then number_in (field_named machine.now mutator object field)) }
+    ensures { result ≡ some_and (same_answer answer.now)
+        (option_and_then number_in (field_named machine.now mutator object field)) }
 {
     match named_field(machine, mutator, object, field) {
         Some(value) => gives_number(value, answer),
@@ -108,7 +110,8 @@ fn says_same(
     right: Handle,
     answer: &Answer,
 ) -> bool
-    ensures { result ≡ same_answer answer.now (Truth (option_eq nat_eq (slot_named machine.now mutator left) (slot_named machine.now mutator right))) }
+    ensures { result ≡ same_answer answer.now
+        (Truth (option_eq nat_eq (slot_named machine.now mutator left) (slot_named machine.now mutator right))) }
 {
     let x = named_slot(machine, mutator, left);
     let y = named_slot(machine, mutator, right);

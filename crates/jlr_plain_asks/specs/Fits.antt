@@ -2,9 +2,11 @@
 use Rattle.std.specs.Prelude.{Bool, List, [], ◌∷◌}
 use Rattle.jlr_machine.specs.declared.object.Object.{Object}
 use Rattle.jlr_machine.specs.Objects.{is_cleaner}
-use Rattle.jlr_machine.specs.Refusals.{Operand, is_any, is_plain, is_record, is_reference, is_queue, is_cleanable, is_guard}
+use Rattle.jlr_machine.specs.Refusals.{Operand, is_any, is_plain, is_record, is_reference, is_queue, is_cleanable}
+use Rattle.jlr_machine.specs.Refusals.{is_guard}
 use Rattle.jlr_plain_asks.specs.declared.operands.Fit.{Fit}
-use Rattle.jlr_plain_asks.specs.declared.operands.Fit.TheVariants.{Any, Plain, Record, Reference, Queue, Cleaner, Cleanable, Guard}
+use Rattle.jlr_plain_asks.specs.declared.operands.Fit.TheVariants.{Any, Plain, Record, Reference, Queue, Cleaner}
+use Rattle.jlr_plain_asks.specs.declared.operands.Fit.TheVariants.{Cleanable, Guard}
 use Rattle.jlr_plain_asks.specs.declared.operands.Named.{Named}
 use Rattle.jlr_plain_asks.specs.declared.operands.Operands.{Operands}
 use Rattle.jlr_plain_asks.specs.declared.operands.Operands.TheVariants.{Nothing, One, Two}

@@ -1,8 +1,11 @@
 //! What a machine holds, looked up in its tables and lists.
 ghost use Rattle.std.specs.Prelude.{◌≡◌, ◌≤◌, length, option_and_then, option_copied};
-ghost use Rattle.jlr_machine.specs.Objects.{at, occupied, as_fields, as_reference, as_members, as_cleanable, as_guard, is_unqueued, queue_ahead, value_at};
+ghost use Rattle.jlr_machine.specs.Objects.{at, occupied, as_fields, as_reference, as_members, as_cleanable, as_guard};
+ghost use Rattle.jlr_machine.specs.Objects.{is_unqueued, queue_ahead, value_at};
 ghost use Rattle.jlr_machine.specs.Edges.{slot_in};
-ghost use Rattle.jlr_machine.specs.Lookups.{slot_named, object_named, reference_named, members_named, guard_named, field_named, has_free_handle, same_name, slot_bound, job_of, resource_at, cleanable_at, cleanable_of_guard};
+ghost use Rattle.jlr_machine.specs.Lookups.{slot_named, object_named, reference_named, members_named, guard_named};
+ghost use Rattle.jlr_machine.specs.Lookups.{field_named, has_free_handle, same_name, slot_bound, job_of, resource_at};
+ghost use Rattle.jlr_machine.specs.Lookups.{cleanable_at, cleanable_of_guard};
 
 use jlr_machine::items::Items;
 use jlr_machine::machine::{Binding, Job, Machine, Resource, Session};

@@ -1,11 +1,17 @@
 //! Which asks are refused, and with which number.
-ghost use Rattle.std.specs.Prelude.{◌≡◌, ◌==◌, ◌&&◌, ◌||◌, Bool, not, ◌-◌, ◌^◌, is_none, option_and_then, find, length, nat_lt, nat_le};
+ghost use Rattle.std.specs.Prelude.{◌≡◌, ◌==◌, ◌&&◌, ◌||◌, Bool, not, ◌-◌, ◌^◌, is_none, option_and_then, find, length};
+ghost use Rattle.std.specs.Prelude.{nat_lt, nat_le};
 ghost use Rattle.std.specs.List.{list_any};
-ghost use Rattle.jlr_types.specs.declared.Refusal.TheVariants.{NoHandle, HandlesFull, WrongKind, NoField, WrongType, NoName, NamesFull, Busy, NoSession};
+ghost use Rattle.jlr_types.specs.declared.Refusal.TheVariants.{NoHandle, HandlesFull, WrongKind, NoField, WrongType};
+ghost use Rattle.jlr_types.specs.declared.Refusal.TheVariants.{NoName, NamesFull, Busy, NoSession};
 ghost use Rattle.jlr_types.specs.declared.FieldKind.TheVariants.{Int};
 ghost use Rattle.jlr_machine.specs.Objects.{at, some_and, is_spent};
-ghost use Rattle.jlr_machine.specs.Lookups.{resource_at, job_of, cleanable_at, guard_named, field_named, has_free_handle};
-ghost use Rattle.jlr_machine.specs.Refusals.{is_in_flight, is_opening, is_out_call, is_out_state, is_joined, has_call, names_no_object, is_wrongly_null, is_of_wrong_kind, is_closed, guard_is_closed, is_out, resource_is_out, no_such_call, holds, asker, operands, needs_handle, applies, listed, refusal};
+ghost use Rattle.jlr_machine.specs.Lookups.{resource_at, job_of, cleanable_at, guard_named, field_named};
+ghost use Rattle.jlr_machine.specs.Lookups.{has_free_handle};
+ghost use Rattle.jlr_machine.specs.Refusals.{is_in_flight, is_opening, is_out_call, is_out_state, is_joined, has_call};
+ghost use Rattle.jlr_machine.specs.Refusals.{names_no_object, is_wrongly_null, is_of_wrong_kind, is_closed};
+ghost use Rattle.jlr_machine.specs.Refusals.{guard_is_closed, is_out, resource_is_out, no_such_call, holds, asker};
+ghost use Rattle.jlr_machine.specs.Refusals.{operands, needs_handle, applies, listed, refusal};
 ghost use Rattle.jlr_plain_asks.specs.Fits.{test_of, operand_of, operands_in};
 
 use crate::given::given_by;
@@ -218,7 +224,8 @@ fn wrong_at(machine: &Machine, mutator: Mutator, x: FieldNamed) -> bool
 }
 
 fn field_wrong(machine: &Machine, mutator: Mutator, named: Option<FieldNamed>) -> bool
-    ensures { result ≡ some_and (λ x. some_and (λ v. not (holds x.kind v)) (field_named machine.now mutator x.object x.field)) named }
+    ensures { result ≡ some_and (λ x. some_and (λ v. not (holds x.kind v))
+        (field_named machine.now mutator x.object x.field)) named }
 {
     match named {
         Some(x) => wrong_at(machine, mutator, x),
@@ -304,7 +311,8 @@ fn is_out_now(state: ResourceState) -> bool
 }
 
 fn guarded_out(machine: &Machine, mutator: Mutator, guard: Handle) -> bool
-    ensures { result ≡ some_and (λ r. is_out_state r.state) (option_and_then (λ g. resource_at machine.now g.rid) (guard_named machine.now mutator guard)) }
+    ensures { result ≡ some_and (λ r. is_out_state r.state)
+        (option_and_then (λ g. resource_at machine.now g.rid) (guard_named machine.now mutator guard)) }
 {
     let Some(guard) = named_guard(machine, mutator, guard) else {
         return false;

@@ -1,5 +1,6 @@
 -- Changes that may be made in another order: what takes memory comes first.
-use Rattle.std.proofs.Common.{◌≡◌, ℕ, suc, zero, ◌+◌, ◌≤◌, true, false, List, [], ◌∷◌, Option, Some, None, option_map, option_and_then, length, drop, slice_get, refl, sym, ◌∙◌, ap, subst, arith}
+use Rattle.std.proofs.Common.{◌≡◌, ℕ, suc, zero, ◌+◌, ◌≤◌, true, false, List, [], ◌∷◌, Option, Some, None, option_map, option_and_then}
+use Rattle.std.proofs.Common.{length, drop, slice_get, refl, sym, ◌∙◌, ap, subst, arith}
 use Rattle.std.specs.Prelude.{if◌then◌else◌}
 use Rattle.std.proofs.lemmas.List.{drop-drop}
 use Rattle.jlr_machine.specs.declared.object.Object.{Object}
@@ -19,11 +20,13 @@ use Rattle.jlr_plain_changes.specs.declared.objects.Change.TheVariants.{Unrefer,
 
 -- ---- Two objects
 
-both : {A : Type 0} (f g : A → A) (o : Option A) → ((x : A) → g (f x) ≡ f (g x)) → option_map g (option_map f o) ≡ option_map f (option_map g o)
+both : {A : Type 0} (f g : A → A) (o : Option A) → ((x : A) → g (f x) ≡ f (g x))
+    → option_map g (option_map f o) ≡ option_map f (option_map g o)
 both f g None same = refl
 both {A} f g (Some x) same = ap {A = A} {B = Option A} (λ y. Some y) (same x)
 
-pub changes_commute : {A : Type 0} (t : Table A) (n k : ℕ) (f g : A → A) → ((x : A) → g (f x) ≡ f (g x)) → change_at (change_at t n f) k g ≡ change_at (change_at t k g) n f
+pub changes_commute : {A : Type 0} (t : Table A) (n k : ℕ) (f g : A → A) → ((x : A) → g (f x) ≡ f (g x))
+    → change_at (change_at t n f) k g ≡ change_at (change_at t k g) n f
 changes_commute [] n k f g same = refl
 changes_commute {A} (x ∷ xs) zero zero f g same = ap {A = Option A} {B = Table A} (λ o. o ∷ xs) (both f g x same)
 changes_commute (x ∷ xs) zero (suc k) f g same = refl
@@ -40,10 +43,12 @@ apart s f (Cleanable c) = refl
 apart s f (Guard g) = refl
 
 -- the queue grows, before the reference loses its referent and is enqueued
-grown_first : (m : Machine) (s q : ℕ) → with_object (with_object (with_object m q (appended s)) s (change_of Unrefer)) s (change_of Enqueue) ≡ to_queue (with_object m s (change_of Unrefer)) s (Some q)
+grown_first : (m : Machine) (s q : ℕ) → with_object (with_object (with_object m q (appended s)) s (change_of Unrefer)) s (change_of Enqueue)
+    ≡ to_queue (with_object m s (change_of Unrefer)) s (Some q)
 grown_first m s q =
     ap {A = Table Object} {B = Machine} (λ t. record m { objects = t })
-    (ap {A = Table Object} {B = Table Object} (λ t. change_at t s (change_of Enqueue)) (changes_commute m.objects q s (appended s) (change_of Unrefer) (λ o. apart s _ o))
+    (ap {A = Table Object} {B = Table Object} (λ t. change_at t s (change_of Enqueue))
+    (changes_commute m.objects q s (appended s) (change_of Unrefer) (λ o. apart s _ o))
     ∙ changes_commute (change_at m.objects s (change_of Unrefer)) q s (appended s) (change_of Enqueue) (λ o. apart s _ o))
 
 pub enqueued_by : (m : Machine) (s q : ℕ) → Some q ≡ option_and_then queue_ahead (option_and_then as_reference (at m.objects s))
@@ -52,12 +57,15 @@ enqueued_by m s q e = grown_first m s q ∙ ap {A = Option ℕ} {B = Machine} (�
 
 -- ---- The pending list
 
-queue_apart : (m : Machine) (rest : List ℕ) (s : ℕ) (q : Option ℕ) → to_queue (record m { pending = rest }) s q ≡ record (to_queue m s q) { pending = rest }
+queue_apart : (m : Machine) (rest : List ℕ) (s : ℕ) (q : Option ℕ)
+    → to_queue (record m { pending = rest }) s q ≡ record (to_queue m s q) { pending = rest }
 queue_apart m rest s None = refl
 queue_apart m rest s (Some q) = refl
 
-delivered_apart : (m : Machine) (rest : List ℕ) (s : ℕ) (h : Handed) → delivered (record m { pending = rest }) s h ≡ record (delivered m s h) { pending = rest }
-delivered_apart m rest s Queued = queue_apart (with_object m s (change_of Unrefer)) rest s (option_and_then queue_ahead (option_and_then as_reference (at m.objects s)))
+delivered_apart : (m : Machine) (rest : List ℕ) (s : ℕ) (h : Handed)
+    → delivered (record m { pending = rest }) s h ≡ record (delivered m s h) { pending = rest }
+delivered_apart m rest s Queued =
+    queue_apart (with_object m s (change_of Unrefer)) rest s (option_and_then queue_ahead (option_and_then as_reference (at m.objects s)))
 delivered_apart m rest s Lined = refl
 delivered_apart m rest s Skipped = refl
 delivered_apart m rest s Nothing = refl
@@ -67,7 +75,8 @@ queue_keeps m s None = refl
 queue_keeps m s (Some q) = refl
 
 delivered_keeps : (m : Machine) (s : ℕ) (h : Handed) → (delivered m s h).pending ≡ m.pending
-delivered_keeps m s Queued = queue_keeps (with_object m s (change_of Unrefer)) s (option_and_then queue_ahead (option_and_then as_reference (at m.objects s)))
+delivered_keeps m s Queued =
+    queue_keeps (with_object m s (change_of Unrefer)) s (option_and_then queue_ahead (option_and_then as_reference (at m.objects s)))
 delivered_keeps m s Lined = refl
 delivered_keeps m s Skipped = refl
 delivered_keeps m s Nothing = refl
@@ -78,7 +87,8 @@ left_last : (m : Machine) (rest : List ℕ) (s : ℕ) (o : Option Object) → o 
     ≡ elim o [ None ↦ record m { pending = rest } | Some x ↦ delivered (record m { pending = rest }) s (handed x) ]
 left_last m rest s None is e = ap {A = List ℕ} {B = Machine} (λ l. record m { pending = l }) e
 left_last m rest s (Some x) is e =
-    ap {A = List ℕ} {B = Machine} (λ l. record (delivered m s (handed x)) { pending = l }) (ap {A = List ℕ} {B = List ℕ} (drop 1) (delivered_keeps m s (handed x)) ∙ e)
+    ap {A = List ℕ} {B = Machine} (λ l. record (delivered m s (handed x)) { pending = l })
+    (ap {A = List ℕ} {B = List ℕ} (drop 1) (delivered_keeps m s (handed x)) ∙ e)
     ∙ sym (delivered_apart m rest s (handed x))
 
 first_is : (l : List ℕ) (s : ℕ) → slice_get l 0 ≡ Some s → l ≡ s ∷ drop 1 l
@@ -94,7 +104,8 @@ handed_by m n s first is =
 
 -- ---- The line
 
-work_apart : (m : Machine) (rest : List ℕ) (rid : Option ℕ) (state : ResourceState) → with_work_state (record m { line = rest }) rid state ≡ record (with_work_state m rid state) { line = rest }
+work_apart : (m : Machine) (rest : List ℕ) (rid : Option ℕ) (state : ResourceState)
+    → with_work_state (record m { line = rest }) rid state ≡ record (with_work_state m rid state) { line = rest }
 work_apart m rest None state = refl
 work_apart m rest (Some rid) state = refl
 
@@ -105,7 +116,8 @@ work_keeps m (Some rid) state = refl
 taken_keeps : (m : Machine) (s : ℕ) (c : CleanableOf) → (taken_up m 255 s c).line ≡ m.line
 taken_keeps m s c = work_keeps _ (rid_of c.work) Closing
 
-taken_apart : (m : Machine) (rest : List ℕ) (s : ℕ) (c : CleanableOf) → taken_up (record m { line = rest }) 255 s c ≡ record (taken_up m 255 s c) { line = rest }
+taken_apart : (m : Machine) (rest : List ℕ) (s : ℕ) (c : CleanableOf)
+    → taken_up (record m { line = rest }) 255 s c ≡ record (taken_up m 255 s c) { line = rest }
 taken_apart m rest s c = work_apart _ rest (rid_of c.work) Closing
 
 taken_last : (m : Machine) (k : ℕ) (rest : List ℕ) (s : ℕ) (o : Option CleanableOf) → drop k m.line ≡ rest
@@ -113,7 +125,8 @@ taken_last : (m : Machine) (k : ℕ) (rest : List ℕ) (s : ℕ) (o : Option Cle
     ≡ elim o [ None ↦ record m { line = rest } | Some c ↦ taken_up (record m { line = rest }) 255 s c ]
 taken_last m k rest s None e = ap {A = List ℕ} {B = Machine} (λ l. record m { line = l }) e
 taken_last m k rest s (Some c) e =
-    ap {A = List ℕ} {B = Machine} (λ l. record (taken_up m 255 s c) { line = l }) (ap {A = List ℕ} {B = List ℕ} (drop k) (taken_keeps m s c) ∙ e)
+    ap {A = List ℕ} {B = Machine} (λ l. record (taken_up m 255 s c) { line = l })
+    (ap {A = List ℕ} {B = List ℕ} (drop k) (taken_keeps m s c) ∙ e)
     ∙ sym (taken_apart m rest s c)
 
 -- those before the first Lined one
@@ -135,13 +148,15 @@ pub unlined_many : (m : Machine) (l : List ℕ) → length (from_lined m l) ≤ 
 unlined_many m l = let u = unlined m l in omega (arith, u.1)
 
 -- those before the first Lined one leave the line with it
-pub taken_by : (m n : Machine) (s before : ℕ) → slice_get (from_lined m m.line) 0 ≡ Some s → before + length (from_lined m m.line) ≡ length m.line
+pub taken_by : (m n : Machine) (s before : ℕ) → slice_get (from_lined m m.line) 0 ≡ Some s
+    → before + length (from_lined m m.line) ≡ length m.line
     → n ≡ taken_by_cleaner m s (cleanable_at m s) → record n { line = drop (before + 1) n.line } ≡ line_taken m (from_lined m m.line)
 taken_by m n s before first count is =
     let u = unlined m m.line in
     let same : u.0 ≡ before = omega (arith, count, u.1) in
     let lined : drop before m.line ≡ from_lined m m.line = subst (λ k. drop k m.line ≡ from_lined m m.line) same u.2 in
-    let rest : drop (before + 1) m.line ≡ drop 1 (from_lined m m.line) = sym (drop-drop 1 before m.line) ∙ ap {A = List ℕ} {B = List ℕ} (drop 1) lined in
+    let rest : drop (before + 1) m.line ≡ drop 1 (from_lined m m.line) = sym (drop-drop 1 before m.line)
+    ∙ ap {A = List ℕ} {B = List ℕ} (drop 1) lined in
     ap {A = Machine} {B = Machine} (λ x. record x { line = drop (before + 1) x.line }) is
     ∙ taken_last m (before + 1) (drop 1 (from_lined m m.line)) s (cleanable_at m s) rest
     ∙ sym (ap {A = List ℕ} {B = Machine} (line_taken m) (first_is (from_lined m m.line) s first))

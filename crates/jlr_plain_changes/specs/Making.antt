@@ -5,7 +5,8 @@ use Rattle.jlr_machine.specs.declared.machine.Machine.{Machine}
 use Rattle.jlr_machine.specs.declared.machine.Resource.{Resource}
 use Rattle.jlr_machine.specs.declared.machine.ResourceState.TheVariants.{Opening}
 use Rattle.jlr_machine.specs.declared.ask.Ask.{Ask}
-use Rattle.jlr_machine.specs.declared.ask.Ask.TheVariants.{New, MakeRef, MakeQueue, MakeCleaner, Register, Prepare, Array, Full, Collect}
+use Rattle.jlr_machine.specs.declared.ask.Ask.TheVariants.{New, MakeRef, MakeQueue, MakeCleaner, Register, Prepare}
+use Rattle.jlr_machine.specs.declared.ask.Ask.TheVariants.{Array, Full, Collect}
 use Rattle.jlr_machine.specs.declared.ask.Answer.{Answer}
 use Rattle.jlr_machine.specs.declared.ask.Answer.TheVariants.{Prepared}
 use Rattle.jlr_machine.specs.Lookups.{blank, with_resource}
@@ -27,11 +28,13 @@ comes_with _ = false
 
 -- the resources with the one of this Rid, Opening
 abbrev pub IsReadyFor : Machine → ℕ → List Resource → Type 0
-IsReadyFor m rid resources = resources ≡ with_resource m.resources (record { rid = rid; action = m.next_action; state = Opening })
+IsReadyFor m rid resources =
+    resources ≡ with_resource m.resources (record { rid = rid; action = m.next_action; state = Opening })
 
 -- the resources, where a Rid is given
 abbrev pub IsResourceReady : Machine → Answer → Ready → Type 0
-IsResourceReady m (Prepared rid) ready = ready ≡ Resources (with_resource m.resources (record { rid = rid; action = m.next_action; state = Opening }))
+IsResourceReady m (Prepared rid) ready =
+    ready ≡ Resources (with_resource m.resources (record { rid = rid; action = m.next_action; state = Opening }))
 IsResourceReady m a ready = Unit {0}
 
 -- what an ask takes memory for was made in this machine

@@ -2,9 +2,12 @@
 ghost use Rattle.std.specs.Prelude.{◌≡◌, ◌+◌, ◌^◌, ◌<◌, [], false, true, OnOk, OnErr};
 ghost use Rattle.jlr_types.specs.declared.FieldValue.TheVariants.{Ref};
 ghost use Rattle.jlr_machine.specs.Objects.{set_at, with_reference};
-ghost use Rattle.jlr_machine.specs.Lookups.{on, with_object, slot_named, guard_named, cleanable_at, cleanable_of_guard, job_of, bound, unbound};
+ghost use Rattle.jlr_machine.specs.Lookups.{on, with_object, slot_named, guard_named, cleanable_at, cleanable_of_guard};
+ghost use Rattle.jlr_machine.specs.Lookups.{job_of, bound, unbound};
 ghost use Rattle.jlr_machine.specs.Refusals.{given};
-ghost use Rattle.jlr_machine.specs.Calls.{fresh_session, with_given, field_set, unreferred, enqueued, poll_given, cleaned, guard_fenced, opened, checked_out, checked_in, finished, free_again, after};
+ghost use Rattle.jlr_machine.specs.Calls.{fresh_session, with_given, field_set, unreferred, enqueued, poll_given};
+ghost use Rattle.jlr_machine.specs.Calls.{cleaned, guard_fenced, opened, checked_out, checked_in, finished, free_again};
+ghost use Rattle.jlr_machine.specs.Calls.{after};
 ghost use Rattle.jlr_plain_changes.specs.Counts.{HaveRoom, HasNextAction};
 ghost use Rattle.jlr_plain_changes.specs.Making.{comes_with};
 
@@ -27,7 +30,8 @@ use jlr_types::{ActionNo, FieldNo, FieldValue, Handle, Mutator, Slot};
 use std::alloc::{AllocError, Global};
 
 fn join(alloc: Global, machine: &mut Machine, mutator: Mutator) -> Result<(), AllocError>
-    ensures ok { OnOk result (machine.new ≡ record machine.old { mutators = set_at machine.old.mutators mutator fresh_session }) }
+    ensures ok { OnOk result
+        (machine.new ≡ record machine.old { mutators = set_at machine.old.mutators mutator fresh_session }) }
     ensures err { OnErr result (machine.new ≡ machine.old) }
 {
     let session = new_session(alloc)?;
@@ -51,7 +55,8 @@ fn set_field(
 }
 
 fn clear(alloc: Global, machine: &mut Machine, mutator: Mutator, reference: Handle)
-    ensures { machine.new ≡ on (slot_named machine.old mutator reference) (λ s. with_object machine.old s (with_reference unreferred)) machine.old }
+    ensures { machine.new ≡ on (slot_named machine.old mutator reference)
+        (λ s. with_object machine.old s (with_reference unreferred)) machine.old }
 {
     if let Some(slot) = named_slot(machine, mutator, reference) {
         change_in(alloc, machine, slot, Change::Unrefer);
@@ -64,7 +69,8 @@ fn enqueue_named(
     mutator: Mutator,
     reference: Handle,
 ) -> Result<(), AllocError>
-    ensures ok { OnOk result (machine.new ≡ on (slot_named machine.old mutator reference) (enqueued machine.old) machine.old) }
+    ensures ok { OnOk result
+        (machine.new ≡ on (slot_named machine.old mutator reference) (enqueued machine.old) machine.old) }
     ensures err { OnErr result (machine.new ≡ machine.old) }
 {
     match named_slot(machine, mutator, reference) {
@@ -94,7 +100,8 @@ fn clean(
     slot: Option<Slot>,
 ) -> Result<(), AllocError>
     requires { machine.old.taken + 1 < 2 ^ 64 }
-    ensures ok { OnOk result (machine.new ≡ on slot (λ s. cleaned machine.old mutator s (cleanable_at machine.old s)) machine.old) }
+    ensures ok { OnOk result
+        (machine.new ≡ on slot (λ s. cleaned machine.old mutator s (cleanable_at machine.old s)) machine.old) }
     ensures err { OnErr result (machine.new ≡ machine.old) }
 {
     match slot {
@@ -109,7 +116,8 @@ fn open_fenced(
     mutator: Mutator,
     outcome: Outcome,
 ) -> Result<(), AllocError>
-    ensures ok { OnOk result (machine.new ≡ on (guard_fenced machine.old mutator) (λ g. opened machine.old mutator g outcome) machine.old) }
+    ensures ok { OnOk result (machine.new ≡ on (guard_fenced machine.old mutator)
+        (λ g. opened machine.old mutator g outcome) machine.old) }
     ensures err { OnErr result (machine.new ≡ machine.old) }
 {
     match fenced_guard(machine, mutator) {
@@ -124,7 +132,8 @@ fn check_out_named(
     mutator: Mutator,
     guard: Handle,
 ) -> Result<(), AllocError>
-    ensures ok { OnOk result (machine.new ≡ on (guard_named machine.old mutator guard) (checked_out machine.old mutator (slot_named machine.old mutator guard)) machine.old) }
+    ensures ok { OnOk result (machine.new ≡ on (guard_named machine.old mutator guard)
+        (checked_out machine.old mutator (slot_named machine.old mutator guard)) machine.old) }
     ensures err { OnErr result (machine.new ≡ machine.old) }
 {
     let fence = named_slot(machine, mutator, guard);
@@ -135,7 +144,8 @@ fn check_out_named(
 }
 
 fn check_in_fenced(alloc: Global, machine: &mut Machine, mutator: Mutator) -> Result<(), AllocError>
-    ensures ok { OnOk result (machine.new ≡ on (guard_fenced machine.old mutator) (checked_in machine.old mutator) machine.old) }
+    ensures ok { OnOk result
+        (machine.new ≡ on (guard_fenced machine.old mutator) (checked_in machine.old mutator) machine.old) }
     ensures err { OnErr result (machine.new ≡ machine.old) }
 {
     match fenced_guard(machine, mutator) {
@@ -153,7 +163,8 @@ fn finish_action(
 ) -> Result<(), AllocError>
     requires ok { machine.old.ok + 1 < 2 ^ 64 }
     requires failed { machine.old.failed + 1 < 2 ^ 64 }
-    ensures ok { OnOk result (machine.new ≡ on (job_of machine.old action) (λ job. free_again (finished machine.old job outcome) by) machine.old) }
+    ensures ok { OnOk result (machine.new ≡ on (job_of machine.old action)
+        (λ job. free_again (finished machine.old job outcome) by) machine.old) }
     ensures err { OnErr result (machine.new ≡ machine.old) }
 {
     match running_job(machine, action) {
@@ -183,7 +194,8 @@ fn bind(
     name: &Name,
     object: Handle,
 ) -> Result<(), AllocError>
-    ensures ok { OnOk result (machine.new ≡ on (slot_named machine.old mutator object) (λ s. record machine.old { names = bound machine.old.names name.now s }) machine.old) }
+    ensures ok { OnOk result (machine.new ≡ on (slot_named machine.old mutator object)
+        (λ s. record machine.old { names = bound machine.old.names name.now s }) machine.old) }
     ensures err { OnErr result (machine.new ≡ machine.old) }
 {
     match named_slot(machine, mutator, object) {
@@ -243,7 +255,8 @@ fn close(
     guard: Handle,
 ) -> Result<(), AllocError>
     requires { machine.old.taken + 1 < 2 ^ 64 }
-    ensures ok { OnOk result (machine.new ≡ on (cleanable_of_guard machine.old mutator guard) (λ s. cleaned machine.old mutator s (cleanable_at machine.old s)) machine.old) }
+    ensures ok { OnOk result (machine.new ≡ on (cleanable_of_guard machine.old mutator guard)
+        (λ s. cleaned machine.old mutator s (cleanable_at machine.old s)) machine.old) }
     ensures err { OnErr result (machine.new ≡ machine.old) }
 {
     let slot = guarded_cleanable(machine, mutator, guard);
@@ -257,7 +270,8 @@ fn clean_named(
     cleanable: Handle,
 ) -> Result<(), AllocError>
     requires { machine.old.taken + 1 < 2 ^ 64 }
-    ensures ok { OnOk result (machine.new ≡ on (slot_named machine.old mutator cleanable) (λ s. cleaned machine.old mutator s (cleanable_at machine.old s)) machine.old) }
+    ensures ok { OnOk result (machine.new ≡ on (slot_named machine.old mutator cleanable)
+        (λ s. cleaned machine.old mutator s (cleanable_at machine.old s)) machine.old) }
     ensures err { OnErr result (machine.new ≡ machine.old) }
 {
     let slot = named_slot(machine, mutator, cleanable);

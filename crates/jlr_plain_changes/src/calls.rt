@@ -1,7 +1,8 @@
 //! Calls on resources, and the ends of jobs.
 ghost use Rattle.std.specs.Prelude.{◌≡◌, ◌+◌, ◌^◌, ◌<◌, IfOk, OnOk, OnErr};
 ghost use Rattle.jlr_machine.specs.declared.ask.Outcome.TheVariants.{Ok as OutcomeOk, Failed};
-ghost use Rattle.jlr_machine.specs.Calls.{fence_of, guard_fenced, opened, checked_out, checked_in, noted, finished, free_again};
+ghost use Rattle.jlr_machine.specs.Calls.{fence_of, guard_fenced, opened, checked_out, checked_in, noted, finished};
+ghost use Rattle.jlr_machine.specs.Calls.{free_again};
 
 use crate::lists::{job_removed, last_with};
 use crate::objects::{Change, change_in};

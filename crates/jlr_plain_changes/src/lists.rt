@@ -96,7 +96,8 @@ pub fn resource_moved(
     rid: Rid,
     state: ResourceState,
 ) -> Result<Vec<Resource>, AllocError>
-    ensures { IfOk result (λ v. v.items ≡ map {A = ResourceOf} {B = ResourceOf} (λ r. if r.rid == rid then record r { state = state } else r) resources.now) }
+    ensures { IfOk result (λ v. v.items ≡ map {A = ResourceOf} {B = ResourceOf}
+        (λ r. if r.rid == rid then record r { state = state } else r) resources.now) }
 {
     let mut out = Vec::new(alloc);
     for resource in resources {

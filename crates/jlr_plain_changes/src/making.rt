@@ -163,7 +163,12 @@ fn new_reference(
     referent: Handle,
     queue: Handle,
 ) -> Reference
-    ensures { result ≡ record { kind = kind; referent = slot_named machine.now mutator referent; queue = slot_named machine.now mutator queue; state = Fresh } }
+    ensures { result ≡ record {
+      kind = kind;
+      referent = slot_named machine.now mutator referent;
+      queue = slot_named machine.now mutator queue;
+      state = Fresh;
+    } }
 {
     Reference {
         kind,
@@ -194,7 +199,8 @@ fn register(
     note: u32,
 )
     requires { machine.old.next_action + 1 < 2 ^ 64 }
-    ensures { machine.new ≡ record (made machine.old mutator fresh.now (registered machine.old mutator object note)) { next_action = machine.old.next_action + 1 } }
+    ensures { machine.new ≡ record (made machine.old mutator fresh.now
+        (registered machine.old mutator object note)) { next_action = machine.old.next_action + 1 } }
 {
     let next_action = machine.next_action + 1;
     let cleanable = new_cleanable(machine, mutator, object, note);

@@ -1,6 +1,7 @@
 //! Changes of one object.
 ghost use Rattle.std.specs.Prelude.{◌≡◌, [], None, drop, option_map, slice_set, OnOk, OnErr};
-ghost use Rattle.jlr_machine.specs.declared.object.Object.TheVariants.{Plain, Queue, Reference as ReferenceObject, Cleanable as CleanableObject};
+ghost use Rattle.jlr_machine.specs.declared.object.Object.TheVariants.{Plain, Queue, Reference as ReferenceObject};
+ghost use Rattle.jlr_machine.specs.declared.object.Object.TheVariants.{Cleanable as CleanableObject};
 ghost use Rattle.jlr_machine.specs.Objects.{at, change_at, with_element, with_value};
 ghost use Rattle.jlr_machine.specs.Lookups.{with_object};
 ghost use Rattle.jlr_plain_changes.specs.Changes.{appended, change_of};

@@ -35,7 +35,8 @@ fn queue_ahead_at(machine: &Machine, slot: Slot) -> Option<Slot>
     }
 }
 
-/// Takes the referent from the reference at the slot, and puts it to the end of its queue, if it may. The queue grows first.
+/// Takes the referent from the reference at the slot, and puts it to the end of its queue, if it may. The queue grows
+/// first.
 ///
 /// # Errors
 /// `AllocError` where there is no memory. The machine is then as it was.

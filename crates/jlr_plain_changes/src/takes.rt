@@ -1,7 +1,8 @@
 //! Take-ups of cleaning actions, and the resources that they work on.
 ghost use Rattle.std.specs.Prelude.{◌≡◌, ◌+◌, ◌^◌, ◌<◌, Some, drop, OnOk, OnErr};
 ghost use Rattle.jlr_machine.specs.Lookups.{with_call, with_state, without_resource, rid_of};
-ghost use Rattle.jlr_machine.specs.Calls.{with_work_state, without_work_resource, taken_up, cleaned, from_lined, line_taken};
+ghost use Rattle.jlr_machine.specs.Calls.{with_work_state, without_work_resource, taken_up, cleaned, from_lined};
+ghost use Rattle.jlr_machine.specs.Calls.{line_taken};
 ghost use Rattle.jlr_plain_changes.specs.Changes.{taken_by_cleaner};
 
 use crate::lists::{job_added, resource_moved, resource_removed};

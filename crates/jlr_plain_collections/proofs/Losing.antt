@@ -7,7 +7,8 @@ use Rattle.jlr_laws.specs.Deciding.{goes_out, loses_referent}
 use Rattle.jlr_laws.proofs.Checks.{at_beyond}
 use Rattle.jlr_laws.proofs.Sets.{all_gives}
 
-pub lose_below : (heap : Heap) (kept pending : List ℕ) → list_all (loses_referent heap kept) pending ≡ true → (s : ℕ) → s ∈ pending → s < length heap
+pub lose_below : (heap : Heap) (kept pending : List ℕ) → list_all (loses_referent heap kept) pending ≡ true → (s : ℕ) → s ∈ pending
+    → s < length heap
 lose_below heap kept pending h s m =
     let parts = and_parts (kept ∋ s) (some_and (goes_out kept) (at heap s)) (all_gives (loses_referent heap kept) pending s h m) in
     elim (cases_lt s (length heap)) [

@@ -1,5 +1,6 @@
 -- What marking adds, slot by slot, until nothing is left to look at.
-use Rattle.std.proofs.Common.{◌≡◌, ℕ, zero, suc, ◌+◌, ◌-◌, ◌<◌, ◌⊎◌, inl, inr, Bool, true, false, not, cond, List, [], ◌∷◌, ◌++◌, length, take, get_or, set, replicate, refl, sym, ◌∙◌, ap, subst, arith, length-set, None, option_to_list}
+use Rattle.std.proofs.Common.{◌≡◌, ℕ, zero, suc, ◌+◌, ◌-◌, ◌<◌, ◌⊎◌, inl, inr, Bool, true, false, not, cond, List, [], ◌∷◌, ◌++◌, length}
+use Rattle.std.proofs.Common.{take, get_or, set, replicate, refl, sym, ◌∙◌, ap, subst, arith, length-set, None, option_to_list}
 use Rattle.std.specs.List.{flat_map}
 use Rattle.std.proofs.lemmas.Bool.{both_ways, cases_eq, not-true}
 use Rattle.std.proofs.lemmas.List.{take_more, get_or-set_same, get_or-set_other, length-replicate, length-append}
@@ -56,16 +57,23 @@ marked_below (b ∷ marks) (suc s) m = let h = marked_below marks s m in omega (
 
 -- ---- Lists
 
-pub in_taken : (slots : List ℕ) (i x s : ℕ) → i < length slots → x ≡ get_or slots i x → s ∈ take (i + 1) slots → (s ∈ take i slots) ⊎ (s ≡ x)
-in_taken slots i x s h e m = elim (in_append s (take i slots) (x ∷ []) (subst (λ l. s ∈ l) (take_more slots i x h ∙ ap (λ y. take i slots ++ y ∷ []) (sym e)) m)) [
-  | inl a ↦ inl a
-  | inr b ↦ elim (in_cons s x [] b) [ inl same ↦ inr same | inr c ↦ nothing s c ]
-]
+pub in_taken : (slots : List ℕ) (i x s : ℕ) → i < length slots → x ≡ get_or slots i x → s ∈ take (i + 1) slots → (s ∈ take i slots)
+    ⊎ (s ≡ x)
+in_taken slots i x s h e m =
+    elim (in_append s (take i slots) (x ∷ []) (subst (λ l. s ∈ l) (take_more slots i x h ∙ ap (λ y. take i slots ++ y ∷ []) (sym e)) m)) [
+      | inl a ↦ inl a
+      | inr b ↦ elim (in_cons s x [] b) [ inl same ↦ inr same | inr c ↦ nothing s c ]
+    ]
 
-pub taken_in : (slots : List ℕ) (i x s : ℕ) → i < length slots → x ≡ get_or slots i x → (s ∈ take i slots) ⊎ (s ≡ x) → s ∈ take (i + 1) slots
+pub taken_in : (slots : List ℕ) (i x s : ℕ) → i < length slots → x ≡ get_or slots i x → (s ∈ take i slots) ⊎ (s ≡ x)
+    → s ∈ take (i + 1) slots
 taken_in slots i x s h e m =
     subst (λ l. s ∈ l) (sym (take_more slots i x h ∙ ap (λ y. take i slots ++ y ∷ []) (sym e)))
-    (elim m as (λ _. s ∈ (take i slots ++ x ∷ [])) [ inl a ↦ in_left s (take i slots) (x ∷ []) a | inr same ↦ in_right s (take i slots) (x ∷ []) (in_front s x [] same) ])
+    (elim m as (λ _. s ∈ (take i slots ++ x ∷ [])) [
+      | inl a ↦ in_left s (take i slots) (x ∷ []) a
+      | inr same ↦
+          in_right s (take i slots) (x ∷ []) (in_front s x [] same)
+    ])
 
 pub at_in : (slots : List ℕ) (i x : ℕ) → i < length slots → x ≡ get_or slots i x → x ∈ slots
 at_in [] i x h e = absurd (omega (arith, h))
@@ -81,23 +89,27 @@ last_or s x rest m = elim (in_append s rest (x ∷ []) m) [
 
 -- ---- One slot
 
-pub greyed_new : (old new : List Bool) (before after : List ℕ) (x : ℕ) → x < length old → new ≡ set old x true → is_marked old x ≡ false → after ≡ before ++ x ∷ [] → Greyed (λ s. s ≡ x) old before new after
+pub greyed_new : (old new : List Bool) (before after : List ℕ) (x : ℕ) → x < length old → new ≡ set old x true → is_marked old x ≡ false
+    → after ≡ before ++ x ∷ [] → Greyed (λ s. s ≡ x) old before new after
 greyed_new old new before after x h n un a =
     record {
       long = ap length n ∙ length-set old x true;
       only = λ s m. marked_back old x s (subst (λ l. IsMarked l s) n m);
       stay = λ s m. subst (λ l. IsMarked l s) (sym n) (marked_more old x s h m);
-      added = λ s e. subst (λ l. IsMarked l s) (sym n) (subst (λ k. IsMarked (set old x true) k) (sym e) (get_or-set_same old x true false h));
+      added = λ s e. subst (λ l. IsMarked l s) (sym n)
+          (subst (λ k. IsMarked (set old x true) k) (sym e) (get_or-set_same old x true false h));
       waiting = λ s m. subst (λ l. s ∈ l) (sym a) (in_left s before (x ∷ []) m);
       listed = λ s m. elim (last_or s x before (subst (λ l. s ∈ l) a m)) [
         | inl b ↦ inl b
-        | inr e ↦ inr (subst (λ l. IsMarked l s) (sym n) (subst (λ k. IsMarked (set old x true) k) (sym e) (get_or-set_same old x true false h)))
+        | inr e ↦ inr (subst (λ l. IsMarked l s) (sym n)
+            (subst (λ k. IsMarked (set old x true) k) (sym e) (get_or-set_same old x true false h)))
       ];
       fresh = λ s m. elim (marked_back old x s (subst (λ l. IsMarked l s) n m)) [
         | inl b ↦ inl b
         | inr e ↦ inr (subst (λ l. s ∈ l) (sym a) (in_right s before (x ∷ []) (in_front s x [] e)))
       ];
-      count = (let c = count_marks old x h un in let e = ap marked n in let l = ap length a ∙ length-append before (x ∷ []) in omega (arith, c, e, l));
+      count = (let c = count_marks old x h un in let e = ap marked n in let l = ap length a ∙ length-append before (x ∷ []) in
+          omega (arith, c, e, l));
     }
 
 greyed_same : (old new : List Bool) (todo : List ℕ) (x : ℕ) → new ≡ old → is_marked old x ≡ true → Greyed (λ s. s ≡ x) old todo new todo
@@ -113,7 +125,8 @@ greyed_same old new todo x n on =
       count = (let e = ap marked n in omega (arith, e));
     }
 
-pub greyed_old : (old new : List Bool) (todo : List ℕ) (x : ℕ) → x < length old → new ≡ set old x true → is_marked old x ≡ true → Greyed (λ s. s ≡ x) old todo new todo
+pub greyed_old : (old new : List Bool) (todo : List ℕ) (x : ℕ) → x < length old → new ≡ set old x true → is_marked old x ≡ true
+    → Greyed (λ s. s ≡ x) old todo new todo
 greyed_old old new todo x h n on = greyed_same old new todo x (n ∙ ap (set old x) (sym on) ∙ set_same old x h) on
 
 pub was_unmarked : (old : List Bool) (x : ℕ) (r : Bool) → r ≡ not (is_marked old x) → r ≡ true → is_marked old x ≡ false
@@ -130,13 +143,23 @@ was_marked old x r e t = not_false (is_marked old x) (sym e ∙ t)
 
 pub greyed_none : (T : ℕ → Type 0) (marks : List Bool) (todo : List ℕ) → ((s : ℕ) → ¬ (T s)) → Greyed T marks todo marks todo
 greyed_none T marks todo none =
-    record { long = refl; only = λ s m. inl m; stay = λ s m. m; added = λ s t. absurd (none s t); waiting = λ s m. m; listed = λ s m. inl m; fresh = λ s m. inl m; count = refl }
+    record {
+      long = refl;
+      only = λ s m. inl m;
+      stay = λ s m. m;
+      added = λ s t. absurd (none s t);
+      waiting = λ s m. m;
+      listed = λ s m. inl m;
+      fresh = λ s m. inl m;
+      count = refl;
+    }
 
 pub greyed_begins : (slots : List ℕ) (marks : List Bool) (todo : List ℕ) → Greyed (λ s. s ∈ take 0 slots) marks todo marks todo
 greyed_begins slots marks todo = greyed_none (λ s. s ∈ take 0 slots) marks todo (λ s m. nothing s m)
 
 -- for just the same slots
-pub greyed_for : (T U : ℕ → Type 0) (old : List Bool) (before : List ℕ) (new : List Bool) (after : List ℕ) → ((s : ℕ) → T s → U s) → ((s : ℕ) → U s → T s) → Greyed T old before new after → Greyed U old before new after
+pub greyed_for : (T U : ℕ → Type 0) (old : List Bool) (before : List ℕ) (new : List Bool) (after : List ℕ) → ((s : ℕ) → T s → U s)
+    → ((s : ℕ) → U s → T s) → Greyed T old before new after → Greyed U old before new after
 greyed_for T U old before new after f g k =
     record {
       long = k.long;
@@ -149,7 +172,10 @@ greyed_for T U old before new after f g k =
       count = k.count;
     }
 
-pub greyed_more : (slots : List ℕ) (i x : ℕ) → i < length slots → x ≡ get_or slots i x → (old : List Bool) (before : List ℕ) (now : List Bool) (then : List ℕ) (new : List Bool) (after : List ℕ) → Greyed (λ s. s ∈ take i slots) old before now then → Greyed (λ s. s ≡ x) now then new after → Greyed (λ s. s ∈ take (i + 1) slots) old before new after
+pub greyed_more : (slots : List ℕ) (i x : ℕ) → i < length slots → x ≡ get_or slots i x
+    → (old : List Bool) (before : List ℕ) (now : List Bool) (then : List ℕ) (new : List Bool) (after : List ℕ)
+    → Greyed (λ s. s ∈ take i slots) old before now then → Greyed (λ s. s ≡ x) now then new after
+    → Greyed (λ s. s ∈ take (i + 1) slots) old before new after
 greyed_more slots i x h e old before now then new after p q =
     record {
       long = q.long ∙ p.long;
@@ -173,23 +199,32 @@ greyed_more slots i x h e old before now then new after p q =
 
 -- ---- The edges of one slot in the heap with the kept objects alone
 
-edges_kept : (chain : Chain) (heap : Heap) (kept : List ℕ) (x : ℕ) → (kept ∋ x) ≡ true → edges_from chain (only kept heap) x ≡ edges_from chain heap x
-edges_kept chain heap kept x m = ap (λ o. flat_map (edges chain) (option_to_list o)) (at-only kept heap x ∙ ap (λ b. cond b (at heap x) None) m)
+edges_kept : (chain : Chain) (heap : Heap) (kept : List ℕ) (x : ℕ) → (kept ∋ x) ≡ true
+    → edges_from chain (only kept heap) x ≡ edges_from chain heap x
+edges_kept chain heap kept x m =
+    ap (λ o. flat_map (edges chain) (option_to_list o)) (at-only kept heap x ∙ ap (λ b. cond b (at heap x) None) m)
 
 edges_gone : (chain : Chain) (heap : Heap) (kept : List ℕ) (x : ℕ) → (kept ∋ x) ≡ false → edges_from chain (only kept heap) x ≡ []
-edges_gone chain heap kept x m = ap (λ o. flat_map (edges chain) (option_to_list o)) (at-only kept heap x ∙ ap (λ b. cond b (at heap x) None) m)
+edges_gone chain heap kept x m =
+    ap (λ o. flat_map (edges chain) (option_to_list o)) (at-only kept heap x ∙ ap (λ b. cond b (at heap x) None) m)
 
-pub spreads : (chain : Chain) (heap : Heap) (kept : List ℕ) (x : ℕ) (slots : List ℕ) (old : List Bool) (before : List ℕ) (new : List Bool) (after : List ℕ) → (kept ∋ x) ≡ true → slots ≡ edges_from chain heap x → Greyed (λ s. s ∈ slots) old before new after → Greyed (λ s. s ∈ edges_from chain (only kept heap) x) old before new after
+pub spreads : (chain : Chain) (heap : Heap) (kept : List ℕ) (x : ℕ) (slots : List ℕ) (old : List Bool) (before : List ℕ) (new : List Bool)
+    (after : List ℕ) → (kept ∋ x) ≡ true → slots ≡ edges_from chain heap x → Greyed (λ s. s ∈ slots) old before new after
+    → Greyed (λ s. s ∈ edges_from chain (only kept heap) x) old before new after
 spreads chain heap kept x slots old before new after m e k =
     let same : slots ≡ edges_from chain (only kept heap) x = e ∙ sym (edges_kept chain heap kept x m) in
-    greyed_for (λ s. s ∈ slots) (λ s. s ∈ edges_from chain (only kept heap) x) old before new after (λ s t. subst (λ l. s ∈ l) same t) (λ s t. subst (λ l. s ∈ l) (sym same) t) k
+    greyed_for (λ s. s ∈ slots) (λ s. s ∈ edges_from chain (only kept heap) x) old before new after (λ s t. subst (λ l. s ∈ l) same t)
+    (λ s t. subst (λ l. s ∈ l) (sym same) t) k
 
-pub spreads_gone : (chain : Chain) (heap : Heap) (kept : List ℕ) (x : ℕ) (marks : List Bool) (todo : List ℕ) → (kept ∋ x) ≡ false → Greyed (λ s. s ∈ edges_from chain (only kept heap) x) marks todo marks todo
-spreads_gone chain heap kept x marks todo m = greyed_none (λ s. s ∈ edges_from chain (only kept heap) x) marks todo (λ s t. nothing s (subst (λ l. s ∈ l) (edges_gone chain heap kept x m) t))
+pub spreads_gone : (chain : Chain) (heap : Heap) (kept : List ℕ) (x : ℕ) (marks : List Bool) (todo : List ℕ) → (kept ∋ x) ≡ false
+    → Greyed (λ s. s ∈ edges_from chain (only kept heap) x) marks todo marks todo
+spreads_gone chain heap kept x marks todo m = greyed_none (λ s. s ∈ edges_from chain (only kept heap) x) marks todo
+    (λ s t. nothing s (subst (λ l. s ∈ l) (edges_gone chain heap kept x m) t))
 
 -- ---- Until nothing is left to look at
 
--- Marked is only what the chain reaches from B. The edges of what is marked lead to what is marked, but for the slots that were not looked at
+-- Marked is only what the chain reaches from B. The edges of what is marked lead to what is marked, but for the slots that were not looked
+-- at
 pub record IsMarking (chain : Chain) (heap : Heap) (B : List ℕ) (marks : List Bool) (todo : List ℕ) : Type 0 where
   pub long : length marks ≡ length heap
   pub sound : (s : ℕ) → IsMarked marks s → IsReached chain heap B s
@@ -197,17 +232,25 @@ pub record IsMarking (chain : Chain) (heap : Heap) (B : List ℕ) (marks : List 
   pub waiting : (s : ℕ) → s ∈ todo → IsMarked marks s
   pub closed : (x s : ℕ) → IsMarked marks x → s ∈ edges_from chain heap x → (x ∈ todo) ⊎ IsMarked marks s
 
-pub marking_begins : (chain : Chain) (heap : Heap) (B : List ℕ) (n : ℕ) (marks : List Bool) (todo : List ℕ) → n ≡ length heap → Greyed (λ s. s ∈ B) (replicate n false) [] marks todo → IsMarking chain heap B marks todo
+pub marking_begins : (chain : Chain) (heap : Heap) (B : List ℕ) (n : ℕ) (marks : List Bool) (todo : List ℕ) → n ≡ length heap
+    → Greyed (λ s. s ∈ B) (replicate n false) [] marks todo → IsMarking chain heap B marks todo
 marking_begins chain heap B n marks todo e m =
     record {
       long = m.long ∙ length-replicate n false ∙ e;
-      sound = λ s k. elim (m.only s k) [ inl a ↦ absurd (both_ways (is_marked (replicate n false) s) (unmarked_at n s) a) | inr t ↦ at_base chain heap B s t ];
+      sound = λ s k. elim (m.only s k) [
+        | inl a ↦ absurd (both_ways (is_marked (replicate n false) s) (unmarked_at n s) a)
+        | inr t ↦
+            at_base chain heap B s t
+      ];
       base = λ s b. m.added s b;
       waiting = λ s b. elim (m.listed s b) [ inl a ↦ nothing s a | inr t ↦ t ];
-      closed = λ x s k f. elim (m.fresh x k) [ inl a ↦ absurd (both_ways (is_marked (replicate n false) x) (unmarked_at n x) a) | inr t ↦ inl t ];
+      closed = λ x s k f.
+          elim (m.fresh x k) [ inl a ↦ absurd (both_ways (is_marked (replicate n false) x) (unmarked_at n x) a) | inr t ↦ inl t ];
     }
 
-pub marking_goes_on : (chain : Chain) (heap : Heap) (B : List ℕ) (x : ℕ) (old : List Bool) (todo rest : List ℕ) (new : List Bool) (after : List ℕ) → todo ≡ rest ++ x ∷ [] → IsMarking chain heap B old todo → Greyed (λ s. s ∈ edges_from chain heap x) old rest new after → IsMarking chain heap B new after
+pub marking_goes_on : (chain : Chain) (heap : Heap) (B : List ℕ) (x : ℕ) (old : List Bool) (todo rest : List ℕ) (new : List Bool)
+    (after : List ℕ) → todo ≡ rest ++ x ∷ [] → IsMarking chain heap B old todo
+    → Greyed (λ s. s ∈ edges_from chain heap x) old rest new after → IsMarking chain heap B new after
 marking_goes_on chain heap B x old todo rest new after t w g =
     let here : IsMarked old x = w.waiting x (subst (λ l. x ∈ l) (sym t) (in_right x rest (x ∷ []) (in_front x x [] refl))) in
     record {
@@ -233,7 +276,8 @@ marking_goes_on chain heap B x old todo rest new after t w g =
       ];
     }
 
-pub fewer_left : (T : ℕ → Type 0) (n x : ℕ) (old : List Bool) (todo rest : List ℕ) (new : List Bool) (after : List ℕ) → length old ≡ n → todo ≡ rest ++ x ∷ [] → Greyed T old rest new after → (n - marked new) + length after < (n - marked old) + length todo
+pub fewer_left : (T : ℕ → Type 0) (n x : ℕ) (old : List Bool) (todo rest : List ℕ) (new : List Bool) (after : List ℕ) → length old ≡ n
+    → todo ≡ rest ++ x ∷ [] → Greyed T old rest new after → (n - marked new) + length after < (n - marked old) + length todo
 fewer_left T n x old todo rest new after long t g =
     let m = count_by-le-length (λ b. b) new in
     let l = g.long in
@@ -241,10 +285,12 @@ fewer_left T n x old todo rest new after long t g =
     let k = ap length t ∙ length-append rest (x ∷ []) in
     omega (arith, m, l, c, k, long)
 
-pub marking_ends : (chain : Chain) (heap : Heap) (kept B : List ℕ) (marks : List Bool) (todo : List ℕ) → todo ≡ [] → IsWithinHeap heap B → IsMarking chain (only kept heap) B marks todo → (s : ℕ) → is_marked marks s ≡ (reach_set chain (only kept heap) B ∋ s)
+pub marking_ends : (chain : Chain) (heap : Heap) (kept B : List ℕ) (marks : List Bool) (todo : List ℕ) → todo ≡ [] → IsWithinHeap heap B
+    → IsMarking chain (only kept heap) B marks todo → (s : ℕ) → is_marked marks s ≡ (reach_set chain (only kept heap) B ∋ s)
 marking_ends chain heap kept B marks todo none w k s =
     let d = Decides-inside chain heap kept B w s in
     let closed : (x y : ℕ) → IsMarked marks x → y ∈ edges_from chain (only kept heap) x → IsMarked marks y =
     λ x y m e. elim (k.closed x y m e) [ inl t ↦ nothing x (subst (λ l. x ∈ l) none t) | inr b ↦ b ] in
     same_bools (is_marked marks s) (reach_set chain (only kept heap) B ∋ s) (λ m. d.1 (k.sound s m))
-    (λ m. carried chain (only kept heap) B (IsMarked marks) (λ x y h e. closed x y h (edge_from chain (only kept heap) x y e)) k.base s (d.0 m))
+    (λ m. carried chain (only kept heap) B (IsMarked marks) (λ x y h e. closed x y h (edge_from chain (only kept heap) x y e)) k.base s
+    (d.0 m))

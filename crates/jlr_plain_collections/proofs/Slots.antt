@@ -1,5 +1,6 @@
 -- Lemmas on all slots of a heap, and on what was seen.
-use Rattle.std.proofs.Common.{◌≡◌, ℕ, zero, suc, ◌+◌, ◌<◌, ◌≤◌, Bool, ◌||◌, List, [], ◌∷◌, ◌++◌, length, filter, refl, sym, ◌∙◌, ap, subst, arith, Option, None, cond}
+use Rattle.std.proofs.Common.{◌≡◌, ℕ, zero, suc, ◌+◌, ◌<◌, ◌≤◌, Bool, ◌||◌, List, [], ◌∷◌, ◌++◌, length, filter, refl, sym, ◌∙◌, ap, subst}
+use Rattle.std.proofs.Common.{arith, Option, None, cond}
 use Rattle.std.proofs.lemmas.Bool.{cond-true}
 use Rattle.jlr_machine.specs.declared.object.Object.{Object}
 use Rattle.jlr_machine.specs.Objects.{Heap, ◌∋◌, ◌∈◌}
@@ -23,7 +24,8 @@ slots_more n = let next : suc n ≡ n + 1 = omega arith in subst (λ m. up_to 0 
 places_all : (kept : List ℕ) (n : ℕ) (heap : Heap) → ((s : ℕ) → n ≤ s → s < n + length heap → s ∈ kept) → places_kept kept n heap ≡ heap
 places_all kept n [] h = refl
 places_all kept n (o ∷ heap) h =
-    ap {A = Option Object} {B = Heap} (λ p. p ∷ places_kept kept (suc n) heap) (cond-true (kept ∋ n) o None (h n (omega arith) (omega arith)))
+    ap {A = Option Object} {B = Heap} (λ p. p ∷ places_kept kept (suc n) heap)
+    (cond-true (kept ∋ n) o None (h n (omega arith) (omega arith)))
     ∙ ap {A = Heap} {B = Heap} (λ l. o ∷ l) (places_all kept (suc n) heap (λ s a b. h s (omega (arith, a)) (omega (arith, b))))
 
 -- all slots keep the whole heap
@@ -41,14 +43,17 @@ filter_same p q (x ∷ xs) h =
 pub slot_pushed : (i : ℕ) (now new : List ℕ) → now ≡ up_to 0 i → new ≡ now ++ i ∷ [] → new ≡ up_to 0 (i + 1)
 slot_pushed i now new n a = a ∙ ap {A = List ℕ} {B = List ℕ} (λ l. l ++ i ∷ []) n ∙ sym (slots_more i)
 
-pub slot_filtered : (p : ℕ → Bool) (i : ℕ) (now new : List ℕ) → now ≡ filter p (up_to 0 i) → new ≡ now ++ cond (p i) (i ∷ []) [] → new ≡ filter p (up_to 0 (i + 1))
+pub slot_filtered : (p : ℕ → Bool) (i : ℕ) (now new : List ℕ) → now ≡ filter p (up_to 0 i) → new ≡ now ++ cond (p i) (i ∷ []) []
+    → new ≡ filter p (up_to 0 (i + 1))
 slot_filtered p i now new n a =
     a ∙ ap {A = List ℕ} {B = List ℕ} (λ l. l ++ cond (p i) (i ∷ []) []) n
     ∙ sym (ap {A = List ℕ} {B = List ℕ} (filter p) (slots_more i) ∙ filter-append p (up_to 0 i) (i ∷ []))
 
 -- marks that are what is reached
-pub seen_by_marks : (seen reach : List ℕ) (marks : List Bool) (n : ℕ) → ((s : ℕ) → is_marked marks s ≡ (reach ∋ s)) → filter (λ s. (seen ∋ s) || is_marked marks s) (up_to 0 n) ≡ seen_with seen reach n
-seen_by_marks seen reach marks n h = filter_same (λ s. (seen ∋ s) || is_marked marks s) (λ s. (seen ∋ s) || (reach ∋ s)) (up_to 0 n) (λ s. ap (λ b. (seen ∋ s) || b) (h s))
+pub seen_by_marks : (seen reach : List ℕ) (marks : List Bool) (n : ℕ) → ((s : ℕ) → is_marked marks s ≡ (reach ∋ s))
+    → filter (λ s. (seen ∋ s) || is_marked marks s) (up_to 0 n) ≡ seen_with seen reach n
+seen_by_marks seen reach marks n h =
+    filter_same (λ s. (seen ∋ s) || is_marked marks s) (λ s. (seen ∋ s) || (reach ∋ s)) (up_to 0 n) (λ s. ap (λ b. (seen ∋ s) || b) (h s))
 
 -- what was marked among all slots is what is reached
 pub roots_marked : (heap : Heap) (B base kept : List ℕ) (marks passed : List Bool)
@@ -56,8 +61,10 @@ pub roots_marked : (heap : Heap) (B base kept : List ℕ) (marks passed : List B
     → ((s : ℕ) → is_marked marks s ≡ (reach_set UpToSoft (only kept heap) base ∋ s))
     → (s : ℕ) → is_marked passed s ≡ (reach_set UpToSoft heap B ∋ s)
 roots_marked heap B base kept marks passed b k p h s =
-    ap {A = List Bool} {B = Bool} (λ x. is_marked x s) p ∙ h s ∙ ap {A = List ℕ} {B = Bool} (λ x. reach_set UpToSoft (only x heap) base ∋ s) k
-    ∙ ap {A = Heap} {B = Bool} (λ x. reach_set UpToSoft x base ∋ s) (only_all heap) ∙ ap {A = List ℕ} {B = Bool} (λ x. reach_set UpToSoft heap x ∋ s) b
+    ap {A = List Bool} {B = Bool} (λ x. is_marked x s) p ∙ h s
+    ∙ ap {A = List ℕ} {B = Bool} (λ x. reach_set UpToSoft (only x heap) base ∋ s) k
+    ∙ ap {A = Heap} {B = Bool} (λ x. reach_set UpToSoft x base ∋ s) (only_all heap)
+    ∙ ap {A = List ℕ} {B = Bool} (λ x. reach_set UpToSoft heap x ∋ s) b
 
 pub seen_found : (seen reach found : List ℕ) (marks passed : List Bool) (n m : ℕ) (out : List ℕ)
     → found ≡ seen → passed ≡ marks → n ≡ m

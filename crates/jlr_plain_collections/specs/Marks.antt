@@ -17,7 +17,8 @@ marked marks = count_by (λ b. b) marks
 abbrev pub IsTable : List ℕ → List Bool → Type 0
 IsTable slots marks = (s : ℕ) → s < length marks → is_marked marks s ≡ (slots ∋ s)
 
--- just the members of T are marked too, and those of them that are new go to the others on the list of what was not looked at
+-- just the members of T are marked too, and those of them that are new go to the others on the list of what was not
+-- looked at
 pub record Greyed (T : ℕ → Type 0) (old : List Bool) (before : List ℕ) (new : List Bool) (after : List ℕ) : Type 0 where
   pub long : length new ≡ length old
   pub only : (s : ℕ) → IsMarked new s → IsMarked old s ⊎ T s

@@ -8,7 +8,8 @@ ghost use Rattle.jlr_machine.specs.ReachSet.{reach_set};
 ghost use Rattle.jlr_machine.specs.Edges.Chain.{Strong};
 ghost use Rattle.jlr_plain_collections.specs.Marks.{is_marked, IsTable, chain_of};
 ghost use Rattle.jlr_laws.specs.Laws.{IsWithinHeap, only};
-ghost use Rattle.jlr_laws.specs.Deciding.{cuts_off, cuts_off_in_background, holds_all, are_objects, is_closed, goes_out, loses_referent, hands_over};
+ghost use Rattle.jlr_laws.specs.Deciding.{cuts_off, cuts_off_in_background, holds_all, are_objects, is_closed};
+ghost use Rattle.jlr_laws.specs.Deciding.{goes_out, loses_referent, hands_over};
 
 use crate::edges::list_edges;
 use crate::listed::{SlotList, unmarked};
@@ -230,7 +231,8 @@ fn inside(
     softly: bool,
 ) -> Result<bool, AllocError>
     requires { IsWithinHeap objects.now base.now }
-    ensures { IfOk result (λ b. b ≡ holds_all (reach_set (chain_of softly) (only kept.now objects.now) base.now) kept.now) }
+    ensures { IfOk result
+        (λ b. b ≡ holds_all (reach_set (chain_of softly) (only kept.now objects.now) base.now) kept.now) }
 {
     let mut marks = unmarked(alloc, objects.len())?;
     mark_reached(alloc, objects, base, kept, &mut marks, softly)?;

@@ -3,7 +3,8 @@ ghost use Rattle.std.specs.Prelude.{◌≡◌, ◌++◌, cond, false, option_map
 ghost use Rattle.jlr_machine.specs.Objects.{◌∋◌};
 ghost use Rattle.jlr_machine.specs.Collection.{is_kept_referent, left_of, places_left, after_collection};
 ghost use Rattle.jlr_machine.specs.Run.{with_collection};
-ghost use Rattle.jlr_machine.specs.declared.object.Object.TheVariants.{Reference as ReferenceObject, Cleanable as CleanableObject};
+ghost use Rattle.jlr_machine.specs.declared.object.Object.TheVariants.{Reference as ReferenceObject};
+ghost use Rattle.jlr_machine.specs.declared.object.Object.TheVariants.{Cleanable as CleanableObject};
 
 use crate::edges::push_all;
 use crate::listed::SlotList;
@@ -75,7 +76,8 @@ fn leave_object(kept: &SlotList, listed: bool, object: &mut Object)
 }
 
 fn leave_place(kept: &SlotList, pending: &SlotList, number: usize, place: &mut Option<Object>)
-    ensures { place.new ≡ cond (kept.now ∋ number) (option_map (left_of kept.now (pending.now ∋ number)) place.old) None }
+    ensures { place.new ≡ cond (kept.now ∋ number) (option_map (left_of kept.now (pending.now ∋ number)) place.old)
+        None }
 {
     if !kept.has_number(number) {
         *place = None;
@@ -123,7 +125,8 @@ fn kept_by(alloc: Global, cells: usize, c: &Collected) -> Result<SlotList, Alloc
     SlotList::from_vec(alloc, cells, c.kept.to_vec(alloc)?)
 }
 
-/// What a collection leaves, made before anything changes: what it kept, what it put behind the pending list, and that list then.
+/// What a collection leaves, made before anything changes: what it kept, what it put behind the pending list, and that
+/// list then.
 #[derive(Drop)]
 pub struct Leaving {
     kept: SlotList,
@@ -136,7 +139,8 @@ pub struct Leaving {
 /// # Errors
 /// `AllocError` where there is no memory.
 pub fn make_leaving(alloc: Global, machine: &Machine, c: &Collected) -> Result<Leaving, AllocError>
-    ensures { IfOk result (λ l. (l.kept ≡ c.now.kept) × (l.listed ≡ c.now.pending) × (l.pending ≡ machine.now.pending ++ c.now.pending)) }
+    ensures { IfOk result (λ l. (l.kept ≡ c.now.kept) × (l.listed ≡ c.now.pending)
+        × (l.pending ≡ machine.now.pending ++ c.now.pending)) }
 {
     let cells = machine.objects.len();
     let pending = pending_with(alloc, machine.pending.as_slice(), c.pending.as_slice())?;
@@ -193,7 +197,8 @@ fn collected(alloc: Global, machine: Machine, c: &Collected) -> Result<Machine, 
     }
 }
 
-/// The machine in which an ask is carried out, after its collection, where there was one. The machine is given up for it.
+/// The machine in which an ask is carried out, after its collection, where there was one. The machine is given up for
+/// it.
 pub fn collect_in(
     alloc: Global,
     machine: Machine,

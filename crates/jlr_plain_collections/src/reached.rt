@@ -57,7 +57,8 @@ fn spread(
     softly: bool,
 ) -> Result<(), AllocError>
     requires { (s : ℕ) → s ∈ edges_from (chain_of softly) objects.now slot → s < length marks.old }
-    ensures { OnOk result (Greyed (λ s. s ∈ edges_from (chain_of softly) (only kept.now objects.now) slot) marks.old todo.old.items marks.new todo.new.items) }
+    ensures { OnOk result (Greyed (λ s. s ∈ edges_from (chain_of softly) (only kept.now objects.now) slot) marks.old
+        todo.old.items marks.new todo.new.items) }
 {
     if !kept.holds(slot) {
         return Ok(());
@@ -67,7 +68,8 @@ fn spread(
     Ok(())
 }
 
-/// Marks what strong and soft edges, or strong ones alone, reach from the base inside the kept set. Each slot is looked at once.
+/// Marks what strong and soft edges, or strong ones alone, reach from the base inside the kept set. Each slot is looked
+/// at once.
 pub(crate) fn mark_reached(
     alloc: Global,
     objects: &Table<Object>,
@@ -79,7 +81,8 @@ pub(crate) fn mark_reached(
     requires within { IsWithinHeap objects.now base.now }
     requires unmarked { marks.old ≡ replicate (length objects.now) false }
     ensures long { OnOk result (length marks.new ≡ length marks.old) }
-    ensures reached { OnOk result ((s : ℕ) → is_marked marks.new s ≡ (reach_set (chain_of softly) (only kept.now objects.now) base.now ∋ s)) }
+    ensures reached { OnOk result ((s : ℕ) → is_marked marks.new s ≡
+        (reach_set (chain_of softly) (only kept.now objects.now) base.now ∋ s)) }
 {
     let mut edges = Vec::new(alloc);
     let mut todo = Vec::new(alloc);

@@ -1,5 +1,6 @@
 //! The roots of a machine, as a list.
-ghost use Rattle.std.specs.Prelude.{◌≡◌, ℕ, ◌≤◌, ◌^◌, ◌++◌, cond, map, List, [], ◌∷◌, Some, IfOk, OnOk, Option, option_to_list, filter_map, length};
+ghost use Rattle.std.specs.Prelude.{◌≡◌, ℕ, ◌≤◌, ◌^◌, ◌++◌, cond, map, List, [], ◌∷◌, Some, IfOk, OnOk, Option};
+ghost use Rattle.std.specs.Prelude.{option_to_list, filter_map, length};
 ghost use Rattle.std.specs.List.{flat_map};
 ghost use Rattle.jlr_machine.specs.declared.machine.Session.{Session as SessionOf};
 ghost use Rattle.jlr_machine.specs.declared.machine.Binding.{Binding as BindingOf};
@@ -12,7 +13,8 @@ use jlr_types::Slot;
 use std::alloc::{AllocError, Global};
 
 fn push_handles_of(out: &mut Vec<Slot>, place: &Option<Session>) -> Result<(), AllocError>
-    ensures { OnOk result (out.new.items ≡ out.old.items ++ flat_map (λ (s : SessionOf). filter_map (λ h. h) s.handles) (filter_map (λ s. s) (place.now ∷ []))) }
+    ensures { OnOk result (out.new.items ≡ out.old.items
+        ++ flat_map (λ (s : SessionOf). filter_map (λ h. h) s.handles) (filter_map (λ s. s) (place.now ∷ []))) }
 {
     match place {
         Some(session) => push_options(out, session.handles.as_slice()),
@@ -21,7 +23,8 @@ fn push_handles_of(out: &mut Vec<Slot>, place: &Option<Session>) -> Result<(), A
 }
 
 fn push_all_handles(out: &mut Vec<Slot>, places: &[Option<Session>]) -> Result<(), AllocError>
-    ensures { OnOk result (out.new.items ≡ out.old.items ++ flat_map (λ (s : SessionOf). filter_map (λ h. h) s.handles) (filter_map (λ s. s) places.now)) }
+    ensures { OnOk result (out.new.items ≡ out.old.items
+        ++ flat_map (λ (s : SessionOf). filter_map (λ h. h) s.handles) (filter_map (λ s. s) places.now)) }
 {
     for place in places {
         push_handles_of(out, place)?;
@@ -30,7 +33,8 @@ fn push_all_handles(out: &mut Vec<Slot>, places: &[Option<Session>]) -> Result<(
 }
 
 fn push_fence_of(out: &mut Vec<Slot>, place: &Option<Session>) -> Result<(), AllocError>
-    ensures { OnOk result (out.new.items ≡ out.old.items ++ flat_map (λ (s : SessionOf). option_to_list s.fence) (filter_map (λ s. s) (place.now ∷ []))) }
+    ensures { OnOk result (out.new.items ≡ out.old.items
+        ++ flat_map (λ (s : SessionOf). option_to_list s.fence) (filter_map (λ s. s) (place.now ∷ []))) }
 {
     match place {
         Some(session) => push_option(out, session.fence),
@@ -39,7 +43,8 @@ fn push_fence_of(out: &mut Vec<Slot>, place: &Option<Session>) -> Result<(), All
 }
 
 fn push_fences(out: &mut Vec<Slot>, places: &[Option<Session>]) -> Result<(), AllocError>
-    ensures { OnOk result (out.new.items ≡ out.old.items ++ flat_map (λ (s : SessionOf). option_to_list s.fence) (filter_map (λ s. s) places.now)) }
+    ensures { OnOk result (out.new.items ≡ out.old.items
+        ++ flat_map (λ (s : SessionOf). option_to_list s.fence) (filter_map (λ s. s) places.now)) }
 {
     for place in places {
         push_fence_of(out, place)?;
@@ -110,7 +115,8 @@ fn push_roots(out: &mut Vec<Slot>, machine: &Machine) -> Result<(), AllocError>
     push_cleanables(out, machine.objects.as_slice())
 }
 
-/// The slots that handles, fences and names stand for, the pending list, the line, and the Armed and Pending cleanables.
+/// The slots that handles, fences and names stand for, the pending list, the line, and the Armed and Pending
+/// cleanables.
 pub fn roots_plain(alloc: Global, machine: &Machine) -> Result<Vec<Slot>, AllocError>
     requires { length machine.now.objects ≤ 2 ^ 32 }
     ensures { IfOk result (λ v. v.items ≡ roots machine.now) }

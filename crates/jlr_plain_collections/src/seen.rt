@@ -48,7 +48,8 @@ fn push_if_seen(
     number: usize,
 ) -> Result<(), AllocError>
     requires { number < 2 ^ 32 }
-    ensures { OnOk result (out.new.items ≡ out.old.items ++ cond ((seen.now ∋ number) || is_marked marks.now number) (number ∷ []) []) }
+    ensures { OnOk result (out.new.items ≡ out.old.items
+        ++ cond ((seen.now ∋ number) || is_marked marks.now number) (number ∷ []) []) }
 {
     if is_seen(seen, marks, Slot::new(number as u32)) {
         push_slot(out, number)?;
@@ -85,7 +86,8 @@ fn every_slot(alloc: Global, cells: usize) -> Result<SlotList, AllocError>
 fn marks_of_roots(alloc: Global, machine: &Machine) -> Result<Vec<bool>, AllocError>
     requires cells { length machine.now.objects ≤ 2 ^ 32 }
     requires within { IsWithinHeap machine.now.objects (roots machine.now) }
-    ensures { IfOk result (λ m. (s : ℕ) → is_marked m.items s ≡ (reach_set UpToSoft machine.now.objects (roots machine.now) ∋ s)) }
+    ensures { IfOk result (λ m. (s : ℕ) → is_marked m.items s ≡
+        (reach_set UpToSoft machine.now.objects (roots machine.now) ∋ s)) }
 {
     let cells = machine.objects.len();
     let slots = every_slot(alloc, cells)?;
@@ -106,7 +108,8 @@ fn marks_of_roots(alloc: Global, machine: &Machine) -> Result<Vec<bool>, AllocEr
 fn seen_in_cycle(alloc: Global, machine: &Machine) -> Result<Vec<Slot>, AllocError>
     requires cells { length machine.now.objects ≤ 2 ^ 32 }
     requires within { IsWithinHeap machine.now.objects (roots machine.now) }
-    ensures { IfOk result (λ v. v.items ≡ seen_with machine.now.seen (reach_set UpToSoft machine.now.objects (roots machine.now)) (length machine.now.objects)) }
+    ensures { IfOk result (λ v. v.items ≡ seen_with machine.now.seen
+        (reach_set UpToSoft machine.now.objects (roots machine.now)) (length machine.now.objects)) }
 {
     let seen = listed(alloc, &machine.objects, machine.seen.as_slice())?;
     let marks = marks_of_roots(alloc, machine)?;

@@ -1,6 +1,8 @@
 -- What the test of calls tells.
-use Rattle.std.proofs.Common.{◌≡◌, ◌≢◌, ◌↔◌, ℕ, Bool, true, false, not, Decides, IsTrue, length, refl, sym, ◌∙◌, ap, inl, inr, Option, Some, None, option_and_then, nat_eq}
-use Rattle.std.proofs.lemmas.Bool.{both_ways, and_parts, and_from, or_cases, or_left, or_right, eqb-true, eq-eqb, cases_eq, not-true, not_from_false, false_from_ne_true}
+use Rattle.std.proofs.Common.{◌≡◌, ◌≢◌, ◌↔◌, ℕ, Bool, true, false, not, Decides, IsTrue, length, refl, sym, ◌∙◌, ap, inl, inr, Option, Some}
+use Rattle.std.proofs.Common.{None, option_and_then, nat_eq}
+use Rattle.std.proofs.lemmas.Bool.{both_ways, and_parts, and_from, or_cases, or_left, or_right, eqb-true, eq-eqb, cases_eq, not-true}
+use Rattle.std.proofs.lemmas.Bool.{not_from_false, false_from_ne_true}
 use Rattle.jlr_machine.specs.declared.object.Object.{Object}
 use Rattle.jlr_machine.specs.declared.object.Object.TheVariants.{Plain, Reference, Queue, Cleaner, Cleanable, Guard}
 use Rattle.jlr_machine.specs.declared.object.Cleanable.{Cleanable as CleanableOf}
@@ -20,16 +22,20 @@ use Rattle.jlr_machine.specs.WellFormed.{AreCalls, HasResource, IsFencing, FitsI
 use Rattle.jlr_laws.proofs.Frames.{is_cleanable_there, place_within}
 use Rattle.jlr_laws.proofs.Keyed.{key_found}
 use Rattle.jlr_plain_images.specs.Resources.{has_resource}
-use Rattle.jlr_plain_images.specs.Calls.{same_call, is_free_call, is_in_call, is_guard_in_call, is_fencing, fits_call, fits_own_call, all_fit_calls, is_calling, is_called, needs_call, has_its_call, all_have_calls, is_called_job, all_jobs_called, are_in_one_call, call_is_apart, calls_are_apart, calls_fit}
+use Rattle.jlr_plain_images.specs.Calls.{same_call, is_free_call, is_in_call, is_guard_in_call, is_fencing, fits_call, fits_own_call}
+use Rattle.jlr_plain_images.specs.Calls.{all_fit_calls, is_calling, is_called, needs_call, has_its_call, all_have_calls, is_called_job}
+use Rattle.jlr_plain_images.specs.Calls.{all_jobs_called, are_in_one_call, call_is_apart, calls_are_apart, calls_fit}
 use Rattle.jlr_plain_parts.proofs.States.{armed_is}
 use Rattle.jlr_plain_images.proofs.WorksDecided.{Decides-resource}
-use Rattle.jlr_plain_parts.proofs.Everywhere.{Decides-none, Decides-numbers, Decides-others, Decides-slots, Decides-found, there_gives, there_from, some_place_gives, some_place_from, also, turned}
+use Rattle.jlr_plain_parts.proofs.Everywhere.{Decides-none, Decides-numbers, Decides-others, Decides-slots, Decides-found, there_gives}
+use Rattle.jlr_plain_parts.proofs.Everywhere.{there_from, some_place_gives, some_place_from, also, turned}
 
 -- ---- Calls
 
 Decides-same : (a b : Call) → Decides (same_call a b) (a ≡ b)
 Decides-same Free Free = ((λ h. refl), (λ e. refl))
-Decides-same (CallOpening a) (CallOpening b) = ((λ h. ap (λ n. CallOpening n) (eqb-true a b h)), (λ e. let same : a ≡ b = cc e in eq-eqb a b same))
+Decides-same (CallOpening a) (CallOpening b) =
+    ((λ h. ap (λ n. CallOpening n) (eqb-true a b h)), (λ e. let same : a ≡ b = cc e in eq-eqb a b same))
 Decides-same (CallOut a) (CallOut b) = ((λ h. ap (λ n. CallOut n) (eqb-true a b h)), (λ e. let same : a ≡ b = cc e in eq-eqb a b same))
 Decides-same (CallJob a) (CallJob b) = ((λ h. ap (λ n. CallJob n) (eqb-true a b h)), (λ e. let same : a ≡ b = cc e in eq-eqb a b same))
 Decides-same Free (CallOpening b) = ((λ h. absurd (both_ways false refl h)), (λ e. absurd (cc e)))
@@ -57,17 +63,20 @@ free_is (CallJob a) h = absurd (both_ways false refl h)
 abbrev pub IsInCall : Machine → ℕ → ResourceState → ℕ → Type 0
 IsInCall m rid state s = (c : CleanableOf) × IsCleanableAt m s c × (c.state ≡ Armed) × HasResource m rid c.action state
 
-pub Decides-in_call : (m : Machine) (rid : ℕ) (state : ResourceState) (s : ℕ) → Decides (some_and (is_in_call m rid state) (cleanable_at m s)) (IsInCall m rid state s)
+pub Decides-in_call : (m : Machine) (rid : ℕ) (state : ResourceState) (s : ℕ)
+    → Decides (some_and (is_in_call m rid state) (cleanable_at m s)) (IsInCall m rid state s)
 Decides-in_call m rid state s = (
   (λ h.
       let x = there_gives (is_in_call m rid state) (cleanable_at m s) h in
       let p = and_parts (is_armed x.0.state) (has_resource m rid x.0.action state) x.2 in
       (x.0, is_cleanable_there (at m.objects s) x.0 x.1, armed_is x.0.state p.0, (Decides-resource m rid x.0.action state).0 p.1)),
   (λ w. there_from (is_in_call m rid state) (cleanable_at m s) w.0 (ap (option_and_then as_cleanable) w.1)
-      (and_from (is_armed w.0.state) (has_resource m rid w.0.action state) (ap is_armed w.2) ((Decides-resource m rid w.0.action state).1 w.3))),
+      (and_from (is_armed w.0.state) (has_resource m rid w.0.action state) (ap is_armed w.2)
+      ((Decides-resource m rid w.0.action state).1 w.3))),
 )
 
-guard_in_call_gives : (m : Machine) (rid : ℕ) (state : ResourceState) (o : Object) → is_guard_in_call m rid state o ≡ true → (g : GuardOf) × (o ≡ Guard g) × (g.rid ≡ rid) × IsInCall m rid state g.cleanable
+guard_in_call_gives : (m : Machine) (rid : ℕ) (state : ResourceState) (o : Object) → is_guard_in_call m rid state o ≡ true → (g : GuardOf)
+    × (o ≡ Guard g) × (g.rid ≡ rid) × IsInCall m rid state g.cleanable
 guard_in_call_gives m rid state (Guard g) h =
     let p = and_parts (nat_eq g.rid rid) (some_and (is_in_call m rid state) (cleanable_at m g.cleanable)) h in
     (g, refl, eqb-true g.rid rid p.0, (Decides-in_call m rid state g.cleanable).0 p.1)
@@ -77,7 +86,8 @@ guard_in_call_gives m rid state (Queue x) h = absurd (both_ways false refl h)
 guard_in_call_gives m rid state Cleaner h = absurd (both_ways false refl h)
 guard_in_call_gives m rid state (Cleanable x) h = absurd (both_ways false refl h)
 
-Decides-fencing : (m : Machine) (s : Session) (rid : ℕ) (state : ResourceState) → Decides (is_fencing m s rid state) (IsFencing m s rid state)
+Decides-fencing : (m : Machine) (s : Session) (rid : ℕ) (state : ResourceState)
+    → Decides (is_fencing m s rid state) (IsFencing m s rid state)
 Decides-fencing m s rid state =
     let guards : ℕ → Bool = λ t. some_and (is_guard_in_call m rid state) (at m.objects t) in (
       (λ h.
@@ -129,8 +139,12 @@ abbrev NeedsCall : Machine → ℕ → ResourceState → Type 0
 NeedsCall m rid state = (state ≡ Opening → IsCalled m (CallOpening rid)) × (state ≡ Out → IsCalled m (CallOut rid))
 
 Decides-needs : (m : Machine) (rid : ℕ) (state : ResourceState) → Decides (needs_call m rid state) (NeedsCall m rid state)
-Decides-needs m rid Opening = ((λ h. ((λ e. (Decides-called m (CallOpening rid)).0 h), (λ e. absurd (cc e)))), (λ w. (Decides-called m (CallOpening rid)).1 (w.0 refl)))
-Decides-needs m rid Out = ((λ h. ((λ e. absurd (cc e)), (λ e. (Decides-called m (CallOut rid)).0 h))), (λ w. (Decides-called m (CallOut rid)).1 (w.1 refl)))
+Decides-needs m rid Opening = (
+  (λ h. ((λ e. (Decides-called m (CallOpening rid)).0 h), (λ e. absurd (cc e)))),
+  (λ w. (Decides-called m (CallOpening rid)).1 (w.0 refl)),
+)
+Decides-needs m rid Out =
+    ((λ h. ((λ e. absurd (cc e)), (λ e. (Decides-called m (CallOut rid)).0 h))), (λ w. (Decides-called m (CallOut rid)).1 (w.1 refl)))
 Decides-needs m rid Idle = ((λ h. ((λ e. absurd (cc e)), (λ e. absurd (cc e)))), (λ w. refl))
 Decides-needs m rid Closing = ((λ h. ((λ e. absurd (cc e)), (λ e. absurd (cc e)))), (λ w. refl))
 
@@ -138,12 +152,15 @@ abbrev AllHaveCalls : Machine → Type 0
 AllHaveCalls m = (a : ℕ) (r : Resource) → resource_at m a ≡ Some r → NeedsCall m r.rid r.state
 
 Decides-have_calls : (m : Machine) → Decides (all_have_calls m) (AllHaveCalls m)
-Decides-have_calls m = Decides-found (λ r. r.rid) (has_its_call m) (λ r. NeedsCall m r.rid r.state) m.resources (λ r. Decides-needs m r.rid r.state)
+Decides-have_calls m =
+    Decides-found (λ r. r.rid) (has_its_call m) (λ r. NeedsCall m r.rid r.state) m.resources (λ r. Decides-needs m r.rid r.state)
 
 abbrev UsedAreCalled : Machine → Type 0
-UsedAreCalled m = ((rid action : ℕ) → HasResource m rid action Opening → IsCalled m (CallOpening rid)) × ((rid action : ℕ) → HasResource m rid action Out → IsCalled m (CallOut rid))
+UsedAreCalled m = ((rid action : ℕ) → HasResource m rid action Opening → IsCalled m (CallOpening rid))
+    × ((rid action : ℕ) → HasResource m rid action Out → IsCalled m (CallOut rid))
 
-rebuilt : (m : Machine) (a : ℕ) (r : Resource) (state : ResourceState) → resource_at m a ≡ Some r → r.state ≡ state → HasResource m r.rid r.action state
+rebuilt : (m : Machine) (a : ℕ) (r : Resource) (state : ResourceState) → resource_at m a ≡ Some r → r.state ≡ state
+    → HasResource m r.rid r.action state
 rebuilt m a r state e f =
     ap (resource_at m) (key_found (λ r. r.rid) m.resources a r e) ∙ e
     ∙ ap {A = ResourceState} {B = Option Resource} (λ s. Some (record { rid = r.rid; action = r.action; state = s })) f
@@ -191,12 +208,19 @@ Decides-jobs m =
 abbrev AreInOneCall : Machine → ℕ → ℕ → Type 0
 AreInOneCall m j k = (call : Call) × IsCallOf m j call × IsCallOf m k call × (call ≢ Free)
 
-in_one_gives : (x y : Option Session) → are_in_one_call x y ≡ true → (s : Session) × (t : Session) × (x ≡ Some s) × (y ≡ Some t) × (t.call ≡ s.call) × (s.call ≢ Free)
+in_one_gives : (x y : Option Session) → are_in_one_call x y ≡ true → (s : Session) × (t : Session) × (x ≡ Some s) × (y ≡ Some t)
+    × (t.call ≡ s.call) × (s.call ≢ Free)
 in_one_gives None y h = absurd (both_ways false refl h)
 in_one_gives (Some s) None h = absurd (both_ways false refl h)
 in_one_gives (Some s) (Some t) h =
-    let p = and_parts (not (is_free_call s.call)) (same_call s.call t.call) h in
-    (s, t, refl, refl, sym ((Decides-same s.call t.call).0 p.1), (λ e. both_ways (is_free_call s.call) (not-true (is_free_call s.call) p.0) (ap is_free_call e)))
+    let p = and_parts (not (is_free_call s.call)) (same_call s.call t.call) h in (
+      s,
+      t,
+      refl,
+      refl,
+      sym ((Decides-same s.call t.call).0 p.1),
+      (λ e. both_ways (is_free_call s.call) (not-true (is_free_call s.call) p.0) (ap is_free_call e)),
+    )
 
 Decides-in_one : (m : Machine) (j k : ℕ) → Decides (are_in_one_call (at m.mutators j) (at m.mutators k)) (AreInOneCall m j k)
 Decides-in_one m j k = (
@@ -217,7 +241,8 @@ Decides-one_call : (m : Machine) → Decides (calls_are_apart m) (OneCall m)
 Decides-one_call m =
     let all = Decides-numbers (length m.mutators) (call_is_apart m) in
     let others = λ (j : ℕ). Decides-others (length m.mutators) j (λ k. are_in_one_call (at m.mutators j) (at m.mutators k)) in (
-      (λ h j k call a b n. (others j).0 (all.0 h j (place_within m.mutators j a.0 a.1)) k (place_within m.mutators k b.0 b.1) ((Decides-in_one m j k).1 (call, a, b, n))),
+      (λ h j k call a b n. (others j).0 (all.0 h j (place_within m.mutators j a.0 a.1)) k (place_within m.mutators k b.0 b.1)
+          ((Decides-in_one m j k).1 (call, a, b, n))),
       (λ w. all.1 (λ j _. (others j).1 (λ k _ h. let x = (Decides-in_one m j k).0 h in w j k x.0 x.1 x.2 x.3))),
     )
 

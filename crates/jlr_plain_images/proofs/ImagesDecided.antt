@@ -1,5 +1,6 @@
 -- What the test of faults, of notes and of what was seen tells.
-use Rattle.std.proofs.Common.{◌≡◌, ◌↔◌, ℕ, ◌<◌, Bool, true, false, ◌||◌, Decides, IsTrue, List, [], ◌∷◌, length, refl, ap, subst, map, nat_lt}
+use Rattle.std.proofs.Common.{◌≡◌, ◌↔◌, ℕ, ◌<◌, Bool, true, false, ◌||◌, Decides, IsTrue, List, [], ◌∷◌, length, refl, ap, subst, map}
+use Rattle.std.proofs.Common.{nat_lt}
 use Rattle.std.proofs.lemmas.Bool.{both_ways}
 use Rattle.jlr_machine.specs.declared.machine.Machine.{Machine}
 use Rattle.jlr_machine.specs.Objects.{is_rising}
@@ -23,7 +24,8 @@ unless_open false b d = ((λ h e. d.0 h), (λ w. d.1 (w refl)))
 pub rest_decided : (m : Machine) → IsTrue (rest_fits m) ↔ IsRestFit m
 rest_decided m =
     let rising = subst (λ xs. Decides (rising_by itself m.seen) (is_rising xs ≡ true)) (map_itself m.seen) (Decides-rising itself m.seen) in
-    let within = Decides-all (λ s. nat_lt s (length m.objects)) (λ s. s < length m.objects) m.seen (λ s. Decides-less s (length m.objects)) in
+    let within =
+    Decides-all (λ s. nat_lt s (length m.objects)) (λ s. s < length m.objects) m.seen (λ s. Decides-less s (length m.objects)) in
     let seen = also (also rising within) (unless_open m.cycle_open (is_empty m.seen) (Decides-empty m.seen)) in
     turned (also (also (Decides-most (length m.faults) 256) (Decides-most (length m.notes) 256)) seen)
     (λ p. record { faults = p.0.0; notes = p.0.1; seen_rising = p.1.0.0; seen_within = p.1.0.1; seen_in_cycle = p.1.1 })

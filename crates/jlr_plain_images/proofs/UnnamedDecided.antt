@@ -13,7 +13,8 @@ use Rattle.jlr_plain_images.specs.Resources.{is_on_resource}
 use Rattle.jlr_plain_images.specs.Unnamed.{is_private_object, is_public, handles_public, fields_public, referent_public, private_fit}
 use Rattle.jlr_plain_images.proofs.WorksDecided.{on_gives}
 use Rattle.jlr_plain_images.proofs.CallsDecided.{Decides-in_call}
-use Rattle.jlr_plain_parts.proofs.Everywhere.{Decides-places, Decides-bound, Decides-any, Decides-contents, Decides-plain, Decides-references, there_gives, there_from, also, turned}
+use Rattle.jlr_plain_parts.proofs.Everywhere.{Decides-places, Decides-bound, Decides-any, Decides-contents, Decides-plain}
+use Rattle.jlr_plain_parts.proofs.Everywhere.{Decides-references, there_gives, there_from, also, turned}
 
 private_there : (m : Machine) (s : ℕ) (o : Object) → at m.objects s ≡ Some o → is_private_object m o ≡ true → IsPrivate m s
 private_there m s (Cleanable c) e h = let r = on_gives c.work h in inl (c, r.0, e, r.1)
@@ -26,7 +27,8 @@ private_there m s Cleaner e h = absurd (both_ways false refl h)
 private_from : (m : Machine) (s : ℕ) → IsPrivate m s → some_and (is_private_object m) (at m.objects s) ≡ true
 private_from m s (inl (c, rid, e, f)) = there_from (is_private_object m) (at m.objects s) (Cleanable c) e (ap is_on_resource f)
 private_from m s (inr (g, c, e, there, armed, resource)) =
-    there_from (is_private_object m) (at m.objects s) (Guard g) e ((Decides-in_call m g.rid Opening g.cleanable).1 (c, there, armed, resource))
+    there_from (is_private_object m) (at m.objects s) (Guard g) e
+    ((Decides-in_call m g.rid Opening g.cleanable).1 (c, there, armed, resource))
 
 abbrev IsPublic : Machine → ℕ → Type 0
 IsPublic m s = ¬ (IsPrivate m s)
@@ -35,12 +37,14 @@ Decides-public : (m : Machine) (s : ℕ) → Decides (is_public m s) (IsPublic m
 Decides-public m s =
     let private : Bool = some_and (is_private_object m) (at m.objects s) in (
       (λ h p. both_ways private (not-true private h) (private_from m s p)),
-      (λ w. not_from_false private (false_from_ne_true private (λ h. let x = there_gives (is_private_object m) (at m.objects s) h in w (private_there m s x.0 x.1 x.2)))),
+      (λ w. not_from_false private (false_from_ne_true private
+          (λ h. let x = there_gives (is_private_object m) (at m.objects s) h in w (private_there m s x.0 x.1 x.2)))),
     )
 
 pub private_decided : (m : Machine) → IsTrue (private_fit m) ↔ ArePrivate m
 private_decided m =
-    let handles = Decides-places (handles_public m) (λ (session : Session). (h s : ℕ) → at session.handles h ≡ Some s → IsPublic m s) m.mutators
+    let handles =
+    Decides-places (handles_public m) (λ (session : Session). (h s : ℕ) → at session.handles h ≡ Some s → IsPublic m s) m.mutators
     (λ session. Decides-places (is_public m) (IsPublic m) session.handles (Decides-public m)) in
     let names = Decides-bound (is_public m) (IsPublic m) m.names (Decides-public m) in
     let fields = Decides-plain (fields_public m) (λ fields. (s : ℕ) → s ∈ slots_in fields → IsPublic m s) m.objects
@@ -54,4 +58,7 @@ private_decided m =
       fields = λ t s fields e h. p.0.1 t fields e s h;
       references = λ t s r e f. p.1 t r e s f;
     })
-    (λ w. ((((λ k session e h s f. w.handles k h s session e f), w.names), (λ t fields e s h. w.fields t s fields e h)), (λ t r e s f. w.references t s r e f)))
+    (λ w. (
+      (((λ k session e h s f. w.handles k h s session e f), w.names), (λ t fields e s h. w.fields t s fields e h)),
+      (λ t r e s f. w.references t s r e f),
+    ))

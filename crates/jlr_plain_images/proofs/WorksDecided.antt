@@ -12,7 +12,8 @@ use Rattle.jlr_machine.specs.Lookups.{resource_at, rid_of}
 use Rattle.jlr_machine.specs.WellFormed.{HasResource}
 use Rattle.jlr_laws.proofs.Frames.{no_some, some_same}
 use Rattle.jlr_laws.proofs.Keyed.{key_found}
-use Rattle.jlr_plain_images.specs.Resources.{is_on_resource, is_work_on, is_opening, is_idle, is_out, is_closing, is_state, fits_resource, has_resource}
+use Rattle.jlr_plain_images.specs.Resources.{is_on_resource, is_work_on, is_opening, is_idle, is_out, is_closing, is_state, fits_resource}
+use Rattle.jlr_plain_images.specs.Resources.{has_resource}
 use Rattle.jlr_plain_parts.proofs.Everywhere.{there_gives}
 
 -- ---- Works
@@ -74,20 +75,24 @@ own_state Closing = refl
 abbrev resource_of : ℕ → ℕ → ResourceState → Resource
 resource_of rid action state = record { rid = rid; action = action; state = state }
 
-pub resource_is : (r : Resource) (rid action : ℕ) (state : ResourceState) → r.rid ≡ rid → r.action ≡ action → r.state ≡ state → r ≡ resource_of rid action state
+pub resource_is : (r : Resource) (rid action : ℕ) (state : ResourceState) → r.rid ≡ rid → r.action ≡ action → r.state ≡ state
+    → r ≡ resource_of rid action state
 resource_is r rid action state e f g =
     ap (λ x. resource_of x r.action r.state) e ∙ ap (λ x. resource_of rid x r.state) f ∙ ap (λ x. resource_of rid action x) g
 
 -- the resource that is found there, by its parts
-pub found_resource : (m : Machine) (rid : ℕ) (r : Resource) (action : ℕ) (state : ResourceState) → resource_at m rid ≡ Some r → r.action ≡ action → r.state ≡ state → HasResource m rid action state
+pub found_resource : (m : Machine) (rid : ℕ) (r : Resource) (action : ℕ) (state : ResourceState) → resource_at m rid ≡ Some r
+    → r.action ≡ action → r.state ≡ state → HasResource m rid action state
 found_resource m rid r action state e f g =
     e ∙ ap (λ x. Some x) (resource_is r rid action state (key_found (λ r. r.rid) m.resources rid r e) f g)
 
-pub Decides-resource : (m : Machine) (rid action : ℕ) (state : ResourceState) → Decides (has_resource m rid action state) (HasResource m rid action state)
+pub Decides-resource : (m : Machine) (rid action : ℕ) (state : ResourceState)
+    → Decides (has_resource m rid action state) (HasResource m rid action state)
 Decides-resource m rid action state = (
   (λ h.
       let x = there_gives (fits_resource action state) (resource_at m rid) h in
       let p = and_parts (nat_eq x.0.action action) (is_state state x.0.state) x.2 in
       found_resource m rid x.0 action state x.1 (eqb-true x.0.action action p.0) (state_is state x.0.state p.1)),
-  (λ e. ap (some_and (fits_resource action state)) e ∙ and_from (nat_eq action action) (is_state state state) (eq-eqb action action refl) (own_state state)),
+  (λ e. ap (some_and (fits_resource action state)) e
+      ∙ and_from (nat_eq action action) (is_state state state) (eq-eqb action action refl) (own_state state)),
 )

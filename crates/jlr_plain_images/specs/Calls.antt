@@ -9,7 +9,8 @@ use Rattle.jlr_machine.specs.declared.machine.Session.{Session}
 use Rattle.jlr_machine.specs.declared.machine.Job.{Job as JobOf}
 use Rattle.jlr_machine.specs.declared.machine.Resource.{Resource}
 use Rattle.jlr_machine.specs.declared.machine.Call.{Call}
-use Rattle.jlr_machine.specs.declared.machine.Call.TheVariants.{Free, Opening as CallOpening, Out as CallOut, Job as CallJob}
+use Rattle.jlr_machine.specs.declared.machine.Call.TheVariants.{Free, Opening as CallOpening, Out as CallOut}
+use Rattle.jlr_machine.specs.declared.machine.Call.TheVariants.{Job as CallJob}
 use Rattle.jlr_machine.specs.declared.machine.ResourceState.{ResourceState}
 use Rattle.jlr_machine.specs.declared.machine.ResourceState.TheVariants.{Opening, Idle, Out, Closing}
 use Rattle.jlr_machine.specs.Objects.{at, some_and, is_armed}
@@ -38,7 +39,8 @@ is_in_call m rid state c = is_armed c.state && has_resource m rid c.action state
 
 -- a guard of this resource, with its cleanable in the call
 abbrev pub is_guard_in_call : Machine → ℕ → ResourceState → Object → Bool
-is_guard_in_call m rid state (Guard g) = nat_eq g.rid rid && some_and (is_in_call m rid state) (cleanable_at m g.cleanable)
+is_guard_in_call m rid state (Guard g) = nat_eq g.rid rid
+    && some_and (is_in_call m rid state) (cleanable_at m g.cleanable)
 is_guard_in_call m rid state _ = false
 
 -- the mutator's fence is on such a guard
@@ -102,7 +104,8 @@ are_in_one_call _ _ = false
 
 -- no other mutator is in the call of j
 abbrev pub call_is_apart : Machine → ℕ → Bool
-call_is_apart m j = each_number (length m.mutators) (λ k. nat_eq j k || not (are_in_one_call (at m.mutators j) (at m.mutators k)))
+call_is_apart m j =
+    each_number (length m.mutators) (λ k. nat_eq j k || not (are_in_one_call (at m.mutators j) (at m.mutators k)))
 
 -- no call is that of two mutators
 abbrev pub calls_are_apart : Machine → Bool

@@ -19,7 +19,8 @@ abbrev pub itself : ℕ → ℕ
 itself s = s
 
 abbrev pub seen_fits : Machine → Bool
-seen_fits m = rising_by itself m.seen && list_all (λ s. nat_lt s (length m.objects)) m.seen && (m.cycle_open || is_empty m.seen)
+seen_fits m = rising_by itself m.seen && list_all (λ s. nat_lt s (length m.objects)) m.seen
+    && (m.cycle_open || is_empty m.seen)
 
 -- what a well-formed machine keeps beside its nine parts, as a test
 abbrev pub rest_fits : Machine → Bool

@@ -2,9 +2,13 @@
 ghost use Rattle.std.specs.Prelude.{◌≡◌, ◌↔◌, IsTrue, Some, nat_eq};
 ghost use Rattle.jlr_machine.specs.Objects.{at, some_and};
 ghost use Rattle.jlr_machine.specs.Lookups.{job_of};
-ghost use Rattle.jlr_machine.specs.declared.machine.Call.TheVariants.{Opening as CallOpening, Out as CallOut, Job as CallJob};
+ghost use Rattle.jlr_machine.specs.declared.machine.Call.TheVariants.{Opening as CallOpening, Out as CallOut};
+ghost use Rattle.jlr_machine.specs.declared.machine.Call.TheVariants.{Job as CallJob};
 ghost use Rattle.jlr_machine.specs.WellFormed.{AreCalls};
-ghost use Rattle.jlr_plain_images.specs.Calls.{same_call, is_free_call, is_guard_in_call, is_fencing, fits_own_call, all_fit_calls, is_calling, is_called, has_its_call, all_have_calls, is_called_job, all_jobs_called, are_in_one_call, call_is_apart, calls_are_apart, calls_fit};
+ghost use Rattle.jlr_plain_images.specs.Calls.{same_call, is_free_call, is_guard_in_call, is_fencing, fits_own_call};
+ghost use Rattle.jlr_plain_images.specs.Calls.{all_fit_calls, is_calling, is_called, has_its_call, all_have_calls};
+ghost use Rattle.jlr_plain_images.specs.Calls.{is_called_job, all_jobs_called, are_in_one_call, call_is_apart};
+ghost use Rattle.jlr_plain_images.specs.Calls.{calls_are_apart, calls_fit};
 
 use crate::works::in_call_at;
 use jlr_machine::machine::{Call, Job, Machine, Resource, ResourceState, Session};
@@ -207,8 +211,8 @@ fn calls_tested(machine: &Machine) -> bool
     all_fit(machine) && all_called(machine) && all_call_alone(machine) && jobs_called(machine)
 }
 
-/// Whether each call has the fence, the resource and the job that it needs, and each resource in use and each job of a mutator is one
-/// mutator's call.
+/// Whether each call has the fence, the resource and the job that it needs, and each resource in use and each job of a
+/// mutator is one mutator's call.
 #[tactic(auto, using(crate::proofs::CallsDecided::calls_decided))]
 pub fn are_calls(machine: &Machine) -> bool
     ensures { IsTrue result ↔ AreCalls machine.now }

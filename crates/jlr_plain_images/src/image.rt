@@ -68,7 +68,8 @@ fn rest_tested(machine: &Machine) -> bool
     machine.faults.len() <= 256 && machine.notes.len() <= 256 && seen_tested(machine)
 }
 
-/// Whether the faults and the notes are within their limits, and what was seen is a set of slots, empty outside a cycle.
+/// Whether the faults and the notes are within their limits, and what was seen is a set of slots, empty outside a
+/// cycle.
 #[tactic(auto, using(crate::proofs::ImagesDecided::rest_decided))]
 fn is_rest_fit(machine: &Machine) -> bool
     ensures { IsTrue result ↔ IsRestFit machine.now }

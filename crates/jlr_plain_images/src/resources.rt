@@ -5,7 +5,10 @@ ghost use Rattle.jlr_machine.specs.Objects.{at, some_and, is_armed, is_spent};
 ghost use Rattle.jlr_machine.specs.Lookups.{job_of, resource_at};
 ghost use Rattle.jlr_machine.specs.WellFormed.{AreResources};
 ghost use Rattle.jlr_plain_parts.specs.Places.{none_or, on_cleanable, rising_by, is_only_key, keys_are_apart};
-ghost use Rattle.jlr_plain_images.specs.Resources.{is_on_resource, is_work_on, is_worker, is_worked, all_are_worked, serves, has_its_resource, closes_its_own, all_jobs_close, guarded_slot, is_own, owns, all_guards_own, is_guard_of, is_guarded, all_are_guarded, guards_fit, rid_in, resources_fit};
+ghost use Rattle.jlr_plain_images.specs.Resources.{is_on_resource, is_work_on, is_worker, is_worked, all_are_worked};
+ghost use Rattle.jlr_plain_images.specs.Resources.{serves, has_its_resource, closes_its_own, all_jobs_close};
+ghost use Rattle.jlr_plain_images.specs.Resources.{guarded_slot, is_own, owns, all_guards_own, is_guard_of, is_guarded};
+ghost use Rattle.jlr_plain_images.specs.Resources.{all_are_guarded, guards_fit, rid_in, resources_fit};
 
 use crate::works::{armed, closing, idle, on_resource, resource_is, works_on};
 use jlr_machine::machine::{Job, Machine, Resource, ResourceState};
@@ -185,7 +188,8 @@ fn all_guard_alone(machine: &Machine) -> bool
 }
 
 fn armed_for(slot: usize, guard: &Guard, cleanable: &Cleanable) -> bool
-    ensures { result ≡ (is_armed cleanable.now.state && some_and (nat_eq slot) cleanable.now.referent && is_work_on guard.now.rid cleanable.now.work) }
+    ensures { result ≡ (is_armed cleanable.now.state && some_and (nat_eq slot) cleanable.now.referent
+        && is_work_on guard.now.rid cleanable.now.work) }
 {
     armed(cleanable.state) && is_at(slot, cleanable.referent) && works_on(guard.rid, cleanable.work)
 }
@@ -270,8 +274,8 @@ fn resources_tested(machine: &Machine) -> bool
         && guards_tested(machine)
 }
 
-/// Whether the Rids rise, each resource is the work of a cleanable or a job and each such work has its resource, and each
-/// guard and the cleanable that it guards belong to each other.
+/// Whether the Rids rise, each resource is the work of a cleanable or a job and each such work has its resource, and
+/// each guard and the cleanable that it guards belong to each other.
 #[tactic(auto, using(crate::proofs::ResourcesDecided::resources_decided))]
 pub fn are_resources(machine: &Machine) -> bool
     ensures { IsTrue result ↔ AreResources machine.now }

@@ -4,7 +4,8 @@ ghost use Rattle.std.specs.List.{list_all};
 ghost use Rattle.jlr_machine.specs.Edges.{slot_in};
 ghost use Rattle.jlr_machine.specs.WellFormed.{ArePrivate};
 ghost use Rattle.jlr_plain_parts.specs.Places.{none_or, on_plain, on_reference};
-ghost use Rattle.jlr_plain_images.specs.Unnamed.{is_private_object, is_public, handles_public, fields_public, referent_public, private_fit};
+ghost use Rattle.jlr_plain_images.specs.Unnamed.{is_private_object, is_public, handles_public, fields_public};
+ghost use Rattle.jlr_plain_images.specs.Unnamed.{referent_public, private_fit};
 
 use crate::works::{in_call_at, on_resource};
 use jlr_machine::machine::{Binding, Machine, ResourceState, Session};

@@ -3,7 +3,8 @@ ghost use Rattle.std.specs.Prelude.{◌≡◌};
 ghost use Rattle.jlr_machine.specs.Objects.{some_and, is_armed};
 ghost use Rattle.jlr_machine.specs.Lookups.{cleanable_at};
 ghost use Rattle.jlr_plain_images.specs.Calls.{is_in_call};
-ghost use Rattle.jlr_plain_images.specs.Resources.{is_on_resource, is_work_on, is_closing, is_idle, is_state, fits_resource, has_resource};
+ghost use Rattle.jlr_plain_images.specs.Resources.{is_on_resource, is_work_on, is_closing, is_idle, is_state};
+ghost use Rattle.jlr_plain_images.specs.Resources.{fits_resource, has_resource};
 
 use jlr_machine::machine::{Machine, Resource, ResourceState};
 use jlr_machine::object::{CleanState, Cleanable};

@@ -1,5 +1,6 @@
 -- What the test of the pending list and the line tells.
-use Rattle.std.proofs.Common.{◌≡◌, ◌↔◌, ℕ, Bool, false, not, ◌||◌, Decides, IsTrue, List, length, refl, ap, ◌⊎◌, inl, inr, Option, Some, None, option_and_then}
+use Rattle.std.proofs.Common.{◌≡◌, ◌↔◌, ℕ, Bool, false, not, ◌||◌, Decides, IsTrue, List, length, refl, ap, ◌⊎◌, inl, inr, Option, Some}
+use Rattle.std.proofs.Common.{None, option_and_then}
 use Rattle.std.proofs.lemmas.Bool.{both_ways, or_cases}
 use Rattle.jlr_machine.specs.declared.object.Object.{Object}
 use Rattle.jlr_machine.specs.declared.object.Object.TheVariants.{Reference, Cleanable}
@@ -28,7 +29,8 @@ abbrev MustPend : Option Object → Type 0
 MustPend o = (state_of o ≡ Some Pending) ⊎ (clean_state_of o ≡ Some PendingClean)
 
 abbrev MayPend : Option Object → Type 0
-MayPend o = (state_of o ≡ Some Pending) ⊎ (state_of o ≡ Some Queued) ⊎ (state_of o ≡ Some Removed) ⊎ (clean_state_of o ≡ Some PendingClean) ⊎ (clean_state_of o ≡ Some Spent)
+MayPend o = (state_of o ≡ Some Pending) ⊎ (state_of o ≡ Some Queued) ⊎ (state_of o ≡ Some Removed) ⊎ (clean_state_of o ≡ Some PendingClean)
+    ⊎ (clean_state_of o ≡ Some Spent)
 
 abbrev MayLineUp : Option Object → Type 0
 MayLineUp o = (clean_state_of o ≡ Some Lined) ⊎ (clean_state_of o ≡ Some Spent)
@@ -121,7 +123,9 @@ Decides-may_line_up (Some _) = ((λ h. absurd (both_ways false refl h)), (λ p. 
 
 -- ---- All that has to wait does
 
-all_listed : (test : Object → Bool) (P : Option Object → Type 0) (heap : Heap) (slots : List ℕ) → ((o : Option Object) → Decides (some_and test o) (P o)) → Decides (each_number (length heap) (λ s. not (some_and test (at heap s)) || (slots ∋ s))) ((s : ℕ) → P (at heap s) → s ∈ slots)
+all_listed : (test : Object → Bool) (P : Option Object → Type 0) (heap : Heap) (slots : List ℕ)
+    → ((o : Option Object) → Decides (some_and test o) (P o))
+    → Decides (each_number (length heap) (λ s. not (some_and test (at heap s)) || (slots ∋ s))) ((s : ℕ) → P (at heap s) → s ∈ slots)
 all_listed test P heap slots d = turned (Decides-numbers (length heap) (λ s. not (some_and test (at heap s)) || (slots ∋ s)))
     (λ h s p.
     let t = (d (at heap s)).1 p in
@@ -133,9 +137,12 @@ pub lists_decided : (m : Machine) → IsTrue (lists_fit m) ↔ AreLists m
 lists_decided m =
     let waiting = all_listed must_pend MustPend m.objects m.pending Decides-waiting in
     let lining = all_listed must_line_up (λ o. clean_state_of o ≡ Some Lined) m.objects m.line Decides-lining in
-    let pending = Decides-all (λ s. some_and may_pend (at m.objects s)) (λ s. MayPend (at m.objects s)) m.pending (λ s. Decides-may_pend (at m.objects s)) in
-    let line = Decides-all (λ s. some_and may_line_up (at m.objects s)) (λ s. MayLineUp (at m.objects s)) m.line (λ s. Decides-may_line_up (at m.objects s)) in
-    turned (also (also (also (also (also (Decides-true (is_distinct m.pending)) (Decides-true (is_distinct m.line))) waiting) pending) lining) line)
+    let pending = Decides-all (λ s. some_and may_pend (at m.objects s)) (λ s. MayPend (at m.objects s)) m.pending
+    (λ s. Decides-may_pend (at m.objects s)) in
+    let line = Decides-all (λ s. some_and may_line_up (at m.objects s)) (λ s. MayLineUp (at m.objects s)) m.line
+    (λ s. Decides-may_line_up (at m.objects s)) in
+    turned (also
+    (also (also (also (also (Decides-true (is_distinct m.pending)) (Decides-true (is_distinct m.line))) waiting) pending) lining) line)
     (λ p. record {
       pending_once = p.0.0.0.0.0;
       line_once = p.0.0.0.0.1;
@@ -145,4 +152,13 @@ lists_decided m =
       lined = p.0.1;
       line_others = p.1;
     })
-    (λ w. (((((w.pending_once, w.line_once), (λ s e. elim e [ inl e ↦ w.pending_references s e | inr e ↦ w.pending_cleanables s e ])), w.pending_others), w.lined), w.line_others))
+    (λ w. (
+      (
+        (
+          ((w.pending_once, w.line_once), (λ s e. elim e [ inl e ↦ w.pending_references s e | inr e ↦ w.pending_cleanables s e ])),
+          w.pending_others,
+        ),
+        w.lined,
+      ),
+      w.line_others,
+    ))

@@ -1,6 +1,8 @@
 -- What the test of references and queues tells.
-use Rattle.std.proofs.Common.{◌≡◌, ◌↔◌, ℕ, true, false, not, ◌||◌, Decides, IsTrue, List, length, refl, sym, ◌∙◌, ap, subst, inl, inr, Option, Some, None, nat_eq, is_some}
-use Rattle.std.proofs.lemmas.Bool.{both_ways, or_cases, or_left, or_right, eqb-true, eq-eqb, cases_eq, not-true, not_from_false, false_from_ne_true}
+use Rattle.std.proofs.Common.{◌≡◌, ◌↔◌, ℕ, true, false, not, ◌||◌, Decides, IsTrue, List, length, refl, sym, ◌∙◌, ap, subst, inl, inr}
+use Rattle.std.proofs.Common.{Option, Some, None, nat_eq, is_some}
+use Rattle.std.proofs.lemmas.Bool.{both_ways, or_cases, or_left, or_right, eqb-true, eq-eqb, cases_eq, not-true, not_from_false}
+use Rattle.std.proofs.lemmas.Bool.{false_from_ne_true}
 use Rattle.jlr_machine.specs.declared.object.Object.{Object}
 use Rattle.jlr_machine.specs.declared.object.Object.TheVariants.{Plain, Reference, Queue, Cleaner, Cleanable, Guard}
 use Rattle.jlr_machine.specs.declared.object.Reference.{Reference as ReferenceOf}
@@ -12,9 +14,11 @@ use Rattle.jlr_machine.specs.WellFormed.{AreReferences, FitsItsState}
 use Rattle.jlr_laws.proofs.Sets.{nothing}
 use Rattle.jlr_laws.proofs.Frames.{no_some, place_within}
 use Rattle.jlr_plain_parts.specs.Places.{on_queue}
-use Rattle.jlr_plain_parts.specs.References.{fits_state, fits_own_state, is_queued_object, members_fit, members_in, is_disjoint, shares_nothing, queues_are_apart, references_fit}
+use Rattle.jlr_plain_parts.specs.References.{fits_state, fits_own_state, is_queued_object, members_fit, members_in, is_disjoint}
+use Rattle.jlr_plain_parts.specs.References.{shares_nothing, queues_are_apart, references_fit}
 use Rattle.jlr_plain_parts.proofs.States.{queued_is}
-use Rattle.jlr_plain_parts.proofs.Everywhere.{Decides-all, Decides-numbers, Decides-references, Decides-queues, Decides-slots, Decides-on_queue, Decides-true, Decides-none, also, turned}
+use Rattle.jlr_plain_parts.proofs.Everywhere.{Decides-all, Decides-numbers, Decides-references, Decides-queues, Decides-slots}
+use Rattle.jlr_plain_parts.proofs.Everywhere.{Decides-on_queue, Decides-true, Decides-none, also, turned}
 
 -- ---- States
 
@@ -60,7 +64,9 @@ SharesNothing heap p xs = (q s : ℕ) (ys : List ℕ) → at heap q ≡ Some (Qu
 
 shares_gives : (heap : Heap) (p : ℕ) (xs : List ℕ) → shares_nothing heap p xs ≡ true → SharesNothing heap p xs
 shares_gives heap p xs h q s ys e a b =
-    elim (or_cases (nat_eq p q) (is_disjoint (members_in (at heap q)) xs) ((Decides-numbers (length heap) (λ q. nat_eq p q || is_disjoint (members_in (at heap q)) xs)).0 h q (place_within heap q (Queue ys) e))) [
+    elim (or_cases (nat_eq p q) (is_disjoint (members_in (at heap q)) xs)
+    ((Decides-numbers (length heap) (λ q. nat_eq p q || is_disjoint (members_in (at heap q)) xs)).0 h q
+    (place_within heap q (Queue ys) e))) [
       | inl same ↦ eqb-true p q same
       | inr apart ↦ absurd ((Decides-disjoint (members_in (at heap q)) xs).0 apart s (subst (λ o. s ∈ members_in o) (sym e) b) a)
     ]
@@ -89,8 +95,10 @@ Decides-queues_apart heap =
 pub references_decided : (m : Machine) → IsTrue (references_fit m) ↔ AreReferences m
 references_decided m =
     let states = Decides-references fits_own_state (λ r. FitsItsState r r.state) m.objects (λ r. Decides-state r r.state) in
-    let queues = Decides-queues (members_fit m.objects) (λ members. ((s : ℕ) → s ∈ members → IsQueued (at m.objects s)) × IsTrue (is_distinct members)) m.objects
-    (λ members. also (Decides-all (λ s. some_and is_queued_object (at m.objects s)) (λ s. IsQueued (at m.objects s)) members (λ s. Decides-queued (at m.objects s))) (Decides-true (is_distinct members))) in
+    let queues = Decides-queues (members_fit m.objects)
+    (λ members. ((s : ℕ) → s ∈ members → IsQueued (at m.objects s)) × IsTrue (is_distinct members)) m.objects
+    (λ members. also (Decides-all (λ s. some_and is_queued_object (at m.objects s)) (λ s. IsQueued (at m.objects s)) members
+    (λ s. Decides-queued (at m.objects s))) (Decides-true (is_distinct members))) in
     turned (also (also states queues) (Decides-queues_apart m.objects))
     (λ p. record {
       states = p.0.0;

@@ -22,9 +22,11 @@ Decides-opening s (Job action) = ((λ h. tt), (λ u. refl))
 abbrev names_of : List Binding → List (List ℕ)
 names_of names = map (λ b. b.name) names
 
-new_name : (name : List ℕ) (names : List Binding) → Decides (is_new_name name names) (AllByRecursion (λ other. same_name name other ≡ false) (names_of names))
+new_name : (name : List ℕ) (names : List Binding)
+    → Decides (is_new_name name names) (AllByRecursion (λ other. same_name name other ≡ false) (names_of names))
 new_name name [] = ((λ h. tt), (λ u. refl))
-new_name name (b ∷ names) = also ((λ h. not-true (same_name name b.name) h), (λ h. not_from_false (same_name name b.name) h)) (new_name name names)
+new_name name (b ∷ names) =
+    also ((λ h. not-true (same_name name b.name) h), (λ h. not_from_false (same_name name b.name) h)) (new_name name names)
 
 Decides-names : (names : List Binding) → Decides (names_differ names) (IsDistinct same_name (names_of names))
 unfolding IsDistinct
@@ -33,7 +35,8 @@ Decides-names (b ∷ names) = also (new_name b.name names) (Decides-names names)
 
 pub sessions_decided : (m : Machine) → IsTrue (sessions_fit m) ↔ AreSessions m
 sessions_decided m =
-    let places = Decides-places session_fits (λ s. (((length s.handles ≡ 251) × (at s.handles 0 ≡ None)) × OpeningHasRoom s s.call)) m.mutators
+    let places =
+    Decides-places session_fits (λ s. (((length s.handles ≡ 251) × (at s.handles 0 ≡ None)) × OpeningHasRoom s s.call)) m.mutators
     (λ s. also (also (Decides-equal (length s.handles) 251) (Decides-none (at s.handles 0))) (Decides-opening s s.call)) in
     turned (also (also places (Decides-names m.names)) (Decides-most (length m.names) 256))
     (λ p. record {

@@ -1,5 +1,6 @@
 -- What the test of named slots tells.
-use Rattle.std.proofs.Common.{◌≡◌, ◌↔◌, ℕ, true, false, Decides, IsTrue, List, [], refl, sym, ap, subst, option_to_list, inl, inr, Option, Some, None, is_some}
+use Rattle.std.proofs.Common.{◌≡◌, ◌↔◌, ℕ, true, false, Decides, IsTrue, List, [], refl, sym, ap, subst, option_to_list, inl, inr, Option}
+use Rattle.std.proofs.Common.{Some, None, is_some}
 use Rattle.std.specs.List.{list_all}
 use Rattle.std.proofs.lemmas.Bool.{both_ways}
 use Rattle.jlr_machine.specs.declared.object.Object.{Object}
@@ -18,7 +19,8 @@ use Rattle.jlr_laws.proofs.Frames.{no_some, root_gives, root_from}
 use Rattle.jlr_laws.proofs.Frames.IsRoot.{held, fencing, named, waiting, lining, active}
 use Rattle.jlr_plain_parts.specs.Places.{none_or}
 use Rattle.jlr_plain_parts.specs.Slots.{is_there, edges_there, session_there, roots_there, queue_there, cleanable_there, slots_fit}
-use Rattle.jlr_plain_parts.proofs.Everywhere.{Decides-all, Decides-places, Decides-references, Decides-guards, Decides-true, Decides-any, Decides-contents, Decides-bound, also, turned}
+use Rattle.jlr_plain_parts.proofs.Everywhere.{Decides-all, Decides-places, Decides-references, Decides-guards, Decides-true, Decides-any}
+use Rattle.jlr_plain_parts.proofs.Everywhere.{Decides-contents, Decides-bound, also, turned}
 
 -- ---- Edges
 
@@ -50,7 +52,8 @@ Decides-leads heap (Reference r) =
     (λ p. ((λ x e. p.0 x (listed x (queue_ahead r) e)), p.1))
 Decides-leads heap (Queue members) = ((λ h. ((all_there heap members).0 h, λ x e. no_some x e)), (λ p. (all_there heap members).1 p.0))
 Decides-leads heap Cleaner = ((λ h. ((λ x m. nothing x m), λ x e. no_some x e)), (λ p. refl))
-Decides-leads heap (Cleanable c) = ((λ h. ((λ x m. nothing x m), (any_there heap c.referent).0 h)), (λ p. (any_there heap c.referent).1 p.1))
+Decides-leads heap (Cleanable c) =
+    ((λ h. ((λ x m. nothing x m), (any_there heap c.referent).0 h)), (λ p. (any_there heap c.referent).1 p.1))
 Decides-leads heap (Guard g) = (
   (λ h. ((λ x m. elim (in_cons x g.cleanable [] m) [ inl e ↦ subst (IsThere heap) (sym e) h | inr n ↦ nothing x n ]), λ x e. no_some x e)),
   (λ p. p.0 g.cleanable (in_front g.cleanable g.cleanable [] refl)),
@@ -96,7 +99,16 @@ Decides-roots m =
       | lining h ↦ p.1 s h
       | active h ↦ own_root_there (at m.objects s) h
     ])
-    (λ w. ((((λ k session e. ((λ h x f. w x (root_from m x (held k h session e f))), (λ x f. w x (root_from m x (fencing k session e f))))), (λ x h. w x (root_from m x (named h)))), (λ x h. w x (root_from m x (waiting h)))), (λ x h. w x (root_from m x (lining h)))))
+    (λ w. (
+      (
+        (
+          (λ k session e. ((λ h x f. w x (root_from m x (held k h session e f))), (λ x f. w x (root_from m x (fencing k session e f))))),
+          (λ x h. w x (root_from m x (named h))),
+        ),
+        (λ x h. w x (root_from m x (waiting h))),
+      ),
+      (λ x h. w x (root_from m x (lining h))),
+    ))
 
 -- ---- Kinds
 
@@ -127,9 +139,12 @@ Decides-cleanable (Some o) = ((λ h. let q = cleanable_gives o h in (q.0, ap (λ
 pub slots_decided : (m : Machine) → IsTrue (slots_fit m) ↔ AreSlotsNamed m
 slots_decided m =
     let leads = Decides-places (edges_there m.objects) (Leads m.objects) m.objects (Decides-leads m.objects) in
-    let queues = Decides-references (queue_there m.objects) (λ r. (q : ℕ) → r.queue ≡ Some q → (members : List ℕ) × IsQueueAt m q members) m.objects
-    (λ r. Decides-any (λ q. some_and is_queue (at m.objects q)) (λ q. (members : List ℕ) × IsQueueAt m q members) r.queue (λ q. Decides-queue (at m.objects q))) in
-    let guards = Decides-guards (cleanable_there m.objects) (λ g. (c : CleanableOf) × IsCleanableAt m g.cleanable c) m.objects (λ g. Decides-cleanable (at m.objects g.cleanable)) in
+    let queues =
+    Decides-references (queue_there m.objects) (λ r. (q : ℕ) → r.queue ≡ Some q → (members : List ℕ) × IsQueueAt m q members) m.objects
+    (λ r. Decides-any (λ q. some_and is_queue (at m.objects q)) (λ q. (members : List ℕ) × IsQueueAt m q members) r.queue
+    (λ q. Decides-queue (at m.objects q))) in
+    let guards = Decides-guards (cleanable_there m.objects) (λ g. (c : CleanableOf) × IsCleanableAt m g.cleanable c) m.objects
+    (λ g. Decides-cleanable (at m.objects g.cleanable)) in
     turned (also (also (also leads (Decides-roots m)) queues) guards)
     (λ p. record {
       edges = edges_from_leads m.objects p.0.0.0;

@@ -1,5 +1,6 @@
 -- The test of actions.
-use Rattle.std.specs.Prelude.{ℕ, ◌+◌, Bool, ◌&&◌, ◌||◌, cond, Option, Some, None, length, count_by, nat_eq, nat_le, nat_lt, is_none}
+use Rattle.std.specs.Prelude.{ℕ, ◌+◌, Bool, ◌&&◌, ◌||◌, cond, Option, Some, None, length, count_by, nat_eq, nat_le}
+use Rattle.std.specs.Prelude.{nat_lt, is_none}
 use Rattle.std.specs.List.{list_all}
 use Rattle.jlr_machine.specs.declared.object.Object.{Object}
 use Rattle.jlr_machine.specs.declared.object.Object.TheVariants.{Cleanable}
@@ -22,7 +23,8 @@ is_action m action = nat_le 1 action && nat_lt action m.next_action
 
 -- no running job has the action of an unspent cleanable, and only an Armed one has a referent
 abbrev pub acts : Machine → CleanableOf → Bool
-acts m c = is_action m c.action && (is_spent c.state || is_none (job_of m c.action)) && (is_armed c.state || is_none c.referent)
+acts m c = is_action m c.action && (is_spent c.state || is_none (job_of m c.action))
+    && (is_armed c.state || is_none c.referent)
 
 -- those of jobs, resources and faults are
 abbrev pub all_are_actions : Machine → Bool

@@ -62,4 +62,5 @@ line_may_line_up m = list_all (λ s. some_and may_line_up (at m.objects s)) m.li
 
 -- both lists hold what they have to, once each, and only what they may
 abbrev pub lists_fit : Machine → Bool
-lists_fit m = is_distinct m.pending && is_distinct m.line && all_pend m && pending_may_pend m && all_line_up m && line_may_line_up m
+lists_fit m = is_distinct m.pending && is_distinct m.line && all_pend m && pending_may_pend m && all_line_up m
+    && line_may_line_up m

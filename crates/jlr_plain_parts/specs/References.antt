@@ -1,5 +1,6 @@
 -- The test of references and queues.
-use Rattle.std.specs.Prelude.{ℕ, Bool, true, false, not, ◌&&◌, ◌||◌, List, [], Option, Some, length, nat_eq, is_some, is_none}
+use Rattle.std.specs.Prelude.{ℕ, Bool, true, false, not, ◌&&◌, ◌||◌, List, [], Option, Some, length, nat_eq, is_some}
+use Rattle.std.specs.Prelude.{is_none}
 use Rattle.std.specs.List.{list_all}
 use Rattle.jlr_machine.specs.declared.object.Object.{Object}
 use Rattle.jlr_machine.specs.declared.object.Object.TheVariants.{Reference, Queue}
@@ -49,7 +50,8 @@ is_disjoint xs ys = list_all (λ s. not (ys ∋ s)) xs
 
 -- the queue at p, with these members, has none that another queue has
 abbrev pub shares_nothing : Heap → ℕ → List ℕ → Bool
-shares_nothing heap p members = each_number (length heap) (λ q. nat_eq p q || is_disjoint (members_in (at heap q)) members)
+shares_nothing heap p members =
+    each_number (length heap) (λ q. nat_eq p q || is_disjoint (members_in (at heap q)) members)
 
 -- no two queues share a member
 abbrev pub queues_are_apart : Heap → Bool

@@ -1,11 +1,13 @@
 //! The actions of cleanables, jobs, resources and faults.
-ghost use Rattle.std.specs.Prelude.{◌≡◌, ◌+◌, ◌↔◌, ◌||◌, IsTrue, nat_eq, nat_lt, length, count_by, cond, Some, None, is_none};
+ghost use Rattle.std.specs.Prelude.{◌≡◌, ◌+◌, ◌↔◌, ◌||◌, IsTrue, nat_eq, nat_lt, length, count_by, cond, Some, None};
+ghost use Rattle.std.specs.Prelude.{is_none};
 ghost use Rattle.std.specs.List.{list_all};
 ghost use Rattle.jlr_machine.specs.Objects.{at, some_and, is_armed, is_spent};
 ghost use Rattle.jlr_machine.specs.Lookups.{job_of};
 ghost use Rattle.jlr_machine.specs.WellFormed.{AreActions, is_unspent_place};
 ghost use Rattle.jlr_plain_parts.specs.Places.{none_or, on_cleanable, rising_by, is_only_key, keys_are_apart};
-ghost use Rattle.jlr_plain_parts.specs.Actions.{unspent_action, is_action, acts, all_are_actions, action_of, counts_fit, actions_fit};
+ghost use Rattle.jlr_plain_parts.specs.Actions.{unspent_action, is_action, acts, all_are_actions, action_of};
+ghost use Rattle.jlr_plain_parts.specs.Actions.{counts_fit, actions_fit};
 
 use jlr_machine::machine::{Job, Machine};
 use jlr_machine::object::{CleanState, Cleanable, Object};
@@ -182,7 +184,8 @@ fn taken_are_over_or_running(machine: &Machine) -> bool
 }
 
 fn numbers_are_left(machine: &Machine) -> bool
-    ensures { result ≡ nat_lt (machine.now.taken + count_by is_unspent_place machine.now.objects) machine.now.next_action }
+    ensures { result ≡ nat_lt (machine.now.taken + count_by is_unspent_place machine.now.objects)
+        machine.now.next_action }
 {
     let used = u128::from(machine.taken) + unspent(machine.objects.as_slice()) as u128;
     used < u128::from(machine.next_action)
@@ -206,8 +209,8 @@ fn actions_tested(machine: &Machine) -> bool
         && counts_are_right(machine)
 }
 
-/// Whether the actions of unspent cleanables and running jobs are distinct, each action was given out, only Armed cleanables
-/// have a referent, at most one job is the cleaner's, and the counts fit.
+/// Whether the actions of unspent cleanables and running jobs are distinct, each action was given out, only Armed
+/// cleanables have a referent, at most one job is the cleaner's, and the counts fit.
 #[tactic(auto, using(crate::proofs::ActionsDecided::actions_decided))]
 pub fn are_actions(machine: &Machine) -> bool
     ensures { IsTrue result ↔ AreActions machine.now }

@@ -2,7 +2,8 @@
 ghost use Rattle.std.specs.Prelude.{◌≡◌, ◌↔◌, IsTrue};
 ghost use Rattle.jlr_machine.specs.Objects.{at, some_and};
 ghost use Rattle.jlr_machine.specs.WellFormed.{AreLists};
-ghost use Rattle.jlr_plain_parts.specs.Lists.{must_pend, may_pend, must_line_up, may_line_up, all_pend, all_line_up, pending_may_pend, line_may_line_up, lists_fit};
+ghost use Rattle.jlr_plain_parts.specs.Lists.{must_pend, may_pend, must_line_up, may_line_up, all_pend, all_line_up};
+ghost use Rattle.jlr_plain_parts.specs.Lists.{pending_may_pend, line_may_line_up, lists_fit};
 
 use jlr_machine::machine::Machine;
 use jlr_machine::object::{CleanState, Object, RefState};

@@ -3,7 +3,8 @@ ghost use Rattle.std.specs.Prelude.{◌≡◌, ◌↔◌, IsTrue};
 ghost use Rattle.std.specs.List.{list_all};
 ghost use Rattle.jlr_machine.specs.WellFormed.{AreSessions};
 ghost use Rattle.jlr_plain_parts.specs.Places.{none_or};
-ghost use Rattle.jlr_plain_parts.specs.Sessions.{opening_has_room, session_fits, is_new_name, names_differ, sessions_fit};
+ghost use Rattle.jlr_plain_parts.specs.Sessions.{opening_has_room, session_fits, is_new_name, names_differ};
+ghost use Rattle.jlr_plain_parts.specs.Sessions.{sessions_fit};
 
 use jlr_machine::machine::{Binding, Call, Machine, Session};
 use jlr_plain_asks::lookups::{names_agree, occupied_handles};

@@ -1,5 +1,6 @@
 -- What makes a collection of the marked objects go through, and what it is.
-use Rattle.std.proofs.Common.{◌≡◌, ◌&&◌, ◌⊎◌, ◌<◌, ℕ, Bool, true, false, List, ◌++◌, length, Option, Some, None, option_and_then, IsTrue, is_some, refl, sym, ◌∙◌, ap, arith, inl, inr, not}
+use Rattle.std.proofs.Common.{◌≡◌, ◌&&◌, ◌⊎◌, ◌<◌, ℕ, Bool, true, false, List, ◌++◌, length, Option, Some, None, option_and_then, IsTrue}
+use Rattle.std.proofs.Common.{is_some, refl, sym, ◌∙◌, ap, arith, inl, inr, not}
 use Rattle.std.proofs.lemmas.Bool.{both_ways}
 use Rattle.jlr_machine.specs.declared.object.Object.{Object}
 use Rattle.jlr_machine.specs.declared.object.Object.TheVariants.{Plain, Reference, Queue, Cleaner, Cleanable, Guard}
@@ -34,7 +35,8 @@ abbrev clean_state_in : Option Object → Option CleanState
 clean_state_in o = option_and_then (λ c. Some c.state) (option_and_then as_cleanable o)
 
 abbrev IsWaiting : Option Object → Type 0
-IsWaiting o = (state_in o ≡ Some Pending) ⊎ (state_in o ≡ Some Queued) ⊎ (state_in o ≡ Some Removed) ⊎ (clean_state_in o ≡ Some PendingClean) ⊎ (clean_state_in o ≡ Some Spent)
+IsWaiting o = (state_in o ≡ Some Pending) ⊎ (state_in o ≡ Some Queued) ⊎ (state_in o ≡ Some Removed)
+    ⊎ (clean_state_in o ≡ Some PendingClean) ⊎ (clean_state_in o ≡ Some Spent)
 
 fresh_alone : (state other : RefState) (b : Bool) → (is_fresh state && b) ≡ true → is_fresh other ≡ false → Some state ≡ Some other → ⊥
 fresh_alone state other b ready not_fresh e =
@@ -83,12 +85,14 @@ ready_lined_not (Some (Plain fields)) h l = both_ways false refl h
 ready_lined_not (Some (Reference r)) h l = elim l [ inl e ↦ no_some Lined e | inr e ↦ no_some Spent e ]
 ready_lined_not (Some (Queue members)) h l = both_ways false refl h
 ready_lined_not (Some Cleaner) h l = both_ways false refl h
-ready_lined_not (Some (Cleanable c)) h l = elim l [ inl e ↦ armed_alone c.state Lined h refl e | inr e ↦ armed_alone c.state Spent h refl e ]
+ready_lined_not (Some (Cleanable c)) h l =
+    elim l [ inl e ↦ armed_alone c.state Lined h refl e | inr e ↦ armed_alone c.state Spent h refl e ]
 ready_lined_not (Some (Guard g)) h l = both_ways false refl h
 
 loses_is_ready : (m : Marking) (o : Option Object) → some_and (loses m) o ≡ true → some_and is_ready o ≡ true
 loses_is_ready m None h = h
-loses_is_ready m (Some o) h = elim (is_ready o) as (λ b. (b && some_and (λ x. not (is_marked m x)) (any_referent o)) ≡ true → b ≡ true) [ true ↦ λ e. refl | false ↦ λ e. e ] h
+loses_is_ready m (Some o) h = elim (is_ready o) as (λ b. (b && some_and (λ x. not (is_marked m x)) (any_referent o)) ≡ true
+    → b ≡ true) [ true ↦ λ e. refl | false ↦ λ e. e ] h
 
 -- ---- A well-formed machine whose marked objects are kept
 
@@ -97,13 +101,18 @@ module _ (m : Machine) (marking : Marking) (w : IsMarkedWhole m marking) where
   kept = marked_below marking (length m.objects)
 
   object_within : (s : ℕ) → IsTrue (is_some (at m.objects s)) → s < length m.objects
-  object_within s h = elim (at m.objects s) as (λ o. at m.objects s ≡ o → IsTrue (is_some o) → s < length m.objects) [ None ↦ λ e h. absurd (both_ways false refl h) | Some o ↦ λ e h. place_within m.objects s o e ] refl h
+  object_within s h = elim (at m.objects s) as (λ o. at m.objects s ≡ o → IsTrue (is_some o) → s < length m.objects) [
+    | None ↦
+        λ e h. absurd (both_ways false refl h)
+    | Some o ↦ λ e h. place_within m.objects s o e
+  ] refl h
 
   pub referent_within : (s x : ℕ) → option_and_then any_referent (at m.objects s) ≡ Some x → x < length m.objects
-  referent_within s x e = elim (at m.objects s) as (λ o. at m.objects s ≡ o → option_and_then any_referent o ≡ Some x → x < length m.objects) [
-    | None ↦ λ f e. no_some x e
-    | Some o ↦ λ f e. object_within x (referent_object m w.fit s x o f e)
-  ] refl e
+  referent_within s x e =
+      elim (at m.objects s) as (λ o. at m.objects s ≡ o → option_and_then any_referent o ≡ Some x → x < length m.objects) [
+        | None ↦ λ f e. no_some x e
+        | Some o ↦ λ f e. object_within x (referent_object m w.fit s x o f e)
+      ] refl e
 
   is_ready_there : (n : ℕ) → is_losing marking m.objects n ≡ true → some_and is_ready (at m.objects n) ≡ true
   is_ready_there n losing = loses_is_ready marking (at m.objects n) (losing_loses marking m.objects n losing)
@@ -116,11 +125,14 @@ module _ (m : Machine) (marking : Marking) (w : IsMarkedWhole m marking) where
   not_in_line n losing h = ready_lined_not (at m.objects n) (is_ready_there n losing) (w.fit.lists.line_others n h)
 
   -- it is a collection that counts what it keeps as reachable, where these become pending
-  pub collection : (lost : List ℕ) → is_distinct lost ≡ true → ((x : ℕ) → (lost ∋ x) ≡ is_losing marking m.objects x) → IsCollection m.objects (roots m ++ kept) kept lost
+  pub collection : (lost : List ℕ) → is_distinct lost ≡ true → ((x : ℕ) → (lost ∋ x) ≡ is_losing marking m.objects x)
+      → IsCollection m.objects (roots m ++ kept) kept lost
   collection lost once same_lost =
       let seen : Machine = record m { seen = kept } in
       let b =
-      (background_comes_down seen kept lost (well_formed_within m w.fit) (λ s h. let i = in_up_to 0 (length m.objects) s (in_filter (is_marked marking) (up_to 0 (length m.objects)) s h).1 in omega (arith, i.1))).1
+      (background_comes_down seen kept lost (well_formed_within m w.fit)
+      (λ s h. let i = in_up_to 0 (length m.objects) s (in_filter (is_marked marking) (up_to 0 (length m.objects)) s h).1 in
+      omega (arith, i.1))).1
       (record {
         seen = λ s h. h;
         objects = λ s h. w.objects s (sym (same marking m.objects w.long s) ∙ h);

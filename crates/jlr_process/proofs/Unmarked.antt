@@ -8,7 +8,8 @@ use Rattle.jlr_process.specs.Settling.{marked_below}
 
 same_range : (from n : ℕ) → range_with_len from n ≡ up_to from n
 same_range from zero = refl
-same_range from (suc n) = let next : from + 1 ≡ suc from = omega arith in ap (λ k. from ∷ range_with_len k n) next ∙ ap (λ l. from ∷ l) (same_range (suc from) n)
+same_range from (suc n) = let next : from + 1 ≡ suc from = omega arith in ap (λ k. from ∷ range_with_len k n) next
+    ∙ ap (λ l. from ∷ l) (same_range (suc from) n)
 
 -- the marked slots, as a set and as a list
 pub slots_marked : (m : Marking) (n : ℕ) → length m.bits ≡ n → slots_of m.bits ≡ marked_below m n

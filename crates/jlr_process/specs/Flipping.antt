@@ -16,7 +16,8 @@ pub record IsRooted (m : Machine) (g : Graph) : Type 0 where
   pub fit : IsWellFormed (in_machine m g)
   pub all_held : (s : ℕ) → s ∈ roots (in_machine m g) → s ∈ held g
 
--- Objects of a well-formed machine are marked, with a bit for each cell, among them all roots, and with an object all that it leads to by strong edges
+-- Objects of a well-formed machine are marked, with a bit for each cell, among them all roots, and with an object all
+-- that it leads to by strong edges
 pub record IsMarkedWhole (m : Machine) (marking : Marking) : Type 0 where
   pub fit : IsWellFormed m
   pub long : length marking.bits ≡ length m.objects
@@ -24,10 +25,15 @@ pub record IsMarkedWhole (m : Machine) (marking : Marking) : Type 0 where
   pub roots : (s : ℕ) → s ∈ roots m → IsMarked marking s
   pub closed : (s t : ℕ) → IsMarked marking s → t ∈ edges_from Strong m.objects s → IsMarked marking t
 
--- The marked objects are kept by a collection that counts them as reachable, the choice says so, and n is what it leaves of m
+-- The marked objects are kept by a collection that counts them as reachable, the choice says so, and n is what it
+-- leaves of m
 pub record Flips (m : Machine) (marking : Marking) (old new : Choosing) (n : Machine) : Type 0 where
   pub pending : List ℕ
   pub chosen : new ≡ collecting old (marked_below marking (length m.objects)) pending
-  pub collection : IsCollection m.objects (roots m ++ marked_below marking (length m.objects)) (marked_below marking (length m.objects)) pending
-  pub left : n ≡ record m { objects = places_left (marked_below marking (length m.objects)) pending 0 m.objects; pending = m.pending ++ pending }
+  pub collection : IsCollection m.objects (roots m ++ marked_below marking (length m.objects))
+      (marked_below marking (length m.objects)) pending
+  pub left : n ≡ record m {
+    objects = places_left (marked_below marking (length m.objects)) pending 0 m.objects;
+    pending = m.pending ++ pending;
+  }
   pub counted : occupied n.objects ≡ length (marked_below marking (length m.objects))

@@ -1,8 +1,11 @@
--- What a collection does to a place: a marked object loses a referent that is not marked; then all that is not marked is removed.
-use Rattle.std.specs.Prelude.{◌≡◌, ◌<◌, ℕ, Bool, true, cond, not, ◌&&◌, length, List, [], ◌∷◌, ◌++◌, filter, Option, Some, None, option_map, slice_set}
+-- What a collection does to a place: a marked object loses a referent that is not marked; then all that is not marked
+-- is removed.
+use Rattle.std.specs.Prelude.{◌≡◌, ◌<◌, ℕ, Bool, true, cond, not, ◌&&◌, length, List, [], ◌∷◌, ◌++◌, filter, Option}
+use Rattle.std.specs.Prelude.{Some, None, option_map, slice_set}
 use Rattle.jlr_machine.specs.declared.object.Object.{Object}
 use Rattle.jlr_machine.specs.ReachSet.{up_to}
-use Rattle.jlr_machine.specs.Objects.{◌∈◌, ◌∋◌, Heap, any_referent, at, is_distinct, some_and, with_cleanable, with_reference}
+use Rattle.jlr_machine.specs.Objects.{◌∈◌, ◌∋◌, Heap, any_referent, at, is_distinct, some_and, with_cleanable}
+use Rattle.jlr_machine.specs.Objects.{with_reference}
 use Rattle.jlr_machine.specs.Collection.{is_ready, made_pending}
 use Rattle.jlr_machine.specs.Choices.{Choosing, collecting, pended_by}
 use Rattle.jlr_barrier.specs.Graphs.{Graph}
@@ -22,7 +25,9 @@ loses m o = is_ready o && some_and (λ x. not (is_marked m x)) (any_referent o)
 
 -- an object without a referent that is not marked; it is pending, if it was ready and lost one
 abbrev pub settled_object : Marking → Object → Object
-settled_object m o = made_pending (loses m o) (with_reference (λ r. record r { referent = marked_referent m r.referent }) (with_cleanable (λ c. record c { referent = marked_referent m c.referent }) o))
+settled_object m o = made_pending (loses m o)
+    (with_reference (λ r. record r { referent = marked_referent m r.referent })
+    (with_cleanable (λ c. record c { referent = marked_referent m c.referent }) o))
 
 -- a marked object so, and nothing else
 abbrev pub settled : Marking → ℕ → Option Object → Option Object
@@ -34,7 +39,11 @@ only_if b s = cond b (s ∷ []) []
 
 -- the object o at s is settled; it goes on the pending list, if it was ready and lost a referent
 abbrev pub with_settled : Marking → Graph → ℕ → Object → Graph
-with_settled m g s o = record g { objects = slice_set g.objects s (Some (settled_object m o)); pending = g.pending ++ only_if (loses m o) s }
+with_settled m g s o = record g {
+  objects = slice_set g.objects s (Some (settled_object m o));
+  pending = g.pending
+      ++ only_if (loses m o) s;
+}
 
 -- what is at s becomes pending
 abbrev pub is_losing : Marking → Heap → ℕ → Bool
@@ -48,11 +57,16 @@ abbrev pub cleared : Marking → ℕ → Option Object → Option Object
 cleared m s o = cond (is_marked m s) (option_map (settled_object m) o) o
 
 abbrev pub cleared_graph : Marking → Graph → ℕ → Graph
-cleared_graph m g s = record g { objects = slice_set g.objects s (cleared m s (at g.objects s)); pending = g.pending ++ newly_pending m g.objects s }
+cleared_graph m g s = record g {
+  objects = slice_set g.objects s (cleared m s (at g.objects s));
+  pending = g.pending
+      ++ newly_pending m g.objects s;
+}
 
--- What is at the marked ones of these slots is settled, and all else is as it was. The lost ones, each of them once, become pending, and the
--- choice says so
-pub record Clears (m : Marking) (slots : List ℕ) (old : Graph) (before : Choosing) (lost : List ℕ) (new : Graph) (after : Choosing) : Type 0 where
+-- What is at the marked ones of these slots is settled, and all else is as it was. The lost ones, each of them once,
+-- become pending, and the choice says so
+pub record Clears (m : Marking) (slots : List ℕ) (old : Graph) (before : Choosing) (lost : List ℕ) (new : Graph)
+    (after : Choosing) : Type 0 where
   pub long : length new.objects ≡ length old.objects
   pub objects : (s : ℕ) → at new.objects s ≡ cond (slots ∋ s) (cleared m s (at old.objects s)) (at old.objects s)
   pub pending : new.pending ≡ old.pending ++ lost

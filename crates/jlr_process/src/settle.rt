@@ -1,5 +1,6 @@
 //! One place of the heap.
-ghost use Rattle.std.specs.Prelude.{◌≡◌, ℕ, ◌<◌, ◌++◌, ◌∷◌, [], IsTrue, Some, cond, length, option_and_then, option_map, slice_set};
+ghost use Rattle.std.specs.Prelude.{◌≡◌, ℕ, ◌<◌, ◌++◌, ◌∷◌, [], IsTrue, Some, cond, length, option_and_then};
+ghost use Rattle.std.specs.Prelude.{option_map, slice_set};
 ghost use Rattle.jlr_machine.specs.declared.object.Object.TheVariants as object;
 ghost use Rattle.jlr_machine.specs.Objects.{◌∈◌, any_referent, as_cleanable, as_reference, at};
 ghost use Rattle.jlr_cells.specs.Contents.{kind_of};
@@ -7,7 +8,8 @@ ghost use Rattle.jlr_machine.specs.Collection.{is_ready};
 ghost use Rattle.jlr_machine.specs.Choices.{collecting, kept_by, pended_by};
 ghost use Rattle.jlr_marks.specs.Marking.{IsMarked, is_marked};
 ghost use Rattle.jlr_barrier.specs.Graphs.{with_objects};
-ghost use Rattle.jlr_process.specs.Settling.{cleared_graph, newly_pending, is_losing, kept_at, loses, only_if, with_settled};
+ghost use Rattle.jlr_process.specs.Settling.{cleared_graph, newly_pending, is_losing, kept_at, loses, only_if};
+ghost use Rattle.jlr_process.specs.Settling.{with_settled};
 
 use jlr_barrier::Heap;
 use jlr_cells::Kind;
@@ -27,15 +29,18 @@ fn settle_reference(heap: &mut Heap, slot: Slot, reference: Reference, choice: &
     requires here { at heap.old.graph.objects slot ≡ Some (object.Reference reference) }
     requires marked { IsMarked heap.old.marking slot }
     requires within { (x : ℕ) → reference.referent ≡ Some x → x < length heap.old.graph.objects }
-    requires pending { IsTrue (loses heap.old.marking (object.Reference reference)) → ¬ (slot ∈ heap.old.graph.pending) }
+    requires pending { IsTrue (loses heap.old.marking (object.Reference reference))
+        → ¬ (slot ∈ heap.old.graph.pending) }
     requires line { IsTrue (loses heap.old.marking (object.Reference reference)) → ¬ (slot ∈ heap.old.graph.line) }
-    requires pended { IsTrue (loses heap.old.marking (object.Reference reference)) → length (pended_by choice.old) < choice.old.cells }
+    requires pended { IsTrue (loses heap.old.marking (object.Reference reference))
+        → length (pended_by choice.old) < choice.old.cells }
     requires collects { choice.old ≡ collecting choice.old (kept_by choice.old) (pended_by choice.old) }
     ensures graph { heap.new.graph ≡ with_settled heap.old.marking heap.old.graph slot (object.Reference reference) }
     ensures clock { heap.new.clock ≡ heap.old.clock }
     ensures marking { heap.new.marking ≡ heap.old.marking }
     ensures condemned { heap.new.condemned ≡ heap.old.condemned }
-    ensures choice { choice.new ≡ collecting choice.old (kept_by choice.old) (pended_by choice.old ++ only_if (loses heap.old.marking (object.Reference reference)) slot) }
+    ensures choice { choice.new ≡ collecting choice.old (kept_by choice.old)
+        (pended_by choice.old ++ only_if (loses heap.old.marking (object.Reference reference)) slot) }
 {
     let Some(referent) = reference.referent else {
         return;
@@ -63,15 +68,18 @@ fn settle_cleanable(heap: &mut Heap, slot: Slot, cleanable: Cleanable, choice: &
     requires here { at heap.old.graph.objects slot ≡ Some (object.Cleanable cleanable) }
     requires marked { IsMarked heap.old.marking slot }
     requires within { (x : ℕ) → cleanable.referent ≡ Some x → x < length heap.old.graph.objects }
-    requires pending { IsTrue (loses heap.old.marking (object.Cleanable cleanable)) → ¬ (slot ∈ heap.old.graph.pending) }
+    requires pending { IsTrue (loses heap.old.marking (object.Cleanable cleanable))
+        → ¬ (slot ∈ heap.old.graph.pending) }
     requires line { IsTrue (loses heap.old.marking (object.Cleanable cleanable)) → ¬ (slot ∈ heap.old.graph.line) }
-    requires pended { IsTrue (loses heap.old.marking (object.Cleanable cleanable)) → length (pended_by choice.old) < choice.old.cells }
+    requires pended { IsTrue (loses heap.old.marking (object.Cleanable cleanable))
+        → length (pended_by choice.old) < choice.old.cells }
     requires collects { choice.old ≡ collecting choice.old (kept_by choice.old) (pended_by choice.old) }
     ensures graph { heap.new.graph ≡ with_settled heap.old.marking heap.old.graph slot (object.Cleanable cleanable) }
     ensures clock { heap.new.clock ≡ heap.old.clock }
     ensures marking { heap.new.marking ≡ heap.old.marking }
     ensures condemned { heap.new.condemned ≡ heap.old.condemned }
-    ensures choice { choice.new ≡ collecting choice.old (kept_by choice.old) (pended_by choice.old ++ only_if (loses heap.old.marking (object.Cleanable cleanable)) slot) }
+    ensures choice { choice.new ≡ collecting choice.old (kept_by choice.old)
+        (pended_by choice.old ++ only_if (loses heap.old.marking (object.Cleanable cleanable)) slot) }
 {
     let Some(referent) = cleanable.referent else {
         return;
@@ -87,18 +95,23 @@ fn settle_cleanable(heap: &mut Heap, slot: Slot, cleanable: Cleanable, choice: &
     }
 }
 
-/// What is at a slot, if it is marked, loses a referent that is not. If it was ready, it is put on the pending list, and the choice is told.
+/// What is at a slot, if it is marked, loses a referent that is not. If it was ready, it is put on the pending list,
+/// and the choice is told.
 pub(crate) fn settle(heap: &mut Heap, slot: Slot, choice: &mut Choice)
-    requires within { (x : ℕ) → option_and_then any_referent (at heap.old.graph.objects slot) ≡ Some x → x < length heap.old.graph.objects }
-    requires pending { IsTrue (is_losing heap.old.marking heap.old.graph.objects slot) → ¬ (slot ∈ heap.old.graph.pending) }
+    requires within { (x : ℕ) → option_and_then any_referent (at heap.old.graph.objects slot) ≡ Some x
+        → x < length heap.old.graph.objects }
+    requires pending { IsTrue (is_losing heap.old.marking heap.old.graph.objects slot)
+        → ¬ (slot ∈ heap.old.graph.pending) }
     requires line { IsTrue (is_losing heap.old.marking heap.old.graph.objects slot) → ¬ (slot ∈ heap.old.graph.line) }
-    requires pended { IsTrue (is_losing heap.old.marking heap.old.graph.objects slot) → length (pended_by choice.old) < choice.old.cells }
+    requires pended { IsTrue (is_losing heap.old.marking heap.old.graph.objects slot)
+        → length (pended_by choice.old) < choice.old.cells }
     requires collects { choice.old ≡ collecting choice.old (kept_by choice.old) (pended_by choice.old) }
     ensures graph { heap.new.graph ≡ cleared_graph heap.old.marking heap.old.graph slot }
     ensures clock { heap.new.clock ≡ heap.old.clock }
     ensures marking { heap.new.marking ≡ heap.old.marking }
     ensures condemned { heap.new.condemned ≡ heap.old.condemned }
-    ensures choice { choice.new ≡ collecting choice.old (kept_by choice.old) (pended_by choice.old ++ newly_pending heap.old.marking heap.old.graph.objects slot) }
+    ensures choice { choice.new ≡ collecting choice.old (kept_by choice.old)
+        (pended_by choice.old ++ newly_pending heap.old.marking heap.old.graph.objects slot) }
 {
     let kind = heap.kind(slot);
     if kind.is_none() || !heap.is_marked(slot) {

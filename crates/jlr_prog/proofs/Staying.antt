@@ -21,7 +21,8 @@ use Rattle.jlr_machine.specs.declared.entry.Entry.{Entry}
 use Rattle.jlr_machine.specs.declared.entry.Collected.{Collected}
 use Rattle.jlr_machine.specs.Objects.{at, with_reference, as_reference, queue_ahead}
 use Rattle.jlr_machine.specs.Lookups.{with_object, with_session, rid_of, job_of, cleanable_at, on}
-use Rattle.jlr_machine.specs.Calls.{after, made, with_given, unreferred, to_queue, enqueued, polled, handed, delivered, handed_over, with_work_state, without_work_resource, taken_up, line_taken, from_lined, finished, free_again}
+use Rattle.jlr_machine.specs.Calls.{after, made, with_given, unreferred, to_queue, enqueued, polled, handed, delivered, handed_over}
+use Rattle.jlr_machine.specs.Calls.{with_work_state, without_work_resource, taken_up, line_taken, from_lined, finished, free_again}
 use Rattle.jlr_machine.specs.Run.{with_collection, carried, apply}
 use Rattle.jlr_machine.specs.WellFormed.{IsCallOf}
 use Rattle.jlr_laws.proofs.Changes.{change_here}
@@ -57,7 +58,8 @@ module _ (call : Call) where
 
   enqueued_stays : (m : Machine) (s : ℕ) → IsIn m → IsIn (enqueued m s)
   enqueued_stays m s h =
-      to_queue_stays (with_object m s (with_reference unreferred)) s (option_and_then queue_ahead (option_and_then as_reference (at m.objects s))) h
+      to_queue_stays (with_object m s (with_reference unreferred)) s
+      (option_and_then queue_ahead (option_and_then as_reference (at m.objects s))) h
 
   pub asked_enqueue_stays : (m : Machine) (s : Option ℕ) → IsIn m → IsIn (on s (enqueued m) m)
   asked_enqueue_stays m None h = h
@@ -86,7 +88,11 @@ module _ (call : Call) where
   handed_over_stays : (m : Machine) (pending : List ℕ) → IsIn m → IsIn (handed_over m pending)
   handed_over_stays m [] h = h
   handed_over_stays m (s ∷ rest) h =
-      elim (at m.objects s) as (λ o. IsIn (elim o as (λ _. Machine) [ None ↦ record m { pending = rest } | Some o ↦ delivered (record m { pending = rest }) s (handed o) ])) [
+      elim (at m.objects s) as (λ o. IsIn (elim o as (λ _. Machine) [
+        | None ↦ record m { pending = rest }
+        | Some o ↦
+            delivered (record m { pending = rest }) s (handed o)
+      ])) [
         | None ↦ h
         | Some o ↦ delivered_stays (record m { pending = rest }) s (handed o) h
       ]
@@ -106,7 +112,11 @@ module _ (call : Call) where
   line_taken_stays : (m : Machine) (line : List ℕ) → IsIn m → IsIn (line_taken m line)
   line_taken_stays m [] h = h
   line_taken_stays m (s ∷ rest) h =
-      elim (cleanable_at m s) as (λ c. IsIn (elim c as (λ _. Machine) [ None ↦ record m { line = rest } | Some c ↦ taken_up (record m { line = rest }) 255 s c ])) [
+      elim (cleanable_at m s) as (λ c. IsIn (elim c as (λ _. Machine) [
+        | None ↦ record m { line = rest }
+        | Some c ↦
+            taken_up (record m { line = rest }) 255 s c
+      ])) [
         | None ↦ h
         | Some c ↦ taken_up_stays (record m { line = rest }) 255 s c h
       ]
@@ -122,7 +132,8 @@ module _ (call : Call) where
   finished_stays m job OutcomeOk h = work_resource_stays _ (rid_of job.work) h
   finished_stays m job (Failed fault) h = work_resource_stays _ (rid_of job.work) h
 
-  asked_finish_stays : (m : Machine) (outcome : Outcome) (job : Option JobOf) → IsIn m → IsIn (on job (λ job. free_again (finished m job outcome) 255) m)
+  asked_finish_stays : (m : Machine) (outcome : Outcome) (job : Option JobOf) → IsIn m
+      → IsIn (on job (λ job. free_again (finished m job outcome) 255) m)
   asked_finish_stays m outcome None h = h
   asked_finish_stays m outcome (Some job) h = finished_stays m job outcome h
 
@@ -135,7 +146,8 @@ module _ (call : Call) where
   collected_stays m None h = h
   collected_stays m (Some c) h = h
 
-  carried_stays : (m : Machine) (ask : Ask) (answer : Answer) (fresh : List ℕ) → IsIn m → IsIn (after m ask answer fresh) → IsIn (carried m ask answer fresh)
+  carried_stays : (m : Machine) (ask : Ask) (answer : Answer) (fresh : List ℕ) → IsIn m → IsIn (after m ask answer fresh)
+      → IsIn (carried m ask answer fresh)
   carried_stays m ask (Refused by) fresh h n = h
   carried_stays m ask a fresh h n = n
 

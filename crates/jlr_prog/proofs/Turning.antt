@@ -13,8 +13,10 @@ abbrev pub IsTurnAlong : {H X : Type 0} → (H → H → Type 0) → (X → X �
 IsTurnAlong {H} {X} turn other S = (h k : H) (x : X) → turn h k → S h x → (y : X) × other x y × S k y
 
 -- an event that is asked in one way is asked in another as well, with the same reply
-abbrev pub IsAskAlong : {H X R : Type 0} → (H → Event R → Reply R → H → Type 0) → (X → Event R → Reply R → X → Type 0) → (H → X → Type 0) → Event R → Type 0
-IsAskAlong {H} {X} {R} asks tells S event = (h k : H) (x : X) (reply : Reply R) → asks h event reply k → S h x → (y : X) × tells x event reply y × S k y
+abbrev pub IsAskAlong : {H X R : Type 0} → (H → Event R → Reply R → H → Type 0) → (X → Event R → Reply R → X → Type 0) → (H → X → Type 0)
+    → Event R → Type 0
+IsAskAlong {H} {X} {R} asks tells S event = (h k : H) (x : X) (reply : Reply R) → asks h event reply k → S h x → (y : X)
+    × tells x event reply y × S k y
 
 -- and so are all events of a settling, over the same lists
 pub record IsSettledAlong {H X R : Type 0} (helpers : Helpers H R) (others : Helpers X R) (S : H → X → Type 0) : Type 0 where
@@ -32,20 +34,31 @@ turns_along turn other S f (next ∷ later) h k x e s =
     let more = turns_along turn other S f later next k one.0 e.1 one.2 in
     (more.0, one.0 ∷ more.1, (one.1, more.2), more.3)
 
-module _ {H X : Type 0} (turn : H → H → Type 0) (other : X → X → Type 0) (left : H → List ℕ) (remains : X → List ℕ) (S : H → X → Type 0) (f : IsTurnAlong turn other S)
+module _ {H X : Type 0} (turn : H → H → Type 0) (other : X → X → Type 0) (left : H → List ℕ) (remains : X → List ℕ) (S : H → X → Type 0)
+    (f : IsTurnAlong turn other S)
     (same : (h : H) (x : X) → S h x → remains x ≡ left h) where
   to_the_end_along : IsTurnAlong (TurnsToTheEnd turn left) (TurnsToTheEnd other remains) S
   to_the_end_along h k x u s =
       let on = turns_along turn other S f u.states h k x u.turns s in
       (on.0, record { states = on.1; turns = on.2; nothing_left = same k on.0 on.3 ∙ u.nothing_left }, on.3)
 
-  until_refused_along : {R : Type 0} (asks : H → Event R → Reply R → H → Type 0) (tells : X → Event R → Reply R → X → Type 0) (event : Event R) → IsAskAlong asks tells S event
+  until_refused_along : {R : Type 0} (asks : H → Event R → Reply R → H → Type 0) (tells : X → Event R → Reply R → X → Type 0)
+      (event : Event R) → IsAskAlong asks tells S event
       → IsTurnAlong (TurnsUntilRefused asks turn event left) (TurnsUntilRefused tells other event remains) S
   until_refused_along asks tells event g h k x u s =
       let on = turns_along turn other S f u.states h u.before x u.turns s in
       let one = g u.before k on.0 u.last u.asked on.3 in (
         one.0,
-        record { states = on.1; before = on.0; last = u.last; turns = on.2; something_left = λ e. u.something_left (sym (same u.before on.0 on.3) ∙ e); asked = one.1; refused = u.refused },
+        record {
+          states = on.1;
+          before = on.0;
+          last = u.last;
+          turns =
+              on.2;
+          something_left = λ e. u.something_left (sym (same u.before on.0 on.3) ∙ e);
+          asked = one.1;
+          refused = u.refused;
+        },
         one.2,
       )
 
@@ -73,19 +86,23 @@ module _ {H X R : Type 0} (helpers : Helpers H R) (others : Helpers X R) (S : H 
 
   cleans_along : (resource : Handling R) → IsTurnAlong (Cleans helpers resource) (Cleans others resource) S
   cleans_along resource h k x t s = elim t [
-    | inl u ↦ let d = to_the_end_along (Works helpers resource) (Works others resource) helpers.line others.line S (works_along resource) f.same_line h k x u s in (d.0, inl d.1, d.2)
+    | inl u ↦ let d = to_the_end_along (Works helpers resource) (Works others resource) helpers.line others.line S (works_along resource)
+        f.same_line h k x u s in (d.0, inl d.1, d.2)
     | inr u ↦
-        let d = until_refused_along (Works helpers resource) (Works others resource) helpers.line others.line S (works_along resource) f.same_line helpers.cleans others.cleans (Asks TakeUp) f.takes_up h k x u s in
+        let d = until_refused_along (Works helpers resource) (Works others resource) helpers.line others.line S (works_along resource)
+        f.same_line helpers.cleans others.cleans (Asks TakeUp) f.takes_up h k x u s in
         (d.0, inr d.1, d.2)
   ]
 
   pub settles_along : (resource : Handling R) → IsTurnAlong (Settles helpers resource) (Settles others resource) S
   settles_along resource h k x t s = elim t [
     | inl u ↦
-        let d = to_the_end_along (HandsOver helpers) (HandsOver others) helpers.pending others.pending S hands_over_along f.same_pending h u.0 x u.1 s in
+        let d = to_the_end_along (HandsOver helpers) (HandsOver others) helpers.pending others.pending S hands_over_along f.same_pending h
+        u.0 x u.1 s in
         let e = cleans_along resource u.0 k d.0 u.2 d.2 in
         (e.0, inl (d.0, d.1, e.1), e.2)
     | inr u ↦
-        let d = until_refused_along (HandsOver helpers) (HandsOver others) helpers.pending others.pending S hands_over_along f.same_pending helpers.hands others.hands (Asks HandOver) f.hands_over h k x u s in
+        let d = until_refused_along (HandsOver helpers) (HandsOver others) helpers.pending others.pending S hands_over_along f.same_pending
+        helpers.hands others.hands (Asks HandOver) f.hands_over h k x u s in
         (d.0, inr d.1, d.2)
   ]

@@ -23,13 +23,15 @@ IsOk ask e = (e.seat ≡ 0) × (e.ask ≡ ask) × (e.answer ≡ Done)
 -- the join first and the leave last; or nothing, where there was no memory for the join's place
 abbrev pub FromJoinToLeave : List Entry → Type 0
 FromJoinToLeave entries =
-    ((first : Entry) × (between : List Entry) × (last : Entry) × (entries ≡ first ∷ (between ++ last ∷ [])) × IsOk (Join 0) first × IsOk (Leave 0) last) ⊎ (entries ≡ [])
+    ((first : Entry) × (between : List Entry) × (last : Entry) × (entries ≡ first ∷ (between ++ last ∷ []))
+    × IsOk (Join 0) first × IsOk (Leave 0) last) ⊎ (entries ≡ [])
 
--- A session over the empty heap of these limits, which left this book: mutator 0 joins, the bytes that came in, those that went out and the
--- calls of the device belong to what is asked then, and mutator 0 leaves. An ask that the book declines is no entry. All entries since opening, those
--- among them that cuts let go, are a run of the machine to one for which the book's core stands, and keep what the package promises. at_end says that the
--- input is at its end
-pub record IsSession {D R : Type 0} (device : Opening D R) (resource : Handling R) (limits : Limits) (at_end : Type 0) (end : SessionEnd) (bytes : List ℕ) (d : D) (out : List ℕ) (d' : D) (book : History R) : Type 0 where
+-- A session over the empty heap of these limits, which left this book: mutator 0 joins, the bytes that came in, those
+-- that went out and the calls of the device belong to what is asked then, and mutator 0 leaves. An ask that the book
+-- declines is no entry. All entries since opening, those among them that cuts let go, are a run of the machine to one
+-- for which the book's core stands, and keep what the package promises. at_end says that the input is at its end
+pub record IsSession {D R : Type 0} (device : Opening D R) (resource : Handling R) (limits : Limits) (at_end : Type 0)
+    (end : SessionEnd) (bytes : List ℕ) (d : D) (out : List ℕ) (d' : D) (book : History R) : Type 0 where
   pub start : Whole R
   pub over : Whole R
   pub last : Machine

@@ -24,12 +24,16 @@ since_opening x = x.earlier ++ x.book.entries
 
 -- the entry by which a cut gives up an open cycle; it is of the seat whose ask cuts
 abbrev pub given_up : ℕ → Machine → List Entry
-given_up seat m = cond m.cycle_open (record { seat = seat; ask = Abandon; answer = Truth true; choice = no_choice } ∷ []) []
+given_up seat m =
+    cond m.cycle_open (record { seat = seat; ask = Abandon; answer = Truth true; choice = no_choice } ∷ []) []
 
--- A step of the book. Where its base rose there was a cut, which let go the trace, and the entry of a cycle that it gave up.
-pub record WholeSteps {R : Type 0} (seat : ℕ) (old : Whole R) (event : Event R) (reply : Reply R) (new : Whole R) : Type 0 where
+-- A step of the book. Where its base rose there was a cut, which let go the trace, and the entry of a cycle that it
+-- gave up.
+pub record WholeSteps {R : Type 0} (seat : ℕ) (old : Whole R) (event : Event R) (reply : Reply R) (new : Whole R) : Type
+    0 where
   pub book : BookSteps seat old.book event reply new.book
-  pub earlier : new.earlier ≡ old.earlier ++ cond (nat_lt old.book.base new.book.base) (old.book.entries ++ given_up seat old.book.core.machine) []
+  pub earlier : new.earlier ≡ old.earlier ++ cond (nat_lt old.book.base new.book.base)
+      (old.book.entries ++ given_up seat old.book.core.machine) []
 
 -- the handler and the cleaner of a book
 abbrev pub at_whole : {R : Type 0} → Helpers (Whole R) R

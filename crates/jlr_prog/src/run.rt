@@ -40,10 +40,17 @@ where
         × Consumes (R.remaining reader.old) (R.remaining reader.new) bytes
         × Appends (W.contents writer.old) (W.contents writer.new) out
         × (length bytes ≤ most_bytes)
-        × IsSession (record { count = D.count; opens = D.may_open; connects = D.may_connect; failures = D.Res.handling.count })
+        × IsSession (record {
+          count =
+              D.count;
+          opens = D.may_open;
+          connects = D.may_connect;
+          failures = D.Res.handling.count;
+        })
         D.Res.handling
         limits (FindsEnd (R.remaining reader.new) bytes) x.0 bytes device.old out device.new x.1) }
-    ensures untouched { IfErr result (λ _. (reader.new ≡ reader.old) × (writer.new ≡ writer.old) × (device.new ≡ device.old)) }
+    ensures untouched { IfErr result (λ _. (reader.new ≡ reader.old) × (writer.new ≡ writer.old)
+        × (device.new ≡ device.old)) }
 {
     let mut solo = Solo::new(alloc, limits)?;
     let end = serve(reader, writer, &mut solo, device);

@@ -1,6 +1,7 @@
 //! Tests of whole sessions: the commands of each, and what they are answered.
 //!
-//! They stand in a crate of their own, over the session of `jlr_prog`, so that it is proved once and not a second time with them.
+//! They stand in a crate of their own, over the session of `jlr_prog`, so that it is proved once and not a second time
+//! with them.
 #![tactic(auto)]
 
 #[cfg(test)]

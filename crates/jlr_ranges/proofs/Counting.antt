@@ -1,5 +1,6 @@
 -- How long a list may be: one without repeats below a number, and one whose keys have numbers of their own.
-use Rattle.std.proofs.Common.{◌≡◌, ◌≢◌, ◌&&◌, ◌||◌, ◌<◌, ◌≤◌, ℕ, suc, Bool, true, false, cond, not, List, [], ◌∷◌, length, map, refl, sym, ap, ◌∙◌, subst, inl, inr, arith, nat_lt, nat_eq, ◌==◌, Some, None, count_by}
+use Rattle.std.proofs.Common.{◌≡◌, ◌≢◌, ◌&&◌, ◌||◌, ◌<◌, ◌≤◌, ℕ, suc, Bool, true, false, cond, not, List, [], ◌∷◌, length, map, refl, sym}
+use Rattle.std.proofs.Common.{ap, ◌∙◌, subst, inl, inr, arith, nat_lt, nat_eq, ◌==◌, Some, None, count_by}
 use Rattle.std.specs.List.{IsDistinct, AllByRecursion}
 use Rattle.std.proofs.lemmas.Bool.{both_ways, and_parts, eqb-true, eq-eqb, ltb-true, cond-true}
 use Rattle.std.proofs.lemmas.List.Sums.{sum_by-cons}
@@ -20,7 +21,11 @@ apart x [] h = tt
 apart x (y ∷ ys) h = let both = or_gives (nat_eq x y) (ys ∋ x) h in (both.0, apart x ys both.1)
 
 distinct_gives : (x : ℕ) (xs : List ℕ) → is_distinct (x ∷ xs) ≡ true → ((xs ∋ x) ≡ false) × (is_distinct xs ≡ true)
-distinct_gives x xs h = elim (xs ∋ x) as (λ b. (not b && is_distinct xs) ≡ true → (b ≡ false) × (is_distinct xs ≡ true)) [ true ↦ λ e. absurd (both_ways false refl e) | false ↦ λ e. (refl, e) ] h
+distinct_gives x xs h = elim (xs ∋ x) as (λ b. (not b && is_distinct xs) ≡ true → (b ≡ false) × (is_distinct xs ≡ true)) [
+  | true ↦
+      λ e. absurd (both_ways false refl e)
+  | false ↦ λ e. (refl, e)
+] h
 
 distinct_from : (x : ℕ) (xs : List ℕ) → (xs ∋ x) ≡ false → is_distinct xs ≡ true → is_distinct (x ∷ xs) ≡ true
 distinct_from x xs h d = subst (λ b. (not b && is_distinct xs) ≡ true) (sym h) d
@@ -53,7 +58,8 @@ rising_distinct (x ∷ xs) r =
     distinct_from x xs (above_all x xs both.0 both.1) (rising_distinct xs both.1)
 
 module _ {A : Type 0} (key : A → ℕ) where
-  rises_after : (before : ℕ) (xs : List A) → is_above before (map key xs) ≡ true → is_rising (map key xs) ≡ true → Rises key (Some before) xs
+  rises_after : (before : ℕ) (xs : List A) → is_above before (map key xs) ≡ true → is_rising (map key xs) ≡ true
+      → Rises key (Some before) xs
   rises_after before [] a r = tt
   rises_after before (x ∷ xs) a r =
       let here = and_parts (nat_lt before (key x)) (is_above before (map key xs)) a in
@@ -84,12 +90,14 @@ module _ {A : Type 0} (key : A → ℕ) where
   counted_one p (y ∷ ys) a x e t =
       let f : A → ℕ = λ z. cond (p z) 1 0 in
       elim (key y == a) as (λ b. cond b (Some y) (by_key key ys a) ≡ Some x → 1 ≤ count_by p (y ∷ ys)) [
-        | true ↦ λ g. let same : y ≡ x = cc g in let here : f y ≡ 1 = cond-true (p y) 1 0 (subst (λ z. p z ≡ true) (sym same) t) in omega (arith, sum_by-cons f y ys, here)
+        | true ↦ λ g. let same : y ≡ x = cc g in let here : f y ≡ 1 = cond-true (p y) 1 0 (subst (λ z. p z ≡ true) (sym same) t) in
+            omega (arith, sum_by-cons f y ys, here)
         | false ↦ λ g. let rest = counted_one p ys a x g t in omega (arith, sum_by-cons f y ys, rest)
       ] e
 
   -- two with keys of their own are counted twice
-  pub counted_two : (p : A → Bool) (xs : List A) (a b : ℕ) (x y : A) → a ≢ b → by_key key xs a ≡ Some x → by_key key xs b ≡ Some y → p x ≡ true → p y ≡ true → 2 ≤ count_by p xs
+  pub counted_two : (p : A → Bool) (xs : List A) (a b : ℕ) (x y : A) → a ≢ b → by_key key xs a ≡ Some x → by_key key xs b ≡ Some y
+      → p x ≡ true → p y ≡ true → 2 ≤ count_by p xs
   counted_two p [] a b x y d e g t u = no_some x e
   counted_two p (z ∷ zs) a b x y d e g t u =
       let f : A → ℕ = λ w. cond (p w) 1 0 in
@@ -146,7 +154,11 @@ module _ (P : ℕ → ℕ → Type 0) (bound : ℕ) (one : (j k n : ℕ) → P j
         numbers = here.0 ∷ rest.numbers;
         size = ap suc rest.size;
         distinct = distinct_from here.0 rest.numbers new rest.distinct;
-        below = λ n h. elim (in_cons n here.0 rest.numbers h) [ inl same ↦ subst (λ j. j < bound) (sym same) here.1 | inr later ↦ rest.below n later ];
+        below = λ n h. elim (in_cons n here.0 rest.numbers h) [
+          | inl same ↦ subst (λ j. j < bound) (sym same) here.1
+          | inr later ↦
+              rest.below n later
+        ];
         from = λ n h. elim (in_cons n here.0 rest.numbers h) [
           | inl same ↦ (k, in_front k k keys refl, subst (λ j. P k j) (sym same) here.2)
           | inr later ↦ let older = rest.from n later in (older.0, in_rest older.0 k keys older.1, older.2)

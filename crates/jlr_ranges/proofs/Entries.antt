@@ -6,7 +6,8 @@ use Rattle.std.proofs.lemmas.Bool.{leb-true}
 use Rattle.jlr_types.specs.declared.RefKind.TheVariants.{Soft}
 use Rattle.jlr_machine.specs.declared.machine.Machine.{Machine}
 use Rattle.jlr_machine.specs.declared.ask.Ask.{Ask}
-use Rattle.jlr_machine.specs.declared.ask.Ask.TheVariants.{Full, Collect, Prepare, Names as AskNames, Notes as AskNotes, Faults as AskFaults, CheckIn}
+use Rattle.jlr_machine.specs.declared.ask.Ask.TheVariants.{Full, Collect, Prepare, Names as AskNames, Notes as AskNotes}
+use Rattle.jlr_machine.specs.declared.ask.Ask.TheVariants.{Faults as AskFaults, CheckIn}
 use Rattle.jlr_machine.specs.declared.ask.CallOutcome.TheVariants.{Data as GotData, Wrote as GotWrote, Failed as GotFailed}
 use Rattle.jlr_machine.specs.declared.ask.FullMode.TheVariants.{Policy, ClearAll}
 use Rattle.jlr_machine.specs.declared.ask.Answer.{Answer}
@@ -52,9 +53,11 @@ module _ (m : Machine) (w : IsWellFormed m) where
   full_below kept pending c s h =
       let i = well_formed_within m w in
       let live = kept_is_live m.objects (roots m) kept pending c i.edges s h in
-      let edges = within_after Soft (IsDropped m.objects (roots m) kept) m.objects c.soft_left c.soft.1 (drop_decided m.objects (roots m) kept i.edges) i.edges in
+      let edges = within_after Soft (IsDropped m.objects (roots m) kept) m.objects c.soft_left c.soft.1
+      (drop_decided m.objects (roots m) kept i.edges) i.edges in
       let base : (x : ℕ) → x ∈ roots m → x < length c.soft_left = λ x k. subst (λ (n : ℕ). x < n) (sym c.soft.1.cells) (i.base x k) in
-      let lt = reached_below UpToSoft c.soft_left (roots m) s (reached_complete UpToSoft c.soft_left (roots m) (narrow UpToSoft c.soft_left (roots m) edges) base s live) in
+      let lt = reached_below UpToSoft c.soft_left (roots m) s
+      (reached_complete UpToSoft c.soft_left (roots m) (narrow UpToSoft c.soft_left (roots m) edges) base s live) in
       subst (λ (n : ℕ). s < n) c.soft.1.cells lt
 
   tame : (B : List ℕ) (c : Collected) → IsCollection m.objects B c.kept c.pending → ((s : ℕ) → s ∈ c.kept → s < length m.objects) → IsTame c
@@ -124,7 +127,11 @@ choice_fits : (m : Machine) (w : IsWellFormed m) (e : Entry) → IsLegal m e →
 choice_fits m w e legal range =
     let few = new_objects_fit m e legal in
     let two = at_most_two e.ask in
-    record { collected = collection_fits e.choice.collected (all_tame m w e legal) range.collected; fresh = record { few = omega (arith, few, two); each = range.fresh } }
+    record {
+      collected = collection_fits e.choice.collected (all_tame m w e legal) range.collected;
+      fresh =
+          record { few = omega (arith, few, two); each = range.fresh };
+    }
 
 -- ---- Answers
 
@@ -156,6 +163,8 @@ entry_fits m w e legal range = record {
   choice = choice_fits m w e legal range.choice;
 }
 
-pub entries_fit : (m n : Machine) (entries : List Entry) → IsWellFormed m → Run m entries n → AllByRecursion EntryRange entries → AllByRecursion (EntryFits Two) entries
+pub entries_fit : (m n : Machine) (entries : List Entry) → IsWellFormed m → Run m entries n → AllByRecursion EntryRange entries
+    → AllByRecursion (EntryFits Two) entries
 entries_fit m n [] w r range = tt
-entries_fit m n (e ∷ entries) w r range = (entry_fits m w e r.0 range.0, entries_fit (apply m e) n entries (legal_kept m e w r.0) r.1 range.1)
+entries_fit m n (e ∷ entries) w r range =
+    (entry_fits m w e r.0 range.0, entries_fit (apply m e) n entries (legal_kept m e w r.0) r.1 range.1)

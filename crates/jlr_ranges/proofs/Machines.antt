@@ -1,5 +1,6 @@
 -- The image of a history has a spelling.
-use Rattle.std.proofs.Common.{◌≡◌, ◌<◌, ◌≤◌, ◌^◌, ◌++◌, ℕ, suc, ◌+◌, false, List, [], ◌∷◌, length, map, option_map, refl, sym, ◌∙◌, ap, subst, arith, Option, Some, None}
+use Rattle.std.proofs.Common.{◌≡◌, ◌<◌, ◌≤◌, ◌^◌, ◌++◌, ℕ, suc, ◌+◌, false, List, [], ◌∷◌, length, map, option_map, refl, sym, ◌∙◌, ap}
+use Rattle.std.proofs.Common.{subst, arith, Option, Some, None}
 use Rattle.std.specs.Prelude.{nat_lt, if◌then◌else◌}
 use Rattle.std.specs.List.{AllByRecursion, list_any}
 use Rattle.std.proofs.lemmas.Bool.{le-ltb}
@@ -66,14 +67,17 @@ module _ (m : Machine) (w : IsWellFormed m) where
         call = range.call;
       }
 
-  sessions_fit : (n : ℕ) (xs : List (Option Session)) → ((k : ℕ) (s : Session) → at xs k ≡ Some s → IsSessionAt m (n + k) s) → AllByRecursion SeatRange xs → AllByRecursion SessionFits (map (option_map session_text) xs)
+  sessions_fit : (n : ℕ) (xs : List (Option Session)) → ((k : ℕ) (s : Session) → at xs k ≡ Some s → IsSessionAt m (n + k) s)
+      → AllByRecursion SeatRange xs → AllByRecursion SessionFits (map (option_map session_text) xs)
   sessions_fit n [] here range = tt
   sessions_fit n (None ∷ xs) here range = (tt, sessions_fit (suc n) xs (λ k s e. moved n k s (here (suc k) s e)) range.1)
-  sessions_fit n (Some s ∷ xs) here range = (session_fits n s (at_first n s (here 0 s refl)) range.0, sessions_fit (suc n) xs (λ k t e. moved n k t (here (suc k) t e)) range.1)
+  sessions_fit n (Some s ∷ xs) here range =
+      (session_fits n s (at_first n s (here 0 s refl)) range.0, sessions_fit (suc n) xs (λ k t e. moved n k t (here (suc k) t e)) range.1)
 
   -- ---- Handles are at most 250, so there are 251 places for them
 
-  none_above : (n : ℕ) (xs : List (Option ℕ)) → n + length xs ≤ 251 → list_any (λ (h : Held). nat_lt 250 h.handle) (listed_from held n xs) ≡ false
+  none_above : (n : ℕ) (xs : List (Option ℕ)) → n + length xs ≤ 251
+      → list_any (λ (h : Held). nat_lt 250 h.handle) (listed_from held n xs) ≡ false
   none_above n [] le = refl
   none_above n (None ∷ xs) le = none_above (suc n) xs (omega (arith, le))
   none_above n (Some s ∷ xs) le =
@@ -85,10 +89,12 @@ module _ (m : Machine) (w : IsWellFormed m) where
       let places = (w.sessions.places k session here).0 in
       places ∙ sym (ap (λ b. if b then 256 else 251) (none_above 0 session.handles (omega (arith, places))))
 
-  all_have_places : (n : ℕ) (xs : List (Option Session)) → ((k : ℕ) (s : Session) → at xs k ≡ Some s → IsSessionAt m (n + k) s) → AllByRecursion HasPlaces xs
+  all_have_places : (n : ℕ) (xs : List (Option Session)) → ((k : ℕ) (s : Session) → at xs k ≡ Some s → IsSessionAt m (n + k) s)
+      → AllByRecursion HasPlaces xs
   all_have_places n [] here = tt
   all_have_places n (None ∷ xs) here = (tt, all_have_places (suc n) xs (λ k s e. moved n k s (here (suc k) s e)))
-  all_have_places n (Some s ∷ xs) here = (has_places n s (at_first n s (here 0 s refl)), all_have_places (suc n) xs (λ k t e. moved n k t (here (suc k) t e)))
+  all_have_places n (Some s ∷ xs) here =
+      (has_places n s (at_first n s (here 0 s refl)), all_have_places (suc n) xs (λ k t e. moved n k t (here (suc k) t e)))
 
   -- ---- What waits
 
@@ -114,7 +120,8 @@ module _ (m : Machine) (w : IsWellFormed m) where
     the_file = record { version = Two; base = base; image = m; strays = []; entries = entries }
 
     objects_fit : IsRising (PlacedFits Two) (λ p. p.slot) (listed_from placed 0 m.objects ++ [])
-    objects_fit = subst (λ (l : List Placed). IsRising (PlacedFits Two) (λ p. p.slot) l) (sym (append-nil (listed_from placed 0 m.objects))) (table_fits m.objects w.limits.cells (all_objects_fit m w range.objects))
+    objects_fit = subst (λ (l : List Placed). IsRising (PlacedFits Two) (λ p. p.slot) l) (sym (append-nil (listed_from placed 0 m.objects)))
+        (table_fits m.objects w.limits.cells (all_objects_fit m w range.objects))
 
     pub image_fits : ImageFits Two (image_text (image_of the_file))
     image_fits =
@@ -124,7 +131,13 @@ module _ (m : Machine) (w : IsWellFormed m) where
         let lined = few_lined in
         let names = w.sessions.names_limit in
         record {
-          head = record { cells = (limits.cells, w.limits.cells); sessions = (limits.sessions, w.limits.sessions); resources = (limits.some_resources, limits.few_resources); base = bound };
+          head = record {
+            cells = (limits.cells, w.limits.cells);
+            sessions =
+                (limits.sessions, w.limits.sessions);
+            resources = (limits.some_resources, limits.few_resources);
+            base = bound;
+          };
           objects = objects_fit;
           mutators = sessions_fit 0 m.mutators counted_from_none range.mutators;
           sessions = length-map m.mutators (option_map session_text);
@@ -134,8 +147,16 @@ module _ (m : Machine) (w : IsWellFormed m) where
             line = record { count = omega (arith, lined); each = range.line };
           };
           records = record {
-            jobs = record { listed = record { count = omega (arith, jobs); each = range.jobs }; rises = rises (λ job. job.action) m.jobs w.actions.jobs };
-            resources = record { listed = record { count = omega (arith, resources); each = range.resources }; rises = rises (λ r. r.rid) m.resources w.resources.rising };
+            jobs = record {
+              listed =
+                  record { count = omega (arith, jobs); each = range.jobs };
+              rises = rises (λ job. job.action) m.jobs w.actions.jobs;
+            };
+            resources = record {
+              listed = record { count = omega (arith, resources); each = range.resources };
+              rises =
+                  rises (λ r. r.rid) m.resources w.resources.rising;
+            };
             faults = record { count = let le = w.faults in omega (arith, le); each = range.faults };
             notes = record { count = let le = w.notes in omega (arith, le); each = range.notes };
           };
@@ -143,4 +164,5 @@ module _ (m : Machine) (w : IsWellFormed m) where
         }
 
     pub image_shape : m.cycle_open ≡ false → HasShape (image_of the_file)
-    image_shape shut = record { closed = shut; nothing_seen = w.seen_in_cycle shut; apart = tt; places = all_have_places 0 m.mutators counted_from_none }
+    image_shape shut =
+        record { closed = shut; nothing_seen = w.seen_in_cycle shut; apart = tt; places = all_have_places 0 m.mutators counted_from_none }

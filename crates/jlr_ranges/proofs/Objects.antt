@@ -1,5 +1,6 @@
 -- The objects of a well-formed machine have spellings.
-use Rattle.std.proofs.Common.{◌≡◌, ◌<◌, ℕ, suc, ◌+◌, false, List, [], ◌∷◌, length, refl, sym, ◌∙◌, subst, inl, inr, arith, Option, Some, None, filter_map, is_some}
+use Rattle.std.proofs.Common.{◌≡◌, ◌<◌, ℕ, suc, ◌+◌, false, List, [], ◌∷◌, length, refl, sym, ◌∙◌, subst, inl, inr, arith, Option, Some}
+use Rattle.std.proofs.Common.{None, filter_map, is_some}
 use Rattle.std.specs.List.{AllByRecursion}
 use Rattle.std.proofs.lemmas.Bool.{both_ways, cases_lt}
 use Rattle.jlr_types.specs.declared.FieldValue.{FieldValue}
@@ -38,7 +39,8 @@ pub slot_fits : (o : Option ℕ) → ((s : ℕ) → o ≡ Some s → s < 65536) 
 slot_fits None h = tt
 slot_fits (Some s) h = let lt = h s refl in omega (arith, lt)
 
-values_fit : (fields : List FieldValue) → AllByRecursion ValueRange fields → ((s : ℕ) → s ∈ filter_map slot_in fields → s < 65536) → AllByRecursion ValueFits fields
+values_fit : (fields : List FieldValue) → AllByRecursion ValueRange fields → ((s : ℕ) → s ∈ filter_map slot_in fields → s < 65536)
+    → AllByRecursion ValueFits fields
 values_fit [] range there = tt
 values_fit (Int n ∷ fields) range there = (range.0, values_fit fields range.1 there)
 values_fit (Ref None ∷ fields) range there = (tt, values_fit fields range.1 there)
@@ -68,7 +70,11 @@ from_none k = omega arith
 -- ---- Objects
 
 its_referent : (r : ReferenceOf) → referent r.kind (Reference r) ≡ r.referent
-its_referent r = elim r.kind as (λ kind. referent kind (Reference (record r { kind = kind })) ≡ r.referent) [ Soft ↦ refl | Weak ↦ refl | Phantom ↦ refl ]
+its_referent r = elim r.kind as (λ kind. referent kind (Reference (record r { kind = kind })) ≡ r.referent) [
+  | Soft ↦ refl
+  | Weak ↦ refl
+  | Phantom ↦ refl
+]
 
 module _ (m : Machine) (w : IsWellFormed m) where
   within : (s : ℕ) → IsObjectAt m s → s < 65536
@@ -82,7 +88,8 @@ module _ (m : Machine) (w : IsWellFormed m) where
 
   pub object_fits : (s : ℕ) (o : Object) → at m.objects s ≡ Some o → ObjectRange o → ObjectFits Two o
   object_fits s (Plain (Typed fields)) e range = (range.0, values_fit fields range.1 (λ x h. strong_within s x (Plain (Typed fields)) e h))
-  object_fits s (Plain (Elements elements)) e range = (range, elements_fit elements (λ x h. strong_within s x (Plain (Elements elements)) e h))
+  object_fits s (Plain (Elements elements)) e range =
+      (range, elements_fit elements (λ x h. strong_within s x (Plain (Elements elements)) e h))
   object_fits s (Reference r) e range = record {
     referent = slot_fits r.referent (λ x h. referent_within s x r.kind (Reference r) e (its_referent r ∙ h));
     queue = slot_fits r.queue (λ q h.
@@ -102,11 +109,15 @@ module _ (m : Machine) (w : IsWellFormed m) where
   object_fits s (Guard g) e range = range
 
   -- place by place, counted from a number
-  places_fit : (n : ℕ) (xs : List (Option Object)) → ((k : ℕ) (o : Object) → at xs k ≡ Some o → at m.objects (n + k) ≡ Some o) → AllByRecursion PlaceRange xs → AllByRecursion PlaceFits xs
+  places_fit : (n : ℕ) (xs : List (Option Object)) → ((k : ℕ) (o : Object) → at xs k ≡ Some o → at m.objects (n + k) ≡ Some o)
+      → AllByRecursion PlaceRange xs → AllByRecursion PlaceFits xs
   places_fit n [] here range = tt
-  places_fit n (None ∷ xs) here range = (tt, places_fit (suc n) xs (λ k o e. subst (λ (j : ℕ). at m.objects j ≡ Some o) (one_on n k) (here (suc k) o e)) range.1)
-  places_fit n (Some o ∷ xs) here range =
-      (object_fits n o (subst (λ (j : ℕ). at m.objects j ≡ Some o) (none_on n) (here 0 o refl)) range.0, places_fit (suc n) xs (λ k p e. subst (λ (j : ℕ). at m.objects j ≡ Some p) (one_on n k) (here (suc k) p e)) range.1)
+  places_fit n (None ∷ xs) here range =
+      (tt, places_fit (suc n) xs (λ k o e. subst (λ (j : ℕ). at m.objects j ≡ Some o) (one_on n k) (here (suc k) o e)) range.1)
+  places_fit n (Some o ∷ xs) here range = (
+    object_fits n o (subst (λ (j : ℕ). at m.objects j ≡ Some o) (none_on n) (here 0 o refl)) range.0,
+    places_fit (suc n) xs (λ k p e. subst (λ (j : ℕ). at m.objects j ≡ Some p) (one_on n k) (here (suc k) p e)) range.1,
+  )
 
   pub all_objects_fit : AllByRecursion PlaceRange m.objects → AllByRecursion PlaceFits m.objects
   all_objects_fit range = places_fit 0 m.objects (λ k o e. subst (λ (j : ℕ). at m.objects j ≡ Some o) (from_none k) e) range

@@ -24,7 +24,8 @@ later : (before : Option ℕ) (n : ℕ) → Before before n → Before before (s
 later None n b = tt
 later (Some k) n b = omega (arith, b)
 
-placed_rise : (n : ℕ) (before : Option ℕ) (xs : List (Option Object)) → Before before n → Rises (λ p. p.slot) before (listed_from placed n xs)
+placed_rise : (n : ℕ) (before : Option ℕ) (xs : List (Option Object)) → Before before n
+    → Rises (λ p. p.slot) before (listed_from placed n xs)
 placed_rise n before [] b = tt
 placed_rise n before (None ∷ xs) b = placed_rise (suc n) before xs (later before n b)
 placed_rise n before (Some o ∷ xs) b = (follows before n b, placed_rise (suc n) (Some n) xs (omega arith))
@@ -38,17 +39,20 @@ abbrev pub PlaceFits : Option Object → Type 0
 PlaceFits None = Unit {0}
 PlaceFits (Some o) = ObjectFits Two o
 
-placed_fit : (n : ℕ) (xs : List (Option Object)) → n + length xs ≤ 65536 → AllByRecursion PlaceFits xs → AllByRecursion (PlacedFits Two) (listed_from placed n xs)
+placed_fit : (n : ℕ) (xs : List (Option Object)) → n + length xs ≤ 65536 → AllByRecursion PlaceFits xs
+    → AllByRecursion (PlacedFits Two) (listed_from placed n xs)
 placed_fit n [] le all = tt
 placed_fit n (None ∷ xs) le all = placed_fit (suc n) xs (omega (arith, le)) all.1
 placed_fit n (Some o ∷ xs) le all = (record { slot = omega (arith, le); object = all.0 }, placed_fit (suc n) xs (omega (arith, le)) all.1)
 
-held_fit : (n : ℕ) (xs : List (Option ℕ)) → n + length xs ≤ 256 → AllByRecursion HandleRange xs → AllByRecursion HeldFits (listed_from held n xs)
+held_fit : (n : ℕ) (xs : List (Option ℕ)) → n + length xs ≤ 256 → AllByRecursion HandleRange xs
+    → AllByRecursion HeldFits (listed_from held n xs)
 held_fit n [] le all = tt
 held_fit n (None ∷ xs) le all = held_fit (suc n) xs (omega (arith, le)) all.1
 held_fit n (Some s ∷ xs) le all = (record { handle = omega (arith, le); slot = all.0 }, held_fit (suc n) xs (omega (arith, le)) all.1)
 
-pub table_fits : (xs : List (Option Object)) → length xs ≤ 65536 → AllByRecursion PlaceFits xs → IsRising (PlacedFits Two) (λ p. p.slot) (listed_from placed 0 xs)
+pub table_fits : (xs : List (Option Object)) → length xs ≤ 65536 → AllByRecursion PlaceFits xs
+    → IsRising (PlacedFits Two) (λ p. p.slot) (listed_from placed 0 xs)
 table_fits xs le all =
     let count = counted placed 0 xs in
     let within = occupied_within xs in
@@ -57,7 +61,8 @@ table_fits xs le all =
       rises = placed_rise 0 None xs tt;
     }
 
-pub handles_fit : (xs : List (Option ℕ)) → length xs ≤ 256 → AllByRecursion HandleRange xs → IsRising HeldFits (λ h. h.handle) (listed_from held 0 xs)
+pub handles_fit : (xs : List (Option ℕ)) → length xs ≤ 256 → AllByRecursion HandleRange xs
+    → IsRising HeldFits (λ h. h.handle) (listed_from held 0 xs)
 handles_fit xs le all =
     let count = counted held 0 xs in
     let within = occupied_within xs in

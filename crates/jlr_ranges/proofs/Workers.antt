@@ -58,14 +58,16 @@ module _ (m : Machine) (w : IsWellFormed m) (fit : AllByRecursion JobFits m.jobs
           | inl cleaner ↦
               let here = eq-eqb p.job.by 255 (p.taker ∙ cleaner) in
               let there = eq-eqb q.job.by 255 (q.taker ∙ cleaner) in
-              let two = counted_two action_of (λ (job : JobOf). nat_eq job.by 255) m.jobs j k p.job q.job differ p.running q.running here there in
+              let two = counted_two action_of (λ (job : JobOf). nat_eq job.by 255) m.jobs j k p.job q.job differ p.running q.running here
+              there in
               absurd (omega (arith, two, w.actions.cleaners))
           | inr other ↦
               let first = w.calls.jobs p.job (is_job j p.job p.running) (λ e. other (sym p.taker ∙ e)) in
               let second = w.calls.jobs q.job (is_job k q.job q.running) (λ e. other (sym q.taker ∙ e)) in
               let a : IsCallOf m by (CallJob p.job.action) = subst (λ n. IsCallOf m n (CallJob p.job.action)) p.taker first in
               let b : IsCallOf m by (CallJob q.job.action) = subst (λ n. IsCallOf m n (CallJob q.job.action)) q.taker second in
-              let same : p.job.action ≡ q.job.action = same_job_call p.job.action q.job.action (same_call by (CallJob p.job.action) (CallJob q.job.action) a b) in
+              let same : p.job.action ≡ q.job.action =
+              same_job_call p.job.action q.job.action (same_call by (CallJob p.job.action) (CallJob q.job.action) a b) in
               sym (its_action j p.job p.running) ∙ same ∙ its_action k q.job q.running
         ]
       ]
@@ -126,18 +128,23 @@ module _ (m : Machine) (w : IsWellFormed m) (fit : AllByRecursion JobFits m.jobs
   worker_of rid action Closing h =
       let fits = all_found action_of JobFits m.jobs h.0.action h.0 fit h.1 in
       (65536 + h.0.by, let lt = fits.by in omega (arith, lt), inr (record { job = h.0; running = h.1; work = h.3; number_is = refl }))
-  worker_of rid action Opening h = let c : Cleans rid h.0 = record { cleanable = h.1; there = h.2; work = h.4 } in (h.0, let lt = in_heap rid h.0 c in omega (arith, lt), inl c)
-  worker_of rid action Idle h = let c : Cleans rid h.0 = record { cleanable = h.1; there = h.2; work = h.4 } in (h.0, let lt = in_heap rid h.0 c in omega (arith, lt), inl c)
-  worker_of rid action Out h = let c : Cleans rid h.0 = record { cleanable = h.1; there = h.2; work = h.4 } in (h.0, let lt = in_heap rid h.0 c in omega (arith, lt), inl c)
+  worker_of rid action Opening h = let c : Cleans rid h.0 = record { cleanable = h.1; there = h.2; work = h.4 } in
+      (h.0, let lt = in_heap rid h.0 c in omega (arith, lt), inl c)
+  worker_of rid action Idle h = let c : Cleans rid h.0 = record { cleanable = h.1; there = h.2; work = h.4 } in
+      (h.0, let lt = in_heap rid h.0 c in omega (arith, lt), inl c)
+  worker_of rid action Out h = let c : Cleans rid h.0 = record { cleanable = h.1; there = h.2; work = h.4 } in
+      (h.0, let lt = in_heap rid h.0 c in omega (arith, lt), inl c)
 
   worked : (rid : ℕ) → rid ∈ map rid_in m.resources → (n : ℕ) × (n < 65792) × Works rid n
   worked rid h =
       let found = found_by rid_in m.resources rid h in
       let here : resource_at m rid ≡ Some found.0 = found.1 in
-      let there : HasResource m rid found.0.action found.0.state = subst (λ k. resource_at m rid ≡ Some (record { rid = k; action = found.0.action; state = found.0.state })) found.2 here in
+      let there : HasResource m rid found.0.action found.0.state =
+      subst (λ k. resource_at m rid ≡ Some (record { rid = k; action = found.0.action; state = found.0.state })) found.2 here in
       worker_of rid found.0.action found.0.state (w.resources.worked rid found.0.action found.0.state there)
 
   pub few_resources : length m.resources ≤ 65792
   few_resources =
-      let few = at_most Works 65792 one_work (map rid_in m.resources) (rising_distinct (map rid_in m.resources) w.resources.rising) worked in
+      let few = at_most Works 65792 one_work (map rid_in m.resources) (rising_distinct (map rid_in m.resources) w.resources.rising)
+      worked in
       omega (arith, few, length-map m.resources rid_in)

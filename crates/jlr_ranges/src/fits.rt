@@ -23,8 +23,8 @@ fn count_in_range(entries: &Items<Entry>)
     let _count = entries.len();
 }
 
-/// A history has a spelling of version 2 where its image is well formed, with no cycle open, its limits are such as a heap may have, and its entries are a
-/// run from the image: no list in it is too long, and each slot is one.
+/// A history has a spelling of version 2 where its image is well formed, with no cycle open, its limits are such as a
+/// heap may have, and its entries are a run from the image: no list in it is too long, and each slot is one.
 pub fn run_has_spelling(file: &TraceFile)
     requires version { file.now.version ≡ Two }
     requires strays { file.now.strays ≡ [] }

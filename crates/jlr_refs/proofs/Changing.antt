@@ -12,12 +12,14 @@ map_twice : {A : Type 0} (f g : A → A) (o : Option A) → option_map g (option
 map_twice f g None = refl
 map_twice f g (Some x) = refl
 
-pub change_twice : {A : Type 0} (table : Table A) (n : ℕ) (f g : A → A) → change_at (change_at table n f) n g ≡ change_at table n (λ x. g (f x))
+pub change_twice : {A : Type 0} (table : Table A) (n : ℕ) (f g : A → A)
+    → change_at (change_at table n f) n g ≡ change_at table n (λ x. g (f x))
 change_twice [] n f g = refl
 change_twice {A} (o ∷ table) zero f g = ap {A = Option A} {B = Table A} (λ p. p ∷ table) (map_twice f g o)
 change_twice (o ∷ table) (suc n) f g = ap (λ t. o ∷ t) (change_twice table n f g)
 
-pub change_apart : {A : Type 0} (table : Table A) (n k : ℕ) (f g : A → A) → n ≢ k → change_at (change_at table n f) k g ≡ change_at (change_at table k g) n f
+pub change_apart : {A : Type 0} (table : Table A) (n k : ℕ) (f g : A → A) → n ≢ k
+    → change_at (change_at table n f) k g ≡ change_at (change_at table k g) n f
 change_apart [] n k f g ne = refl
 change_apart (o ∷ table) zero zero f g ne = absurd (ne refl)
 change_apart (o ∷ table) zero (suc k) f g ne = refl
@@ -53,7 +55,8 @@ no_both (Some (Guard g)) r q = both_ways false refl r
 pub apart : (heap : Heap) (s q : ℕ) → some_and is_reference (at heap s) ≡ true → some_and is_queue (at heap q) ≡ true → s ≢ q
 apart heap s q r k = λ e. no_both (at heap q) (sym (ap (λ x. some_and is_reference (at heap x)) e) ∙ r) k
 
-still : (f : ReferenceOf → ReferenceOf) (o : Option Object) → some_and is_reference o ≡ true → some_and is_reference (option_map (with_reference f) o) ≡ true
+still : (f : ReferenceOf → ReferenceOf) (o : Option Object) → some_and is_reference o ≡ true
+    → some_and is_reference (option_map (with_reference f) o) ≡ true
 still f None h = h
 still f (Some (Plain fields)) h = h
 still f (Some (Reference r)) h = h
@@ -63,7 +66,8 @@ still f (Some (Cleanable c)) h = h
 still f (Some (Guard g)) h = h
 
 -- a reference that is changed is still one
-pub still_reference : (heap : Heap) (s : ℕ) (f : ReferenceOf → ReferenceOf) → some_and is_reference (at heap s) ≡ true → some_and is_reference (at (change_at heap s (with_reference f)) s) ≡ true
+pub still_reference : (heap : Heap) (s : ℕ) (f : ReferenceOf → ReferenceOf) → some_and is_reference (at heap s) ≡ true
+    → some_and is_reference (at (change_at heap s (with_reference f)) s) ≡ true
 still_reference [] s f h = h
 still_reference (o ∷ heap) zero f h = still f o h
 still_reference (o ∷ heap) (suc s) f h = still_reference heap s f h
@@ -80,7 +84,8 @@ changed_there None f h = h
 changed_there (Some x) f h = refl
 
 -- there still is something at each place
-pub still_there : {A : Type 0} (table : Table A) (n k : ℕ) (f : A → A) → is_some (at table k) ≡ true → is_some (at (change_at table n f) k) ≡ true
+pub still_there : {A : Type 0} (table : Table A) (n k : ℕ) (f : A → A) → is_some (at table k) ≡ true
+    → is_some (at (change_at table n f) k) ≡ true
 still_there [] n k f h = h
 still_there (o ∷ table) zero zero f h = changed_there o f h
 still_there (o ∷ table) zero (suc k) f h = h

@@ -17,7 +17,8 @@ use Rattle.jlr_machine.specs.Objects.{◌∈◌, as_cleanable, as_reference, at,
 use Rattle.jlr_machine.specs.Refusals.{is_cleanable}
 use Rattle.jlr_machine.specs.Edges.{is_own_root}
 use Rattle.jlr_machine.specs.Lookups.{with_object}
-use Rattle.jlr_machine.specs.Calls.{delivered, hand_over_answer, handed, handed_cleanable, handed_over, handed_reference, to_queue, unreferred}
+use Rattle.jlr_machine.specs.Calls.{delivered, hand_over_answer, handed, handed_cleanable, handed_over, handed_reference, to_queue}
+use Rattle.jlr_machine.specs.Calls.{unreferred}
 use Rattle.jlr_laws.proofs.Frames.{is_cleanable_there, is_reference_there}
 use Rattle.jlr_laws.proofs.Sets.{in_front}
 use Rattle.jlr_barrier.specs.Graphs.{Graph, Known, in_machine}
@@ -30,10 +31,12 @@ use Rattle.jlr_refs.proofs.Standing.{pending_there}
 
 -- ---- What the handler does with an object
 
-pub reference_there : (o : Option Object) (r : ReferenceOf) → option_and_then as_reference o ≡ Some r → handed_reference r.state ≡ handed_there o
+pub reference_there : (o : Option Object) (r : ReferenceOf) → option_and_then as_reference o ≡ Some r
+    → handed_reference r.state ≡ handed_there o
 reference_there o r e = sym (ap handed_there (is_reference_there o r e))
 
-pub cleanable_there : (o : Option Object) (c : CleanableOf) → option_and_then as_cleanable o ≡ Some c → handed_cleanable c.state ≡ handed_there o
+pub cleanable_there : (o : Option Object) (c : CleanableOf) → option_and_then as_cleanable o ≡ Some c
+    → handed_cleanable c.state ≡ handed_there o
 cleanable_there o c e = sym (ap handed_there (is_cleanable_there o c e))
 
 lined_no_reference : (state : RefState) → handed_reference state ≡ HandedLined → ⊥
@@ -48,7 +51,8 @@ lined_was_pending PendingClean e = refl
 lined_was_pending Lined e = absurd (cc e)
 lined_was_pending Spent e = absurd (cc e)
 
-pub lined_is_cleanable : (o : Option Object) → handed_there o ≡ HandedLined → (c : CleanableOf) × (o ≡ Some (Cleanable c)) × (c.state ≡ PendingClean)
+pub lined_is_cleanable : (o : Option Object) → handed_there o ≡ HandedLined → (c : CleanableOf) × (o ≡ Some (Cleanable c))
+    × (c.state ≡ PendingClean)
 lined_is_cleanable None e = absurd (cc e)
 lined_is_cleanable (Some (Plain fields)) e = absurd (cc e)
 lined_is_cleanable (Some (Reference r)) e = absurd (lined_no_reference r.state e)
@@ -63,20 +67,28 @@ cleanable_is_object (Some o) h = refl
 
 -- ---- The pending list meanwhile
 
-queue_apart : (m : Machine) (s : ℕ) (q : Option ℕ) (l : List ℕ) → to_queue (record m { pending = l }) s q ≡ record (to_queue m s q) { pending = l }
+queue_apart : (m : Machine) (s : ℕ) (q : Option ℕ) (l : List ℕ)
+    → to_queue (record m { pending = l }) s q ≡ record (to_queue m s q) { pending = l }
 queue_apart m s None l = refl
 queue_apart m s (Some q) l = refl
 
 -- what is delivered is no part of the pending list
-delivered_apart : (m : Machine) (s : ℕ) (handed : Handed) (l : List ℕ) → delivered (record m { pending = l }) s handed ≡ record (delivered m s handed) { pending = l }
-delivered_apart m s HandedQueued l = queue_apart (with_object m s (with_reference unreferred)) s (option_and_then queue_ahead (option_and_then as_reference (at m.objects s))) l
+delivered_apart : (m : Machine) (s : ℕ) (handed : Handed) (l : List ℕ)
+    → delivered (record m { pending = l }) s handed ≡ record (delivered m s handed) { pending = l }
+delivered_apart m s HandedQueued l = queue_apart (with_object m s (with_reference unreferred)) s
+    (option_and_then queue_ahead (option_and_then as_reference (at m.objects s))) l
 delivered_apart m s HandedLined l = refl
 delivered_apart m s Skipped l = refl
 delivered_apart m s Nothing l = refl
 
 -- what is at the front of the pending list is in hand
 pub front_in_hand : (k : Known) (s : ℕ) → slice_get k.graph.pending 0 ≡ Some s → IsInHand k s
-front_in_hand k s first = inr (s, by_pending k.graph s (subst (λ l. s ∈ l) (sym (split k.graph.pending s first)) (in_front s s (drop 1 k.graph.pending) refl)), ([], refl))
+front_in_hand k s first = inr (
+  s,
+  by_pending k.graph s
+      (subst (λ l. s ∈ l) (sym (split k.graph.pending s first)) (in_front s s (drop 1 k.graph.pending) refl)),
+  ([], refl),
+)
 
 -- and so is a cleanable that is Pending
 pub own_root_in_hand : (k : Known) (s : ℕ) → is_own_root (at k.graph.objects s) ≡ true → IsInHand k s
@@ -84,7 +96,8 @@ own_root_in_hand k s own = inr (s, by_itself k.graph s (active_from k.graph.obje
 
 -- ---- The step
 
-pub hands_over_front : (g k : Graph) (s : ℕ) (did : Handed) → IsFit g → slice_get g.pending 0 ≡ Some s → did ≡ handed_there (at g.objects s) → DeliversFront g s did k → HandsOver g did k
+pub hands_over_front : (g k : Graph) (s : ℕ) (did : Handed) → IsFit g → slice_get g.pending 0 ≡ Some s → did ≡ handed_there (at g.objects s)
+    → DeliversFront g s did k → HandsOver g did k
 hands_over_front g k s did fit first what delivers =
     let list = split g.pending s first in
     let there = pending_there (in_machine fit.0 g) s fit.1 (subst (λ l. s ∈ l) (sym list) (in_front s s (drop 1 g.pending) refl)) in
@@ -97,6 +110,7 @@ hands_over_front g k s did fit first what delivers =
       delivers m
           ∙ sym (delivered_apart M s did rest)
           ∙ ap (λ x. delivered (record M { pending = rest }) s x) is
-          ∙ ap (λ o. elim o [ None ↦ record M { pending = rest } | Some p ↦ delivered (record M { pending = rest }) s (handed p) ]) (sym there.1)
+          ∙ ap (λ o. elim o [ None ↦ record M { pending = rest } | Some p ↦ delivered (record M { pending = rest }) s (handed p) ])
+          (sym there.1)
           ∙ ap (handed_over M) (sym list),
     )

@@ -1,5 +1,6 @@
 -- The line without what stands before its first Lined cleanable.
-use Rattle.std.proofs.Common.{◌≡◌, ℕ, true, false, cond, List, [], ◌∷◌, drop, Option, Some, None, option_and_then, refl, sym, ◌∙◌, ap, subst, inl, inr}
+use Rattle.std.proofs.Common.{◌≡◌, ℕ, true, false, cond, List, [], ◌∷◌, drop, Option, Some, None, option_and_then, refl, sym, ◌∙◌, ap}
+use Rattle.std.proofs.Common.{subst, inl, inr}
 use Rattle.std.specs.Prelude.{slice_get}
 use Rattle.std.proofs.lemmas.Bool.{cond-true, cond-false}
 use Rattle.jlr_machine.specs.declared.machine.Machine.{Machine}
@@ -13,15 +14,18 @@ use Rattle.jlr_refs.specs.Parts.{lined_in}
 
 -- ---- A Lined cleanable
 
-lined_gives : (o : Option CleanableOf) (c : CleanableOf) → option_and_then (λ c. cond (is_lined c.state) (Some c) None) o ≡ Some c → (o ≡ Some c) × (is_lined c.state ≡ true)
+lined_gives : (o : Option CleanableOf) (c : CleanableOf) → option_and_then (λ c. cond (is_lined c.state) (Some c) None) o ≡ Some c
+    → (o ≡ Some c) × (is_lined c.state ≡ true)
 lined_gives None c e = no_some c e
 lined_gives (Some x) c e =
-    elim (is_lined x.state) as (λ b. is_lined x.state ≡ b → cond b (Some x) None ≡ Some c → ◌≡◌ {A = Option CleanableOf} (Some x) (Some c) × (is_lined c.state ≡ true)) [
+    elim (is_lined x.state) as (λ b. is_lined x.state ≡ b → cond b (Some x) None ≡ Some c → ◌≡◌ {A = Option CleanableOf} (Some x) (Some c)
+    × (is_lined c.state ≡ true)) [
       | true ↦ λ t e. (e, subst (λ (y : CleanableOf). is_lined y.state ≡ true) (some_same x c e) t)
       | false ↦ λ t e. no_some c e
     ] refl e
 
-unlined_gives : (o : Option CleanableOf) → option_and_then (λ c. cond (is_lined c.state) (Some c) None) o ≡ None → some_and (λ c. is_lined c.state) o ≡ false
+unlined_gives : (o : Option CleanableOf) → option_and_then (λ c. cond (is_lined c.state) (Some c) None) o ≡ None
+    → some_and (λ c. is_lined c.state) o ≡ false
 unlined_gives None e = refl
 unlined_gives (Some x) e =
     elim (is_lined x.state) as (λ b. ◌≡◌ {A = Option CleanableOf} (cond b (Some x) None) None → b ≡ false) [
@@ -30,18 +34,22 @@ unlined_gives (Some x) e =
     ] e
 
 -- the cleanable at s is the one, and is Lined
-pub lined_here : (m : Machine) (s : ℕ) (c : CleanableOf) → lined_in (at m.objects s) ≡ Some c → (cleanable_at m s ≡ Some c) × (is_lined c.state ≡ true)
+pub lined_here : (m : Machine) (s : ℕ) (c : CleanableOf) → lined_in (at m.objects s) ≡ Some c → (cleanable_at m s ≡ Some c)
+    × (is_lined c.state ≡ true)
 lined_here m s c e = lined_gives (cleanable_at m s) c e
 
 -- ---- The cut line
 
-cut_stops : (m : Machine) (s : ℕ) (line : List ℕ) (c : CleanableOf) → lined_in (at m.objects s) ≡ Some c → from_lined m (s ∷ line) ≡ s ∷ line
+cut_stops : (m : Machine) (s : ℕ) (line : List ℕ) (c : CleanableOf) → lined_in (at m.objects s) ≡ Some c
+    → from_lined m (s ∷ line) ≡ s ∷ line
 cut_stops m s line c e =
     let found = lined_here m s c e in
-    cond-true (some_and (λ c. is_lined c.state) (cleanable_at m s)) (s ∷ line) (from_lined m line) (ap (some_and (λ c. is_lined c.state)) found.0 ∙ found.1)
+    cond-true (some_and (λ c. is_lined c.state) (cleanable_at m s)) (s ∷ line) (from_lined m line)
+    (ap (some_and (λ c. is_lined c.state)) found.0 ∙ found.1)
 
 cut_drops : (m : Machine) (s : ℕ) (line : List ℕ) → lined_in (at m.objects s) ≡ None → from_lined m (s ∷ line) ≡ from_lined m line
-cut_drops m s line e = cond-false (some_and (λ c. is_lined c.state) (cleanable_at m s)) (s ∷ line) (from_lined m line) (unlined_gives (cleanable_at m s) e)
+cut_drops m s line e =
+    cond-false (some_and (λ c. is_lined c.state) (cleanable_at m s)) (s ∷ line) (from_lined m line) (unlined_gives (cleanable_at m s) e)
 
 -- the front of a list, and the rest
 pub split : (l : List ℕ) (s : ℕ) → slice_get l 0 ≡ Some s → l ≡ s ∷ drop 1 l
@@ -53,11 +61,13 @@ no_front [] h = refl
 no_front (x ∷ l) h = no_some x (sym h)
 
 -- with a Lined front all of it stays
-pub cut_at_front : (m : Machine) (line : List ℕ) (s : ℕ) (c : CleanableOf) → slice_get line 0 ≡ Some s → lined_in (at m.objects s) ≡ Some c → from_lined m line ≡ s ∷ drop 1 line
+pub cut_at_front : (m : Machine) (line : List ℕ) (s : ℕ) (c : CleanableOf) → slice_get line 0 ≡ Some s → lined_in (at m.objects s) ≡ Some c
+    → from_lined m line ≡ s ∷ drop 1 line
 cut_at_front m line s c first e = ap (from_lined m) (split line s first) ∙ cut_stops m s (drop 1 line) c e
 
 -- with another front it goes
-pub cut_past_front : (m : Machine) (line : List ℕ) (s : ℕ) → slice_get line 0 ≡ Some s → lined_in (at m.objects s) ≡ None → from_lined m (drop 1 line) ≡ from_lined m line
+pub cut_past_front : (m : Machine) (line : List ℕ) (s : ℕ) → slice_get line 0 ≡ Some s → lined_in (at m.objects s) ≡ None
+    → from_lined m (drop 1 line) ≡ from_lined m line
 cut_past_front m line s first e = sym (ap (from_lined m) (split line s first) ∙ cut_drops m s (drop 1 line) e)
 
 -- ---- A line with nothing Lined

@@ -18,7 +18,8 @@ pending_there m s w h = some_there (at m.objects s) (w.slots.roots s (root_from 
 -- a cleanable that is Pending is not in the line
 pub not_in_line : (m : Machine) (s : ℕ) (c : CleanableOf) → IsWellFormed m → IsCleanableAt m s c → c.state ≡ Pending → s ∈ m.line → ⊥
 not_in_line m s c w there waits h =
-    let state : clean_state_at m s ≡ Some Pending = ap (λ o. option_and_then (λ c. Some c.state) (option_and_then as_cleanable o)) there ∙ ap (λ z. Some z) waits in
+    let state : clean_state_at m s ≡ Some Pending = ap (λ o. option_and_then (λ c. Some c.state) (option_and_then as_cleanable o)) there
+    ∙ ap (λ z. Some z) waits in
     elim (w.lists.line_others s h) [
       | inl f ↦ let both : Pending ≡ Lined = some_same Pending Lined (sym state ∙ f) in absurd (cc both)
       | inr f ↦ let both : Pending ≡ Spent = some_same Pending Spent (sym state ∙ f) in absurd (cc both)
@@ -27,4 +28,5 @@ not_in_line m s c w there waits h =
 -- what stood at the front of a list without repeats is not in what is left of it
 pub gone_from_front : (l : List ℕ) (s : ℕ) → IsTrue (is_distinct l) → slice_get l 0 ≡ Some s → s ∈ drop 1 l → ⊥
 gone_from_front [] s once first h = no_some s first
-gone_from_front (x ∷ l) s once first h = both_ways (l ∋ x) (not-true (l ∋ x) (and_parts (not (l ∋ x)) (is_distinct l) once).0) (subst (λ y. y ∈ l) (sym (some_same x s first)) h)
+gone_from_front (x ∷ l) s once first h =
+    both_ways (l ∋ x) (not-true (l ∋ x) (and_parts (not (l ∋ x)) (is_distinct l) once).0) (subst (λ y. y ∈ l) (sym (some_same x s first)) h)

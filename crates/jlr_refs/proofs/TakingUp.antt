@@ -18,7 +18,8 @@ pub record IsShorter (old now : Graph) : Type 0 where
 pub starts : (g : Graph) → IsShorter g g
 starts g = record { only_line = refl; cut = λ m. refl }
 
-module _ (g now next : Graph) (s : ℕ) (i : IsShorter g now) (first : slice_get now.line 0 ≡ Some s) (taken : next ≡ with_line now (drop 1 now.line)) where
+module _ (g now next : Graph) (s : ℕ) (i : IsShorter g now) (first : slice_get now.line 0 ≡ Some s)
+    (taken : next ≡ with_line now (drop 1 now.line)) where
   shorter : next ≡ with_line g (drop 1 now.line)
   shorter = taken ∙ ap (λ (k : Graph). with_line k (drop 1 now.line)) i.only_line
 
@@ -32,17 +33,22 @@ module _ (g now next : Graph) (s : ℕ) (i : IsShorter g now) (first : slice_get
         cut = λ m. ap (from_lined (in_machine m g)) line ∙ cut_past_front (in_machine m g) now.line s first here ∙ i.cut m;
       }
 
-  cut_here : (c : CleanableOf) → lined_in (at next.objects s) ≡ Some c → (m : Machine) → from_lined (in_machine m g) g.line ≡ s ∷ drop 1 now.line
-  cut_here c some m = sym (i.cut m) ∙ cut_at_front (in_machine m g) now.line s c first (sym (ap (λ (k : Graph). lined_in (at k.objects s)) shorter) ∙ some)
+  cut_here : (c : CleanableOf) → lined_in (at next.objects s) ≡ Some c → (m : Machine)
+      → from_lined (in_machine m g) g.line ≡ s ∷ drop 1 now.line
+  cut_here c some m =
+      sym (i.cut m) ∙ cut_at_front (in_machine m g) now.line s c first (sym (ap (λ (k : Graph). lined_in (at k.objects s)) shorter) ∙ some)
 
   -- one that is Lined is taken
-  pub takes_front : (c : CleanableOf) (h : Graph) → lined_in (at next.objects s) ≡ Some c → h ≡ with_objects next (change_at next.objects s (with_cleanable spent)) → TakesLined g (Some (s, c)) h
+  pub takes_front : (c : CleanableOf) (h : Graph) → lined_in (at next.objects s) ≡ Some c
+      → h ≡ with_objects next (change_at next.objects s (with_cleanable spent)) → TakesLined g (Some (s, c)) h
   takes_front c h some spends =
       let here : lined_in (at g.objects s) ≡ Some c = sym (ap (λ (k : Graph). lined_in (at k.objects s)) shorter) ∙ some in
       λ m.
       let cut = cut_here c some m in (
-        ap (option_map (λ (x : CleanableOf). (s, x))) (sym (lined_here (in_machine m g) s c here).0) ∙ ap (front_of (in_machine m g)) (sym cut),
-        ap (in_machine m) (spends ∙ ap (λ (k : Graph). with_objects k (change_at k.objects s (with_cleanable spent))) shorter) ∙ ap (front_spent (in_machine m g)) (sym cut),
+        ap (option_map (λ (x : CleanableOf). (s, x))) (sym (lined_here (in_machine m g) s c here).0)
+            ∙ ap (front_of (in_machine m g)) (sym cut),
+        ap (in_machine m) (spends ∙ ap (λ (k : Graph). with_objects k (change_at k.objects s (with_cleanable spent))) shorter)
+            ∙ ap (front_spent (in_machine m g)) (sym cut),
       )
 
   pub one_is_lined : (c : CleanableOf) → lined_in (at next.objects s) ≡ Some c → HasNoneLined g.objects g.line → ⊥
@@ -51,10 +57,12 @@ module _ (g now next : Graph) (s : ℕ) (i : IsShorter g now) (first : slice_get
       let wrong : ◌≡◌ {A = List ℕ} (s ∷ drop 1 now.line) [] = sym (cut_here c some (empty 0 0 0)) ∙ cut_of_none m g.line none in
       absurd (cc wrong)
 
-module _ (g now next : Graph) (i : IsShorter g now) (none : slice_get now.line 0 ≡ None) (taken : next ≡ with_line now (drop 1 now.line)) where
+module _ (g now next : Graph) (i : IsShorter g now) (none : slice_get now.line 0 ≡ None)
+    (taken : next ≡ with_line now (drop 1 now.line)) where
   -- an empty line had nothing Lined
   pub is_emptied : next ≡ with_line g []
-  is_emptied = taken ∙ ap (λ (k : Graph). with_line k (drop 1 now.line)) i.only_line ∙ ap (λ l. with_line g (drop 1 l)) (no_front now.line none)
+  is_emptied = taken ∙ ap (λ (k : Graph). with_line k (drop 1 now.line)) i.only_line
+      ∙ ap (λ l. with_line g (drop 1 l)) (no_front now.line none)
 
   cut_empty : (m : Machine) → from_lined (in_machine m g) g.line ≡ []
   cut_empty m = sym (i.cut m) ∙ ap (from_lined (in_machine m g)) (no_front now.line none)

@@ -1,5 +1,6 @@
 -- What the calls on references need, and what they leave, in any machine of which the heap keeps its part.
-use Rattle.std.specs.Prelude.{◌≡◌, ℕ, cond, List, [], ◌∷◌, drop, Option, Some, None, option_and_then, option_map, slice_get}
+use Rattle.std.specs.Prelude.{◌≡◌, ℕ, cond, List, [], ◌∷◌, drop, Option, Some, None, option_and_then, option_map}
+use Rattle.std.specs.Prelude.{slice_get}
 use Rattle.jlr_machine.specs.declared.machine.Machine.{Machine}
 use Rattle.jlr_machine.specs.declared.object.Object.{Object}
 use Rattle.jlr_machine.specs.declared.object.Reference.{Reference as ReferenceOf}
@@ -8,7 +9,8 @@ use Rattle.jlr_machine.specs.declared.ask.Handed.{Handed}
 use Rattle.jlr_machine.specs.declared.ask.Handed.TheVariants.{Skipped}
 use Rattle.jlr_machine.specs.declared.ask.Answer.TheVariants.{Handed as HandedAnswer}
 use Rattle.jlr_machine.specs.Objects.{Heap, ◌∈◌, as_cleanable, as_reference, at, is_lined, with_cleanable}
-use Rattle.jlr_machine.specs.Calls.{delivered, enqueued, from_lined, hand_over_answer, handed, handed_over, polled, spent}
+use Rattle.jlr_machine.specs.Calls.{delivered, enqueued, from_lined, hand_over_answer, handed, handed_over, polled}
+use Rattle.jlr_machine.specs.Calls.{spent}
 use Rattle.jlr_machine.specs.Lookups.{cleanable_at, with_object}
 use Rattle.jlr_machine.specs.WellFormed.{IsWellFormed}
 use Rattle.jlr_cells.specs.Contents.{next_in}
@@ -36,16 +38,19 @@ abbrev pub handed_there : Option Object → Handed
 handed_there None = Skipped
 handed_there (Some o) = handed o
 
--- the object at s, the front of the pending list, leaves it and is delivered, a reference to its queue, a cleanable to the line
+-- the object at s, the front of the pending list, leaves it and is delivered, a reference to its queue, a cleanable to
+-- the line
 abbrev pub DeliversFront : Graph → ℕ → Handed → Graph → Type 0
-DeliversFront g s handed h = (m : Machine) → in_machine m h ≡ record (delivered (in_machine m g) s handed) { pending = drop 1 g.pending }
+DeliversFront g s handed h = (m : Machine)
+    → in_machine m h ≡ record (delivered (in_machine m g) s handed) { pending = drop 1 g.pending }
 
 -- the queue that is ahead of what is at the front of the pending list
 abbrev pub queue_in_front : Graph → Option ℕ
 queue_in_front g = option_and_then (λ s. next_in (at g.objects s)) (slice_get g.pending 0)
 
 abbrev pub HandsOver : Graph → Handed → Graph → Type 0
-HandsOver g handed h = (m : Machine) → (hand_over_answer (in_machine m g) g.pending ≡ Some (HandedAnswer handed)) × (in_machine m h ≡ handed_over (in_machine m g) g.pending)
+HandsOver g handed h = (m : Machine) → (hand_over_answer (in_machine m g) g.pending ≡ Some (HandedAnswer handed))
+    × (in_machine m h ≡ handed_over (in_machine m g) g.pending)
 
 -- ---- The line
 
@@ -68,4 +73,5 @@ front_spent m (s ∷ rest) = record (with_object m s (with_cleanable spent)) { l
 
 -- the line up to its first Lined cleanable goes, and that one with it, which is told with its slot and becomes Spent
 abbrev pub TakesLined : Graph → Option (ℕ × CleanableOf) → Graph → Type 0
-TakesLined g taken h = (m : Machine) → (taken ≡ front_of (in_machine m g) (from_lined (in_machine m g) g.line)) × (in_machine m h ≡ front_spent (in_machine m g) (from_lined (in_machine m g) g.line))
+TakesLined g taken h = (m : Machine) → (taken ≡ front_of (in_machine m g) (from_lined (in_machine m g) g.line))
+    × (in_machine m h ≡ front_spent (in_machine m g) (from_lined (in_machine m g) g.line))

@@ -20,8 +20,9 @@ use jlr_barrier::Heap;
 use jlr_machine::object::{CleanState, Cleanable};
 use jlr_types::Slot;
 
-/// The first Lined cleanable leaves the line and is Spent, without referent. It is given as it was, with its slot, if there is one. What
-/// stood before it was Spent already (`Cleanable.clean`), and leaves the line too. The time is linear in how much does.
+/// The first Lined cleanable leaves the line and is Spent, without referent. It is given as it was, with its slot, if
+/// there is one. What stood before it was Spent already (`Cleanable.clean`), and leaves the line too. The time is
+/// linear in how much does.
 pub fn take_lined(heap: &mut Heap) -> Option<(Slot, Cleanable)>
     ensures none { IsNone result ↔ HasNoneLined heap.old.graph.objects heap.old.graph.line }
     ensures emptied { IfNone result (heap.new.graph ≡ with_line heap.old.graph []) }
@@ -50,11 +51,12 @@ fn lined_at(heap: &Heap, slot: Slot) -> Option<Cleanable>
     Some(cleanable)
 }
 
-/// A cleanable has done what it was for (`Cleanable.clean`): it is Spent, and has no referent any more. A list in which it stands
-/// keeps it.
+/// A cleanable has done what it was for (`Cleanable.clean`): it is Spent, and has no referent any more. A list in which
+/// it stands keeps it.
 fn spend(heap: &mut Heap, slot: Slot)
     requires { IsTrue (some_and is_cleanable (at heap.old.graph.objects slot)) }
-    ensures graph { heap.new.graph ≡ with_objects heap.old.graph (change_at heap.old.graph.objects slot (with_cleanable spent)) }
+    ensures graph { heap.new.graph ≡ with_objects heap.old.graph
+        (change_at heap.old.graph.objects slot (with_cleanable spent)) }
     ensures clock { heap.new.clock ≡ heap.old.clock }
     ensures marking { heap.new.marking ≡ heap.old.marking }
 {

@@ -16,13 +16,15 @@ use jlr_machine::ask::Handed;
 use jlr_machine::object::{CleanState, RefState};
 use jlr_types::Slot;
 
-/// The front of the pending list leaves it. A Pending reference goes to the end of its queue, and a Pending cleanable, which is
-/// Lined then, to the end of the line. A reference that the program enqueued in the meantime is skipped, and so is a cleanable
-/// that it cleaned. Nothing is handed over where the list is empty. The queue that a reference goes to is shaded.
+/// The front of the pending list leaves it. A Pending reference goes to the end of its queue, and a Pending cleanable,
+/// which is Lined then, to the end of the line. A reference that the program enqueued in the meantime is skipped, and
+/// so is a cleanable that it cleaned. Nothing is handed over where the list is empty. The queue that a reference goes
+/// to is shaded.
 pub fn hand_over(heap: &mut Heap) -> Handed
     requires fit { IsFit heap.old.graph }
     ensures handed { HandsOver heap.old.graph result heap.new.graph }
-    ensures shaded { Shaded (λ s. (result ≡ Handed.Queued) × (queue_in_front heap.old.graph ≡ Some s)) heap.old.marking heap.new.marking }
+    ensures shaded { Shaded (λ s. (result ≡ Handed.Queued) × (queue_in_front heap.old.graph ≡ Some s)) heap.old.marking
+        heap.new.marking }
     ensures clock { heap.new.clock ≡ heap.old.clock }
 {
     let Some(slot) = heap.first_pending() else {
@@ -70,7 +72,8 @@ fn deliver(heap: &mut Heap, slot: Slot, handed: Handed)
     requires front { slice_get heap.old.graph.pending 0 ≡ Some slot }
     requires handed { handed ≡ handed_there (at heap.old.graph.objects slot) }
     ensures delivered { DeliversFront heap.old.graph slot handed heap.new.graph }
-    ensures shaded { Shaded (λ s. (handed ≡ Handed.Queued) × (queue_in_front heap.old.graph ≡ Some s)) heap.old.marking heap.new.marking }
+    ensures shaded { Shaded (λ s. (handed ≡ Handed.Queued) × (queue_in_front heap.old.graph ≡ Some s)) heap.old.marking
+        heap.new.marking }
     ensures clock { heap.new.clock ≡ heap.old.clock }
 {
     match handed {
@@ -94,7 +97,9 @@ pub(crate) fn line_up(heap: &mut Heap, slot: Slot)
     requires root { IsTrue (is_own_root (at heap.old.graph.objects slot)) }
     requires pending { ¬ (slot ∈ heap.old.graph.pending) }
     requires line { ¬ (slot ∈ heap.old.graph.line) }
-    ensures graph { heap.new.graph ≡ with_line (with_objects heap.old.graph (change_at heap.old.graph.objects slot (with_cleanable (in_clean_state state.Lined)))) (heap.old.graph.line ++ slot ∷ []) }
+    ensures graph { heap.new.graph ≡ with_line
+        (with_objects heap.old.graph (change_at heap.old.graph.objects slot
+        (with_cleanable (in_clean_state state.Lined)))) (heap.old.graph.line ++ slot ∷ []) }
     ensures clock { heap.new.clock ≡ heap.old.clock }
     ensures marking { heap.new.marking ≡ heap.old.marking }
 {

@@ -1,5 +1,5 @@
-//! The states of a reference, and the calls of the program on it (package `java.lang.ref`, classes `Reference`, `SoftReference`,
-//! `PhantomReference` and `ReferenceQueue`).
+//! The states of a reference, and the calls of the program on it (package `java.lang.ref`, classes `Reference`,
+//! `SoftReference`, `PhantomReference` and `ReferenceQueue`).
 //!
 //! | State | Referent | Queue | Stands in | `get` | `clear` | `enqueue` | `poll` | Collector | Handler |
 //! |---|---|---|---|---|---|---|---|---|---|
@@ -8,9 +8,11 @@
 //! | Pending | none | its own | the pending list | null | as it is | Queued, true; it stays on the pending list | | as it is | Queued |
 //! | Queued | none | none | its queue, perhaps still the pending list | null | as it is | false | Removed, from the front | as it is | skipped |
 //! | Removed | none | none | perhaps still the pending list | null | as it is | false | | as it is | skipped |
-ghost use Rattle.std.specs.Prelude.{◌≡◌, ℕ, ◌<◌, ◌↔◌, IfNone, IfSome, IsNone, IsTrue, None, Some, cond, is_some, length, nat_eq, option_and_then};
+ghost use Rattle.std.specs.Prelude.{◌≡◌, ℕ, ◌<◌, ◌↔◌, IfNone, IfSome, IsNone, IsTrue, None, Some, cond, is_some};
+ghost use Rattle.std.specs.Prelude.{length, nat_eq, option_and_then};
 ghost use Rattle.std.specs.Option.{option_eq};
-ghost use Rattle.jlr_machine.specs.Objects.{as_members, at, change_at, is_queued, occupied, queue_ahead, set_at, some_and, with_reference};
+ghost use Rattle.jlr_machine.specs.Objects.{as_members, at, change_at, is_queued, occupied, queue_ahead, set_at};
+ghost use Rattle.jlr_machine.specs.Objects.{some_and, with_reference};
 ghost use Rattle.jlr_machine.specs.Refusals.{front, is_queue, is_reference};
 ghost use Rattle.jlr_machine.specs.Calls.{may_enqueue, unreferred};
 ghost use Rattle.jlr_cells.specs.Contents.{next_in, object_of, referent_in};
@@ -24,14 +26,15 @@ use jlr_barrier::Heap;
 use jlr_machine::object::{RefState, Reference};
 use jlr_types::Slot;
 
-/// What a reference gives (`Reference.get`): its referent, or nothing where it was cleared or is a phantom reference. A soft
-/// reference that gives its referent was used now. What is given is shaded.
+/// What a reference gives (`Reference.get`): its referent, or nothing where it was cleared or is a phantom reference. A
+/// soft reference that gives its referent was used now. What is given is shaded.
 pub fn get(heap: &mut Heap, reference: Slot) -> Option<Slot>
     requires { (s : ℕ) → gotten_at heap.old.graph.objects reference ≡ Some s → IsObject heap.old.graph.objects s }
     ensures given { result ≡ gotten_at heap.old.graph.objects reference }
     ensures graph { heap.new.graph ≡ heap.old.graph }
     ensures clock { heap.new.clock ≡ cond (is_some result) (used_now heap.old.clock reference) heap.old.clock }
-    ensures shaded { Shaded (λ s. gotten_at heap.old.graph.objects reference ≡ Some s) heap.old.marking heap.new.marking }
+    ensures shaded { Shaded (λ s. gotten_at heap.old.graph.objects reference ≡ Some s) heap.old.marking
+        heap.new.marking }
 {
     heap.deref(reference)
 }
@@ -46,7 +49,8 @@ pub fn refers_to(heap: &Heap, reference: Slot, object: Option<Slot>) -> bool
 /// A reference loses its referent. It is not enqueued (`Reference.clear`).
 pub fn clear(heap: &mut Heap, reference: Slot)
     requires { IsTrue (some_and is_reference (at heap.old.graph.objects reference)) }
-    ensures graph { heap.new.graph ≡ with_objects heap.old.graph (change_at heap.old.graph.objects reference (with_reference unreferred)) }
+    ensures graph { heap.new.graph ≡ with_objects heap.old.graph
+        (change_at heap.old.graph.objects reference (with_reference unreferred)) }
     ensures clock { heap.new.clock ≡ heap.old.clock }
     ensures marking { heap.new.marking ≡ heap.old.marking }
 {
@@ -54,15 +58,18 @@ pub fn clear(heap: &mut Heap, reference: Slot)
 }
 
 /// A reference loses its referent, and goes to the end of its queue, if it has one and was not enqueued before
-/// (`Reference.enqueue`). Whether it went there. That queue is shaded. It is in line, with what it calls, so that the handler reads the reference once.
+/// (`Reference.enqueue`). Whether it went there. That queue is shaded. It is in line, with what it calls, so that the
+/// handler reads the reference once.
 #[inline(always)]
 pub fn enqueue(heap: &mut Heap, reference: Slot) -> bool
     requires fit { IsFit heap.old.graph }
     requires reference { IsTrue (some_and is_reference (at heap.old.graph.objects reference)) }
     requires held { IsInHand heap.old reference }
-    ensures answer { Some result ≡ option_and_then (λ r. Some (may_enqueue r)) (reference_at heap.old.graph.objects reference) }
+    ensures answer { Some result ≡ option_and_then (λ r. Some (may_enqueue r))
+        (reference_at heap.old.graph.objects reference) }
     ensures enqueued { Enqueues heap.old.graph reference heap.new.graph }
-    ensures shaded { Shaded (λ s. next_in (at heap.old.graph.objects reference) ≡ Some s) heap.old.marking heap.new.marking }
+    ensures shaded { Shaded (λ s. next_in (at heap.old.graph.objects reference) ≡ Some s) heap.old.marking
+        heap.new.marking }
     ensures clock { heap.new.clock ≡ heap.old.clock }
 {
     let Some(queue) = queue_ahead(heap.reference(reference)) else {
@@ -97,7 +104,8 @@ pub fn is_enqueued(heap: &Heap, reference: Slot) -> bool
     }
 }
 
-/// The reference at the front of a queue leaves it, if there is one, and is Removed (`ReferenceQueue.poll`). It is shaded.
+/// The reference at the front of a queue leaves it, if there is one, and is Removed (`ReferenceQueue.poll`). It is
+/// shaded.
 pub fn poll(heap: &mut Heap, queue: Slot) -> Option<Slot>
     requires fit { IsFit heap.old.graph }
     requires queue { IsTrue (some_and is_queue (at heap.old.graph.objects queue)) }

@@ -1,5 +1,6 @@
 -- What a slab of places holds, after each of its calls.
-use Rattle.std.proofs.Common.{◌≡◌, ◌≢◌, ℕ, suc, ◌+◌, ◌<◌, ◌^◌, List, [], ◌∷◌, ◌++◌, map, length, get_or, set, refl, ◌∙◌, ap, subst, arith, Option, Some, None, IsSome}
+use Rattle.std.proofs.Common.{◌≡◌, ◌≢◌, ℕ, suc, ◌+◌, ◌<◌, ◌^◌, List, [], ◌∷◌, ◌++◌, map, length, get_or, set, refl, ◌∙◌, ap, subst, arith}
+use Rattle.std.proofs.Common.{Option, Some, None, IsSome}
 use Rattle.std.specs.Option.{option_to_list, option_map}
 use Rattle.std.specs.List.{AllByRecursion}
 use Rattle.std.specs.List.Sorted.{IsPermutation}
@@ -10,10 +11,12 @@ use Rattle.slab.specs.Slab.{Slab, get, ContainsKey, Updates, with_value, slab_le
 use Rattle.slab.proofs.SlabLemmas.{Updates-with_value}
 use Rattle.jlr_resource.specs.declared.place.Kept.{Kept}
 use Rattle.jlr_resource.specs.declared.place.Place.{Place}
-use Rattle.jlr_resource.specs.Resources.{as_resource, resources_in, resource_in, state_in, in_state, ended, state_of, value_of, kept_in, values_in, with_held, with_kept, without_held}
+use Rattle.jlr_resource.specs.Resources.{as_resource, resources_in, resource_in, state_in, in_state, ended, state_of, value_of, kept_in}
+use Rattle.jlr_resource.specs.Resources.{values_in, with_held, with_kept, without_held}
 use Rattle.jlr_resource.specs.Places.{held_by, held_from, AreRids}
 use Rattle.jlr_resource.proofs.Listed.{state_found, resources_changed, resources_ended, resources_new, values_new}
-use Rattle.jlr_resource.proofs.Placed.{as_held, found_from, changed_from, removed_from, inserted_from, values_changed, values_gone, count_from}
+use Rattle.jlr_resource.proofs.Placed.{as_held, found_from, changed_from, removed_from, inserted_from, values_changed, values_gone}
+use Rattle.jlr_resource.proofs.Placed.{count_from}
 
 module _ {R : Type 0} where
   pub kept_found : (slab : Slab (Place R)) (rid : ℕ) → kept_in (held_by slab) rid ≡ option_map (λ p. p.kept) (get slab rid)
@@ -24,7 +27,8 @@ module _ {R : Type 0} where
         | Some p ↦ refl
       ])
 
-  pub state_kept : (slab : Slab (Place R)) (rid : ℕ) → state_in (resources_in (held_by slab)) rid ≡ option_map (λ p. state_of p.kept) (get slab rid)
+  pub state_kept : (slab : Slab (Place R)) (rid : ℕ)
+      → state_in (resources_in (held_by slab)) rid ≡ option_map (λ p. state_of p.kept) (get slab rid)
   state_kept slab rid =
       rw (state_found (held_by slab) rid, kept_found slab rid)
       (elim (get slab rid) as (λ o. option_map state_of (option_map (λ p. p.kept) o) ≡ option_map (λ p. state_of p.kept) o) [
@@ -32,7 +36,8 @@ module _ {R : Type 0} where
         | Some p ↦ refl
       ])
 
-  pub has_place : (slab : Slab (Place R)) (rid key : ℕ) → key ≡ rid → IsSome (state_in (resources_in (held_by slab)) rid) → ContainsKey slab key
+  pub has_place : (slab : Slab (Place R)) (rid key : ℕ) → key ≡ rid → IsSome (state_in (resources_in (held_by slab)) rid)
+      → ContainsKey slab key
   has_place slab rid key same held =
       rw same
       (elim (get slab rid) as (λ o. IsSome (option_map (λ p. state_of p.kept) o) → IsSome o) [
@@ -40,7 +45,8 @@ module _ {R : Type 0} where
         | Some p ↦ λ h. h
       ] (rw (state_kept slab rid) at held))
 
-  pub state_there : (slab : Slab (Place R)) (rid : ℕ) (p : Place R) → get slab rid ≡ Some p → state_in (resources_in (held_by slab)) rid ≡ Some (state_of p.kept)
+  pub state_there : (slab : Slab (Place R)) (rid : ℕ) (p : Place R) → get slab rid ≡ Some p
+      → state_in (resources_in (held_by slab)) rid ≡ Some (state_of p.kept)
   state_there slab rid p here = rw (state_kept slab rid, here) refl
 
   pub kept_there : (slab : Slab (Place R)) (rid : ℕ) (p : Place R) → get slab rid ≡ Some p → kept_in (held_by slab) rid ≡ Some p.kept
@@ -50,7 +56,8 @@ module _ {R : Type 0} where
   state_nowhere slab rid gone = rw (state_kept slab rid, gone) refl
 
   -- a change at one key leaves what is kept elsewhere
-  pub kept_elsewhere : (old new : Slab (Place R)) (rid : ℕ) (slot : Option (Place R)) → Updates old new rid slot → (other : ℕ) → other ≢ rid → kept_in (held_by new) other ≡ kept_in (held_by old) other
+  pub kept_elsewhere : (old new : Slab (Place R)) (rid : ℕ) (slot : Option (Place R)) → Updates old new rid slot → (other : ℕ) → other ≢ rid
+      → kept_in (held_by new) other ≡ kept_in (held_by old) other
   kept_elsewhere old new rid slot updates other apart = rw (kept_found new other, kept_found old other, updates.others other apart) refl
 
   -- ---- A place where another kind of thing is kept
@@ -77,12 +84,14 @@ module _ {R : Type 0} where
     pub listed_changed : resources_in (held_by changed_slab) ≡ in_state (resources_in (held_by slab)) rid (state_of kept)
     listed_changed = rw held_changed (resources_changed (held_by slab) rid kept)
 
-    pub flow_changed : IsPermutation (option_to_list (value_of kept) ++ values_in (held_by slab)) (option_to_list (value_of p.kept) ++ values_in (held_by changed_slab))
+    pub flow_changed : IsPermutation (option_to_list (value_of kept) ++ values_in (held_by slab))
+        (option_to_list (value_of p.kept) ++ values_in (held_by changed_slab))
     flow_changed = values_changed 0 rid slab.slots p kept here
 
   -- ---- A place taken away
 
-  module _ (old new : Slab (Place R)) (rid : ℕ) (p : Place R) (here : get old rid ≡ Some p) (gone : new.slots ≡ set old.slots rid None) where
+  module _ (old new : Slab (Place R)) (rid : ℕ) (p : Place R) (here : get old rid ≡ Some p)
+      (gone : new.slots ≡ set old.slots rid None) where
     pub held_gone : held_by new ≡ without_held (held_by old) rid
     held_gone = rw gone (removed_from 0 rid old.slots rid (omega arith))
 
@@ -101,7 +110,8 @@ module _ {R : Type 0} where
     pub held_new : held_by new ≡ with_held (held_by old) (as_held rid p)
     held_new = inserted_from 0 rid old.slots new.slots rid p (omega arith) vacant updates.changed updates.others
 
-    pub listed_new : resources_in (held_by new) ≡ with_resource (resources_in (held_by old)) (record { rid = rid; action = p.action; state = state_of p.kept })
+    pub listed_new : resources_in (held_by new) ≡ with_resource (resources_in (held_by old))
+        (record { rid = rid; action = p.action; state = state_of p.kept })
     listed_new = rw held_new (resources_new (held_by old) (as_held rid p))
 
     pub no_value_new : value_of p.kept ≡ None → values_in (held_by new) ≡ values_in (held_by old)
@@ -121,7 +131,8 @@ module _ {R : Type 0} where
   pub vacant_before : (old mid : Slab (Place R)) (rid : ℕ) → mid.slots ≡ old.slots → get mid rid ≡ None → get old rid ≡ None
   vacant_before old mid rid slots vacant = subst (λ (s : List (Option (Place R))). get_or s rid None ≡ None) slots vacant
 
-  pub updates_before : (old mid new : Slab (Place R)) (rid : ℕ) (slot : Option (Place R)) → mid.slots ≡ old.slots → Updates mid new rid slot → Updates old new rid slot
+  pub updates_before : (old mid new : Slab (Place R)) (rid : ℕ) (slot : Option (Place R)) → mid.slots ≡ old.slots → Updates mid new rid slot
+      → Updates old new rid slot
   updates_before old mid new rid slot slots updates = record {
     changed = updates.changed;
     others = λ other apart. updates.others other apart ∙ ap (λ (s : List (Option (Place R))). get_or s other None) slots;
@@ -132,7 +143,8 @@ module _ {R : Type 0} where
   abbrev pub as_listed : ℕ × Place R → Resource
   as_listed e = record { rid = e.0; action = e.1.action; state = state_of e.1.kept }
 
-  entries_listed_from : (first : ℕ) (slots : List (Option (Place R))) → map as_listed (entries_from first slots) ≡ resources_in (held_from first slots)
+  entries_listed_from : (first : ℕ) (slots : List (Option (Place R)))
+      → map as_listed (entries_from first slots) ≡ resources_in (held_from first slots)
   entries_listed_from first [] = refl
   entries_listed_from first (None ∷ slots) = entries_listed_from (first + 1) slots
   entries_listed_from first (Some p ∷ slots) = ap (λ l. as_listed (first, p) ∷ l) (entries_listed_from (first + 1) slots)
@@ -144,7 +156,8 @@ module _ {R : Type 0} where
   abbrev pub HaveRids : List (ℕ × Place R) → Type 0
   HaveRids es = AllByRecursion (λ e. e.0 < 2 ^ 32) es
 
-  entries_have_rids_from : (first : ℕ) (slots : List (Option (Place R))) → ((at : ℕ) → IsSome (get_or slots at None) → first + at < 2 ^ 32) → HaveRids (entries_from first slots)
+  entries_have_rids_from : (first : ℕ) (slots : List (Option (Place R))) → ((at : ℕ) → IsSome (get_or slots at None) → first + at < 2 ^ 32)
+      → HaveRids (entries_from first slots)
   entries_have_rids_from first [] fit = tt
   entries_have_rids_from first (None ∷ slots) fit = entries_have_rids_from (first + 1) slots (λ at h. omega (arith, fit (suc at) h))
   entries_have_rids_from first (Some p ∷ slots) fit =

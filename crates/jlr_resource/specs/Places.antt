@@ -9,7 +9,8 @@ module _ {R : Type 0} where
   abbrev pub held_from : ℕ → List (Option (Place R)) → List (Held R)
   held_from first [] = []
   held_from first (None ∷ places) = held_from (first + 1) places
-  held_from first (Some p ∷ places) = record { rid = first; action = p.action; kept = p.kept } ∷ held_from (first + 1) places
+  held_from first (Some p ∷ places) =
+      record { rid = first; action = p.action; kept = p.kept } ∷ held_from (first + 1) places
 
   -- what a slab holds, with rising keys
   abbrev pub held_by : Slab (Place R) → List (Held R)

@@ -1,5 +1,6 @@
 -- The resources of a table, as contracts see them.
-use Rattle.std.specs.Prelude.{ℕ, ◌==◌, not, if◌then◌else◌, List, [], ◌∷◌, Option, Some, None, option_map, find, filter, filter_map, map, nat_lt}
+use Rattle.std.specs.Prelude.{ℕ, ◌==◌, not, if◌then◌else◌, List, [], ◌∷◌, Option, Some, None, option_map, find, filter}
+use Rattle.std.specs.Prelude.{filter_map, map, nat_lt}
 use Rattle.jlr_machine.specs.declared.machine.Resource.{Resource}
 use Rattle.jlr_machine.specs.declared.machine.ResourceState.{ResourceState}
 use Rattle.jlr_machine.specs.declared.machine.ResourceState.TheVariants as state
@@ -16,7 +17,8 @@ state_in resources rid = option_map (λ r. r.state) (resource_in resources rid)
 
 -- the resource at a Rid goes to a state, as the machine has it
 abbrev pub in_state : List Resource → ℕ → ResourceState → List Resource
-in_state resources rid s = map {A = Resource} {B = Resource} (λ r. if r.rid == rid then record r { state = s } else r) resources
+in_state resources rid s =
+    map {A = Resource} {B = Resource} (λ r. if r.rid == rid then record r { state = s } else r) resources
 
 -- the resource at a Rid has ended, as the machine has it
 abbrev pub ended : List Resource → ℕ → List Resource
@@ -30,8 +32,8 @@ pub record Held (R : Type 0) : Type 0 where
   pub action : ℕ
   pub kept : Kept R
 
--- a table holds these resources, with rising Rids; it may hold limit; so many fit with no allocation; and the place that
--- is given out next
+-- a table holds these resources, with rising Rids; it may hold limit; so many fit with no allocation; and the place
+-- that is given out next
 pub record Resources (R : Type 0) : Type 0 where
   pub held : List (Held R)
   pub limit : ℕ
@@ -87,7 +89,8 @@ module _ {R : Type 0} where
   with_held (h ∷ held) new = if nat_lt new.rid h.rid then new ∷ h ∷ held else h ∷ with_held held new
 
   abbrev pub with_kept : List (Held R) → ℕ → Kept R → List (Held R)
-  with_kept held rid kept = map {A = Held R} {B = Held R} (λ h. if h.rid == rid then record h { kept = kept } else h) held
+  with_kept held rid kept =
+      map {A = Held R} {B = Held R} (λ h. if h.rid == rid then record h { kept = kept } else h) held
 
   abbrev pub without_held : List (Held R) → ℕ → List (Held R)
   without_held held rid = filter (λ h. not (h.rid == rid)) held

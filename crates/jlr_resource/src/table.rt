@@ -1,11 +1,14 @@
 //! The table of resources.
-ghost use Rattle.std.specs.Prelude.{◌≡◌, ◌≢◌, ℕ, ◌≤◌, ◌<◌, ◌+◌, ◌^◌, ◌∷◌, ◌++◌, ◌↔◌, ◌⊎◌, [], length, nat_le, Some, None, Err, IfOk, IfErr, OnErr, OnOk, IsOk, IsSome};
+ghost use Rattle.std.specs.Prelude.{◌≡◌, ◌≢◌, ℕ, ◌≤◌, ◌<◌, ◌+◌, ◌^◌, ◌∷◌, ◌++◌, ◌↔◌, ◌⊎◌, [], length, nat_le, Some};
+ghost use Rattle.std.specs.Prelude.{None, Err, IfOk, IfErr, OnErr, OnOk, IsOk, IsSome};
 ghost use Rattle.std.specs.Option.{option_to_list};
 ghost use Rattle.std.specs.List.Sorted.{IsPermutation};
 ghost use Rattle.jlr_machine.specs.Lookups.{with_resource};
 ghost use Rattle.jlr_machine.specs.declared.machine.ResourceState.TheVariants as state;
 ghost use Rattle.jlr_resource.specs.declared.place.Kept.TheVariants as kept;
-ghost use Rattle.jlr_resource.specs.Resources.{resources, resources_in, resource_in, state_in, in_state, ended, state_at, kept_at, kept_in, values, values_in, value_of, state_of, opening, changed, removed, with_held, with_kept, without_held};
+ghost use Rattle.jlr_resource.specs.Resources.{resources, resources_in, resource_in, state_in, in_state, ended};
+ghost use Rattle.jlr_resource.specs.Resources.{state_at, kept_at, kept_in, values, values_in, value_of, state_of};
+ghost use Rattle.jlr_resource.specs.Resources.{opening, changed, removed, with_held, with_kept, without_held};
 ghost use Rattle.jlr_resource.specs.Places.{held_by, AreRids};
 
 use crate::place::{Kept, Place};
@@ -30,7 +33,12 @@ impl<R> Model for Table<R> {
 
     ghost Value = { Resources R };
 
-    ghost view = { λ t. record { held = held_by t.places; limit = t.limit; room = t.places.capacity; next = t.places.vacant_key } };
+    ghost view = { λ t. record {
+      held = held_by t.places;
+      limit = t.limit;
+      room = t.places.capacity;
+      next = t.places.vacant_key;
+    } };
 
     ghost invariant = { λ t. AreRids t.places };
 }
@@ -77,8 +85,8 @@ impl<R> Table<R> {
     /// Makes room for one resource more: then a `prepare` finds memory.
     ///
     /// # Errors
-    /// `NoMemory` where there is no room and none can be made, also where the next place has no number below 2^32. Nothing has changed then but
-    /// the room.
+    /// `NoMemory` where there is no room and none can be made, also where the next place has no number below 2^32.
+    /// Nothing has changed then but the room.
     pub fn reserve(&mut self) -> Result<(), Refusal>
         ensures room { OnOk result (length (resources self.new) < self.new.room) }
         ensures next { OnOk result (self.new.next < 2 ^ 32) }
@@ -93,18 +101,21 @@ impl<R> Table<R> {
     /// A resource is about to be opened, for this cleaning action. It is Opening, at a Rid that no resource has.
     ///
     /// # Errors
-    /// `ResourcesFull` where the table holds as many as it may; `NoMemory` where it has no room and cannot grow, also where
-    /// the next place has no number below 2^32. Nothing has changed then but the room.
+    /// `ResourcesFull` where the table holds as many as it may; `NoMemory` where it has no room and cannot grow, also
+    /// where the next place has no number below 2^32. Nothing has changed then but the room.
     pub fn prepare(&mut self, action: ActionNo) -> Result<Rid, Refusal>
         ensures full { (result ≡ Err Refusal.ResourcesFull) ↔ (self.old.limit ≤ length (resources self.old)) }
         ensures next { IfOk result (λ rid. (rid ≡ self.old.next) × (rid < 2 ^ 32)) }
         ensures free { IfOk result (λ rid. resource_in (resources self.old) rid ≡ None) }
         ensures held { IfOk result (λ rid. self.new.held ≡ opening self.old rid action) }
         ensures state { IfOk result (λ rid. state_at self.new rid ≡ Some state.Opening) }
-        ensures others { IfOk result (λ rid. (other : ℕ) → other ≢ rid → kept_at self.new other ≡ kept_at self.old other) }
-        ensures resources { IfOk result (λ rid. resources self.new ≡ with_resource (resources self.old) (record { rid = rid; action = action; state = state.Opening })) }
+        ensures others { IfOk result (λ rid. (other : ℕ) → other ≢ rid
+            → kept_at self.new other ≡ kept_at self.old other) }
+        ensures resources { IfOk result (λ rid. resources self.new
+            ≡ with_resource (resources self.old) (record { rid = rid; action = action; state = state.Opening })) }
         ensures refused { IfErr result (λ r. (r ≡ Refusal.ResourcesFull) ⊎ (r ≡ Refusal.NoMemory)) }
-        ensures no_room { result ≡ Err Refusal.NoMemory → (self.old.room ≤ length (resources self.old)) ⊎ (2 ^ 32 ≤ self.old.next) }
+        ensures no_room { result ≡ Err Refusal.NoMemory → (self.old.room ≤ length (resources self.old))
+            ⊎ (2 ^ 32 ≤ self.old.next) }
         ensures err { OnErr result (self.new.held ≡ self.old.held) }
         ensures err_next { OnErr result (self.new.next ≡ self.old.next) }
         ensures untouched { result ≡ Err Refusal.ResourcesFull → self.new ≡ self.old }
@@ -184,7 +195,8 @@ impl<R> Table<R> {
         }
     }
 
-    /// The resource has ended: it was finished, or its open failed. Its Rid is free, and there is room for the next one.
+    /// The resource has ended: it was finished, or its open failed. Its Rid is free, and there is room for the next
+    /// one.
     pub fn closed(&mut self, rid: Rid)
         requires { (state_at self.old rid ≡ Some state.Closing) ⊎ (state_at self.old rid ≡ Some state.Opening) }
         ensures gone { self.new ≡ removed self.old rid }
@@ -243,7 +255,8 @@ fn make_room<R>(places: &mut Slab<Place<R>>) -> Result<(), Refusal>
     ensures room { OnOk result (length (resources_in (held_by places.new)) < places.new.capacity) }
     ensures next { OnOk result (places.new.vacant_key < 2 ^ 32) }
     ensures refused { IfErr result (λ r. r ≡ Refusal.NoMemory) }
-    ensures succeeds { length (resources_in (held_by places.old)) < places.old.capacity → places.old.vacant_key < 2 ^ 32 → IsOk result }
+    ensures succeeds { length (resources_in (held_by places.old)) < places.old.capacity → places.old.vacant_key < 2 ^ 32
+        → IsOk result }
     ensures grows { places.old.capacity ≤ places.new.capacity }
     ensures held { held_by places.new ≡ held_by places.old }
     ensures same_next { places.new.vacant_key ≡ places.old.vacant_key }
@@ -265,10 +278,15 @@ fn place_for<R>(places: &mut Slab<Place<R>>, action: ActionNo) -> Result<Rid, Re
     ensures next { IfOk result (λ rid. (rid ≡ places.old.vacant_key) × (rid < 2 ^ 32)) }
     ensures free { IfOk result (λ rid. resource_in (resources_in (held_by places.old)) rid ≡ None) }
     ensures state { IfOk result (λ rid. state_in (resources_in (held_by places.new)) rid ≡ Some state.Opening) }
-    ensures others { IfOk result (λ rid. (other : ℕ) → other ≢ rid → kept_in (held_by places.new) other ≡ kept_in (held_by places.old) other) }
-    ensures held { IfOk result (λ rid. held_by places.new ≡ with_held (held_by places.old) (record { rid = rid; action = action; kept = kept.Opening })) }
-    ensures resources { IfOk result (λ rid. resources_in (held_by places.new) ≡ with_resource (resources_in (held_by places.old)) (record { rid = rid; action = action; state = state.Opening })) }
-    ensures no_room { IfErr result (λ r. (r ≡ Refusal.NoMemory) × ((places.old.capacity ≤ length (resources_in (held_by places.old))) ⊎ (2 ^ 32 ≤ places.old.vacant_key))) }
+    ensures others { IfOk result (λ rid. (other : ℕ) → other ≢ rid
+        → kept_in (held_by places.new) other ≡ kept_in (held_by places.old) other) }
+    ensures held { IfOk result (λ rid. held_by places.new
+        ≡ with_held (held_by places.old) (record { rid = rid; action = action; kept = kept.Opening })) }
+    ensures resources { IfOk result (λ rid. resources_in (held_by places.new)
+        ≡ with_resource (resources_in (held_by places.old))
+        (record { rid = rid; action = action; state = state.Opening })) }
+    ensures no_room { IfErr result (λ r. (r ≡ Refusal.NoMemory)
+        × ((places.old.capacity ≤ length (resources_in (held_by places.old))) ⊎ (2 ^ 32 ≤ places.old.vacant_key))) }
     ensures err { OnErr result (held_by places.new ≡ held_by places.old) }
     ensures err_next { OnErr result (places.new.vacant_key ≡ places.old.vacant_key) }
     ensures values { values_in (held_by places.new) ≡ values_in (held_by places.old) }
@@ -297,10 +315,13 @@ fn exchange<R>(places: &mut Slab<Place<R>>, rid: Rid, kept: Kept<R>) -> Kept<R>
     ensures state_before { state_in (resources_in (held_by places.old)) rid ≡ Some (state_of result) }
     ensures after { kept_in (held_by places.new) rid ≡ Some kept }
     ensures state_after { state_in (resources_in (held_by places.new)) rid ≡ Some (state_of kept) }
-    ensures others { (other : ℕ) → other ≢ rid → kept_in (held_by places.new) other ≡ kept_in (held_by places.old) other }
+    ensures others { (other : ℕ) → other ≢ rid
+        → kept_in (held_by places.new) other ≡ kept_in (held_by places.old) other }
     ensures held { held_by places.new ≡ with_kept (held_by places.old) rid kept }
-    ensures resources { resources_in (held_by places.new) ≡ in_state (resources_in (held_by places.old)) rid (state_of kept) }
-    ensures values { IsPermutation (option_to_list (value_of kept) ++ values_in (held_by places.old)) (option_to_list (value_of result) ++ values_in (held_by places.new)) }
+    ensures resources { resources_in (held_by places.new)
+        ≡ in_state (resources_in (held_by places.old)) rid (state_of kept) }
+    ensures values { IsPermutation (option_to_list (value_of kept) ++ values_in (held_by places.old))
+        (option_to_list (value_of result) ++ values_in (held_by places.new)) }
     ensures room { places.new.capacity ≡ places.old.capacity }
     ensures next { places.new.vacant_key ≡ places.old.vacant_key }
 {
@@ -315,7 +336,8 @@ fn remove<R>(places: &mut Slab<Place<R>>, rid: Rid) -> Kept<R>
     ensures rids { AreRids places.new }
     ensures state_before { state_in (resources_in (held_by places.old)) rid ≡ Some (state_of result) }
     ensures state_after { state_in (resources_in (held_by places.new)) rid ≡ None }
-    ensures others { (other : ℕ) → other ≢ rid → kept_in (held_by places.new) other ≡ kept_in (held_by places.old) other }
+    ensures others { (other : ℕ) → other ≢ rid
+        → kept_in (held_by places.new) other ≡ kept_in (held_by places.old) other }
     ensures held { held_by places.new ≡ without_held (held_by places.old) rid }
     ensures resources { resources_in (held_by places.new) ≡ ended (resources_in (held_by places.old)) rid }
     ensures values { value_of result ≡ None → values_in (held_by places.new) ≡ values_in (held_by places.old) }

@@ -1,5 +1,6 @@
 -- The entries of a map, seen as bindings.
-use Rattle.std.proofs.Common.{◌≡◌, ℕ, Bool, true, false, ◌&&◌, cond, List, [], ◌∷◌, Option, None, Some, nat_eq, slice_get, not, refl, sym, subst, ◌∙◌, ap, true≢false, Ok, Err}
+use Rattle.std.proofs.Common.{◌≡◌, ℕ, Bool, true, false, ◌&&◌, cond, List, [], ◌∷◌, Option, None, Some, nat_eq, slice_get, not, refl, sym}
+use Rattle.std.proofs.Common.{subst, ◌∙◌, ap, true≢false, Ok, Err}
 use Rattle.std.proofs.lemmas.Slice.Eq.{bytes_eq-Decides}
 use Rattle.std.proofs.lemmas.Option.{slice_get-map}
 use Rattle.std.specs.Prelude.{find, option_map}
@@ -16,7 +17,8 @@ use Rattle.jlr_roots.specs.Naming.{bindings_of, names_of, named}
 
 -- texts are compared alike, whichever comes first
 flipped : (xs ys : List ℕ) → bytes_eq xs ys ≡ bytes_eq ys xs
-flipped xs ys = one_answer (bytes_eq xs ys) (bytes_eq ys xs) (bytes_eq-Decides xs ys) ((λ h. sym ((bytes_eq-Decides ys xs).0 h)), (λ e. (bytes_eq-Decides ys xs).1 (sym e)))
+flipped xs ys = one_answer (bytes_eq xs ys) (bytes_eq ys xs) (bytes_eq-Decides xs ys)
+    ((λ h. sym ((bytes_eq-Decides ys xs).0 h)), (λ e. (bytes_eq-Decides ys xs).1 (sym e)))
 
 as_names : (xs ys : List ℕ) → bytes_eq xs ys ≡ same_name xs ys
 as_names [] [] = refl
@@ -39,7 +41,8 @@ module _ (name : List ℕ) where
 
   -- ---- The slot that is found
 
-  passed_on : (b : Bool) (x : Binding) (o : Option Binding) → cond b (Some x.slot) (option_map (λ y. y.slot) o) ≡ option_map (λ y. y.slot) (cond b (Some x) o)
+  passed_on : (b : Bool) (x : Binding) (o : Option Binding)
+      → cond b (Some x.slot) (option_map (λ y. y.slot) o) ≡ option_map (λ y. y.slot) (cond b (Some x) o)
   passed_on true x o = refl
   passed_on false x o = refl
 
@@ -56,25 +59,32 @@ module _ (name : List ℕ) where
   placed [] s = refl
   placed (e ∷ es) s =
       ap (λ b. bindings_of (cond b ((e.0, s) ∷ es) (e ∷ insert_entry bytes_eq es name s))) (compared name e.0)
-      ∙ elim (same_name e.0 name) as (λ b. same_name e.0 name ≡ b → bindings_of (cond b ((e.0, s) ∷ es) (e ∷ insert_entry bytes_eq es name s)) ≡ cond b (binding (name, s) ∷ bindings_of es) (binding e ∷ bound (bindings_of es) name s)) [
+      ∙ elim (same_name e.0 name) as (λ b. same_name e.0 name ≡ b
+      → bindings_of (cond b ((e.0, s) ∷ es) (e ∷ insert_entry bytes_eq es name s))
+      ≡ cond b (binding (name, s) ∷ bindings_of es) (binding e ∷ bound (bindings_of es) name s)) [
         | true ↦ λ h. ap {A = List ℕ} {B = List Binding} (λ n. binding (n, s) ∷ bindings_of es) (same_text e.0 h)
         | false ↦ λ h. ap {A = List Binding} {B = List Binding} (λ l. binding e ∷ l) (placed es s)
       ] refl
 
   -- ---- A name is unbound
 
-  without : (es : List (List ℕ × ℕ)) → AllByRecursion (λ y. bytes_eq name y ≡ false) (keys_of es) → bindings_of es ≡ unbound (bindings_of es) name
+  without : (es : List (List ℕ × ℕ)) → AllByRecursion (λ y. bytes_eq name y ≡ false) (keys_of es)
+      → bindings_of es ≡ unbound (bindings_of es) name
   without [] h = refl
   without (e ∷ es) h =
       ap {A = List Binding} {B = List Binding} (λ l. binding e ∷ l) (without es h.1)
-      ∙ ap (λ b. cond (not b) (binding e ∷ unbound (bindings_of es) name) (unbound (bindings_of es) name)) (sym (sym (compared name e.0) ∙ h.0))
+      ∙ ap (λ b. cond (not b) (binding e ∷ unbound (bindings_of es) name) (unbound (bindings_of es) name))
+      (sym (sym (compared name e.0) ∙ h.0))
 
-  pub removed : (es : List (List ℕ × ℕ)) → IsDistinct bytes_eq (keys_of es) → bindings_of (remove_entry there es) ≡ unbound (bindings_of es) name
+  pub removed : (es : List (List ℕ × ℕ)) → IsDistinct bytes_eq (keys_of es)
+      → bindings_of (remove_entry there es) ≡ unbound (bindings_of es) name
   unfolding IsDistinct
   removed [] d = refl
   removed (e ∷ es) d =
       ap (λ b. bindings_of (cond b es (e ∷ remove_entry there es))) (compared name e.0)
-      ∙ elim (same_name e.0 name) as (λ b. same_name e.0 name ≡ b → bindings_of (cond b es (e ∷ remove_entry there es)) ≡ cond (not b) (binding e ∷ unbound (bindings_of es) name) (unbound (bindings_of es) name)) [
+      ∙ elim (same_name e.0 name) as (λ b. same_name e.0 name ≡ b
+      → bindings_of (cond b es (e ∷ remove_entry there es))
+      ≡ cond (not b) (binding e ∷ unbound (bindings_of es) name) (unbound (bindings_of es) name)) [
         | true ↦ λ h. without es (subst (λ k. AllByRecursion (λ y. bytes_eq k y ≡ false) (keys_of es)) (same_text e.0 h) d.0)
         | false ↦ λ h. ap {A = List Binding} {B = List Binding} (λ l. binding e ∷ l) (removed es d.1)
       ] refl
@@ -96,7 +106,8 @@ composed None = refl
 composed (Some e) = refl
 
 pub slot_there : (es : List (List ℕ × ℕ)) (i : ℕ) → slice_get (named (bindings_of es)) i ≡ option_map (λ e. e.1) (slice_get es i)
-slot_there es i = slice_get-map (λ b. b.slot) (bindings_of es) i ∙ ap (option_map {T = Binding} (λ b. b.slot)) (slice_get-map binding es i) ∙ composed (slice_get es i)
+slot_there es i = slice_get-map (λ b. b.slot) (bindings_of es) i ∙ ap (option_map {T = Binding} (λ b. b.slot)) (slice_get-map binding es i)
+    ∙ composed (slice_get es i)
 
 -- ---- The names of the entries
 

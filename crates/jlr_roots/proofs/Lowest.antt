@@ -1,5 +1,6 @@
 -- The lowest free handle is found, or there is none.
-use Rattle.std.proofs.Common.{◌≡◌, ℕ, suc, ◌+◌, ◌-◌, ◌<◌, ◌≤◌, Bool, cond, not, List, [], ◌∷◌, Option, Some, None, length, take, drop, length-drop, sym, arith, lt-ltb, le-ltb, inl, inr}
+use Rattle.std.proofs.Common.{◌≡◌, ℕ, suc, ◌+◌, ◌-◌, ◌<◌, ◌≤◌, Bool, cond, not, List, [], ◌∷◌, Option, Some, None, length, take, drop}
+use Rattle.std.proofs.Common.{length-drop, sym, arith, lt-ltb, le-ltb, inl, inr}
 use Rattle.std.specs.Prelude.{is_some, is_none, position}
 use Rattle.std.specs.List.{prefix_len}
 use Rattle.std.proofs.lemmas.Bool.{cases_lt}
@@ -49,12 +50,14 @@ finds_none rest len past =
       lowest = λ i e. cc;
     }
 
-finds_some : (rest : List (Option ℕ)) → length rest ≡ 250 → prefix_len is_taken rest < length rest → Finds (None ∷ rest) (Some (prefix_len is_taken rest))
+finds_some : (rest : List (Option ℕ)) → length rest ≡ 250 → prefix_len is_taken rest < length rest
+    → Finds (None ∷ rest) (Some (prefix_len is_taken rest))
 finds_some rest len within =
     let some = some_free rest within in
     record {
       room = sym (lt-ltb (occupied rest) 250 (omega (arith, some, len)));
-      lowest = λ i e. (let same : prefix_len is_taken rest ≡ i = cc in (omega (arith, same, first_free-from rest 1), omega (arith, same, within, len)));
+      lowest = λ i e. (let same : prefix_len is_taken rest ≡ i = cc in
+          (omega (arith, same, first_free-from rest 1), omega (arith, same, within, len)));
     }
 
 pub finds : (handles : List (Option ℕ)) → IsHandleTable handles → Finds handles (position is_none (drop 1 handles))

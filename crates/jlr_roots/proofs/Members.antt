@@ -1,5 +1,6 @@
 -- The sessions in members, at one mutator.
-use Rattle.std.proofs.Common.{◌≡◌, ℕ, zero, suc, ◌<◌, true, List, [], ◌∷◌, Option, Some, None, length, set, get_or, replicate, refl, ap, ◌∙◌, arith, subst, inl, inr, length-set, get_or-set_same, get_or-set_other}
+use Rattle.std.proofs.Common.{◌≡◌, ℕ, zero, suc, ◌<◌, true, List, [], ◌∷◌, Option, Some, None, length, set, get_or, replicate, refl, ap}
+use Rattle.std.proofs.Common.{◌∙◌, arith, subst, inl, inr, length-set, get_or-set_same, get_or-set_other}
 use Rattle.std.specs.Prelude.{slice_get, is_some, option_and_then, option_map}
 use Rattle.std.proofs.lemmas.Bool.{cases_eq}
 use Rattle.std.proofs.lemmas.List.{map-set, length-replicate, get_or-replicate}
@@ -21,19 +22,22 @@ within_members [] k h = cc
 within_members (m ∷ members) zero h = omega arith
 within_members (m ∷ members) (suc k) h = let below : k < length members = within_members members k h in omega arith
 
-pub at-read : (members : List Member) (k : ℕ) (m : Member) → k < length members → m ≡ get_or members k m → at (sessions_in members) k ≡ session_in m
+pub at-read : (members : List Member) (k : ℕ) (m : Member) → k < length members → m ≡ get_or members k m
+    → at (sessions_in members) k ≡ session_in m
 at-read members k m within read =
     at-sessions_in members k ∙ ap (option_and_then session_in) (slice_get_read members (length members) k m refl within read)
 
 -- a member whose session is changed is put in its place
 pub change_at-sessions_in :
     (members : List Member) (k : ℕ) (m n : Member) (f : Session → Session) → k < length members
-    → m ≡ get_or members k m → session_in n ≡ option_map f (session_in m) → sessions_in (set members k n) ≡ change_at (sessions_in members) k f
+    → m ≡ get_or members k m → session_in n ≡ option_map f (session_in m)
+    → sessions_in (set members k n) ≡ change_at (sessions_in members) k f
 change_at-sessions_in members k m n f within read becomes =
     rw (map-set session_in members k n, becomes, at-read members k m within read) refl
 
 -- every member still has its table
-pub AreMembers-set : (members : List Member) (k : ℕ) (m : Member) → AreMembers members → IsHandleTable m.handles → AreMembers (set members k m)
+pub AreMembers-set : (members : List Member) (k : ℕ) (m : Member) → AreMembers members → IsHandleTable m.handles
+    → AreMembers (set members k m)
 AreMembers-set members k m all table = record {
   tables = λ j below.
       (let below' : j < length members = omega (arith, below, length-set members k m) in
@@ -45,7 +49,8 @@ AreMembers-set members k m all table = record {
 }
 
 -- the table of a member that was read
-pub table-read : (members : List Member) (k : ℕ) (m : Member) → AreMembers members → k < length members → m ≡ get_or members k m → IsHandleTable m.handles
+pub table-read : (members : List Member) (k : ℕ) (m : Member) → AreMembers members → k < length members → m ≡ get_or members k m
+    → IsHandleTable m.handles
 table-read members k m all within read =
     let here : slice_get members k ≡ Some m = slice_get_read members (length members) k m refl within read in
     let there : slice_get members k ≡ Some (get_or members k absent) = slice_get-get_or members k absent within in
@@ -64,7 +69,11 @@ new_sessions zero = refl
 new_sessions (suc n) = ap (λ l. None ∷ l) (new_sessions n)
 
 pub new_table : IsHandleTable absent.handles
-new_table = record { place_count = length-replicate {A = Option ℕ} 251 None; null = get_or-replicate {A = Option ℕ} 251 0 None None (omega arith) }
+new_table = record {
+  place_count =
+      length-replicate {A = Option ℕ} 251 None;
+  null = get_or-replicate {A = Option ℕ} 251 0 None None (omega arith);
+}
 
 pub new_members : (n : ℕ) → n < 256 → AreMembers (replicate n absent)
 new_members n few = record {

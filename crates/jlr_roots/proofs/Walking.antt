@@ -1,5 +1,6 @@
 -- The walk over all places comes by each slot that is held, in order.
-use Rattle.std.proofs.Common.{◌≡◌, ℕ, zero, suc, ◌+◌, ◌*◌, ◌/◌, ◌%◌, ◌<◌, ◌≤◌, List, [], ◌∷◌, ◌++◌, Option, Some, None, length, take, get_or, refl, sym, ap, ◌∙◌, arith, append_assoc, add-zero}
+use Rattle.std.proofs.Common.{◌≡◌, ℕ, zero, suc, ◌+◌, ◌*◌, ◌/◌, ◌%◌, ◌<◌, ◌≤◌, List, [], ◌∷◌, ◌++◌, Option, Some, None, length, take}
+use Rattle.std.proofs.Common.{get_or, refl, sym, ap, ◌∙◌, arith, append_assoc, add-zero}
 use Rattle.std.specs.Prelude.{is_some, option_and_then, option_to_list, filter_map}
 use Rattle.std.proofs.Math.Nat.{add-suc, mul-suc}
 use Rattle.std.proofs.Math.Seq.{take-suc}
@@ -36,10 +37,16 @@ filter_map-one (Some s) = refl
 handle_at : (j : ℕ) (s : Session) → j < 251 → slot_at j s ≡ at s.handles j
 handle_at j s below = rw (ne_eqb j 251 (λ e. omega (arith, e, below))) refl
 
-held_below-suc : (j : ℕ) (o : Option Session) → j < 251 → ((s : Session) → o ≡ Some s → j < length s.handles) → held_below (suc j) o ≡ held_below j o ++ option_to_list (held_in j o)
+held_below-suc : (j : ℕ) (o : Option Session) → j < 251 → ((s : Session) → o ≡ Some s → j < length s.handles)
+    → held_below (suc j) o ≡ held_below j o ++ option_to_list (held_in j o)
 held_below-suc j None before below = refl
 held_below-suc j (Some s) before below =
-    rw (take-suc s.handles j None (below s refl), filter_map-append (λ h. h) (take j s.handles) (at s.handles j ∷ []), filter_map-one (at s.handles j), handle_at j s before) refl
+    rw (
+      take-suc s.handles j None (below s refl),
+      filter_map-append (λ h. h) (take j s.handles) (at s.handles j ∷ []),
+      filter_map-one (at s.handles j),
+      handle_at j s before,
+    ) refl
 
 row_of : (k j : ℕ) → j < 252 → (252 * k + j) / 252 ≡ k
 row_of k j below = omega arith
@@ -55,12 +62,19 @@ root_in_row : (mutators : Table Session) (k j : ℕ) → j < 252 → root_at mut
 root_in_row mutators k j below = rw (row_of k j below, place_in_row k j below) refl
 
 -- within the handles of a mutator
-walked-row : (mutators : Table Session) → HaveTables mutators → (k j : ℕ) → j ≤ 251 → walked mutators (252 * k + j) ≡ walked mutators (252 * k) ++ held_below j (at mutators k)
+walked-row : (mutators : Table Session) → HaveTables mutators → (k j : ℕ) → j ≤ 251
+    → walked mutators (252 * k + j) ≡ walked mutators (252 * k) ++ held_below j (at mutators k)
 unfolding walked
-walked-row mutators tables k zero within = rw (add-zero (252 * k), held_below-zero (at mutators k), append-nil (walked mutators (252 * k))) refl
+walked-row mutators tables k zero within =
+    rw (add-zero (252 * k), held_below-zero (at mutators k), append-nil (walked mutators (252 * k))) refl
 walked-row mutators tables k (suc j) within =
     let below : j < 251 = omega arith in
-    rw (add-suc (252 * k) j, root_in_row mutators k j (omega arith), walked-row mutators tables k j (omega arith), held_below-suc j (at mutators k) below (λ s e. omega (arith, tables k s e, below)))
+    rw (
+      add-suc (252 * k) j,
+      root_in_row mutators k j (omega arith),
+      walked-row mutators tables k j (omega arith),
+      held_below-suc j (at mutators k) below (λ s e. omega (arith, tables k s e, below)),
+    )
     (append_assoc (walked mutators (252 * k)) (held_below j (at mutators k)) (option_to_list (held_in j (at mutators k))))
 
 slots_held-append : (xs ys : Table Session) → slots_held (xs ++ ys) ≡ slots_held xs ++ slots_held ys
@@ -68,26 +82,41 @@ slots_held-append xs ys =
     rw (filter_map-append (λ s. s) xs ys, flat_map-append slots_of (filter_map (λ s. s) xs) (filter_map (λ s. s) ys)) refl
 
 -- the handles of a mutator, and then its fence
-slots_held-one : (o : Option Session) → ((s : Session) → o ≡ Some s → length s.handles ≡ 251) → slots_held (o ∷ []) ≡ held_below 251 o ++ option_to_list (held_in 251 o)
+slots_held-one : (o : Option Session) → ((s : Session) → o ≡ Some s → length s.handles ≡ 251) → slots_held (o ∷ []) ≡ held_below 251 o
+    ++ option_to_list (held_in 251 o)
 slots_held-one None table = refl
 slots_held-one (Some s) table = rw (take_all 251 s.handles (omega (arith, table s refl))) (append-nil (slots_of s))
 
-whole_row : (mutators : Table Session) → HaveTables mutators → (k : ℕ) → walked mutators (252 * k + 252) ≡ walked mutators (252 * k) ++ slots_held (at mutators k ∷ [])
+whole_row : (mutators : Table Session) → HaveTables mutators → (k : ℕ) → walked mutators (252 * k + 252) ≡ walked mutators (252 * k)
+    ++ slots_held (at mutators k ∷ [])
 unfolding walked
 whole_row mutators tables k =
-    rw (add-suc (252 * k) 251, root_in_row mutators k 251 (omega arith), walked-row mutators tables k 251 (omega arith), slots_held-one (at mutators k) (tables k))
+    rw (
+      add-suc (252 * k) 251,
+      root_in_row mutators k 251 (omega arith),
+      walked-row mutators tables k 251 (omega arith),
+      slots_held-one (at mutators k) (tables k),
+    )
     (append_assoc (walked mutators (252 * k)) (held_below 251 (at mutators k)) (option_to_list (held_in 251 (at mutators k))))
 
 -- the places of the first mutators
-walked-rows : (mutators : Table Session) → HaveTables mutators → (k : ℕ) → k ≤ length mutators → walked mutators (252 * k) ≡ slots_held (take k mutators)
+walked-rows : (mutators : Table Session) → HaveTables mutators → (k : ℕ) → k ≤ length mutators
+    → walked mutators (252 * k) ≡ slots_held (take k mutators)
 unfolding walked
 walked-rows mutators tables zero within = refl
 walked-rows mutators tables (suc k) within =
     let below : k < length mutators = omega arith in
-    rw (mul-suc 252 k, whole_row mutators tables k, walked-rows mutators tables k (omega arith), take-suc mutators k None below, slots_held-append (take k mutators) (at mutators k ∷ [])) refl
+    rw (
+      mul-suc 252 k,
+      whole_row mutators tables k,
+      walked-rows mutators tables k (omega arith),
+      take-suc mutators k None below,
+      slots_held-append (take k mutators) (at mutators k ∷ []),
+    ) refl
 
 pub walked-all : (mutators : Table Session) → HaveTables mutators → walked mutators (252 * length mutators) ≡ slots_held mutators
-walked-all mutators tables = walked-rows mutators tables (length mutators) (omega arith) ∙ ap slots_held (take_all (length mutators) mutators (omega arith))
+walked-all mutators tables = walked-rows mutators tables (length mutators) (omega arith)
+    ∙ ap slots_held (take_all (length mutators) mutators (omega arith))
 
 -- the members' sessions have their places
 session_handles : (m : Member) (s : Session) → session_in m ≡ Some s → m.handles ≡ s.handles

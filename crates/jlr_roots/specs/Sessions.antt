@@ -1,5 +1,6 @@
 -- What a member holds as a session of the machine, and changes to one session.
-use Rattle.std.specs.Prelude.{◌<◌, ℕ, Bool, false, if◌then◌else◌, List, Option, Some, None, option_and_then, map, slice_index_or, length}
+use Rattle.std.specs.Prelude.{◌<◌, ℕ, Bool, false, if◌then◌else◌, List, Option, Some, None, option_and_then, map}
+use Rattle.std.specs.Prelude.{slice_index_or, length}
 use Rattle.jlr_machine.specs.declared.machine.Call.{Call}
 use Rattle.jlr_machine.specs.declared.machine.Session.{Session}
 use Rattle.jlr_machine.specs.declared.machine.Call.TheVariants.{Free}

@@ -1,5 +1,6 @@
 -- The places of all mutators, one after another, 252 each: the handles, and last the fence.
-use Rattle.std.specs.Prelude.{ℕ, zero, suc, ◌/◌, ◌%◌, ◌==◌, if◌then◌else◌, List, [], ◌++◌, Option, option_and_then, option_to_list, filter_map}
+use Rattle.std.specs.Prelude.{ℕ, zero, suc, ◌/◌, ◌%◌, ◌==◌, if◌then◌else◌, List, [], ◌++◌, Option, option_and_then}
+use Rattle.std.specs.Prelude.{option_to_list, filter_map}
 use Rattle.std.specs.List.{flat_map}
 use Rattle.jlr_machine.specs.declared.machine.Session.{Session}
 use Rattle.jlr_machine.specs.Objects.{Table, at}

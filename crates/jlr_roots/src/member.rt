@@ -1,5 +1,6 @@
 //! One mutator that may join.
-ghost use Rattle.std.specs.Prelude.{◌≡◌, ◌<◌, IfOk, IfNone, IfSome, IsTrue, Some, false, is_some, option_and_then, option_map};
+ghost use Rattle.std.specs.Prelude.{◌≡◌, ◌<◌, IfOk, IfNone, IfSome, IsTrue, Some, false, is_some, option_and_then};
+ghost use Rattle.std.specs.Prelude.{option_map};
 ghost use Rattle.jlr_machine.specs.Objects.{at, some_and};
 ghost use Rattle.jlr_machine.specs.Calls.{fresh_session};
 ghost use Rattle.jlr_machine.specs.Refusals.{is_in_flight};
@@ -94,7 +95,8 @@ impl Member {
         ensures room { is_some result ≡ some_and (λ s. has_room s.handles) (session_in self.old) }
         ensures none { IfNone result (self.new ≡ self.old) }
         ensures lowest { IfSome result (λ handle. handle ≡ lowest_in (session_in self.old)) }
-        ensures held { IfSome result (λ handle. session_in self.new ≡ option_map (with_slot handle slot) (session_in self.old)) }
+        ensures held { IfSome result (λ handle. session_in self.new
+            ≡ option_map (with_slot handle slot) (session_in self.old)) }
         ensures table { IsHandleTable self.new.handles }
     {
         self.handles.put(slot)

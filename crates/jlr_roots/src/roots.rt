@@ -1,9 +1,11 @@
 //! The roots that all mutators hold.
-ghost use Rattle.std.specs.Prelude.{◌≡◌, ◌*◌, ◌<◌, IfOk, IfNone, IfSome, IsTrue, None, is_some, length, option_and_then, option_map, replicate};
+ghost use Rattle.std.specs.Prelude.{◌≡◌, ◌*◌, ◌<◌, IfOk, IfNone, IfSome, IsTrue, None, is_some, length};
+ghost use Rattle.std.specs.Prelude.{option_and_then, option_map, replicate};
 ghost use Rattle.jlr_machine.specs.declared.machine.Call.TheVariants.{Free};
 ghost use Rattle.jlr_machine.specs.Objects.{at, change_at, empty_at, set_at};
 ghost use Rattle.jlr_machine.specs.Calls.{fresh_session};
-ghost use Rattle.jlr_roots.specs.Sessions.{free_handle, has_call, has_free_handle, sessions_in, slot_held, with_call, with_slot, without_handle};
+ghost use Rattle.jlr_roots.specs.Sessions.{free_handle, has_call, has_free_handle, sessions_in, slot_held, with_call};
+ghost use Rattle.jlr_roots.specs.Sessions.{with_slot, without_handle};
 ghost use Rattle.jlr_roots.specs.Walk.{root_at, slot_at, slots_held, walked};
 
 use crate::member::Member;

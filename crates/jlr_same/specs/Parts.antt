@@ -6,14 +6,29 @@ use Rattle.jlr_machine.specs.declared.ask.Outcome.TheVariants.{Ok}
 use Rattle.jlr_machine.specs.declared.ask.CallOutcome.{CallOutcome}
 use Rattle.jlr_machine.specs.declared.ask.FullMode.TheVariants.{Policy}
 use Rattle.jlr_machine.specs.declared.ask.Ask.{Ask}
-use Rattle.jlr_machine.specs.declared.ask.Ask.TheVariants.{Join, Leave, New, Put, Get, SetInt, Int, Dup, Drop, Same, MakeRef, Deref, Refers, Clear, Enqueue, Enqueued, MakeQueue, Poll, Remove, MakeCleaner, Register, Clean, Prepare, Opened, CheckOut, CheckIn, Close, Finish, Bind, Find, Unbind, Names, Full, Stat, Notes, Faults, HandOver, TakeUp, Begin, Collect, Abandon, Array}
+use Rattle.jlr_machine.specs.declared.ask.Ask.TheVariants.{Join, Leave, New, Put, Get, SetInt, Int, Dup, Drop, Same}
+use Rattle.jlr_machine.specs.declared.ask.Ask.TheVariants.{MakeRef, Deref, Refers, Clear, Enqueue, Enqueued, MakeQueue}
+use Rattle.jlr_machine.specs.declared.ask.Ask.TheVariants.{Poll, Remove, MakeCleaner, Register, Clean, Prepare, Opened}
+use Rattle.jlr_machine.specs.declared.ask.Ask.TheVariants.{CheckOut, CheckIn, Close, Finish, Bind, Find, Unbind, Names}
+use Rattle.jlr_machine.specs.declared.ask.Ask.TheVariants.{Full, Stat, Notes, Faults, HandOver, TakeUp, Begin, Collect}
+use Rattle.jlr_machine.specs.declared.ask.Ask.TheVariants.{Abandon, Array}
 use Rattle.jlr_machine.specs.Refusals.{name_asked}
 use Rattle.jlr_same.specs.declared.plain.Kind.{Kind}
 use Rattle.jlr_same.specs.declared.plain.Kind.TheVariants as kind
 use Rattle.jlr_same.specs.declared.plain.Parts.{Parts}
 
 abbrev pub bare : Kind → ℕ → Parts
-bare kind mutator = record { kind = kind; mutator = mutator; first = 0; second = 0; number = 0; value = pos 0; reference = Soft; outcome = Ok; mode = Policy }
+bare kind mutator = record {
+  kind = kind;
+  mutator = mutator;
+  first = 0;
+  second = 0;
+  number = 0;
+  value = pos 0;
+  reference = Soft;
+  outcome = Ok;
+  mode = Policy;
+}
 
 abbrev pub one : Kind → ℕ → ℕ → Parts
 one kind mutator first = record (bare kind mutator) { first = first }
@@ -32,7 +47,8 @@ parts_of (Int mutator object field) = record (one kind.Int mutator object) { num
 parts_of (Dup mutator object) = one kind.Dup mutator object
 parts_of (Drop mutator object) = one kind.Drop mutator object
 parts_of (Same mutator left right) = two kind.Same mutator left right
-parts_of (MakeRef mutator reference referent queue) = record (two kind.MakeRef mutator referent queue) { reference = reference }
+parts_of (MakeRef mutator reference referent queue) =
+    record (two kind.MakeRef mutator referent queue) { reference = reference }
 parts_of (Deref mutator reference) = one kind.Deref mutator reference
 parts_of (Refers mutator reference object) = two kind.Refers mutator reference object
 parts_of (Clear mutator reference) = one kind.Clear mutator reference

@@ -1,7 +1,8 @@
 //! The parts of an ask that are plain values, and so have an `==`.
 ghost use Rattle.std.specs.Prelude.{◌≡◌, ◌↔◌, IsTrue};
 ghost use Rattle.jlr_machine.specs.declared.ask.Ask.TheVariants.{Finish};
-ghost use Rattle.jlr_same.specs.Parts.{bare as bare_parts, one as one_part, two as two_parts, parts_of, SameNumbers, SameRest};
+ghost use Rattle.jlr_same.specs.Parts.{bare as bare_parts, one as one_part, two as two_parts, parts_of, SameNumbers};
+ghost use Rattle.jlr_same.specs.Parts.{SameRest};
 
 use jlr_machine::ask::{Ask, FullMode, Outcome};
 use jlr_types::{ActionNo, FieldNo, Handle, Mutator, RefKind};
@@ -53,7 +54,8 @@ pub(crate) enum Kind {
     Array,
 }
 
-/// The parts of an ask, without its layout, its name and the outcome of a call. What it has not is null, 0, or the first of its kind.
+/// The parts of an ask, without its layout, its name and the outcome of a call. What it has not is null, 0, or the
+/// first of its kind.
 #[derive(Clone, Copy)]
 pub(crate) struct Parts {
     kind: Kind,

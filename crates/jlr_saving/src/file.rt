@@ -28,7 +28,8 @@ fn copy_of<R: Drop>(alloc: Global, book: &Book<R>) -> Result<TraceFile, AllocErr
     })
 }
 
-/// The history of a book: its image, how many entries there were before it, and its entries. Such a file has a spelling, and its verdict is legal.
+/// The history of a book: its image, how many entries there were before it, and its entries. Such a file has a
+/// spelling, and its verdict is legal.
 ///
 /// # Errors
 /// `AllocError` where there is no memory for a copy.

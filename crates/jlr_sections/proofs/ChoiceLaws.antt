@@ -1,5 +1,6 @@
 -- Choices: what is read is what was written, and what was written is read again.
-use Rattle.std.proofs.Common.{◌≡◌, ℕ, zero, suc, Bool, true, false, List, [], ◌∷◌, ◌++◌, length, Option, Some, None, Ok, refl, sym, ap, ◌∙◌, arith}
+use Rattle.std.proofs.Common.{◌≡◌, ℕ, zero, suc, Bool, true, false, List, [], ◌∷◌, ◌++◌, length, Option, Some, None, Ok, refl, sym, ap, ◌∙◌}
+use Rattle.std.proofs.Common.{arith}
 use Rattle.std.specs.List.{flat_map}
 use Rattle.std.specs.Int.{w32}
 use Rattle.std.specs.Prelude.{◌%◌, nat_eq, nat_le}
@@ -15,18 +16,22 @@ use Rattle.jlr_fields.proofs.Lists.{list_field, items_take, items_again}
 use Rattle.jlr_fields.proofs.Rising.{rising_field}
 use Rattle.jlr_fields.proofs.Products.{then_takes, made_takes, one_takes, two_takes, then_again, one_again, two_again}
 use Rattle.jlr_parts.proofs.Records.{rising_slot}
-use Rattle.jlr_sections.specs.Choices.{SlotIs, spelled_collected, CollectedFits, collected_read, spelled_collection, CollectionFits, collection_read, spelled_fresh, FreshFits, fresh_read, flags_of, spelled_choice, ChoiceFits, made_choice, choice_read}
+use Rattle.jlr_sections.specs.Choices.{SlotIs, spelled_collected, CollectedFits, collected_read, spelled_collection, CollectionFits}
+use Rattle.jlr_sections.specs.Choices.{collection_read, spelled_fresh, FreshFits, fresh_read, flags_of, spelled_choice, ChoiceFits}
+use Rattle.jlr_sections.specs.Choices.{made_choice, choice_read}
 
 abbrev made_collected : List ℕ → List ℕ → Collected
 made_collected kept pending = record { kept = kept; pending = pending }
 
 collected_takes : TakesSpelled collected_read spelled_collected CollectedFits
 unfolding collected_read
-collected_takes = two_takes (rising_field rising_slot four_least) (list_field four_bytes four_least) [] made_collected spelled_collected CollectedFits (λ k p. refl) (λ k p f g. record { kept = f; pending = g })
+collected_takes = two_takes (rising_field rising_slot four_least) (list_field four_bytes four_least) [] made_collected spelled_collected
+    CollectedFits (λ k p. refl) (λ k p f g. record { kept = f; pending = g })
 
 collected_again : ReadsAgain collected_read spelled_collected CollectedFits
 unfolding collected_read
-collected_again c rest fits = two_again (rising_field rising_slot four_least) (list_field four_bytes four_least) made_collected c.kept c.pending fits.kept fits.pending rest
+collected_again c rest fits = two_again (rising_field rising_slot four_least) (list_field four_bytes four_least) made_collected c.kept
+    c.pending fits.kept fits.pending rest
 
 collected : IsField collected_read spelled_collected CollectedFits
 collected = record { takes = collected_takes; again = collected_again }
@@ -63,8 +68,13 @@ fresh_behind count f bytes [] rest fits e =
     let t = items_take (number_at w32) spelled_32 SlotIs four_bytes.takes count bytes [] rest fits e in
     absurd (omega (arith, t.1, f.0))
 fresh_behind count f bytes (s ∷ slots) rest fits e =
-    let t = items_take (number_at w32) spelled_32 SlotIs four_bytes.takes count bytes (s ∷ slots) rest fits e in
-    (record { parts = ap (λ (b : List ℕ). count ∷ b) t.0.parts ∙ ap (λ n. n ∷ (flat_map spelled_32 (s ∷ slots) ++ rest)) (sym t.1); rest_fits = t.0.rest_fits }, record { few = omega (arith, t.1, f.1); each = t.2 })
+    let t = items_take (number_at w32) spelled_32 SlotIs four_bytes.takes count bytes (s ∷ slots) rest fits e in (
+      record {
+        parts = ap (λ (b : List ℕ). count ∷ b) t.0.parts ∙ ap (λ n. n ∷ (flat_map spelled_32 (s ∷ slots) ++ rest)) (sym t.1);
+        rest_fits = t.0.rest_fits;
+      },
+      record { few = omega (arith, t.1, f.1); each = t.2 },
+    )
 
 fresh_takes : (b : Bool) → TakesSpelled (fresh_read b) spelled_fresh (FreshIs b)
 fresh_takes false = made_takes [] [] spelled_fresh (FreshIs false) refl tt
@@ -75,7 +85,8 @@ fresh_again false [] rest fits = refl
 fresh_again false (s ∷ slots) rest fits = absurd fits
 fresh_again true [] rest fits = absurd fits
 fresh_again true (s ∷ slots) rest fits =
-    then_again (within 1 2) (length (s ∷ slots)) (omega arith, fits.few) (items_at (number_at w32)) (spelled_fresh (s ∷ slots) ++ rest) (flat_map spelled_32 (s ∷ slots) ++ rest) (s ∷ slots) rest refl
+    then_again (within 1 2) (length (s ∷ slots)) (omega arith, fits.few) (items_at (number_at w32)) (spelled_fresh (s ∷ slots) ++ rest)
+    (flat_map spelled_32 (s ∷ slots) ++ rest) (s ∷ slots) rest refl
     (items_again (number_at w32) spelled_32 SlotIs four_bytes.again (s ∷ slots) rest fits.each)
 
 fresh : (b : Bool) → IsField (fresh_read b) spelled_fresh (FreshIs b)
@@ -116,13 +127,15 @@ fresh_fits false (s ∷ x) f = absurd f
 fresh_fits true [] f = absurd f
 fresh_fits true (s ∷ x) f = f
 
-parts_take : (ran made : Bool) → TakesBehind (number ran made ∷ []) (two_fields (collection_read ran) (fresh_read made) made_choice) spelled_choice ChoiceFits
+parts_take : (ran made : Bool) → TakesBehind (number ran made ∷ []) (two_fields (collection_read ran) (fresh_read made) made_choice)
+    spelled_choice ChoiceFits
 parts_take ran made =
     let n : ℕ = number ran made in
     then_takes (collection ran) (n ∷ []) (λ c. one_field (fresh_read made) (made_choice c)) spelled_choice ChoiceFits
     (λ c p. then_takes (fresh made) ((n ∷ []) ++ spelled_collection c) (λ x bytes. Ok (made_choice c x, bytes)) spelled_choice ChoiceFits
     (λ x q. made_takes (((n ∷ []) ++ spelled_collection c) ++ spelled_fresh x) (made_choice c x) spelled_choice ChoiceFits
-    (ap (λ k. k ∷ spelled_collection c ++ spelled_fresh x) (flags_are ran made c x p q)) (record { collected = collection_fits ran c p; fresh = fresh_fits made x q })))
+    (ap (λ k. k ∷ spelled_collection c ++ spelled_fresh x) (flags_are ran made c x p q))
+    (record { collected = collection_fits ran c p; fresh = fresh_fits made x q })))
 
 abbrev choice_behind : ℕ → Reader Chosen
 choice_behind flags = two_fields (collection_read (nat_eq (flags % 2) 1)) (fresh_read (nat_le 2 flags)) made_choice
@@ -138,7 +151,8 @@ choice_takes : TakesSpelled choice_read spelled_choice ChoiceFits
 unfolding choice_read
 choice_takes = then_takes (within 0 3) [] choice_behind spelled_choice ChoiceFits flags_take
 
-parts_again : (c : Option Collected) (x rest : List ℕ) → CollectionFits c → FreshFits x → choice_read (spelled_choice (made_choice c x) ++ rest) ≡ Ok (made_choice c x, rest)
+parts_again : (c : Option Collected) (x rest : List ℕ) → CollectionFits c → FreshFits x
+    → choice_read (spelled_choice (made_choice c x) ++ rest) ≡ Ok (made_choice c x, rest)
 unfolding choice_read byte_within_at
 parts_again None [] rest p q = two_again (collection false) (fresh false) made_choice None [] tt tt rest
 parts_again (Some c) [] rest p q = two_again (collection true) (fresh false) made_choice (Some c) [] p tt rest

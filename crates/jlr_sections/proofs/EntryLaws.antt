@@ -11,11 +11,13 @@ use Rattle.jlr_sections.proofs.ChoiceLaws.{choice}
 
 entry_takes : (version : Version) → TakesSpelled (entry_read version) (spelled_entry version) (EntryFits version)
 unfolding entry_read
-entry_takes version = four_takes byte (ask version) answer choice [] made_entry (spelled_entry version) (EntryFits version) (λ s a r c. refl) (λ s a r c f g h i. record { seat = f; ask = g; answer = h; choice = i })
+entry_takes version = four_takes byte (ask version) answer choice [] made_entry (spelled_entry version) (EntryFits version)
+    (λ s a r c. refl) (λ s a r c f g h i. record { seat = f; ask = g; answer = h; choice = i })
 
 entry_again : (version : Version) → ReadsAgain (entry_read version) (spelled_entry version) (EntryFits version)
 unfolding entry_read
-entry_again version e rest fits = four_again byte (ask version) answer choice made_entry e.seat e.ask e.answer e.choice fits.seat fits.ask fits.answer fits.choice rest
+entry_again version e rest fits =
+    four_again byte (ask version) answer choice made_entry e.seat e.ask e.answer e.choice fits.seat fits.ask fits.answer fits.choice rest
 
 pub entry : (version : Version) → IsField (entry_read version) (spelled_entry version) (EntryFits version)
 entry version = record { takes = entry_takes version; again = entry_again version }

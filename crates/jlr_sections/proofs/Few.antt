@@ -4,7 +4,8 @@ use Rattle.jlr_fields.specs.Reading.{Reader, ◌>>=◌}
 use Rattle.jlr_fields.specs.Items.{items_at}
 use Rattle.jlr_fields.proofs.Steps.{bind_ok, ok_is}
 
-pub items_counted : {A : Type 0} (read : Reader A) (n : ℕ) (bytes : List ℕ) (xs : List A) (rest : List ℕ) → items_at read n bytes ≡ Ok (xs, rest) → length xs ≡ n
+pub items_counted : {A : Type 0} (read : Reader A) (n : ℕ) (bytes : List ℕ) (xs : List A) (rest : List ℕ)
+    → items_at read n bytes ≡ Ok (xs, rest) → length xs ≡ n
 unfolding items_at
 items_counted {A} read zero bytes xs rest e = subst (λ (y : List A × List ℕ). length y.0 ≡ 0) (ok_is ([], bytes) (xs, rest) e) refl
 items_counted {A} read (suc n) bytes xs rest e =

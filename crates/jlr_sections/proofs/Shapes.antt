@@ -1,5 +1,6 @@
 -- An image of the right shape is told by its text.
-use Rattle.std.proofs.Common.{◌≡◌, ℕ, suc, ◌+◌, ◌≤◌, Bool, List, [], ◌∷◌, ◌++◌, length, Option, Some, None, refl, sym, ap, ◌∙◌, subst, arith}
+use Rattle.std.proofs.Common.{◌≡◌, ℕ, suc, ◌+◌, ◌≤◌, Bool, List, [], ◌∷◌, ◌++◌, length, Option, Some, None, refl, sym, ap, ◌∙◌, subst}
+use Rattle.std.proofs.Common.{arith}
 use Rattle.std.specs.Prelude.{map, option_map}
 use Rattle.std.specs.List.{AllByRecursion}
 use Rattle.std.proofs.lemmas.List.{append-nil}
@@ -10,7 +11,8 @@ use Rattle.jlr_machine.specs.Objects.{Table}
 use Rattle.jlr_parts.specs.declared.record.Placed.{Placed}
 use Rattle.jlr_parts.specs.declared.record.Held.{Held}
 use Rattle.jlr_sections.specs.declared.image.Image.{Image}
-use Rattle.jlr_sections.specs.Images.{SessionText, listed_from, placed, held, session_text, ImageText, image_text, places_of, HasPlaces, HasShape}
+use Rattle.jlr_sections.specs.Images.{SessionText, listed_from, placed, held, session_text, ImageText, image_text, places_of, HasPlaces}
+use Rattle.jlr_sections.specs.Images.{HasShape}
 
 -- ---- A list and the length of its table tell the table, and what stands behind with keys of no place
 

@@ -1,5 +1,6 @@
 -- How what was chosen in an entry is spelled and read, and which has a spelling.
-use Rattle.std.specs.Prelude.{ℕ, ◌<◌, ◌≤◌, ◌^◌, ◌%◌, ◌==◌, Bool, true, false, List, [], ◌∷◌, ◌++◌, length, Option, Some, None, Ok, nat_le}
+use Rattle.std.specs.Prelude.{ℕ, ◌<◌, ◌≤◌, ◌^◌, ◌%◌, ◌==◌, Bool, true, false, List, [], ◌∷◌, ◌++◌, length, Option, Some}
+use Rattle.std.specs.Prelude.{None, Ok, nat_le}
 use Rattle.std.specs.List.{flat_map, AllByRecursion}
 use Rattle.std.specs.Int.{w32}
 use Rattle.jlr_machine.specs.declared.entry.Collected.{Collected}
@@ -25,7 +26,8 @@ pub record CollectedFits (c : Collected) : Type 0 where
   pub pending : IsListed SlotIs c.pending
 
 unfoldable pub collected_read : Reader Collected
-collected_read = two_fields (rising_at 4 slot_after itself) (list_at 4 (number_at w32)) (λ kept pending. record { kept = kept; pending = pending })
+collected_read = two_fields (rising_at 4 slot_after itself) (list_at 4 (number_at w32))
+    (λ kept pending. record { kept = kept; pending = pending })
 
 abbrev pub spelled_collection : Option Collected → List ℕ
 spelled_collection None = []
@@ -83,4 +85,5 @@ abbrev pub made_choice : Option Collected → List ℕ → Chosen
 made_choice collected fresh = record { collected = collected; fresh = fresh }
 
 unfoldable pub choice_read : Reader Chosen
-choice_read bytes = byte_within_at 0 3 bytes >>= λ flags. two_fields (collection_read (flags.0 % 2 == 1)) (fresh_read (nat_le 2 flags.0)) made_choice flags.1
+choice_read bytes = byte_within_at 0 3 bytes >>= λ flags. two_fields (collection_read (flags.0 % 2 == 1))
+    (fresh_read (nat_le 2 flags.0)) made_choice flags.1

@@ -1,5 +1,6 @@
 -- How the image at the head of a trace file is spelled and read, and which has a spelling.
-use Rattle.std.specs.Prelude.{ℕ, suc, false, ◌<◌, ◌≤◌, ◌≡◌, ◌^◌, List, [], ◌∷◌, ◌++◌, length, Option, Some, None, Ok, nat_lt, if◌then◌else◌, option_map, map}
+use Rattle.std.specs.Prelude.{ℕ, suc, false, ◌<◌, ◌≤◌, ◌≡◌, ◌^◌, List, [], ◌∷◌, ◌++◌, length, Option, Some, None, Ok}
+use Rattle.std.specs.Prelude.{nat_lt, if◌then◌else◌, option_map, map}
 use Rattle.std.specs.List.{flat_map, list_any, AllByRecursion}
 use Rattle.std.specs.Int.{w16, w32, w64}
 use Rattle.jlr_machine.specs.declared.object.Object.{Object}
@@ -8,11 +9,15 @@ use Rattle.jlr_machine.specs.declared.machine.Session.{Session}
 use Rattle.jlr_machine.specs.declared.machine.Machine.{Machine}
 use Rattle.jlr_fields.specs.declared.version.Version.{Version}
 use Rattle.jlr_fields.specs.Spelling.{spelled_8, spelled_16, spelled_32, spelled_64, spelled_option, IsWithin, SlotFits}
-use Rattle.jlr_fields.specs.Reading.{Reader, ◌>>=◌, three_fields, four_fields, five_fields, byte_within_at, number_at, number_within_at, flag_at, option_at}
+use Rattle.jlr_fields.specs.Reading.{Reader, ◌>>=◌, three_fields, four_fields, five_fields, byte_within_at, number_at}
+use Rattle.jlr_fields.specs.Reading.{number_within_at, flag_at, option_at}
 use Rattle.jlr_fields.specs.Items.{items_at, list_at, rising_at, spelled_list, IsListed, IsRising}
 use Rattle.jlr_parts.specs.declared.record.Placed.{Placed}
 use Rattle.jlr_parts.specs.declared.record.Held.{Held}
-use Rattle.jlr_parts.specs.Records.{spelled_binding, BindingFits, binding_read, spelled_failure, FailureFits, failure_read, spelled_call, CallFits, call_read, spelled_job, JobFits, job_after, spelled_resource, ResourceFits, resource_after, spelled_placed, PlacedFits, placed_after, spelled_held, HeldFits, held_after}
+use Rattle.jlr_parts.specs.Records.{spelled_binding, BindingFits, binding_read, spelled_failure, FailureFits}
+use Rattle.jlr_parts.specs.Records.{failure_read, spelled_call, CallFits, call_read, spelled_job, JobFits, job_after}
+use Rattle.jlr_parts.specs.Records.{spelled_resource, ResourceFits, resource_after, spelled_placed, PlacedFits}
+use Rattle.jlr_parts.specs.Records.{placed_after, spelled_held, HeldFits, held_after}
 use Rattle.jlr_sections.specs.declared.image.Head.{Head}
 use Rattle.jlr_sections.specs.declared.image.Waiting.{Waiting}
 use Rattle.jlr_sections.specs.declared.image.Records.{Records}
@@ -45,10 +50,12 @@ pub record HeadFits (h : Head) : Type 0 where
   pub base : h.base < 2 ^ 64
 
 abbrev pub made_head : ℕ → ℕ → ℕ → ℕ → Head
-made_head cells sessions resources base = record { cells = cells; sessions = sessions; resources = resources; base = base }
+made_head cells sessions resources base =
+    record { cells = cells; sessions = sessions; resources = resources; base = base }
 
 unfoldable pub head_read : Reader Head
-head_read = four_fields (number_within_at w32 16 65536) (byte_within_at 1 64) (number_within_at w16 1 256) (number_at w64) made_head
+head_read = four_fields (number_within_at w32 16 65536) (byte_within_at 1 64) (number_within_at w16 1 256)
+    (number_at w64) made_head
 
 -- ---- Sessions
 
@@ -81,12 +88,14 @@ unfoldable pub joined_read : Reader (Option SessionText)
 joined_read = three_fields (rising_at 5 held_after (λ h. h.handle)) option_at call_read made_session
 
 unfoldable pub session_read : Reader (Option SessionText)
-session_read bytes = flag_at bytes >>= λ is_joined. if is_joined.0 then joined_read is_joined.1 else Ok (None, is_joined.1)
+session_read bytes =
+    flag_at bytes >>= λ is_joined. if is_joined.0 then joined_read is_joined.1 else Ok (None, is_joined.1)
 
 -- ---- What waits, the records, and the counts
 
 abbrev pub spelled_waiting : Waiting → List ℕ
-spelled_waiting w = spelled_list spelled_binding w.names ++ spelled_list spelled_32 w.pending ++ spelled_list spelled_32 w.line
+spelled_waiting w = spelled_list spelled_binding w.names ++ spelled_list spelled_32 w.pending
+    ++ spelled_list spelled_32 w.line
 
 pub record WaitingFits (w : Waiting) : Type 0 where
   pub names : IsListed BindingFits w.names
@@ -94,10 +103,12 @@ pub record WaitingFits (w : Waiting) : Type 0 where
   pub line : IsListed SlotIs w.line
 
 unfoldable pub waiting_read : Reader Waiting
-waiting_read = three_fields (list_at 6 binding_read) (list_at 4 (number_at w32)) (list_at 4 (number_at w32)) (λ names pending line. record { names = names; pending = pending; line = line })
+waiting_read = three_fields (list_at 6 binding_read) (list_at 4 (number_at w32)) (list_at 4 (number_at w32))
+    (λ names pending line. record { names = names; pending = pending; line = line })
 
 abbrev pub spelled_records : Records → List ℕ
-spelled_records r = spelled_list spelled_job r.jobs ++ spelled_list spelled_resource r.resources ++ spelled_list spelled_failure r.faults ++ spelled_list spelled_32 r.notes
+spelled_records r = spelled_list spelled_job r.jobs ++ spelled_list spelled_resource r.resources
+    ++ spelled_list spelled_failure r.faults ++ spelled_list spelled_32 r.notes
 
 pub record RecordsFit (r : Records) : Type 0 where
   pub jobs : IsRising JobFits (λ job. job.action) r.jobs
@@ -106,7 +117,9 @@ pub record RecordsFit (r : Records) : Type 0 where
   pub notes : IsListed (λ n. n < 2 ^ 32) r.notes
 
 unfoldable pub records_read : Reader Records
-records_read = four_fields (rising_at 14 job_after (λ job. job.action)) (rising_at 13 resource_after (λ resource. resource.rid)) (list_at 9 failure_read) (list_at 4 (number_at w32)) (λ jobs resources faults notes. record { jobs = jobs; resources = resources; faults = faults; notes = notes })
+records_read = four_fields (rising_at 14 job_after (λ job. job.action))
+    (rising_at 13 resource_after (λ resource. resource.rid)) (list_at 9 failure_read) (list_at 4 (number_at w32))
+    (λ jobs resources faults notes. record { jobs = jobs; resources = resources; faults = faults; notes = notes })
 
 abbrev pub spelled_counts : Counts → List ℕ
 spelled_counts c = spelled_64 c.next_action ++ spelled_64 c.taken ++ spelled_64 c.ok ++ spelled_64 c.failed
@@ -118,7 +131,8 @@ pub record CountsFit (c : Counts) : Type 0 where
   pub failed : c.failed < 2 ^ 64
 
 unfoldable pub counts_read : Reader Counts
-counts_read = four_fields (number_at w64) (number_at w64) (number_at w64) (number_at w64) (λ next_action taken good failed. record { next_action = next_action; taken = taken; ok = good; failed = failed })
+counts_read = four_fields (number_at w64) (number_at w64) (number_at w64) (number_at w64)
+    (λ next_action taken good failed. record { next_action = next_action; taken = taken; ok = good; failed = failed })
 
 -- ---- The image
 
@@ -157,7 +171,8 @@ image_text i = record {
 }
 
 abbrev pub spelled_image : ImageText → List ℕ
-spelled_image t = spelled_head t.head ++ spelled_list spelled_placed t.objects ++ flat_map spelled_session t.mutators ++ spelled_waiting t.waiting ++ spelled_records t.records ++ spelled_counts t.counts
+spelled_image t = spelled_head t.head ++ spelled_list spelled_placed t.objects ++ flat_map spelled_session t.mutators
+    ++ spelled_waiting t.waiting ++ spelled_records t.records ++ spelled_counts t.counts
 
 pub record ImageFits (version : Version) (t : ImageText) : Type 0 where
   pub head : HeadFits t.head
@@ -169,11 +184,21 @@ pub record ImageFits (version : Version) (t : ImageText) : Type 0 where
   pub counts : CountsFit t.counts
 
 abbrev pub made_image : Head → List Placed → List (Option SessionText) → Waiting → Records → Counts → ImageText
-made_image head objects mutators waiting records counts = record { head = head; objects = objects; mutators = mutators; waiting = waiting; records = records; counts = counts }
+made_image head objects mutators waiting records counts =
+    record {
+      head =
+          head;
+      objects = objects;
+      mutators = mutators;
+      waiting = waiting;
+      records = records;
+      counts = counts;
+    }
 
 -- what stands behind a head
 abbrev pub image_behind : Version → Head → Reader ImageText
-image_behind version head = five_fields (rising_at 5 (placed_after version) (λ p. p.slot)) (items_at session_read head.sessions) waiting_read records_read counts_read (made_image head)
+image_behind version head = five_fields (rising_at 5 (placed_after version) (λ p. p.slot))
+    (items_at session_read head.sessions) waiting_read records_read counts_read (made_image head)
 
 unfoldable pub image_read : Version → Reader ImageText
 image_read version bytes = head_read bytes >>= λ head. image_behind version head.0 head.1
@@ -186,7 +211,8 @@ abbrev pub HasPlaces : Option Session → Type 0
 HasPlaces None = Unit {0}
 HasPlaces (Some s) = length s.handles ≡ places_of (listed_from held 0 s.handles)
 
--- what the text of an image does not say: no cycle is open, nothing was seen, strays lie in no cells, and how many places handles have
+-- what the text of an image does not say: no cycle is open, nothing was seen, strays lie in no cells, and how many
+-- places handles have
 pub record HasShape (i : Image) : Type 0 where
   pub closed : i.machine.cycle_open ≡ false
   pub nothing_seen : i.machine.seen ≡ []

@@ -3,7 +3,9 @@ ghost use Rattle.std.specs.Prelude.{◌≡◌, ◌≤◌, ◌<◌, ◌++◌, OnO
 ghost use Rattle.jlr_fields.specs.Reading.{Reads};
 ghost use Rattle.jlr_fields.specs.Items.{rising_at};
 ghost use Rattle.jlr_parts.specs.Records.{slot_after};
-ghost use Rattle.jlr_sections.specs.Choices.{itself, collected_read, collection_read, fresh_read, choice_read, flags_of as flags_of_choice, spelled_collection, CollectionCounts, spelled_fresh, spelled_choice, ChoiceCounts};
+ghost use Rattle.jlr_sections.specs.Choices.{itself, collected_read, collection_read, fresh_read, choice_read};
+ghost use Rattle.jlr_sections.specs.Choices.{flags_of as flags_of_choice, spelled_collection, CollectionCounts};
+ghost use Rattle.jlr_sections.specs.Choices.{spelled_fresh, spelled_choice, ChoiceCounts};
 
 use jlr_fields::cursor::take_within;
 use jlr_fields::fault::ReadError;

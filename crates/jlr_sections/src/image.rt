@@ -4,7 +4,9 @@ ghost use Rattle.std.specs.Int.{w32};
 ghost use Rattle.jlr_fields.specs.Reading.{Reads, number_within_at, three_fields};
 ghost use Rattle.jlr_fields.specs.Items.{items_at, rising_at};
 ghost use Rattle.jlr_parts.specs.Records.{held_after};
-ghost use Rattle.jlr_sections.specs.Images.{listed_from, placed, held, head_read, session_text, joined_read, session_read, waiting_read, records_read, counts_read, image_text, made_image, image_behind, image_read, places_of, HasPlaces, HasShape};
+ghost use Rattle.jlr_sections.specs.Images.{listed_from, placed, held, head_read, session_text, joined_read};
+ghost use Rattle.jlr_sections.specs.Images.{session_read, waiting_read, records_read, counts_read, image_text};
+ghost use Rattle.jlr_sections.specs.Images.{made_image, image_behind, image_read, places_of, HasPlaces, HasShape};
 ghost use Rattle.std.specs.List.{AllByRecursion};
 
 use crate::places::{Objects, held_places, objects_at};
@@ -96,7 +98,8 @@ fn head_at(bytes: &mut &[u8]) -> Result<Head, ReadError>
 }
 
 fn handles_at(alloc: Global, bytes: &mut &[u8]) -> Result<Table<Slot>, ReadError>
-    ensures reads { Reads (λ x. listed_from held 0 x) result bytes.new.now (rising_at 5 held_after (λ h. h.handle) bytes.old.now) }
+    ensures reads { Reads (λ x. listed_from held 0 x) result bytes.new.now
+        (rising_at 5 held_after (λ h. h.handle) bytes.old.now) }
     ensures places { IfOk result (λ x. length x ≡ places_of (listed_from held 0 x)) }
 {
     let held = take_rising(alloc, bytes)?;
@@ -137,7 +140,8 @@ fn sessions_at(
     count: u8,
     bytes: &mut &[u8],
 ) -> Result<Vec<Option<Session>>, ReadError>
-    ensures reads { Reads (λ x. map (option_map session_text) x.items) result bytes.new.now (items_at session_read count bytes.old.now) }
+    ensures reads { Reads (λ x. map (option_map session_text) x.items) result bytes.new.now
+        (items_at session_read count bytes.old.now) }
     ensures sized { IfOk result (λ x. length x.items ≡ count) }
     ensures places { IfOk result (λ x. AllByRecursion HasPlaces x.items) }
 {
@@ -209,7 +213,8 @@ fn image_of(
     requires sessions { length mutators.items ≡ head.sessions }
     requires apart { AllByRecursion (λ p. length objects.table ≤ p.slot) objects.strays }
     requires places { AllByRecursion HasPlaces mutators.items }
-    ensures text { image_text result ≡ made_image head (listed_from placed 0 objects.table ++ objects.strays) (map (option_map session_text) mutators.items) waiting records counts }
+    ensures text { image_text result ≡ made_image head (listed_from placed 0 objects.table ++ objects.strays)
+        (map (option_map session_text) mutators.items) waiting records counts }
     ensures shape { HasShape result }
 {
     let Objects { table, strays } = objects;
@@ -249,8 +254,8 @@ fn image_of(
     }
 }
 
-/// The image of this head and these tables. Where what follows has a fault, what was read before is let go by calls: an exit that held it
-/// would go through each of its parts.
+/// The image of this head and these tables. Where what follows has a fault, what was read before is let go by calls: an
+/// exit that held it would go through each of its parts.
 fn with_tables(
     alloc: Global,
     head: Head,
@@ -264,7 +269,8 @@ fn with_tables(
     requires places { AllByRecursion HasPlaces mutators.items }
     ensures reads { Reads image_text result bytes.new.now (
         three_fields waiting_read records_read counts_read
-        (made_image head (listed_from placed 0 objects.table ++ objects.strays) (map (option_map session_text) mutators.items))
+        (made_image head (listed_from placed 0 objects.table ++ objects.strays)
+        (map (option_map session_text) mutators.items))
         bytes.old.now) }
     ensures shape { IfOk result HasShape }
 {
@@ -317,11 +323,12 @@ fn body_at(
     }
 }
 
-/// The image at the front of the bytes, which are then those behind it. No cycle is open in its machine, and nothing was seen; a session's
-/// handles have 251 places, and 256 where one is above 250.
+/// The image at the front of the bytes, which are then those behind it. No cycle is open in its machine, and nothing
+/// was seen; a session's handles have 251 places, and 256 where one is above 250.
 ///
 /// # Errors
-/// The first fault of its fields from the front, or `Memory`. A count takes no memory beforehand: memory is taken as the items come.
+/// The first fault of its fields from the front, or `Memory`. A count takes no memory beforehand: memory is taken as
+/// the items come.
 #[tactic(auto, unfolding(crate::specs::Images::image_read))]
 pub fn take_image(alloc: Global, version: Version, bytes: &mut &[u8]) -> Result<Image, ReadError>
     ensures reads { Reads image_text result bytes.new.now (image_read version bytes.old.now) }

@@ -73,7 +73,8 @@ fn put_in(
     requires after { 0 < length strays.old.items → cells ≤ item.slot }
     requires few { length places.old.items ≤ cells }
     requires strays { AllByRecursion (λ p. cells ≤ p.slot) strays.old.items }
-    ensures listed { OnOk result (listed_from placed 0 places.new.items ++ strays.new.items ≡ (listed_from placed 0 places.old.items ++ strays.old.items) ++ item ∷ []) }
+    ensures listed { OnOk result (listed_from placed 0 places.new.items
+        ++ strays.new.items ≡ (listed_from placed 0 places.old.items ++ strays.old.items) ++ item ∷ []) }
     ensures below { OnOk result (length places.new.items ≤ item.slot + 1) }
     ensures few { OnOk result (length places.new.items ≤ cells) }
     ensures apart { OnOk result (0 < length strays.new.items → cells ≤ item.slot) }
@@ -98,7 +99,8 @@ fn placed_at(
     count: u32,
     bytes: &mut &[u8],
 ) -> Result<Objects, ReadError>
-    ensures reads { Reads (λ x. listed_from placed 0 x.table ++ x.strays) result bytes.new.now (rising_items_at (placed_after version) (λ p. p.slot) count None bytes.old.now) }
+    ensures reads { Reads (λ x. listed_from placed 0 x.table ++ x.strays) result bytes.new.now
+        (rising_items_at (placed_after version) (λ p. p.slot) count None bytes.old.now) }
     ensures sized { IfOk result (λ x. length x.table ≡ cells) }
     ensures apart { IfOk result (λ x. AllByRecursion (λ p. length x.table ≤ p.slot) x.strays) }
 {
@@ -117,7 +119,8 @@ fn placed_at(
     })
 }
 
-/// The objects of an image with so many cells. A list that cannot fit in the bytes that are left is short, and takes no memory.
+/// The objects of an image with so many cells. A list that cannot fit in the bytes that are left is short, and takes no
+/// memory.
 #[tactic(auto, unfolding(jlr_fields::specs::Items::rising_at))]
 pub(crate) fn objects_at(
     alloc: Global,
@@ -125,7 +128,8 @@ pub(crate) fn objects_at(
     cells: u32,
     bytes: &mut &[u8],
 ) -> Result<Objects, ReadError>
-    ensures reads { Reads (λ x. listed_from placed 0 x.table ++ x.strays) result bytes.new.now (rising_at 5 (placed_after version) (λ p. p.slot) bytes.old.now) }
+    ensures reads { Reads (λ x. listed_from placed 0 x.table ++ x.strays) result bytes.new.now
+        (rising_at 5 (placed_after version) (λ p. p.slot) bytes.old.now) }
     ensures sized { IfOk result (λ x. length x.table ≡ cells) }
     ensures apart { IfOk result (λ x. AllByRecursion (λ p. length x.table ≤ p.slot) x.strays) }
 {

@@ -4,8 +4,11 @@ ghost use Rattle.std.specs.List.{flat_map, AllByRecursion};
 ghost use Rattle.jlr_machine.specs.Objects.{at, occupied};
 ghost use Rattle.jlr_fields.specs.Spelling.{spelled_option};
 ghost use Rattle.jlr_parts.specs.Records.{spelled_held, spelled_placed, PlacedCounts, spelled_call};
-ghost use Rattle.jlr_sections.specs.Images.{listed_from, placed, held, spelled_head, head_of, spelled_waiting, waiting_of, spelled_records, records_of, spelled_counts, counts_of, image_text, spelled_image, whole_image};
-ghost use Rattle.jlr_sections.specs.Writing.{spelled_place, PlaceCounts, SessionCounts, spelled_handles, spelled_objects, spelled_session_of, MachineCounts, ImageCounts};
+ghost use Rattle.jlr_sections.specs.Images.{listed_from, placed, held, spelled_head, head_of, spelled_waiting};
+ghost use Rattle.jlr_sections.specs.Images.{waiting_of, spelled_records, records_of, spelled_counts, counts_of};
+ghost use Rattle.jlr_sections.specs.Images.{image_text, spelled_image, whole_image};
+ghost use Rattle.jlr_sections.specs.Writing.{spelled_place, PlaceCounts, SessionCounts, spelled_handles};
+ghost use Rattle.jlr_sections.specs.Writing.{spelled_objects, spelled_session_of, MachineCounts, ImageCounts};
 
 use jlr_fields::number::{put_option, put_slot, put_u8, put_u16, put_u32, put_u64};
 use jlr_machine::machine::{Machine, Session};
@@ -29,7 +32,8 @@ fn count_some<T>(table: &Table<T>) -> usize
 
 fn put_held_at(out: &mut Vec<u8>, handles: &Table<Slot>, number: usize) -> Result<(), AllocError>
     requires { number < 256 }
-    ensures { OnOk result (out.new.items ≡ out.old.items ++ spelled_place held spelled_held number (at handles.now number)) }
+    ensures { OnOk result (out.new.items ≡ out.old.items
+        ++ spelled_place held spelled_held number (at handles.now number)) }
 {
     match handles.get(number) {
         Some(slot) => {
@@ -104,7 +108,8 @@ fn put_sessions(out: &mut Vec<u8>, sessions: &Table<Session>) -> Result<(), Allo
 fn put_placed_at(out: &mut Vec<u8>, table: &Table<Object>, number: usize) -> Result<(), AllocError>
     requires few { number < 65536 }
     requires counts { PlaceCounts (at table.now number) }
-    ensures { OnOk result (out.new.items ≡ out.old.items ++ spelled_place placed spelled_placed number (at table.now number)) }
+    ensures { OnOk result (out.new.items ≡ out.old.items
+        ++ spelled_place placed spelled_placed number (at table.now number)) }
 {
     match table.get(number) {
         Some(object) => put_placed(out, Slot::new(number as u32), object),
@@ -186,8 +191,9 @@ fn put_counts(out: &mut Vec<u8>, machine: &Machine) -> Result<(), AllocError>
     put_u64(out, machine.failed)
 }
 
-/// Writes an image whose lists are short enough for their counts: a machine, how many entries there were before, and the
-/// objects in slots that are no cells of it. The places of handles that have nothing are not written, nor what was seen in a cycle.
+/// Writes an image whose lists are short enough for their counts: a machine, how many entries there were before, and
+/// the objects in slots that are no cells of it. The places of handles that have nothing are not written, nor what was
+/// seen in a cycle.
 ///
 /// # Errors
 /// `AllocError` where there is no memory.

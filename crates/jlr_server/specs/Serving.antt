@@ -50,7 +50,8 @@ module _ {R : Type 0} where
   unserved None = 1
 
 module _ {D R : Type 0} (limits : Limits) (device : Opening D R) (handling : Handling R) where
-  module _ {A I O : Type 0} (giving : Giving A I O) (remaining : I → Option (List ℕ)) (contents : O → Option (List ℕ)) where
+  module _ {A I O : Type 0} (giving : Giving A I O) (remaining : I → Option (List ℕ))
+      (contents : O → Option (List ℕ)) where
     -- A session at a seat, with the client that an acceptor gave at this accept: what it sent is carried out by asks of
     -- the seat, each a step of the one history, with the files and sockets of a device, and it gets the replies.
     abbrev pub IsSession : AcceptId → Seen (Step R) → Seen (Step R) → Type 0
@@ -69,7 +70,8 @@ module _ {D R : Type 0} (limits : Limits) (device : Opening D R) (handling : Han
     -- accepts one after the other, the first of them of this number
     abbrev pub Accepts : ℕ → Seen (Step R) → List (Option (Seen (Step R))) → Seen (Step R) → Type 0
     Accepts number old [] new = new ≡ old
-    Accepts number old (Some left ∷ later) new = IsSession (accept_at old number) old left × Accepts (number + 1) left later new
+    Accepts number old (Some left ∷ later) new = IsSession (accept_at old number) old left
+        × Accepts (number + 1) left later new
     Accepts number old (None ∷ later) new = IsMiss (accept_at old number) × Accepts (number + 1) old later new
 
     -- a seat asked nothing but what sessions ask, since the hall was opened: so many, and so many accepts gave nobody
@@ -81,7 +83,8 @@ module _ {D R : Type 0} (limits : Limits) (device : Opening D R) (handling : Han
     -- the seats of sessions serve, the three others are the marker's, the handler's and the cleaner's
     pub record IsWork (w : Work R) : Type 0 where
       pub sessions : w.seat.seat < limits.sessions → ServesClients w.sessions w.missed w.seat
-      pub marker : w.seat.seat ≡ limits.sessions → AsksOnly limits (IsMarkers limits limits.budget) (seen w.seat.seat []) w.seat
+      pub marker : w.seat.seat ≡ limits.sessions
+          → AsksOnly limits (IsMarkers limits limits.budget) (seen w.seat.seat []) w.seat
       pub handler : w.seat.seat ≡ limits.sessions + 1 → AsksOnly limits (IsHandlers limits) (seen w.seat.seat []) w.seat
       pub cleaner : w.seat.seat ≡ limits.sessions + 2 → CleansIn handling limits (seen w.seat.seat []) None w.seat
       pub only_sessions : limits.sessions ≤ w.seat.seat → accepts_of w ≡ 0

@@ -23,7 +23,10 @@ pub trait Acceptor {
     type Out: Write + Drop;
 
     // whom an accept gives, and why it gives nobody
-    ghost giving: { Giving Self Self.In Self.Out } = { record { gives = λ _ _ _ _. Unit {0}; fails = λ _ _ _. Unit {0} } };
+    ghost giving: { Giving Self Self.In Self.Out } = { record {
+      gives = λ _ _ _ _. Unit {0};
+      fails = λ _ _ _. Unit {0};
+    } };
 
     /// The next client. It may wait for one.
     ///

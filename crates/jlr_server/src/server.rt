@@ -1,5 +1,6 @@
 //! A heap that several clients share: a worker for each session's seat, and the three loops beside them.
-ghost use Rattle.std.specs.Prelude.{◌≡◌, ◌⊎◌, ◌<◌, ◌+◌, ◌++◌, ◌∷◌, ℕ, true, false, [], IfOk, IfSome, length, map, slice_index_or};
+ghost use Rattle.std.specs.Prelude.{◌≡◌, ◌⊎◌, ◌<◌, ◌+◌, ◌++◌, ◌∷◌, ℕ, true, false, [], IfOk, IfSome, length, map};
+ghost use Rattle.std.specs.Prelude.{slice_index_or};
 ghost use Rattle.std.specs.List.{sum_by};
 ghost use Rattle.std.specs.Thread.{IsSend, IsSync};
 ghost use Rattle.jlr_log.specs.Seeing.{Seen, seen};
@@ -273,7 +274,8 @@ fn with_posts<A: Acceptor, D: Device + Drop, L: Naming + Limited>(
 ) -> Result<Vec<Manned<A, D, L>>, AllocError>
 where
     D::Res: Drop,
-    requires fresh { (k : ℕ) (p : Seen (Step D.Res)) → k < length seats.items → slice_index_or seats.items k p ≡ seen k [] }
+    requires fresh { (k : ℕ) (p : Seen (Step D.Res)) → k < length seats.items
+        → slice_index_or seats.items k p ≡ seen k [] }
 {
     let mut seats = seats;
     let mut posts = posts;
@@ -303,8 +305,10 @@ fn next_seat<A: Acceptor, D: Device, L: Naming + Limited>(
 ) -> Option<Worked<A, D, L>>
 where
     D::Res: Drop,
-    requires fresh { (k : ℕ) (p : Seen (Step D.Res)) → k < length seats.old.items → slice_index_or seats.old.items k p ≡ seen k [] }
-    ensures fresh { (k : ℕ) (p : Seen (Step D.Res)) → k < length seats.new.items → slice_index_or seats.new.items k p ≡ seen k [] }
+    requires fresh { (k : ℕ) (p : Seen (Step D.Res)) → k < length seats.old.items
+        → slice_index_or seats.old.items k p ≡ seen k [] }
+    ensures fresh { (k : ℕ) (p : Seen (Step D.Res)) → k < length seats.new.items
+        → slice_index_or seats.new.items k p ≡ seen k [] }
     ensures one { IfSome result (λ work. work.seat ≡ seen work.seat.seat []) }
 {
     match seats.pop() {
@@ -343,7 +347,8 @@ where
         thread::scope_env(),
         rt,
         move |scope| -> Result<(Vec<Worked<A, D, L>>, Heard<W>), ServeFault>
-            requires { IsSync T.row × IsSend L.row × IsSync L.row × IsSync A.row × IsSend D.row × IsSend A.In.row × IsSend A.Out.row × IsSend D.Res.row }
+            requires { IsSync T.row × IsSend L.row × IsSync L.row × IsSync A.row × IsSend D.row × IsSend A.In.row
+                × IsSend A.Out.row × IsSend D.Res.row }
         {
             let Ok(back) = Vec::with_capacity(alloc, manned.len()) else {
                 drop((manned, watcher));
@@ -437,7 +442,8 @@ where
 /// too. The last worker that goes ends the hall. No client is accepted before all threads run.
 ///
 /// # Errors
-/// `Start` where a thread cannot be started, `NoMemory` where there is no room for the heap, its seats or its threads: then no client was accepted.
+/// `Start` where a thread cannot be started, `NoMemory` where there is no room for the heap, its seats or its threads:
+/// then no client was accepted.
 pub fn serve_over<
     A: Acceptor + Sync,
     D: Device + Drop + Send,
@@ -503,7 +509,8 @@ where
     requires limits { limits ≡ L.limits }
     ensures served { IfOk result (λ watched. IsServed limits
         (record { count = D.count; opens = D.may_open; connects = D.may_connect; failures = D.Res.handling.count })
-        D.Res.handling A.giving A.In.remaining A.Out.contents total (W.asked watched.watcher) watched.served.accepts watched.served.missed watched.served.book) }
+        D.Res.handling A.giving A.In.remaining A.Out.contents total (W.asked watched.watcher) watched.served.accepts
+        watched.served.missed watched.served.book) }
 {
     let posts = match posts(alloc, devices) {
         Ok(posts) => posts,
@@ -534,8 +541,8 @@ where
     }
 }
 
-/// What was served, where all seats are there and what was done at them comes to the accepts that were made. The room for
-/// the seats was made before anybody was served, so that this takes no memory.
+/// What was served, where all seats are there and what was done at them comes to the accepts that were made. The room
+/// for the seats was made before anybody was served, so that this takes no memory.
 ///
 /// # Errors
 /// `Miscounted` and `Close`, which never come, and `NoMemory`, where there were 2^32 accepts or more.
@@ -552,7 +559,8 @@ where
     requires { room.items ≡ [] }
     ensures served { IfOk result (λ watched. IsServed L.limits
         (record { count = D.count; opens = D.may_open; connects = D.may_connect; failures = D.Res.handling.count })
-        D.Res.handling A.giving A.In.remaining A.Out.contents total (W.asked watched.watcher) watched.served.accepts watched.served.missed watched.served.book) }
+        D.Res.handling A.giving A.In.remaining A.Out.contents total (W.asked watched.watcher) watched.served.accepts
+        watched.served.missed watched.served.book) }
 {
     let Heard { watcher, asked } = heard;
     let count = hall.sessions() + 3;
@@ -617,8 +625,12 @@ where
     ensures seats { IfOk result (λ _. tally.new.seats.items ≡ tally.old.seats.items ++ work.seat ∷ []) }
     ensures accepts { IfOk result (λ _. tally.new.accepts ≡ tally.old.accepts + (work.sessions + work.missed)) }
     ensures missed { IfOk result (λ _. tally.new.missed ≡ tally.old.missed + work.missed) }
-    ensures done { IsWork L.limits (record { count = D.count; opens = D.may_open; connects = D.may_connect; failures = D.Res.handling.count })
-        D.Res.handling A.giving A.In.remaining A.Out.contents work }
+    ensures done { IsWork L.limits (record {
+      count = D.count;
+      opens = D.may_open;
+      connects = D.may_connect;
+      failures = D.Res.handling.count;
+    }) D.Res.handling A.giving A.In.remaining A.Out.contents work }
 {
     let (seat, sessions, missed) = work.into_parts();
     tally.seats.push(seat)?;
@@ -639,9 +651,15 @@ fn taken_apart<A: Acceptor, D: Device + Drop, L: Naming + Limited>(
 where
     D::Res: Drop,
     requires { room.items ≡ [] }
-    ensures { IfOk result (λ tally. (tally.seats.items ≡ map seat_in works.items) × (tally.accepts ≡ sum_by accepts_of works.items)
+    ensures { IfOk result (λ tally. (tally.seats.items ≡ map seat_in works.items)
+        × (tally.accepts ≡ sum_by accepts_of works.items)
         × (tally.missed ≡ sum_by (λ w. w.missed) works.items)
-        × AllWork L.limits (record { count = D.count; opens = D.may_open; connects = D.may_connect; failures = D.Res.handling.count }) D.Res.handling A.giving A.In.remaining A.Out.contents works.items) }
+        × AllWork L.limits (record {
+          count = D.count;
+          opens = D.may_open;
+          connects = D.may_connect;
+          failures = D.Res.handling.count;
+        }) D.Res.handling A.giving A.In.remaining A.Out.contents works.items) }
 {
     let mut tally = Tally {
         seats: room,

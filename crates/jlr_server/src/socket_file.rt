@@ -20,8 +20,8 @@ pub fn remove_own(rt: &HostRuntime, path: &str, own: Inode) {
 /// rights are those of the umask.
 ///
 /// # Errors
-/// `AddrInUse` where a file is there that is no dead socket, `InvalidInput` where the path is empty or too long, or why the system makes none. No
-/// file is left then.
+/// `AddrInUse` where a file is there that is no dead socket, `InvalidInput` where the path is empty or too long, or why
+/// the system makes none. No file is left then.
 pub fn listen(
     rt: &HostRuntime,
     alloc: Global,

@@ -38,7 +38,12 @@ where
         × Consumes (I.remaining input.old) (I.remaining input.new) bytes
         × Appends (O.contents output.old) (O.contents output.new) out
         × (length bytes ≤ most_bytes)
-        × Serves (by_seat L.limits) (record { count = D.count; opens = D.may_open; connects = D.may_connect; failures = D.Res.handling.count })
+        × Serves (by_seat L.limits) (record {
+          count = D.count;
+          opens = D.may_open;
+          connects = D.may_connect;
+          failures = D.Res.handling.count;
+        })
         D.Res.handling
         (FindsEnd (I.remaining input.new) bytes) end bytes seat device.old out result device.new }
 {
@@ -64,8 +69,14 @@ impl<A: Acceptor, D: Device, L: Naming + Limited> Model for Worked<A, D, L> {
 
     ghost view = { λ w. record { seat = w.seat; sessions = w.sessions; missed = w.missed } };
 
-    ghost invariant = { λ w. IsWork L.limits (record { count = D.count; opens = D.may_open; connects = D.may_connect; failures = D.Res.handling.count })
-        D.Res.handling A.giving A.In.remaining A.Out.contents (record { seat = w.seat; sessions = w.sessions; missed = w.missed }) };
+    ghost invariant = { λ w. IsWork L.limits (record {
+      count = D.count;
+      opens = D.may_open;
+      connects = D.may_connect;
+      failures = D.Res.handling.count;
+    })
+        D.Res.handling A.giving A.In.remaining A.Out.contents
+        (record { seat = w.seat; sessions = w.sessions; missed = w.missed }) };
 }
 
 impl<A: Acceptor, D: Device, L: Naming + Limited> Worked<A, D, L>
@@ -207,8 +218,12 @@ where
     /// The seat, how many sessions were served there, and how many accepts gave none.
     pub(crate) fn into_parts(self) -> (Seat<D::Res, L>, u32, u32)
         ensures parts { (result.0 ≡ self.seat) × (result.1 ≡ self.sessions) × (result.2 ≡ self.missed) }
-        ensures done { IsWork L.limits (record { count = D.count; opens = D.may_open; connects = D.may_connect; failures = D.Res.handling.count })
-            D.Res.handling A.giving A.In.remaining A.Out.contents self }
+        ensures done { IsWork L.limits (record {
+          count = D.count;
+          opens = D.may_open;
+          connects = D.may_connect;
+          failures = D.Res.handling.count;
+        }) D.Res.handling A.giving A.In.remaining A.Out.contents self }
     {
         let Worked {
             seat,

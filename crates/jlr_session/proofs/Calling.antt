@@ -10,7 +10,8 @@ use Rattle.jlr_device.specs.Handling.{Handling}
 use Rattle.jlr_session.specs.Calls.{Calls, Reads, read_outcome, room_for}
 
 pub called : {T : Type 0} (before after : ℕ) (outcome : Result T Fault) (made unmade : Type 0)
-    → Fits before ⊎ IsHighest before → (Fits before → Counts before outcome after) → (Fits before → made) → (IsHighest before → (outcome ≡ Err Other) × unmade)
+    → Fits before ⊎ IsHighest before → (Fits before → Counts before outcome after) → (Fits before → made)
+    → (IsHighest before → (outcome ≡ Err Other) × unmade)
     → Calls before outcome after made unmade
 called before after outcome made unmade (inl fits) counted told uncalled = inl (fits, counted fits, told fits)
 called before after outcome made unmade (inr full) counted told uncalled = (let u = uncalled full in inr (full, u.0, u.1))
@@ -24,7 +25,8 @@ read_bound : (count : ℕ) (result : Result ℕ Fault) → IfOk result (λ n. n 
 read_bound count (Ok n) le = few_read count n le
 read_bound count (Err fault) le = le
 
-pub reads : {R : Type 0} (resource : Handling R) (count : ℕ) (old new : R) (result : Result ℕ Fault) (room buffer : List ℕ) (outcome : CallOutcome)
+pub reads : {R : Type 0} (resource : Handling R) (count : ℕ) (old new : R) (result : Result ℕ Fault) (room buffer : List ℕ)
+    (outcome : CallOutcome)
     → room ≡ room_for count → Fits (resource.count old) ⊎ IsHighest (resource.count old)
     → (Fits (resource.count old) → Counts (resource.count old) result (resource.count new))
     → (Fits (resource.count old) → resource.reads old room result buffer new)
@@ -35,7 +37,8 @@ reads {R} resource count old new result room buffer outcome e either counted tol
     let Q : List ℕ → Type 0 = λ r. IfOk result (λ n. n ≤ length r) in (
       result,
       buffer,
-      called (resource.count old) (resource.count new) result (resource.reads old (room_for count) result buffer new) (new ≡ old) either counted
+      called (resource.count old) (resource.count new) result (resource.reads old (room_for count) result buffer new) (new ≡ old) either
+          counted
           (λ fits. subst P e (told fits)) (λ full. (let u = uncalled full in (u.0, u.2))),
       read_bound count result (subst Q e bound),
       is,

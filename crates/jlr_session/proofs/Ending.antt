@@ -14,7 +14,8 @@ use Rattle.jlr_session.specs.Turns.{Answers, reply_line, refusal_of}
 use Rattle.jlr_session.specs.Sessions.{Answered, IsDue, Ended}
 use Rattle.jlr_session.specs.Chunks.{SoFar}
 use Rattle.jlr_session.specs.declared.shell.SessionEnd.{SessionEnd}
-use Rattle.jlr_session.specs.declared.shell.SessionEnd.TheVariants.{Bye as EndsByBye, End, Truncated, ReadFault, WriteFault, TooManyLines, NotJoined}
+use Rattle.jlr_session.specs.declared.shell.SessionEnd.TheVariants.{Bye as EndsByBye, End, Truncated, ReadFault, WriteFault, TooManyLines}
+use Rattle.jlr_session.specs.declared.shell.SessionEnd.TheVariants.{NotJoined}
 use Rattle.jlr_session.proofs.Going.{AnyEnd, answers_line, same_refusal, whole_command}
 
 -- the line that is bye
@@ -27,7 +28,8 @@ nothing_shown (b ∷ last) e = absurd (omega (arith, ap length e))
 
 -- the lines so far were answered, and the rest stands after them
 answered : {H : Type 0} (carries : Carrying H) (bytes : List ℕ) (held : Held) (n : ℕ) (old : H) (out : List ℕ) (heap : H)
-    → (s : SoFar carries bytes held n old out heap) → (more rest : List ℕ) → s.last ++ more ≡ rest → Answered carries (bytes ++ more) s.lines rest old out heap
+    → (s : SoFar carries bytes held n old out heap) → (more rest : List ℕ) → s.last ++ more ≡ rest
+    → Answered carries (bytes ++ more) s.lines rest old out heap
 answered carries bytes held n old out heap s more rest e = record {
   joined = ap (λ t. t ++ more) s.are.joined ∙ append_assoc (ended_lines s.lines) s.last more ∙ ap (λ t. ended_lines s.lines ++ t) e;
   each = s.are.each;
@@ -46,7 +48,8 @@ few : (n : ℕ) (lines : List (List ℕ)) → length lines ≡ n → n < most_li
 few n lines e lt = rw e lt
 
 pub ended_end : {H : Type 0} (carries : Carrying H) (bytes : List ℕ) (held : Held) (n : ℕ) (old : H) (out : List ℕ) (heap : H)
-    → (at_end : Type 0) → at_end → n < most_lines → SoFar carries bytes held n old out heap → begun held ≡ [] → Ended carries at_end End bytes old out heap
+    → (at_end : Type 0) → at_end → n < most_lines → SoFar carries bytes held n old out heap → begun held ≡ []
+    → Ended carries at_end End bytes old out heap
 ended_end carries bytes held n old out heap at_end is lt s e =
     (is, s.lines, answered_now carries bytes held n old out heap s [] (nothing_shown s.last (sym s.holds ∙ e)), few n s.lines s.counted lt)
 
@@ -74,8 +77,10 @@ ended_truncated carries bytes held n old out heap heap' at_end is lt s some sett
   ap (λ r. out ++ reply_line (Refused r)) (refused_last (begun held) s.last s.holds),
 )
 
-pub ended_close_fault : {H : Type 0} (carries : Carrying H) (bytes : List ℕ) (held : Held) (n : ℕ) (old : H) (out : List ℕ) (heap : H) (k : ℕ)
-    → (at_end : Type 0) → at_end → n < most_lines → SoFar carries bytes held n old out heap → begun held ≢ [] → Ended carries at_end WriteFault bytes old (out ++ take k (reply_line (Refused (refusal_of (begun held))))) heap
+pub ended_close_fault : {H : Type 0} (carries : Carrying H) (bytes : List ℕ) (held : Held) (n : ℕ) (old : H) (out : List ℕ) (heap : H)
+    (k : ℕ)
+    → (at_end : Type 0) → at_end → n < most_lines → SoFar carries bytes held n old out heap → begun held ≢ []
+    → Ended carries at_end WriteFault bytes old (out ++ take k (reply_line (Refused (refusal_of (begun held))))) heap
 ended_close_fault carries bytes held n old out heap k at_end is lt s some = (
   s.lines,
   s.last,
@@ -93,8 +98,10 @@ ended_close_fault carries bytes held n old out heap k at_end is lt s some = (
 line_in_rest : (last front rest later : List ℕ) → rest ≡ front ++ 10 ∷ later → last ++ rest ≡ (last ++ front) ++ 10 ∷ later
 line_in_rest last front rest later e = ap (λ t. last ++ t) e ∙ sym (append_assoc last front (10 ∷ later))
 
-pub ended_bye : {H : Type 0} (carries : Carrying H) (bytes : List ℕ) (held : Held) (n : ℕ) (old : H) (out : List ℕ) (heap : H) (rest : List ℕ) (used : ℕ) (held' : Held) (heap' : H)
-    → n < most_lines → SoFar carries bytes held n old out heap → AnyEnd held rest used held' → IsCommand held'.bytes Bye → carries.settling heap heap'
+pub ended_bye : {H : Type 0} (carries : Carrying H) (bytes : List ℕ) (held : Held) (n : ℕ) (old : H) (out : List ℕ) (heap : H)
+    (rest : List ℕ) (used : ℕ) (held' : Held) (heap' : H)
+    → n < most_lines → SoFar carries bytes held n old out heap → AnyEnd held rest used held' → IsCommand held'.bytes Bye
+    → carries.settling heap heap'
     → Ended carries ⊥ EndsByBye (bytes ++ rest) old (out ++ reply_line Done) heap'
 ended_bye carries bytes held n old out heap rest used held' heap' lt s h b settled =
     let ends = line_ends (λ n. Unit {0}) bytes s.last s.lines held rest used held' s.are s.holds h in
@@ -110,7 +117,8 @@ ended_bye carries bytes held n old out heap rest used held' heap' lt s h b settl
       refl,
     )
 
-pub ended_turn_fault : {H : Type 0} (carries : Carrying H) (bytes : List ℕ) (held : Held) (n : ℕ) (old : H) (out : List ℕ) (heap : H) (rest : List ℕ) (used : ℕ) (held' : Held) (answer : Answer) (heap' : H) (k : ℕ)
+pub ended_turn_fault : {H : Type 0} (carries : Carrying H) (bytes : List ℕ) (held : Held) (n : ℕ) (old : H) (out : List ℕ) (heap : H)
+    (rest : List ℕ) (used : ℕ) (held' : Held) (answer : Answer) (heap' : H) (k : ℕ)
     → n < most_lines → SoFar carries bytes held n old out heap → AnyEnd held rest used held' → Answers carries held'.bytes heap answer heap'
     → Ended carries ⊥ WriteFault (bytes ++ rest) old (out ++ take k (reply_line answer)) heap'
 ended_turn_fault carries bytes held n old out heap rest used held' answer heap' k lt s h a =
@@ -128,13 +136,15 @@ ended_turn_fault carries bytes held n old out heap rest used held' answer heap' 
       refl,
     )
 
-pub ended_fault : {H : Type 0} (carries : Carrying H) (bytes : List ℕ) (held : Held) (n : ℕ) (old : H) (out : List ℕ) (heap : H) (at_end : Type 0)
+pub ended_fault : {H : Type 0} (carries : Carrying H) (bytes : List ℕ) (held : Held) (n : ℕ) (old : H) (out : List ℕ) (heap : H)
+    (at_end : Type 0)
     → n < most_lines → SoFar carries bytes held n old out heap → Ended carries at_end ReadFault bytes old out heap
 ended_fault carries bytes held n old out heap at_end lt s =
     (s.lines, s.last, answered_now carries bytes held n old out heap s s.last refl, few n s.lines s.counted lt, s.are.open_end)
 
 -- what is left of the bytes once as many lines were answered as may be
-pub ended_many : {H : Type 0} (carries : Carrying H) (bytes : List ℕ) (held : Held) (n : ℕ) (old : H) (out : List ℕ) (heap : H) (rest : List ℕ)
+pub ended_many : {H : Type 0} (carries : Carrying H) (bytes : List ℕ) (held : Held) (n : ℕ) (old : H) (out : List ℕ) (heap : H)
+    (rest : List ℕ)
     → n ≡ most_lines → SoFar carries bytes held n old out heap → Ended carries ⊥ TooManyLines (bytes ++ rest) old out heap
 ended_many carries bytes held n old out heap rest e s =
     (s.lines, s.last ++ rest, answered carries bytes held n old out heap s rest (s.last ++ rest) refl, s.counted ∙ e)
@@ -145,12 +155,14 @@ due_anyhow carries at_end rest old answer new (inl d) = inl d
 due_anyhow carries at_end rest old answer new (inr d) = absurd d.0
 
 -- what is no matter of the input's end
-pub ended_anyhow : {H : Type 0} (carries : Carrying H) (at_end : Type 0) (end : SessionEnd) (bytes : List ℕ) (old : H) (out : List ℕ) (new : H)
+pub ended_anyhow : {H : Type 0} (carries : Carrying H) (at_end : Type 0) (end : SessionEnd) (bytes : List ℕ) (old : H) (out : List ℕ)
+    (new : H)
     → Ended carries ⊥ end bytes old out new → Ended carries at_end end bytes old out new
 ended_anyhow carries at_end EndsByBye bytes old out new e = e
 ended_anyhow carries at_end End bytes old out new e = absurd e.0
 ended_anyhow carries at_end Truncated bytes old out new e = absurd e.0
 ended_anyhow carries at_end ReadFault bytes old out new e = e
-ended_anyhow carries at_end WriteFault bytes old out new e = (e.0, e.1, e.2, e.3, e.4, e.5, e.6, e.7, due_anyhow carries at_end e.1 e.3 e.4 new e.8, e.9)
+ended_anyhow carries at_end WriteFault bytes old out new e =
+    (e.0, e.1, e.2, e.3, e.4, e.5, e.6, e.7, due_anyhow carries at_end e.1 e.3 e.4 new e.8, e.9)
 ended_anyhow carries at_end TooManyLines bytes old out new e = e
 ended_anyhow carries at_end (NotJoined by) bytes old out new e = e

@@ -1,5 +1,6 @@
 -- A session that goes on.
-use Rattle.std.proofs.Common.{◌≡◌, ◌≢◌, ℕ, nat_lt, ◌+◌, inl, inr, List, [], ◌∷◌, ◌++◌, take, length, None, refl, sym, ap, subst, ◌∙◌, arith, append_assoc}
+use Rattle.std.proofs.Common.{◌≡◌, ◌≢◌, ℕ, nat_lt, ◌+◌, inl, inr, List, [], ◌∷◌, ◌++◌, take, length, None, refl, sym, ap, subst, ◌∙◌, arith}
+use Rattle.std.proofs.Common.{append_assoc}
 use Rattle.std.proofs.lemmas.List.{append-nil, take_all, length-take, length-append}
 use Rattle.std.proofs.lemmas.Bool.{cases_lt, le-ltb, lt-ltb}
 use Rattle.std.proofs.lemmas.List.Elements.{All-nil}
@@ -46,7 +47,11 @@ answers_line {H} carries shown line old answer new e (inr (inl h)) =
     let P : List ℕ → Type 0 = λ t. IsCommand t Bye in inr (inl (whole_command line Bye (subst P e h.0), h.1, h.2))
 answers_line {H} carries shown line old answer new e (inr (inr h)) =
     let P : List ℕ → Type 0 = λ t. (c : Command) → IsCommand t c → ⊥ in
-    inr (inr (λ c k. subst P e h.0 c (shown_command line c k), h.1 ∙ ap (λ t. Refused (refusal_of t)) e ∙ ap Refused (same_refusal line), h.2))
+    inr (inr (
+      λ c k. subst P e h.0 c (shown_command line c k),
+      h.1 ∙ ap (λ t. Refused (refusal_of t)) e ∙ ap Refused (same_refusal line),
+      h.2,
+    ))
 
 -- and so is the line, with the settling that follows its reply
 pub turns_line : {H : Type 0} (carries : Carrying H) (shown line : List ℕ) (old : H) (answer : Answer) (new : H)
@@ -54,7 +59,8 @@ pub turns_line : {H : Type 0} (carries : Carrying H) (shown line : List ℕ) (ol
 turns_line carries shown line old answer new e t = (t.0, answers_line carries shown line old answer t.0 e t.1, t.2)
 
 -- one line more
-pub speaks_more : {H : Type 0} (carries : Carrying H) (lines : List (List ℕ)) (line : List ℕ) (old now next : H) (out : List ℕ) (answer : Answer)
+pub speaks_more : {H : Type 0} (carries : Carrying H) (lines : List (List ℕ)) (line : List ℕ) (old now next : H) (out : List ℕ)
+    (answer : Answer)
     → Speaks carries lines old out now → AnswersAndSettles carries line now answer next → words answer ≢ None → (IsCommand line Bye → ⊥)
     → Speaks carries (lines ++ line ∷ []) old (out ++ reply_line answer) next
 speaks_more {H} carries [] line old now next out answer s a w b =
@@ -83,8 +89,10 @@ so_far_none carries heap = record {
 }
 
 -- the line goes on
-pub so_far_on : {H : Type 0} (carries : Carrying H) (bytes : List ℕ) (held : Held) (n : ℕ) (old : H) (out : List ℕ) (heap : H) (rest : List ℕ) (used : ℕ) (held' : Held)
-    → SoFar carries bytes held n old out heap → Continues held rest used held' → SoFar carries (bytes ++ take used rest) held' n old out heap
+pub so_far_on : {H : Type 0} (carries : Carrying H) (bytes : List ℕ) (held : Held) (n : ℕ) (old : H) (out : List ℕ) (heap : H)
+    (rest : List ℕ) (used : ℕ) (held' : Held)
+    → SoFar carries bytes held n old out heap → Continues held rest used held'
+    → SoFar carries (bytes ++ take used rest) held' n old out heap
 so_far_on carries bytes held n old out heap rest used held' s h =
     let on = line_goes_on bytes s.last s.lines held rest used held' s.are s.holds h in
     record { lines = s.lines; last = s.last ++ rest; are = on.0; holds = on.1; counted = s.counted; speaks = s.speaks }
@@ -100,8 +108,10 @@ so_far_same carries bytes held held' n old out heap e s =
     record { lines = s.lines; last = s.last; are = s.are; holds = e ∙ s.holds; counted = s.counted; speaks = s.speaks }
 
 -- a line is answered
-pub so_far_line : {H : Type 0} (carries : Carrying H) (bytes : List ℕ) (held : Held) (n : ℕ) (old : H) (out : List ℕ) (heap : H) (rest : List ℕ) (used : ℕ) (held' : Held) (answer : Answer) (heap' : H)
-    → SoFar carries bytes held n old out heap → AnyEnd held rest used held' → AnswersAndSettles carries held'.bytes heap answer heap' → words answer ≢ None → (IsCommand held'.bytes Bye → ⊥)
+pub so_far_line : {H : Type 0} (carries : Carrying H) (bytes : List ℕ) (held : Held) (n : ℕ) (old : H) (out : List ℕ) (heap : H)
+    (rest : List ℕ) (used : ℕ) (held' : Held) (answer : Answer) (heap' : H)
+    → SoFar carries bytes held n old out heap → AnyEnd held rest used held' → AnswersAndSettles carries held'.bytes heap answer heap'
+    → words answer ≢ None → (IsCommand held'.bytes Bye → ⊥)
     → SoFar carries (bytes ++ take used rest) held' (n + 1) old (out ++ reply_line answer) heap'
 so_far_line carries bytes held n old out heap rest used held' answer heap' s h a w b =
     let line = s.last ++ h.front in

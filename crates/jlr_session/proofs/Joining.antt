@@ -2,7 +2,8 @@
 use Rattle.std.proofs.Common.{◌≡◌, ℕ, List, refl}
 use Rattle.jlr_types.specs.declared.Refusal.{Refusal}
 use Rattle.jlr_machine.specs.declared.ask.Answer.{Answer}
-use Rattle.jlr_machine.specs.declared.ask.Answer.TheVariants.{Done, Handle, Truth, Int, Data, Wrote, Faulted, Names, Notes, Faults, Stat, Job, AlreadyDone, Prepared, Out, Handed, Refused}
+use Rattle.jlr_machine.specs.declared.ask.Answer.TheVariants.{Done, Handle, Truth, Int, Data, Wrote, Faulted, Names, Notes, Faults, Stat}
+use Rattle.jlr_machine.specs.declared.ask.Answer.TheVariants.{Job, AlreadyDone, Prepared, Out, Handed, Refused}
 use Rattle.jlr_machine.specs.declared.ask.Ask.TheVariants.{Leave}
 use Rattle.jlr_event.specs.declared.event.Event.TheVariants.{Ask as Asks}
 use Rattle.jlr_event.specs.declared.event.Reply.{Reply}
@@ -14,9 +15,11 @@ use Rattle.jlr_session.specs.Serving.{Follows}
 use Rattle.jlr_session.specs.declared.shell.SessionEnd.{SessionEnd}
 
 -- any answer but a refusal lets the session go on
-pub goes_on : {P D R : Type 0} (port : Asking P R) (device : Opening D R) (resource : Handling R) (answer : Answer) (at_end : Type 0) (end : SessionEnd) (bytes : List ℕ) (p : P) (d : D) (out : List ℕ) (p' : P) (d' : D)
+pub goes_on : {P D R : Type 0} (port : Asking P R) (device : Opening D R) (resource : Handling R) (answer : Answer) (at_end : Type 0)
+    (end : SessionEnd) (bytes : List ℕ) (p : P) (d : D) (out : List ℕ) (p' : P) (d' : D)
     → ((by : Refusal) → answer ≡ Refused by → ⊥)
-    → (left : P) × (last : Reply R) × Ended (by_asks port device resource) at_end end bytes (p, d) out (left, d') × port.asks left (Asks (Leave (port.mutator left))) last p'
+    → (left : P) × (last : Reply R) × Ended (by_asks port device resource) at_end end bytes (p, d) out (left, d')
+    × port.asks left (Asks (Leave (port.mutator left))) last p'
     → Follows port device resource answer at_end end bytes p d out p' d'
 goes_on port device resource Done at_end end bytes p d out p' d' not_refused session = session
 goes_on port device resource (Handle h) at_end end bytes p d out p' d' not_refused session = session

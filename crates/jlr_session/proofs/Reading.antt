@@ -13,8 +13,10 @@ use Rattle.jlr_session.specs.Turns.{Answers, AnswersRead, refusal_of}
 pub answers_read : {H : Type 0} (carries : Carrying H) (line : List ℕ) (read : Result Command Refusal) (old : H) (answer : Answer) (new : H)
     → ((c : Command) → (read ≡ Ok c) ↔ IsCommand line c) → IfErr read (λ e. e ≡ refusal_of line) → AnswersRead carries read old answer new
     → Answers carries line old answer new
-answers_read carries line (Ok command) old answer new exact refused (inl carried) = inl (command, (exact command).0 refl, carried.0, carried.1)
-answers_read carries line (Ok command) old answer new exact refused (inr bye) = inr (inl (subst (IsCommand line) bye.0 ((exact command).0 refl), bye.1, bye.2))
+answers_read carries line (Ok command) old answer new exact refused (inl carried) =
+    inl (command, (exact command).0 refl, carried.0, carried.1)
+answers_read carries line (Ok command) old answer new exact refused (inr bye) =
+    inr (inl (subst (IsCommand line) bye.0 ((exact command).0 refl), bye.1, bye.2))
 answers_read carries line (Err refusal) old answer new exact refused h =
     inr (inr (λ c is. (let e = (exact c).1 is in absurd cc), h.0 ∙ ap Refused refused, h.1))
 

@@ -1,5 +1,6 @@
 -- Replies that go out, and bytes that come in.
-use Rattle.std.proofs.Common.{true, false, subst, ◌≡◌, ℕ, List, [], ◌∷◌, ◌++◌, take, length, Option, Some, None, refl, sym, ap, ◌∙◌, arith, append_assoc}
+use Rattle.std.proofs.Common.{true, false, subst, ◌≡◌, ℕ, List, [], ◌∷◌, ◌++◌, take, length, Option, Some, None, refl, sym, ap, ◌∙◌, arith}
+use Rattle.std.proofs.Common.{append_assoc}
 use Rattle.std.specs.Prelude.{◌≢◌, IfSome, IfNone, Result, Ok, Err, is_err}
 use Rattle.std.specs.Io.KnownBytes.{Appends, Consumes, Keeps}
 use Rattle.std.proofs.lemmas.List.{take_all}
@@ -30,8 +31,11 @@ pub sent_then_kept : (o : Option (List ℕ)) (a b c : Option (List ℕ))
     → IfSome o (λ text. Appends a b (text ++ 10 ∷ [])) → IfNone o ((false ≡ true) × Keeps a b) → Keeps b c
     → (n : ℕ) × Appends a c (take n (with_end o))
 sent_then_kept (Some text) a b c line none kept =
-    let P : List ℕ → Type 0 = λ t. Appends a c t in
-    (length (text ++ 10 ∷ []), subst P (sym (take_all (length (text ++ 10 ∷ [])) (text ++ 10 ∷ []) (omega arith))) (Appends-keeps a b c (text ++ 10 ∷ []) line kept))
+    let P : List ℕ → Type 0 = λ t. Appends a c t in (
+      length (text ++ 10 ∷ []),
+      subst P (sym (take_all (length (text ++ 10 ∷ [])) (text ++ 10 ∷ []) (omega arith)))
+          (Appends-keeps a b c (text ++ 10 ∷ []) line kept),
+    )
 sent_then_kept None a b c line none kept = absurd (false≢true none.0)
 
 -- a reply that did not fail
@@ -46,5 +50,6 @@ pub went_in_part : {E : Type 0} (old new : Option (List ℕ)) (result : Result (
 went_in_part old new (Ok u) answer h e = absurd (false≢true e)
 went_in_part old new (Err x) answer h e = h
 
-pub went_as : (old new : Option (List ℕ)) (answer due : Answer) → answer ≡ due → Appends old new (reply_line answer) → Appends old new (reply_line due)
+pub went_as : (old new : Option (List ℕ)) (answer due : Answer) → answer ≡ due → Appends old new (reply_line answer)
+    → Appends old new (reply_line due)
 went_as old new answer due is h = subst (λ a. Appends old new (reply_line a)) is h

@@ -17,12 +17,14 @@ use Rattle.jlr_session.proofs.Going.{so_far_none}
 use Rattle.jlr_session.proofs.Ending.{ended_end, ended_truncated, ended_close_fault, ended_fault, ended_anyhow}
 
 -- what was read was answered as far as it goes, n lines of it, and so many bytes are left to be taken
-abbrev pub Stands : {H : Type 0} → Carrying H → Option (List ℕ) → Option (List ℕ) → H → Option (List ℕ) → Option (List ℕ) → Held → ℕ → H → ℕ → Type 0
+abbrev pub Stands : {H : Type 0} → Carrying H → Option (List ℕ) → Option (List ℕ) → H → Option (List ℕ) → Option (List ℕ) → Held → ℕ → H → ℕ
+    → Type 0
 Stands {H} carries r0 w0 old r w held n heap left = (bytes : List ℕ) × (out : List ℕ) × Consumes r0 r bytes × Appends w0 w out
     × (length bytes + left ≡ most_bytes) × SoFar carries bytes held n old out heap
 
 -- what was read came to this end
-abbrev pub Ends : {H : Type 0} → Carrying H → Option (List ℕ) → Option (List ℕ) → H → Option (List ℕ) → Option (List ℕ) → SessionEnd → H → Type 0
+abbrev pub Ends : {H : Type 0} → Carrying H → Option (List ℕ) → Option (List ℕ) → H → Option (List ℕ) → Option (List ℕ) → SessionEnd → H
+    → Type 0
 Ends {H} carries r0 w0 old r w end heap = (bytes : List ℕ) × (out : List ℕ) × Consumes r0 r bytes × Appends w0 w out
     × (length bytes ≤ most_bytes) × Ended carries (FindsEnd r bytes) end bytes old out heap
 
@@ -31,7 +33,8 @@ pub stands_first : {H : Type 0} (carries : Carrying H) (r0 w0 : Option (List ℕ
 stands_first carries r0 w0 old held e = ([], [], Consumes-none r0, Appends-none w0, refl, rw e (so_far_none carries old))
 
 -- so many bytes more were read, and there was room for them
-taken_more : (bytes read : List ℕ) (left left' : ℕ) → length bytes + left ≡ most_bytes → length read + left' ≡ left → length (bytes ++ read) + left' ≡ most_bytes
+taken_more : (bytes read : List ℕ) (left left' : ℕ) → length bytes + left ≡ most_bytes → length read + left' ≡ left
+    → length (bytes ++ read) + left' ≡ most_bytes
 taken_more bytes read left left' e f = omega (arith, e, f, length-append bytes read)
 
 below : (bytes : List ℕ) (left : ℕ) → length bytes + left ≡ most_bytes → 0 < left → length bytes < most_bytes
@@ -44,14 +47,24 @@ few_bytes bytes left e = omega (arith, e)
 pub taken_of : (buf : List ℕ) (count left : ℕ) → count ≤ length buf → length buf ≤ left → length (take count buf) + (left - count) ≡ left
 taken_of buf count left fits room = omega (arith, length-take-le count buf fits, fits, room)
 
-pub stands_more : {H : Type 0} (carries : Carrying H) (r0 w0 r r' w w' : Option (List ℕ)) (old : H) (held held' : Held) (n n' : ℕ) (heap heap' : H) (read : List ℕ) (left left' : ℕ)
-    → Stands carries r0 w0 old r w held n heap left → Consumes r r' read → length read + left' ≡ left → TakesChunk carries held n read heap w None held' n' heap' w'
+pub stands_more : {H : Type 0} (carries : Carrying H) (r0 w0 r r' w w' : Option (List ℕ)) (old : H) (held held' : Held) (n n' : ℕ)
+    (heap heap' : H) (read : List ℕ) (left left' : ℕ)
+    → Stands carries r0 w0 old r w held n heap left → Consumes r r' read → length read + left' ≡ left
+    → TakesChunk carries held n read heap w None held' n' heap' w'
     → Stands carries r0 w0 old r' w' held' n' heap' left'
-stands_more carries r0 w0 r r' w w' old held held' n n' heap heap' read left left' s c l u =
-    (s.0 ++ read, s.1 ++ u.0, Consumes-then r0 r r' s.0 read s.2 c, Appends-then w0 w w' s.1 u.0 s.3 u.1, taken_more s.0 read left left' s.4 l, u.2 s.0 old s.1 s.5)
+stands_more carries r0 w0 r r' w w' old held held' n n' heap heap' read left left' s c l u = (
+  s.0 ++ read,
+  s.1 ++ u.0,
+  Consumes-then r0 r r' s.0 read s.2 c,
+  Appends-then w0 w w' s.1 u.0 s.3 u.1,
+  taken_more s.0 read left left' s.4 l,
+  u.2 s.0 old s.1 s.5,
+)
 
-pub ends_in_chunk : {H : Type 0} (carries : Carrying H) (r0 w0 r r' w w' : Option (List ℕ)) (old : H) (held held' : Held) (n n' : ℕ) (heap heap' : H) (read : List ℕ) (left left' : ℕ) (end : SessionEnd)
-    → Stands carries r0 w0 old r w held n heap left → Consumes r r' read → length read + left' ≡ left → TakesChunk carries held n read heap w (Some end) held' n' heap' w'
+pub ends_in_chunk : {H : Type 0} (carries : Carrying H) (r0 w0 r r' w w' : Option (List ℕ)) (old : H) (held held' : Held) (n n' : ℕ)
+    (heap heap' : H) (read : List ℕ) (left left' : ℕ) (end : SessionEnd)
+    → Stands carries r0 w0 old r w held n heap left → Consumes r r' read → length read + left' ≡ left
+    → TakesChunk carries held n read heap w (Some end) held' n' heap' w'
     → Ends carries r0 w0 old r' w' end heap'
 ends_in_chunk carries r0 w0 r r' w w' old held held' n n' heap heap' read left left' end s c l u = (
   s.0 ++ read,
@@ -63,32 +76,50 @@ ends_in_chunk carries r0 w0 r r' w w' old held held' n n' heap heap' read left l
 )
 
 -- a read failed, or none may follow
-pub ends_by_fault : {H : Type 0} (carries : Carrying H) (r0 w0 r r' w : Option (List ℕ)) (old : H) (held : Held) (n : ℕ) (heap : H) (left : ℕ)
+pub ends_by_fault : {H : Type 0} (carries : Carrying H) (r0 w0 r r' w : Option (List ℕ)) (old : H) (held : Held) (n : ℕ) (heap : H)
+    (left : ℕ)
     → n < most_lines → Stands carries r0 w0 old r w held n heap left → Keeps r r' → Ends carries r0 w0 old r' w ReadFault heap
-ends_by_fault carries r0 w0 r r' w old held n heap left lt s k =
-    (s.0, s.1, Consumes-keeps r0 r r' s.0 s.2 k, s.3, few_bytes s.0 left s.4, ended_fault carries s.0 held n old s.1 heap (FindsEnd r' s.0) lt s.5)
+ends_by_fault carries r0 w0 r r' w old held n heap left lt s k = (
+  s.0,
+  s.1,
+  Consumes-keeps r0 r r' s.0 s.2 k,
+  s.3,
+  few_bytes s.0 left s.4,
+  ended_fault carries s.0 held n old s.1 heap (FindsEnd r' s.0) lt s.5,
+)
 
 -- what closing adds
-closes : {H : Type 0} (carries : Carrying H) (w0 w w' : Option (List ℕ)) (old : H) (held : Held) (n : ℕ) (heap heap' : H) (bytes out : List ℕ) (end : SessionEnd)
-    → (at_end : Type 0) → at_end → n < most_lines → Appends w0 w out → SoFar carries bytes held n old out heap → Closes carries end held heap w heap' w'
+closes : {H : Type 0} (carries : Carrying H) (w0 w w' : Option (List ℕ)) (old : H) (held : Held) (n : ℕ) (heap heap' : H)
+    (bytes out : List ℕ) (end : SessionEnd)
+    → (at_end : Type 0) → at_end → n < most_lines → Appends w0 w out → SoFar carries bytes held n old out heap
+    → Closes carries end held heap w heap' w'
     → (all : List ℕ) × Appends w0 w' all × Ended carries at_end end bytes old all heap'
 closes {H} carries w0 w w' old held n heap heap' bytes out End at_end is lt a s k =
-    let P : H → Type 0 = λ h. Ended carries at_end End bytes old out h in
-    (out ++ [], Appends-then w0 w w' out [] a k.2, rw (append-nil out) (subst P (sym k.1) (ended_end carries bytes held n old out heap at_end is lt s k.0)))
+    let P : H → Type 0 = λ h. Ended carries at_end End bytes old out h in (
+      out ++ [],
+      Appends-then w0 w w' out [] a k.2,
+      rw (append-nil out)
+          (subst P (sym k.1) (ended_end carries bytes held n old out heap at_end is lt s k.0)),
+    )
 closes carries w0 w w' old held n heap heap' bytes out Truncated at_end is lt a s k =
     let line = reply_line (Refused (refusal_of (begun held))) in
     (out ++ line, Appends-then w0 w w' out line a k.2, ended_truncated carries bytes held n old out heap heap' at_end is lt s k.0 k.1)
 closes {H} carries w0 w w' old held n heap heap' bytes out WriteFault at_end is lt a s k =
     let front = take k.2 (reply_line (Refused (refusal_of (begun held)))) in
-    let P : H → Type 0 = λ h. Ended carries at_end WriteFault bytes old (out ++ front) h in
-    (out ++ front, Appends-then w0 w w' out front a k.3, subst P (sym k.1) (ended_close_fault carries bytes held n old out heap k.2 at_end is lt s k.0))
+    let P : H → Type 0 = λ h. Ended carries at_end WriteFault bytes old (out ++ front) h in (
+      out ++ front,
+      Appends-then w0 w w' out front a k.3,
+      subst P (sym k.1) (ended_close_fault carries bytes held n old out heap k.2 at_end is lt s k.0),
+    )
 closes carries w0 w w' old held n heap heap' bytes out Bye at_end is lt a s k = absurd k
 closes carries w0 w w' old held n heap heap' bytes out ReadFault at_end is lt a s k = absurd k
 closes carries w0 w w' old held n heap heap' bytes out TooManyLines at_end is lt a s k = absurd k
 closes carries w0 w w' old held n heap heap' bytes out (NotJoined by) at_end is lt a s k = absurd k
 
-pub ends_at_end : {H : Type 0} (carries : Carrying H) (r0 w0 r r' w w' : Option (List ℕ)) (old : H) (held : Held) (n : ℕ) (heap heap' : H) (read : List ℕ) (left : ℕ) (end : SessionEnd)
-    → n < most_lines → Stands carries r0 w0 old r w held n heap left → Consumes r r' read → read ≡ [] → IsAtEnd r' → 0 < left → Closes carries end held heap w heap' w'
+pub ends_at_end : {H : Type 0} (carries : Carrying H) (r0 w0 r r' w w' : Option (List ℕ)) (old : H) (held : Held) (n : ℕ) (heap heap' : H)
+    (read : List ℕ) (left : ℕ) (end : SessionEnd)
+    → n < most_lines → Stands carries r0 w0 old r w held n heap left → Consumes r r' read → read ≡ [] → IsAtEnd r' → 0 < left
+    → Closes carries end held heap w heap' w'
     → Ends carries r0 w0 old r' w' end heap'
 ends_at_end {H} carries r0 w0 r r' w w' old held n heap heap' read left end lt s c e is some k =
     let P : List ℕ → Type 0 = λ x. Consumes r r' x in

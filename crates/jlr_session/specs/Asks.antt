@@ -16,7 +16,11 @@ use Rattle.jlr_event.specs.Events.{outcome_of}
 use Rattle.jlr_event.specs.declared.event.Reply.{Reply}
 use Rattle.jlr_event.specs.declared.event.Reply.TheVariants.{Answered, Marked}
 use Rattle.jlr_wire.specs.declared.command.Command.{Command}
-use Rattle.jlr_wire.specs.declared.command.Command.TheVariants.{New, Put, Get, SetInt, Int, Dup, Drop, Same, Soft, Weak, Phantom, Deref, Refers, Clear, Enqueue, Enqueued, Queue, Poll, Remove, Cleaner, Register, Clean, Open, Connect, Read, Write, Close, Bind, Find, Unbind, Names, Full, Stat, Notes, Faults, Bye, Array}
+use Rattle.jlr_wire.specs.declared.command.Command.TheVariants.{New, Put, Get, SetInt, Int, Dup, Drop, Same, Soft, Weak}
+use Rattle.jlr_wire.specs.declared.command.Command.TheVariants.{Phantom, Deref, Refers, Clear, Enqueue, Enqueued, Queue}
+use Rattle.jlr_wire.specs.declared.command.Command.TheVariants.{Poll, Remove, Cleaner, Register, Clean, Open, Connect}
+use Rattle.jlr_wire.specs.declared.command.Command.TheVariants.{Read, Write, Close, Bind, Find, Unbind, Names, Full}
+use Rattle.jlr_wire.specs.declared.command.Command.TheVariants.{Stat, Notes, Faults, Bye, Array}
 use Rattle.jlr_session.specs.Carrying.{Carrying}
 use Rattle.jlr_device.specs.Handling.{Handling}
 use Rattle.jlr_session.specs.Calls.{Opening, Opens, Connects, Reads, Writes, Finishes}
@@ -110,23 +114,28 @@ ask_by m Bye = None
 
 -- the device opened a file, or failed
 abbrev pub TellsOpened : {D R : Type 0} → Opening D R → ℕ → Mode → List ℕ → D → D → Event R → Type 0
-TellsOpened {D} {R} device m mode path d d' second = (outcome : Result R Fault) × Opens device mode path d outcome d' × (second ≡ event.Opened m outcome)
+TellsOpened {D} {R} device m mode path d d' second = (outcome : Result R Fault) × Opens device mode path d outcome d'
+    × (second ≡ event.Opened m outcome)
 
 -- the device joined a socket, or failed
 abbrev pub TellsConnected : {D R : Type 0} → Opening D R → ℕ → List ℕ → D → D → Event R → Type 0
-TellsConnected {D} {R} device m path d d' second = (outcome : Result R Fault) × Connects device path d outcome d' × (second ≡ event.Opened m outcome)
+TellsConnected {D} {R} device m path d d' second = (outcome : Result R Fault) × Connects device path d outcome d'
+    × (second ≡ event.Opened m outcome)
 
 -- the resource was read, and comes back
 abbrev pub TellsRead : {R : Type 0} → Handling R → ℕ → ℕ → R → Event R → Type 0
-TellsRead {R} resource m count r second = (outcome : CallOutcome) × (r' : R) × Reads resource count r outcome r' × (second ≡ event.CheckIn m outcome r')
+TellsRead {R} resource m count r second = (outcome : CallOutcome) × (r' : R) × Reads resource count r outcome r'
+    × (second ≡ event.CheckIn m outcome r')
 
 -- the resource was written, and comes back
 abbrev pub TellsWritten : {R : Type 0} → Handling R → ℕ → List ℕ → R → Event R → Type 0
-TellsWritten {R} resource m bytes r second = (outcome : CallOutcome) × (r' : R) × Writes resource bytes r outcome r' × (second ≡ event.CheckIn m outcome r')
+TellsWritten {R} resource m bytes r second = (outcome : CallOutcome) × (r' : R) × Writes resource bytes r outcome r'
+    × (second ≡ event.CheckIn m outcome r')
 
 -- the work of a job that by took up was done
 abbrev pub TellsFinished : {R : Type 0} → Handling R → ℕ → Job R → Event R → Type 0
-TellsFinished resource by job second = (outcome : Result (Unit {0}) Fault) × Finishes resource job.resource outcome × (second ≡ event.Ask (ask.Finish by job.action (outcome_of outcome)))
+TellsFinished resource by job second = (outcome : Result (Unit {0}) Fault) × Finishes resource job.resource outcome
+    × (second ≡ event.Ask (ask.Finish by job.action (outcome_of outcome)))
 
 -- ---- How commands are carried out
 
@@ -136,12 +145,15 @@ module _ {P R : Type 0} (port : Asking P R) where
   AsksOnce None p said p' = (said ≡ answer.Done) × (p' ≡ p)
   AsksOnce (Some first) p said p' = (reply : Reply R) × port.asks p (event.Ask first) reply p' × (said ≡ said_by reply)
 
-  -- An ask. Where its reply leads on, what it gives comes to a second ask, whose answer is the last; else the first answer is the
-  -- last, and rests holds
-  abbrev pub AsksTwice : {X : Type 0} → Ask → (Reply R → Result X Answer) → (X → Event R → Type 0) → Type 0 → P → Answer → P → Type 0
-  AsksTwice {X} first leads comes_to rests p said p' = (reply : Reply R) × (between : P) × port.asks p (event.Ask first) reply between
+  -- An ask. Where its reply leads on, what it gives comes to a second ask, whose answer is the last; else the first
+  -- answer is the last, and rests holds
+  abbrev pub AsksTwice : {X : Type 0} → Ask → (Reply R → Result X Answer) → (X → Event R → Type 0) → Type 0 → P → Answer
+      → P → Type 0
+  AsksTwice {X} first leads comes_to rests p said p' = (reply : Reply R) × (between : P)
+      × port.asks p (event.Ask first) reply between
       × MatchResult (leads reply)
-      (λ x. (second : Event R) × (last : Reply R) × comes_to x second × port.asks between second last p' × (said ≡ said_by last))
+      (λ x. (second : Event R) × (last : Reply R) × comes_to x second × port.asks between second last p'
+      × (said ≡ said_by last))
       (λ answer. (said ≡ answer) × (p' ≡ between) × rests)
 
 module _ {P D R : Type 0} (port : Asking P R) (device : Opening D R) (resource : Handling R) where
@@ -151,10 +163,14 @@ module _ {P D R : Type 0} (port : Asking P R) (device : Opening D R) (resource :
       AsksTwice port (ask.Prepare m) prepared_by (λ u. TellsOpened device m mode path d d') (d' ≡ d) p said p'
   CarriesOut m (Connect path) p d said p' d' =
       AsksTwice port (ask.Prepare m) prepared_by (λ u. TellsConnected device m path d d') (d' ≡ d) p said p'
-  CarriesOut m (Read h count) p d said p' d' = AsksTwice port (ask.CheckOut m h) out_by (TellsRead resource m count) ⊤ p said p' × (d' ≡ d)
-  CarriesOut m (Write h bytes) p d said p' d' = AsksTwice port (ask.CheckOut m h) out_by (TellsWritten resource m bytes) ⊤ p said p' × (d' ≡ d)
-  CarriesOut m (Clean c) p d said p' d' = AsksTwice port (ask.Clean m c) job_by (TellsFinished resource m) ⊤ p said p' × (d' ≡ d)
-  CarriesOut m (Close h) p d said p' d' = AsksTwice port (ask.Close m h) job_by (TellsFinished resource m) ⊤ p said p' × (d' ≡ d)
+  CarriesOut m (Read h count) p d said p' d' =
+      AsksTwice port (ask.CheckOut m h) out_by (TellsRead resource m count) ⊤ p said p' × (d' ≡ d)
+  CarriesOut m (Write h bytes) p d said p' d' =
+      AsksTwice port (ask.CheckOut m h) out_by (TellsWritten resource m bytes) ⊤ p said p' × (d' ≡ d)
+  CarriesOut m (Clean c) p d said p' d' = AsksTwice port (ask.Clean m c) job_by (TellsFinished resource m) ⊤ p said p'
+      × (d' ≡ d)
+  CarriesOut m (Close h) p d said p' d' = AsksTwice port (ask.Close m h) job_by (TellsFinished resource m) ⊤ p said p'
+      × (d' ≡ d)
   CarriesOut m command p d said p' d' = AsksOnce port (ask_by m command) p said p' × (d' ≡ d)
 
   -- each command is carried out in the name of the port's mutator, and a settling is the port's

@@ -1,5 +1,7 @@
--- Calls of devices and of resources. A call that fails is counted; where no failure more can be counted none is made, and its outcome is other.
-use Rattle.std.specs.Prelude.{◌≡◌, ℕ, ◌≤◌, ◌⊎◌, min, List, take, length, replicate, Option, Some, None, Result, Ok, Err, IfOk, ⊤}
+-- Calls of devices and of resources. A call that fails is counted; where no failure more can be counted none is made,
+-- and its outcome is other.
+use Rattle.std.specs.Prelude.{◌≡◌, ℕ, ◌≤◌, ◌⊎◌, min, List, take, length, replicate, Option, Some, None, Result, Ok, Err}
+use Rattle.std.specs.Prelude.{IfOk, ⊤}
 use Rattle.jlr_types.specs.declared.Fault.{Fault}
 use Rattle.jlr_types.specs.declared.Fault.TheVariants.{Other}
 use Rattle.jlr_machine.specs.declared.ask.CallOutcome.{CallOutcome}
@@ -16,7 +18,8 @@ pub record Opening (D R : Type 0) : Type 1 where
   pub opens : D → Mode → List ℕ → Result R Fault → D → Type 0
   pub connects : D → List ℕ → Result R Fault → D → Type 0
 
--- a call was made, told its outcome, and raised the count by one if that is a fault; or the count was at its last value, and none was made
+-- a call was made, told its outcome, and raised the count by one if that is a fault; or the count was at its last
+-- value, and none was made
 abbrev pub Calls : {T : Type 0} → ℕ → Result T Fault → ℕ → Type 0 → Type 0 → Type 0
 Calls before outcome after made unmade =
     (Fits before × Counts before outcome after × made) ⊎ (IsHighest before × (outcome ≡ Err Other) × unmade)
@@ -49,7 +52,8 @@ room_for count = take (min 200 count) (replicate 200 0)
 -- so many bytes are read, or as many of them as there are
 abbrev pub Reads : {R : Type 0} → Handling R → ℕ → R → CallOutcome → R → Type 0
 Reads resource count old outcome new = (result : Result ℕ Fault) × (buffer : List ℕ)
-    × Calls (resource.count old) result (resource.count new) (resource.reads old (room_for count) result buffer new) (new ≡ old)
+    × Calls (resource.count old) result (resource.count new) (resource.reads old (room_for count) result buffer new)
+    (new ≡ old)
     × IfOk result (λ n. n ≤ count) × (outcome ≡ read_outcome result buffer)
 
 -- bytes are written, or a prefix of them

@@ -10,7 +10,8 @@ use Rattle.jlr_session.specs.declared.shell.SessionEnd.{SessionEnd}
 use Rattle.jlr_session.specs.declared.shell.SessionEnd.TheVariants.{End, Truncated, WriteFault}
 
 -- The whole lines of the bytes were answered, count of them, and the reader of lines holds what stands after them.
-pub record SoFar {H : Type 0} (carries : Carrying H) (bytes : List ℕ) (held : Held) (count : ℕ) (old : H) (out : List ℕ) (new : H) : Type 0 where
+pub record SoFar {H : Type 0} (carries : Carrying H) (bytes : List ℕ) (held : Held) (count : ℕ) (old : H) (out : List ℕ)
+    (new : H) : Type 0 where
   pub lines : List (List ℕ)
   pub last : List ℕ
   pub are : AreLines bytes lines last
@@ -19,19 +20,24 @@ pub record SoFar {H : Type 0} (carries : Carrying H) (bytes : List ℕ) (held : 
   pub speaks : Speaks carries lines old out new
 
 -- a chunk is answered, whatever came before it. That a session ends in a chunk is never because the input is at its end
-abbrev pub TakesChunk : {H : Type 0} → Carrying H → Held → ℕ → List ℕ → H → Option (List ℕ) → Option SessionEnd → Held → ℕ → H → Option (List ℕ) → Type 0
+abbrev pub TakesChunk : {H : Type 0} → Carrying H → Held → ℕ → List ℕ → H → Option (List ℕ) → Option SessionEnd → Held
+    → ℕ → H → Option (List ℕ) → Type 0
 TakesChunk {H} carries held n chunk heap wrote None held' n' heap' written =
     (more : List ℕ) × Appends wrote written more
-    × ((bytes : List ℕ) (old : H) (out : List ℕ) → SoFar carries bytes held n old out heap → SoFar carries (bytes ++ chunk) held' n' old (out ++ more) heap')
+    × ((bytes : List ℕ) (old : H) (out : List ℕ) → SoFar carries bytes held n old out heap
+    → SoFar carries (bytes ++ chunk) held' n' old (out ++ more) heap')
 TakesChunk {H} carries held n chunk heap wrote (Some end) held' n' heap' written =
     (more : List ℕ) × Appends wrote written more
-    × ((bytes : List ℕ) (old : H) (out : List ℕ) → SoFar carries bytes held n old out heap → Ended carries ⊥ end (bytes ++ chunk) old (out ++ more) heap')
+    × ((bytes : List ℕ) (old : H) (out : List ℕ) → SoFar carries bytes held n old out heap
+    → Ended carries ⊥ end (bytes ++ chunk) old (out ++ more) heap')
 
 -- what is held at the end of the input is refused, and settled
 abbrev pub Closes : {H : Type 0} → Carrying H → SessionEnd → Held → H → Option (List ℕ) → H → Option (List ℕ) → Type 0
 Closes {H} carries End held heap wrote heap' written = (begun held ≡ []) × (heap' ≡ heap) × Appends wrote written []
 Closes {H} carries Truncated held heap wrote heap' written =
-    (begun held ≢ []) × carries.settling heap heap' × Appends wrote written (reply_line (Refused (refusal_of (begun held))))
+    (begun held ≢ []) × carries.settling heap heap'
+    × Appends wrote written (reply_line (Refused (refusal_of (begun held))))
 Closes {H} carries WriteFault held heap wrote heap' written =
-    (begun held ≢ []) × (heap' ≡ heap) × (n : ℕ) × Appends wrote written (take n (reply_line (Refused (refusal_of (begun held)))))
+    (begun held ≢ []) × (heap' ≡ heap) × (n : ℕ)
+    × Appends wrote written (take n (reply_line (Refused (refusal_of (begun held)))))
 Closes {H} carries _ held heap wrote heap' written = ⊥

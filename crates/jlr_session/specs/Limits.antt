@@ -10,6 +10,7 @@ most_lines = 1000000
 abbrev pub most_bytes : ℕ
 most_bytes = 67108864
 
--- the end of the input was found: what is left of it is nothing, and a read could tell so, since fewer bytes were taken than may be
+-- the end of the input was found: what is left of it is nothing, and a read could tell so, since fewer bytes were taken
+-- than may be
 abbrev pub FindsEnd : Option (List ℕ) → List ℕ → Type 0
 FindsEnd remaining bytes = IsAtEnd remaining × (length bytes < most_bytes)

@@ -21,7 +21,8 @@ IsTurnedAway port by end p out p' =
     ⊎ ((end ≡ WriteFault) × (n : ℕ) × (out ≡ take n (reply_line (Refused by))) × (p' ≡ p))
 
 module _ {P D R : Type 0} (port : Asking P R) (device : Opening D R) (resource : Handling R) where
-  -- a refused join ends the session before a byte is read; after any other the lines are carried out, and then the mutator leaves
+  -- a refused join ends the session before a byte is read; after any other the lines are carried out, and then the
+  -- mutator leaves
   abbrev pub Follows : Answer → Type 0 → SessionEnd → List ℕ → P → D → List ℕ → P → D → Type 0
   Follows (Refused by) at_end end bytes p d out p' d' = IsTurnedAway port by end p out p' × (bytes ≡ []) × (d' ≡ d)
   Follows answer at_end end bytes p d out p' d' =
@@ -31,4 +32,5 @@ module _ {P D R : Type 0} (port : Asking P R) (device : Opening D R) (resource :
   -- the mutator joins, and the session follows
   abbrev pub Serves : Type 0 → SessionEnd → List ℕ → P → D → List ℕ → P → D → Type 0
   Serves at_end end bytes p d out p' d' =
-      (reply : Reply R) × (joined : P) × port.asks p (Asks (Join (port.mutator p))) reply joined × Follows (said_by reply) at_end end bytes joined d out p' d'
+      (reply : Reply R) × (joined : P) × port.asks p (Asks (Join (port.mutator p))) reply joined
+      × Follows (said_by reply) at_end end bytes joined d out p' d'

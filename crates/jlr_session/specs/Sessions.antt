@@ -11,7 +11,8 @@ use Rattle.jlr_session.specs.Carrying.{Carrying}
 use Rattle.jlr_session.specs.Limits.{most_lines}
 use Rattle.jlr_session.specs.Turns.{Answers, AnswersAndSettles, reply_line, refusal_of}
 use Rattle.jlr_session.specs.declared.shell.SessionEnd.{SessionEnd}
-use Rattle.jlr_session.specs.declared.shell.SessionEnd.TheVariants.{Bye as EndsByBye, End, Truncated, ReadFault, WriteFault, TooManyLines, NotJoined}
+use Rattle.jlr_session.specs.declared.shell.SessionEnd.TheVariants.{Bye as EndsByBye, End, Truncated, ReadFault}
+use Rattle.jlr_session.specs.declared.shell.SessionEnd.TheVariants.{WriteFault, TooManyLines, NotJoined}
 
 -- the lines are answered in turn, each by one reply line, which a settling follows; and none of them is bye
 abbrev pub Speaks : {H : Type 0} → Carrying H → List (List ℕ) → H → List ℕ → H → Type 0
@@ -22,20 +23,22 @@ Speaks {H} carries (line ∷ lines) old out new =
     × (out ≡ reply_line answer ++ later) × Speaks carries lines next later new
 
 -- The bytes begin with these lines, which were answered; the rest is still to be answered.
-pub record Answered {H : Type 0} (carries : Carrying H) (bytes : List ℕ) (lines : List (List ℕ)) (rest : List ℕ) (old : H) (out : List ℕ) (new : H) : Type 0 where
+pub record Answered {H : Type 0} (carries : Carrying H) (bytes : List ℕ) (lines : List (List ℕ)) (rest : List ℕ)
+    (old : H) (out : List ℕ) (new : H) : Type 0 where
   pub joined : bytes ≡ ended_lines lines ++ rest
   pub each : All IsInLine lines
   pub speaks : Speaks carries lines old out new
 
--- an answer that is due where these bytes are still to be answered: that of the next line, or, once the input is at its end, a refusal of
--- what has no end of its line
+-- an answer that is due where these bytes are still to be answered: that of the next line, or, once the input is at its
+-- end, a refusal of what has no end of its line
 abbrev pub IsDue : {H : Type 0} → Carrying H → Type 0 → List ℕ → H → Answer → H → Type 0
 IsDue {H} carries at_end rest old answer new =
-    ((line : List ℕ) × (later : List ℕ) × (rest ≡ line ++ 10 ∷ later) × IsInLine line × Answers carries line old answer new)
+    ((line : List ℕ) × (later : List ℕ) × (rest ≡ line ++ 10 ∷ later) × IsInLine line
+    × Answers carries line old answer new)
     ⊎ (at_end × (rest ≢ []) × IsInLine rest × (answer ≡ Refused (refusal_of rest)) × (new ≡ old))
 
--- what the bytes that were read came to, where at_end says that the input is at its end. A settling follows each reply that went out,
--- that of bye and the refusal at the end of the input among them
+-- what the bytes that were read came to, where at_end says that the input is at its end. A settling follows each reply
+-- that went out, that of bye and the refusal at the end of the input among them
 abbrev pub Ended : {H : Type 0} → Carrying H → Type 0 → SessionEnd → List ℕ → H → List ℕ → H → Type 0
 Ended {H} carries at_end EndsByBye bytes old out new =
     (lines : List (List ℕ)) × (later : List ℕ) × (said : List ℕ) × (before : H)
@@ -48,11 +51,14 @@ Ended {H} carries at_end Truncated bytes old out new =
     × Answered carries bytes lines last old said before × (length lines < most_lines) × (last ≢ []) × IsInLine last
     × carries.settling before new × (out ≡ said ++ reply_line (Refused (refusal_of last)))
 Ended {H} carries at_end ReadFault bytes old out new =
-    (lines : List (List ℕ)) × (last : List ℕ) × Answered carries bytes lines last old out new × (length lines < most_lines) × IsInLine last
+    (lines : List (List ℕ)) × (last : List ℕ) × Answered carries bytes lines last old out new
+    × (length lines < most_lines) × IsInLine last
 Ended {H} carries at_end WriteFault bytes old out new =
     (lines : List (List ℕ)) × (rest : List ℕ) × (said : List ℕ) × (before : H) × (answer : Answer) × (n : ℕ)
-    × Answered carries bytes lines rest old said before × (length lines < most_lines) × IsDue carries at_end rest before answer new
+    × Answered carries bytes lines rest old said before × (length lines < most_lines)
+    × IsDue carries at_end rest before answer new
     × (out ≡ said ++ take n (reply_line answer))
 Ended {H} carries at_end TooManyLines bytes old out new =
-    (lines : List (List ℕ)) × (rest : List ℕ) × Answered carries bytes lines rest old out new × (length lines ≡ most_lines)
+    (lines : List (List ℕ)) × (rest : List ℕ) × Answered carries bytes lines rest old out new
+    × (length lines ≡ most_lines)
 Ended {H} carries at_end (NotJoined by) bytes old out new = ⊥

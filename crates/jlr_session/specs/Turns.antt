@@ -1,5 +1,6 @@
 -- What one line is answered, and what goes out.
-use Rattle.std.specs.Prelude.{◌≡◌, ◌≢◌, ℕ, nat_lt, if◌then◌else◌, ◌⊎◌, List, [], ◌∷◌, ◌++◌, take, length, Option, Some, None, Result, MatchResult}
+use Rattle.std.specs.Prelude.{◌≡◌, ◌≢◌, ℕ, nat_lt, if◌then◌else◌, ◌⊎◌, List, [], ◌∷◌, ◌++◌, take, length, Option, Some}
+use Rattle.std.specs.Prelude.{None, Result, MatchResult}
 use Rattle.std.specs.Io.KnownBytes.{Appends}
 use Rattle.jlr_types.specs.declared.Refusal.{Refusal}
 use Rattle.jlr_types.specs.declared.Refusal.TheVariants.{Malformed, TooLong}
@@ -27,12 +28,14 @@ Answers {H} carries line old answer new =
 -- what was read of a line is carried out, or it is bye, or it is refused
 abbrev pub AnswersRead : {H : Type 0} → Carrying H → Result Command Refusal → H → Answer → H → Type 0
 AnswersRead carries read old answer new = MatchResult read
-    (λ command. ((command ≢ Bye) × carries.command old command answer new) ⊎ ((command ≡ Bye) × (answer ≡ Done) × (new ≡ old)))
+    (λ command. ((command ≢ Bye) × carries.command old command answer new)
+    ⊎ ((command ≡ Bye) × (answer ≡ Done) × (new ≡ old)))
     (λ refusal. (answer ≡ Refused refusal) × (new ≡ old))
 
 -- the line is answered, and the settling follows its reply
 abbrev pub AnswersAndSettles : {H : Type 0} → Carrying H → List ℕ → H → Answer → H → Type 0
-AnswersAndSettles {H} carries line old answer new = (next : H) × Answers carries line old answer next × carries.settling next new
+AnswersAndSettles {H} carries line old answer new = (next : H) × Answers carries line old answer next
+    × carries.settling next new
 
 -- the reply line of an answer, with its end; nothing for an answer that has no line
 abbrev pub with_end : Option (List ℕ) → List ℕ
@@ -49,11 +52,14 @@ SendsReply old new result answer = MatchResult result
     (λ _. (n : ℕ) × Appends old new (take n (reply_line answer)))
 
 -- one line is answered and settled: the session goes on, or ends by bye. Or the writer fails, and nothing is settled
-abbrev pub TurnEnds : {H : Type 0} → Carrying H → List ℕ → H → Option (List ℕ) → Option SessionEnd → H → Option (List ℕ) → Type 0
+abbrev pub TurnEnds : {H : Type 0} → Carrying H → List ℕ → H → Option (List ℕ) → Option SessionEnd → H → Option (List ℕ)
+    → Type 0
 TurnEnds {H} carries line old wrote None new written =
-    (answer : Answer) × AnswersAndSettles carries line old answer new × (words answer ≢ None) × Appends wrote written (reply_line answer) × (IsCommand line Bye → ⊥)
+    (answer : Answer) × AnswersAndSettles carries line old answer new × (words answer ≢ None)
+    × Appends wrote written (reply_line answer) × (IsCommand line Bye → ⊥)
 TurnEnds {H} carries line old wrote (Some EndsByBye) new written =
     IsCommand line Bye × carries.settling old new × Appends wrote written (reply_line Done)
 TurnEnds {H} carries line old wrote (Some WriteFault) new written =
-    (answer : Answer) × (n : ℕ) × Answers carries line old answer new × Appends wrote written (take n (reply_line answer))
+    (answer : Answer) × (n : ℕ) × Answers carries line old answer new
+    × Appends wrote written (take n (reply_line answer))
 TurnEnds {H} carries line old wrote (Some _) new written = ⊥

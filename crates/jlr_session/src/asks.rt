@@ -2,7 +2,8 @@
 ghost use Rattle.std.specs.Prelude.{◌≡◌, false, ⊤};
 ghost use Rattle.jlr_machine.specs.declared.ask.Ask.TheVariants as ask;
 ghost use Rattle.jlr_event.specs.Asks.{hands_in};
-ghost use Rattle.jlr_session.specs.Asks.{AsksOnce, AsksTwice, TellsOpened, TellsConnected, TellsRead, TellsWritten, TellsFinished, prepared_by, out_by, job_by, ask_by};
+ghost use Rattle.jlr_session.specs.Asks.{AsksOnce, AsksTwice, TellsOpened, TellsConnected, TellsRead, TellsWritten};
+ghost use Rattle.jlr_session.specs.Asks.{TellsFinished, prepared_by, out_by, job_by, ask_by};
 
 use crate::call::{connected, opened, read_back, written_back};
 use crate::carry::CarryOut;
@@ -25,8 +26,12 @@ where
 {
     ghost use Rattle.jlr_session.specs.Asks.{by_asks};
 
-    ghost carries = { by_asks P.asking (record { count = D.count; opens = D.may_open; connects = D.may_connect; failures = D.Res.handling.count })
-        D.Res.handling };
+    ghost carries = { by_asks P.asking (record {
+      count = D.count;
+      opens = D.may_open;
+      connects = D.may_connect;
+      failures = D.Res.handling.count;
+    }) D.Res.handling };
 
     #[inline(always)]
     fn carry_out(heap: &mut P, device: &mut D, command: &Command<'_>, answer: &mut Answer) {
@@ -78,7 +83,12 @@ fn open<P: Port<D::Res>, D: Device>(
 where
     D::Res: Drop,
     ensures { AsksTwice P.asking (ask.Prepare mutator) prepared_by
-        (λ _. TellsOpened (record { count = D.count; opens = D.may_open; connects = D.may_connect; failures = D.Res.handling.count }) mutator mode path.now device.old device.new)
+        (λ _. TellsOpened (record {
+          count = D.count;
+          opens = D.may_open;
+          connects = D.may_connect;
+          failures = D.Res.handling.count;
+        }) mutator mode path.now device.old device.new)
         (device.new ≡ device.old) port.old answer.new port.new }
 {
     match prepared(port.ask(Event::ask(Ask::Prepare { mutator }), None)) {
@@ -99,7 +109,12 @@ fn connect<P: Port<D::Res>, D: Device>(
 where
     D::Res: Drop,
     ensures { AsksTwice P.asking (ask.Prepare mutator) prepared_by
-        (λ _. TellsConnected (record { count = D.count; opens = D.may_open; connects = D.may_connect; failures = D.Res.handling.count }) mutator path.now device.old device.new)
+        (λ _. TellsConnected (record {
+          count = D.count;
+          opens = D.may_open;
+          connects = D.may_connect;
+          failures = D.Res.handling.count;
+        }) mutator path.now device.old device.new)
         (device.new ≡ device.old) port.old answer.new port.new }
 {
     match prepared(port.ask(Event::ask(Ask::Prepare { mutator }), None)) {

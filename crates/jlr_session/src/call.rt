@@ -22,8 +22,12 @@ pub(crate) fn opened<D: Device>(
     mode: Mode,
     path: &str,
 ) -> Event<D::Res>
-    ensures { TellsOpened (record { count = D.count; opens = D.may_open; connects = D.may_connect; failures = D.Res.handling.count })
-        mutator mode path.now device.old device.new result }
+    ensures { TellsOpened (record {
+      count = D.count;
+      opens = D.may_open;
+      connects = D.may_connect;
+      failures = D.Res.handling.count;
+    }) mutator mode path.now device.old device.new result }
 {
     Event::Opened {
         mutator,
@@ -33,8 +37,12 @@ pub(crate) fn opened<D: Device>(
 
 /// Joins a socket, and gives the event that tells its outcome.
 pub(crate) fn connected<D: Device>(device: &mut D, mutator: Mutator, path: &str) -> Event<D::Res>
-    ensures { TellsConnected (record { count = D.count; opens = D.may_open; connects = D.may_connect; failures = D.Res.handling.count })
-        mutator path.now device.old device.new result }
+    ensures { TellsConnected (record {
+      count = D.count;
+      opens = D.may_open;
+      connects = D.may_connect;
+      failures = D.Res.handling.count;
+    }) mutator path.now device.old device.new result }
 {
     Event::Opened {
         mutator,
@@ -42,7 +50,8 @@ pub(crate) fn connected<D: Device>(device: &mut D, mutator: Mutator, path: &str)
     }
 }
 
-/// Reads at most so many bytes of a resource, 200 at most, into the room for them, and gives the event that tells them and hands it back.
+/// Reads at most so many bytes of a resource, 200 at most, into the room for them, and gives the event that tells them
+/// and hands it back.
 pub(crate) fn read_back<D: Device>(
     device: &D,
     mutator: Mutator,

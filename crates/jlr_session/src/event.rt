@@ -8,7 +8,8 @@ use jlr_machine::ask::Ask;
 use jlr_types::{Handle, Mutator, RefKind};
 use jlr_wire::command::Command;
 
-/// What a command that asks once asks in the name of a mutator. There is none for one that may ask twice, and for `bye`.
+/// What a command that asks once asks in the name of a mutator. There is none for one that may ask twice, and for
+/// `bye`.
 #[inline(always)]
 pub(crate) fn ask_for(mutator: Mutator, command: &Command<'_>) -> Option<Ask>
     ensures ask { result ≡ ask_by mutator command.now }

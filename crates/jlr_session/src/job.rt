@@ -31,10 +31,11 @@ pub fn job_of<R: Drop>(reply: Reply<R>) -> Result<Job<R>, Answer>
     }
 }
 
-/// Does the work of a job that `by` took up, a mutator or 255 for the cleaner, and gives the event that tells its outcome.
+/// Does the work of a job that `by` took up, a mutator or 255 for the cleaner, and gives the event that tells its
+/// outcome.
 ///
-/// A resource is finished, once, and its outcome told; where its count of failures is at its last value it is dropped, and the
-/// outcome is `other`. A job without one, a note, ends well.
+/// A resource is finished, once, and its outcome told; where its count of failures is at its last value it is dropped,
+/// and the outcome is `other`. A job without one, a note, ends well.
 pub fn carry_out<R: Resource + Drop>(by: u8, job: Job<R>) -> Event<R>
     ensures { TellsFinished R.handling by job result }
 {

@@ -1,7 +1,7 @@
 //! Sessions: the lines of a reader are carried out one after the other, and each is answered by one line of a writer.
 //!
-//! `serve` has the whole session over a `Port` and a device. Below it, `shell` knows lines, answers and ends, and what a command
-//! does is up to a `CarryOut`.
+//! `serve` has the whole session over a `Port` and a device. Below it, `shell` knows lines, answers and ends, and what
+//! a command does is up to a `CarryOut`.
 #![tactic(auto)]
 
 mod asks;

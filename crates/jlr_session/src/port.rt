@@ -48,7 +48,8 @@ pub trait Port<R> {
     /// Where the room cannot be had, that by which the port declines to check the resource out.
     fn read_room(&self, guard: Handle) -> Result<ReadRoom, Refusal>
         ensures declined { IfErr result (λ by.
-            asking.asks self.now (Asks (CheckOut (asking.mutator self.now) guard)) (Answered (Refused by) None) self.now) };
+            asking.asks self.now (Asks (CheckOut (asking.mutator self.now) guard)) (Answered (Refused by) None)
+            self.now) };
 
     /// Asks, and gives the reply. With the end of a call that read comes the room in which it is told again.
     fn ask(&mut self, event: Event<R>, room: Option<CallRoom>) -> Reply<R>

@@ -44,10 +44,10 @@ pub enum SessionEnd {
 /// Answers the lines of the reader one after the other, each on one flushed line, until a line says
 /// `bye`, the input ends, or a read or a write fails. After each reply that went out the heap settles.
 ///
-/// `bye` is answered `ok`. Bytes without the end of their line are answered `! 15`, or `! 16` if
-/// there are more than 512. A failed read or write is not tried again, an interrupted one is. At most 67,108,864 bytes are
-/// taken: in place of the read after them the session ends with `ReadFault`. At most 1,000,000
-/// lines are answered: the session ends with `TooManyLines` after the last of them, unless that is `bye`.
+/// `bye` is answered `ok`. Bytes without the end of their line are answered `! 15`, or `! 16` if there are more than
+/// 512. A failed read or write is not tried again, an interrupted one is. At most 67,108,864 bytes are taken: in place
+/// of the read after them the session ends with `ReadFault`. At most 1,000,000 lines are answered: the session ends
+/// with `TooManyLines` after the last of them, unless that is `bye`.
 pub fn converse<C: CarryOut<H, D>, H, D, R: Read, W: Write>(
     reader: &mut R,
     writer: &mut W,
@@ -58,7 +58,8 @@ pub fn converse<C: CarryOut<H, D>, H, D, R: Read, W: Write>(
         × Consumes (R.remaining reader.old) (R.remaining reader.new) bytes
         × Appends (W.contents writer.old) (W.contents writer.new) out
         × (length bytes ≤ most_bytes)
-        × Ended C.carries (FindsEnd (R.remaining reader.new) bytes) result bytes (heap.old, device.old) out (heap.new, device.new) }
+        × Ended C.carries (FindsEnd (R.remaining reader.new) bytes) result bytes (heap.old, device.old) out
+        (heap.new, device.new) }
 {
     let mut pieces = Pieces::new();
     let mut buffer = [0u8; CHUNK_SIZE];
@@ -99,8 +100,8 @@ fn take_chunk<C: CarryOut<H, D>, H, D, W: Write>(
 ) -> Option<SessionEnd>
     requires { answered.old < most_lines }
     ensures few { IfNone result (answered.new < most_lines) }
-    ensures taken { TakesChunk C.carries pieces.old answered.old chunk.now (heap.old, device.old) (W.contents writer.old)
-        result pieces.new answered.new (heap.new, device.new) (W.contents writer.new) }
+    ensures taken { TakesChunk C.carries pieces.old answered.old chunk.now (heap.old, device.old)
+        (W.contents writer.old) result pieces.new answered.new (heap.new, device.new) (W.contents writer.new) }
 {
     let mut rest = chunk;
     while !rest.is_empty() {
@@ -126,7 +127,8 @@ fn close<C: CarryOut<H, D>, H, D, W: Write>(
     writer: &mut W,
     heap: &mut H,
 ) -> SessionEnd
-    ensures { (device : D) → Closes C.carries result pieces.now (heap.old, device) (W.contents writer.old) (heap.new, device) (W.contents writer.new) }
+    ensures { (device : D) → Closes C.carries result pieces.now (heap.old, device) (W.contents writer.old)
+        (heap.new, device) (W.contents writer.new) }
 {
     if !pieces.unfinished() {
         return SessionEnd::End;

@@ -12,8 +12,8 @@ use jlr_wire::command::{Command, read_command};
 use jlr_wire::reply::{WriteFault, write_reply};
 use std::io::Write;
 
-/// Answers a line that was read, in place of another answer: `bye` by `ok`, a line that is no command by its refusal, and every
-/// other command by what carries it out.
+/// Answers a line that was read, in place of another answer: `bye` by `ok`, a line that is no command by its refusal,
+/// and every other command by what carries it out.
 #[inline(always)]
 fn answer_of<C: CarryOut<H, D>, H, D>(
     read: &Result<Command<'_>, Refusal>,
@@ -68,7 +68,8 @@ pub fn answer_line<C: CarryOut<H, D>, H, D, W: Write>(
     heap: &mut H,
     device: &mut D,
 ) -> Option<SessionEnd>
-    ensures { TurnEnds C.carries line.now (heap.old, device.old) (W.contents writer.old) result (heap.new, device.new) (W.contents writer.new) }
+    ensures { TurnEnds C.carries line.now (heap.old, device.old) (W.contents writer.old) result (heap.new, device.new)
+        (W.contents writer.new) }
 {
     let read = read_command(line);
     let mut answer = Answer::Done;

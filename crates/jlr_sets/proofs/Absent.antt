@@ -1,5 +1,6 @@
 -- The places that are not set, as those of other words.
-use Rattle.std.proofs.Common.{◌≡◌, ℕ, zero, suc, ◌-◌, ◌/◌, ◌%◌, ◌^◌, ◌<◌, ◌≤◌, Bool, true, false, not, eqb, List, length, map, get_or, refl, sym, ◌∙◌, ap, take, inl, inr, arith, w64}
+use Rattle.std.proofs.Common.{◌≡◌, ℕ, zero, suc, ◌-◌, ◌/◌, ◌%◌, ◌^◌, ◌<◌, ◌≤◌, Bool, true, false, not, eqb, List, length, map, get_or, refl}
+use Rattle.std.proofs.Common.{sym, ◌∙◌, ap, take, inl, inr, arith, w64}
 use Rattle.std.proofs.lemmas.Bool.{cases_lt, false≢true, both_ways}
 use Rattle.std.proofs.lemmas.List.{get_or_past, get_or-map, get_or-take, length-map, length-take-le}
 use Rattle.std.proofs.lemmas.List.FromFn.{length-map-range_with_len, get_or-map-range_with_len}
@@ -62,7 +63,11 @@ set_if false h = absurd (false≢true (sym h))
 
 -- an absent place is one of the places, and not set
 pub within_absent : (places : List Bool) (k : ℕ) → is_in (absent places) k ≡ true → k < length places
-within_absent places k h = elim (cases_lt k (length places)) [ inl low ↦ low | inr past ↦ absurd (both_ways (is_in (absent places) k) (absent_past places k past) h) ]
+within_absent places k h = elim (cases_lt k (length places)) [
+  | inl low ↦ low
+  | inr past ↦
+      absurd (both_ways (is_in (absent places) k) (absent_past places k past) h)
+]
 
 pub is_clear : (places : List Bool) (k : ℕ) → is_in (absent places) k ≡ true → is_in places k ≡ false
 is_clear places k h = not_set (is_in places k) (sym (in_absent places k (within_absent places k h)) ∙ h)

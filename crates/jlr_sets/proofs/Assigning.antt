@@ -1,5 +1,6 @@
 -- A set that takes over the slots of another, and a set of fewer places with the same slots.
-use Rattle.std.proofs.Common.{◌≡◌, ℕ, ◌*◌, ◌/◌, ◌%◌, ◌<◌, ◌≤◌, Bool, true, false, List, length, get_or, take, eqb, refl, sym, ◌∙◌, ap, inl, inr, arith}
+use Rattle.std.proofs.Common.{◌≡◌, ℕ, ◌*◌, ◌/◌, ◌%◌, ◌<◌, ◌≤◌, Bool, true, false, List, length, get_or, take, eqb, refl, sym, ◌∙◌, ap, inl}
+use Rattle.std.proofs.Common.{inr, arith}
 use Rattle.std.proofs.lemmas.Bool.{cases_Bool, cases_lt, false≢true}
 use Rattle.std.proofs.lemmas.List.{get_or-take, get_or_past, length-take-le}
 use Rattle.std.proofs.lemmas.Nat.Bits.{bit_at-zero}
@@ -58,7 +59,11 @@ module _ (n : ℕ) (places : List Bool) (within : n ≤ length places) (low : (s
     | inl h ↦ get_or-take n places k false h
     | inr past ↦
         get_or_past (take n places) k false (omega (arith, length-take-le n places within))
-        ∙ (elim (cases_Bool (is_in places k)) as (λ _. false ≡ is_in places k) [ inl set ↦ absurd (omega (arith, low k set)) | inr clear ↦ sym clear ])
+        ∙ (elim (cases_Bool (is_in places k)) as (λ _. false ≡ is_in places k) [
+          | inl set ↦ absurd (omega (arith, low k set))
+          | inr clear ↦
+              sym clear
+        ])
   ]
 
   pub shown_slots : slots_of (take n places) ≡ slots_of places

@@ -1,5 +1,6 @@
 -- The slots below a number.
-use Rattle.std.proofs.Common.{◌≡◌, ℕ, zero, suc, ◌+◌, ◌-◌, ◌<◌, ◌≤◌, Bool, true, false, cond, List, [], ◌∷◌, ◌++◌, length, refl, sym, ◌∙◌, ap, arith, inl, inr, length-append}
+use Rattle.std.proofs.Common.{◌≡◌, ℕ, zero, suc, ◌+◌, ◌-◌, ◌<◌, ◌≤◌, Bool, true, false, cond, List, [], ◌∷◌, ◌++◌, length, refl, sym, ◌∙◌}
+use Rattle.std.proofs.Common.{ap, arith, inl, inr, length-append}
 use Rattle.std.specs.List.{range_with_len, filter}
 use Rattle.std.proofs.lemmas.List.{append-nil, get_or_past}
 use Rattle.std.proofs.lemmas.Bool.{cases_lt, false≢true}
@@ -21,22 +22,26 @@ within_places places slot set = elim (cases_lt slot (length places)) [
 pub slots_below-suc : (n : ℕ) (places : List Bool) → slots_below (suc n) places ≡ slots_below n places ++ cond (is_in places n) (n ∷ []) []
 unfolding slots_below
 slots_below-suc n places =
-    ap {A = List ℕ} {B = List ℕ} (filter (is_in places)) (range_more 0 n n (omega arith)) ∙ filter-append (is_in places) (range_with_len 0 n) (n ∷ [])
+    ap {A = List ℕ} {B = List ℕ} (filter (is_in places)) (range_more 0 n n (omega arith))
+    ∙ filter-append (is_in places) (range_with_len 0 n) (n ∷ [])
 
 pub slots_below-zero : (places : List Bool) → slots_below 0 places ≡ []
 unfolding slots_below
 slots_below-zero places = refl
 
 -- one more place, which is set
-pub slots_below_set : (n m : ℕ) (places : List Bool) → m ≡ n + 1 → is_in places n ≡ true → slots_below m places ≡ slots_below n places ++ n ∷ []
+pub slots_below_set : (n m : ℕ) (places : List Bool) → m ≡ n + 1 → is_in places n ≡ true → slots_below m places ≡ slots_below n places
+    ++ n ∷ []
 slots_below_set n m places e set =
     let next : m ≡ suc n = omega arith in
-    ap (λ x. slots_below x places) next ∙ slots_below-suc n places ∙ ap {A = Bool} {B = List ℕ} (λ b. slots_below n places ++ cond b (n ∷ []) []) set
+    ap (λ x. slots_below x places) next ∙ slots_below-suc n places
+    ∙ ap {A = Bool} {B = List ℕ} (λ b. slots_below n places ++ cond b (n ∷ []) []) set
 
 -- one more place, which is clear
 pub slots_below_clear : (n : ℕ) (places : List Bool) → is_in places n ≡ false → slots_below (suc n) places ≡ slots_below n places
 slots_below_clear n places clear =
-    slots_below-suc n places ∙ ap {A = Bool} {B = List ℕ} (λ b. slots_below n places ++ cond b (n ∷ []) []) clear ∙ append-nil (slots_below n places)
+    slots_below-suc n places ∙ ap {A = Bool} {B = List ℕ} (λ b. slots_below n places ++ cond b (n ∷ []) []) clear
+    ∙ append-nil (slots_below n places)
 
 -- more places, all clear
 stays : (d from : ℕ) (places : List Bool) → NoneBetween places from (from + d) → slots_below (from + d) places ≡ slots_below from places
@@ -47,7 +52,8 @@ stays (suc d) from places none =
     ∙ slots_below_clear (from + d) places (none (from + d) (omega arith) (omega arith))
     ∙ stays d from places (λ k a b. none k a (omega arith))
 
-pub slots_below_same : (from to : ℕ) (places : List Bool) → from ≤ to → NoneBetween places from to → slots_below to places ≡ slots_below from places
+pub slots_below_same : (from to : ℕ) (places : List Bool) → from ≤ to → NoneBetween places from to
+    → slots_below to places ≡ slots_below from places
 slots_below_same from to places le none =
     let e : to ≡ from + (to - from) = omega arith in
     ap (λ x. slots_below x places) e ∙ stays (to - from) from places (λ k a b. none k a (omega arith))
@@ -66,7 +72,8 @@ length_one true n = refl
 length_one false n = refl
 
 -- how many one more place makes
-pub count-suc : (n : ℕ) (places : List Bool) → length (slots_below (suc n) places) ≡ length (slots_below n places) + cond (is_in places n) 1 0
+pub count-suc : (n : ℕ) (places : List Bool) → length (slots_below (suc n) places) ≡ length (slots_below n places) + cond (is_in places n) 1
+    0
 count-suc n places =
     ap {A = List ℕ} {B = ℕ} length (slots_below-suc n places)
     ∙ length-append (slots_below n places) (cond (is_in places n) (n ∷ []) [])

@@ -1,5 +1,6 @@
 -- The places that are set in one set and not in another, as those of other words.
-use Rattle.std.proofs.Common.{◌≡◌, ℕ, zero, suc, ◌-◌, ◌/◌, ◌%◌, ◌^◌, ◌<◌, ◌≤◌, Bool, true, false, not, ◌&&◌, eqb, List, length, map, get_or, refl, sym, ◌∙◌, ap, take, inl, inr, arith, w64}
+use Rattle.std.proofs.Common.{◌≡◌, ℕ, zero, suc, ◌-◌, ◌/◌, ◌%◌, ◌^◌, ◌<◌, ◌≤◌, Bool, true, false, not, ◌&&◌, eqb, List, length, map, get_or}
+use Rattle.std.proofs.Common.{refl, sym, ◌∙◌, ap, take, inl, inr, arith, w64}
 use Rattle.std.proofs.lemmas.Bool.{both_ways, cases_lt, false≢true}
 use Rattle.std.proofs.lemmas.List.{get_or_past}
 use Rattle.std.proofs.lemmas.List.FromFn.{length-map-range_with_len, get_or-map-range_with_len}
@@ -45,13 +46,15 @@ both_bits (suc zero) (suc zero) h k = refl
 both_bits (suc zero) (suc (suc b)) h k = absurd (omega (arith, k))
 both_bits (suc (suc a)) b h k = absurd (omega (arith, h))
 
-bit_beyond : (word other i : ℕ) → other < 2 ^ 64 → i < 64 → is_bit (bit_and word (bit_not w64 other)) i ≡ (is_bit word i && not (is_bit other i))
+bit_beyond : (word other i : ℕ) → other < 2 ^ 64 → i < 64
+    → is_bit (bit_and word (bit_not w64 other)) i ≡ (is_bit word i && not (is_bit other i))
 bit_beyond word other i fits low =
     ap (λ b. eqb b 1) (bit_at_and word (bit_not w64 other) i)
     ∙ ap (λ b. eqb (min (bit_at word i) b) 1) (bit_at_not w64 other i fits low)
     ∙ both_bits (bit_at word i) (bit_at other i) (bit_at-lt word i) (bit_at-lt other i)
 
-pub beyond_is : (words others : List ℕ) → ((i : ℕ) → get_or others i 0 < 2 ^ 64) → beyond (bits_of words) (bits_of others) ≡ bits_of (words_beyond words others)
+pub beyond_is : (words others : List ℕ) → ((i : ℕ) → get_or others i 0 < 2 ^ 64)
+    → beyond (bits_of words) (bits_of others) ≡ bits_of (words_beyond words others)
 beyond_is words others fits =
     sym (same_bits (words_beyond words others) (beyond (bits_of words) (bits_of others))
     (omega (arith, length-words_beyond words others, length-beyond (bits_of words) (bits_of others), length-bits_of words))
@@ -98,5 +101,6 @@ neither true true h k = refl
 neither true false h k = absurd (false≢true (sym h))
 neither false b h k = absurd (false≢true k)
 
-pub kept_there : (places others : List Bool) (s : ℕ) → is_in (beyond places others) s ≡ false → is_in places s ≡ true → is_in others s ≡ true
+pub kept_there : (places others : List Bool) (s : ℕ) → is_in (beyond places others) s ≡ false → is_in places s ≡ true
+    → is_in others s ≡ true
 kept_there places others s h k = neither (is_in places s) (is_in others s) (sym (in_beyond places others s) ∙ h) k

@@ -1,5 +1,6 @@
 -- The set bits of a word, counted.
-use Rattle.std.proofs.Common.{◌≡◌, ℕ, zero, suc, ◌+◌, ◌*◌, ◌/◌, ◌%◌, ◌^◌, ◌<◌, ◌≤◌, Bool, cond, eqb, List, length, get_or, refl, ◌∙◌, ap, arith, mod-eq_of_lt, mod-lt, pow_pos}
+use Rattle.std.proofs.Common.{◌≡◌, ℕ, zero, suc, ◌+◌, ◌*◌, ◌/◌, ◌%◌, ◌^◌, ◌<◌, ◌≤◌, Bool, cond, eqb, List, length, get_or, refl, ◌∙◌, ap}
+use Rattle.std.proofs.Common.{arith, mod-eq_of_lt, mod-lt, pow_pos}
 use Rattle.std.proofs.lemmas.Nat.{mod-pow-add}
 use Rattle.std.specs.Int.{bit_at}
 use Rattle.std.specs.Int.Count.{ones, ones_cat}
@@ -24,7 +25,8 @@ ones_more w j =
     ∙ ap (λ x. x + ones (w % 2 ^ j)) (ones_of_bit (bit_at w j) (omega arith))
 
 -- the first j bits of word i
-counted : (words : List ℕ) (i j : ℕ) → j ≤ 64 → length (slots_below (64 * i + j) (bits_of words)) ≡ length (slots_below (64 * i) (bits_of words)) + ones (get_or words i 0 % 2 ^ j)
+counted : (words : List ℕ) (i j : ℕ) → j ≤ 64 → length (slots_below (64 * i + j) (bits_of words)) ≡ length
+    (slots_below (64 * i) (bits_of words)) + ones (get_or words i 0 % 2 ^ j)
 counted words i zero h =
     let e : 64 * i + 0 ≡ 64 * i = omega arith in
     let none : get_or words i 0 % 2 ^ 0 ≡ 0 = omega arith in
@@ -46,7 +48,8 @@ counted words i (suc j) h =
     omega (arith, s, one, count-suc (64 * i + j) (bits_of words), counted words i j (omega arith), ones_more (get_or words i 0) j)
 
 -- a whole word more
-pub counted_word : (words : List ℕ) (i n c : ℕ) → get_or words i 0 < 2 ^ 64 → n ≡ ones (get_or words i 0) → c ≡ length (slots_below (64 * i) (bits_of words))
+pub counted_word : (words : List ℕ) (i n c : ℕ) → get_or words i 0 < 2 ^ 64 → n ≡ ones (get_or words i 0)
+    → c ≡ length (slots_below (64 * i) (bits_of words))
     → (c + n ≡ length (slots_below (64 * (i + 1)) (bits_of words))) × (c + n ≤ 64 * (i + 1))
 counted_word words i n c fits is so =
     let e : 64 * (i + 1) ≡ 64 * i + 64 = omega arith in

@@ -1,5 +1,6 @@
 -- The words up to the last that is not 0.
-use Rattle.std.proofs.Common.{◌≡◌, ◌≢◌, ℕ, ◌+◌, ◌-◌, ◌*◌, ◌/◌, ◌%◌, ◌^◌, ◌<◌, ◌≤◌, true, false, eqb, List, length, get_or, take, sym, ◌∙◌, ap, arith, w64}
+use Rattle.std.proofs.Common.{◌≡◌, ◌≢◌, ℕ, ◌+◌, ◌-◌, ◌*◌, ◌/◌, ◌%◌, ◌^◌, ◌<◌, ◌≤◌, true, false, eqb, List, length, get_or, take, sym, ◌∙◌}
+use Rattle.std.proofs.Common.{ap, arith, w64}
 use Rattle.std.proofs.lemmas.List.{get_or-take, length-take-le}
 use Rattle.std.proofs.lemmas.Nat.Bits.{bit_at-trailing_zeros, bit_at-zero}
 use Rattle.std.specs.Int.{trailing_zeros}
@@ -28,10 +29,12 @@ module _ (words : List ℕ) (n : ℕ) (so : IsTrimmedLen words n) where
   long = length-take-le n words so.within
 
   same_below : (k : ℕ) → k < 64 * n → is_in (bits_of (take n words)) k ≡ is_in (bits_of words) k
-  same_below k low = place_is (take n words) k ∙ ap (λ x. is_bit x (k % 64)) (get_or-take n words (k / 64) 0 (omega arith)) ∙ sym (place_is words k)
+  same_below k low = place_is (take n words) k ∙ ap (λ x. is_bit x (k % 64)) (get_or-take n words (k / 64) 0 (omega arith))
+      ∙ sym (place_is words k)
 
   none_cut : (k : ℕ) → 64 * n ≤ k → is_in (bits_of words) k ≡ false
-  none_cut k high = place_is words k ∙ ap (λ x. is_bit x (k % 64)) (so.zeros (k / 64) (omega arith)) ∙ ap (λ x. eqb x 1) (bit_at-zero (k % 64))
+  none_cut k high = place_is words k ∙ ap (λ x. is_bit x (k % 64)) (so.zeros (k / 64) (omega arith))
+      ∙ ap (λ x. eqb x 1) (bit_at-zero (k % 64))
 
   places_left : length (bits_of (take n words)) ≡ 64 * n
   places_left = length-bits_of (take n words) ∙ ap (λ x. 64 * x) long
@@ -40,7 +43,8 @@ module _ (words : List ℕ) (n : ℕ) (so : IsTrimmedLen words n) where
   trimmed_slots =
       ap (λ x. slots_below x (bits_of (take n words))) places_left
       ∙ slots_below_agree (64 * n) (bits_of (take n words)) (bits_of words) same_below
-      ∙ sym (slots_below_same (64 * n) (length (bits_of words)) (bits_of words) (let w = so.within in omega (arith, length-bits_of words)) (λ k a b. none_cut k a))
+      ∙ sym (slots_below_same (64 * n) (length (bits_of words)) (bits_of words) (let w = so.within in omega (arith, length-bits_of words))
+      (λ k a b. none_cut k a))
 
   pub trimmed_is : IsTrimmed (bits_of (take n words))
   trimmed_is = record {

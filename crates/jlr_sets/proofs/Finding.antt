@@ -1,5 +1,6 @@
 -- The first set place in the words.
-use Rattle.std.proofs.Common.{◌≡◌, ℕ, ◌+◌, ◌-◌, ◌*◌, ◌/◌, ◌%◌, ◌^◌, ◌<◌, ◌≤◌, Bool, true, false, eqb, List, length, get_or, sym, ◌∙◌, ap, subst, inl, inr, arith, w64, shr-shr}
+use Rattle.std.proofs.Common.{◌≡◌, ℕ, ◌+◌, ◌-◌, ◌*◌, ◌/◌, ◌%◌, ◌^◌, ◌<◌, ◌≤◌, Bool, true, false, eqb, List, length, get_or, sym, ◌∙◌, ap}
+use Rattle.std.proofs.Common.{subst, inl, inr, arith, w64, shr-shr}
 use Rattle.std.proofs.lemmas.Bool.{cases_lt}
 use Rattle.std.proofs.lemmas.Nat.Bits.{bit_at-trailing_zeros, bit_at_above, bit_at-zero}
 use Rattle.std.proofs.Math.Nat.{div-le_self, div-one}
@@ -12,7 +13,8 @@ use Rattle.jlr_sets.proofs.Bits.{place_is, bit_of_past}
 shifted : (word s i : ℕ) → bit_at (word / 2 ^ s) i ≡ bit_at word (s + i)
 shifted word s i = ap (λ x. x % 2) (shr-shr word s i)
 
-module _ (words : List ℕ) (from rest : ℕ) (fits : get_or words (from / 64) 0 < 2 ^ 64) (is : rest ≡ get_or words (from / 64) 0 / 2 ^ (from % 64)) where
+module _ (words : List ℕ) (from rest : ℕ) (fits : get_or words (from / 64) 0 < 2 ^ 64)
+    (is : rest ≡ get_or words (from / 64) 0 / 2 ^ (from % 64)) where
   word : ℕ
   word = get_or words (from / 64) 0
 
@@ -26,7 +28,11 @@ module _ (words : List ℕ) (from rest : ℕ) (fits : get_or words (from / 64) 0
   in_rest t set =
       let bit : bit_at (get_or words (from / 64) 0) (from % 64 + t) ≡ 1 = sym (rest_at t) ∙ set in
       let low : from % 64 + t < 64 =
-      elim (cases_lt (from % 64 + t) 64) [ inl l ↦ l | inr high ↦ (let none = bit_at_above (get_or words (from / 64) 0) 64 (from % 64 + t) fits high in absurd (omega arith)) ] in
+      elim (cases_lt (from % 64 + t) 64) [
+        | inl l ↦ l
+        | inr high ↦
+            (let none = bit_at_above (get_or words (from / 64) 0) 64 (from % 64 + t) fits high in absurd (omega arith))
+      ] in
       let row : (from + t) / 64 ≡ from / 64 = omega arith in
       let column : (from + t) % 64 ≡ from % 64 + t = omega arith in (
         low,
@@ -63,7 +69,8 @@ module _ (words : List ℕ) (from rest : ℕ) (fits : get_or words (from / 64) 0
   none_left none k a b = not_in_rest k a (omega arith) (ap (λ x. bit_at x (k - from)) none ∙ bit_at-zero (k - from))
 
 -- none up to the middle, and then the first
-pub further : (places : List Bool) (from mid slot : ℕ) → from ≤ mid → NoneBetween places from mid → IsFirstFrom places mid slot → IsFirstFrom places from slot
+pub further : (places : List Bool) (from mid slot : ℕ) → from ≤ mid → NoneBetween places from mid → IsFirstFrom places mid slot
+    → IsFirstFrom places from slot
 further places from mid slot le none first =
     let l = first.at_least in
     record {
@@ -73,7 +80,8 @@ further places from mid slot le none first =
     }
 
 -- none up to the end of the words
-pub none_at_all : (words : List ℕ) (from at : ℕ) → length words ≤ at → NoneBetween (bits_of words) from (64 * at) → NoneFrom (bits_of words) from
+pub none_at_all : (words : List ℕ) (from at : ℕ) → length words ≤ at → NoneBetween (bits_of words) from (64 * at)
+    → NoneFrom (bits_of words) from
 none_at_all words from at past none k a = elim (cases_lt k (64 * at)) [
   | inl low ↦ none k a low
   | inr high ↦ place_is words k ∙ bit_of_past words k (omega arith)
@@ -83,7 +91,8 @@ pub none_past : (words : List ℕ) (from : ℕ) → length words ≤ from / 64 �
 none_past words from past k a = place_is words k ∙ bit_of_past words k (omega arith)
 
 -- the first of a later word
-pub found_in_word : (words : List ℕ) (from at word : ℕ) → from ≤ 64 * at → NoneBetween (bits_of words) from (64 * at) → word ≡ get_or words at 0 → word < 2 ^ 64 → 0 < word
+pub found_in_word : (words : List ℕ) (from at word : ℕ) → from ≤ 64 * at → NoneBetween (bits_of words) from (64 * at)
+    → word ≡ get_or words at 0 → word < 2 ^ 64 → 0 < word
     → IsFirstFrom (bits_of words) from (at * 64 + trailing_zeros w64 word)
 found_in_word words from at word le none read fits some =
     let row : 64 * at / 64 ≡ at = omega arith in
@@ -101,7 +110,8 @@ none_in_word words from at word none read zero k a b = elim (cases_lt k (64 * at
   | inl low ↦ none k a low
   | inr high ↦
       let row : k / 64 ≡ at = omega arith in
-      place_is words k ∙ ap (λ x. is_bit (get_or words x 0) (k % 64)) row ∙ ap (λ x. is_bit x (k % 64)) (sym read ∙ zero) ∙ ap (λ x. eqb x 1) (bit_at-zero (k % 64))
+      place_is words k ∙ ap (λ x. is_bit (get_or words x 0) (k % 64)) row ∙ ap (λ x. is_bit x (k % 64)) (sym read ∙ zero)
+      ∙ ap (λ x. eqb x 1) (bit_at-zero (k % 64))
 ]
 
 pub rest_fits : (word s : ℕ) → word < 2 ^ 64 → word / 2 ^ s < 2 ^ 64

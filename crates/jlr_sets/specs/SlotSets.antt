@@ -1,5 +1,6 @@
 -- Sets of slots: a place for each, and the slots whose places are set.
-use Rattle.std.specs.Prelude.{◌≡◌, ℕ, ◌+◌, ◌*◌, ◌^◌, ◌%◌, ◌<◌, ◌≤◌, Bool, true, false, not, ◌&&◌, List, Option, length, map, slice_index_or, MatchOption}
+use Rattle.std.specs.Prelude.{◌≡◌, ℕ, ◌+◌, ◌*◌, ◌^◌, ◌%◌, ◌<◌, ◌≤◌, Bool, true, false, not, ◌&&◌, List, Option, length}
+use Rattle.std.specs.Prelude.{map, slice_index_or, MatchOption}
 use Rattle.std.specs.List.{range_with_len, filter}
 use Rattle.std.specs.Int.{div_ceil}
 

@@ -1,5 +1,6 @@
 //! A set of slots, a bit for each.
-ghost use Rattle.std.specs.Prelude.{◌≡◌, ℕ, ◌^◌, ◌<◌, ◌≤◌, ◌↔◌, true, false, not, length, replicate, IfOk, IsTrue, slice_set};
+ghost use Rattle.std.specs.Prelude.{◌≡◌, ℕ, ◌^◌, ◌<◌, ◌≤◌, ◌↔◌, true, false, not, length, replicate, IfOk, IsTrue};
+ghost use Rattle.std.specs.Prelude.{slice_set};
 ghost use Rattle.jlr_sets.specs.SlotSets.{absent, slots_of, places_for, is_in, beyond, FindsFirst, IsTrimmed};
 
 use crate::words;

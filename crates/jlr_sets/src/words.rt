@@ -100,7 +100,8 @@ pub(crate) fn first_absent_from(words: &[u64], from: usize) -> Option<usize>
 
 /// Writes these words in place of the first ones, as many as there is room for.
 pub(crate) fn overwrite(words: &mut [u64], first: &[u64])
-    ensures first { (k : ℕ) → k < length first.now → k < length words.old → slice_index_or words.new k 0 ≡ slice_index_or first.now k 0 }
+    ensures first { (k : ℕ) → k < length first.now → k < length words.old
+        → slice_index_or words.new k 0 ≡ slice_index_or first.now k 0 }
     ensures rest { (k : ℕ) → length first.now ≤ k → slice_index_or words.new k 0 ≡ slice_index_or words.old k 0 }
     ensures long { length words.new ≡ length words.old }
 {

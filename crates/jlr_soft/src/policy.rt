@@ -31,8 +31,8 @@ impl Policy {
 
     /// Whether a soft reference keeps its referent in a collection.
     ///
-    /// `cycle` is how many collections have finished so far, and `last_get` is that number when the reference was made or
-    /// last gave its referent, so it is at most `cycle`.
+    /// `cycle` is how many collections have finished so far, and `last_get` is that number when the reference was made
+    /// or last gave its referent, so it is at most `cycle`.
     pub fn keeps(&self, last_get: u64, cycle: u64) -> bool
         ensures { result ≡ is_kept_in self.now.mode self.now.soft_age last_get cycle }
     {

@@ -13,6 +13,7 @@ turn_by (Refused by) = turn.Refused
 turn_by answer = turn.Worked
 
 -- a turn, or the ask that was refused
-abbrev pub IsTurn : {H R : Type 0} → (H → Event R → Reply R → H → Type 0) → (H → H → Type 0) → Event R → Turn → H → H → Type 0
+abbrev pub IsTurn : {H R : Type 0} → (H → Event R → Reply R → H → Type 0) → (H → H → Type 0) → Event R → Turn → H → H
+    → Type 0
 IsTurn {H} {R} asks works event turn.Worked old new = works old new
 IsTurn {H} {R} asks works event turn.Refused old new = (last : Reply R) × asks old event last new × was_refused last

@@ -1,5 +1,5 @@
--- What follows each reply, over whatever answers the asks: the handler hands over until nothing is pending, and then the cleaner works until
--- its line is empty. Neither asks where there is nothing to do.
+-- What follows each reply, over whatever answers the asks: the handler hands over until nothing is pending, and then
+-- the cleaner works until its line is empty. Neither asks where there is nothing to do.
 use Rattle.std.specs.Prelude.{◌≡◌, ◌≢◌, ◌⊎◌, ℕ, List, [], ◌∷◌, Some, Ok}
 use Rattle.jlr_machine.specs.declared.ask.Handed.{Handed as HandedOver}
 use Rattle.jlr_machine.specs.declared.ask.Handed.TheVariants.{Nothing}
@@ -45,7 +45,8 @@ pub record TurnsToTheEnd {H : Type 0} (turn : H → H → Type 0) (left : H → 
   pub nothing_left : left new ≡ []
 
 -- turns, and then an ask that was refused, while something was left to do
-pub record TurnsUntilRefused {H R : Type 0} (asks : H → Event R → Reply R → H → Type 0) (turn : H → H → Type 0) (event : Event R) (left : H → List ℕ) (old new : H) : Type 0 where
+pub record TurnsUntilRefused {H R : Type 0} (asks : H → Event R → Reply R → H → Type 0) (turn : H → H → Type 0)
+    (event : Event R) (left : H → List ℕ) (old new : H) : Type 0 where
   pub states : List H
   pub before : H
   pub last : Reply R
@@ -57,7 +58,8 @@ pub record TurnsUntilRefused {H R : Type 0} (asks : H → Event R → Reply R �
 module _ {H R : Type 0} (helpers : Helpers H R) where
   -- a turn of the handler, where something is pending: a step took something off the pending list
   abbrev pub HandsOver : H → H → Type 0
-  HandsOver old new = (helpers.pending old ≢ []) × (reply : Reply R) × helpers.hands old (Asks HandOver) reply new × TookOne reply
+  HandsOver old new = (helpers.pending old ≢ []) × (reply : Reply R) × helpers.hands old (Asks HandOver) reply new
+      × TookOne reply
 
   abbrev pub HandsAllOver : H → H → Type 0
   HandsAllOver = TurnsToTheEnd HandsOver helpers.pending
@@ -70,16 +72,20 @@ module _ {H R : Type 0} (helpers : Helpers H R) (resource : Handling R) where
   -- the cleaner, which is 255, took a job up, its work was done, and its outcome told
   abbrev pub DoesJob : H → H → Type 0
   DoesJob old new = (reply : Reply R) × (job : Job R) × (between : H) × (finish : Event R) × (told : Reply R)
-      × helpers.cleans old (Asks TakeUp) reply between × (job_by reply ≡ Ok job) × TellsFinished resource 255 job finish × helpers.cleans between finish told new
+      × helpers.cleans old (Asks TakeUp) reply between × (job_by reply ≡ Ok job) × TellsFinished resource 255 job finish
+      × helpers.cleans between finish told new
 
   -- a turn of the cleaner, where its line is not empty: a job, or none of the line was Lined
   abbrev pub Works : H → H → Type 0
-  Works old new = (helpers.line old ≢ []) × (DoesJob old new ⊎ ((reply : Reply R) × helpers.cleans old (Asks TakeUp) reply new × FoundNothing reply))
+  Works old new = (helpers.line old ≢ []) × (DoesJob old new
+      ⊎ ((reply : Reply R) × helpers.cleans old (Asks TakeUp) reply new × FoundNothing reply))
 
   -- until the line is empty, or a take-up is refused
   abbrev pub Cleans : H → H → Type 0
-  Cleans old new = TurnsToTheEnd Works helpers.line old new ⊎ TurnsUntilRefused helpers.cleans Works (Asks TakeUp) helpers.line old new
+  Cleans old new = TurnsToTheEnd Works helpers.line old new
+      ⊎ TurnsUntilRefused helpers.cleans Works (Asks TakeUp) helpers.line old new
 
   -- the handler's turns until nothing is pending, and then the cleaner's; or until the handler is refused
   abbrev pub Settles : H → H → Type 0
-  Settles old new = ((between : H) × HandsAllOver helpers old between × Cleans between new) ⊎ CannotHandOver helpers old new
+  Settles old new = ((between : H) × HandsAllOver helpers old between × Cleans between new)
+      ⊎ CannotHandOver helpers old new

@@ -28,8 +28,8 @@ use std::marker::Model;
 /// In whose name the cleaner takes jobs up.
 const CLEANER: u8 = 255;
 
-/// A book that one session has for itself: mutator 0 asks, and after each reply the handler and the cleaner do what is due. Contracts see the
-/// book.
+/// A book that one session has for itself: mutator 0 asks, and after each reply the handler and the cleaner do what is
+/// due. Contracts see the book.
 #[derive(Drop)]
 pub struct Solo<R> {
     book: Book<R>,
@@ -120,7 +120,8 @@ impl<R: Resource + Drop> Solo<R> {
     fn hand_over(&mut self) -> Turn
         requires { self.old.core.machine.pending ≢ [] }
         ensures turn { IsTurn at_book.hands (HandsOver at_book) (Asks HandOver) result self.old self.new }
-        ensures shorter { result ≡ Turn.Worked → length self.new.core.machine.pending < length self.old.core.machine.pending }
+        ensures shorter { result ≡ Turn.Worked → length self.new.core.machine.pending < length
+            self.old.core.machine.pending }
     {
         let seat = self.handler();
         self.book.is_history();
@@ -135,7 +136,8 @@ impl<R: Resource + Drop> Solo<R> {
     fn hand_over_at_length(&mut self) -> Turn
         requires { self.old.core.machine.pending ≢ [] }
         ensures turn { IsTurn at_book.hands (HandsOver at_book) (Asks HandOver) result self.old self.new }
-        ensures shorter { result ≡ Turn.Worked → length self.new.core.machine.pending < length self.old.core.machine.pending }
+        ensures shorter { result ≡ Turn.Worked → length self.new.core.machine.pending < length
+            self.old.core.machine.pending }
     {
         let seat = self.handler();
         match self.step(seat, Event::ask(Ask::HandOver)) {
@@ -160,7 +162,8 @@ impl<R: Resource + Drop> Solo<R> {
     #[inline(never)]
     fn clean(&mut self) -> Turn
         requires { self.old.core.machine.line ≢ [] }
-        ensures turn { IsTurn at_book.cleans (Works at_book R.handling) (Event.Ask Ask.TakeUp) result self.old self.new }
+        ensures turn { IsTurn at_book.cleans (Works at_book R.handling) (Event.Ask Ask.TakeUp) result self.old
+            self.new }
         ensures shorter { result ≡ Turn.Worked → length self.new.core.machine.line < length self.old.core.machine.line }
     {
         let seat = self.cleaner();
@@ -180,7 +183,8 @@ impl<R: Resource + Drop> Solo<R> {
     #[inline(never)]
     fn clean_at_length(&mut self) -> Turn
         requires { self.old.core.machine.line ≢ [] }
-        ensures turn { IsTurn at_book.cleans (Works at_book R.handling) (Event.Ask Ask.TakeUp) result self.old self.new }
+        ensures turn { IsTurn at_book.cleans (Works at_book R.handling) (Event.Ask Ask.TakeUp) result self.old
+            self.new }
         ensures shorter { result ≡ Turn.Worked → length self.new.core.machine.line < length self.old.core.machine.line }
     {
         let seat = self.cleaner();
@@ -218,7 +222,8 @@ impl<R: Resource + Drop> Port<R> for Solo<R> {
     }
 
     fn read_room(&self, guard: Handle) -> Result<ReadRoom, Refusal>
-        ensures declined { IfErr result (λ by. BookSteps 0 self.now (Asks (CheckOut 0 guard)) (Answered (Refused by) None) self.now) }
+        ensures declined { IfErr result (λ by. BookSteps 0 self.now (Asks (CheckOut 0 guard))
+            (Answered (Refused by) None) self.now) }
     {
         let _declined = guard;
         match ReadRoom::new(self.book.alloc()) {

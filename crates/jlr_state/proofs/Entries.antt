@@ -1,5 +1,7 @@
 -- Legal entries, from what an ask did.
-use Rattle.std.proofs.Common.{◌≡◌, ◌+◌, ◌&&◌, ◌||◌, ◌==◌, zero, suc, ℕ, ◌<◌, Bool, true, false, not, List, [], ◌∷◌, length, replicate, Option, Some, None, Result, Ok, Err, IsTrue, is_some, is_none, refl, sym, ◌∙◌, ap, subst, arith, find, cond, map, option_and_then}
+use Rattle.std.proofs.Common.{◌≡◌, ◌+◌, ◌&&◌, ◌||◌, ◌==◌, zero, suc, ℕ, ◌<◌, Bool, true, false, not, List, [], ◌∷◌, length, replicate}
+use Rattle.std.proofs.Common.{Option, Some, None, Result, Ok, Err, IsTrue, is_some, is_none, refl, sym, ◌∙◌, ap, subst, arith, find, cond}
+use Rattle.std.proofs.Common.{map, option_and_then}
 use Rattle.std.proofs.lemmas.Bool.{both_ways, le-leb, ne_eqb}
 use Rattle.std.proofs.lemmas.List.Sums.{count_by-le-length}
 use Rattle.jlr_types.specs.declared.FieldKind.{FieldKind}
@@ -15,7 +17,10 @@ use Rattle.jlr_machine.specs.declared.object.RefState.TheVariants.{Fresh}
 use Rattle.jlr_machine.specs.declared.machine.Machine.{Machine}
 use Rattle.jlr_machine.specs.declared.machine.Session.{Session}
 use Rattle.jlr_machine.specs.declared.ask.Ask.{Ask}
-use Rattle.jlr_machine.specs.declared.ask.Ask.TheVariants.{Join, Leave, New, Put, Get, SetInt, Int, Dup, Drop, Same, MakeRef, Deref, Refers, Clear, Enqueue, Enqueued, MakeCleaner, MakeQueue, Poll, Register, Clean, Prepare, Opened, CheckOut, CheckIn, Close, Finish, Remove, Bind, Find, Unbind, Names, HandOver, TakeUp, Full, Stat, Notes, Faults, Begin, Abandon, Array}
+use Rattle.jlr_machine.specs.declared.ask.Ask.TheVariants.{Join, Leave, New, Put, Get, SetInt, Int, Dup, Drop, Same, MakeRef, Deref, Refers}
+use Rattle.jlr_machine.specs.declared.ask.Ask.TheVariants.{Clear, Enqueue, Enqueued, MakeCleaner, MakeQueue, Poll, Register, Clean, Prepare}
+use Rattle.jlr_machine.specs.declared.ask.Ask.TheVariants.{Opened, CheckOut, CheckIn, Close, Finish, Remove, Bind, Find, Unbind, Names}
+use Rattle.jlr_machine.specs.declared.ask.Ask.TheVariants.{HandOver, TakeUp, Full, Stat, Notes, Faults, Begin, Abandon, Array}
 use Rattle.jlr_machine.specs.declared.ask.FullMode.{FullMode}
 use Rattle.jlr_machine.specs.declared.ask.FullMode.TheVariants.{Policy, ClearAll}
 use Rattle.jlr_machine.specs.declared.ask.Answer.{Answer}
@@ -24,7 +29,8 @@ use Rattle.jlr_machine.specs.declared.entry.Chosen.{Chosen}
 use Rattle.jlr_machine.specs.declared.entry.Collected.{Collected}
 use Rattle.jlr_machine.specs.Objects.{Heap, at, occupied, some_and, Table}
 use Rattle.jlr_machine.specs.Lookups.{blank, with_handle, with_new, resource_at, slot_named, has_free_handle, object_named}
-use Rattle.jlr_machine.specs.Refusals.{refusal, cells_needed, is_joined, has_call, is_any, applies, is_of_wrong_kind, listed, object_or_null, is_queue}
+use Rattle.jlr_machine.specs.Refusals.{refusal, cells_needed, is_joined, has_call, is_any, applies, is_of_wrong_kind, listed}
+use Rattle.jlr_machine.specs.Refusals.{object_or_null, is_queue}
 use Rattle.jlr_machine.specs.Calls.{reply, after, new_handle}
 use Rattle.jlr_machine.specs.Choices.{Choosing}
 use Rattle.jlr_machine.specs.Collection.{after_collection}
@@ -43,7 +49,8 @@ use Rattle.jlr_state.specs.Collecting.{MakesRoom, MayMakeRoom, Allocates, FindsN
 pub meets_refused : (m : Machine) (ask : Ask) (r : Refusal) → refusal m ask ≡ Some r → Meets m ask (Refused r) no_choice m
 meets_refused m ask r e = record { legal = refused (record { by = r; first = e; answers = refl; nothing = refl }); applied = refl }
 
-pub meets_full : (m : Machine) (cells : ℕ) (ask : Ask) (new : Choosing) (n : Machine) → refusal m ask ≡ None → cells_needed ask ≡ cells → FindsNoRoom m cells new n → Meets m ask (Refused HeapFull) new.chosen n
+pub meets_full : (m : Machine) (cells : ℕ) (ask : Ask) (new : Choosing) (n : Machine) → refusal m ask ≡ None → cells_needed ask ≡ cells
+    → FindsNoRoom m cells new n → Meets m ask (Refused HeapFull) new.chosen n
 meets_full m cells ask new n e one f =
     record {
       legal = heap_full (record {
@@ -67,7 +74,8 @@ room_for_none m = le-leb (occupied m.objects + 0) (length m.objects) (omega (ari
 pub none_fresh : (heap : Heap) → IsFresh heap 0 []
 none_fresh heap = record { count = refl; free = refl; distinct = refl }
 
-no_refusal_carried : (m : Machine) (ask : Ask) (a : Answer) (fresh : List ℕ) → is_refusal a ≡ false → carried m ask a fresh ≡ after m ask a fresh
+no_refusal_carried : (m : Machine) (ask : Ask) (a : Answer) (fresh : List ℕ) → is_refusal a ≡ false
+    → carried m ask a fresh ≡ after m ask a fresh
 no_refusal_carried m ask (Refused by) fresh h = absurd (both_ways true h refl)
 no_refusal_carried m ask a fresh h = refl
 
@@ -76,10 +84,16 @@ carried_on : (m : Machine) (ask : Ask) (a : Answer) (fresh : List ℕ) → reply
 carried_on m ask a fresh e = no_refusal_carried m ask a fresh (gives_no_refusal m ask a e)
 
 -- an ask that makes no object and collects nothing
-pub meets_plainly : (m : Machine) (ask : Ask) (a : Answer) (n : Machine) → refusal m ask ≡ None → MayCollect m ask None → cells_needed ask ≡ 0 → Answers m ask None a → reply m ask ≡ Some a → n ≡ after m ask a [] → Meets m ask a no_choice n
+pub meets_plainly : (m : Machine) (ask : Ask) (a : Answer) (n : Machine) → refusal m ask ≡ None → MayCollect m ask None
+    → cells_needed ask ≡ 0 → Answers m ask None a → reply m ask ≡ Some a → n ≡ after m ask a [] → Meets m ask a no_choice n
 meets_plainly m ask a n e collection none answers r l =
     record {
-      legal = carried_out (record { allowed = e; collection = collection; fresh = subst (λ k. IsFresh m.objects k []) (sym none) (none_fresh m.objects); answers = answers });
+      legal = carried_out (record {
+        allowed = e;
+        collection = collection;
+        fresh = subst (λ k. IsFresh m.objects k []) (sym none) (none_fresh m.objects);
+        answers = answers;
+      });
       applied = l ∙ sym (carried_on m ask a [] r);
     }
 
@@ -120,7 +134,8 @@ IsPlain (Unbind k name) = Unit {0}
 IsPlain (Names k) = Unit {0}
 IsPlain _ = ⊥
 
-plainly : (m n : Machine) (ask : Ask) (a : Answer) → IsPlain ask → refusal m ask ≡ None → reply m ask ≡ Some a → n ≡ after m ask a [] → Meets m ask a no_choice n
+plainly : (m n : Machine) (ask : Ask) (a : Answer) → IsPlain ask → refusal m ask ≡ None → reply m ask ≡ Some a → n ≡ after m ask a []
+    → Meets m ask a no_choice n
 plainly m n (Join k) a p e r l = meets_plainly m (Join k) a n e (room_for_none m) refl r r l
 plainly m n (Leave k) a p e r l = meets_plainly m (Leave k) a n e (room_for_none m) refl r r l
 plainly m n (Put k h f v) a p e r l = meets_plainly m (Put k h f v) a n e (room_for_none m) refl r r l
@@ -156,7 +171,8 @@ plainly m n (Unbind k name) a p e r l = meets_plainly m (Unbind k name) a n e (r
 plainly m n (Names k) a p e r l = meets_plainly m (Names k) a n e (room_for_none m) refl r r l
 plainly m n _ a p e r l = absurd p
 
-pub meets_plain : (m n : Machine) (ask : Ask) (a : Answer) → IsPlain ask → refusal m ask ≡ None → reply m ask ≡ Some a → n ≡ after m ask a [] → Meets m ask a no_choice n
+pub meets_plain : (m n : Machine) (ask : Ask) (a : Answer) → IsPlain ask → refusal m ask ≡ None → reply m ask ≡ Some a
+    → n ≡ after m ask a [] → Meets m ask a no_choice n
 meets_plain m n ask a p e r l = plainly m n ask a p e r l
 
 -- an ask that chooses nothing, as it was answered
@@ -179,7 +195,8 @@ found_holds p (y ∷ xs) x e =
 
 pub never_memory : (m : Machine) (ask : Ask) (r : Refusal) → applies m ask NoMemory ≡ false → refusal m ask ≡ Some r → r ≡ NoMemory → ⊥
 never_memory m ask r never first same =
-    both_ways (applies m ask NoMemory) never (found_holds (applies m ask) (listed ask) NoMemory (first ∙ ap {A = Refusal} {B = Option Refusal} Some same))
+    both_ways (applies m ask NoMemory) never (found_holds (applies m ask) (listed ask) NoMemory
+    (first ∙ ap {A = Refusal} {B = Option Refusal} Some same))
 
 -- ---- A full collection that is asked for
 
@@ -187,15 +204,26 @@ answers : (m : Machine) (k : ℕ) (mode : FullMode) (c : Option Collected) → A
 answers m k Policy c = refl
 answers m k ClearAll c = refl
 
-pub meets_collection : (m : Machine) (k : ℕ) (mode : FullMode) (c : Collected) (new : Choosing) (n : Machine) → refusal m (Full k mode) ≡ None → new.chosen ≡ record { collected = Some c; fresh = [] } → MayCollect m (Full k mode) (Some c) → n ≡ after_collection m c.kept c.pending → Meets m (Full k mode) Done new.chosen n
+pub meets_collection : (m : Machine) (k : ℕ) (mode : FullMode) (c : Collected) (new : Choosing) (n : Machine)
+    → refusal m (Full k mode) ≡ None → new.chosen ≡ record { collected = Some c; fresh = [] } → MayCollect m (Full k mode) (Some c)
+    → n ≡ after_collection m c.kept c.pending → Meets m (Full k mode) Done new.chosen n
 meets_collection m k mode c new n e chosen may l =
     let chosen_there : Chosen = record { collected = Some c; fresh = [] } in
     subst (λ x. Meets m (Full k mode) Done x n) (sym chosen)
-    (record { legal = carried_out (record { allowed = e; collection = may; fresh = none_fresh (after_collection m c.kept c.pending).objects; answers = answers m k mode (Some c) }); applied = l })
+    (record {
+      legal = carried_out (record {
+        allowed = e;
+        collection = may;
+        fresh = none_fresh (after_collection m c.kept c.pending).objects;
+        answers = answers m k mode (Some c);
+      });
+      applied = l;
+    })
 
 -- ---- A new object
 
-may_collect_reference : (m : Machine) (k : ℕ) (kind : RefKind) (h q : ℕ) (o : Option Collected) → MayMakeRoom m 1 o → MayCollect m (MakeRef k kind h q) o
+may_collect_reference : (m : Machine) (k : ℕ) (kind : RefKind) (h q : ℕ) (o : Option Collected) → MayMakeRoom m 1 o
+    → MayCollect m (MakeRef k kind h q) o
 may_collect_reference m k kind h q None r = r
 may_collect_reference m k kind h q (Some c) r = r
 
@@ -224,7 +252,8 @@ pub meets_made :
     → ((c : Option Collected) → MayMakeRoom m 1 c → MayCollect m ask c)
     → cells_needed ask ≡ 1
     → ((x : Machine) → x.mutators ≡ m.mutators → new_handle x k ≡ Some a → Answers x ask new.chosen.collected a × (reply x ask ≡ Some a))
-    → ((x : Machine) → x.mutators ≡ m.mutators → x.next_action ≡ m.next_action → after x ask a (slot ∷ []) ≡ more (with_handle (with_new x slot o) k slot))
+    → ((x : Machine) → x.mutators ≡ m.mutators → x.next_action ≡ m.next_action
+    → after x ask a (slot ∷ []) ≡ more (with_handle (with_new x slot o) k slot))
     → Allocates m o new slot mid → new_handle mid k ≡ Some a → n ≡ more (with_handle mid k slot) → Meets m ask a new.chosen n
 meets_made m mid n ask k slot o new a more e collects one answers leaves x handle left =
     let y : Machine = with_collection m new.chosen.collected in
@@ -235,7 +264,8 @@ meets_made m mid n ask k slot o new a more e collects one answers leaves x handl
       legal = carried_out (record {
         allowed = e;
         collection = collects new.chosen.collected x.asked;
-        fresh = subst (λ c. IsFresh y.objects c new.chosen.fresh) (sym one) (subst (λ l. IsFresh y.objects 1 l) (sym x.fresh) (one_fresh y.objects slot x.inside x.free));
+        fresh = subst (λ c. IsFresh y.objects c new.chosen.fresh) (sym one)
+            (subst (λ l. IsFresh y.objects 1 l) (sym x.fresh) (one_fresh y.objects slot x.inside x.free));
         answers = r.0;
       });
       applied =
@@ -281,13 +311,18 @@ allowed_full m k mode j b =
 pub allowed_reference :
     (m : Machine) (k : ℕ) (kind : RefKind) (h q : ℕ) → is_joined m k ≡ true
     → (not (h == 0) && is_none (slot_named m k h)) ≡ false → (not (q == 0) && is_none (slot_named m k q)) ≡ false
-    → (h == 0) ≡ false → some_and (λ o. not (is_queue o)) (object_named m k q) ≡ false → has_call m k ≡ false → has_free_handle m k ≡ true → refusal m (MakeRef k kind h q) ≡ None
+    → (h == 0) ≡ false → some_and (λ o. not (is_queue o)) (object_named m k q) ≡ false → has_call m k ≡ false → has_free_handle m k ≡ true
+    → refusal m (MakeRef k kind h q) ≡ None
 allowed_reference m k kind h q j uh uq nh nq b f =
     let p = applies m (MakeRef k kind h q) in
     skip p NoSession (NoHandle ∷ Null ∷ WrongKind ∷ Busy ∷ HandlesFull ∷ HeapFull ∷ []) None (ap not j)
-    (skip p NoHandle (Null ∷ WrongKind ∷ Busy ∷ HandlesFull ∷ HeapFull ∷ []) None (ap (λ b. b || (not (q == 0) && is_none (slot_named m k q) || false)) uh ∙ ap (λ b. b || false) uq)
-    (skip p Null (WrongKind ∷ Busy ∷ HandlesFull ∷ HeapFull ∷ []) None (ap (λ b. (b && true) || ((q == 0) && false || false)) nh ∙ and_or_false (q == 0))
-    (skip p WrongKind (Busy ∷ HandlesFull ∷ HeapFull ∷ []) None (ap (λ b. b || (is_of_wrong_kind m k (object_or_null q is_queue) || false)) (no_kind (object_named m k h)) ∙ ap (λ b. b || false) nq)
+    (skip p NoHandle (Null ∷ WrongKind ∷ Busy ∷ HandlesFull ∷ HeapFull ∷ []) None
+    (ap (λ b. b || (not (q == 0) && is_none (slot_named m k q) || false)) uh ∙ ap (λ b. b || false) uq)
+    (skip p Null (WrongKind ∷ Busy ∷ HandlesFull ∷ HeapFull ∷ []) None
+    (ap (λ b. (b && true) || ((q == 0) && false || false)) nh ∙ and_or_false (q == 0))
+    (skip p WrongKind (Busy ∷ HandlesFull ∷ HeapFull ∷ []) None
+    (ap (λ b. b || (is_of_wrong_kind m k (object_or_null q is_queue) || false)) (no_kind (object_named m k h))
+    ∙ ap (λ b. b || false) nq)
     (skip p Busy (HandlesFull ∷ HeapFull ∷ []) None b
     (skip p HandlesFull (HeapFull ∷ []) None (ap not f)
     (skip p HeapFull [] None refl refl))))))
@@ -360,7 +395,8 @@ may_collect_array m k n (Some c) r = r
 pub meets_new_array :
     (m mid n : Machine) (k size slot : ℕ) (elements : List (Option ℕ)) (new : Choosing) (a : Answer)
     → is_joined m k ≡ true → has_call m k ≡ false → has_free_handle m k ≡ true → elements ≡ replicate size None
-    → Allocates m (Plain (Elements elements)) new slot mid → new_handle mid k ≡ Some a → n ≡ with_handle mid k slot → Meets m (Array k size) a new.chosen n
+    → Allocates m (Plain (Elements elements)) new slot mid → new_handle mid k ≡ Some a → n ≡ with_handle mid k slot
+    → Meets m (Array k size) a new.chosen n
 meets_new_array m mid n k size slot elements new a joined calls room null x handle left =
     meets_new m mid n (Array k size) k slot (Plain (Elements (replicate size None))) new a
     (allowed_alone m k (Array k size) refl refl refl refl refl joined calls room)
@@ -368,15 +404,22 @@ meets_new_array m mid n k size slot elements new a joined calls room null x hand
     (subst (λ l. Allocates m (Plain (Elements l)) new slot mid) null x) handle left
 
 pub meets_new_reference :
-    (m mid n : Machine) (k slot : ℕ) (kind : RefKind) (h q target : ℕ) (queue : Option ℕ) (new : Choosing) (a : Answer) → refusal m (MakeRef k kind h q) ≡ None
+    (m mid n : Machine) (k slot : ℕ) (kind : RefKind) (h q target : ℕ) (queue : Option ℕ) (new : Choosing) (a : Answer)
+    → refusal m (MakeRef k kind h q) ≡ None
     → slot_named m k h ≡ Some target → slot_named m k q ≡ queue
-    → Allocates m (Reference (record { kind = kind; referent = Some target; queue = queue; state = Fresh })) new slot mid → new_handle mid k ≡ Some a → n ≡ with_handle mid k slot → Meets m (MakeRef k kind h q) a new.chosen n
+    → Allocates m (Reference (record { kind = kind; referent = Some target; queue = queue; state = Fresh })) new slot mid
+    → new_handle mid k ≡ Some a → n ≡ with_handle mid k slot → Meets m (MakeRef k kind h q) a new.chosen n
 meets_new_reference m mid n k slot kind h q target queue new a e named in_queue x handle left =
-    meets_new m mid n (MakeRef k kind h q) k slot (Reference (record { kind = kind; referent = Some target; queue = queue; state = Fresh })) new a e (may_collect_reference m k kind h q) refl (λ y s h. (h, h))
+    meets_new m mid n (MakeRef k kind h q) k slot (Reference (record { kind = kind; referent = Some target; queue = queue; state = Fresh }))
+    new a e (may_collect_reference m k kind h q) refl (λ y s h. (h, h))
     (λ y s.
     let lookup : ℕ → Table Session → Option ℕ = λ i t. option_and_then (λ z. at z.handles i) (at t k) in
-    ap {A = Option ℕ} {B = Machine} (λ r. with_handle (with_new y slot (Reference (record { kind = kind; referent = r; queue = slot_named y k q; state = Fresh }))) k slot) (ap (lookup h) s ∙ named)
-    ∙ ap {A = Option ℕ} {B = Machine} (λ r. with_handle (with_new y slot (Reference (record { kind = kind; referent = Some target; queue = r; state = Fresh }))) k slot) (ap (lookup q) s ∙ in_queue)) x handle left
+    ap {A = Option ℕ} {B = Machine} (λ r. with_handle
+    (with_new y slot (Reference (record { kind = kind; referent = r; queue = slot_named y k q; state = Fresh }))) k slot)
+    (ap (lookup h) s ∙ named)
+    ∙ ap {A = Option ℕ} {B = Machine} (λ r. with_handle
+    (with_new y slot (Reference (record { kind = kind; referent = Some target; queue = r; state = Fresh }))) k slot)
+    (ap (lookup q) s ∙ in_queue)) x handle left
 
 -- ---- A registered action
 
@@ -388,15 +431,20 @@ may_collect_register m k d h note None r = r
 may_collect_register m k d h note (Some c) r = r
 
 pub meets_registered :
-    (m mid n : Machine) (k slot d h note target : ℕ) (new : Choosing) (a : Answer) → refusal m (Register k d h note) ≡ None → slot_named m k h ≡ Some target
-    → Allocates m (Cleanable (record { referent = Some target; action = m.next_action; work = Note note; state = Armed })) new slot mid → new_handle mid k ≡ Some a → n ≡ with_handle (record mid { next_action = mid.next_action + 1 }) k slot
+    (m mid n : Machine) (k slot d h note target : ℕ) (new : Choosing) (a : Answer) → refusal m (Register k d h note) ≡ None
+    → slot_named m k h ≡ Some target
+    → Allocates m (Cleanable (record { referent = Some target; action = m.next_action; work = Note note; state = Armed })) new slot mid
+    → new_handle mid k ≡ Some a → n ≡ with_handle (record mid { next_action = mid.next_action + 1 }) k slot
     → Meets m (Register k d h note) a new.chosen n
 meets_registered m mid n k slot d h note target new a e named x handle left =
-    meets_made m mid n (Register k d h note) k slot (armed m.next_action (Some target) note) new a (λ z. record z { next_action = z.next_action + 1 }) e (may_collect_register m k d h note) refl (λ y s g. (g, g))
+    meets_made m mid n (Register k d h note) k slot (armed m.next_action (Some target) note) new a
+    (λ z. record z { next_action = z.next_action + 1 }) e (may_collect_register m k d h note) refl (λ y s g. (g, g))
     (λ y s t.
     let lookup : Table Session → Option ℕ = λ table. option_and_then (λ z. at z.handles h) (at table k) in
-    ap {A = Option ℕ} {B = Machine} (λ r. record (with_handle (with_new y slot (armed y.next_action r note)) k slot) { next_action = y.next_action + 1 }) (ap lookup s ∙ named)
-    ∙ ap {A = ℕ} {B = Machine} (λ number. record (with_handle (with_new y slot (armed number (Some target) note)) k slot) { next_action = y.next_action + 1 }) t)
+    ap {A = Option ℕ} {B = Machine} (λ r. record (with_handle (with_new y slot (armed y.next_action r note)) k
+    slot) { next_action = y.next_action + 1 }) (ap lookup s ∙ named)
+    ∙ ap {A = ℕ} {B = Machine} (λ number. record (with_handle (with_new y slot (armed number (Some target) note)) k
+    slot) { next_action = y.next_action + 1 }) t)
     x handle left
 
 -- ---- The start of an open
@@ -409,7 +457,8 @@ two_fresh : (heap : Heap) (s t : ℕ) → AreFree heap s t → IsFresh heap 2 (s
 two_fresh heap s t f =
     record {
       count = refl;
-      free = ap (λ b. b && (is_free heap t && true)) (free_there heap s f.first_within f.first) ∙ ap (λ b. b && true) (free_there heap t f.second_within f.second);
+      free = ap (λ b. b && (is_free heap t && true)) (free_there heap s f.first_within f.first)
+          ∙ ap (λ b. b && true) (free_there heap t f.second_within f.second);
       distinct = ap (λ b. not (b || false) && true) (ne_eqb s t f.apart);
     }
 

@@ -7,7 +7,7 @@ use Rattle.jlr_machine.specs.declared.entry.Collected.{Collected}
 use Rattle.jlr_machine.specs.Objects.{occupied}
 use Rattle.jlr_machine.specs.Choices.{Choosing}
 use Rattle.jlr_machine.specs.Run.{with_collection}
-use Rattle.jlr_laws.proofs.CollectionKept.{length_left}
+use Rattle.jlr_laws.proofs.ObjectLeft.{length_left}
 use Rattle.jlr_state.specs.Collecting.{MayMakeRoom, MakesRoom, FindsNoRoom}
 
 chosen_is : (c : Chosen) (x : Option Collected) → c.collected ≡ x → c.fresh ≡ [] → c ≡ record { collected = x; fresh = [] }
@@ -15,12 +15,15 @@ chosen_is c x e f =
     ap {A = Option Collected} {B = Chosen} (λ y. record { collected = y; fresh = c.fresh }) e
     ∙ ap {A = List ℕ} {B = Chosen} (λ y. record { collected = x; fresh = y }) f
 
-pub finds_no_room : (m : Machine) (cells : ℕ) (old new : Choosing) (n : Machine) → MakesRoom m cells old new n → length n.objects < occupied n.objects + cells → FindsNoRoom m cells new n
+pub finds_no_room : (m : Machine) (cells : ℕ) (old new : Choosing) (n : Machine) → MakesRoom m cells old new n
+    → length n.objects < occupied n.objects + cells → FindsNoRoom m cells new n
 finds_no_room m cells old new n r few =
-    elim (new.chosen.collected) as (λ o. new.chosen.collected ≡ o → MayMakeRoom m cells o → n ≡ with_collection m o → FindsNoRoom m cells new n) [
+    elim (new.chosen.collected) as (λ o. new.chosen.collected ≡ o → MayMakeRoom m cells o → n ≡ with_collection m o
+    → FindsNoRoom m cells new n) [
       | None ↦ λ e a l.
           let room = leb-true (occupied m.objects + cells) (length m.objects) a in
-          let same : length m.objects < occupied m.objects + cells = subst (λ h. length h < occupied h + cells) (ap (λ (x : Machine). x.objects) l) few in
+          let same : length m.objects < occupied m.objects + cells =
+          subst (λ h. length h < occupied h + cells) (ap (λ (x : Machine). x.objects) l) few in
           absurd (omega (arith, room, same))
       | Some c ↦ λ e a l.
           record {

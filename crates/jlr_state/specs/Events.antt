@@ -3,7 +3,8 @@ use Rattle.std.specs.Prelude.{◌≡◌, ◌<◌, ◌≤◌, ◌^◌, Bool, Opti
 use Rattle.jlr_types.specs.declared.Refusal.TheVariants.{NoMemory}
 use Rattle.jlr_machine.specs.declared.machine.Machine.{Machine}
 use Rattle.jlr_machine.specs.declared.ask.Ask.{Ask}
-use Rattle.jlr_machine.specs.declared.ask.Ask.TheVariants.{Array, Bind, CheckIn, CheckOut, Clean, Close, Faults, Names, Notes, Opened, Prepare, TakeUp}
+use Rattle.jlr_machine.specs.declared.ask.Ask.TheVariants.{Array, Bind, CheckIn, CheckOut, Clean, Close, Faults, Names}
+use Rattle.jlr_machine.specs.declared.ask.Ask.TheVariants.{Notes, Opened, Prepare, TakeUp}
 use Rattle.jlr_machine.specs.declared.ask.Answer.{Answer}
 use Rattle.jlr_machine.specs.declared.ask.Answer.TheVariants.{Refused}
 use Rattle.jlr_machine.specs.declared.entry.Chosen.{Chosen}
@@ -29,8 +30,9 @@ carries_none ask = true
 abbrev pub HasRoom : {R : Type 0} → Resources R → Type 0
 HasRoom t = (length (resources t) < t.room) × (t.next < 2 ^ 32)
 
--- The asks that may find no memory in a machine with this table, each where no refusal of its list holds: the table has no room for one
--- resource more, a list that is not empty is copied, the elements of an array are asked for, or a name is new
+-- The asks that may find no memory in a machine with this table, each where no refusal of its list holds: the table has
+-- no room for one resource more, a list that is not empty is copied, the elements of an array are asked for, or a name
+-- is new
 abbrev pub MayWantMemory : {R : Type 0} → Machine → Resources R → Ask → Type 0
 MayWantMemory m t (Prepare k) = (refusal m (Prepare k) ≡ None) × ¬ (HasRoom t)
 MayWantMemory m t (Names k) = (refusal m (Names k) ≡ None) × (1 ≤ length m.names)
@@ -64,7 +66,8 @@ entry_with None answer chosen = None
 
 -- an event and its reply are an entry that is legal in m and leads to n; a piece of marking is none, and leaves m
 abbrev pub Enters : Machine → Option Ask → Option Answer → Chosen → Machine → Type 0
-Enters m (Some ask) (Some answer) chosen n = IsLegal m (entry_of ask answer chosen) × (n ≡ apply m (entry_of ask answer chosen))
+Enters m (Some ask) (Some answer) chosen n = IsLegal m (entry_of ask answer chosen)
+    × (n ≡ apply m (entry_of ask answer chosen))
 Enters m (Some ask) None chosen n = ⊥
 Enters m None (Some answer) chosen n = ⊥
 Enters m None None chosen n = (chosen ≡ no_choice) × (n ≡ m)

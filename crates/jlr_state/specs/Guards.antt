@@ -32,10 +32,12 @@ pub record IsGuardNamed (m : Machine) (k h : ℕ) (held : Guarded) : Type 0 wher
   pub named : slot_named m k h ≡ Some held.slot
   pub guard : at m.objects held.slot ≡ Some (Guard held.guard)
 
--- there is a Spent cleanable at the slot: the resource that it finishes is closed or closing, whatever resource now has its Rid
+-- there is a Spent cleanable at the slot: the resource that it finishes is closed or closing, whatever resource now has
+-- its Rid
 abbrev pub is_spent_at : Machine → ℕ → Bool
 is_spent_at m s = some_and (λ c. is_spent c.state) (cleanable_at m s)
 
 -- where an unspent cleanable is at the slot, the resource that is its work lies in the table
 abbrev pub IsIdleAt : Machine → ℕ → Type 0
-IsIdleAt m s = (c : CleanableOf) → IsCleanableAt m s c → c.state ≢ Spent → (rid : ℕ) → c.work ≡ WorkOn rid → HasResource m rid c.action Idle
+IsIdleAt m s = (c : CleanableOf) → IsCleanableAt m s c → c.state ≢ Spent → (rid : ℕ) → c.work ≡ WorkOn rid
+    → HasResource m rid c.action Idle

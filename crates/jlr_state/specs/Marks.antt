@@ -1,5 +1,6 @@
 -- What an event does to the marks.
-use Rattle.std.specs.Prelude.{◌≡◌, ◌↔◌, ◌⊎◌, ◌+◌, ◌-◌, ℕ, Bool, true, false, length, Option, Some, None, is_some, slice_get}
+use Rattle.std.specs.Prelude.{◌≡◌, ◌↔◌, ◌⊎◌, ◌+◌, ◌-◌, ℕ, Bool, true, false, length, Option, Some, None, is_some}
+use Rattle.std.specs.Prelude.{slice_get}
 use Rattle.jlr_types.specs.declared.Progress.{Progress}
 use Rattle.jlr_types.specs.declared.Progress.TheVariants.{Idle}
 use Rattle.jlr_machine.specs.declared.machine.Machine.{Machine}
@@ -28,7 +29,8 @@ use Rattle.jlr_event.specs.Events.{ask_of}
 abbrev pub IsFromMarks : Machine → Marking → ℕ → Type 0
 IsFromMarks m marking s = (x : ℕ) × ((x ∈ roots m) ⊎ IsMarked marking x) × Reaches UpToSoft m.objects x s
 
--- where a cycle is open afterwards, strong and soft edges led before to what is marked then, from a root or from what was marked, or it is a root
+-- where a cycle is open afterwards, strong and soft edges led before to what is marked then, from a root or from what
+-- was marked, or it is a root
 abbrev pub MarksReached : Machine → Marking → Machine → Marking → Type 0
 MarksReached m old n new = n.cycle_open ≡ true → (s : ℕ) → IsMarked new s → IsFromMarks m old s ⊎ (s ∈ roots n)
 
@@ -42,7 +44,8 @@ pub record MarksStay (old new : Marking) : Type 0 where
 abbrev pub BlackensOnly : ℕ → Marking → Marking → Type 0
 BlackensOnly n old new = Blackens n old new × MarksStay old new
 
--- What an ask that opens no cycle does to the marks. Where a cycle is open afterwards, it blackens just the objects that it makes
+-- What an ask that opens no cycle does to the marks. Where a cycle is open afterwards, it blackens just the objects
+-- that it makes
 pub record MarksNew (m : Machine) (old : Marking) (chosen : Chosen) (n : Machine) (new : Marking) : Type 0 where
   pub reached : MarksReached m old n new
   pub blackens : n.cycle_open ≡ true → BlackensOnly (length chosen.fresh) old new
@@ -73,11 +76,13 @@ blackened old new = (marked new + length old.grey) - (marked old + length new.gr
 abbrev pub ticks_between : Heap → Marking → Marking → ℕ
 ticks_between heap old new = spent heap new - spent heap old
 
--- In an open cycle it ticks once for each part of an object that it follows, by the soft policy, and sweeps nothing. Without one it is idle, the marks
--- stay as they are, and so many condemned cells become free, or all where there are no more
+-- In an open cycle it ticks once for each part of an object that it follows, by the soft policy, and sweeps nothing.
+-- Without one it is idle, the marks stay as they are, and so many condemned cells become free, or all where there are
+-- no more
 abbrev pub MarksPiece : ℕ → ℕ → Clock → Machine → Marking → ℕ → Progress → Marking → ℕ → Type 0
 MarksPiece budget soft_age clock m old condemned progress new left = elim m.cycle_open [
-  | true ↦ MarksOn (keeps (record { soft_age = soft_age; mode = Policy }) clock) m.objects budget (ticks_between m.objects old new) progress old new × (left ≡ condemned)
+  | true ↦ MarksOn (keeps (record { soft_age = soft_age; mode = Policy }) clock) m.objects budget
+      (ticks_between m.objects old new) progress old new × (left ≡ condemned)
   | false ↦ (progress ≡ Idle) × (new ≡ old) × (left ≡ condemned - budget)
 ]
 
@@ -91,11 +96,14 @@ budget_of _ = None
 -- a piece of marking is answered as far as it came
 abbrev pub MarksBy : {R : Type 0} → Option ℕ → ℕ → Clock → Machine → Marking → ℕ → Reply R → Marking → ℕ → Type 0
 MarksBy None soft_age clock m old condemned reply new left = Unit {0}
-MarksBy (Some budget) soft_age clock m old condemned reply new left = (progress : Progress) × (reply ≡ Marked progress) × MarksPiece budget soft_age clock m old condemned progress new left
+MarksBy (Some budget) soft_age clock m old condemned reply new left = (progress : Progress) × (reply ≡ Marked progress)
+    × MarksPiece budget soft_age clock m old condemned progress new left
 
--- an event that is no piece of marking, and opens no cycle, blackens just the objects that it makes, where a cycle is open afterwards
+-- an event that is no piece of marking, and opens no cycle, blackens just the objects that it makes, where a cycle is
+-- open afterwards
 abbrev pub BlackensNew : {R : Type 0} → Event R → Machine → Marking → Chosen → Machine → Marking → Type 0
-BlackensNew event m old chosen n new = budget_of event ≡ None → (ask_of event ≡ Some Begin → m.cycle_open ≡ true) → n.cycle_open ≡ true → BlackensOnly (length chosen.fresh) old new
+BlackensNew event m old chosen n new = budget_of event ≡ None → (ask_of event ≡ Some Begin → m.cycle_open ≡ true)
+    → n.cycle_open ≡ true → BlackensOnly (length chosen.fresh) old new
 
 -- a Begin where no cycle is open
 abbrev pub Begins : Option Ask → Machine → Machine → Marking → Type 0

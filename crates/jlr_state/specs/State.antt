@@ -1,5 +1,6 @@
 -- The machine that a core's state is, and what an ask did to it.
-use Rattle.std.specs.Prelude.{◌≡◌, ℕ, Bool, true, false, cond, is_some, List, [], length, Option, Some, None, Result, Ok, Err, MatchResult}
+use Rattle.std.specs.Prelude.{◌≡◌, ℕ, Bool, true, false, cond, is_some, List, [], length, Option, Some, None, Result}
+use Rattle.std.specs.Prelude.{Ok, Err, MatchResult}
 use Rattle.jlr_types.specs.declared.FieldValue.{FieldValue}
 use Rattle.jlr_types.specs.declared.FieldValue.TheVariants.{Int, Ref}
 use Rattle.jlr_types.specs.declared.Refusal.{Refusal}
@@ -21,8 +22,8 @@ use Rattle.jlr_machine.specs.Run.{IsLegal, done, empty}
 use Rattle.jlr_cycles.specs.Laws.{with_seen}
 use Rattle.jlr_cleaner.specs.Cleanings.{Cleanings, machine_with as with_cleanings}
 
--- what a core keeps beside its heap, in a machine that is empty otherwise: its jobs and what became of others, its files and sockets, and
--- whether a cycle is open
+-- what a core keeps beside its heap, in a machine that is empty otherwise: its jobs and what became of others, its
+-- files and sockets, and whether a cycle is open
 abbrev pub frame : {R : Type 0} → Cleanings R → Bool → Machine
 frame c cycle_open = with_cleanings c (record (empty 0 0 0) { cycle_open = cycle_open })
 
@@ -51,9 +52,10 @@ pub record Meets (m : Machine) (ask : Ask) (answer : Answer) (chosen : Chosen) (
 abbrev pub marked_in : Machine → Marking → List ℕ
 marked_in m marking = cond m.cycle_open (marked_below marking (length m.objects)) []
 
--- a Collect: a legal entry of the machine in which just what is marked was seen. A law says that it is legal, then, in each machine for which
--- the core stands
-pub record MeetsSeen (m : Machine) (marking : Marking) (ask : Ask) (answer : Answer) (chosen : Chosen) (n : Machine) : Type 0 where
+-- a Collect: a legal entry of the machine in which just what is marked was seen. A law says that it is legal, then, in
+-- each machine for which the core stands
+pub record MeetsSeen (m : Machine) (marking : Marking) (ask : Ask) (answer : Answer) (chosen : Chosen)
+    (n : Machine) : Type 0 where
   pub legal : IsLegal (with_seen m (marked_in m marking)) (entry_of ask answer chosen)
   pub applied : n ≡ with_seen (done m (entry_of ask answer chosen)) []
 
@@ -62,7 +64,8 @@ is_collect Collect = true
 is_collect _ = false
 
 abbrev pub MeetsAsk : Machine → Marking → Ask → Answer → Chosen → Machine → Type 0
-MeetsAsk m marking ask answer chosen n = elim (is_collect ask) [ true ↦ MeetsSeen m marking ask answer chosen n | false ↦ Meets m ask answer chosen n ]
+MeetsAsk m marking ask answer chosen n =
+    elim (is_collect ask) [ true ↦ MeetsSeen m marking ask answer chosen n | false ↦ Meets m ask answer chosen n ]
 
 -- an ask that chooses nothing: it was carried out, or refused by the first refusal whose condition holds
 abbrev pub Answered : Machine → Ask → Result Answer Refusal → Machine → Type 0

@@ -33,7 +33,8 @@ impl<R> State<R> {
         requires fit { IsWellFormed (machine_of self.old) }
         requires nothing { choice.old ≡ nothing_chosen choice.old.cells }
         requires room { length self.old.heap.graph.objects ≤ choice.old.cells }
-        ensures collects { Collects (keeps (record { soft_age = self.old.soft_age; mode = mode }) self.old.heap.clock) (machine_of self.old) choice.old choice.new (machine_of self.new) }
+        ensures collects { Collects (keeps (record { soft_age = self.old.soft_age; mode = mode }) self.old.heap.clock)
+            (machine_of self.old) choice.old choice.new (machine_of self.new) }
         ensures clock { self.new.heap.clock ≡ counted self.old.heap.clock }
         ensures room { choice.new.cells ≡ choice.old.cells }
         ensures cells { length self.new.heap.graph.objects ≡ length self.old.heap.graph.objects }
@@ -63,22 +64,26 @@ impl<R> State<R> {
         }
     }
 
-    /// A new object in a free cell, after a full collection where none is free; refused where that leaves none free. What it refers to is
-    /// held by a mutator.
+    /// A new object in a free cell, after a full collection where none is free; refused where that leaves none free.
+    /// What it refers to is held by a mutator.
     pub fn allocate(&mut self, shape: Shape, choice: &mut Choice) -> Result<Slot, Refusal>
         requires fit { IsWellFormed (machine_of self.old) }
         requires nothing { choice.old ≡ nothing_chosen choice.old.cells }
         requires room { length self.old.heap.graph.objects ≤ choice.old.cells }
-        requires held { (s : ℕ) → s ∈ (strong_edges (object_of shape) ++ option_to_list (any_referent (object_of shape))) → s ∈ slots_held self.old.heap.graph.mutators }
-        ensures allocates { IfOk result (λ slot. Allocates (machine_of self.old) (object_of shape) choice.new slot (machine_of self.new)) }
+        requires held { (s : ℕ) → s ∈ (strong_edges (object_of shape)
+            ++ option_to_list (any_referent (object_of shape))) → s ∈ slots_held self.old.heap.graph.mutators }
+        ensures allocates { IfOk result (λ slot. Allocates (machine_of self.old) (object_of shape) choice.new slot
+            (machine_of self.new)) }
         ensures clock { self.new.heap.clock ≡ after_choice choice.new.chosen self.old.heap.clock }
         ensures black { IfOk result (λ slot. IsMarked self.new.heap.marking slot) }
-        ensures full { IfErr result (λ r. (r ≡ Refusal.HeapFull) × FindsNoRoom (machine_of self.old) 1 choice.new (machine_of self.new)) }
+        ensures full { IfErr result (λ r. (r ≡ Refusal.HeapFull)
+            × FindsNoRoom (machine_of self.old) 1 choice.new (machine_of self.new)) }
         ensures room { choice.new.cells ≡ choice.old.cells }
         ensures cells { length self.new.heap.graph.objects ≡ length self.old.heap.graph.objects }
         ensures age { self.new.soft_age ≡ self.old.soft_age }
         ensures cleaner { self.new.cleaner ≡ self.old.cleaner }
-        ensures one { IfOk result (λ slot. BlackensMade choice.new.chosen slot self.old.heap.marking self.new.heap.marking) }
+        ensures one { IfOk result (λ slot. BlackensMade choice.new.chosen slot self.old.heap.marking
+            self.new.heap.marking) }
     {
         self.make_room(1, choice);
         let Some(slot) = self.heap.allocate(shape) else {
@@ -98,15 +103,18 @@ impl<R> State<R> {
         requires nothing { choice.old ≡ nothing_chosen choice.old.cells }
         requires room { length self.old.heap.graph.objects ≤ choice.old.cells }
         requires null { (s : ℕ) → s ∈ slots_in (ElementsOf elements) → ⊥ }
-        ensures allocates { IfOk result (λ slot. Allocates (machine_of self.old) (Plain (ElementsOf elements)) choice.new slot (machine_of self.new)) }
+        ensures allocates { IfOk result (λ slot. Allocates (machine_of self.old) (Plain (ElementsOf elements))
+            choice.new slot (machine_of self.new)) }
         ensures clock { self.new.heap.clock ≡ after_choice choice.new.chosen self.old.heap.clock }
         ensures black { IfOk result (λ slot. IsMarked self.new.heap.marking slot) }
-        ensures full { IfErr result (λ r. (r ≡ Refusal.HeapFull) × FindsNoRoom (machine_of self.old) 1 choice.new (machine_of self.new)) }
+        ensures full { IfErr result (λ r. (r ≡ Refusal.HeapFull)
+            × FindsNoRoom (machine_of self.old) 1 choice.new (machine_of self.new)) }
         ensures room { choice.new.cells ≡ choice.old.cells }
         ensures cells { length self.new.heap.graph.objects ≡ length self.old.heap.graph.objects }
         ensures age { self.new.soft_age ≡ self.old.soft_age }
         ensures cleaner { self.new.cleaner ≡ self.old.cleaner }
-        ensures one { IfOk result (λ slot. BlackensMade choice.new.chosen slot self.old.heap.marking self.new.heap.marking) }
+        ensures one { IfOk result (λ slot. BlackensMade choice.new.chosen slot self.old.heap.marking
+            self.new.heap.marking) }
     {
         self.make_room(1, choice);
         let Ok(slot) = self.heap.allocate_array(elements) else {
@@ -126,15 +134,18 @@ impl<R> State<R> {
         requires fit { IsWellFormed (machine_of self.old) }
         requires nothing { choice.old ≡ nothing_chosen choice.old.cells }
         requires room { length self.old.heap.graph.objects ≤ choice.old.cells }
-        ensures meets { Meets (machine_of self.old) (Ask.Full by mode) (answer_of result) choice.new.chosen (machine_of self.new) }
+        ensures meets { Meets (machine_of self.old) (Ask.Full by mode) (answer_of result) choice.new.chosen
+            (machine_of self.new) }
         ensures memory { answer_of result ≡ Answer.Refused Refusal.NoMemory → ⊥ }
         ensures room { choice.new.cells ≡ choice.old.cells }
         ensures cells { length self.new.heap.graph.objects ≡ length self.old.heap.graph.objects }
         ensures age { self.new.soft_age ≡ self.old.soft_age }
         ensures cleaner { self.new.cleaner ≡ self.old.cleaner }
         ensures clock { self.new.heap.clock ≡ after_choice choice.new.chosen self.old.heap.clock }
-        ensures policy { KeepsIn (mode_of mode) self.old.soft_age self.old.heap.clock (machine_of self.old) choice.new.chosen }
-        ensures marks { MarksNew (machine_of self.old) self.old.heap.marking choice.new.chosen (machine_of self.new) self.new.heap.marking }
+        ensures policy { KeepsIn (mode_of mode) self.old.soft_age self.old.heap.clock (machine_of self.old)
+            choice.new.chosen }
+        ensures marks { MarksNew (machine_of self.old) self.old.heap.marking choice.new.chosen (machine_of self.new)
+            self.new.heap.marking }
     {
         self.check_session(by)?;
         self.check_no_call(by)?;

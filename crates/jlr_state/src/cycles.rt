@@ -24,7 +24,8 @@ impl<R> State<R> {
         ensures cleaner { self.new.cleaner ≡ self.old.cleaner }
         ensures graph { self.new.heap.graph ≡ self.old.heap.graph }
         ensures clock { self.new.heap.clock ≡ self.old.heap.clock }
-        ensures reached { MarksReached (machine_of self.old) self.old.heap.marking (machine_of self.new) self.new.heap.marking }
+        ensures reached { MarksReached (machine_of self.old) self.old.heap.marking (machine_of self.new)
+            self.new.heap.marking }
         ensures begins { self.old.cycle_open ≡ false → BeginsCycle (machine_of self.new) self.new.heap.marking }
         ensures stays { self.old.cycle_open ≡ true → self.new.heap.marking ≡ self.old.heap.marking }
     {
@@ -48,8 +49,8 @@ impl<R> State<R> {
         was_open
     }
 
-    /// A piece of the marking of an open cycle, by the soft policy: at most so many ticks. Answers how far it is. Where no cycle is open, condemned
-    /// cells are swept: so many, or all where there are no more.
+    /// A piece of the marking of an open cycle, by the soft policy: at most so many ticks. Answers how far it is. Where
+    /// no cycle is open, condemned cells are swept: so many, or all where there are no more.
     pub fn mark(&mut self, budget: u32) -> Progress
         requires { IsWellFormed (machine_of self.old) }
         ensures machine { machine_of self.new ≡ machine_of self.old }
@@ -57,8 +58,10 @@ impl<R> State<R> {
         ensures cleaner { self.new.cleaner ≡ self.old.cleaner }
         ensures graph { self.new.heap.graph ≡ self.old.heap.graph }
         ensures clock { self.new.heap.clock ≡ self.old.heap.clock }
-        ensures reached { MarksReached (machine_of self.old) self.old.heap.marking (machine_of self.new) self.new.heap.marking }
-        ensures piece { MarksPiece budget self.old.soft_age self.old.heap.clock (machine_of self.old) self.old.heap.marking self.old.heap.condemned result self.new.heap.marking self.new.heap.condemned }
+        ensures reached { MarksReached (machine_of self.old) self.old.heap.marking (machine_of self.new)
+            self.new.heap.marking }
+        ensures piece { MarksPiece budget self.old.soft_age self.old.heap.clock (machine_of self.old)
+            self.old.heap.marking self.old.heap.condemned result self.new.heap.marking self.new.heap.condemned }
     {
         if !self.cycle_open {
             jlr_sweep::sweep(&mut self.heap, budget);
@@ -69,12 +72,14 @@ impl<R> State<R> {
         jlr_marker::mark(&mut self.heap, self.cycle_open, &policy, &mut meter, budget)
     }
 
-    /// The collection of an open cycle in which all is marked. It keeps what is marked, and closes the cycle. Answers whether there was one.
+    /// The collection of an open cycle in which all is marked. It keeps what is marked, and closes the cycle. Answers
+    /// whether there was one.
     pub fn collect_cycle(&mut self, choice: &mut Choice) -> bool
         requires fit { IsWellFormed (machine_of self.old) }
         requires nothing { choice.old ≡ nothing_chosen choice.old.cells }
         requires room { length self.old.heap.graph.objects ≤ choice.old.cells }
-        ensures meets { MeetsSeen (machine_of self.old) self.old.heap.marking Ask.Collect (Answer.Truth result) choice.new.chosen (machine_of self.new) }
+        ensures meets { MeetsSeen (machine_of self.old) self.old.heap.marking Ask.Collect (Answer.Truth result)
+            choice.new.chosen (machine_of self.new) }
         ensures answer { result ≡ (self.old.cycle_open && not (has_grey self.old.heap.marking)) }
         ensures kept { KeepsMarked (machine_of self.old) self.old.heap.marking choice.new.chosen }
         ensures room { choice.new.cells ≡ choice.old.cells }

@@ -38,15 +38,17 @@ impl<R> State<R> {
         }
     }
 
-    /// A mutator without a call takes up the action of a cleanable whose resource, if its work is one, lies here, unless it was taken up
-    /// before. The job is its call then.
+    /// A mutator without a call takes up the action of a cleanable whose resource, if its work is one, lies here,
+    /// unless it was taken up before. The job is its call then.
     pub fn start_job(&mut self, by: Mutator, slot: Slot) -> Option<Job<R>>
         requires fit { IsWellFormed (machine_of self.old) }
         requires free { IsFreeMutator (machine_of self.old) by }
         requires idle { IsIdleAt (machine_of self.old) slot }
         requires waits { AllWait (machine_of self.old) self.old.cleaner.waiting }
-        ensures cleaned { machine_of self.new ≡ cleaned (machine_of self.old) by slot (cleanable_at (machine_of self.old) slot) }
-        ensures answer { (c : Cleanable) → at self.old.heap.graph.objects slot ≡ Some (object.Cleanable c) → take_up_answer c ≡ started_answer result }
+        ensures cleaned { machine_of self.new ≡ cleaned (machine_of self.old) by slot
+            (cleanable_at (machine_of self.old) slot) }
+        ensures answer { (c : Cleanable) → at self.old.heap.graph.objects slot ≡ Some (object.Cleanable c)
+            → take_up_answer c ≡ started_answer result }
         ensures flow { Conserves None self.old.cleaner.table (job_resource result) self.new.cleaner.table }
         ensures moves { Moves None self.old.cleaner.table (job_resource result) self.new.cleaner.table }
         ensures goes_out { GoesOut self.old.cleaner.table None (Some (started_answer result)) (job_resource result) }
@@ -66,7 +68,8 @@ impl<R> State<R> {
         Some(job)
     }
 
-    /// The action of a cleanable that was not taken up before is taken up by a mutator without a call. The cleanable is Spent then.
+    /// The action of a cleanable that was not taken up before is taken up by a mutator without a call. The cleanable is
+    /// Spent then.
     fn take_up_at(&mut self, by: Mutator, slot: Slot, cleanable: Cleanable) -> Job<R>
         requires fit { IsWellFormed (machine_of self.old) }
         requires there { at self.old.heap.graph.objects slot ≡ Some (object.Cleanable cleanable) }

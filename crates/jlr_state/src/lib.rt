@@ -1,4 +1,5 @@
-//! What a core keeps, with what most asks need: checks, collections, and new objects; cycles; and the asks on files and sockets.
+//! What a core keeps, with what most asks need: checks, collections, and new objects; cycles; and the asks on files and
+//! sockets.
 #![tactic(auto)]
 
 mod collect;

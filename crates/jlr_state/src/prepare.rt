@@ -27,7 +27,9 @@ impl<R> State<R> {
     /// A file or socket may be opened, as far as no memory is concerned.
     fn check_prepare(&self, by: Mutator) -> Result<(), Refusal>
         ensures { MatchResult result
-            (λ _. (refusal (machine_of self.now) (Ask.Prepare by) ≡ None) × (is_joined (machine_of self.now) by ≡ true) × (nat_le self.now.cleaner.table.limit (length (resources self.now.cleaner.table)) ≡ false) × (nat_le (2 ^ 64 - 1) self.now.cleaner.next_action ≡ false))
+            (λ _. (refusal (machine_of self.now) (Ask.Prepare by) ≡ None) × (is_joined (machine_of self.now) by ≡ true)
+            × (nat_le self.now.cleaner.table.limit (length (resources self.now.cleaner.table)) ≡ false)
+            × (nat_le (2 ^ 64 - 1) self.now.cleaner.next_action ≡ false))
             (λ r. refusal (machine_of self.now) (Ask.Prepare by) ≡ Some r) }
     {
         self.check_session(by)?;
@@ -39,14 +41,17 @@ impl<R> State<R> {
         self.check_numbers()
     }
 
-    /// A file or socket is about to be opened. Its place and its number are taken, and the mutator's call holds its guard.
+    /// A file or socket is about to be opened. Its place and its number are taken, and the mutator's call holds its
+    /// guard.
     pub fn prepare(&mut self, by: Mutator, choice: &mut Choice) -> Result<Answer, Refusal>
         requires fit { IsWellFormed (machine_of self.old) }
         requires nothing { choice.old ≡ nothing_chosen choice.old.cells }
         requires room { length self.old.heap.graph.objects ≤ choice.old.cells }
         requires waits { AllWait (machine_of self.old) self.old.cleaner.waiting }
-        ensures meets { Meets (machine_of self.old) (Ask.Prepare by) (answer_of result) choice.new.chosen (machine_of self.new) }
-        ensures memory { answer_of result ≡ Answer.Refused Refusal.NoMemory → MayWantMemory (machine_of self.old) self.old.cleaner.table (Ask.Prepare by) }
+        ensures meets { Meets (machine_of self.old) (Ask.Prepare by) (answer_of result) choice.new.chosen
+            (machine_of self.new) }
+        ensures memory { answer_of result ≡ Answer.Refused Refusal.NoMemory
+            → MayWantMemory (machine_of self.old) self.old.cleaner.table (Ask.Prepare by) }
         ensures values { values self.new.cleaner.table ≡ values self.old.cleaner.table }
         ensures lies { LieAsBefore self.old.cleaner.table self.new.cleaner.table }
         ensures room { choice.new.cells ≡ choice.old.cells }
@@ -55,7 +60,8 @@ impl<R> State<R> {
         ensures table_room { self.old.cleaner.table.room ≤ self.new.cleaner.table.room }
         ensures clock { self.new.heap.clock ≡ after_choice choice.new.chosen self.old.heap.clock }
         ensures waits { WaitsOn (machine_of self.new) self.old.cleaner self.new.cleaner }
-        ensures marks { MarksNew (machine_of self.old) self.old.heap.marking choice.new.chosen (machine_of self.new) self.new.heap.marking }
+        ensures marks { MarksNew (machine_of self.old) self.old.heap.marking choice.new.chosen (machine_of self.new)
+            self.new.heap.marking }
     {
         self.check_prepare(by)?;
         self.cleaner.reserve()?;
@@ -80,7 +86,8 @@ impl<R> State<R> {
         ensures table_room { self.old.cleaner.table.room ≤ self.new.cleaner.table.room }
         ensures clock { self.new.heap.clock ≡ after_fresh choice.new.chosen.fresh self.old.heap.clock }
         ensures waits { Registers (machine_of self.new) self.old.cleaner self.new.cleaner }
-        ensures marks { MarksNew (machine_of self.old) self.old.heap.marking choice.new.chosen (machine_of self.new) self.new.heap.marking }
+        ensures marks { MarksNew (machine_of self.old) self.old.heap.marking choice.new.chosen (machine_of self.new)
+            self.new.heap.marking }
     {
         let action = ActionNo::new(self.cleaner.next_action());
         let Ok(rid) = self.cleaner.prepare(action) else {

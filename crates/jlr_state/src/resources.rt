@@ -54,7 +54,9 @@ impl<R> State<R> {
     fn check_opened(&self, by: Mutator) -> Result<Guarded, Refusal>
         requires { IsWellFormed (machine_of self.now) }
         ensures { MatchResult result
-            (λ held. ((outcome : Outcome) → refusal (machine_of self.now) (Ask.Opened by outcome) ≡ None) × HoldsGuard (machine_of self.now) by held state.Opening × (has_free_handle (machine_of self.now) by ≡ true))
+            (λ held. ((outcome : Outcome) → refusal (machine_of self.now) (Ask.Opened by outcome) ≡ None)
+            × HoldsGuard (machine_of self.now) by held state.Opening
+            × (has_free_handle (machine_of self.now) by ≡ true))
             (λ r. (outcome : Outcome) → refusal (machine_of self.now) (Ask.Opened by outcome) ≡ Some r) }
     {
         self.check_session(by)?;
@@ -71,7 +73,8 @@ impl<R> State<R> {
     fn check_out_call(&self, by: Mutator) -> Result<Guarded, Refusal>
         requires { IsWellFormed (machine_of self.now) }
         ensures { MatchResult result
-            (λ held. ((outcome : CallOutcome) → refusal (machine_of self.now) (Ask.CheckIn by outcome) ≡ None) × HoldsGuard (machine_of self.now) by held state.Out)
+            (λ held. ((outcome : CallOutcome) → refusal (machine_of self.now) (Ask.CheckIn by outcome) ≡ None)
+            × HoldsGuard (machine_of self.now) by held state.Out)
             (λ r. (outcome : CallOutcome) → refusal (machine_of self.now) (Ask.CheckIn by outcome) ≡ Some r) }
     {
         self.check_session(by)?;
@@ -90,17 +93,22 @@ impl<R> State<R> {
     pub fn opened(&mut self, by: Mutator, outcome: Result<R, Fault>) -> Reply<R>
         requires fit { IsWellFormed (machine_of self.old) }
         requires waits { AllWait (machine_of self.old) self.old.cleaner.waiting }
-        ensures entry { StepsBy (machine_of self.old) self.old.heap.marking (Some (Ask.Opened by (outcome_of outcome))) (answer_in result) no_choice (machine_of self.new) }
+        ensures entry { StepsBy (machine_of self.old) self.old.heap.marking (Some (Ask.Opened by (outcome_of outcome)))
+            (answer_in result) no_choice (machine_of self.new) }
         ensures memory { answer_in result ≡ Some (Answer.Refused Refusal.NoMemory) → ⊥ }
-        ensures flow { Conserves (resource_of outcome) self.old.cleaner.table (resource_of_reply result) self.new.cleaner.table }
-        ensures moves { Moves (resource_of outcome) self.old.cleaner.table (resource_of_reply result) self.new.cleaner.table }
-        ensures goes_out { GoesOut self.old.cleaner.table (resource_of outcome) (answer_in result) (resource_of_reply result) }
+        ensures flow { Conserves (resource_of outcome) self.old.cleaner.table (resource_of_reply result)
+            self.new.cleaner.table }
+        ensures moves { Moves (resource_of outcome) self.old.cleaner.table (resource_of_reply result)
+            self.new.cleaner.table }
+        ensures goes_out { GoesOut self.old.cleaner.table (resource_of outcome) (answer_in result)
+            (resource_of_reply result) }
         ensures cells { length self.new.heap.graph.objects ≡ length self.old.heap.graph.objects }
         ensures age { self.new.soft_age ≡ self.old.soft_age }
         ensures table_room { self.new.cleaner.table.room ≡ self.old.cleaner.table.room }
         ensures clock { self.new.heap.clock ≡ self.old.heap.clock }
         ensures waits { WaitsOn (machine_of self.new) self.old.cleaner self.new.cleaner }
-        ensures marks { MarksNew (machine_of self.old) self.old.heap.marking no_choice (machine_of self.new) self.new.heap.marking }
+        ensures marks { MarksNew (machine_of self.old) self.old.heap.marking no_choice (machine_of self.new)
+            self.new.heap.marking }
     {
         let held = match self.check_opened(by) {
             Ok(held) => held,
@@ -123,7 +131,8 @@ impl<R> State<R> {
         requires held { HoldsGuard (machine_of self.old) by held state.Opening }
         requires room { has_free_handle (machine_of self.old) by ≡ true }
         requires waits { AllWait (machine_of self.old) self.old.cleaner.waiting }
-        ensures meets { Meets (machine_of self.old) (Ask.Opened by (outcome_of outcome)) result no_choice (machine_of self.new) }
+        ensures meets { Meets (machine_of self.old) (Ask.Opened by (outcome_of outcome)) result no_choice
+            (machine_of self.new) }
         ensures memory { result ≡ Answer.Refused Refusal.NoMemory → ⊥ }
         ensures flow { Conserves (resource_of outcome) self.old.cleaner.table None self.new.cleaner.table }
         ensures moves { Moves (resource_of outcome) self.old.cleaner.table None self.new.cleaner.table }
@@ -133,7 +142,8 @@ impl<R> State<R> {
         ensures table_room { self.new.cleaner.table.room ≡ self.old.cleaner.table.room }
         ensures clock { self.new.heap.clock ≡ self.old.heap.clock }
         ensures waits { WaitsOn (machine_of self.new) self.old.cleaner self.new.cleaner }
-        ensures marks { MarksNew (machine_of self.old) self.old.heap.marking no_choice (machine_of self.new) self.new.heap.marking }
+        ensures marks { MarksNew (machine_of self.old) self.old.heap.marking no_choice (machine_of self.new)
+            self.new.heap.marking }
     {
         match outcome {
             Ok(resource) => self.open_done(by, held, resource),
@@ -154,7 +164,8 @@ impl<R> State<R> {
         ensures table_room { self.new.cleaner.table.room ≡ self.old.cleaner.table.room }
         ensures clock { self.new.heap.clock ≡ self.old.heap.clock }
         ensures waits { WaitAsBefore self.old.cleaner self.new.cleaner }
-        ensures marks { MarksNew (machine_of self.old) self.old.heap.marking no_choice (machine_of self.new) self.new.heap.marking }
+        ensures marks { MarksNew (machine_of self.old) self.old.heap.marking no_choice (machine_of self.new)
+            self.new.heap.marking }
     {
         self.cleaner.opened(held.guard.rid, resource);
         self.heap.end_call(by);
@@ -174,7 +185,8 @@ impl<R> State<R> {
         ensures table_room { self.new.cleaner.table.room ≡ self.old.cleaner.table.room }
         ensures clock { self.new.heap.clock ≡ self.old.heap.clock }
         ensures waits { Releases (machine_of self.new) self.old.cleaner self.new.cleaner }
-        ensures marks { MarksNew (machine_of self.old) self.old.heap.marking no_choice (machine_of self.new) self.new.heap.marking }
+        ensures marks { MarksNew (machine_of self.old) self.old.heap.marking no_choice (machine_of self.new)
+            self.new.heap.marking }
     {
         let Guard { rid, cleanable } = held.guard;
         self.cleaner.open_failed(cleanable, rid);
@@ -188,7 +200,9 @@ impl<R> State<R> {
     /// The guard at a slot.
     fn check_guard(&self, slot: Slot) -> Result<Guard, Refusal>
         requires { IsTrue (is_some (at self.now.heap.graph.objects slot)) }
-        ensures { MatchResult result (λ guard. at self.now.heap.graph.objects slot ≡ Some (object.Guard guard)) (λ r. (r ≡ Refusal.WrongKind) × (some_and (λ o. not (is_guard o)) (at self.now.heap.graph.objects slot) ≡ true)) }
+        ensures { MatchResult result (λ guard. at self.now.heap.graph.objects slot ≡ Some (object.Guard guard))
+            (λ r. (r ≡ Refusal.WrongKind)
+            × (some_and (λ o. not (is_guard o)) (at self.now.heap.graph.objects slot) ≡ true)) }
     {
         match self.heap.guard(slot) {
             Some(guard) => Ok(guard),
@@ -218,7 +232,8 @@ impl<R> State<R> {
 
     /// The resource at a Rid, which this cleanable finishes, is out.
     fn is_busy(&self, cleanable: Slot, rid: Rid) -> bool
-        ensures { result ≡ (not (is_spent_at (machine_of self.now) cleanable) && some_and (λ r. is_out_state r.state) (resource_at (machine_of self.now) rid)) }
+        ensures { result ≡ (not (is_spent_at (machine_of self.now) cleanable)
+            && some_and (λ r. is_out_state r.state) (resource_at (machine_of self.now) rid)) }
     {
         if self.is_closed(cleanable) {
             return false;
@@ -232,7 +247,9 @@ impl<R> State<R> {
     fn check_use(&self, by: Mutator, guard: Handle) -> Result<Guarded, Refusal>
         requires { IsWellFormed (machine_of self.now) }
         ensures { MatchResult result
-            (λ held. (refusal (machine_of self.now) (Ask.CheckOut by guard) ≡ None) × IsGuardNamed (machine_of self.now) by guard held × IsFreeMutator (machine_of self.now) by × (state_at self.now.cleaner.table held.guard.rid ≡ Some state.Idle))
+            (λ held. (refusal (machine_of self.now) (Ask.CheckOut by guard) ≡ None)
+            × IsGuardNamed (machine_of self.now) by guard held × IsFreeMutator (machine_of self.now) by
+            × (state_at self.now.cleaner.table held.guard.rid ≡ Some state.Idle))
             (λ r. refusal (machine_of self.now) (Ask.CheckOut by guard) ≡ Some r) }
     {
         self.check_session(by)?;
@@ -252,7 +269,8 @@ impl<R> State<R> {
     /// A call on a file or socket begins: it goes out, and its guard is held.
     pub fn check_out(&mut self, by: Mutator, guard: Handle) -> Reply<R>
         requires { IsWellFormed (machine_of self.old) }
-        ensures entry { StepsBy (machine_of self.old) self.old.heap.marking (Some (Ask.CheckOut by guard)) (answer_in result) no_choice (machine_of self.new) }
+        ensures entry { StepsBy (machine_of self.old) self.old.heap.marking (Some (Ask.CheckOut by guard))
+            (answer_in result) no_choice (machine_of self.new) }
         ensures memory { answer_in result ≡ Some (Answer.Refused Refusal.NoMemory) → ⊥ }
         ensures flow { Conserves None self.old.cleaner.table (resource_of_reply result) self.new.cleaner.table }
         ensures moves { Moves None self.old.cleaner.table (resource_of_reply result) self.new.cleaner.table }
@@ -287,17 +305,21 @@ impl<R> State<R> {
     /// A call on a file or socket has ended, well or not: it lies here again.
     pub fn check_in(&mut self, by: Mutator, outcome: CallOutcome, resource: R) -> Reply<R>
         requires { IsWellFormed (machine_of self.old) }
-        ensures entry { StepsBy (machine_of self.old) self.old.heap.marking (Some (Ask.CheckIn by outcome)) (answer_in result) no_choice (machine_of self.new) }
+        ensures entry { StepsBy (machine_of self.old) self.old.heap.marking (Some (Ask.CheckIn by outcome))
+            (answer_in result) no_choice (machine_of self.new) }
         ensures memory { answer_in result ≡ Some (Answer.Refused Refusal.NoMemory) → ⊥ }
-        ensures flow { Conserves (Some resource) self.old.cleaner.table (resource_of_reply result) self.new.cleaner.table }
+        ensures flow { Conserves (Some resource) self.old.cleaner.table (resource_of_reply result)
+            self.new.cleaner.table }
         ensures moves { Moves (Some resource) self.old.cleaner.table (resource_of_reply result) self.new.cleaner.table }
-        ensures goes_out { GoesOut self.old.cleaner.table (Some resource) (answer_in result) (resource_of_reply result) }
+        ensures goes_out { GoesOut self.old.cleaner.table (Some resource) (answer_in result)
+            (resource_of_reply result) }
         ensures cells { length self.new.heap.graph.objects ≡ length self.old.heap.graph.objects }
         ensures age { self.new.soft_age ≡ self.old.soft_age }
         ensures table_room { self.new.cleaner.table.room ≡ self.old.cleaner.table.room }
         ensures clock { self.new.heap.clock ≡ self.old.heap.clock }
         ensures waits { WaitAsBefore self.old.cleaner self.new.cleaner }
-        ensures marks { MarksNew (machine_of self.old) self.old.heap.marking no_choice (machine_of self.new) self.new.heap.marking }
+        ensures marks { MarksNew (machine_of self.old) self.old.heap.marking no_choice (machine_of self.new)
+            self.new.heap.marking }
     {
         let held = match self.check_out_call(by) {
             Ok(held) => held,
@@ -322,7 +344,10 @@ impl<R> State<R> {
     fn check_close(&self, by: Mutator, guard: Handle) -> Result<Slot, Refusal>
         requires { IsWellFormed (machine_of self.now) }
         ensures { MatchResult result
-            (λ slot. (refusal (machine_of self.now) (Ask.Close by guard) ≡ None) × (cleanable_of_guard (machine_of self.now) by guard ≡ Some slot) × IsFreeMutator (machine_of self.now) by × IsIdleAt (machine_of self.now) slot × IsTrue (some_and is_cleanable (at self.now.heap.graph.objects slot)))
+            (λ slot. (refusal (machine_of self.now) (Ask.Close by guard) ≡ None)
+            × (cleanable_of_guard (machine_of self.now) by guard ≡ Some slot)
+            × IsFreeMutator (machine_of self.now) by × IsIdleAt (machine_of self.now) slot
+            × IsTrue (some_and is_cleanable (at self.now.heap.graph.objects slot)))
             (λ r. refusal (machine_of self.now) (Ask.Close by guard) ≡ Some r) }
     {
         self.check_session(by)?;
@@ -340,7 +365,8 @@ impl<R> State<R> {
     pub fn close(&mut self, by: Mutator, guard: Handle) -> Result<Option<Job<R>>, Refusal>
         requires fit { IsWellFormed (machine_of self.old) }
         requires waits { AllWait (machine_of self.old) self.old.cleaner.waiting }
-        ensures meets { Meets (machine_of self.old) (Ask.Close by guard) (clean_answer result) no_choice (machine_of self.new) }
+        ensures meets { Meets (machine_of self.old) (Ask.Close by guard) (clean_answer result) no_choice
+            (machine_of self.new) }
         ensures memory { clean_answer result ≡ Answer.Refused Refusal.NoMemory → ⊥ }
         ensures flow { Conserves None self.old.cleaner.table (handed_out result) self.new.cleaner.table }
         ensures moves { Moves None self.old.cleaner.table (handed_out result) self.new.cleaner.table }

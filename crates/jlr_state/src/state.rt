@@ -1,6 +1,7 @@
 //! What the core keeps, as the machine has it, and the checks of refusals that many asks share.
 ghost use Rattle.jlr_state.specs.State.{Checks};
-ghost use Rattle.std.specs.Prelude.{◌≡◌, ◌≤◌, [], None, Some, Ok, Err, MatchResult, IfOk, replicate, true, false, not, is_none, is_some, ◌&&◌, ◌==◌, OnOk, IsTrue};
+ghost use Rattle.std.specs.Prelude.{◌≡◌, ◌≤◌, [], None, Some, Ok, Err, MatchResult, IfOk, replicate, true, false, not};
+ghost use Rattle.std.specs.Prelude.{is_none, is_some, ◌&&◌, ◌==◌, OnOk, IsTrue};
 ghost use Rattle.jlr_machine.specs.WellFormed.{IsWellFormed};
 ghost use Rattle.jlr_machine.specs.Objects.{at};
 ghost use Rattle.jlr_machine.specs.Lookups.{slot_named, object_named, has_free_handle};
@@ -17,8 +18,8 @@ use jlr_machine::table::Table;
 use jlr_types::{Handle, Limits, Mutator, Refusal, Slot};
 use std::alloc::{AllocError, Global};
 
-/// The heap, the soft age, in collections, what cleaning actions left and the files and sockets, whether a cycle is open, and where lists
-/// of an answer come from.
+/// The heap, the soft age, in collections, what cleaning actions left and the files and sockets, whether a cycle is
+/// open, and where lists of an answer come from.
 #[derive(Drop)]
 pub struct State<R> {
     pub heap: Heap,
@@ -34,7 +35,8 @@ impl<R> State<R> {
     /// The state of an empty machine, whose next action is this one, at least 1. All room is made at once.
     pub fn new(alloc: Global, limits: Limits, next_action: u64) -> Result<Self, AllocError>
         requires { 1 ≤ next_action }
-        ensures machine { IfOk result (λ state. machine_of state ≡ empty_from limits.cells limits.sessions limits.resources next_action) }
+        ensures machine { IfOk result (λ state. machine_of state
+            ≡ empty_from limits.cells limits.sessions limits.resources next_action) }
         ensures age { IfOk result (λ state. state.soft_age ≡ limits.soft_age) }
         ensures clock { IfOk result (λ state. state.heap.clock ≡ (empty_known limits.cells limits.sessions).clock) }
         ensures none_held { IfOk result (λ state. values state.cleaner.table ≡ []) }
@@ -131,7 +133,8 @@ impl<R> State<R> {
 
     /// The mutator is joined.
     pub fn check_session(&self, by: Mutator) -> Result<(), Refusal>
-        ensures { MatchResult result (λ _. is_joined (machine_of self.now) by ≡ true) (λ r. (r ≡ Refusal.NoSession) × (is_joined (machine_of self.now) by ≡ false)) }
+        ensures { MatchResult result (λ _. is_joined (machine_of self.now) by ≡ true)
+            (λ r. (r ≡ Refusal.NoSession) × (is_joined (machine_of self.now) by ≡ false)) }
     {
         if self.heap.is_joined(by) {
             Ok(())
@@ -142,7 +145,8 @@ impl<R> State<R> {
 
     /// A handle is null or in use.
     pub fn check_handle(&self, by: Mutator, handle: Handle) -> Result<(), Refusal>
-        ensures { Checks result Refusal.NoHandle (not (handle == 0) && is_none (slot_named (machine_of self.now) by handle)) }
+        ensures { Checks result Refusal.NoHandle
+            (not (handle == 0) && is_none (slot_named (machine_of self.now) by handle)) }
     {
         if handle.number() == 0 || self.heap.lookup(by, handle).is_some() {
             Ok(())
@@ -156,7 +160,8 @@ impl<R> State<R> {
         requires fit { IsWellFormed (machine_of self.now) }
         requires in_use { (not (handle == 0) && is_none (slot_named (machine_of self.now) by handle)) ≡ false }
         ensures object { OnOk result (IsTrue (is_some (object_named (machine_of self.now) by handle))) }
-        ensures slot { MatchResult result (λ slot. (slot_named (machine_of self.now) by handle ≡ Some slot) × ((handle == 0) ≡ false)) (λ r. (r ≡ Refusal.Null) × ((handle == 0) ≡ true)) }
+        ensures slot { MatchResult result (λ slot. (slot_named (machine_of self.now) by handle ≡ Some slot)
+            × ((handle == 0) ≡ false)) (λ r. (r ≡ Refusal.Null) × ((handle == 0) ≡ true)) }
     {
         if handle.number() == 0 {
             return Err(Refusal::Null);
@@ -169,7 +174,8 @@ impl<R> State<R> {
 
     /// A handle is free.
     pub fn check_free_handle(&self, by: Mutator) -> Result<(), Refusal>
-        ensures { MatchResult result (λ _. has_free_handle (machine_of self.now) by ≡ true) (λ r. (r ≡ Refusal.HandlesFull) × (has_free_handle (machine_of self.now) by ≡ false)) }
+        ensures { MatchResult result (λ _. has_free_handle (machine_of self.now) by ≡ true)
+            (λ r. (r ≡ Refusal.HandlesFull) × (has_free_handle (machine_of self.now) by ≡ false)) }
     {
         if self.heap.has_free_handle(by) {
             Ok(())

@@ -197,7 +197,8 @@ pub struct Judged {
 /// Audits a history as it is read, and takes its figures on the way.
 ///
 /// # Errors
-/// As for an audit: `Unread` where a read fails, and `Damaged` with the first fault of the bytes, or where there is no memory.
+/// As for an audit: `Unread` where a read fails, and `Damaged` with the first fault of the bytes, or where there is no
+/// memory.
 pub fn figures_of<R: Read + Drop>(
     alloc: Global,
     trace: StreamedTrace<R>,

@@ -1,7 +1,8 @@
 -- Answers.
 use Rattle.std.specs.List.{AllByRecursion}
 use Rattle.std.specs.Int.{w32, w64}
-use Rattle.jlr_machine.specs.declared.ask.Answer.TheVariants.{Done, Handle, Truth, Int, Data, Wrote, Faulted, Names, Notes, Faults, Stat, Job, AlreadyDone, Prepared, Out, Handed, Refused}
+use Rattle.jlr_machine.specs.declared.ask.Answer.TheVariants.{Done, Handle, Truth, Int, Data, Wrote, Faulted, Names, Notes, Faults, Stat}
+use Rattle.jlr_machine.specs.declared.ask.Answer.TheVariants.{Job, AlreadyDone, Prepared, Out, Handed, Refused}
 use Rattle.jlr_fields.specs.Reading.{is_name_byte}
 use Rattle.jlr_parts.specs.Tables.{faults}
 use Rattle.jlr_answers.specs.Answers.{refusals, handings, stat_read, tags, body_of, answer_read}
@@ -13,7 +14,8 @@ use Rattle.jlr_steady.proofs.Parts.{work, failure}
 
 stat : IsSteady stat_read
 unfolding stat_read
-stat = five (number w64) (number w64) (number w64) (number w64) (number w64) (λ objects resources taken good failed. record { objects = objects; resources = resources; taken = taken; ok = good; failed = failed })
+stat = five (number w64) (number w64) (number w64) (number w64) (number w64)
+    (λ objects resources taken good failed. record { objects = objects; resources = resources; taken = taken; ok = good; failed = failed })
 
 -- what stands behind each number of an answer, in the order of the table
 bodies : AllByRecursion (λ tag. IsSteady (body_of tag)) tags

@@ -5,14 +5,18 @@ use Rattle.std.specs.List.{AllByRecursion}
 use Rattle.std.specs.Int.{w16, w32, w64}
 use Rattle.jlr_types.specs.declared.FieldKind.TheVariants.{Int as IntField, Ref as RefField}
 use Rattle.jlr_machine.specs.declared.ask.CallOutcome.TheVariants.{Data as GotData, Wrote as GotWrote, Failed as GotFailed}
-use Rattle.jlr_machine.specs.declared.ask.Ask.TheVariants.{Join, Leave, New, Put, Get, SetInt, Int, Dup, Drop, Same, MakeRef, Deref, Refers, Clear, Enqueue, Enqueued, MakeQueue, Poll, Remove, MakeCleaner, Register, Clean, Prepare, Opened, CheckOut, CheckIn, Close, Finish, Bind, Find, Unbind, Names, Full, Stat, Notes, Faults, HandOver, TakeUp, Begin, Collect, Abandon, Array}
+use Rattle.jlr_machine.specs.declared.ask.Ask.TheVariants.{Join, Leave, New, Put, Get, SetInt, Int, Dup, Drop, Same, MakeRef, Deref, Refers}
+use Rattle.jlr_machine.specs.declared.ask.Ask.TheVariants.{Clear, Enqueue, Enqueued, MakeQueue, Poll, Remove, MakeCleaner, Register, Clean}
+use Rattle.jlr_machine.specs.declared.ask.Ask.TheVariants.{Prepare, Opened, CheckOut, CheckIn, Close, Finish, Bind, Find, Unbind, Names}
+use Rattle.jlr_machine.specs.declared.ask.Ask.TheVariants.{Full, Stat, Notes, Faults, HandOver, TakeUp, Begin, Collect, Abandon, Array}
 use Rattle.jlr_fields.specs.declared.fault.Fault.TheVariants.{Range}
 use Rattle.jlr_fields.specs.declared.version.Version.{Version}
 use Rattle.jlr_fields.specs.declared.version.Version.TheVariants.{One, Two}
 use Rattle.jlr_fields.specs.Reading.{is_name_byte}
 use Rattle.jlr_fields.specs.Items.{items_at}
 use Rattle.jlr_parts.specs.Tables.{ref_kinds, faults}
-use Rattle.jlr_asks.specs.Asks.{outcomes, modes, kind_read, layout_read, call_outcome_behind, call_outcome_read, field_read, tags, array_read, body_of, ask_read}
+use Rattle.jlr_asks.specs.Asks.{outcomes, modes, kind_read, layout_read, call_outcome_behind, call_outcome_read, field_read, tags}
+use Rattle.jlr_asks.specs.Asks.{array_read, body_of, ask_read}
 use Rattle.jlr_steady.specs.Steady.{IsSteady}
 use Rattle.jlr_steady.proofs.Steps.{◌▸◌, made, never, then_read, either, one, two, three, four}
 use Rattle.jlr_steady.proofs.Fields.{byte, number, number_within, signed, byte_within, picked, picked_then, text, data_text}

@@ -1,5 +1,6 @@
 -- Bytes, numbers, flags, slots, values of a table and texts.
-use Rattle.std.proofs.Common.{◌≡◌, ℕ, zero, suc, ◌-◌, ◌≤◌, Bool, true, false, cond, ltb, ◌||◌, ◌&&◌, List, [], ◌∷◌, ◌++◌, length, take, drop, Option, Some, None, Ok, Err, refl, subst, arith}
+use Rattle.std.proofs.Common.{◌≡◌, ℕ, zero, suc, ◌-◌, ◌≤◌, Bool, true, false, cond, ltb, ◌||◌, ◌&&◌, List, [], ◌∷◌, ◌++◌, length, take}
+use Rattle.std.proofs.Common.{drop, Option, Some, None, Ok, Err, refl, subst, arith}
 use Rattle.std.specs.Prelude.{slice_get, nat_eq}
 use Rattle.std.specs.List.{list_all, AllByRecursion}
 use Rattle.std.specs.Int.{Width, w32, w64, byte_len, from_be_bytes, cast_signed}
@@ -7,7 +8,8 @@ use Rattle.std.proofs.lemmas.Bool.{ltb-false, le-ltb}
 use Rattle.std.proofs.lemmas.List.{take-append-le, drop-append-le, length-append}
 use Rattle.jlr_fields.specs.declared.fault.Fault.TheVariants.{Short, Range}
 use Rattle.jlr_fields.specs.Spelling.{no_slot}
-use Rattle.jlr_fields.specs.Reading.{Reader, ◌>>=◌, byte_at, byte_within_at, flag_at, option_at, number_at, number_within_at, picked_at, value_at, text_at, bytes_at, taken_at, signed_at}
+use Rattle.jlr_fields.specs.Reading.{Reader, ◌>>=◌, byte_at, byte_within_at, flag_at, option_at, number_at, number_within_at, picked_at}
+use Rattle.jlr_fields.specs.Reading.{value_at, text_at, bytes_at, taken_at, signed_at}
 use Rattle.jlr_steady.specs.Steady.{StillReads, IsSteady}
 use Rattle.jlr_steady.proofs.Steps.{made, never, then_read, either, one}
 
@@ -41,7 +43,8 @@ checked b x = either b never (made x)
 
 pub number_within : (w : Width) (low high : ℕ) → IsSteady (number_within_at w low high)
 unfolding number_within_at
-number_within w low high = then_read (number w) (λ n bytes. cond (ltb n low || ltb high n) (Err Range) (Ok (n, bytes))) (λ n. checked (ltb n low || ltb high n) n)
+number_within w low high =
+    then_read (number w) (λ n bytes. cond (ltb n low || ltb high n) (Err Range) (Ok (n, bytes))) (λ n. checked (ltb n low || ltb high n) n)
 
 pub signed : IsSteady signed_at
 unfolding signed_at
@@ -49,7 +52,8 @@ signed = one (number w64) (cast_signed w64)
 
 pub byte_within : (low high : ℕ) → IsSteady (byte_within_at low high)
 unfolding byte_within_at
-byte_within low high = then_read byte (λ n bytes. cond (ltb n low || ltb high n) (Err Range) (Ok (n, bytes))) (λ n. checked (ltb n low || ltb high n) n)
+byte_within low high =
+    then_read byte (λ n bytes. cond (ltb n low || ltb high n) (Err Range) (Ok (n, bytes))) (λ n. checked (ltb n low || ltb high n) n)
 
 pub flag : IsSteady flag_at
 unfolding flag_at
@@ -57,7 +61,8 @@ flag = one (byte_within 0 1) (λ b. nat_eq b 1)
 
 pub option : IsSteady option_at
 unfolding option_at
-option = then_read (number w32) (λ n bytes. cond (nat_eq n no_slot) (Ok (None, bytes)) (Ok (Some n, bytes))) (λ n. either (nat_eq n no_slot) (made None) (made (Some n)))
+option = then_read (number w32) (λ n bytes. cond (nat_eq n no_slot) (Ok (None, bytes)) (Ok (Some n, bytes)))
+    (λ n. either (nat_eq n no_slot) (made None) (made (Some n)))
 
 -- ---- Values of a table
 
@@ -67,7 +72,8 @@ value (Some x) = made x
 
 pub picked : {A : Type 0} (first : ℕ) (table : List A) → IsSteady (picked_at first table)
 unfolding picked_at
-picked first table = then_read byte (λ b bytes. cond (ltb b first) (Err Range) (value_at (slice_get table (b - first)) bytes)) (λ b. either (ltb b first) never (value (slice_get table (b - first))))
+picked first table = then_read byte (λ b bytes. cond (ltb b first) (Err Range) (value_at (slice_get table (b - first)) bytes))
+    (λ b. either (ltb b first) never (value (slice_get table (b - first))))
 
 -- each value of a table is of use, so the one that is picked is
 member : {A : Type 0} (P : A → Type 0) (table : List A) → AllByRecursion P table → (k : ℕ) (x : A) → slice_get table k ≡ Some x → P x
@@ -75,20 +81,24 @@ member P [] each k x at = absurd cc
 member P (y ∷ table) each zero x at = let same : y ≡ x = cc in subst P same each.0
 member P (y ∷ table) each (suc k) x at = member P table each.1 k x at
 
-picked_or_not : {A B : Type 0} (low : Bool) (o : Option A) (then : A → Reader B) → ((x : A) → o ≡ Some x → IsSteady (then x)) → IsSteady (λ bytes. cond low (Err Range) (value_at o bytes) >>= λ v. then v.0 v.1)
+picked_or_not : {A B : Type 0} (low : Bool) (o : Option A) (then : A → Reader B) → ((x : A) → o ≡ Some x → IsSteady (then x))
+    → IsSteady (λ bytes. cond low (Err Range) (value_at o bytes) >>= λ v. then v.0 v.1)
 picked_or_not true o then steady = record { still = λ bytes more. refl }
 picked_or_not false None then steady = record { still = λ bytes more. refl }
 picked_or_not false (Some x) then steady = record { still = (steady x refl).still }
 
-still_picked : {A B : Type 0} (first : ℕ) (table : List A) (then : A → Reader B) → AllByRecursion (λ x. IsSteady (then x)) table → (bytes more : List ℕ)
+still_picked : {A B : Type 0} (first : ℕ) (table : List A) (then : A → Reader B) → AllByRecursion (λ x. IsSteady (then x)) table
+    → (bytes more : List ℕ)
     → StillReads more (picked_at first table bytes >>= λ v. then v.0 v.1) (picked_at first table (bytes ++ more) >>= λ v. then v.0 v.1)
 unfolding picked_at
 still_picked first table then each [] more = tt
 still_picked first table then each (b ∷ bytes) more =
-    (picked_or_not (ltb b first) (slice_get table (b - first)) then (member (λ x. IsSteady (then x)) table each (b - first))).still bytes more
+    (picked_or_not (ltb b first) (slice_get table (b - first)) then (member (λ x. IsSteady (then x)) table each (b - first))).still bytes
+    more
 
 -- a value of a table, and what is read behind it
-pub picked_then : {A B : Type 0} (first : ℕ) (table : List A) (then : A → Reader B) → AllByRecursion (λ x. IsSteady (then x)) table → IsSteady (λ bytes. picked_at first table bytes >>= λ v. then v.0 v.1)
+pub picked_then : {A B : Type 0} (first : ℕ) (table : List A) (then : A → Reader B) → AllByRecursion (λ x. IsSteady (then x)) table
+    → IsSteady (λ bytes. picked_at first table bytes >>= λ v. then v.0 v.1)
 unfolding picked_at
 picked_then first table then each = record { still = still_picked first table then each }
 
@@ -107,7 +117,8 @@ abbrev tested : (ℕ → Bool) → ℕ → Reader (List ℕ)
 tested test count bytes = cond (list_all test (take count bytes)) (taken_at count bytes) (Err Range)
 
 -- those that there are pass it; where they are too few, more are to come
-passed : (test : ℕ → Bool) (count : ℕ) (bytes more : List ℕ) (b : Bool) → ltb (length bytes) count ≡ b → list_all test (take count bytes) ≡ true
+passed : (test : ℕ → Bool) (count : ℕ) (bytes more : List ℕ) (b : Bool) → ltb (length bytes) count ≡ b
+    → list_all test (take count bytes) ≡ true
     → StillReads more (front count (λ text. text) b bytes) (tested test count (bytes ++ more))
 unfolding taken_at
 passed test count bytes more true short good = tt
@@ -120,10 +131,12 @@ kept_false true b c h f = f h
 kept_false false b c h f = refl
 
 -- a byte that fails it is still there
-failed : (test : ℕ → Bool) (count : ℕ) (bytes more : List ℕ) → list_all test (take count bytes) ≡ false → list_all test (take count (bytes ++ more)) ≡ false
+failed : (test : ℕ → Bool) (count : ℕ) (bytes more : List ℕ) → list_all test (take count bytes) ≡ false
+    → list_all test (take count (bytes ++ more)) ≡ false
 failed test zero bytes more h = h
 failed test (suc count) [] more h = absurd cc
-failed test (suc count) (b ∷ bytes) more h = kept_false (test b) (list_all test (take count bytes)) (list_all test (take count (bytes ++ more))) h (failed test count bytes more)
+failed test (suc count) (b ∷ bytes) more h =
+    kept_false (test b) (list_all test (take count bytes)) (list_all test (take count (bytes ++ more))) h (failed test count bytes more)
 
 still_tested : (test : ℕ → Bool) (count : ℕ) (bytes more : List ℕ) (b : Bool) → list_all test (take count bytes) ≡ b
     → StillReads more (cond b (taken_at count bytes) (Err Range)) (tested test count (bytes ++ more))
@@ -133,4 +146,5 @@ still_tested test count bytes more false bad = rw (failed test count bytes more 
 
 pub text : (low high : ℕ) (test : ℕ → Bool) → IsSteady (text_at low high test)
 unfolding text_at
-text low high test = then_read (byte_within low high) (tested test) (λ count. record { still = λ bytes more. still_tested test count bytes more (list_all test (take count bytes)) refl })
+text low high test = then_read (byte_within low high) (tested test)
+    (λ count. record { still = λ bytes more. still_tested test count bytes more (list_all test (take count bytes)) refl })

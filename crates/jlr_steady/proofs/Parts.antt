@@ -11,8 +11,10 @@ use Rattle.jlr_fields.specs.declared.version.Version.TheVariants.{One, Two}
 use Rattle.jlr_fields.specs.Reading.{one_field, option_at, is_name_byte}
 use Rattle.jlr_fields.specs.Items.{items_at, may_follow}
 use Rattle.jlr_parts.specs.Tables.{ref_kinds, ref_states, clean_states, faults, resource_states}
-use Rattle.jlr_parts.specs.Objects.{value_behind, value_read, work_behind, work_read, typed, array, plain_read, array_read, array_in, reference_read, queue_read, cleanable_read, guard_read, object_behind, object_read}
-use Rattle.jlr_parts.specs.Records.{binding_read, failure_read, call_behind, call_read, slot_after, job_behind, job_after, resource_behind, resource_after, placed_behind, placed_after, held_behind, held_after}
+use Rattle.jlr_parts.specs.Objects.{value_behind, value_read, work_behind, work_read, typed, array, plain_read, array_read, array_in}
+use Rattle.jlr_parts.specs.Objects.{reference_read, queue_read, cleanable_read, guard_read, object_behind, object_read}
+use Rattle.jlr_parts.specs.Records.{binding_read, failure_read, call_behind, call_read, slot_after, job_behind, job_after, resource_behind}
+use Rattle.jlr_parts.specs.Records.{resource_after, placed_behind, placed_after, held_behind, held_after}
 use Rattle.jlr_steady.specs.Steady.{IsSteady}
 use Rattle.jlr_steady.proofs.Steps.{made, never, then_read, either, one, two, four}
 use Rattle.jlr_steady.proofs.Fields.{byte, number, number_within, signed, byte_within, flag, option, picked, text}
@@ -42,7 +44,8 @@ plain = then_read (byte_within 0 8) (λ count. one_field (items_at value_read co
 
 array_of : IsSteady array_read
 unfolding array_read
-array_of = then_read (number_within w16 1 4096) (λ count. one_field (items_at option_at count) array) (λ count. one (items option count) array)
+array_of = then_read (number_within w16 1 4096) (λ count. one_field (items_at option_at count) array)
+    (λ count. one (items option count) array)
 
 array_of_version : (version : Version) → IsSteady (array_in version)
 array_of_version One = never
@@ -50,7 +53,8 @@ array_of_version Two = record { still = array_of.still }
 
 reference : IsSteady reference_read
 unfolding reference_read
-reference = four (picked 0 ref_kinds) option option (picked 0 ref_states) (λ kind referent queue state. Reference (record { kind = kind; referent = referent; queue = queue; state = state }))
+reference = four (picked 0 ref_kinds) option option (picked 0 ref_states)
+    (λ kind referent queue state. Reference (record { kind = kind; referent = referent; queue = queue; state = state }))
 
 queue : IsSteady queue_read
 unfolding queue_read
@@ -58,7 +62,8 @@ queue = one (list 4 (number w32)) Queue
 
 cleanable : IsSteady cleanable_read
 unfolding cleanable_read
-cleanable = four option (number w64) work (picked 0 clean_states) (λ referent action work state. Cleanable (record { referent = referent; action = action; work = work; state = state }))
+cleanable = four option (number w64) work (picked 0 clean_states)
+    (λ referent action work state. Cleanable (record { referent = referent; action = action; work = work; state = state }))
 
 guard : IsSteady guard_read
 unfolding guard_read
@@ -104,7 +109,8 @@ call = then_read byte call_behind call_after
 
 pub slot : (before : Option ℕ) → IsSteady (slot_after before)
 unfolding slot_after
-slot before = then_read (number w32) (λ s bytes. cond (may_follow before s) (Ok (s, bytes)) (Err Range)) (λ s. either (may_follow before s) (made s) never)
+slot before = then_read (number w32) (λ s bytes. cond (may_follow before s) (Ok (s, bytes)) (Err Range))
+    (λ s. either (may_follow before s) (made s) never)
 
 pub job : (before : Option ℕ) → IsSteady (job_after before)
 unfolding job_after
@@ -116,7 +122,8 @@ pub resource : (before : Option ℕ) → IsSteady (resource_after before)
 unfolding resource_after
 resource before =
     then_read (number w32) (λ rid bytes. cond (may_follow before rid) (resource_behind rid bytes) (Err Range))
-    (λ rid. either (may_follow before rid) (two (number w64) (picked 0 resource_states) (λ action state. record { rid = rid; action = action; state = state })) never)
+    (λ rid. either (may_follow before rid) (two (number w64) (picked 0 resource_states)
+    (λ action state. record { rid = rid; action = action; state = state })) never)
 
 pub placed : (version : Version) (before : Option ℕ) → IsSteady (placed_after version before)
 unfolding placed_after

@@ -7,7 +7,8 @@ use Rattle.jlr_fields.specs.Reading.{two_fields, number_at}
 use Rattle.jlr_fields.specs.Items.{items_at}
 use Rattle.jlr_sections.specs.Choices.{itself, collected_read, collection_read, fresh_read, made_choice, choice_read}
 use Rattle.jlr_sections.specs.Entries.{made_entry, entry_read}
-use Rattle.jlr_sections.specs.Images.{made_head, head_read, made_session, joined_read, session_read, waiting_read, records_read, counts_read, made_image, image_behind, image_read}
+use Rattle.jlr_sections.specs.Images.{made_head, head_read, made_session, joined_read, session_read, waiting_read, records_read}
+use Rattle.jlr_sections.specs.Images.{counts_read, made_image, image_behind, image_read}
 use Rattle.jlr_steady.specs.Steady.{IsSteady}
 use Rattle.jlr_steady.proofs.Steps.{made, then_read, either, one, two, three, four, five}
 use Rattle.jlr_steady.proofs.Fields.{byte, number, number_within, byte_within, flag, option}
@@ -52,11 +53,13 @@ joined = three (rising 5 held (λ h. h.handle)) option call made_session
 
 session : IsSteady session_read
 unfolding session_read
-session = then_read flag (λ is_joined bytes. cond is_joined (joined_read bytes) (Ok (None, bytes))) (λ is_joined. either is_joined joined (made None))
+session = then_read flag (λ is_joined bytes. cond is_joined (joined_read bytes) (Ok (None, bytes)))
+    (λ is_joined. either is_joined joined (made None))
 
 waiting : IsSteady waiting_read
 unfolding waiting_read
-waiting = three (list 6 binding) (list 4 (number w32)) (list 4 (number w32)) (λ names pending line. record { names = names; pending = pending; line = line })
+waiting = three (list 6 binding) (list 4 (number w32)) (list 4 (number w32))
+    (λ names pending line. record { names = names; pending = pending; line = line })
 
 records : IsSteady records_read
 unfolding records_read
@@ -66,7 +69,8 @@ records =
 
 counts : IsSteady counts_read
 unfolding counts_read
-counts = four (number w64) (number w64) (number w64) (number w64) (λ next_action taken good failed. record { next_action = next_action; taken = taken; ok = good; failed = failed })
+counts = four (number w64) (number w64) (number w64) (number w64)
+    (λ next_action taken good failed. record { next_action = next_action; taken = taken; ok = good; failed = failed })
 
 pub image : (version : Version) → IsSteady (image_read version)
 unfolding image_read

@@ -21,11 +21,14 @@ still_then {A} {B} more (Ok x) longer then steady e =
 still_then more (Err Short) longer then steady e = tt
 still_then {A} {B} more (Err Range) longer then steady e = ap (λ (l : Result (A × List ℕ) Fault). l >>= λ v. then v.0 v.1) e
 
-pub then_read : {A B : Type 0} {read : Reader A} → IsSteady read → (then : A → Reader B) → ((x : A) → IsSteady (then x)) → IsSteady (λ bytes. read bytes >>= λ v. then v.0 v.1)
-then_read {A} {B} {read} first then steady = record { still = λ bytes more. still_then more (read bytes) (read (bytes ++ more)) then steady (first.still bytes more) }
+pub then_read : {A B : Type 0} {read : Reader A} → IsSteady read → (then : A → Reader B) → ((x : A) → IsSteady (then x))
+    → IsSteady (λ bytes. read bytes >>= λ v. then v.0 v.1)
+then_read {A} {B} {read} first then steady =
+    record { still = λ bytes more. still_then more (read bytes) (read (bytes ++ more)) then steady (first.still bytes more) }
 
 -- one of two readers
-pub either : {A : Type 0} (b : Bool) {read other : Reader A} → IsSteady read → IsSteady other → IsSteady (λ bytes. cond b (read bytes) (other bytes))
+pub either : {A : Type 0} (b : Bool) {read other : Reader A} → IsSteady read → IsSteady other
+    → IsSteady (λ bytes. cond b (read bytes) (other bytes))
 either true p q = record { still = p.still }
 either false p q = record { still = q.still }
 
@@ -37,16 +40,20 @@ one p make = then_read p (λ x bytes. Ok (make x, bytes)) (λ x. made (make x))
 pub two : {A B X : Type 0} {a : Reader A} {b : Reader B} → IsSteady a → IsSteady b → (make : A → B → X) → IsSteady (two_fields a b make)
 two {A} {B} {X} {a} {b} p q make = then_read p (λ x. one_field b (make x)) (λ x. one q (make x))
 
-pub three : {A B C X : Type 0} {a : Reader A} {b : Reader B} {c : Reader C} → IsSteady a → IsSteady b → IsSteady c → (make : A → B → C → X) → IsSteady (three_fields a b c make)
+pub three : {A B C X : Type 0} {a : Reader A} {b : Reader B} {c : Reader C} → IsSteady a → IsSteady b → IsSteady c → (make : A → B → C → X)
+    → IsSteady (three_fields a b c make)
 three {A} {B} {C} {X} {a} {b} {c} p q r make = then_read p (λ x. two_fields b c (make x)) (λ x. two q r (make x))
 
-pub four : {A B C D X : Type 0} {a : Reader A} {b : Reader B} {c : Reader C} {d : Reader D} → IsSteady a → IsSteady b → IsSteady c → IsSteady d
+pub four : {A B C D X : Type 0} {a : Reader A} {b : Reader B} {c : Reader C} {d : Reader D} → IsSteady a → IsSteady b → IsSteady c
+    → IsSteady d
     → (make : A → B → C → D → X) → IsSteady (four_fields a b c d make)
 four {A} {B} {C} {D} {X} {a} {b} {c} {d} p q r s make = then_read p (λ x. three_fields b c d (make x)) (λ x. three q r s (make x))
 
-pub five : {A B C D E X : Type 0} {a : Reader A} {b : Reader B} {c : Reader C} {d : Reader D} {e : Reader E} → IsSteady a → IsSteady b → IsSteady c → IsSteady d → IsSteady e
+pub five : {A B C D E X : Type 0} {a : Reader A} {b : Reader B} {c : Reader C} {d : Reader D} {e : Reader E} → IsSteady a → IsSteady b
+    → IsSteady c → IsSteady d → IsSteady e
     → (make : A → B → C → D → E → X) → IsSteady (five_fields a b c d e make)
-five {A} {B} {C} {D} {E} {X} {a} {b} {c} {d} {e} p q r s t make = then_read p (λ x. four_fields b c d e (make x)) (λ x. four q r s t (make x))
+five {A} {B} {C} {D} {E} {X} {a} {b} {c} {d} {e} p q r s t make =
+    then_read p (λ x. four_fields b c d e (make x)) (λ x. four q r s t (make x))
 
 -- ---- One fact and the others, for a fact about each value of a table
 

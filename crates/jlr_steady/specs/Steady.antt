@@ -4,8 +4,8 @@ use Rattle.jlr_fields.specs.declared.fault.Fault.{Fault}
 use Rattle.jlr_fields.specs.declared.fault.Fault.TheVariants.{Short, Range}
 use Rattle.jlr_fields.specs.Reading.{Reader}
 
--- what reading gives, with more bytes behind: the same value, and they stand behind what is left; or a value out of range.
--- Only that bytes are missing may turn out otherwise
+-- what reading gives, with more bytes behind: the same value, and they stand behind what is left; or a value out of
+-- range. Only that bytes are missing may turn out otherwise
 abbrev pub StillReads : {A : Type 0} → List ℕ → Result (A × List ℕ) Fault → Result (A × List ℕ) Fault → Type 0
 StillReads more (Ok x) longer = longer ≡ Ok (x.0, x.1 ++ more)
 StillReads more (Err Short) longer = Unit {0}

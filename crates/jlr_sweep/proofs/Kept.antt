@@ -56,17 +56,25 @@ module _ (f : Machine) (g : Graph) (rooted : IsRooted f g) where
   held_object s h = rooted.fit.slots.roots s (held_root s h)
 
   pub edge_object : (x y : ℕ) → y ∈ edges_from UpToSoft g.objects x → IsTrue (is_some (at g.objects y))
-  edge_object x y h = rooted.fit.slots.edges x y (elim (edge_gives UpToSoft g.objects x y h) [ inl s ↦ edge_from UpToPhantom g.objects x y (inl s) | inr r ↦ edge_from UpToPhantom g.objects x y (inr (r.0, refl, r.2)) ])
+  edge_object x y h = rooted.fit.slots.edges x y (elim
+      (edge_gives UpToSoft g.objects x y h) [
+        | inl s ↦ edge_from UpToPhantom g.objects x y (inl s)
+        | inr r ↦
+            edge_from UpToPhantom g.objects x y (inr (r.0, refl, r.2))
+      ])
 
   pub referent_inside : (x y : ℕ) → RefersTo g.objects x y → y < length g.objects
-  referent_inside x y e = elim (at g.objects x) as (λ o. at g.objects x ≡ o → option_and_then any_referent o ≡ Some y → y < length g.objects) [
-    | None ↦ λ f e. no_some y e
-    | Some o ↦ λ f e. object_within g.objects y (referent_object (in_machine m g) rooted.fit x y o f e)
-  ] refl e
+  referent_inside x y e =
+      elim (at g.objects x) as (λ o. at g.objects x ≡ o → option_and_then any_referent o ≡ Some y → y < length g.objects) [
+        | None ↦ λ f e. no_some y e
+        | Some o ↦ λ f e. object_within g.objects y (referent_object (in_machine m g) rooted.fit x y o f e)
+      ] refl e
 
   -- ---- What was kept
 
-  module _ (kept_soft : ℕ → Bool) (marks : Marking) (long : length marks.bits ≡ length g.objects) (marked : (x : ℕ) → IsMarked marks x ↔ IsFollowed kept_soft g.objects (held g) x) (objects : (x : ℕ) → IsMarked marks x → IsTrue (is_some (at g.objects x))) where
+  module _ (kept_soft : ℕ → Bool) (marks : Marking) (long : length marks.bits ≡ length g.objects)
+      (marked : (x : ℕ) → IsMarked marks x ↔ IsFollowed kept_soft g.objects (held g) x)
+      (objects : (x : ℕ) → IsMarked marks x → IsTrue (is_some (at g.objects x))) where
     abbrev kept : List ℕ
     kept = marked_below marks (length g.objects)
 
@@ -77,7 +85,8 @@ module _ (f : Machine) (g : Graph) (rooted : IsRooted f g) where
     least =
         record {
           holds_base = λ s h. same s ∙ (marked s).1 (s, rooted.all_held s h, [], refl);
-          closed = λ x y h e. let f = (marked x).0 (sym (same x) ∙ h) in same y ∙ (marked y).1 (follows_on kept_soft g.objects (held g) x y f e);
+          closed = λ x y h e. let f = (marked x).0 (sym (same x) ∙ h) in same y
+              ∙ (marked y).1 (follows_on kept_soft g.objects (held g) x y f e);
           least = λ s h. let f = (marked s).0 (sym (same s) ∙ h) in (f.0, held_root f.0 f.1, f.2, f.3);
         }
 
@@ -85,9 +94,17 @@ module _ (f : Machine) (g : Graph) (rooted : IsRooted f g) where
     collects old new n f =
         let within = well_formed_within m rooted.fit in
         let around : IsWithinHeap g.objects (roots m ++ kept) =
-        record { edges = within.edges; base = λ s h. elim (in_append s (roots m) kept h) [ inl r ↦ within.base s r | inr k ↦ (let there = objects s (sym (same s) ∙ k) in object_within g.objects s there) ] } in
+        record {
+          edges = within.edges;
+          base = λ s h. elim (in_append s (roots m) kept h) [
+            | inl r ↦ within.base s r
+            | inr k ↦
+                (let there = objects s (sym (same s) ∙ k) in object_within g.objects s there)
+          ];
+        } in
         let cut = (comes_down_to_cutting_off g.objects (roots m ++ kept) kept f.pending around).0 f.collection in
-        let by_policy : IsMarkedBy kept_soft g.objects (roots m) kept f.pending = record { marked = least; pended = cut.pended; once = cut.once; rising = cut.rising } in
+        let by_policy : IsMarkedBy kept_soft g.objects (roots m) kept f.pending =
+        record { marked = least; pended = cut.pended; once = cut.once; rising = cut.rising } in
         record {
           kept = kept;
           pending = f.pending;
@@ -99,11 +116,13 @@ module _ (f : Machine) (g : Graph) (rooted : IsRooted f g) where
         }
 
 -- where no soft reference is kept, all are cleared
-pub clears_all : (m : Machine) (policy : Policy) (clock : Clock) (old new : Choosing) (n : Machine) → policy.mode ≡ ClearAll → IsWellFormed m → (c : Collects (keeps policy clock) m old new n) → IsFullClearing m c.kept c.pending
+pub clears_all : (m : Machine) (policy : Policy) (clock : Clock) (old new : Choosing) (n : Machine) → policy.mode ≡ ClearAll
+    → IsWellFormed m → (c : Collects (keeps policy clock) m old new n) → IsFullClearing m c.kept c.pending
 clears_all m policy clock old new n all w c =
     keeping_none_makes_clearing m (keeps policy clock) c.kept c.pending (well_formed_within m w) (λ s. rw all refl) c.marked
 
 -- as the choice tells it
-pub clears_told : (m : Machine) (policy : Policy) (clock : Clock) (old new : Choosing) (n : Machine) → policy.mode ≡ ClearAll → IsWellFormed m → Collects (keeps policy clock) m old new n → IsFullClearing m (kept_by new) (pended_by new)
+pub clears_told : (m : Machine) (policy : Policy) (clock : Clock) (old new : Choosing) (n : Machine) → policy.mode ≡ ClearAll
+    → IsWellFormed m → Collects (keeps policy clock) m old new n → IsFullClearing m (kept_by new) (pended_by new)
 clears_told m policy clock old new n all w c =
     subst (λ k. IsFullClearing m (kept_by k) (pended_by k)) (sym c.chosen) (clears_all m policy clock old new n all w c)

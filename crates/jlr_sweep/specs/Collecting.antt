@@ -11,8 +11,8 @@ use Rattle.jlr_laws.specs.Laws.{IsMarked}
 abbrev pub closed : Machine → Machine
 closed m = record m { cycle_open = false; seen = [] }
 
--- A full collection of m that leaves n: it keeps the least set that holds the roots and is closed under strong edges and under the soft edges
--- of those members that are kept, and the choice says so
+-- A full collection of m that leaves n: it keeps the least set that holds the roots and is closed under strong edges
+-- and under the soft edges of those members that are kept, and the choice says so
 pub record Collects (kept_soft : ℕ → Bool) (m : Machine) (old new : Choosing) (n : Machine) : Type 0 where
   pub kept : List ℕ
   pub pending : List ℕ

@@ -16,16 +16,17 @@ use jlr_process::flip;
 use jlr_soft::Policy;
 use jlr_types::Meter;
 
-/// A full collection (package `java.lang.ref`). It keeps the least set that holds the roots and is closed under strong edges and under the
-/// soft edges of those members that the policy keeps; in the mode `ClearAll` that is exactly what is strongly reachable. All references
-/// to the rest are cleared, and those of them that are ready become pending. An open cycle is over then, and no cell is condemned: each that holds no object is free. It
-/// takes no memory.
+/// A full collection (package `java.lang.ref`). It keeps the least set that holds the roots and is closed under strong
+/// edges and under the soft edges of those members that the policy keeps; in the mode `ClearAll` that is exactly what
+/// is strongly reachable. All references to the rest are cleared, and those of them that are ready become pending. An
+/// open cycle is over then, and no cell is condemned: each that holds no object is free. It takes no memory.
 pub fn full(heap: &mut Heap, policy: &Policy, choice: &mut Choice)
     requires fit { (m : Machine) × IsRooted m heap.old.graph }
     requires nothing { choice.old ≡ nothing_chosen choice.old.cells }
     requires room { length heap.old.graph.objects ≤ choice.old.cells }
     ensures collects { (m : Machine) → IsRooted m heap.old.graph →
-        Collects (keeps policy.now heap.old.clock) (in_machine m heap.old.graph) choice.old choice.new (closed (in_machine m heap.new.graph)) }
+        Collects (keeps policy.now heap.old.clock) (in_machine m heap.old.graph) choice.old choice.new
+        (closed (in_machine m heap.new.graph)) }
     ensures clears { policy.now.mode ≡ ClearAll → (m : Machine) → IsRooted m heap.old.graph →
         IsFullClearing (in_machine m heap.old.graph) (kept_by choice.new) (pended_by choice.new) }
     ensures mutators { heap.new.graph.mutators ≡ heap.old.graph.mutators }

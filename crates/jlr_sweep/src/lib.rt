@@ -1,5 +1,5 @@
-//! Full collections: what is marked is what the roots reach by strong edges and by the soft edges that a policy keeps; all else is
-//! cleared and removed.
+//! Full collections: what is marked is what the roots reach by strong edges and by the soft edges that a policy keeps;
+//! all else is cleared and removed.
 //!
 //! Marking is whole here, and takes no memory: the stack of grey slots was made with the heap.
 #![tactic(auto)]

@@ -1,5 +1,6 @@
 -- Whole files: what is read is what was written, and what was written is read again.
-use Rattle.std.proofs.Common.{◌≡◌, ℕ, zero, suc, ◌+◌, Bool, true, false, cond, List, [], ◌∷◌, ◌++◌, length, Result, Ok, Err, refl, sym, ap, subst, ◌∙◌, append_assoc, arith}
+use Rattle.std.proofs.Common.{◌≡◌, ℕ, zero, suc, ◌+◌, Bool, true, false, cond, List, [], ◌∷◌, ◌++◌, length, Result, Ok, Err, refl, sym, ap}
+use Rattle.std.proofs.Common.{subst, ◌∙◌, append_assoc, arith}
 use Rattle.std.specs.Prelude.{IfOk, nat_eq}
 use Rattle.std.specs.List.{flat_map, AllByRecursion}
 use Rattle.std.specs.Int.{w64}
@@ -20,12 +21,14 @@ use Rattle.jlr_trace.specs.declared.file.TraceFault.{TraceFault}
 use Rattle.jlr_trace.specs.declared.file.TraceFault.TheVariants.{BadMark, BadVersion, BadEntry}
 use Rattle.jlr_sections.specs.Entries.{spelled_entry, EntryFits, entry_read}
 use Rattle.jlr_sections.specs.Images.{ImageText, spelled_image, image_read}
-use Rattle.jlr_trace.specs.Files.{FileText, file_text, version_number, mark, spelled_file, FileFits, ◌>>>◌, in_entry, expected, version_read, mark_read, entries_read, front_read, file_read, FileGives}
+use Rattle.jlr_trace.specs.Files.{FileText, file_text, version_number, mark, spelled_file, FileFits, ◌>>>◌, in_entry, expected}
+use Rattle.jlr_trace.specs.Files.{version_read, mark_read, entries_read, front_read, file_read, FileGives}
 use Rattle.jlr_sections.proofs.EntryLaws.{entry}
 use Rattle.jlr_sections.proofs.ImageLaws.{image}
 
 -- the value of a step that did not fail
-pub step_ok : {A B : Type 0} (r : Result A TraceFault) (f : A → Result B TraceFault) (y : B) → (r >>> f) ≡ Ok y → (x : A) × (r ≡ Ok x) × (f x ≡ Ok y)
+pub step_ok : {A B : Type 0} (r : Result A TraceFault) (f : A → Result B TraceFault) (y : B) → (r >>> f) ≡ Ok y → (x : A) × (r ≡ Ok x)
+    × (f x ≡ Ok y)
 step_ok (Ok x) f y e = (x, refl, e)
 step_ok (Err d) f y e = absurd cc
 
@@ -55,7 +58,8 @@ abbrev pub Versioned : Type 0
 Versioned = Version × List ℕ
 
 version_is : (b : ℕ) (bytes : List ℕ) (y : Versioned) (one two : Bool) → nat_eq b 1 ≡ one → nat_eq b 2 ≡ two
-    → cond {A = Result Versioned TraceFault} one (Ok (One, bytes)) (cond {A = Result Versioned TraceFault} two (Ok (Two, bytes)) (Err BadVersion)) ≡ Ok y → b ∷ bytes ≡ version_number y.0 ∷ y.1
+    → cond {A = Result Versioned TraceFault} one (Ok (One, bytes))
+    (cond {A = Result Versioned TraceFault} two (Ok (Two, bytes)) (Err BadVersion)) ≡ Ok y → b ∷ bytes ≡ version_number y.0 ∷ y.1
 version_is b bytes y true two is other e =
     let made : Versioned = (One, bytes) in
     let same : b ≡ 1 = eqb-true b 1 is in
@@ -71,7 +75,8 @@ version_takes [] y e = absurd cc
 version_takes (b ∷ bytes) y e = version_is b bytes y (nat_eq b 1) (nat_eq b 2) refl refl e
 
 -- five bytes, one behind the other
-five_bytes : (bytes a b c d rest : List ℕ) (n : ℕ) → bytes ≡ 74 ∷ a → a ≡ 76 ∷ b → b ≡ 82 ∷ c → c ≡ 84 ∷ d → d ≡ n ∷ rest → bytes ≡ 74 ∷ 76 ∷ 82 ∷ 84 ∷ n ∷ rest
+five_bytes : (bytes a b c d rest : List ℕ) (n : ℕ) → bytes ≡ 74 ∷ a → a ≡ 76 ∷ b → b ≡ 82 ∷ c → c ≡ 84 ∷ d → d ≡ n ∷ rest
+    → bytes ≡ 74 ∷ 76 ∷ 82 ∷ 84 ∷ n ∷ rest
 five_bytes bytes a b c d rest n p q r s t = rw (p, q, r, s, t) refl
 
 pub mark_takes : (bytes : List ℕ) (y : Versioned) → mark_read bytes ≡ Ok y → bytes ≡ mark y.0 ++ y.1
@@ -98,56 +103,79 @@ mark_fits version bytes rest e fits i = subst (λ (b : List ℕ). IsBytes b) e f
 
 -- ---- Entries
 
-pub entries_take : (version : Version) (number n : ℕ) (bytes : List ℕ) (xs : List Entry) (rest : List ℕ) → IsBytes bytes → entries_read version number n bytes ≡ Ok (xs, rest)
+pub entries_take : (version : Version) (number n : ℕ) (bytes : List ℕ) (xs : List Entry) (rest : List ℕ) → IsBytes bytes
+    → entries_read version number n bytes ≡ Ok (xs, rest)
     → Takes bytes (flat_map (spelled_entry version) xs) rest × (length xs ≡ n) × AllByRecursion (EntryFits version) xs
 unfolding entries_read
 entries_take version number zero bytes xs rest fits e =
     let nothing : List Entry × List ℕ = ([], bytes) in
-    subst (λ (y : List Entry × List ℕ). Takes bytes (flat_map (spelled_entry version) y.0) y.1 × (length y.0 ≡ 0) × AllByRecursion (EntryFits version) y.0) (good_is nothing (xs, rest) e) (record { parts = refl; rest_fits = fits }, refl, tt)
+    subst (λ (y : List Entry × List ℕ). Takes bytes (flat_map (spelled_entry version) y.0) y.1 × (length y.0 ≡ 0)
+    × AllByRecursion (EntryFits version) y.0) (good_is nothing (xs, rest) e) (record { parts = refl; rest_fits = fits }, refl, tt)
 entries_take version number (suc n) bytes xs rest fits e =
-    let a = step_ok (in_entry number (entry_read version bytes)) (λ first. entries_read version (suc number) n first.1 >>> λ others. Ok (first.0 ∷ others.0, others.1)) (xs, rest) e in
+    let a = step_ok (in_entry number (entry_read version bytes))
+    (λ first. entries_read version (suc number) n first.1 >>> λ others. Ok (first.0 ∷ others.0, others.1)) (xs, rest) e in
     let b = step_ok (entries_read version (suc number) n a.0.1) (λ others. Ok (a.0.0 ∷ others.0, others.1)) (xs, rest) a.2 in
     let first = (entry version).takes bytes a.0.0 a.0.1 fits (field_ok number (entry_read version bytes) a.0 a.1) in
     let second = entries_take version (suc number) n a.0.1 b.0.0 b.0.1 first.0.rest_fits b.1 in
     let both = Takes-then bytes (spelled_entry version a.0.0) a.0.1 (flat_map (spelled_entry version) b.0.0) b.0.1 first.0 second.0 in
     let made : List Entry × List ℕ = (a.0.0 ∷ b.0.0, b.0.1) in
-    subst (λ (y : List Entry × List ℕ). Takes bytes (flat_map (spelled_entry version) y.0) y.1 × (length y.0 ≡ suc n) × AllByRecursion (EntryFits version) y.0) (good_is made (xs, rest) b.2)
-    (subst (λ (t : List ℕ). Takes bytes t b.0.1) (sym (flat_map-cons (spelled_entry version) a.0.0 b.0.0)) both, ap suc second.1, (first.1, second.2))
+    subst (λ (y : List Entry × List ℕ). Takes bytes (flat_map (spelled_entry version) y.0) y.1 × (length y.0 ≡ suc n)
+    × AllByRecursion (EntryFits version) y.0) (good_is made (xs, rest) b.2) (
+      subst (λ (t : List ℕ). Takes bytes t b.0.1) (sym (flat_map-cons (spelled_entry version) a.0.0 b.0.0)) both,
+      ap suc second.1,
+      (first.1, second.2),
+    )
 
-entries_again : (version : Version) (number : ℕ) (xs : List Entry) (rest : List ℕ) → AllByRecursion (EntryFits version) xs → entries_read version number (length xs) (flat_map (spelled_entry version) xs ++ rest) ≡ Ok (xs, rest)
+entries_again : (version : Version) (number : ℕ) (xs : List Entry) (rest : List ℕ) → AllByRecursion (EntryFits version) xs
+    → entries_read version number (length xs) (flat_map (spelled_entry version) xs ++ rest) ≡ Ok (xs, rest)
 unfolding entries_read
 entries_again version number [] rest fits = refl
 entries_again version number (x ∷ xs) rest fits =
-    let regrouped : flat_map (spelled_entry version) (x ∷ xs) ++ rest ≡ spelled_entry version x ++ (flat_map (spelled_entry version) xs ++ rest) = ap (λ (y : List ℕ). y ++ rest) (flat_map-cons (spelled_entry version) x xs) ∙ append_assoc (spelled_entry version x) (flat_map (spelled_entry version) xs) rest in
-    ap (entries_read version number (suc (length xs))) regrouped ∙ rw ((entry version).again x (flat_map (spelled_entry version) xs ++ rest) fits.0, entries_again version (suc number) xs rest fits.1) refl
+    let regrouped : flat_map (spelled_entry version) (x ∷ xs) ++ rest ≡ spelled_entry version x
+    ++ (flat_map (spelled_entry version) xs ++ rest) = ap (λ (y : List ℕ). y ++ rest) (flat_map-cons (spelled_entry version) x xs)
+    ∙ append_assoc (spelled_entry version x) (flat_map (spelled_entry version) xs) rest in
+    ap (entries_read version number (suc (length xs))) regrouped
+    ∙ rw (
+      (entry version).again x (flat_map (spelled_entry version) xs ++ rest) fits.0,
+      entries_again version (suc number) xs rest fits.1,
+    ) refl
 
 -- ---- Files
 
 abbrev pub made_file : Version → ImageText → List Entry → FileText
 made_file version image entries = record { version = version; image = image; entries = entries }
 
-pub whole : (m i c e rest bytes b1 b2 b3 : List ℕ) → bytes ≡ m ++ b1 → b1 ≡ i ++ b2 → b2 ≡ c ++ b3 → b3 ≡ e ++ rest → bytes ≡ (((m ++ i) ++ c) ++ e) ++ rest
+pub whole : (m i c e rest bytes b1 b2 b3 : List ℕ) → bytes ≡ m ++ b1 → b1 ≡ i ++ b2 → b2 ≡ c ++ b3 → b3 ≡ e ++ rest
+    → bytes ≡ (((m ++ i) ++ c) ++ e) ++ rest
 whole m i c e rest bytes b1 b2 b3 p q r s =
     p ∙ ap (λ (t : List ℕ). m ++ t) (q ∙ ap (λ (t : List ℕ). i ++ t) (r ∙ ap (λ (t : List ℕ). c ++ t) s)) ∙ simp append_assoc
 
 -- what is read at the front is spelled so
-pub front_takes : (bytes : List ℕ) (t : FileText) (rest : List ℕ) → IsBytes bytes → front_read bytes ≡ Ok (t, rest) → (bytes ≡ spelled_file t ++ rest) × FileFits t
+pub front_takes : (bytes : List ℕ) (t : FileText) (rest : List ℕ) → IsBytes bytes → front_read bytes ≡ Ok (t, rest)
+    → (bytes ≡ spelled_file t ++ rest) × FileFits t
 unfolding front_read
 front_takes bytes t rest fits e =
-    let a = step_ok (mark_read bytes) (λ (v : Versioned). in_entry 0 (image_read v.0 v.1) >>> λ image. in_entry 0 (number_at w64 image.1) >>> λ count. entries_read v.0 1 count.0 count.1 >>> λ entries. Ok (made_file v.0 image.0 entries.0, entries.1)) (t, rest) e in
+    let a = step_ok (mark_read bytes) (λ (v : Versioned). in_entry 0 (image_read v.0 v.1) >>> λ image. in_entry 0 (number_at w64 image.1)
+    >>> λ count. entries_read v.0 1 count.0 count.1 >>> λ entries. Ok (made_file v.0 image.0 entries.0, entries.1)) (t, rest) e in
     let v : Version = a.0.0 in
-    let b = step_ok (in_entry 0 (image_read v a.0.1)) (λ image. in_entry 0 (number_at w64 image.1) >>> λ count. entries_read v 1 count.0 count.1 >>> λ entries. Ok (made_file v image.0 entries.0, entries.1)) (t, rest) a.2 in
-    let c = step_ok (in_entry 0 (number_at w64 b.0.1)) (λ count. entries_read v 1 count.0 count.1 >>> λ entries. Ok (made_file v b.0.0 entries.0, entries.1)) (t, rest) b.2 in
+    let b = step_ok (in_entry 0 (image_read v a.0.1))
+    (λ image. in_entry 0 (number_at w64 image.1) >>> λ count. entries_read v 1 count.0 count.1 >>> λ entries. Ok
+    (made_file v image.0 entries.0, entries.1)) (t, rest) a.2 in
+    let c = step_ok (in_entry 0 (number_at w64 b.0.1))
+    (λ count. entries_read v 1 count.0 count.1 >>> λ entries. Ok (made_file v b.0.0 entries.0, entries.1)) (t, rest) b.2 in
     let d = step_ok (entries_read v 1 c.0.0 c.0.1) (λ entries. Ok (made_file v b.0.0 entries.0, entries.1)) (t, rest) c.2 in
     let start : bytes ≡ mark v ++ a.0.1 = mark_takes bytes a.0 a.1 in
     let i = (image v).takes a.0.1 b.0.0 b.0.1 (mark_fits v bytes a.0.1 start fits) (field_ok 0 (image_read v a.0.1) b.0 b.1) in
     let n = eight_bytes.takes b.0.1 c.0.0 c.0.1 i.0.rest_fits (field_ok 0 (number_at w64 b.0.1) c.0 c.1) in
     let x = entries_take v 1 c.0.0 c.0.1 d.0.0 d.0.1 n.0.rest_fits d.1 in
     let counted : c.0.1 ≡ flat_map (spelled_entry v) d.0.0 ++ d.0.1 = x.0.parts in
-    let parts = whole (mark v) (spelled_image b.0.0) (spelled_64 c.0.0) (flat_map (spelled_entry v) d.0.0) d.0.1 bytes a.0.1 b.0.1 c.0.1 start i.0.parts n.0.parts counted in
+    let parts = whole (mark v) (spelled_image b.0.0) (spelled_64 c.0.0) (flat_map (spelled_entry v) d.0.0) d.0.1 bytes a.0.1 b.0.1 c.0.1
+    start i.0.parts n.0.parts counted in
     let made : FileText × List ℕ = (made_file v b.0.0 d.0.0, d.0.1) in
-    subst (λ (y : FileText × List ℕ). (bytes ≡ spelled_file y.0 ++ y.1) × FileFits y.0) (good_is made (t, rest) d.2)
-    (parts ∙ ap (λ k. (((mark v ++ spelled_image b.0.0) ++ spelled_64 k) ++ flat_map (spelled_entry v) d.0.0) ++ d.0.1) (sym x.1), record { image = i.1; count = omega (arith, x.1, n.1); entries = x.2 })
+    subst (λ (y : FileText × List ℕ). (bytes ≡ spelled_file y.0 ++ y.1) × FileFits y.0) (good_is made (t, rest) d.2) (
+      parts ∙ ap (λ k. (((mark v ++ spelled_image b.0.0) ++ spelled_64 k) ++ flat_map (spelled_entry v) d.0.0) ++ d.0.1) (sym x.1),
+      record { image = i.1; count = omega (arith, x.1, n.1); entries = x.2 },
+    )
 
 regrouped : (m i c e rest : List ℕ) → (((m ++ i) ++ c) ++ e) ++ rest ≡ m ++ (i ++ (c ++ (e ++ rest)))
 regrouped m i c e rest = simp append_assoc
@@ -160,7 +188,12 @@ front_again t rest fits =
     let c : List ℕ = spelled_64 (length t.entries) in
     let e : List ℕ = flat_map (spelled_entry t.version) t.entries in
     ap front_read (regrouped (mark t.version) i c e rest)
-    ∙ rw (mark_again t.version (i ++ (c ++ (e ++ rest))), (image t.version).again t.image (c ++ (e ++ rest)) fits.image, eight_bytes.again (length t.entries) (e ++ rest) fits.count, entries_again t.version 1 t.entries rest fits.entries) refl
+    ∙ rw (
+      mark_again t.version (i ++ (c ++ (e ++ rest))),
+      (image t.version).again t.image (c ++ (e ++ rest)) fits.image,
+      eight_bytes.again (length t.entries) (e ++ rest) fits.count,
+      entries_again t.version 1 t.entries rest fits.entries,
+    ) refl
 
 pub ended : (b : Bool) (f : TraceFault) (x y : FileText) → cond b (Ok x) (Err f) ≡ Ok y → (b ≡ true) × (x ≡ y)
 ended true f x y e = (refl, cc)
@@ -169,11 +202,13 @@ ended false f x y e = absurd cc
 pub file_takes : (bytes : List ℕ) (t : FileText) → IsBytes bytes → file_read bytes ≡ Ok t → FileFits t × (bytes ≡ spelled_file t)
 unfolding file_read
 file_takes bytes t fits e =
-    let a = step_ok (front_read bytes) (λ file. cond (nat_eq (length file.1) 0) (Ok file.0) (Err (BadEntry (length file.0.entries + 1)))) t e in
+    let a = step_ok (front_read bytes) (λ file. cond (nat_eq (length file.1) 0) (Ok file.0) (Err (BadEntry (length file.0.entries + 1)))) t
+    e in
     let g = ended (nat_eq (length a.0.1) 0) (BadEntry (length a.0.0.entries + 1)) a.0.0 t a.2 in
     let r = front_takes bytes a.0.0 a.0.1 fits a.1 in
     let nothing : a.0.1 ≡ [] = nil_from_length a.0.1 (eqb-true _ _ g.0) in
-    subst (λ (y : FileText). FileFits y × (bytes ≡ spelled_file y)) g.1 (r.1, r.0 ∙ ap (λ (b : List ℕ). spelled_file a.0.0 ++ b) nothing ∙ append-nil (spelled_file a.0.0))
+    subst (λ (y : FileText). FileFits y × (bytes ≡ spelled_file y)) g.1
+    (r.1, r.0 ∙ ap (λ (b : List ℕ). spelled_file a.0.0 ++ b) nothing ∙ append-nil (spelled_file a.0.0))
 
 pub file_again : (t : FileText) → FileFits t → file_read (spelled_file t) ≡ Ok t
 unfolding file_read
@@ -183,7 +218,8 @@ file_again t fits =
 
 -- ---- What reading a file promises
 
-pub is_found : (bytes : List ℕ) (r : Result TraceFile TraceFault) → IsBytes bytes → FileGives file_text r (file_read bytes) → IfOk r (λ f. FileFits (file_text f) × (bytes ≡ spelled_file (file_text f)))
+pub is_found : (bytes : List ℕ) (r : Result TraceFile TraceFault) → IsBytes bytes → FileGives file_text r (file_read bytes)
+    → IfOk r (λ f. FileFits (file_text f) × (bytes ≡ spelled_file (file_text f)))
 is_found bytes (Ok f) fits given = file_takes bytes (file_text f) fits given
 is_found bytes (Err e) fits given = tt
 

@@ -19,7 +19,8 @@ one_file f g p q e =
     ∙ ap (λ (i : Image). built (file_text g) i) (one_image (image_of f) (image_of g) p q (ap (λ (t : FileText). t.image) e))
 
 -- what is read of a file's text is that file
-pub read_back : (r : Result TraceFile TraceFault) (f : TraceFile) → HasSpelling f → FileGives file_text r (Ok (file_text f)) → IfOk r (λ g. HasShape (image_of g)) → FileGives (λ x. x) r (Ok f)
+pub read_back : (r : Result TraceFile TraceFault) (f : TraceFile) → HasSpelling f → FileGives file_text r (Ok (file_text f))
+    → IfOk r (λ g. HasShape (image_of g)) → FileGives (λ x. x) r (Ok f)
 read_back (Ok g) f has e shape =
     let same : file_text f ≡ file_text g = cc in
     ap (λ (x : TraceFile). Ok x) (one_file f g has.shape shape same)

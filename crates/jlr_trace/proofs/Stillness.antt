@@ -34,9 +34,11 @@ pub record IsStill {A : Type 0} (read : List ℕ → Result (A × List ℕ) Trac
   pub still : (bytes more : List ℕ) → Still (grown more) (read bytes) (read (bytes ++ more))
 
 -- one step behind another
-next : {X Y : Type 0} (grow : X → X) (then_grow : Y → Y) (first longer : Result X TraceFault) (then : X → Result Y TraceFault) → ((x : X) → Still then_grow (then x) (then (grow x)))
+next : {X Y : Type 0} (grow : X → X) (then_grow : Y → Y) (first longer : Result X TraceFault) (then : X → Result Y TraceFault)
+    → ((x : X) → Still then_grow (then x) (then (grow x)))
     → Still grow first longer → Still then_grow (first >>> then) (longer >>> then)
-next {X} grow then_grow (Ok x) longer then steps e = subst (λ (l : Result X TraceFault). Still then_grow (then x) (l >>> then)) (sym e) (steps x)
+next {X} grow then_grow (Ok x) longer then steps e =
+    subst (λ (l : Result X TraceFault). Still then_grow (then x) (l >>> then)) (sym e) (steps x)
 next grow then_grow (Err Truncated) longer then steps e = tt
 next {X} grow then_grow (Err BadMark) longer then steps e = ap (λ (l : Result X TraceFault). l >>> then) e
 next {X} grow then_grow (Err BadVersion) longer then steps e = ap (λ (l : Result X TraceFault). l >>> then) e
@@ -49,7 +51,8 @@ module _ (more : List ℕ) where
   abbrev longer_rest : List ℕ → List ℕ
   longer_rest rest = rest ++ more
 
-  right_or_not : (right : Bool) (rest : List ℕ) → Still longer_rest (cond right (Ok rest) (Err BadMark)) (cond right (Ok (rest ++ more)) (Err BadMark))
+  right_or_not : (right : Bool) (rest : List ℕ) → Still longer_rest (cond right (Ok rest) (Err BadMark))
+      (cond right (Ok (rest ++ more)) (Err BadMark))
   right_or_not true rest = refl
   right_or_not false rest = refl
 
@@ -58,7 +61,8 @@ module _ (more : List ℕ) where
   still_byte byte (b ∷ rest) = right_or_not (nat_eq b byte) rest
 
   known_or_not : (one two : Bool) (rest : List ℕ)
-      → Still {X = Version × List ℕ} (grown more) (cond one (Ok (One, rest)) (cond two (Ok (Two, rest)) (Err BadVersion))) (cond one (Ok (One, rest ++ more)) (cond two (Ok (Two, rest ++ more)) (Err BadVersion)))
+      → Still {X = Version × List ℕ} (grown more) (cond one (Ok (One, rest)) (cond two (Ok (Two, rest)) (Err BadVersion)))
+      (cond one (Ok (One, rest ++ more)) (cond two (Ok (Two, rest ++ more)) (Err BadVersion)))
   known_or_not true two rest = refl
   known_or_not false true rest = refl
   known_or_not false false rest = refl
@@ -71,21 +75,29 @@ module _ (more : List ℕ) where
   unfolding mark_read
   still_mark bytes =
       let one : Still longer_rest (expected 74 bytes) (expected 74 (bytes ++ more)) = still_byte 74 bytes in
-      let two : Still longer_rest (expected 74 bytes >>> expected 76) (expected 74 (bytes ++ more) >>> expected 76) = next longer_rest longer_rest (expected 74 bytes) (expected 74 (bytes ++ more)) (expected 76) (still_byte 76) one in
-      let three : Still longer_rest (expected 74 bytes >>> expected 76 >>> expected 82) (expected 74 (bytes ++ more) >>> expected 76 >>> expected 82) =
-      next longer_rest longer_rest (expected 74 bytes >>> expected 76) (expected 74 (bytes ++ more) >>> expected 76) (expected 82) (still_byte 82) two in
-      let four : Still longer_rest (expected 74 bytes >>> expected 76 >>> expected 82 >>> expected 84) (expected 74 (bytes ++ more) >>> expected 76 >>> expected 82 >>> expected 84) =
-      next longer_rest longer_rest (expected 74 bytes >>> expected 76 >>> expected 82) (expected 74 (bytes ++ more) >>> expected 76 >>> expected 82) (expected 84) (still_byte 84) three in
-      next longer_rest (grown more) (expected 74 bytes >>> expected 76 >>> expected 82 >>> expected 84) (expected 74 (bytes ++ more) >>> expected 76 >>> expected 82 >>> expected 84) version_read still_version four
+      let two : Still longer_rest (expected 74 bytes >>> expected 76) (expected 74 (bytes ++ more) >>> expected 76) =
+      next longer_rest longer_rest (expected 74 bytes) (expected 74 (bytes ++ more)) (expected 76) (still_byte 76) one in
+      let three : Still longer_rest (expected 74 bytes >>> expected 76 >>> expected 82)
+      (expected 74 (bytes ++ more) >>> expected 76 >>> expected 82) =
+      next longer_rest longer_rest (expected 74 bytes >>> expected 76) (expected 74 (bytes ++ more) >>> expected 76) (expected 82)
+      (still_byte 82) two in
+      let four : Still longer_rest (expected 74 bytes >>> expected 76 >>> expected 82 >>> expected 84)
+      (expected 74 (bytes ++ more) >>> expected 76 >>> expected 82 >>> expected 84) =
+      next longer_rest longer_rest (expected 74 bytes >>> expected 76 >>> expected 82)
+      (expected 74 (bytes ++ more) >>> expected 76 >>> expected 82) (expected 84) (still_byte 84) three in
+      next longer_rest (grown more) (expected 74 bytes >>> expected 76 >>> expected 82 >>> expected 84)
+      (expected 74 (bytes ++ more) >>> expected 76 >>> expected 82 >>> expected 84) version_read still_version four
 
   -- ---- Fields in an entry, and the head of a file
 
-  still_in : {A : Type 0} (number : ℕ) (first longer : Result (A × List ℕ) Fault) → StillReads more first longer → Still (grown more) (in_entry number first) (in_entry number longer)
+  still_in : {A : Type 0} (number : ℕ) (first longer : Result (A × List ℕ) Fault) → StillReads more first longer
+      → Still (grown more) (in_entry number first) (in_entry number longer)
   still_in number (Ok x) longer e = ap (in_entry number) e
   still_in number (Err Short) longer e = tt
   still_in number (Err Range) longer e = ap (in_entry number) e
 
-  still_field : {A : Type 0} (number : ℕ) (read : Reader A) → IsSteady read → (bytes : List ℕ) → Still (grown more) (in_entry number (read bytes)) (in_entry number (read (bytes ++ more)))
+  still_field : {A : Type 0} (number : ℕ) (read : Reader A) → IsSteady read → (bytes : List ℕ)
+      → Still (grown more) (in_entry number (read bytes)) (in_entry number (read (bytes ++ more)))
   still_field number read steady bytes = still_in number (read bytes) (read (bytes ++ more)) (steady.still bytes more)
 
   abbrev with_count : Version → ImageText → ℕ × List ℕ → Result (HeadingText × List ℕ) TraceFault
@@ -97,17 +109,21 @@ module _ (more : List ℕ) where
   abbrev behind_mark : Version × List ℕ → Result (HeadingText × List ℕ) TraceFault
   behind_mark version = in_entry 0 (image_read version.0 version.1) >>> behind_image version.0
 
-  still_behind_image : (version : Version) (i : ImageText × List ℕ) → Still (grown more) (behind_image version i) (behind_image version (grown more i))
+  still_behind_image : (version : Version) (i : ImageText × List ℕ)
+      → Still (grown more) (behind_image version i) (behind_image version (grown more i))
   still_behind_image version i =
-      next (grown more) (grown more) (in_entry 0 (number_at w64 i.1)) (in_entry 0 (number_at w64 (i.1 ++ more))) (with_count version i.0) (λ c. refl) (still_field 0 (number_at w64) (number w64) i.1)
+      next (grown more) (grown more) (in_entry 0 (number_at w64 i.1)) (in_entry 0 (number_at w64 (i.1 ++ more))) (with_count version i.0)
+      (λ c. refl) (still_field 0 (number_at w64) (number w64) i.1)
 
   still_behind_mark : (v : Version × List ℕ) → Still (grown more) (behind_mark v) (behind_mark (grown more v))
   still_behind_mark v =
-      next (grown more) (grown more) (in_entry 0 (image_read v.0 v.1)) (in_entry 0 (image_read v.0 (v.1 ++ more))) (behind_image v.0) (still_behind_image v.0) (still_field 0 (image_read v.0) (image v.0) v.1)
+      next (grown more) (grown more) (in_entry 0 (image_read v.0 v.1)) (in_entry 0 (image_read v.0 (v.1 ++ more))) (behind_image v.0)
+      (still_behind_image v.0) (still_field 0 (image_read v.0) (image v.0) v.1)
 
   still_heading : (bytes : List ℕ) → Still (grown more) (heading_read bytes) (heading_read (bytes ++ more))
   unfolding heading_read
-  still_heading bytes = next (grown more) (grown more) (mark_read bytes) (mark_read (bytes ++ more)) behind_mark still_behind_mark (still_mark bytes)
+  still_heading bytes =
+      next (grown more) (grown more) (mark_read bytes) (mark_read (bytes ++ more)) behind_mark still_behind_mark (still_mark bytes)
 
 pub heading_is_still : IsStill heading_read
 heading_is_still = record { still = λ bytes more. still_heading more bytes }

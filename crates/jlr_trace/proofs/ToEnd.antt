@@ -35,7 +35,8 @@ behind_its_mark version = in_entry 0 (image_read version.0 version.1) >>> behind
 
 module _ (v : Version) (image : ImageText) where
   after_end : (es : List Entry × List ℕ) (b : Bool) →
-      ◌≡◌ {A = Result FileText TraceFault} (if b then Ok (record { version = v; image = image; entries = es.0 }) else Err (BadEntry (length es.0 + 1)))
+      ◌≡◌ {A = Result FileText TraceFault} (if b then Ok (record { version = v; image = image; entries = es.0 }) else Err
+      (BadEntry (length es.0 + 1)))
       (◌>>>◌ {A = List Entry} (if b then Ok es.0 else Err (BadEntry (length es.0 + 1))) (file_with v image))
   after_end es true = refl
   after_end es false = refl

@@ -25,14 +25,16 @@ both_true false b p q = absurd cc
 
 -- ---- Lists
 
-all_split : {A : Type 0} (P Q : A → Type 0) (test : A → Bool) → ((x : A) → P x → Q x × IsTrue (test x)) → (xs : List A) → AllByRecursion P xs → AllByRecursion Q xs × IsTrue (list_all test xs)
+all_split : {A : Type 0} (P Q : A → Type 0) (test : A → Bool) → ((x : A) → P x → Q x × IsTrue (test x)) → (xs : List A)
+    → AllByRecursion P xs → AllByRecursion Q xs × IsTrue (list_all test xs)
 all_split P Q test each [] all = (tt, refl)
 all_split P Q test each (x ∷ xs) all =
     let first = each x all.0 in
     let rest = all_split P Q test each xs all.1 in
     ((first.0, rest.0), both_true (test x) (list_all test xs) first.1 rest.1)
 
-all_joined : {A : Type 0} (P Q : A → Type 0) (test : A → Bool) → ((x : A) → P x → IsTrue (test x) → Q x) → (xs : List A) → AllByRecursion P xs → IsTrue (list_all test xs) → AllByRecursion Q xs
+all_joined : {A : Type 0} (P Q : A → Type 0) (test : A → Bool) → ((x : A) → P x → IsTrue (test x) → Q x) → (xs : List A)
+    → AllByRecursion P xs → IsTrue (list_all test xs) → AllByRecursion Q xs
 all_joined P Q test each [] all passes = tt
 all_joined P Q test each (x ∷ xs) all passes =
     let parts = and_parts (test x) (list_all test xs) passes in
@@ -89,7 +91,8 @@ ask_joined (Array m n) fits passes = absurd cc
 ask_joined ask fits passes = fits
 
 entry_split : (e : Entry) → EntryFits One e → EntryFits Two e × IsTrue (ask_fits_version_1 e.ask)
-entry_split e fits = let a = ask_split e.ask fits.ask in (record { seat = fits.seat; ask = a.0; answer = fits.answer; choice = fits.choice }, a.1)
+entry_split e fits = let a = ask_split e.ask fits.ask in
+    (record { seat = fits.seat; ask = a.0; answer = fits.answer; choice = fits.choice }, a.1)
 
 entry_joined : (e : Entry) → EntryFits Two e → IsTrue (ask_fits_version_1 e.ask) → EntryFits One e
 entry_joined e fits passes = record { seat = fits.seat; ask = ask_joined e.ask fits.ask passes; answer = fits.answer; choice = fits.choice }
@@ -121,7 +124,11 @@ image_joined : (i : ImageText) → ImageFits Two i → IsTrue (list_all placed_t
 image_joined i fits passes = record {
   head = fits.head;
   objects = record {
-    listed = record { count = fits.objects.listed.count; each = all_joined (PlacedFits Two) (PlacedFits One) placed_test placed_joined i.objects fits.objects.listed.each passes };
+    listed = record {
+      count = fits.objects.listed.count;
+      each =
+          all_joined (PlacedFits Two) (PlacedFits One) placed_test placed_joined i.objects fits.objects.listed.each passes;
+    };
     rises = fits.objects.rises;
   };
   mutators = fits.mutators;
@@ -134,13 +141,20 @@ image_joined i fits passes = record {
 file_split : (t : FileText) → FileFits (in_version One t) → FileFits (in_version Two t) × IsTrue (fits_version_1 t)
 file_split t fits =
     let i = image_split t.image fits.image in
-    let entries = all_split (EntryFits One) (EntryFits Two) entry_test entry_split t.entries fits.entries in
-    (record { image = i.0; count = fits.count; entries = entries.0 }, both_true (list_all placed_test t.image.objects) (list_all entry_test t.entries) i.1 entries.1)
+    let entries = all_split (EntryFits One) (EntryFits Two) entry_test entry_split t.entries fits.entries in (
+      record { image = i.0; count = fits.count; entries = entries.0 },
+      both_true (list_all placed_test t.image.objects) (list_all entry_test t.entries) i.1 entries.1,
+    )
 
 file_joined : (t : FileText) → FileFits (in_version Two t) × IsTrue (fits_version_1 t) → FileFits (in_version One t)
 file_joined t fits =
     let parts = and_parts (list_all placed_test t.image.objects) (list_all entry_test t.entries) fits.1 in
-    record { image = image_joined t.image fits.0.image parts.0; count = fits.0.count; entries = all_joined (EntryFits Two) (EntryFits One) entry_test entry_joined t.entries fits.0.entries parts.1 }
+    record {
+      image = image_joined t.image fits.0.image parts.0;
+      count =
+          fits.0.count;
+      entries = all_joined (EntryFits Two) (EntryFits One) entry_test entry_joined t.entries fits.0.entries parts.1;
+    }
 
 pub told_by_version_1 : (t : FileText) → FileFits (in_version One t) ↔ (FileFits (in_version Two t) × IsTrue (fits_version_1 t))
 told_by_version_1 t = (file_split t, file_joined t)

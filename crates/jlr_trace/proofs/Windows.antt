@@ -1,5 +1,6 @@
 -- Bytes that are read behind others, piece by piece, and what is read from the front of them.
-use Rattle.std.proofs.Common.{inl, inr, ◌≡◌, ◌+◌, ◌-◌, ◌≤◌, ℕ, zero, suc, List, [], ◌∷◌, ◌++◌, length, drop, Option, Some, None, Result, Ok, refl, sym, ap, subst, ◌∙◌, append_assoc, arith}
+use Rattle.std.proofs.Common.{inl, inr, ◌≡◌, ◌+◌, ◌-◌, ◌≤◌, ℕ, zero, suc, List, [], ◌∷◌, ◌++◌, length, drop, Option, Some, None, Result, Ok}
+use Rattle.std.proofs.Common.{refl, sym, ap, subst, ◌∙◌, append_assoc, arith}
 use Rattle.std.specs.Prelude.{option_map}
 use Rattle.std.proofs.lemmas.List.{append-nil, length-append, drop_at}
 use Rattle.std.specs.Io.KnownBytes.{Consumes, Keeps, IsAtEnd, prepend_known}
@@ -33,7 +34,8 @@ Consumes-then (Some o) (Some m) (Some n) xs ys h k = h ∙ ap (λ (t : List ℕ)
 pub none_read : (front : List ℕ) (behind : Option (List ℕ)) → HasRead front behind front behind
 none_read front behind = record { piece = []; longer = sym (append-nil front); taken = Consumes-none behind }
 
-pub more_read : (front middle new : List ℕ) (a b c : Option (List ℕ)) (piece : List ℕ) → HasRead front a middle b → new ≡ middle ++ piece → Consumes b c piece → HasRead front a new c
+pub more_read : (front middle new : List ℕ) (a b c : Option (List ℕ)) (piece : List ℕ) → HasRead front a middle b → new ≡ middle ++ piece
+    → Consumes b c piece → HasRead front a new c
 more_read front middle new a b c piece h longer taken = record {
   piece = h.piece ++ piece;
   longer = longer ∙ ap (λ (t : List ℕ). t ++ piece) h.longer ∙ append_assoc front h.piece piece;
@@ -41,7 +43,8 @@ more_read front middle new a b c piece h longer taken = record {
 }
 
 -- what is known of all bytes stays as it was
-pub keeps : (front piece new_front : List ℕ) (behind new_behind : Option (List ℕ)) → new_front ≡ front ++ piece → Consumes behind new_behind piece → Keeps (prepend_known front behind) (prepend_known new_front new_behind)
+pub keeps : (front piece new_front : List ℕ) (behind new_behind : Option (List ℕ)) → new_front ≡ front ++ piece
+    → Consumes behind new_behind piece → Keeps (prepend_known front behind) (prepend_known new_front new_behind)
 keeps front piece new_front None new_behind longer taken = tt
 keeps front piece new_front (Some xs) None longer taken = absurd taken
 keeps front piece new_front (Some xs) (Some ys) longer taken =
@@ -60,7 +63,8 @@ Keeps-then (Some x) (Some y) (Some z) h k = k ∙ h
 -- ---- What is read from the front
 
 -- so many bytes were used
-pub used_up : (bytes text rest : List ℕ) → bytes ≡ text ++ rest → (length rest ≤ length bytes) × (drop (length bytes - length rest) bytes ≡ rest)
+pub used_up : (bytes text rest : List ℕ) → bytes ≡ text ++ rest → (length rest ≤ length bytes)
+    × (drop (length bytes - length rest) bytes ≡ rest)
 used_up bytes text rest parts =
     let sizes : length bytes ≡ length text + length rest = ap length parts ∙ length-append text rest in
     let used : length bytes - length rest ≡ length text = omega (arith, sizes) in
@@ -75,57 +79,75 @@ bytes_joined [] b h k i = k i
 bytes_joined (x ∷ a) b h k zero = h 0
 bytes_joined (x ∷ a) b h k (suc i) = bytes_joined a b (λ j. h (suc j)) k i
 
-bytes_before : (start : Option (List ℕ)) (front : List ℕ) (behind : Option (List ℕ)) (count : ℕ) → Keeps start (prepend_known front behind) → IsBytes front → AreBytes start (prepend_known (drop count front) behind)
+bytes_before : (start : Option (List ℕ)) (front : List ℕ) (behind : Option (List ℕ)) (count : ℕ) → Keeps start (prepend_known front behind)
+    → IsBytes front → AreBytes start (prepend_known (drop count front) behind)
 bytes_before None front behind count kept fits = tt
 bytes_before (Some bytes) front None count kept fits = absurd kept
-bytes_before (Some bytes) front (Some xs) count kept fits = λ rest. subst IsBytes kept (bytes_joined front xs fits (bytes_behind (drop count front) xs rest))
+bytes_before (Some bytes) front (Some xs) count kept fits =
+    λ rest. subst IsBytes kept (bytes_joined front xs fits (bytes_behind (drop count front) xs rest))
 
 -- the bytes that were used are bytes, since they were read
-pub bytes_used : (start : Option (List ℕ)) (held new : Held) (bytes : List ℕ) (count : ℕ) → Keeps start (known held) → bytes ≡ held.front → IsBytes bytes → new ≡ record { front = drop count held.front; behind = held.behind } → AreBytes start (known new)
+pub bytes_used : (start : Option (List ℕ)) (held new : Held) (bytes : List ℕ) (count : ℕ) → Keeps start (known held) → bytes ≡ held.front
+    → IsBytes bytes → new ≡ record { front = drop count held.front; behind = held.behind } → AreBytes start (known new)
 bytes_used start held new bytes count kept is fits advanced =
-    subst (λ (h : Held). AreBytes start (known h)) (sym advanced) (bytes_before start held.front held.behind count kept (subst IsBytes is fits))
+    subst (λ (h : Held). AreBytes start (known h)) (sym advanced)
+    (bytes_before start held.front held.behind count kept (subst IsBytes is fits))
 
 module _ {A : Type 0} (read : List ℕ → Result (A × List ℕ) TraceFault) (still : IsStill read) where
   -- what is read from the bytes that are held is read from all
-  reads_all : (x : A) (front rest : List ℕ) (behind : Option (List ℕ)) → read front ≡ Ok (x, rest) → ReadsOn read x (prepend_known front behind) (prepend_known rest behind)
+  reads_all : (x : A) (front rest : List ℕ) (behind : Option (List ℕ)) → read front ≡ Ok (x, rest)
+      → ReadsOn read x (prepend_known front behind) (prepend_known rest behind)
   reads_all x front rest None e = tt
-  reads_all x front rest (Some xs) e = subst (λ r. Still (λ (y : A × List ℕ). (y.0, y.1 ++ xs)) r (read (front ++ xs))) e (still.still front xs)
+  reads_all x front rest (Some xs) e =
+      subst (λ r. Still (λ (y : A × List ℕ). (y.0, y.1 ++ xs)) r (read (front ++ xs))) e (still.still front xs)
 
-  fails_all : (fault : TraceFault) (front : List ℕ) (behind : Option (List ℕ)) → FileFails fault (read front) → (fault ≡ Truncated → IsAtEnd behind) → FailsOn (Damaged fault) (option_map read (prepend_known front behind))
+  fails_all : (fault : TraceFault) (front : List ℕ) (behind : Option (List ℕ)) → FileFails fault (read front)
+      → (fault ≡ Truncated → IsAtEnd behind) → FailsOn (Damaged fault) (option_map read (prepend_known front behind))
   fails_all fault front None e end = tt
   fails_all NoMemory front (Some xs) e end = tt
   fails_all Truncated front (Some xs) e end = ap (λ (t : List ℕ). read (front ++ t)) (end refl) ∙ ap read (append-nil front) ∙ e
-  fails_all BadMark front (Some xs) e end = subst (λ r. Still (λ (y : A × List ℕ). (y.0, y.1 ++ xs)) r (read (front ++ xs))) e (still.still front xs)
-  fails_all BadVersion front (Some xs) e end = subst (λ r. Still (λ (y : A × List ℕ). (y.0, y.1 ++ xs)) r (read (front ++ xs))) e (still.still front xs)
-  fails_all (BadEntry k) front (Some xs) e end = subst (λ r. Still (λ (y : A × List ℕ). (y.0, y.1 ++ xs)) r (read (front ++ xs))) e (still.still front xs)
+  fails_all BadMark front (Some xs) e end =
+      subst (λ r. Still (λ (y : A × List ℕ). (y.0, y.1 ++ xs)) r (read (front ++ xs))) e (still.still front xs)
+  fails_all BadVersion front (Some xs) e end =
+      subst (λ r. Still (λ (y : A × List ℕ). (y.0, y.1 ++ xs)) r (read (front ++ xs))) e (still.still front xs)
+  fails_all (BadEntry k) front (Some xs) e end =
+      subst (λ r. Still (λ (y : A × List ℕ). (y.0, y.1 ++ xs)) r (read (front ++ xs))) e (still.still front xs)
 
-  pub reads_on : (start : Option (List ℕ)) (x : A) (front rest : List ℕ) (behind : Option (List ℕ)) → Keeps start (prepend_known front behind) → read front ≡ Ok (x, rest)
+  pub reads_on : (start : Option (List ℕ)) (x : A) (front rest : List ℕ) (behind : Option (List ℕ))
+      → Keeps start (prepend_known front behind) → read front ≡ Ok (x, rest)
       → ReadsOn read x start (prepend_known rest behind)
   reads_on None x front rest behind kept e = tt
   reads_on (Some bytes) x front rest None kept e = absurd kept
   reads_on (Some bytes) x front rest (Some xs) kept e = ap read (sym kept) ∙ reads_all x front rest (Some xs) e
 
-  pub fails_on : (start : Option (List ℕ)) (fault : TraceFault) (front : List ℕ) (behind : Option (List ℕ)) → Keeps start (prepend_known front behind) → FileFails fault (read front) → (fault ≡ Truncated → IsAtEnd behind)
+  pub fails_on : (start : Option (List ℕ)) (fault : TraceFault) (front : List ℕ) (behind : Option (List ℕ))
+      → Keeps start (prepend_known front behind) → FileFails fault (read front) → (fault ≡ Truncated → IsAtEnd behind)
       → FailsOn (Damaged fault) (option_map read start)
   fails_on None fault front behind kept e end = tt
   fails_on (Some bytes) fault front None kept e end = absurd kept
-  fails_on (Some bytes) fault front (Some xs) kept e end = subst (λ (b : List ℕ). FileFails fault (read b)) kept (fails_all fault front (Some xs) e end)
+  fails_on (Some bytes) fault front (Some xs) kept e end =
+      subst (λ (b : List ℕ). FileFails fault (read b)) kept (fails_all fault front (Some xs) e end)
 
   -- the same of what a stream holds, of which so many bytes are used
-  pub used_on : (start : Option (List ℕ)) (x : A) (held new : Held) (bytes : List ℕ) (count : ℕ) → Keeps start (known held) → bytes ≡ held.front → new ≡ record { front = drop count held.front; behind = held.behind }
+  pub used_on : (start : Option (List ℕ)) (x : A) (held new : Held) (bytes : List ℕ) (count : ℕ) → Keeps start (known held)
+      → bytes ≡ held.front → new ≡ record { front = drop count held.front; behind = held.behind }
       → read bytes ≡ Ok (x, drop count bytes) → ReadsOn read x start (known new)
   used_on start x held new bytes count kept is advanced e =
       let here : read held.front ≡ Ok (x, drop count held.front) = subst (λ (b : List ℕ). read b ≡ Ok (x, drop count b)) is e in
-      subst (λ (h : Held). ReadsOn read x start (known h)) (sym advanced) (reads_on start x held.front (drop count held.front) held.behind kept here)
+      subst (λ (h : Held). ReadsOn read x start (known h)) (sym advanced)
+      (reads_on start x held.front (drop count held.front) held.behind kept here)
 
   no_memory : (start : Option (List ℕ)) → FailsOn (Damaged NoMemory) (option_map read start)
   no_memory None = tt
   no_memory (Some bytes) = tt
 
-  pub last_on : (start : Option (List ℕ)) (fault : TraceFault) (last : StreamFault) (held : Held) (bytes : List ℕ) → Keeps start (known held) → bytes ≡ held.front → FileFails fault (read bytes) → IsLast fault held last
+  pub last_on : (start : Option (List ℕ)) (fault : TraceFault) (last : StreamFault) (held : Held) (bytes : List ℕ)
+      → Keeps start (known held) → bytes ≡ held.front → FileFails fault (read bytes) → IsLast fault held last
       → FailsOn last (option_map read start)
   last_on start fault (Unread kind) held bytes kept is e last = tt
-  last_on start fault (Damaged d) held bytes kept is e (inl none) = subst (λ (f : TraceFault). FailsOn (Damaged f) (option_map read start)) (sym none) (no_memory start)
+  last_on start fault (Damaged d) held bytes kept is e (inl none) =
+      subst (λ (f : TraceFault). FailsOn (Damaged f) (option_map read start)) (sym none) (no_memory start)
   last_on start fault (Damaged d) held bytes kept is e (inr same) =
       let here : FileFails fault (read held.front) = subst (λ (b : List ℕ). FileFails fault (read b)) is e in
-      subst (λ (f : TraceFault). FailsOn (Damaged f) (option_map read start)) (sym same.0) (fails_on start fault held.front held.behind kept here same.1)
+      subst (λ (f : TraceFault). FailsOn (Damaged f) (option_map read start)) (sym same.0)
+      (fails_on start fault held.front held.behind kept here same.1)

@@ -51,14 +51,16 @@ pub record FailsInHead (fault : Fault) (bytes : List ℕ) : Type 0 where
   pub behind : List ℕ
   pub is : bytes ≡ mark version ++ behind
   pub fails : (image_read version behind ≡ Err fault)
-      ⊎ ((image : ImageText) × (rest : List ℕ) × ImageFits version image × (behind ≡ spelled_image image ++ rest) × (number_at w64 rest ≡ Err fault))
+      ⊎ ((image : ImageText) × (rest : List ℕ) × ImageFits version image × (behind ≡ spelled_image image ++ rest)
+      × (number_at w64 rest ≡ Err fault))
 
 -- a mark, an image and a count, and entries: all are spelled there, and these bytes stand behind them
 pub record Begins (version : Version) (count : ℕ) (entries : List Entry) (rest bytes : List ℕ) : Type 0 where
   pub image : ImageText
   pub fits : ImageFits version image
   pub entries_fit : AllByRecursion (EntryFits version) entries
-  pub spelled : bytes ≡ (((mark version ++ spelled_image image) ++ spelled_64 count) ++ flat_map (spelled_entry version) entries) ++ rest
+  pub spelled : bytes ≡ (((mark version ++ spelled_image image) ++ spelled_64 count)
+      ++ flat_map (spelled_entry version) entries) ++ rest
 
 -- fewer entries than were announced are spelled, and the fields of the next one, which has this number, have this fault
 pub record FailsInEntry (fault : Fault) (number : ℕ) (bytes : List ℕ) : Type 0 where
@@ -87,5 +89,6 @@ abbrev pub IsFault : TraceFault → List ℕ → Type 0
 IsFault BadMark bytes = LeavesMark bytes
 IsFault BadVersion bytes = HasNoVersion bytes
 IsFault Truncated bytes = EndsInMark bytes ⊎ FailsInHead Short bytes ⊎ ((number : ℕ) × FailsInEntry Short number bytes)
-IsFault (BadEntry number) bytes = ((number ≡ 0) × FailsInHead Range bytes) ⊎ FailsInEntry Range number bytes ⊎ GoesOn number bytes
+IsFault (BadEntry number) bytes = ((number ≡ 0) × FailsInHead Range bytes) ⊎ FailsInEntry Range number bytes
+    ⊎ GoesOn number bytes
 IsFault NoMemory bytes = Unit {0}

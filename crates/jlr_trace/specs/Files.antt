@@ -1,5 +1,6 @@
 -- How a trace file is spelled and read.
-use Rattle.std.specs.Prelude.{◌≡◌, ◌==◌, ℕ, zero, suc, ◌+◌, ◌<◌, ◌^◌, List, [], ◌∷◌, ◌++◌, length, Result, Ok, Err, if◌then◌else◌}
+use Rattle.std.specs.Prelude.{◌≡◌, ◌==◌, ℕ, zero, suc, ◌+◌, ◌<◌, ◌^◌, List, [], ◌∷◌, ◌++◌, length, Result, Ok, Err}
+use Rattle.std.specs.Prelude.{if◌then◌else◌}
 use Rattle.std.specs.List.{flat_map, AllByRecursion}
 use Rattle.std.specs.Int.{w64}
 use Rattle.jlr_machine.specs.declared.entry.Entry.{Entry}
@@ -41,7 +42,8 @@ abbrev pub mark : Version → List ℕ
 mark version = 74 ∷ 76 ∷ 82 ∷ 84 ∷ version_number version ∷ []
 
 abbrev pub spelled_file : FileText → List ℕ
-spelled_file t = mark t.version ++ spelled_image t.image ++ spelled_64 (length t.entries) ++ flat_map (spelled_entry t.version) t.entries
+spelled_file t = mark t.version ++ spelled_image t.image ++ spelled_64 (length t.entries)
+    ++ flat_map (spelled_entry t.version) t.entries
 
 pub record FileFits (t : FileText) : Type 0 where
   pub image : ImageFits t.version t.image
@@ -85,17 +87,21 @@ mark_read bytes = expected 74 bytes >>> expected 76 >>> expected 82 >>> expected
 -- so many entries, counted from a number
 unfoldable pub entries_read : Version → ℕ → ℕ → List ℕ → Result (List Entry × List ℕ) TraceFault
 entries_read version number zero bytes = Ok ([], bytes)
-entries_read version number (suc n) bytes = in_entry number (entry_read version bytes) >>> λ first. entries_read version (suc number) n first.1 >>> λ others. Ok (first.0 ∷ others.0, others.1)
+entries_read version number (suc n) bytes =
+    in_entry number (entry_read version bytes) >>> λ first. entries_read version (suc number) n first.1 >>> λ others. Ok
+    (first.0 ∷ others.0, others.1)
 
 -- a file at the front of the bytes, and the bytes behind it
 unfoldable pub front_read : List ℕ → Result (FileText × List ℕ) TraceFault
 front_read bytes =
-    mark_read bytes >>> λ version. in_entry 0 (image_read version.0 version.1) >>> λ image. in_entry 0 (number_at w64 image.1) >>> λ count. entries_read version.0 1 count.0 count.1
+    mark_read bytes >>> λ version. in_entry 0 (image_read version.0 version.1) >>> λ image. in_entry 0
+    (number_at w64 image.1) >>> λ count. entries_read version.0 1 count.0 count.1
     >>> λ entries. Ok (record { version = version.0; image = image.0; entries = entries.0 }, entries.1)
 
 -- all of the bytes; what stands behind the end is a fault behind the last entry
 unfoldable pub file_read : List ℕ → Result FileText TraceFault
-file_read bytes = front_read bytes >>> λ file. if length file.1 == 0 then Ok file.0 else Err (BadEntry (length file.0.entries + 1))
+file_read bytes =
+    front_read bytes >>> λ file. if length file.1 == 0 then Ok file.0 else Err (BadEntry (length file.0.entries + 1))
 
 -- What a function returned, seen by view, is what reading gives, unless memory ran out
 abbrev pub FileFails : {Y : Type 0} → TraceFault → Result Y TraceFault → Type 0

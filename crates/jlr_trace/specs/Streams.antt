@@ -1,5 +1,6 @@
 -- A trace file that comes as a stream: what of it is held, and what its reader gives behind that, where it is known.
-use Rattle.std.specs.Prelude.{option_map, ◌⊎◌, ◌≡◌, ◌==◌, ℕ, suc, ◌+◌, ◌<◌, Bool, true, false, List, [], ◌∷◌, ◌++◌, length, Option, Some, None, Result, Ok, Err, if◌then◌else◌}
+use Rattle.std.specs.Prelude.{option_map, ◌⊎◌, ◌≡◌, ◌==◌, ℕ, suc, ◌+◌, ◌<◌, Bool, true, false, List, [], ◌∷◌, ◌++◌}
+use Rattle.std.specs.Prelude.{length, Option, Some, None, Result, Ok, Err, if◌then◌else◌}
 use Rattle.std.specs.Int.{w64}
 use Rattle.std.specs.Io.KnownBytes.{prepend_known, Consumes, IsAtEnd}
 use Rattle.jlr_machine.specs.declared.entry.Entry.{Entry}
@@ -14,7 +15,8 @@ use Rattle.jlr_trace.specs.declared.file.TraceFault.{TraceFault}
 use Rattle.jlr_trace.specs.declared.file.TraceFault.TheVariants.{Truncated, BadEntry, NoMemory}
 use Rattle.jlr_trace.specs.declared.window.StreamFault.{StreamFault}
 use Rattle.jlr_trace.specs.declared.window.StreamFault.TheVariants.{Unread, Damaged}
-use Rattle.jlr_trace.specs.Files.{FileText, file_text, spelled_file, HasSpelling, ◌>>>◌, in_entry, mark_read, entries_read, file_read, FileFails}
+use Rattle.jlr_trace.specs.Files.{FileText, file_text, spelled_file, HasSpelling, ◌>>>◌, in_entry, mark_read}
+use Rattle.jlr_trace.specs.Files.{entries_read, file_read, FileFails}
 
 -- ---- Bytes
 
@@ -28,7 +30,8 @@ abbrev pub known : Held → Option (List ℕ)
 known h = prepend_known h.front h.behind
 
 -- bytes were read behind others, if there were any
-pub record MoreIsRead (front : List ℕ) (behind : Option (List ℕ)) (new_front : List ℕ) (new_behind : Option (List ℕ)) (any : Bool) : Type 0 where
+pub record MoreIsRead (front : List ℕ) (behind : Option (List ℕ)) (new_front : List ℕ) (new_behind : Option (List ℕ))
+    (any : Bool) : Type 0 where
   pub piece : List ℕ
   pub longer : new_front ≡ front ++ piece
   pub taken : Consumes behind new_behind piece
@@ -46,7 +49,8 @@ IsOutside (Unread kind) = Unit {0}
 IsOutside (Damaged fault) = fault ≡ NoMemory
 
 -- this was read from the front of the bytes, and these are left
-abbrev pub ReadsOn : {A : Type 0} → (List ℕ → Result (A × List ℕ) TraceFault) → A → Option (List ℕ) → Option (List ℕ) → Type 0
+abbrev pub ReadsOn : {A : Type 0} → (List ℕ → Result (A × List ℕ) TraceFault) → A → Option (List ℕ) → Option (List ℕ)
+    → Type 0
 ReadsOn read x None rest = Unit {0}
 ReadsOn read x (Some bytes) None = ⊥
 ReadsOn read x (Some bytes) (Some rest) = read bytes ≡ Ok (x, rest)
@@ -84,7 +88,8 @@ abbrev pub heading_text : Version → ImageText → ℕ → HeadingText
 heading_text version image count = record { version = version; image = image; count = count }
 
 unfoldable pub heading_read : List ℕ → Result (HeadingText × List ℕ) TraceFault
-heading_read bytes = mark_read bytes >>> λ version. in_entry 0 (image_read version.0 version.1) >>> λ image. in_entry 0 (number_at w64 image.1)
+heading_read bytes = mark_read bytes >>> λ version. in_entry 0 (image_read version.0 version.1) >>> λ image. in_entry 0
+    (number_at w64 image.1)
     >>> λ count. Ok (heading_text version.0 image.0 count.0, count.1)
 
 -- ---- The entries behind it
@@ -96,27 +101,31 @@ end_read number bytes = if length bytes == 0 then Ok [] else Err (BadEntry numbe
 -- so many entries, counted from a number, up to the end of the bytes
 unfoldable pub entries_left : Version → ℕ → ℕ → List ℕ → Result (List Entry) TraceFault
 entries_left version number left bytes =
-    entries_read version number left bytes >>> λ entries. if length entries.1 == 0 then Ok entries.0 else Err (BadEntry (number + left))
+    entries_read version number left bytes >>> λ entries. if length entries.1 == 0 then Ok entries.0 else Err
+    (BadEntry (number + left))
 
 -- an entry and those behind it
 abbrev pub behind_entry : Entry → Result (List Entry) TraceFault → Result (List Entry) TraceFault
 behind_entry e others = others >>> λ entries. Ok (e ∷ entries)
 
--- how many entries are still to come, what they are read as, up to the end of the bytes, and these, where they are known
+-- how many entries are still to come, what they are read as, up to the end of the bytes, and these, where they are
+-- known
 pub record Coming : Type 0 where
   pub left : ℕ
   pub entries : Option (Result (List Entry) TraceFault)
   pub rest : Option (List ℕ)
 
 abbrev pub coming : Version → ℕ → ℕ → Held → Coming
-coming version number left held = record { left = left; entries = option_map (entries_left version number left) (known held); rest = known held }
+coming version number left held =
+    record { left = left; entries = option_map (entries_left version number left) (known held); rest = known held }
 
 -- none comes
 abbrev pub NoneComes : Option (Result (List Entry) TraceFault) → Type 0
 NoneComes None = Unit {0}
 NoneComes (Some read) = read ≡ Ok []
 
-abbrev pub ComesFirst : Entry → Option (Result (List Entry) TraceFault) → Option (Result (List Entry) TraceFault) → Type 0
+abbrev pub ComesFirst : Entry → Option (Result (List Entry) TraceFault) → Option (Result (List Entry) TraceFault)
+    → Type 0
 ComesFirst e None new = Unit {0}
 ComesFirst e (Some read) None = ⊥
 ComesFirst e (Some read) (Some others) = read ≡ behind_entry e others
@@ -130,7 +139,8 @@ pub record Comes (e : Entry) (old new : Coming) : Type 0 where
 -- ---- Whole files
 
 abbrev pub with_entries : Version → ImageText → Result (List Entry) TraceFault → Result FileText TraceFault
-with_entries version image read = read >>> λ entries. Ok (record { version = version; image = image; entries = entries })
+with_entries version image read =
+    read >>> λ entries. Ok (record { version = version; image = image; entries = entries })
 
 -- the bytes, if they are known, are read as this image and as the entries that come
 abbrev pub IsReadAs : Version → ImageText → Option (List ℕ) → Option (Result (List Entry) TraceFault) → Type 0
@@ -146,10 +156,13 @@ AreSoMany count (Some (Err fault)) = Unit {0}
 
 -- a history with these entries
 abbrev pub history : Version → ℕ → Machine → List Placed → List Entry → TraceFile
-history version base image strays entries = record { version = version; base = base; image = image; strays = strays; entries = entries }
+history version base image strays entries =
+    record { version = version; base = base; image = image; strays = strays; entries = entries }
 
 -- where entries come up to the end, the bytes spell the history with them
-abbrev pub SpellsWhatComes : (List Entry → TraceFile) → Option (List ℕ) → Option (Result (List Entry) TraceFault) → Type 0
+abbrev pub SpellsWhatComes : (List Entry → TraceFile) → Option (List ℕ) → Option (Result (List Entry) TraceFault)
+    → Type 0
 SpellsWhatComes file None entries = Unit {0}
 SpellsWhatComes file (Some bytes) None = ⊥
-SpellsWhatComes file (Some bytes) (Some read) = (entries : List Entry) → IsBytes bytes → read ≡ Ok entries → HasSpelling (file entries) × (bytes ≡ spelled_file (file_text (file entries)))
+SpellsWhatComes file (Some bytes) (Some read) = (entries : List Entry) → IsBytes bytes → read ≡ Ok entries
+    → HasSpelling (file entries) × (bytes ≡ spelled_file (file_text (file entries)))

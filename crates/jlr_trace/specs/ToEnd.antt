@@ -8,7 +8,8 @@ use Rattle.jlr_trace.specs.declared.file.TraceFault.{TraceFault}
 use Rattle.jlr_trace.specs.declared.file.TraceFault.TheVariants.{BadEntry}
 use Rattle.jlr_trace.specs.Files.{entries_read, in_entry, ◌>>>◌}
 
--- the count of the entries and so many of them, up to the end of the bytes; what stands behind them is a fault behind the last entry
+-- the count of the entries and so many of them, up to the end of the bytes; what stands behind them is a fault behind
+-- the last entry
 unfoldable pub entries_to_end : Version → List ℕ → Result (List Entry) TraceFault
 entries_to_end version bytes =
     in_entry 0 (number_at w64 bytes) >>> λ count. entries_read version 1 count.0 count.1

@@ -24,7 +24,8 @@ ask_fits_version_1 (Array mutator length) = false
 ask_fits_version_1 ask = true
 
 abbrev pub fits_version_1 : FileText → Bool
-fits_version_1 t = list_all (λ p. object_fits_version_1 p.object) t.image.objects && list_all (λ e. ask_fits_version_1 e.ask) t.entries
+fits_version_1 t = list_all (λ p. object_fits_version_1 p.object) t.image.objects
+    && list_all (λ e. ask_fits_version_1 e.ask) t.entries
 
 -- the same history in this version
 abbrev pub in_version : Version → FileText → FileText

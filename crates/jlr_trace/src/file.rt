@@ -6,7 +6,9 @@ ghost use Rattle.jlr_fields.specs.declared.version.Version.TheVariants.{One, Two
 ghost use Rattle.jlr_trace.specs.declared.file.TraceFault.TheVariants.{NoMemory};
 ghost use Rattle.jlr_trace.specs.declared.file.TraceFile.{TraceFile as TraceFileOf};
 ghost use Rattle.jlr_sections.specs.Images.{image_text, image_read, HasShape};
-ghost use Rattle.jlr_trace.specs.Files.{FileText, image_of, file_text, spelled_file, FileFits, HasSpelling, told, expected, version_read, mark_read, in_entry, entries_read, file_read, FileGives, FileReads};
+ghost use Rattle.jlr_trace.specs.Files.{FileText, image_of, file_text, spelled_file, FileFits, HasSpelling, told};
+ghost use Rattle.jlr_trace.specs.Files.{expected, version_read, mark_read, in_entry, entries_read, file_read};
+ghost use Rattle.jlr_trace.specs.Files.{FileGives, FileReads};
 ghost use Rattle.jlr_trace.specs.Faults.{IsFault};
 ghost use Rattle.jlr_trace.specs.ToEnd.{entries_to_end};
 ghost use Rattle.jlr_trace.specs.Versions.{fits_version_1, in_version};
@@ -218,7 +220,8 @@ fn all_of(alloc: Global, bytes: &[u8]) -> Result<TraceFile, TraceFault>
 /// The history that the bytes spell, all of the bytes.
 ///
 /// # Errors
-/// The first fault from the front, or `NoMemory`. A count takes no memory beforehand: memory is taken as the items come.
+/// The first fault from the front, or `NoMemory`. A count takes no memory beforehand: memory is taken as the items
+/// come.
 pub fn read_trace(alloc: Global, bytes: &[u8]) -> Result<TraceFile, TraceFault>
     // What is read is spelled so.
     ensures found { IfOk result (λ f. FileFits (file_text f) × (bytes.now ≡ spelled_file (file_text f))) }
@@ -232,7 +235,8 @@ pub fn read_trace(alloc: Global, bytes: &[u8]) -> Result<TraceFile, TraceFault>
     // handles have.
     ensures shape { IfOk result (λ f. HasShape (image_of f)) }
     // What was written is read back as it was.
-    ensures again { (f : TraceFileOf) → HasSpelling f → bytes.now ≡ spelled_file (file_text f) → FileGives (λ x. x) result (Ok f) }
+    ensures again { (f : TraceFileOf) → HasSpelling f → bytes.now ≡ spelled_file (file_text f)
+        → FileGives (λ x. x) result (Ok f) }
 {
     all_of(alloc, bytes)
 }
@@ -240,7 +244,8 @@ pub fn read_trace(alloc: Global, bytes: &[u8]) -> Result<TraceFile, TraceFault>
 /// A file that begins with another is that other: what was written is read back, and never as a part of something
 /// longer.
 pub fn no_file_begins_another()
-    ensures { (t u : FileText) (rest : List ℕ) → FileFits t → FileFits u → spelled_file t ++ rest ≡ spelled_file u → (rest ≡ []) × (t ≡ u) }
+    ensures { (t u : FileText) (rest : List ℕ) → FileFits t → FileFits u → spelled_file t ++ rest ≡ spelled_file u
+        → (rest ≡ []) × (t ≡ u) }
 {}
 
 /// Version 1 can tell a history where version 2 can, no object is an array, no ask makes one, and no field's number is

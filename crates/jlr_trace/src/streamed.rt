@@ -6,7 +6,9 @@ ghost use Rattle.jlr_sections.specs.Images.{image_text, whole_image, HasShape};
 ghost use Rattle.jlr_trace.specs.declared.file.TraceFault.TheVariants.{Truncated};
 ghost use Rattle.jlr_trace.specs.declared.window.StreamFault.{StreamFault as StreamFaultOf};
 ghost use Rattle.jlr_trace.specs.Files.{in_entry, file_read, FileGives, FileReads};
-ghost use Rattle.jlr_trace.specs.Streams.{known, AreBytes, IsLast, ReadsOn, FailsOn, heading_text, heading_read, end_read, coming, NoneComes, Comes, IsReadAs, SpellsWhatComes, history, AreSoMany};
+ghost use Rattle.jlr_trace.specs.Streams.{known, AreBytes, IsLast, ReadsOn, FailsOn, heading_text, heading_read};
+ghost use Rattle.jlr_trace.specs.Streams.{end_read, coming, NoneComes, Comes, IsReadAs, SpellsWhatComes, history};
+ghost use Rattle.jlr_trace.specs.Streams.{AreSoMany};
 
 use crate::file::{TraceFault, count_in, fault_of, image_in, mark_at};
 use crate::window::{StreamFault, Window};
@@ -147,8 +149,8 @@ fn heading_in(alloc: Global, bytes: &mut &[u8]) -> Result<Heading, TraceFault>
 
 /// The head of a file, and how many bytes it takes.
 fn heading_at(alloc: Global, bytes: &[u8]) -> Result<(Heading, usize), TraceFault>
-    ensures reads { FileGives (λ x. (heading_text x.0.version (image_text x.0.image) x.0.count, drop x.1 bytes.now)) result
-        (heading_read bytes.now) }
+    ensures reads { FileGives (λ x. (heading_text x.0.version (image_text x.0.image) x.0.count, drop x.1 bytes.now))
+        result (heading_read bytes.now) }
     ensures within { IfOk result (λ x. x.1 ≤ length bytes.now) }
     ensures shape { IfOk result (λ x. HasShape x.0.image) }
 {

@@ -1,5 +1,6 @@
 -- A line is a command exactly where the parts between its spaces are the command's fields.
-use Rattle.std.proofs.Common.{◌≡◌, ◌≢◌, ℕ, zero, suc, ◌^◌, ◌<◌, ◌≤◌, Bool, true, ◌&&◌, not, eqb, List, [], ◌∷◌, map, length, get_or, Some, refl, sym, ap, ◌∙◌, arith, rules, inl, inr}
+use Rattle.std.proofs.Common.{◌≡◌, ◌≢◌, ℕ, zero, suc, ◌^◌, ◌<◌, ◌≤◌, Bool, true, ◌&&◌, not, eqb, List, [], ◌∷◌, map, length, get_or, Some}
+use Rattle.std.proofs.Common.{refl, sym, ap, ◌∙◌, arith, rules, inl, inr}
 use Rattle.std.specs.Prelude.{codes, decimal, ℤ, pos, negsuc, FitsSigned}
 use Rattle.std.specs.Int.{w64}
 use Rattle.std.specs.Fmt.{signed_decimal}
@@ -27,7 +28,10 @@ use Rattle.jlr_types.specs.declared.FieldKind.{FieldKind}
 use Rattle.jlr_types.specs.declared.FieldKind.TheVariants.{Int as IntField, Ref as RefField}
 use Rattle.jlr_machine.specs.declared.ask.FullMode.TheVariants.{Policy, ClearAll}
 use Rattle.jlr_wire.specs.declared.command.Command.{Command}
-use Rattle.jlr_wire.specs.declared.command.Command.TheVariants.{New, Put, Get, SetInt, Int, Dup, Drop, Same, Soft, Weak, Phantom, Deref, Refers, Clear, Enqueue, Enqueued, Queue, Poll, Remove, Cleaner, Register, Clean, Open, Connect, Read, Write, Close, Bind, Find, Unbind, Names, Full, Stat, Notes, Faults, Bye, Array}
+use Rattle.jlr_wire.specs.declared.command.Command.TheVariants.{New, Put, Get, SetInt, Int, Dup, Drop, Same, Soft, Weak, Phantom, Deref}
+use Rattle.jlr_wire.specs.declared.command.Command.TheVariants.{Refers, Clear, Enqueue, Enqueued, Queue, Poll, Remove, Cleaner, Register}
+use Rattle.jlr_wire.specs.declared.command.Command.TheVariants.{Clean, Open, Connect, Read, Write, Close, Bind, Find, Unbind, Names, Full}
+use Rattle.jlr_wire.specs.declared.command.Command.TheVariants.{Stat, Notes, Faults, Bye, Array}
 
 -- a test for texts without a space
 abbrev spaceless : List ℕ → Bool
@@ -89,7 +93,8 @@ pub record Apart (fields : List (List ℕ)) : Type 0 where
   pub words : AllByRecursion (IsWithout 32) (first ∷ rest)
   pub few : length fields ≤ 4
 
-split_join : (f : List ℕ) (fs : List (List ℕ)) → AllByRecursion (IsWithout 32) (f ∷ fs) → slice_split is_space (join_with_byte 32 (f ∷ fs)) ≡ f ∷ fs
+split_join : (f : List ℕ) (fs : List (List ℕ)) → AllByRecursion (IsWithout 32) (f ∷ fs)
+    → slice_split is_space (join_with_byte 32 (f ∷ fs)) ≡ f ∷ fs
 split_join f [] h = split_last f h.0
 split_join f (g ∷ fs) h = split_first f (join_with_byte 32 (g ∷ fs)) h.0 ∙ ap (λ xs. f ∷ xs) (split_join g fs h.1)
 
@@ -127,7 +132,8 @@ apart Queue fields f = rw f (one _ (word (codes "queue") refl))
 apart (Poll q) fields f = rw f.1 (two _ _ (word (codes "poll") refl) (number q f.0))
 apart (Remove q) fields f = rw f.1 (two _ _ (word (codes "remove") refl) (number q f.0))
 apart Cleaner fields f = rw f (one _ (word (codes "cleaner") refl))
-apart (Register c h n) fields f = rw f.3 (four _ _ _ _ (word (codes "register") refl) (number c f.0) (number h f.1) (digits n (omega (arith, f.2))))
+apart (Register c h n) fields f =
+    rw f.3 (four _ _ _ _ (word (codes "register") refl) (number c f.0) (number h f.1) (digits n (omega (arith, f.2))))
 apart (Clean c) fields f = rw f.1 (two _ _ (word (codes "clean") refl) (number c f.0))
 apart (Open mode path) fields f = rw f.1 (three _ _ _ (word (codes "open") refl) (mode_word mode) (path_word path f.0))
 apart (Connect path) fields f = rw f.1 (two _ _ (word (codes "connect") refl) (path_word path f.0))

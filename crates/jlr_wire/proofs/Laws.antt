@@ -1,5 +1,6 @@
 -- What is read is what the fields of a command are.
-use Rattle.std.proofs.Common.{◌≡◌, ℕ, ◌<◌, true, ◌&&◌, List, [], ◌∷◌, Option, Some, refl, sym, subst, inl, inr, arith, ◌≤◌, cond, nat_le, ap, ◌∙◌, None}
+use Rattle.std.proofs.Common.{◌≡◌, ℕ, ◌<◌, true, ◌&&◌, List, [], ◌∷◌, Option, Some, refl, sym, subst, inl, inr, arith, ◌≤◌, cond, nat_le}
+use Rattle.std.proofs.Common.{ap, ◌∙◌, None}
 use Rattle.std.specs.Prelude.{codes, decimal}
 use Rattle.std.specs.List.{AllByRecursion}
 use Rattle.std.specs.Str.{bytes_eq}
@@ -9,18 +10,25 @@ use Rattle.std.proofs.lemmas.Option.{cond_some}
 use Rattle.std.proofs.lemmas.Bool.{le-leb}
 use Rattle.std.proofs.lemmas.Bool.{leb-true}
 use Rattle.jlr_wire.proofs.Options.{bind_some, chosen, cond_some_of, and_parts}
-use Rattle.jlr_wire.proofs.Numbers.{number_below_decimal, number_below_spells, byte_of_decimal, byte_of_spells, note_of_decimal, note_of_spells}
+use Rattle.jlr_wire.proofs.Numbers.{number_below_decimal, number_below_spells, byte_of_decimal, byte_of_spells, note_of_decimal}
+use Rattle.jlr_wire.proofs.Numbers.{note_of_spells}
 use Rattle.jlr_wire.proofs.Integers.{integer_of_decimal, integer_of_spells}
 use Rattle.jlr_wire.proofs.Layouts.{layout_of_layout, layout_of_spells}
 use Rattle.std.specs.Char.{is_ascii_graphic}
-use Rattle.jlr_wire.proofs.Texts.{word_of_word, word_of_spells, data_of_digits, data_of_spells, count_of_decimal, count_of_spells, mode_of_letter, mode_of_spells}
+use Rattle.jlr_wire.proofs.Texts.{word_of_word, word_of_spells, data_of_digits, data_of_spells, count_of_decimal, count_of_spells}
+use Rattle.jlr_wire.proofs.Texts.{mode_of_letter, mode_of_spells}
 use Rattle.jlr_wire.specs.Texts.{is_name_byte}
 use Rattle.jlr_wire.specs.Fields.{number_below, byte_of, field_of, note_of, integer_of, path_of, name_of, data_of, mode_of}
 use Rattle.jlr_wire.specs.Commands.{Fields}
-use Rattle.jlr_wire.specs.Reading.{◌>>=◌, layout_of, count_of, length_of, among, names_with_word, names_with_words, names_alone, names_with_number, names_with_two, named, with_number, with_two_numbers, reading_1, reading_2, reading_3, reading_4, reading}
+use Rattle.jlr_wire.specs.Reading.{◌>>=◌, layout_of, count_of, length_of, among, names_with_word, names_with_words, names_alone}
+use Rattle.jlr_wire.specs.Reading.{names_with_number, names_with_two, named, with_number, with_two_numbers, reading_1, reading_2, reading_3}
+use Rattle.jlr_wire.specs.Reading.{reading_4, reading}
 use Rattle.jlr_machine.specs.declared.ask.FullMode.TheVariants.{Policy, ClearAll}
 use Rattle.jlr_wire.specs.declared.command.Command.{Command}
-use Rattle.jlr_wire.specs.declared.command.Command.TheVariants.{New, Put, Get, SetInt, Int, Dup, Drop, Same, Soft, Weak, Phantom, Deref, Refers, Clear, Enqueue, Enqueued, Queue, Poll, Remove, Cleaner, Register, Clean, Open, Connect, Read, Write, Close, Bind, Find, Unbind, Names, Full, Stat, Notes, Faults, Bye, Array}
+use Rattle.jlr_wire.specs.declared.command.Command.TheVariants.{New, Put, Get, SetInt, Int, Dup, Drop, Same, Soft, Weak, Phantom, Deref}
+use Rattle.jlr_wire.specs.declared.command.Command.TheVariants.{Refers, Clear, Enqueue, Enqueued, Queue, Poll, Remove, Cleaner, Register}
+use Rattle.jlr_wire.specs.declared.command.Command.TheVariants.{Clean, Open, Connect, Read, Write, Close, Bind, Find, Unbind, Names, Full}
+use Rattle.jlr_wire.specs.declared.command.Command.TheVariants.{Stat, Notes, Faults, Bye, Array}
 
 field_of_decimal : (n : ℕ) → n < 4096 → field_of (decimal n) ≡ Some n
 field_of_decimal n lt = number_below_decimal 4096 n (omega arith) lt
@@ -110,14 +118,16 @@ in_among P name (row ∷ table) other c h o e = elim (chosen (bytes_eq name row.
 ]
 
 -- a number that was read, and what was made of it
-spelled : (f : ℕ → Option Command) (a : List ℕ) (c : Command) → (byte_of a >>= f) ≡ Some c → (h : ℕ) × (h < 256) × (a ≡ decimal h) × (f h ≡ Some c)
+spelled : (f : ℕ → Option Command) (a : List ℕ) (c : Command) → (byte_of a >>= f) ≡ Some c → (h : ℕ) × (h < 256) × (a ≡ decimal h)
+    × (f h ≡ Some c)
 spelled f a c e =
     let p = bind_some (byte_of a) f c e in
     let h = byte_of_spells a p.0 p.1 in
     (p.0, h.0, h.1, p.2)
 
 -- the same of the number of a field
-spelled_field : (f : ℕ → Option Command) (a : List ℕ) (c : Command) → (field_of a >>= f) ≡ Some c → (h : ℕ) × (h < 4096) × (a ≡ decimal h) × (f h ≡ Some c)
+spelled_field : (f : ℕ → Option Command) (a : List ℕ) (c : Command) → (field_of a >>= f) ≡ Some c → (h : ℕ) × (h < 4096) × (a ≡ decimal h)
+    × (f h ≡ Some c)
 spelled_field f a c e =
     let p = bind_some (field_of a) f c e in
     let h = number_below_spells 4096 a p.0 p.1 in
@@ -133,10 +143,22 @@ sound_number : (n : List ℕ) (h : ℕ) (c : Command) → h < 256 → with_numbe
 unfolding with_number
 sound_number n h c lt e =
     let P : List ℕ → Command → Type 0 = λ n c. Fields c (n ∷ decimal h ∷ []) in
-    in_table P n (names_with_number h) c
-    ((lt, refl), ((lt, refl), ((lt, refl), ((lt, refl), ((lt, refl), ((lt, refl), ((lt, refl), ((lt, refl), ((lt, refl), ((lt, refl), tt)))))))))) e
+    in_table P n (names_with_number h) c (
+      (lt, refl),
+      (
+        (lt, refl),
+        (
+          (lt, refl),
+          (
+            (lt, refl),
+            ((lt, refl), ((lt, refl), ((lt, refl), ((lt, refl), ((lt, refl), ((lt, refl), tt)))))),
+          ),
+        ),
+      ),
+    ) e
 
-sound_two_numbers : (n : List ℕ) (h k : ℕ) (c : Command) → h < 256 → k < 256 → with_two_numbers n h k ≡ Some c → Fields c (n ∷ decimal h ∷ decimal k ∷ [])
+sound_two_numbers : (n : List ℕ) (h k : ℕ) (c : Command) → h < 256 → k < 256 → with_two_numbers n h k ≡ Some c
+    → Fields c (n ∷ decimal h ∷ decimal k ∷ [])
 unfolding with_two_numbers
 sound_two_numbers n h k c h_fits k_fits e =
     let P : List ℕ → Command → Type 0 = λ n c. Fields c (n ∷ decimal h ∷ decimal k ∷ []) in
@@ -179,7 +201,8 @@ unfolding reading_2
 sound_2 n a c e =
     let P : List ℕ → Command → Type 0 = λ n c. Fields c (n ∷ a ∷ []) in
     in_among P n (names_with_word a) _ c (sound_new a c, (sound_connect a c, (sound_find a c, (sound_unbind a c, (sound_array a c, tt)))))
-    (λ f. elim (chosen (bytes_eq n (codes "gc") && bytes_eq a (codes "soft")) (Some (Full ClearAll)) (byte_of a >>= λ h. with_number n h) (Some c) f) [
+    (λ f. elim (chosen (bytes_eq n (codes "gc") && bytes_eq a (codes "soft")) (Some (Full ClearAll)) (byte_of a >>= λ h. with_number n h)
+    (Some c) f) [
       | inl q ↦
           let both = and_parts (bytes_eq n (codes "gc")) (bytes_eq a (codes "soft")) q.0 in
           rw (← same_Some _ _ q.1) (same_2 _ _ _ _ (same_name n (codes "gc") both.0) (same_name a (codes "soft") both.1))
@@ -189,40 +212,46 @@ sound_2 n a c e =
     ]) e
 
 -- a file, a binding, a read and a write
-sound_open : (a b : List ℕ) (c : Command) → (mode_of a >>= λ m. path_of b >>= λ p. Some (Open m p)) ≡ Some c → Fields c (codes "open" ∷ a ∷ b ∷ [])
+sound_open : (a b : List ℕ) (c : Command) → (mode_of a >>= λ m. path_of b >>= λ p. Some (Open m p)) ≡ Some c
+    → Fields c (codes "open" ∷ a ∷ b ∷ [])
 sound_open a b c e =
     let m = bind_some (mode_of a) (λ m. path_of b >>= λ p. Some (Open m p)) c e in
     let q = bind_some (path_of b) (λ p. Some (Open m.0 p)) c m.2 in
     let p = word_of_spells 255 is_ascii_graphic b q.0 q.1 in
     rw (← same_Some _ _ q.2) (p.0, same_3 _ _ _ _ _ (mode_of_spells a m.0 m.1) p.1)
 
-sound_bind : (a b : List ℕ) (c : Command) → (name_of a >>= λ n. byte_of b >>= λ h. Some (Bind n h)) ≡ Some c → Fields c (codes "bind" ∷ a ∷ b ∷ [])
+sound_bind : (a b : List ℕ) (c : Command) → (name_of a >>= λ n. byte_of b >>= λ h. Some (Bind n h)) ≡ Some c
+    → Fields c (codes "bind" ∷ a ∷ b ∷ [])
 sound_bind a b c e =
     let q = bind_some (name_of a) (λ n. byte_of b >>= λ h. Some (Bind n h)) c e in
     let n = word_of_spells 32 is_name_byte a q.0 q.1 in
     let h = spelled (λ h. Some (Bind q.0 h)) b c q.2 in
     rw (← same_Some _ _ h.3) (n.0, h.1, same_3 _ _ _ _ _ n.1 h.2)
 
-sound_read : (a b : List ℕ) (c : Command) → (byte_of a >>= λ h. count_of b >>= λ n. Some (Read h n)) ≡ Some c → Fields c (codes "read" ∷ a ∷ b ∷ [])
+sound_read : (a b : List ℕ) (c : Command) → (byte_of a >>= λ h. count_of b >>= λ n. Some (Read h n)) ≡ Some c
+    → Fields c (codes "read" ∷ a ∷ b ∷ [])
 sound_read a b c e =
     let h = spelled (λ h. count_of b >>= λ n. Some (Read h n)) a c e in
     let q = bind_some (count_of b) (λ n. Some (Read h.0 n)) c h.3 in
     let n = count_of_spells b q.0 q.1 in
     rw (← same_Some _ _ q.2) (h.1, n.0, n.1, same_3 _ _ _ _ _ h.2 n.2)
 
-sound_write : (a b : List ℕ) (c : Command) → (byte_of a >>= λ h. data_of b >>= λ d. Some (Write h d)) ≡ Some c → Fields c (codes "write" ∷ a ∷ b ∷ [])
+sound_write : (a b : List ℕ) (c : Command) → (byte_of a >>= λ h. data_of b >>= λ d. Some (Write h d)) ≡ Some c
+    → Fields c (codes "write" ∷ a ∷ b ∷ [])
 sound_write a b c e =
     let h = spelled (λ h. data_of b >>= λ d. Some (Write h d)) a c e in
     let q = bind_some (data_of b) (λ d. Some (Write h.0 d)) c h.3 in
     rw (← same_Some _ _ q.2) (h.1, b, data_of_spells b q.0 q.1, same_3 _ _ _ _ _ h.2 refl)
 
-sound_get : (a b : List ℕ) (c : Command) → (byte_of a >>= λ h. field_of b >>= λ k. Some (Get h k)) ≡ Some c → Fields c (codes "get" ∷ a ∷ b ∷ [])
+sound_get : (a b : List ℕ) (c : Command) → (byte_of a >>= λ h. field_of b >>= λ k. Some (Get h k)) ≡ Some c
+    → Fields c (codes "get" ∷ a ∷ b ∷ [])
 sound_get a b c e =
     let h = spelled (λ h. field_of b >>= λ k. Some (Get h k)) a c e in
     let k = spelled_field (λ k. Some (Get h.0 k)) b c h.3 in
     rw (← same_Some _ _ k.3) (h.1, k.1, same_3 _ _ _ _ _ h.2 k.2)
 
-sound_int : (a b : List ℕ) (c : Command) → (byte_of a >>= λ h. field_of b >>= λ k. Some (Int h k)) ≡ Some c → Fields c (codes "int" ∷ a ∷ b ∷ [])
+sound_int : (a b : List ℕ) (c : Command) → (byte_of a >>= λ h. field_of b >>= λ k. Some (Int h k)) ≡ Some c
+    → Fields c (codes "int" ∷ a ∷ b ∷ [])
 sound_int a b c e =
     let h = spelled (λ h. field_of b >>= λ k. Some (Int h k)) a c e in
     let k = spelled_field (λ k. Some (Int h.0 k)) b c h.3 in
@@ -232,7 +261,10 @@ sound_3 : (n a b : List ℕ) (c : Command) → reading_3 n a b ≡ Some c → Fi
 unfolding reading_3
 sound_3 n a b c e =
     let P : List ℕ → Command → Type 0 = λ n c. Fields c (n ∷ a ∷ b ∷ []) in
-    in_among P n (names_with_words a b) _ c (sound_open a b c, (sound_bind a b c, (sound_read a b c, (sound_write a b c, (sound_get a b c, (sound_int a b c, tt))))))
+    in_among P n (names_with_words a b) _ c (
+      sound_open a b c,
+      (sound_bind a b c, (sound_read a b c, (sound_write a b c, (sound_get a b c, (sound_int a b c, tt))))),
+    )
     (λ f.
     let h = spelled (λ h. byte_of b >>= λ k. with_two_numbers n h k) a c f in
     let k = spelled (with_two_numbers n h.0) b c h.3 in

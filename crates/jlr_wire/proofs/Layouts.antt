@@ -1,5 +1,6 @@
 -- A layout and its text.
-use Rattle.std.proofs.Common.{◌≡◌, ◌≢◌, ℕ, suc, zero, ◌<◌, ◌≤◌, true, false, eqb, nat_lt, ◌&&◌, List, [], ◌∷◌, map, length, take, get_or, cond, Option, Some, None, IfSome, IfNone, refl, sym, ap, ◌∙◌, arith, inl, inr, ◌⊎◌}
+use Rattle.std.proofs.Common.{◌≡◌, ◌≢◌, ℕ, suc, zero, ◌<◌, ◌≤◌, true, false, eqb, nat_lt, ◌&&◌, List, [], ◌∷◌, map, length, take, get_or}
+use Rattle.std.proofs.Common.{cond, Option, Some, None, IfSome, IfNone, refl, sym, ap, ◌∙◌, arith, inl, inr, ◌⊎◌}
 use Rattle.std.specs.Prelude.{codes}
 use Rattle.std.specs.Str.{bytes_eq}
 use Rattle.std.proofs.lemmas.List.{take_all, length-map}
@@ -12,19 +13,22 @@ use Rattle.jlr_types.specs.declared.FieldKind.TheVariants.{Int as IntField, Ref 
 use Rattle.jlr_wire.specs.Commands.{letter, layout}
 use Rattle.jlr_wire.specs.Reading.{kind_of, kinds_of, layout_of, ◌>>=◌}
 
-pub spelled : (kinds : List FieldKind) (text : List ℕ) (n : ℕ) → length text ≤ n → 0 < length text → map letter kinds ≡ take n text → text ≡ layout kinds
+pub spelled : (kinds : List FieldKind) (text : List ℕ) (n : ℕ) → length text ≤ n → 0 < length text → map letter kinds ≡ take n text
+    → text ≡ layout kinds
 spelled [] text n le some e = let none = ap length (e ∙ take_all n text le) in absurd (omega (arith, some, none))
 spelled (kind ∷ kinds) text n le some e = sym (e ∙ take_all n text le)
 
 -- each letter of fields is r or i
-pub is_letter : (kinds : List FieldKind) (i : ℕ) → i < length kinds → (get_or (map letter kinds) i 0 ≡ 114) ⊎ (get_or (map letter kinds) i 0 ≡ 105)
+pub is_letter : (kinds : List FieldKind) (i : ℕ) → i < length kinds → (get_or (map letter kinds) i 0 ≡ 114)
+    ⊎ (get_or (map letter kinds) i 0 ≡ 105)
 is_letter [] i lt = absurd (omega (arith, lt))
 is_letter (RefField ∷ kinds) zero lt = inl refl
 is_letter (IntField ∷ kinds) zero lt = inr refl
 is_letter (kind ∷ kinds) (suc i) lt = is_letter kinds i (omega (arith, lt))
 
 -- a text with another letter is no layout
-pub bad_letter : (kinds : List FieldKind) (text : List ℕ) (i : ℕ) → i < length text → text ≢ codes "-" → get_or text i 0 ≢ 114 → get_or text i 0 ≢ 105 → text ≡ layout kinds → ⊥
+pub bad_letter : (kinds : List FieldKind) (text : List ℕ) (i : ℕ) → i < length text → text ≢ codes "-" → get_or text i 0 ≢ 114
+    → get_or text i 0 ≢ 105 → text ≡ layout kinds → ⊥
 bad_letter [] text i lt dash r i_letter e = dash e
 bad_letter (kind ∷ kinds) text i lt dash r i_letter e =
     let same : (t : List ℕ) → text ≡ t → get_or text i 0 ≡ get_or t i 0 = λ t h. ap (λ x. get_or x i 0) h in
@@ -73,8 +77,11 @@ layout_of_spells text kinds e = elim (chosen (bytes_eq text (codes "-")) (Some [
       let k = cond_some_of (nat_lt 0 (length text) && nat_lt (length text) 9) (kinds_of text) kinds h.1 in
       let both = and_parts (nat_lt 0 (length text)) (nat_lt (length text) 9) k.0 in
       let is = letters-kinds_of text kinds k.1 in
-      let n : length kinds < 9 = omega (arith, ltb-true (length text) 9 both.1, ap length is, length-map kinds letter) in
-      (omega (arith, n), spelled kinds text (length text) (omega arith) (ltb-true 0 (length text) both.0) (sym is ∙ sym (take_all (length text) text (omega arith))))
+      let n : length kinds < 9 = omega (arith, ltb-true (length text) 9 both.1, ap length is, length-map kinds letter) in (
+        omega (arith, n),
+        spelled kinds text (length text) (omega arith) (ltb-true 0 (length text) both.0)
+            (sym is ∙ sym (take_all (length text) text (omega arith))),
+      )
 ]
 
 pub is_layout_of : (r : Option (List FieldKind)) (text : List ℕ) → IfSome r (λ kinds. (length kinds ≤ 8) × (text ≡ layout kinds))

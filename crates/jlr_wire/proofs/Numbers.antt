@@ -1,5 +1,6 @@
 -- A number below a limit and its text.
-use Rattle.std.proofs.Common.{◌≡◌, ℕ, [], ◌∷◌, ◌+◌, ◌*◌, ◌<◌, ◌≤◌, ◌^◌, true, nat_lt, List, Option, Some, None, Result, Ok, Err, IfSome, IfNone, refl, sym, ap, ◌∙◌, arith}
+use Rattle.std.proofs.Common.{◌≡◌, ℕ, [], ◌∷◌, ◌+◌, ◌*◌, ◌<◌, ◌≤◌, ◌^◌, true, nat_lt, List, Option, Some, None, Result, Ok, Err, IfSome}
+use Rattle.std.proofs.Common.{IfNone, refl, sym, ap, ◌∙◌, arith}
 use Rattle.std.specs.Prelude.{decimal}
 use Rattle.std.specs.Result.{OkIff, result_ok}
 use Rattle.std.specs.Str.{bytes_eq}
@@ -61,14 +62,16 @@ no_byte text e = is_number_below 256 None text (omega arith) tt tt
     (λ n lt is. none-some n (e ∙ ap note_of is ∙ note_of_decimal n (omega (arith, lt))))
 
 -- a number below 2 ^ 32 that is below 256, or is not
-pub narrowed : {E : Type 0} (r : Result ℕ E) (text : List ℕ) (n : ℕ) → Some n ≡ note_of text → OkIff r (n < 256) n → result_ok r ≡ byte_of text
+pub narrowed : {E : Type 0} (r : Result ℕ E) (text : List ℕ) (n : ℕ) → Some n ≡ note_of text → OkIff r (n < 256) n
+    → result_ok r ≡ byte_of text
 narrowed (Ok m) text n e is =
     let s = note_of_spells text n (sym e) in
     ap Some is.1 ∙ is_number_below 256 (Some n) text (omega arith) is.0 s.1 tt
 narrowed (Err f) text n e large =
     let s = note_of_spells text n (sym e) in
     is_number_below 256 None text (omega arith) tt tt
-    (λ m lt same. let own : n ≡ m = decimal_injective n m (omega (arith, s.0)) (omega (arith, lt)) (sym s.1 ∙ same) in large (omega (arith, own, lt)))
+    (λ m lt same. let own : n ≡ m = decimal_injective n m (omega (arith, s.0)) (omega (arith, lt)) (sym s.1 ∙ same) in
+    large (omega (arith, own, lt)))
 
 -- a text of one digit, and of two without a leading zero
 pub one_digit : (text : List ℕ) (ones : ℕ) → length text ≡ 1 → ones + 48 ≡ slice_index_or text 0 0 → ones < 10 → text ≡ decimal ones
@@ -76,12 +79,14 @@ one_digit [] ones count is lt = absurd (omega (arith, count))
 one_digit (a ∷ []) ones count is lt = ap (λ x. x ∷ []) (omega (arith, is)) ∙ sym (decimal_digit ones lt)
 one_digit (a ∷ b ∷ text) ones count is lt = absurd (omega (arith, count))
 
-pub two_digits : (text : List ℕ) (tens ones : ℕ) → length text ≡ 2 → tens + 48 ≡ slice_index_or text 0 0 → ones + 48 ≡ slice_index_or text 1 0
+pub two_digits : (text : List ℕ) (tens ones : ℕ) → length text ≡ 2 → tens + 48 ≡ slice_index_or text 0 0
+    → ones + 48 ≡ slice_index_or text 1 0
     → 0 < tens → tens < 10 → ones < 10 → text ≡ decimal (10 * tens + ones)
 two_digits [] tens ones count is is' some lt lt' = absurd (omega (arith, count))
 two_digits (a ∷ []) tens ones count is is' some lt lt' = absurd (omega (arith, count))
 two_digits (a ∷ b ∷ []) tens ones count is is' some lt lt' =
-    ap (λ x. x ∷ b ∷ []) (omega (arith, is)) ∙ ap (λ x. (48 + (10 * tens + ones) / 10) ∷ x ∷ []) (omega (arith, is')) ∙ sym (decimal_two (10 * tens + ones) (omega arith) (omega arith))
+    ap (λ x. x ∷ b ∷ []) (omega (arith, is)) ∙ ap (λ x. (48 + (10 * tens + ones) / 10) ∷ x ∷ []) (omega (arith, is'))
+    ∙ sym (decimal_two (10 * tens + ones) (omega arith) (omega arith))
 two_digits (a ∷ b ∷ d ∷ text) tens ones count is is' some lt lt' = absurd (omega (arith, count))
 
 pub decimal_note : (text : List ℕ) (n : ℕ) → n < 2 ^ 32 → text ≡ decimal n → Some n ≡ note_of text
@@ -99,4 +104,5 @@ pub above_none : (limit : ℕ) (text : List ℕ) (n : ℕ) → limit ≤ 2 ^ 32 
 above_none limit text n le e large =
     let s = note_of_spells text n (sym e) in
     is_number_below limit None text (omega (arith, le)) tt tt
-    (λ m lt same. let own : n ≡ m = decimal_injective n m (omega (arith, s.0)) (omega (arith, lt, le)) (sym s.1 ∙ same) in omega (arith, own, lt, large))
+    (λ m lt same. let own : n ≡ m = decimal_injective n m (omega (arith, s.0)) (omega (arith, lt, le)) (sym s.1 ∙ same) in
+    omega (arith, own, lt, large))

@@ -1,5 +1,6 @@
 -- Bytes that go out piece by piece.
-use Rattle.std.proofs.Common.{◌≡◌, ℕ, ◌+◌, List, [], ◌++◌, length, take, drop, Option, Some, None, Result, Ok, Err, refl, sym, ap, subst, ◌∙◌, append_assoc}
+use Rattle.std.proofs.Common.{◌≡◌, ℕ, ◌+◌, List, [], ◌++◌, length, take, drop, Option, Some, None, Result, Ok, Err, refl, sym, ap, subst}
+use Rattle.std.proofs.Common.{◌∙◌, append_assoc}
 use Rattle.std.specs.Prelude.{IfSome}
 use Rattle.std.specs.Io.KnownBytes.{Appends, Keeps}
 use Rattle.jlr_wire.specs.Replies.{Sends, AppendsFront}
@@ -27,7 +28,8 @@ pub front_of : (a b : Option (List ℕ)) (sent rest bytes : List ℕ) → bytes 
 front_of a b sent rest bytes e h = (length sent, rw (e, take_at sent rest (length sent) refl) h)
 
 -- a write of some of the rest
-pub sent_more : (a b c : Option (List ℕ)) (bytes sent rest : List ℕ) (n : ℕ) → bytes ≡ sent ++ rest → Appends a b sent → Appends b c (take n rest)
+pub sent_more : (a b c : Option (List ℕ)) (bytes sent rest : List ℕ) (n : ℕ) → bytes ≡ sent ++ rest → Appends a b sent
+    → Appends b c (take n rest)
     → (more : List ℕ) × (bytes ≡ more ++ drop n rest) × Appends a c more
 sent_more a b c bytes sent rest n e h k = (
   sent ++ take n rest,
@@ -36,13 +38,15 @@ sent_more a b c bytes sent rest n e h k = (
 )
 
 -- one piece after another
-pub then_sends : {E : Type 0} (a b c : Option (List ℕ)) (r : Result (Unit {0}) E) (xs ys : List ℕ) → Appends a b xs → Sends b c r ys → Sends a c r (xs ++ ys)
+pub then_sends : {E : Type 0} (a b c : Option (List ℕ)) (r : Result (Unit {0}) E) (xs ys : List ℕ) → Appends a b xs → Sends b c r ys
+    → Sends a c r (xs ++ ys)
 then_sends a b c (Ok u) xs ys h k = Appends-then a b c xs ys h k
 then_sends a b c (Err e) xs ys h k = (length xs + k.0, rw (take-append-add xs ys k.0) (Appends-then a b c xs (take k.0 ys) h k.1))
 
 -- a prefix of the first piece is a prefix of the whole
 pub front_first : (a b : Option (List ℕ)) (xs ys : List ℕ) → AppendsFront a b xs → AppendsFront a b (xs ++ ys)
-front_first a b xs ys h = front_of a b (take h.0 xs) (drop h.0 xs ++ ys) (xs ++ ys) (ap (λ t. t ++ ys) (sym (take-append-drop h.0 xs)) ∙ append_assoc (take h.0 xs) (drop h.0 xs) ys) h.1
+front_first a b xs ys h = front_of a b (take h.0 xs) (drop h.0 xs ++ ys) (xs ++ ys)
+    (ap (λ t. t ++ ys) (sym (take-append-drop h.0 xs)) ∙ append_assoc (take h.0 xs) (drop h.0 xs) ys) h.1
 
 pub appends_same : (a b : Option (List ℕ)) (xs ys : List ℕ) → xs ≡ ys → Appends a b xs → Appends a b ys
 appends_same a b xs ys e h = let P : List ℕ → Type 0 = λ t. Appends a b t in subst P e h

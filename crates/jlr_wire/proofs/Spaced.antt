@@ -15,14 +15,16 @@ spaced_more text items i item lt is =
     ∙ ap (λ bytes. spaced text (take i items) ++ bytes) (append-nil (32 ∷ text (get_or items i item)) ∙ ap (λ t. 32 ∷ text t) (sym is))
 
 -- and then those after it
-spaced_whole : {T : Type 0} (text : T → List ℕ) (items : List T) (n : ℕ) → spaced text (take n items) ++ spaced text (drop n items) ≡ spaced text items
+spaced_whole : {T : Type 0} (text : T → List ℕ) (items : List T) (n : ℕ) → spaced text (take n items)
+    ++ spaced text (drop n items) ≡ spaced text items
 spaced_whole text items n =
     sym (flat_map-append (λ t. 32 ∷ text t) (take n items) (drop n items)) ∙ ap (spaced text) (take-append-drop n items)
 
 -- one item more went out
 pub spaced_step : {T : Type 0} (text : T → List ℕ) (items : List T) (i : ℕ) (item : T) (word : List ℕ) (a b c : Option (List ℕ))
     → i < length items → item ≡ get_or items i item
-    → Appends a b (word ++ spaced text (take i items)) → Appends b c (32 ∷ text item) → Appends a c (word ++ spaced text (take (i + 1) items))
+    → Appends a b (word ++ spaced text (take i items)) → Appends b c (32 ∷ text item)
+    → Appends a c (word ++ spaced text (take (i + 1) items))
 spaced_step text items i item word a b c lt is h k =
     let front = spaced text (take i items) in
     appends_same a c _ _
@@ -36,7 +38,8 @@ pub spaced_cut : {T : Type 0} (text : T → List ℕ) (items : List T) (i : ℕ)
 spaced_cut text items i item word a b c lt is h k =
     let front = spaced text (take i items) in
     let rest = spaced text (drop (i + 1) items) in
-    let sent : AppendsFront a c ((word ++ front) ++ (32 ∷ text item)) = then_sends a b c (Err (tt {0})) (word ++ front) (32 ∷ text item) h k in
+    let sent : AppendsFront a c ((word ++ front) ++ (32 ∷ text item)) =
+    then_sends a b c (Err (tt {0})) (word ++ front) (32 ∷ text item) h k in
     let up_to : (word ++ front) ++ (32 ∷ text item) ≡ word ++ spaced text (take (i + 1) items)
     = append_assoc word front (32 ∷ text item) ∙ ap (λ bytes. word ++ bytes) (sym (spaced_more text items i item lt is)) in
     let whole : (word ++ spaced text (take (i + 1) items)) ++ rest ≡ word ++ spaced text items

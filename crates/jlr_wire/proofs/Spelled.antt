@@ -1,5 +1,6 @@
 -- A command has one spelling, but for the case of hexadecimal digits.
-use Rattle.std.proofs.Common.{◌≡◌, ℕ, zero, suc, ◌+◌, ◌*◌, ◌/◌, ◌%◌, ◌<◌, ◌==◌, Bool, true, false, ◌&&◌, List, [], ◌∷◌, ◌++◌, map, slice_index, Option, Some, None, Result, Ok, Err, refl, sym, ap, subst, ◌∙◌, arith, ◌⊎◌, inl, inr}
+use Rattle.std.proofs.Common.{◌≡◌, ℕ, zero, suc, ◌+◌, ◌*◌, ◌/◌, ◌%◌, ◌<◌, ◌==◌, Bool, true, false, ◌&&◌, List, [], ◌∷◌, ◌++◌, map}
+use Rattle.std.proofs.Common.{slice_index, Option, Some, None, Result, Ok, Err, refl, sym, ap, subst, ◌∙◌, arith, ◌⊎◌, inl, inr}
 use Rattle.std.specs.Prelude.{codes, decimal}
 use Rattle.std.specs.List.{join_with_byte}
 use Rattle.std.specs.Char.{to_ascii_lowercase}
@@ -7,7 +8,8 @@ use Rattle.std.specs.Result.{result_unwrap_or}
 use Rattle.std.proofs.lemmas.List.{map-append}
 use Rattle.std.proofs.lemmas.Bool.{cases_lt, eqb-true, false≢true}
 use Rattle.std.proofs.lemmas.Option.{same_Some}
-use Rattle.hex.specs.Hex.{hex_digit_value, digit_or_error, value_at, pair_value, decode_pairs, decode_of, encode_with, encode_lower, lower_digits, ◌>>=◌}
+use Rattle.hex.specs.Hex.{hex_digit_value, digit_or_error, value_at, pair_value, decode_pairs, decode_of, encode_with, encode_lower}
+use Rattle.hex.specs.Hex.{lower_digits, ◌>>=◌}
 use Rattle.hex.specs.declared.error.FromHexError.{FromHexError}
 use Rattle.hex.proofs.HexLemmas.{decode_of-ok, decode_of-even}
 use Rattle.jlr_wire.proofs.Options.{and_parts}
@@ -16,7 +18,10 @@ use Rattle.jlr_wire.specs.Commands.{Fields, IsCommand}
 use Rattle.jlr_wire.specs.Spelling.{has_digits}
 use Rattle.jlr_machine.specs.declared.ask.FullMode.TheVariants.{Policy, ClearAll}
 use Rattle.jlr_wire.specs.declared.command.Command.{Command}
-use Rattle.jlr_wire.specs.declared.command.Command.TheVariants.{New, Put, Get, SetInt, Int, Dup, Drop, Same, Soft, Weak, Phantom, Deref, Refers, Clear, Enqueue, Enqueued, Queue, Poll, Remove, Cleaner, Register, Clean, Open, Connect, Read, Write, Close, Bind, Find, Unbind, Names, Full, Stat, Notes, Faults, Bye, Array}
+use Rattle.jlr_wire.specs.declared.command.Command.TheVariants.{New, Put, Get, SetInt, Int, Dup, Drop, Same, Soft, Weak, Phantom, Deref}
+use Rattle.jlr_wire.specs.declared.command.Command.TheVariants.{Refers, Clear, Enqueue, Enqueued, Queue, Poll, Remove, Cleaner, Register}
+use Rattle.jlr_wire.specs.declared.command.Command.TheVariants.{Clean, Open, Connect, Read, Write, Close, Bind, Find, Unbind, Names, Full}
+use Rattle.jlr_wire.specs.declared.command.Command.TheVariants.{Stat, Notes, Faults, Bye, Array}
 
 -- ---- digits in small letters
 
@@ -47,7 +52,8 @@ value_small c v e = grind (arith)
 in_small : (c v : ℕ) → hex_digit_value c ≡ Some v → to_ascii_lowercase c ≡ slice_index lower_digits v
 in_small c v e = let h = agrees_at 103 c refl (is_below c v e) in eqb-true _ _ (rw e at h)
 
-then_ok : {A B : Type 0} (r : Result A FromHexError) (f : A → Result B FromHexError) (y : B) → (r >>= f) ≡ Ok y → (x : A) × (r ≡ Ok x) × (f x ≡ Ok y)
+then_ok : {A B : Type 0} (r : Result A FromHexError) (f : A → Result B FromHexError) (y : B) → (r >>= f) ≡ Ok y → (x : A) × (r ≡ Ok x)
+    × (f x ≡ Ok y)
 then_ok (Ok x) f y e = (x, refl, e)
 then_ok (Err f) g y e = cc e
 
@@ -90,7 +96,8 @@ small_join w h x y e =
     ∙ sym (map-append to_ascii_lowercase h (32 ∷ y)))
     ∙ sym (map-append to_ascii_lowercase w (32 ∷ (h ++ 32 ∷ y)))
 
-one_form : (c : Command) (xs ys : List (List ℕ)) → Fields c xs → Fields c ys → (xs ≡ ys) ⊎ ((a : ℕ) × (bytes : List ℕ) × (c ≡ Write a bytes))
+one_form : (c : Command) (xs ys : List (List ℕ)) → Fields c xs → Fields c ys → (xs ≡ ys)
+    ⊎ ((a : ℕ) × (bytes : List ℕ) × (c ≡ Write a bytes))
 one_form (New a) xs ys f g = inl (f.1 ∙ sym g.1)
 one_form (Put a b c) xs ys f g = inl (f.3 ∙ sym g.3)
 one_form (Get a b) xs ys f g = inl (f.2 ∙ sym g.2)
@@ -135,7 +142,8 @@ small_lines : (a : ℕ) (bytes line other : List ℕ) → IsCommand line (Write 
 small_lines a bytes line other h k =
     let f = h.each in
     let g = k.each in
-    let small : (t : List ℕ) (xs : List (List ℕ)) → t ≡ join_with_byte 32 xs → map to_ascii_lowercase t ≡ map to_ascii_lowercase (join_with_byte 32 xs)
+    let small : (t : List ℕ) (xs : List (List ℕ)) → t ≡ join_with_byte 32 xs
+    → map to_ascii_lowercase t ≡ map to_ascii_lowercase (join_with_byte 32 xs)
     = λ t xs e. ap (map to_ascii_lowercase) e in
     small line (codes "write" ∷ decimal a ∷ f.1 ∷ []) (h.joined ∙ ap (join_with_byte 32) f.3)
     ∙ small_join (codes "write") (decimal a) f.1 g.1 (small_digits f.1 bytes f.2.decoded ∙ sym (small_digits g.1 bytes g.2.decoded))
@@ -145,7 +153,8 @@ small_lines a bytes line other h k =
 abbrev Alike : List ℕ → List ℕ → Command → Type 0
 Alike line other c = (map to_ascii_lowercase line ≡ map to_ascii_lowercase other) × (has_digits c ≡ false → line ≡ other)
 
-alike_if_write : (a : ℕ) (bytes : List ℕ) (c : Command) (line other : List ℕ) → c ≡ Write a bytes → IsCommand line c → IsCommand other c → Alike line other c
+alike_if_write : (a : ℕ) (bytes : List ℕ) (c : Command) (line other : List ℕ) → c ≡ Write a bytes → IsCommand line c → IsCommand other c
+    → Alike line other c
 alike_if_write a bytes c line other e =
     let P : Command → Type 0 = λ d. IsCommand line d → IsCommand other d → Alike line other d in
     subst P (sym e) (λ h k. (small_lines a bytes line other h k, λ n. absurd (false≢true (sym n))))

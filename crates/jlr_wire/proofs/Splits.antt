@@ -16,7 +16,8 @@ pub split_first : (xs ys : List ℕ) → IsWithout 32 xs → slice_split is_spac
 split_first xs ys h = slice_split_at is_space xs 32 ys (not_space xs h) refl
 
 -- one field, and those of what stands after its space
-pub split_next : (line field rest : List ℕ) (fields : List (List ℕ)) → IsWithout 32 field → line ≡ field ++ 32 ∷ rest → slice_split is_space rest ≡ fields
+pub split_next : (line field rest : List ℕ) (fields : List (List ℕ)) → IsWithout 32 field → line ≡ field ++ 32 ∷ rest
+    → slice_split is_space rest ≡ fields
     → slice_split is_space line ≡ field ∷ fields
 split_next line field rest fields h cut whole = ap (slice_split is_space) cut ∙ split_first field rest h ∙ ap (λ xs. field ∷ xs) whole
 

@@ -1,5 +1,6 @@
 -- What a reader of lines has read, call by call.
-use Rattle.std.proofs.Common.{◌≡◌, ℕ, ◌+◌, ◌<◌, ◌≤◌, Bool, true, false, nat_lt, List, [], ◌∷◌, ◌++◌, length, take, refl, sym, ap, ◌∙◌, arith, append_assoc, length-append, inl, inr}
+use Rattle.std.proofs.Common.{◌≡◌, ℕ, ◌+◌, ◌<◌, ◌≤◌, Bool, true, false, nat_lt, List, [], ◌∷◌, ◌++◌, length, take, refl, sym, ap, ◌∙◌}
+use Rattle.std.proofs.Common.{arith, append_assoc, length-append, inl, inr}
 use Rattle.std.proofs.lemmas.List.{append-nil, take_all, take_at, take-append-le, length-take, map-append}
 use Rattle.std.proofs.lemmas.List.Elements.{All-nil, All-append, All-push}
 use Rattle.std.proofs.lemmas.Grind.{flat_map-append}
@@ -56,7 +57,8 @@ reads_on done seen old bytes used new r h =
     record { lines = r.lines; last = r.last ++ bytes; are = on.0; shows = append-nil seen ∙ r.shows; holds = on.1 }
 
 -- the front and the end of its line are what was used
-used_front : (bytes front rest : List ℕ) (used : ℕ) → bytes ≡ front ++ 10 ∷ rest → used ≡ length front + 1 → take used bytes ≡ front ++ 10 ∷ []
+used_front : (bytes front rest : List ℕ) (used : ℕ) → bytes ≡ front ++ 10 ∷ rest → used ≡ length front + 1 → take used bytes ≡ front
+    ++ 10 ∷ []
 used_front bytes front rest used cut taken =
     let size : length (front ++ 10 ∷ []) ≡ used = omega (arith, taken, length-append front (10 ∷ [])) in
     ap (take used) (cut ∙ sym (append_assoc front (10 ∷ []) rest)) ∙ take_at (front ++ 10 ∷ []) rest used size
@@ -84,7 +86,8 @@ pub line_ends : (fits : ℕ → Type 0) (done last : List ℕ) (lines : List (Li
 line_ends fits done last lines old bytes used new are holds h =
     let in_line : IsInLine (last ++ h.front) = All-append (λ b. b ≡ 10 → ⊥) last h.front are.open_end h.in_line in (
       record {
-        joined = ap (λ xs. done ++ xs) (used_front bytes h.front h.rest used h.cut h.taken) ∙ one_line_more lines last h.front done are.joined;
+        joined = ap (λ xs. done ++ xs) (used_front bytes h.front h.rest used h.cut h.taken)
+            ∙ one_line_more lines last h.front done are.joined;
         each = All-push IsInLine lines (last ++ h.front) are.each in_line;
         open_end = All-nil (λ b. b ≡ 10 → ⊥);
       },
@@ -109,13 +112,17 @@ reads_line too_long fits done seen old bytes used new r h size =
       holds = ends.3;
     }
 
-is_short : (begun_bytes last front : List ℕ) → begun_bytes ≡ take 513 last → length (begun_bytes ++ front) ≤ 512 → nat_lt 512 (length (last ++ front)) ≡ false
+is_short : (begun_bytes last front : List ℕ) → begun_bytes ≡ take 513 last → length (begun_bytes ++ front) ≤ 512
+    → nat_lt 512 (length (last ++ front)) ≡ false
 is_short begun_bytes last front e le =
-    le-ltb 512 (length (last ++ front)) (omega (arith, le, length-append begun_bytes front, length-append last front, ap length e, length-take 513 last))
+    le-ltb 512 (length (last ++ front))
+    (omega (arith, le, length-append begun_bytes front, length-append last front, ap length e, length-take 513 last))
 
-is_long : (begun_bytes last front : List ℕ) → begun_bytes ≡ take 513 last → 512 < length (begun_bytes ++ front) → nat_lt 512 (length (last ++ front)) ≡ true
+is_long : (begun_bytes last front : List ℕ) → begun_bytes ≡ take 513 last → 512 < length (begun_bytes ++ front)
+    → nat_lt 512 (length (last ++ front)) ≡ true
 is_long begun_bytes last front e lt =
-    lt-ltb 512 (length (last ++ front)) (omega (arith, lt, length-append begun_bytes front, length-append last front, ap length e, length-take 513 last))
+    lt-ltb 512 (length (last ++ front))
+    (omega (arith, lt, length-append begun_bytes front, length-append last front, ap length e, length-take 513 last))
 
 -- one call more
 pub reads_more : (done : List ℕ) (seen : List Shown) (old : Held) (bytes : List ℕ) (used : ℕ) (got : Got) (new : Held)
@@ -133,4 +140,7 @@ reads_calls [] done seen held r f = rw (append-nil done, append-nil seen) r
 reads_calls (call ∷ calls) done seen held r f =
     let one = reads_more done seen held call.offered call.used call.got call.after r f.0 in
     let all = reads_calls calls (done ++ take call.used call.offered) (seen ++ shown_by_call call.got call.after) call.after one f.1 in
-    rw (← append_assoc done (take call.used call.offered) (used_bytes calls), ← append_assoc seen (shown_by_call call.got call.after) (shown_by_calls calls)) all
+    rw (
+      ← append_assoc done (take call.used call.offered) (used_bytes calls),
+      ← append_assoc seen (shown_by_call call.got call.after) (shown_by_calls calls),
+    ) all

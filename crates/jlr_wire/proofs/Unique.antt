@@ -1,5 +1,6 @@
 -- Bytes have one list of lines.
-use Rattle.std.proofs.Common.{◌≡◌, ℕ, Bool, false, eqb, List, [], ◌∷◌, ◌++◌, length, refl, sym, ap, ◌∙◌, arith, rules, append_assoc, length-append}
+use Rattle.std.proofs.Common.{◌≡◌, ℕ, Bool, false, eqb, List, [], ◌∷◌, ◌++◌, length, refl, sym, ap, ◌∙◌, arith, rules, append_assoc}
+use Rattle.std.proofs.Common.{length-append}
 use Rattle.std.specs.List.{All, slice_split}
 use Rattle.std.proofs.lemmas.List.Elements.{All-head, All-tail}
 use Rattle.std.proofs.lemmas.List.Splits.{slice_split_none, slice_split_at}
@@ -13,7 +14,8 @@ unfolding is_end
 no_end xs h = λ k d lt. let n = h k d lt in search (rules, n)
 
 -- the parts between the ends are the lines and what comes after the last end
-apart : (lines : List (List ℕ)) (last : List ℕ) → All IsInLine lines → IsInLine last → slice_split is_end (ended_lines lines ++ last) ≡ lines ++ last ∷ []
+apart : (lines : List (List ℕ)) (last : List ℕ) → All IsInLine lines → IsInLine last
+    → slice_split is_end (ended_lines lines ++ last) ≡ lines ++ last ∷ []
 unfolding is_end
 apart [] last each open_end = slice_split_none is_end last (no_end last open_end)
 apart (line ∷ lines) last each open_end =
@@ -37,4 +39,5 @@ pub unique : (bytes : List ℕ) (lines other : List (List ℕ)) (last other_last
     → AreLines bytes lines last → AreLines bytes other other_last → (lines ≡ other) × (last ≡ other_last)
 unique bytes lines other last other_last h k =
     same_parts lines other last other_last
-    (sym (apart lines last h.each h.open_end) ∙ ap (slice_split is_end) (sym h.joined ∙ k.joined) ∙ apart other other_last k.each k.open_end)
+    (sym (apart lines last h.each h.open_end) ∙ ap (slice_split is_end) (sym h.joined ∙ k.joined)
+    ∙ apart other other_last k.each k.open_end)

@@ -8,7 +8,8 @@ use Rattle.std.proofs.lemmas.List.{drop_all, drop_more}
 same_heads : (a b : ℕ) (xs ys : List ℕ) → a ≡ b → bytes_eq (a ∷ xs) (b ∷ ys) ≡ bytes_eq xs ys
 same_heads a b xs ys e = rw (eq-eqb a b e) refl
 
-pub one_more : (field word : List ℕ) (i : ℕ) → i < length field → length field ≡ length word → slice_index_or field i 0 ≡ slice_index_or word i 0
+pub one_more : (field word : List ℕ) (i : ℕ) → i < length field → length field ≡ length word
+    → slice_index_or field i 0 ≡ slice_index_or word i 0
     → bytes_eq (drop i field) (drop i word) ≡ bytes_eq (drop (i + 1) field) (drop (i + 1) word)
 one_more field word i lt count e =
     ap (λ xs. bytes_eq xs (drop i word)) (drop_more field i 0 lt)

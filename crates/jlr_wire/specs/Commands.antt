@@ -10,7 +10,11 @@ use Rattle.jlr_device.specs.declared.device.Mode.TheVariants.{Read as Reading, W
 use Rattle.jlr_machine.specs.declared.ask.FullMode.TheVariants.{Policy, ClearAll}
 use Rattle.jlr_wire.specs.Texts.{IsPath, IsName, AreDigits}
 use Rattle.jlr_wire.specs.declared.command.Command.{Command}
-use Rattle.jlr_wire.specs.declared.command.Command.TheVariants.{New, Put, Get, SetInt, Int, Dup, Drop, Same, Soft, Weak, Phantom, Deref, Refers, Clear, Enqueue, Enqueued, Queue, Poll, Remove, Cleaner, Register, Clean, Open, Connect, Read, Write, Close, Bind, Find, Unbind, Names, Full, Stat, Notes, Faults, Bye, Array}
+use Rattle.jlr_wire.specs.declared.command.Command.TheVariants.{New, Put, Get, SetInt, Int, Dup, Drop, Same, Soft, Weak}
+use Rattle.jlr_wire.specs.declared.command.Command.TheVariants.{Phantom, Deref, Refers, Clear, Enqueue, Enqueued, Queue}
+use Rattle.jlr_wire.specs.declared.command.Command.TheVariants.{Poll, Remove, Cleaner, Register, Clean, Open, Connect}
+use Rattle.jlr_wire.specs.declared.command.Command.TheVariants.{Read, Write, Close, Bind, Find, Unbind, Names, Full}
+use Rattle.jlr_wire.specs.declared.command.Command.TheVariants.{Stat, Notes, Faults, Bye, Array}
 
 -- the letter of a field
 abbrev pub letter : FieldKind → ℕ
@@ -30,10 +34,12 @@ mode_letter Writing = codes "w"
 -- these are the fields of the command; a number has no leading zero
 abbrev pub Fields : Command → List (List ℕ) → Type 0
 Fields (New kinds) fields = (length kinds ≤ 8) × (fields ≡ codes "new" ∷ layout kinds ∷ [])
-Fields (Put h k v) fields = (h < 256) × (k < 4096) × (v < 256) × (fields ≡ codes "put" ∷ decimal h ∷ decimal k ∷ decimal v ∷ [])
+Fields (Put h k v) fields = (h < 256) × (k < 4096) × (v < 256)
+    × (fields ≡ codes "put" ∷ decimal h ∷ decimal k ∷ decimal v ∷ [])
 Fields (Get h k) fields = (h < 256) × (k < 4096) × (fields ≡ codes "get" ∷ decimal h ∷ decimal k ∷ [])
 Fields (SetInt h k n) fields =
-    (h < 256) × (k < 4096) × FitsSigned w64 n × (fields ≡ codes "setint" ∷ decimal h ∷ decimal k ∷ signed_decimal n ∷ [])
+    (h < 256) × (k < 4096) × FitsSigned w64 n
+    × (fields ≡ codes "setint" ∷ decimal h ∷ decimal k ∷ signed_decimal n ∷ [])
 Fields (Int h k) fields = (h < 256) × (k < 4096) × (fields ≡ codes "int" ∷ decimal h ∷ decimal k ∷ [])
 Fields (Dup h) fields = (h < 256) × (fields ≡ codes "dup" ∷ decimal h ∷ [])
 Fields (Drop h) fields = (h < 256) × (fields ≡ codes "drop" ∷ decimal h ∷ [])
@@ -55,7 +61,8 @@ Fields (Register c h note) fields =
 Fields (Clean c) fields = (c < 256) × (fields ≡ codes "clean" ∷ decimal c ∷ [])
 Fields (Open mode path) fields = IsPath path × (fields ≡ codes "open" ∷ mode_letter mode ∷ path ∷ [])
 Fields (Connect path) fields = IsPath path × (fields ≡ codes "connect" ∷ path ∷ [])
-Fields (Read h count) fields = (h < 256) × (1 ≤ count) × (count ≤ 200) × (fields ≡ codes "read" ∷ decimal h ∷ decimal count ∷ [])
+Fields (Read h count) fields = (h < 256) × (1 ≤ count) × (count ≤ 200)
+    × (fields ≡ codes "read" ∷ decimal h ∷ decimal count ∷ [])
 Fields (Write h bytes) fields =
     (h < 256) × (digits : List ℕ) × AreDigits digits bytes × (fields ≡ codes "write" ∷ decimal h ∷ digits ∷ [])
 Fields (Close h) fields = (h < 256) × (fields ≡ codes "close" ∷ decimal h ∷ [])

@@ -35,7 +35,8 @@ abbrev pub line_at : LineAt → ℕ → List ℕ → Held → List ℕ
 line_at Bytes used bytes held = take (used - 1) bytes
 line_at _ used bytes held = held.bytes
 
--- The first end of a line ends the line under way, of which the first 513 bytes are given; nothing of a line under way is held then.
+-- The first end of a line ends the line under way, of which the first 513 bytes are given; nothing of a line under way
+-- is held then.
 pub record EndsLine (old : Held) (bytes : List ℕ) (used : ℕ) (line : List ℕ) (new : Held) : Type 0 where
   pub front : List ℕ
   pub rest : List ℕ

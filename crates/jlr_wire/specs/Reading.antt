@@ -4,9 +4,14 @@ use Rattle.std.specs.Str.{bytes_eq}
 use Rattle.jlr_types.specs.declared.FieldKind.{FieldKind}
 use Rattle.jlr_types.specs.declared.FieldKind.TheVariants.{Int as IntField, Ref as RefField}
 use Rattle.jlr_machine.specs.declared.ask.FullMode.TheVariants.{Policy, ClearAll}
-use Rattle.jlr_wire.specs.Fields.{number_below, byte_of, field_of, note_of, integer_of, path_of, name_of, data_of, mode_of}
+use Rattle.jlr_wire.specs.Fields.{number_below, byte_of, field_of, note_of, integer_of, path_of, name_of, data_of}
+use Rattle.jlr_wire.specs.Fields.{mode_of}
 use Rattle.jlr_wire.specs.declared.command.Command.{Command}
-use Rattle.jlr_wire.specs.declared.command.Command.TheVariants.{New, Put, Get, SetInt, Int, Dup, Drop, Same, Soft, Weak, Phantom, Deref, Refers, Clear, Enqueue, Enqueued, Queue, Poll, Remove, Cleaner, Register, Clean, Open, Connect, Read, Write, Close, Bind, Find, Unbind, Names, Full, Stat, Notes, Faults, Bye, Array}
+use Rattle.jlr_wire.specs.declared.command.Command.TheVariants.{New, Put, Get, SetInt, Int, Dup, Drop, Same, Soft, Weak}
+use Rattle.jlr_wire.specs.declared.command.Command.TheVariants.{Phantom, Deref, Refers, Clear, Enqueue, Enqueued, Queue}
+use Rattle.jlr_wire.specs.declared.command.Command.TheVariants.{Poll, Remove, Cleaner, Register, Clean, Open, Connect}
+use Rattle.jlr_wire.specs.declared.command.Command.TheVariants.{Read, Write, Close, Bind, Find, Unbind, Names, Full}
+use Rattle.jlr_wire.specs.declared.command.Command.TheVariants.{Stat, Notes, Faults, Bye, Array}
 
 -- the ? of the logic
 infixl 10 ◌>>=◌
@@ -116,7 +121,8 @@ reading_1 name = named name names_alone
 unfoldable pub reading_2 : List ℕ → List ℕ → Option Command
 reading_2 name a =
     among name (names_with_word a)
-    (cond (bytes_eq name (codes "gc") && bytes_eq a (codes "soft")) (Some (Full ClearAll)) (byte_of a >>= λ h. with_number name h))
+    (cond (bytes_eq name (codes "gc") && bytes_eq a (codes "soft")) (Some (Full ClearAll))
+    (byte_of a >>= λ h. with_number name h))
 
 unfoldable pub reading_3 : List ℕ → List ℕ → List ℕ → Option Command
 reading_3 name a b = among name (names_with_words a b) (byte_of a >>= λ h. byte_of b >>= λ k. with_two_numbers name h k)
@@ -124,8 +130,10 @@ reading_3 name a b = among name (names_with_words a b) (byte_of a >>= λ h. byte
 unfoldable pub reading_4 : List ℕ → List ℕ → List ℕ → List ℕ → Option Command
 reading_4 name a b c =
     cond (bytes_eq name (codes "put")) (byte_of a >>= λ h. field_of b >>= λ k. byte_of c >>= λ v. Some (Put h k v))
-    (cond (bytes_eq name (codes "setint")) (byte_of a >>= λ h. field_of b >>= λ k. integer_of c >>= λ n. Some (SetInt h k n))
-    (cond (bytes_eq name (codes "register")) (byte_of a >>= λ k. byte_of b >>= λ h. note_of c >>= λ n. Some (Register k h n)) None))
+    (cond (bytes_eq name (codes "setint"))
+    (byte_of a >>= λ h. field_of b >>= λ k. integer_of c >>= λ n. Some (SetInt h k n))
+    (cond (bytes_eq name (codes "register")) (byte_of a >>= λ k. byte_of b >>= λ h. note_of c >>= λ n. Some
+    (Register k h n)) None))
 
 -- the command of these fields
 unfoldable pub reading : List (List ℕ) → Option Command

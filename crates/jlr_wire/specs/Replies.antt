@@ -1,5 +1,6 @@
 -- The line of an answer.
-use Rattle.std.specs.Prelude.{ℕ, true, false, List, [], ◌∷◌, ◌++◌, take, Option, Some, None, Result, MatchResult, codes, decimal}
+use Rattle.std.specs.Prelude.{ℕ, true, false, List, [], ◌∷◌, ◌++◌, take, Option, Some, None, Result, MatchResult, codes}
+use Rattle.std.specs.Prelude.{decimal}
 use Rattle.std.specs.List.{flat_map}
 use Rattle.std.specs.Fmt.{signed_decimal}
 use Rattle.std.specs.Io.KnownBytes.{Appends}
@@ -9,7 +10,8 @@ use Rattle.jlr_types.specs.declared.Fault.{Fault}
 use Rattle.jlr_types.specs.declared.Fault.TheVariants.{NotFound, Denied, Other}
 use Rattle.jlr_machine.specs.declared.machine.Failure.{Failure}
 use Rattle.jlr_machine.specs.declared.ask.Answer.{Answer}
-use Rattle.jlr_machine.specs.declared.ask.Answer.TheVariants.{Done, Handle, Truth, Int, Data, Wrote, Faulted, Names, Notes, Faults, Stat as StatAnswer, AlreadyDone, Refused}
+use Rattle.jlr_machine.specs.declared.ask.Answer.TheVariants.{Done, Handle, Truth, Int, Data, Wrote, Faulted, Names}
+use Rattle.jlr_machine.specs.declared.ask.Answer.TheVariants.{Notes, Faults, Stat as StatAnswer, AlreadyDone, Refused}
 use Rattle.jlr_machine.specs.declared.ask.Stat.{Stat}
 
 -- the items in order, each after a space

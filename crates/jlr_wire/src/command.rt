@@ -4,7 +4,8 @@ ghost use Rattle.jlr_types.specs.declared.Refusal.TheVariants.{TooLong, Malforme
 ghost use Rattle.std.specs.Prelude.{if◌then◌else◌, nat_lt, Ok, ◌≡◌, ◌<◌, ◌↔◌, IfErr, length};
 ghost use Rattle.std.specs.List.{slice_split};
 ghost use Rattle.std.specs.Str.{bytes_eq};
-ghost use Rattle.jlr_wire.specs.Reading.{with_number, with_two_numbers, reading_1, reading_2, reading_3, reading_4, reading};
+ghost use Rattle.jlr_wire.specs.Reading.{with_number, with_two_numbers, reading_1, reading_2, reading_3, reading_4};
+ghost use Rattle.jlr_wire.specs.Reading.{reading};
 ghost use Rattle.jlr_wire.specs.Commands.{IsCommand};
 ghost use Rattle.jlr_wire.specs.Fields.{is_space};
 

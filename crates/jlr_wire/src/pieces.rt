@@ -1,5 +1,6 @@
 //! Lines out of a stream of bytes that comes in pieces.
-ghost use Rattle.std.specs.Prelude.{ℕ, List, ◌≡◌, ◌≤◌, ◌<◌, [], length, false, nat_lt, ◌&&◌, not, take, ◌++◌, ◌∷◌, cond, IfSome};
+ghost use Rattle.std.specs.Prelude.{ℕ, List, ◌≡◌, ◌≤◌, ◌<◌, [], length, false, nat_lt, ◌&&◌, not, take, ◌++◌, ◌∷◌};
+ghost use Rattle.std.specs.Prelude.{cond, IfSome};
 ghost use Rattle.jlr_wire.specs.Lines.{Held, IsInLine, nothing_held};
 ghost use Rattle.jlr_wire.specs.Feeding.{Feeds, FindsLine, line_at};
 
@@ -171,7 +172,8 @@ impl Pieces {
 /// How many bytes the first line of these has, without its end, where one ends and has at most 512.
 #[inline(always)]
 fn short_line(bytes: &[u8]) -> Option<usize>
-    ensures { IfSome result (λ size. (front : List ℕ) × (rest : List ℕ) × (bytes.now ≡ front ++ 10 ∷ rest) × IsInLine front × (size ≡ length front) × (size ≤ 512)) }
+    ensures { IfSome result (λ size. (front : List ℕ) × (rest : List ℕ) × (bytes.now ≡ front ++ 10 ∷ rest)
+        × IsInLine front × (size ≡ length front) × (size ≤ 512)) }
 {
     let (line, _) = cut_at(bytes, b'\n')?;
     if line.len() > LINE_LIMIT {

@@ -110,7 +110,8 @@ fn send_failure<W: Write>(failure: &Failure, writer: &mut W) -> Result<(), Write
 
 /// Writes the list of the failed actions.
 fn send_failures<W: Write>(failures: &[Failure], writer: &mut W) -> Result<(), WriteFault>
-    ensures { Sends (W.contents writer.old) (W.contents writer.new) result (codes "list" ++ spaced failure_text failures.now) }
+    ensures { Sends (W.contents writer.old) (W.contents writer.new) result
+        (codes "list" ++ spaced failure_text failures.now) }
 {
     send(b"list", writer)?;
     for failure in failures {
@@ -129,7 +130,8 @@ fn send_name<W: Write>(name: &[u8], writer: &mut W) -> Result<(), WriteFault>
 
 /// Writes the list of the names.
 fn send_names<W: Write>(names: &[Name], writer: &mut W) -> Result<(), WriteFault>
-    ensures { Sends (W.contents writer.old) (W.contents writer.new) result (codes "list" ++ spaced (λ name. name) names.now) }
+    ensures { Sends (W.contents writer.old) (W.contents writer.new) result
+        (codes "list" ++ spaced (λ name. name) names.now) }
 {
     send(b"list", writer)?;
     for name in names {
@@ -188,19 +190,22 @@ fn write_words<W: Write>(answer: &Answer, writer: &mut W) -> Result<(), WriteFau
 
 /// Writes the line of an answer with its end.
 fn write_line<W: Write>(answer: &Answer, writer: &mut W) -> Result<(), WriteFault>
-    ensures line { IfSome (words answer.now) (λ text. Sends (W.contents writer.old) (W.contents writer.new) result (text ++ 10 ∷ [])) }
+    ensures line { IfSome (words answer.now)
+        (λ text. Sends (W.contents writer.old) (W.contents writer.new) result (text ++ 10 ∷ [])) }
     ensures none { IfNone (words answer.now) (IsErr result × Keeps (W.contents writer.old) (W.contents writer.new)) }
 {
     write_words(answer, writer)?;
     send(b"\n", writer)
 }
 
-/// Writes the line of an answer with its end, and does not flush. It goes out by one write, where the writer takes it whole.
+/// Writes the line of an answer with its end, and does not flush. It goes out by one write, where the writer takes it
+/// whole.
 ///
 /// At a fault a prefix of the line went out. For an answer that has no line nothing is written, and
 /// it is a fault.
 pub fn write_reply<W: Write>(answer: &Answer, writer: &mut W) -> Result<(), WriteFault>
-    ensures line { IfSome (words answer.now) (λ text. Sends (W.contents writer.old) (W.contents writer.new) result (text ++ 10 ∷ [])) }
+    ensures line { IfSome (words answer.now)
+        (λ text. Sends (W.contents writer.old) (W.contents writer.new) result (text ++ 10 ∷ [])) }
     ensures none { IfNone (words answer.now) (IsErr result × Keeps (W.contents writer.old) (W.contents writer.new)) }
 {
     if let Some(line) = fixed_line(answer) {
@@ -225,7 +230,8 @@ fn fixed_line(answer: &Answer) -> Option<&'static [u8]>
 /// As `write_reply`, with room for the lines of most answers.
 #[inline(never)]
 fn write_short_line<W: Write>(answer: &Answer, writer: &mut W) -> Result<(), WriteFault>
-    ensures line { IfSome (words answer.now) (λ text. Sends (W.contents writer.old) (W.contents writer.new) result (text ++ 10 ∷ [])) }
+    ensures line { IfSome (words answer.now)
+        (λ text. Sends (W.contents writer.old) (W.contents writer.new) result (text ++ 10 ∷ [])) }
     ensures none { IfNone (words answer.now) (IsErr result × Keeps (W.contents writer.old) (W.contents writer.new)) }
 {
     let mut line: ArrayVec<u8, LINE_ROOM> = ArrayVec::new();
@@ -238,7 +244,8 @@ fn write_short_line<W: Write>(answer: &Answer, writer: &mut W) -> Result<(), Wri
 /// As `write_reply`, with room for the lines of data and of long lists.
 #[inline(never)]
 fn write_long_line<W: Write>(answer: &Answer, writer: &mut W) -> Result<(), WriteFault>
-    ensures line { IfSome (words answer.now) (λ text. Sends (W.contents writer.old) (W.contents writer.new) result (text ++ 10 ∷ [])) }
+    ensures line { IfSome (words answer.now)
+        (λ text. Sends (W.contents writer.old) (W.contents writer.new) result (text ++ 10 ∷ [])) }
     ensures none { IfNone (words answer.now) (IsErr result × Keeps (W.contents writer.old) (W.contents writer.new)) }
 {
     let mut line: ArrayVec<u8, LONG_LINE_ROOM> = ArrayVec::new();

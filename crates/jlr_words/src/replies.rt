@@ -8,12 +8,11 @@ use jlr_machine::text::Name;
 use jlr_types::{ActionNo, Fault, Progress, Refusal};
 use std::str::SplitWhitespace;
 
-/// Whether a reply is the one of these words: `handle 3`, `yes`, `refused NoHandle`, `job 1 6` with the resource 6, `marked done`.
-/// A resource
-/// that comes with a refusal stands behind it. Of a list there is its length, of notes then the last and the first, of faults the last, of
-/// names the first letter of the first; of counts the objects, the resources, and what was taken up, ended well and failed. What is
-/// left out of a
-/// list or of the counts is not looked at.
+/// Whether a reply is the one of these words: `handle 3`, `yes`, `refused NoHandle`, `job 1 6` with the resource 6,
+/// `marked done`. A resource that comes with a refusal stands behind it. Of a list there is its length, of notes then
+/// the last and the first, of faults the last, of names the first letter of the first; of counts the objects, the
+/// resources, and what was taken up, ended well and failed. What is left out of a list or of the counts is not looked
+/// at.
 pub fn is_reply(reply: &Reply<u32>, told: &str) -> bool {
     let mut words = told.split_whitespace();
     match words.next() {

@@ -4,17 +4,17 @@ use std::os::fd::AsRawFd;
 
 /// Keeps those standard places filled that were free when the program began.
 ///
-/// A program may be started with its standard input, output or error closed. The first file of a session would then get that place, and replies
-/// would be written into it. So the root directory is opened for reading in its place: to read a line from it fails, and so does
-/// to write a reply to it.
+/// A program may be started with its standard input, output or error closed. The first file of a session would then get
+/// that place, and replies would be written into it. So the root directory is opened for reading in its place: to read
+/// a line from it fails, and so does to write a reply to it.
 #[derive(Drop)]
 pub struct StandardPlaces {
     _filled: [Option<File>; 3],
 }
 
 impl StandardPlaces {
-    /// Fills the places that are free. A file gets the lowest free descriptor, so three that are open at once fill all three; what
-    /// gets another descriptor is closed again.
+    /// Fills the places that are free. A file gets the lowest free descriptor, so three that are open at once fill all
+    /// three; what gets another descriptor is closed again.
     pub fn filled(rt: &HostRuntime) -> StandardPlaces {
         let opened = [root(rt), root(rt), root(rt)];
         StandardPlaces {

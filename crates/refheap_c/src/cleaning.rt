@@ -36,7 +36,8 @@ pub extern "C" fn refheap_register(
     note: u32,
     out: &mut u8,
 ) -> u32
-    ensures { GivesHandle heap.old.value (Event.Ask (Ask.Register by cleaner object note)) result out.old out.new heap.new.value }
+    ensures { GivesHandle heap.old.value (Event.Ask (Ask.Register by cleaner object note)) result out.old out.new
+        heap.new.value }
 {
     let ask = Ask::Register {
         mutator: Mutator::new(by),

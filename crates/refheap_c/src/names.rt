@@ -22,7 +22,8 @@ pub extern "C" fn refheap_bind(
     object: u8,
 ) -> u32
     ensures { ((is_name name.now ≡ false) × IsOutOfRange heap.old.value result heap.new.value)
-        ⊎ ((is_name name.now ≡ true) × Ends heap.old.value (Event.Ask (Ask.Bind by name.now object)) result heap.new.value) }
+        ⊎ ((is_name name.now ≡ true) × Ends heap.old.value (Event.Ask (Ask.Bind by name.now object)) result
+        heap.new.value) }
 {
     let Some(name) = Name::from_slice(name) else {
         return RANGE;
@@ -45,7 +46,8 @@ pub extern "C" fn refheap_find(
     out: &mut u8,
 ) -> u32
     ensures { ((is_name name.now ≡ false) × IsOutOfRange heap.old.value result heap.new.value × (out.new ≡ out.old))
-        ⊎ ((is_name name.now ≡ true) × GivesHandle heap.old.value (Event.Ask (Ask.Find by name.now)) result out.old out.new heap.new.value) }
+        ⊎ ((is_name name.now ≡ true) × GivesHandle heap.old.value (Event.Ask (Ask.Find by name.now)) result out.old
+        out.new heap.new.value) }
 {
     let Some(name) = Name::from_slice(name) else {
         return RANGE;

@@ -23,7 +23,8 @@ pub extern "C" fn refheap_new(
     out: &mut u8,
 ) -> u32
     ensures { ((8 < fields) × IsOutOfRange heap.old.value result heap.new.value × (out.new ≡ out.old))
-        ⊎ GivesHandle heap.old.value (Event.Ask (Ask.New by (layout_of fields references))) result out.old out.new heap.new.value }
+        ⊎ GivesHandle heap.old.value (Event.Ask (Ask.New by (layout_of fields references))) result out.old out.new
+        heap.new.value }
 {
     if fields > 8 {
         return RANGE;
@@ -44,7 +45,8 @@ pub extern "C" fn refheap_array(
     length: u16,
     out: &mut u8,
 ) -> u32
-    ensures { (((length < 1) ⊎ (4096 < length)) × IsOutOfRange heap.old.value result heap.new.value × (out.new ≡ out.old))
+    ensures { (((length < 1) ⊎ (4096 < length)) × IsOutOfRange heap.old.value result heap.new.value
+        × (out.new ≡ out.old))
         ⊎ GivesHandle heap.old.value (Event.Ask (Ask.Array by length)) result out.old out.new heap.new.value }
 {
     let Some(length) = Length::new(length) else {

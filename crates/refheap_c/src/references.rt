@@ -18,7 +18,8 @@ pub extern "C" fn refheap_soft(
     queue: u8,
     out: &mut u8,
 ) -> u32
-    ensures { GivesHandle heap.old.value (Event.Ask (Ask.MakeRef by RefKind.Soft referent queue)) result out.old out.new heap.new.value }
+    ensures { GivesHandle heap.old.value (Event.Ask (Ask.MakeRef by RefKind.Soft referent queue)) result out.old out.new
+        heap.new.value }
 {
     let ask = Ask::MakeRef {
         mutator: Mutator::new(by),
@@ -39,7 +40,8 @@ pub extern "C" fn refheap_weak(
     queue: u8,
     out: &mut u8,
 ) -> u32
-    ensures { GivesHandle heap.old.value (Event.Ask (Ask.MakeRef by RefKind.Weak referent queue)) result out.old out.new heap.new.value }
+    ensures { GivesHandle heap.old.value (Event.Ask (Ask.MakeRef by RefKind.Weak referent queue)) result out.old out.new
+        heap.new.value }
 {
     let ask = Ask::MakeRef {
         mutator: Mutator::new(by),
@@ -60,7 +62,8 @@ pub extern "C" fn refheap_phantom(
     queue: u8,
     out: &mut u8,
 ) -> u32
-    ensures { GivesHandle heap.old.value (Event.Ask (Ask.MakeRef by RefKind.Phantom referent queue)) result out.old out.new heap.new.value }
+    ensures { GivesHandle heap.old.value (Event.Ask (Ask.MakeRef by RefKind.Phantom referent queue)) result out.old
+        out.new heap.new.value }
 {
     let ask = Ask::MakeRef {
         mutator: Mutator::new(by),
@@ -99,7 +102,8 @@ pub extern "C" fn refheap_refers(
     object: u8,
     out: &mut bool,
 ) -> u32
-    ensures { GivesTruth heap.old.value (Event.Ask (Ask.Refers by reference object)) result out.old out.new heap.new.value }
+    ensures { GivesTruth heap.old.value (Event.Ask (Ask.Refers by reference object)) result out.old out.new
+        heap.new.value }
 {
     let ask = Ask::Refers {
         mutator: Mutator::new(by),

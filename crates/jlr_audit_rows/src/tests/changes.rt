@@ -1,6 +1,6 @@
-//! The bytes of a file, and changes of them, in words: `whole` is the file, `front 20` its first twenty bytes, `behind 0` the file with a
-//! byte more, `byte 5 2` the file with 2 in its fifth byte, `for 21 24 ff 00` the file with these bytes in place of those from the 21st to
-//! the 24th, and `bytes 4a4c` tells all of them.
+//! The bytes of a file, and changes of them, in words: `whole` is the file, `front 20` its first twenty bytes, `behind
+//! 0` the file with a byte more, `byte 5 2` the file with 2 in its fifth byte, `for 21 24 ff 00` the file with these
+//! bytes in place of those from the 21st to the 24th, and `bytes 4a4c` tells all of them.
 use std::alloc::Global;
 use std::str::SplitWhitespace;
 

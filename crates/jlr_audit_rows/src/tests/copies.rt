@@ -2,8 +2,8 @@
 use super::older::play_all;
 use std::test::Fail;
 
-// A machine with something in every part, and entries with each answer and choice that takes memory. It is no image of a heap, so its
-// history is illegal before its first entry; what counts is that it is read, copied and written.
+// A machine with something in every part, and entries with each answer and choice that takes memory. It is no image of
+// a heap, so its history is illegal before its first entry; what counts is that it is read, copied and written.
 const HISTORIES: &str = "
     a machine is copied in every part, sixteen cells, two sessions, sixteen resources:
     4a4c5254 02 00000010 02 0010 0000000000000000

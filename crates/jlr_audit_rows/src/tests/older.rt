@@ -1,4 +1,5 @@
-//! Histories of version 1, as they were saved before there were arrays, by sessions of the worked examples: they stay legal.
+//! Histories of version 1, as they were saved before there were arrays, by sessions of the worked examples: they stay
+//! legal.
 use super::player::{Telling, is_title, is_told, nothing_is_wrong};
 use std::alloc::{AllocError, Global};
 use std::test::Fail;

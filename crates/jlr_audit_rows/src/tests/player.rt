@@ -1,4 +1,5 @@
-//! Playing rows: each has a change of a file, and behind an arrow what the bytes are told to be. A row that ends with a colon is a title.
+//! Playing rows: each has a change of a file, and behind an arrow what the bytes are told to be. A row that ends with a
+//! colon is a title.
 use super::changes::changed;
 use super::reading::content;
 use super::streams::streams_are_told;

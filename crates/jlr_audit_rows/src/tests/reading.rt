@@ -7,7 +7,8 @@ use jlr_trace::file::read_trace;
 use std::alloc::{AllocError, Global};
 use std::test::Fail;
 
-// The head; no objects; no session; seven empty lists; the next action and three counts; two entries: mutator 0 joins and leaves.
+// The head; no objects; no session; seven empty lists; the next action and three counts; two entries: mutator 0 joins
+// and leaves.
 const FILE: &str = "
     4a4c5254 01 00000010 01 0010 0000000000000000
     00000000 00
@@ -18,7 +19,8 @@ const FILE: &str = "
     00 01 00 00 00
 ";
 
-// The same of version 2, with three entries: mutator 0 joins, makes an array of two in cell 0, its handle 1, and leaves.
+// The same of version 2, with three entries: mutator 0 joins, makes an array of two in cell 0, its handle 1, and
+// leaves.
 const ARRAY_FILE: &str = "
     4a4c5254 02 00000010 01 0010 0000000000000000
     00000000 00
@@ -62,7 +64,8 @@ const ROWS: &str = "
     front 102 -> Truncated
 ";
 
-// The same of the other file: its 100th byte is the number of its second ask, and the 102nd and 103rd are the length of the array.
+// The same of the other file: its 100th byte is the number of its second ask, and the 102nd and 103rd are the length of
+// the array.
 const ARRAY_ROWS: &str = "
     front 116 -> 3 entries behind 0 in version 2
     byte 5 1 -> BadEntry(2)

@@ -13,7 +13,8 @@ use std::alloc::{AllocError, Global};
 use std::mem;
 use std::test::Fail;
 
-// The head; no objects; no session; seven empty lists; the next action and three counts; two entries: mutator 0 joins and leaves.
+// The head; no objects; no session; seven empty lists; the next action and three counts; two entries: mutator 0 joins
+// and leaves.
 const FILE: &str = "
     4a4c5254 01 00000010 01 0010 0000000000000000
     00000000 00
@@ -24,7 +25,8 @@ const FILE: &str = "
     00 01 00 00 00
 ";
 
-// The same of version 2, with three entries: mutator 0 joins, makes an array of two in cell 0, its handle 1, and leaves.
+// The same of version 2, with three entries: mutator 0 joins, makes an array of two in cell 0, its handle 1, and
+// leaves.
 const ARRAY_FILE: &str = "
     4a4c5254 02 00000010 01 0010 0000000000000000
     00000000 00

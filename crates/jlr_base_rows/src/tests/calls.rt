@@ -1,8 +1,8 @@
 //! Rows of words: a call, an arrow, and its answer as Debug shows it.
 //!
-//! `prepare 1 -> Ok(Rid(0))` asks for a place for action 1. A call whose conditions do not hold is not made, and its answer is `None` or
-//! `false`. A line that begins with `#` names the list that follows, which begins with `new`. The lists of a file are one text, since each
-//! text of its own is proved apart.
+//! `prepare 1 -> Ok(Rid(0))` asks for a place for action 1. A call whose conditions do not hold is not made, and its
+//! answer is `None` or `false`. A line that begins with `#` names the list that follows, which begins with `new`. The
+//! lists of a file are one text, since each text of its own is proved apart.
 use jlr_device::Finished;
 use jlr_resource::State;
 use jlr_types::{Fault, Refusal, Rid};

@@ -347,8 +347,8 @@ fn with_two(cleaner: &mut Cleaner<u64>, name: &str, first: u64, second: u64) -> 
     }
 }
 
-// `new` makes a cleaner for one resource, with its first action number. Of notes and faults an answer is how many there are, the first and
-// the last.
+// `new` makes a cleaner for one resource, with its first action number. Of notes and faults an answer is how many there
+// are, the first and the last.
 const LISTS: &str = "
     # the last 256 notes are kept
     new 1 -> true

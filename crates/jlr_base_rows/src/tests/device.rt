@@ -1,7 +1,7 @@
 //! Calls on devices and their resources.
 //!
-//! Bytes are numbers, a word each. A read goes to a buffer of four bytes that are 9 before, and its answer shows them too. `finish` ends
-//! the resource that was opened last.
+//! Bytes are numbers, a word each. A read goes to a buffer of four bytes that are 9 before, and its answer shows them
+//! too. `finish` ends the resource that was opened last.
 use super::calls::Got;
 use super::words::parsed;
 use jlr_device::guarded::{

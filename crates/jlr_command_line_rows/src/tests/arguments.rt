@@ -43,7 +43,8 @@ fn told(alloc: Global, order: Order<'_>) -> Result<String, Fail> {
     }
 }
 
-/// Of a session the cells, the files and sockets, the soft age and the length of the trace, and where its history is saved.
+/// Of a session the cells, the files and sockets, the soft age and the length of the trace, and where its history is
+/// saved.
 fn told_run(alloc: Global, order: RunOrder<'_>) -> Result<String, Fail> {
     let heap = numbers(alloc, &order.limits)?;
     let end = ending(alloc, order.save)?;

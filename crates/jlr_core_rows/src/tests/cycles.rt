@@ -45,7 +45,8 @@ const LISTS: &str = "
     collect -> yes
     deref 2 -> handle 3
 
--- A reference that was a root when the cycle began is kept by it, though it was dropped since. What it refers to was not marked.
+-- A reference that was a root when the cycle began is kept by it, though it was dropped since. What it refers to was
+-- not marked.
 == a reference that was dropped in a cycle is kept: soft_age 4
     join -> done
     queue -> handle 1
@@ -134,7 +135,8 @@ const LISTS: &str = "
     get 1 80 -> handle 2
     get 1 70 -> handle 3
 
--- A heap that is full in the middle of a cycle makes a full collection, which closes the cycle. It is full exactly where that leaves no room.
+-- A heap that is full in the middle of a cycle makes a full collection, which closes the cycle. It is full exactly
+-- where that leaves no room.
 == a heap is full in the middle of a cycle: soft_age 4
     join -> done
     new -> handle 1 up to 16
@@ -234,7 +236,8 @@ const LISTS: &str = "
     mark 1 -> marked done
     collect -> yes
 
--- What an array referred to when a cycle began is kept by it, whether it stood in the part that was followed or in the rest; and a cycle begins anew with each array.
+-- What an array referred to when a cycle began is kept by it, whether it stood in the part that was followed or in the
+-- rest; and a cycle begins anew with each array.
 == a cycle is given up in the middle of an array: soft_age 4
     join -> done
     array 130 -> handle 1

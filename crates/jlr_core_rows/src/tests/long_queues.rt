@@ -12,7 +12,8 @@ use jlr_words::{handle_in, is_reply};
 use std::alloc::Global;
 use std::test::Fail;
 
-// Of each 300 members the first keeps its handle, by which it is known again. With handles from 3 to 202 that are 60,000.
+// Of each 300 members the first keeps its handle, by which it is known again. With handles from 3 to 202 that are
+// 60,000.
 const FIRST_KEPT: u8 = 3;
 
 const LAST_KEPT: u8 = 202;

@@ -1,8 +1,6 @@
-//! Which events take memory. The core is made again where memory was refused once, and no event is but those whose rows begin with
-//! `again`: an
-//! event that took memory would be answered otherwise in the run in which it is refused. `checks/failing.sh` runs this test once
-//! for each of
-//! its allocations.
+//! Which events take memory. The core is made again where memory was refused once, and no event is but those whose rows
+//! begin with `again`: an event that took memory would be answered otherwise in the run in which it is refused.
+//! `checks/failing.sh` runs this test once for each of its allocations.
 use super::script::play_all;
 use std::test::Fail;
 
@@ -106,8 +104,8 @@ const LISTS: &str = "
     hand_over -> skipped
     poll 1 -> handle 0
 
--- Those events for which the table grows may be refused, those that bind a new name, and those that copy a list that is not empty, and are
--- asked again then: nothing has changed.
+-- Those events for which the table grows may be refused, those that bind a new name, and those that copy a list that is
+-- not empty, and are asked again then: nothing has changed.
 == a table that cannot grow is left as it was
     join -> done
     new -> handle 1
@@ -152,7 +150,8 @@ fn a_heap_and_its_table_are_made(rt: HostRuntime) -> Result<(), Fail> {
     play_all(rt.alloc(), BEFORE)
 }
 
-// The same, and then each event that takes no memory. `checks/starved.sh` runs this test with all refused that the one above does not take.
+// The same, and then each event that takes no memory. `checks/starved.sh` runs this test with all refused that the one
+// above does not take.
 const AFTER: &str = "
 == a heap with a resource, and each event that takes no memory: sessions 2
     join -> done

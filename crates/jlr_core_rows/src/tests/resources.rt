@@ -98,8 +98,8 @@ const LISTS: &str = "
     hand_over -> lined
     take_up -> job 1 5
 
--- A mutator's call is in flight while the other gives up its handle and the name: the guard is held until the call ends, by its fence
--- and by the caller's handle, which the caller cannot give up before.
+-- A mutator's call is in flight while the other gives up its handle and the name: the guard is held until the call
+-- ends, by its fence and by the caller's handle, which the caller cannot give up before.
 == a guard is not collected while its resource is out: sessions 2, resources 4
     join -> done
     by 1 join -> done

@@ -216,7 +216,8 @@ fn holds(
     })
 }
 
-// An ask whose answer is not looked at, or whether the core rests: nothing is pending then, and nothing stands in the cleaner's line.
+// An ask whose answer is not looked at, or whether the core rests: nothing is pending then, and nothing stands in the
+// cleaner's line.
 fn is_seen(alloc: Global, core: &mut Core<u32>, choice: &mut Choice, row: &str) -> bool
     requires { length core.old.machine.objects ≤ choice.old.cells }
     ensures { length core.new.machine.objects ≤ choice.new.cells }

@@ -73,7 +73,8 @@ const LISTS: &str = "
     deref 3 -> handle 0
     deref 4 -> handle 0
 
--- Only the reference to the holder gave its referent, and the other one is too old: they stay together, and go together.
+-- Only the reference to the holder gave its referent, and the other one is too old: they stay together, and go
+-- together.
 == a soft reference keeps what its referent holds: soft_age 1
     join -> done
     new ri -> handle 1

@@ -1,4 +1,5 @@
-//! A `remove` of a seat whose client is gone takes nothing, and one of the next client there does; once nobody waits any more it is refused.
+//! A `remove` of a seat whose client is gone takes nothing, and one of the next client there does; once nobody waits
+//! any more it is refused.
 ghost use Rattle.std.specs.Prelude.{◌≡◌};
 
 use jlr_event::event::{Event, Reply};

@@ -1,11 +1,11 @@
 //! Plays rows over the seats of a hall that ask in turns, with no loop beside them, in the words of `jlr_words`.
 //!
-//! `drop 1 -> done` is an ask of seat 0 and what it is answered, `seat 1 by 1 drop 1 -> done` one of seat 1 in the name of mutator 1, and
-//! `seat 1 60 times by 1 stat -> stat 0 0 0 0 0` stands for so many rows. A row `closes 64 8` wants that the close gives a book with base 64
-//! and 8 entries.
+//! `drop 1 -> done` is an ask of seat 0 and what it is answered, `seat 1 by 1 drop 1 -> done` one of seat 1 in the name
+//! of mutator 1, and `seat 1 60 times by 1 stat -> stat 0 0 0 0 0` stands for so many rows. A row `closes 64 8` wants
+//! that the close gives a book with base 64 and 8 entries.
 //!
-//! A text has several lists. Each begins with `== `, its name, a colon, and how many sessions its hall has and how many entries its trace
-//! holds; a hall has 16 cells and two resources. A line that begins with `-- ` is a comment.
+//! A text has several lists. Each begins with `== `, its name, a colon, and how many sessions its hall has and how many
+//! entries its trace holds; a hall has 16 cells and two resources. A line that begins with `-- ` is a comment.
 ghost use Rattle.std.specs.Prelude.{◌≡◌};
 
 use jlr_event::event::Event;

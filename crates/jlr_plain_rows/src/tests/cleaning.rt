@@ -43,7 +43,8 @@ const LISTS: &str = "
     stat -> stat 3 1 1 1 0
     leave -> done
 
--- `open w a; cleaner; new -; register 2 3 9; drop 1; gc; faults; drop 3; gc; notes; stat`, where the finish of the file fails
+-- `open w a; cleaner; new -; register 2 3 9; drop 1; gc; faults; drop 3; gc; notes; stat`, where the finish of the file
+-- fails
 == failed cleaning
     join -> done
     prepare -> prepared 0, in 0 1

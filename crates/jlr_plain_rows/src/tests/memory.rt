@@ -1,5 +1,5 @@
-//! Rows while each allocation in turn is refused. `checks/failing.sh` runs this test once for each of its allocations; in the gate it
-//! runs with none refused.
+//! Rows while each allocation in turn is refused. `checks/failing.sh` runs this test once for each of its allocations;
+//! in the gate it runs with none refused.
 ghost use Rattle.std.specs.Prelude.{IfOk};
 ghost use Rattle.jlr_machine.specs.WellFormed.{IsWellFormed};
 

@@ -74,8 +74,8 @@ fn copy_again(alloc: Global, machine: &Machine) -> Result<Machine, AllocError> {
     }
 }
 
-// Applies the entry if it is legal, and says whether it is. Where memory was refused once, the machine is compared with what it was,
-// and the entry is tried again; a machine that has changed counts as an entry that is not legal.
+// Applies the entry if it is legal, and says whether it is. Where memory was refused once, the machine is compared with
+// what it was, and the entry is tried again; a machine that has changed counts as an entry that is not legal.
 fn take(alloc: Global, machine: &mut Machine, entry: &Entry) -> Result<bool, AllocError>
     requires { IsWellFormed machine.old }
     ensures { IsWellFormed machine.new }

@@ -96,7 +96,8 @@ const LISTS: &str = "
     hand_over -> skipped
     poll 1 -> handle 0
 
--- `new r; new -; put 1 0 2; soft 1 0; soft 2 0; drop 1; drop 2; gc; deref 3; deref 4; drop 1; drop 2; gc soft; deref 3; deref 4`
+-- `new r; new -; put 1 0 2; soft 1 0; soft 2 0; drop 1; drop 2; gc; deref 3; deref 4; drop 1; drop 2; gc soft; deref 3;
+-- deref 4`
 == soft chain
     join -> done
     new r -> handle 1, in 0

@@ -3,7 +3,8 @@ use super::play::play_all;
 use std::test::Fail;
 
 const LISTS: &str = "
--- `get 9 0; dup 0; new ri; poll 1; get 1 2; get 1 1; setint 1 0 5; find x; queue; remove 2; weak 0 2; weak 1 1; setint 1 1 -9223372036854775808; int 1 1`
+-- `get 9 0; dup 0; new ri; poll 1; get 1 2; get 1 1; setint 1 0 5; find x; queue; remove 2; weak 0 2; weak 1 1; setint
+-- 1 1 -9223372036854775808; int 1 1`
 == refused
     join -> done
     get 9 0 -> refused NoHandle

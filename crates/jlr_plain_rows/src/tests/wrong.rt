@@ -22,8 +22,8 @@ const LISTS: &str = "
     deref 2 -> handle 0
     wrong deref 3 -> handle 1
 
--- After `new r; new -; put 1 0 2; soft 1 0; soft 2 0; drop 1; drop 2`: a `gc` that clears the soft reference to the second object,
--- while the first, which holds it by a field, keeps its own
+-- After `new r; new -; put 1 0 2; soft 1 0; soft 2 0; drop 1; drop 2`: a `gc` that clears the soft reference to the
+-- second object, while the first, which holds it by a field, keeps its own
 == a soft reference is cleared whose object is held softly
     join -> done
     new r -> handle 1, in 0
@@ -48,7 +48,8 @@ const LISTS: &str = "
     full -> done, keeps 0 1 2 3
     wrong deref 4 -> handle 0
 
--- After `queue; new -; weak 2 1; clear 3; drop 2`: a `gc` puts the reference, which the program cleared, on the pending list
+-- After `queue; new -; weak 2 1; clear 3; drop 2`: a `gc` puts the reference, which the program cleared, on the pending
+-- list
 == what the program cleared is put on the pending list
     join -> done
     queue -> handle 1, in 0
@@ -81,7 +82,8 @@ const LISTS: &str = "
     take_up -> job 1 note 7
     wrong clean 3 -> job 1 note 7
 
--- After `open w f; close 1; open w g`, where the second file has the Rid of the first: the closed guard gives the second file
+-- After `open w f; close 1; open w g`, where the second file has the Rid of the first: the closed guard gives the
+-- second file
 == a closed guard gives another file
     join -> done
     prepare -> prepared 0, in 0 1

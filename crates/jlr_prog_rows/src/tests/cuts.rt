@@ -59,7 +59,8 @@ fn replies_before(alloc: Global, count: usize) -> Result<(Vec<u8>, usize), Alloc
     Ok((replies, last))
 }
 
-/// How the session of the first bytes, so many of them, has to end and to be answered: an unfinished line is refused at its end.
+/// How the session of the first bytes, so many of them, has to end and to be answered: an unfinished line is refused at
+/// its end.
 fn wanted(alloc: Global, count: usize) -> Result<(SessionEnd, Vec<u8>), AllocError> {
     let (mut replies, last) = replies_before(alloc, count)?;
     let unfinished = count.saturating_sub(last);

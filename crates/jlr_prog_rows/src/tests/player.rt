@@ -1,7 +1,7 @@
 //! Plays lists of sessions.
 //!
-//! Lists are parted by empty lines. The first line of a list, which ends with a colon, says what its sessions show. A session is a line with
-//! its commands, and below it a line with an arrow and its answers, both as `words` reads them:
+//! Lists are parted by empty lines. The first line of a list, which ends with a colon, says what its sessions show. A
+//! session is a line with its commands, and below it a line with an arrow and its answers, both as `words` reads them:
 //!
 //! ```text
 //! soft references go by their age:
@@ -9,8 +9,8 @@
 //!     -> = 1; = 2; ok; ok; = 0
 //! ```
 //!
-//! What stands before a bar is its setting, as `settings` reads it. Where ` or ` parts two lists of answers, each of them is right. A line that
-//! begins with `#` is a remark.
+//! What stands before a bar is its setting, as `settings` reads it. Where ` or ` parts two lists of answers, each of
+//! them is right. A line that begins with `#` is a remark.
 use super::settings::{Setting, Shown};
 use super::words::{lines, text_of};
 use jlr_device::Device;

@@ -2,7 +2,8 @@
 //!
 //! - `soft_age 1`: for how many collections a soft reference keeps its referent; 4 where there is no such word.
 //! - `resources 1`: how many files and sockets may be open at once; 16 where there is no such word.
-//! - `scripts notfound; ok 00ff fails`: how the files and sockets go, as `script_of` reads each; those after the last go well.
+//! - `scripts notfound; ok 00ff fails`: how the files and sockets go, as `script_of` reads each; those after the last
+//!   go well.
 //! - `failures most`: as many calls of the device have failed before as it can count.
 //! - `lines 2`: how many lines can be written, before a write fails.
 //! - `trace 64`: how many entries the trace holds before it is cut; 10,000 where there is no such word.
@@ -135,8 +136,8 @@ fn scripts_of(alloc: Global, text: &str) -> Option<Vec<Script>> {
     Some(scripts)
 }
 
-/// The script of these words. The first is how the open goes; then `00ff` is a read that gives these bytes, `takes1` a write that takes one
-/// byte, `fails` a call that fails, and `unfinished` a `finish` that fails.
+/// The script of these words. The first is how the open goes; then `00ff` is a read that gives these bytes, `takes1` a
+/// write that takes one byte, `fails` a call that fails, and `unfinished` a `finish` that fails.
 fn script_of(alloc: Global, words: &str) -> Option<Script> {
     let mut script = Script {
         opened: Ok(()),

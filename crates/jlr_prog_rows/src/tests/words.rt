@@ -5,7 +5,8 @@ use std::alloc::Global;
 use std::io::Write;
 use std::str;
 
-/// The bytes of lines that are parted by `; `, each with its end. None where a range cannot be read, or there is no memory.
+/// The bytes of lines that are parted by `; `, each with its end. None where a range cannot be read, or there is no
+/// memory.
 pub(super) fn lines(alloc: Global, text: &str) -> Option<Vec<u8>> {
     let mut bytes = Vec::new(alloc);
     for line in text.split_terminator("; ") {

@@ -14,11 +14,13 @@ const TURNS: u64 = 1_000_000;
 /// How often a client asks the same until it is answered as it waits for.
 const ASKS: u64 = 65_000;
 
-/// What ends the last of three commands that are sent again, all three, until it counts fewer objects than it did before.
+/// What ends the last of three commands that are sent again, all three, until it counts fewer objects than it did
+/// before.
 const UNTIL_FEWER: &str = " until fewer";
 
-/// A client: its commands and what each is answered, parted by `; `. A command that ends with ` until` is sent again until it is answered so;
-/// a `stat` that ends with ` until fewer`, with the two commands before it, until it counts fewer objects than it did before.
+/// A client: its commands and what each is answered, parted by `; `. A command that ends with ` until` is sent again
+/// until it is answered so; a `stat` that ends with ` until fewer`, with the two commands before it, until it counts
+/// fewer objects than it did before.
 #[derive(Drop)]
 pub(super) struct Client {
     pub commands: &'static str,
@@ -247,7 +249,8 @@ impl Client {
     }
 }
 
-/// The clients of a test, in the order in which they come, and the gate at which reads wait: it opens once the last client was answered so often.
+/// The clients of a test, in the order in which they come, and the gate at which reads wait: it opens once the last
+/// client was answered so often.
 #[derive(Drop)]
 pub(super) struct Clients<'a> {
     rt: HostRuntime,

@@ -16,8 +16,9 @@ use std::thread::Threads;
 #[derive(Clone, Copy)]
 struct Row {
     what: &'static str,
-    /// How the file of the first open goes: how its open ends, and then, with a space before it, `0102` for a read that gives these bytes,
-    /// `takes1` for a write that takes one byte, `fails` for a call that fails, and `unfinished` for a `finish` that fails.
+    /// How the file of the first open goes: how its open ends, and then, with a space before it, `0102` for a read that
+    /// gives these bytes, `takes1` for a write that takes one byte, `fails` for a call that fails, and `unfinished` for
+    /// a `finish` that fails.
     script: &'static str,
     /// How many calls of the device have failed before.
     failed: u64,

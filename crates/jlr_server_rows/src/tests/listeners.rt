@@ -1,4 +1,5 @@
-//! A server on a Unix socket, and its clients as threads: some are answered, some go while they wait, and one asks the server to end.
+//! A server on a Unix socket, and its clients as threads: some are answered, some go while they wait, and one asks the
+//! server to end.
 ghost use Rattle.std.specs.Prelude.{◌≡◌, IfOk, length};
 
 use jlr_device::real::RealDevice;
@@ -207,7 +208,8 @@ fn a_client_that_is_gone_takes_nothing(rt: HostRuntime) -> Result<(), Fail> {
     Ok(())
 }
 
-/// A client waits for a death that never comes, and then the server is asked to end: its `remove` is refused, and it leaves.
+/// A client waits for a death that never comes, and then the server is asked to end: its `remove` is refused, and it
+/// leaves.
 #[test]
 fn a_server_ends_in_order(rt: HostRuntime) -> Result<(), Fail> {
     let limits = Limits::checked(16, 1, 1, 4, 100, 64).ok().ok_or("limits")?;

@@ -1,5 +1,5 @@
-//! The loops beside a session: what a collection clears is handed over, an action is run, and objects go that were dropped, though nobody
-//! asks for a collection.
+//! The loops beside a session: what a collection clears is handed over, an action is run, and objects go that were
+//! dropped, though nobody asks for a collection.
 use super::clients::{After, Client};
 use super::player::serve_all;
 use std::test::Fail;

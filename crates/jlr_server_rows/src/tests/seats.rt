@@ -67,7 +67,8 @@ where
         thread::scope_env(),
         threads,
         move |scope| -> Vec<Seat<GateResource<G>, L>>
-            requires { IsSync T.row × IsSend L.row × IsSync L.row × IsSend G.row × IsSync G.row × IsSend G.In.row × IsSend G.Out.row }
+            requires { IsSync T.row × IsSend L.row × IsSync L.row × IsSend G.row × IsSync G.row × IsSend G.In.row
+                × IsSend G.Out.row }
         {
             let mut running = Vec::new(alloc);
             let mut back = Vec::new(alloc);

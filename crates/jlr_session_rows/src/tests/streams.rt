@@ -18,7 +18,8 @@ pub(super) struct Streams {
     pub first: usize,
     pub step: usize,
     pub failing: Failing,
-    /// A write takes at most so many bytes, and all writes together `room`. A write without room takes nothing, or fails.
+    /// A write takes at most so many bytes, and all writes together `room`. A write without room takes nothing, or
+    /// fails.
     pub width: usize,
     pub room: usize,
     pub writes_fail: bool,

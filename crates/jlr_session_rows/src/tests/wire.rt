@@ -1,7 +1,7 @@
 //! Rows of text: what is given, an arrow, and what is expected.
 //!
-//! In a row `(p×255)` stands for 255 times the letter `p`. Answers are those of `jlr_words`. A line that begins with `==` names the rows
-//! that follow.
+//! In a row `(p×255)` stands for 255 times the letter `p`. Answers are those of `jlr_words`. A line that begins with
+//! `==` names the rows that follow.
 use super::streams::{Narrow, Streams};
 use jlr_machine::ask::Answer;
 use jlr_wire::reply::write_reply;

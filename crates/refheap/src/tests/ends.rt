@@ -1,9 +1,9 @@
-//! Each way in which a session ends: the status of the program, what it says on the standard error, and what it answered before. The
-//! texts are those of the description of the protocol.
+//! Each way in which a session ends: the status of the program, what it says on the standard error, and what it
+//! answered before. The texts are those of the description of the protocol.
 //!
-//! Lists are parted by empty lines. The first line of a list, which ends with a colon, says what its rows show, and one that begins with `#`
-//! is a remark. A row is what is read, an arrow, and, parted by bars, the status, what is said, and what is answered. A `;` ends a line.
-//! After ` to ` stands where the answers go, if they are not kept.
+//! Lists are parted by empty lines. The first line of a list, which ends with a colon, says what its rows show, and one
+//! that begins with `#` is a remark. A row is what is read, an arrow, and, parted by bars, the status, what is said,
+//! and what is answered. A `;` ends a line. After ` to ` stands where the answers go, if they are not kept.
 use jlr_command_line::report::status_after;
 use jlr_commands::session::session;
 use jlr_device::real::RealDevice;

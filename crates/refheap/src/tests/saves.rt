@@ -1,4 +1,5 @@
-//! Saved histories: each row is what a session reads, with `;` for the end of a line, an arrow, and the verdict on the history that it saved.
+//! Saved histories: each row is what a session reads, with `;` for the end of a line, an arrow, and the verdict on the
+//! history that it saved.
 use super::verdicts::{compared, push_decoded};
 use jlr_command_line::arguments::AuditOrder;
 use jlr_commands::audit::audit;

@@ -19,8 +19,9 @@ const FILE: &str = "
     00 01 00 00 00
 ";
 
-/// Each row says how many bytes of the file stand at the front, what stands behind them in place of as many, an arrow, and how the audit ends: the status, what is said, and
-/// what is written. Without bytes there is no file. A row with `json` in front asks for JSON.
+/// Each row says how many bytes of the file stand at the front, what stands behind them in place of as many, an arrow,
+/// and how the audit ends: the status, what is said, and what is written. Without bytes there is no file. A row with
+/// `json` in front asks for JSON.
 const ROWS: &str = "
     103 -> 0||legal 2 version 1
     100 01 -> 3||illegal 2 version 1 entry 2 of seat 0, leave of mutator 1, answered ok: it has to be refused 13, since the mutator is not joined, or may not join
@@ -56,7 +57,8 @@ pub(super) fn push_decoded(bytes: &mut Vec<u8>, text: &str) -> Result<(), Fail> 
     Ok(())
 }
 
-/// Appends the front of the file, what stands behind it in place of as many bytes, and the rest; without anything behind it the front alone.
+/// Appends the front of the file, what stands behind it in place of as many bytes, and the rest; without anything
+/// behind it the front alone.
 fn push_changed(bytes: &mut Vec<u8>, file: &[u8], front: usize, behind: &str) -> Result<(), Fail> {
     bytes.extend_from_slice(file.get(..front).ok_or("no front")?)?;
     push_decoded(bytes, behind)?;

@@ -9,13 +9,17 @@ use Rattle.jlr_asks.proofs.layout.kinds_at.Goals as goal
 pub returns-in_err-kind : goal.returns-in_err-kind
 returns-in_err-kind c =
     let p = err_from_is_err_and c.from_residual.result c.from_residual.ensures.1 in
-    rw (p.1, p.2) (ends kind_read c.in_err-kind.field-0.0 c.loop.layout c.args.count c.loop.counter c.loop.bytes.now (items_at kind_read c.args.count c.args.bytes.now.now) c.loop-test.true c.in_err-kind.ensures c.loop.invariant.read)
+    rw (p.1, p.2) (ends kind_read c.in_err-kind.field-0.0 c.loop.layout c.args.count c.loop.counter c.loop.bytes.now
+    (items_at kind_read c.args.count c.args.bytes.now.now) c.loop-test.true c.in_err-kind.ensures c.loop.invariant.read)
 
 pub loop-preserved : goal.loop-preserved
 loop-preserved c = record {
-  read = rw c.push.ensures (goes_on kind_read c.loop.layout c.args.count c.loop.counter c.loop.bytes.now c.in_ok-kind.kind c.kind_at.new.bytes.now (items_at kind_read c.args.count c.args.bytes.now.now) c.loop-test.true c.in_ok-kind.ensures c.loop.invariant.read);
+  read = rw c.push.ensures (goes_on kind_read c.loop.layout c.args.count c.loop.counter c.loop.bytes.now c.in_ok-kind.kind
+      c.kind_at.new.bytes.now (items_at kind_read c.args.count c.args.bytes.now.now) c.loop-test.true c.in_ok-kind.ensures
+      c.loop.invariant.read);
   full = rw c.push.ensures (omega (arith, length-append c.loop.layout (c.in_ok-kind.kind ∷ []), c.loop.invariant.full));
 }
 
 pub returns : goal.returns
-returns c = is_done kind_read c.loop.layout c.args.count c.loop.counter c.loop.bytes.now (items_at kind_read c.args.count c.args.bytes.now.now) c.loop-test.false c.loop.invariant.read
+returns c = is_done kind_read c.loop.layout c.args.count c.loop.counter c.loop.bytes.now
+    (items_at kind_read c.args.count c.args.bytes.now.now) c.loop-test.false c.loop.invariant.read

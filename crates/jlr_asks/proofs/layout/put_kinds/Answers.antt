@@ -7,7 +7,8 @@ use Rattle.jlr_types.specs.declared.FieldKind.{FieldKind}
 use Rattle.jlr_asks.specs.Asks.{spelled_kind, spelled_kind_at}
 use Rattle.jlr_asks.proofs.layout.put_kinds.Goals as goal
 
-more : (xs : List FieldKind) (i : ℕ) → flat_map spelled_kind (take (suc i) xs) ≡ flat_map spelled_kind (take i xs) ++ spelled_kind_at (slice_get xs i)
+more : (xs : List FieldKind) (i : ℕ) → flat_map spelled_kind (take (suc i) xs) ≡ flat_map spelled_kind (take i xs)
+    ++ spelled_kind_at (slice_get xs i)
 more [] zero = refl
 more [] (suc i) = refl
 more (x ∷ xs) zero = flat_map-cons spelled_kind x [] ∙ append-nil (spelled_kind x)
@@ -17,6 +18,8 @@ more (x ∷ xs) (suc i) =
     ∙ ap (λ (t : List ℕ). t ++ spelled_kind_at (slice_get xs i)) (sym (flat_map-cons spelled_kind x (take i xs)))
 
 pub loop-field-preserved : goal.loop-field-preserved
-loop-field-preserved c = rw add-one (c.in_ok-put_kind_at.ensures ∙ ap (λ (t : List ℕ). t ++ spelled_kind_at (slice_get c.args.layout.now c.loop-field.field)) c.loop-field.invariant
-    ∙ append_assoc c.args.out.now.items (flat_map spelled_kind (take c.loop-field.field c.args.layout.now)) (spelled_kind_at (slice_get c.args.layout.now c.loop-field.field))
+loop-field-preserved c = rw add-one (c.in_ok-put_kind_at.ensures
+    ∙ ap (λ (t : List ℕ). t ++ spelled_kind_at (slice_get c.args.layout.now c.loop-field.field)) c.loop-field.invariant
+    ∙ append_assoc c.args.out.now.items (flat_map spelled_kind (take c.loop-field.field c.args.layout.now))
+    (spelled_kind_at (slice_get c.args.layout.now c.loop-field.field))
     ∙ ap (λ (t : List ℕ). c.args.out.now.items ++ t) (sym (more c.args.layout.now c.loop-field.field)))

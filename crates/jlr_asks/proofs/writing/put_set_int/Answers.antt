@@ -10,5 +10,7 @@ use Rattle.jlr_asks.proofs.writing.put_set_int.Goals as goal
 pub returns : goal.returns
 returns c =
     let same : cast_signed w64 (cast_unsigned w64 c.args.value) ≡ c.args.value = to_z-of_z w64 c.args.value c.ranges.value in
-    then_written c.put_i64.result c.args.out.now.items c.put_field_of.new.out.items c.put_i64.new.out.items (5 ∷ c.args.mutator ∷ c.args.object ∷ spelled_field c.args.version c.args.field) (spelled_signed c.args.value) c.in_ok-put_field_of.ensures
+    then_written c.put_i64.result c.args.out.now.items c.put_field_of.new.out.items c.put_i64.new.out.items
+    (5 ∷ c.args.mutator ∷ c.args.object ∷ spelled_field c.args.version c.args.field) (spelled_signed c.args.value)
+    c.in_ok-put_field_of.ensures
     (subst (λ z. OnOk c.put_i64.result (c.put_i64.new.out.items ≡ c.put_field_of.new.out.items ++ spelled_signed z)) same c.put_i64.ensures)

@@ -17,7 +17,8 @@ shade_links-requires c =
     let near = linked c.in-Some.near.now in
     let far = linked_in c.in-Some.far in
     let edges : edges_from Strong heap s ≡ near ++ far =
-    subst (λ o. IfSome o (λ links. edges_from Strong heap s ≡ linked links.0.now ++ linked_in links.1)) c.in-Some.is c.visit.ensures.edges in
+    subst (λ o. IfSome o (λ links. edges_from Strong heap s ≡ linked links.0.now ++ linked_in links.1)) c.in-Some.is
+    c.visit.ensures.edges in
     λ x h. c.requires.within x (subst (λ l. x ∈ l) (sym edges) (in_left x near far h))
 
 pub shade_far-requires : goal.shade_far-requires
@@ -27,7 +28,8 @@ shade_far-requires c =
     let near = linked c.in-Some.near.now in
     let far = linked_in c.in-Some.far in
     let edges : edges_from Strong heap s ≡ near ++ far =
-    subst (λ o. IfSome o (λ links. edges_from Strong heap s ≡ linked links.0.now ++ linked_in links.1)) c.in-Some.is c.visit.ensures.edges in
+    subst (λ o. IfSome o (λ links. edges_from Strong heap s ≡ linked links.0.now ++ linked_in links.1)) c.in-Some.is
+    c.visit.ensures.edges in
     λ x h.
     let inside = c.requires.within x (subst (λ l. x ∈ l) (sym edges) (in_right x near far h)) in
     omega (arith, inside, c.shade_links.ensures.long)
@@ -39,13 +41,17 @@ returns-in-Some-clause-shaded c =
     let near = linked c.in-Some.near.now in
     let far = linked_in c.in-Some.far in
     let edges : edges_from Strong heap s ≡ near ++ far =
-    subst (λ o. IfSome o (λ links. edges_from Strong heap s ≡ linked links.0.now ++ linked_in links.1)) c.in-Some.is c.visit.ensures.edges in
-    let all = whole_part heap s c.args.from (no_elements c.args.cells.now.objects c.args.slot c.visit.ensures.plain (ap is_some c.in-Some.is)) in
+    subst (λ o. IfSome o (λ links. edges_from Strong heap s ≡ linked links.0.now ++ linked_in links.1)) c.in-Some.is
+    c.visit.ensures.edges in
+    let all = whole_part heap s c.args.from (no_elements c.args.cells.now.objects c.args.slot c.visit.ensures.plain
+    (ap is_some c.in-Some.is)) in
     subst (λ l. Shaded (λ x. x ∈ l) c.args.marks.now c.shade_far.new.marks) (sym (all ∙ edges))
     (shaded_in_both near far _ _ (shaded_then _ _ _ _ _ c.shade_links.ensures c.shade_far.ensures))
 
 pub returns-in-Some-clause-next : goal.returns-in-Some-clause-next
-returns-in-Some-clause-next c = no_next c.args.cells.now.objects c.args.slot c.args.from (no_elements c.args.cells.now.objects c.args.slot c.visit.ensures.plain (ap is_some c.in-Some.is))
+returns-in-Some-clause-next c = no_next c.args.cells.now.objects c.args.slot c.args.from
+    (no_elements c.args.cells.now.objects c.args.slot c.visit.ensures.plain (ap is_some c.in-Some.is))
 
 pub returns-in-Some-clause-few : goal.returns-in-Some-clause-few
-returns-in-Some-clause-few c = few_ticks c.args.cells.now.objects c.args.slot (no_elements c.args.cells.now.objects c.args.slot c.visit.ensures.plain (ap is_some c.in-Some.is))
+returns-in-Some-clause-few c = few_ticks c.args.cells.now.objects c.args.slot
+    (no_elements c.args.cells.now.objects c.args.slot c.visit.ensures.plain (ap is_some c.in-Some.is))

@@ -35,9 +35,12 @@ pub returns-then-not-is_marked-clause-marked : goal.returns-then-not-is_marked-c
 returns-then-not-is_marked-clause-marked c = c.loop-run.invariant.3
 
 -- one element more, which refers to nothing or to what is marked
-goes_on : (rest : List (Option ℕ)) (known i count : ℕ) (m : Marking) (read : Option ℕ) → i < length rest → i < count → read ≡ at rest i → ((x : ℕ) → read ≡ Some x → IsMarked m x)
-    → (known ≤ i) × (i ≤ count) × ((x : ℕ) → x ∈ linked (take known rest) → x ∈ linked (take i rest)) × ((x : ℕ) → x ∈ linked (take i rest) → (x ∈ linked (take known rest)) ⊎ IsMarked m x)
-    → (known ≤ i + 1) × (i + 1 ≤ count) × ((x : ℕ) → x ∈ linked (take known rest) → x ∈ linked (take (i + 1) rest)) × ((x : ℕ) → x ∈ linked (take (i + 1) rest) → (x ∈ linked (take known rest)) ⊎ IsMarked m x)
+goes_on : (rest : List (Option ℕ)) (known i count : ℕ) (m : Marking) (read : Option ℕ) → i < length rest → i < count → read ≡ at rest i
+    → ((x : ℕ) → read ≡ Some x → IsMarked m x)
+    → (known ≤ i) × (i ≤ count) × ((x : ℕ) → x ∈ linked (take known rest) → x ∈ linked (take i rest))
+    × ((x : ℕ) → x ∈ linked (take i rest) → (x ∈ linked (take known rest)) ⊎ IsMarked m x)
+    → (known ≤ i + 1) × (i + 1 ≤ count) × ((x : ℕ) → x ∈ linked (take known rest) → x ∈ linked (take (i + 1) rest))
+    × ((x : ℕ) → x ∈ linked (take (i + 1) rest) → (x ∈ linked (take known rest)) ⊎ IsMarked m x)
 goes_on rest known i count m read within more same marked before = (
   omega (arith, before.0),
   omega (arith, more),
@@ -57,7 +60,8 @@ loop-run-preserved c =
     let within : i < length rest = omega (arith, long, c.requires.there.1, c.loop-run-test.true) in
     let read : c.get.result ≡ at rest i = c.get.ensures ∙ sym (get_or-drop c.args.from links i None) in
     let marked : (x : ℕ) → c.get.result ≡ Some x → IsMarked c.args.marks.now x = elim c.match-get.branch [
-      | in-Some+else-not-is_marked w ↦ λ x e. subst (IsMarked c.args.marks.now) (some_same w.in-Some.slot x (sym w.in-Some.is ∙ e)) (sym w.is_marked.ensures ∙ w.if-not-is_marked.false)
+      | in-Some+else-not-is_marked w ↦ λ x e. subst (IsMarked c.args.marks.now) (some_same w.in-Some.slot x (sym w.in-Some.is ∙ e))
+          (sym w.is_marked.ensures ∙ w.if-not-is_marked.false)
       | in_default w ↦ λ x e. no_some x (sym w.in_default.is ∙ e)
     ] in
     goes_on rest c.args.known i c.args.count c.args.marks.now c.get.result within c.loop-run-test.true read marked c.loop-run.invariant

@@ -6,8 +6,10 @@ use Rattle.jlr_barrier.specs.Parts.{next_at, part_at}
 use Rattle.jlr_barrier.specs.Scans.{FollowedPart, ScannedTo}
 use Rattle.jlr_barrier.proofs.shade.scan_part.Goals as goal
 
-followed : (heap : Heap) (slot from : ℕ) (old off on : Marking) (result : Option ℕ) → upcoming old ≡ Some slot → result ≡ upcoming old → off.bits ≡ old.bits → IfSome result (λ x. IsPermutation old.grey (x ∷ off.grey)) → IfSome result (λ x. ¬ (x ∈ off.grey))
-    → off.discovered ≡ old.discovered → off.part ≡ None → from ≡ place old slot → Shaded (λ x. x ∈ part_at heap from slot) off on → FollowedPart heap slot old off on
+followed : (heap : Heap) (slot from : ℕ) (old off on : Marking) (result : Option ℕ) → upcoming old ≡ Some slot → result ≡ upcoming old
+    → off.bits ≡ old.bits → IfSome result (λ x. IsPermutation old.grey (x ∷ off.grey)) → IfSome result (λ x. ¬ (x ∈ off.grey))
+    → off.discovered ≡ old.discovered → off.part ≡ None → from ≡ place old slot → Shaded (λ x. x ∈ part_at heap from slot) off on
+    → FollowedPart heap slot old off on
 followed heap slot from old off on result next taken bits grey once discovered part reached shaded =
     record {
       same_bits = bits;
@@ -20,11 +22,15 @@ followed heap slot from old off on result next taken bits grey once discovered p
 
 pub returns-in-Some-clause-scanned : goal.returns-in-Some-clause-scanned
 returns-in-Some-clause-scanned c =
-    subst (λ o. ScannedTo o c.args.cells.now.objects c.args.slot c.args.marks.now c.resume_at.new.self) (sym c.in-Some.is ∙ c.follow-found.ensures.next ∙ ap (λ q. next_at c.args.cells.now.objects q c.args.slot) c.place-from.ensures)
+    subst (λ o. ScannedTo o c.args.cells.now.objects c.args.slot c.args.marks.now c.resume_at.new.self)
+    (sym c.in-Some.is ∙ c.follow-found.ensures.next ∙ ap (λ q. next_at c.args.cells.now.objects q c.args.slot) c.place-from.ensures)
     (record {
       off = c.take_grey.new.self;
       on = c.follow-found.new.marks;
-      followed = followed c.args.cells.now.objects c.args.slot c.place-from.result c.args.marks.now c.take_grey.new.self c.follow-found.new.marks c.take_grey.result c.requires.next c.take_grey.ensures.taken c.take_grey.ensures.bits c.take_grey.ensures.grey c.take_grey.ensures.once c.take_grey.ensures.discovered c.take_grey.ensures.part c.place-from.ensures c.follow-found.ensures.shaded;
+      followed = followed c.args.cells.now.objects c.args.slot c.place-from.result c.args.marks.now c.take_grey.new.self
+          c.follow-found.new.marks c.take_grey.result c.requires.next c.take_grey.ensures.taken c.take_grey.ensures.bits
+          c.take_grey.ensures.grey c.take_grey.ensures.once c.take_grey.ensures.discovered c.take_grey.ensures.part c.place-from.ensures
+          c.follow-found.ensures.shaded;
       bits = c.resume_at.ensures.bits;
       grey = c.resume_at.ensures.grey;
       discovered = c.resume_at.ensures.discovered;
@@ -33,11 +39,15 @@ returns-in-Some-clause-scanned c =
 
 pub returns-in-None-clause-scanned : goal.returns-in-None-clause-scanned
 returns-in-None-clause-scanned c =
-    subst (λ o. ScannedTo o c.args.cells.now.objects c.args.slot c.args.marks.now c.note.new.marks) (sym c.in-None.is ∙ c.follow-found.ensures.next ∙ ap (λ q. next_at c.args.cells.now.objects q c.args.slot) c.place-from.ensures)
+    subst (λ o. ScannedTo o c.args.cells.now.objects c.args.slot c.args.marks.now c.note.new.marks)
+    (sym c.in-None.is ∙ c.follow-found.ensures.next ∙ ap (λ q. next_at c.args.cells.now.objects q c.args.slot) c.place-from.ensures)
     (record {
       off = c.take_grey.new.self;
       on = c.follow-found.new.marks;
-      followed = followed c.args.cells.now.objects c.args.slot c.place-from.result c.args.marks.now c.take_grey.new.self c.follow-found.new.marks c.take_grey.result c.requires.next c.take_grey.ensures.taken c.take_grey.ensures.bits c.take_grey.ensures.grey c.take_grey.ensures.once c.take_grey.ensures.discovered c.take_grey.ensures.part c.place-from.ensures c.follow-found.ensures.shaded;
+      followed = followed c.args.cells.now.objects c.args.slot c.place-from.result c.args.marks.now c.take_grey.new.self
+          c.follow-found.new.marks c.take_grey.result c.requires.next c.take_grey.ensures.taken c.take_grey.ensures.bits
+          c.take_grey.ensures.grey c.take_grey.ensures.once c.take_grey.ensures.discovered c.take_grey.ensures.part c.place-from.ensures
+          c.follow-found.ensures.shaded;
       bits = c.note.ensures.bits;
       grey = c.note.ensures.grey;
       discovered = c.note.ensures.discovered;

@@ -16,7 +16,8 @@ pub loop-step-init : goal.loop-step-init
 loop-step-init c =
     let rest = drop c.args.from c.args.elements.now in (
       c.marked_run-step.ensures.few.1,
-      shaded_wider (λ x. x ∈ linked (take 0 rest)) (λ x. x ∈ linked (take c.marked_run-step.result rest)) c.marked_run-step.ensures.more c.args.marks.now c.args.marks.now c.marked_run-step.ensures.marked
+      shaded_wider (λ x. x ∈ linked (take 0 rest)) (λ x. x ∈ linked (take c.marked_run-step.result rest)) c.marked_run-step.ensures.more
+          c.args.marks.now c.args.marks.now c.marked_run-step.ensures.marked
           (shaded_none (λ x. x ∈ linked (take 0 rest)) nothing c.args.marks.now),
     )
 
@@ -53,10 +54,13 @@ loop-step-preserved c =
     c.args.marks.now c.shade_target.new.marks
     (shaded_then _ _ c.args.marks.now c.loop-step.marks c.shade_target.new.marks c.loop-step.invariant.1 c.shade_target.ensures) in (
       c.marked_run-step-in-loop-step.ensures.few.1,
-      shaded_wider (λ x. x ∈ linked (take (i + 1) rest)) (λ x. x ∈ linked (take c.marked_run-step-in-loop-step.result rest)) c.marked_run-step-in-loop-step.ensures.more c.args.marks.now c.shade_target.new.marks c.marked_run-step-in-loop-step.ensures.marked one,
+      shaded_wider (λ x. x ∈ linked (take (i + 1) rest)) (λ x. x ∈ linked (take c.marked_run-step-in-loop-step.result rest))
+          c.marked_run-step-in-loop-step.ensures.more c.args.marks.now c.shade_target.new.marks
+          c.marked_run-step-in-loop-step.ensures.marked one,
     )
 
 pub returns : goal.returns
 returns c =
     let whole : c.loop-step.step ≡ c.args.count = omega (arith, c.loop-step.invariant.0, c.loop-step-test.false) in
-    subst (λ k. Shaded (λ x. x ∈ linked (take k (drop c.args.from c.args.elements.now))) c.args.marks.now c.loop-step.marks) whole c.loop-step.invariant.1
+    subst (λ k. Shaded (λ x. x ∈ linked (take k (drop c.args.from c.args.elements.now))) c.args.marks.now c.loop-step.marks) whole
+    c.loop-step.invariant.1

@@ -25,7 +25,8 @@ pub loop-place-preserved : goal.loop-place-preserved
 loop-place-preserved c =
     let slots = named c.args.names.now in
     let i = c.loop-place.place in
-    let within : i < length slots = omega (arith, c.loop-place-test.true, c.len-place-end.ensures, length-map c.args.names.now (λ (b : Binding). b.slot)) in
+    let within : i < length slots =
+    omega (arith, c.loop-place-test.true, c.len-place-end.ensures, length-map c.args.names.now (λ (b : Binding). b.slot)) in
     let here : c.slot_at.result ≡ Some (slice_index_or slots i 0) = c.slot_at.ensures ∙ slice_get-get_or slots i 0 within in
     shaded_same _ _
     (λ x h. took_from slots i 0 within x (subst (λ o. (x ∈ take i slots) ⊎ (o ≡ Some x)) here h))

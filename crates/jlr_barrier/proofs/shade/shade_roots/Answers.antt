@@ -13,7 +13,8 @@ pub shade_target-requires : goal.shade_target-requires
 shade_target-requires c =
     λ x e.
     let m = c.args.roots.now in
-    let held = subst (λ l. x ∈ l) c.places-place-end.ensures.walk (place_in m c.places-place-end.result c.loop-place.place x c.loop-place-test.true (sym c.root.ensures ∙ e)) in
+    let held = subst (λ l. x ∈ l) c.places-place-end.ensures.walk
+    (place_in m c.places-place-end.result c.loop-place.place x c.loop-place-test.true (sym c.root.ensures ∙ e)) in
     omega (arith, c.requires x held, c.loop-place.invariant.long)
 
 pub loop-place-preserved : goal.loop-place-preserved
@@ -29,4 +30,5 @@ loop-place-preserved c =
 pub returns : goal.returns
 returns c =
     let end : c.loop-place.place ≡ c.places-place-end.result = omega (arith, c.loop-place-test.false, c.loop-place.auto.place-end) in
-    subst (λ l. Shaded (λ x. x ∈ l) c.args.marks.now c.loop-place.marks) (ap (walked c.args.roots.now) end ∙ c.places-place-end.ensures.walk) c.loop-place.invariant
+    subst (λ l. Shaded (λ x. x ∈ l) c.args.marks.now c.loop-place.marks)
+    (ap (walked c.args.roots.now) end ∙ c.places-place-end.ensures.walk) c.loop-place.invariant

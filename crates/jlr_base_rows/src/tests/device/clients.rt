@@ -18,7 +18,8 @@ const FOLDER: &str = "jlr_client_rows";
 // So many writes fill what lies between two ends at most.
 const WRITES: u32 = 10_000;
 
-// A device that attends one end of a pair of sockets, whose other end is the client; what was joined, and its other end.
+// A device that attends one end of a pair of sockets, whose other end is the client; what was joined, and its other
+// end.
 #[derive(Drop)]
 struct Attended {
     rt: HostRuntime,
@@ -111,7 +112,8 @@ fn until_it_fails(device: &RealDevice, resource: &mut RealResource) -> Option<Fa
     None
 }
 
-// Where a row would wait for ever, the test runs out of its time. What does not have to wait is done also for a client that went.
+// Where a row would wait for ever, the test runs out of its time. What does not have to wait is done also for a client
+// that went.
 const LISTS: &str = "
     # a read of a silent peer ends with its client
     new -> true

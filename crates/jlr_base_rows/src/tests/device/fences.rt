@@ -1,4 +1,5 @@
-//! Devices that let through only allowed paths: over a device in memory, and over the files of the system in a folder of their own.
+//! Devices that let through only allowed paths: over a device in memory, and over the files of the system in a folder
+//! of their own.
 use super::{on_device, path};
 use crate::tests::calls::{Got, Stage, play};
 use crate::tests::words::{called, parsed};
@@ -15,7 +16,8 @@ use std::{fs, mem};
 
 // ---- In memory
 
-// No path is straight whose text behind the folder is `/link`, and sockets of the program's own are at `own` and `dir/own`.
+// No path is straight whose text behind the folder is `/link`, and sockets of the program's own are at `own` and
+// `dir/own`.
 #[derive(Drop)]
 struct Told;
 

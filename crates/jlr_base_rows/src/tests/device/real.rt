@@ -127,9 +127,9 @@ impl Real {
     }
 }
 
-// `new` makes a device, and empties the folder. A file that is open for reading takes nothing; opened for writing again it loses what it
-// held. To the superuser the system denies to read the second file that is denied. After the end of a socket the peer sees the end. The last
-// path is longer than the address of a socket may be.
+// `new` makes a device, and empties the folder. A file that is open for reading takes nothing; opened for writing again
+// it loses what it held. To the superuser the system denies to read the second file that is denied. After the end of a
+// socket the peer sees the end. The last path is longer than the address of a socket may be.
 const LISTS: &str = "
     # a file is written and read back
     new -> true

@@ -78,7 +78,12 @@ struct Worn {
 }
 
 impl Resource for Worn {
-    ghost handling = { record { count = λ w. w.failures; reads = λ _ _ _ _ _. Unit {0}; writes = λ _ _ _ _. Unit {0}; finishes = λ _ _. Unit {0} } };
+    ghost handling = { record {
+      count = λ w. w.failures;
+      reads = λ _ _ _ _ _. Unit {0};
+      writes = λ _ _ _ _. Unit {0};
+      finishes = λ _ _. Unit {0};
+    } };
 
     fn failures(&self) -> u64 {
         self.failures
@@ -146,9 +151,10 @@ impl Stage for Single {
 
 // ---- Lists
 
-// `script` makes a script of the steps before it, by the outcomes of its open and of its finish; `new` makes a device of the scripts before
-// it, after so many failures. In the first list what does not fit in a read is lost, the fifth and the sixth step are of the other sort, and
-// the last two calls come after the last step. In the second the last open comes after the last script.
+// `script` makes a script of the steps before it, by the outcomes of its open and of its finish; `new` makes a device
+// of the scripts before it, after so many failures. In the first list what does not fit in a read is lost, the fifth
+// and the sixth step are of the other sort, and the last two calls come after the last step. In the second the last
+// open comes after the last script.
 const LISTS: &str = "
     # a resource follows its steps
     step Denied -> true

@@ -1,14 +1,10 @@
 //! Small values, limits and the soft policy: rows of words, each true.
 //!
-//! `slot 65535` says that the slot of this number has it; `layout ri` that a layout takes these fields, and has them and no more;
-//! `ticks 2` that
-//! so many are counted; `NoMemory 1` that this refusal has this number. `limits 16 65 257 0 64 1 Sessions` says which limit is
-//! named as out of
-//! its range, or `good`, in the order cells, sessions, resources, soft age, trace, budget. `kept 5 7 of 3` says that a soft
-//! reference that gave
-//! its referent last in collection 5 is kept in collection 7 at soft age 3, `gone 5 8 of 3` that it is not, and `cleared` that it
-//! is not where
-//! all are.
+//! `slot 65535` says that the slot of this number has it; `layout ri` that a layout takes these fields, and has them
+//! and no more; `ticks 2` that so many are counted; `NoMemory 1` that this refusal has this number. `limits 16 65 257 0
+//! 64 1 Sessions` says which limit is named as out of its range, or `good`, in the order cells, sessions, resources,
+//! soft age, trace, budget. `kept 5 7 of 3` says that a soft reference that gave its referent last in collection 5 is
+//! kept in collection 7 at soft age 3, `gone 5 8 of 3` that it is not, and `cleared` that it is not where all are.
 use crate::tests::words::{parsed, small, tiny};
 use jlr_soft::{Mode, Policy};
 use jlr_types::{
@@ -118,7 +114,8 @@ fn fault_name(fault: LimitFault) -> &'static str {
     }
 }
 
-// Which limit of these is out of its range, in the order of the fields; or `good`, where all are within and kept as they are.
+// Which limit of these is out of its range, in the order of the fields; or `good`, where all are within and kept as
+// they are.
 fn limits_told(numbers: &[u32; 6]) -> &'static str {
     let [cells, sessions, resources, soft_age, trace, budget] = *numbers;
     match Limits::checked(cells, sessions, resources, soft_age, trace, budget) {

@@ -15,7 +15,9 @@ returns-clause-step g c =
     (chosen, subst (λ q. IsStep c.args.core.now (Asks Abandon) q chosen did.new.self) a.0 did.ensures.step)
 
 pub returns-clause-machine : goal.returns-clause-machine
-returns-clause-machine g c = (abandons c.args.core.now c.answer.new.self (Answered c.answer.result None) c.answer.new.choice.chosen c.answer.ensures.step c.requires.stands c.requires.cycle).1
+returns-clause-machine g c = (abandons c.args.core.now c.answer.new.self (Answered c.answer.result None) c.answer.new.choice.chosen
+    c.answer.ensures.step c.requires.stands c.requires.cycle).1
 
 pub returns-clause-stands : goal.returns-clause-stands
-returns-clause-stands g c = (abandons c.args.core.now c.answer.new.self (Answered c.answer.result None) c.answer.new.choice.chosen c.answer.ensures.step c.requires.stands c.requires.cycle).2
+returns-clause-stands g c = (abandons c.args.core.now c.answer.new.self (Answered c.answer.result None) c.answer.new.choice.chosen
+    c.answer.ensures.step c.requires.stands c.requires.cycle).2

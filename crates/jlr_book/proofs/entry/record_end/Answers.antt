@@ -7,29 +7,40 @@ use Rattle.jlr_book.proofs.entry.record_end.Goals as goal
 
 pub copy-requires : goal.copy-requires
 copy-requires g c =
-    let s = subst (λ q. IsStep c.args.core.now c.args.event q c.step.new.choice.chosen c.step.new.self) c.in-Answered.is c.step.ensures.step in
-    list_fits c.args.core.now c.step.new.self c.args.event c.in-Answered.answer c.in-Answered.resource c.step.new.choice.chosen c.args.ask c.args.room s c.requires.ask c.requires.stands c.requires.room
+    let s = subst (λ q. IsStep c.args.core.now c.args.event q c.step.new.choice.chosen c.step.new.self) c.in-Answered.is
+    c.step.ensures.step in
+    list_fits c.args.core.now c.step.new.self c.args.event c.in-Answered.answer c.in-Answered.resource c.step.new.choice.chosen c.args.ask
+    c.args.room s c.requires.ask c.requires.stands c.requires.room
 
 pub push_reserved-requires : goal.push_reserved-requires
 push_reserved-requires g c =
-    let s = subst (λ q. IsStep c.args.core.now c.args.event q c.step.new.choice.chosen c.step.new.self) c.in-Answered.is c.step.ensures.step in
-    let less = owed_less_by c.args.core.now c.step.new.self c.args.event (Answered c.in-Answered.answer c.in-Answered.resource) c.step.new.choice.chosen c.args.ask s c.requires.ask c.requires.end (λ by e. not_refused c.in-Answered.answer by (sym c.is_refused.ensures ∙ c.if-is_refused.false) e) c.requires.stands in
+    let s = subst (λ q. IsStep c.args.core.now c.args.event q c.step.new.choice.chosen c.step.new.self) c.in-Answered.is
+    c.step.ensures.step in
+    let less = owed_less_by c.args.core.now c.step.new.self c.args.event (Answered c.in-Answered.answer c.in-Answered.resource)
+    c.step.new.choice.chosen c.args.ask s c.requires.ask c.requires.end
+    (λ by e. not_refused c.in-Answered.answer by (sym c.is_refused.ensures ∙ c.if-is_refused.false) e) c.requires.stands in
     omega (arith, less, c.requires.places)
 
 pub returns-then-is_refused-clause-writes : goal.returns-then-is_refused-clause-writes
 returns-then-is_refused-clause-writes g c =
-    let s = subst (λ q. IsStep c.args.core.now c.args.event q c.step.new.choice.chosen c.step.new.self) c.in-Answered.is c.step.ensures.step in
-    inr (turned_away c.args.core.now c.step.new.self c.args.event c.in-Answered.answer c.in-Answered.resource c.step.new.choice.chosen c.args.trace.now.items s (sym c.is_refused.ensures ∙ c.if-is_refused.true))
+    let s = subst (λ q. IsStep c.args.core.now c.args.event q c.step.new.choice.chosen c.step.new.self) c.in-Answered.is
+    c.step.ensures.step in
+    inr (turned_away c.args.core.now c.step.new.self c.args.event c.in-Answered.answer c.in-Answered.resource c.step.new.choice.chosen
+    c.args.trace.now.items s (sym c.is_refused.ensures ∙ c.if-is_refused.true))
 
 pub returns-else-is_refused-clause-writes : goal.returns-else-is_refused-clause-writes
 returns-else-is_refused-clause-writes g c =
-    let s = subst (λ q. IsStep c.args.core.now c.args.event q c.step.new.choice.chosen c.step.new.self) c.in-Answered.is c.step.ensures.step in
+    let s = subst (λ q. IsStep c.args.core.now c.args.event q c.step.new.choice.chosen c.step.new.self) c.in-Answered.is
+    c.step.ensures.step in
     let written : Chosen = record { collected = None; fresh = c.new.result } in
-    let nothing = end_chose c.args.core.now c.step.new.self c.args.event c.in-Answered.answer c.in-Answered.resource c.args.ask c.step.new.choice.chosen s c.requires.ask c.requires.end c.requires.stands in
+    let nothing = end_chose c.args.core.now c.step.new.self c.args.event c.in-Answered.answer c.in-Answered.resource c.args.ask
+    c.step.new.choice.chosen s c.requires.ask c.requires.end c.requires.stands in
     let plain = ap {A = List ℕ} {B = Chosen} (λ l. record { collected = None; fresh = l }) c.new.ensures in
-    let noted = subst (λ x. IsStep c.args.core.now c.args.event (Answered c.in-Answered.answer c.in-Answered.resource) x c.step.new.self) (sym (plain ∙ nothing)) s in
+    let noted = subst (λ x. IsStep c.args.core.now c.args.event (Answered c.in-Answered.answer c.in-Answered.resource) x c.step.new.self)
+    (sym (plain ∙ nothing)) s in
     inl (
       writes c.args.core.now c.step.new.self c.args.event c.in-Answered.answer c.copy.result c.in-Answered.resource c.args.ask written
-          c.args.trace.now.items c.push_reserved.new.self.items c.args.seat noted c.requires.ask c.push_reserved.ensures.items c.copy.ensures,
+          c.args.trace.now.items c.push_reserved.new.self.items c.args.seat noted c.requires.ask c.push_reserved.ensures.items
+          c.copy.ensures,
       λ by e. not_refused c.in-Answered.answer by (sym c.is_refused.ensures ∙ c.if-is_refused.false) e,
     )

@@ -6,11 +6,14 @@ use Rattle.jlr_book.proofs.entry.record_plainly.Goals as goal
 pub copy_of-requires : goal.copy_of-requires
 copy_of-requires g c =
     let made = c.step_ask-reply in
-    answered c.args.core.now made.new.self (Asks c.args.ask) made.result made.new.choice.chosen c.args.ask c.args.room made.ensures.step refl c.requires.stands c.requires.room
+    answered c.args.core.now made.new.self (Asks c.args.ask) made.result made.new.choice.chosen c.args.ask c.args.room made.ensures.step
+    refl c.requires.stands c.requires.room
 
 pub returns-clause-writes : goal.returns-clause-writes
 returns-clause-writes g c =
     let made = c.step_ask-reply in
-    let s = chosen_plainly c.args.core.now made.new.self (Asks c.args.ask) made.result made.new.choice.chosen made.ensures.step c.requires.stands c.take_fresh.result c.requires.plain c.take_fresh.ensures.taken in
-    writes_noted c.args.core.now made.new.self (Asks c.args.ask) made.result c.copy_of.result c.args.ask (record { collected = None; fresh = c.take_fresh.result }) c.args.trace.now.items c.push_reserved.new.self.items c.args.seat
+    let s = chosen_plainly c.args.core.now made.new.self (Asks c.args.ask) made.result made.new.choice.chosen made.ensures.step
+    c.requires.stands c.take_fresh.result c.requires.plain c.take_fresh.ensures.taken in
+    writes_noted c.args.core.now made.new.self (Asks c.args.ask) made.result c.copy_of.result c.args.ask
+    (record { collected = None; fresh = c.take_fresh.result }) c.args.trace.now.items c.push_reserved.new.self.items c.args.seat
     s refl c.copy_of.ensures c.push_reserved.ensures.items

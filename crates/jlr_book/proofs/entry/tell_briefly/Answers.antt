@@ -19,5 +19,6 @@ pub returns-clause-step : goal.returns-clause-step
 returns-clause-step g c =
     let did = c.answer-answer in
     let fresh = c.take_fresh-entry in
-    chosen_plainly c.args.core.now did.new.self (Asks c.args.entry.now.ask) (Answered did.result None) did.new.choice.chosen did.ensures.step
+    chosen_plainly c.args.core.now did.new.self (Asks c.args.entry.now.ask) (Answered did.result None) did.new.choice.chosen
+    did.ensures.step
     c.requires.stands fresh.result c.requires.plain fresh.ensures.taken

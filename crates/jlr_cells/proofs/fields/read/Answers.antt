@@ -12,7 +12,9 @@ returns-then-field-lt8-clause-value c =
     let place = get_or c.args.places.now c.args.field Absent in
     let word = get_or c.args.words.now c.args.field (pos 0) in
     let fits : FitsSigned w64 word = search rules in
-    c.value_in.ensures ∙ ap (value_in place) (to_z-of_z w64 word fits) ∙ field_at_place _ _ c.args.field c.requires (omega (arith, c.requires.eight_places, c.if-field-lt8.true))
+    c.value_in.ensures ∙ ap (value_in place) (to_z-of_z w64 word fits)
+    ∙ field_at_place _ _ c.args.field c.requires (omega (arith, c.requires.eight_places, c.if-field-lt8.true))
 
 pub returns-else-field-lt8-clause-value : goal.returns-else-field-lt8-clause-value
-returns-else-field-lt8-clause-value c = sym (slice_get_past (fields_of c.args.places.now c.args.words.now) c.args.field (omega (arith, c.if-field-lt8.false, at_most_eight _ _ c.requires)))
+returns-else-field-lt8-clause-value c = sym (slice_get_past (fields_of c.args.places.now c.args.words.now) c.args.field
+    (omega (arith, c.if-field-lt8.false, at_most_eight _ _ c.requires)))

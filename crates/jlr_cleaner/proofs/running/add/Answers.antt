@@ -9,7 +9,8 @@ added : (g : goal.After-insert) → g.insert.new.self.items ≡ with_job g.args.
 added g =
     let few = room_for_taker g.args.jobs.now.items g.args.job.by (omega arith) g.requires.taker g.requires.apart in
     let well : IsOk g.insert.result = g.insert.ensures.succeeds (omega (arith, few, g.requires.room)) in
-    let place : g.place_of-place.result ≡ position_or_len (is_above g.args.job.action) g.args.jobs.now.items = rw (← g.deref.ensures.value) g.place_of-place.ensures.place in
+    let place : g.place_of-place.result ≡ position_or_len (is_above g.args.job.action) g.args.jobs.now.items =
+    rw (← g.deref.ensures.value) g.place_of-place.ensures.place in
     g.insert.ensures.items ∙ when_ok g.insert.result _ _ well ∙ rw place (inserted g.args.jobs.now.items g.args.job)
 
 pub returns-clause-added : goal.returns-clause-added

@@ -4,4 +4,5 @@ use Rattle.jlr_cleaner.proofs.running.place_of.Goals as goal
 
 pub returns-clause-place : goal.returns-clause-place
 returns-clause-place c =
-    c.unwrap_or.ensures ∙ ap (λ o. unwrap_or o (length c.args.jobs.now)) c.above.ensures ∙ (place_found (is_above c.args.action) c.args.jobs.now).0
+    c.unwrap_or.ensures ∙ ap (λ o. unwrap_or o (length c.args.jobs.now)) c.above.ensures
+    ∙ (place_found (is_above c.args.action) c.args.jobs.now).0

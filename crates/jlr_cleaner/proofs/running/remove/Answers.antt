@@ -6,15 +6,18 @@ use Rattle.jlr_cleaner.proofs.running.remove.Goals as goal
 
 pub returns-in-None-clause-none : goal.returns-in-None-clause-none
 returns-in-None-clause-none c =
-    let none : position (has_action c.args.action) c.args.jobs.now.items ≡ None = rw (← c.deref.ensures.value) (sym c.position.ensures ∙ c.in-None.is) in
+    let none : position (has_action c.args.action) c.args.jobs.now.items ≡ None =
+    rw (← c.deref.ensures.value) (sym c.position.ensures ∙ c.in-None.is) in
     (none_found c.args.jobs.now.items c.args.action c.args.by none, refl)
 
 found : (g : goal.Then-index-by) → position (has_action g.args.action) g.args.jobs.now.items ≡ Some g.in-Some.place
 found g = rw (← g.deref.ensures.value) (sym g.position.ensures ∙ g.in-Some.is)
 
 pub returns-then-index-by-clause-none : goal.returns-then-index-by-clause-none
-returns-then-index-by-clause-none c =
-    (not_its c.args.jobs.now.items c.args.action c.in-Some.place (found c) c.index.result.now c.args.by c.index.ensures c.if-index-by.true, refl)
+returns-then-index-by-clause-none c = (
+  not_its c.args.jobs.now.items c.args.action c.in-Some.place (found c) c.index.result.now c.args.by c.index.ensures c.if-index-by.true,
+  refl,
+)
 
 found_after : (g : goal.After-remove) → position (has_action g.args.action) g.args.jobs.now.items ≡ Some g.in-Some.place
 found_after g = rw (← g.deref.ensures.value) (sym g.position.ensures ∙ g.in-Some.is)

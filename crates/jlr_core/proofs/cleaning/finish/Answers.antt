@@ -11,7 +11,8 @@ use Rattle.jlr_core.proofs.cleaning.finish.Goals as goal
 pub end_call-requires-clause-object : goal.end_call-requires-clause-object
 end_call-requires-clause-object g c =
     let k = c.new-taker.result in
-    subst (λ (h : Known). (s : ℕ) → fence_at h.graph.mutators k ≡ Some s → IsObject h.graph.objects s) (sym c.end_job-2.ensures.heap) (λ s e. fence_object (machine_of c.args.state.now) c.requires k s e)
+    subst (λ (h : Known). (s : ℕ) → fence_at h.graph.mutators k ≡ Some s → IsObject h.graph.objects s) (sym c.end_job-2.ensures.heap)
+    (λ s e. fence_object (machine_of c.args.state.now) c.requires k s e)
 
 -- and what it held was a root
 pub returns-clause-marks : goal.returns-clause-marks
@@ -19,5 +20,6 @@ returns-clause-marks g c =
     let s = c.args.state.now in
     let m = machine_of s in
     let k = c.new-taker.result in
-    let shaded = subst (λ (h : Known). Shaded (λ y. fence_at h.graph.mutators k ≡ Some y) h.marking c.end_call.new.self.marking) c.end_job-2.ensures.heap c.end_call.ensures.shaded in
+    let shaded = subst (λ (h : Known). Shaded (λ y. fence_at h.graph.mutators k ≡ Some y) h.marking c.end_call.new.self.marking)
+    c.end_job-2.ensures.heap c.end_call.ensures.shaded in
     shaded_new m _ s.heap.marking _ _ shaded (λ x e. inl (by_root m s.heap.marking x (fence_root m k x e)))

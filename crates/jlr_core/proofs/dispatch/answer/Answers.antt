@@ -192,7 +192,8 @@ returns-in-Prepare-clause-entry g c =
 pub returns-in-Bind-clause-entry : goal.returns-in-Bind-clause-entry
 returns-in-Bind-clause-entry g c =
     let s = c.args.state.now in
-    let did : Meets (machine_of s) (asks.Bind c.in-Bind.mutator c.in-Bind.name c.in-Bind.object) (answer_of c.bind.result) no_choice (machine_of c.bind.new.state) = search rules in
+    let did : Meets (machine_of s) (asks.Bind c.in-Bind.mutator c.in-Bind.name c.in-Bind.object) (answer_of c.bind.result) no_choice
+    (machine_of c.bind.new.state) = search rules in
     plainly (machine_of s) (machine_of c.bind.new.state) s.heap.marking (Some c.args.ask.now)
     (asks.Bind c.in-Bind.mutator c.in-Bind.name c.in-Bind.object) (answer_of c.bind.result)
     c.args.choice.now (ap Some c.in-Bind.is) refl c.requires.nothing did

@@ -14,18 +14,25 @@ use Rattle.jlr_core.proofs.names.bind.Goals as goal
 pub bind-requires : goal.bind-requires
 bind-requires g c =
     let s = c.args.state.now in
-    record { held = held_in_hand s.heap c.in_ok-slot.slot (named_held (machine_of s) c.args.by c.args.object c.in_ok-slot.slot c.in_ok-slot.ensures.1) }
+    record {
+      held =
+          held_in_hand s.heap c.in_ok-slot.slot (named_held (machine_of s) c.args.by c.args.object c.in_ok-slot.slot
+          c.in_ok-slot.ensures.1);
+    }
 
 pub returns-in-Ok-clause-meets : goal.returns-in-Ok-clause-meets
 returns-in-Ok-clause-meets g c =
     let s = c.args.state.now in
-    let did : Answered (machine_of s) (Bind c.args.by c.args.name.now c.args.object) (Ok Done) (machine_of (record s { heap = c.bind.new.self })) = search rules in
-    meets_answered (machine_of s) (machine_of (record s { heap = c.bind.new.self })) (Bind c.args.by c.args.name.now c.args.object) (Ok Done) tt did
+    let did : Answered (machine_of s) (Bind c.args.by c.args.name.now c.args.object) (Ok Done)
+    (machine_of (record s { heap = c.bind.new.self })) = search rules in
+    meets_answered (machine_of s) (machine_of (record s { heap = c.bind.new.self })) (Bind c.args.by c.args.name.now c.args.object)
+    (Ok Done) tt did
 
 -- where there was no memory, the heap is as it was
 pub returns-in-Err-clause-meets : goal.returns-in-Err-clause-meets
 returns-in-Err-clause-meets g c =
     let s = c.args.state.now in
-    subst (λ (h : Known). Meets (machine_of s) (Bind c.args.by c.args.name.now c.args.object) (Refused NoMemory) no_choice (machine_of (record s { heap = h })))
+    subst (λ (h : Known). Meets (machine_of s) (Bind c.args.by c.args.name.now c.args.object) (Refused NoMemory) no_choice
+    (machine_of (record s { heap = h })))
     (sym c.in-Err.ensures.err.0)
     (record { legal = out_of_memory (record { no_end = refl; answers = refl; nothing = refl }); applied = refl })

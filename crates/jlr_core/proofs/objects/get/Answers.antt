@@ -9,4 +9,5 @@ pub give_or_null-requires : goal.give_or_null-requires
 give_or_null-requires g c =
     let m = c.args.state.now in
     let x = c.in_ok-slot.slot in
-    λ s e. loaded_in_hand m.heap x c.args.field s (named_held (machine_of m) c.args.by c.args.object x c.in_ok-slot.ensures.slot.0) (c.in_ok-target.ensures ∙ ap (λ t. Some (Ref t)) e)
+    λ s e. loaded_in_hand m.heap x c.args.field s (named_held (machine_of m) c.args.by c.args.object x c.in_ok-slot.ensures.slot.0)
+    (c.in_ok-target.ensures ∙ ap (λ t. Some (Ref t)) e)

@@ -23,5 +23,7 @@ pub returns-clause-marks : goal.returns-clause-marks
 returns-clause-marks g c =
     let s = c.args.state.now in
     let mid = machine_of c.allocate.new.self in
-    let one = subst (λ (k : Marking). BlackensMade c.allocate.new.choice.chosen c.in_ok-slot.slot s.heap.marking k) (sym c.give.ensures.marking) c.in_ok-slot.ensures.one in
-    given_new (machine_of s) mid mid _ _ s.heap.marking _ c.allocate.new.choice c.args.by c.in_ok-slot.slot c.requires.fit c.in_ok-slot.ensures.allocates one c.in_ok-check_free_handle.ensures refl refl c.give.ensures.held
+    let one = subst (λ (k : Marking). BlackensMade c.allocate.new.choice.chosen c.in_ok-slot.slot s.heap.marking k)
+    (sym c.give.ensures.marking) c.in_ok-slot.ensures.one in
+    given_new (machine_of s) mid mid _ _ s.heap.marking _ c.allocate.new.choice c.args.by c.in_ok-slot.slot c.requires.fit
+    c.in_ok-slot.ensures.allocates one c.in_ok-check_free_handle.ensures refl refl c.give.ensures.held

@@ -11,4 +11,6 @@ store-requires-clause-object g c = λ s e. field_object (machine_of c.args.state
 pub returns-clause-marks : goal.returns-clause-marks
 returns-clause-marks g c =
     let s = c.args.state.now in
-    shaded_new (machine_of s) _ s.heap.marking _ _ c.store.ensures.shaded (λ x e. inl (by_field (machine_of s) s.heap.marking c.args.by c.args.object c.in_ok-slot.slot c.number.result x c.in_ok-slot.ensures.slot.0 e))
+    shaded_new (machine_of s) _ s.heap.marking _ _ c.store.ensures.shaded
+    (λ x e. inl (by_field (machine_of s) s.heap.marking c.args.by c.args.object c.in_ok-slot.slot c.number.result x
+    c.in_ok-slot.ensures.slot.0 e))

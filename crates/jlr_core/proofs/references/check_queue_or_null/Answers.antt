@@ -13,6 +13,7 @@ returns-in-Some-2 g c =
     let slot = c.in-Some-2.field-0 in
     let named : slot_named m c.args.by c.args.queue ≡ Some slot = sym c.lookup.ensures ∙ c.in-Some-2.is in
     let same = some_same c.in-Some.slot slot (sym c.in-Some.is ∙ c.in-Some-2.is) in
-    let no_queue : some_and is_queue (at m.objects slot) ≡ false = subst (λ s. some_and is_queue (at m.objects s) ≡ false) same (sym c.is_queue.ensures ∙ c.if-is_queue.false) in
+    let no_queue : some_and is_queue (at m.objects slot) ≡ false =
+    subst (λ s. some_and is_queue (at m.objects s) ≡ false) same (sym c.is_queue.ensures ∙ c.if-is_queue.false) in
     let wrong = of_another_kind (at m.objects slot) is_queue (named_object m c.args.by c.args.queue slot c.requires.fit named) no_queue in
     (refl, ap (λ o. some_and (λ x. not (is_queue x)) (option_and_then (at m.objects) o)) named ∙ wrong)

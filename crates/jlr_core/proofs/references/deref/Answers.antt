@@ -21,8 +21,10 @@ pub give_known-requires-clause-room : goal.give_known-requires-clause-room
 give_known-requires-clause-room g c =
     let s = c.args.state.now in
     let m = machine_of s in
-    same_room m (machine_with s.cleaner c.get-given.new.heap.graph s.cycle_open) c.args.by c.get-given.result (ap (λ (h : Graph). h.mutators) c.get-given.ensures.graph)
-    (ap (λ o. is_some o && not (has_free_handle m c.args.by)) (c.get-given.ensures.given ∙ sym c.gotten.ensures) ∙ c.in_ok-check_room_for.ensures)
+    same_room m (machine_with s.cleaner c.get-given.new.heap.graph s.cycle_open) c.args.by c.get-given.result
+    (ap (λ (h : Graph). h.mutators) c.get-given.ensures.graph)
+    (ap (λ o. is_some o && not (has_free_handle m c.args.by)) (c.get-given.ensures.given ∙ sym c.gotten.ensures)
+    ∙ c.in_ok-check_room_for.ensures)
 
 -- and has a handle afterwards
 pub returns-clause-marks : goal.returns-clause-marks
@@ -30,5 +32,9 @@ returns-clause-marks g c =
     let s = c.args.state.now in
     let m = machine_of s in
     let mid = machine_with s.cleaner c.get-given.new.heap.graph s.cycle_open in
-    let shaded = subst (λ (k : Marking). Shaded (λ x. gotten_at s.heap.graph.objects c.in_ok-slot.slot ≡ Some x) s.heap.marking k) (sym c.give_known.ensures.marking) c.get-given.ensures.shaded in
-    shaded_new m _ s.heap.marking _ _ shaded (λ x e. inr (given_option_root m mid _ c.args.by x c.get-given.result c.requires (ap (λ (h : Graph). h.mutators) c.get-given.ensures.graph) (ap (λ o. is_some o && not (has_free_handle m c.args.by)) (c.get-given.ensures.given ∙ sym c.gotten.ensures) ∙ c.in_ok-check_room_for.ensures) c.give_known.ensures.held (c.get-given.ensures.given ∙ e)))
+    let shaded = subst (λ (k : Marking). Shaded (λ x. gotten_at s.heap.graph.objects c.in_ok-slot.slot ≡ Some x) s.heap.marking k)
+    (sym c.give_known.ensures.marking) c.get-given.ensures.shaded in
+    shaded_new m _ s.heap.marking _ _ shaded (λ x e. inr
+    (given_option_root m mid _ c.args.by x c.get-given.result c.requires (ap (λ (h : Graph). h.mutators) c.get-given.ensures.graph)
+    (ap (λ o. is_some o && not (has_free_handle m c.args.by)) (c.get-given.ensures.given ∙ sym c.gotten.ensures)
+    ∙ c.in_ok-check_room_for.ensures) c.give_known.ensures.held (c.get-given.ensures.given ∙ e)))

@@ -18,7 +18,14 @@ returns-clause-answered g c =
     )
 
 pub returns-clause-rest : goal.returns-clause-rest
-returns-clause-rest g c = record { age = search rules; cleaner = search rules; clock = search rules; cells = enqueued_long (machine_of c.args.state.now) (machine_with c.args.state.now.cleaner c.enqueue.new.heap.graph c.args.state.now.cycle_open) c.in_ok-slot.slot (c.enqueue.ensures.enqueued (frame_of c.args.state.now)) }
+returns-clause-rest g c = record {
+  age = search rules;
+  cleaner = search rules;
+  clock = search rules;
+  cells = enqueued_long (machine_of c.args.state.now)
+      (machine_with c.args.state.now.cleaner c.enqueue.new.heap.graph c.args.state.now.cycle_open) c.in_ok-slot.slot
+      (c.enqueue.ensures.enqueued (frame_of c.args.state.now));
+}
 
 -- what a handle names is in hand
 pub enqueue-requires-clause-held : goal.enqueue-requires-clause-held
@@ -32,4 +39,6 @@ returns-clause-marks g c =
     let s = c.args.state.now in
     let m = machine_of s in
     let slot = c.in_ok-slot.slot in
-    shaded_new m _ s.heap.marking _ _ c.enqueue.ensures.shaded (λ x e. inl (by_edge m s.heap.marking slot x (named_root m c.args.by c.args.reference slot c.in_ok-slot.ensures.1) (next_edge m.objects slot x e)))
+    shaded_new m _ s.heap.marking _ _ c.enqueue.ensures.shaded
+    (λ x e. inl (by_edge m s.heap.marking slot x (named_root m c.args.by c.args.reference slot c.in_ok-slot.ensures.1)
+    (next_edge m.objects slot x e)))

@@ -13,7 +13,8 @@ pub returns-clause-rest : goal.returns-clause-rest
 returns-clause-rest g c =
     let h = c.hand_over.ensures.handed (frame_of c.args.state.now) in
     record {
-      cells = handed_over_long (machine_of c.args.state.now) (machine_with c.args.state.now.cleaner c.hand_over.new.heap.graph c.args.state.now.cycle_open) h.1;
+      cells = handed_over_long (machine_of c.args.state.now)
+          (machine_with c.args.state.now.cleaner c.hand_over.new.heap.graph c.args.state.now.cycle_open) h.1;
       age = search rules;
       cleaner = search rules;
       clock = search rules;
@@ -23,4 +24,5 @@ returns-clause-rest g c =
 pub returns-clause-marks : goal.returns-clause-marks
 returns-clause-marks g c =
     let s = c.args.state.now in
-    shaded_new (machine_of s) _ s.heap.marking _ _ c.hand_over.ensures.shaded (λ x e. inl (pending_queue (machine_of s) s.heap.marking x e.1))
+    shaded_new (machine_of s) _ s.heap.marking _ _ c.hand_over.ensures.shaded
+    (λ x e. inl (pending_queue (machine_of s) s.heap.marking x e.1))

@@ -17,14 +17,20 @@ returns-in-Err-clause-meets g c =
     let m = machine_of c.args.state.now in
     let n = machine_of c.allocate.new.self in
     let ask = MakeRef c.args.by c.args.kind c.args.referent c.args.queue in
-    let allowed = allowed_reference m c.args.by c.args.kind c.args.referent c.args.queue c.in_ok-check_session.ensures c.in_ok-check_handle.ensures c.in_ok-check_handle-2.ensures c.in_ok-target.ensures.slot.1 c.in_ok-queue.ensures.1 c.in_ok-check_no_call.ensures c.in_ok-check_free_handle.ensures in
-    subst (λ r. Meets m ask (Refused r) c.allocate.new.choice.chosen n) (sym c.in-Err.ensures.full.0) (meets_full m 1 ask c.allocate.new.choice n allowed refl c.in-Err.ensures.full.1)
+    let allowed = allowed_reference m c.args.by c.args.kind c.args.referent c.args.queue c.in_ok-check_session.ensures
+    c.in_ok-check_handle.ensures c.in_ok-check_handle-2.ensures c.in_ok-target.ensures.slot.1 c.in_ok-queue.ensures.1
+    c.in_ok-check_no_call.ensures c.in_ok-check_free_handle.ensures in
+    subst (λ r. Meets m ask (Refused r) c.allocate.new.choice.chosen n) (sym c.in-Err.ensures.full.0)
+    (meets_full m 1 ask c.allocate.new.choice n allowed refl c.in-Err.ensures.full.1)
 
 pub returns-in-Ok-clause-meets : goal.returns-in-Ok-clause-meets
 returns-in-Ok-clause-meets g c =
     let m = machine_of c.args.state.now in
-    let allowed = allowed_reference m c.args.by c.args.kind c.args.referent c.args.queue c.in_ok-check_session.ensures c.in_ok-check_handle.ensures c.in_ok-check_handle-2.ensures c.in_ok-target.ensures.slot.1 c.in_ok-queue.ensures.1 c.in_ok-check_no_call.ensures c.in_ok-check_free_handle.ensures in
-    meets_new_reference m (machine_of c.allocate.new.self) (machine_of c.give.new.self) c.args.by c.in-Ok.slot c.args.kind c.args.referent c.args.queue c.in_ok-target.target c.in_ok-queue.queue c.allocate.new.choice c.give.result allowed
+    let allowed = allowed_reference m c.args.by c.args.kind c.args.referent c.args.queue c.in_ok-check_session.ensures
+    c.in_ok-check_handle.ensures c.in_ok-check_handle-2.ensures c.in_ok-target.ensures.slot.1 c.in_ok-queue.ensures.1
+    c.in_ok-check_no_call.ensures c.in_ok-check_free_handle.ensures in
+    meets_new_reference m (machine_of c.allocate.new.self) (machine_of c.give.new.self) c.args.by c.in-Ok.slot c.args.kind c.args.referent
+    c.args.queue c.in_ok-target.target c.in_ok-queue.queue c.allocate.new.choice c.give.result allowed
     c.in_ok-target.ensures.slot.0 c.in_ok-queue.ensures.0 c.in-Ok.ensures.allocates c.give.ensures.answer c.give.ensures.held
 
 -- handles name its queue and its referent
@@ -41,8 +47,11 @@ pub returns-in-Ok-clause-marks : goal.returns-in-Ok-clause-marks
 returns-in-Ok-clause-marks g c =
     let s = c.args.state.now in
     let mid = machine_of c.allocate.new.self in
-    let one = subst (λ (k : Marking). BlackensMade c.allocate.new.choice.chosen c.in-Ok.slot s.heap.marking k) (sym c.give.ensures.marking) c.in-Ok.ensures.one in
-    given_new (machine_of s) mid mid _ _ s.heap.marking _ c.allocate.new.choice c.args.by c.in-Ok.slot c.requires.fit c.in-Ok.ensures.allocates one c.in_ok-check_free_handle.ensures refl refl c.give.ensures.held
+    let one = subst (λ (k : Marking). BlackensMade c.allocate.new.choice.chosen c.in-Ok.slot s.heap.marking k) (sym c.give.ensures.marking)
+    c.in-Ok.ensures.one in
+    given_new (machine_of s) mid mid _ _ s.heap.marking _ c.allocate.new.choice c.args.by c.in-Ok.slot c.requires.fit
+    c.in-Ok.ensures.allocates one c.in_ok-check_free_handle.ensures refl refl c.give.ensures.held
 
 pub returns-in-Err-clause-marks : goal.returns-in-Err-clause-marks
-returns-in-Err-clause-marks g c = let s = c.args.state.now in full_new (machine_of s) _ 1 s.heap.marking _ c.allocate.new.choice c.in-Err.ensures.full.1
+returns-in-Err-clause-marks g c = let s = c.args.state.now in
+    full_new (machine_of s) _ 1 s.heap.marking _ c.allocate.new.choice c.in-Err.ensures.full.1

@@ -19,7 +19,8 @@ loop-event-init g c =
     let fit = limits_hold l in
     record {
       run =
-          start_run c.args.core.now l c.in_ok-replies.replies.items (empty_is_well_formed l.cells l.sessions l.resources fit.0 fit.2) e c.in_ok-replies.ensures.items;
+          start_run c.args.core.now l c.in_ok-replies.replies.items (empty_is_well_formed l.cells l.sessions l.resources fit.0 fit.2) e
+          c.in_ok-replies.ensures.items;
       flow = start_flow c.in_ok-replies.replies.items c.args.core.now.table c.in_ok-replies.ensures.items e.none_held;
       age = e.age;
       cells = start_cells c.args.core.now l.cells l.sessions l.resources e.machine;
@@ -38,11 +39,16 @@ loop-event-preserved g c =
     let e = c.step.ensures.step in
     record {
       run =
-          subst (λ (replies : List (Reply g.row.R.Denot)). IsRunOf l (c.loop-event.yielded ++ c.in-Some.event ∷ []) replies c.step.new.self) (sym pushed)
-          (run_more l c.loop-event.yielded c.loop-event.replies.items c.loop-event.core c.step.new.self c.in-Some.event c.step.result c.step.new.choice.chosen (empty_is_well_formed l.cells l.sessions l.resources fit.0 fit.2) i.run e);
+          subst (λ (replies : List (Reply g.row.R.Denot)). IsRunOf l (c.loop-event.yielded ++ c.in-Some.event ∷ []) replies c.step.new.self)
+          (sym pushed)
+          (run_more l c.loop-event.yielded c.loop-event.replies.items c.loop-event.core c.step.new.self c.in-Some.event c.step.result
+          c.step.new.choice.chosen (empty_is_well_formed l.cells l.sessions l.resources fit.0 fit.2) i.run e);
       flow =
-          subst (λ (replies : List (Reply g.row.R.Denot)). IsPermutation (resources_of_events (c.loop-event.yielded ++ c.in-Some.event ∷ [])) (resources_of_replies replies ++ values c.step.new.self.table)) (sym pushed)
-          (flow_more c.loop-event.yielded c.loop-event.replies.items c.loop-event.core.table c.step.new.self.table c.in-Some.event c.step.result i.flow e.flow);
+          subst (λ (replies : List (Reply g.row.R.Denot)). IsPermutation
+          (resources_of_events (c.loop-event.yielded ++ c.in-Some.event ∷ []))
+          (resources_of_replies replies ++ values c.step.new.self.table)) (sym pushed)
+          (flow_more c.loop-event.yielded c.loop-event.replies.items c.loop-event.core.table c.step.new.self.table c.in-Some.event
+          c.step.result i.flow e.flow);
       age = e.age ∙ i.age;
       cells = c.step.ensures.cells ∙ i.cells;
       room = c.step.ensures.room ∙ i.room;
@@ -52,14 +58,18 @@ pub returns-clause-run : goal.returns-clause-run
 returns-clause-run g c =
     let from = c.into_iter-event-iterator.ensures.into_iter_gives in
     let length_is : c.into_iter-event-iterator.result.rest.len ≡ length c.args.events.items = omega arith in
-    let end = YieldsList-end (YieldsList-from_vec c.args.events.items from.0 length_is) c.loop-event.yielded c.loop-event.event-iterator c.loop-event.yielded_by c.next.result c.next.new.self c.in-None.is c.next.ensures.steps in
+    let end = YieldsList-end (YieldsList-from_vec c.args.events.items from.0 length_is) c.loop-event.yielded c.loop-event.event-iterator
+    c.loop-event.yielded_by c.next.result c.next.new.self c.in-None.is c.next.ensures.steps in
     let all : c.loop-event.yielded ≡ c.args.events.items = sym (map-id c.loop-event.yielded) ∙ end.0 in
-    subst (λ (events : List (Event g.row.R.Denot)). IsRunOf c.args.limits events c.loop-event.replies.items c.loop-event.core) all c.loop-event.invariant.run
+    subst (λ (events : List (Event g.row.R.Denot)). IsRunOf c.args.limits events c.loop-event.replies.items c.loop-event.core) all
+    c.loop-event.invariant.run
 
 pub returns-clause-flow : goal.returns-clause-flow
 returns-clause-flow g c =
     let from = c.into_iter-event-iterator.ensures.into_iter_gives in
     let length_is : c.into_iter-event-iterator.result.rest.len ≡ length c.args.events.items = omega arith in
-    let end = YieldsList-end (YieldsList-from_vec c.args.events.items from.0 length_is) c.loop-event.yielded c.loop-event.event-iterator c.loop-event.yielded_by c.next.result c.next.new.self c.in-None.is c.next.ensures.steps in
+    let end = YieldsList-end (YieldsList-from_vec c.args.events.items from.0 length_is) c.loop-event.yielded c.loop-event.event-iterator
+    c.loop-event.yielded_by c.next.result c.next.new.self c.in-None.is c.next.ensures.steps in
     let all : c.loop-event.yielded ≡ c.args.events.items = sym (map-id c.loop-event.yielded) ∙ end.0 in
-    subst (λ (events : List (Event g.row.R.Denot)). IsPermutation (resources_of_events events) (resources_of_replies c.loop-event.replies.items ++ values c.loop-event.core.table)) all c.loop-event.invariant.flow
+    subst (λ (events : List (Event g.row.R.Denot)). IsPermutation (resources_of_events events)
+    (resources_of_replies c.loop-event.replies.items ++ values c.loop-event.core.table)) all c.loop-event.invariant.flow

@@ -7,5 +7,6 @@ use Rattle.jlr_device.proofs.path.has_parent.Goals as goal
 pub returns : goal.returns
 returns c =
     any_from_yields_List is_parent _ _ _ c.any.ensures.ran
-    (YieldsList-from_slice_split _ is_slash c.args.path.now c.split.ensures.rest c.split.ensures.done c.split.ensures.closure (λ x b q k. search (rules, tests)))
+    (YieldsList-from_slice_split _ is_slash c.args.path.now c.split.ensures.rest c.split.ensures.done c.split.ensures.closure
+    (λ x b q k. search (rules, tests)))
     (λ x b q k. search (rules, tests))

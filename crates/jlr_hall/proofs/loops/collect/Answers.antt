@@ -9,10 +9,12 @@ pub returns-then-was_refused : goal.returns-then-was_refused
 returns-then-was_refused g c = λ budget first h.
     let limits = g.L.Limited.limits in
     asks_more limits (IsMarkers limits budget) (Asks Collect) c.ask_plain.result first c.args.seat.now c.ask_plain.new.self h
-    (asked_anywhere limits (IsMarkers limits budget) c.args.seat.now (Asks Collect) c.ask_plain.result c.ask_plain.new.self (λ log. inr (inl refl)) c.ask_plain.ensures.asked)
+    (asked_anywhere limits (IsMarkers limits budget) c.args.seat.now (Asks Collect) c.ask_plain.result c.ask_plain.new.self
+    (λ log. inr (inl refl)) c.ask_plain.ensures.asked)
 
 pub returns-else-was_refused : goal.returns-else-was_refused
 returns-else-was_refused g c = λ budget first h.
     let limits = g.L.Limited.limits in
     asks_more limits (IsMarkers limits budget) (Asks Collect) c.ask_plain.result first c.args.seat.now c.ask_plain.new.self h
-    (asked_anywhere limits (IsMarkers limits budget) c.args.seat.now (Asks Collect) c.ask_plain.result c.ask_plain.new.self (λ log. inr (inl refl)) c.ask_plain.ensures.asked)
+    (asked_anywhere limits (IsMarkers limits budget) c.args.seat.now (Asks Collect) c.ask_plain.result c.ask_plain.new.self
+    (λ log. inr (inl refl)) c.ask_plain.ensures.asked)

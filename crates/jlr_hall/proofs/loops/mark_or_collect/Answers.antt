@@ -9,10 +9,12 @@ returns-then-all_is_marked g c = λ first h.
     let limits = g.L.Limited.limits in
     c.collect.ensures c.args.budget first
     (asks_more limits (IsMarkers limits c.args.budget) (Mark c.args.budget) c.mark.result first c.args.seat.now c.mark.new.self h
-    (asked_anywhere limits (IsMarkers limits c.args.budget) c.args.seat.now (Mark c.args.budget) c.mark.result c.mark.new.self (λ log. inr (inr refl)) c.mark.ensures))
+    (asked_anywhere limits (IsMarkers limits c.args.budget) c.args.seat.now (Mark c.args.budget) c.mark.result c.mark.new.self
+    (λ log. inr (inr refl)) c.mark.ensures))
 
 pub returns-else-all_is_marked : goal.returns-else-all_is_marked
 returns-else-all_is_marked g c = λ first h.
     let limits = g.L.Limited.limits in
     asks_more limits (IsMarkers limits c.args.budget) (Mark c.args.budget) c.mark.result first c.args.seat.now c.mark.new.self h
-    (asked_anywhere limits (IsMarkers limits c.args.budget) c.args.seat.now (Mark c.args.budget) c.mark.result c.mark.new.self (λ log. inr (inr refl)) c.mark.ensures)
+    (asked_anywhere limits (IsMarkers limits c.args.budget) c.args.seat.now (Mark c.args.budget) c.mark.result c.mark.new.self
+    (λ log. inr (inr refl)) c.mark.ensures)

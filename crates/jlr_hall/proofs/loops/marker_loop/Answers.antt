@@ -8,4 +8,5 @@ loop-init g c = asks_none g.L.Limited.limits (IsMarkers g.L.Limited.limits c.arg
 
 pub begin-requires : goal.begin-requires
 begin-requires g c =
-    due_there g.L.Limited.limits c.deref.result.now (mutex_guard_value c.in-Some-wait_for_marking.locked) c.deref.ensures c.is_due.ensures.whole (c.is_due.ensures.due.0 c.if-is_due.true)
+    due_there g.L.Limited.limits c.deref.result.now (mutex_guard_value c.in-Some-wait_for_marking.locked) c.deref.ensures
+    c.is_due.ensures.whole (c.is_due.ensures.due.0 c.if-is_due.true)

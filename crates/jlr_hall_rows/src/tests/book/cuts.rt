@@ -163,7 +163,8 @@ const LISTS: &str = "
     last 5
 ";
 
-// Lists over more cells than a cut copies. After a cut the image is asked for while its entries are followed, as a save does.
+// Lists over more cells than a cut copies. After a cut the image is asked for while its entries are followed, as a save
+// does.
 const WIDE: &str = "
 == the image of a cut is followed
     join -> done

@@ -1,12 +1,14 @@
 //! Rows over a book, in the words of `jlr_words`.
 //!
-//! `drop 1 -> done` is an ask of seat 0 and what it is answered, `seat 2 hand_over -> nothing` one of seat 2, and `63 times stat -> stat 0`
-//! stands for so many rows. A row without an arrow looks at the book: `trace 64 8` wants base 64 and 8 entries, `image 2` two objects in
-//! the image, `pending yes` that something is pending, `line no` that nothing stands in the cleaner's line, `waits 1 yes` that a `Remove`
-//! on handle 1 would wait. `cut` cuts, and `mark idle` marks a piece.
+//! `drop 1 -> done` is an ask of seat 0 and what it is answered, `seat 2 hand_over -> nothing` one of seat 2, and `63
+//! times stat -> stat 0` stands for so many rows. A row without an arrow looks at the book: `trace 64 8` wants base 64
+//! and 8 entries, `image 2` two objects in the image, `pending yes` that something is pending, `line no` that nothing
+//! stands in the cleaner's line, `waits 1 yes` that a `Remove` on handle 1 would wait. `cut` cuts, and `mark idle`
+//! marks a piece.
 //!
-//! A text has several lists. Each begins with `== ` and its name, and has a book of its own, with one session and one resource, that cuts at
-//! 64 entries: with 16 cells, which a cut copies, or with so many that it is followed. A line that begins with `-- ` is a comment.
+//! A text has several lists. Each begins with `== ` and its name, and has a book of its own, with one session and one
+//! resource, that cuts at 64 entries: with 16 cells, which a cut copies, or with so many that it is followed. A line
+//! that begins with `-- ` is a comment.
 use jlr_event::event::Event;
 use jlr_hall::Book;
 use jlr_machine::data::CopyRoom;

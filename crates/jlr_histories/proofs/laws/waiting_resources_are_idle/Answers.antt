@@ -13,4 +13,5 @@ not_spent state (inl e) f = absurd (cc (e, f))
 not_spent state (inr e) f = absurd (cc (e, f))
 
 pub returns : goal.returns
-returns c = λ m s rid x w there works waits. w.resources.idle s rid x (record { there = there; unspent = not_spent x.state waits }) works (not_armed x.state waits)
+returns c = λ m s rid x w there works waits. w.resources.idle s rid x (record { there = there; unspent = not_spent x.state waits }) works
+    (not_armed x.state waits)

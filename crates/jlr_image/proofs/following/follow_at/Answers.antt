@@ -10,7 +10,8 @@ returns-clause-leads c =
     let n = c.args.machine.now in
     let n' = c.follow_plain.new.machine in
     let e = c.index-entries-place.result in
-    elim c.follow_plain.result as (λ r. OnOk r (n' ≡ unseen (apply n e)) → OnOk r (LeadsOn n' (drop (c.args.place + 1) c.args.entries.now))) [
+    elim c.follow_plain.result as (λ r. OnOk r (n' ≡ unseen (apply n e))
+    → OnOk r (LeadsOn n' (drop (c.args.place + 1) c.args.entries.now))) [
       | Ok x ↦ λ to. leads_past n n' c.args.entries.now c.args.place e c.requires.place c.index-entries-place.is c.requires.leads to
       | Err x ↦ λ h. h
     ] c.follow_plain.ensures.ok

@@ -1,6 +1,7 @@
 use Rattle.std.proofs.Common.{refl}
 use Rattle.jlr_laws.specs.Rows.{one_resource, start, two_sessions}
-use Rattle.jlr_laws.specs.CleaningRows.{cleaner_row, file_row, failed_cleaning_row, closed_row, rid_again_row, one_resource_row, two_sessions_row}
+use Rattle.jlr_laws.specs.CleaningRows.{cleaner_row, file_row, failed_cleaning_row, closed_row, rid_again_row, one_resource_row}
+use Rattle.jlr_laws.specs.CleaningRows.{two_sessions_row}
 use Rattle.jlr_laws.proofs.RowTest.{run_by_test}
 use Rattle.jlr_laws.proofs.rows.cleaning_rows_are_runs.Goals as goal
 

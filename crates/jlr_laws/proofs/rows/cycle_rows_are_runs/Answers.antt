@@ -1,6 +1,8 @@
 use Rattle.std.proofs.Common.{refl}
 use Rattle.jlr_laws.specs.Rows.{start}
-use Rattle.jlr_laws.specs.CycleRows.{cycle_row, snapshot_row, deref_in_cycle_row, seen_reference_row, soft_cleared_in_cycle_row, soft_kept_in_cycle_row, waiting_collect_row, full_heap_in_cycle_row, poll_in_cycle_row, many_dropped_row}
+use Rattle.jlr_laws.specs.CycleRows.{cycle_row, snapshot_row, deref_in_cycle_row, seen_reference_row, soft_cleared_in_cycle_row}
+use Rattle.jlr_laws.specs.CycleRows.{soft_kept_in_cycle_row, waiting_collect_row, full_heap_in_cycle_row, poll_in_cycle_row}
+use Rattle.jlr_laws.specs.CycleRows.{many_dropped_row}
 use Rattle.jlr_laws.proofs.RowTest.{run_by_test}
 use Rattle.jlr_laws.proofs.rows.cycle_rows_are_runs.Goals as goal
 

@@ -1,6 +1,7 @@
 use Rattle.std.proofs.Common.{refl}
 use Rattle.jlr_laws.specs.Rows.{start}
-use Rattle.jlr_laws.specs.ReferenceRows.{weak_row, two_weak_row, queue_row, self_reference_row, clear_row, phantom_row, program_first_row, soft_chain_row, soft_age_row, soft_used_row}
+use Rattle.jlr_laws.specs.ReferenceRows.{weak_row, two_weak_row, queue_row, self_reference_row, clear_row, phantom_row, program_first_row}
+use Rattle.jlr_laws.specs.ReferenceRows.{soft_chain_row, soft_age_row, soft_used_row}
 use Rattle.jlr_laws.proofs.RowTest.{run_by_test}
 use Rattle.jlr_laws.proofs.rows.reference_rows_are_runs.Goals as goal
 

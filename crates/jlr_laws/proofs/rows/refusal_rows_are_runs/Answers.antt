@@ -1,6 +1,7 @@
 use Rattle.std.proofs.Common.{refl}
 use Rattle.jlr_laws.specs.Rows.{late_start, start}
-use Rattle.jlr_laws.specs.RefusalRows.{refused_row, wrong_moment_row, exhausted_row, full_heap_row, soft_full_row, names_row, names_full_row}
+use Rattle.jlr_laws.specs.RefusalRows.{refused_row, wrong_moment_row, exhausted_row, full_heap_row, soft_full_row, names_row}
+use Rattle.jlr_laws.specs.RefusalRows.{names_full_row}
 use Rattle.jlr_laws.proofs.RowTest.{run_by_test}
 use Rattle.jlr_laws.proofs.rows.refusal_rows_are_runs.Goals as goal
 

@@ -1,5 +1,8 @@
 use Rattle.std.proofs.Common.{refl, lit≤}
-use Rattle.jlr_laws.specs.WrongEntries.{cleared_by_program, cleared_is_pended, closed_is_out, enqueued_by_program, first_weak_cleared, full_with_room, full_without_collection, gc_keeping_all, handler_appends_again, held_soft_cleared, held_soft_gives_null, one_dropped, rid_used_again, second_weak_kept, soft_chain_dropped, soft_chain_kept, taken_again, taken_by_cleaner, weak_dropped}
+use Rattle.jlr_laws.specs.WrongEntries.{cleared_by_program, cleared_is_pended, closed_is_out, enqueued_by_program, first_weak_cleared}
+use Rattle.jlr_laws.specs.WrongEntries.{full_with_room, full_without_collection, gc_keeping_all, handler_appends_again, held_soft_cleared}
+use Rattle.jlr_laws.specs.WrongEntries.{held_soft_gives_null, one_dropped, rid_used_again, second_weak_kept, soft_chain_dropped}
+use Rattle.jlr_laws.specs.WrongEntries.{soft_chain_kept, taken_again, taken_by_cleaner, weak_dropped}
 use Rattle.jlr_laws.proofs.RowTest.{never_legal}
 use Rattle.jlr_laws.proofs.rows.wrong_entries_are_not_legal.Goals as goal
 

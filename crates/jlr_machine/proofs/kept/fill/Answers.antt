@@ -20,7 +20,8 @@ loop-slot-preserved c =
           ap slots_of c.insert.ensures.set
           ∙ inserted_above_is_last set slot within none
           ∙ ap (λ l. l ++ slot ∷ []) i.is
-          ∙ ap (λ n. take c.loop-slot.count c.args.slots.now ++ n ∷ []) (c.number-number.ensures ∙ c.slot-item.is ∙ ap (λ k. slice_index_or c.args.slots.now k c.slot-item.result) (sym i.counted))
+          ∙ ap (λ n. take c.loop-slot.count c.args.slots.now ++ n ∷ [])
+          (c.number-number.ensures ∙ c.slot-item.is ∙ ap (λ k. slice_index_or c.args.slots.now k c.slot-item.result) (sym i.counted))
           ∙ sym (take_more c.args.slots.now c.loop-slot.count c.slot-item.result (omega (arith, i.counted, c.loop-slot-test.true)));
       counted = ap (λ n. n + 1) i.counted;
       none = λ k high. ap (λ l. slice_index_or l k false) c.insert.ensures.set ∙ none_after_insert set slot (slot + 1) refl none k high;

@@ -13,7 +13,8 @@ use Rattle.jlr_marker.proofs.cycle.follow_grey.Goals as goal
 
 pub follow-requires-clause-objects : goal.follow-requires-clause-objects
 follow-requires-clause-objects c =
-    subst (λ (g : Graph). (x : ℕ) → x ∈ edges_from UpToSoft g.objects c.in-Some.slot → IsObject g.objects x) (sym c.loop-tick.invariant.graph)
+    subst (λ (g : Graph). (x : ℕ) → x ∈ edges_from UpToSoft g.objects c.in-Some.slot → IsObject g.objects x)
+    (sym c.loop-tick.invariant.graph)
     (λ x h. c.requires.objects c.in-Some.slot x h)
 
 pub follow-requires-clause-within : goal.follow-requires-clause-within
@@ -46,10 +47,13 @@ loop-tick-preserved c =
     let more = next_at heap (place cur slot) slot in
     let f : Ticks kept heap slot cur new =
     subst (λ (k : Clock). Ticks (keeps c.args.policy.now k) heap slot cur new) i.clock
-    (subst (λ (g : Graph). Ticks (keeps c.args.policy.now c.loop-tick.heap.clock) g.objects slot cur new) i.graph c.follow.ensures.follows) in
+    (subst (λ (g : Graph). Ticks (keeps c.args.policy.now c.loop-tick.heap.clock) g.objects slot cur new) i.graph
+    c.follow.ensures.follows) in
     let up : upcoming cur ≡ Some slot = sym c.in-Some.ensures.next in
-    let inside : slot < length heap = subst (λ (g : Graph). slot < length g.objects) i.graph (object_within c.loop-tick.heap.graph.objects slot c.in-Some.ensures.there.1) in
-    let begun : IsBegun heap (place cur slot) slot = subst (λ (g : Graph). IsBegun g.objects (place cur slot) slot) i.graph c.in-Some.ensures.begun in
+    let inside : slot < length heap = subst (λ (g : Graph). slot < length g.objects) i.graph
+    (object_within c.loop-tick.heap.graph.objects slot c.in-Some.ensures.there.1) in
+    let begun : IsBegun heap (place cur slot) slot =
+    subst (λ (g : Graph). IsBegun g.objects (place cur slot) slot) i.graph c.in-Some.ensures.begun in
     let top = c.in-Some.ensures.there.0 in
     let few : ticks_at heap slot ≤ 64 = subst (λ (g : Graph). ticks_at g.objects slot ≤ 64) i.graph c.follow.ensures.few in
     record {

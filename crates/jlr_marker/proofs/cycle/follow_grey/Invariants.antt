@@ -15,5 +15,6 @@ invariant-loop-tick l = record {
   blackening : Blackening (keeps l.policy l.fn.heap.clock) l.fn.heap.graph.objects l._tick l.fn.heap.marking l.heap.marking;
   on : GoesOn l.fn.heap.marking l.heap.marking;
   each : (x : ℕ) → IsBlackened l.fn.heap.marking l.heap.marking x → ticks_at l.fn.heap.graph.objects x ≤ 64;
-  part : (p : Part) → l.heap.marking.part ≡ Some p → (l.fn.heap.marking.part ≡ Some p) ⊎ (p.place < 64 * ticks_at l.fn.heap.graph.objects p.slot);
+  part : (p : Part) → l.heap.marking.part ≡ Some p → (l.fn.heap.marking.part ≡ Some p)
+      ⊎ (p.place < 64 * ticks_at l.fn.heap.graph.objects p.slot);
 }

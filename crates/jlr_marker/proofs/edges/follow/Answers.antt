@@ -39,7 +39,8 @@ returns-then-scan-clause-follows c =
     let old = c.args.heap.now.marking in
     let new = c.scan.new.self.marking in
     let plain : some_and is_record (at heap s) ≡ true = sym c.scan.ensures.plain ∙ c.if-scan.true in
-    follows_same _ _ s (next_at heap (place old s) s) old new (λ x h. inl h) (λ x h. elim h [ inl part ↦ part | inr soft ↦ no_soft (at heap s) x plain soft.1 ])
+    follows_same _ _ s (next_at heap (place old s) s) old new (λ x h. inl h)
+    (λ x h. elim h [ inl part ↦ part | inr soft ↦ no_soft (at heap s) x plain soft.1 ])
     (scanned_follows heap s old new c.scan.ensures.scanned)
 
 pub returns-clause-follows : goal.returns-clause-follows
@@ -49,6 +50,9 @@ returns-clause-follows c =
     let kept = keeps c.args.policy.now c.args.heap.now.clock in
     let old = c.args.heap.now.marking in
     let soft : Shaded (λ x. (kept s ≡ true) × (soft_at heap s ≡ Some x)) c.scan.new.self.marking c.follow_soft.new.heap.marking =
-    subst (λ (k : Clock). Shaded (λ x. (keeps c.args.policy.now k s ≡ true) × (soft_at heap s ≡ Some x)) c.scan.new.self.marking c.follow_soft.new.heap.marking) c.scan.ensures.clock
-    (subst (λ (g : Graph). Shaded (λ x. (keeps c.args.policy.now c.scan.new.self.clock s ≡ true) × (soft_at g.objects s ≡ Some x)) c.scan.new.self.marking c.follow_soft.new.heap.marking) c.scan.ensures.graph c.follow_soft.ensures.shaded) in
-    follows_then _ _ s (next_at heap (place old s) s) old c.scan.new.self.marking c.follow_soft.new.heap.marking (scanned_follows heap s old c.scan.new.self.marking c.scan.ensures.scanned) soft
+    subst (λ (k : Clock). Shaded (λ x. (keeps c.args.policy.now k s ≡ true) × (soft_at heap s ≡ Some x)) c.scan.new.self.marking
+    c.follow_soft.new.heap.marking) c.scan.ensures.clock
+    (subst (λ (g : Graph). Shaded (λ x. (keeps c.args.policy.now c.scan.new.self.clock s ≡ true) × (soft_at g.objects s ≡ Some x))
+    c.scan.new.self.marking c.follow_soft.new.heap.marking) c.scan.ensures.graph c.follow_soft.ensures.shaded) in
+    follows_then _ _ s (next_at heap (place old s) s) old c.scan.new.self.marking c.follow_soft.new.heap.marking
+    (scanned_follows heap s old c.scan.new.self.marking c.scan.ensures.scanned) soft

@@ -1,4 +1,5 @@
-use Rattle.std.proofs.Common.{◌≡◌, ◌<◌, ◌∙◌, [], inl, inr, true, false, ap, sym, length, map, set, arith, get_or-set_same, get_or-set_other, length-set}
+use Rattle.std.proofs.Common.{◌≡◌, ◌<◌, ◌∙◌, [], inl, inr, true, false, ap, sym, length, map, set, arith, get_or-set_same, get_or-set_other}
+use Rattle.std.proofs.Common.{length-set}
 use Rattle.std.specs.Prelude.{is_some}
 use Rattle.std.proofs.lemmas.Bool.{cases_eq, cases_lt, both_ways}
 use Rattle.std.proofs.lemmas.List.{length-map}
@@ -17,19 +18,30 @@ clear_members-requires c =
     let i = c.loop-slot.invariant in
     let listed = c.loop-slot.listed in
     let below = within_places listed c.in-Some.slot (is_set listed c.args.kept.now c.in-Some.slot c.in-Some.ensures.first.inside) in
-    omega (arith, below, i.places, c.requires.places, ap length i.used, length-map c.loop-slot.store is_some, length-map c.args.store.now is_some)
+    omega (
+      arith,
+      below,
+      i.places,
+      c.requires.places,
+      ap length i.used,
+      length-map c.loop-slot.store is_some,
+      length-map c.args.store.now is_some,
+    )
 
 pub remove-requires : goal.remove-requires
-remove-requires c = within_places c.loop-slot.listed c.in-Some.slot (is_set c.loop-slot.listed c.args.kept.now c.in-Some.slot c.in-Some.ensures.first.inside)
+remove-requires c = within_places c.loop-slot.listed c.in-Some.slot
+    (is_set c.loop-slot.listed c.args.kept.now c.in-Some.slot c.in-Some.ensures.first.inside)
 
 pub overflow_add-from : goal.overflow_add-from
 overflow_add-from c =
-    let below = within_places c.loop-slot.listed c.in-Some.slot (is_set c.loop-slot.listed c.args.kept.now c.in-Some.slot c.in-Some.ensures.first.inside) in
+    let below = within_places c.loop-slot.listed c.in-Some.slot
+    (is_set c.loop-slot.listed c.args.kept.now c.in-Some.slot c.in-Some.ensures.first.inside) in
     omega (arith, below, c.in-Some.ensures.few, c.number-from.ensures)
 
 pub loop-slot-smaller : goal.loop-slot-smaller
 loop-slot-smaller c =
-    let below = within_places c.loop-slot.listed c.in-Some.slot (is_set c.loop-slot.listed c.args.kept.now c.in-Some.slot c.in-Some.ensures.first.inside) in
+    let below = within_places c.loop-slot.listed c.in-Some.slot
+    (is_set c.loop-slot.listed c.args.kept.now c.in-Some.slot c.in-Some.ensures.first.inside) in
     let low = c.in-Some.ensures.first.at_least in
     omega (arith, below, low, c.loop-slot.invariant.places, c.number-from.ensures)
 
@@ -49,7 +61,8 @@ loop-slot-preserved c =
       used = ap (λ (l : Heap). map is_some l) e ∙ used_changed heap n (with_members (λ _. [])) ∙ i.used;
       places = ap length e' ∙ length-set listed n false ∙ i.places;
       queues = λ s l h. elim (cases_eq s n) [
-        | inl same ↦ absurd (both_ways (is_in c.remove.new.self s) (ap (λ p. is_in p s) e' ∙ ap (is_in (set listed n false)) same ∙ get_or-set_same listed n false false below) h)
+        | inl same ↦ absurd (both_ways (is_in c.remove.new.self s)
+            (ap (λ p. is_in p s) e' ∙ ap (is_in (set listed n false)) same ∙ get_or-set_same listed n false false below) h)
         | inr d ↦
             let old : is_in listed s ≡ true = sym (ap (λ p. is_in p s) e' ∙ get_or-set_other listed n s false false d) ∙ h in
             elim (cases_lt s c.loop-slot.from) [
@@ -57,8 +70,10 @@ loop-slot-preserved c =
               | inr high ↦ kept_there listed kept s (first.none_before s high (omega (arith, l, d, c.number-from.ensures))) old
             ]
       ];
-      arrays = λ s. ap (λ (l : Heap). some_and is_array (at l s)) e ∙ same_arrays heap n s (with_members (λ _. [])) (members_arrays (λ _. [])) ∙ i.arrays s;
-      members = λ s off. ap (λ (l : Heap). members_in (at l s)) e ∙ cleared_at heap n s (λ d. i.members s (sym (ap (λ p. is_in p s) e' ∙ get_or-set_other listed n s false false d) ∙ off));
+      arrays = λ s. ap (λ (l : Heap). some_and is_array (at l s)) e
+          ∙ same_arrays heap n s (with_members (λ _. [])) (members_arrays (λ _. [])) ∙ i.arrays s;
+      members = λ s off. ap (λ (l : Heap). members_in (at l s)) e
+          ∙ cleared_at heap n s (λ d. i.members s (sym (ap (λ p. is_in p s) e' ∙ get_or-set_other listed n s false false d) ∙ off));
     }
 
 pub returns-clause-queues : goal.returns-clause-queues

@@ -15,7 +15,8 @@ pub returns-in-Some-clause-free : goal.returns-in-Some-clause-free
 returns-in-Some-clause-free c = is_clear c.args.used.now c.in-Some.slot c.in-Some.ensures.first.inside
 
 pub returns-in-Some-next_absent-clause-within : goal.returns-in-Some-next_absent-clause-within
-returns-in-Some-next_absent-clause-within c = within_absent c.args.used.now c.in-Some-next_absent.slot c.in-Some-next_absent.ensures.first.inside
+returns-in-Some-next_absent-clause-within c =
+    within_absent c.args.used.now c.in-Some-next_absent.slot c.in-Some-next_absent.ensures.first.inside
 
 pub returns-in-Some-next_absent-clause-free : goal.returns-in-Some-next_absent-clause-free
 returns-in-Some-next_absent-clause-free c = is_clear c.args.used.now c.in-Some-next_absent.slot c.in-Some-next_absent.ensures.first.inside

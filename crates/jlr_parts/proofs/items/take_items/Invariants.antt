@@ -4,4 +4,5 @@ use Rattle.jlr_fields.proofs.Loop.{with_front}
 use Rattle.jlr_parts.proofs.items.take_items.Given as goal
 
 abbrev pub invariant-loop : goal.invariant-loop
-invariant-loop g l = with_front l.items.items (items_at g.T.Item.read_at (l.count - l.counter) l.bytes.now) ≡ items_at g.T.Item.read_at l.count l.fn.bytes.now
+invariant-loop g l = with_front l.items.items (items_at g.T.Item.read_at (l.count - l.counter) l.bytes.now) ≡ items_at g.T.Item.read_at
+    l.count l.fn.bytes.now

@@ -7,10 +7,16 @@ use Rattle.jlr_parts.proofs.rising.take_rising_items.Goals as goal
 pub returns-in_err-item : goal.returns-in_err-item
 returns-in_err-item g c =
     let p = err_from_is_err_and c.from_residual.result c.from_residual.ensures.1 in
-    rw (p.1, p.2) (ends g.T.Keyed.read_after g.T.Keyed.key_of c.in_err-item.field-0.0 c.loop.items.items c.args.count c.loop.counter c.loop.before c.loop.bytes.now (rising_items_at g.T.Keyed.read_after g.T.Keyed.key_of c.args.count None c.args.bytes.now.now) c.loop-test.true c.in_err-item.ensures c.loop.invariant)
+    rw (p.1, p.2) (ends g.T.Keyed.read_after g.T.Keyed.key_of c.in_err-item.field-0.0 c.loop.items.items c.args.count c.loop.counter
+    c.loop.before c.loop.bytes.now (rising_items_at g.T.Keyed.read_after g.T.Keyed.key_of c.args.count None c.args.bytes.now.now)
+    c.loop-test.true c.in_err-item.ensures c.loop.invariant)
 
 pub loop-preserved : goal.loop-preserved
-loop-preserved g c = rw (c.in_ok-push.ensures.items, c.key.ensures) (goes_on g.T.Keyed.read_after g.T.Keyed.key_of c.loop.items.items c.args.count c.loop.counter c.loop.before c.loop.bytes.now c.in_ok-item.item c.read.new.bytes.now (rising_items_at g.T.Keyed.read_after g.T.Keyed.key_of c.args.count None c.args.bytes.now.now) c.loop-test.true c.in_ok-item.ensures c.loop.invariant)
+loop-preserved g c = rw (c.in_ok-push.ensures.items, c.key.ensures)
+    (goes_on g.T.Keyed.read_after g.T.Keyed.key_of c.loop.items.items c.args.count c.loop.counter c.loop.before c.loop.bytes.now
+    c.in_ok-item.item c.read.new.bytes.now (rising_items_at g.T.Keyed.read_after g.T.Keyed.key_of c.args.count None c.args.bytes.now.now)
+    c.loop-test.true c.in_ok-item.ensures c.loop.invariant)
 
 pub returns : goal.returns
-returns g c = is_done g.T.Keyed.read_after g.T.Keyed.key_of c.loop.items.items c.args.count c.loop.counter c.loop.before c.loop.bytes.now (rising_items_at g.T.Keyed.read_after g.T.Keyed.key_of c.args.count None c.args.bytes.now.now) c.loop-test.false c.loop.invariant
+returns g c = is_done g.T.Keyed.read_after g.T.Keyed.key_of c.loop.items.items c.args.count c.loop.counter c.loop.before c.loop.bytes.now
+    (rising_items_at g.T.Keyed.read_after g.T.Keyed.key_of c.args.count None c.args.bytes.now.now) c.loop-test.false c.loop.invariant

@@ -5,10 +5,12 @@ use Rattle.jlr_plain.proofs.Followed.{seen_is_kept, next_is_fit}
 use Rattle.jlr_plain.proofs.advance.advance_plain.Goals as goal
 
 pub is_declined-requires : goal.is_declined-requires
-is_declined-requires c = record { cells = omega (arith, c.requires.formed.limits.cells); within = well_formed_within c.args.machine c.requires.formed }
+is_declined-requires c =
+    record { cells = omega (arith, c.requires.formed.limits.cells); within = well_formed_within c.args.machine c.requires.formed }
 
 pub may_carry_out-requires : goal.may_carry_out-requires
-may_carry_out-requires c = record { cells = omega (arith, c.requires.formed.limits.cells); within = well_formed_within c.args.machine c.requires.formed }
+may_carry_out-requires c =
+    record { cells = omega (arith, c.requires.formed.limits.cells); within = well_formed_within c.args.machine c.requires.formed }
 
 pub applied-requires-clause-legal : goal.applied-requires-clause-legal
 applied-requires-clause-legal c =

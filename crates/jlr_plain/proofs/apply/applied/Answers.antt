@@ -15,7 +15,8 @@ complete-requires c =
     let is = collected_done m c.in_ok-collected.collected e c.in_ok-collected.ensures in
     record {
       counts = subst HaveRoom (sym c.in_ok-collected.ensures) (room_kept m e.choice.collected (well_formed_room m formed (omega arith)));
-      actions = λ n. subst (λ (x : Machine). HasNextAction x.next_action e.ask) (sym c.in_ok-collected.ensures) (next_in_collected m e legal n);
+      actions = λ n. subst (λ (x : Machine). HasNextAction x.next_action e.ask) (sym c.in_ok-collected.ensures)
+          (next_in_collected m e legal n);
       cells = done_small m (carried_in c.in_ok-collected.collected e) e is formed legal;
       within = done_within m (carried_in c.in_ok-collected.collected e) e is formed legal;
       kept = λ k. subst (λ (x : Machine). now_seen x ≡ x.seen) (sym is) (c.requires.kept k);

@@ -6,4 +6,5 @@ use Rattle.jlr_plain_answers.specs.Names.{names_of}
 use Rattle.jlr_plain_answers.proofs.answers.all_names_agree.Goals as goal
 
 pub returns-then-left-right : goal.returns-then-left-right
-returns-then-left-right c = sym (unequal bytes_eq c.args.left.now (names_of c.args.right.now) (λ e. c.if-left-right.true (e ∙ length-map c.args.right.now (λ b. b.name))))
+returns-then-left-right c = sym (unequal bytes_eq c.args.left.now (names_of c.args.right.now)
+    (λ e. c.if-left-right.true (e ∙ length-map c.args.right.now (λ b. b.name))))

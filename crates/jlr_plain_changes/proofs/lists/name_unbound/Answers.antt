@@ -10,11 +10,18 @@ pub loop-binding-preserved : goal.loop-binding-preserved
 loop-binding-preserved c =
     elim c.if-not-names_agree.branch [
       | then-not-names_agree+in_ok-push w ↦ (
-          let missed : same_name c.binding-item.result.name c.args.name.now ≡ false = let a = c.names_agree.ensures in let b = c.as_slice.ensures.bytes in let e = w.if-not-names_agree.true in cc in
-          let pushed : c.if-not-names_agree.out.items ≡ c.loop-binding.out.items ++ c.binding-item.result ∷ [] = let a = w.out-is in let b = w.in_ok-push.ensures.items in let d = w.copy.ensures in cc in
-          kept_more (λ (b : Binding). not (same_name b.name c.args.name.now)) c.args.names.now c.loop-binding.binding-index c.binding-item.result c.loop-binding.out.items c.if-not-names_agree.out.items c.loop-binding-test.true c.binding-item.is (ap not missed) c.loop-binding.invariant pushed)
+          let missed : same_name c.binding-item.result.name c.args.name.now ≡ false =
+          let a = c.names_agree.ensures in let b = c.as_slice.ensures.bytes in let e = w.if-not-names_agree.true in cc in
+          let pushed : c.if-not-names_agree.out.items ≡ c.loop-binding.out.items ++ c.binding-item.result ∷ [] =
+          let a = w.out-is in let b = w.in_ok-push.ensures.items in let d = w.copy.ensures in cc in
+          kept_more (λ (b : Binding). not (same_name b.name c.args.name.now)) c.args.names.now c.loop-binding.binding-index
+          c.binding-item.result c.loop-binding.out.items c.if-not-names_agree.out.items c.loop-binding-test.true c.binding-item.is
+          (ap not missed) c.loop-binding.invariant pushed)
       | else-not-names_agree w ↦ (
-          let found : same_name c.binding-item.result.name c.args.name.now ≡ true = let a = c.names_agree.ensures in let b = c.as_slice.ensures.bytes in let e = w.if-not-names_agree.false in cc in
+          let found : same_name c.binding-item.result.name c.args.name.now ≡ true =
+          let a = c.names_agree.ensures in let b = c.as_slice.ensures.bytes in let e = w.if-not-names_agree.false in cc in
           let same : c.if-not-names_agree.out.items ≡ c.loop-binding.out.items = let a = w.out-is in cc in
-          left_more (λ (b : Binding). not (same_name b.name c.args.name.now)) c.args.names.now c.loop-binding.binding-index c.binding-item.result c.loop-binding.out.items c.if-not-names_agree.out.items c.loop-binding-test.true c.binding-item.is (ap not found) c.loop-binding.invariant same)
+          left_more (λ (b : Binding). not (same_name b.name c.args.name.now)) c.args.names.now c.loop-binding.binding-index
+          c.binding-item.result c.loop-binding.out.items c.if-not-names_agree.out.items c.loop-binding-test.true c.binding-item.is
+          (ap not found) c.loop-binding.invariant same)
     ]

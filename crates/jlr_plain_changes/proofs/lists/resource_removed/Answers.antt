@@ -9,11 +9,16 @@ pub loop-resource-preserved : goal.loop-resource-preserved
 loop-resource-preserved c =
     elim c.if-number.branch [
       | then-number+in_ok-push w ↦ (
-          let pushed : c.if-number.out.items ≡ c.loop-resource.out.items ++ c.resource-item.result ∷ [] = let a = w.out-is in let b = w.in_ok-push.ensures.items in cc in
-          kept_more (λ (r : Resource). not (r.rid == c.args.rid)) c.args.resources.now c.loop-resource.resource-index c.resource-item.result c.loop-resource.out.items c.if-number.out.items c.loop-resource-test.true c.resource-item.is
-          (differs c.resource-item.result.rid c.args.rid (λ e. w.if-number.true (c.number.ensures ∙ e ∙ sym c.number-in-loop-resource.ensures))) c.loop-resource.invariant pushed)
+          let pushed : c.if-number.out.items ≡ c.loop-resource.out.items ++ c.resource-item.result ∷ [] =
+          let a = w.out-is in let b = w.in_ok-push.ensures.items in cc in
+          kept_more (λ (r : Resource). not (r.rid == c.args.rid)) c.args.resources.now c.loop-resource.resource-index c.resource-item.result
+          c.loop-resource.out.items c.if-number.out.items c.loop-resource-test.true c.resource-item.is
+          (differs c.resource-item.result.rid c.args.rid
+          (λ e. w.if-number.true (c.number.ensures ∙ e ∙ sym c.number-in-loop-resource.ensures))) c.loop-resource.invariant pushed)
       | else-number w ↦ (
           let same : c.if-number.out.items ≡ c.loop-resource.out.items = let a = w.out-is in cc in
-          left_more (λ (r : Resource). not (r.rid == c.args.rid)) c.args.resources.now c.loop-resource.resource-index c.resource-item.result c.loop-resource.out.items c.if-number.out.items c.loop-resource-test.true c.resource-item.is
-          (agrees c.resource-item.result.rid c.args.rid (sym c.number.ensures ∙ w.if-number.false ∙ c.number-in-loop-resource.ensures)) c.loop-resource.invariant same)
+          left_more (λ (r : Resource). not (r.rid == c.args.rid)) c.args.resources.now c.loop-resource.resource-index c.resource-item.result
+          c.loop-resource.out.items c.if-number.out.items c.loop-resource-test.true c.resource-item.is
+          (agrees c.resource-item.result.rid c.args.rid (sym c.number.ensures ∙ w.if-number.false ∙ c.number-in-loop-resource.ensures))
+          c.loop-resource.invariant same)
     ]

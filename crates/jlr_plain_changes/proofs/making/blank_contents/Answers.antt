@@ -6,4 +6,10 @@ use Rattle.jlr_plain_changes.proofs.making.blank_contents.Goals as goal
 pub unwrap-requires : goal.unwrap-requires
 unwrap-requires c =
     let size = ap length c.in_ok-fields.ensures in
-    c.from_vec.ensures.fits.1 (omega (arith, size, length-map c.args.layout.now blank, c.len-count.ensures.count, c.len-count.ensures.at_most_eight))
+    c.from_vec.ensures.fits.1 (omega (
+      arith,
+      size,
+      length-map c.args.layout.now blank,
+      c.len-count.ensures.count,
+      c.len-count.ensures.at_most_eight,
+    ))

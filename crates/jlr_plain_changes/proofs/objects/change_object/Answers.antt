@@ -7,7 +7,9 @@ use Rattle.jlr_plain_changes.proofs.objects.change_object.Goals as goal
 
 pub returns : goal.returns
 returns c =
-    put_back {A = Object} c.args.places.now.items c.take_object.new.places.items c.put_object.new.places.items c.args.number c.take_object.result c.match-take_object.place (change_of c.args.change) c.take_object.ensures.taken c.take_object.ensures.left c.put_object.ensures
+    put_back {A = Object} c.args.places.now.items c.take_object.new.places.items c.put_object.new.places.items c.args.number
+    c.take_object.result c.match-take_object.place (change_of c.args.change) c.take_object.ensures.taken c.take_object.ensures.left
+    c.put_object.ensures
     (elim c.match-take_object.branch [
       | in-Some w ↦ w.place-is ∙ ap {A = Object} Some w.changed.ensures ∙ ap (option_map (change_of c.args.change)) (sym w.in-Some.is)
       | in-None w ↦ w.place-is ∙ ap (option_map (change_of c.args.change)) (sym w.in-None.is)

@@ -10,5 +10,6 @@ pub returns-clause-ok : goal.returns-clause-ok
 returns-clause-ok c =
     c.change_in-3.ensures
     ∙ ap {A = Machine} {B = Machine} (λ n. with_object n c.args.slot (change_of Enqueue)) c.change_in-2.ensures
-    ∙ ap {A = Machine} {B = Machine} (λ n. with_object (with_object n c.args.slot (change_of Unrefer)) c.args.slot (change_of Enqueue)) c.in_ok-append.ensures.ok
+    ∙ ap {A = Machine} {B = Machine} (λ n. with_object (with_object n c.args.slot (change_of Unrefer)) c.args.slot (change_of Enqueue))
+    c.in_ok-append.ensures.ok
     ∙ enqueued_by c.args.machine.now c.args.slot c.in-Some.queue c.in-Some.ensures

@@ -8,16 +8,21 @@ loop-i-init c = record { within = omega arith; rest = rest_begins c.args.slots.n
 
 pub mark-requires : goal.mark-requires
 mark-requires c =
-    let inside : c.loop-i.i - 1 < length c.args.slots.now = (let w = c.loop-i.invariant.within in let t = c.loop-i-test.true in omega (arith, w, t)) in
-    subst (λ n. c.index-slots-i.result < n) (sym c.loop-i.invariant.rest.long) (c.requires.within c.index-slots-i.result (at_in c.args.slots.now (c.loop-i.i - 1) c.index-slots-i.result inside c.index-slots-i.is))
+    let inside : c.loop-i.i - 1 < length c.args.slots.now =
+    (let w = c.loop-i.invariant.within in let t = c.loop-i-test.true in omega (arith, w, t)) in
+    subst (λ n. c.index-slots-i.result < n) (sym c.loop-i.invariant.rest.long)
+    (c.requires.within c.index-slots-i.result
+    (at_in c.args.slots.now (c.loop-i.i - 1) c.index-slots-i.result inside c.index-slots-i.is))
 
 pub returns-then-not-mark : goal.returns-then-not-mark
 returns-then-not-mark c =
     let i = c.loop-i.i - 1 in
     let inside : i < length c.args.slots.now = (let w = c.loop-i.invariant.within in let t = c.loop-i-test.true in omega (arith, w, t)) in
     let next : c.loop-i.i ≡ i + 1 = (let t = c.loop-i-test.true in omega (arith, t)) in
-    rest_stops c.args.slots.now (length c.args.marks.now) i c.index-slots-i.result c.loop-i.marks inside c.index-slots-i.is (c.requires.within c.index-slots-i.result (at_in c.args.slots.now i c.index-slots-i.result inside c.index-slots-i.is))
-    (subst (λ k. MarksRest (length c.args.marks.now) (drop k c.args.slots.now) c.loop-i.marks) next c.loop-i.invariant.rest) (was_marked c.loop-i.marks c.index-slots-i.result c.mark.result c.mark.ensures.new c.if-not-mark.true)
+    rest_stops c.args.slots.now (length c.args.marks.now) i c.index-slots-i.result c.loop-i.marks inside c.index-slots-i.is
+    (c.requires.within c.index-slots-i.result (at_in c.args.slots.now i c.index-slots-i.result inside c.index-slots-i.is))
+    (subst (λ k. MarksRest (length c.args.marks.now) (drop k c.args.slots.now) c.loop-i.marks) next c.loop-i.invariant.rest)
+    (was_marked c.loop-i.marks c.index-slots-i.result c.mark.result c.mark.ensures.new c.if-not-mark.true)
 
 pub loop-i-preserved : goal.loop-i-preserved
 loop-i-preserved c =
@@ -27,6 +32,10 @@ loop-i-preserved c =
     record {
       within = (let w = inside in omega (arith, w));
       rest =
-          rest_more c.args.slots.now (length c.args.marks.now) i c.index-slots-i.result c.loop-i.marks c.mark.new.marks inside c.index-slots-i.is (c.requires.within c.index-slots-i.result (at_in c.args.slots.now i c.index-slots-i.result inside c.index-slots-i.is))
-          (subst (λ k. MarksRest (length c.args.marks.now) (drop k c.args.slots.now) c.loop-i.marks) next c.loop-i.invariant.rest) c.mark.ensures.marks (was_unmarked c.loop-i.marks c.index-slots-i.result c.mark.result c.mark.ensures.new c.if-not-mark.false);
+          rest_more c.args.slots.now (length c.args.marks.now) i c.index-slots-i.result c.loop-i.marks c.mark.new.marks inside
+          c.index-slots-i.is (c.requires.within c.index-slots-i.result
+          (at_in c.args.slots.now i c.index-slots-i.result inside c.index-slots-i.is))
+          (subst (λ k. MarksRest (length c.args.marks.now) (drop k c.args.slots.now) c.loop-i.marks) next c.loop-i.invariant.rest)
+          c.mark.ensures.marks
+          (was_unmarked c.loop-i.marks c.index-slots-i.result c.mark.result c.mark.ensures.new c.if-not-mark.false);
     }

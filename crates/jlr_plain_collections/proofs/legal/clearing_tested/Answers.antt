@@ -8,6 +8,10 @@ pub returns : goal.returns
 returns c =
     let base : c.as_slice.result.now ≡ roots c.args.machine.now = c.as_slice.ensures.value ∙ c.in_ok-base.ensures in
     let kept : c.as_slice-2.result.now ≡ c.args.c.now.kept = c.as_slice-2.ensures.value ∙ c.in_ok-kept.ensures in
-    subst (λ (p : List ℕ). IfOk c.is_clearing_plain.result (λ b. b ≡ cuts_off Strong c.args.machine.now.objects (roots c.args.machine.now) c.args.c.now.kept p)) c.as_slice-3.ensures
-    (subst (λ (k : List ℕ). IfOk c.is_clearing_plain.result (λ b. b ≡ cuts_off Strong c.args.machine.now.objects (roots c.args.machine.now) k c.as_slice-3.result.now)) kept
-    (subst (λ (r : List ℕ). IfOk c.is_clearing_plain.result (λ b. b ≡ cuts_off Strong c.args.machine.now.objects r c.as_slice-2.result.now c.as_slice-3.result.now)) base c.is_clearing_plain.ensures))
+    subst (λ (p : List ℕ). IfOk c.is_clearing_plain.result
+    (λ b. b ≡ cuts_off Strong c.args.machine.now.objects (roots c.args.machine.now) c.args.c.now.kept p)) c.as_slice-3.ensures
+    (subst (λ (k : List ℕ). IfOk c.is_clearing_plain.result
+    (λ b. b ≡ cuts_off Strong c.args.machine.now.objects (roots c.args.machine.now) k c.as_slice-3.result.now)) kept
+    (subst (λ (r : List ℕ). IfOk c.is_clearing_plain.result
+    (λ b. b ≡ cuts_off Strong c.args.machine.now.objects r c.as_slice-2.result.now c.as_slice-3.result.now)) base
+    c.is_clearing_plain.ensures))

@@ -5,7 +5,10 @@ use Rattle.jlr_laws.proofs.Decided.{background_is_decided}
 use Rattle.jlr_plain_collections.proofs.legal.is_background_collection_plain.Goals as goal
 
 pub returns : goal.returns
-returns c = elim c.background_tested.result as (λ r. IfOk r (λ b. b ≡ is_background c.args.machine.now c.args.c.now.kept c.args.c.now.pending) → IfOk r (λ b. IsTrue b ↔ IsBackground c.args.machine.now c.args.c.now.kept c.args.c.now.pending)) [
-  | Ok b ↦ λ e. subst (λ t. IsTrue t ↔ IsBackground c.args.machine.now c.args.c.now.kept c.args.c.now.pending) (sym e) (background_is_decided c.args.machine.now c.args.c.now.kept c.args.c.now.pending c.requires.within c.requires.seen)
-  | Err e ↦ λ h. h
-] c.background_tested.ensures
+returns c = elim c.background_tested.result as (λ r. IfOk r
+    (λ b. b ≡ is_background c.args.machine.now c.args.c.now.kept c.args.c.now.pending)
+    → IfOk r (λ b. IsTrue b ↔ IsBackground c.args.machine.now c.args.c.now.kept c.args.c.now.pending)) [
+      | Ok b ↦ λ e. subst (λ t. IsTrue t ↔ IsBackground c.args.machine.now c.args.c.now.kept c.args.c.now.pending) (sym e)
+          (background_is_decided c.args.machine.now c.args.c.now.kept c.args.c.now.pending c.requires.within c.requires.seen)
+      | Err e ↦ λ h. h
+    ] c.background_tested.ensures

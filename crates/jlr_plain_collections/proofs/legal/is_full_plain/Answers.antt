@@ -6,7 +6,10 @@ use Rattle.jlr_laws.proofs.Decided.{collections_are_decided}
 use Rattle.jlr_plain_collections.proofs.legal.is_full_plain.Goals as goal
 
 pub returns : goal.returns
-returns c = elim c.full_tested.result as (λ r. IfOk r (λ b. b ≡ is_full c.args.machine.now c.args.c.now.kept c.args.c.now.pending) → IfOk r (λ b. IsTrue b ↔ IsFull c.args.machine.now c.args.c.now.kept c.args.c.now.pending)) [
-  | Ok b ↦ λ e. subst (λ t. IsTrue t ↔ IsFull c.args.machine.now c.args.c.now.kept c.args.c.now.pending) (sym e) (collections_are_decided c.args.machine.now.objects (roots c.args.machine.now) c.args.c.now.kept c.args.c.now.pending c.requires.within)
-  | Err e ↦ λ h. h
-] c.full_tested.ensures
+returns c = elim c.full_tested.result as (λ r. IfOk r (λ b. b ≡ is_full c.args.machine.now c.args.c.now.kept c.args.c.now.pending)
+    → IfOk r (λ b. IsTrue b ↔ IsFull c.args.machine.now c.args.c.now.kept c.args.c.now.pending)) [
+      | Ok b ↦ λ e. subst (λ t. IsTrue t ↔ IsFull c.args.machine.now c.args.c.now.kept c.args.c.now.pending) (sym e)
+          (collections_are_decided c.args.machine.now.objects (roots c.args.machine.now) c.args.c.now.kept c.args.c.now.pending
+          c.requires.within)
+      | Err e ↦ λ h. h
+    ] c.full_tested.ensures

@@ -4,4 +4,5 @@ use Rattle.jlr_machine.specs.declared.machine.Session.{Session}
 use Rattle.jlr_plain_collections.proofs.roots.push_all_handles.Given as goal
 
 abbrev pub invariant-loop-place : goal.invariant-loop-place
-invariant-loop-place l = l.out.items ≡ l.fn.out.items ++ flat_map (λ (s : Session). filter_map (λ h. h) s.handles) (filter_map (λ s. s) (take l.place-index l.places))
+invariant-loop-place l = l.out.items ≡ l.fn.out.items
+    ++ flat_map (λ (s : Session). filter_map (λ h. h) s.handles) (filter_map (λ s. s) (take l.place-index l.places))

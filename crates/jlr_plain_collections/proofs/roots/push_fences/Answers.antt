@@ -6,5 +6,8 @@ use Rattle.jlr_plain_collections.proofs.roots.push_fences.Goals as goal
 
 pub loop-place-preserved : goal.loop-place-preserved
 loop-place-preserved c =
-    loop_more (λ xs. flat_map (λ (s : Session). option_to_list s.fence) (filter_map (λ s. s) xs)) (sessions_append (λ (s : Session). option_to_list s.fence)) c.args.places.now c.loop-place.place-index c.place-item.result c.args.out.now.items c.loop-place.out.items c.push_fence_of.new.out.items c.loop-place-test.true c.place-item.is c.loop-place.invariant
+    loop_more (λ xs. flat_map (λ (s : Session). option_to_list s.fence) (filter_map (λ s. s) xs))
+    (sessions_append (λ (s : Session). option_to_list s.fence)) c.args.places.now c.loop-place.place-index c.place-item.result
+    c.args.out.now.items c.loop-place.out.items c.push_fence_of.new.out.items c.loop-place-test.true c.place-item.is
+    c.loop-place.invariant
     c.in_ok-push_fence_of.ensures

@@ -6,4 +6,6 @@ use Rattle.jlr_plain_collections.proofs.roots.push_names.Goals as goal
 
 pub loop-binding-preserved : goal.loop-binding-preserved
 loop-binding-preserved c =
-    loop_more {A = Binding} {B = ℕ} (map (λ (b : Binding). b.slot)) (map-append {A = Binding} {B = ℕ} (λ (b : Binding). b.slot)) c.args.names.now c.loop-binding.binding-index c.binding-item.result c.args.out.now.items c.loop-binding.out.items c.push.new.self.items c.loop-binding-test.true c.binding-item.is c.loop-binding.invariant c.in_ok-push.ensures.items
+    loop_more {A = Binding} {B = ℕ} (map (λ (b : Binding). b.slot)) (map-append {A = Binding} {B = ℕ} (λ (b : Binding). b.slot))
+    c.args.names.now c.loop-binding.binding-index c.binding-item.result c.args.out.now.items c.loop-binding.out.items
+    c.push.new.self.items c.loop-binding-test.true c.binding-item.is c.loop-binding.invariant c.in_ok-push.ensures.items

@@ -20,5 +20,6 @@ returns-clause-keeps c =
       line = ap (λ (g : Graph). g.line) after;
       mutators = ap (λ (g : Graph). g.mutators) after;
       names = ap (λ (g : Graph). g.names) after;
-      chosen = c.keep_marked.ensures.choice ∙ ap (λ l. collecting c.args.choice.now l (pended_by c.args.choice.now)) (slots_marked m (length old) c.requires.bits);
+      chosen = c.keep_marked.ensures.choice ∙ ap (λ l. collecting c.args.choice.now l (pended_by c.args.choice.now))
+          (slots_marked m (length old) c.requires.bits);
     }

@@ -7,4 +7,5 @@ deliver-requires-clause-front c = sym c.first_pending.ensures ∙ c.in-Some.is
 
 pub returns-clause-handed : goal.returns-clause-handed
 returns-clause-handed c =
-    hands_over_front c.args.heap.now.graph _ c.in-Some.slot _ c.requires.fit (sym c.first_pending.ensures ∙ c.in-Some.is) c.handed_at-handed.ensures c.deliver.ensures.delivered
+    hands_over_front c.args.heap.now.graph _ c.in-Some.slot _ c.requires.fit (sym c.first_pending.ensures ∙ c.in-Some.is)
+    c.handed_at-handed.ensures c.deliver.ensures.delivered

@@ -18,9 +18,11 @@ unlink-requires-clause-object c =
 pub set_state-requires-clause-reference : goal.set_state-requires-clause-reference
 set_state-requires-clause-reference c =
     let old = c.args.heap.now.graph.objects in
-    let was = member_is_reference c.args.heap.now.graph c.args.queue c.in_ok-member.member c.requires.fit c.requires.queue (sym c.unlink.ensures.front ∙ c.in_ok-member.was) in
+    let was = member_is_reference c.args.heap.now.graph c.args.queue c.in_ok-member.member c.requires.fit c.requires.queue
+    (sym c.unlink.ensures.front ∙ c.in_ok-member.was) in
     ap (λ (g : Graph). some_and is_reference (at g.objects c.in_ok-member.member)) c.unlink.ensures.graph
-    ∙ ap (some_and is_reference) (change_other old c.args.queue c.in_ok-member.member (with_members (drop 1)) (apart old c.in_ok-member.member c.args.queue was c.requires.queue))
+    ∙ ap (some_and is_reference) (change_other old c.args.queue c.in_ok-member.member (with_members (drop 1))
+    (apart old c.in_ok-member.member c.args.queue was c.requires.queue))
     ∙ was
 
 -- nothing was ahead of a member of a queue, and nothing is ahead of it once it is Removed
@@ -31,5 +33,7 @@ set_state-requires-clause-edge c =
     let first = sym c.unlink.ensures.front ∙ c.in_ok-member.was in
     let was = member_is_reference g c.args.queue s c.requires.fit c.requires.queue first in
     let same : at c.unlink.new.self.graph.objects s ≡ at g.objects s =
-    ap (λ (k : Graph). at k.objects s) c.unlink.ensures.graph ∙ change_other g.objects c.args.queue s (with_members (drop 1)) (apart g.objects s c.args.queue was c.requires.queue) in
-    subst (λ (o : Option Object). next_in (option_map (with_reference (in_state Removed)) o) ≡ next_in o) (sym same) (none_ahead_of_member g c.args.queue s c.requires.fit c.requires.queue first)
+    ap (λ (k : Graph). at k.objects s) c.unlink.ensures.graph
+    ∙ change_other g.objects c.args.queue s (with_members (drop 1)) (apart g.objects s c.args.queue was c.requires.queue) in
+    subst (λ (o : Option Object). next_in (option_map (with_reference (in_state Removed)) o) ≡ next_in o) (sym same)
+    (none_ahead_of_member g c.args.queue s c.requires.fit c.requires.queue first)

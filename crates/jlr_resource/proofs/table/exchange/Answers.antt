@@ -1,6 +1,7 @@
 use Rattle.std.proofs.Common.{◌≡◌, Some}
 use Rattle.slab.specs.Slab.{get}
-use Rattle.jlr_resource.proofs.Slabs.{kept_there, state_there, kept_changed, others_changed, state_changed, has_place, held_changed, listed_changed, flow_changed}
+use Rattle.jlr_resource.proofs.Slabs.{kept_there, state_there, kept_changed, others_changed, state_changed, has_place, held_changed}
+use Rattle.jlr_resource.proofs.Slabs.{listed_changed, flow_changed}
 use Rattle.jlr_resource.proofs.table.exchange.Goals as goal
 
 pub index_mut-place-requires : goal.index_mut-place-requires
@@ -37,4 +38,5 @@ returns-clause-resources g c =
 
 pub returns-clause-values : goal.returns-clause-values
 returns-clause-values g c =
-    rw (c.number.ensures, c.replace.ensures.after, c.replace.ensures.value) (flow_changed c.args.places.now c.args.rid _ c.args.kept (here g c))
+    rw (c.number.ensures, c.replace.ensures.after, c.replace.ensures.value)
+    (flow_changed c.args.places.now c.args.rid _ c.args.kept (here g c))

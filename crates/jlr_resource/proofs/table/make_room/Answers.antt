@@ -13,4 +13,5 @@ pub returns-then-is_err-clause-succeeds : goal.returns-then-is_err-clause-succee
 returns-then-is_err-clause-succeeds g c =
     λ room next.
     let count = count_listed c.args.places.now in
-    absurd (let well : IsOk c.reserve-reserved.result = c.reserve-reserved.ensures.succeeds (omega (arith, count, room)) in let ill = c.if-is_err.ensures.negation in cc)
+    absurd (let well : IsOk c.reserve-reserved.result =
+    c.reserve-reserved.ensures.succeeds (omega (arith, count, room)) in let ill = c.if-is_err.ensures.negation in cc)

@@ -10,7 +10,8 @@ pub returns : goal.returns
 returns g c =
     let f = c.in_ok-file.file in
     let same = c.in_ok-file.ensures.file in
-    elim c.write_trace.result as (λ r. IfOk r (λ v. v.items ≡ spelled_file (file_text f)) → IfOk r (λ v. IsSaved {R = g.row.R.Denot} c.args.book.now v.items)) [
+    elim c.write_trace.result as (λ r. IfOk r (λ v. v.items ≡ spelled_file (file_text f))
+    → IfOk r (λ v. IsSaved {R = g.row.R.Denot} c.args.book.now v.items)) [
       | Ok v ↦ λ e. record {
         spelling = subst HasSpelling same c.in_ok-file.ensures.spelling;
         spelled = e ∙ ap (λ (x : TraceFile). spelled_file (file_text x)) same;

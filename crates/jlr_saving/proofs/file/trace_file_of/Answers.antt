@@ -16,7 +16,8 @@ pub run_has_spelling-requires-clause-strays : goal.run_has_spelling-requires-cla
 run_has_spelling-requires-clause-strays g c = ap (λ (f : TraceFile). f.strays) c.in_ok-file.ensures
 
 pub run_has_spelling-requires-clause-image : goal.run_has_spelling-requires-clause-image
-run_has_spelling-requires-clause-image g c = subst (λ (f : TraceFile). IsImage f.image) (sym c.in_ok-file.ensures) c.is_history.ensures.image
+run_has_spelling-requires-clause-image g c =
+    subst (λ (f : TraceFile). IsImage f.image) (sym c.in_ok-file.ensures) c.is_history.ensures.image
 
 pub run_has_spelling-requires-clause-limits : goal.run_has_spelling-requires-clause-limits
 run_has_spelling-requires-clause-limits g c =

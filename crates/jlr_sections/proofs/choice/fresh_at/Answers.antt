@@ -6,4 +6,9 @@ use Rattle.jlr_sections.proofs.choice.fresh_at.Goals as goal
 
 pub few-requires : goal.few-requires
 few-requires c =
-    omega (arith, items_counted (number_at w32) c.in_ok-count.count _ _ _ c.in_ok-slots.ensures, c.in_ok-count.ensures.within, ap length c.as_slice.ensures.value)
+    omega (
+      arith,
+      items_counted (number_at w32) c.in_ok-count.count _ _ _ c.in_ok-slots.ensures,
+      c.in_ok-count.ensures.within,
+      ap length c.as_slice.ensures.value,
+    )

@@ -8,7 +8,8 @@ use Rattle.jlr_sections.proofs.image.sessions_at.Given as goal
 
 abbrev pub invariant-loop : goal.invariant-loop
 invariant-loop l = record {
-  read : with_front (map (option_map session_text) l.sessions.items) (items_at session_read (l.count - l.counter) l.bytes.now) ≡ items_at session_read l.count l.fn.bytes.now;
+  read : with_front (map (option_map session_text) l.sessions.items) (items_at session_read (l.count - l.counter) l.bytes.now)
+      ≡ items_at session_read l.count l.fn.bytes.now;
   sized : length l.sessions.items ≡ l.counter;
   places : AllByRecursion HasPlaces l.sessions.items;
 }

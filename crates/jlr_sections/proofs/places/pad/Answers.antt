@@ -4,7 +4,8 @@ use Rattle.jlr_sections.proofs.places.pad.Goals as goal
 
 pub loop-preserved : goal.loop-preserved
 loop-preserved g c = record {
-  items = pad-more c.args.places.now.items c.loop.places.items c.push.new.self.items c.loop.counter c.in_ok-push.ensures.items c.loop.invariant.items (omega arith);
+  items = pad-more c.args.places.now.items c.loop.places.items c.push.new.self.items c.loop.counter c.in_ok-push.ensures.items
+      c.loop.invariant.items (omega arith);
   bound = omega arith;
 }
 

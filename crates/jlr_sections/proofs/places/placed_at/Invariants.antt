@@ -9,7 +9,9 @@ use Rattle.jlr_sections.proofs.places.placed_at.Given as goal
 
 abbrev pub invariant-loop : goal.invariant-loop
 invariant-loop l = record {
-  read : with_front (listed_from placed 0 l.places.items ++ l.strays.items) (rising_items_at (placed_after l.version) (λ p. p.slot) (l.count - l.counter) l.before l.bytes.now) ≡ rising_items_at (placed_after l.version) (λ p. p.slot) l.count None l.fn.bytes.now;
+  read : with_front (listed_from placed 0 l.places.items ++ l.strays.items)
+      (rising_items_at (placed_after l.version) (λ p. p.slot) (l.count - l.counter) l.before l.bytes.now)
+      ≡ rising_items_at (placed_after l.version) (λ p. p.slot) l.count None l.fn.bytes.now;
   below : length l.places.items ≤ next_of l.before;
   few : length l.places.items ≤ l.cells;
   apart : 0 < length l.strays.items → l.cells < next_of l.before;

@@ -11,5 +11,7 @@ no_strays (suc n) cells slot number after lt same =
 
 pub returns-clause-listed : goal.returns-clause-listed
 returns-clause-listed c =
-    let none : length c.args.strays.now.items ≡ 0 = no_strays (length c.args.strays.now.items) c.args.cells c.args.item.slot c.number-number.result c.requires.after c.if-cells-number.false c.number-number.ensures in
-    object-behind c.args.places.now.items c.pad.new.places.items c.push-2.new.self.items c.args.strays.now.items c.args.item.slot c.args.item.object none c.requires.above (rw (← c.number-number.ensures) c.in_ok-pad.ensures) c.in_ok-push-2.ensures.items
+    let none : length c.args.strays.now.items ≡ 0 = no_strays (length c.args.strays.now.items) c.args.cells c.args.item.slot
+    c.number-number.result c.requires.after c.if-cells-number.false c.number-number.ensures in
+    object-behind c.args.places.now.items c.pad.new.places.items c.push-2.new.self.items c.args.strays.now.items c.args.item.slot
+    c.args.item.object none c.requires.above (rw (← c.number-number.ensures) c.in_ok-pad.ensures) c.in_ok-push-2.ensures.items

@@ -10,6 +10,8 @@ returns c =
     let b : List ℕ = spelled_64 c.args.machine.now.taken in
     let d : List ℕ = spelled_64 c.args.machine.now.ok in
     let e : List ℕ = spelled_64 c.args.machine.now.failed in
-    let two : c.put_u64-2.new.out.items ≡ old ++ (a ++ b) = joined old c.put_u64.new.out.items c.put_u64-2.new.out.items a b c.in_ok-put_u64.ensures c.in_ok-put_u64-2.ensures in
-    let three : c.put_u64-3.new.out.items ≡ old ++ ((a ++ b) ++ d) = joined old c.put_u64-2.new.out.items c.put_u64-3.new.out.items (a ++ b) d two c.in_ok-put_u64-3.ensures in
+    let two : c.put_u64-2.new.out.items ≡ old ++ (a ++ b) =
+    joined old c.put_u64.new.out.items c.put_u64-2.new.out.items a b c.in_ok-put_u64.ensures c.in_ok-put_u64-2.ensures in
+    let three : c.put_u64-3.new.out.items ≡ old ++ ((a ++ b) ++ d) =
+    joined old c.put_u64-2.new.out.items c.put_u64-3.new.out.items (a ++ b) d two c.in_ok-put_u64-3.ensures in
     then_written c.put_u64-4.result old c.put_u64-3.new.out.items c.put_u64-4.new.out.items ((a ++ b) ++ d) e three c.put_u64-4.ensures

@@ -8,5 +8,7 @@ use Rattle.jlr_sections.proofs.writing.put_handles.Goals as goal
 
 pub returns : goal.returns
 returns c =
-    then_written c.put_held.result c.args.out.now.items c.put_u32.new.out.items c.put_held.new.out.items (spelled_32 (length (listed_from held 0 c.args.handles.now))) (flat_map spelled_held (listed_from held 0 c.args.handles.now))
-    (subst (λ n. c.put_u32.new.out.items ≡ c.args.out.now.items ++ spelled_32 n) c.held_count.ensures c.in_ok-put_u32.ensures) c.put_held.ensures
+    then_written c.put_held.result c.args.out.now.items c.put_u32.new.out.items c.put_held.new.out.items
+    (spelled_32 (length (listed_from held 0 c.args.handles.now))) (flat_map spelled_held (listed_from held 0 c.args.handles.now))
+    (subst (λ n. c.put_u32.new.out.items ≡ c.args.out.now.items ++ spelled_32 n) c.held_count.ensures c.in_ok-put_u32.ensures)
+    c.put_held.ensures

@@ -8,7 +8,8 @@ put_session_at-requires c = session_counts c.args.sessions.now c.loop-number.num
 pub loop-number-preserved : goal.loop-number-preserved
 loop-number-preserved c =
     let there : c.loop-number.number < length c.args.sessions.now = omega arith in
-    more_sessions c.args.sessions.now c.loop-number.number c.args.out.now.items c.loop-number.out.items c.put_session_at.new.out.items there c.loop-number.invariant c.in_ok-put_session_at.ensures
+    more_sessions c.args.sessions.now c.loop-number.number c.args.out.now.items c.loop-number.out.items c.put_session_at.new.out.items there
+    c.loop-number.invariant c.in_ok-put_session_at.ensures
 
 pub returns : goal.returns
 returns c =

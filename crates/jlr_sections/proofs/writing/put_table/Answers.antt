@@ -5,12 +5,14 @@ use Rattle.jlr_sections.proofs.WritingLaws.{more_written, all_written, place_cou
 use Rattle.jlr_sections.proofs.writing.put_table.Goals as goal
 
 pub loop-number-preserved : goal.loop-number-preserved
-loop-number-preserved c = more_written placed spelled_placed c.args.table.now c.loop-number.number c.args.out.now.items c.loop-number.out.items c.put_placed_at.new.out.items c.loop-number.invariant c.in_ok-put_placed_at.ensures
+loop-number-preserved c = more_written placed spelled_placed c.args.table.now c.loop-number.number c.args.out.now.items
+    c.loop-number.out.items c.put_placed_at.new.out.items c.loop-number.invariant c.in_ok-put_placed_at.ensures
 
 pub returns : goal.returns
 returns c =
     let whole : length c.args.table.now ≤ c.loop-number.number = omega arith in
-    all_written placed spelled_placed c.args.table.now c.loop-number.number c.args.out.now.items c.loop-number.out.items whole c.loop-number.invariant
+    all_written placed spelled_placed c.args.table.now c.loop-number.number c.args.out.now.items c.loop-number.out.items whole
+    c.loop-number.invariant
 
 pub put_placed_at-requires-clause-counts : goal.put_placed_at-requires-clause-counts
 put_placed_at-requires-clause-counts c = place_counts c.args.table.now c.loop-number.number c.requires.counts

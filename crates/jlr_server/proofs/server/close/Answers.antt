@@ -13,7 +13,8 @@ returns-in-Ok-close g c =
         works = c.args.works.items;
         all = told.3;
         one_each = search (rules, arith);
-        closes = subst (λ (seats : List (Seen (Step g.row.D-Res.Denot))). Closes g.L.Limited.limits seats c.in-Ok-close.book) told.0 c.in-Ok-close.ensures.closes;
+        closes = subst (λ (seats : List (Seen (Step g.row.D-Res.Denot))). Closes g.L.Limited.limits seats c.in-Ok-close.book) told.0
+            c.in-Ok-close.ensures.closes;
         accepted = search (rules, arith);
         failed = told.2;
         as_many = or_then (c.are_enough.ensures c.if-not-are_enough.false) c.heard.invariant;

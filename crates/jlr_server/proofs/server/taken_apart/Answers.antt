@@ -22,14 +22,23 @@ loop-work-preserved g c =
 
 pub returns : goal.returns
 returns g c =
-    let device : Opening g.row.D.Denot g.row.D-Res.Denot = record { count = g.D.Device.count; opens = g.D.Device.may_open; connects = g.D.Device.may_connect; failures = g.D.Res.Resource.handling.count } in
+    let device : Opening g.row.D.Denot g.row.D-Res.Denot =
+    record {
+      count =
+          g.D.Device.count;
+      opens = g.D.Device.may_open;
+      connects = g.D.Device.may_connect;
+      failures = g.D.Res.Resource.handling.count;
+    } in
     let i = c.loop-work.invariant in
     let from = c.into_iter-work-iterator.ensures.into_iter_gives in
     let length_is : c.into_iter-work-iterator.result.rest.len ≡ length c.args.works.items = omega arith in
-    let end = YieldsList-end (YieldsList-from_vec c.args.works.items from.0 length_is) c.loop-work.yielded c.loop-work.work-iterator c.loop-work.yielded_by c.next.result c.next.new.self c.in-None.is c.next.ensures.steps in
+    let end = YieldsList-end (YieldsList-from_vec c.args.works.items from.0 length_is) c.loop-work.yielded c.loop-work.work-iterator
+    c.loop-work.yielded_by c.next.result c.next.new.self c.in-None.is c.next.ensures.steps in
     let all : c.loop-work.yielded ≡ c.args.works.items = sym (map-id c.loop-work.yielded) ∙ end.0 in (
       i.seats ∙ ap (map seat_in) all,
       i.accepts ∙ ap (sum_by accepts_of) all,
       i.missed ∙ ap (sum_by (λ w. w.missed)) all,
-      subst (λ (works : List (Work g.row.D-Res.Denot)). AllWork g.L.Limited.limits device g.D.Res.Resource.handling g.A.Acceptor.giving g.A.In.Read.remaining g.A.Out.Write.contents works) all i.done,
+      subst (λ (works : List (Work g.row.D-Res.Denot)). AllWork g.L.Limited.limits device g.D.Res.Resource.handling g.A.Acceptor.giving
+          g.A.In.Read.remaining g.A.Out.Write.contents works) all i.done,
     )

@@ -8,5 +8,11 @@ invariant-loop-work g l = record {
   seats : l.tally.seats.items ≡ map seat_in l.yielded;
   accepts : l.tally.accepts ≡ sum_by accepts_of l.yielded;
   missed : l.tally.missed ≡ sum_by (λ w. w.missed) l.yielded;
-  done : AllWork g.L.Limited.limits (record { count = g.D.Device.count; opens = g.D.Device.may_open; connects = g.D.Device.may_connect; failures = g.D.Res.Resource.handling.count }) g.D.Res.Resource.handling g.A.Acceptor.giving g.A.In.Read.remaining g.A.Out.Write.contents l.yielded;
+  done : AllWork g.L.Limited.limits (record {
+    count = g.D.Device.count;
+    opens = g.D.Device.may_open;
+    connects = g.D.Device.may_connect;
+    failures = g.D.Res.Resource.handling.count;
+  }) g.D.Res.Resource.handling g.A.Acceptor.giving g.A.In.Read.remaining
+      g.A.Out.Write.contents l.yielded;
 }

@@ -29,7 +29,11 @@ returns g c =
     let sent = went_out _ _ c.reply.result c.answer_of.new.answer c.reply.ensures ok in
     let read = c.read_command-read.ensures in (
       c.answer_of.new.answer,
-      ((c.answer_of.new.heap, c.answer_of.new.device), answers_read g.C.CarryOut.carries _ _ _ _ _ read.exact read.refused c.answer_of.ensures, c.settle.ensures c.answer_of.new.device),
+      (
+        (c.answer_of.new.heap, c.answer_of.new.device),
+        answers_read g.C.CarryOut.carries _ _ _ _ _ read.exact read.refused c.answer_of.ensures,
+        c.settle.ensures c.answer_of.new.device,
+      ),
       sent.0,
       sent.1,
       λ b. (let t = c.is_last.ensures.1 ((read.exact Bye).1 b) in let f = c.if-is_last.false in absurd cc),

@@ -4,7 +4,8 @@ use jlr_session::carry::CarryOut;
 use jlr_types::Handle;
 use jlr_wire::command::Command;
 
-/// Answers each command by `ok`; or, where it counts, by a handle one higher, and the fourth by an answer that has no line. Counts its settlings.
+/// Answers each command by `ok`; or, where it counts, by a handle one higher, and the fourth by an answer that has no
+/// line. Counts its settlings.
 #[derive(Drop)]
 pub(super) struct Heap {
     pub counts: bool,

@@ -314,8 +314,8 @@ fn breaks_off(
     broken_off
 }
 
-/// How many bytes were sent and how many replies settled, if it ended so after a prefix of these replies, each of which was settled, and the
-/// mutator left.
+/// How many bytes were sent and how many replies settled, if it ended so after a prefix of these replies, each of which
+/// was settled, and the mutator left.
 fn broken_off(played: &Played, end: SessionEnd, replies: &[u8]) -> Option<(usize, usize)> {
     let sent = played.sent.as_slice();
     if played.end != end || !replies.starts_with(sent) || played.settled != lines_in(sent) {

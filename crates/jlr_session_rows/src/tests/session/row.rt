@@ -14,8 +14,8 @@ pub(super) enum Place {
     Seat(Manner),
 }
 
-/// A row: a session, or what is set or looked at. A case begins over an obliging seat and a device whose calls succeed, read and written in one
-/// piece; the rows that set something hold up to the next case.
+/// A row: a session, or what is set or looked at. A case begins over an obliging seat and a device whose calls succeed,
+/// read and written in one piece; the rows that set something hold up to the next case.
 #[derive(Clone, Copy)]
 pub(super) enum Row {
     Case(&'static str),

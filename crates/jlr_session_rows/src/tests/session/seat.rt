@@ -21,9 +21,11 @@ pub(super) enum Manner {
     HasNoRoom,
 }
 
-/// Answers the asks of mutator 3 as a heap with one file would, and keeps the file. Writes down what was asked, and counts its settlings.
+/// Answers the asks of mutator 3 as a heap with one file would, and keeps the file. Writes down what was asked, and
+/// counts its settlings.
 ///
-/// `gc` is answered as a piece of marking would be, `stat` by an answer that has no line, and each other command by `ok`.
+/// `gc` is answered as a piece of marking would be, `stat` by an answer that has no line, and each other command by
+/// `ok`.
 #[derive(Drop)]
 pub(super) struct Seat {
     alloc: Global,
@@ -125,7 +127,8 @@ impl Seat {
     }
 }
 
-// What it is asked it writes down, and the rows compare that. Its relation says nothing; a clause has to be written at `ask` all the same.
+// What it is asked it writes down, and the rows compare that. Its relation says nothing; a clause has to be written at
+// `ask` all the same.
 impl Port<ScriptResource> for Seat {
     ghost asking = { record { mutator = λ _. 3; asks = λ _ _ _ _. Unit {0}; settling = λ _ _. Unit {0} } };
 

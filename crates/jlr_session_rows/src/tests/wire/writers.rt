@@ -7,7 +7,8 @@ use std::alloc::Global;
 use std::io::{self, Write};
 use std::test::Fail;
 
-// How many bytes are taken at a time and in all, and the answer; whether its line goes out whole, and what goes out, between bars.
+// How many bytes are taken at a time and in all, and the answer; whether its line goes out whole, and what goes out,
+// between bars.
 const FRONTS: &str = "
     1 16 refused Malformed -> whole |! 15|
     1 5 refused Malformed -> whole |! 15|

@@ -24,7 +24,11 @@ returns-then-word-ne0 c =
 
 pub loop-at-preserved : goal.loop-at-preserved
 loop-at-preserved c =
-    record { below = omega arith; none = none_in_word c.args.words.now c.args.from c.loop-at.at _ c.loop-at.invariant.none refl (omega arith) }
+    record {
+      below =
+          omega arith;
+      none = none_in_word c.args.words.now c.args.from c.loop-at.at _ c.loop-at.invariant.none refl (omega arith);
+    }
 
 pub returns : goal.returns
 returns c = none_at_all c.args.words.now c.args.from c.loop-at.at (omega arith) c.loop-at.invariant.none

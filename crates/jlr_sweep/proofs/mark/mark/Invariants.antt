@@ -7,7 +7,8 @@ use Rattle.jlr_sweep.proofs.mark.mark.Given as goal
 
 abbrev pub invariant-loop-slot : goal.invariant-loop-slot
 invariant-loop-slot l = record {
-  marking : IsMarking (keeps l.policy l.fn.heap.clock) l.fn.heap.graph.objects (held l.fn.heap.graph) (length l.fn.heap.graph.objects) l.heap.marking;
+  marking : IsMarking (keeps l.policy l.fn.heap.clock) l.fn.heap.graph.objects (held l.fn.heap.graph) (length l.fn.heap.graph.objects)
+      l.heap.marking;
   graph : l.heap.graph ≡ l.fn.heap.graph;
   clock : l.heap.clock ≡ l.fn.heap.clock;
   long : length l.heap.marking.bits ≡ length l.fn.heap.graph.objects;

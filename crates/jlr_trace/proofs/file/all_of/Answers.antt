@@ -9,7 +9,8 @@ pub returns-in-Ok-clause-exact : goal.returns-in-Ok-clause-exact
 returns-in-Ok-clause-exact c =
     let v = c.in_ok-version.version in
     let image = image_text c.in_ok-image.image in
-    behind_image c.args.bytes.now v c.in_ok-version.behind.now c.image_in.new.bytes.now image c.in_ok-version.ensures c.in_ok-image.ensures.reads
+    behind_image c.args.bytes.now v c.in_ok-version.behind.now c.image_in.new.bytes.now image c.in_ok-version.ensures
+    c.in_ok-image.ensures.reads
     ∙ ap (λ r. r >>> file_with v image) c.in-Ok.ensures
     ∙ ap Ok (sym c.file_of.ensures.text)
 

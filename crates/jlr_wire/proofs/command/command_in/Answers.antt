@@ -20,7 +20,8 @@ unfolding reading
 returns-in_default-cut_at-2 c =
     let whole =
     split_next c.args.line.now c.in-Some.word.now c.in-Some.rest.now _ c.in-Some.ensures.cut.0 c.in-Some.ensures.cut.1
-    (split_next c.in-Some.rest.now c.in-Some-cut_at.a.now c.in-Some-cut_at.rest.now _ c.in-Some-cut_at.ensures.cut.0 c.in-Some-cut_at.ensures.cut.1
+    (split_next c.in-Some.rest.now c.in-Some-cut_at.a.now c.in-Some-cut_at.rest.now _ c.in-Some-cut_at.ensures.cut.0
+    c.in-Some-cut_at.ensures.cut.1
     (split_last c.in-Some-cut_at.rest.now c.in_default-cut_at-2.ensures.cut)) in
     c.three_fields.ensures ∙ sym (ap reading whole)
 
@@ -29,9 +30,12 @@ returns-in-Some-cut_at-3 c =
     let last = c.in-Some-cut_at-3.field-0 in
     let whole =
     split_next c.args.line.now c.in-Some.word.now c.in-Some.rest.now _ c.in-Some.ensures.cut.0 c.in-Some.ensures.cut.1
-    (split_next c.in-Some.rest.now c.in-Some-cut_at.a.now c.in-Some-cut_at.rest.now _ c.in-Some-cut_at.ensures.cut.0 c.in-Some-cut_at.ensures.cut.1
-    (split_next c.in-Some-cut_at.rest.now c.in-Some-cut_at-2.b.now c.in-Some-cut_at-2.rest.now _ c.in-Some-cut_at-2.ensures.cut.0 c.in-Some-cut_at-2.ensures.cut.1
-    (split_next c.in-Some-cut_at-2.rest.now last.0.now last.1.now _ c.in-Some-cut_at-3.ensures.cut.0 c.in-Some-cut_at-3.ensures.cut.1 refl))) in
+    (split_next c.in-Some.rest.now c.in-Some-cut_at.a.now c.in-Some-cut_at.rest.now _ c.in-Some-cut_at.ensures.cut.0
+    c.in-Some-cut_at.ensures.cut.1
+    (split_next c.in-Some-cut_at.rest.now c.in-Some-cut_at-2.b.now c.in-Some-cut_at-2.rest.now _ c.in-Some-cut_at-2.ensures.cut.0
+    c.in-Some-cut_at-2.ensures.cut.1
+    (split_next c.in-Some-cut_at-2.rest.now last.0.now last.1.now _ c.in-Some-cut_at-3.ensures.cut.0 c.in-Some-cut_at-3.ensures.cut.1
+    refl))) in
     sym (ap reading whole ∙ over_is_none c.in-Some.word.now c.in-Some-cut_at.a.now c.in-Some-cut_at-2.b.now last.0.now last.1.now)
 
 pub returns-in-None : goal.returns-in-None
@@ -39,7 +43,9 @@ unfolding reading
 returns-in-None c =
     let whole =
     split_next c.args.line.now c.in-Some.word.now c.in-Some.rest.now _ c.in-Some.ensures.cut.0 c.in-Some.ensures.cut.1
-    (split_next c.in-Some.rest.now c.in-Some-cut_at.a.now c.in-Some-cut_at.rest.now _ c.in-Some-cut_at.ensures.cut.0 c.in-Some-cut_at.ensures.cut.1
-    (split_next c.in-Some-cut_at.rest.now c.in-Some-cut_at-2.b.now c.in-Some-cut_at-2.rest.now _ c.in-Some-cut_at-2.ensures.cut.0 c.in-Some-cut_at-2.ensures.cut.1
+    (split_next c.in-Some.rest.now c.in-Some-cut_at.a.now c.in-Some-cut_at.rest.now _ c.in-Some-cut_at.ensures.cut.0
+    c.in-Some-cut_at.ensures.cut.1
+    (split_next c.in-Some-cut_at.rest.now c.in-Some-cut_at-2.b.now c.in-Some-cut_at-2.rest.now _ c.in-Some-cut_at-2.ensures.cut.0
+    c.in-Some-cut_at-2.ensures.cut.1
     (split_last c.in-Some-cut_at-2.rest.now c.in-None.ensures.cut))) in
     c.four_fields.ensures ∙ sym (ap reading whole)

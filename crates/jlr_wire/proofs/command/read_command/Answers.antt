@@ -11,7 +11,8 @@ returns-in-Some-clause-exact c =
     let read : Some c.in-Some.command ≡ reading (slice_split is_space c.args.line.now) =
     sym c.in-Some.is ∙ c.command_in.ensures in
     λ k. (
-      λ e. read_is_command c.args.line.now k c.if-line-gt-LINE_LIMIT.false (sym read ∙ (let same : c.in-Some.command ≡ k = cc in ap Some same)),
+      λ e. read_is_command c.args.line.now k c.if-line-gt-LINE_LIMIT.false
+          (sym read ∙ (let same : c.in-Some.command ≡ k = cc in ap Some same)),
       λ h. let same = same_Some _ _ (read ∙ command_is_read c.args.line.now k h) in ap Ok same,
     )
 

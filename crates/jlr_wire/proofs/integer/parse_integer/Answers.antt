@@ -18,8 +18,10 @@ returns-in_default-parse-clause-none c = λ n fits e.
 
 pub returns-else-eq-clause-none : goal.returns-else-eq-clause-none
 returns-else-eq-clause-none c = λ n fits e.
-    let read : c.parse.result ≡ Ok n = parse-signed_decimal w64 n _ _ fits fits.sfits (c.in-Ok.ensures.cases.0 ∙ e) c.parse.ensures.value.0 in
+    let read : c.parse.result ≡ Ok n =
+    parse-signed_decimal w64 n _ _ fits fits.sfits (c.in-Ok.ensures.cases.0 ∙ e) c.parse.ensures.value.0 in
     let same : c.in-Ok-parse.n ≡ n = grind (arith, read, c.in-Ok-parse.is) in
     let passed : to_z w64 (of_z w64 c.in-Ok-parse.n) ≡ n = ap (λ z. to_z w64 (of_z w64 z)) same ∙ to_z-of_z w64 n fits in
-    let text : c.as_bytes.result.now ≡ c.args.text.now = c.as_bytes.ensures.value ∙ c.format.ensures.text ∙ ap signed_decimal passed ∙ sym e in
+    let text : c.as_bytes.result.now ≡ c.args.text.now = c.as_bytes.ensures.value ∙ c.format.ensures.text ∙ ap signed_decimal passed
+    ∙ sym e in
     false≢true (sym c.if-eq.false ∙ c.eq.ensures ∙ (bytes_eq-Decides _ _).1 text)

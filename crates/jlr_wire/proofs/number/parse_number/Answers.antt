@@ -16,7 +16,8 @@ returns-in_default-parse-clause-none c = λ n lt e.
 
 pub returns-else-eq-clause-none : goal.returns-else-eq-clause-none
 returns-else-eq-clause-none c = λ n lt e.
-    let read : c.parse.result ≡ Ok n = parse-decimal 32 n _ _ lt (omega (arith, lt)) (c.in-Ok.ensures.cases.0 ∙ e) c.parse.ensures.value.0 in
+    let read : c.parse.result ≡ Ok n =
+    parse-decimal 32 n _ _ lt (omega (arith, lt)) (c.in-Ok.ensures.cases.0 ∙ e) c.parse.ensures.value.0 in
     let same : c.in-Ok-parse.n ≡ n = grind (arith, read, c.in-Ok-parse.is) in
     let text : c.as_bytes.result.now ≡ c.args.text.now = c.as_bytes.ensures.value ∙ c.format.ensures.text ∙ ap decimal same ∙ sym e in
     false≢true (sym c.if-eq.false ∙ c.eq.ensures ∙ (bytes_eq-Decides _ _).1 text)

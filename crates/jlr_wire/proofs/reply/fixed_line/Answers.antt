@@ -13,7 +13,9 @@ pub returns-in-Done : goal.returns-in-Done
 returns-in-Done c = (codes "ok", either _ c.in-Done.is, refl)
 
 pub returns-in-Truth-true : goal.returns-in-Truth-true
-returns-in-Truth-true c = (codes "yes", ap words (c.in-Truth-true.is ∙ ap Truth (sym c.in-Truth-true.field-0-is ∙ c.in-Truth-true.field-0-test)), refl)
+returns-in-Truth-true c =
+    (codes "yes", ap words (c.in-Truth-true.is ∙ ap Truth (sym c.in-Truth-true.field-0-is ∙ c.in-Truth-true.field-0-test)), refl)
 
 pub returns-in-Truth-false : goal.returns-in-Truth-false
-returns-in-Truth-false c = (codes "no", ap words (c.in-Truth-false.is ∙ ap Truth (sym c.in-Truth-false.field-0-is ∙ c.in-Truth-false.field-0-test)), refl)
+returns-in-Truth-false c =
+    (codes "no", ap words (c.in-Truth-false.is ∙ ap Truth (sym c.in-Truth-false.field-0-is ∙ c.in-Truth-false.field-0-test)), refl)

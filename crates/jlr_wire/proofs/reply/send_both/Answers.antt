@@ -5,7 +5,8 @@ use Rattle.jlr_wire.proofs.reply.send_both.Goals as goal
 pub returns-in_err-send : goal.returns-in_err-send
 returns-in_err-send g c =
     let p = err_from_is_err_and c.from_residual.result c.from_residual.ensures.1 in
-    rw p.1 (front_first _ _ c.args.text.now c.args.more.now (front_same _ _ _ c.args.text.now c.as_bytes.ensures.value c.in_err-send.ensures))
+    rw p.1 (front_first _ _ c.args.text.now c.args.more.now
+    (front_same _ _ _ c.args.text.now c.as_bytes.ensures.value c.in_err-send.ensures))
 
 pub returns : goal.returns
 returns g c =

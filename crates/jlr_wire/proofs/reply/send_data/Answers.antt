@@ -10,7 +10,8 @@ pub returns-in_err-send : goal.returns-in_err-send
 returns-in_err-send g c =
     let p = err_from_is_err_and c.from_residual.result c.from_residual.ensures.1 in
     let some : 0 < length c.args.bytes.now = search rules in
-    rw p.1 (front_same _ _ _ _ (some_data c.args.bytes.now some) (front_first _ _ (codes "data ") (encode_lower c.args.bytes.now) c.in_err-send.ensures))
+    rw p.1 (front_same _ _ _ _ (some_data c.args.bytes.now some)
+    (front_first _ _ (codes "data ") (encode_lower c.args.bytes.now) c.in_err-send.ensures))
 
 pub returns : goal.returns
 returns g c =

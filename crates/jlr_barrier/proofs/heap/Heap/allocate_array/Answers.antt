@@ -14,13 +14,16 @@ invariant_of-self c =
     let s = c.self.inside in
     rw c.in-Ok.ensures.taken
     (allocated_in_hand _ _ _ c.in-Ok.made (Plain (Elements c.args.elements)) _ c.blacken.new.self c.self.invariant
-    c.in-Ok.ensures.free.0 c.in-Ok.ensures.free.1 (length-set s.last_gets.items c.number.result s.collections) c.blacken.ensures.bits c.blacken.ensures.grey c.blacken.ensures.discovered c.blacken.ensures.part
-    (let held = rw (← c.self.view_is) at c.requires in λ y h. held y (subst (λ l. y ∈ l) (append-nil (slots_in (Elements c.args.elements))) h)))
+    c.in-Ok.ensures.free.0 c.in-Ok.ensures.free.1 (length-set s.last_gets.items c.number.result s.collections) c.blacken.ensures.bits
+    c.blacken.ensures.grey c.blacken.ensures.discovered c.blacken.ensures.part
+    (let held = rw (← c.self.view_is) at c.requires in
+    λ y h. held y (subst (λ l. y ∈ l) (append-nil (slots_in (Elements c.args.elements))) h)))
 
 pub returns-in-Ok-clause-black : goal.returns-in-Ok-clause-black
 returns-in-Ok-clause-black c =
     subst (λ (k : Known). Blackened c.in-Ok.made k.marking c.blacken.new.self) c.self.view_is
-    (blackened _ _ _ c.in-Ok.made c.blacken.new.self c.self.invariant c.in-Ok.ensures.free.0 c.blacken.ensures.bits c.blacken.ensures.grey c.blacken.ensures.discovered c.blacken.ensures.part)
+    (blackened _ _ _ c.in-Ok.made c.blacken.new.self c.self.invariant c.in-Ok.ensures.free.0 c.blacken.ensures.bits c.blacken.ensures.grey
+    c.blacken.ensures.discovered c.blacken.ensures.part)
 
 pub returns-in-Ok-clause-count : goal.returns-in-Ok-clause-count
 returns-in-Ok-clause-count c =

@@ -13,7 +13,8 @@ apart : (c : goal.After-watch) → c.in_ok-guard.guard ≡ c.in_ok-cleanable.cle
 apart c e =
     let heap = c.args.self.now.graph.objects in
     let slot = c.in_ok-cleanable.cleanable in
-    let taken = ap (λ (g : Graph). at g.objects slot) c.in_ok-cleanable.ensures.made ∙ set_same heap slot _ c.in_ok-cleanable.ensures.free.0 in
+    let taken = ap (λ (g : Graph). at g.objects slot) c.in_ok-cleanable.ensures.made
+    ∙ set_same heap slot _ c.in_ok-cleanable.ensures.free.0 in
     no_some (untied c.args.rid c.args.action) (sym c.in_ok-guard.ensures.free.1 ∙ ap (at c.allocate.new.self.graph.objects) e ∙ taken)
 
 pub returns-clause-made : goal.returns-clause-made
@@ -22,8 +23,11 @@ returns-clause-made c =
     let slot = c.in_ok-cleanable.cleanable in
     let guard : Object = Guard (record { rid = c.args.rid; cleanable = slot }) in
     c.watch.ensures.graph
-    ∙ ap (λ (h : Graph). with_objects h (change_at h.objects slot (with_cleanable (watching c.in_ok-guard.guard)))) (c.in_ok-guard.ensures.made ∙ ap (λ (h : Graph). with_objects h (set_at h.objects c.in_ok-guard.guard guard)) c.in_ok-cleanable.ensures.made)
-    ∙ ap (with_objects g) (made_guard g.objects c.in_ok-guard.guard slot c.args.rid c.args.action c.in_ok-cleanable.ensures.free.0 (apart c))
+    ∙ ap (λ (h : Graph). with_objects h (change_at h.objects slot (with_cleanable (watching c.in_ok-guard.guard))))
+    (c.in_ok-guard.ensures.made ∙ ap (λ (h : Graph). with_objects h (set_at h.objects c.in_ok-guard.guard guard))
+    c.in_ok-cleanable.ensures.made)
+    ∙ ap (with_objects g)
+    (made_guard g.objects c.in_ok-guard.guard slot c.args.rid c.args.action c.in_ok-cleanable.ensures.free.0 (apart c))
 
 pub returns-clause-clock : goal.returns-clause-clock
 returns-clause-clock c =

@@ -5,7 +5,8 @@ use Rattle.jlr_barrier.proofs.heap.Heap.cut_queue_edge.Goals as goal
 
 pub invariant_of-self : goal.invariant_of-self
 invariant_of-self c =
-    cut_fits _ _ _ c.shade_ahead.new.marks c.cut_queue.new.self.objects c.args.slot c.self.invariant c.shade_ahead.ensures c.cut_queue.ensures.objects (rw (← c.self.view_is) at c.requires.reference) (rw (← c.self.view_is) at c.requires.object)
+    cut_fits _ _ _ c.shade_ahead.new.marks c.cut_queue.new.self.objects c.args.slot c.self.invariant c.shade_ahead.ensures
+    c.cut_queue.ensures.objects (rw (← c.self.view_is) at c.requires.reference) (rw (← c.self.view_is) at c.requires.object)
 
 pub shade_ahead-requires-clause-within : goal.shade_ahead-requires-clause-within
 shade_ahead-requires-clause-within c =

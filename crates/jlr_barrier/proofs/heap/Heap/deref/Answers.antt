@@ -15,5 +15,6 @@ pub invariant_of-self : goal.invariant_of-self
 invariant_of-self c =
     let s = c.self.inside in
     let there = rw (← c.self.view_is) at c.in_ok-referent.ensures in
-    given_referent_fits _ _ _ c.shade_target.new.marks (slice_set s.last_gets.items c.number.result s.collections) c.in_ok-referent.referent (gotten_at s.cells.objects c.args.slot) c.self.invariant (sym there) c.shade_target.ensures
+    given_referent_fits _ _ _ c.shade_target.new.marks (slice_set s.last_gets.items c.number.result s.collections) c.in_ok-referent.referent
+    (gotten_at s.cells.objects c.args.slot) c.self.invariant (sym there) c.shade_target.ensures
     (length-set s.last_gets.items c.number.result s.collections) (rw (← c.self.view_is) at c.requires)

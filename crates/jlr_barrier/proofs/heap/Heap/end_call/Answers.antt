@@ -5,7 +5,8 @@ use Rattle.jlr_barrier.proofs.heap.Heap.end_call.Goals as goal
 
 pub invariant_of-self : goal.invariant_of-self
 invariant_of-self c =
-    ended_fits _ _ _ c.shade_target.new.marks c.end_call.new.self c.args.mutator c.fence.result c.self.invariant c.fence.ensures c.shade_target.ensures c.end_call.ensures (rw (← c.self.view_is) at c.requires.object)
+    ended_fits _ _ _ c.shade_target.new.marks c.end_call.new.self c.args.mutator c.fence.result c.self.invariant c.fence.ensures
+    c.shade_target.ensures c.end_call.ensures (rw (← c.self.view_is) at c.requires.object)
 
 pub shade_target-requires : goal.shade_target-requires
 shade_target-requires c =

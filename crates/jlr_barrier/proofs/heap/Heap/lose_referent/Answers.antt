@@ -9,4 +9,5 @@ pub invariant_of-self : goal.invariant_of-self
 invariant_of-self c =
     let s = c.self.inside in
     rw c.clear_referent.ensures.objects
-    (retouched_object _ _ _ c.args.slot (with_reference unreferred) c.self.invariant unreferred_retouches (there_is is_reference (at s.cells.objects c.args.slot) (rw (← c.self.view_is) at c.requires)))
+    (retouched_object _ _ _ c.args.slot (with_reference unreferred) c.self.invariant unreferred_retouches
+    (there_is is_reference (at s.cells.objects c.args.slot) (rw (← c.self.view_is) at c.requires)))

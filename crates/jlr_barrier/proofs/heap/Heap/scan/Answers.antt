@@ -10,7 +10,9 @@ scan_part-requires-clause-marked c =
 pub scan_part-requires-clause-object : goal.scan_part-requires-clause-object
 scan_part-requires-clause-object c =
     let next = rw (← c.self.view_is) at c.requires.next in
-    c.self.invariant.objects c.args.slot (c.self.invariant.snapshot.grey c.args.slot (upcoming_grey c.self.inside.marks c.self.invariant.started c.args.slot next))
+    c.self.invariant.objects c.args.slot (c.self.invariant.snapshot.grey c.args.slot
+    (upcoming_grey c.self.inside.marks c.self.invariant.started c.args.slot next))
 
 pub invariant_of-self : goal.invariant_of-self
-invariant_of-self c = scanned_fits _ _ _ c.args.slot c.scan_part.new.marks c.self.invariant c.scan_part.ensures.scanned (rw (← c.self.view_is) at c.requires.objects)
+invariant_of-self c = scanned_fits _ _ _ c.args.slot c.scan_part.new.marks c.self.invariant c.scan_part.ensures.scanned
+    (rw (← c.self.view_is) at c.requires.objects)

@@ -3,4 +3,5 @@ use denote.Shadow.{shadow}
 use Rattle.jlr_base_rows.proofs.tests.calls.play.Given as goal
 
 abbrev pub invariant-loop-line : goal.invariant-loop-line
-invariant-loop-line g l = (goal.iterator-loop-line g).can_next l.line-iterator × (goal.iterator-loop-line g).is_finite l.line-iterator × shadow (Utf8 l.list)
+invariant-loop-line g l = (goal.iterator-loop-line g).can_next l.line-iterator × (goal.iterator-loop-line g).is_finite l.line-iterator
+    × shadow (Utf8 l.list)

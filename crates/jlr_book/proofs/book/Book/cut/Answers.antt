@@ -21,12 +21,15 @@ invariant_of-self-2 g c =
       stands = c.in-Ok.ensures.stands;
       used_is = omega (arith, l, c.in-Ok.ensures.used);
     } in
-    let owes = cut_owes old.limits old.base c.in-Ok.used old.image c.cut_to_image.new.image old.trace.items old.core c.cut_to_image.new.core x in
-    let is = cut_is_history old.limits old.base c.in-Ok.used old.image c.cut_to_image.new.image old.trace.items old.core c.cut_to_image.new.core x in
+    let owes = cut_owes old.limits old.base c.in-Ok.used old.image c.cut_to_image.new.image old.trace.items old.core c.cut_to_image.new.core
+    x in
+    let is = cut_is_history old.limits old.base c.in-Ok.used old.image c.cut_to_image.new.image old.trace.items old.core
+    c.cut_to_image.new.core x in
     let none = ap length c.in-Ok.ensures.items in
     let l' = c.cut_to_image.new.trace.ok.0 in
     record {
-      history = subst (λ xs. IsHistory (told old.limits (old.base + c.in-Ok.used) c.cut_to_image.new.image xs c.cut_to_image.new.core)) (sym c.in-Ok.ensures.items) is;
+      history = subst (λ xs. IsHistory (told old.limits (old.base + c.in-Ok.used) c.cut_to_image.new.image xs c.cut_to_image.new.core))
+          (sym c.in-Ok.ensures.items) is;
       places = omega (arith, l, l', none, owes, c.self.invariant.places, c.cut_to_image.ensures.room);
       choice = omega (arith, c.self.invariant.choice, c.cut_to_image.ensures.choice);
     }
@@ -47,5 +50,7 @@ returns-clause-ok g c =
     } in
     let is = cuts old.limits old.base c.in-Ok.used old.image c.cut_to_image.new.image old.trace.items old.core c.cut_to_image.new.core x in
     let here = told old.limits old.base old.image old.trace.items old.core in
-    subst (λ h. Cuts h (told old.limits (old.base + c.in-Ok.used) c.cut_to_image.new.image c.cut_to_image.new.trace.items c.cut_to_image.new.core)) c.self.view_is
-    (subst (λ xs. Cuts here (told old.limits (old.base + c.in-Ok.used) c.cut_to_image.new.image xs c.cut_to_image.new.core)) (sym c.in-Ok.ensures.items) is)
+    subst (λ h. Cuts h (told old.limits (old.base + c.in-Ok.used) c.cut_to_image.new.image c.cut_to_image.new.trace.items
+    c.cut_to_image.new.core)) c.self.view_is
+    (subst (λ xs. Cuts here (told old.limits (old.base + c.in-Ok.used) c.cut_to_image.new.image xs c.cut_to_image.new.core))
+    (sym c.in-Ok.ensures.items) is)

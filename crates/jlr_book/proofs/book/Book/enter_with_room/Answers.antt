@@ -26,9 +26,16 @@ invariant_of-self-then-len-self g c =
     let numbers = subst HasNumbers (sym c.self.view_is) c.if-not-has_numbers.ensures in
     let room : c.reserve.new.self.len + 130 ≤ c.reserve.new.self.cap = search rules in
     let same = c.reserve.ensures.len in
-    let w = subst (λ xs. Writes c.args.seat old.core xs (Asks c.args.ask) c.record.result new.core new.trace.items) c.reserve.ensures.items c.record.ensures.writes in
-    let x = enter_goes_on old.limits old.base old.image old.trace.items new.trace.items old.core new.core c.args.seat (Asks c.args.ask) c.record.result kept.history w c.record.ensures.cells (omega (arith, numbers, l)) in
-    record { history = x.0; places = omega (arith, l, l', x.1, x.2, room, same, c.record.ensures.room); choice = omega (arith, kept.choice, c.record.ensures.choice) }
+    let w = subst (λ xs. Writes c.args.seat old.core xs (Asks c.args.ask) c.record.result new.core new.trace.items) c.reserve.ensures.items
+    c.record.ensures.writes in
+    let x = enter_goes_on old.limits old.base old.image old.trace.items new.trace.items old.core new.core c.args.seat (Asks c.args.ask)
+    c.record.result kept.history w c.record.ensures.cells (omega (arith, numbers, l)) in
+    record {
+      history = x.0;
+      places =
+          omega (arith, l, l', x.1, x.2, room, same, c.record.ensures.room);
+      choice = omega (arith, kept.choice, c.record.ensures.choice);
+    }
 
 pub returns-then-len-self : goal.returns-then-len-self
 returns-then-len-self g c =
@@ -37,9 +44,12 @@ returns-then-len-self g c =
     let l = old.trace.ok.0 in
     let same = c.reserve.ensures.len in
     let numbers = subst HasNumbers (sym c.self.view_is) c.if-not-has_numbers.ensures in
-    let w = subst (λ xs. Writes c.args.seat old.core xs (Asks c.args.ask) c.record.result new.core new.trace.items) c.reserve.ensures.items c.record.ensures.writes in
-    subst (λ h. AsksBy c.args.seat h (Asks c.args.ask) c.record.result (told old.limits old.base old.image new.trace.items new.core)) c.self.view_is
-    (asks_by old.limits old.base old.image old.trace.items new.trace.items old.core new.core c.args.seat (Asks c.args.ask) c.record.result numbers (omega (arith, l, same, c.if-len-self.true)) w)
+    let w = subst (λ xs. Writes c.args.seat old.core xs (Asks c.args.ask) c.record.result new.core new.trace.items) c.reserve.ensures.items
+    c.record.ensures.writes in
+    subst (λ h. AsksBy c.args.seat h (Asks c.args.ask) c.record.result (told old.limits old.base old.image new.trace.items new.core))
+    c.self.view_is
+    (asks_by old.limits old.base old.image old.trace.items new.trace.items old.core new.core c.args.seat (Asks c.args.ask) c.record.result
+    numbers (omega (arith, l, same, c.if-len-self.true)) w)
 
 -- ---- After a cut
 
@@ -51,9 +61,11 @@ record-requires-2-clause-place g c =
     omega (arith, none, l', room, c.cut_to_image.ensures.room)
 
 pub record-requires-2-clause-room : goal.record-requires-2-clause-room
-record-requires-2-clause-room g c = still_suits c.self.inside.core.machine c.cut_to_image.new.core.machine c.args.ask c.in-Ok.room c.in-Ok-cut_to_image.ensures.machine c.in-Ok.ensures
+record-requires-2-clause-room g c = still_suits c.self.inside.core.machine c.cut_to_image.new.core.machine c.args.ask c.in-Ok.room
+    c.in-Ok-cut_to_image.ensures.machine c.in-Ok.ensures
 
-cut_is : (g : Over) (c : goal.After-record-2 g) → IsCut c.self.inside.limits c.self.inside.base c.in-Ok-cut_to_image.used c.self.inside.image c.cut_to_image.new.image c.self.inside.trace.items c.self.inside.core c.cut_to_image.new.core
+cut_is : (g : Over) (c : goal.After-record-2 g) → IsCut c.self.inside.limits c.self.inside.base c.in-Ok-cut_to_image.used
+    c.self.inside.image c.cut_to_image.new.image c.self.inside.trace.items c.self.inside.core c.cut_to_image.new.core
 cut_is g c =
     let old = c.self.inside in
     let l = old.trace.ok.0 in
@@ -75,9 +87,17 @@ invariant_of-self-2 g c =
     let new = c.record-2.new in
     let l' = new.trace.ok.0 in
     let room : c.reserve.new.self.len + 130 ≤ c.reserve.new.self.cap = search rules in
-    let w = subst (λ xs. Writes c.args.seat c.cut_to_image.new.core xs (Asks c.args.ask) c.record-2.result new.core new.trace.items) c.in-Ok-cut_to_image.ensures.items c.record-2.ensures.writes in
-    let x = cut_goes_on old.limits old.base c.in-Ok-cut_to_image.used old.image c.cut_to_image.new.image old.trace.items old.core c.cut_to_image.new.core new.trace.items new.core c.args.seat (Asks c.args.ask) c.record-2.result (cut_is g c) w c.record-2.ensures.cells in
-    record { history = x.0; places = omega (arith, l', x.1, x.2, room, c.cut_to_image.ensures.room, c.record-2.ensures.room); choice = omega (arith, kept.choice, c.cut_to_image.ensures.choice, c.record-2.ensures.choice) }
+    let w = subst (λ xs. Writes c.args.seat c.cut_to_image.new.core xs (Asks c.args.ask) c.record-2.result new.core new.trace.items)
+    c.in-Ok-cut_to_image.ensures.items c.record-2.ensures.writes in
+    let x = cut_goes_on old.limits old.base c.in-Ok-cut_to_image.used old.image c.cut_to_image.new.image old.trace.items old.core
+    c.cut_to_image.new.core new.trace.items new.core c.args.seat (Asks c.args.ask) c.record-2.result (cut_is g c) w
+    c.record-2.ensures.cells in
+    record {
+      history = x.0;
+      places = omega (arith, l', x.1, x.2, room, c.cut_to_image.ensures.room, c.record-2.ensures.room);
+      choice =
+          omega (arith, kept.choice, c.cut_to_image.ensures.choice, c.record-2.ensures.choice);
+    }
 
 pub returns : goal.returns
 returns g c =
@@ -85,6 +105,10 @@ returns g c =
     let new = c.record-2.new in
     let l = old.trace.ok.0 in
     let same = c.reserve.ensures.len in
-    let w = subst (λ xs. Writes c.args.seat c.cut_to_image.new.core xs (Asks c.args.ask) c.record-2.result new.core new.trace.items) c.in-Ok-cut_to_image.ensures.items c.record-2.ensures.writes in
-    subst (λ h. AsksBy c.args.seat h (Asks c.args.ask) c.record-2.result (told old.limits (old.base + c.in-Ok-cut_to_image.used) c.cut_to_image.new.image new.trace.items new.core)) c.self.view_is
-    (cut_asks_by old.limits old.base c.in-Ok-cut_to_image.used old.image c.cut_to_image.new.image old.trace.items old.core c.cut_to_image.new.core new.trace.items new.core c.args.seat (Asks c.args.ask) c.record-2.result (cut_is g c) (omega (arith, l, same, c.if-len-self.false)) w)
+    let w = subst (λ xs. Writes c.args.seat c.cut_to_image.new.core xs (Asks c.args.ask) c.record-2.result new.core new.trace.items)
+    c.in-Ok-cut_to_image.ensures.items c.record-2.ensures.writes in
+    subst (λ h. AsksBy c.args.seat h (Asks c.args.ask) c.record-2.result
+    (told old.limits (old.base + c.in-Ok-cut_to_image.used) c.cut_to_image.new.image new.trace.items new.core)) c.self.view_is
+    (cut_asks_by old.limits old.base c.in-Ok-cut_to_image.used old.image c.cut_to_image.new.image old.trace.items old.core
+    c.cut_to_image.new.core new.trace.items new.core c.args.seat (Asks c.args.ask) c.record-2.result (cut_is g c)
+    (omega (arith, l, same, c.if-len-self.false)) w)

@@ -12,7 +12,8 @@ invariant_of-self g c =
     let new = c.mark.new in
     let l = old.trace.ok.0 in
     let kept = c.self.invariant in
-    let x = mark_goes_on old.limits old.base (vec_capacity old.trace) old.image old.trace.items old.core new.self (Mark c.args.budget) (Marked c.mark.result) no_choice
+    let x = mark_goes_on old.limits old.base (vec_capacity old.trace) old.image old.trace.items old.core new.self (Mark c.args.budget)
+    (Marked c.mark.result) no_choice
     kept.history c.mark.ensures.step refl c.mark.ensures.cells (omega (arith, l, kept.places)) in
     record { history = x.0; places = omega (arith, l, x.1); choice = omega (arith, kept.choice, c.mark.ensures.cells) }
 

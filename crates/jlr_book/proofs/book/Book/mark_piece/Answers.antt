@@ -9,7 +9,8 @@ invariant_of-self g c =
     let new = c.step.new in
     let l = old.trace.ok.0 in
     let kept = c.self.invariant in
-    let x = mark_goes_on old.limits old.base (vec_capacity old.trace) old.image old.trace.items old.core new.self c.args.event c.step.result new.choice.chosen
+    let x = mark_goes_on old.limits old.base (vec_capacity old.trace) old.image old.trace.items old.core new.self c.args.event c.step.result
+    new.choice.chosen
     kept.history c.step.ensures.step c.requires c.step.ensures.cells (omega (arith, l, kept.places)) in
     record { history = x.0; places = omega (arith, l, x.1); choice = omega (arith, kept.choice, c.step.ensures.room) }
 

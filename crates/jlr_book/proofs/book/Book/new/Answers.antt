@@ -12,7 +12,8 @@ invariant_of-result g c =
     let owes = nothing_owed limits core c.in_ok-core.ensures.empty.machine in
     let cells : c.in_ok-choice.choice.cells ≡ limits.cells = ap {A = Choosing} {B = ℕ} (λ x. x.cells) c.in_ok-choice.ensures in
     record {
-      history = subst (λ xs. IsHistory (told limits 0 image xs core)) (sym c.new-4.ensures.items) (starts limits image core c.in_ok-core.ensures.empty.machine (c.new-3.ensures ∙ sym c.in_ok-core.ensures.empty.machine));
+      history = subst (λ xs. IsHistory (told limits 0 image xs core)) (sym c.new-4.ensures.items)
+          (starts limits image core c.in_ok-core.ensures.empty.machine (c.new-3.ensures ∙ sym c.in_ok-core.ensures.empty.machine));
       places = omega (arith, owes, c.new-4.ensures.len);
       choice = omega (arith, cells);
     }

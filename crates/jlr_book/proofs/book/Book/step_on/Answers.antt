@@ -23,7 +23,8 @@ invariant_of-self g c =
     let places = c.if-has_places.ensures in
     let numbers = subst HasNumbers (sym c.self.view_is) c.if-has_numbers.ensures in
     let reply = Answered c.record_briefly-answer.result None in
-    let x = enter_goes_on old.limits old.base old.image old.trace.items new.trace.items old.core new.core c.args.seat (Asks c.into_ask-ask.result) reply
+    let x = enter_goes_on old.limits old.base old.image old.trace.items new.trace.items old.core new.core c.args.seat
+    (Asks c.into_ask-ask.result) reply
     kept.history c.record_briefly-answer.ensures.writes c.record_briefly-answer.ensures.cells (omega (arith, numbers, l)) in
     record {
       history = x.0;

@@ -21,4 +21,5 @@ ends (Mark budget) asked is e = absurd (none-some asked e)
 pub returns : goal.returns
 returns g c =
     let is : ask_of c.args.event ≡ Some c.in-Some.ask = sym c.end_of.ensures ∙ c.in-Some.is in
-    steps_as_ended c.args.seat c.args.self.now c.end.new.self c.args.event c.end.result c.in-Some.ask is (ends c.args.event c.in-Some.ask c.requires.hands_in is) c.end.ensures
+    steps_as_ended c.args.seat c.args.self.now c.end.new.self c.args.event c.end.result c.in-Some.ask is
+    (ends c.args.event c.in-Some.ask c.requires.hands_in is) c.end.ensures

@@ -10,4 +10,5 @@ pub invariant_of-self : goal.invariant_of-self
 invariant_of-self c = added_are_fields _ _ _ _ c.args.field c.args.value c.self.invariant c.write.ensures (here c) c.requires.room
 
 pub returns : goal.returns
-returns c = added_fields _ _ _ _ c.args.field c.args.value c.self.invariant c.write.ensures (here c) c.requires.room ∙ ap (λ l. l ++ c.args.value ∷ []) c.self.view_is
+returns c = added_fields _ _ _ _ c.args.field c.args.value c.self.invariant c.write.ensures (here c) c.requires.room
+    ∙ ap (λ l. l ++ c.args.value ∷ []) c.self.view_is

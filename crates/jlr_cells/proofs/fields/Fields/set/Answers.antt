@@ -10,4 +10,5 @@ pub invariant_of-self : goal.invariant_of-self
 invariant_of-self c = written_are_fields _ _ _ _ c.args.field c.args.value c.self.invariant c.write.ensures (within c)
 
 pub returns-clause-new : goal.returns-clause-new
-returns-clause-new c = written_fields _ _ _ _ c.args.field c.args.value c.write.ensures (within c) ∙ ap (λ l. set l c.args.field c.args.value) c.self.view_is
+returns-clause-new c = written_fields _ _ _ _ c.args.field c.args.value c.write.ensures (within c)
+    ∙ ap (λ l. set l c.args.field c.args.value) c.self.view_is

@@ -10,7 +10,8 @@ index-requires c = omega (arith, c.requires, c.number.ensures, ap length c.self.
 pub returns : goal.returns
 returns c =
     let labels = c.self.inside.labels.items in
-    let below : c.number.result < length labels = omega (arith, c.requires, c.number.ensures, ap length c.self.view_is, length-map labels shown_kind) in
+    let below : c.number.result < length labels =
+    omega (arith, c.requires, c.number.ensures, ap length c.self.view_is, length-map labels shown_kind) in
     c.kind_of.ensures
     ∙ ap shown_kind c.index.ensures
     ∙ sym (get_or-map shown_kind labels c.number.result c.index.result.now None below)

@@ -11,4 +11,5 @@ returns c = ap (map shown_kind) (c.in_ok-vec.ensures.items_if_clones_equal (λ y
 pub invariant_of-result : goal.invariant_of-result
 invariant_of-result c =
     rw (ap (map shown_kind) (c.in_ok-vec.ensures.items_if_clones_equal (λ y e. e)) ∙ no_kinds_shown c.args.count)
-    (none_found c.args.count _ _ (ap length c.in_ok-new.ensures ∙ length-replicate c.args.count _) (ap length c.in_ok-new-2.ensures ∙ length-replicate c.args.count _))
+    (none_found c.args.count _ _ (ap length c.in_ok-new.ensures ∙ length-replicate c.args.count _)
+    (ap length c.in_ok-new-2.ensures ∙ length-replicate c.args.count _))

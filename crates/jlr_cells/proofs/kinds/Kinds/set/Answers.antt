@@ -13,7 +13,8 @@ invariant_of-self c =
     let arrays = c.note_array.new.arrays in
     let s = c.args.slot in
     let shown : map shown_kind (set labels c.number.result c.label_of.result) ≡ set kinds s c.args.kind =
-    map-set shown_kind labels c.number.result c.label_of.result ∙ ap (set kinds c.number.result) c.label_of.ensures ∙ ap (λ n. set kinds n c.args.kind) c.number.ensures in
+    map-set shown_kind labels c.number.result c.label_of.result ∙ ap (set kinds c.number.result) c.label_of.ensures
+    ∙ ap (λ n. set kinds n c.args.kind) c.number.ensures in
     let below : s < length kinds = omega (arith, c.requires, ap length c.self.view_is) in
     let found : AreFound (set kinds s c.args.kind) cleanables arrays =
     found_set kinds c.self.inside.cleanables c.self.inside.arrays cleanables arrays s c.args.kind c.self.invariant below

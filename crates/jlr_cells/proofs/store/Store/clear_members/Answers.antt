@@ -6,14 +6,28 @@ use Rattle.jlr_cells.proofs.Queues.{changed_members, emptied, length_seen, list_
 use Rattle.jlr_cells.proofs.store.Store.clear_members.Goals as goal
 
 pub clear-requires : goal.clear-requires
-clear-requires c = omega (arith, c.requires, c.number.ensures, length_seen c.self.inside.cells c.self.inside.queues.lists c.args.self.now c.self.view_is, list_count c.self.inside.cells c.self.inside.queues.lists c.self.inside.queues.slots c.self.inside.kinds c.self.inside.links c.self.invariant)
+clear-requires c = omega (
+  arith,
+  c.requires,
+  c.number.ensures,
+  length_seen c.self.inside.cells c.self.inside.queues.lists c.args.self.now c.self.view_is,
+  list_count c.self.inside.cells c.self.inside.queues.lists c.self.inside.queues.slots c.self.inside.kinds c.self.inside.links
+      c.self.invariant,
+)
 
 pub invariant_of-self : goal.invariant_of-self
 invariant_of-self c =
     let lists = c.self.inside.queues.lists in
     let kinds = c.self.inside.kinds in
     let n = c.number.result in
-    let below : n < length lists = omega (arith, c.requires, c.number.ensures, length_seen c.self.inside.cells c.self.inside.queues.lists c.args.self.now c.self.view_is, list_count c.self.inside.cells c.self.inside.queues.lists c.self.inside.queues.slots c.self.inside.kinds c.self.inside.links c.self.invariant) in
+    let below : n < length lists = omega (
+      arith,
+      c.requires,
+      c.number.ensures,
+      length_seen c.self.inside.cells c.self.inside.queues.lists c.args.self.now c.self.view_is,
+      list_count c.self.inside.cells c.self.inside.queues.lists c.self.inside.queues.slots c.self.inside.kinds c.self.inside.links
+          c.self.invariant,
+    ) in
     record {
       kept = c.self.invariant.kept;
       members =
@@ -27,7 +41,14 @@ returns c =
     let cells = c.self.inside.cells in
     let lists = c.self.inside.queues.lists in
     let n = c.number.result in
-    let below : n < length lists = omega (arith, c.requires, c.number.ensures, length_seen c.self.inside.cells c.self.inside.queues.lists c.args.self.now c.self.view_is, list_count c.self.inside.cells c.self.inside.queues.lists c.self.inside.queues.slots c.self.inside.kinds c.self.inside.links c.self.invariant) in
+    let below : n < length lists = omega (
+      arith,
+      c.requires,
+      c.number.ensures,
+      length_seen c.self.inside.cells c.self.inside.queues.lists c.args.self.now c.self.view_is,
+      list_count c.self.inside.cells c.self.inside.queues.lists c.self.inside.queues.slots c.self.inside.kinds c.self.inside.links
+          c.self.invariant,
+    ) in
     ap (with_lists (objects_in cells)) c.clear.ensures.lists
     ∙ changed_members (objects_in cells) lists n (λ _. []) below
     ∙ ap (λ x. change_at (with_lists (objects_in cells) lists) x (with_members (λ _. []))) c.number.ensures

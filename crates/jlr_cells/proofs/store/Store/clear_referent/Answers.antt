@@ -8,21 +8,33 @@ use Rattle.jlr_cells.proofs.Queues.{reference_leaves, changed_at, holds_in, with
 use Rattle.jlr_cells.proofs.store.Store.clear_referent.Goals as goal
 
 pub index_mut-cell-requires : goal.index_mut-cell-requires
-index_mut-cell-requires c = omega (arith, within c.self.inside.cells c.self.inside.queues.lists c.args.self.now c.self.view_is _ _ c.number.ensures (object_of_reference _ c.requires))
+index_mut-cell-requires c = omega (
+  arith,
+  within c.self.inside.cells c.self.inside.queues.lists c.args.self.now c.self.view_is _ _
+      c.number.ensures (object_of_reference _ c.requires),
+)
 
 pub clear_referent-requires : goal.clear_referent-requires
 clear_referent-requires c =
-    let below : c.number.result < length c.self.inside.cells = within c.self.inside.cells c.self.inside.queues.lists c.args.self.now c.self.view_is _ _ c.number.ensures (object_of_reference _ c.requires) in
-    holds_in c.self.inside.cells c.self.inside.queues.lists c.args.self.now c.self.view_is (some_and is_reference) _ _ c.index_mut-cell.result.now (λ l m. refl) c.number.ensures c.requires below c.index_mut-cell.ensures.value
+    let below : c.number.result < length c.self.inside.cells =
+    within c.self.inside.cells c.self.inside.queues.lists c.args.self.now c.self.view_is _ _ c.number.ensures
+    (object_of_reference _ c.requires) in
+    holds_in c.self.inside.cells c.self.inside.queues.lists c.args.self.now c.self.view_is (some_and is_reference) _ _
+    c.index_mut-cell.result.now (λ l m. refl) c.number.ensures c.requires below c.index_mut-cell.ensures.value
 
 pub invariant_of-self : goal.invariant_of-self
 invariant_of-self c =
     record {
-      kept = kept_reference _ _ _ _ c.index_mut-cell.result.now _ unreferred c.self.invariant.kept c.index_mut-cell.ensures.value c.clear_referent.ensures.new c.clear_referent.ensures.kind;
+      kept = kept_reference _ _ _ _ c.index_mut-cell.result.now _ unreferred c.self.invariant.kept c.index_mut-cell.ensures.value
+          c.clear_referent.ensures.new c.clear_referent.ensures.kind;
       members = c.self.invariant.members;
     }
 
 pub returns : goal.returns
 returns c =
-    let below : c.number.result < length c.self.inside.cells = within c.self.inside.cells c.self.inside.queues.lists c.args.self.now c.self.view_is _ _ c.number.ensures (object_of_reference _ c.requires) in
-    changed_at c.self.inside.cells c.self.inside.queues.lists c.args.self.now c.self.view_is _ _ c.index_mut-cell.result.now _ (with_reference unreferred) c.number.ensures below c.index_mut-cell.ensures.value c.clear_referent.ensures.new (reference_leaves unreferred)
+    let below : c.number.result < length c.self.inside.cells =
+    within c.self.inside.cells c.self.inside.queues.lists c.args.self.now c.self.view_is _ _ c.number.ensures
+    (object_of_reference _ c.requires) in
+    changed_at c.self.inside.cells c.self.inside.queues.lists c.args.self.now c.self.view_is _ _ c.index_mut-cell.result.now _
+    (with_reference unreferred) c.number.ensures below c.index_mut-cell.ensures.value c.clear_referent.ensures.new
+    (reference_leaves unreferred)

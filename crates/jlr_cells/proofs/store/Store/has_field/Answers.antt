@@ -8,5 +8,7 @@ use Rattle.jlr_cells.proofs.store.Store.has_field.Goals as goal
 
 pub returns : goal.returns
 returns c =
-    let bare : c.is_some.result ≡ is_some (field_in (at (objects_in c.self.inside.cells) c.args.slot) c.args.field) = grind (arith, common_steps) in
-    bare ∙ sym (ap is_some (seen_as c.self.inside.cells c.self.inside.queues.lists c.args.self.now c.self.view_is (λ o. field_in o c.args.field) c.args.slot (λ l m. refl)))
+    let bare : c.is_some.result ≡ is_some (field_in (at (objects_in c.self.inside.cells) c.args.slot) c.args.field) =
+    grind (arith, common_steps) in
+    bare ∙ sym (ap is_some (seen_as c.self.inside.cells c.self.inside.queues.lists c.args.self.now c.self.view_is
+    (λ o. field_in o c.args.field) c.args.slot (λ l m. refl)))

@@ -16,4 +16,6 @@ at-requires c =
 
 pub returns : goal.returns
 returns c =
-    c.at.ensures ∙ kind_seen c.self.inside.cells c.self.inside.kinds c.args.slot c.self.invariant.kept.by_kind ∙ sym (seen_as c.self.inside.cells c.self.inside.queues.lists c.args.self.now c.self.view_is (option_map kind_of) c.args.slot (λ l m. refl))
+    c.at.ensures ∙ kind_seen c.self.inside.cells c.self.inside.kinds c.args.slot c.self.invariant.kept.by_kind
+    ∙ sym (seen_as c.self.inside.cells c.self.inside.queues.lists c.args.self.now c.self.view_is (option_map kind_of) c.args.slot
+    (λ l m. refl))

@@ -8,12 +8,19 @@ use Rattle.jlr_cells.proofs.store.Store.next_array.Goals as goal
 pub returns : goal.returns
 returns c =
     let kinds = c.self.inside.kinds in
-    let same = λ (s : ℕ). kind_seen c.self.inside.cells kinds s c.self.invariant.kept.by_kind ∙ sym (seen_as c.self.inside.cells c.self.inside.queues.lists c.args.self.now c.self.view_is (option_map kind_of) s (λ l m. refl)) in
+    let same = λ (s : ℕ). kind_seen c.self.inside.cells kinds s c.self.invariant.kept.by_kind
+    ∙ sym (seen_as c.self.inside.cells c.self.inside.queues.lists c.args.self.now c.self.view_is (option_map kind_of) s
+    (λ l m. refl)) in
     found_alike c.next_array.result
     (λ none s h off. no_array_kind kinds c.args.self.now s (same s) (none s h off))
     (λ slot found. (
       found.0,
-      omega (arith, found.1, length_seen c.self.inside.cells c.self.inside.queues.lists c.args.self.now c.self.view_is, kind_count c.self.inside.cells c.self.inside.queues.lists c.self.inside.queues.slots kinds c.self.inside.links c.self.invariant),
+      omega (
+        arith,
+        found.1,
+        length_seen c.self.inside.cells c.self.inside.queues.lists c.args.self.now c.self.view_is,
+        kind_count c.self.inside.cells c.self.inside.queues.lists c.self.inside.queues.slots kinds c.self.inside.links c.self.invariant,
+      ),
       found.2,
       λ s a b off. no_array_kind kinds c.args.self.now s (same s) (found.3 s a b off),
     ))

@@ -8,21 +8,33 @@ use Rattle.jlr_cells.proofs.Queues.{cleanable_leaves, changed_at, holds_in, with
 use Rattle.jlr_cells.proofs.store.Store.set_clean_state.Goals as goal
 
 pub index_mut-cell-requires : goal.index_mut-cell-requires
-index_mut-cell-requires c = omega (arith, within c.self.inside.cells c.self.inside.queues.lists c.args.self.now c.self.view_is _ _ c.number.ensures (object_of_cleanable _ c.requires))
+index_mut-cell-requires c = omega (
+  arith,
+  within c.self.inside.cells c.self.inside.queues.lists c.args.self.now c.self.view_is _ _
+      c.number.ensures (object_of_cleanable _ c.requires),
+)
 
 pub set_clean_state-requires : goal.set_clean_state-requires
 set_clean_state-requires c =
-    let below : c.number.result < length c.self.inside.cells = within c.self.inside.cells c.self.inside.queues.lists c.args.self.now c.self.view_is _ _ c.number.ensures (object_of_cleanable _ c.requires) in
-    holds_in c.self.inside.cells c.self.inside.queues.lists c.args.self.now c.self.view_is (some_and is_cleanable) _ _ c.index_mut-cell.result.now (λ l m. refl) c.number.ensures c.requires below c.index_mut-cell.ensures.value
+    let below : c.number.result < length c.self.inside.cells =
+    within c.self.inside.cells c.self.inside.queues.lists c.args.self.now c.self.view_is _ _ c.number.ensures
+    (object_of_cleanable _ c.requires) in
+    holds_in c.self.inside.cells c.self.inside.queues.lists c.args.self.now c.self.view_is (some_and is_cleanable) _ _
+    c.index_mut-cell.result.now (λ l m. refl) c.number.ensures c.requires below c.index_mut-cell.ensures.value
 
 pub invariant_of-self : goal.invariant_of-self
 invariant_of-self c =
     record {
-      kept = kept_cleanable _ _ _ _ c.index_mut-cell.result.now _ (in_clean_state c.args.state) c.self.invariant.kept c.index_mut-cell.ensures.value c.set_clean_state.ensures.new c.set_clean_state.ensures.kind;
+      kept = kept_cleanable _ _ _ _ c.index_mut-cell.result.now _ (in_clean_state c.args.state) c.self.invariant.kept
+          c.index_mut-cell.ensures.value c.set_clean_state.ensures.new c.set_clean_state.ensures.kind;
       members = c.self.invariant.members;
     }
 
 pub returns : goal.returns
 returns c =
-    let below : c.number.result < length c.self.inside.cells = within c.self.inside.cells c.self.inside.queues.lists c.args.self.now c.self.view_is _ _ c.number.ensures (object_of_cleanable _ c.requires) in
-    changed_at c.self.inside.cells c.self.inside.queues.lists c.args.self.now c.self.view_is _ _ c.index_mut-cell.result.now _ (with_cleanable (in_clean_state c.args.state)) c.number.ensures below c.index_mut-cell.ensures.value c.set_clean_state.ensures.new (cleanable_leaves (in_clean_state c.args.state))
+    let below : c.number.result < length c.self.inside.cells =
+    within c.self.inside.cells c.self.inside.queues.lists c.args.self.now c.self.view_is _ _ c.number.ensures
+    (object_of_cleanable _ c.requires) in
+    changed_at c.self.inside.cells c.self.inside.queues.lists c.args.self.now c.self.view_is _ _ c.index_mut-cell.result.now _
+    (with_cleanable (in_clean_state c.args.state)) c.number.ensures below c.index_mut-cell.ensures.value c.set_clean_state.ensures.new
+    (cleanable_leaves (in_clean_state c.args.state))

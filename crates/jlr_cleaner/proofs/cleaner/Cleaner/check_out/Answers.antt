@@ -9,7 +9,8 @@ invariant_of-self g c =
     let there : state_at c.self.inside.table c.args.rid ≡ Some Idle = rw (← c.self.view_is) at c.requires in
     record {
       registered = c.self.invariant.registered;
-      closing = closing_in_state c.self.inside.table c.check_out.new.self c.args.rid c.self.inside.running (λ e. cc (there, e)) c.self.invariant.closing _ c.check_out.ensures.resources;
+      closing = closing_in_state c.self.inside.table c.check_out.new.self c.args.rid c.self.inside.running (λ e. cc (there, e))
+          c.self.invariant.closing _ c.check_out.ensures.resources;
       adds_up = c.self.invariant.adds_up;
       numbered = c.self.invariant.numbered;
     }

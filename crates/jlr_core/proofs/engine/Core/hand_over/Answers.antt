@@ -52,10 +52,12 @@ returns-clause-step g c =
       begins = search rules;
       marking = tt;
       blackens =
-          subst (λ (k : Kept g.row.R.Denot). BlackensNew {R = g.row.R.Denot} (event.Ask HandOver) k.machine k.marking chosen n new.heap.marking)
+          subst (λ (k : Kept g.row.R.Denot). BlackensNew {R = g.row.R.Denot} (event.Ask HandOver) k.machine k.marking chosen n
+          new.heap.marking)
           c.self.view_is did.blackens;
       collects = search rules;
-      policy = subst (λ (k : Kept g.row.R.Denot). KeepsByPolicy k.soft_age k.clock k.machine k.marking ask chosen) c.self.view_is did.policy;
+      policy = subst (λ (k : Kept g.row.R.Denot). KeepsByPolicy k.soft_age k.clock k.machine k.marking ask chosen) c.self.view_is
+          did.policy;
       age = search rules;
       clock = subst (λ (k : Kept g.row.R.Denot). new.heap.clock ≡ clock_after k.machine k.clock ask answer chosen) c.self.view_is did.clock;
     }

@@ -16,7 +16,8 @@ pub invariant_of-self : goal.invariant_of-self
 invariant_of-self g c =
     let same = sym c.mark.ensures.machine in (
       subst IsWellFormed same c.self.invariant.0,
-      subst (λ w. AllWait (machine_of c.mark.new.self) w.waiting) (sym c.mark.ensures.cleaner) (subst (λ m. AllWait m c.self.inside.state.cleaner.waiting) same c.self.invariant.1),
+      subst (λ w. AllWait (machine_of c.mark.new.self) w.waiting) (sym c.mark.ensures.cleaner)
+          (subst (λ m. AllWait m c.self.inside.state.cleaner.waiting) same c.self.invariant.1),
     )
 
 pub returns-clause-step : goal.returns-clause-step
@@ -26,7 +27,9 @@ returns-clause-step g c =
     record {
       entry =
           λ m stands.
-          enters old new c.self.inside.state.heap.marking c.mark.new.self.heap.marking None None no_choice refl refl c.self.invariant.0 (ap {A = Machine} (λ k. length k.objects) c.mark.ensures.machine) (refl, c.mark.ensures.machine) c.mark.ensures.reached (λ none still. no_some Begin none) m (subst (λ k. StandsIn k m) (sym c.self.view_is) stands);
+          enters old new c.self.inside.state.heap.marking c.mark.new.self.heap.marking None None no_choice refl refl c.self.invariant.0
+          (ap {A = Machine} (λ k. length k.objects) c.mark.ensures.machine) (refl, c.mark.ensures.machine) c.mark.ensures.reached
+          (λ none still. no_some Begin none) m (subst (λ k. StandsIn k m) (sym c.self.view_is) stands);
       cells = search rules;
       flow = search rules;
       moves = search rules;
@@ -35,7 +38,9 @@ returns-clause-step g c =
       memory = search rules;
       table_room = search rules;
       begins = λ none still. no_some Begin none;
-      marking = subst (λ (k : Kept g.row.R.Denot). MarksBy {R = g.row.R.Denot} (Some c.args.budget) k.soft_age k.clock k.machine k.marking k.condemned (Marked c.mark.result) c.mark.new.self.heap.marking c.mark.new.self.heap.condemned) c.self.view_is (c.mark.result, refl, c.mark.ensures.piece);
+      marking = subst (λ (k : Kept g.row.R.Denot). MarksBy {R = g.row.R.Denot} (Some c.args.budget) k.soft_age k.clock k.machine k.marking
+          k.condemned (Marked c.mark.result) c.mark.new.self.heap.marking c.mark.new.self.heap.condemned) c.self.view_is
+          (c.mark.result, refl, c.mark.ensures.piece);
       blackens = search rules;
       collects = search rules;
       policy = search rules;

@@ -10,7 +10,10 @@ use Rattle.jlr_core.proofs.engine.Core.new_from.Goals as goal
 pub invariant_of-result : goal.invariant_of-result
 invariant_of-result g c =
     let few = limits_hold c.args.limits in
-    let image = empty_from_is_an_image c.args.limits.cells c.args.limits.sessions c.args.limits.resources c.args.next_action c.requires few.0 few.2 in (
+    let image = empty_from_is_an_image c.args.limits.cells c.args.limits.sessions c.args.limits.resources c.args.next_action c.requires
+    few.0 few.2 in (
       subst IsWellFormed (sym c.in_ok-new.ensures.machine) image.well_formed,
-      subst (λ (m : Machine). AllWait m c.in_ok-new.field-0.cleaner.waiting) (sym c.in_ok-new.ensures.machine) (none_waits c.args.limits.cells c.args.limits.sessions c.args.limits.resources c.args.next_action c.in_ok-new.field-0.cleaner.waiting c.in_ok-new.ensures.none_waits),
+      subst (λ (m : Machine). AllWait m c.in_ok-new.field-0.cleaner.waiting) (sym c.in_ok-new.ensures.machine)
+          (none_waits c.args.limits.cells c.args.limits.sessions c.args.limits.resources c.args.next_action
+          c.in_ok-new.field-0.cleaner.waiting c.in_ok-new.ensures.none_waits),
     )

@@ -16,9 +16,12 @@ pub invariant_of-self : goal.invariant_of-self
 invariant_of-self g c =
     let m = machine_of c.self.inside.state in
     let n = machine_of c.step.new.state in
-    let formed = well_formed_after m n c.self.inside.state.heap.marking (ask_of c.args.event) (answer_in c.step.result) c.step.new.choice.chosen refl refl c.self.invariant.0 c.step.ensures.entry in (
+    let formed = well_formed_after m n c.self.inside.state.heap.marking (ask_of c.args.event) (answer_in c.step.result)
+    c.step.new.choice.chosen refl refl c.self.invariant.0 c.step.ensures.entry in (
       formed,
-      all_wait_after m n c.self.inside.state.heap.marking c.self.inside.state.cleaner c.step.new.state.cleaner (ask_of c.args.event) (answer_in c.step.result) c.step.new.choice.chosen refl refl c.self.invariant.0 formed refl refl c.step.ensures.cells c.step.ensures.entry c.self.invariant.1 c.step.ensures.waits,
+      all_wait_after m n c.self.inside.state.heap.marking c.self.inside.state.cleaner c.step.new.state.cleaner (ask_of c.args.event)
+          (answer_in c.step.result) c.step.new.choice.chosen refl refl c.self.invariant.0 formed refl refl c.step.ensures.cells
+          c.step.ensures.entry c.self.invariant.1 c.step.ensures.waits,
     )
 
 pub returns-clause-step : goal.returns-clause-step
@@ -29,19 +32,29 @@ returns-clause-step g c =
     record {
       entry =
           λ m stands.
-          enters (machine_of c.self.inside.state) (machine_of c.step.new.state) c.self.inside.state.heap.marking c.step.new.state.heap.marking ask answer chosen refl refl c.self.invariant.0 c.step.ensures.cells c.step.ensures.entry c.step.ensures.reached c.step.ensures.begins m (subst (λ k. StandsIn k m) (sym c.self.view_is) stands);
-      cells = subst (λ (k : Kept g.row.R.Denot). length (machine_of c.step.new.state).objects ≡ length k.machine.objects) c.self.view_is c.step.ensures.cells;
+          enters (machine_of c.self.inside.state) (machine_of c.step.new.state) c.self.inside.state.heap.marking
+          c.step.new.state.heap.marking ask answer chosen refl refl c.self.invariant.0 c.step.ensures.cells c.step.ensures.entry
+          c.step.ensures.reached c.step.ensures.begins m (subst (λ k. StandsIn k m) (sym c.self.view_is) stands);
+      cells = subst (λ (k : Kept g.row.R.Denot). length (machine_of c.step.new.state).objects ≡ length k.machine.objects) c.self.view_is
+          c.step.ensures.cells;
       flow = search rules;
-      moves = subst (λ (k : Kept g.row.R.Denot). Moves (resource_of_event c.args.event) k.table (resource_of_reply c.step.result) c.step.new.state.cleaner.table) c.self.view_is c.step.ensures.moves;
+      moves = subst (λ (k : Kept g.row.R.Denot). Moves (resource_of_event c.args.event) k.table (resource_of_reply c.step.result)
+          c.step.new.state.cleaner.table) c.self.view_is c.step.ensures.moves;
       listed = refl;
       goes_out = search rules;
       memory = subst (λ (k : Kept g.row.R.Denot). WantsMemory k.machine k.table ask answer) c.self.view_is c.step.ensures.memory;
       table_room = search rules;
-      begins = subst (λ (k : Kept g.row.R.Denot). Begins ask k.machine (machine_of c.step.new.state) c.step.new.state.heap.marking) c.self.view_is c.step.ensures.begins;
-      marking = subst (λ (k : Kept g.row.R.Denot). MarksBy (budget_of c.args.event) k.soft_age k.clock k.machine k.marking k.condemned c.step.result c.step.new.state.heap.marking c.step.new.state.heap.condemned) c.self.view_is c.step.ensures.marking;
-      blackens = subst (λ (k : Kept g.row.R.Denot). BlackensNew c.args.event k.machine k.marking chosen (machine_of c.step.new.state) c.step.new.state.heap.marking) c.self.view_is c.step.ensures.blackens;
-      collects = subst (λ (k : Kept g.row.R.Denot). ask ≡ Some Collect → answer ≡ Some (Truth (k.machine.cycle_open && not (has_grey k.marking)))) c.self.view_is c.step.ensures.collects;
-      policy = subst (λ (k : Kept g.row.R.Denot). KeepsByPolicy k.soft_age k.clock k.machine k.marking ask chosen) c.self.view_is c.step.ensures.policy;
+      begins = subst (λ (k : Kept g.row.R.Denot). Begins ask k.machine (machine_of c.step.new.state) c.step.new.state.heap.marking)
+          c.self.view_is c.step.ensures.begins;
+      marking = subst (λ (k : Kept g.row.R.Denot). MarksBy (budget_of c.args.event) k.soft_age k.clock k.machine k.marking k.condemned
+          c.step.result c.step.new.state.heap.marking c.step.new.state.heap.condemned) c.self.view_is c.step.ensures.marking;
+      blackens = subst (λ (k : Kept g.row.R.Denot). BlackensNew c.args.event k.machine k.marking chosen (machine_of c.step.new.state)
+          c.step.new.state.heap.marking) c.self.view_is c.step.ensures.blackens;
+      collects = subst (λ (k : Kept g.row.R.Denot). ask ≡ Some Collect
+          → answer ≡ Some (Truth (k.machine.cycle_open && not (has_grey k.marking)))) c.self.view_is c.step.ensures.collects;
+      policy = subst (λ (k : Kept g.row.R.Denot). KeepsByPolicy k.soft_age k.clock k.machine k.marking ask chosen) c.self.view_is
+          c.step.ensures.policy;
       age = search rules;
-      clock = subst (λ (k : Kept g.row.R.Denot). c.step.new.state.heap.clock ≡ clock_after k.machine k.clock ask answer chosen) c.self.view_is c.step.ensures.clock;
+      clock = subst (λ (k : Kept g.row.R.Denot). c.step.new.state.heap.clock ≡ clock_after k.machine k.clock ask answer chosen)
+          c.self.view_is c.step.ensures.clock;
     }

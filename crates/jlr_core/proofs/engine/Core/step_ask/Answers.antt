@@ -56,7 +56,8 @@ returns-clause-step g c =
       begins = subst (λ (k : Kept g.row.R.Denot). Begins ask k.machine n new.heap.marking) c.self.view_is did.begins;
       marking = tt;
       blackens =
-          subst (λ (k : Kept g.row.R.Denot). BlackensNew {R = g.row.R.Denot} (Asks c.args.ask.now) k.machine k.marking chosen n new.heap.marking) c.self.view_is did.blackens;
+          subst (λ (k : Kept g.row.R.Denot). BlackensNew {R = g.row.R.Denot} (Asks c.args.ask.now) k.machine k.marking chosen n
+          new.heap.marking) c.self.view_is did.blackens;
       collects =
           subst
           (λ (k : Kept g.row.R.Denot).

@@ -53,7 +53,8 @@ returns-clause-step g c =
       begins = search rules;
       marking = tt;
       blackens =
-          subst (λ (k : Kept g.row.R.Denot). BlackensNew {R = g.row.R.Denot} (event.Ask TakeUp) k.machine k.marking chosen n new.heap.marking)
+          subst (λ (k : Kept g.row.R.Denot). BlackensNew {R = g.row.R.Denot} (event.Ask TakeUp) k.machine k.marking chosen n
+          new.heap.marking)
           c.self.view_is did.blackens;
       collects = search rules;
       policy =

@@ -7,8 +7,10 @@ use Rattle.jlr_embed.proofs.unrecorded.Unrecorded.answer.Goals as goal
 pub invariant_of-self : goal.invariant_of-self
 invariant_of-self g c = (
   search rules,
-  stands_after c.self.inside.core c.answer.new.self (Asks c.args.ask.now) (Answered c.answer.result None) c.answer.new.choice.chosen c.answer.ensures.step c.self.invariant.1,
+  stands_after c.self.inside.core c.answer.new.self (Asks c.args.ask.now) (Answered c.answer.result None) c.answer.new.choice.chosen
+      c.answer.ensures.step c.self.invariant.1,
 )
 
 pub returns-clause-kind : goal.returns-clause-kind
-returns-clause-kind g c = kind_told c.self.inside.core c.answer.new.self (Asks c.args.ask.now) c.answer.result None c.answer.new.choice.chosen c.answer.ensures.step c.self.invariant.1
+returns-clause-kind g c = kind_told c.self.inside.core c.answer.new.self (Asks c.args.ask.now) c.answer.result None
+    c.answer.new.choice.chosen c.answer.ensures.step c.self.invariant.1

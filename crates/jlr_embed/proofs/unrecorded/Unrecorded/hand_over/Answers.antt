@@ -12,7 +12,8 @@ use Rattle.jlr_embed.proofs.unrecorded.Unrecorded.hand_over.Goals as goal
 pub invariant_of-self : goal.invariant_of-self
 invariant_of-self g c = (
   search rules,
-  stands_after c.self.inside.core c.hand_over.new.self (Asks HandOver) (Answered (Handed c.hand_over.result) None) no_choice c.hand_over.ensures.step c.self.invariant.1,
+  stands_after c.self.inside.core c.hand_over.new.self (Asks HandOver) (Answered (Handed c.hand_over.result) None) no_choice
+      c.hand_over.ensures.step c.self.invariant.1,
 )
 
 pub returns-clause-less : goal.returns-clause-less

@@ -14,13 +14,16 @@ loop-index-preserved g c =
     record {
       keeper = c.deal-pass.ensures.keeper ∙ ap (λ k. whole k.all (k.dealt + 1)) i.keeper;
       count = omega (arith, ap length pushed, length-append c.loop-index.seats.items (x ∷ []), i.count);
-      seats = more_seats c.loop-index.seats.items c.push.new.self.items c.loop-index.index x pushed i.count (c.new.ensures ∙ c.deal-pass.ensures.pass ∙ ap (λ k. seen k.dealt k.all) i.keeper) i.seats;
+      seats = more_seats c.loop-index.seats.items c.push.new.self.items c.loop-index.index x pushed i.count
+          (c.new.ensures ∙ c.deal-pass.ensures.pass ∙ ap (λ k. seen k.dealt k.all) i.keeper) i.seats;
     }
 
 pub new-requires : goal.new-requires
 new-requires g c =
-    let i = c.loop-index.invariant in
-    (ap (λ p. p.seat) c.deal-pass.ensures.pass ∙ ap (λ k. k.dealt) i.keeper, subst (λ (x : Limits). c.loop-index.index < x.sessions + 3) c.requires.limits c.loop-index-test.true)
+    let i = c.loop-index.invariant in (
+      ap (λ p. p.seat) c.deal-pass.ensures.pass ∙ ap (λ k. k.dealt) i.keeper,
+      subst (λ (x : Limits). c.loop-index.index < x.sessions + 3) c.requires.limits c.loop-index-test.true,
+    )
 
 pub new-locked-requires : goal.new-locked-requires
 new-locked-requires g c =

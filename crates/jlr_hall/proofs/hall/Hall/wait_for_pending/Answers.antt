@@ -4,4 +4,5 @@ use Rattle.jlr_hall.proofs.hall.Hall.wait_for_pending.Goals as goal
 
 pub returns : goal.returns
 returns g c =
-    pending_there g.L.Limited.limits c.deref-else-deref.result.now (mutex_guard_value c.wait_while-locked.result) c.deref-else-deref.ensures c.has_pending.ensures.whole (c.has_pending.ensures.pending.0 c.if-not-has_pending.false)
+    pending_there g.L.Limited.limits c.deref-else-deref.result.now (mutex_guard_value c.wait_while-locked.result) c.deref-else-deref.ensures
+    c.has_pending.ensures.whole (c.has_pending.ensures.pending.0 c.if-not-has_pending.false)

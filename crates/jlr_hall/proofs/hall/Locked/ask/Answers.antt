@@ -13,7 +13,8 @@ use Rattle.jlr_hall.proofs.Steps.{asked, locked_now, tells}
 use Rattle.jlr_hall.proofs.hall.Locked.ask.Goals as goal
 
 pub after-requires : goal.after-requires
-after-requires g c = count_fits g.L.Limited.limits c.self.inside.book c.self.inside.dues c.self.inside.keeper.all c.args.seat (omega arith) c.is_history.ensures c.self.invariant
+after-requires g c = count_fits g.L.Limited.limits c.self.inside.book c.self.inside.dues c.self.inside.keeper.all c.args.seat (omega arith)
+    c.is_history.ensures c.self.invariant
 
 pub invariant_of-self : goal.invariant_of-self
 invariant_of-self g c =
@@ -24,8 +25,10 @@ invariant_of-self g c =
     let all = c.self.inside.keeper.all in
     let n = c.args.seat in
     let reply = c.step-reply.result in
-    let t = tells limits all n h new c.args.event reply c.requires.seat.1 c.is_history.ensures c.self.invariant.whole c.step-reply.ensures in
-    let is = ap (λ (x : History g.row.R.Denot × Event g.row.R.Denot). added n x.0 x.1 reply new) (λ i. (c.of-was.ensures i, c.of-asked.ensures i)) in
+    let t = tells limits all n h new c.args.event reply c.requires.seat.1 c.is_history.ensures c.self.invariant.whole
+    c.step-reply.ensures in
+    let is = ap (λ (x : History g.row.R.Denot × Event g.row.R.Denot). added n x.0 x.1 reply new)
+    (λ i. (c.of-was.ensures i, c.of-asked.ensures i)) in
     let kept = ap (λ k. k.all) c.note.ensures.keeper ∙ ap (λ l. all ++ l) is in
     let sits : n < 256 = omega arith in
     let dues = c.after.ensures ∙ ap (λ (e : Effect). after n e reply d) c.requires.effect in
@@ -39,11 +42,14 @@ returns-clause-asked g c =
     let all = c.self.inside.keeper.all in
     let n = c.args.seat in
     let reply = c.step-reply.result in
-    let t = tells g.L.Limited.limits all n h new c.args.event reply c.requires.seat.1 c.is_history.ensures c.self.invariant.whole c.step-reply.ensures in
-    let is = ap (λ (x : History g.row.R.Denot × Event g.row.R.Denot). added n x.0 x.1 reply new) (λ i. (c.of-was.ensures i, c.of-asked.ensures i)) in
+    let t = tells g.L.Limited.limits all n h new c.args.event reply c.requires.seat.1 c.is_history.ensures c.self.invariant.whole
+    c.step-reply.ensures in
+    let is = ap (λ (x : History g.row.R.Denot × Event g.row.R.Denot). added n x.0 x.1 reply new)
+    (λ i. (c.of-was.ensures i, c.of-asked.ensures i)) in
     let known = ap (λ p. p.known) c.note.ensures.pass ∙ ap (λ l. all ++ l) is in
     subst (λ (u : Under g.row.R.Denot). AskedIn g.L.Limited.limits u.log c.args.pass.now c.args.event reply c.note.new.pass) c.self.view_is
-    (asked g.L.Limited.limits c.args.pass.now c.note.new.pass n all (added n h c.args.event reply new) h new c.args.event reply c.requires.seat.0 c.note.ensures.knew (ap (λ p. p.seat) c.note.ensures.pass) known c.self.invariant.whole t)
+    (asked g.L.Limited.limits c.args.pass.now c.note.new.pass n all (added n h c.args.event reply new) h new c.args.event reply
+    c.requires.seat.0 c.note.ensures.knew (ap (λ p. p.seat) c.note.ensures.pass) known c.self.invariant.whole t)
 
 pub returns-clause-out : goal.returns-clause-out
 returns-clause-out g c = comes_with _ _ _ _ _ c.step-reply.ensures

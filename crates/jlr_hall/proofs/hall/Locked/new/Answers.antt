@@ -9,5 +9,6 @@ invariant_of-result g c =
     let dues = c.new-2.result in
     record {
       whole = c.requires.whole;
-      shows = subst (λ (l : List (Step g.row.R.Denot)). Shows dues l) (sym c.requires.none) (shown_none dues c.new-2.ensures.long c.new-2.ensures.counts c.new-2.ensures.owed);
+      shows = subst (λ (l : List (Step g.row.R.Denot)). Shows dues l) (sym c.requires.none)
+          (shown_none dues c.new-2.ensures.long c.new-2.ensures.counts c.new-2.ensures.owed);
     }

@@ -10,5 +10,6 @@ ask_under-requires g c = brings_none (Unit {0}) c.ask.result c.args.ask c.ask.en
 
 pub returns-clause-asked : goal.returns-clause-asked
 returns-clause-asked g c =
-    subst (λ (e : Event g.row.R.Denot). AskedIn g.L.Limited.limits (mutex_guard_value c.args.locked).log c.args.self.now e c.ask_under.result c.ask_under.new.self) c.ask.ensures
+    subst (λ (e : Event g.row.R.Denot). AskedIn g.L.Limited.limits (mutex_guard_value c.args.locked).log c.args.self.now e
+    c.ask_under.result c.ask_under.new.self) c.ask.ensures
     c.ask_under.ensures.asked

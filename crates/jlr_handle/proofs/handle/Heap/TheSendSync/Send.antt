@@ -24,4 +24,5 @@ held_keyless a p (Some x) = (lies R counter p x, heap.frees.frees a (raw (lone R
 pub send : IsSend the_row
 send =
     let all : AllSend (fields the_type) = (search sendable, (alloc.the_field_send, tt)) in
-    owning_send the_type all (λ d. held_keyless d.alloc d.at d.value) (λ k. quiet (to the_type) (exits_of k (fields the_type)) ((struct_send (shape the_type) all).leaving k))
+    owning_send the_type all (λ d. held_keyless d.alloc d.at d.value)
+    (λ k. quiet (to the_type) (exits_of k (fields the_type)) ((struct_send (shape the_type) all).leaving k))

@@ -9,6 +9,10 @@ invariant_of-result c =
     let none : drop 0 c.new-2.result.items ≡ [] = ap {A = List Entry} {B = List Entry} (drop 0) c.new-2.ensures.items in
     record {
       leads = subst (LeadsOn _) (sym none) (starts c.args.limits);
-      free = record { nothing = let a = c.new.ensures.items in let b = c.new.ensures.len in cc; few = let b = c.new.ensures.len in omega (arith, b) };
+      free = record {
+        nothing = let a = c.new.ensures.items in let b = c.new.ensures.len in cc;
+        few = let b = c.new.ensures.len in
+            omega (arith, b);
+      };
       within = omega arith;
     }

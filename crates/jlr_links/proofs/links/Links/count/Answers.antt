@@ -7,4 +7,5 @@ pub returns : goal.returns
 returns c =
     let s = c.self.inside in
     tells_count s.next s.ends.items _ c.args.list c.index.result.now c.self.view_is
-    (get_or_read s.ends.items c.args.list c.index.result.now (within_ends s.next s.ends.items _ c.args.list c.self.view_is c.requires) c.index.ensures no_ends)
+    (get_or_read s.ends.items c.args.list c.index.result.now (within_ends s.next s.ends.items _ c.args.list c.self.view_is c.requires)
+    c.index.ensures no_ends)

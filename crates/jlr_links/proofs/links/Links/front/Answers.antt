@@ -7,5 +7,6 @@ pub returns : goal.returns
 returns c =
     let s = c.self.inside in
     tells_front s.next s.ends.items _ c.args.list c.index-ends.result.now c.new.result c.self.view_is
-    (get_or_read s.ends.items c.args.list c.index-ends.result.now (within_ends s.next s.ends.items _ c.args.list c.self.view_is c.requires) c.index-ends.ensures no_ends)
+    (get_or_read s.ends.items c.args.list c.index-ends.result.now (within_ends s.next s.ends.items _ c.args.list c.self.view_is c.requires)
+    c.index-ends.ensures no_ends)
     c.if-ends-eq0.false c.new.ensures

@@ -17,7 +17,8 @@ join_seat-requires g c =
       t.0 ∙ ap (λ b. b.table_id) c.replace.ensures.value ∙ p.0 ∙ sym log.is,
       t.3,
       omega (arith, log.words),
-      λ s h at apart there. meets_as g.E.Owned.owner s.views c.keeper.inside.seat.id c.keeper.inside.seat.me.0 c.into_seat-token.result.id w k.2
+      λ s h at apart there. meets_as g.E.Owned.owner s.views c.keeper.inside.seat.id c.keeper.inside.seat.me.0 c.into_seat-token.result.id w
+          k.2
           (is_sitter g.E.Owned.owner c.replace.result.views w seated t.2) h at apart there,
     )
 
@@ -32,11 +33,13 @@ load-requires g c =
     let owner = g.E.Owned.owner in
     let told = g.J.Telling.told in
     let is = is_meeting owner v _ _ _ _ (ap (λ m. m.0) j.2) in
-    let seat : v.seat ≡ c.args.pass.now.seat = ap (λ m. m.0.seat) j.2 ∙ ap (λ vs. (seen_in vs).seat) (sym t.2 ∙ ap (λ b. b.views) c.replace.ensures.value) ∙ ap (λ p. p.seat) c.pass.view_is in
+    let seat : v.seat ≡ c.args.pass.now.seat = ap (λ m. m.0.seat) j.2
+    ∙ ap (λ vs. (seen_in vs).seat) (sym t.2 ∙ ap (λ b. b.views) c.replace.ensures.value) ∙ ap (λ p. p.seat) c.pass.view_is in
     let all = subst (λ n. AllOf owner n told) (sym seat) c.requires in (
       j.0 ∙ k.0 ∙ sym log.is,
       omega (arith, log.words),
-      λ s h len at fits. let x = adds_as owner s.views c.join_seat.new.seat.id v told is all h at in (meeting (v.all ++ told) v.dealt v.seat (v.all ++ told), keeps, tt, x.0, ((x.1, refl), refl)),
+      λ s h len at fits. let x = adds_as owner s.views c.join_seat.new.seat.id v told is all h at in
+          (meeting (v.all ++ told) v.dealt v.seat (v.all ++ told), keeps, tt, x.0, ((x.1, refl), refl)),
     )
 
 pub split_seat-token-requires : goal.split_seat-token-requires

@@ -12,7 +12,8 @@ copy_into-requires c =
 pub returns : goal.returns
 returns c =
     let is = c.self.view_is ∙ c.collect.ensures in
-    let so = collects_so c.self.inside.collects (slots_of c.self.inside.kept.value.set) c.self.inside.pending.items _ _ (ap (λ (x : Choosing). x.chosen.collected) is) in
+    let so = collects_so c.self.inside.collects (slots_of c.self.inside.kept.value.set) c.self.inside.pending.items _ _
+    (ap (λ (x : Choosing). x.chosen.collected) is) in
     shown_same c.self.inside.collects _ _ _ _ _ _ _ _ so.0
     c.copy_into.ensures.slots
     so.2 (ap (λ (x : Choosing). x.chosen.fresh) is) (ap (λ (x : Choosing). x.cells) is)

@@ -10,6 +10,7 @@ returns c =
     let places = c.self.inside.parts.value.set in
     let strays = c.self.inside.parts.value.strays.items in
     let few : length places ≤ 2 ^ 32 = omega (arith, c.in_range.ensures, ap (λ p. length p.set) c.deref.ensures) in
-    let others = subst (λ l. AllByRecursion IsSlotNumber l) (c.as_slice.ensures.value ∙ ap (λ p. p.strays.items) c.deref-2.ensures) c.numbers_in_range.ensures in
+    let others = subst (λ l. AllByRecursion IsSlotNumber l) (c.as_slice.ensures.value ∙ ap (λ p. p.strays.items) c.deref-2.ensures)
+    c.numbers_in_range.ensures in
     let all = All-append IsSlotNumber (slots_of places) strays (all_numbers places few) (All-from_recursion IsSlotNumber strays others) in
     subst (λ l. AllByRecursion IsSlotNumber l) c.self.view_is (recursion_from_All IsSlotNumber (slots_of places ++ strays) all)

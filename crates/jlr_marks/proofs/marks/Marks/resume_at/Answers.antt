@@ -10,7 +10,8 @@ invariant_of-self c =
     let free : c.self.inside.part ≡ None = search rules in
     let was = rw free at c.self.invariant in
     let on : get_or c.self.inside.bits c.args.slot false ≡ true = search rules in
-    let seen : c.args.self.now.grey ≡ c.self.inside.grey.items = ap (λ (m : Marking). m.grey) (sym c.self.view_is) ∙ ap (λ (p : Option Part). slots_begun p ++ c.self.inside.grey.items) free in
+    let seen : c.args.self.now.grey ≡ c.self.inside.grey.items = ap (λ (m : Marking). m.grey) (sym c.self.view_is)
+    ∙ ap (λ (p : Option Part). slots_begun p ++ c.self.inside.grey.items) free in
     let out : c.args.slot ∈ c.self.inside.grey.items → ⊥ = λ h. c.requires.black (subst (λ l. c.args.slot ∈ l) (sym seen) h) in (
       search rules,
       c.self.invariant.1,

@@ -1,4 +1,5 @@
-use Rattle.std.proofs.Common.{◌≡◌, ◌∙◌, ◌++◌, ◌∷◌, [], rules, sym, subst, ap, arith, ◌<◌, length, length-append, length-set, count_by, false, get_or, set, true}
+use Rattle.std.proofs.Common.{◌≡◌, ◌∙◌, ◌++◌, ◌∷◌, [], rules, sym, subst, ap, arith, ◌<◌, length, length-append, length-set, count_by}
+use Rattle.std.proofs.Common.{false, get_or, set, true}
 use Rattle.jlr_sets.proofs.Absent.{not_set}
 use Rattle.std.proofs.lemmas.List.{append_assoc}
 use Rattle.jlr_marks.specs.Marking.{AreGrey, slots_begun}
@@ -25,9 +26,18 @@ invariant_of-self c =
     let white = not_set (get_or bits slot false) (sym c.insert.ensures.added ∙ c.if-insert.true) in
     let long = length-set bits slot true in
     let more : c.push_reserved.new.self.items ≡ c.self.inside.grey.items ++ slot ∷ [] = search rules in
-    let pushed : first ++ c.push_reserved.new.self.items ≡ grey ++ slot ∷ [] = ap (λ l. first ++ l) more ∙ sym (append_assoc first c.self.inside.grey.items (slot ∷ [])) in (
-      omega (arith, ap length pushed, length-append grey (slot ∷ []), ap (count_by (λ b. b)) c.insert.ensures.set, count_marks bits slot inside white, c.self.invariant.0),
+    let pushed : first ++ c.push_reserved.new.self.items ≡ grey ++ slot ∷ [] = ap (λ l. first ++ l) more
+    ∙ sym (append_assoc first c.self.inside.grey.items (slot ∷ [])) in (
+      omega (
+        arith,
+        ap length pushed,
+        length-append grey (slot ∷ []),
+        ap (count_by (λ b. b)) c.insert.ensures.set,
+        count_marks bits slot inside white,
+        c.self.invariant.0,
+      ),
       omega (arith, ap length c.insert.ensures.set, long, c.self.invariant.1, c.push_reserved.ensures.capacity),
       omega (arith, ap length c.insert.ensures.set, long, c.self.invariant.2),
-      subst (λ l. AreGrey l (first ++ c.push_reserved.new.self.items)) (sym c.insert.ensures.set) (subst (AreGrey (set bits slot true)) (sym pushed) (grey_more bits grey slot inside white c.self.invariant.3)),
+      subst (λ l. AreGrey l (first ++ c.push_reserved.new.self.items)) (sym c.insert.ensures.set)
+          (subst (AreGrey (set bits slot true)) (sym pushed) (grey_more bits grey slot inside white c.self.invariant.3)),
     )

@@ -44,8 +44,11 @@ returns-in-None-clause-taken c =
 pub returns-in-None-clause-grey : goal.returns-in-None-clause-grey
 returns-in-None-clause-grey c =
     let was = rw c.in-None.is at c.self.invariant in
-    subst (λ (m : Marking). IfSome c.pop.result (λ slot. IsPermutation m.grey (slot ∷ (slots_begun c.self.inside.part ++ c.pop.new.self.items)))) c.self.view_is
-    (subst (λ (p : Option Part). IfSome c.pop.result (λ slot. IsPermutation (slots_begun p ++ c.self.inside.grey.items) (slot ∷ (slots_begun p ++ c.pop.new.self.items)))) (sym c.in-None.is)
+    subst (λ (m : Marking). IfSome c.pop.result (λ slot. IsPermutation m.grey
+    (slot ∷ (slots_begun c.self.inside.part ++ c.pop.new.self.items)))) c.self.view_is
+    (subst (λ (p : Option Part). IfSome c.pop.result
+    (λ slot. IsPermutation (slots_begun p ++ c.self.inside.grey.items) (slot ∷ (slots_begun p ++ c.pop.new.self.items))))
+    (sym c.in-None.is)
     (popped c.self.inside.bits c.self.inside.grey.items c.pop.new.self.items was.3 c.pop.result c.pop.ensures.items))
 
 pub returns-in-None-clause-once : goal.returns-in-None-clause-once

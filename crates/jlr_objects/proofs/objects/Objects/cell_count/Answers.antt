@@ -4,4 +4,10 @@ use Rattle.jlr_objects.proofs.Shown.{long}
 use Rattle.jlr_objects.proofs.objects.Objects.cell_count.Goals as goal
 
 pub returns : goal.returns
-returns c = omega (arith, c.cell_count.ensures, c.self.invariant.places, long c.self.inside.store c.self.inside.occupancy.places c.self.inside.occupancy.used c.self.inside.listed c.self.invariant c.args.self.now.objects (ap (λ (h : Holding). h.objects) c.self.view_is))
+returns c = omega (
+  arith,
+  c.cell_count.ensures,
+  c.self.invariant.places,
+  long c.self.inside.store c.self.inside.occupancy.places c.self.inside.occupancy.used c.self.inside.listed c.self.invariant
+      c.args.self.now.objects (ap (λ (h : Holding). h.objects) c.self.view_is),
+)

@@ -4,4 +4,13 @@ use Rattle.jlr_objects.proofs.Shown.{counted, long}
 use Rattle.jlr_objects.proofs.objects.Objects.free_count.Goals as goal
 
 pub returns : goal.returns
-returns c = omega (arith, c.free_count.ensures, c.self.invariant.places, long c.self.inside.store c.self.inside.occupancy.places c.self.inside.occupancy.used c.self.inside.listed c.self.invariant c.args.self.now.objects (ap (λ (h : Holding). h.objects) c.self.view_is), counted c.self.inside.store c.self.inside.occupancy.places c.self.inside.occupancy.used c.self.inside.listed c.self.invariant c.args.self.now.objects (ap (λ (h : Holding). h.objects) c.self.view_is), ap (λ (h : Holding). h.condemned) c.self.view_is)
+returns c = omega (
+  arith,
+  c.free_count.ensures,
+  c.self.invariant.places,
+  long c.self.inside.store c.self.inside.occupancy.places c.self.inside.occupancy.used c.self.inside.listed c.self.invariant
+      c.args.self.now.objects (ap (λ (h : Holding). h.objects) c.self.view_is),
+  counted c.self.inside.store c.self.inside.occupancy.places c.self.inside.occupancy.used c.self.inside.listed c.self.invariant
+      c.args.self.now.objects (ap (λ (h : Holding). h.objects) c.self.view_is),
+  ap (λ (h : Holding). h.condemned) c.self.view_is,
+)

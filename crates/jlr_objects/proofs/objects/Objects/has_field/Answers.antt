@@ -6,4 +6,7 @@ use Rattle.jlr_objects.proofs.Shown.{there}
 use Rattle.jlr_objects.proofs.objects.Objects.has_field.Goals as goal
 
 pub returns : goal.returns
-returns c = c.has_field.ensures ∙ ap (λ o. is_some (field_in o c.args.field)) (sym (there c.self.inside.store c.self.inside.occupancy.places c.self.inside.occupancy.used c.self.inside.listed c.self.invariant c.args.self.now.objects (ap (λ (h : Holding). h.objects) c.self.view_is) c.args.slot (sym c.is_occupied.ensures ∙ c.if-not-is_occupied.false)))
+returns c = c.has_field.ensures ∙ ap (λ o. is_some (field_in o c.args.field))
+    (sym (there c.self.inside.store c.self.inside.occupancy.places c.self.inside.occupancy.used c.self.inside.listed c.self.invariant
+    c.args.self.now.objects (ap (λ (h : Holding). h.objects) c.self.view_is) c.args.slot
+    (sym c.is_occupied.ensures ∙ c.if-not-is_occupied.false)))

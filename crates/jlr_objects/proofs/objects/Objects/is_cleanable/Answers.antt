@@ -10,7 +10,8 @@ use Rattle.jlr_objects.proofs.Shown.{seen}
 use Rattle.jlr_objects.proofs.objects.Objects.is_cleanable.Goals as goal
 
 -- what lies there is a cleanable, which callers see where the cell is occupied
-one_shown : (on : Bool) (o : Option Object) → some_and is_cleanable o ≡ true → is_some (cond on o None) ≡ some_and is_cleanable (cond on o None)
+one_shown : (on : Bool) (o : Option Object) → some_and is_cleanable o ≡ true
+    → is_some (cond on o None) ≡ some_and is_cleanable (cond on o None)
 one_shown true None h = absurd (false≢true h)
 one_shown true (Some o) h = sym h
 one_shown false o h = refl
@@ -24,7 +25,8 @@ returns-then-is_cleanable c =
     let store = c.self.inside.store in
     let occ = c.self.inside.occupancy.places in
     let s = c.args.slot in
-    let see = seen store occ c.self.inside.occupancy.used c.self.inside.listed c.self.invariant c.args.self.now.objects (ap (λ (h : Holding). h.objects) c.self.view_is) s in
+    let see = seen store occ c.self.inside.occupancy.used c.self.inside.listed c.self.invariant c.args.self.now.objects
+    (ap (λ (h : Holding). h.objects) c.self.view_is) s in
     c.is_occupied.ensures
     ∙ ap is_some see
     ∙ one_shown (is_in occ s) (at store s) (sym c.is_cleanable.ensures ∙ c.if-is_cleanable.true)
@@ -35,7 +37,8 @@ returns-else-is_cleanable c =
     let store = c.self.inside.store in
     let occ = c.self.inside.occupancy.places in
     let s = c.args.slot in
-    let see = seen store occ c.self.inside.occupancy.used c.self.inside.listed c.self.invariant c.args.self.now.objects (ap (λ (h : Holding). h.objects) c.self.view_is) s in
+    let see = seen store occ c.self.inside.occupancy.used c.self.inside.listed c.self.invariant c.args.self.now.objects
+    (ap (λ (h : Holding). h.objects) c.self.view_is) s in
     c.if-is_cleanable.false
     ∙ none_shown (is_in occ s) (at store s) (sym c.is_cleanable.ensures ∙ c.if-is_cleanable.false)
     ∙ sym (ap (some_and is_cleanable) see)

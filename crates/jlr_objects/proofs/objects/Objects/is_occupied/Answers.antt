@@ -15,4 +15,13 @@ returns c =
 
 pub returns-then-number-cell_count : goal.returns-then-number-cell_count
 returns-then-number-cell_count c =
-    sym (ap is_some (get_or_past c.args.self.now.objects c.args.slot None (omega (arith, c.if-number-cell_count.true, c.number.ensures, c.cell_count.ensures, c.self.invariant.places, long c.self.inside.store c.self.inside.occupancy.places c.self.inside.occupancy.used c.self.inside.listed c.self.invariant c.args.self.now.objects (ap (λ (h : Holding). h.objects) c.self.view_is)))))
+    sym (ap is_some (get_or_past c.args.self.now.objects c.args.slot None
+    (omega (
+      arith,
+      c.if-number-cell_count.true,
+      c.number.ensures,
+      c.cell_count.ensures,
+      c.self.invariant.places,
+      long c.self.inside.store c.self.inside.occupancy.places c.self.inside.occupancy.used c.self.inside.listed c.self.invariant
+          c.args.self.now.objects (ap (λ (h : Holding). h.objects) c.self.view_is),
+    ))))

@@ -6,4 +6,7 @@ use Rattle.jlr_objects.proofs.Shown.{there}
 use Rattle.jlr_objects.proofs.objects.Objects.member_count.Goals as goal
 
 pub returns : goal.returns
-returns c = c.member_count.ensures ∙ ap (λ o. length (members_in o)) (sym (there c.self.inside.store c.self.inside.occupancy.places c.self.inside.occupancy.used c.self.inside.listed c.self.invariant c.args.self.now.objects (ap (λ (h : Holding). h.objects) c.self.view_is) c.args.queue (sym c.is_occupied.ensures ∙ c.if-not-is_occupied.false)))
+returns c = c.member_count.ensures ∙ ap (λ o. length (members_in o))
+    (sym (there c.self.inside.store c.self.inside.occupancy.places c.self.inside.occupancy.used c.self.inside.listed c.self.invariant
+    c.args.self.now.objects (ap (λ (h : Holding). h.objects) c.self.view_is) c.args.queue
+    (sym c.is_occupied.ensures ∙ c.if-not-is_occupied.false)))

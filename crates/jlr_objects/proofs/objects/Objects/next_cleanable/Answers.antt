@@ -7,10 +7,17 @@ use Rattle.jlr_objects.proofs.objects.Objects.next_cleanable.Goals as goal
 pub returns : goal.returns
 returns c =
     found_alike c.next_cleanable.result
-    (λ none s h. no_more c.self.inside.store c.self.inside.occupancy.places c.self.inside.occupancy.used c.self.inside.listed c.self.invariant c.args.self.now.objects (ap (λ (h : Holding). h.objects) c.self.view_is) s (none s h))
+    (λ none s h. no_more c.self.inside.store c.self.inside.occupancy.places c.self.inside.occupancy.used c.self.inside.listed
+    c.self.invariant c.args.self.now.objects (ap (λ (h : Holding). h.objects) c.self.view_is) s (none s h))
     (λ slot found. (
       found.0,
-      omega (arith, found.1, long c.self.inside.store c.self.inside.occupancy.places c.self.inside.occupancy.used c.self.inside.listed c.self.invariant c.args.self.now.objects (ap (λ (h : Holding). h.objects) c.self.view_is)),
-      λ s a b. no_more c.self.inside.store c.self.inside.occupancy.places c.self.inside.occupancy.used c.self.inside.listed c.self.invariant c.args.self.now.objects (ap (λ (h : Holding). h.objects) c.self.view_is) s (found.2 s a b),
+      omega (
+        arith,
+        found.1,
+        long c.self.inside.store c.self.inside.occupancy.places c.self.inside.occupancy.used c.self.inside.listed
+            c.self.invariant c.args.self.now.objects (ap (λ (h : Holding). h.objects) c.self.view_is),
+      ),
+      λ s a b. no_more c.self.inside.store c.self.inside.occupancy.places c.self.inside.occupancy.used c.self.inside.listed c.self.invariant
+          c.args.self.now.objects (ap (λ (h : Holding). h.objects) c.self.view_is) s (found.2 s a b),
     ))
     c.next_cleanable.ensures

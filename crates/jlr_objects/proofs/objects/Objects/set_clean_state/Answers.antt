@@ -8,10 +8,17 @@ use Rattle.jlr_objects.proofs.Shown.{changed_are, changed_view, holds_below, cle
 use Rattle.jlr_objects.proofs.objects.Objects.set_clean_state.Goals as goal
 
 pub set_clean_state-requires : goal.set_clean_state-requires
-set_clean_state-requires c = holds_below c.self.inside.store c.self.inside.occupancy.places c.self.inside.occupancy.used c.self.inside.listed c.self.invariant c.args.self.now.objects (ap (λ (h : Holding). h.objects) c.self.view_is) (some_and is_cleanable) c.args.slot object_of_cleanable c.requires
+set_clean_state-requires c = holds_below c.self.inside.store c.self.inside.occupancy.places c.self.inside.occupancy.used
+    c.self.inside.listed c.self.invariant c.args.self.now.objects (ap (λ (h : Holding). h.objects) c.self.view_is) (some_and is_cleanable)
+    c.args.slot object_of_cleanable c.requires
 
 pub invariant_of-self : goal.invariant_of-self
-invariant_of-self c = changed_are c.self.inside.store c.self.inside.occupancy.places c.self.inside.occupancy.used c.self.inside.listed c.self.invariant c.args.self.now.objects (ap (λ (h : Holding). h.objects) c.self.view_is) c.args.slot (with_cleanable (in_clean_state c.args.state)) c.set_clean_state.new.self (cleanable_gives_none (in_clean_state c.args.state)) c.set_clean_state.ensures
+invariant_of-self c = changed_are c.self.inside.store c.self.inside.occupancy.places c.self.inside.occupancy.used c.self.inside.listed
+    c.self.invariant c.args.self.now.objects (ap (λ (h : Holding). h.objects) c.self.view_is) c.args.slot
+    (with_cleanable (in_clean_state c.args.state)) c.set_clean_state.new.self (cleanable_gives_none (in_clean_state c.args.state))
+    c.set_clean_state.ensures
 
 pub returns-clause-objects : goal.returns-clause-objects
-returns-clause-objects c = changed_view c.self.inside.store c.self.inside.occupancy.places c.self.inside.occupancy.used c.self.inside.listed c.self.invariant c.args.self.now.objects (ap (λ (h : Holding). h.objects) c.self.view_is) c.args.slot (with_cleanable (in_clean_state c.args.state)) c.set_clean_state.new.self (object_of_cleanable _ c.requires) c.set_clean_state.ensures
+returns-clause-objects c = changed_view c.self.inside.store c.self.inside.occupancy.places c.self.inside.occupancy.used c.self.inside.listed
+    c.self.invariant c.args.self.now.objects (ap (λ (h : Holding). h.objects) c.self.view_is) c.args.slot
+    (with_cleanable (in_clean_state c.args.state)) c.set_clean_state.new.self (object_of_cleanable _ c.requires) c.set_clean_state.ensures

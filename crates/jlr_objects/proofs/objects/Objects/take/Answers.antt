@@ -8,12 +8,30 @@ use Rattle.jlr_objects.proofs.Shown.{counted, hidden, long, new_none, none_lay, 
 use Rattle.jlr_objects.proofs.objects.Objects.take.Goals as goal
 
 pub take-slot-requires : goal.take-slot-requires
-take-slot-requires c = omega (arith, c.make_free.ensures.room c.if-not-make_free.false, counted c.self.inside.store c.self.inside.occupancy.places c.self.inside.occupancy.used c.self.inside.listed c.self.invariant c.make_free.new.self.objects (ap (λ (h : Holding). h.objects) c.self.view_is), long c.self.inside.store c.self.inside.occupancy.places c.self.inside.occupancy.used c.self.inside.listed c.self.invariant c.make_free.new.self.objects (ap (λ (h : Holding). h.objects) c.self.view_is), ap (λ (h : Holding). h.condemned) c.self.view_is, c.self.invariant.places)
+take-slot-requires c = omega (
+  arith,
+  c.make_free.ensures.room c.if-not-make_free.false,
+  counted c.self.inside.store c.self.inside.occupancy.places c.self.inside.occupancy.used c.self.inside.listed c.self.invariant
+      c.make_free.new.self.objects (ap (λ (h : Holding). h.objects) c.self.view_is),
+  long c.self.inside.store c.self.inside.occupancy.places c.self.inside.occupancy.used c.self.inside.listed c.self.invariant
+      c.make_free.new.self.objects (ap (λ (h : Holding). h.objects) c.self.view_is),
+  ap (λ (h : Holding). h.condemned) c.self.view_is,
+  c.self.invariant.places,
+)
 
 pub returns-clause-free : goal.returns-clause-free
 returns-clause-free c = (
-  omega (arith, c.take-slot.ensures.within, c.self.invariant.places, long c.self.inside.store c.self.inside.occupancy.places c.self.inside.occupancy.used c.self.inside.listed c.self.invariant c.make_free.new.self.objects (ap (λ (h : Holding). h.objects) c.self.view_is), ap length c.make_free.ensures.objects),
-  ap (λ (h : Heap). at h c.take-slot.result) (sym c.make_free.ensures.objects) ∙ hidden c.self.inside.store c.self.inside.occupancy.places c.self.inside.occupancy.used c.self.inside.listed c.self.invariant c.make_free.new.self.objects (ap (λ (h : Holding). h.objects) c.self.view_is) c.take-slot.result c.take-slot.ensures.vacant,
+  omega (
+    arith,
+    c.take-slot.ensures.within,
+    c.self.invariant.places,
+    long c.self.inside.store c.self.inside.occupancy.places c.self.inside.occupancy.used c.self.inside.listed c.self.invariant
+        c.make_free.new.self.objects (ap (λ (h : Holding). h.objects) c.self.view_is),
+    ap length c.make_free.ensures.objects,
+  ),
+  ap (λ (h : Heap). at h c.take-slot.result) (sym c.make_free.ensures.objects)
+      ∙ hidden c.self.inside.store c.self.inside.occupancy.places c.self.inside.occupancy.used c.self.inside.listed c.self.invariant
+      c.make_free.new.self.objects (ap (λ (h : Holding). h.objects) c.self.view_is) c.take-slot.result c.take-slot.ensures.vacant,
 )
 
 pub put-requires-clause-within : goal.put-requires-clause-within
@@ -21,7 +39,8 @@ put-requires-clause-within c = omega (arith, c.take-slot.ensures.within, c.self.
 
 pub put-requires-clause-members : goal.put-requires-clause-members
 put-requires-clause-members c =
-    none_lay c.self.inside.store c.self.inside.occupancy.places c.self.inside.occupancy.used c.self.inside.listed c.self.invariant c.take-slot.result (omega (arith, c.take-slot.ensures.within, c.self.invariant.places)) c.take-slot.ensures.vacant
+    none_lay c.self.inside.store c.self.inside.occupancy.places c.self.inside.occupancy.used c.self.inside.listed c.self.invariant
+    c.take-slot.result (omega (arith, c.take-slot.ensures.within, c.self.invariant.places)) c.take-slot.ensures.vacant
 
 pub invariant_of-self : goal.invariant_of-self
 invariant_of-self c =
@@ -29,8 +48,11 @@ invariant_of-self c =
     let n = c.take-slot.result in
     subst (λ (h : Heap). AreShown h c.take-slot.new.self.places c.take-slot.new.self.used s.listed) (sym c.put.ensures)
     (subst (λ p. AreShown (set_at s.store n (object_of c.args.shape)) p c.take-slot.new.self.used s.listed) (sym c.take-slot.ensures.taken)
-    (subst (λ u. AreShown (set_at s.store n (object_of c.args.shape)) (set s.occupancy.places n true) u s.listed) (sym c.take-slot.ensures.used)
-    (put_are s.store s.occupancy.places s.occupancy.used s.listed c.self.invariant n (omega (arith, c.take-slot.ensures.within, c.self.invariant.places)) c.take-slot.ensures.vacant (object_of c.args.shape) (new_none c.args.shape))))
+    (subst (λ u. AreShown (set_at s.store n (object_of c.args.shape)) (set s.occupancy.places n true) u s.listed)
+    (sym c.take-slot.ensures.used)
+    (put_are s.store s.occupancy.places s.occupancy.used s.listed c.self.invariant n
+    (omega (arith, c.take-slot.ensures.within, c.self.invariant.places)) c.take-slot.ensures.vacant (object_of c.args.shape)
+    (new_none c.args.shape))))
 
 pub returns-clause-taken : goal.returns-clause-taken
 returns-clause-taken c =

@@ -9,12 +9,30 @@ use Rattle.jlr_objects.proofs.Shown.{counted, hidden, long, none_lay, put_are}
 use Rattle.jlr_objects.proofs.objects.Objects.take_array.Goals as goal
 
 pub take-slot-requires : goal.take-slot-requires
-take-slot-requires c = omega (arith, c.make_free.ensures.room c.if-not-make_free.false, counted c.self.inside.store c.self.inside.occupancy.places c.self.inside.occupancy.used c.self.inside.listed c.self.invariant c.make_free.new.self.objects (ap (λ (h : Holding). h.objects) c.self.view_is), long c.self.inside.store c.self.inside.occupancy.places c.self.inside.occupancy.used c.self.inside.listed c.self.invariant c.make_free.new.self.objects (ap (λ (h : Holding). h.objects) c.self.view_is), ap (λ (h : Holding). h.condemned) c.self.view_is, c.self.invariant.places)
+take-slot-requires c = omega (
+  arith,
+  c.make_free.ensures.room c.if-not-make_free.false,
+  counted c.self.inside.store c.self.inside.occupancy.places c.self.inside.occupancy.used c.self.inside.listed c.self.invariant
+      c.make_free.new.self.objects (ap (λ (h : Holding). h.objects) c.self.view_is),
+  long c.self.inside.store c.self.inside.occupancy.places c.self.inside.occupancy.used c.self.inside.listed c.self.invariant
+      c.make_free.new.self.objects (ap (λ (h : Holding). h.objects) c.self.view_is),
+  ap (λ (h : Holding). h.condemned) c.self.view_is,
+  c.self.invariant.places,
+)
 
 pub returns-clause-free : goal.returns-clause-free
 returns-clause-free c = (
-  omega (arith, c.take-slot.ensures.within, c.self.invariant.places, long c.self.inside.store c.self.inside.occupancy.places c.self.inside.occupancy.used c.self.inside.listed c.self.invariant c.make_free.new.self.objects (ap (λ (h : Holding). h.objects) c.self.view_is), ap length c.make_free.ensures.objects),
-  ap (λ (h : Heap). at h c.take-slot.result) (sym c.make_free.ensures.objects) ∙ hidden c.self.inside.store c.self.inside.occupancy.places c.self.inside.occupancy.used c.self.inside.listed c.self.invariant c.make_free.new.self.objects (ap (λ (h : Holding). h.objects) c.self.view_is) c.take-slot.result c.take-slot.ensures.vacant,
+  omega (
+    arith,
+    c.take-slot.ensures.within,
+    c.self.invariant.places,
+    long c.self.inside.store c.self.inside.occupancy.places c.self.inside.occupancy.used c.self.inside.listed c.self.invariant
+        c.make_free.new.self.objects (ap (λ (h : Holding). h.objects) c.self.view_is),
+    ap length c.make_free.ensures.objects,
+  ),
+  ap (λ (h : Heap). at h c.take-slot.result) (sym c.make_free.ensures.objects)
+      ∙ hidden c.self.inside.store c.self.inside.occupancy.places c.self.inside.occupancy.used c.self.inside.listed c.self.invariant
+      c.make_free.new.self.objects (ap (λ (h : Holding). h.objects) c.self.view_is) c.take-slot.result c.take-slot.ensures.vacant,
 )
 
 pub put_array-requires-clause-within : goal.put_array-requires-clause-within
@@ -22,16 +40,21 @@ put_array-requires-clause-within c = omega (arith, c.take-slot.ensures.within, c
 
 pub put_array-requires-clause-members : goal.put_array-requires-clause-members
 put_array-requires-clause-members c =
-    none_lay c.self.inside.store c.self.inside.occupancy.places c.self.inside.occupancy.used c.self.inside.listed c.self.invariant c.take-slot.result (omega (arith, c.take-slot.ensures.within, c.self.invariant.places)) c.take-slot.ensures.vacant
+    none_lay c.self.inside.store c.self.inside.occupancy.places c.self.inside.occupancy.used c.self.inside.listed c.self.invariant
+    c.take-slot.result (omega (arith, c.take-slot.ensures.within, c.self.invariant.places)) c.take-slot.ensures.vacant
 
 pub invariant_of-self : goal.invariant_of-self
 invariant_of-self c =
     let s = c.self.inside in
     let n = c.take-slot.result in
     subst (λ (h : Heap). AreShown h c.take-slot.new.self.places c.take-slot.new.self.used s.listed) (sym c.put_array.ensures)
-    (subst (λ p. AreShown (set_at s.store n (Plain (Elements c.args.elements))) p c.take-slot.new.self.used s.listed) (sym c.take-slot.ensures.taken)
-    (subst (λ u. AreShown (set_at s.store n (Plain (Elements c.args.elements))) (set s.occupancy.places n true) u s.listed) (sym c.take-slot.ensures.used)
-    (put_are s.store s.occupancy.places s.occupancy.used s.listed c.self.invariant n (omega (arith, c.take-slot.ensures.within, c.self.invariant.places)) c.take-slot.ensures.vacant (Plain (Elements c.args.elements)) refl)))
+    (subst (λ p. AreShown (set_at s.store n (Plain (Elements c.args.elements))) p c.take-slot.new.self.used s.listed)
+    (sym c.take-slot.ensures.taken)
+    (subst (λ u. AreShown (set_at s.store n (Plain (Elements c.args.elements))) (set s.occupancy.places n true) u s.listed)
+    (sym c.take-slot.ensures.used)
+    (put_are s.store s.occupancy.places s.occupancy.used s.listed c.self.invariant n
+    (omega (arith, c.take-slot.ensures.within, c.self.invariant.places)) c.take-slot.ensures.vacant (Plain (Elements c.args.elements))
+    refl)))
 
 pub returns-clause-taken : goal.returns-clause-taken
 returns-clause-taken c =

@@ -10,13 +10,18 @@ use Rattle.jlr_objects.proofs.Shown.{holds_below, there}
 use Rattle.jlr_objects.proofs.objects.Objects.visit.Goals as goal
 
 pub visit-requires-clause-object : goal.visit-requires-clause-object
-visit-requires-clause-object c = holds_below c.self.inside.store c.self.inside.occupancy.places c.self.inside.occupancy.used c.self.inside.listed c.self.invariant c.args.self.now.objects (ap (λ (h : Holding). h.objects) c.self.view_is) is_some c.args.slot (λ o h. h) c.requires.object
+visit-requires-clause-object c = holds_below c.self.inside.store c.self.inside.occupancy.places c.self.inside.occupancy.used
+    c.self.inside.listed c.self.invariant c.args.self.now.objects (ap (λ (h : Holding). h.objects) c.self.view_is) is_some c.args.slot
+    (λ o h. h) c.requires.object
 
 pub returns-clause-plain : goal.returns-clause-plain
-returns-clause-plain c = c.visit.ensures.plain ∙ ap (some_and is_record) (sym (there c.self.inside.store c.self.inside.occupancy.places c.self.inside.occupancy.used c.self.inside.listed c.self.invariant c.args.self.now.objects (ap (λ (h : Holding). h.objects) c.self.view_is) c.args.slot c.requires.object))
+returns-clause-plain c = c.visit.ensures.plain ∙ ap (some_and is_record)
+    (sym (there c.self.inside.store c.self.inside.occupancy.places c.self.inside.occupancy.used c.self.inside.listed c.self.invariant
+    c.args.self.now.objects (ap (λ (h : Holding). h.objects) c.self.view_is) c.args.slot c.requires.object))
 
 pub returns-clause-edges : goal.returns-clause-edges
 returns-clause-edges c =
     subst (λ o. IfSome c.visit.result (λ links. edges_from Strong (o ∷ []) 0 ≡ linked links.0.now ++ linked_in links.1))
-    (sym (there c.self.inside.store c.self.inside.occupancy.places c.self.inside.occupancy.used c.self.inside.listed c.self.invariant c.args.self.now.objects (ap (λ (h : Holding). h.objects) c.self.view_is) c.args.slot c.requires.object))
+    (sym (there c.self.inside.store c.self.inside.occupancy.places c.self.inside.occupancy.used c.self.inside.listed c.self.invariant
+    c.args.self.now.objects (ap (λ (h : Holding). h.objects) c.self.view_is) c.args.slot c.requires.object))
     c.visit.ensures.edges

@@ -8,10 +8,16 @@ use Rattle.jlr_objects.proofs.Shown.{changed_are, changed_view, holds_below, cle
 use Rattle.jlr_objects.proofs.objects.Objects.watch.Goals as goal
 
 pub watch-requires : goal.watch-requires
-watch-requires c = holds_below c.self.inside.store c.self.inside.occupancy.places c.self.inside.occupancy.used c.self.inside.listed c.self.invariant c.args.self.now.objects (ap (λ (h : Holding). h.objects) c.self.view_is) (some_and is_cleanable) c.args.slot object_of_cleanable c.requires
+watch-requires c = holds_below c.self.inside.store c.self.inside.occupancy.places c.self.inside.occupancy.used c.self.inside.listed
+    c.self.invariant c.args.self.now.objects (ap (λ (h : Holding). h.objects) c.self.view_is) (some_and is_cleanable) c.args.slot
+    object_of_cleanable c.requires
 
 pub invariant_of-self : goal.invariant_of-self
-invariant_of-self c = changed_are c.self.inside.store c.self.inside.occupancy.places c.self.inside.occupancy.used c.self.inside.listed c.self.invariant c.args.self.now.objects (ap (λ (h : Holding). h.objects) c.self.view_is) c.args.slot (with_cleanable (watching c.args.referent)) c.watch.new.self (cleanable_gives_none (watching c.args.referent)) c.watch.ensures
+invariant_of-self c = changed_are c.self.inside.store c.self.inside.occupancy.places c.self.inside.occupancy.used c.self.inside.listed
+    c.self.invariant c.args.self.now.objects (ap (λ (h : Holding). h.objects) c.self.view_is) c.args.slot
+    (with_cleanable (watching c.args.referent)) c.watch.new.self (cleanable_gives_none (watching c.args.referent)) c.watch.ensures
 
 pub returns-clause-objects : goal.returns-clause-objects
-returns-clause-objects c = changed_view c.self.inside.store c.self.inside.occupancy.places c.self.inside.occupancy.used c.self.inside.listed c.self.invariant c.args.self.now.objects (ap (λ (h : Holding). h.objects) c.self.view_is) c.args.slot (with_cleanable (watching c.args.referent)) c.watch.new.self (object_of_cleanable _ c.requires) c.watch.ensures
+returns-clause-objects c = changed_view c.self.inside.store c.self.inside.occupancy.places c.self.inside.occupancy.used c.self.inside.listed
+    c.self.invariant c.args.self.now.objects (ap (λ (h : Holding). h.objects) c.self.view_is) c.args.slot
+    (with_cleanable (watching c.args.referent)) c.watch.new.self (object_of_cleanable _ c.requires) c.watch.ensures

@@ -9,4 +9,5 @@ overflow_add-self c = omega (arith, c.self.invariant.counted, c.self.invariant.l
 pub invariant_of-self : goal.invariant_of-self
 invariant_of-self c =
     let s = c.self.inside in
-    subst (λ u. AreUsed (record { places = s.occupied; used = u; condemned = 0 }) (s.free + s.condemned)) (sym c.assign.ensures) (swept_all _ s.free c.self.invariant)
+    subst (λ u. AreUsed (record { places = s.occupied; used = u; condemned = 0 }) (s.free + s.condemned)) (sym c.assign.ensures)
+    (swept_all _ s.free c.self.invariant)

@@ -7,6 +7,8 @@ use Rattle.jlr_roots.proofs.roots.Roots.begin_call.Goals as goal
 
 pub returns : goal.returns
 returns c =
-    let joined : is_some (at (sessions_in c.self.inside.members.items) c.number.result) ≡ true = rw (c.number.ensures, c.self.view_is) c.requires in
+    let joined : is_some (at (sessions_in c.self.inside.members.items) c.number.result) ≡ true =
+    rw (c.number.ensures, c.self.view_is) c.requires in
     let within : c.number.result < length c.self.inside.members.items = within_members _ _ joined in
-    rw (← c.self.view_is, ← c.number.ensures) (change_at-sessions_in _ _ c.index_mut-member.result.now _ (with_call c.args.fence c.args.call) within c.index_mut-member.ensures.value c.set_call.ensures.session)
+    rw (← c.self.view_is, ← c.number.ensures) (change_at-sessions_in _ _ c.index_mut-member.result.now _
+    (with_call c.args.fence c.args.call) within c.index_mut-member.ensures.value c.set_call.ensures.session)

@@ -8,21 +8,53 @@ use Rattle.jlr_server.proofs.worked.Worked.serve.Goals as goal
 
 pub invariant_of-result-2 : goal.invariant_of-result-2
 invariant_of-result-2 g c =
-    let device : Opening g.row.D.Denot g.row.D-Res.Denot = record { count = g.D.Device.count; opens = g.D.Device.may_open; connects = g.D.Device.may_connect; failures = g.D.Res.Resource.handling.count } in
+    let device : Opening g.row.D.Denot g.row.D-Res.Denot =
+    record {
+      count =
+          g.D.Device.count;
+      opens = g.D.Device.may_open;
+      connects = g.D.Device.may_connect;
+      failures = g.D.Res.Resource.handling.count;
+    } in
     let resource = g.D.Res.Resource.handling in
     let p = c.self.inside.seat in
     let q = c.serve_seat-seat.result in
     let v = c.serve_seat-seat.ensures in
     let remaining = g.A.In.Read.remaining c.serve_seat-seat.new.input in
     let given = rw (← c.self.view_is) at c.requires.came in
-    let stays : q.seat ≡ p.seat = session_stays g.L.Limited.limits device resource (FindsEnd remaining v.1) v.0 v.1 p c.args.device.now v.2 q c.serve_seat-seat.new.device v.6 in
-    one_session g.L.Limited.limits device resource g.A.Acceptor.giving g.A.In.Read.remaining g.A.Out.Write.contents p q c.self.inside.sessions c.self.inside.missed (rw (← c.self.view_is) at c.requires.seat) stays c.self.invariant
-    (given.0, c.args.input.now, c.args.output.now, given.1, c.serve_seat-seat.new.input, c.serve_seat-seat.new.output, v.1, v.2, v.3, v.4, v.5, c.args.device.now, c.serve_seat-seat.new.device, v.0, v.6)
+    let stays : q.seat ≡ p.seat = session_stays g.L.Limited.limits device resource (FindsEnd remaining v.1) v.0 v.1 p c.args.device.now v.2
+    q c.serve_seat-seat.new.device v.6 in
+    one_session g.L.Limited.limits device resource g.A.Acceptor.giving g.A.In.Read.remaining g.A.Out.Write.contents p q
+    c.self.inside.sessions c.self.inside.missed (rw (← c.self.view_is) at c.requires.seat) stays c.self.invariant (
+      given.0,
+      c.args.input.now,
+      c.args.output.now,
+      given.1,
+      c.serve_seat-seat.new.input,
+      c.serve_seat-seat.new.output,
+      v.1,
+      v.2,
+      v.3,
+      v.4,
+      v.5,
+      c.args.device.now,
+      c.serve_seat-seat.new.device,
+      v.0,
+      v.6,
+    )
 
 pub returns : goal.returns
 returns g c =
-    let device : Opening g.row.D.Denot g.row.D-Res.Denot = record { count = g.D.Device.count; opens = g.D.Device.may_open; connects = g.D.Device.may_connect; failures = g.D.Res.Resource.handling.count } in
+    let device : Opening g.row.D.Denot g.row.D-Res.Denot =
+    record {
+      count =
+          g.D.Device.count;
+      opens = g.D.Device.may_open;
+      connects = g.D.Device.may_connect;
+      failures = g.D.Res.Resource.handling.count;
+    } in
     let v = c.serve_seat-seat.ensures in
     let remaining = g.A.In.Read.remaining c.serve_seat-seat.new.input in
-    session_stays g.L.Limited.limits device g.D.Res.Resource.handling (FindsEnd remaining v.1) v.0 v.1 c.self.inside.seat c.args.device.now v.2 c.serve_seat-seat.result c.serve_seat-seat.new.device v.6
+    session_stays g.L.Limited.limits device g.D.Res.Resource.handling (FindsEnd remaining v.1) v.0 v.1 c.self.inside.seat c.args.device.now
+    v.2 c.serve_seat-seat.result c.serve_seat-seat.new.device v.6
     ∙ ap (λ (w : Work g.row.D-Res.Denot). w.seat.seat) c.self.view_is

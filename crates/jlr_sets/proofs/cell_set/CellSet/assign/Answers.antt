@@ -7,7 +7,14 @@ pub returns : goal.returns
 returns c =
     let cells = c.self.inside.cells in
     let others = c.other.inside.cells in
-    let long : cells ≡ others = omega (arith, c.requires, ap length c.self.view_is, ap length c.other.view_is, length-take-le cells c.self.inside.set c.self.invariant.0, length-take-le others c.other.inside.set c.other.invariant.0) in
+    let long : cells ≡ others = omega (
+      arith,
+      c.requires,
+      ap length c.self.view_is,
+      ap length c.other.view_is,
+      length-take-le cells c.self.inside.set c.self.invariant.0,
+      length-take-le others c.other.inside.set c.other.invariant.0,
+    ) in
     let room : cells ≤ length c.assign.new.self = omega (arith, c.assign.ensures.places, c.self.invariant.0) in
     let new = take cells c.assign.new.self in
     let old = take others c.other.inside.set in

@@ -9,9 +9,16 @@ pub overflow_cast-result : goal.overflow_cast-result
 overflow_cast-result c =
     let places = take c.self.inside.cells c.self.inside.set in
     let same = ap length (shown_slots c.self.inside.cells c.self.inside.set c.self.invariant.0 c.self.invariant.1) in
-    omega (arith, c.count.ensures.count, same, count_le (length places) places, length-take-le c.self.inside.cells c.self.inside.set c.self.invariant.0)
+    omega (
+      arith,
+      c.count.ensures.count,
+      same,
+      count_le (length places) places,
+      length-take-le c.self.inside.cells c.self.inside.set c.self.invariant.0,
+    )
 
 pub returns : goal.returns
 returns c =
     c.count.ensures.count
-    ∙ ap length (sym (shown_slots c.self.inside.cells c.self.inside.set c.self.invariant.0 c.self.invariant.1)) ∙ ap (λ p. length (slots_of p)) c.self.view_is
+    ∙ ap length (sym (shown_slots c.self.inside.cells c.self.inside.set c.self.invariant.0 c.self.invariant.1))
+    ∙ ap (λ p. length (slots_of p)) c.self.view_is

@@ -21,4 +21,5 @@ returns-clause-added c =
     let cells = c.self.inside.cells in
     c.insert.ensures.added
     ∙ ap (λ n. not (is_in places n)) c.number.ensures
-    ∙ ap not (sym (shown_place cells places c.self.invariant.0 c.self.invariant.1 c.args.slot) ∙ ap (λ p. is_in p c.args.slot) c.self.view_is)
+    ∙ ap not (sym (shown_place cells places c.self.invariant.0 c.self.invariant.1 c.args.slot)
+    ∙ ap (λ p. is_in p c.args.slot) c.self.view_is)

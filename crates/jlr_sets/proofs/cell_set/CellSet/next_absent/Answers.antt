@@ -13,7 +13,8 @@ returns-then-place-cells-clause-first c =
 pub returns-else-place-cells-clause-first : goal.returns-else-place-cells-clause-first
 returns-else-place-cells-clause-first c =
     subst (λ p. NoneFrom (absent p) c.args.from) c.self.view_is
-    (none_shown c.self.inside.cells c.self.inside.set c.self.invariant.0 c.args.from (λ k a b. c.in-Some.ensures.none_before k a (omega (arith, b, c.if-place-cells.false))))
+    (none_shown c.self.inside.cells c.self.inside.set c.self.invariant.0 c.args.from
+    (λ k a b. c.in-Some.ensures.none_before k a (omega (arith, b, c.if-place-cells.false))))
 
 pub returns-in-None-clause-first : goal.returns-in-None-clause-first
 returns-in-None-clause-first c =
@@ -21,10 +22,13 @@ returns-in-None-clause-first c =
     (none_shown c.self.inside.cells c.self.inside.set c.self.invariant.0 c.args.from (λ k a b. c.in-None.ensures k a))
 
 pub returns-then-place-cells-clause-few : goal.returns-then-place-cells-clause-few
-returns-then-place-cells-clause-few c = omega (arith, ap length c.self.view_is, length-take-le c.self.inside.cells c.self.inside.set c.self.invariant.0)
+returns-then-place-cells-clause-few c =
+    omega (arith, ap length c.self.view_is, length-take-le c.self.inside.cells c.self.inside.set c.self.invariant.0)
 
 pub returns-else-place-cells-clause-few : goal.returns-else-place-cells-clause-few
-returns-else-place-cells-clause-few c = omega (arith, ap length c.self.view_is, length-take-le c.self.inside.cells c.self.inside.set c.self.invariant.0)
+returns-else-place-cells-clause-few c =
+    omega (arith, ap length c.self.view_is, length-take-le c.self.inside.cells c.self.inside.set c.self.invariant.0)
 
 pub returns-in-None-clause-few : goal.returns-in-None-clause-few
-returns-in-None-clause-few c = omega (arith, ap length c.self.view_is, length-take-le c.self.inside.cells c.self.inside.set c.self.invariant.0)
+returns-in-None-clause-few c =
+    omega (arith, ap length c.self.view_is, length-take-le c.self.inside.cells c.self.inside.set c.self.invariant.0)

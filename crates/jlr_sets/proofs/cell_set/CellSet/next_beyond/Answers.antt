@@ -11,7 +11,8 @@ pub returns-in-Some-clause-first : goal.returns-in-Some-clause-first
 returns-in-Some-clause-first c =
     let first = c.in-Some.ensures in
     let place = c.in-Some.place in
-    let same = beyond_shown c.self.inside.cells c.self.inside.set c.self.invariant.0 c.self.invariant.1 c.other.inside.cells c.other.inside.set c.other.invariant.0 c.other.invariant.1 in
+    let same = beyond_shown c.self.inside.cells c.self.inside.set c.self.invariant.0 c.self.invariant.1 c.other.inside.cells
+    c.other.inside.set c.other.invariant.0 c.other.invariant.1 in
     subst (λ n. IsFirstFrom (beyond c.args.self.now c.args.other.now) c.args.from n) (sym c.new.ensures)
     (subst (λ p. IsFirstFrom (beyond p c.args.other.now) c.args.from place) c.self.view_is
     (subst (λ p. IsFirstFrom (beyond (take c.self.inside.cells c.self.inside.set) p) c.args.from place) c.other.view_is (record {
@@ -21,14 +22,17 @@ returns-in-Some-clause-first c =
     })))
 
 pub returns-in-Some-clause-few : goal.returns-in-Some-clause-few
-returns-in-Some-clause-few c = omega (arith, ap length c.self.view_is, length-take-le c.self.inside.cells c.self.inside.set c.self.invariant.0)
+returns-in-Some-clause-few c =
+    omega (arith, ap length c.self.view_is, length-take-le c.self.inside.cells c.self.inside.set c.self.invariant.0)
 
 pub returns-in-None-clause-first : goal.returns-in-None-clause-first
 returns-in-None-clause-first c =
-    let same = beyond_shown c.self.inside.cells c.self.inside.set c.self.invariant.0 c.self.invariant.1 c.other.inside.cells c.other.inside.set c.other.invariant.0 c.other.invariant.1 in
+    let same = beyond_shown c.self.inside.cells c.self.inside.set c.self.invariant.0 c.self.invariant.1 c.other.inside.cells
+    c.other.inside.set c.other.invariant.0 c.other.invariant.1 in
     subst (λ p. NoneFrom (beyond p c.args.other.now) c.args.from) c.self.view_is
     (subst (λ p. NoneFrom (beyond (take c.self.inside.cells c.self.inside.set) p) c.args.from) c.other.view_is
     (λ k a. same k ∙ c.in-None.ensures k a))
 
 pub returns-in-None-clause-few : goal.returns-in-None-clause-few
-returns-in-None-clause-few c = omega (arith, ap length c.self.view_is, length-take-le c.self.inside.cells c.self.inside.set c.self.invariant.0)
+returns-in-None-clause-few c =
+    omega (arith, ap length c.self.view_is, length-take-le c.self.inside.cells c.self.inside.set c.self.invariant.0)

@@ -24,7 +24,9 @@ returns-in-None-clause-first c =
     (λ k a. shown_place c.self.inside.cells c.self.inside.set c.self.invariant.0 c.self.invariant.1 k ∙ c.in-None.ensures k a)
 
 pub returns-in-Some-clause-few : goal.returns-in-Some-clause-few
-returns-in-Some-clause-few c = omega (arith, ap length c.self.view_is, length-take-le c.self.inside.cells c.self.inside.set c.self.invariant.0)
+returns-in-Some-clause-few c =
+    omega (arith, ap length c.self.view_is, length-take-le c.self.inside.cells c.self.inside.set c.self.invariant.0)
 
 pub returns-in-None-clause-few : goal.returns-in-None-clause-few
-returns-in-None-clause-few c = omega (arith, ap length c.self.view_is, length-take-le c.self.inside.cells c.self.inside.set c.self.invariant.0)
+returns-in-None-clause-few c =
+    omega (arith, ap length c.self.view_is, length-take-le c.self.inside.cells c.self.inside.set c.self.invariant.0)

@@ -27,11 +27,21 @@ returns-clause-each c =
     let cleared : filled ≡ replicate c.self.inside.words.len 0 = c.deref_mut.ensures.value ∙ c.fill.ensures.items (λ y e. e) in
     let first = c.deref.result.now in
     let there : bits_of first ≡ c.args.other.now = ap bits_of c.deref.ensures.value ∙ c.other.view_is in
-    let places : 64 * length filled ≡ length c.args.self.now = omega (arith, ap length cleared, length-replicate {A = ℕ} c.self.inside.words.len 0, length-bits_of c.self.inside.words.items, ap length c.self.view_is, c.self.inside.words.ok.0) in
+    let places : 64 * length filled ≡ length c.args.self.now =
+    omega (
+      arith,
+      ap length cleared,
+      length-replicate {A = ℕ} c.self.inside.words.len 0,
+      length-bits_of c.self.inside.words.items,
+      ap length c.self.view_is,
+      c.self.inside.words.ok.0,
+    ) in
     let none : (k : ℕ) → get_or filled k 0 ≡ 0 = λ k. ap (λ l. get_or l k 0) cleared ∙ zeros_only c.self.inside.words.len k in
-    let room : (slot : ℕ) → is_in (bits_of first) slot ≡ true → slot < 64 * length filled = λ slot h. omega (arith, c.requires slot (sym (ap (λ p. is_in p slot) there) ∙ h), places) in
+    let room : (slot : ℕ) → is_in (bits_of first) slot ≡ true → slot < 64 * length filled =
+    λ slot h. omega (arith, c.requires slot (sym (ap (λ p. is_in p slot) there) ∙ h), places) in
     λ k.
-    ap (λ l. is_in (bits_of l) k) (written c.fill.new.self.len c.overwrite.new.words c.fill.new.self.items (omega (arith, c.overwrite.ensures.long, ap length c.deref_mut.ensures.value, c.fill.new.self.ok.0)))
+    ap (λ l. is_in (bits_of l) k) (written c.fill.new.self.len c.overwrite.new.words c.fill.new.self.items
+    (omega (arith, c.overwrite.ensures.long, ap length c.deref_mut.ensures.value, c.fill.new.self.ok.0)))
     ∙ each filled first c.overwrite.new.words c.overwrite.ensures.first c.overwrite.ensures.rest c.overwrite.ensures.long none room k
     ∙ ap (λ p. is_in p k) there
 
@@ -41,17 +51,36 @@ returns-clause-slots c =
     let cleared : filled ≡ replicate c.self.inside.words.len 0 = c.deref_mut.ensures.value ∙ c.fill.ensures.items (λ y e. e) in
     let first = c.deref.result.now in
     let there : bits_of first ≡ c.args.other.now = ap bits_of c.deref.ensures.value ∙ c.other.view_is in
-    let places : 64 * length filled ≡ length c.args.self.now = omega (arith, ap length cleared, length-replicate {A = ℕ} c.self.inside.words.len 0, length-bits_of c.self.inside.words.items, ap length c.self.view_is, c.self.inside.words.ok.0) in
+    let places : 64 * length filled ≡ length c.args.self.now =
+    omega (
+      arith,
+      ap length cleared,
+      length-replicate {A = ℕ} c.self.inside.words.len 0,
+      length-bits_of c.self.inside.words.items,
+      ap length c.self.view_is,
+      c.self.inside.words.ok.0,
+    ) in
     let none : (k : ℕ) → get_or filled k 0 ≡ 0 = λ k. ap (λ l. get_or l k 0) cleared ∙ zeros_only c.self.inside.words.len k in
-    let room : (slot : ℕ) → is_in (bits_of first) slot ≡ true → slot < 64 * length filled = λ slot h. omega (arith, c.requires slot (sym (ap (λ p. is_in p slot) there) ∙ h), places) in
-    ap (λ l. slots_of (bits_of l)) (written c.fill.new.self.len c.overwrite.new.words c.fill.new.self.items (omega (arith, c.overwrite.ensures.long, ap length c.deref_mut.ensures.value, c.fill.new.self.ok.0)))
+    let room : (slot : ℕ) → is_in (bits_of first) slot ≡ true → slot < 64 * length filled =
+    λ slot h. omega (arith, c.requires slot (sym (ap (λ p. is_in p slot) there) ∙ h), places) in
+    ap (λ l. slots_of (bits_of l)) (written c.fill.new.self.len c.overwrite.new.words c.fill.new.self.items
+    (omega (arith, c.overwrite.ensures.long, ap length c.deref_mut.ensures.value, c.fill.new.self.ok.0)))
     ∙ assigned filled first c.overwrite.new.words c.overwrite.ensures.first c.overwrite.ensures.rest c.overwrite.ensures.long none room
     ∙ ap slots_of there
 
 pub returns-clause-places : goal.returns-clause-places
 returns-clause-places c =
     let new = c.overwrite.new.words in
-    let long : length new ≡ c.fill.new.self.len = omega (arith, c.overwrite.ensures.long, ap length c.deref_mut.ensures.value, c.fill.new.self.ok.0) in
+    let long : length new ≡ c.fill.new.self.len =
+    omega (arith, c.overwrite.ensures.long, ap length c.deref_mut.ensures.value, c.fill.new.self.ok.0) in
     let same : length (bits_of new) ≡ length c.args.self.now =
-    omega (arith, length-bits_of new, long, c.fill.ensures.len, length-bits_of c.self.inside.words.items, ap length c.self.view_is, c.self.inside.words.ok.0) in
+    omega (
+      arith,
+      length-bits_of new,
+      long,
+      c.fill.ensures.len,
+      length-bits_of c.self.inside.words.items,
+      ap length c.self.view_is,
+      c.self.inside.words.ok.0,
+    ) in
     ap (λ l. length (bits_of l)) (written c.fill.new.self.len new c.fill.new.self.items long) ∙ same

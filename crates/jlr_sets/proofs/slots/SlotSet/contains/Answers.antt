@@ -14,7 +14,8 @@ pub returns : goal.returns
 returns c =
     let words = c.self.inside.words.items in
     let slot = c.args.slot in
-    let read : c.index-word.result.now ≡ get_or words (slot / 64) 0 = get_or_read words (slot / 64) _ (omega (arith, length-bits_of words, ap length c.self.view_is)) c.index-word.ensures 0 in
+    let read : c.index-word.result.now ≡ get_or words (slot / 64) 0 =
+    get_or_read words (slot / 64) _ (omega (arith, length-bits_of words, ap length c.self.view_is)) c.index-word.ensures 0 in
     ap (λ b. eqb b 1) (shr_and_one c.index-word.result.now (slot % 64))
     ∙ ap (λ w. is_bit w (slot % 64)) read
     ∙ sym (place_is words slot)

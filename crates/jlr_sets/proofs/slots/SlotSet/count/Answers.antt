@@ -7,4 +7,11 @@ use Rattle.jlr_sets.proofs.slots.SlotSet.count.Goals as goal
 pub returns-clause-fits : goal.returns-clause-fits
 returns-clause-fits c =
     let places = bits_of c.deref.result.now in
-    omega (arith, c.count_of.ensures, count_le (length places) places, length-bits_of c.deref.result.now, ap length c.deref.ensures.value, c.self.invariant)
+    omega (
+      arith,
+      c.count_of.ensures,
+      count_le (length places) places,
+      length-bits_of c.deref.result.now,
+      ap length c.deref.ensures.value,
+      c.self.invariant,
+    )

@@ -25,7 +25,8 @@ loop-slot-preserved c =
       is =
           c.in_ok-push.ensures.items
           ∙ ap (λ n. c.loop-slot.slots.items ++ n ∷ []) c.new.ensures
-          ∙ ap (λ l. l ++ slot ∷ []) (c.loop-slot.invariant.is ∙ sym (slots_below_same c.loop-slot.from slot c.args.self.now first.at_least first.none_before))
+          ∙ ap (λ l. l ++ slot ∷ []) (c.loop-slot.invariant.is
+          ∙ sym (slots_below_same c.loop-slot.from slot c.args.self.now first.at_least first.none_before))
           ∙ sym (slots_below_set slot (slot + 1) c.args.self.now (omega arith) first.inside);
       within = omega arith;
     }

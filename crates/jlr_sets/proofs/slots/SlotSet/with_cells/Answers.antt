@@ -13,4 +13,10 @@ pub returns-clause-room : goal.returns-clause-room
 returns-clause-room c =
     let words = c.in_ok-vec.field-0.items in
     let n = ap length (c.in_ok-vec.ensures.items_if_clones_equal (λ y e. e)) in
-    rw length-bits_of (omega (arith, n, length-replicate {A = ℕ} c.div_ceil-count.result 0, c.div_ceil-count.ensures, room_for c.args.cells))
+    rw length-bits_of (omega (
+      arith,
+      n,
+      length-replicate {A = ℕ} c.div_ceil-count.result 0,
+      c.div_ceil-count.ensures,
+      room_for c.args.cells,
+    ))

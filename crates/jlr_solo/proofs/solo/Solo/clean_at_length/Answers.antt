@@ -13,7 +13,8 @@ returns-in-Ok-clause-turn g c =
     let new = c.finish.new.self in
     let told = c.finish.ensures.told in
     let took = subst (λ s. BookSteps s old (Asks TakeUp) c.step.result between) c.cleaner-seat.ensures
-    (subst (λ (e : Event g.row.R.Denot). BookSteps c.cleaner-seat.result old e c.step.result c.step.new.self) c.ask.ensures c.step.ensures.steps) in
+    (subst (λ (e : Event g.row.R.Denot). BookSteps c.cleaner-seat.result old e c.step.result c.step.new.self) c.ask.ensures
+    c.step.ensures.steps) in
     let tells = subst (λ s. BookSteps s between told.0 told.1 new) c.cleaner-seat.ensures told.3 in
     (worked_turn g.R.Resource.handling old between new c.step.result told.1 c.in-Ok.job told.0
     (sym c.job_of.ensures ∙ c.in-Ok.is) c.step.ensures.before c.finish.ensures.before c.requires took told.2 tells).0
@@ -25,7 +26,8 @@ returns-in-Ok-clause-shorter g c =
     let new = c.finish.new.self in
     let told = c.finish.ensures.told in
     let took = subst (λ s. BookSteps s old (Asks TakeUp) c.step.result between) c.cleaner-seat.ensures
-    (subst (λ (e : Event g.row.R.Denot). BookSteps c.cleaner-seat.result old e c.step.result c.step.new.self) c.ask.ensures c.step.ensures.steps) in
+    (subst (λ (e : Event g.row.R.Denot). BookSteps c.cleaner-seat.result old e c.step.result c.step.new.self) c.ask.ensures
+    c.step.ensures.steps) in
     let tells = subst (λ s. BookSteps s between told.0 told.1 new) c.cleaner-seat.ensures told.3 in
     (worked_turn g.R.Resource.handling old between new c.step.result told.1 c.in-Ok.job told.0
     (sym c.job_of.ensures ∙ c.in-Ok.is) c.step.ensures.before c.finish.ensures.before c.requires took told.2 tells).1
@@ -34,7 +36,8 @@ pub returns-in-Err-clause-turn : goal.returns-in-Err-clause-turn
 returns-in-Err-clause-turn g c =
     let old = c.args.self.now in
     let took = subst (λ s. BookSteps s old (Asks TakeUp) c.step.result c.step.new.self) c.cleaner-seat.ensures
-    (subst (λ (e : Event g.row.R.Denot). BookSteps c.cleaner-seat.result old e c.step.result c.step.new.self) c.ask.ensures c.step.ensures.steps) in
+    (subst (λ (e : Event g.row.R.Denot). BookSteps c.cleaner-seat.result old e c.step.result c.step.new.self) c.ask.ensures
+    c.step.ensures.steps) in
     (idle_turn g.R.Resource.handling old c.step.new.self c.step.result c.in-Err.answer c.turn_after.result
     (sym c.job_of.ensures ∙ c.in-Err.is) c.turn_after.ensures c.step.ensures.before c.requires took).0
 
@@ -42,6 +45,7 @@ pub returns-in-Err-clause-shorter : goal.returns-in-Err-clause-shorter
 returns-in-Err-clause-shorter g c =
     let old = c.args.self.now in
     let took = subst (λ s. BookSteps s old (Asks TakeUp) c.step.result c.step.new.self) c.cleaner-seat.ensures
-    (subst (λ (e : Event g.row.R.Denot). BookSteps c.cleaner-seat.result old e c.step.result c.step.new.self) c.ask.ensures c.step.ensures.steps) in
+    (subst (λ (e : Event g.row.R.Denot). BookSteps c.cleaner-seat.result old e c.step.result c.step.new.self) c.ask.ensures
+    c.step.ensures.steps) in
     (idle_turn g.R.Resource.handling old c.step.new.self c.step.result c.in-Err.answer c.turn_after.result
     (sym c.job_of.ensures ∙ c.in-Err.is) c.turn_after.ensures c.step.ensures.before c.requires took).1

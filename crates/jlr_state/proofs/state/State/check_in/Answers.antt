@@ -24,7 +24,8 @@ pub returns-in-Err-clause-memory : goal.returns-in-Err-clause-memory
 returns-in-Err-clause-memory g c =
     λ e.
     let wanting : c.in-Err.refusal ≡ NoMemory = cc e in
-    never_memory (machine_of c.args.self.now) (CheckIn c.args.by c.args.outcome) c.in-Err.refusal refl (c.in-Err.ensures c.args.outcome) wanting
+    never_memory (machine_of c.args.self.now) (CheckIn c.args.by c.args.outcome) c.in-Err.refusal refl (c.in-Err.ensures c.args.outcome)
+    wanting
 
 pub returns-clause-entry : goal.returns-clause-entry
 returns-clause-entry g c =
@@ -40,7 +41,8 @@ returns-clause-entry g c =
 pub returns-clause-moves : goal.returns-clause-moves
 returns-clause-moves g c =
     let rid = c.in-Ok.held.guard.rid in
-    put_in c.args.self.now.cleaner.table c.check_in.new.self.table rid Out c.args.resource c.in-Ok.ensures.1.resource (λ e. absurd (cc e)) c.check_in.ensures.lies_here c.check_in.ensures.others
+    put_in c.args.self.now.cleaner.table c.check_in.new.self.table rid Out c.args.resource c.in-Ok.ensures.1.resource (λ e. absurd (cc e))
+    c.check_in.ensures.lies_here c.check_in.ensures.others
 
 -- a call holds its guard
 pub end_call-requires-clause-object : goal.end_call-requires-clause-object

@@ -15,8 +15,11 @@ returns-in-Some g c =
     let rid = c.in-Some-Opening.field-0-0 in
     let there = call_there m k (CallOpening rid) (ap Some (sym c.in-Some-Opening.field-0-is) ∙ sym c.in-Some-Opening.is ∙ c.call.ensures) in
     let h = opening_holds m k rid there.0 c.requires there.1 there.2 in
-    let same : h.held ≡ c.in-Some.held = some_same h.held c.in-Some.held (sym h.under ∙ sym c.fenced.ensures ∙ c.in-Some.is) in
-    (λ outcome. opened_allowed m k rid there.0 outcome there.1 there.2, subst (λ (x : Guarded). HoldsGuard m k x Opening) same h.holds, opening_has_room m k rid there.0 c.requires there.1 there.2)
+    let same : h.held ≡ c.in-Some.held = some_same h.held c.in-Some.held (sym h.under ∙ sym c.fenced.ensures ∙ c.in-Some.is) in (
+      λ outcome. opened_allowed m k rid there.0 outcome there.1 there.2,
+      subst (λ (x : Guarded). HoldsGuard m k x Opening) same h.holds,
+      opening_has_room m k rid there.0 c.requires there.1 there.2,
+    )
 
 pub returns-in-None : goal.returns-in-None
 returns-in-None g c =

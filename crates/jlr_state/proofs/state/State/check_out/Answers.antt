@@ -33,10 +33,12 @@ pub returns-clause-moves : goal.returns-clause-moves
 returns-clause-moves g c =
     let rid = c.in-Ok.held.guard.rid in
     let called = c.check_out-resource.ensures in
-    taken_out c.args.self.now.cleaner.table c.check_out-resource.new.self.table rid IsOut c.check_out-resource.result called.put_in_last called.state (λ e. absurd (cc e)) called.others
+    taken_out c.args.self.now.cleaner.table c.check_out-resource.new.self.table rid IsOut c.check_out-resource.result called.put_in_last
+    called.state (λ e. absurd (cc e)) called.others
 
 -- what a handle names is in hand
 pub begin_call-requires-clause-held : goal.begin_call-requires-clause-held
 begin_call-requires-clause-held g c =
     let m = c.args.self.now in
-    λ s e. held_in_hand m.heap s (subst (λ x. x ∈ slots_held m.heap.graph.mutators) (some_same c.in-Ok.held.slot s e) (named_held (machine_of m) c.args.by c.args.guard c.in-Ok.held.slot c.in-Ok.ensures.1.named))
+    λ s e. held_in_hand m.heap s (subst (λ x. x ∈ slots_held m.heap.graph.mutators) (some_same c.in-Ok.held.slot s e)
+    (named_held (machine_of m) c.args.by c.args.guard c.in-Ok.held.slot c.in-Ok.ensures.1.named))

@@ -8,4 +8,5 @@ pub returns-in-Some-clause-object : goal.returns-in-Some-clause-object
 returns-in-Some-clause-object g c =
     let m = machine_of c.args.self.now in
     let e = sym c.lookup.ensures ∙ c.in-Some.is in
-    subst (λ o. IsTrue (is_some (option_and_then (at m.objects) o))) (sym e) (named_object m c.args.by c.args.handle c.in-Some.slot c.requires.fit e)
+    subst (λ o. IsTrue (is_some (option_and_then (at m.objects) o))) (sym e)
+    (named_object m c.args.by c.args.handle c.in-Some.slot c.requires.fit e)

@@ -19,5 +19,6 @@ returns-clause-collects g c =
     let s = c.args.self.now in
     let n = machine_with s.cleaner c.full.new.heap.graph false in
     subst (λ (p : Policy). Collects (keeps p s.heap.clock) (machine_of s) c.args.choice.now c.full.new.choice n)
-    (same_policy c.new-policy.result (record { soft_age = s.soft_age; mode = c.args.mode }) c.new-policy.ensures.soft_age c.new-policy.ensures.mode)
+    (same_policy c.new-policy.result (record { soft_age = s.soft_age; mode = c.args.mode }) c.new-policy.ensures.soft_age
+    c.new-policy.ensures.mode)
     (c.full.ensures.collects (frame_of s) (rooted s.cleaner s.heap.graph s.cycle_open c.requires.fit))

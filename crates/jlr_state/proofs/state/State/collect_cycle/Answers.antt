@@ -12,7 +12,8 @@ pub flip-requires-clause-fit : goal.flip-requires-clause-fit
 flip-requires-clause-fit g c = let s = c.args.self.now in (frame_of s, rooted s.cleaner s.heap.graph s.cycle_open c.requires.fit)
 
 -- what the flip did to the machine
-flips : (g : Over) (c : goal.After-self-1 g) → Flips (machine_of c.args.self.now) c.args.self.now.heap.marking c.args.choice.now c.flip.new.choice (machine_with c.args.self.now.cleaner c.flip.new.heap.graph c.args.self.now.cycle_open)
+flips : (g : Over) (c : goal.After-self-1 g) → Flips (machine_of c.args.self.now) c.args.self.now.heap.marking c.args.choice.now
+    c.flip.new.choice (machine_with c.args.self.now.cleaner c.flip.new.heap.graph c.args.self.now.cycle_open)
 flips g c = let s = c.args.self.now in c.flip.ensures.flips (frame_of s) (rooted s.cleaner s.heap.graph s.cycle_open c.requires.fit)
 
 pub returns-clause-meets : goal.returns-clause-meets
@@ -20,24 +21,30 @@ returns-clause-meets g c =
     let s = c.args.self.now in
     let whole : s.heap.marking.grey ≡ [] = c.has_grey.ensures.exact.0 c.if-has_grey.false in
     let still : s.cycle_open ≡ true = search rules in
-    meets_collect (machine_of s) s.heap.marking c.args.choice.now c.flip.new.choice (machine_with s.cleaner c.flip.new.heap.graph s.cycle_open) (flips g c) c.requires.nothing (machine_with s.cleaner c.flip.new.heap.graph false) still (c.has_grey.ensures.whole whole).objects refl
+    meets_collect (machine_of s) s.heap.marking c.args.choice.now c.flip.new.choice
+    (machine_with s.cleaner c.flip.new.heap.graph s.cycle_open) (flips g c) c.requires.nothing
+    (machine_with s.cleaner c.flip.new.heap.graph false) still (c.has_grey.ensures.whole whole).objects refl
 
 pub returns-clause-kept : goal.returns-clause-kept
 returns-clause-kept g c =
     let s = c.args.self.now in
-    keeps_marked (machine_of s) s.heap.marking c.args.choice.now c.flip.new.choice (machine_with s.cleaner c.flip.new.heap.graph s.cycle_open) (flips g c) c.requires.nothing c.has_grey.ensures.bits
+    keeps_marked (machine_of s) s.heap.marking c.args.choice.now c.flip.new.choice
+    (machine_with s.cleaner c.flip.new.heap.graph s.cycle_open) (flips g c) c.requires.nothing c.has_grey.ensures.bits
 
 pub returns-clause-room : goal.returns-clause-room
 returns-clause-room g c =
     let s = c.args.self.now in
-    tells_cells (machine_of s) s.heap.marking c.args.choice.now c.flip.new.choice (machine_with s.cleaner c.flip.new.heap.graph s.cycle_open) (flips g c) c.requires.nothing
+    tells_cells (machine_of s) s.heap.marking c.args.choice.now c.flip.new.choice
+    (machine_with s.cleaner c.flip.new.heap.graph s.cycle_open) (flips g c) c.requires.nothing
 
 pub returns-clause-cells : goal.returns-clause-cells
 returns-clause-cells g c =
     let s = c.args.self.now in
-    leaves_cells (machine_of s) s.heap.marking c.args.choice.now c.flip.new.choice (machine_with s.cleaner c.flip.new.heap.graph s.cycle_open) (flips g c) c.requires.nothing
+    leaves_cells (machine_of s) s.heap.marking c.args.choice.now c.flip.new.choice
+    (machine_with s.cleaner c.flip.new.heap.graph s.cycle_open) (flips g c) c.requires.nothing
 
 pub returns-clause-clock : goal.returns-clause-clock
 returns-clause-clock g c =
     let s = c.args.self.now in
-    c.flip.ensures.clock ∙ counts_collection (machine_of s) s.heap.marking c.args.choice.now c.flip.new.choice (machine_with s.cleaner c.flip.new.heap.graph s.cycle_open) (flips g c) c.requires.nothing s.heap.clock
+    c.flip.ensures.clock ∙ counts_collection (machine_of s) s.heap.marking c.args.choice.now c.flip.new.choice
+    (machine_with s.cleaner c.flip.new.heap.graph s.cycle_open) (flips g c) c.requires.nothing s.heap.clock

@@ -19,7 +19,8 @@ returns-in-Ok-clause-meets g c =
     let k = c.args.by in
     let is : outcome_of c.args.outcome ≡ EndedOk = ap outcome_of c.in-Ok.is in
     subst (λ (o : Outcome). Meets m (Opened k o) c.open_done.result no_choice n) (sym is)
-    (meets_plain m n (Opened k EndedOk) c.open_done.result tt (subst (λ (o : Outcome). refusal m (Opened k o) ≡ None) is c.requires.allowed) c.open_done.ensures.answer
+    (meets_plain m n (Opened k EndedOk) c.open_done.result tt (subst (λ (o : Outcome). refusal m (Opened k o) ≡ None) is c.requires.allowed)
+    c.open_done.ensures.answer
     (c.open_done.ensures.opened ∙ opened_is m k c.args.held Opening EndedOk c.open_done.result c.requires.held))
 
 pub returns-in-Err-clause-meets : goal.returns-in-Err-clause-meets
@@ -30,5 +31,6 @@ returns-in-Err-clause-meets g c =
     let failed : Outcome = Failed c.in-Err.fault in
     let is : outcome_of c.args.outcome ≡ failed = ap outcome_of c.in-Err.is in
     subst (λ (o : Outcome). Meets m (Opened k o) c.open_failed.result no_choice n) (sym is)
-    (meets_plain m n (Opened k failed) c.open_failed.result tt (subst (λ (o : Outcome). refusal m (Opened k o) ≡ None) is c.requires.allowed) (ap Some (sym c.open_failed.ensures.answer))
+    (meets_plain m n (Opened k failed) c.open_failed.result tt
+    (subst (λ (o : Outcome). refusal m (Opened k o) ≡ None) is c.requires.allowed) (ap Some (sym c.open_failed.ensures.answer))
     (c.open_failed.ensures.opened ∙ opened_is m k c.args.held Opening failed c.open_failed.result c.requires.held))

@@ -18,10 +18,12 @@ returns-clause-meets g c =
     let age = c.args.self.now.soft_age in
     let clock = c.args.self.now.heap.clock in
     let x : Collects (keeps (record { soft_age = age; mode = mode_of c.args.mode }) clock) m c.args.choice.now c.collect.new.choice n =
-    subst (λ (k : Mode). Collects (keeps (record { soft_age = age; mode = k }) clock) m c.args.choice.now c.collect.new.choice n) c.mode_of.ensures c.collect.ensures.collects in
+    subst (λ (k : Mode). Collects (keeps (record { soft_age = age; mode = k }) clock) m c.args.choice.now c.collect.new.choice n)
+    c.mode_of.ensures c.collect.ensures.collects in
     let chosen : c.collect.new.choice.chosen ≡ record { collected = Some (record { kept = x.kept; pending = x.pending }); fresh = [] } =
     ap (λ (k : Choosing). k.chosen) (x.chosen ∙ ap (λ (k : Choosing). collecting k x.kept x.pending) c.requires.nothing) in
-    meets_collection m c.args.by c.args.mode (record { kept = x.kept; pending = x.pending }) c.collect.new.choice n (allowed_full m c.args.by c.args.mode c.in_ok-check_session.ensures c.in_ok-check_no_call.ensures) chosen
+    meets_collection m c.args.by c.args.mode (record { kept = x.kept; pending = x.pending }) c.collect.new.choice n
+    (allowed_full m c.args.by c.args.mode c.in_ok-check_session.ensures c.in_ok-check_no_call.ensures) chosen
     (may_collect m c.args.by c.args.mode age clock c.args.choice.now c.collect.new.choice n c.requires.fit x) x.left
 
 pub returns-clause-policy : goal.returns-clause-policy
@@ -31,7 +33,8 @@ returns-clause-policy g c =
     let age = c.args.self.now.soft_age in
     let clock = c.args.self.now.heap.clock in
     let x : Collects (keeps (record { soft_age = age; mode = mode_of c.args.mode }) clock) m c.args.choice.now c.collect.new.choice n =
-    subst (λ (k : Mode). Collects (keeps (record { soft_age = age; mode = k }) clock) m c.args.choice.now c.collect.new.choice n) c.mode_of.ensures c.collect.ensures.collects in
+    subst (λ (k : Mode). Collects (keeps (record { soft_age = age; mode = k }) clock) m c.args.choice.now c.collect.new.choice n)
+    c.mode_of.ensures c.collect.ensures.collects in
     keeps_in (mode_of c.args.mode) age clock m c.args.choice.now c.collect.new.choice n c.requires.nothing x
 
 -- no cycle is open then

@@ -22,19 +22,24 @@ use Rattle.jlr_state.proofs.state.State.open_done.Goals as goal
 pub returns-clause-opened : goal.returns-clause-opened
 returns-clause-opened g c =
     let s = c.args.self.now in
-    let ended : machine_with c.opened.new.self c.end_call.new.self.graph s.cycle_open ≡ with_call (with_state (machine_of s) c.args.held.guard.rid Idle) c.args.by None Free =
-    ap (λ (h : Graph). machine_with c.opened.new.self h s.cycle_open) c.end_call.ensures.graph ∙ ap (λ (m : Machine). with_call m c.args.by None Free) (c.opened.ensures.machine (machine_of s)) in
+    let ended : machine_with c.opened.new.self c.end_call.new.self.graph s.cycle_open
+    ≡ with_call (with_state (machine_of s) c.args.held.guard.rid Idle) c.args.by None Free =
+    ap (λ (h : Graph). machine_with c.opened.new.self h s.cycle_open) c.end_call.ensures.graph
+    ∙ ap (λ (m : Machine). with_call m c.args.by None Free) (c.opened.ensures.machine (machine_of s)) in
     c.give.ensures.held
     ∙ ap (λ (m : Machine). with_handle m c.args.by c.args.held.slot) ended
-    ∙ ap (with_given (with_call (with_state (machine_of s) c.args.held.guard.rid Idle) c.args.by None Free) c.args.by) (sym c.requires.held.fence)
+    ∙ ap (with_given (with_call (with_state (machine_of s) c.args.held.guard.rid Idle) c.args.by None Free) c.args.by)
+    (sym c.requires.held.fence)
 
 pub returns-clause-moves : goal.returns-clause-moves
 returns-clause-moves g c =
     let old = c.args.self.now.cleaner.table in
     let rid = c.args.held.guard.rid in
-    let given : c.opened.new.self.table ≡ c.give.new.self.cleaner.table = ap {A = Cleanings g.row.R.Denot} {B = Resources g.row.R.Denot} (λ x. x.table) (sym c.give.ensures.cleaner) in
+    let given : c.opened.new.self.table ≡ c.give.new.self.cleaner.table =
+    ap {A = Cleanings g.row.R.Denot} {B = Resources g.row.R.Denot} (λ x. x.table) (sym c.give.ensures.cleaner) in
     subst (λ (t : Resources g.row.R.Denot). Moves (Some c.args.resource) old None t) given
-    (put_in old c.opened.new.self.table rid Opening c.args.resource c.requires.held.resource (λ e. absurd (cc e)) c.opened.ensures.lies_here c.opened.ensures.others)
+    (put_in old c.opened.new.self.table rid Opening c.args.resource c.requires.held.resource (λ e. absurd (cc e)) c.opened.ensures.lies_here
+    c.opened.ensures.others)
 
 -- a call holds its guard
 pub end_call-requires-clause-object : goal.end_call-requires-clause-object
@@ -52,5 +57,6 @@ returns-clause-marks g c =
     let s = c.args.self.now in
     let m = machine_of s in
     let k = c.args.by in
-    let shaded = subst (λ (x : Marking). Shaded (λ y. fence_at s.heap.graph.mutators k ≡ Some y) s.heap.marking x) (sym c.give.ensures.marking) c.end_call.ensures.shaded in
+    let shaded = subst (λ (x : Marking). Shaded (λ y. fence_at s.heap.graph.mutators k ≡ Some y) s.heap.marking x)
+    (sym c.give.ensures.marking) c.end_call.ensures.shaded in
     shaded_new m _ s.heap.marking _ _ shaded (λ x e. inl (by_root m s.heap.marking x (fence_root m k x e)))

@@ -15,7 +15,8 @@ use Rattle.jlr_state.proofs.state.State.take_up_at.Goals as goal
 
 pub take_up-requires-clause-free : goal.take_up-requires-clause-free
 take_up-requires-clause-free g c =
-    subst (λ (k : ℕ). list_any (λ job. job.by == k) (machine_of c.args.self.now).jobs ≡ false) (sym c.number.ensures) (free_taker (machine_of c.args.self.now) c.args.by c.requires.fit c.requires.free)
+    subst (λ (k : ℕ). list_any (λ job. job.by == k) (machine_of c.args.self.now).jobs ≡ false) (sym c.number.ensures)
+    (free_taker (machine_of c.args.self.now) c.args.by c.requires.fit c.requires.free)
 
 pub returns-clause-taken_up : goal.returns-clause-taken_up
 returns-clause-taken_up g c =
@@ -27,11 +28,15 @@ returns-clause-taken_up g c =
 pub returns-clause-moves : goal.returns-clause-moves
 returns-clause-moves g c =
     let old = c.args.self.now.cleaner in
-    subst (λ (t : Resources g.row.R.Denot). Moves None old.table c.take_up.result.resource t) (ap {A = Cleanings g.row.R.Denot} {B = Resources g.row.R.Denot} (λ x. x.table) (sym c.take_up.ensures.taken)) (job_moved old.table c.args.cleanable.work c.take_up.result.resource c.take_up.ensures.put_in_last)
+    subst (λ (t : Resources g.row.R.Denot). Moves None old.table c.take_up.result.resource t)
+    (ap {A = Cleanings g.row.R.Denot} {B = Resources g.row.R.Denot} (λ x. x.table) (sym c.take_up.ensures.taken))
+    (job_moved old.table c.args.cleanable.work c.take_up.result.resource c.take_up.ensures.put_in_last)
 
 pub returns-clause-waits : goal.returns-clause-waits
 returns-clause-waits g c =
     let s = c.args.self.now in
     let n = machine_with c.take_up.new.self c.spend.new.self.graph s.cycle_open in
-    let left : n.objects ≡ change_at s.heap.graph.objects c.args.slot (with_cleanable spent) = ap {A = Graph} {B = Heap} (λ h. h.objects) c.spend.ensures.graph in
-    releases n s.cleaner c.take_up.new.self c.args.slot _ (none_unspent (machine_of s) n c.args.slot c.args.cleanable c.requires.there left) c.take_up.ensures.taken
+    let left : n.objects ≡ change_at s.heap.graph.objects c.args.slot (with_cleanable spent) =
+    ap {A = Graph} {B = Heap} (λ h. h.objects) c.spend.ensures.graph in
+    releases n s.cleaner c.take_up.new.self c.args.slot _ (none_unspent (machine_of s) n c.args.slot c.args.cleanable c.requires.there left)
+    c.take_up.ensures.taken

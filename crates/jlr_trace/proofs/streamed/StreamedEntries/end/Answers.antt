@@ -11,7 +11,8 @@ pub returns-clause-fault : goal.returns-clause-fault
 returns-clause-fault g c =
     let e = c.self.inside in
     let follows : c.in-Some.number ≡ c.self.inside.passed + 1 = search rules in
-    goes_on_there e.version e.passed c.in-Some.number e.left e.window c.args.self.now c.end_of.result c.self.view_is c.requires follows c.end_of.ensures.fault
+    goes_on_there e.version e.passed c.in-Some.number e.left e.window c.args.self.now c.end_of.result c.self.view_is c.requires follows
+    c.end_of.ensures.fault
 
 pub returns-clause-rest : goal.returns-clause-rest
 returns-clause-rest g c =
