@@ -41,7 +41,7 @@ def main():
         for path in sorted(glob.glob(os.path.join(ROOT, "crates/*", pattern), recursive=True))
         for line in wide(path, most)
     ]
-    print("\n".join(found) if found else "no line is too wide")
+    print("\n".join(found) if found else "ok      no line is too wide")
     sys.exit(bool(found))
 
 
