@@ -1,6 +1,6 @@
 -- A step of a book is told whole.
-use Rattle.std.proofs.Common.{◌≡◌, ◌⊎◌, ◌<◌, ◌+◌, ◌&&◌, ℕ, Bool, true, false, not, cond, List, [], ◌∷◌, ◌++◌, length, length-append, Option}
-use Rattle.std.proofs.Common.{Some, None, inl, inr, refl, sym, ◌∙◌, ap, subst, arith, nat_lt, append_assoc}
+use Rattle.std.proofs.Common.{◌≡◌, ◌⊎◌, ◌≤◌, ◌<◌, ◌+◌, ◌^◌, ◌&&◌, ℕ, Bool, true, false, not, cond, List, [], ◌∷◌, ◌++◌, length}
+use Rattle.std.proofs.Common.{length-append, Option, Some, None, inl, inr, refl, sym, ◌∙◌, ap, subst, arith, nat_lt, append_assoc}
 use Rattle.std.specs.Option.{option_to_list}
 use Rattle.std.proofs.lemmas.List.{append-nil, map-append}
 use Rattle.std.proofs.lemmas.Bool.{lt-ltb}
@@ -36,9 +36,9 @@ use Rattle.jlr_log.specs.Seeing.{Seen, AllOf}
 use Rattle.jlr_hall.specs.declared.step.Step.{Step}
 use Rattle.jlr_hall.specs.OneHistory.{AllSit, IsWhole, Trace, add, entry_of, events_of, is_ending, is_refused, replies_of, seat_of, step}
 use Rattle.jlr_hall.specs.OneHistory.{trace, trace_of}
-use Rattle.jlr_hall.specs.Asking.{AskedIn, gave_up, may_cut}
+use Rattle.jlr_hall.specs.Asking.{AskedIn, gave_up, is_cut, is_trace_full, may_cut, with_cut}
 use Rattle.jlr_hall.specs.Locking.{IsLocked, after, effect_of}
-use Rattle.jlr_hall.specs.Telling.{added, is_full, with_cut}
+use Rattle.jlr_hall.specs.Telling.{added}
 use Rattle.jlr_hall.specs.declared.dues.Dues.{Dues}
 use Rattle.jlr_hall.proofs.Owing.{shown_declined, shown_now}
 
@@ -122,20 +122,18 @@ module _ {R : Type 0} (seat : ℕ) (e : Event R) (reply : Reply R) (cuts : Bool)
   as_none : (is_ending (ask_of e) && is_refused (answer_in reply)) ≡ true → entry_of (step seat e reply cuts) chosen ≡ []
   as_none is = ap (λ b. cond b [] (option_to_list (seated seat (ask_of e) (answer_in reply) chosen))) is
 
-and_false : (b : Bool) → (b && false) ≡ false
-and_false true = refl
-and_false false = refl
+-- why a book declines
+abbrev Declining : {R : Type 0} → History R → Refusal → Type 0
+Declining h by = (by ≡ NoMemory) ⊎ ((by ≡ Exhausted) × (2 ^ 64 ≤ last h + 1024))
 
--- what is told leads on to the new book, and is the event, or the book refused it
-pub record Tells {R : Type 0} (limits : Limits) (log : List (Step R)) (seat : ℕ) (e : Event R) (reply : Reply R) (now : List (Step R))
-    (new : History R) : Type 0 where
+-- what is told leads from a book on to the new one, and is the event, or the book refused it
+pub record Tells {R : Type 0} (limits : Limits) (log : List (Step R)) (seat : ℕ) (h : History R) (e : Event R) (reply : Reply R)
+    (now : List (Step R)) (new : History R) : Type 0 where
   pub leads : Leads limits (log ++ now) new.core (trace new.base new.entries)
   pub limits_are : new.limits ≡ limits
   pub seats : AllSit (limits.sessions + 3) (log ++ now)
-  pub fate : ((cut : Bool) × (cycle_open : Bool) × (cut ≡ true → may_cut (ask_of e) ≡ true)
-      × (now ≡ gave_up seat (cut && cycle_open) ++ step seat e reply cut ∷ []))
-      ⊎ ((now ≡ []) × (may_cut (ask_of e) ≡ true) × (by : Refusal) × ((by ≡ NoMemory) ⊎ (by ≡ Exhausted))
-      × (reply ≡ Answered (Refused by) (resource_of_event e)))
+  pub fate : (now ≡ with_cut seat h e reply (is_cut h e))
+      ⊎ ((now ≡ []) × (may_cut (ask_of e) ≡ true) × (by : Refusal) × Declining h by × (reply ≡ Answered (Refused by) (resource_of_event e)))
 
 module _ {R : Type 0} (limits : Limits) (formed : IsWellFormed (empty_of limits)) (log : List (Step R)) (seat : ℕ)
     (sits : seat < limits.sessions + 3) (all : AllSit (limits.sessions + 3) log) where
@@ -157,8 +155,9 @@ module _ {R : Type 0} (limits : Limits) (formed : IsWellFormed (empty_of limits)
       → IsStep h.core e reply chosen new.core
       → new.base ≡ h.base → new.entries ≡ h.entries ++ entry_of (step seat e reply false) chosen → new.limits ≡ limits
       → added seat h e reply new ≡ step seat e reply false ∷ []
-      → Tells limits log seat e reply (added seat h e reply new) new
-  plainly h new e reply chosen run now base entries limits_are is =
+      → added seat h e reply new ≡ with_cut seat h e reply (is_cut h e)
+      → Tells limits log seat h e reply (added seat h e reply new) new
+  plainly h new e reply chosen run now base entries limits_are is told =
       let s = step seat e reply false in
       let t : trace h.base (h.entries ++ entry_of s chosen) ≡ trace new.base new.entries = λ i. trace (sym base i) (sym entries i) in
       let leads = subst (Leads limits (log ++ s ∷ []) new.core) t
@@ -167,16 +166,17 @@ module _ {R : Type 0} (limits : Limits) (formed : IsWellFormed (empty_of limits)
         leads = subst (λ l. Leads limits (log ++ l) new.core (trace new.base new.entries)) (sym is) leads;
         limits_are = limits_are;
         seats = subst (λ l. AllSit (limits.sessions + 3) (log ++ l)) (sym is) (sit_more _ log s all sits);
-        fate = inl (false, false, (λ c. absurd (cc c)), is);
+        fate = inl told;
       }
 
   -- a step of the core, after a cut that gave up no cycle
   after_shut : (h new : History R) (e : Event R) (reply : Reply R) (chosen : Chosen) → Leads limits log h.core (trace h.base h.entries)
       → IsStep h.core e reply chosen new.core
-      → new.base ≡ last h → new.entries ≡ entry_of (step seat e reply true) chosen → new.limits ≡ limits → may_cut (ask_of e) ≡ true
+      → new.base ≡ last h → new.entries ≡ entry_of (step seat e reply true) chosen → new.limits ≡ limits
       → added seat h e reply new ≡ step seat e reply true ∷ []
-      → Tells limits log seat e reply (added seat h e reply new) new
-  after_shut h new e reply chosen run now base entries limits_are may is =
+      → added seat h e reply new ≡ with_cut seat h e reply (is_cut h e)
+      → Tells limits log seat h e reply (added seat h e reply new) new
+  after_shut h new e reply chosen run now base entries limits_are is told =
       let s = step seat e reply true in
       let t : trace (last h) (entry_of s chosen) ≡ trace new.base new.entries = λ i. trace (sym base i) (sym entries i) in
       let leads = subst (Leads limits (log ++ s ∷ []) new.core) t
@@ -185,17 +185,18 @@ module _ {R : Type 0} (limits : Limits) (formed : IsWellFormed (empty_of limits)
         leads = subst (λ l. Leads limits (log ++ l) new.core (trace new.base new.entries)) (sym is) leads;
         limits_are = limits_are;
         seats = subst (λ l. AllSit (limits.sessions + 3) (log ++ l)) (sym is) (sit_more _ log s all sits);
-        fate = inl (true, false, (λ _. may), is);
+        fate = inl told;
       }
 
   -- and after one that gave one up
   after_open : (h new : History R) (mid : Kept R) (e : Event R) (reply : Reply R) (chosen chosen' : Chosen)
       → Leads limits log h.core (trace h.base h.entries)
       → IsStep h.core (Asks Abandon) (Answered (Truth true) None) chosen' mid → IsStep mid e reply chosen new.core
-      → new.base ≡ last h + 1 → new.entries ≡ entry_of (step seat e reply true) chosen → new.limits ≡ limits → may_cut (ask_of e) ≡ true
+      → new.base ≡ last h + 1 → new.entries ≡ entry_of (step seat e reply true) chosen → new.limits ≡ limits
       → added seat h e reply new ≡ gave_up seat true ++ step seat e reply true ∷ []
-      → Tells limits log seat e reply (added seat h e reply new) new
-  after_open h new mid e reply chosen chosen' run gives now base entries limits_are may is =
+      → added seat h e reply new ≡ with_cut seat h e reply (is_cut h e)
+      → Tells limits log seat h e reply (added seat h e reply new) new
+  after_open h new mid e reply chosen chosen' run gives now base entries limits_are is told =
       let up : Step R = step seat (Asks Abandon) (Answered (Truth true) None) false in
       let s = step seat e reply true in
       let given = h.entries ++ entry_of up chosen' in
@@ -212,7 +213,7 @@ module _ {R : Type 0} (limits : Limits) (formed : IsWellFormed (empty_of limits)
         limits_are = limits_are;
         seats = subst (λ l. AllSit (limits.sessions + 3) (log ++ l)) (sym is)
             (subst (AllSit (limits.sessions + 3)) joined (sit_more _ (log ++ up ∷ []) s (sit_more _ log up all sits) sits));
-        fate = inl (true, true, (λ _. may), is);
+        fate = inl told;
       }
 
   -- ---- Each kind of event
@@ -220,33 +221,38 @@ module _ {R : Type 0} (limits : Limits) (formed : IsWellFormed (empty_of limits)
   added_plain : (h new : History R) (e : Event R) (reply : Reply R) → may_cut (ask_of e) ≡ false
       → added seat h e reply new ≡ step seat e reply false ∷ []
   added_plain h new e reply is =
-      ap (λ b. cond b (cond (nat_lt (last h) (last new)) (with_cut seat h e reply (is_full h)) []) (step seat e reply false ∷ [])) is
+      ap (λ b. cond b (cond (nat_lt (last h) (last new)) (with_cut seat h e reply (is_trace_full h)) []) (step seat e reply false ∷ [])) is
+
+  -- an end, and a piece of marking, come behind no cut
+  told_plain : (h new : History R) (e : Event R) (reply : Reply R) → may_cut (ask_of e) ≡ false
+      → added seat h e reply new ≡ with_cut seat h e reply (is_cut h e)
+  told_plain h new e reply is = added_plain h new e reply is ∙ sym (ap (λ b. with_cut seat h e reply (b && is_trace_full h)) is)
 
   added_none : (h new : History R) (e : Event R) (reply : Reply R) → may_cut (ask_of e) ≡ true → last new ≡ last h
       → added seat h e reply new ≡ []
   added_none h new e reply is same =
-      ap (λ b. cond b (cond (nat_lt (last h) (last new)) (with_cut seat h e reply (is_full h)) []) (step seat e reply false ∷ [])) is
-      ∙ ap (λ b. cond b (with_cut seat h e reply (is_full h)) []) (no_rise (last h) (last new) same)
+      ap (λ b. cond b (cond (nat_lt (last h) (last new)) (with_cut seat h e reply (is_trace_full h)) []) (step seat e reply false ∷ [])) is
+      ∙ ap (λ b. cond b (with_cut seat h e reply (is_trace_full h)) []) (no_rise (last h) (last new) same)
 
   added_ask : (h new : History R) (e : Event R) (reply : Reply R) → may_cut (ask_of e) ≡ true → last h < last new
-      → added seat h e reply new ≡ with_cut seat h e reply (is_full h)
+      → added seat h e reply new ≡ with_cut seat h e reply (is_trace_full h)
   added_ask h new e reply is more =
-      ap (λ b. cond b (cond (nat_lt (last h) (last new)) (with_cut seat h e reply (is_full h)) []) (step seat e reply false ∷ [])) is
-      ∙ ap (λ b. cond b (with_cut seat h e reply (is_full h)) []) (lt-ltb (last h) (last new) more)
+      ap (λ b. cond b (cond (nat_lt (last h) (last new)) (with_cut seat h e reply (is_trace_full h)) []) (step seat e reply false ∷ [])) is
+      ∙ ap (λ b. cond b (with_cut seat h e reply (is_trace_full h)) []) (lt-ltb (last h) (last new) more)
 
   enters : (h new : History R) (e : Event R) (reply : Reply R) → Leads limits log h.core (trace h.base h.entries) → h.limits ≡ limits
       → may_cut (ask_of e) ≡ false
       → (is_ending (ask_of e) && is_refused (answer_in reply)) ≡ false → Enters seat h e reply new
-      → Tells limits log seat e reply (added seat h e reply new) new
+      → Tells limits log seat h e reply (added seat h e reply new) new
   enters h new e reply run limits_are may written x =
       plainly h new e reply x.chosen run x.step (ap {A = History R} {B = ℕ} (λ y. y.base) x.adds)
       (ap {A = History R} {B = List Entry} (λ y. y.entries) x.adds
       ∙ ap (λ l. h.entries ++ l) (sym (as_seated seat e reply false x.chosen written)))
-      (ap {A = History R} {B = Limits} (λ y. y.limits) x.adds ∙ limits_are) (added_plain h new e reply may)
+      (ap {A = History R} {B = Limits} (λ y. y.limits) x.adds ∙ limits_are) (added_plain h new e reply may) (told_plain h new e reply may)
 
   by_end : (h new : History R) (e : Event R) (reply : Reply R) → Leads limits log h.core (trace h.base h.entries) → h.limits ≡ limits
       → may_cut (ask_of e) ≡ false → is_ending (ask_of e) ≡ true
-      → EndsBy seat h e reply new → Tells limits log seat e reply (added seat h e reply new) new
+      → EndsBy seat h e reply new → Tells limits log seat h e reply (added seat h e reply new) new
   by_end h new e reply run limits_are may end (inl x) =
       enters h new e reply run limits_are may (ap (λ b. b && is_refused (answer_in reply)) end ∙ not_refused reply x.1) x.0
   by_end h new e reply run limits_are may end (inr x) =
@@ -255,11 +261,11 @@ module _ {R : Type 0} (limits : Limits) (formed : IsWellFormed (empty_of limits)
       plainly h new e reply x.steps.0 run x.steps.1 (ap {A = History R} {B = ℕ} (λ y. y.base) x.stays)
       (ap {A = History R} {B = List Entry} (λ y. y.entries) x.stays ∙ sym (append-nil h.entries)
       ∙ ap (λ l. h.entries ++ l) (sym (as_none seat e reply false x.steps.0 refused)))
-      (ap {A = History R} {B = Limits} (λ y. y.limits) x.stays ∙ limits_are) (added_plain h new e reply may)
+      (ap {A = History R} {B = Limits} (λ y. y.limits) x.stays ∙ limits_are) (added_plain h new e reply may) (told_plain h new e reply may)
 
   by_ask : (h new : History R) (e : Event R) (reply : Reply R) (ask : Ask) → ask_of e ≡ Some ask → is_end ask ≡ false → IsHistory h
       → Leads limits log h.core (trace h.base h.entries) → h.limits ≡ limits
-      → may_cut (ask_of e) ≡ true → AsksBy seat h e reply new → Tells limits log seat e reply (added seat h e reply new) new
+      → may_cut (ask_of e) ≡ true → AsksBy seat h e reply new → Tells limits log seat h e reply (added seat h e reply new) new
   by_ask h new e reply ask asks end is run limits_are may (inr x) =
       let none = added_none h new e reply may (ap {A = History R} {B = ℕ} last x.same) in
       let here : Leads limits (log ++ []) new.core (trace new.base new.entries) =
@@ -270,13 +276,15 @@ module _ {R : Type 0} (limits : Limits) (formed : IsWellFormed (empty_of limits)
         limits_are = ap {A = History R} {B = Limits} (λ y. y.limits) x.same ∙ limits_are;
         seats = subst (λ l. AllSit (limits.sessions + 3) (log ++ l)) (sym none)
             (subst (AllSit (limits.sessions + 3)) (sym (append-nil log)) all);
-        fate = elim x.why [ inl w ↦ inr (none, may, NoMemory, inl refl, w.1) | inr w ↦ inr (none, may, Exhausted, inr refl, w.1) ];
+        fate = elim x.why [ inl w ↦ inr (none, may, NoMemory, inl refl, w.1) | inr w ↦ inr (none, may, Exhausted, inr (refl, w.0), w.1) ];
       }
   by_ask h new e reply ask asks end is run limits_are may (inl x) =
       let more = one_more h new is seat e reply ask asks x.ready (ready_stands h is x.ready x.readies) x.enters in
       let far = readied h new is seat e reply ask asks x.ready x.readies in
       let longer : last h < last new = elim far [ inl same ↦ omega (arith, more.2, same) | inr cut ↦ omega (arith, more.2, cut) ] in
       let told = added_ask h new e reply may longer in
+      let as_cut : added seat h e reply new ≡ with_cut seat h e reply (is_cut h e) = told
+      ∙ ap (λ b. with_cut seat h e reply (b && is_trace_full h)) (sym may) in
       let base : new.base ≡ (x.ready).base = ap {A = History R} {B = ℕ} (λ y. y.base) x.enters.adds in
       let entries = ap {A = History R} {B = List Entry} (λ y. y.entries) x.enters.adds in
       let same_limits = ap {A = History R} {B = Limits} (λ y. y.limits) x.enters.adds in
@@ -285,53 +293,54 @@ module _ {R : Type 0} (limits : Limits) (formed : IsWellFormed (empty_of limits)
       ap (λ b. b && is_refused (answer_in reply)) ends_nothing in
       elim (nat_lt (length h.entries) h.limits.trace) as (λ b. nat_lt (length h.entries) h.limits.trace ≡ b
       → elim b as (λ _. Type 0) [ true ↦ x.ready ≡ h | false ↦ Cuts h x.ready ]
-      → Tells limits log seat e reply (added seat h e reply new) new) [
+      → Tells limits log seat h e reply (added seat h e reply new) new) [
         | true ↦ λ short same.
-            let is_short : with_cut seat h e reply (is_full h) ≡ step seat e reply false ∷ [] =
+            let is_short : with_cut seat h e reply (is_trace_full h) ≡ step seat e reply false ∷ [] =
             ap (λ b. with_cut seat h e reply (not b)) short in
             plainly h new e reply x.enters.chosen run (subst (λ (k : History R). IsStep k.core e reply x.enters.chosen new.core) same
             x.enters.step) (base ∙ ap {A = History R} {B = ℕ} (λ y. y.base) same)
             (entries ∙ ap {A = History R} {B = List Entry}
             (λ y. y.entries ++ option_to_list (seated seat (ask_of e) (answer_in reply) x.enters.chosen)) same
             ∙ ap (λ l. h.entries ++ l) (sym (as_seated seat e reply false x.enters.chosen written)))
-            (same_limits ∙ ap {A = History R} {B = Limits} (λ y. y.limits) same ∙ limits_are) (told ∙ is_short)
+            (same_limits ∙ ap {A = History R} {B = Limits} (λ y. y.limits) same ∙ limits_are) (told ∙ is_short) as_cut
         | false ↦ λ full cut.
-            let is_cut : with_cut seat h e reply (is_full h) ≡ with_cut seat h e reply true =
+            let full_is : with_cut seat h e reply (is_trace_full h) ≡ with_cut seat h e reply true =
             ap (λ b. with_cut seat h e reply (not b)) full in
             let fresh : new.entries ≡ entry_of (step seat e reply true) x.enters.chosen =
             entries ∙ ap {A = List Entry} {B = List Entry}
             (λ l. l ++ option_to_list (seated seat (ask_of e) (answer_in reply) x.enters.chosen)) cut.entries
             ∙ sym (as_seated seat e reply true x.enters.chosen written) in
-            cut_case h new e reply x.ready x.enters.chosen run cut x.enters.step base fresh (same_limits ∙ cut.limits ∙ limits_are) may
-            (told ∙ is_cut) (h.core.machine.cycle_open) refl
+            cut_case h new e reply x.ready x.enters.chosen run cut x.enters.step base fresh (same_limits ∙ cut.limits ∙ limits_are)
+            (told ∙ full_is) as_cut (h.core.machine.cycle_open) refl
       ] refl x.readies
     where
       cut_case : (h new : History R) (e : Event R) (reply : Reply R) (ready : History R) (chosen : Chosen)
           → Leads limits log h.core (trace h.base h.entries) → Cuts h ready → IsStep ready.core e reply chosen new.core
-          → new.base ≡ ready.base → new.entries ≡ entry_of (step seat e reply true) chosen → new.limits ≡ limits → may_cut (ask_of e) ≡ true
+          → new.base ≡ ready.base → new.entries ≡ entry_of (step seat e reply true) chosen → new.limits ≡ limits
           → added seat h e reply new ≡ with_cut seat h e reply true
-          → (b : Bool) → h.core.machine.cycle_open ≡ b → Tells limits log seat e reply (added seat h e reply new) new
-      cut_case h new e reply ready chosen run cut now base fresh limits_are may told true opened =
+          → added seat h e reply new ≡ with_cut seat h e reply (is_cut h e) → (b : Bool) → h.core.machine.cycle_open ≡ b
+          → Tells limits log seat h e reply (added seat h e reply new) new
+      cut_case h new e reply ready chosen run cut now base fresh limits_are told as_cut true opened =
           let gives = subst (λ b. GivesUp b h.core ready.core) opened cut.gives_up in
           after_open h new ready.core e reply chosen gives.0 run gives.1 now (base ∙ cut.base ∙ ap (λ b. last h + cond b 1 0) opened) fresh
-          limits_are may
-          (told ∙ ap (λ b. gave_up seat b ++ step seat e reply true ∷ []) opened)
-      cut_case h new e reply ready chosen run cut now base fresh limits_are may told false shut =
+          limits_are
+          (told ∙ ap (λ b. gave_up seat b ++ step seat e reply true ∷ []) opened) as_cut
+      cut_case h new e reply ready chosen run cut now base fresh limits_are told as_cut false shut =
           let same = subst (λ b. GivesUp b h.core ready.core) shut cut.gives_up in
           let higher : new.base ≡ last h = let there = base ∙ cut.base ∙ ap (λ b. last h + cond b 1 0) shut in omega (arith, there) in
           after_shut h new e reply chosen run (subst (λ (k : Kept R). IsStep k e reply chosen new.core) same now) higher fresh limits_are
-          may
-          (told ∙ ap (λ b. gave_up seat b ++ step seat e reply true ∷ []) shut)
+          (told ∙ ap (λ b. gave_up seat b ++ step seat e reply true ∷ []) shut) as_cut
 
   tells_by : (h new : History R) (e : Event R) (reply : Reply R) → IsHistory h → Leads limits log h.core (trace h.base h.entries)
-      → h.limits ≡ limits → BookSteps seat h e reply new → Tells limits log seat e reply (added seat h e reply new) new
+      → h.limits ≡ limits → BookSteps seat h e reply new → Tells limits log seat h e reply (added seat h e reply new) new
   tells_by h new e reply is run limits_are steps =
-      elim (ask_of e) as (λ o. ask_of e ≡ o → StepsBy seat o h e reply new → Tells limits log seat e reply (added seat h e reply new) new) [
+      elim (ask_of e) as (λ o. ask_of e ≡ o → StepsBy seat o h e reply new
+      → Tells limits log seat h e reply (added seat h e reply new) new) [
         | None ↦ λ none x. enters h new e reply run limits_are (ap may_cut none)
             (ap (λ o. is_ending o && is_refused (answer_in reply)) none) x
         | Some ask ↦ λ some x. elim (is_end ask) as (λ b. is_end ask ≡ b
             → elim b as (λ _. Type 0) [ true ↦ EndsBy seat h e reply new | false ↦ AsksBy seat h e reply new ]
-            → Tells limits log seat e reply (added seat h e reply new) new) [
+            → Tells limits log seat h e reply (added seat h e reply new) new) [
               | true ↦ λ end y. by_end h new e reply run limits_are
                   (ap may_cut some ∙ ap (λ b. elim b as (λ _. Bool) [ true ↦ false | false ↦ true ]) end) (ap is_ending some ∙ end) y
               | false ↦ λ end y. by_ask h new e reply ask some end is run limits_are
@@ -341,24 +350,24 @@ module _ {R : Type 0} (limits : Limits) (formed : IsWellFormed (empty_of limits)
 
 pub tells : {R : Type 0} (limits : Limits) (log : List (Step R)) (seat : ℕ) (h new : History R) (e : Event R) (reply : Reply R)
     → seat < limits.sessions + 3 → IsHistory h → IsWhole limits h log → BookSteps seat h e reply new
-    → Tells limits log seat e reply (added seat h e reply new) new
+    → Tells limits log seat h e reply (added seat h e reply new) new
 tells limits log seat h new e reply sits is w steps =
     tells_by limits w.formed log seat sits w.seats h new e reply is (w.run, w.traced) w.limits_are steps
 
 -- what then lies under the lock
 pub whole_now : {R : Type 0} (limits : Limits) (log now : List (Step R)) (seat : ℕ) (h new : History R) (e : Event R) (reply : Reply R)
-    → IsWhole limits h log → Tells limits log seat e reply now new → IsWhole limits new (log ++ now)
+    → IsWhole limits h log → Tells limits log seat h e reply now new → IsWhole limits new (log ++ now)
 whole_now limits log now seat h new e reply w t =
     record { formed = w.formed; run = t.leads.0; traced = t.leads.1; limits_are = t.limits_are; seats = t.seats }
 
 pub locked_now : {R : Type 0} (limits : Limits) (d : Dues) (log now : List (Step R)) (seat : ℕ) (h new : History R) (e : Event R)
-    (reply : Reply R) → seat < 256 → IsLocked limits h d log → Tells limits log seat e reply now new
+    (reply : Reply R) → seat < 256 → IsLocked limits h d log → Tells limits log seat h e reply now new
     → IsLocked limits new (after seat (effect_of e) reply d) (log ++ now)
 locked_now limits d log now seat h new e reply sits l t = record {
   whole = whole_now limits log now seat h new e reply l.whole t;
   shows = elim t.fate [
-    | inl x ↦ shown_now d log now seat e reply x.0 (x.0 && x.1) sits x.3 l.shows
-    | inr x ↦ shown_declined d log now seat e reply x.2 x.0 x.3 x.4 l.shows
+    | inl x ↦ shown_now d log now seat e reply (is_cut h e) (is_cut h e && h.core.machine.cycle_open) sits x l.shows
+    | inr x ↦ shown_declined d log now seat e reply x.2 x.0 (elim x.3 [ inl why ↦ inl why | inr why ↦ inr why.0 ]) x.4 l.shows
   ];
 }
 
@@ -367,15 +376,15 @@ pub all_added : {R : Type 0} (seat : ℕ) (h : History R) (e : Event R) (reply :
     → AllOf seat_of seat (added seat h e reply new)
 all_added seat h e reply new =
     elim (may_cut (ask_of e)) as (λ b. AllOf seat_of seat
-    (cond b (cond (nat_lt (last h) (last new)) (with_cut seat h e reply (is_full h)) []) (step seat e reply false ∷ []))) [
-      | true ↦ elim (nat_lt (last h) (last new)) as (λ c. AllOf seat_of seat (cond c (with_cut seat h e reply (is_full h)) [])) [
-        | true ↦ cut_ones (is_full h && h.core.machine.cycle_open)
+    (cond b (cond (nat_lt (last h) (last new)) (with_cut seat h e reply (is_trace_full h)) []) (step seat e reply false ∷ []))) [
+      | true ↦ elim (nat_lt (last h) (last new)) as (λ c. AllOf seat_of seat (cond c (with_cut seat h e reply (is_trace_full h)) [])) [
+        | true ↦ cut_ones (is_trace_full h && h.core.machine.cycle_open)
         | false ↦ tt
       ]
       | false ↦ (refl, tt)
     ]
   where
-    cut_ones : (b : Bool) → AllOf seat_of seat (gave_up seat b ++ step seat e reply (is_full h) ∷ [])
+    cut_ones : (b : Bool) → AllOf seat_of seat (gave_up seat b ++ step seat e reply (is_trace_full h) ∷ [])
     cut_ones true = (refl, (refl, tt))
     cut_ones false = (refl, tt)
 
@@ -384,18 +393,17 @@ all_added seat h e reply new =
 pub asked : {R : Type 0} (limits : Limits) (old new : Seen (Step R)) (n : ℕ) (all now : List (Step R)) (h book : History R) (e : Event R)
     (reply : Reply R)
     → old.seat ≡ n → Knows seat_of n old.known all → new.seat ≡ n → new.known ≡ all ++ now → IsWhole limits h all
-    → Tells limits all n e reply now book → AskedIn limits all old e reply new
+    → Tells limits all n h e reply now book → AskedIn limits all old e reply new
 asked {R} limits old new n all now h book e reply is knows seat known w t = elim t.fate [
   | inl x ↦ (
     inl (record {
       seat = seat ∙ sym is;
       between = knows.0;
       others = ap (λ k. own seat_of k knows.0) is ∙ knows.2;
-      cut = x.0;
-      cuts = x.2;
-      cycle_open = x.1;
-      known = known ∙ ap (λ l. all ++ l) x.3 ∙ ap (λ l. l ++ (gave_up n (x.0 && x.1) ++ step n e reply x.0 ∷ [])) knows.1
-          ∙ ap (λ k. (old.known ++ knows.0) ++ (gave_up k (x.0 && x.1) ++ step k e reply x.0 ∷ [])) (sym is);
+      book = h;
+      lay = subst (IsWhole limits h) knows.1 w;
+      known = known ∙ ap (λ l. all ++ l) x ∙ ap (λ l. l ++ with_cut n h e reply (is_cut h e)) knows.1
+          ∙ ap (λ k. (old.known ++ knows.0) ++ with_cut k h e reply (is_cut h e)) (sym is);
       legal = (book, subst (IsWhole limits book) (sym known) (whole_now limits all now n h book e reply w t));
     }),
     sym knows.1,
@@ -408,7 +416,7 @@ asked {R} limits old new n all now h book e reply is knows seat known w t = elim
       known = known ∙ ap (λ l. all ++ l) x.0 ∙ append-nil all ∙ knows.1;
       ends_nothing = x.1;
       by = x.2;
-      why = x.3;
+      why = elim x.3 [ inl why ↦ inl why | inr why ↦ inr (why.0, (h, subst (IsWhole limits h) knows.1 w, why.1)) ];
       refused = x.4;
     }),
     sym knows.1,

@@ -1,6 +1,6 @@
 -- What an ask of a seat is in the one history.
-use Rattle.std.specs.Prelude.{◌≡◌, ◌⊎◌, ◌<◌, ◌+◌, ◌&&◌, ℕ, Bool, true, false, cond, List, [], ◌∷◌, ◌++◌, Option, Some}
-use Rattle.std.specs.Prelude.{None, is_some}
+use Rattle.std.specs.Prelude.{◌≡◌, ◌⊎◌, ◌≤◌, ◌<◌, ◌+◌, ◌^◌, ◌&&◌, ℕ, Bool, true, false, not, cond, nat_lt, List, []}
+use Rattle.std.specs.Prelude.{◌∷◌, ◌++◌, length, Option, Some, None, is_some}
 use mathlib.Core.Logic.{inl, inr}
 use Rattle.jlr_types.specs.declared.limits.Limits.{Limits}
 use Rattle.jlr_types.specs.declared.Refusal.{Refusal}
@@ -17,10 +17,11 @@ use Rattle.jlr_event.specs.declared.event.Event.TheVariants.{Ask as Asks}
 use Rattle.jlr_event.specs.declared.event.Reply.{Reply}
 use Rattle.jlr_event.specs.declared.event.Reply.TheVariants.{Answered}
 use Rattle.jlr_event.specs.Events.{ask_of, resource_of_event}
+use Rattle.jlr_book.specs.Histories.{History, last}
 use Rattle.jlr_log.specs.Views.{own}
 use Rattle.jlr_log.specs.Seeing.{Seen}
 use Rattle.jlr_hall.specs.declared.step.Step.{Step}
-use Rattle.jlr_hall.specs.OneHistory.{IsHistory, seat_of, step}
+use Rattle.jlr_hall.specs.OneHistory.{IsHistory, IsWhole, seat_of, step}
 
 -- the book cuts only before an ask that ends no call and no session
 abbrev pub may_cut : Option Ask → Bool
@@ -32,35 +33,51 @@ module _ {R : Type 0} where
   abbrev pub gave_up : ℕ → Bool → List (Step R)
   gave_up seat cycle_open = cond cycle_open (step seat (Asks Abandon) (Answered (Truth true) None) false ∷ []) []
 
+  -- the trace is as long as it may be
+  abbrev pub is_trace_full : History R → Bool
+  is_trace_full book = not (nat_lt (length book.entries) book.limits.trace)
+
+  -- before an event the book cuts just where that ends nothing and the trace is full
+  abbrev pub is_cut : History R → Event R → Bool
+  is_cut book event = may_cut (ask_of event) && is_trace_full book
+
+  -- the step of an event, behind that of its cut, where an open cycle is given up
+  abbrev pub with_cut : ℕ → History R → Event R → Reply R → Bool → List (Step R)
+  with_cut seat book event reply cut = gave_up seat (cut && book.core.machine.cycle_open)
+      ++ step seat event reply cut ∷ []
+
   -- The event is the last step of a history that goes on from all that the seat knew: with this reply, and with the
   -- resources that came in and went out. Since then there is nothing else of this seat, but that its cut gave a cycle
-  -- up.
+  -- up. The book that lay under the lock was cut just where its trace was full.
   pub record Adds (limits : Limits) (old : Seen (Step R)) (event : Event R) (reply : Reply R)
       (new : Seen (Step R)) : Type 0 where
     pub seat : new.seat ≡ old.seat
     pub between : List (Step R)
     pub others : own seat_of old.seat between ≡ []
-    pub cut : Bool
-    pub cuts : cut ≡ true → may_cut (ask_of event) ≡ true
-    pub cycle_open : Bool
-    pub known : new.known ≡ (old.known ++ between)
-        ++ (gave_up old.seat (cut && cycle_open) ++ step old.seat event reply cut ∷ [])
+    pub book : History R
+    pub lay : IsWhole limits book (old.known ++ between)
+    pub known : new.known ≡ (old.known ++ between) ++ with_cut old.seat book event reply (is_cut book event)
     pub legal : IsHistory limits new.known
+
+  -- fewer than 1,024 entry numbers are left behind a history
+  abbrev pub LacksNumbers : Limits → List (Step R) → Type 0
+  LacksNumbers limits log = (book : History R) × IsWhole limits book log × (2 ^ 64 ≤ last book + 1024)
 
   -- The book refuses by itself an ask that ends nothing: the history has nothing of it, and what came in goes back.
   -- Only out of memory, or where entry numbers ran out.
-  pub record Declined (old : Seen (Step R)) (event : Event R) (reply : Reply R) (new : Seen (Step R)) : Type 0 where
+  pub record Declined (limits : Limits) (old : Seen (Step R)) (event : Event R) (reply : Reply R)
+      (new : Seen (Step R)) : Type 0 where
     pub seat : new.seat ≡ old.seat
     pub between : List (Step R)
     pub others : own seat_of old.seat between ≡ []
     pub known : new.known ≡ old.known ++ between
     pub ends_nothing : may_cut (ask_of event) ≡ true
     pub by : Refusal
-    pub why : (by ≡ NoMemory) ⊎ (by ≡ Exhausted)
+    pub why : (by ≡ NoMemory) ⊎ ((by ≡ Exhausted) × LacksNumbers limits (old.known ++ between))
     pub refused : reply ≡ Answered (Refused by) (resource_of_event event)
 
   abbrev pub Asked : Limits → Seen (Step R) → Event R → Reply R → Seen (Step R) → Type 0
-  Asked limits old event reply new = Adds limits old event reply new ⊎ Declined old event reply new
+  Asked limits old event reply new = Adds limits old event reply new ⊎ Declined limits old event reply new
 
   -- the history that an ask found under the lock
   abbrev pub found : (limits : Limits) (old : Seen (Step R)) (event : Event R) (reply : Reply R) (new : Seen (Step R))

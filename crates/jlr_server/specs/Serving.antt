@@ -95,7 +95,7 @@ module _ {D R : Type 0} (limits : Limits) (device : Opening D R) (handling : Han
 
     -- One history, a run of the machine that keeps the promises of the package, ends with this book's trace. It has of
     -- each seat just what that seat did, and each accept is a session or one that gave no client. There were as many as
-    -- were to be, unless the server was asked to end.
+    -- were to be, or fewer where the server was asked to end.
     pub record IsServed (total : ℕ) (asked : Bool) (accepts : ℕ) (missed : ℕ) (book : History R) : Type 0 where
       pub works : List (Work R)
       pub all : AllWork works
@@ -103,4 +103,4 @@ module _ {D R : Type 0} (limits : Limits) (device : Opening D R) (handling : Han
       pub closes : Closes limits (map seat_in works) book
       pub accepted : accepts ≡ sum_by accepts_of works
       pub failed : missed ≡ sum_by (λ w. w.missed) works
-      pub as_many : (accepts ≡ total) ⊎ (asked ≡ true)
+      pub as_many : (accepts ≡ total) ⊎ ((asked ≡ true) × (accepts < total))

@@ -597,11 +597,11 @@ where
     }
 }
 
-/// Whether as many accepts were made as were to be, or the server was asked to end.
+/// Whether as many accepts were made as were to be, or fewer since the server was asked to end.
 fn are_enough(accepts: u32, total: u32, asked: bool) -> bool
-    ensures { result ≡ true → (accepts ≡ total) ⊎ (asked ≡ true) }
+    ensures { result ≡ true → (accepts ≡ total) ⊎ ((asked ≡ true) × (accepts < total)) }
 {
-    accepts == total || asked
+    accepts == total || asked && accepts < total
 }
 
 /// The seats, how many accepts there were at all of them, and how many of these gave no client.

@@ -17,6 +17,6 @@ returns-in-Ok-close g c =
             c.in-Ok-close.ensures.closes;
         accepted = search (rules, arith);
         failed = told.2;
-        as_many = or_then (c.are_enough.ensures c.if-not-are_enough.false) c.heard.invariant;
+        as_many = or_then (c.are_enough.ensures c.if-not-are_enough.false) (λ fewer. (c.heard.invariant fewer.0, fewer.1));
       };
     }
