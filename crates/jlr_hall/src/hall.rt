@@ -25,7 +25,7 @@ use jlr_book::event::decline;
 use jlr_event::event::{Event, Reply};
 use jlr_log::{Keeper, Log, Naming, Pass, Telling};
 use jlr_machine::ask::Ask;
-use jlr_machine::data::{CallRoom, CopyRoom};
+use jlr_machine::data::CopyRoom;
 use jlr_types::{Handle, Mutator, Refusal};
 use std::marker::{Brand, Model};
 use std::snapshot::Snapshot;
@@ -364,7 +364,7 @@ impl<R: Drop, L: Naming + Limited> Seat<R, L> {
         rt: &T,
         hall: &Hall<R, L>,
         event: Event<R>,
-        room: Option<CallRoom>,
+        room: Option<CopyRoom>,
     ) -> Reply<R>
         requires own { IsOwn self.old.seat L.limits.sessions (ask_of event) }
         requires room { Brings room (ask_of event) }
@@ -429,14 +429,12 @@ impl<R: Drop, L: Naming + Limited> Seat<R, L> {
         rt: &T,
         hall: &Hall<R, L>,
         event: Event<R>,
-        room: Option<CallRoom>,
+        room: Option<CopyRoom>,
     ) -> Reply<R>
         requires { Brings room (ask_of event) }
         ensures asked { Asked L.limits self.old event result self.new }
         ensures out { HasItsResource result }
     {
-        let (room, spare) = CallRoom::split(room);
-        drop(spare);
         self.ask_under(hall, hall.locked.lock(rt), event, room)
     }
 

@@ -15,7 +15,7 @@ use crate::step::Limited;
 use jlr_event::event::{Event, Reply};
 use jlr_log::Naming;
 use jlr_machine::ask::Ask;
-use jlr_machine::data::CallRoom;
+use jlr_machine::data::CopyRoom;
 use jlr_session::port::{Port, ReadRoom};
 use jlr_types::{Handle, Mutator, Refusal};
 use std::marker::Model;
@@ -65,7 +65,7 @@ impl<'a, R: Drop, L: Naming + Limited, T: Wait> SeatPort<'a, R, L, T> {
     }
 
     /// Any other event.
-    fn ask_once(&mut self, event: Event<R>, room: Option<CallRoom>) -> Reply<R>
+    fn ask_once(&mut self, event: Event<R>, room: Option<CopyRoom>) -> Reply<R>
         requires { Brings room (ask_of event) }
         ensures asked { Asked L.limits self.old event result self.new }
         ensures named { self.new.seat ≡ self.old.seat }
@@ -102,7 +102,7 @@ impl<'a, R: Drop, L: Naming + Limited, T: Wait> Port<R> for SeatPort<'a, R, L, T
         }
     }
 
-    fn ask(&mut self, event: Event<R>, room: Option<CallRoom>) -> Reply<R>
+    fn ask(&mut self, event: Event<R>, room: Option<CopyRoom>) -> Reply<R>
         requires { Brings room (ask_of event) }
         ensures asked { Asked L.limits self.old event result self.new }
         ensures named { self.new.seat ≡ self.old.seat }

@@ -115,35 +115,3 @@ impl CopyRoom {
         }
     }
 }
-
-/// Room for the two copies of the end of a call: in the history, and in the transcript of the seat that asked.
-#[derive(Drop)]
-pub struct CallRoom {
-    entry: CopyRoom,
-    item: CopyRoom,
-}
-
-impl CallRoom {
-    /// Such room.
-    ///
-    /// # Errors
-    /// `AllocError` where there is no memory.
-    pub fn new(alloc: Global) -> Result<Self, AllocError> {
-        Ok(CallRoom {
-            entry: CopyRoom::new(alloc)?,
-            item: CopyRoom::new(alloc)?,
-        })
-    }
-
-    /// The room for the entry of the history, and that for the item of the transcript, if there is any.
-    #[inline]
-    pub fn split(room: Option<Self>) -> (Option<CopyRoom>, Option<CopyRoom>)
-        ensures entry { is_some result.0 ≡ is_some room }
-        ensures item { is_some result.1 ≡ is_some room }
-    {
-        match room {
-            Some(CallRoom { entry, item }) => (Some(entry), Some(item)),
-            None => (None, None),
-        }
-    }
-}

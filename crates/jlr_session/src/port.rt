@@ -1,6 +1,6 @@
 //! What the asks of a session go to.
 use jlr_event::event::{Event, Reply};
-use jlr_machine::data::{CallRoom, Data};
+use jlr_machine::data::{CopyRoom, Data};
 use jlr_types::{Handle, Mutator, Refusal};
 use std::alloc::{AllocError, Global};
 
@@ -8,7 +8,7 @@ use std::alloc::{AllocError, Global};
 #[derive(Drop)]
 pub struct ReadRoom {
     pub(crate) bytes: Data,
-    pub(crate) copies: CallRoom,
+    pub(crate) copies: CopyRoom,
 }
 
 impl ReadRoom {
@@ -19,7 +19,7 @@ impl ReadRoom {
     pub fn new(alloc: Global) -> Result<Self, AllocError> {
         Ok(ReadRoom {
             bytes: Data::new(alloc)?,
-            copies: CallRoom::new(alloc)?,
+            copies: CopyRoom::new(alloc)?,
         })
     }
 }
@@ -52,7 +52,7 @@ pub trait Port<R> {
             self.now) };
 
     /// Asks, and gives the reply. With the end of a call that read comes the room in which it is told again.
-    fn ask(&mut self, event: Event<R>, room: Option<CallRoom>) -> Reply<R>
+    fn ask(&mut self, event: Event<R>, room: Option<CopyRoom>) -> Reply<R>
         requires room { Brings room (ask_of event) }
         ensures asked { asking.asks self.old event result self.new }
         ensures named { asking.mutator self.new ≡ asking.mutator self.old };

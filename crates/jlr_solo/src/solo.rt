@@ -18,7 +18,7 @@ use jlr_cleaner::Job;
 use jlr_device::Resource;
 use jlr_event::event::{Event, Reply, ended};
 use jlr_machine::ask::{Answer, Ask};
-use jlr_machine::data::CallRoom;
+use jlr_machine::data::CopyRoom;
 use jlr_session::job::{finish, job_of};
 use jlr_session::port::{Port, ReadRoom};
 use jlr_types::{Handle, Limits, Mutator, Refusal};
@@ -232,12 +232,11 @@ impl<R: Resource + Drop> Port<R> for Solo<R> {
         }
     }
 
-    fn ask(&mut self, event: Event<R>, room: Option<CallRoom>) -> Reply<R>
+    fn ask(&mut self, event: Event<R>, room: Option<CopyRoom>) -> Reply<R>
         requires { Brings room (ask_of event) }
         ensures asked { BookSteps 0 self.old event result self.new }
         ensures named { (by_book R.handling).mutator self.new ≡ (by_book R.handling).mutator self.old }
     {
-        let (room, _) = CallRoom::split(room);
         self.book.step(0, event, room)
     }
 

@@ -16,7 +16,7 @@ use jlr_hall::history::{Blank, Naming};
 use jlr_hall::port::SeatPort;
 use jlr_hall::seat::Seat;
 use jlr_hall::step::{Limited, Step};
-use jlr_machine::data::CallRoom;
+use jlr_machine::data::CopyRoom;
 use jlr_session::port::Port;
 use jlr_types::Limits;
 use jlr_words::{event_of, is_reply};
@@ -189,7 +189,7 @@ fn is_answered<L: Naming + Limited, T: Wait>(
     let Some(event) = event_of(alloc, ask) else {
         return false;
     };
-    match CallRoom::new(alloc) {
+    match CopyRoom::new(alloc) {
         Ok(room) => is_told(port, event, room, wanted),
         Err(_) => {
             drop(event);
@@ -201,7 +201,7 @@ fn is_answered<L: Naming + Limited, T: Wait>(
 fn is_told<L: Naming + Limited, T: Wait>(
     port: &mut SeatPort<'_, u32, L, T>,
     event: Event<u32>,
-    room: CallRoom,
+    room: CopyRoom,
     wanted: &str,
 ) -> bool {
     let reply = port.ask(event, Some(room));

@@ -2,7 +2,7 @@
 use jlr_device::script::ScriptResource;
 use jlr_event::event::{Event, Reply};
 use jlr_machine::ask::{Answer, Ask, CallOutcome, Handed, Outcome};
-use jlr_machine::data::CallRoom;
+use jlr_machine::data::CopyRoom;
 use jlr_session::port::{Port, ReadRoom};
 use jlr_types::{ActionNo, Fault, Handle, Mutator, Progress, Refusal, Rid, Work};
 use std::alloc::Global;
@@ -143,7 +143,7 @@ impl Port<ScriptResource> for Seat {
         }
     }
 
-    fn ask(&mut self, event: Event<ScriptResource>, room: Option<CallRoom>) -> Reply<ScriptResource>
+    fn ask(&mut self, event: Event<ScriptResource>, room: Option<CopyRoom>) -> Reply<ScriptResource>
         ensures { Unit {0} }
     {
         drop(room);
