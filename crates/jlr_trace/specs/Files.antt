@@ -3,6 +3,7 @@ use Rattle.std.specs.Prelude.{◌≡◌, ◌==◌, ℕ, zero, suc, ◌+◌, ◌<
 use Rattle.std.specs.Prelude.{if◌then◌else◌}
 use Rattle.std.specs.List.{flat_map, AllByRecursion}
 use Rattle.std.specs.Int.{w64}
+use Rattle.jlr_machine.specs.declared.machine.Machine.{Machine}
 use Rattle.jlr_machine.specs.declared.entry.Entry.{Entry}
 use Rattle.jlr_fields.specs.declared.fault.Fault.{Fault}
 use Rattle.jlr_fields.specs.declared.fault.Fault.TheVariants.{Short, Range}
@@ -12,6 +13,7 @@ use Rattle.jlr_fields.specs.declared.version.Version.{Version}
 use Rattle.jlr_fields.specs.declared.version.Version.TheVariants.{One, Two}
 use Rattle.jlr_fields.specs.Spelling.{spelled_64}
 use Rattle.jlr_fields.specs.Reading.{number_at}
+use Rattle.jlr_parts.specs.declared.record.Placed.{Placed}
 use Rattle.jlr_trace.specs.declared.file.TraceFile.{TraceFile}
 use Rattle.jlr_trace.specs.declared.file.TraceFault.{TraceFault}
 use Rattle.jlr_trace.specs.declared.file.TraceFault.TheVariants.{Truncated, BadMark, BadVersion, BadEntry, NoMemory}
@@ -26,6 +28,14 @@ pub record FileText : Type 0 where
   pub version : Version
   pub image : ImageText
   pub entries : List Entry
+
+abbrev pub file_with : Version → ℕ → Machine → List Placed → List Entry → TraceFile
+file_with version base image strays entries =
+    record { version = version; base = base; image = image; strays = strays; entries = entries }
+
+-- a history of version 2, each of whose objects lies in a cell
+abbrev pub history_of : ℕ → Machine → List Entry → TraceFile
+history_of base image entries = file_with Two base image [] entries
 
 abbrev pub image_of : TraceFile → Image
 image_of f = record { base = f.base; machine = f.image; strays = f.strays }

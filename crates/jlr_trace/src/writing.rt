@@ -3,12 +3,15 @@ ghost use Rattle.std.specs.Prelude.{◌≡◌, ◌++◌, IfOk, OnOk};
 ghost use Rattle.std.specs.List.{flat_map, AllByRecursion};
 ghost use Rattle.jlr_sections.specs.Entries.{spelled_entry, EntryCounts};
 ghost use Rattle.jlr_trace.specs.Writing.{FileCounts};
-ghost use Rattle.jlr_trace.specs.Files.{file_text, version_number, mark, spelled_file, HasSpelling};
+ghost use Rattle.jlr_trace.specs.Files.{file_text, file_with, history_of, version_number, mark, spelled_file};
+ghost use Rattle.jlr_trace.specs.Files.{HasSpelling};
 
 use crate::file::TraceFile;
 use jlr_fields::number::put_u64;
 use jlr_fields::version::Version;
 use jlr_machine::entry::Entry;
+use jlr_machine::machine::Machine;
+use jlr_parts::record::Placed;
 use jlr_sections::entry::put_entry;
 use jlr_sections::writing::put_image;
 use std::alloc::{AllocError, Global};
@@ -40,14 +43,22 @@ fn put_mark(out: &mut Vec<u8>, version: Version) -> Result<(), AllocError>
     Ok(())
 }
 
-fn put_file(out: &mut Vec<u8>, file: &TraceFile) -> Result<(), AllocError>
-    requires { FileCounts file.now }
-    ensures { OnOk result (out.new.items ≡ out.old.items ++ spelled_file (file_text file.now)) }
+fn put_file(
+    out: &mut Vec<u8>,
+    version: Version,
+    base: u64,
+    image: &Machine,
+    strays: &[Placed],
+    entries: &[Entry],
+) -> Result<(), AllocError>
+    requires { FileCounts (file_with version base image.now strays.now entries.now) }
+    ensures { OnOk result (out.new.items ≡ out.old.items
+        ++ spelled_file (file_text (file_with version base image.now strays.now entries.now))) }
 {
-    put_mark(out, file.version)?;
-    put_image(out, file.base, &file.image, file.strays.as_slice())?;
-    put_u64(out, file.entries.len() as u64)?;
-    put_entries(out, file.version, file.entries.as_slice())
+    put_mark(out, version)?;
+    put_image(out, base, image, strays)?;
+    put_u64(out, entries.len() as u64)?;
+    put_entries(out, version, entries)
 }
 
 /// The one spelling of a history that has one; `read_trace` reads it back as it was.
@@ -59,6 +70,32 @@ pub fn write_trace(alloc: Global, file: &TraceFile) -> Result<Vec<u8>, AllocErro
     ensures { IfOk result (λ v. v.items ≡ spelled_file (file_text file.now)) }
 {
     let mut out: Vec<u8> = Vec::new(alloc);
-    put_file(&mut out, file)?;
+    put_file(
+        &mut out,
+        file.version,
+        file.base,
+        &file.image,
+        file.strays.as_slice(),
+        file.entries.as_slice(),
+    )?;
+    Ok(out)
+}
+
+/// The same of a history of version 2 whose image and entries are lent: how many entries there were before, the image,
+/// and the entries. Nothing of it is copied.
+///
+/// # Errors
+/// `AllocError` where there is no memory.
+pub fn write_history(
+    alloc: Global,
+    base: u64,
+    image: &Machine,
+    entries: &[Entry],
+) -> Result<Vec<u8>, AllocError>
+    requires { HasSpelling (history_of base image.now entries.now) }
+    ensures { IfOk result (λ v. v.items ≡ spelled_file (file_text (history_of base image.now entries.now))) }
+{
+    let mut out: Vec<u8> = Vec::new(alloc);
+    put_file(&mut out, Version::Two, base, image, &[], entries)?;
     Ok(out)
 }
