@@ -111,10 +111,9 @@ fn tell_briefly<R>(
     ensures cells { length core.new.machine.objects ≡ length core.old.machine.objects }
     ensures choice { lent.new.cells ≡ lent.old.cells }
 {
-    let answer = core.answer(&entry.ask, lent);
-    entry.answer = copy_without_room(alloc, &answer);
+    entry.answer = core.answer(&entry.ask, lent);
     entry.choice.fresh = lent.take_fresh();
-    answer
+    copy_without_room(alloc, &entry.answer)
 }
 
 /// An entry without a collection. The core is lent a choice.

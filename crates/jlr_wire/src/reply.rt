@@ -1,5 +1,6 @@
 //! Reply lines out of answers.
-ghost use Rattle.std.specs.Prelude.{ℕ, List, ◌≡◌, ◌++◌, ◌∷◌, [], ◌≤◌, length, codes, Some, IfSome, IfNone, IsErr};
+ghost use Rattle.std.specs.Prelude.{ℕ, List, ◌≡◌, ◌++◌, ◌∷◌, [], ◌≤◌, length, codes, decimal, Some, IfSome, IfNone};
+ghost use Rattle.std.specs.Prelude.{IsErr};
 ghost use Rattle.std.specs.Io.KnownBytes.{Keeps};
 ghost use Rattle.jlr_wire.specs.Replies.{Sends, spaced, stat_words, fault_text, failure_text, data_words, words};
 ghost use Rattle.hex.specs.Hex.{encode_lower};
@@ -10,11 +11,14 @@ use jlr_device::retry;
 use jlr_machine::ask::{Answer, Stat};
 use jlr_machine::machine::Failure;
 use jlr_machine::text::Name;
-use jlr_types::Fault;
+use jlr_types::{Fault, Handle};
 use std::io::Write;
 
 /// The most bytes that one call reads.
 const DATA_LIMIT: usize = 200;
+
+/// The most bytes of the line of a handle: `= 250` and its end.
+const HANDLE_LINE_ROOM: usize = 6;
 
 /// The most bytes of the line of an answer that is no list and no data; most are shorter by far.
 const LINE_ROOM: usize = 128;
@@ -211,6 +215,9 @@ pub fn write_reply<W: Write>(answer: &Answer, writer: &mut W) -> Result<(), Writ
     if let Some(line) = fixed_line(answer) {
         return send(line, writer);
     }
+    if let Answer::Handle(handle) = answer {
+        return send(handle_line(*handle).as_slice(), writer);
+    }
     write_short_line(answer, writer)
 }
 
@@ -225,6 +232,20 @@ fn fixed_line(answer: &Answer) -> Option<&'static [u8]>
         Answer::Truth(false) => Some(b"no\n"),
         _ => None,
     }
+}
+
+/// The line of a handle, with its end.
+#[inline(always)]
+fn handle_line(handle: Handle) -> ArrayVec<u8, HANDLE_LINE_ROOM>
+    ensures { result.items ≡ (codes "= " ++ decimal handle) ++ 10 ∷ [] }
+{
+    let mut buffer = Buffer::new();
+    let digits = buffer.format(handle.number());
+    let mut line = ArrayVec::new();
+    line.try_extend_from_slice(b"= ").unwrap();
+    line.try_extend_from_slice(digits.as_bytes()).unwrap();
+    line.push(b'\n');
+    line
 }
 
 /// As `write_reply`, with room for the lines of most answers.
