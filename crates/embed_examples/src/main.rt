@@ -1,4 +1,6 @@
 //! Three programs with a heap of their own: a cache, a pool, and a watcher.
+//!
+//! They rely on `jlr_heap` alone: each function over the heap says which entry it is, or leaves that to the method.
 #![tactic(auto)]
 
 mod cache;

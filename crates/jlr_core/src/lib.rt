@@ -1,4 +1,8 @@
 //! The machine in code: one event at a time, whose reply and state are an entry of the machine.
+//!
+//! A core is the state of `jlr_state` with all asks over it. `Core::step` takes any event; the asks that carry no
+//! resource have `Core::answer`, which is lent the ask, and what is frequent a call of its own. `run` takes a list of
+//! events and carries the headline. Memory is taken by `Core::new`, and by the asks of which `Core::step` says so.
 #![tactic(auto)]
 
 mod cleaning;

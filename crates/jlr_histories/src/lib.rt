@@ -1,4 +1,7 @@
-//! Laws of whole runs of the machine.
+//! Laws of whole runs of the machine: lives of references and resources, jobs and their outcomes, and the promises of
+//! the headline.
+//!
+//! Functions with empty bodies whose contract is the law, and runs worked by evaluation.
 #![tactic(auto)]
 
 pub mod ahead;

@@ -1,4 +1,8 @@
 //! The plain program: which entries are legal, and what they leave, computed as the definitions say it.
+//!
+//! It relies on the definitions and on the parts of the program below, and knows nothing of the core. `follow_plain`
+//! changes a machine where it lies, and leaves it as it was where memory fails. Memory is taken for copies and for
+//! collections.
 #![tactic(auto)]
 
 pub mod advance;

@@ -1,4 +1,5 @@
-//! What asks name, what the machine holds under it, and which asks are refused.
+//! What asks name, what the machine holds under it, and which asks are refused: computed as the definitions say it,
+//! without memory.
 #![tactic(auto)]
 
 pub mod given;

@@ -1,4 +1,6 @@
-//! What an ask that is not refused leaves.
+//! What an ask that is not refused leaves, written where the machine lies.
+//!
+//! Each change is the definition's. What it takes memory for is made before the first change.
 #![tactic(auto)]
 
 pub mod after;

@@ -1,4 +1,6 @@
-//! Which collections are legal, what they leave, and what was seen.
+//! Which collections are legal, what they leave, and what was seen: computed as the definitions say it.
+//!
+//! Memory is taken for the sets of what is reachable.
 #![tactic(auto)]
 
 pub mod collection;

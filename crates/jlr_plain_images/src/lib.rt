@@ -1,4 +1,5 @@
-//! Whether a machine is well formed, and whether it may be the image at the head of a trace.
+//! Whether a machine is well formed, and whether it may be the image at the head of a trace: exactly as the definitions
+//! say it, and without memory.
 #![tactic(auto)]
 
 pub mod calls;

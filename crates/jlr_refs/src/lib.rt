@@ -1,4 +1,7 @@
-//! The calls on references, queues and cleanables.
+//! The calls on references, queues and cleanables, and the steps of the handler and on the cleaner's line, in the
+//! machine's words.
+//!
+//! It relies on `jlr_barrier`, which shades what is cut off. Nothing here takes memory.
 #![tactic(auto)]
 
 mod cleanables;

@@ -1,4 +1,5 @@
-//! `refheap`, a managed object heap with reference objects: the program.
+//! `refheap`, a managed object heap with reference objects: the program. All that can be tested stands in
+//! `jlr_commands`.
 #![tactic(auto)]
 
 mod places;
