@@ -72,10 +72,6 @@ mode = picked 0 modes mode_number refl mode_again
 
 -- ---- Layouts
 
--- the kind of a letter
-abbrev kind_of : ℕ → List ℕ → Result (FieldKind × List ℕ) Fault
-kind_of b rest = cond (nat_eq b 114) (Ok (RefField, rest)) (cond (nat_eq b 105) (Ok (IntField, rest)) (Err Range))
-
 kind_letter : (b : ℕ) (bytes : List ℕ) (k : FieldKind) (rest : List ℕ) (r i : Bool) → nat_eq b 114 ≡ r → nat_eq b 105 ≡ i → IsBytes bytes
     → cond {A = Result (FieldKind × List ℕ) Fault} r (Ok (RefField, bytes))
     (cond {A = Result (FieldKind × List ℕ) Fault} i (Ok (IntField, bytes)) (Err Range)) ≡ Ok (k, rest)

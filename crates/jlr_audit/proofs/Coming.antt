@@ -3,7 +3,7 @@ use Rattle.std.proofs.Common.{◌≡◌, ℕ, suc, ◌+◌, List, [], ◌∷◌,
 use Rattle.std.proofs.Common.{append_assoc, arith}
 use Rattle.std.specs.Prelude.{slice_get, IfOk, OnOk}
 use Rattle.std.specs.Io.KnownBytes.{IsAtEnd}
-use Rattle.std.proofs.lemmas.List.{append-nil, length-append, take_at}
+use Rattle.std.proofs.lemmas.List.{length-append, take_at}
 use Rattle.jlr_machine.specs.declared.machine.Machine.{Machine}
 use Rattle.jlr_machine.specs.declared.entry.Entry.{Entry}
 use Rattle.jlr_machine.specs.Run.{IsLegal, Run}
@@ -11,11 +11,9 @@ use Rattle.jlr_machine.specs.WellFormed.{IsImage}
 use Rattle.jlr_plain.specs.Following.{IsFit, IsNext}
 use Rattle.jlr_parts.specs.declared.record.Placed.{Placed}
 use Rattle.jlr_trace.specs.declared.file.TraceFault.{TraceFault}
-use Rattle.jlr_trace.specs.declared.file.TraceFault.TheVariants.{Truncated, BadMark, BadVersion, BadEntry, NoMemory}
 use Rattle.jlr_trace.specs.declared.window.StreamFault.{StreamFault}
-use Rattle.jlr_trace.specs.declared.window.StreamFault.TheVariants.{Unread, Damaged}
 use Rattle.jlr_trace.specs.Files.{◌>>>◌}
-use Rattle.jlr_trace.specs.Streams.{FailsOn, NoneComes, ComesFirst, Comes, Coming, AreBytes, AllAreBytes, behind_entry}
+use Rattle.jlr_trace.specs.Streams.{ComesFirst, Comes, Coming, AreBytes, AllAreBytes, behind_entry}
 use Rattle.jlr_audit.specs.declared.verdict.Verdict.{Verdict}
 use Rattle.jlr_audit.specs.declared.verdict.Verdict.TheVariants.{Illegal}
 use Rattle.jlr_audit.specs.Verdicts.{IsVerdict, IsVerdictWith, IsFirstIllegal}
@@ -54,34 +52,11 @@ one_came front e (Some start) None new came first = absurd came
 one_came front e (Some start) (Some old) None came first = absurd first
 one_came front e (Some start) (Some old) (Some new) came first = came ∙ ap (with_front front) first ∙ regrouped front e new
 
-pub all_came : (front : List Entry) (start now : Option Read) → HaveCome front start now → NoneComes now → AreComing front start
-all_came front None now came none = tt
-all_came front (Some start) None came none = absurd came
-all_came front (Some start) (Some now) came none = came ∙ ap (with_front front) none ∙ ap (λ (es : List Entry). Ok es) (append-nil front)
-
 pub others_come : (front others : List Entry) (start now : Option Read) → HaveCome front start now → AreComing others now
     → AreComing (front ++ others) start
 others_come front others None now came come = tt
 others_come front others (Some start) None came come = absurd came
 others_come front others (Some start) (Some now) came come = came ∙ ap (with_front front) come
-
-lost : (front : List Entry) (start now : Read) (d : TraceFault) → start ≡ with_front front now → now ≡ Err d → start ≡ Err d
-lost front start now d came e = came ∙ ap (with_front front) e
-
-pub one_fails : (front : List Entry) (f : StreamFault) (start now : Option Read) → HaveCome front start now → FailsOn f now
-    → FailsOn f start
-one_fails front (Unread kind) start now came fails = tt
-one_fails front (Damaged d) None now came fails = tt
-one_fails front (Damaged d) (Some start) None came fails = absurd came
-one_fails front (Damaged NoMemory) (Some start) (Some now) came fails = tt
-one_fails front (Damaged Truncated) (Some start) (Some now) came fails = lost front start now Truncated came fails
-one_fails front (Damaged BadMark) (Some start) (Some now) came fails = lost front start now BadMark came fails
-one_fails front (Damaged BadVersion) (Some start) (Some now) came fails = lost front start now BadVersion came fails
-one_fails front (Damaged (BadEntry k)) (Some start) (Some now) came fails = lost front start now (BadEntry k) came fails
-
-pub no_memory : (start : Option Read) → FailsOn (Damaged NoMemory) start
-no_memory None = tt
-no_memory (Some start) = tt
 
 -- ---- Bytes
 

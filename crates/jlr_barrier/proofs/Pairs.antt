@@ -1,12 +1,11 @@
 -- A guard and its cleanable, made one after the other.
-use Rattle.std.proofs.Common.{◌≡◌, ◌+◌, ◌<◌, ℕ, zero, suc, cond, List, [], ◌∷◌, length, Option, Some, None, is_some, option_map, slice_set}
-use Rattle.std.proofs.Common.{refl, sym, ◌∙◌, ap, arith}
-use Rattle.std.proofs.lemmas.List.Sums.{sum_by-set}
+use Rattle.std.proofs.Common.{◌≡◌, ◌<◌, ℕ, zero, suc, List, [], ◌∷◌, length, Option, Some, None, option_map, slice_set}
+use Rattle.std.proofs.Common.{refl, sym, ◌∙◌, ap}
 use Rattle.jlr_types.specs.declared.Work.TheVariants.{Resource as WorkOn}
 use Rattle.jlr_machine.specs.declared.object.Object.{Object}
 use Rattle.jlr_machine.specs.declared.object.Object.TheVariants.{Cleanable, Guard}
 use Rattle.jlr_machine.specs.declared.object.CleanState.TheVariants.{Armed}
-use Rattle.jlr_machine.specs.Objects.{Heap, at, change_at, occupied, set_at, with_cleanable}
+use Rattle.jlr_machine.specs.Objects.{Heap, at, change_at, set_at, with_cleanable}
 use Rattle.jlr_laws.proofs.Frames.{set_other, set_same}
 use Rattle.jlr_cells.specs.Contents.{watching}
 use Rattle.jlr_barrier.specs.Graphs.{Clock, made_now}
@@ -26,14 +25,6 @@ set_twice : {A : Type 0} (xs : List A) (i : ℕ) (x y : A) → slice_set (slice_
 set_twice [] i x y = refl
 set_twice (z ∷ xs) zero x y = refl
 set_twice (z ∷ xs) (suc i) x y = ap (λ l. z ∷ l) (set_twice xs i x y)
-
--- ---- Two cells
-
-pub one_more_object : (heap : Heap) (s : ℕ) (o : Object) → s < length heap → at heap s ≡ None
-    → occupied (set_at heap s o) ≡ occupied heap + 1
-one_more_object heap s o within free =
-    let gone : ◌≡◌ {A = ℕ} (cond (is_some (at heap s)) 1 0) 0 = ap {A = Option Object} {B = ℕ} (λ v. cond (is_some v) 1 0) free in
-    omega (arith, sum_by-set (λ v. cond (is_some v) 1 0) heap s (Some o) None within, gone)
 
 -- ---- Made and tied
 

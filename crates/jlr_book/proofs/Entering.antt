@@ -1,5 +1,5 @@
 -- An entry more, an end that is refused, and an open cycle that is given up.
-use Rattle.std.proofs.Common.{◌≡◌, ℕ, ◌+◌, ◌≤◌, Bool, true, false, cond, is_some, not, IsTrue, List, [], ◌∷◌, ◌++◌, length, Option, Some}
+use Rattle.std.proofs.Common.{◌≡◌, ℕ, ◌+◌, ◌≤◌, Bool, true, false, is_some, not, IsTrue, List, [], ◌∷◌, ◌++◌, length, Option, Some}
 use Rattle.std.proofs.Common.{None, refl, sym, ◌∙◌, ap, subst, arith, option_to_list, append-nil}
 use Rattle.std.proofs.lemmas.Bool.{both_ways}
 use Rattle.jlr_types.specs.declared.Progress.{Progress}
@@ -14,7 +14,7 @@ use Rattle.jlr_machine.specs.declared.entry.Chosen.{Chosen}
 use Rattle.jlr_machine.specs.declared.entry.Collected.{Collected}
 use Rattle.jlr_machine.specs.declared.entry.Entry.{Entry}
 use Rattle.jlr_machine.specs.declared.ask.CallOutcome.TheVariants.{Data as GotData, Wrote as GotWrote, Failed as GotFailed}
-use Rattle.jlr_machine.specs.Data.{Brings, tells_data}
+use Rattle.jlr_machine.specs.Data.{Brings}
 use Rattle.jlr_machine.specs.Refusals.{is_end, cells_needed}
 use Rattle.jlr_machine.specs.Run.{Run, IsLegal, MayCollect, Answers, has_room, no_choice, with_collection, now_seen, apply}
 use Rattle.jlr_machine.specs.Run.IsLegal.{carried_out, refused, heap_full, out_of_memory}
@@ -255,11 +255,6 @@ asked_end_has_room (ask.Finish by action outcome) room plain is = tt
 asked_end_has_room (ask.Opened k outcome) room plain is = absurd (both_ways true plain refl)
 asked_end_has_room (ask.CheckIn k outcome) room plain is = absurd (both_ways true plain refl)
 asked_end_has_room a room plain is = absurd (both_ways false refl is)
-
--- room of both kinds is there where room is
-pub brings_as : {X Y : Type 0} (room : Option X) (part : Option Y) (asked : Option Ask) → is_some part ≡ is_some room → Brings room asked
-    → Brings part asked
-brings_as room part asked same brings = subst (λ b. cond (tells_data asked) b true ≡ true) (sym same) brings
 
 -- ---- A cycle that is given up
 

@@ -26,7 +26,7 @@ use Rattle.jlr_book.proofs.Limits.{runs_keep_the_limits}
 use Rattle.jlr_core.proofs.Ranges.{limits_hold}
 use Rattle.jlr_core.proofs.RunLaws.{stands_at_start, start_cells}
 use Rattle.jlr_book.specs.Rules.{AsksBy, BookSteps, Cuts, EndsBy, Enters, GivesUp, Readies, StepsBy}
-use Rattle.jlr_book.specs.Writing.{Pieces, Stands, Writes, WritesEnd}
+use Rattle.jlr_book.specs.Writing.{Stands, Writes, WritesEnd}
 use Rattle.jlr_book.proofs.Entering.{closed, ends_more, owed_less_by, refused_stays, stands_for_its_own, stands_there}
 
 abbrev pub told : {R : Type 0} → Limits → ℕ → Machine → List Entry → Kept R → History R
@@ -219,21 +219,6 @@ mark_goes_on limits base room image entries core core' e reply chosen h s is cel
     subst (λ l. Ends image l core') (sym w.adds) (ends_more image entries core core' 0 e reply w.chosen w.step h.ends) in
     let owes = same_owed image entries core core' h.ends ends in
     (goes_on limits base image entries entries core core' 0 e reply h w cells (omega (arith, owes, h.fits)), omega (arith, owes, places))
-
--- whichever seat asks for it
-pub piece_steps : {R : Type 0} (seat : ℕ) (h new : History R) (e : Event R) (reply : Reply R) → ask_of e ≡ None → Pieces h e reply new
-    → BookSteps seat h e reply new
-piece_steps {R} seat h new e reply is x =
-    let same : h.entries ++ option_to_list (seated seat (ask_of e) (answer_in reply) x.chosen) ≡ h.entries =
-    ap {A = Option Ask} {B = List Entry} (λ o. h.entries ++ option_to_list (seated seat o (answer_in reply) x.chosen)) is
-    ∙ append-nil h.entries in
-    let enters : Enters seat h e reply new = record {
-      chosen = x.chosen;
-      step = x.step;
-      adds = x.stays
-          ∙ ap {A = List Entry} {B = History R} (λ l. told h.limits h.base h.image l new.core) (sym same);
-    } in
-    subst (λ o. StepsBy seat o h e reply new) (sym is) enters
 
 -- ---- Asks that are no end
 

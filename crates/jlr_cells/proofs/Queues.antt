@@ -1,5 +1,5 @@
 -- The members of queues, which stand in lists beside the objects.
-use Rattle.std.proofs.Common.{◌≡◌, ◌⊎◌, inl, inr, ℕ, zero, suc, ◌<◌, Bool, true, false, List, [], ◌∷◌, Option, Some, None, length, set}
+use Rattle.std.proofs.Common.{◌≡◌, ◌⊎◌, inl, inr, ℕ, zero, suc, ◌<◌, Bool, true, List, [], ◌∷◌, Option, Some, None, length, set}
 use Rattle.std.proofs.Common.{get_or, replicate, refl, sym, ap, ◌∙◌, arith, subst, length-set, get_or-set_same, get_or-set_other}
 use Rattle.std.specs.Prelude.{is_some, option_map, slice_get, slice_index_or}
 use Rattle.std.proofs.lemmas.Bool.{cases_eq}
@@ -133,16 +133,6 @@ plain_listed members (Some Cleaner) h = refl
 plain_listed members (Some (Cleanable c)) h = refl
 plain_listed members (Some (Guard g)) h = refl
 
--- what is no queue has no members, and a member of an object is one of its list
-pub no_queue : (o : Option Object) → some_and is_queue o ≡ false → members_in o ≡ []
-no_queue None h = refl
-no_queue (Some (Plain fields)) h = refl
-no_queue (Some (Reference r)) h = refl
-no_queue (Some (Queue l)) h = cc
-no_queue (Some Cleaner) h = refl
-no_queue (Some (Cleanable c)) h = refl
-no_queue (Some (Guard g)) h = refl
-
 pub member_listed : (o : Option Object) (place : ℕ) → member_in o place ≡ slice_get (members_in o) place
 member_listed None place = refl
 member_listed (Some (Plain fields)) place = refl
@@ -250,16 +240,6 @@ module _ (cells : List Cell) (lists : List (List ℕ)) (slots : ℕ) (kinds : Li
         | inr queue ↦ given_queue (list_at lists s) (at (objects_in cells) s) (sym (kinds_read s) ∙ queue)
       ]
 
-  pub first_at : (s : ℕ) → member_in (at (with_lists (objects_in cells) lists) s) 0 ≡ slice_get (list_at lists s) 0
-  first_at s = member_listed (at (with_lists (objects_in cells) lists) s) 0 ∙ ap (λ l. slice_get l 0) (members_at s)
-
-  -- a slot without object has no list
-  pub no_list : (s : ℕ) → at (objects_in cells) s ≡ None → list_at lists s ≡ []
-  no_list s none = elim (whole.members.only s) [
-    | inl e ↦ e
-    | inr queue ↦ (let contrary : None ≡ Some kind.Queue = ap (option_map kind_of) (sym none) ∙ sym (kinds_read s) ∙ queue in cc)
-  ]
-
   -- the list of a queue may change
   pub queue_changed : (s : ℕ) (members : List ℕ) → some_and is_queue (at (objects_in cells) s) ≡ true
       → AreWhole cells (set lists s members) slots kinds links
@@ -337,12 +317,6 @@ module _ (cells : List Cell) (lists : List (List ℕ)) (v : Heap) (view : with_l
 
   pub length_seen : length v ≡ length cells
   length_seen = ap length (sym view) ∙ long-with_lists (objects_in cells) lists ∙ length-map cells object_in
-
-  pub occupied_seen : occupied v ≡ occupied (objects_in cells)
-  occupied_seen = ap (λ (h : Heap). occupied h) (sym view) ∙ occupied-with_lists (objects_in cells) lists
-
-  pub none_at : (s : ℕ) → at (objects_in cells) s ≡ None → at v s ≡ None
-  none_at s none = ap (λ (h : Heap). at h s) (sym view) ∙ at-with_lists (objects_in cells) lists s ∙ ap (with_list (list_at lists s)) none
 
   -- a plain object is the very object in its cell
   pub plain_at : (s : ℕ) → some_and is_plain (at (objects_in cells) s) ≡ true → at v s ≡ at (objects_in cells) s

@@ -1,7 +1,6 @@
 -- Links in two columns.
-use Rattle.std.proofs.Common.{◌≡◌, ℕ, zero, suc, ◌-◌, ◌<◌, ◌≤◌, Bool, true, false, List, [], ◌∷◌, ◌++◌, Option, length, set, get_or}
-use Rattle.std.proofs.Common.{replicate, refl, sym, ap, ◌∙◌, arith, inl, inr, length-set, get_or-set_same, get_or-set_other}
-use Rattle.std.proofs.lemmas.Bool.{cases_eq, both_ways}
+use Rattle.std.proofs.Common.{◌≡◌, ℕ, zero, suc, ◌-◌, ◌<◌, ◌≤◌, Bool, false, List, [], ◌∷◌, ◌++◌, Option, length, set, get_or}
+use Rattle.std.proofs.Common.{replicate, refl, sym, ap, ◌∙◌, arith}
 use Rattle.std.proofs.lemmas.List.{get_or-replicate, length-replicate, set-append_left, set-append_right}
 use Rattle.jlr_sets.specs.SlotSets.{is_in}
 use Rattle.jlr_cells.specs.Links.{AreColumns, four_nulls, no_links, rows}
@@ -72,19 +71,6 @@ module _ (near far : List (List (Option ℕ))) (wide : List Bool) (are : AreColu
       ∙ ap (λ r. set (rows near far) s (set r field o)) (sym (row_at s h))
       ∙ ap (λ l. set l s (set (get_or v s []) field o)) view
 
-  pub near_are : (s field : ℕ) (o : Option ℕ) (row : List (Option ℕ)) → s < length near → row ≡ set (get_or near s []) field o
-      → AreColumns (set near s row) far wide
-  near_are s field o row h e = record {
-    as_many = are.as_many ∙ sym (length-set near s row);
-    places = are.places ∙ sym (length-set near s row);
-    four = λ k below. elim (cases_eq k s) [
-      | inl same ↦ ap (λ n. length (get_or (set near s row) n [])) same ∙ ap length (get_or-set_same near s row [] h) ∙ ap length e
-          ∙ length-set (get_or near s []) field o ∙ are.four s h
-      | inr d ↦ ap length (get_or-set_other near s k row [] d) ∙ are.four k (omega (arith, below, length-set near s row))
-    ];
-    nulls = λ k below off. are.nulls k (omega (arith, below, length-set near s row)) off;
-  }
-
   -- a link of the second column
   pub far_set : (s field : ℕ) (o : Option ℕ) (row : List (Option ℕ)) → s < length near → 4 ≤ field
       → row ≡ set (get_or far s []) (field - 4) o
@@ -96,18 +82,6 @@ module _ (near far : List (List (Option ℕ))) (wide : List Bool) (are : AreColu
       ∙ ap (λ r. set (rows near far) s (set r field o)) (sym (row_at s h))
       ∙ ap (λ l. set l s (set (get_or v s []) field o)) view
 
-  pub far_are : (s : ℕ) (row : List (Option ℕ)) → s < length near → AreColumns near (set far s row) (set wide s true)
-  far_are s row h = record {
-    as_many = length-set far s row ∙ are.as_many;
-    places = length-set wide s true ∙ are.places;
-    four = are.four;
-    nulls = λ k below off. elim (cases_eq k s) [
-      | inl same ↦ absurd (both_ways (is_in (set wide s true) k) off
-          (ap (is_in (set wide s true)) same ∙ get_or-set_same wide s true false (omega (arith, h, are.places))))
-      | inr d ↦ get_or-set_other far s k row [] d ∙ are.nulls k below (sym (get_or-set_other wide s k true false d) ∙ off)
-    ];
-  }
-
   -- all links are null
   pub cleared_near : (s : ℕ) → s < length near → is_in wide s ≡ false → rows (set near s four_nulls) far ≡ set v s no_links
   cleared_near s h off =
@@ -117,25 +91,3 @@ module _ (near far : List (List (Option ℕ))) (wide : List Bool) (are : AreColu
 
   pub cleared_both : (s : ℕ) → rows (set near s four_nulls) (set far s four_nulls) ≡ set v s no_links
   cleared_both s = rows-set near far s four_nulls four_nulls ∙ ap (λ l. set l s no_links) view
-
-  pub null_near : (s : ℕ) → s < length near → AreColumns (set near s four_nulls) far wide
-  null_near s h = record {
-    as_many = are.as_many ∙ sym (length-set near s four_nulls);
-    places = are.places ∙ sym (length-set near s four_nulls);
-    four = λ k below. elim (cases_eq k s) [
-      | inl same ↦ ap (λ n. length (get_or (set near s four_nulls) n [])) same ∙ ap length (get_or-set_same near s four_nulls [] h)
-      | inr d ↦ ap length (get_or-set_other near s k four_nulls [] d) ∙ are.four k (omega (arith, below, length-set near s four_nulls))
-    ];
-    nulls = λ k below off. are.nulls k (omega (arith, below, length-set near s four_nulls)) off;
-  }
-
-  pub null_far : (s : ℕ) → s < length near → AreColumns near (set far s four_nulls) (set wide s false)
-  null_far s h = record {
-    as_many = length-set far s four_nulls ∙ are.as_many;
-    places = length-set wide s false ∙ are.places;
-    four = are.four;
-    nulls = λ k below off. elim (cases_eq k s) [
-      | inl same ↦ ap (λ n. get_or (set far s four_nulls) n []) same ∙ get_or-set_same far s four_nulls [] (omega (arith, h, are.as_many))
-      | inr d ↦ get_or-set_other far s k four_nulls [] d ∙ are.nulls k below (sym (get_or-set_other wide s k false false d) ∙ off)
-    ];
-  }

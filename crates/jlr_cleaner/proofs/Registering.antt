@@ -1,9 +1,9 @@
 -- Where actions wait: each waits at one place, and was given.
-use Rattle.std.proofs.Common.{◌≡◌, ◌≢◌, ℕ, ◌+◌, inl, inr, sym, ◌∙◌, arith, replicate, Option, Some, None}
+use Rattle.std.proofs.Common.{◌≡◌, ◌≢◌, ℕ, inl, inr, sym, ◌∙◌, arith, replicate, Option, Some, None}
 use Rattle.std.proofs.lemmas.Bool.{cases_lt}
 use Rattle.std.proofs.lemmas.List.{get_or-replicate, get_or_past, length-replicate}
-use Rattle.jlr_machine.specs.Objects.{Table, at, empty_at, set_at}
-use Rattle.jlr_laws.proofs.Frames.{no_some, set_cases, some_same}
+use Rattle.jlr_machine.specs.Objects.{Table, at, empty_at}
+use Rattle.jlr_laws.proofs.Frames.{no_some, set_cases}
 use Rattle.jlr_cleaner.specs.Cleanings.{AreRegistered}
 
 pub nothing_there : {A : Type 0} (n place : ℕ) → at {A = A} (replicate n None) place ≡ None
@@ -17,27 +17,6 @@ none_registered n next_action =
     record {
       given = λ place action e. no_some action (sym (nothing_there n place) ∙ e);
       once = λ place other action e f. no_some action (sym (nothing_there n place) ∙ e);
-    }
-
--- what waits elsewhere, where one place has changed
-pub registered_there : (waiting : Table ℕ) (next_action place : ℕ) → AreRegistered waiting next_action
-    → AreRegistered (set_at waiting place next_action) (next_action + 1)
-registered_there waiting next_action place r =
-    record {
-      given = λ p action e. elim (set_cases waiting place p (Some next_action) action e) [
-        | inl here ↦ omega (arith, some_same next_action action here.1)
-        | inr there ↦ omega (arith, r.given p action there.1)
-      ];
-      once = λ p q action e f. elim (set_cases waiting place p (Some next_action) action e) [
-        | inl here ↦ elim (set_cases waiting place q (Some next_action) action f) [
-          | inl too ↦ here.0 ∙ sym too.0
-          | inr there ↦ absurd (omega (arith, some_same next_action action here.1, r.given q action there.1))
-        ]
-        | inr there ↦ elim (set_cases waiting place q (Some next_action) action f) [
-          | inl here ↦ absurd (omega (arith, some_same next_action action here.1, r.given p action there.1))
-          | inr too ↦ r.once p q action there.1 too.1
-        ]
-      ];
     }
 
 waited_before : (waiting : Table ℕ) (place p action : ℕ) → at (empty_at waiting place) p ≡ Some action → (p ≡ place → ⊥)

@@ -10,11 +10,10 @@ use Rattle.jlr_machine.specs.declared.object.Cleanable.{Cleanable}
 use Rattle.jlr_machine.specs.declared.ask.Outcome.{Outcome}
 use Rattle.jlr_machine.specs.declared.ask.Outcome.TheVariants.{Ok as OutcomeOk, Failed}
 use Rattle.jlr_machine.specs.Objects.{with_cleanable}
-use Rattle.jlr_machine.specs.Lookups.{rid_of, with_job, with_object, with_state, without_job, without_resource}
+use Rattle.jlr_machine.specs.Lookups.{rid_of, with_job, with_object, without_job}
 use Rattle.jlr_machine.specs.Calls.{finished, spent, taken_up, with_work_state}
 use Rattle.jlr_resource.specs.declared.place.Kept.TheVariants as kept
-use Rattle.jlr_resource.specs.declared.place.Kept.{Kept}
-use Rattle.jlr_resource.specs.Resources.{Resources, changed, removed, state_of}
+use Rattle.jlr_resource.specs.Resources.{Resources}
 use Rattle.jlr_resource.proofs.Listed.{resources_changed, resources_ended}
 use Rattle.jlr_cleaner.specs.declared.outcomes.Outcomes.{Outcomes}
 use Rattle.jlr_cleaner.specs.Jobs.{is_running, job_in}
@@ -91,13 +90,3 @@ module _ {R : Type 0} where
       ≡ after_finish c job outcome
   all_finished c job OutcomeOk old new jobs table before ended closed recorded = rw (ended, closed, recorded, before) refl
   all_finished c job (Failed fault) old new jobs table before ended closed recorded = rw (ended, closed, recorded, before) refl
-
-  -- ---- The other calls of the table
-
-  pub machine_changed : (c : Cleanings R) (rid : ℕ) (k : Kept R) (m : Machine)
-      → machine_with (record c { table = changed c.table rid k }) m ≡ with_state (machine_with c m) rid (state_of k)
-  machine_changed c rid k m = rw (resources_changed c.table.held rid k) refl
-
-  pub machine_ended : (c : Cleanings R) (rid : ℕ) (m : Machine)
-      → machine_with (record c { table = removed c.table rid }) m ≡ without_resource (machine_with c m) rid
-  machine_ended c rid m = rw (resources_ended c.table.held rid) refl

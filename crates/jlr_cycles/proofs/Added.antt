@@ -1,8 +1,8 @@
 -- The strong and soft edges that an ask adds lead to roots.
-use Rattle.std.proofs.Common.{◌≡◌, ℕ, zero, suc, ◌+◌, ◌==◌, ◌<◌, length-set, true, false, cond, List, [], ◌∷◌, ◌++◌, ◌⊎◌, inl, inr, length}
+use Rattle.std.proofs.Common.{◌≡◌, ℕ, ◌+◌, ◌==◌, ◌<◌, length-set, true, false, cond, List, [], ◌∷◌, ◌++◌, ◌⊎◌, inl, inr, length}
 use Rattle.std.proofs.Common.{refl, sym, ◌∙◌, ap, subst, Option, Some, None, option_and_then, option_map, option_to_list, drop, map}
-use Rattle.std.proofs.Common.{replicate, slice_get, slice_set, filter_map}
-use Rattle.std.specs.List.{flat_map, cons_option}
+use Rattle.std.proofs.Common.{replicate, slice_get, filter_map}
+use Rattle.std.specs.List.{flat_map}
 use Rattle.jlr_types.specs.declared.FieldValue.{FieldValue}
 use Rattle.jlr_types.specs.declared.FieldKind.{FieldKind}
 use Rattle.jlr_types.specs.declared.FieldKind.TheVariants.{Int as IntField, Ref as RefField}
@@ -36,7 +36,7 @@ use Rattle.jlr_machine.specs.declared.ask.Answer.{Answer}
 use Rattle.jlr_machine.specs.declared.ask.Answer.TheVariants.{Prepared}
 use Rattle.jlr_machine.specs.Objects.{Heap, at, set_at, ◌∈◌, as_reference, with_field, with_value, with_reference, with_members}
 use Rattle.jlr_machine.specs.Objects.{with_cleanable, queue_ahead, is_spent}
-use Rattle.jlr_machine.specs.Edges.{edges_from, edges, strong_edges, referent_edges, slot_in, slots_in, roots, is_own_root}
+use Rattle.jlr_machine.specs.Edges.{edges_from, edges, referent_edges, slot_in, slots_in, roots, is_own_root}
 use Rattle.jlr_machine.specs.Edges.Chain.{UpToSoft}
 use Rattle.jlr_machine.specs.Lookups.{slot_named, guard_named, with_object, with_new, with_handle, with_call, on, blank, bound, job_of}
 use Rattle.jlr_machine.specs.Lookups.{with_job, without_job, with_state, rid_of, cleanable_at, cleanable_of_guard}
@@ -53,16 +53,6 @@ use Rattle.jlr_laws.proofs.Frames.{no_some, some_same, set_cases, set_same, root
 use Rattle.jlr_laws.proofs.Frames.IsRoot.{held, waiting, active}
 
 -- ---- Lists
-
-in_one : (o : Option ℕ) (y : ℕ) (rest : List ℕ) → y ∈ cons_option o rest → (o ≡ Some y) ⊎ (y ∈ rest)
-in_one None y rest h = inr h
-in_one (Some x) y rest h = elim (in_cons y x rest h) [ inl e ↦ inl (ap (λ z. Some z) (sym e)) | inr r ↦ inr r ]
-
-one_in : (o : Option ℕ) (y : ℕ) (rest : List ℕ) → (o ≡ Some y) ⊎ (y ∈ rest) → y ∈ cons_option o rest
-one_in None y rest (inl e) = no_some y e
-one_in None y rest (inr h) = h
-one_in (Some x) y rest (inl e) = in_front y x rest (sym (some_same x y e))
-one_in (Some x) y rest (inr h) = in_rest y x rest h
 
 blank_none : (layout : List FieldKind) (y : ℕ) → y ∈ filter_map slot_in (map blank layout) → ⊥
 blank_none [] y h = nothing y h

@@ -1,6 +1,5 @@
 -- A core goes on standing for each machine for which it stands.
 use Rattle.std.proofs.Common.{◌≡◌, ℕ, true, List, [], ◌++◌, inl, inr, refl, sym, ap, subst}
-use Rattle.std.proofs.lemmas.Bool.{both_ways}
 use Rattle.std.proofs.lemmas.List.{append-nil}
 use Rattle.jlr_machine.specs.declared.machine.Machine.{Machine}
 use Rattle.jlr_machine.specs.declared.entry.Entry.{Entry}
@@ -16,18 +15,10 @@ use Rattle.jlr_laws.proofs.Sets.{nothing}
 use Rattle.jlr_laws.proofs.Empty.{well_formed_within}
 use Rattle.jlr_laws.proofs.SeenKept.{keeps_seen, with_seen as unseen}
 use Rattle.jlr_laws.proofs.Law.{legal_kept}
-use Rattle.jlr_cycles.specs.Laws.{with_seen, StandsForItself, GoesOn, GoesOnStanding, LegalInAllForWhichItStands, CoreStaysWellFormed}
+use Rattle.jlr_cycles.specs.Laws.{with_seen, GoesOn, GoesOnStanding, LegalInAllForWhichItStands, CoreStaysWellFormed}
 use Rattle.jlr_cycles.proofs.Seen.{now_seen_gives, reached_is_seen, none_seen}
 use Rattle.jlr_cycles.proofs.Legal.{legal_when_more_was_seen}
 use Rattle.jlr_cycles.proofs.Left.{leaves_the_same}
-
-pub stands_for_itself : StandsForItself
-stands_for_itself m shut unseen =
-    record {
-      same = ap {A = List ℕ} {B = Machine} (λ l. record m { seen = l }) unseen;
-      seen = λ e. absurd (both_ways m.cycle_open shut e);
-      outside = λ _. unseen;
-    }
 
 -- a core with nothing marked stands for the machine in which what the roots reach was seen
 pub stands_for_seen : (n : Machine) → IsWithinHeap n.objects (roots n) → StandsFor (with_seen n []) [] (with_seen n (now_seen n))

@@ -38,7 +38,3 @@ module _ {R : Type 0} where
   -- a close fails just for a seat that was not handed in
   abbrev pub FailsFor : Limits → List (Seen (Step R)) → CloseFault → Type 0
   FailsFor limits seats fault = (k : ℕ) × (fault ≡ Disagree k) × IsLeastMissing limits k seats
-
-  -- a hall of these limits whose seats were all handed in was closed with this book
-  abbrev pub HasOneHistory : Limits → History R → Type 0
-  HasOneHistory limits book = (seats : List (Seen (Step R))) × Closes limits seats book

@@ -1,5 +1,5 @@
 -- What one entry may make of an object: of the same kind, and if it is a reference or a cleanable, further on its way.
-use Rattle.std.proofs.Common.{length-set, length, ◌≡◌, ℕ, Bool, true, false, cond, List, refl, sym, ◌⊎◌, inl, inr, Option, Some, None}
+use Rattle.std.proofs.Common.{length-set, ◌≡◌, ℕ, Bool, true, false, cond, List, refl, sym, ◌⊎◌, inl, inr, Option, Some, None}
 use Rattle.std.proofs.Common.{is_some}
 use Rattle.std.proofs.lemmas.Bool.{both_ways, and_parts}
 use Rattle.jlr_types.specs.declared.FieldValue.{FieldValue}
@@ -210,12 +210,3 @@ cleanable_back P (Queue x) d h = absurd h
 cleanable_back P Cleaner d h = absurd h
 cleanable_back P (Cleanable c) d h = (c, refl, h)
 cleanable_back P (Guard g) d h = absurd h
-
-pub reference_back : (P : Type 0) (o : Object) (t : ReferenceOf) → Becomes P o (Reference t) → (r : ReferenceOf) × (o ≡ Reference r)
-    × IsKept P r t
-reference_back P (Plain x) t h = absurd h
-reference_back P (Reference r) t h = (r, refl, h)
-reference_back P (Queue x) t h = absurd h
-reference_back P Cleaner t h = absurd h
-reference_back P (Cleanable c) t h = absurd h
-reference_back P (Guard g) t h = absurd h

@@ -6,7 +6,7 @@ use Rattle.jlr_machine.specs.declared.entry.Entry.{Entry}
 use Rattle.jlr_machine.specs.Run.{Run, apply}
 use Rattle.jlr_laws.proofs.Law.{legal_kept}
 use Rattle.jlr_cycles.proofs.Left.{leaves_the_same}
-use Rattle.jlr_plain.specs.Unseen.{unseen, IsLegalBefore}
+use Rattle.jlr_plain.specs.Unseen.{unseen}
 use Rattle.jlr_image.specs.Led.{led, LeadsOn}
 
 -- what was seen matters to nothing else
@@ -17,9 +17,6 @@ same_after m e = leaves_the_same m [] e
 pub led_by_run : (m n : Machine) (entries : List Entry) → Run m entries n → led (unseen m) entries ≡ unseen n
 led_by_run m n [] r = ap {A = Machine} {B = Machine} unseen (sym r)
 led_by_run m n (e ∷ entries) r = ap {A = Machine} {B = Machine} (λ x. led x entries) (same_after m e) ∙ led_by_run (apply m e) n entries r.1
-
-pub first_legal : (n : Machine) (e : Entry) (entries : List Entry) → LeadsOn n (e ∷ entries) → IsLegalBefore n e
-first_legal n e entries h = record { machine = h.machine; same = h.same; formed = h.formed; legal = h.run.0 }
 
 pub leads_further : (n : Machine) (e : Entry) (entries : List Entry) → LeadsOn n (e ∷ entries) → LeadsOn (unseen (apply n e)) entries
 leads_further n e entries h = record {

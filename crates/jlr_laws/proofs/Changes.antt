@@ -56,13 +56,6 @@ worker_from m rid action Idle d h = h
 worker_from m rid action Out d h = h
 worker_from m rid action Closing d h = absurd (d refl)
 
-pub worker_gives : (m : Machine) (rid action : ℕ) (state : ResourceState) → (state ≡ Closing → ⊥) → HasWorker m rid action state
-    → HasCleanable m rid action
-worker_gives m rid action Opening d h = h
-worker_gives m rid action Idle d h = h
-worker_gives m rid action Out d h = h
-worker_gives m rid action Closing d h = absurd (d refl)
-
 -- the workers of one machine are those of another
 pub worker_over : (m n : Machine) (rid action : ℕ) (state : ResourceState) → (HasCleanable m rid action → HasCleanable n rid action)
     → (HasWorker m rid action Closing → HasWorker n rid action Closing) → HasWorker m rid action state → HasWorker n rid action state

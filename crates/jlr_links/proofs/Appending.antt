@@ -128,10 +128,6 @@ module _ (next : List ℕ) (ends : List Ends) (k s : ℕ) (linked : AreLinked ne
   only_end zero c = refl
   only_end (suc n) c = absurd (omega (arith, c))
 
-  pub first_linked : (ends_at ends k).count ≡ 0 → AreLinked next (slice_set ends k first_ends)
-  first_linked c = appended_linked next next ends k s first_ends linked inside slot apart refl
-      (ap (λ l. l ++ s ∷ []) (sym (empty_members c))) only_end (λ j d. refl) (λ j n d q. linked.last j n q)
-
   pub first_lists : (ends_at ends k).count ≡ 0 → lists_in next (slice_set ends k first_ends) ≡ slice_set (lists_in next ends) k
       (members next ends k ++ s ∷ [])
   first_lists c = appended_lists next next ends k s first_ends linked inside slot apart refl (ap (λ l. l ++ s ∷ []) (sym (empty_members c)))

@@ -1,5 +1,5 @@
 -- Slots leave one list, and the others stay.
-use Rattle.std.proofs.Common.{◌≡◌, ℕ, zero, suc, ◌-◌, ◌^◌, ◌<◌, inl, inr, not, IsTrue, List, [], ◌∷◌, ◌++◌, drop, take, length}
+use Rattle.std.proofs.Common.{◌≡◌, ℕ, zero, suc, ◌-◌, ◌<◌, inl, inr, not, IsTrue, List, [], ◌∷◌, ◌++◌, drop, take, length}
 use Rattle.std.proofs.Common.{slice_index_or, slice_set, replicate, refl, sym, subst, ap, ◌∙◌, arith, length-set, get_or-set_same}
 use Rattle.std.proofs.Common.{get_or-set_other}
 use Rattle.std.proofs.lemmas.List.{get_or_read}
@@ -70,9 +70,6 @@ module _ (next : List ℕ) (ends : List Ends) (k : ℕ) (e : Ends) (linked : Are
 -- ---- All slots
 
 module _ (next : List ℕ) (ends : List Ends) (k : ℕ) (linked : AreLinked next ends) (inside : k < length ends) where
-  pub cleared_linked : AreLinked next (slice_set ends k no_ends)
-  cleared_linked = left_linked next ends k no_ends linked inside (λ x h. nothing x h) refl (λ n c. absurd (omega (arith, c)))
-
   pub cleared_lists : lists_in next (slice_set ends k no_ends) ≡ slice_set (lists_in next ends) k []
   cleared_lists = left_lists next ends k no_ends linked inside (λ x h. nothing x h) refl (λ n c. absurd (omega (arith, c)))
 
@@ -147,18 +144,6 @@ no_ends_at : (n k : ℕ) → ends_at (replicate n no_ends) k ≡ no_ends
 no_ends_at zero k = refl
 no_ends_at (suc n) zero = refl
 no_ends_at (suc n) (suc k) = no_ends_at n k
-
-none_in : {P : Type 0} (next : List ℕ) (n k x : ℕ) → x ∈ members next (replicate n no_ends) k → P
-none_in next n k x h = nothing x (subst (λ (e : Ends). x ∈ list_in next e) (no_ends_at n k) h)
-
-pub empty_linked : (next : List ℕ) (n : ℕ) → length next < 2 ^ 32 → AreLinked next (replicate n no_ends)
-empty_linked next n small = record {
-  small = small;
-  within = λ k x h. none_in next n k x h;
-  last = λ k i c. absurd (omega (arith, c, ap (λ (e : Ends). e.count) (no_ends_at n k)));
-  once = λ k. subst (λ (e : Ends). IsTrue (is_distinct (list_in next e))) (sym (no_ends_at n k)) refl;
-  in_one = λ i j x h g. none_in next n i x h;
-}
 
 pub empty_lists : (next : List ℕ) (n : ℕ) → lists_in next (replicate n no_ends) ≡ replicate n []
 empty_lists next zero = refl

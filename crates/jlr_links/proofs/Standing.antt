@@ -1,6 +1,6 @@
 -- Where a slot stands in a list.
 use Rattle.std.proofs.Common.{◌≡◌, ℕ, zero, suc, ◌<◌, not, IsTrue, List, [], ◌∷◌, ◌++◌, Some, None, length, refl, sym, subst, ap, ◌∙◌}
-use Rattle.std.proofs.Common.{slice_get, is_some, nat_eq, eq-eqb}
+use Rattle.std.proofs.Common.{slice_get, nat_eq, eq-eqb}
 use Rattle.std.proofs.lemmas.Bool.{both_ways, and_parts, eqb-true, not-true}
 use Rattle.jlr_machine.specs.Objects.{◌∈◌, ◌∋◌, is_distinct}
 use Rattle.jlr_links.specs.declared.links.Ends.{Ends}
@@ -97,9 +97,6 @@ module _ (next : List ℕ) (ends : List Ends) (k : ℕ) (linked : AreLinked next
 
 -- ---- The front
 
-pub no_front : (next : List ℕ) (ends : List Ends) (k : ℕ) → (ends_at ends k).count ≡ 0 → list_at (lists_in next ends) k ≡ []
-no_front next ends k c = at_mapped next ends k ∙ ap (λ n. walk next n (ends_at ends k).first) c
-
 pub some_front : (next : List ℕ) (ends : List Ends) (k : ℕ) → ((ends_at ends k).count ≡ 0 → ⊥)
     → Some (ends_at ends k).first ≡ slice_get (list_at (lists_in next ends) k) 0
 some_front next ends k some =
@@ -138,13 +135,6 @@ pub tells_front : (next : List ℕ) (ends : List Ends) (v : Lists) (k : ℕ) (e 
 tells_front next ends v k e x view read some first =
     ap (λ y. Some y) (first ∙ ap (λ (z : Ends). z.first) read) ∙ some_front next ends k (λ c. some (ap (λ (z : Ends). z.count) read ∙ c))
     ∙ ap (λ (w : Lists). slice_get (list_at w.lists k) 0) view
-
-pub not_empty : (next : List ℕ) (ends : List Ends) (v : Lists) (k x : ℕ) → seen next ends ≡ v → Some x ≡ slice_get (list_at v.lists k) 0
-    → (ends_at ends k).count ≡ 0 → ⊥
-not_empty next ends v k x view front c =
-    both_ways (is_some (slice_get (list_at v.lists k) 0))
-    (ap (λ l. is_some (slice_get l 0)) (ap (λ (w : Lists). list_at w.lists k) (sym view) ∙ no_front next ends k c))
-    (sym (ap is_some front))
 
 pub slot_inside : (next : List ℕ) (ends : List Ends) (v : Lists) (k s : ℕ) → seen next ends ≡ v → AreLinked next ends
     → s ∈ list_at v.lists k → s < length next

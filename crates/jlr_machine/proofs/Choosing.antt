@@ -1,8 +1,8 @@
 -- What a choice shows of its parts.
-use Rattle.std.proofs.Common.{◌≡◌, ℕ, Bool, true, false, cond, List, [], Option, Some, None, refl, sym, ap}
+use Rattle.std.proofs.Common.{◌≡◌, ℕ, Bool, true, false, cond, List, [], Option, Some, None, refl, ap}
 use Rattle.std.proofs.lemmas.Bool.{both_ways}
 use Rattle.jlr_machine.specs.declared.entry.Collected.{Collected}
-use Rattle.jlr_machine.specs.Choices.{Choosing, kept_by}
+use Rattle.jlr_machine.specs.Choices.{Choosing}
 
 -- whether it collects, what it kept and put behind the pending list, the slots of new objects, and the cells
 abbrev pub shown : Bool → List ℕ → List ℕ → List ℕ → ℕ → Choosing
@@ -31,8 +31,3 @@ collects_so false k p K P e = absurd (both_ways false refl (ap {A = Option Colle
 pub shown_same : (b : Bool) (k k' p p' f f' : List ℕ) (n n' : ℕ) → b ≡ true → k ≡ k' → p ≡ p' → f ≡ f' → n ≡ n'
     → shown b k p f n ≡ shown true k' p' f' n'
 shown_same b k k' p p' f f' n n' eb ek ep ef en = rw (eb, ek, ep, ef, en) refl
-
--- what was kept so far, where nothing is kept without a collection
-pub kept_shown : (b : Bool) (k p f : List ℕ) (n : ℕ) → (b ≡ false → k ≡ []) → kept_by (shown b k p f n) ≡ k
-kept_shown true k p f n none = refl
-kept_shown false k p f n none = sym (none refl)

@@ -2,7 +2,7 @@
 use Rattle.std.proofs.Common.{◌≡◌, ℕ, zero, suc, ◌<◌, Bool, true, false, cond, List, [], ◌∷◌, Option, Some, None, length, map, replicate}
 use Rattle.std.proofs.Common.{set, refl, sym, ap, ◌∙◌, inl, inr, arith, subst, length-set, get_or-set_same, get_or-set_other}
 use Rattle.std.specs.Prelude.{is_some, option_map}
-use Rattle.std.proofs.lemmas.Bool.{cases_Bool, cases_eq, cases_lt, both_ways, false≢true}
+use Rattle.std.proofs.lemmas.Bool.{cases_Bool, cases_eq, cases_lt, both_ways}
 use Rattle.std.proofs.lemmas.List.{get_or_past, length-map, length-replicate}
 use Rattle.jlr_machine.specs.declared.object.Contents.TheVariants.{Typed, Elements}
 use Rattle.jlr_machine.specs.declared.object.Object.{Object}
@@ -157,10 +157,6 @@ pub object_of_member : (x : ℕ) (o : Option Object) → x ∈ members_in o → 
 object_of_member x None h = absurd (nothing x h)
 object_of_member x (Some o) h = refl
 
-no_object : (o : Option Object) → is_some o ≡ false → o ≡ None
-no_object None h = refl
-no_object (Some o) h = absurd (false≢true (sym h))
-
 one_of : (b : Bool) (o : Option Object) → some_and is_cleanable o ≡ false → some_and is_cleanable (cond b o None) ≡ false
 one_of true o none = none
 one_of false o none = refl
@@ -194,9 +190,6 @@ module _ (store : Heap) (occ used listed : List Bool) (are : AreShown store occ 
 
   pub hidden : (s : ℕ) → is_in occ s ≡ false → at v s ≡ None
   hidden s off = seen s ∙ ap (λ b. cond b (at store s) None) off
-
-  pub nothing_there : (s : ℕ) → is_some (at v s) ≡ false → at v s ≡ None
-  nothing_there s h = no_object (at v s) h
 
   pub holds_below : (f : Option Object → Bool) (s : ℕ) → ((o : Option Object) → f o ≡ true → is_some o ≡ true) → f (at v s) ≡ true
       → f (at store s) ≡ true
@@ -330,23 +323,6 @@ module _ (store : Heap) (occ used listed : List Bool) (are : AreShown store occ 
           ∙ ap members_in (get_or-set_same store s (Some made) None within) ∙ bare
       | inr d ↦ ap members_in (get_or-set_other store s k (Some made) None d) ∙ are.members k clear
     ];
-  }
-
--- condemned cells become free, and no array lies in them any more
-module _ (store : Heap) (occ used listed : List Bool) (are : AreShown store occ used listed) where
-  pub swept_are : (store' : Heap) (used' : List Bool) → length used' ≡ length used → length store' ≡ length store
-      → ((s : ℕ) → is_in occ s ≡ true → at store' s ≡ at store s)
-      → ((s : ℕ) → members_in (at store' s) ≡ members_in (at store s))
-      → ((s : ℕ) → is_in used' s ≡ false → some_and is_array (at store' s) ≡ false)
-      → AreShown store' occ used' listed
-  swept_are store' used' same_used same_long kept members free = record {
-    places = are.places ∙ sym same_long;
-    uses = same_used ∙ are.uses ∙ sym same_long;
-    lists = are.lists ∙ sym same_long;
-    objects = λ s on. ap is_some (kept s on) ∙ are.objects s on;
-    queues = are.queues;
-    members = λ s off. members s ∙ are.members s off;
-    free = free;
   }
 
 no_members : (n s : ℕ) → members_in (at (replicate n None) s) ≡ []

@@ -1,5 +1,5 @@
 -- Lemmas on what legal entries count up, and on the machine that they leave.
-use Rattle.std.proofs.Common.{◌≡◌, ℕ, ◌<◌, ◌≤◌, ◌^◌, true, false, List, length, refl, sym, ◌∙◌, ap, subst, arith, Option, Some, None}
+use Rattle.std.proofs.Common.{◌≡◌, ℕ, ◌<◌, ◌≤◌, ◌^◌, false, List, length, refl, sym, ◌∙◌, ap, subst, arith, Option, Some, None}
 use Rattle.std.proofs.lemmas.Bool.{both_ways, leb-false}
 use Rattle.jlr_types.specs.declared.Refusal.TheVariants.{Exhausted}
 use Rattle.jlr_machine.specs.declared.machine.Machine.{Machine}
@@ -7,10 +7,7 @@ use Rattle.jlr_machine.specs.declared.entry.Entry.{Entry}
 use Rattle.jlr_machine.specs.declared.entry.Collected.{Collected}
 use Rattle.jlr_machine.specs.declared.ask.Ask.{Ask}
 use Rattle.jlr_machine.specs.declared.ask.Ask.TheVariants.{Register, Prepare}
-use Rattle.jlr_machine.specs.declared.ask.Answer.{Answer}
-use Rattle.jlr_machine.specs.declared.ask.Answer.TheVariants.{Refused}
 use Rattle.jlr_machine.specs.Refusals.{refusal}
-use Rattle.jlr_machine.specs.Calls.{after}
 use Rattle.jlr_machine.specs.Run.{with_collection, carried, done, apply, now_seen, IsLegal}
 use Rattle.jlr_machine.specs.Run.IsLegal.{carried_out, refused, heap_full, out_of_memory}
 use Rattle.jlr_machine.specs.Edges.{roots}
@@ -52,15 +49,6 @@ next_legal m e (out_of_memory r) n = absurd (both_ways (refuses e.answer) n (ap 
 pub next_in_collected : (m : Machine) (e : Entry) → IsLegal m e → refuses e.answer ≡ false
     → HasNextAction (with_collection m e.choice.collected).next_action e.ask
 next_in_collected m e l n = subst (λ k. HasNextAction k e.ask) (next_kept m e.choice.collected) (next_legal m e l n)
-
--- an answer that does not refuse is carried out
-pub carried_on : (m : Machine) (ask : Ask) (a : Answer) (fresh : List ℕ) → refuses a ≡ false → carried m ask a fresh ≡ after m ask a fresh
-carried_on m ask (Refused by) fresh h = absurd (both_ways true h refl)
-carried_on m ask a fresh h = refl
-
-pub carried_not : (m : Machine) (ask : Ask) (a : Answer) (fresh : List ℕ) → refuses a ≡ true → carried m ask a fresh ≡ m
-carried_not m ask (Refused by) fresh h = refl
-carried_not m ask a fresh h = absurd (both_ways false refl h)
 
 -- ---- The machine before it is said what was seen
 

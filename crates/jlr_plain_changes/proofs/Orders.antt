@@ -10,12 +10,11 @@ use Rattle.jlr_machine.specs.declared.object.Cleanable.{Cleanable as CleanableOf
 use Rattle.jlr_machine.specs.declared.machine.Machine.{Machine}
 use Rattle.jlr_machine.specs.declared.machine.ResourceState.{ResourceState}
 use Rattle.jlr_machine.specs.declared.machine.ResourceState.TheVariants.{Closing}
-use Rattle.jlr_machine.specs.declared.ask.Handed.{Handed}
-use Rattle.jlr_machine.specs.declared.ask.Handed.TheVariants.{Queued, Lined, Skipped, Nothing}
+use Rattle.jlr_machine.specs.declared.ask.Handed.TheVariants.{Lined}
 use Rattle.jlr_machine.specs.Objects.{Table, at, change_at, some_and, is_lined, as_reference, queue_ahead, with_reference}
 use Rattle.jlr_machine.specs.Lookups.{with_object, cleanable_at, rid_of}
-use Rattle.jlr_machine.specs.Calls.{to_queue, enqueued, delivered, handed, handed_over, taken_up, with_work_state, from_lined, line_taken}
-use Rattle.jlr_plain_changes.specs.Changes.{appended, change_of, delivered_if, taken_by_cleaner}
+use Rattle.jlr_machine.specs.Calls.{to_queue, enqueued, taken_up, with_work_state, from_lined, line_taken}
+use Rattle.jlr_plain_changes.specs.Changes.{appended, change_of, taken_by_cleaner}
 use Rattle.jlr_plain_changes.specs.declared.objects.Change.TheVariants.{Unrefer, Enqueue}
 
 -- ---- Two objects
@@ -57,50 +56,9 @@ enqueued_by m s q e = grown_first m s q ∙ ap {A = Option ℕ} {B = Machine} (�
 
 -- ---- The pending list
 
-queue_apart : (m : Machine) (rest : List ℕ) (s : ℕ) (q : Option ℕ)
-    → to_queue (record m { pending = rest }) s q ≡ record (to_queue m s q) { pending = rest }
-queue_apart m rest s None = refl
-queue_apart m rest s (Some q) = refl
-
-delivered_apart : (m : Machine) (rest : List ℕ) (s : ℕ) (h : Handed)
-    → delivered (record m { pending = rest }) s h ≡ record (delivered m s h) { pending = rest }
-delivered_apart m rest s Queued =
-    queue_apart (with_object m s (change_of Unrefer)) rest s (option_and_then queue_ahead (option_and_then as_reference (at m.objects s)))
-delivered_apart m rest s Lined = refl
-delivered_apart m rest s Skipped = refl
-delivered_apart m rest s Nothing = refl
-
-queue_keeps : (m : Machine) (s : ℕ) (q : Option ℕ) → (to_queue m s q).pending ≡ m.pending
-queue_keeps m s None = refl
-queue_keeps m s (Some q) = refl
-
-delivered_keeps : (m : Machine) (s : ℕ) (h : Handed) → (delivered m s h).pending ≡ m.pending
-delivered_keeps m s Queued =
-    queue_keeps (with_object m s (change_of Unrefer)) s (option_and_then queue_ahead (option_and_then as_reference (at m.objects s)))
-delivered_keeps m s Lined = refl
-delivered_keeps m s Skipped = refl
-delivered_keeps m s Nothing = refl
-
--- the first of the list leaves it at the end
-left_last : (m : Machine) (rest : List ℕ) (s : ℕ) (o : Option Object) → o ≡ at m.objects s → drop 1 m.pending ≡ rest
-    → record (delivered_if m s (option_map handed o)) { pending = drop 1 (delivered_if m s (option_map handed o)).pending }
-    ≡ elim o [ None ↦ record m { pending = rest } | Some x ↦ delivered (record m { pending = rest }) s (handed x) ]
-left_last m rest s None is e = ap {A = List ℕ} {B = Machine} (λ l. record m { pending = l }) e
-left_last m rest s (Some x) is e =
-    ap {A = List ℕ} {B = Machine} (λ l. record (delivered m s (handed x)) { pending = l })
-    (ap {A = List ℕ} {B = List ℕ} (drop 1) (delivered_keeps m s (handed x)) ∙ e)
-    ∙ sym (delivered_apart m rest s (handed x))
-
 first_is : (l : List ℕ) (s : ℕ) → slice_get l 0 ≡ Some s → l ≡ s ∷ drop 1 l
 first_is [] s e = cc e
 first_is (x ∷ l) s e = cc e
-
-pub handed_by : (m n : Machine) (s : ℕ) → slice_get m.pending 0 ≡ Some s → n ≡ delivered_if m s (option_map handed (at m.objects s))
-    → record n { pending = drop 1 n.pending } ≡ handed_over m m.pending
-handed_by m n s first is =
-    ap {A = Machine} {B = Machine} (λ x. record x { pending = drop 1 x.pending }) is
-    ∙ left_last m (drop 1 m.pending) s (at m.objects s) refl refl
-    ∙ sym (ap {A = List ℕ} {B = Machine} (handed_over m) (first_is m.pending s first))
 
 -- ---- The line
 

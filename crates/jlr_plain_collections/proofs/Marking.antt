@@ -1,10 +1,10 @@
 -- What marking adds, slot by slot, until nothing is left to look at.
 use Rattle.std.proofs.Common.{◌≡◌, ℕ, zero, suc, ◌+◌, ◌-◌, ◌<◌, ◌⊎◌, inl, inr, Bool, true, false, not, cond, List, [], ◌∷◌, ◌++◌, length}
-use Rattle.std.proofs.Common.{take, get_or, set, replicate, refl, sym, ◌∙◌, ap, subst, arith, length-set, None, option_to_list}
+use Rattle.std.proofs.Common.{take, get_or, set, replicate, refl, sym, ◌∙◌, ap, subst, arith, None, option_to_list}
 use Rattle.std.specs.List.{flat_map}
-use Rattle.std.proofs.lemmas.Bool.{both_ways, cases_eq, not-true}
-use Rattle.std.proofs.lemmas.List.{take_more, get_or-set_same, get_or-set_other, length-replicate, length-append}
-use Rattle.std.proofs.lemmas.List.Sums.{sum_by-set, count_by-le-length}
+use Rattle.std.proofs.lemmas.Bool.{both_ways, not-true}
+use Rattle.std.proofs.lemmas.List.{take_more, length-replicate, length-append}
+use Rattle.std.proofs.lemmas.List.Sums.{count_by-le-length}
 use Rattle.jlr_machine.specs.Objects.{Heap, at, ◌∋◌, ◌∈◌}
 use Rattle.jlr_machine.specs.Edges.{Chain, edges, edges_from}
 use Rattle.jlr_machine.specs.Reachable.{IsReached}
@@ -19,26 +19,6 @@ use Rattle.jlr_laws.proofs.Only.{at-only}
 use Rattle.jlr_laws.proofs.Decided.{Decides-inside}
 
 -- ---- Marks
-
--- one more is marked
-count_marks : (marks : List Bool) (s : ℕ) → s < length marks → is_marked marks s ≡ false → marked (set marks s true) ≡ marked marks + 1
-count_marks marks s h e =
-    let f : Bool → ℕ = λ b. cond b 1 0 in
-    let k = sum_by-set f marks s true false h in
-    let k' = rw e at k in
-    omega (arith, k')
-
-marked_more : (marks : List Bool) (x s : ℕ) → x < length marks → IsMarked marks s → IsMarked (set marks x true) s
-marked_more marks x s h m = elim (cases_eq s x) [
-  | inl same ↦ subst (λ n. IsMarked (set marks x true) n) (sym same) (get_or-set_same marks x true false h)
-  | inr other ↦ get_or-set_other marks x s true false other ∙ m
-]
-
-marked_back : (marks : List Bool) (x s : ℕ) → IsMarked (set marks x true) s → IsMarked marks s ⊎ (s ≡ x)
-marked_back marks x s m = elim (cases_eq s x) [
-  | inl same ↦ inr same
-  | inr other ↦ inl (sym (get_or-set_other marks x s true false other) ∙ m)
-]
 
 set_same : (l : List Bool) (n : ℕ) → n < length l → set l n (get_or l n false) ≡ l
 set_same [] n h = refl
@@ -89,46 +69,6 @@ last_or s x rest m = elim (in_append s rest (x ∷ []) m) [
 
 -- ---- One slot
 
-pub greyed_new : (old new : List Bool) (before after : List ℕ) (x : ℕ) → x < length old → new ≡ set old x true → is_marked old x ≡ false
-    → after ≡ before ++ x ∷ [] → Greyed (λ s. s ≡ x) old before new after
-greyed_new old new before after x h n un a =
-    record {
-      long = ap length n ∙ length-set old x true;
-      only = λ s m. marked_back old x s (subst (λ l. IsMarked l s) n m);
-      stay = λ s m. subst (λ l. IsMarked l s) (sym n) (marked_more old x s h m);
-      added = λ s e. subst (λ l. IsMarked l s) (sym n)
-          (subst (λ k. IsMarked (set old x true) k) (sym e) (get_or-set_same old x true false h));
-      waiting = λ s m. subst (λ l. s ∈ l) (sym a) (in_left s before (x ∷ []) m);
-      listed = λ s m. elim (last_or s x before (subst (λ l. s ∈ l) a m)) [
-        | inl b ↦ inl b
-        | inr e ↦ inr (subst (λ l. IsMarked l s) (sym n)
-            (subst (λ k. IsMarked (set old x true) k) (sym e) (get_or-set_same old x true false h)))
-      ];
-      fresh = λ s m. elim (marked_back old x s (subst (λ l. IsMarked l s) n m)) [
-        | inl b ↦ inl b
-        | inr e ↦ inr (subst (λ l. s ∈ l) (sym a) (in_right s before (x ∷ []) (in_front s x [] e)))
-      ];
-      count = (let c = count_marks old x h un in let e = ap marked n in let l = ap length a ∙ length-append before (x ∷ []) in
-          omega (arith, c, e, l));
-    }
-
-greyed_same : (old new : List Bool) (todo : List ℕ) (x : ℕ) → new ≡ old → is_marked old x ≡ true → Greyed (λ s. s ≡ x) old todo new todo
-greyed_same old new todo x n on =
-    record {
-      long = ap length n;
-      only = λ s m. inl (subst (λ l. IsMarked l s) n m);
-      stay = λ s m. subst (λ l. IsMarked l s) (sym n) m;
-      added = λ s e. subst (λ l. IsMarked l s) (sym n) (ap (is_marked old) e ∙ on);
-      waiting = λ s m. m;
-      listed = λ s m. inl m;
-      fresh = λ s m. inl (subst (λ l. IsMarked l s) n m);
-      count = (let e = ap marked n in omega (arith, e));
-    }
-
-pub greyed_old : (old new : List Bool) (todo : List ℕ) (x : ℕ) → x < length old → new ≡ set old x true → is_marked old x ≡ true
-    → Greyed (λ s. s ≡ x) old todo new todo
-greyed_old old new todo x h n on = greyed_same old new todo x (n ∙ ap (set old x) (sym on) ∙ set_same old x h) on
-
 pub was_unmarked : (old : List Bool) (x : ℕ) (r : Bool) → r ≡ not (is_marked old x) → r ≡ true → is_marked old x ≡ false
 was_unmarked old x r e t = not-true (is_marked old x) (sym e ∙ t)
 
@@ -153,9 +93,6 @@ greyed_none T marks todo none =
       fresh = λ s m. inl m;
       count = refl;
     }
-
-pub greyed_begins : (slots : List ℕ) (marks : List Bool) (todo : List ℕ) → Greyed (λ s. s ∈ take 0 slots) marks todo marks todo
-greyed_begins slots marks todo = greyed_none (λ s. s ∈ take 0 slots) marks todo (λ s m. nothing s m)
 
 -- for just the same slots
 pub greyed_for : (T U : ℕ → Type 0) (old : List Bool) (before : List ℕ) (new : List Bool) (after : List ℕ) → ((s : ℕ) → T s → U s)

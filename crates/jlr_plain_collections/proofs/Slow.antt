@@ -11,7 +11,7 @@ use Rattle.jlr_machine.specs.Objects.{Heap, is_above, is_rising}
 use Rattle.jlr_machine.specs.Edges.{is_own_root, active_cleanables, slot_in}
 use Rattle.std.proofs.Common.{cond}
 use Rattle.std.specs.List.{cons_option}
-use Rattle.std.proofs.lemmas.Bool.{false_from_ne_true, and_parts, and_from, ltb-true, lt-ltb}
+use Rattle.std.proofs.lemmas.Bool.{and_parts, and_from, ltb-true, lt-ltb}
 use Rattle.jlr_types.specs.declared.FieldValue.{FieldValue}
 
 above_further : (a b : ℕ) (xs : List ℕ) → nat_lt a b ≡ true → is_above b xs ≡ true → is_above a xs ≡ true
@@ -53,15 +53,6 @@ rising_step xs i h x y e f l r k =
     sym (subst (λ n. is_rising (drop i xs) ≡ (nat_lt x y && is_rising (drop n xs))) next
     (pair_at xs i (omega (arith, h)) x y e (subst (λ n. y ≡ slice_index_or xs n y) (sym next) f))
     ∙ ap (λ b. b && is_rising (drop (i + 1) xs)) (lt-ltb x y l)) ∙ k
-
-pub rising_stop : (xs : List ℕ) (i : ℕ) → i + 1 < length xs → (x y : ℕ) → x ≡ slice_index_or xs i x → y ≡ slice_index_or xs (i + 1) y
-    → y ≤ x → (r : Bool) → is_rising (drop i xs) ≡ r → false ≡ r
-rising_stop xs i h x y e f l r k =
-    let next : suc i ≡ i + 1 = omega arith in
-    sym (subst (λ n. is_rising (drop i xs) ≡ (nat_lt x y && is_rising (drop n xs))) next
-    (pair_at xs i (omega (arith, h)) x y e (subst (λ n. y ≡ slice_index_or xs n y) (sym next) f))
-    ∙ ap (λ b. b && is_rising (drop (i + 1) xs)) (false_from_ne_true (nat_lt x y)
-    (λ t. let m = ltb-true x y t in absurd (omega (arith, m, l))))) ∙ k
 
 rising_end : (xs : List ℕ) (j : ℕ) → length xs ≤ suc j → is_rising (drop j xs) ≡ true
 rising_end [] zero h = refl

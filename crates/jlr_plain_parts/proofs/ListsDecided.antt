@@ -35,12 +35,6 @@ MayPend o = (state_of o ≡ Some Pending) ⊎ (state_of o ≡ Some Queued) ⊎ (
 abbrev MayLineUp : Option Object → Type 0
 MayLineUp o = (clean_state_of o ≡ Some Lined) ⊎ (clean_state_of o ≡ Some Spent)
 
-none_state : {P : Type 0} (s : RefState) → ◌≡◌ {A = Option RefState} None (Some s) → P
-none_state s e = no_some s e
-
-none_clean : {P : Type 0} (s : CleanState) → ◌≡◌ {A = Option CleanState} None (Some s) → P
-none_clean s e = no_some s e
-
 neither : {P : Type 0} → MustPend None → P
 neither (inl e) = no_some Pending e
 neither (inr e) = no_some PendingClean e

@@ -194,12 +194,6 @@ module _ (m : Marking) (slots : List ℕ) (old : Graph) (before : Choosing) (los
   not_lost : is_losing m g.objects d ≡ true → d ∈ lost → ⊥
   not_lost h i = both_ways (slots ∋ d) (losing_first h).0 (w.listed d i).0
 
-  -- it stands in none of these lists yet
-  pub not_there : (list : List ℕ) → g.pending ≡ list ++ lost → (is_losing m old.objects d ≡ true → d ∈ list → ⊥)
-      → is_losing m g.objects d ≡ true → d ∈ g.pending → ⊥
-  not_there list e h losing i =
-      elim (in_append d list lost (subst (λ l. d ∈ l) e i)) [ inl a ↦ h (losing_first losing).1 a | inr b ↦ not_lost losing b ]
-
   pub room_left : length m.bits ≡ length old.objects → is_losing m g.objects d ≡ true → length lost < length old.objects
   room_left bits losing =
       let more : List ℕ = lost ++ d ∷ [] in

@@ -4,7 +4,6 @@ use Rattle.std.specs.Prelude.{option_map, slice_get}
 use Rattle.jlr_machine.specs.declared.machine.Machine.{Machine}
 use Rattle.jlr_machine.specs.declared.object.Object.{Object}
 use Rattle.jlr_machine.specs.declared.object.Object.TheVariants.{Plain, Reference, Queue, Cleaner, Cleanable, Guard}
-use Rattle.jlr_machine.specs.declared.object.Reference.{Reference as ReferenceOf}
 use Rattle.jlr_machine.specs.declared.object.Cleanable.{Cleanable as CleanableOf}
 use Rattle.jlr_machine.specs.declared.object.RefState.{RefState}
 use Rattle.jlr_machine.specs.declared.object.RefState.TheVariants.{Fresh, Pending, Queued, Removed}
@@ -13,13 +12,12 @@ use Rattle.jlr_machine.specs.declared.object.CleanState.TheVariants.{Armed, Pend
 use Rattle.jlr_machine.specs.declared.ask.Handed.{Handed}
 use Rattle.jlr_machine.specs.declared.ask.Handed.TheVariants.{Queued as HandedQueued, Lined as HandedLined, Skipped, Nothing}
 use Rattle.jlr_machine.specs.declared.ask.Answer.TheVariants.{Handed as HandedAnswer}
-use Rattle.jlr_machine.specs.Objects.{◌∈◌, as_cleanable, as_reference, at, queue_ahead, some_and, with_reference}
+use Rattle.jlr_machine.specs.Objects.{◌∈◌, as_reference, at, queue_ahead, some_and, with_reference}
 use Rattle.jlr_machine.specs.Refusals.{is_cleanable}
 use Rattle.jlr_machine.specs.Edges.{is_own_root}
 use Rattle.jlr_machine.specs.Lookups.{with_object}
 use Rattle.jlr_machine.specs.Calls.{delivered, hand_over_answer, handed, handed_cleanable, handed_over, handed_reference, to_queue}
 use Rattle.jlr_machine.specs.Calls.{unreferred}
-use Rattle.jlr_laws.proofs.Frames.{is_cleanable_there, is_reference_there}
 use Rattle.jlr_laws.proofs.Sets.{in_front}
 use Rattle.jlr_barrier.specs.Graphs.{Graph, Known, in_machine}
 use Rattle.jlr_barrier.specs.Snapshots.{IsInHand}
@@ -30,14 +28,6 @@ use Rattle.jlr_refs.proofs.Lining.{split}
 use Rattle.jlr_refs.proofs.Standing.{pending_there}
 
 -- ---- What the handler does with an object
-
-pub reference_there : (o : Option Object) (r : ReferenceOf) → option_and_then as_reference o ≡ Some r
-    → handed_reference r.state ≡ handed_there o
-reference_there o r e = sym (ap handed_there (is_reference_there o r e))
-
-pub cleanable_there : (o : Option Object) (c : CleanableOf) → option_and_then as_cleanable o ≡ Some c
-    → handed_cleanable c.state ≡ handed_there o
-cleanable_there o c e = sym (ap handed_there (is_cleanable_there o c e))
 
 lined_no_reference : (state : RefState) → handed_reference state ≡ HandedLined → ⊥
 lined_no_reference Fresh e = absurd (cc e)

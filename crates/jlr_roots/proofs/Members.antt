@@ -3,7 +3,7 @@ use Rattle.std.proofs.Common.{◌≡◌, ℕ, zero, suc, ◌<◌, true, List, []
 use Rattle.std.proofs.Common.{◌∙◌, arith, subst, inl, inr, length-set, get_or-set_same, get_or-set_other}
 use Rattle.std.specs.Prelude.{slice_get, is_some, option_and_then, option_map}
 use Rattle.std.proofs.lemmas.Bool.{cases_eq}
-use Rattle.std.proofs.lemmas.List.{map-set, length-replicate, get_or-replicate}
+use Rattle.std.proofs.lemmas.List.{map-set}
 use Rattle.std.proofs.lemmas.Option.{slice_get_read, slice_get-get_or}
 use Rattle.jlr_machine.specs.declared.machine.Session.{Session}
 use Rattle.jlr_machine.specs.Objects.{at, change_at}
@@ -67,16 +67,3 @@ session_of_handle (Some s) handle h = refl
 pub new_sessions : (n : ℕ) → sessions_in (replicate n absent) ≡ replicate n None
 new_sessions zero = refl
 new_sessions (suc n) = ap (λ l. None ∷ l) (new_sessions n)
-
-pub new_table : IsHandleTable absent.handles
-new_table = record {
-  place_count =
-      length-replicate {A = Option ℕ} 251 None;
-  null = get_or-replicate {A = Option ℕ} 251 0 None None (omega arith);
-}
-
-pub new_members : (n : ℕ) → n < 256 → AreMembers (replicate n absent)
-new_members n few = record {
-  tables = λ k below. rw (get_or-replicate n k absent absent (omega (arith, below, length-replicate n absent))) new_table;
-  few = omega (arith, few, length-replicate n absent);
-}

@@ -3,7 +3,7 @@ use Rattle.std.proofs.Common.{◌≡◌, ℕ, zero, suc, ◌+◌, ◌-◌, ◌<�
 use Rattle.std.proofs.Common.{◌∷◌, ◌++◌, length, take, drop, get_or, Option, Some, None, Result, Ok, Err, refl, sym, ap, subst, ◌∙◌}
 use Rattle.std.proofs.Common.{append_assoc, arith}
 use Rattle.std.specs.Prelude.{replicate}
-use Rattle.std.specs.List.{list_any, AllByRecursion}
+use Rattle.std.specs.List.{list_any}
 use Rattle.std.proofs.lemmas.Bool.{ltb-true, lt-ltb, le-ltb, cases_lt}
 use Rattle.std.proofs.Math.Bool.{or-true, or-false}
 use Rattle.std.proofs.lemmas.List.Folds.{list_any_more}
@@ -23,7 +23,7 @@ use Rattle.jlr_parts.specs.Objects.{object_read}
 use Rattle.jlr_parts.specs.Records.{held_behind, held_after, placed_behind, placed_after}
 use Rattle.jlr_parts.specs.declared.record.Placed.{Placed}
 use Rattle.jlr_parts.specs.declared.record.Held.{Held}
-use Rattle.jlr_sections.specs.Images.{listed_from, placed, held, places_of}
+use Rattle.jlr_sections.specs.Images.{listed_from, placed, held}
 
 -- a test that did not fail
 tested : {A : Type 0} (b : Bool) (d : Fault) (r : Result A Fault) (y : A) → cond b r (Err d) ≡ Ok y → (b ≡ true) × (r ≡ Ok y)
@@ -208,34 +208,7 @@ pub held_end : (items : List Held) (i k : ℕ) (places new : List (Option ℕ)) 
     ++ replicate k None → listed_from held 0 new ≡ items
 held_end items i k places new le so_far p = ap (listed_from held 0) p ∙ padded held places k ∙ so_far.listed ∙ take_all items i le
 
-places_for : (b : Bool) (n : ℕ) → b ≡ ltb 251 n → n ≤ 256 → (all : ℕ) → (n ≤ 251 → all ≡ 251) → (251 < n → all ≡ 256)
-    → n + (all - n) ≡ cond b 256 251
-places_for b n e le all few many = elim (cases_lt 251 n) [
-  | inl above ↦ let all_is : all ≡ 256 = many above in omega (arith, above, le, all_is)
-      ∙ ap (λ t. cond t 256 251) (sym (e ∙ lt-ltb 251 n above))
-  | inr below ↦ let all_is : all ≡ 251 = few below in omega (arith, below, all_is) ∙ ap (λ t. cond t 256 251) (sym (e ∙ le-ltb 251 n below))
-]
-
-pub held_places_are : (items : List Held) (i all : ℕ) (places new : List (Option ℕ)) → length items ≤ i → HeldSoFar items i places
-    → (length places ≤ 251 → all ≡ 251) → (251 < length places → all ≡ 256) → new ≡ places ++ replicate (all - length places) None
-    → length new ≡ places_of items
-held_places_are items i all places new le so_far few many p =
-    let none : Option ℕ = None in
-    let size : length new ≡ length places + (all - length places) = ap length p
-    ∙ length-append places (replicate (all - length places) none)
-    ∙ ap (λ k. length places + k) (length-replicate (all - length places) none) in
-    let high : list_any is_high items ≡ ltb 251 (length places) = ap (list_any is_high) (sym (take_all items i le)) ∙ so_far.high in
-    size ∙ places_for (list_any is_high items) (length places) high so_far.within all few many
-
 -- ---- Objects, one after the other
-
-pub stray_more : (cells : ℕ) (strays new : List Placed) (item : Placed) → AllByRecursion (λ p. cells ≤ p.slot) strays → cells ≤ item.slot
-    → new ≡ strays ++ item ∷ [] → AllByRecursion (λ p. cells ≤ p.slot) new
-stray_more cells strays new item all le e = subst (λ (l : List Placed). AllByRecursion (λ p. cells ≤ p.slot) l) (sym e) (more strays all)
-  where
-    more : (xs : List Placed) → AllByRecursion (λ p. cells ≤ p.slot) xs → AllByRecursion (λ p. cells ≤ p.slot) (xs ++ item ∷ [])
-    more [] a = (le, tt)
-    more (x ∷ xs) a = (a.0, more xs a.1)
 
 pub stray-behind : (front : List Placed) (strays new : List Placed) (item : Placed) → new ≡ strays ++ item ∷ [] → front
     ++ new ≡ (front ++ strays) ++ item ∷ []

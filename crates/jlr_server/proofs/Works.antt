@@ -3,7 +3,6 @@ use Rattle.std.proofs.Common.{◌≡◌, ◌⊎◌, ◌<◌, ◌+◌, ℕ, List,
 use Rattle.std.proofs.Common.{length-append, arith}
 use Rattle.std.specs.List.{sum_by}
 use Rattle.std.specs.Prelude.{slice_index_or}
-use Rattle.std.proofs.lemmas.List.{get_or_append_left}
 use Rattle.std.proofs.lemmas.List.Sums.{sum_by-append, sum_by-cons}
 use Rattle.std.proofs.Math.Seq.{get_or-append_seam}
 use Rattle.jlr_types.specs.declared.limits.Limits.{Limits}
@@ -46,11 +45,6 @@ module _ {R : Type 0} where
   last_is_fresh old new x is fresh =
       let there = ap (λ (l : List (Seen (Step R))). slice_index_or l (length new) x) is ∙ get_or-append_seam new x [] x in
       fresh_at x (length new) (sym there ∙ fresh (length new) x (omega (arith, ap length is, length-append new (x ∷ []))))
-
-  pub rest_is_fresh : (old new : List (Seen (Step R))) (x : Seen (Step R)) → old ≡ new ++ x ∷ [] → AllFresh old → AllFresh new
-  rest_is_fresh old new x is fresh k p lt =
-      let there = ap (λ (l : List (Seen (Step R))). slice_index_or l k p) is ∙ get_or_append_left new (x ∷ []) p k lt in
-      sym there ∙ fresh k p (omega (arith, lt, ap length is, length-append new (x ∷ [])))
 
 -- ---- What is done at a seat
 

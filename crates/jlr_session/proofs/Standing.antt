@@ -1,6 +1,6 @@
 -- Where a session stands after each read.
 use Rattle.std.proofs.Common.{◌≡◌, ℕ, ◌+◌, ◌-◌, ◌<◌, ◌≤◌, List, [], ◌++◌, take, length, Option, Some, None, refl, sym, subst, arith}
-use Rattle.std.specs.Io.KnownBytes.{Appends, Consumes, IsAtEnd, Keeps}
+use Rattle.std.specs.Io.KnownBytes.{Appends, Consumes, IsAtEnd}
 use Rattle.std.proofs.lemmas.List.{append-nil, length-append, length-take-le}
 use Rattle.jlr_machine.specs.declared.ask.Answer.TheVariants.{Refused}
 use Rattle.jlr_wire.specs.Lines.{Held, begun, nothing_held}
@@ -12,9 +12,9 @@ use Rattle.jlr_session.specs.Sessions.{Ended}
 use Rattle.jlr_session.specs.Chunks.{SoFar, TakesChunk, Closes}
 use Rattle.jlr_session.specs.declared.shell.SessionEnd.{SessionEnd}
 use Rattle.jlr_session.specs.declared.shell.SessionEnd.TheVariants.{Bye, End, Truncated, ReadFault, WriteFault, TooManyLines, NotJoined}
-use Rattle.jlr_session.proofs.Sent.{Consumes-none, Consumes-then, Consumes-keeps}
+use Rattle.jlr_session.proofs.Sent.{Consumes-none, Consumes-then}
 use Rattle.jlr_session.proofs.Going.{so_far_none}
-use Rattle.jlr_session.proofs.Ending.{ended_end, ended_truncated, ended_close_fault, ended_fault, ended_anyhow}
+use Rattle.jlr_session.proofs.Ending.{ended_end, ended_truncated, ended_close_fault, ended_anyhow}
 
 -- what was read was answered as far as it goes, n lines of it, and so many bytes are left to be taken
 abbrev pub Stands : {H : Type 0} → Carrying H → Option (List ℕ) → Option (List ℕ) → H → Option (List ℕ) → Option (List ℕ) → Held → ℕ → H → ℕ
@@ -73,19 +73,6 @@ ends_in_chunk carries r0 w0 r r' w w' old held held' n n' heap heap' read left l
   Appends-then w0 w w' s.1 u.0 s.3 u.1,
   few_bytes (s.0 ++ read) left' (taken_more s.0 read left left' s.4 l),
   ended_anyhow carries (FindsEnd r' (s.0 ++ read)) end (s.0 ++ read) old (s.1 ++ u.0) heap' (u.2 s.0 old s.1 s.5),
-)
-
--- a read failed, or none may follow
-pub ends_by_fault : {H : Type 0} (carries : Carrying H) (r0 w0 r r' w : Option (List ℕ)) (old : H) (held : Held) (n : ℕ) (heap : H)
-    (left : ℕ)
-    → n < most_lines → Stands carries r0 w0 old r w held n heap left → Keeps r r' → Ends carries r0 w0 old r' w ReadFault heap
-ends_by_fault carries r0 w0 r r' w old held n heap left lt s k = (
-  s.0,
-  s.1,
-  Consumes-keeps r0 r r' s.0 s.2 k,
-  s.3,
-  few_bytes s.0 left s.4,
-  ended_fault carries s.0 held n old s.1 heap (FindsEnd r' s.0) lt s.5,
 )
 
 -- what closing adds

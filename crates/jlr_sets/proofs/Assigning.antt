@@ -1,7 +1,7 @@
 -- A set that takes over the slots of another, and a set of fewer places with the same slots.
-use Rattle.std.proofs.Common.{◌≡◌, ℕ, ◌*◌, ◌/◌, ◌%◌, ◌<◌, ◌≤◌, Bool, true, false, List, length, get_or, take, eqb, refl, sym, ◌∙◌, ap, inl}
+use Rattle.std.proofs.Common.{◌≡◌, ℕ, ◌*◌, ◌/◌, ◌%◌, ◌<◌, ◌≤◌, Bool, true, false, List, length, get_or, take, eqb, sym, ◌∙◌, ap, inl}
 use Rattle.std.proofs.Common.{inr, arith}
-use Rattle.std.proofs.lemmas.Bool.{cases_Bool, cases_lt, false≢true}
+use Rattle.std.proofs.lemmas.Bool.{cases_Bool, cases_lt}
 use Rattle.std.proofs.lemmas.List.{get_or-take, get_or_past, length-take-le}
 use Rattle.std.proofs.lemmas.Nat.Bits.{bit_at-zero}
 use Rattle.jlr_sets.specs.Bits.{bits_of, is_bit}
@@ -14,11 +14,6 @@ pub same_slots : (a b : List Bool) → length b ≤ length a → ((k : ℕ) → 
 same_slots a b le each =
     slots_below_same (length b) (length a) a le (λ k low high. each k ∙ get_or_past b k false low)
     ∙ slots_below_agree (length b) a b (λ k h. each k)
-
-equal_if : (a b : Bool) → (a ≡ true → b ≡ true) → (b ≡ true → a ≡ true) → a ≡ b
-equal_if true b f g = sym (f refl)
-equal_if false true f g = absurd (false≢true (g refl))
-equal_if false false f g = refl
 
 -- the same slots, whatever places there are
 pub slots_alike : (a b : List Bool) → ((k : ℕ) → is_in a k ≡ is_in b k) → slots_of a ≡ slots_of b

@@ -1,6 +1,5 @@
 -- A cycle begins, and a piece of its marking.
-use Rattle.std.proofs.Common.{◌≡◌, ◌-◌, ℕ, Bool, true, false, inl, inr, List, [], ◌∷◌, length, is_some, refl, sym, subst, arith}
-use Rattle.std.specs.Prelude.{◌↔◌, slice_get}
+use Rattle.std.proofs.Common.{◌≡◌, ◌-◌, ℕ, Bool, true, false, inl, inr, List, [], ◌∷◌, length, refl, sym, subst, arith}
 use Rattle.jlr_types.specs.declared.Progress.{Progress}
 use Rattle.jlr_types.specs.declared.Progress.TheVariants.{Idle}
 use Rattle.jlr_machine.specs.declared.machine.Machine.{Machine}
@@ -21,7 +20,7 @@ use Rattle.jlr_marker.proofs.Following.{followed_is_soft, none_counted}
 use Rattle.jlr_sweep.proofs.Kept.{held_root}
 use Rattle.jlr_cleaner.specs.Cleanings.{Cleanings}
 use Rattle.jlr_state.specs.State.{frame, machine_with}
-use Rattle.jlr_state.specs.Marks.{BeginsCycle, MarksPiece, MarksReached, has_grey, ticks_between}
+use Rattle.jlr_state.specs.Marks.{BeginsCycle, MarksPiece, MarksReached, ticks_between}
 use Rattle.jlr_state.proofs.Clearings.{same_policy}
 use Rattle.jlr_state.proofs.Roots.{rooted}
 
@@ -72,18 +71,6 @@ piece_in_cycle m old new condemned left budget ticks age clock policy progress s
       same,
     )
 
-pub piece_outside : (m : Machine) (old new : Marking) (condemned left budget age : ℕ) (clock : Clock) (progress : Progress)
-    → m.cycle_open ≡ false → progress ≡ Idle → new ≡ old → left ≡ condemned - budget
-    → MarksPiece budget age clock m old condemned progress new left
-piece_outside m old new condemned left budget age clock progress shut idle same swept =
-    subst (λ b. elim b as (λ _. Type 0) [
-      | true ↦ MarksOn (keeps (record { soft_age = age; mode = PolicyMode }) clock) m.objects budget
-          (ticks_between m.objects old new) progress old new × (left ≡ condemned)
-      | false ↦ (progress ≡ Idle) × (new ≡ old)
-          × (left ≡ condemned - budget)
-    ]) (sym shut)
-    (idle, same, swept)
-
 soft_path : (kept : ℕ → Bool) (heap : Heap) (x : ℕ) (path : List ℕ) (y : ℕ) → IsPathFollowed kept heap x path y
     → IsPath UpToSoft heap x path y
 soft_path kept heap x [] y p = p
@@ -95,13 +82,3 @@ piece_reached m old new kept budget ticks progress marks = λ _ s h. elim (marks
   | inl was ↦ inl (s, inr was, ([], refl))
   | inr f ↦ inl (f.0, inr f.2, (f.3, soft_path kept m.objects f.0 f.3 s f.4))
 ]
-
--- ---- Grey cells
-
-some_grey : (grey : List ℕ) (b : Bool) → b ≡ false ↔ (grey ≡ []) → b ≡ is_some (slice_get grey 0)
-some_grey [] b e = e.1 refl
-some_grey (x ∷ grey) true e = refl
-some_grey (x ∷ grey) false e = absurd (cc (e.0 refl))
-
-pub grey_is : (k : Marking) (b : Bool) → b ≡ false ↔ (k.grey ≡ []) → b ≡ has_grey k
-grey_is k b e = some_grey k.grey b e

@@ -23,15 +23,9 @@ use Rattle.jlr_state.specs.Flows.{LieAsBefore, Moves, lies_at}
 module _ {R : Type 0} where
   -- ---- A table that is the same
 
-  pub as_before : (old new : Resources R) → new ≡ old → LieAsBefore old new
-  as_before old new same rid = ap {A = Resources R} {B = Option R} (λ t. lies_at t rid) same
-
   -- nothing came in or went out
   pub none_moved : (old new : Resources R) → LieAsBefore old new → Moves None old None new
   none_moved old new same = inl (refl, same)
-
-  pub still : (old new : Resources R) → new ≡ old → Moves None old None new
-  still old new same = none_moved old new (as_before old new same)
 
   -- ---- What lies at a Rid, by its state
 
@@ -272,10 +266,6 @@ module _ {R : Type 0} where
       ap {A = Cleanings R} {B = Resources R} (λ c. c.table) (finished job.0 job.1 (eqb-true job.0.by by job.2))
       ∙ finished_table old job.0 outcome in
       ap {A = Resources R} {B = ℕ} (λ t. t.room) left ∙ closed_room old.table job.0.work
-
-  pub closing_room : (t : Resources R) (work : Work) → (table_closing t work).room ≡ t.room
-  closing_room t (Note n) = refl
-  closing_room t (WorkOn rid) = refl
 
   -- a number that is taken leaves the table
   pub numbered_table : (o : Option ℕ) (place : ℕ) (old new : Cleanings R) → IfSome o (λ _. new ≡ after_register old place)

@@ -32,13 +32,10 @@ use Rattle.jlr_marks.specs.Marking.{Marking, Blackened, IsMarked, Shaded, marked
 use Rattle.jlr_marker.specs.Marks.{Blackens}
 use Rattle.jlr_types.specs.declared.FieldValue.TheVariants.{Ref}
 use Rattle.jlr_state.specs.Collecting.{Allocates, FindsNoRoom, MakesRoom}
-use Rattle.jlr_state.specs.Marks.{BlackensMade, BlackensOnly, IsFromMarks, MarksNew, MarksReached, MarksStay}
+use Rattle.jlr_state.specs.Marks.{BlackensMade, BlackensOnly, IsFromMarks, MarksNew, MarksStay}
 use Rattle.jlr_state.proofs.Hands.{has_session, loads}
 
 -- ---- Where nothing is shaded
-
-pub same_reached : (m n : Machine) (old new : Marking) → new ≡ old → MarksReached m old n new
-same_reached m n old new e = λ _ s h. inl (s, inr (subst (λ k. IsMarked k s) e h), ([], refl))
 
 pub same_black : (old new : Marking) (fresh : List ℕ) → new ≡ old → fresh ≡ [] → Blackens (length fresh) old new
 same_black old new fresh e none = omega (arith, ap marked e, ap (λ (k : Marking). length k.grey) e, ap (λ (l : List ℕ). length l) none)
@@ -68,9 +65,6 @@ stays_then old mid new a b = record {
   fresh = λ s h. elim (b.fresh s h) [ inl was ↦ a.fresh s was | inr white ↦ inr (λ on. white (a.kept s on)) ];
   part = b.part ∙ a.part;
 }
-
-pub same_new : (m n : Machine) (old new : Marking) (chosen : Chosen) → new ≡ old → chosen.fresh ≡ [] → MarksNew m old chosen n new
-same_new m n old new chosen e none = record { reached = same_reached m n old new e; blackens = λ _. same_only old new chosen.fresh e none }
 
 -- where no cycle is open afterwards, nothing is to be said
 pub shut_new : (m n : Machine) (old new : Marking) (chosen : Chosen) → n.cycle_open ≡ false → MarksNew m old chosen n new

@@ -31,25 +31,6 @@ Consumes-then (Some o) None c xs ys h k = absurd h
 Consumes-then (Some o) (Some m) None xs ys h k = absurd k
 Consumes-then (Some o) (Some m) (Some n) xs ys h k = h ∙ ap (λ (t : List ℕ). xs ++ t) k ∙ sym (append_assoc xs ys n)
 
-pub none_read : (front : List ℕ) (behind : Option (List ℕ)) → HasRead front behind front behind
-none_read front behind = record { piece = []; longer = sym (append-nil front); taken = Consumes-none behind }
-
-pub more_read : (front middle new : List ℕ) (a b c : Option (List ℕ)) (piece : List ℕ) → HasRead front a middle b → new ≡ middle ++ piece
-    → Consumes b c piece → HasRead front a new c
-more_read front middle new a b c piece h longer taken = record {
-  piece = h.piece ++ piece;
-  longer = longer ∙ ap (λ (t : List ℕ). t ++ piece) h.longer ∙ append_assoc front h.piece piece;
-  taken = Consumes-then a b c h.piece piece h.taken taken;
-}
-
--- what is known of all bytes stays as it was
-pub keeps : (front piece new_front : List ℕ) (behind new_behind : Option (List ℕ)) → new_front ≡ front ++ piece
-    → Consumes behind new_behind piece → Keeps (prepend_known front behind) (prepend_known new_front new_behind)
-keeps front piece new_front None new_behind longer taken = tt
-keeps front piece new_front (Some xs) None longer taken = absurd taken
-keeps front piece new_front (Some xs) (Some ys) longer taken =
-    ap (λ (t : List ℕ). t ++ ys) longer ∙ append_assoc front piece ys ∙ ap (λ (t : List ℕ). front ++ t) (sym taken)
-
 pub Keeps-none : (a : Option (List ℕ)) → Keeps a a
 Keeps-none None = tt
 Keeps-none (Some xs) = refl

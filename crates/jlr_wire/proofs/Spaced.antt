@@ -4,7 +4,7 @@ use Rattle.std.specs.Io.KnownBytes.{Appends}
 use Rattle.std.proofs.lemmas.List.{take_more, take-append-drop, append-nil}
 use Rattle.std.proofs.lemmas.Grind.{flat_map-append}
 use Rattle.jlr_wire.specs.Replies.{AppendsFront, spaced}
-use Rattle.jlr_wire.proofs.Sending.{Appends-then, appends_same, then_sends, front_first, front_same}
+use Rattle.jlr_wire.proofs.Sending.{then_sends, front_first, front_same}
 
 -- the items up to one and with it
 spaced_more : {T : Type 0} (text : T → List ℕ) (items : List T) (i : ℕ) (item : T) → i < length items → item ≡ get_or items i item
@@ -19,17 +19,6 @@ spaced_whole : {T : Type 0} (text : T → List ℕ) (items : List T) (n : ℕ) �
     ++ spaced text (drop n items) ≡ spaced text items
 spaced_whole text items n =
     sym (flat_map-append (λ t. 32 ∷ text t) (take n items) (drop n items)) ∙ ap (spaced text) (take-append-drop n items)
-
--- one item more went out
-pub spaced_step : {T : Type 0} (text : T → List ℕ) (items : List T) (i : ℕ) (item : T) (word : List ℕ) (a b c : Option (List ℕ))
-    → i < length items → item ≡ get_or items i item
-    → Appends a b (word ++ spaced text (take i items)) → Appends b c (32 ∷ text item)
-    → Appends a c (word ++ spaced text (take (i + 1) items))
-spaced_step text items i item word a b c lt is h k =
-    let front = spaced text (take i items) in
-    appends_same a c _ _
-    (append_assoc word front (32 ∷ text item) ∙ ap (λ bytes. word ++ bytes) (sym (spaced_more text items i item lt is)))
-    (Appends-then a b c (word ++ front) (32 ∷ text item) h k)
 
 -- an item went out in part
 pub spaced_cut : {T : Type 0} (text : T → List ℕ) (items : List T) (i : ℕ) (item : T) (word : List ℕ) (a b c : Option (List ℕ))

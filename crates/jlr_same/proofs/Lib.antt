@@ -1,2 +1,0 @@
-mod SameLists
-mod Rebuilding
