@@ -117,99 +117,97 @@ fn play(alloc: Global, label: &str, rows: &str) -> Result<(), Fail> {
     Ok(())
 }
 
+// Each option is its own limit.
+const COMMANDS: &str = "
+    refheap run -> 1024 16 4 10000
+    refheap run --cells 17 --resources 18 --soft-age 19 --trace 65 -> 17 18 19 65
+    refheap run --trace 64 --soft-age 0 --resources 1 --cells 16 -> 16 1 0 64
+    refheap run --cells 65536 --resources 256 --soft-age 1000 --trace 1000000 -> 65536 256 1000 1000000
+    refheap run --save history -> 1024 16 4 10000, saved to history
+    refheap run --save history --cells 16 -> 16 16 4 10000, saved to history
+    refheap serve --socket s --total 7 --save history -> serve 7 on s, 4 at once, 64 a piece, 1024 16 4 10000, saved to history
+    refheap stop /tmp/control -> stop at /tmp/control
+    refheap audit history -> audit of history
+    refheap audit --explain history -> audit of history, explained
+    refheap audit history --explain -> audit of history, explained
+    refheap audit --json history -> audit of history, as JSON
+    refheap audit --explain --json history -> audit of history, explained, as JSON
+    refheap stats history -> figures of history
+    refheap stats --json history -> figures of history, as JSON
+    refheap client /tmp/heap -> client of /tmp/heap
+    refheap commands -> all commands
+    refheap commands weak -> the command weak
+    refheap version -> version
+    refheap serve --socket s --total 7 -> serve 7 on s, 4 at once, 64 a piece, 1024 16 4 10000
+    refheap serve --total 1000000 --socket /tmp/s --sessions 64 --cells 16 -> serve 1000000 on /tmp/s, 64 at once, 64 a piece, 16 16 4 10000
+    refheap serve --trace 64 --soft-age 0 --resources 1 --cells 16 --sessions 1 --total 1 --socket s -> serve 1 on s, 1 at once, 64 a piece, 16 1 0 64
+    refheap serve --socket s --total 1 --budget 1 -> serve 1 on s, 4 at once, 1 a piece, 1024 16 4 10000
+    refheap serve --budget 4096 --socket s --total 1 -> serve 1 on s, 4 at once, 4096 a piece, 1024 16 4 10000
+";
+
+// A bad command line has status 2.
+const WRONG: &str = "
+    refheap -> status 2
+    refheap walk -> status 2
+    refheap run --save -> status 2
+    refheap run --save a --save b -> status 2
+    refheap stop -> status 2
+    refheap stop a b -> status 2
+    refheap audit -> status 2
+    refheap audit a b -> status 2
+    refheap audit --json -> status 2
+    refheap audit --json --json a -> status 2
+    refheap stats -> status 2
+    refheap stats a b -> status 2
+    refheap stats --explain a -> status 2
+    refheap client -> status 2
+    refheap client a b -> status 2
+    refheap commands a b -> status 2
+    refheap version a -> status 2
+    refheap stats --help -> status 2
+    refheap client --help -> status 2
+    refheap commands --help -> status 2
+    refheap version --help -> status 2
+    refheap --help -> status 2
+    refheap run --help -> status 2
+    refheap serve --help -> status 2
+    refheap audit --help -> status 2
+    refheap run --cells -> status 2
+    refheap run --cells 15 -> status 2
+    refheap run --cells 65537 -> status 2
+    refheap run --resources 0 -> status 2
+    refheap run --resources 257 -> status 2
+    refheap run --soft-age 1001 -> status 2
+    refheap run --soft-age x -> status 2
+    refheap run --cells +16 -> status 2
+    refheap run --cells 016 -> status 2
+    refheap run --soft-age 00 -> status 2
+    refheap run --trace 63 -> status 2
+    refheap run --trace 1000001 -> status 2
+    refheap run --trace 064 -> status 2
+    refheap run --trace -> status 2
+    refheap serve -> status 2
+    refheap serve --socket s -> status 2
+    refheap serve --total 1 -> status 2
+    refheap serve --socket s --total 0 -> status 2
+    refheap serve --socket s --total 1000001 -> status 2
+    refheap serve --socket s --total 01 -> status 2
+    refheap serve --socket s --total +1 -> status 2
+    refheap serve --socket s --total 1 --sessions 04 -> status 2
+    refheap serve --socket s --total 1 --trace 064 -> status 2
+    refheap serve --socket s --total 1 --sessions 0 -> status 2
+    refheap serve --socket s --total 1 --sessions 65 -> status 2
+    refheap serve --socket s --total 1 --cells 15 -> status 2
+    refheap serve --socket s --total 1 --budget 0 -> status 2
+    refheap serve --socket s --total 1 --budget 4097 -> status 2
+    refheap serve --socket s --total 1 --budget 064 -> status 2
+    refheap serve --socket s --total 1 --budget +1 -> status 2
+    refheap serve --socket s --total 1 --budget -> status 2
+    refheap run --budget 64 -> status 2
+";
+
 #[test]
 fn command_lines(rt: HostRuntime) -> Result<(), Fail> {
-    play(
-        rt.alloc(),
-        "each option is its own limit",
-        "
-        refheap run -> 1024 16 4 10000
-        refheap run --cells 17 --resources 18 --soft-age 19 --trace 65 -> 17 18 19 65
-        refheap run --trace 64 --soft-age 0 --resources 1 --cells 16 -> 16 1 0 64
-        refheap run --cells 65536 --resources 256 --soft-age 1000 --trace 1000000 -> 65536 256 1000 1000000
-        refheap run --save history -> 1024 16 4 10000, saved to history
-        refheap run --save history --cells 16 -> 16 16 4 10000, saved to history
-        refheap serve --socket s --total 7 --save history -> serve 7 on s, 4 at once, 64 a piece, 1024 16 4 10000, saved to history
-        refheap stop /tmp/control -> stop at /tmp/control
-        refheap audit history -> audit of history
-        refheap audit --explain history -> audit of history, explained
-        refheap audit history --explain -> audit of history, explained
-        refheap audit --json history -> audit of history, as JSON
-        refheap audit --explain --json history -> audit of history, explained, as JSON
-        refheap stats history -> figures of history
-        refheap stats --json history -> figures of history, as JSON
-        refheap client /tmp/heap -> client of /tmp/heap
-        refheap commands -> all commands
-        refheap commands weak -> the command weak
-        refheap version -> version
-        refheap serve --socket s --total 7 -> serve 7 on s, 4 at once, 64 a piece, 1024 16 4 10000
-        refheap serve --total 1000000 --socket /tmp/s --sessions 64 --cells 16 -> serve 1000000 on /tmp/s, 64 at once, 64 a piece, 16 16 4 10000
-        refheap serve --trace 64 --soft-age 0 --resources 1 --cells 16 --sessions 1 --total 1 --socket s -> serve 1 on s, 1 at once, 64 a piece, 16 1 0 64
-        refheap serve --socket s --total 1 --budget 1 -> serve 1 on s, 4 at once, 1 a piece, 1024 16 4 10000
-        refheap serve --budget 4096 --socket s --total 1 -> serve 1 on s, 4 at once, 4096 a piece, 1024 16 4 10000
-        ",
-    )?;
-    play(
-        rt.alloc(),
-        "a bad command line has status 2",
-        "
-        refheap -> status 2
-        refheap walk -> status 2
-        refheap run --save -> status 2
-        refheap run --save a --save b -> status 2
-        refheap stop -> status 2
-        refheap stop a b -> status 2
-        refheap audit -> status 2
-        refheap audit a b -> status 2
-        refheap audit --json -> status 2
-        refheap audit --json --json a -> status 2
-        refheap stats -> status 2
-        refheap stats a b -> status 2
-        refheap stats --explain a -> status 2
-        refheap client -> status 2
-        refheap client a b -> status 2
-        refheap commands a b -> status 2
-        refheap version a -> status 2
-        refheap stats --help -> status 2
-        refheap client --help -> status 2
-        refheap commands --help -> status 2
-        refheap version --help -> status 2
-        refheap --help -> status 2
-        refheap run --help -> status 2
-        refheap serve --help -> status 2
-        refheap audit --help -> status 2
-        refheap run --cells -> status 2
-        refheap run --cells 15 -> status 2
-        refheap run --cells 65537 -> status 2
-        refheap run --resources 0 -> status 2
-        refheap run --resources 257 -> status 2
-        refheap run --soft-age 1001 -> status 2
-        refheap run --soft-age x -> status 2
-        refheap run --cells +16 -> status 2
-        refheap run --cells 016 -> status 2
-        refheap run --soft-age 00 -> status 2
-        refheap run --trace 63 -> status 2
-        refheap run --trace 1000001 -> status 2
-        refheap run --trace 064 -> status 2
-        refheap run --trace -> status 2
-        refheap serve -> status 2
-        refheap serve --socket s -> status 2
-        refheap serve --total 1 -> status 2
-        refheap serve --socket s --total 0 -> status 2
-        refheap serve --socket s --total 1000001 -> status 2
-        refheap serve --socket s --total 01 -> status 2
-        refheap serve --socket s --total +1 -> status 2
-        refheap serve --socket s --total 1 --sessions 04 -> status 2
-        refheap serve --socket s --total 1 --trace 064 -> status 2
-        refheap serve --socket s --total 1 --sessions 0 -> status 2
-        refheap serve --socket s --total 1 --sessions 65 -> status 2
-        refheap serve --socket s --total 1 --cells 15 -> status 2
-        refheap serve --socket s --total 1 --budget 0 -> status 2
-        refheap serve --socket s --total 1 --budget 4097 -> status 2
-        refheap serve --socket s --total 1 --budget 064 -> status 2
-        refheap serve --socket s --total 1 --budget +1 -> status 2
-        refheap serve --socket s --total 1 --budget -> status 2
-        refheap run --budget 64 -> status 2
-        ",
-    )
+    play(rt.alloc(), "each option is its own limit", COMMANDS)?;
+    play(rt.alloc(), "a bad command line has status 2", WRONG)
 }
