@@ -1,5 +1,5 @@
 //! Who gives clients to a server.
-use crate::watch::Closing;
+use crate::watch::{Closing, Watcher};
 use jlr_types::Fault;
 use std::io::{Read, Write};
 use std::os::fd::RawFd;
@@ -14,7 +14,7 @@ pub struct AcceptId {
 
 /// Gives clients, one after the other, to whoever asks.
 pub trait Acceptor {
-    ghost use Rattle.std.specs.Prelude.{IfErr, IfOk};
+    ghost use Rattle.std.specs.Prelude.{◌≡◌, true, IfErr, IfOk};
     ghost use Rattle.jlr_server.specs.Giving.{Giving};
 
     /// What a client sends.
@@ -62,8 +62,10 @@ pub trait Acceptor {
     fn leave<T: Wait>(&self, _rt: &T, _client: u32) {}
 
     /// Ends the accept that is under way and all later ones, and closes the connections of the clients that are
-    /// watched.
-    fn close<T: Wait>(&self, _rt: &T, _closing: Closing) {}
+    /// watched. Only where a watcher told that the server is asked to end.
+    fn close<T: Wait, W: Watcher>(&self, _rt: &T, _watcher: &W, _closing: Closing)
+        requires { W.asked _watcher.now ≡ true }
+    {}
 
     /// Has the watcher tell that it is over.
     fn dismiss(&self) {}

@@ -222,7 +222,7 @@ impl Acceptor for Listener {
         self.lines.lock(rt).leave(client);
     }
 
-    fn close<T: Wait>(&self, rt: &T, closing: Closing) {
+    fn close<T: Wait, W: Watcher>(&self, rt: &T, _watcher: &W, closing: Closing) {
         self.lines.lock(rt).close(closing);
         libc::net::shutdown(self.listener.as_raw_fd(), libc::net::SHUT_RDWR);
     }

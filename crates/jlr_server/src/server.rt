@@ -199,7 +199,7 @@ fn hear<A: Acceptor, R: Drop, L: Naming + Limited, W: Watcher, T: Wait>(
                 asked = true;
                 accepts.begin(rt, Phase::Over);
                 hall.call_all_off(rt);
-                acceptor.close(rt, closing);
+                acceptor.close(rt, &watcher, closing);
             }
             News::Over => break,
         }
