@@ -28,8 +28,7 @@ use Rattle.std.proofs.alloc.Global.TheLaws as heap_laws
 use Rattle.std.specs.contracts.impls.GlobalAllocator.TheImpl.{ghosts}
 use Rattle.std.proofs.GlobalToken.{dealloc_token-Testable}
 use Rattle.jlr_core.specs.Cores.{Kept}
-use Rattle.jlr_embed.specs.contracts.Embedded.{the_row as R}
-use Rattle.jlr_handle.specs.Held.{held}
+use Rattle.jlr_handle.specs.Held.{held, heap_row as R}
 use Rattle.jlr_handle.specs.contracts.handle.Heap as handle
 use Rattle.jlr_handle.proofs.Values.{both, both_tt}
 use mir.Syntax.{impl, tnil, dnil}

@@ -1,13 +1,19 @@
 -- What a handle owns: nothing where it is null, and else a box.
 use base.Fml.{Fml, feq}
+use denote.Builtin.{u64}
+use denote.RattleType.{RattleType}
 use denote.RawPtr.{Ptr, null_ptr}
 use Rattle.std.specs.Prelude.{ℕ, Option, None, Some}
 use Rattle.std.specs.Box.Ownership.{box_owns}
 use Rattle.std.specs.Global.{Global}
 use Rattle.std.specs.contracts.impls.GlobalAllocator.TheImpl.{ghosts}
 use Rattle.jlr_core.specs.Cores.{Kept}
-use Rattle.jlr_embed.specs.contracts.Embedded.{the_row}
+use Rattle.jlr_embed.specs.contracts.unrecorded.Unrecorded.{the_row}
+
+-- the type of a heap whose resources are tokens
+abbrev pub heap_row : RattleType
+heap_row = the_row u64
 
 abbrev pub held : Global → Ptr → Option (Kept ℕ) → Fml
 held a p None = feq Ptr p null_ptr
-held a p (Some x) = box_owns (ghosts.dealloc_token a) the_row p x
+held a p (Some x) = box_owns (ghosts.dealloc_token a) heap_row p x

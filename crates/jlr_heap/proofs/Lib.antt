@@ -1,1 +1,3 @@
+pub mod Handing
+pub mod Stepping
 pub mod Telling

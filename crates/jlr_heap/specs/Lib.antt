@@ -2,6 +2,7 @@
 pub mod Entries
 pub mod Guards
 pub mod Files
+pub mod Recording
 -- For crates above.
 pub use Rattle.jlr_core.specs.Cores
 pub use Rattle.jlr_core.specs.Steps

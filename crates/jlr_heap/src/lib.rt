@@ -2,7 +2,7 @@
 //! typed handles. A method gives a plain `Result` with the refusal by name, and its contract is one line: it is an
 //! entry, `IsEntry old ask answer new`, whose answer it tells, or the two entries of a call on a file or a socket.
 //! Nothing is required of a caller. After each call the handler's steps are made, unless the program makes them
-//! itself. What answers is a `Keeper`: `Unrecorded` keeps no history, and a crate above has one that does. What guards
+//! itself. What answers is a `Keeper`: `Unrecorded` keeps no history, and `Recorded` one in a book. What guards
 //! hold is the program's own: files and sockets, or numbers by which it knows them. Memory is taken by `new`,
 //! `prepare` and what opens, `array`, `bind` and the lists, as the core says.
 #![tactic(auto)]
@@ -16,6 +16,7 @@ pub mod handles;
 pub mod heap;
 pub mod jobs;
 pub mod keeper;
+pub mod recorded;
 mod told;
 
 pub use heap::Heap;

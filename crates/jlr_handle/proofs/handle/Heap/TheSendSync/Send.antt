@@ -2,6 +2,7 @@
 use base.Shift.{Keyless}
 use mir.Raw.{raw}
 use denote.Memory.{lone}
+use denote.Builtin.{u64}
 use denote.RawPtr.{Ptr}
 use denote.Struct.Struct.{exits_of}
 use denote.Struct.Owning.{shape, fields, to}
@@ -12,14 +13,13 @@ use Rattle.std_alloc.proofs.SendSync.{quiet, lies}
 use Rattle.std.specs.Prelude.{ℕ, Option, None, Some}
 use Rattle.std.specs.Global.{Global}
 use Rattle.jlr_core.specs.Cores.{Kept}
-use Rattle.jlr_embed.specs.contracts.Embedded.{the_row as R}
-use Rattle.jlr_embed.proofs.Embedded.TheSendSync.{the_send as counter}
-use Rattle.jlr_handle.specs.Held.{held}
+use Rattle.jlr_embed.proofs.unrecorded.Unrecorded.TheSendSync.{the_send as counter}
+use Rattle.jlr_handle.specs.Held.{held, heap_row as R}
 use Rattle.jlr_handle.specs.contracts.handle.Heap.{the_row, the_type}
 
 held_keyless : (a : Global) (p : Ptr) (v : Option (Kept ℕ)) → Keyless (held a p v)
 held_keyless a p None = tt
-held_keyless a p (Some x) = (lies R counter p x, heap.frees.frees a (raw (lone R.mir)) p)
+held_keyless a p (Some x) = (lies R (counter u64 (search sendable)) p x, heap.frees.frees a (raw (lone R.mir)) p)
 
 pub send : IsSend the_row
 send =

@@ -28,7 +28,7 @@ use Rattle.std.specs.Prelude.{Option, None, Some, MatchOption}
 use Rattle.std.proofs.alloc.Global.TheLaws as heap_laws
 use Rattle.std.specs.contracts.impls.GlobalAllocator.TheImpl.{ghosts}
 use Rattle.std_alloc.proofs.ResultValues.{and_tt}
-use Rattle.jlr_embed.specs.contracts.Embedded.{the_row as R}
+use Rattle.jlr_handle.specs.Held.{heap_row as R}
 use Rattle.jlr_handle.proofs.Values.{both, Loose, loose_good, loose_in}
 use Rattle.jlr_handle.proofs.Handles.{Z, H, handle_good, handle_out, either_held}
 use Rattle.jlr_handle.specs.contracts.handle.Heap.into_loose.{ended, clauses}

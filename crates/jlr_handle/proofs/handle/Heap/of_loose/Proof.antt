@@ -22,7 +22,7 @@ use Rattle.std.specs.Prelude.{ℕ, Option, Some}
 use Rattle.std.proofs.alloc.Global.TheLaws as heap_laws
 use Rattle.std.specs.contracts.impls.GlobalAllocator.TheImpl.{ghosts}
 use Rattle.jlr_core.specs.Cores.{Kept}
-use Rattle.jlr_embed.specs.contracts.Embedded.{the_row as R}
+use Rattle.jlr_handle.specs.Held.{heap_row as R}
 use Rattle.jlr_handle.proofs.Values.{both, Loose, loose_good, loose_out}
 use Rattle.jlr_handle.proofs.Handles.{Z, handle_in}
 use Rattle.jlr_handle.specs.contracts.handle.Heap.of_loose.{ended, clauses}

@@ -3,8 +3,8 @@ use Rattle.jlr_machine.specs.declared.ask.Ask.TheVariants.{HandOver}
 use Rattle.jlr_event.specs.declared.event.Event.TheVariants.{Ask as Asks}
 use Rattle.jlr_event.specs.declared.event.Reply.TheVariants.{Answered}
 use Rattle.jlr_book.specs.Rules.{BookSteps}
-use Rattle.jlr_heap_book.proofs.Handing.{less_handed}
-use Rattle.jlr_heap_book.proofs.Recorded.hand_over.Goals as goal
+use Rattle.jlr_heap.proofs.Handing.{less_handed}
+use Rattle.jlr_heap.proofs.recorded.Recorded.hand_over.Goals as goal
 
 pub returns-in-Handed-clause-less : goal.returns-in-Handed-clause-less
 returns-in-Handed-clause-less g c = λ _.

@@ -1,7 +1,7 @@
 use Rattle.std.proofs.Common.{List, length}
 use Rattle.jlr_book.specs.Histories.{History}
-use Rattle.jlr_heap_book.specs.Recording.{HandsOver}
-use Rattle.jlr_heap_book.proofs.Recorded.hand_all_over.Given as goal
+use Rattle.jlr_heap.specs.Recording.{HandsOver}
+use Rattle.jlr_heap.proofs.recorded.Recorded.hand_all_over.Given as goal
 
 abbrev pub invariant-loop-self : goal.invariant-loop-self
 invariant-loop-self g l = (states : List (History g.row.R.Denot)) × HandsOver states l.fn.self l.self

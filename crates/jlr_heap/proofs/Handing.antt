@@ -12,8 +12,8 @@ use Rattle.jlr_embed.proofs.Fitting.{goes_back}
 use Rattle.jlr_embed.proofs.Handing.{less_pending}
 use Rattle.jlr_book.specs.Histories.{History, IsHistory}
 use Rattle.jlr_book.specs.Rules.{BookSteps}
-use Rattle.jlr_heap_book.specs.Recording.{HandsOne, HandsOver}
-use Rattle.jlr_heap_book.proofs.Stepping.{IsReady, asked}
+use Rattle.jlr_heap.specs.Recording.{HandsOne, HandsOver}
+use Rattle.jlr_heap.proofs.Stepping.{IsReady, asked}
 
 ready_less : {R : Type 0} (old : History R) (core new : Kept R) (what : Handed) (out : Option R) → IsReady old core
     → Steps core (Asks ask.HandOver) (Answered (answer.Handed what) out) new → old.core.machine.pending ≢ []

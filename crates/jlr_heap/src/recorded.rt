@@ -1,8 +1,5 @@
-//! The history of a heap in the same process: a `Heap` over a `Recorded` leaves a book of all that was asked, which an
-//! audit can read. Its methods are those of every heap, and each ask is a step of the book. It relies on the book,
-//! which takes memory for its entries.
-#![tactic(auto)]
-
+//! The history of a heap: a `Heap` over a `Recorded` leaves a book of all that was asked, which an audit can read. Its
+//! methods are those of every heap, and each ask is a step of the book, which takes memory for its entries.
 ghost use Rattle.std.specs.Prelude.{◌≡◌, ◌≢◌, ◌<◌, [], length};
 ghost use Rattle.std.specs.Prelude.{IfOk, IsTrue, MatchBool, None, Some, false, is_none, true};
 ghost use Rattle.jlr_machine.specs.Data.{Brings};
@@ -11,11 +8,11 @@ ghost use Rattle.jlr_core.specs.Events.{carries_none};
 ghost use Rattle.jlr_embed.specs.Kinds.{GoesBack, is_told, kind_asked, suits};
 ghost use Rattle.jlr_book.specs.Histories.{IsHistory, IsNewBook};
 ghost use Rattle.jlr_book.specs.Rules.{BookSteps};
-ghost use Rattle.jlr_heap_book.specs.Recording.{CannotHand, HandsOne, SettlesBook, handler_seat};
+ghost use Rattle.jlr_heap.specs.Recording.{CannotHand, HandsOne, SettlesBook, handler_seat};
 
+use crate::keeper::Keeper;
 use jlr_book::book::Book;
 use jlr_event::event::{Event, Reply};
-use jlr_heap::keeper::Keeper;
 use jlr_machine::ask::{Answer, Ask};
 use jlr_machine::data::CopyRoom;
 use jlr_types::Limits;
@@ -108,7 +105,7 @@ impl<R: Drop> Recorded<R> {
 }
 
 impl<R: Drop> Keeper for Recorded<R> {
-    ghost use Rattle.jlr_heap_book.specs.Recording.{recorded};
+    ghost use Rattle.jlr_heap.specs.Recording.{recorded};
 
     type Held = R;
 

@@ -1,10 +1,11 @@
-//! Playing lists on a heap whose guards hold numbers.
+//! Playing lists.
 use super::asks::called;
+use super::files;
 use super::lists::{TITLE, is_row, limits};
 use jlr_embed::Unrecorded;
 use jlr_heap::Heap;
 use jlr_heap::keeper::Keeper;
-use jlr_heap_book::Recorded;
+use jlr_heap::recorded::Recorded;
 use jlr_words::{event_of, is_reply};
 use std::alloc::{AllocError, Global};
 use std::test::Fail;
@@ -91,15 +92,38 @@ fn wrong_recorded<'a>(alloc: Global, rows: &'a str) -> Result<Option<&'a str>, A
     Ok(wrong.or(if is_empty { Some("no entry") } else { None }))
 }
 
+// The same on both.
+fn wrong_with_numbers<'a>(alloc: Global, rows: &'a str) -> Result<Option<&'a str>, AllocError> {
+    match wrong_unrecorded(alloc, rows)? {
+        Some(row) => Ok(Some(row)),
+        None => wrong_recorded(alloc, rows),
+    }
+}
+
+/// What the guards of a list's heap hold.
+pub(super) enum Guarded {
+    Numbers,
+    Files,
+}
+
+// The first row of a list that is not as it says.
+fn wrong_in<'a>(
+    alloc: Global,
+    guarded: &Guarded,
+    rows: &'a str,
+) -> Result<Option<&'a str>, AllocError> {
+    match guarded {
+        Guarded::Numbers => wrong_with_numbers(alloc, rows),
+        Guarded::Files => files::wrong_in(alloc, rows),
+    }
+}
+
 /// The rows of all lists are as they say.
-pub(super) fn play_all(alloc: Global, lists: &str) -> Result<(), Fail> {
+pub(super) fn play_all(alloc: Global, guarded: &Guarded, lists: &str) -> Result<(), Fail> {
     for list in lists.split(TITLE).skip(1) {
         let (title, rows) = list.split_once('\n').ok_or("a list without rows")?;
-        if let Some(row) = wrong_unrecorded(alloc, rows)? {
+        if let Some(row) = wrong_in(alloc, guarded, rows)? {
             return Err(Fail::new(format_args!("{title}: {row}")));
-        }
-        if let Some(row) = wrong_recorded(alloc, rows)? {
-            return Err(Fail::new(format_args!("{title}, with a history: {row}")));
         }
     }
     Ok(())

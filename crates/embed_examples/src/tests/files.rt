@@ -1,5 +1,6 @@
 //! Guarded files, by scripts.
-use super::lists::{TITLE, is_row, limits};
+use super::lists::{is_row, limits};
+use super::play::{Guarded, play_all};
 use super::results::{closed, count, data, done, ended, opened, plain};
 use jlr_device::script::{Script, ScriptDevice, ScriptResource, Step};
 use jlr_embed::Unrecorded;
@@ -11,7 +12,6 @@ use jlr_machine::ask::Answer;
 use jlr_types::{Fault, Handle, Work};
 use jlr_words::is_reply;
 use std::alloc::{AllocError, Global};
-use std::str::SplitWhitespace;
 use std::test::Fail;
 
 type Files = Heap<Unrecorded<ScriptResource>>;
@@ -72,33 +72,28 @@ fn scripts(alloc: Global) -> Result<Vec<Script>, AllocError> {
     ]?)
 }
 
-fn guard(words: &mut SplitWhitespace<'_>) -> Option<Guard> {
-    let number = words.next()?.parse().ok()?;
-    Some(Guard::of(Handle::new(number)))
+// The guard of a handle; of null, where the word is no number.
+fn guard(word: &str) -> Guard {
+    Guard::of(Handle::new(word.parse().unwrap_or(0)))
 }
 
 fn read(
     alloc: Global,
     heap: &mut Files,
     device: &ScriptDevice,
-    words: &mut SplitWhitespace<'_>,
+    guard: Guard,
+    count: &str,
 ) -> Option<Answer> {
-    let guard = guard(words)?;
-    let count = words.next()?.parse().ok()?;
+    let count = count.parse().ok()?;
     let room = ReadRoom::new(alloc).ok()?;
     Some(data(heap.read(device, guard, count, room)))
 }
 
 // One byte for each two letters, all 1: what is written is told by its count.
-fn write(
-    heap: &mut Files,
-    device: &ScriptDevice,
-    words: &mut SplitWhitespace<'_>,
-) -> Option<Answer> {
-    let guard = guard(words)?;
+fn write(heap: &mut Files, device: &ScriptDevice, guard: Guard, digits: &str) -> Answer {
     let bytes = [1; 8];
-    let length = (words.next()?.len() / 2).min(8);
-    Some(count(heap.write(device, guard, &bytes[..length])))
+    let length = (digits.len() / 2).min(8);
+    count(heap.write(device, guard, &bytes[..length]))
 }
 
 // The next job of the cleaner is done.
@@ -116,31 +111,57 @@ fn next(heap: &mut Files) -> Answer {
     }
 }
 
-fn called(
+// What a call gives that opens something.
+fn opening(heap: &mut Files, device: &mut ScriptDevice, name: &str, path: &str) -> Option<Answer> {
+    Some(match name {
+        "open_read" => opened(heap.open_read(device, path)),
+        "create" => opened(heap.create(device, path)),
+        "connect" => opened(heap.connect(device, path)),
+        _ => return None,
+    })
+}
+
+// What any other gives.
+fn calling(
     alloc: Global,
     heap: &mut Files,
-    device: &mut ScriptDevice,
-    words: &mut SplitWhitespace<'_>,
+    device: &ScriptDevice,
+    name: &str,
+    guard: Guard,
+    more: &str,
 ) -> Option<Answer> {
-    Some(match words.next()? {
-        "open_read" => opened(heap.open_read(device, words.next()?)),
-        "create" => opened(heap.create(device, words.next()?)),
-        "connect" => opened(heap.connect(device, words.next()?)),
-        "read" => return read(alloc, heap, device, words),
-        "write" => return write(heap, device, words),
-        "close" => closed(heap.close(guard(words)?)),
-        "drop" => done(heap.drop(guard(words)?.handle())),
+    Some(match name {
+        "read" => return read(alloc, heap, device, guard, more),
+        "write" => write(heap, device, guard, more),
+        "close" => closed(heap.close(guard)),
+        "drop" => done(heap.drop(guard.handle())),
         "gc" => done(heap.gc()),
         "next" => next(heap),
         _ => return None,
     })
 }
 
+fn called(
+    alloc: Global,
+    heap: &mut Files,
+    device: &mut ScriptDevice,
+    call: &str,
+) -> Option<Answer> {
+    let mut words = call.split_whitespace();
+    let name = words.next()?;
+    let first = words.next().unwrap_or("");
+    let more = words.next().unwrap_or("");
+    match opening(heap, device, name, first) {
+        Some(answer) => Some(answer),
+        None => calling(alloc, heap, device, name, guard(first), more),
+    }
+}
+
 fn holds(alloc: Global, heap: &mut Files, device: &mut ScriptDevice, row: &str) -> bool {
     let Some((call, wanted)) = row.split_once(" -> ") else {
         return false;
     };
-    match called(alloc, heap, device, &mut call.split_whitespace()) {
+    match called(alloc, heap, device, call) {
         Some(answer) => is_reply(&plain(answer), wanted),
         None => false,
     }
@@ -174,25 +195,15 @@ fn wrong_on<'a>(
     Ok(wrong)
 }
 
-// The same with a device of its own.
-fn wrong_in<'a>(alloc: Global, rows: &'a str) -> Result<Option<&'a str>, AllocError> {
+/// The same with a device of its own.
+pub(super) fn wrong_in<'a>(alloc: Global, rows: &'a str) -> Result<Option<&'a str>, AllocError> {
     let mut device = ScriptDevice::new(scripts(alloc)?, 0);
     let wrong = wrong_on(alloc, &mut device, rows);
     drop(device);
     wrong
 }
 
-fn play_all(alloc: Global, lists: &str) -> Result<(), Fail> {
-    for list in lists.split(TITLE).skip(1) {
-        let (title, rows) = list.split_once('\n').ok_or("a list without rows")?;
-        if let Some(row) = wrong_in(alloc, rows)? {
-            return Err(Fail::new(format_args!("{title}: {row}")));
-        }
-    }
-    Ok(())
-}
-
 #[test]
 fn calls_on_files_give_what_the_rows_say(rt: HostRuntime) -> Result<(), Fail> {
-    play_all(rt.alloc(), LISTS)
+    play_all(rt.alloc(), &Guarded::Files, LISTS)
 }

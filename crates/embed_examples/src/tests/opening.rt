@@ -1,4 +1,4 @@
-//! Opening.
+//! Heaps for C: with which limits they open, and which limit is named.
 use jlr_handle::Heap;
 use jlr_handle::open::{close, open};
 use std::alloc::Global;

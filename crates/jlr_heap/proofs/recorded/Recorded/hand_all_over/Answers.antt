@@ -1,6 +1,6 @@
 use Rattle.std.proofs.Common.{rules, ◌≡◌, inl, inr, [], ◌∷◌, ◌++◌, refl}
-use Rattle.jlr_heap_book.proofs.Handing.{one_more}
-use Rattle.jlr_heap_book.proofs.Recorded.hand_all_over.Goals as goal
+use Rattle.jlr_heap.proofs.Handing.{one_more}
+use Rattle.jlr_heap.proofs.recorded.Recorded.hand_all_over.Goals as goal
 
 pub loop-self-preserved : goal.loop-self-preserved
 loop-self-preserved g c = (

@@ -12,5 +12,7 @@ mod cleaning;
 mod files;
 mod lists;
 mod objects;
+mod opening;
 mod play;
 mod results;
+mod uses;

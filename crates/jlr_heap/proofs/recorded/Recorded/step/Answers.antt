@@ -1,8 +1,8 @@
 use Rattle.std.proofs.Common.{subst}
 use Rattle.jlr_event.specs.declared.event.Reply.TheVariants.{Answered}
 use Rattle.jlr_book.specs.Rules.{BookSteps}
-use Rattle.jlr_heap_book.proofs.Stepping.{back_answered, kind_answered, never_marked, suits_answered}
-use Rattle.jlr_heap_book.proofs.Recorded.step.Goals as goal
+use Rattle.jlr_heap.proofs.Stepping.{back_answered, kind_answered, never_marked, suits_answered}
+use Rattle.jlr_heap.proofs.recorded.Recorded.step.Goals as goal
 
 pub unreachable-requires : goal.unreachable-requires
 unreachable-requires g c = never_marked c.args.seat c.self.inside.book c.step.new.self c.args.event c.requires.asks c.is_history.ensures _

@@ -1,5 +1,5 @@
 //! Cleaning actions, and what guards hold.
-use super::play::play_all;
+use super::play::{Guarded, play_all};
 use std::test::Fail;
 
 const LISTS: &str = "
@@ -68,5 +68,5 @@ const LISTS: &str = "
 
 #[test]
 fn calls_on_cleaners_and_guards_give_what_the_rows_say(rt: HostRuntime) -> Result<(), Fail> {
-    play_all(rt.alloc(), LISTS)
+    play_all(rt.alloc(), &Guarded::Numbers, LISTS)
 }

@@ -1,2 +1,0 @@
--- What a heap with a history is.
-pub mod Recording
