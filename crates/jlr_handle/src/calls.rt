@@ -81,7 +81,7 @@ pub fn does(alloc: Global, heap: &mut Heap, asked: Ask) -> u32
     ensures { Ends heap.old.value (Event.Ask asked) result heap.new.value }
 {
     let told = match ask(alloc, heap, &asked) {
-        Some(answer) => tell::end(&answer),
+        Some(answer) => tell::end(answer),
         None => CLOSED,
     };
     mem::forget(asked);
@@ -96,7 +96,7 @@ pub fn gives(alloc: Global, heap: &mut Heap, asked: Ask, out: &mut u8) -> u32
     ensures { GivesHandle heap.old.value (Event.Ask asked) result out.old out.new heap.new.value }
 {
     let told = match ask(alloc, heap, &asked) {
-        Some(answer) => tell::handle(&answer, out),
+        Some(answer) => tell::handle(answer, out),
         None => CLOSED,
     };
     mem::forget(asked);
@@ -111,7 +111,7 @@ pub fn makes(alloc: Global, heap: &mut Heap, asked: Ask, out: &mut u8) -> u32
     ensures { GivesHandle heap.old.value (Event.Ask asked) result out.old out.new heap.new.value }
 {
     let told = match make(alloc, heap, &asked) {
-        Some(answer) => tell::handle(&answer, out),
+        Some(answer) => tell::handle(answer, out),
         None => CLOSED,
     };
     mem::forget(asked);
@@ -210,7 +210,7 @@ pub fn brings(alloc: Global, heap: &mut Heap, event: Event<u64>) -> u32
     ensures { EndsCarrying heap.old.value event result heap.new.value }
 {
     match carry(alloc, heap, event) {
-        Some((answer, _)) => tell::end(&answer),
+        Some((answer, _)) => tell::end(answer),
         None => CLOSED,
     }
 }
@@ -222,7 +222,7 @@ pub fn adopts(alloc: Global, heap: &mut Heap, event: Event<u64>, out: &mut u8) -
     ensures { Adopts heap.old.value event result out.old out.new heap.new.value }
 {
     match carry(alloc, heap, event) {
-        Some((answer, token)) => tell::handle(&answer, out),
+        Some((answer, token)) => tell::handle(answer, out),
         None => CLOSED,
     }
 }

@@ -1,7 +1,8 @@
 //! How an answer is told.
 ghost use Rattle.std.specs.Prelude.{◌≡◌, ◌≤◌, length, true};
+ghost use Rattle.jlr_types.specs.Numbers.{number_of};
 ghost use Rattle.jlr_embed.specs.Kinds.{is_stat, is_faults, is_handle, is_integer, is_job, is_names, is_notes, is_out};
-ghost use Rattle.jlr_embed.specs.Kinds.{is_told, is_truth, job_suits, suits};
+ghost use Rattle.jlr_embed.specs.Kinds.{is_refused, is_told, is_truth, job_suits, suits};
 ghost use Rattle.jlr_handle.specs.Tells.{TellsCounts, TellsEnd, TellsFault, TellsHanded, TellsHandle, TellsInteger};
 ghost use Rattle.jlr_handle.specs.Tells.{TellsJob, TellsName, TellsNote, TellsProgress, TellsToken, TellsTruth};
 ghost use Rattle.jlr_handle.specs.Tells.{TellsWork, fault_number, fault_numbered, outcome_numbered, padded};
@@ -9,32 +10,55 @@ ghost use Rattle.jlr_handle.specs.Tells.{TellsWork, fault_number, fault_numbered
 use crate::out::{Counts, Failed, Taken};
 use crate::status::IDLE;
 use jlr_machine::ask::{Answer, Handed, Outcome};
-use jlr_types::{ActionNo, Fault, Progress, Work};
+use jlr_types::{ActionNo, Fault, Progress, Refusal, Work};
+use std::mem;
 
-/// How a call ended.
+/// How a call ended. It is for answers that hold no memory, which are not let go.
 #[inline(always)]
-pub(crate) fn end(answer: &Answer) -> u32
-    ensures { TellsEnd result answer.now }
+pub(crate) fn end(answer: Answer) -> u32
+    ensures { TellsEnd result answer }
 {
     match answer {
-        Answer::Refused(by) => u32::from(by.number()),
-        _ => 0,
+        Answer::Refused(by) => refused(by),
+        other => {
+            mem::forget(other);
+            0
+        }
+    }
+}
+
+/// The number of a refusal. It stands apart, so that a call that is not refused does not work it out.
+#[inline(never)]
+fn refused(by: Refusal) -> u32
+    ensures { result ≡ number_of by }
+{
+    u32::from(by.number())
+}
+
+/// The number of the refusal that an answer is.
+#[inline(never)]
+fn refusal(answer: Answer) -> u32
+    requires { is_refused answer ≡ true }
+    ensures { TellsEnd result answer }
+{
+    match answer {
+        Answer::Refused(by) => refused(by),
+        _ => unreachable!(),
     }
 }
 
 /// A handle.
 #[inline(always)]
-pub(crate) fn handle(answer: &Answer, out: &mut u8) -> u32
-    requires { is_told is_handle answer.now ≡ true }
-    ensures { TellsHandle result out.old out.new answer.now }
+pub(crate) fn handle(answer: Answer, out: &mut u8) -> u32
+    requires { is_told is_handle answer ≡ true }
+    ensures { TellsHandle result out.old out.new answer }
 {
     match answer {
         Answer::Handle(handle) => {
             *out = handle.number();
             0
         }
-        Answer::Refused(by) => u32::from(by.number()),
-        _ => unreachable!(),
+        other => refusal(other),
     }
 }
 
