@@ -26,7 +26,6 @@ use jlr_machine::ask::{Answer, Ask, Handed, Outcome};
 use jlr_machine::choice::Choice;
 use jlr_machine::data::{CopyRoom, Data};
 use jlr_machine::entry::{Chosen, Entry};
-use jlr_machine::fresh::FreshSlots;
 use jlr_machine::machine::Machine;
 use jlr_types::{ActionNo, Handle, Limits, Mutator, Progress, Refusal};
 use std::alloc::{AllocError, Global};
@@ -345,10 +344,7 @@ impl<R: Drop> Book<R> {
             seat,
             ask: Ask::HandOver,
             answer: Answer::Handed(handed),
-            choice: Chosen {
-                collected: None,
-                fresh: FreshSlots::new(),
-            },
+            choice: Chosen::nothing(),
         });
         Some(handed)
     }
@@ -381,10 +377,7 @@ impl<R: Drop> Book<R> {
             seat,
             ask: Ask::TakeUp,
             answer: take_up_answer(&taken),
-            choice: Chosen {
-                collected: None,
-                fresh: FreshSlots::new(),
-            },
+            choice: Chosen::nothing(),
         });
         Some(taken)
     }
@@ -407,10 +400,7 @@ impl<R: Drop> Book<R> {
                 outcome,
             },
             answer,
-            choice: Chosen {
-                collected: None,
-                fresh: FreshSlots::new(),
-            },
+            choice: Chosen::nothing(),
         });
     }
 

@@ -19,7 +19,6 @@ use jlr_event::event::{Event, Reply};
 use jlr_machine::ask::{Answer, Ask, Handed};
 use jlr_machine::choice::Choice;
 use jlr_machine::entry::{Chosen, Entry};
-use jlr_machine::fresh::FreshSlots;
 use jlr_types::Refusal;
 use std::alloc::Global;
 
@@ -80,10 +79,7 @@ pub(crate) fn record_briefly<R>(
         seat,
         ask,
         answer: Answer::Done,
-        choice: Chosen {
-            collected: None,
-            fresh: FreshSlots::new(),
-        },
+        choice: Chosen::nothing(),
     });
     let entry = &mut trace[place];
     tell_briefly(core, lent, alloc, entry)
@@ -102,17 +98,15 @@ fn tell_briefly<R>(
     requires stands { Stands core.old }
     requires choice { length core.old.machine.objects ≤ lent.old.cells }
     requires plain { may_collect core.old.machine (Some entry.old.ask) ≡ false }
-    ensures step { IsStep core.old (Event.Ask entry.old.ask) (Reply.Answered result None)
-        (record { collected = None; fresh = entry.new.choice.fresh }) core.new }
+    ensures step { IsStep core.old (Event.Ask entry.old.ask) (Reply.Answered result None) entry.new.choice core.new }
     ensures ask { entry.new.ask ≡ entry.old.ask }
     ensures answer { entry.new.answer ≡ result }
     ensures seat { entry.new.seat ≡ entry.old.seat }
-    ensures collected { entry.new.choice.collected ≡ entry.old.choice.collected }
     ensures cells { length core.new.machine.objects ≡ length core.old.machine.objects }
     ensures choice { lent.new.cells ≡ lent.old.cells }
 {
     entry.answer = core.answer(&entry.ask, lent);
-    entry.choice.fresh = lent.take_fresh();
+    entry.choice = Chosen::plain(lent.take_fresh());
     copy_without_room(alloc, &entry.answer)
 }
 
@@ -143,10 +137,7 @@ pub(crate) fn record_plainly<R: Drop>(
         seat,
         ask,
         answer: room.copy_of(&reply),
-        choice: Chosen {
-            collected: None,
-            fresh: lent.take_fresh(),
-        },
+        choice: Chosen::plain(lent.take_fresh()),
     });
     reply
 }
@@ -211,10 +202,7 @@ pub(crate) fn record_asked_end<R: Drop>(
                 seat,
                 ask,
                 answer: copy_without_room(alloc, &answer),
-                choice: Chosen {
-                    collected: None,
-                    fresh: FreshSlots::new(),
-                },
+                choice: Chosen::nothing(),
             });
             Reply::Answered { answer, resource }
         }
@@ -253,10 +241,7 @@ pub(crate) fn record_end<R: Drop>(
                 seat,
                 ask,
                 answer: room.copy(&answer),
-                choice: Chosen {
-                    collected: None,
-                    fresh: FreshSlots::new(),
-                },
+                choice: Chosen::nothing(),
             });
             Reply::Answered { answer, resource }
         }

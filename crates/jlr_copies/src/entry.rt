@@ -20,13 +20,10 @@ pub fn copy_collection(alloc: Global, collected: &Collected) -> Result<Collected
     })
 }
 
-fn copy_collected(
-    alloc: Global,
-    collected: &Option<Collected>,
-) -> Result<Option<Collected>, AllocError>
-    ensures { IfOk result (λ c. c ≡ collected.now) }
+fn copy_collected(alloc: Global, choice: &Chosen) -> Result<Option<Collected>, AllocError>
+    ensures { IfOk result (λ c. c ≡ choice.now.collected) }
 {
-    match collected {
+    match choice.collected() {
         Some(collected) => Ok(Some(copy_collection(alloc, collected)?)),
         None => Ok(None),
     }
@@ -39,10 +36,8 @@ fn copy_collected(
 pub fn copy_choice(alloc: Global, choice: &Chosen) -> Result<Chosen, AllocError>
     ensures { IfOk result (λ c. c ≡ choice.now) }
 {
-    Ok(Chosen {
-        collected: copy_collected(alloc, &choice.collected)?,
-        fresh: choice.fresh.copy(),
-    })
+    let collected = copy_collected(alloc, choice)?;
+    Chosen::new(alloc, collected, choice.fresh().copy())
 }
 
 /// The same entry.

@@ -2,7 +2,7 @@
 use Rattle.std.specs.Prelude.{◌≡◌, ◌≤◌, ◌+◌, ℕ, true, false, List, [], ◌∷◌, length, Option, Some, None}
 use Rattle.jlr_machine.specs.declared.ask.Ask.TheVariants.{Begin, Collect}
 use Rattle.jlr_machine.specs.declared.ask.Answer.TheVariants.{Truth}
-use Rattle.jlr_machine.specs.declared.entry.Chosen.{Chosen}
+use Rattle.jlr_machine.specs.Chosen.{Chosen}
 use Rattle.jlr_machine.specs.declared.entry.Collected.{Collected}
 use Rattle.jlr_machine.specs.Objects.{Heap}
 use Rattle.jlr_marks.specs.Marking.{Marking, marked}

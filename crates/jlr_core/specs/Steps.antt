@@ -4,7 +4,7 @@ use Rattle.jlr_machine.specs.declared.machine.Machine.{Machine}
 use Rattle.jlr_machine.specs.declared.ask.Ask.{Ask}
 use Rattle.jlr_machine.specs.declared.ask.Ask.TheVariants.{Collect, Prepare}
 use Rattle.jlr_machine.specs.declared.ask.Answer.TheVariants.{Truth}
-use Rattle.jlr_machine.specs.declared.entry.Chosen.{Chosen}
+use Rattle.jlr_machine.specs.Chosen.{Chosen}
 use Rattle.jlr_machine.specs.Run.{empty_from}
 use Rattle.jlr_resource.specs.Resources.{Resources, resources, values}
 use Rattle.jlr_barrier.specs.Graphs.{empty_known}

@@ -9,7 +9,7 @@ use Rattle.jlr_machine.specs.declared.machine.Machine.{Machine}
 use Rattle.jlr_machine.specs.declared.ask.Ask.{Ask}
 use Rattle.jlr_machine.specs.declared.ask.Answer.{Answer}
 use Rattle.jlr_machine.specs.declared.ask.Answer.TheVariants.{Refused}
-use Rattle.jlr_machine.specs.declared.entry.Chosen.{Chosen}
+use Rattle.jlr_machine.specs.Chosen.{Chosen}
 use Rattle.jlr_machine.specs.declared.entry.Collected.{Collected}
 use Rattle.jlr_machine.specs.declared.entry.Entry.{Entry}
 use Rattle.jlr_machine.specs.Objects.{Heap, ◌∈◌}

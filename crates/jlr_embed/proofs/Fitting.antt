@@ -21,7 +21,7 @@ use Rattle.jlr_machine.specs.declared.ask.CallOutcome.{CallOutcome}
 use Rattle.jlr_machine.specs.declared.ask.CallOutcome.TheVariants.{Data as GotData, Wrote as GotWrote, Failed as GotFailed}
 use Rattle.jlr_machine.specs.declared.ask.Answer.{Answer}
 use Rattle.jlr_machine.specs.declared.ask.Answer.TheVariants as answer
-use Rattle.jlr_machine.specs.declared.entry.Chosen.{Chosen}
+use Rattle.jlr_machine.specs.Chosen.{Chosen}
 use Rattle.jlr_machine.specs.declared.entry.Entry.{Entry}
 use Rattle.jlr_machine.specs.declared.entry.Collected.{Collected}
 use Rattle.jlr_machine.specs.Objects.{at, is_spent}

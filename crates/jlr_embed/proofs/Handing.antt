@@ -7,7 +7,7 @@ use Rattle.jlr_machine.specs.declared.ask.Handed.TheVariants.{Queued, Lined, Ski
 use Rattle.jlr_machine.specs.declared.ask.Ask.TheVariants as ask
 use Rattle.jlr_machine.specs.declared.ask.Answer.{Answer}
 use Rattle.jlr_machine.specs.declared.ask.Answer.TheVariants as answer
-use Rattle.jlr_machine.specs.declared.entry.Chosen.{Chosen}
+use Rattle.jlr_machine.specs.Chosen.{Chosen}
 use Rattle.jlr_machine.specs.declared.entry.Collected.{Collected}
 use Rattle.jlr_machine.specs.Objects.{at}
 use Rattle.jlr_machine.specs.Calls.{handed, handed_over, delivered, to_queue}

@@ -24,7 +24,7 @@ fn text(alloc: Global, words: &str) -> Result<String, AllocError> {
 }
 
 fn chooses(choice: &Chosen) -> bool {
-    choice.collected.is_some() || !choice.fresh.as_slice().is_empty()
+    choice.collected().is_some() || !choice.fresh().as_slice().is_empty()
 }
 
 /// Of an ask that has to be refused.
@@ -76,7 +76,7 @@ fn is_answered_by_choice(ask: &Ask) -> bool {
 /// Of an ask that is carried out in this machine.
 fn when_carried_out(alloc: Global, machine: &Machine, entry: &Entry) -> Result<String, AllocError> {
     let cells = cells_of(&entry.ask);
-    if !fresh_slots(&machine.objects, cells, entry.choice.fresh.as_slice()) {
+    if !fresh_slots(&machine.objects, cells, entry.choice.fresh().as_slice()) {
         return Ok(format!(in alloc;
             "it makes {cells} objects, each in a free cell of its own, and the entry tells others"
         )?);
@@ -93,7 +93,7 @@ fn behind_collection(
     machine: &Machine,
     entry: &Entry,
 ) -> Result<String, AllocError> {
-    let next = collected_plain(alloc, machine, &entry.choice.collected)?;
+    let next = collected_plain(alloc, machine, &entry.choice)?;
     when_carried_out(alloc, &next, entry)
 }
 
@@ -101,11 +101,11 @@ fn behind_collection(
 fn when_allowed(alloc: Global, machine: &Machine, entry: &Entry) -> Result<String, AllocError>
     requires { IsWellFormed machine.now }
 {
-    let may = may_collect_plain(alloc, machine, &entry.ask, &entry.choice.collected)?;
+    let may = may_collect_plain(alloc, machine, &entry.ask, &entry.choice)?;
     if may {
         return behind_collection(alloc, machine, entry);
     }
-    if entry.choice.collected.is_none() {
+    if entry.choice.collected().is_none() {
         return text(alloc, "a collection has to come with it");
     }
     text(

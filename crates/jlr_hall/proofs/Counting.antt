@@ -4,7 +4,7 @@ use Rattle.std.proofs.Common.{refl, ap, arith}
 use Rattle.std.specs.Prelude.{◌==◌, fold}
 use Rattle.jlr_types.specs.declared.limits.Limits.{Limits}
 use Rattle.jlr_machine.specs.declared.ask.Answer.TheVariants.{Handle}
-use Rattle.jlr_machine.specs.declared.entry.Chosen.{Chosen}
+use Rattle.jlr_machine.specs.Chosen.{Chosen}
 use Rattle.jlr_event.specs.declared.event.Event.{Event}
 use Rattle.jlr_machine.specs.declared.ask.Ask.TheVariants.{Clean, Close, Leave}
 use Rattle.jlr_event.specs.declared.event.Event.TheVariants.{Ask as Asks, Opened}

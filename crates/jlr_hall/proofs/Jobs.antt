@@ -6,7 +6,7 @@ use Rattle.jlr_types.specs.declared.Work.TheVariants.{Note, Resource as OnResour
 use Rattle.jlr_machine.specs.declared.ask.Ask.{Ask}
 use Rattle.jlr_machine.specs.declared.ask.Answer.TheVariants.{Refused}
 use Rattle.jlr_machine.specs.declared.ask.Answer.TheVariants as answer
-use Rattle.jlr_machine.specs.declared.entry.Chosen.{Chosen}
+use Rattle.jlr_machine.specs.Chosen.{Chosen}
 use Rattle.jlr_machine.specs.Refusals.{is_end}
 use Rattle.jlr_resource.specs.Resources.{Resources}
 use Rattle.jlr_event.specs.declared.event.Event.{Event}

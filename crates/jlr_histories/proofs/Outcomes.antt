@@ -13,7 +13,7 @@ use Rattle.jlr_machine.specs.declared.ask.Answer.{Answer}
 use Rattle.jlr_machine.specs.declared.ask.Answer.TheVariants.{Job}
 use Rattle.jlr_machine.specs.declared.entry.Entry.{Entry}
 use Rattle.jlr_types.specs.declared.Refusal.TheVariants.{NoSession, NotOut}
-use Rattle.jlr_machine.specs.declared.entry.Chosen.{Chosen}
+use Rattle.jlr_machine.specs.Chosen.{Chosen}
 use Rattle.jlr_machine.specs.Objects.{some_and}
 use Rattle.jlr_machine.specs.Refusals.{applies, refusal, is_joined}
 use Rattle.jlr_machine.specs.Lookups.{job_of}

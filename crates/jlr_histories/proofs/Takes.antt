@@ -29,7 +29,7 @@ use Rattle.jlr_machine.specs.declared.ask.Ask.TheVariants.{Full, Stat, Notes, Fa
 use Rattle.jlr_machine.specs.declared.ask.Answer.{Answer}
 use Rattle.jlr_machine.specs.declared.ask.Answer.TheVariants.{Handle, Job, AlreadyDone, Refused}
 use Rattle.jlr_machine.specs.declared.entry.Entry.{Entry}
-use Rattle.jlr_machine.specs.declared.entry.Chosen.{Chosen}
+use Rattle.jlr_machine.specs.Chosen.{Chosen}
 use Rattle.jlr_machine.specs.declared.entry.Collected.{Collected}
 use Rattle.jlr_machine.specs.Objects.{at, some_and, as_reference, as_cleanable, with_cleanable, with_reference, with_field, queue_ahead}
 use Rattle.jlr_machine.specs.Objects.{is_lined, is_spent}

@@ -17,7 +17,7 @@ use Rattle.jlr_machine.specs.declared.ask.Ask.TheVariants.{Clean, Close, Finish,
 use Rattle.jlr_machine.specs.declared.ask.Answer.{Answer}
 use Rattle.jlr_machine.specs.declared.ask.Answer.TheVariants.{Done, Faulted, Job, AlreadyDone, Refused}
 use Rattle.jlr_machine.specs.declared.entry.Entry.{Entry}
-use Rattle.jlr_machine.specs.declared.entry.Chosen.{Chosen}
+use Rattle.jlr_machine.specs.Chosen.{Chosen}
 use Rattle.jlr_machine.specs.declared.entry.Collected.{Collected}
 use Rattle.jlr_machine.specs.Objects.{some_and, is_lined, is_spent}
 use Rattle.jlr_machine.specs.Lookups.{slot_named, cleanable_at, cleanable_of_guard, on, job_of, without_job, last_256, rid_of, with_call}

@@ -68,7 +68,7 @@ pub(crate) fn make_array(entries: &[Entry]) -> bool {
 /// About how much work it is to follow an entry, beyond what any entry takes: a collection passes over all cells, and
 /// where the first of a list is taken out all others move. To copy four cells is a unit.
 pub(crate) fn work_of(machine: &Machine, entry: &Entry) -> usize {
-    if entry.choice.collected.is_some() {
+    if entry.choice.collected().is_some() {
         return machine.objects.len() / CELLS_AT_ONCE;
     }
     shortened_list(machine, &entry.ask) / SLOTS_AT_ONCE

@@ -9,7 +9,7 @@ use Rattle.jlr_machine.specs.declared.ask.Ask.TheVariants.{Prepare, Opened, Chec
 use Rattle.jlr_machine.specs.declared.ask.Ask.TheVariants.{Full, Stat, Notes, Faults, HandOver, TakeUp, Begin, Collect, Abandon, Array}
 use Rattle.jlr_machine.specs.declared.ask.Answer.{Answer}
 use Rattle.jlr_machine.specs.declared.entry.Entry.{Entry}
-use Rattle.jlr_machine.specs.declared.entry.Chosen.{Chosen}
+use Rattle.jlr_machine.specs.Chosen.{Chosen}
 use Rattle.jlr_machine.specs.Collection.{after_collection}
 use Rattle.jlr_machine.specs.Run.{MayCollect, Answers, with_collection, IsFresh, IsCarriedOut, IsLegal, Run, carried, done, apply}
 use Rattle.jlr_machine.specs.WellFormed.{IsWellFormed}

@@ -16,7 +16,7 @@ use Rattle.jlr_machine.specs.declared.ask.FullMode.TheVariants.{Policy, ClearAll
 use Rattle.jlr_machine.specs.declared.ask.Answer.{Answer}
 use Rattle.jlr_machine.specs.declared.ask.Answer.TheVariants.{Refused}
 use Rattle.jlr_machine.specs.declared.entry.Entry.{Entry}
-use Rattle.jlr_machine.specs.declared.entry.Chosen.{Chosen}
+use Rattle.jlr_machine.specs.Chosen.{Chosen}
 use Rattle.jlr_machine.specs.declared.entry.Collected.{Collected}
 use Rattle.jlr_machine.specs.Objects.{occupied, is_cleaner}
 use Rattle.jlr_machine.specs.Edges.{roots}

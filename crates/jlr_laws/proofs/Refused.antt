@@ -21,7 +21,7 @@ use Rattle.jlr_machine.specs.declared.ask.Ask.TheVariants.{Full, Stat, Notes, Fa
 use Rattle.jlr_machine.specs.declared.ask.Answer.{Answer}
 use Rattle.jlr_machine.specs.declared.ask.Answer.TheVariants.{Refused, Handle, AlreadyDone, Job}
 use Rattle.jlr_machine.specs.declared.entry.Collected.{Collected}
-use Rattle.jlr_machine.specs.declared.entry.Chosen.{Chosen}
+use Rattle.jlr_machine.specs.Chosen.{Chosen}
 use Rattle.jlr_machine.specs.declared.entry.Entry.{Entry}
 use Rattle.jlr_machine.specs.Objects.{at, is_spent}
 use Rattle.jlr_machine.specs.Lookups.{cleanable_at, field_named}

@@ -1,7 +1,6 @@
 //! The slots of new objects.
 ghost use Rattle.std.specs.Prelude.{◌≡◌, ◌≤◌, ◌<◌, ◌↔◌, [], ◌∷◌, ◌++◌, IsSome, IfSome, length};
 
-use arrayvec::ArrayVec;
 use jlr_types::Slot;
 use std::marker::Model;
 
@@ -11,15 +10,18 @@ const FRESH_LIMIT: usize = 2;
 /// The slots of the new objects of an entry, at most two, in order. They take no memory.
 #[derive(Drop)]
 pub struct FreshSlots {
-    slots: ArrayVec<Slot, FRESH_LIMIT>,
+    slots: [Slot; FRESH_LIMIT],
+    count: u8,
 }
 
 impl Model for FreshSlots {
-    ghost use Rattle.std.specs.Prelude.{ℕ, List};
+    ghost use Rattle.std.specs.Prelude.{ℕ, List, ◌≤◌, take};
 
     ghost Value = { List ℕ };
 
-    ghost view = { λ f. f.slots.items };
+    ghost view = { λ f. take f.count f.slots };
+
+    ghost invariant = { λ f. f.count ≤ 2 };
 }
 
 impl FreshSlots {
@@ -28,7 +30,8 @@ impl FreshSlots {
         ensures { result ≡ [] }
     {
         FreshSlots {
-            slots: ArrayVec::new(),
+            slots: [Slot::new(0); FRESH_LIMIT],
+            count: 0,
         }
     }
 
@@ -37,9 +40,18 @@ impl FreshSlots {
         ensures fits { IsSome result ↔ (length slots.now ≤ 2) }
         ensures slots { IfSome result (λ f. f ≡ slots.now) }
     {
-        let mut fresh = ArrayVec::new();
-        fresh.try_extend_from_slice(slots).ok()?;
-        Some(FreshSlots { slots: fresh })
+        match slots {
+            [] => Some(FreshSlots::new()),
+            [only] => Some(FreshSlots {
+                slots: [*only; FRESH_LIMIT],
+                count: 1,
+            }),
+            [first, second] => Some(FreshSlots {
+                slots: [*first, *second],
+                count: 2,
+            }),
+            _ => None,
+        }
     }
 
     /// The slots, at most two.
@@ -47,7 +59,7 @@ impl FreshSlots {
         ensures slots { result.now ≡ self.now }
         ensures fits { length result.now ≤ 2 }
     {
-        self.slots.as_slice()
+        &self.slots[..self.count as usize]
     }
 
     /// Adds a slot behind the others.
@@ -55,22 +67,24 @@ impl FreshSlots {
         requires { length self.old < 2 }
         ensures { self.new ≡ self.old ++ slot ∷ [] }
     {
-        self.slots.push(slot);
+        self.slots[self.count as usize] = slot;
+        self.count += 1;
     }
 
     /// Forgets all slots.
     pub fn clear(&mut self)
         ensures { self.new ≡ [] }
     {
-        self.slots.clear();
+        self.count = 0;
     }
 
     /// The same slots again.
     pub fn copy(&self) -> Self
         ensures { result ≡ self.now }
     {
-        let mut slots = ArrayVec::new();
-        slots.try_extend_from_slice(self.as_slice()).unwrap();
-        FreshSlots { slots }
+        FreshSlots {
+            slots: self.slots,
+            count: self.count,
+        }
     }
 }

@@ -9,36 +9,13 @@ use jlr_types::Slot;
 use std::alloc::{AllocError, Global};
 use std::marker::Model;
 
-/// A set of slots, and behind it those that it has no place for, as a list.
-#[derive(Drop)]
-pub(crate) struct Parts {
-    pub(crate) set: SlotSet,
-    pub(crate) strays: Vec<Slot>,
-}
-
-impl Parts {
-    /// No slot, with a place in the set for each cell.
-    ///
-    /// # Errors
-    /// `AllocError` where the room cannot be had.
-    pub(crate) fn with_cells(alloc: Global, cells: u32) -> Result<Box<Parts>, AllocError>
-        ensures none { IfOk result (λ parts. NoneFrom parts.value.set 0) }
-        ensures no_strays { IfOk result (λ parts. parts.value.strays.items ≡ []) }
-        ensures room { IfOk result (λ parts. cells ≤ length parts.value.set) }
-    {
-        let parts = Parts {
-            set: SlotSet::with_cells(alloc, cells)?,
-            strays: Vec::new(alloc),
-        };
-        Ok(Box::new(alloc, parts)?)
-    }
-}
-
 /// The slots that a collection kept, as a list. A list that rises, and of which bits take no more memory, lies here as
-/// a bit for each slot up to its last. Any other list can lie here too: an entry that was read may name any slots.
+/// a bit for each slot up to its last. Any other list can lie here too: an entry that was read may name any slots. So
+/// it is a set, and behind it the slots that it has no place for.
 #[derive(Drop)]
 pub struct KeptSlots {
-    parts: Box<Parts>,
+    set: SlotSet,
+    strays: Vec<Slot>,
 }
 
 impl Model for KeptSlots {
@@ -47,7 +24,7 @@ impl Model for KeptSlots {
 
     ghost Value = { List ℕ };
 
-    ghost view = { λ k. slots_of k.parts.value.set ++ k.parts.value.strays.items };
+    ghost view = { λ k. slots_of k.set ++ k.strays.items };
 }
 
 impl KeptSlots {
@@ -61,32 +38,34 @@ impl KeptSlots {
         let mut set = SlotSet::with_cells(alloc, cells_for(slots))?;
         let count = fill(&mut set, slots);
         let strays = copy_slice(alloc, &slots[count..])?;
-        let parts = Box::new(alloc, Parts { set, strays })?;
-        Ok(KeptSlots { parts })
+        Ok(KeptSlots { set, strays })
     }
 
-    /// What lies in these parts, in no more memory than it needs.
-    pub(crate) fn cut(parts: Box<Parts>) -> Self
-        ensures { result ≡ slots_of parts.value.set ++ parts.value.strays.items }
+    /// The slots of this set, in no more memory than they need.
+    pub(crate) fn of_set(alloc: Global, set: SlotSet) -> Self
+        ensures { result ≡ slots_of set }
     {
-        let mut parts = parts;
-        parts.set.trim();
-        KeptSlots { parts }
+        let mut set = set;
+        set.trim();
+        KeptSlots {
+            set,
+            strays: Vec::new(alloc),
+        }
     }
 
     /// How many slots there are.
     pub fn len(&self) -> usize
         ensures { result ≡ length self.now }
     {
-        self.parts.set.count() + self.parts.strays.len()
+        self.set.count() + self.strays.len()
     }
 
     /// What is true of each of the slots, for callers.
     pub fn in_range(&self)
         ensures { AllByRecursion IsSlotNumber self.now }
     {
-        self.parts.set.in_range();
-        numbers_in_range(self.parts.strays.as_slice());
+        self.set.in_range();
+        numbers_in_range(self.strays.as_slice());
     }
 
     /// The slots, in order.
@@ -96,8 +75,8 @@ impl KeptSlots {
     pub fn to_vec(&self, alloc: Global) -> Result<Vec<Slot>, AllocError>
         ensures { IfOk result (λ slots. slots.items ≡ self.now) }
     {
-        let mut slots = self.parts.set.to_vec(alloc)?;
-        slots.extend_from_slice(self.parts.strays.as_slice())?;
+        let mut slots = self.set.to_vec(alloc)?;
+        slots.extend_from_slice(self.strays.as_slice())?;
         Ok(slots)
     }
 
@@ -108,10 +87,9 @@ impl KeptSlots {
     pub fn copy(&self, alloc: Global) -> Result<Self, AllocError>
         ensures { IfOk result (λ copy. copy ≡ self.now) }
     {
-        let set = self.parts.set.copy(alloc)?;
-        let strays = copy_slice(alloc, self.parts.strays.as_slice())?;
-        let parts = Box::new(alloc, Parts { set, strays })?;
-        Ok(KeptSlots { parts })
+        let set = self.set.copy(alloc)?;
+        let strays = copy_slice(alloc, self.strays.as_slice())?;
+        Ok(KeptSlots { set, strays })
     }
 }
 

@@ -26,7 +26,7 @@ fn carry_on(
     ensures { IfOk result (λ o. MatchOption o (¬ (IsLegal machine entry.now)) (λ n. IsNext machine entry.now n)) }
 {
     let _next_action = machine.next_action;
-    let collected = collect_in(alloc, machine, &entry.choice.collected)?;
+    let collected = collect_in(alloc, machine, &entry.choice)?;
     if !fits_in(&collected, entry) {
         return Ok(None);
     }

@@ -63,7 +63,7 @@ pub(crate) fn complete(
         machine,
         &entry.ask,
         &entry.answer,
-        entry.choice.fresh.as_slice(),
+        entry.choice.fresh().as_slice(),
     )?;
     if kept {
         return Ok(next);
@@ -86,7 +86,7 @@ pub(crate) fn applied(
     ensures { IfOk result (λ n. n ≡ apply machine entry.now) }
 {
     let _next_action = machine.next_action;
-    let collected = collect_in(alloc, machine, &entry.choice.collected)?;
+    let collected = collect_in(alloc, machine, &entry.choice)?;
     let next = complete(alloc, collected, entry, kept)?;
     Ok(next)
 }

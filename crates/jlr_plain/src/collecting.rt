@@ -8,7 +8,7 @@ ghost use Rattle.jlr_laws.specs.Deciding.{is_full_clearing, may_collect};
 
 use crate::room::room_for;
 use jlr_machine::ask::{Ask, FullMode};
-use jlr_machine::entry::Collected;
+use jlr_machine::entry::{Chosen, Collected};
 use jlr_machine::machine::Machine;
 use jlr_plain_asks::operands::cells_of;
 use jlr_plain_collections::legal::{background_tested, clearing_tested, full_tested};
@@ -88,13 +88,13 @@ pub fn may_collect_plain(
     alloc: Global,
     machine: &Machine,
     ask: &Ask,
-    collection: &Option<Collected>,
+    choice: &Chosen,
 ) -> Result<bool, AllocError>
     requires cells { length machine.now.objects ≤ 2 ^ 32 }
     requires within { IsWithinHeap machine.now.objects (roots machine.now) }
-    ensures { IfOk result (λ b. b ≡ may_collect machine.now ask.now collection.now) }
+    ensures { IfOk result (λ b. b ≡ may_collect machine.now ask.now choice.now.collected) }
 {
-    match collection {
+    match choice.collected() {
         Some(c) => may_do(alloc, machine, ask, c),
         None => Ok(may_do_without(machine, ask)),
     }

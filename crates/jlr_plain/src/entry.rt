@@ -47,12 +47,12 @@ fn gives_rid(machine: &Machine, answer: &Answer) -> bool
 }
 
 /// Whether the ask, carried out after this collection, may be so answered.
-fn answered(machine: &Machine, ask: &Ask, collection: &Option<Collected>, answer: &Answer) -> bool
-    ensures { result ≡ is_answer machine.now ask.now collection.now answer.now }
+fn answered(machine: &Machine, ask: &Ask, choice: &Chosen, answer: &Answer) -> bool
+    ensures { result ≡ is_answer machine.now ask.now choice.now.collected answer.now }
 {
     match ask {
         Ask::Prepare { .. } => gives_rid(machine, answer),
-        Ask::Collect => is_truth(answer, collection.is_some()),
+        Ask::Collect => is_truth(answer, choice.collected().is_some()),
         _ => is_reply(machine, ask, answer),
     }
 }
@@ -66,7 +66,7 @@ fn none_of(slots: &[Slot]) -> bool
 fn chooses_none(choice: &Chosen) -> bool
     ensures { result ≡ chooses_nothing choice.now }
 {
-    choice.collected.is_none() && none_of(choice.fresh.as_slice())
+    choice.collected().is_none() && none_of(choice.fresh().as_slice())
 }
 
 fn is_refused_plain(machine: &Machine, entry: &Entry) -> bool
@@ -101,7 +101,7 @@ pub(crate) fn may_carry_out(
     if refusal_plain(machine, &entry.ask).is_some() {
         return Ok(false);
     }
-    may_collect_plain(alloc, machine, &entry.ask, &entry.choice.collected)
+    may_collect_plain(alloc, machine, &entry.ask, &entry.choice)
 }
 
 /// Whether the ask may be so carried out, in the machine that its collection left.
@@ -111,18 +111,18 @@ pub(crate) fn fits_in(machine: &Machine, entry: &Entry) -> bool
 {
     let choice = &entry.choice;
     let cells = cells_of(&entry.ask);
-    fresh_slots(&machine.objects, cells, choice.fresh.as_slice())
-        && answered(machine, &entry.ask, &choice.collected, &entry.answer)
+    fresh_slots(&machine.objects, cells, choice.fresh().as_slice())
+        && answered(machine, &entry.ask, choice, &entry.answer)
 }
 
 /// The same before the collection, of which a copy is made, where there is one.
 fn fits_behind(alloc: Global, machine: &Machine, entry: &Entry) -> Result<bool, AllocError>
     ensures { IfOk result (λ b. b ≡ fits_after entry.now (with_collection machine.now entry.now.choice.collected)) }
 {
-    if entry.choice.collected.is_none() {
+    if entry.choice.collected().is_none() {
         return Ok(fits_in(machine, entry));
     }
-    let next = collected_plain(alloc, machine, &entry.choice.collected)?;
+    let next = collected_plain(alloc, machine, &entry.choice)?;
     Ok(fits_in(&next, entry))
 }
 
@@ -160,13 +160,13 @@ fn collects_in_vain(
     alloc: Global,
     machine: &Machine,
     ask: &Ask,
-    collection: &Option<Collected>,
+    choice: &Chosen,
 ) -> Result<bool, AllocError>
     requires cells { length machine.now.objects ≤ 2 ^ 32 }
     requires within { IsWithinHeap machine.now.objects (roots machine.now) }
-    ensures { IfOk result (λ b. b ≡ some_and (leaves_too_few machine.now ask.now) collection.now) }
+    ensures { IfOk result (λ b. b ≡ some_and (leaves_too_few machine.now ask.now) choice.now.collected) }
 {
-    match collection {
+    match choice.collected() {
         Some(c) => too_few_left(alloc, machine, ask, c),
         None => Ok(false),
     }
@@ -183,10 +183,10 @@ fn is_heap_full_plain(alloc: Global, machine: &Machine, entry: &Entry) -> Result
     if !is_refused_by(&entry.answer, Refusal::HeapFull) {
         return Ok(false);
     }
-    if !none_of(entry.choice.fresh.as_slice()) {
+    if !none_of(entry.choice.fresh().as_slice()) {
         return Ok(false);
     }
-    collects_in_vain(alloc, machine, &entry.ask, &entry.choice.collected)
+    collects_in_vain(alloc, machine, &entry.ask, &entry.choice)
 }
 
 /// Whether it is a legal entry of an ask that is not carried out.

@@ -26,7 +26,7 @@ fn follow_alone(alloc: Global, machine: &mut Machine, entry: &Entry) -> Result<(
     if is_refusal(&entry.answer) {
         return Ok(());
     }
-    let fresh = entry.choice.fresh.as_slice();
+    let fresh = entry.choice.fresh().as_slice();
     after_plain(alloc, machine, &entry.ask, &entry.answer, fresh)
 }
 
@@ -53,7 +53,7 @@ fn follow_collecting(
         return Err(AllocError);
     };
     leave_in(alloc, machine, leaving);
-    let fresh = entry.choice.fresh.as_slice();
+    let fresh = entry.choice.fresh().as_slice();
     make_asked(alloc, machine, &entry.ask, &entry.answer, fresh, ready);
     Ok(())
 }
@@ -64,7 +64,7 @@ fn follow_either(alloc: Global, machine: &mut Machine, entry: &Entry) -> Result<
     ensures err { OnErr result (machine.new ≡ machine.old) }
 {
     let _next_action = machine.next_action;
-    match &entry.choice.collected {
+    match entry.choice.collected() {
         Some(collected) => follow_collecting(alloc, machine, entry, collected),
         None => follow_alone(alloc, machine, entry),
     }

@@ -61,6 +61,6 @@ pub(crate) fn keeps_seen_plain(machine: &Machine, entry: &Entry) -> bool
     ensures { result ≡ keeps_seen machine.now entry.now }
 {
     machine.cycle_open
-        && entry.choice.collected.is_none()
+        && entry.choice.collected().is_none()
         && (is_refusal(&entry.answer) || adds_none(machine, &entry.ask))
 }

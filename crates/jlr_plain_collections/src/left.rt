@@ -10,7 +10,7 @@ use crate::edges::push_all;
 use crate::listed::SlotList;
 use jlr_copies::copy_machine;
 use jlr_machine::copy::copy_slice;
-use jlr_machine::entry::Collected;
+use jlr_machine::entry::{Chosen, Collected};
 use jlr_machine::items::Items;
 use jlr_machine::machine::Machine;
 use jlr_machine::object::{CleanState, Cleanable, Object, RefState, Reference};
@@ -199,14 +199,10 @@ fn collected(alloc: Global, machine: Machine, c: &Collected) -> Result<Machine, 
 
 /// The machine in which an ask is carried out, after its collection, where there was one. The machine is given up for
 /// it.
-pub fn collect_in(
-    alloc: Global,
-    machine: Machine,
-    collection: &Option<Collected>,
-) -> Result<Machine, AllocError>
-    ensures { IfOk result (λ n. n ≡ with_collection machine collection.now) }
+pub fn collect_in(alloc: Global, machine: Machine, choice: &Chosen) -> Result<Machine, AllocError>
+    ensures { IfOk result (λ n. n ≡ with_collection machine choice.now.collected) }
 {
-    match collection {
+    match choice.collected() {
         Some(c) => collected(alloc, machine, c),
         None => Ok(machine),
     }
@@ -216,10 +212,10 @@ pub fn collect_in(
 pub fn collected_plain(
     alloc: Global,
     machine: &Machine,
-    collection: &Option<Collected>,
+    choice: &Chosen,
 ) -> Result<Machine, AllocError>
-    ensures { IfOk result (λ n. n ≡ with_collection machine.now collection.now) }
+    ensures { IfOk result (λ n. n ≡ with_collection machine.now choice.now.collected) }
 {
     let copy = copy_machine(alloc, machine)?;
-    collect_in(alloc, copy, collection)
+    collect_in(alloc, copy, choice)
 }

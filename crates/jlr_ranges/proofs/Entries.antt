@@ -13,7 +13,7 @@ use Rattle.jlr_machine.specs.declared.ask.FullMode.TheVariants.{Policy, ClearAll
 use Rattle.jlr_machine.specs.declared.ask.Answer.{Answer}
 use Rattle.jlr_machine.specs.declared.ask.Answer.TheVariants.{Names, Notes, Faults}
 use Rattle.jlr_machine.specs.declared.entry.Collected.{Collected}
-use Rattle.jlr_machine.specs.declared.entry.Chosen.{Chosen}
+use Rattle.jlr_machine.specs.Chosen.{Chosen}
 use Rattle.jlr_machine.specs.declared.entry.Entry.{Entry}
 use Rattle.jlr_machine.specs.Objects.{◌∈◌, is_rising, is_distinct}
 use Rattle.jlr_machine.specs.Edges.{roots}

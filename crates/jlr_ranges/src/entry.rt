@@ -255,10 +255,10 @@ fn answer_in_range(answer: &Answer)
 
 // ---- Choices
 
-fn collected_in_range(collected: &Option<Collected>)
-    ensures { CollectedRange collected.now }
+fn collected_in_range(choice: &Chosen)
+    ensures { CollectedRange choice.now.collected }
 {
-    if let Some(collected) = collected {
+    if let Some(collected) = choice.collected() {
         collected.kept.in_range();
         all_in_range(collected.pending.as_slice());
     }
@@ -267,8 +267,8 @@ fn collected_in_range(collected: &Option<Collected>)
 fn choice_in_range(choice: &Chosen)
     ensures { ChoiceRange choice.now }
 {
-    collected_in_range(&choice.collected);
-    all_in_range(choice.fresh.as_slice());
+    collected_in_range(choice);
+    all_in_range(choice.fresh().as_slice());
 }
 
 impl Ranged for Entry {

@@ -79,7 +79,7 @@ pub(crate) fn choice_at(alloc: Global, bytes: &mut &[u8]) -> Result<Chosen, Read
     let flags = take_within(0, 3, bytes)?;
     let collected = collection_at(alloc, flags % 2 == 1, bytes)?;
     match fresh_at(alloc, flags >= 2, bytes) {
-        Ok(fresh) => Ok(Chosen { collected, fresh }),
+        Ok(fresh) => Ok(Chosen::new(alloc, collected, fresh)?),
         Err(error) => {
             drop(collected);
             Err(error)
@@ -90,7 +90,7 @@ pub(crate) fn choice_at(alloc: Global, bytes: &mut &[u8]) -> Result<Chosen, Read
 fn flags_of(choice: &Chosen) -> u8
     ensures { result ≡ flags_of_choice choice.now.collected choice.now.fresh }
 {
-    match (&choice.collected, choice.fresh.as_slice()) {
+    match (choice.collected(), choice.fresh().as_slice()) {
         (None, []) => 0,
         (Some(_), []) => 1,
         (None, [_, ..]) => 2,
@@ -98,11 +98,11 @@ fn flags_of(choice: &Chosen) -> u8
     }
 }
 
-fn put_collection(out: &mut Vec<u8>, collected: &Option<Collected>) -> Result<(), AllocError>
-    requires { CollectionCounts collected.now }
-    ensures { OnOk result (out.new.items ≡ out.old.items ++ spelled_collection collected.now) }
+fn put_collection(out: &mut Vec<u8>, choice: &Chosen) -> Result<(), AllocError>
+    requires { CollectionCounts choice.now.collected }
+    ensures { OnOk result (out.new.items ≡ out.old.items ++ spelled_collection choice.now.collected) }
 {
-    match collected {
+    match choice.collected() {
         None => Ok(()),
         Some(collected) => {
             let kept = collected.kept.to_vec(*out.allocator())?;
@@ -131,6 +131,6 @@ pub(crate) fn put_choice(out: &mut Vec<u8>, choice: &Chosen) -> Result<(), Alloc
     ensures { OnOk result (out.new.items ≡ out.old.items ++ spelled_choice choice.now) }
 {
     put_u8(out, flags_of(choice))?;
-    put_collection(out, &choice.collected)?;
-    put_fresh(out, choice.fresh.as_slice())
+    put_collection(out, choice)?;
+    put_fresh(out, choice.fresh().as_slice())
 }

@@ -18,7 +18,7 @@ use Rattle.jlr_machine.specs.declared.ask.Handed.TheVariants.{Nothing}
 use Rattle.jlr_machine.specs.declared.ask.Ask.TheVariants.{TakeUp, Finish}
 use Rattle.jlr_machine.specs.declared.ask.Answer.{Answer}
 use Rattle.jlr_machine.specs.declared.ask.Answer.TheVariants.{Done, Handed, Refused, Job as JobAnswer}
-use Rattle.jlr_machine.specs.declared.entry.Chosen.{Chosen}
+use Rattle.jlr_machine.specs.Chosen.{Chosen}
 use Rattle.jlr_machine.specs.declared.entry.Collected.{Collected}
 use Rattle.jlr_machine.specs.Objects.{some_and, is_lined, is_spent}
 use Rattle.jlr_machine.specs.Lookups.{cleanable_at, rid_of, job_of, on}

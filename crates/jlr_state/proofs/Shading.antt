@@ -12,7 +12,7 @@ use Rattle.jlr_machine.specs.declared.object.Cleanable.{Cleanable as CleanableOf
 use Rattle.jlr_machine.specs.declared.machine.Machine.{Machine}
 use Rattle.jlr_machine.specs.declared.machine.Session.{Session}
 use Rattle.jlr_machine.specs.declared.machine.Call.{Call}
-use Rattle.jlr_machine.specs.declared.entry.Chosen.{Chosen}
+use Rattle.jlr_machine.specs.Chosen.{Chosen}
 use Rattle.jlr_machine.specs.Objects.{Table, Heap, at, set_at, change_at, occupied, first_free, some_and, as_members, ◌∈◌}
 use Rattle.jlr_machine.specs.Calls.{with_given}
 use Rattle.jlr_machine.specs.Choices.{Choosing}

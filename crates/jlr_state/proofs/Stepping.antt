@@ -8,7 +8,7 @@ use Rattle.jlr_machine.specs.declared.machine.Machine.{Machine}
 use Rattle.jlr_machine.specs.declared.ask.Ask.{Ask}
 use Rattle.jlr_machine.specs.declared.ask.Ask.TheVariants.{Begin}
 use Rattle.jlr_machine.specs.declared.ask.Answer.{Answer}
-use Rattle.jlr_machine.specs.declared.entry.Chosen.{Chosen}
+use Rattle.jlr_machine.specs.Chosen.{Chosen}
 use Rattle.jlr_machine.specs.Objects.{Heap, at, is_rising, ◌∈◌}
 use Rattle.jlr_machine.specs.Edges.{edges, edges_from, roots}
 use Rattle.jlr_machine.specs.Edges.Chain.{UpToSoft}

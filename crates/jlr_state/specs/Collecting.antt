@@ -7,7 +7,7 @@ use Rattle.jlr_soft.specs.declared.policy.Mode.TheVariants.{Policy, ClearAll}
 use Rattle.jlr_machine.specs.declared.ask.FullMode.{FullMode}
 use Rattle.jlr_machine.specs.declared.ask.FullMode.TheVariants.{Policy as AskedPolicy, ClearAll as AskedClearAll}
 use Rattle.jlr_barrier.specs.Graphs.{Clock, counted, made_now}
-use Rattle.jlr_machine.specs.declared.entry.Chosen.{Chosen}
+use Rattle.jlr_machine.specs.Chosen.{Chosen}
 use Rattle.jlr_machine.specs.declared.entry.Collected.{Collected}
 use Rattle.jlr_machine.specs.Objects.{at, occupied}
 use Rattle.jlr_machine.specs.Lookups.{with_new}

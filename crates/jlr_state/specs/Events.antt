@@ -7,7 +7,7 @@ use Rattle.jlr_machine.specs.declared.ask.Ask.TheVariants.{Array, Bind, CheckIn,
 use Rattle.jlr_machine.specs.declared.ask.Ask.TheVariants.{Notes, Opened, Prepare, TakeUp}
 use Rattle.jlr_machine.specs.declared.ask.Answer.{Answer}
 use Rattle.jlr_machine.specs.declared.ask.Answer.TheVariants.{Refused}
-use Rattle.jlr_machine.specs.declared.entry.Chosen.{Chosen}
+use Rattle.jlr_machine.specs.Chosen.{Chosen}
 use Rattle.jlr_machine.specs.declared.entry.Entry.{Entry}
 use Rattle.jlr_machine.specs.Lookups.{slot_bound}
 use Rattle.jlr_machine.specs.Refusals.{refusal}

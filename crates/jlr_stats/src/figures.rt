@@ -170,7 +170,7 @@ impl Watch for Figures {
             self.next = self.next.saturating_add(self.stride);
         }
         self.see_open(machine);
-        if let Some(collected) = &entry.choice.collected {
+        if let Some(collected) = entry.choice.collected() {
             self.see_collection(machine, collected);
         }
         if let Ask::Finish { .. } = &entry.ask {

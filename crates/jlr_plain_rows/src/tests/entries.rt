@@ -97,8 +97,7 @@ fn choice_of(alloc: Global, choice: &str) -> Result<Chosen, AllocError> {
     let fresh = fresh_of(part(choice, "in"));
     if choice.starts_with("keeps") {
         let collected = Some(collected_of(alloc, choice)?);
-        return Ok(Chosen { collected, fresh });
+        return Chosen::new(alloc, collected, fresh);
     }
-    let collected = None;
-    Ok(Chosen { collected, fresh })
+    Ok(Chosen::plain(fresh))
 }

@@ -7,7 +7,6 @@ use super::same::same_machine;
 use jlr_copies::copy_machine;
 use jlr_machine::ask::{Answer, Ask};
 use jlr_machine::entry::{Chosen, Entry};
-use jlr_machine::fresh::FreshSlots;
 use jlr_machine::machine::Machine;
 use jlr_machine::text::Name;
 use jlr_plain::empty::{empty_plain, empty_plain_from};
@@ -121,7 +120,6 @@ fn numbered(number: u8) -> Option<Name> {
 
 // Binds a name to what handle 1 holds.
 fn binding(name: Name) -> Entry {
-    let fresh = FreshSlots::new();
     Entry {
         seat: 0,
         ask: Ask::Bind {
@@ -130,10 +128,7 @@ fn binding(name: Name) -> Entry {
             object: Handle::new(1),
         },
         answer: Answer::Done,
-        choice: Chosen {
-            collected: None,
-            fresh,
-        },
+        choice: Chosen::nothing(),
     }
 }
 

@@ -69,8 +69,8 @@ fn is_chosen(
     kept: &[Slot],
     fresh: &[Slot],
 ) -> Result<bool, AllocError> {
-    let are_fresh = chosen.fresh.as_slice() == fresh;
-    let collected = match &chosen.collected {
+    let are_fresh = chosen.fresh().as_slice() == fresh;
+    let collected = match chosen.collected() {
         Some(collected) => is_collected(alloc, collected, pending, kept),
         None => Ok(false),
     };

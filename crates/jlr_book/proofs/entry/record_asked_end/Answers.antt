@@ -1,5 +1,4 @@
-use Rattle.std.proofs.Common.{ℕ, List, None, refl, inl, inr, arith, sym, ap, subst, ◌∙◌}
-use Rattle.jlr_machine.specs.declared.entry.Chosen.{Chosen}
+use Rattle.std.proofs.Common.{refl, inl, inr, arith, sym, subst, ◌∙◌}
 use Rattle.jlr_event.specs.declared.event.Reply.TheVariants.{Answered}
 use Rattle.jlr_core.specs.Steps.{IsStep}
 use Rattle.jlr_event.specs.declared.event.Event.TheVariants.{Ask as Asks}
@@ -34,15 +33,13 @@ pub returns-else-is_refused-clause-writes : goal.returns-else-is_refused-clause-
 returns-else-is_refused-clause-writes g c =
     let s = subst (λ q. IsStep c.args.core.now (Asks c.args.ask) q c.step_ask.new.choice.chosen c.step_ask.new.self) c.in-Answered.is
     c.step_ask.ensures.step in
-    let written : Chosen = record { collected = None; fresh = c.new.result } in
     let nothing = end_chose c.args.core.now c.step_ask.new.self (Asks c.args.ask) c.in-Answered.answer c.in-Answered.resource c.args.ask
     c.step_ask.new.choice.chosen s refl c.requires.end c.requires.stands in
-    let plain = ap {A = List ℕ} {B = Chosen} (λ l. record { collected = None; fresh = l }) c.new.ensures in
     let noted = subst (λ x. IsStep c.args.core.now (Asks c.args.ask) (Answered c.in-Answered.answer c.in-Answered.resource) x
-    c.step_ask.new.self) (sym (plain ∙ nothing)) s in
+    c.step_ask.new.self) (sym (c.nothing.ensures ∙ nothing)) s in
     inl (
       writes c.args.core.now c.step_ask.new.self (Asks c.args.ask) c.in-Answered.answer c.copy_without_room.result c.in-Answered.resource
-          c.args.ask written
+          c.args.ask c.nothing.result
           c.args.trace.now.items c.push_reserved.new.self.items c.args.seat noted refl c.push_reserved.ensures.items
           c.copy_without_room.ensures,
       λ by e. not_refused c.in-Answered.answer by (sym c.is_refused.ensures ∙ c.if-is_refused.false) e,

@@ -1,9 +1,7 @@
-use Rattle.std.proofs.Common.{◌≡◌, ℕ, List, [], ◌∷◌, ◌++◌, Option, Some, None, length, slice_index_or, slice_set}
+use Rattle.std.proofs.Common.{◌≡◌, ℕ, List, [], ◌∷◌, ◌++◌, Some, None, length, slice_index_or, slice_set}
 use Rattle.std.proofs.Common.{refl, sym, subst, arith, ap, ◌∙◌}
 use Rattle.jlr_machine.specs.declared.ask.Ask.{Ask}
 use Rattle.jlr_machine.specs.declared.ask.Answer.TheVariants as answer
-use Rattle.jlr_machine.specs.declared.entry.Chosen.{Chosen}
-use Rattle.jlr_machine.specs.declared.entry.Collected.{Collected}
 use Rattle.jlr_machine.specs.declared.entry.Entry.{Entry}
 use Rattle.jlr_event.specs.declared.event.Event.TheVariants.{Ask as Asks}
 use Rattle.jlr_event.specs.declared.event.Reply.TheVariants.{Answered}
@@ -21,19 +19,15 @@ got_last [] x d = refl
 got_last (z ∷ xs) x d = got_last xs x d
 
 -- an entry by its parts
-by_parts : (e : Entry) (seat : ℕ) → e.seat ≡ seat → e.choice.collected ≡ None
-    → e ≡ entry_by seat e.ask e.answer (record { collected = None; fresh = e.choice.fresh })
-by_parts e seat same none =
-    ap {A = ℕ} {B = Entry} (λ s. entry_by s e.ask e.answer e.choice) same
-    ∙ ap {A = Option Collected} {B = Entry} (λ o. entry_by seat e.ask e.answer (record { collected = o; fresh = e.choice.fresh })) none
+by_parts : (e : Entry) (seat : ℕ) → e.seat ≡ seat → e ≡ entry_by seat e.ask e.answer e.choice
+by_parts e seat same = ap {A = ℕ} {B = Entry} (λ s. entry_by s e.ask e.answer e.choice) same
 
 pub returns-clause-writes : goal.returns-clause-writes
 returns-clause-writes g c =
     let did = c.tell_briefly in
     let e = did.new.entry in
     let entries = c.args.trace.now.items in
-    let empty : Entry = entry_by c.args.seat c.args.ask answer.Done (record { collected = None; fresh = c.new.result }) in
-    let chosen : Chosen = record { collected = None; fresh = e.choice.fresh } in
+    let empty : Entry = entry_by c.args.seat c.args.ask answer.Done c.nothing.result in
     let last : c.len-place.result ≡ length entries = omega (arith, c.len-place.ensures, c.args.trace.now.ok.0) in
     let behind = ap (λ l. slice_set l c.len-place.result e) c.push_reserved.ensures.items in
     let placed = ap (λ n. slice_set (entries ++ empty ∷ []) n e) last in
@@ -46,10 +40,9 @@ returns-clause-writes g c =
     let same : was.ask ≡ c.args.ask = ap {A = Entry} {B = Ask} (λ x. x.ask) found in
     let asked : e.ask ≡ c.args.ask = did.ensures.ask ∙ same in
     let step =
-    subst (λ a. IsStep c.args.core.now (Asks a) (Answered did.result None) chosen did.new.core) same did.ensures.step in
+    subst (λ a. IsStep c.args.core.now (Asks a) (Answered did.result None) e.choice did.new.core) same did.ensures.step in
     let seat = did.ensures.seat ∙ ap {A = Entry} {B = ℕ} (λ x. x.seat) found in
-    let none = did.ensures.collected ∙ ap {A = Entry} {B = Option Collected} (λ x. x.choice.collected) found in
-    let parts = by_parts e c.args.seat seat none in
+    let parts = by_parts e c.args.seat seat in
     let more = behind ∙ placed ∙ told_last entries empty e ∙ ap (λ x. entries ++ x ∷ []) parts in
-    writes c.args.core.now did.new.core (Asks c.args.ask) did.result e.answer None e.ask chosen entries _ c.args.seat
+    writes c.args.core.now did.new.core (Asks c.args.ask) did.result e.answer None e.ask e.choice entries _ c.args.seat
     step (ap (λ a. Some a) (sym asked)) more did.ensures.answer

@@ -1,5 +1,4 @@
-use Rattle.std.proofs.Common.{ℕ, List, None, inl, inr, arith, sym, ap, subst, ◌∙◌}
-use Rattle.jlr_machine.specs.declared.entry.Chosen.{Chosen}
+use Rattle.std.proofs.Common.{inl, inr, arith, sym, subst, ◌∙◌}
 use Rattle.jlr_event.specs.declared.event.Reply.TheVariants.{Answered}
 use Rattle.jlr_core.specs.Steps.{IsStep}
 use Rattle.jlr_book.proofs.Entering.{end_chose, list_fits, not_refused, owed_less_by, turned_away, writes}
@@ -32,14 +31,13 @@ pub returns-else-is_refused-clause-writes : goal.returns-else-is_refused-clause-
 returns-else-is_refused-clause-writes g c =
     let s = subst (λ q. IsStep c.args.core.now c.args.event q c.step.new.choice.chosen c.step.new.self) c.in-Answered.is
     c.step.ensures.step in
-    let written : Chosen = record { collected = None; fresh = c.new.result } in
     let nothing = end_chose c.args.core.now c.step.new.self c.args.event c.in-Answered.answer c.in-Answered.resource c.args.ask
     c.step.new.choice.chosen s c.requires.ask c.requires.end c.requires.stands in
-    let plain = ap {A = List ℕ} {B = Chosen} (λ l. record { collected = None; fresh = l }) c.new.ensures in
     let noted = subst (λ x. IsStep c.args.core.now c.args.event (Answered c.in-Answered.answer c.in-Answered.resource) x c.step.new.self)
-    (sym (plain ∙ nothing)) s in
+    (sym (c.nothing.ensures ∙ nothing)) s in
     inl (
-      writes c.args.core.now c.step.new.self c.args.event c.in-Answered.answer c.copy.result c.in-Answered.resource c.args.ask written
+      writes c.args.core.now c.step.new.self c.args.event c.in-Answered.answer c.copy.result c.in-Answered.resource c.args.ask
+          c.nothing.result
           c.args.trace.now.items c.push_reserved.new.self.items c.args.seat noted c.requires.ask c.push_reserved.ensures.items
           c.copy.ensures,
       λ by e. not_refused c.in-Answered.answer by (sym c.is_refused.ensures ∙ c.if-is_refused.false) e,

@@ -1,6 +1,6 @@
 use Rattle.std.proofs.Common.{None, refl, sym, subst}
 use Rattle.jlr_machine.specs.declared.ask.Answer.{Answer}
-use Rattle.jlr_machine.specs.declared.entry.Chosen.{Chosen}
+use Rattle.jlr_machine.specs.Chosen.{Chosen}
 use Rattle.jlr_event.specs.declared.event.Event.{Event}
 use Rattle.jlr_event.specs.declared.event.Event.TheVariants.{Ask as Asks}
 use Rattle.jlr_event.specs.declared.event.Reply.TheVariants.{Answered}
@@ -22,10 +22,10 @@ copy_without_room-requires g c =
 pub returns-clause-step : goal.returns-clause-step
 returns-clause-step g c =
     let did = c.answer in
-    let fresh = c.take_fresh-entry in
+    let fresh = c.take_fresh in
     let core = c.args.core.now in
     let asks : Event g.row.R.Denot = Asks c.args.entry.now.ask in
-    let chosen : Chosen = record { collected = None; fresh = fresh.result } in
-    subst (λ (a : Answer). IsStep core asks (Answered a None) chosen did.new.self) (sym c.copy_without_room.ensures)
+    subst (λ (a : Answer). IsStep core asks (Answered a None) c.plain.result did.new.self) (sym c.copy_without_room.ensures)
+    (subst (λ (x : Chosen). IsStep core asks (Answered did.result None) x did.new.self) (sym c.plain.ensures)
     (chosen_plainly core did.new.self asks (Answered did.result None) did.new.choice.chosen did.ensures.step c.requires.stands
-    fresh.result c.requires.plain fresh.ensures.taken)
+    fresh.result c.requires.plain fresh.ensures.taken))

@@ -8,7 +8,7 @@ use Rattle.jlr_machine.specs.declared.object.Object.TheVariants.{Cleanable}
 use Rattle.jlr_machine.specs.declared.object.CleanState.TheVariants.{Armed}
 use Rattle.jlr_machine.specs.declared.ask.Ask.TheVariants.{Register}
 use Rattle.jlr_machine.specs.declared.ask.Answer.TheVariants.{Refused}
-use Rattle.jlr_machine.specs.declared.entry.Chosen.{Chosen}
+use Rattle.jlr_machine.specs.Chosen.{Chosen}
 use Rattle.jlr_machine.specs.Choices.{Choosing}
 use Rattle.jlr_machine.specs.Lookups.{with_handle}
 use Rattle.jlr_cleaner.specs.Cleanings.{Cleanings}

@@ -1,6 +1,5 @@
-use Rattle.std.proofs.Common.{ℕ, List, None, inl, inr, arith, sym, ap, subst, refl, vec_capacity, ◌∙◌}
+use Rattle.std.proofs.Common.{None, inl, inr, arith, sym, subst, refl, vec_capacity, ◌∙◌}
 use Rattle.jlr_machine.specs.declared.ask.Ask.TheVariants as ask
-use Rattle.jlr_machine.specs.declared.entry.Chosen.{Chosen}
 use Rattle.jlr_event.specs.declared.event.Event.TheVariants.{Ask as Asks}
 use Rattle.jlr_event.specs.declared.event.Reply.TheVariants.{Answered}
 use Rattle.jlr_core.specs.Steps.{IsStep}
@@ -66,12 +65,10 @@ written g c =
     let told = c.finish-answer in
     let event = Asks (ask.Finish c.args.by c.args.action c.args.outcome) in
     let asked = ask.Finish c.args.by c.args.action c.args.outcome in
-    let chosen : Chosen = record { collected = None; fresh = c.new.result } in
-    let none = ap {A = List ℕ} {B = Chosen} (λ l. record { collected = None; fresh = l }) c.new.ensures in
-    let step = subst (λ x. IsStep old.core event (Answered told.result None) x told.new.self) (sym none) told.ensures.step in
+    let step = subst (λ x. IsStep old.core event (Answered told.result None) x told.new.self) (sym c.nothing.ensures) told.ensures.step in
     let entries' = c.push_reserved.new.self.items in
     inl (
-      writes old.core told.new.self event told.result told.result None asked chosen old.trace.items entries' c.args.seat step refl
+      writes old.core told.new.self event told.result told.result None asked c.nothing.result old.trace.items entries' c.args.seat step refl
           c.push_reserved.ensures.items refl,
       λ by e. not_refused told.result by (sym c.is_refused.ensures ∙ c.if-is_refused.false) e,
     )

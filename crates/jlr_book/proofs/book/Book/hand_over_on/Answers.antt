@@ -1,7 +1,6 @@
-use Rattle.std.proofs.Common.{ℕ, List, None, arith, sym, subst, ap, refl}
+use Rattle.std.proofs.Common.{None, arith, sym, subst, refl}
 use Rattle.jlr_machine.specs.declared.ask.Ask.TheVariants as ask
 use Rattle.jlr_machine.specs.declared.ask.Answer.TheVariants.{Handed}
-use Rattle.jlr_machine.specs.declared.entry.Chosen.{Chosen}
 use Rattle.jlr_event.specs.declared.event.Event.TheVariants.{Ask as Asks}
 use Rattle.jlr_event.specs.declared.event.Reply.TheVariants.{Answered}
 use Rattle.jlr_core.specs.Steps.{IsStep}
@@ -23,10 +22,8 @@ written g c =
     let entries' = c.push_reserved.new.self.items in
     let answer = Handed c.hand_over-handed.result in
     let reply = Answered answer None in
-    let chosen : Chosen = record { collected = None; fresh = c.new.result } in
-    let none = ap {A = List ℕ} {B = Chosen} (λ l. record { collected = None; fresh = l }) c.new.ensures in
-    let step = subst (λ x. IsStep core (Asks ask.HandOver) reply x core') (sym none) c.hand_over-handed.ensures.step in
-    writes core core' (Asks ask.HandOver) answer answer None ask.HandOver chosen entries entries' c.args.seat
+    let step = subst (λ x. IsStep core (Asks ask.HandOver) reply x core') (sym c.nothing.ensures) c.hand_over-handed.ensures.step in
+    writes core core' (Asks ask.HandOver) answer answer None ask.HandOver c.nothing.result entries entries' c.args.seat
     step refl c.push_reserved.ensures.items refl
 
 pub invariant_of-self : goal.invariant_of-self

@@ -1,6 +1,5 @@
-use Rattle.std.proofs.Common.{ℕ, List, None, arith, sym, subst, ap, refl}
+use Rattle.std.proofs.Common.{arith, sym, subst, refl}
 use Rattle.jlr_machine.specs.declared.ask.Ask.TheVariants as ask
-use Rattle.jlr_machine.specs.declared.entry.Chosen.{Chosen}
 use Rattle.jlr_event.specs.declared.event.Event.TheVariants.{Ask as Asks}
 use Rattle.jlr_event.specs.declared.event.Reply.TheVariants.{Answered}
 use Rattle.jlr_core.specs.Steps.{IsStep}
@@ -24,10 +23,9 @@ written g c =
     let entries' = c.push_reserved.new.self.items in
     let answer = take_up_answered c.take_up-taken.result in
     let out = handed_out c.take_up-taken.result in
-    let chosen : Chosen = record { collected = None; fresh = c.new.result } in
-    let none = ap {A = List ℕ} {B = Chosen} (λ l. record { collected = None; fresh = l }) c.new.ensures in
-    let step = subst (λ x. IsStep core (Asks ask.TakeUp) (Answered answer out) x core') (sym none) c.take_up-taken.ensures.step in
-    writes core core' (Asks ask.TakeUp) answer c.take_up_answer.result out ask.TakeUp chosen entries entries' c.args.seat
+    let step = subst (λ x. IsStep core (Asks ask.TakeUp) (Answered answer out) x core') (sym c.nothing.ensures)
+    c.take_up-taken.ensures.step in
+    writes core core' (Asks ask.TakeUp) answer c.take_up_answer.result out ask.TakeUp c.nothing.result entries entries' c.args.seat
     step refl c.push_reserved.ensures.items c.take_up_answer.ensures
 
 pub invariant_of-self : goal.invariant_of-self
