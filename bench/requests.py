@@ -1,6 +1,6 @@
 #!/usr/bin/env python3
-"""Requests a second over a Unix socket, one client and four, each waiting for each reply: `refheap serve`, and in turn with it an echo server with the
-same threads and one lock, compiled and run beside it.
+"""Requests a second over a Unix socket, of 1, 4, 16 and 64 clients, each waiting for each reply: `refheap serve`, and in turn with it an echo server
+with a thread a client and one lock, compiled and run beside it.
 
     bench/requests.py PROGRAM
 """
@@ -38,10 +38,10 @@ def main(program):
         tool = os.path.join(folder, "requests")
         subprocess.check_call(["rustc", "-O", "-o", tool, os.path.join(HERE, "requests.rs")])
         path = os.path.join(folder, "socket")
-        for clients in (1, 4):
+        for clients in (1, 4, 16, 64):
             serve, echo = [], []
             for _ in range(ROUNDS):
-                serve.append(rate(tool, [program, "serve", "--socket", path, "--total", "1000", "--sessions", "4"], path, clients))
+                serve.append(rate(tool, [program, "serve", "--socket", path, "--total", "1000", "--sessions", str(max(clients, 4))], path, clients))
                 echo.append(rate(tool, [tool, "echo", path], path, clients))
             ours, theirs = statistics.median(serve), statistics.median(echo)
             print(f"{clients} clients: refheap {ours:,.0f} a second, echo {theirs:,.0f}, {ours / theirs:.2f} of it")

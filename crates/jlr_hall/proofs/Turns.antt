@@ -1,13 +1,17 @@
 -- One ask more of a loop.
-use Rattle.std.proofs.Common.{◌≡◌, ◌≢◌, List, [], ◌∷◌, ◌++◌, Option, Some, None, Result, Ok, Err, refl, sym, inl, inr, subst}
+use Rattle.std.proofs.Common.{◌≡◌, ◌≢◌, ℕ, List, [], ◌∷◌, ◌++◌, Option, Some, None, Result, Ok, Err, refl, sym, inl, inr, subst}
+use Rattle.std.proofs.lemmas.List.{append-nil}
+use Rattle.jlr_types.specs.declared.Refusal.TheVariants.{NoMemory}
 use Rattle.jlr_types.specs.declared.limits.Limits.{Limits}
 use Rattle.jlr_machine.specs.declared.ask.Answer.{Answer}
 use Rattle.jlr_cleaner.specs.declared.job.Job.{Job}
 use Rattle.jlr_device.specs.Handling.{Handling}
 use Rattle.jlr_event.specs.declared.event.Event.{Event}
-use Rattle.jlr_machine.specs.declared.ask.Ask.TheVariants.{TakeUp}
+use Rattle.jlr_machine.specs.declared.ask.Answer.TheVariants.{Refused}
+use Rattle.jlr_machine.specs.declared.ask.Ask.TheVariants.{Remove, TakeUp}
 use Rattle.jlr_event.specs.declared.event.Event.TheVariants.{Ask as Asks}
 use Rattle.jlr_event.specs.declared.event.Reply.{Reply}
+use Rattle.jlr_event.specs.declared.event.Reply.TheVariants.{Answered}
 use Rattle.jlr_session.specs.Asks.{TellsFinished, job_by}
 use Rattle.jlr_log.specs.Seeing.{Seen}
 use Rattle.jlr_hall.specs.declared.step.Step.{Step}
@@ -58,6 +62,20 @@ module _ {R : Type 0} (limits : Limits) where
   pub same_seat : (old new : Seen (Step R)) (e : Event R) (reply : Reply R) → Asked limits old e reply new → new.seat ≡ old.seat
   same_seat old new e reply (inl x) = x.seat
   same_seat old new e reply (inr x) = x.seat
+
+  -- a seat declines a `Remove` by itself
+  pub declines_remove : (p : Seen (Step R)) (mutator queue : ℕ)
+      → Asked limits p (Asks (Remove mutator queue)) (Answered (Refused NoMemory) None) p
+  declines_remove p mutator queue = inr (record {
+    seat = refl;
+    between = [];
+    others = refl;
+    known = sym (append-nil _);
+    ends_nothing = refl;
+    by = NoMemory;
+    why = inl refl;
+    refused = refl;
+  })
 
   -- ---- The marker and the handler
 

@@ -20,6 +20,7 @@ use crate::dues::Dues;
 use crate::effect::{Effect, says_queued};
 use crate::seat::Seat;
 use crate::step::{Limited, Step};
+use crate::vigil::{NoVigil, Vigil};
 use jlr_book::book::Book;
 use jlr_book::event::decline;
 use jlr_event::event::{Event, Reply};
@@ -331,24 +332,15 @@ impl<R: Drop, L: Naming + Limited> Hall<R, L> {
         }
     }
 
-    /// Takes the lock once a `Remove` of a seat need not wait, or its client is gone, or the hall is to end. None where
-    /// the client is gone.
-    fn enter<T: Wait>(
-        &self,
-        rt: &T,
-        seat: u8,
-        removal: Removal,
-    ) -> Option<MutexGuard<'_, Locked<R, L>>> {
+    /// Takes the lock once a `Remove` of a seat need not wait, or its client is gone, or the hall is to end.
+    fn enter<T: Wait>(&self, rt: &T, seat: u8, removal: Removal) -> MutexGuard<'_, Locked<R, L>> {
         let mut locked = self.locked.lock(rt);
         if let Some(bell) = self.removers.get(usize::from(seat)) {
             locked.chairs.waits(seat, Some(removal));
             locked = bell.wait_while(rt, locked, |l| l.is_waiting(seat, removal));
             locked.chairs.waits(seat, None);
         }
-        if locked.chairs.is_gone(seat) {
-            return None;
-        }
-        Some(locked)
+        locked
     }
 }
 
@@ -379,24 +371,50 @@ impl<R: Drop, L: Naming + Limited> Seat<R, L> {
         ensures { Asked L.limits self.old (Asks (Remove self.old.seat queue)) result self.new }
     {
         let mutator = Mutator::new(self.index());
-        self.remove(rt, hall, Removal { mutator, queue })
+        self.remove(rt, hall, &NoVigil, Removal { mutator, queue })
     }
 
-    /// The same of any mutator.
-    pub(crate) fn remove<T: Wait>(
+    /// The same of any mutator, whose client is looked after where it waits. It is declined where nobody can.
+    pub(crate) fn remove<T: Wait, V: Vigil>(
         &mut self,
         rt: &T,
         hall: &Hall<R, L>,
+        vigil: &V,
         removal: Removal,
     ) -> Reply<R>
         ensures asked { Asked L.limits self.old (Asks (Remove removal.mutator removal.queue)) result self.new }
         ensures out { HasItsResource result }
     {
         let Removal { mutator, queue } = removal;
-        match hall.enter(rt, self.index, removal) {
-            Some(locked) => self.ask_plain_under(hall, locked, Ask::Remove { mutator, queue }),
-            None => decline(Refusal::NoMemory),
+        let locked = hall.locked.lock(rt);
+        if !locked.is_waiting(self.index, removal) {
+            return self.remove_under(hall, locked, mutator, queue);
         }
+        drop(locked);
+        if !vigil.begin() {
+            return decline(Refusal::NoMemory);
+        }
+        let locked = hall.enter(rt, self.index, Removal { mutator, queue });
+        let reply = self.remove_under(hall, locked, mutator, queue);
+        vigil.end();
+        reply
+    }
+
+    /// A `Remove` under the lock, which is let go. It is declined where the client at the seat is gone.
+    fn remove_under(
+        &mut self,
+        hall: &Hall<R, L>,
+        locked: MutexGuard<'_, Locked<R, L>>,
+        mutator: Mutator,
+        queue: Handle,
+    ) -> Reply<R>
+        ensures asked { Asked L.limits self.old (Asks (Remove mutator queue)) result self.new }
+        ensures out { HasItsResource result }
+    {
+        if locked.chairs.is_gone(self.index) {
+            return decline(Refusal::NoMemory);
+        }
+        self.ask_plain_under(hall, locked, Ask::Remove { mutator, queue })
     }
 
     /// One ask that hands in no resource. A job comes with its resource.

@@ -20,6 +20,7 @@ pub mod loops;
 pub mod port;
 pub mod seat;
 pub mod step;
+pub mod vigil;
 
 pub use jlr_book::book::Book;
 pub use jlr_log as history;

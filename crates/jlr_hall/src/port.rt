@@ -12,6 +12,7 @@ use crate::chairs::Removal;
 use crate::hall::Hall;
 use crate::seat::Seat;
 use crate::step::Limited;
+use crate::vigil::Vigil;
 use jlr_event::event::{Event, Reply};
 use jlr_log::Naming;
 use jlr_machine::ask::Ask;
@@ -21,15 +22,16 @@ use jlr_types::{Handle, Mutator, Refusal};
 use std::marker::Model;
 use std::sync::Wait;
 
-/// A seat with its hall. Contracts see the seat.
+/// A seat with its hall, and who looks after its client. Contracts see the seat.
 #[derive(Drop)]
-pub struct SeatPort<'a, R, L: Naming + Limited, T> {
+pub struct SeatPort<'a, R, L: Naming + Limited, T, V> {
     rt: &'a T,
     hall: &'a Hall<R, L>,
+    vigil: V,
     seat: Seat<R, L>,
 }
 
-impl<'a, R, L: Naming + Limited, T> Model for SeatPort<'a, R, L, T> {
+impl<'a, R, L: Naming + Limited, T, V> Model for SeatPort<'a, R, L, T, V> {
     ghost use Rattle.jlr_log.specs.Seeing.{Seen};
     ghost use Rattle.jlr_hall.specs.declared.step.Step.{Step};
 
@@ -38,12 +40,17 @@ impl<'a, R, L: Naming + Limited, T> Model for SeatPort<'a, R, L, T> {
     ghost view = { λ p. p.seat };
 }
 
-impl<'a, R, L: Naming + Limited, T> SeatPort<'a, R, L, T> {
-    /// A seat at its hall.
-    pub fn new(rt: &'a T, hall: &'a Hall<R, L>, seat: Seat<R, L>) -> Self
+impl<'a, R, L: Naming + Limited, T, V: Drop> SeatPort<'a, R, L, T, V> {
+    /// A seat at its hall, whose client is looked after while a `Remove` of it waits.
+    pub fn new(rt: &'a T, hall: &'a Hall<R, L>, vigil: V, seat: Seat<R, L>) -> Self
         ensures { result ≡ seat }
     {
-        SeatPort { rt, hall, seat }
+        SeatPort {
+            rt,
+            hall,
+            vigil,
+            seat,
+        }
     }
 
     /// The seat, as it was left.
@@ -55,13 +62,13 @@ impl<'a, R, L: Naming + Limited, T> SeatPort<'a, R, L, T> {
     }
 }
 
-impl<'a, R: Drop, L: Naming + Limited, T: Wait> SeatPort<'a, R, L, T> {
-    /// A `Remove`, which waits.
+impl<'a, R: Drop, L: Naming + Limited, T: Wait, V: Vigil> SeatPort<'a, R, L, T, V> {
+    /// A `Remove`, which waits. It is declined where nobody can look after the client meanwhile.
     fn remove(&mut self, removal: Removal) -> Reply<R>
         ensures asked { Asked L.limits self.old (Asks (Remove removal.mutator removal.queue)) result self.new }
         ensures named { self.new.seat ≡ self.old.seat }
     {
-        self.seat.remove(self.rt, self.hall, removal)
+        self.seat.remove(self.rt, self.hall, &self.vigil, removal)
     }
 
     /// Any other event.
@@ -74,7 +81,7 @@ impl<'a, R: Drop, L: Naming + Limited, T: Wait> SeatPort<'a, R, L, T> {
     }
 }
 
-impl<'a, R: Drop, L: Naming + Limited, T: Wait> Port<R> for SeatPort<'a, R, L, T> {
+impl<'a, R: Drop, L: Naming + Limited, T: Wait, V: Vigil> Port<R> for SeatPort<'a, R, L, T, V> {
     ghost use Rattle.jlr_machine.specs.declared.ask.Answer.TheVariants.{Refused};
     ghost use Rattle.jlr_machine.specs.Data.{Brings};
     ghost use Rattle.jlr_event.specs.Events.{ask_of};

@@ -52,12 +52,14 @@ module _ {R : Type 0} where
 module _ {D R : Type 0} (limits : Limits) (device : Opening D R) (handling : Handling R) where
   module _ {A I O : Type 0} (giving : Giving A I O) (remaining : I → Option (List ℕ))
       (contents : O → Option (List ℕ)) where
-    -- A session at a seat, with the client that an acceptor gave at this accept: what it sent is carried out by asks of
-    -- the seat, each a step of the one history, with the files and sockets of a device, and it gets the replies.
+    -- A session at a seat, with the client that an acceptor gave at this accept, and takes back as the session left it:
+    -- what it sent is carried out by asks of the seat, each a step of the one history, with the files and sockets of a
+    -- device, and it gets the replies.
     abbrev pub IsSession : AcceptId → Seen (Step R) → Seen (Step R) → Type 0
     IsSession id old new =
         (acceptor : A) × (input : I) × (output : O) × giving.gives acceptor id input output
-        × (input' : I) × (output' : O) × (bytes : List ℕ) × (out : List ℕ)
+        × (input' : I) × (output' : O) × giving.takes acceptor id input' output'
+        × (bytes : List ℕ) × (out : List ℕ)
         × Consumes (remaining input) (remaining input') bytes × Appends (contents output) (contents output') out
         × (length bytes ≤ most_bytes)
         × (before : D) × (after : D) × (end : SessionEnd)

@@ -38,14 +38,14 @@ pub struct SocketPlace<'a> {
     pub mode: Option<u32>,
 }
 
-/// The connection of a client that is watched.
+/// The connection of a client.
 #[derive(Drop)]
 struct Line {
     client: u32,
     stream: UnixStream,
 }
 
-/// The connections of the clients that are watched, and whether they were closed.
+/// The connections of the clients that are there, and whether they were closed.
 #[derive(Drop)]
 struct Lines {
     closing: Option<Closing>,
@@ -53,6 +53,17 @@ struct Lines {
 }
 
 impl Lines {
+    /// Whether a client could come.
+    fn come(&mut self, line: Line) -> bool {
+        self.closing.is_none() && self.open.push(line).is_ok()
+    }
+
+    /// The descriptor of a client's connection.
+    fn descriptor(&self, client: u32) -> Option<RawFd> {
+        let line = self.open.iter().find(|line| line.client == client)?;
+        Some(line.stream.as_raw_fd())
+    }
+
     fn close(&mut self, closing: Closing) {
         self.closing = Some(closing);
         for line in &self.open {
@@ -63,8 +74,7 @@ impl Lines {
         }
     }
 
-    /// A client leaves. Its connection is shut, so that it ends for the client at once: the system closes it late where
-    /// the watcher looks at it meanwhile.
+    /// A client leaves. Its connection is shut, so that it ends for the client at once, whoever has it open still.
     fn leave(&mut self, client: u32) {
         for line in &self.open {
             if line.client == client {
@@ -176,50 +186,54 @@ impl Acceptor for Listener {
 
     type Out = UnixStream;
 
-    fn accept(&self, _id: AcceptId) -> Result<(UnixStream, UnixStream), Fault> {
-        let Ok((stream, _)) = self.listener.accept() else {
-            return Err(Fault::Other);
-        };
-        match stream.try_clone() {
-            Ok(replies) => Ok((stream, replies)),
-            Err(_) => Err(Fault::Other),
-        }
-    }
-
-    fn watch<T: Wait>(
+    fn accept<T: Wait>(
         &self,
         rt: &T,
         _id: AcceptId,
         client: u32,
-        input: &UnixStream,
-    ) -> Result<(), Fault> {
-        let Ok(stream) = input.try_clone() else {
+    ) -> Result<(UnixStream, UnixStream), Fault> {
+        let Ok((input, _)) = self.listener.accept() else {
             return Err(Fault::Other);
         };
-        let mut lines = self.lines.lock(rt);
-        let lines = &mut *lines;
-        if lines.closing.is_some() || lines.open.push(Line { client, stream }).is_err() {
+        let (Ok(output), Ok(stream)) = (input.try_clone(), input.try_clone()) else {
             return Err(Fault::Other);
+        };
+        if self.lines.lock(rt).come(Line { client, stream }) {
+            return Ok((input, output));
         }
-        let token = Token(CLIENTS + client as usize);
-        let watched = self.registry.register(
-            &mut SourceFd(&input.as_raw_fd()),
-            token,
-            Interest::PRIORITY,
-        );
-        if watched.is_err() {
-            lines.leave(client);
-            return Err(Fault::Other);
-        }
-        Ok(())
+        Err(Fault::Other)
     }
 
     fn descriptor(&self, input: &UnixStream) -> Option<RawFd> {
         Some(input.as_raw_fd())
     }
 
-    fn leave<T: Wait>(&self, rt: &T, client: u32) {
+    fn watch<T: Wait>(&self, rt: &T, client: u32) -> bool {
+        let Some(descriptor) = self.lines.lock(rt).descriptor(client) else {
+            return false;
+        };
+        let token = Token(CLIENTS + client as usize);
+        self.registry
+            .register(&mut SourceFd(&descriptor), token, Interest::PRIORITY)
+            .is_ok()
+    }
+
+    fn unwatch<T: Wait>(&self, rt: &T, client: u32) {
+        if let Some(descriptor) = self.lines.lock(rt).descriptor(client) {
+            let _ = self.registry.deregister(&mut SourceFd(&descriptor));
+        }
+    }
+
+    fn leave<T: Wait>(
+        &self,
+        rt: &T,
+        _id: AcceptId,
+        client: u32,
+        input: UnixStream,
+        output: UnixStream,
+    ) {
         self.lines.lock(rt).leave(client);
+        drop((input, output));
     }
 
     fn close<T: Wait, W: Watcher>(&self, rt: &T, _watcher: &W, closing: Closing) {

@@ -131,23 +131,10 @@ where
         let Some(client) = accepts.take(rt) else {
             break;
         };
-        let id = work.next_accept();
-        match acceptor.accept(id) {
-            Ok((mut input, mut output)) => {
+        match acceptor.accept(rt, work.next_accept(), client) {
+            Ok(came) => {
                 hall.sit(rt, work.index(), client);
-                match acceptor.watch(rt, id, client, &input) {
-                    Ok(()) => {
-                        device.attend(acceptor.descriptor(&input));
-                        work = work.serve(rt, hall, &mut input, &mut output, &mut device);
-                        device.attend(None);
-                        acceptor.leave(rt, client);
-                    }
-                    Err(_) => {
-                        if accepts.counts(rt) {
-                            work = work.miss();
-                        }
-                    }
-                }
+                work = work.serve(rt, hall, acceptor, client, came, &mut device);
             }
             Err(_) => {
                 if accepts.counts(rt) {

@@ -9,7 +9,7 @@ ghost use Rattle.jlr_log.specs.Seeing.{seen};
 ghost use Rattle.jlr_hall.specs.Ports.{by_seat};
 ghost use Rattle.jlr_server.specs.Serving.{IsWork, accepts_of, next_of};
 
-use crate::acceptor::{AcceptId, Acceptor};
+use crate::acceptor::{AcceptId, Acceptor, ClientVigil};
 use jlr_device::{Device, Resource};
 use jlr_hall::hall::Hall;
 use jlr_hall::history::Naming;
@@ -17,6 +17,7 @@ use jlr_hall::loops::{cleaner_loop, handler_loop, marker_loop};
 use jlr_hall::port::SeatPort;
 use jlr_hall::seat::Seat;
 use jlr_hall::step::Limited;
+use jlr_hall::vigil::Vigil;
 use jlr_session::serve::serve;
 use std::io::{Read, Write};
 use std::marker::{Model, PhantomData};
@@ -24,9 +25,10 @@ use std::sync::Wait;
 
 /// A session over a seat: the client's lines are carried out in the name of the seat's mutator, each ask a step of the
 /// one history. The device opens the client's files and sockets.
-fn serve_seat<I: Read, O: Write, D: Device, L: Naming + Limited, T: Wait>(
+fn serve_seat<I: Read, O: Write, D: Device, L: Naming + Limited, T: Wait, V: Vigil + Drop>(
     rt: &T,
     hall: &Hall<D::Res, L>,
+    vigil: V,
     seat: Seat<D::Res, L>,
     input: &mut I,
     output: &mut O,
@@ -47,7 +49,7 @@ where
         D.Res.handling
         (FindsEnd (I.remaining input.new) bytes) end bytes seat device.old out result device.new }
 {
-    let mut port = SeatPort::new(rt, hall, seat);
+    let mut port = SeatPort::new(rt, hall, vigil, seat);
     let _end = serve(input, output, &mut port, device);
     port.into_seat()
 }
@@ -106,26 +108,31 @@ where
         }
     }
 
-    /// A session more, with the client that came. A seat at which 2^32 - 1 were served serves none.
+    /// A session more, with the client that came, for whom the device is used meanwhile, and who then leaves. A seat at
+    /// which 2^32 - 1 were served serves none.
     pub(crate) fn serve<T: Wait>(
         self,
         rt: &T,
         hall: &Hall<D::Res, L>,
-        input: &mut A::In,
-        output: &mut A::Out,
+        acceptor: &A,
+        client: u32,
+        came: (A::In, A::Out),
         device: &mut D,
     ) -> Self
         requires seat { self.seat.seat < L.limits.sessions }
-        requires came { (acceptor : A) × A.giving.gives acceptor (next_of self) input.old output.old }
+        requires came { A.giving.gives acceptor.now (next_of self) came.0 came.1 }
         ensures { result.seat.seat ≡ self.seat.seat }
     {
+        let id = self.next_accept();
         let Worked {
             seat,
             sessions,
             missed,
             of,
         } = self;
+        let (mut input, mut output) = came;
         if sessions == u32::MAX {
+            acceptor.leave(rt, id, client, input, output);
             return Worked {
                 seat,
                 sessions,
@@ -133,7 +140,15 @@ where
                 of,
             };
         }
-        let seat = serve_seat(rt, hall, seat, input, output, device);
+        let vigil = ClientVigil {
+            rt,
+            acceptor,
+            client,
+        };
+        device.attend(acceptor.descriptor(&input));
+        let seat = serve_seat(rt, hall, vigil, seat, &mut input, &mut output, device);
+        device.attend(None);
+        acceptor.leave(rt, id, client, input, output);
         Worked {
             seat,
             sessions: sessions + 1,

@@ -9,6 +9,7 @@ use jlr_hall::history::{Blank, Naming};
 use jlr_hall::port::SeatPort;
 use jlr_hall::seat::Seat;
 use jlr_hall::step::{Limited, Step};
+use jlr_hall::vigil::NoVigil;
 use jlr_machine::ask::Ask;
 use jlr_session::port::Port;
 use jlr_types::Limits;
@@ -115,7 +116,7 @@ fn ask<L: Naming + Limited, T: Wait>(
     seat: Seat<u32, L>,
     times: usize,
 ) -> Seat<u32, L> {
-    let mut port = SeatPort::new(rt, hall, seat);
+    let mut port = SeatPort::new(rt, hall, NoVigil, seat);
     let mutator = port.mutator();
     if times > 0 {
         drop(port.ask(Event::ask(Ask::Join { mutator }), None));

@@ -16,6 +16,7 @@ use jlr_hall::history::{Blank, Naming};
 use jlr_hall::port::SeatPort;
 use jlr_hall::seat::Seat;
 use jlr_hall::step::{Limited, Step};
+use jlr_hall::vigil::NoVigil;
 use jlr_machine::data::CopyRoom;
 use jlr_session::port::Port;
 use jlr_types::Limits;
@@ -132,7 +133,7 @@ fn in_turns<L: Naming + Limited, T: Wait>(
 ) -> (Option<usize>, Vec<Seat<u32, L>>) {
     let mut ports = Vec::new(alloc);
     for seat in seats {
-        drop(ports.push(SeatPort::new(threads, hall, seat)));
+        drop(ports.push(SeatPort::new(threads, hall, NoVigil, seat)));
     }
     let wrong = first_wrong(alloc, &mut ports, rows);
     let mut back = Vec::new(alloc);
@@ -144,7 +145,7 @@ fn in_turns<L: Naming + Limited, T: Wait>(
 
 fn first_wrong<L: Naming + Limited, T: Wait>(
     alloc: Global,
-    ports: &mut Vec<SeatPort<'_, u32, L, T>>,
+    ports: &mut Vec<SeatPort<'_, u32, L, T, NoVigil>>,
     rows: &str,
 ) -> Option<usize> {
     for (number, row) in rows.lines().enumerate() {
@@ -163,7 +164,7 @@ fn is_row(line: &str) -> bool {
 
 fn are_answered<L: Naming + Limited, T: Wait>(
     alloc: Global,
-    ports: &mut Vec<SeatPort<'_, u32, L, T>>,
+    ports: &mut Vec<SeatPort<'_, u32, L, T, NoVigil>>,
     row: &str,
 ) -> bool {
     let (asked, wanted) = row.split_once(ARROW).unwrap_or((row, ""));
@@ -182,7 +183,7 @@ fn are_answered<L: Naming + Limited, T: Wait>(
 
 fn is_answered<L: Naming + Limited, T: Wait>(
     alloc: Global,
-    port: &mut SeatPort<'_, u32, L, T>,
+    port: &mut SeatPort<'_, u32, L, T, NoVigil>,
     ask: &str,
     wanted: &str,
 ) -> bool {
@@ -199,7 +200,7 @@ fn is_answered<L: Naming + Limited, T: Wait>(
 }
 
 fn is_told<L: Naming + Limited, T: Wait>(
-    port: &mut SeatPort<'_, u32, L, T>,
+    port: &mut SeatPort<'_, u32, L, T, NoVigil>,
     event: Event<u32>,
     room: CopyRoom,
     wanted: &str,

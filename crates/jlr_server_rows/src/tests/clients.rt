@@ -4,6 +4,7 @@ use jlr_server::acceptor::{AcceptId, Acceptor};
 use jlr_types::Fault;
 use std::alloc::Global;
 use std::io::{self, ErrorKind, Read, Write};
+use std::sync::Wait;
 use std::sync::atomic::{AtomicU64, Ordering};
 use std::thread;
 use std::time::Duration;
@@ -313,7 +314,12 @@ impl<'a> Acceptor for &Clients<'a> {
 
     type Out = Replies<'a>;
 
-    fn accept(&self, _id: AcceptId) -> Result<(Lines<'a>, Replies<'a>), Fault> {
+    fn accept<T: Wait>(
+        &self,
+        _rt: &T,
+        _id: AcceptId,
+        _client: u32,
+    ) -> Result<(Lines<'a>, Replies<'a>), Fault> {
         let number = self.come.fetch_add(1, Ordering::SeqCst);
         if number > 0 && !self.wait() {
             return Err(Fault::Other);
@@ -322,6 +328,17 @@ impl<'a> Acceptor for &Clients<'a> {
             Some(client) => Ok(client.ends(self.rt.alloc())),
             None => Err(Fault::Other),
         }
+    }
+
+    fn leave<T: Wait>(
+        &self,
+        _rt: &T,
+        _id: AcceptId,
+        _client: u32,
+        input: Lines<'a>,
+        output: Replies<'a>,
+    ) {
+        drop((input, output));
     }
 }
 

@@ -14,6 +14,7 @@ use jlr_server::hall::history::{Blank, Naming};
 use jlr_server::hall::port::SeatPort;
 use jlr_server::hall::seat::Seat;
 use jlr_server::hall::step::{Limited, Step};
+use jlr_server::hall::vigil::NoVigil;
 use jlr_session::port::Port;
 use jlr_session::serve::serve;
 use jlr_types::{Handle, Limits, Refusal};
@@ -35,8 +36,8 @@ fn session<G: Gate + Acceptor + Copy + Drop, L: Naming + Limited, T: Wait>(
         seat: seat.index(),
         number: 0,
     };
-    let mut port = SeatPort::new(threads, hall, seat);
-    if let Ok((mut lines, mut replies)) = clients.accept(id) {
+    let mut port = SeatPort::new(threads, hall, NoVigil, seat);
+    if let Ok((mut lines, mut replies)) = clients.accept(threads, id, 0) {
         let _ = serve(
             &mut lines,
             &mut replies,
@@ -151,7 +152,7 @@ fn is_told<L: Naming + Limited, T: Wait>(
     hall: &Hall<u32, L>,
     seat: Seat<u32, L>,
 ) -> bool {
-    let mut port = SeatPort::new(threads, hall, seat);
+    let mut port = SeatPort::new(threads, hall, NoVigil, seat);
     let mutator = port.mutator();
     drop(port.ask(Event::ask(Ask::Join { mutator }), None));
     drop(port.ask(Event::ask(Ask::MakeQueue { mutator }), None));

@@ -22,22 +22,24 @@ invariant_of-result-2 g c =
     let v = c.serve_seat-seat.ensures in
     let remaining = g.A.In.Read.remaining c.serve_seat-seat.new.input in
     let given = rw (← c.self.view_is) at c.requires.came in
-    let stays : q.seat ≡ p.seat = session_stays g.L.Limited.limits device resource (FindsEnd remaining v.1) v.0 v.1 p c.args.device.now v.2
+    let id = rw (← c.self.view_is) at c.next_accept-id.ensures in
+    let stays : q.seat ≡ p.seat = session_stays g.L.Limited.limits device resource (FindsEnd remaining v.1) v.0 v.1 p c.attend.new.self v.2
     q c.serve_seat-seat.new.device v.6 in
     one_session g.L.Limited.limits device resource g.A.Acceptor.giving g.A.In.Read.remaining g.A.Out.Write.contents p q
     c.self.inside.sessions c.self.inside.missed (rw (← c.self.view_is) at c.requires.seat) stays c.self.invariant (
-      given.0,
-      c.args.input.now,
-      c.args.output.now,
-      given.1,
+      c.args.acceptor.now,
+      c.args.came.0,
+      c.args.came.1,
+      given,
       c.serve_seat-seat.new.input,
       c.serve_seat-seat.new.output,
+      rw id at c.leave-2.ensures.takes,
       v.1,
       v.2,
       v.3,
       v.4,
       v.5,
-      c.args.device.now,
+      c.attend.new.self,
       c.serve_seat-seat.new.device,
       v.0,
       v.6,
@@ -55,6 +57,6 @@ returns g c =
     } in
     let v = c.serve_seat-seat.ensures in
     let remaining = g.A.In.Read.remaining c.serve_seat-seat.new.input in
-    session_stays g.L.Limited.limits device g.D.Res.Resource.handling (FindsEnd remaining v.1) v.0 v.1 c.self.inside.seat c.args.device.now
+    session_stays g.L.Limited.limits device g.D.Res.Resource.handling (FindsEnd remaining v.1) v.0 v.1 c.self.inside.seat c.attend.new.self
     v.2 c.serve_seat-seat.result c.serve_seat-seat.new.device v.6
     ∙ ap (λ (w : Work g.row.D-Res.Denot). w.seat.seat) c.self.view_is
