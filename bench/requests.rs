@@ -9,8 +9,7 @@ use std::thread;
 use std::time::Instant;
 
 struct Records {
-    entries: Vec<[u8; 168]>,
-    notes: Vec<[u8; 112]>,
+    entries: Vec<[u8; 112]>,
 }
 
 fn serve(mut stream: UnixStream, records: Arc<Mutex<Records>>) {
@@ -23,10 +22,8 @@ fn serve(mut stream: UnixStream, records: Arc<Mutex<Records>>) {
             let mut records = records.lock().unwrap();
             if records.entries.len() >= 10_000 {
                 records.entries.clear();
-                records.notes.clear();
             }
-            records.entries.push([bytes[0]; 168]);
-            records.notes.push([bytes[1]; 112]);
+            records.entries.push([bytes[0]; 112]);
         }
         if stream.write_all(&bytes[..count]).is_err() {
             return;
@@ -37,7 +34,6 @@ fn serve(mut stream: UnixStream, records: Arc<Mutex<Records>>) {
 fn echo(path: &str) {
     let records = Arc::new(Mutex::new(Records {
         entries: Vec::with_capacity(10_240),
-        notes: Vec::with_capacity(10_240),
     }));
     for stream in UnixListener::bind(path).unwrap().incoming() {
         let records = records.clone();
