@@ -22,6 +22,8 @@ MIXES = 30
 TURNS = 1_000
 OBJECTS, COLLECTIONS = 16_000, 20
 FEW, MANY = 256, 2_048
+# Where a copy by one instruction would begin, each byte of which callgrind counts.
+NEVER = 1 << 30
 LONG = ["--cells", "16384", "--trace", "1000000"]
 # A queue, an object whose first field refers to itself, and a weak reference to it, with the handles 1, 2 and 3.
 STAGE = ["queue", "new rri", "put 2 0 2", "weak 2 1"]
@@ -47,7 +49,9 @@ def counted(program, options, lines):
     with tempfile.TemporaryDirectory() as room:
         out = os.path.join(room, "counts")
         command = ["valgrind", "--tool=callgrind", f"--callgrind-out-file={out}", program, "run", *options]
-        subprocess.run(command, input=text_of(lines + ["bye"]), stdout=subprocess.DEVNULL, stderr=subprocess.DEVNULL, check=True)
+        environment = {**os.environ, "GLIBC_TUNABLES": f"glibc.cpu.x86_rep_movsb_threshold={NEVER}"}
+        text = text_of(lines + ["bye"])
+        subprocess.run(command, input=text, env=environment, stdout=subprocess.DEVNULL, stderr=subprocess.DEVNULL, check=True)
         with open(out, encoding="utf-8", errors="replace") as file:
             return by_function(file)
 

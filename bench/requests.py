@@ -1,6 +1,6 @@
 #!/usr/bin/env python3
 """Requests a second over a Unix socket, of 1, 4, 16 and 64 clients, each waiting for each reply: `refheap serve`, and in turn with it an echo server
-with a thread a client and one lock, compiled and run beside it.
+with one lock, compiled and run beside it: with as many workers, and with a new thread for each client.
 
     bench/requests.py PROGRAM
 """
@@ -39,12 +39,17 @@ def main(program):
         subprocess.check_call(["rustc", "-O", "-o", tool, os.path.join(HERE, "requests.rs")])
         path = os.path.join(folder, "socket")
         for clients in (1, 4, 16, 64):
-            serve, echo = [], []
+            served = [program, "serve", "--socket", path, "--total", "1000", "--sessions", str(clients)]
+            sides = {"refheap": served, "workers": [tool, "echo", path, str(clients)], "threads": [tool, "echo", path, "0"]}
+            rates = {side: [] for side in sides}
             for _ in range(ROUNDS):
-                serve.append(rate(tool, [program, "serve", "--socket", path, "--total", "1000", "--sessions", str(max(clients, 4))], path, clients))
-                echo.append(rate(tool, [tool, "echo", path], path, clients))
-            ours, theirs = statistics.median(serve), statistics.median(echo)
-            print(f"{clients} clients: refheap {ours:,.0f} a second, echo {theirs:,.0f}, {ours / theirs:.2f} of it")
+                for side, words in sides.items():
+                    rates[side].append(rate(tool, words, path, clients))
+            ours, workers, threads = (statistics.median(rates[side]) for side in sides)
+            print(
+                f"{clients} clients: refheap {ours:,.0f} a second, echo with workers {workers:,.0f}, {ours / workers:.2f} of it, "
+                f"with threads {threads:,.0f}, {ours / threads:.2f} of it"
+            )
 
 
 if __name__ == "__main__":

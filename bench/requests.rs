@@ -1,6 +1,6 @@
-// What `requests.py` compiles: a server that echoes lines, with a thread a client and one lock round a list of records as large as those of refheap; and
-// the clients that ask a server, each waiting for each reply.
-//   requests echo PATH           serves until it is killed
+// What `requests.py` compiles: a server that echoes lines, with one lock round a list of records as large as those of refheap, and workers that accept
+// clients as its do, or with a new thread for each client; and the clients that ask a server, each waiting for each reply.
+//   requests echo PATH WORKERS   serves until it is killed; with 0 workers each client gets a thread of its own
 //   requests ask PATH CLIENTS N  prints the seconds that CLIENTS clients took for N requests each
 use std::io::{Read, Write};
 use std::os::unix::net::{UnixListener, UnixStream};
@@ -31,14 +31,26 @@ fn serve(mut stream: UnixStream, records: Arc<Mutex<Records>>) {
     }
 }
 
-fn echo(path: &str) {
+fn echo(path: &str, workers: usize) {
     let records = Arc::new(Mutex::new(Records {
         entries: Vec::with_capacity(10_240),
     }));
-    for stream in UnixListener::bind(path).unwrap().incoming() {
-        let records = records.clone();
-        thread::spawn(move || serve(stream.unwrap(), records));
-    }
+    let listener = UnixListener::bind(path).unwrap();
+    thread::scope(|scope| {
+        for _ in 0..workers {
+            scope.spawn(|| {
+                for stream in listener.incoming() {
+                    serve(stream.unwrap(), records.clone());
+                }
+            });
+        }
+        if workers == 0 {
+            for stream in listener.incoming() {
+                let records = records.clone();
+                thread::spawn(move || serve(stream.unwrap(), records));
+            }
+        }
+    });
 }
 
 fn client(path: &str, requests: usize) {
@@ -67,7 +79,7 @@ fn ask(path: &str, clients: usize, requests: usize) {
 fn main() {
     let words: Vec<String> = std::env::args().collect();
     match words[1].as_str() {
-        "echo" => echo(&words[2]),
+        "echo" => echo(&words[2], words[3].parse().unwrap()),
         _ => ask(&words[2], words[3].parse().unwrap(), words[4].parse().unwrap()),
     }
 }
