@@ -6,7 +6,7 @@ ghost use Rattle.jlr_machine.specs.WellFormed.{IsImage};
 
 use crate::verdict::{Verdict, legal_front};
 use crate::watch::{Unwatched, Watch};
-use jlr_copies::copy_machine;
+use jlr_machine::copies::copy_machine;
 use jlr_machine::entry::Entry;
 use jlr_machine::machine::Machine;
 use jlr_plain_images::image::image_plain;

@@ -9,7 +9,7 @@ ghost use Rattle.jlr_image.specs.Keeping.{kept_from};
 
 use crate::cells::add_cells;
 use crate::following::{follow_all, follow_at, make_array, work_of};
-use jlr_copies::copy_machine;
+use jlr_machine::copies::copy_machine;
 use jlr_machine::entry::Entry;
 use jlr_machine::items::Items;
 use jlr_machine::machine::Machine;

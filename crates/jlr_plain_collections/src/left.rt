@@ -8,7 +8,7 @@ ghost use Rattle.jlr_machine.specs.declared.object.Object.TheVariants.{Cleanable
 
 use crate::edges::push_all;
 use crate::listed::SlotList;
-use jlr_copies::copy_machine;
+use jlr_machine::copies::copy_machine;
 use jlr_machine::copy::copy_slice;
 use jlr_machine::entry::{Chosen, Collected};
 use jlr_machine::items::Items;

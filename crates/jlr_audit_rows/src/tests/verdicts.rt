@@ -5,7 +5,7 @@ ghost use Rattle.jlr_trace.specs.Files.{HasSpelling};
 use super::player::{Telling, play_rows};
 use jlr_audit::audit::audit;
 use jlr_audit::verdict::Verdict;
-use jlr_copies::{copy_entries, copy_machine};
+use jlr_machine::copies::{copy_entries, copy_machine};
 use jlr_machine::items::Items;
 use jlr_trace::file::{TraceFault, TraceFile, read_trace};
 use jlr_trace::writing::write_trace;

@@ -1,5 +1,5 @@
 use Rattle.std.proofs.Common.{◌≡◌, take}
-use Rattle.jlr_copies.proofs.entry.copy_entries.Given as goal
+use Rattle.jlr_machine.proofs.copies.entry.copy_entries.Given as goal
 
 -- the entries so far
 abbrev pub invariant-loop-entry : goal.invariant-loop-entry

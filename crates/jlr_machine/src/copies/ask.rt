@@ -1,7 +1,7 @@
 //! Copies of asks.
 ghost use Rattle.std.specs.Prelude.{◌≡◌, IfOk};
 
-use jlr_machine::ask::Ask;
+use crate::ask::Ask;
 use std::alloc::{AllocError, Global};
 
 /// The same ask.

@@ -1,11 +1,11 @@
 //! Copies of machines.
 ghost use Rattle.std.specs.Prelude.{◌≡◌, [], IfOk};
 
-use jlr_machine::copy::copy_items;
-use jlr_machine::items::Items;
-use jlr_machine::machine::{Binding, Machine, Session};
-use jlr_machine::object::Object;
-use jlr_machine::table::Table;
+use crate::copy::copy_items;
+use crate::items::Items;
+use crate::machine::{Binding, Machine, Session};
+use crate::object::Object;
+use crate::table::Table;
 use std::alloc::{AllocError, Global};
 
 fn copy_place(alloc: Global, place: &Option<Object>) -> Result<Option<Object>, AllocError>

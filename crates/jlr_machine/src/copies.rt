@@ -1,6 +1,5 @@
 //! Copies of machines and of entries: exact, or out of memory. They stand apart from the machine, as few need them and
 //! their proofs are long.
-#![tactic(auto)]
 
 mod answer;
 mod ask;

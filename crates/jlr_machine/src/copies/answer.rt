@@ -1,10 +1,10 @@
 //! Copies of answers.
 ghost use Rattle.std.specs.Prelude.{◌≡◌, IfOk};
 
-use jlr_machine::ask::Answer;
-use jlr_machine::copy::copy_items;
-use jlr_machine::items::Items;
-use jlr_machine::text::Name;
+use crate::ask::Answer;
+use crate::copy::copy_items;
+use crate::items::Items;
+use crate::text::Name;
 use std::alloc::{AllocError, Global};
 
 fn copy_names(alloc: Global, names: &[Name]) -> Result<Vec<Name>, AllocError>

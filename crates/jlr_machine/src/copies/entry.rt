@@ -1,10 +1,10 @@
 //! Copies of entries and of what they chose.
 ghost use Rattle.std.specs.Prelude.{◌≡◌, IfOk};
 
-use crate::answer::copy_answer;
-use crate::ask::copy_ask;
-use jlr_machine::copy::copy_items;
-use jlr_machine::entry::{Chosen, Collected, Entry};
+use crate::copies::answer::copy_answer;
+use crate::copies::ask::copy_ask;
+use crate::copy::copy_items;
+use crate::entry::{Chosen, Collected, Entry};
 use std::alloc::{AllocError, Global};
 
 /// The same collection.
