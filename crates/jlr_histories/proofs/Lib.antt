@@ -22,3 +22,12 @@ pub mod Promises
 pub mod Owing
 pub mod Fitting
 pub mod Collecting
+pub mod Asks
+pub mod Legal
+pub mod Left
+pub mod Seen
+pub mod CoreStands
+pub mod Cells
+pub mod Growing
+pub mod Added
+pub mod Marking

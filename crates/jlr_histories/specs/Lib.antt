@@ -6,3 +6,4 @@ pub mod Promises
 pub mod Owing
 pub mod Rooms
 pub mod Collecting
+pub mod CycleLaws

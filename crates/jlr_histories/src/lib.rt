@@ -5,5 +5,6 @@
 #![tactic(auto)]
 
 pub mod ahead;
+pub mod cycles;
 pub mod laws;
 pub mod rows;

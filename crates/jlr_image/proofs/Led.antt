@@ -5,7 +5,7 @@ use Rattle.jlr_machine.specs.declared.machine.Machine.{Machine}
 use Rattle.jlr_machine.specs.declared.entry.Entry.{Entry}
 use Rattle.jlr_machine.specs.Run.{Run, apply}
 use Rattle.jlr_laws.proofs.Law.{legal_kept}
-use Rattle.jlr_cycles.proofs.Left.{leaves_the_same}
+use Rattle.jlr_histories.proofs.Left.{leaves_the_same}
 use Rattle.jlr_plain.specs.Unseen.{unseen}
 use Rattle.jlr_image.specs.Led.{led, LeadsOn}
 

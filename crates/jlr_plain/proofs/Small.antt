@@ -21,7 +21,7 @@ use Rattle.jlr_laws.proofs.Sets.{nothing}
 use Rattle.jlr_laws.proofs.Frames.{no_some, some_same, set_cases, change_as_long, root_gives, root_from, IsRoot}
 use Rattle.jlr_laws.proofs.Frames.IsRoot.{held, fencing, named, waiting, lining, active}
 use Rattle.jlr_laws.proofs.SessionsKept.{change_back}
-use Rattle.jlr_cycles.proofs.Added.{adds_edges}
+use Rattle.jlr_histories.proofs.Added.{adds_edges}
 use Rattle.jlr_plain.specs.Following.{is_seen_given, adds_no_root}
 
 pub record IsSmall (m d : Machine) : Type 0 where

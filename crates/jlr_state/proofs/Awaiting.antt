@@ -26,8 +26,8 @@ use Rattle.jlr_machine.specs.WellFormed.{IsCleanableAt, IsUnspent, IsWellFormed}
 use Rattle.jlr_laws.proofs.Changes.{cleanable_same}
 use Rattle.jlr_laws.proofs.Frames.{no_some, set_other, set_same, place_within}
 use Rattle.jlr_histories.proofs.TakenOnce.{unspent_back}
-use Rattle.jlr_cycles.specs.Laws.{with_seen}
-use Rattle.jlr_cycles.proofs.Left.{leaves_the_same}
+use Rattle.jlr_histories.specs.CycleLaws.{with_seen}
+use Rattle.jlr_histories.proofs.Left.{leaves_the_same}
 use Rattle.jlr_laws.proofs.Allowed.{some_and_gives}
 use Rattle.jlr_marks.specs.Marking.{Marking}
 use Rattle.jlr_cleaner.specs.Jobs.{is_job_of, job_in}

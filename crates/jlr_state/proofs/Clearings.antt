@@ -24,7 +24,7 @@ use Rattle.jlr_machine.specs.WellFormed.{IsWellFormed}
 use Rattle.jlr_laws.specs.Laws.{IsMarked as IsMarkedBy}
 use Rattle.jlr_laws.proofs.Frames.{no_some, some_same}
 use Rattle.jlr_laws.proofs.Sets.{in_filter}
-use Rattle.jlr_cycles.specs.Laws.{with_seen}
+use Rattle.jlr_histories.specs.CycleLaws.{with_seen}
 use Rattle.jlr_barrier.specs.Graphs.{Clock, counted}
 use Rattle.jlr_marker.specs.Following.{keeps}
 use Rattle.jlr_sweep.specs.Collecting.{Collects}

@@ -21,11 +21,11 @@ use Rattle.jlr_laws.proofs.Sets.{nothing, in_filter, filter_in, in_up_to, up_to_
 use Rattle.jlr_laws.proofs.Clearing.{in_append, in_left, in_right}
 use Rattle.jlr_laws.proofs.Frames.{place_within}
 use Rattle.jlr_laws.proofs.SeenKept.{rising_filter, with_seen as fits_with_seen}
-use Rattle.jlr_cycles.specs.Laws.{MarksFollow, with_seen}
-use Rattle.jlr_cycles.proofs.Left.{leaves_the_same}
-use Rattle.jlr_cycles.proofs.Growing.{opens_by_begin}
-use Rattle.jlr_cycles.proofs.Marking.{along, goes_on_marking, reached_base, reached_more}
-use Rattle.jlr_cycles.proofs.Standing.{core_kept}
+use Rattle.jlr_histories.specs.CycleLaws.{MarksFollow, with_seen}
+use Rattle.jlr_histories.proofs.Left.{leaves_the_same}
+use Rattle.jlr_histories.proofs.Growing.{opens_by_begin}
+use Rattle.jlr_histories.proofs.Marking.{along, goes_on_marking, reached_base, reached_more}
+use Rattle.jlr_histories.proofs.CoreStands.{core_kept}
 use Rattle.jlr_marks.specs.Marking.{Marking, IsMarked, is_marked}
 use Rattle.jlr_process.specs.Settling.{marked_below}
 use Rattle.jlr_state.specs.State.{Meets, MeetsAsk, MeetsSeen, entry_of, is_collect, marked_in}

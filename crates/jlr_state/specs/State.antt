@@ -19,7 +19,7 @@ use Rattle.jlr_process.specs.Settling.{marked_below}
 use Rattle.jlr_machine.specs.Refusals.{given, refusal}
 use Rattle.jlr_machine.specs.Calls.{reply, after}
 use Rattle.jlr_machine.specs.Run.{IsLegal, done, empty}
-use Rattle.jlr_cycles.specs.Laws.{with_seen}
+use Rattle.jlr_histories.specs.CycleLaws.{with_seen}
 use Rattle.jlr_cleaner.specs.Cleanings.{Cleanings, machine_with as with_cleanings}
 
 -- what a core keeps beside its heap, in a machine that is empty otherwise: its jobs and what became of others, its

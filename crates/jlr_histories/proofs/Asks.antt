@@ -33,7 +33,7 @@ use Rattle.jlr_machine.specs.Calls.{reply, after, from_lined, line_answer, hand_
 use Rattle.jlr_machine.specs.Calls.{enqueued, unreferred, polled, poll_given, with_work_state, without_work_resource, taken_up, spent}
 use Rattle.jlr_machine.specs.Calls.{cleaned, line_taken, delivered, handed, handed_over, prepared_in, opened, fence_of, guard_fenced}
 use Rattle.jlr_machine.specs.Calls.{checked_out, checked_in, without_work, finished, noted, free_again, registered}
-use Rattle.jlr_cycles.specs.Laws.{with_seen}
+use Rattle.jlr_histories.specs.CycleLaws.{with_seen}
 
 -- the machine with a cycle open or not, and these slots seen
 abbrev pub with_cycle : Machine → Bool → List ℕ → Machine

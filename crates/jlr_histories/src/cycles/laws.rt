@@ -1,8 +1,8 @@
 //! Laws of open cycles. Each function's contract is the law, and its body is empty.
 
-ghost use Rattle.jlr_cycles.specs.Laws.{LegalWhenMoreWasSeen, LeavesTheSameWhateverWasSeen, SeenStaysSeen};
-ghost use Rattle.jlr_cycles.specs.Laws.{StandsForItself, GoesOnStanding, LegalInAllForWhichItStands};
-ghost use Rattle.jlr_cycles.specs.Laws.{CoreStaysWellFormed, AddsEdgesToRootsAlone, GoesOnMarking};
+ghost use Rattle.jlr_histories.specs.CycleLaws.{LegalWhenMoreWasSeen, LeavesTheSameWhateverWasSeen, SeenStaysSeen};
+ghost use Rattle.jlr_histories.specs.CycleLaws.{StandsForItself, GoesOnStanding, LegalInAllForWhichItStands};
+ghost use Rattle.jlr_histories.specs.CycleLaws.{CoreStaysWellFormed, AddsEdgesToRootsAlone, GoesOnMarking};
 
 /// What was seen matters to nothing but what a background collection may keep: where more was seen, at least the same
 /// entries are legal.

@@ -16,10 +16,10 @@ use Rattle.jlr_machine.specs.Collection.{after_collection}
 use Rattle.jlr_machine.specs.Run.{MayCollect, with_collection, carried, no_choice, done, IsLegal}
 use Rattle.jlr_machine.specs.Run.IsLegal.{carried_out, refused, heap_full, out_of_memory}
 use Rattle.jlr_laws.proofs.LegalKept.{no_need}
-use Rattle.jlr_cycles.specs.Laws.{SeenStaysSeen}
-use Rattle.jlr_cycles.proofs.Asks.{leaves_cycle}
-use Rattle.jlr_cycles.proofs.Cells.{same_cells}
-use Rattle.jlr_cycles.proofs.Seen.{seen_is_seen}
+use Rattle.jlr_histories.specs.CycleLaws.{SeenStaysSeen}
+use Rattle.jlr_histories.proofs.Asks.{leaves_cycle}
+use Rattle.jlr_histories.proofs.Cells.{same_cells}
+use Rattle.jlr_histories.proofs.Seen.{seen_is_seen}
 
 -- the cycle of m goes on in n: what was seen is kept, and so are the places that it names
 pub record GoesOnIn (m n : Machine) : Type 0 where

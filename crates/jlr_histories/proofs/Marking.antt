@@ -26,12 +26,12 @@ use Rattle.jlr_laws.proofs.Sets.{all_gives}
 use Rattle.jlr_laws.proofs.Clearing.{in_append, in_left, in_right, edge_gives, edge_from, takes}
 use Rattle.jlr_laws.proofs.Empty.{well_formed_within}
 use Rattle.jlr_laws.proofs.Law.{legal_kept}
-use Rattle.jlr_cycles.specs.Laws.{with_seen, MarksFollow, GoesOnMarking}
-use Rattle.jlr_cycles.proofs.Seen.{reached_is_seen, seen_is_seen, none_seen}
-use Rattle.jlr_cycles.proofs.Legal.{legal_when_more_was_seen}
-use Rattle.jlr_cycles.proofs.Left.{leaves_the_same}
-use Rattle.jlr_cycles.proofs.Growing.{goes_on_in, carried_shut, collects_for_no_begin, GoesOnIn, collected_shut}
-use Rattle.jlr_cycles.proofs.Added.{adds_edges}
+use Rattle.jlr_histories.specs.CycleLaws.{with_seen, MarksFollow, GoesOnMarking}
+use Rattle.jlr_histories.proofs.Seen.{reached_is_seen, seen_is_seen, none_seen}
+use Rattle.jlr_histories.proofs.Legal.{legal_when_more_was_seen}
+use Rattle.jlr_histories.proofs.Left.{leaves_the_same}
+use Rattle.jlr_histories.proofs.Growing.{goes_on_in, carried_shut, collects_for_no_begin, GoesOnIn, collected_shut}
+use Rattle.jlr_histories.proofs.Added.{adds_edges}
 
 -- ---- Paths one edge longer
 

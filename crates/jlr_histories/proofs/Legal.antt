@@ -15,8 +15,8 @@ use Rattle.jlr_machine.specs.Run.IsLegal.{carried_out, refused, heap_full, out_o
 use Rattle.jlr_machine.specs.Refusals.{cells_needed}
 use Rattle.jlr_machine.specs.Collection.{IsBackground, IsFullClearing}
 use Rattle.jlr_machine.specs.Run.{with_collection, MayCollect, Answers, IsFresh, IsCarriedOut, IsRefused, IsHeapFull, IsOutOfMemory}
-use Rattle.jlr_cycles.specs.Laws.{with_seen, LegalWhenMoreWasSeen}
-use Rattle.jlr_cycles.proofs.Asks.{same_refusal, same_reply}
+use Rattle.jlr_histories.specs.CycleLaws.{with_seen, LegalWhenMoreWasSeen}
+use Rattle.jlr_histories.proofs.Asks.{same_refusal, same_reply}
 
 -- ---- Answers
 

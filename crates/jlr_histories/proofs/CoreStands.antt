@@ -15,10 +15,10 @@ use Rattle.jlr_laws.proofs.Sets.{nothing}
 use Rattle.jlr_laws.proofs.Empty.{well_formed_within}
 use Rattle.jlr_laws.proofs.SeenKept.{keeps_seen, with_seen as unseen}
 use Rattle.jlr_laws.proofs.Law.{legal_kept}
-use Rattle.jlr_cycles.specs.Laws.{with_seen, GoesOn, GoesOnStanding, LegalInAllForWhichItStands, CoreStaysWellFormed}
-use Rattle.jlr_cycles.proofs.Seen.{now_seen_gives, reached_is_seen, none_seen}
-use Rattle.jlr_cycles.proofs.Legal.{legal_when_more_was_seen}
-use Rattle.jlr_cycles.proofs.Left.{leaves_the_same}
+use Rattle.jlr_histories.specs.CycleLaws.{with_seen, GoesOn, GoesOnStanding, LegalInAllForWhichItStands, CoreStaysWellFormed}
+use Rattle.jlr_histories.proofs.Seen.{now_seen_gives, reached_is_seen, none_seen}
+use Rattle.jlr_histories.proofs.Legal.{legal_when_more_was_seen}
+use Rattle.jlr_histories.proofs.Left.{leaves_the_same}
 
 -- a core with nothing marked stands for the machine in which what the roots reach was seen
 pub stands_for_seen : (n : Machine) → IsWithinHeap n.objects (roots n) → StandsFor (with_seen n []) [] (with_seen n (now_seen n))

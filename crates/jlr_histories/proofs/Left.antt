@@ -8,8 +8,8 @@ use Rattle.jlr_machine.specs.declared.ask.Answer.TheVariants.{Refused}
 use Rattle.jlr_machine.specs.declared.entry.Collected.{Collected}
 use Rattle.jlr_machine.specs.Calls.{after}
 use Rattle.jlr_machine.specs.Run.{carried, with_collection}
-use Rattle.jlr_cycles.specs.Laws.{with_seen, LeavesTheSameWhateverWasSeen}
-use Rattle.jlr_cycles.proofs.Asks.{with_cycle, leaves_cycle}
+use Rattle.jlr_histories.specs.CycleLaws.{with_seen, LeavesTheSameWhateverWasSeen}
+use Rattle.jlr_histories.proofs.Asks.{with_cycle, leaves_cycle}
 
 module _ (m : Machine) (slots : List ℕ) (ask : Ask) (a : Answer) (fresh : List ℕ) where
   abbrev SameAfter : Ask → Type 0

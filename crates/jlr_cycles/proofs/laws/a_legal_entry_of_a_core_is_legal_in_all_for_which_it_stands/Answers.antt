@@ -1,5 +1,0 @@
-use Rattle.jlr_cycles.proofs.Standing.{legal_in_all}
-use Rattle.jlr_cycles.proofs.laws.a_legal_entry_of_a_core_is_legal_in_all_for_which_it_stands.Goals as goal
-
-pub returns : goal.returns
-returns c = legal_in_all

@@ -1,5 +1,0 @@
-use Rattle.jlr_cycles.proofs.Left.{leaves_the_same}
-use Rattle.jlr_cycles.proofs.laws.an_entry_leaves_the_same_whatever_was_seen.Goals as goal
-
-pub returns : goal.returns
-returns c = leaves_the_same

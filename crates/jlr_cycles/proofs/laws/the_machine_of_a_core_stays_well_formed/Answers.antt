@@ -1,5 +1,0 @@
-use Rattle.jlr_cycles.proofs.Standing.{core_stays_well_formed}
-use Rattle.jlr_cycles.proofs.laws.the_machine_of_a_core_stays_well_formed.Goals as goal
-
-pub returns : goal.returns
-returns c = core_stays_well_formed
