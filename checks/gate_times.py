@@ -24,7 +24,7 @@ REFERENCE = {
     "jlr_laws": 18,
     "jlr_marks": 17,
     "jlr_parts": 83,
-    "jlr_plain_answers": 47,
+    "jlr_plain_asks": 47,
     "jlr_plain_images": 102,
     "jlr_plain_parts": 105,
     "jlr_process": 37,

@@ -6,7 +6,7 @@ ghost use Rattle.jlr_machine.specs.Calls.{reply};
 
 use jlr_machine::ask::{Answer, Ask, Handed};
 use jlr_machine::machine::Machine;
-use jlr_plain_answers::replies::is_reply;
+use jlr_plain_asks::answers::replies::is_reply;
 use jlr_plain_asks::lookups::named_field;
 use jlr_types::{Fault, FieldValue, Handle};
 

@@ -10,7 +10,7 @@ use jlr_machine::entry::{Chosen, Entry};
 use jlr_machine::machine::Machine;
 use jlr_plain::collecting::may_collect_plain;
 use jlr_plain::room::fresh_slots;
-use jlr_plain_answers::replies::is_reply;
+use jlr_plain_asks::answers::replies::is_reply;
 use jlr_plain_asks::operands::cells_of;
 use jlr_plain_asks::refusals::refusal_plain;
 use jlr_plain_collections::left::collected_plain;

@@ -2,6 +2,7 @@
 //! without memory.
 #![tactic(auto)]
 
+pub mod answers;
 pub mod given;
 pub mod listing;
 pub mod lookups;

@@ -9,7 +9,7 @@ use crate::objects::{Change, append, change_in, drop_first};
 use crate::sessions::{SessionChange, change_seat};
 use jlr_machine::ask::Handed;
 use jlr_machine::machine::Machine;
-use jlr_plain_answers::handing::step_for;
+use jlr_plain_asks::answers::handing::step_for;
 use jlr_plain_asks::lookups::{named_slot, object_at, queue_of, reference_of};
 use jlr_types::{Handle, Mutator, Slot};
 use std::alloc::{AllocError, Global};

@@ -7,7 +7,7 @@ ghost use Rattle.jlr_plain_changes.specs.Changes.{session_change_of};
 
 use jlr_machine::machine::{Call as CallOf, Machine, Session};
 use jlr_machine::table::Table;
-use jlr_plain_answers::replies::free_handle_of;
+use jlr_plain_asks::answers::replies::free_handle_of;
 use jlr_types::{Handle, Mutator, Slot};
 use std::alloc::{AllocError, Global};
 use std::mem::replace;

@@ -11,7 +11,7 @@ use crate::sessions::{SessionChange, change_seat};
 use jlr_machine::items::Items;
 use jlr_machine::machine::{Call, Job, Machine, ResourceState};
 use jlr_machine::object::Cleanable;
-use jlr_plain_answers::handing::line_from;
+use jlr_plain_asks::answers::handing::line_from;
 use jlr_plain_asks::lookups::cleanable_in;
 use jlr_plain_asks::operands::CLEANER;
 use jlr_plain_asks::refusals::is_spent_state;

@@ -10,20 +10,20 @@ ghost use Rattle.jlr_machine.specs.declared.ask.Answer.TheVariants.{Done, Truth,
 ghost use Rattle.jlr_machine.specs.Objects.{is_queued};
 ghost use Rattle.jlr_laws.specs.Same.{same_answer};
 
-use crate::answers::{
+use crate::answers::answers::{
     is_already_done, is_done, is_faulted, is_faults, is_given_out, is_handed, is_handle, is_int,
     is_job, is_names, is_notes, is_outcome, is_stat, is_truth,
 };
-use crate::handing::{line_from, step_for};
+use crate::answers::handing::{line_from, step_for};
 use jlr_machine::ask::{Answer, Ask, Handed, Outcome, Stat};
 use jlr_machine::machine::{Machine, Session};
 use jlr_machine::object::{Cleanable, RefState};
-use jlr_plain_asks::given::given_by;
-use jlr_plain_asks::lookups::{
+use crate::given::given_by;
+use crate::lookups::{
     cleanable_in, cleanable_of, guarded_cleanable, named_field, named_guard, named_object,
     named_reference, named_slot, object_at, occupied_cells, queue_of, session_of,
 };
-use jlr_plain_asks::refusals::is_spent_state;
+use crate::refusals::is_spent_state;
 use jlr_types::{FieldNo, FieldValue, Handle, Mutator, Slot};
 
 /// The lowest free number from 1 on.

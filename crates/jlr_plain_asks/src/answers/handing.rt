@@ -7,7 +7,7 @@ ghost use Rattle.jlr_machine.specs.Calls.{handed_reference, handed_cleanable, ha
 use jlr_machine::ask::Handed;
 use jlr_machine::machine::Machine;
 use jlr_machine::object::{CleanState, Object, RefState};
-use jlr_plain_asks::lookups::cleanable_in;
+use crate::lookups::cleanable_in;
 use jlr_types::Slot;
 
 fn step_for_reference(state: RefState) -> Handed

@@ -2,8 +2,8 @@ use Rattle.std.proofs.Common.{sym, ◌∙◌}
 use Rattle.std.specs.Prelude.{bytes_eq}
 use Rattle.std.proofs.lemmas.List.{length-map}
 use Rattle.std.specs.Cmp.Lexicographic.{unequal}
-use Rattle.jlr_plain_answers.specs.Names.{names_of}
-use Rattle.jlr_plain_answers.proofs.answers.all_names_agree.Goals as goal
+use Rattle.jlr_plain_asks.specs.Names.{names_of}
+use Rattle.jlr_plain_asks.proofs.answers.answers.all_names_agree.Goals as goal
 
 pub returns-then-left-right : goal.returns-then-left-right
 returns-then-left-right c = sym (unequal bytes_eq c.args.left.now (names_of c.args.right.now)

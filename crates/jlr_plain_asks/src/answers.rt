@@ -1,5 +1,4 @@
 //! Which answer an ask gets, computed as the definitions say it, without memory.
-#![tactic(auto)]
 
 pub mod answers;
 pub mod handing;
