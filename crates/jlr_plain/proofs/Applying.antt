@@ -17,7 +17,7 @@ use Rattle.jlr_laws.proofs.Empty.{well_formed_within}
 use Rattle.jlr_laws.proofs.Law.{legal_kept}
 use Rattle.jlr_laws.proofs.Allowed.{allowed}
 use Rattle.jlr_plain.specs.Deciding.{carried_in, completed}
-use Rattle.jlr_plain_changes.specs.Counts.{HaveRoom, HasNextAction, refuses}
+use Rattle.jlr_plain_asks.specs.Counts.{HaveRoom, HasNextAction, refuses}
 
 -- ---- Counts
 

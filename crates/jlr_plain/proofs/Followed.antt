@@ -26,7 +26,7 @@ use Rattle.jlr_laws.proofs.UpToDate.{seen_stays_up_to_date}
 use Rattle.jlr_histories.proofs.Seen.{now_seen_gives, reached_is_seen, seen_is_seen, none_seen}
 use Rattle.jlr_histories.proofs.Growing.{goes_on_in, GoesOnIn}
 use Rattle.jlr_histories.proofs.Marking.{entry_adds, reached_more, reached_base}
-use Rattle.jlr_plain_changes.specs.Counts.{refuses}
+use Rattle.jlr_plain_asks.specs.Counts.{refuses}
 use Rattle.jlr_plain.specs.Following.{IsFollowed, IsFit, IsNext, adds_no_root, keeps_seen}
 use Rattle.jlr_plain.proofs.Small.{IsSmall, small, small_same}
 

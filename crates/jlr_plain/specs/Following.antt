@@ -11,7 +11,7 @@ use Rattle.jlr_machine.specs.Edges.Chain.{UpToSoft}
 use Rattle.jlr_machine.specs.Refusals.{given}
 use Rattle.jlr_machine.specs.Run.{IsLegal, apply, now_seen}
 use Rattle.jlr_machine.specs.WellFormed.{IsWellFormed}
-use Rattle.jlr_plain_changes.specs.Counts.{refuses}
+use Rattle.jlr_plain_asks.specs.Counts.{refuses}
 
 -- what was seen is up to date, and strong and soft edges lead from it to nothing else
 pub record IsFollowed (m : Machine) : Type 0 where

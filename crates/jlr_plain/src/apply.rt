@@ -5,7 +5,7 @@ ghost use Rattle.jlr_machine.specs.Run.{IsLegal, carried, done, now_seen, apply}
 ghost use Rattle.jlr_machine.specs.WellFormed.{IsWellFormed};
 ghost use Rattle.jlr_laws.specs.Laws.{IsWithinHeap};
 ghost use Rattle.jlr_plain.specs.Deciding.{carried_in, completed};
-ghost use Rattle.jlr_plain_changes.specs.Counts.{HaveRoom, HasNextAction, refuses};
+ghost use Rattle.jlr_plain_asks.specs.Counts.{HaveRoom, HasNextAction, refuses};
 
 use crate::following::is_refusal;
 use jlr_machine::copies::copy_machine;
@@ -13,7 +13,7 @@ use jlr_machine::ask::{Answer, Ask};
 use jlr_machine::entry::Entry;
 use jlr_machine::items::Items;
 use jlr_machine::machine::Machine;
-use jlr_plain_changes::after::after_plain;
+use jlr_plain_asks::changes::after::after_plain;
 use jlr_plain_collections::left::collect_in;
 use jlr_plain_collections::seen::seen_plain;
 use jlr_types::Slot;

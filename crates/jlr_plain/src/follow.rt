@@ -2,8 +2,8 @@
 ghost use Rattle.std.specs.Prelude.{◌≡◌, true, false, OnOk, OnErr};
 ghost use Rattle.jlr_machine.specs.Collection.{after_collection};
 ghost use Rattle.jlr_machine.specs.Run.{apply};
-ghost use Rattle.jlr_plain_changes.specs.Counts.{HaveRoom, HasNextAction, refuses};
-ghost use Rattle.jlr_plain_changes.specs.Making.{comes_with};
+ghost use Rattle.jlr_plain_asks.specs.Counts.{HaveRoom, HasNextAction, refuses};
+ghost use Rattle.jlr_plain_asks.specs.Making.{comes_with};
 ghost use Rattle.jlr_plain.specs.Deciding.{carried_in};
 ghost use Rattle.jlr_plain.specs.Unseen.{unseen, IsLegalBefore};
 
@@ -11,8 +11,8 @@ use crate::following::is_refusal;
 use jlr_machine::entry::{Collected, Entry};
 use jlr_machine::items::Items;
 use jlr_machine::machine::Machine;
-use jlr_plain_changes::after::after_plain;
-use jlr_plain_changes::making::{make_asked, ready_for};
+use jlr_plain_asks::changes::after::after_plain;
+use jlr_plain_asks::changes::making::{make_asked, ready_for};
 use jlr_plain_collections::left::{leave_in, make_leaving};
 use std::alloc::{AllocError, Global};
 

@@ -1,6 +1,6 @@
 //! Which entries add nothing to what was seen in an open cycle.
 ghost use Rattle.std.specs.Prelude.{◌≡◌};
-ghost use Rattle.jlr_plain_changes.specs.Counts.{refuses};
+ghost use Rattle.jlr_plain_asks.specs.Counts.{refuses};
 ghost use Rattle.jlr_plain.specs.Following.{is_seen_given, adds_no_root, keeps_seen};
 
 use jlr_machine::ask::{Answer, Ask};

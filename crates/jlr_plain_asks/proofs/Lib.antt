@@ -1,1 +1,5 @@
 pub mod Names
+pub mod Blanks
+pub mod Changing
+pub mod Orders
+pub mod Steps

@@ -3,6 +3,7 @@
 #![tactic(auto)]
 
 pub mod answers;
+pub mod changes;
 pub mod given;
 pub mod listing;
 pub mod lookups;

@@ -1,7 +1,7 @@
 use Rattle.std.proofs.Common.{◌≡◌, sym, ◌∙◌, ap, subst, arith}
 use Rattle.jlr_machine.specs.declared.machine.Machine.{Machine}
 use Rattle.jlr_machine.specs.Run.{now_seen}
-use Rattle.jlr_plain_changes.specs.Counts.{HaveRoom, HasNextAction}
+use Rattle.jlr_plain_asks.specs.Counts.{HaveRoom, HasNextAction}
 use Rattle.jlr_plain.specs.Deciding.{carried_in, completed}
 use Rattle.jlr_plain.proofs.Applying.{well_formed_room, room_kept, next_in_collected, collected_done, done_small, done_within}
 use Rattle.jlr_plain.proofs.apply.applied.Goals as goal

@@ -1,4 +1,0 @@
-pub mod Blanks
-pub mod Changing
-pub mod Orders
-pub mod Steps
